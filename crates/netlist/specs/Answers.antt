@@ -1,0 +1,85 @@
+-- Document 01, "Operations and the refusals they give": the numbers of an answer, and what an operation leaves in the lent slice.
+use Prim.Native.Nat.{ℕ}
+use mathlib.Core.Bool.{Bool, true, false}
+use mathlib.Core.List.{List}
+use mathlib.Core.Option.{Option, none, some}
+use lib.ListN.{length}
+use lib.Dec.{ltb}
+use Rattle.laws.specs.Lists.{placed}
+use Rattle.netlist.specs.declared.Refusal.{Refusal}
+use Rattle.netlist.specs.declared.Refusal.the-variants.{TextTooLong, SyntaxError, OverLimit, DuplicateDeclaration, UndeclaredName, MalformedBlock, BadSetting, TooManyCopies, NotSettled, NotStraight, NoRoom}
+use Rattle.netlist.specs.declared.Answer.{Answer}
+use Rattle.netlist.specs.declared.Answer.the-variants.{Done, Refused}
+
+-- the table's numbers
+unfoldable pub refusalNumber : Refusal → ℕ
+refusalNumber TextTooLong = 1
+refusalNumber (SyntaxError place) = 2
+refusalNumber OverLimit = 3
+refusalNumber (DuplicateDeclaration place) = 4
+refusalNumber (UndeclaredName place) = 5
+refusalNumber MalformedBlock = 6
+refusalNumber BadSetting = 7
+refusalNumber TooManyCopies = 8
+refusalNumber (NotSettled setting) = 9
+refusalNumber NotStraight = 10
+refusalNumber NoRoom = 11
+
+-- "detail 0 but where stated"
+unfoldable pub refusalDetail : Refusal → ℕ
+refusalDetail TextTooLong = 0
+refusalDetail (SyntaxError place) = place
+refusalDetail OverLimit = 0
+refusalDetail (DuplicateDeclaration place) = place
+refusalDetail (UndeclaredName place) = place
+refusalDetail MalformedBlock = 0
+refusalDetail BadSetting = 0
+refusalDetail TooManyCopies = 0
+refusalDetail (NotSettled setting) = setting
+refusalDetail NotStraight = 0
+refusalDetail NoRoom = 0
+
+-- "Each but Line gives a number (0 on success), a count and a detail"
+unfoldable pub numberOf : Answer → ℕ
+numberOf (Done count detail) = 0
+numberOf (Refused r) = refusalNumber r
+
+-- "Refused: count 0"
+unfoldable pub countOf : Answer → ℕ
+countOf (Done count detail) = count
+countOf (Refused r) = 0
+
+unfoldable pub detailOf : Answer → ℕ
+detailOf (Done count detail) = detail
+detailOf (Refused r) = refusalDetail r
+
+-- ---- An operation's outcome: its result with count and detail, or a refusal.
+
+pub data Outcome : Type 0 where
+  done : (result : List ℕ) (count detail : ℕ) → Outcome
+  refused : Refusal → Outcome
+
+-- a condition that refuses, or what comes after it
+unfoldable pub refuseIf : Bool → Refusal → Outcome → Outcome
+refuseIf true r next = refused r
+refuseIf false r next = next
+
+-- a condition that tells a place
+unfoldable pub refuseAt : Option ℕ → (ℕ → Refusal) → Outcome → Outcome
+refuseAt (some place) r next = refused (r place)
+refuseAt none r next = next
+
+-- 11: "the slice for the result is too small"
+unfoldable pub inRoom : ℕ → Outcome → Outcome
+inRoom room (done result count detail) = refuseIf (ltb room (length result)) NoRoom (done result count detail)
+inRoom room (refused r) = refused r
+
+unfoldable pub answerOf : Outcome → Answer
+answerOf (done result count detail) = Done count detail
+answerOf (refused r) = Refused r
+
+-- what the slice lent for the result holds in the end: "Where a slice is longer than the result, its rest is kept.", "Refused: nothing
+-- lent is altered."
+unfoldable pub leftIn : Outcome → List ℕ → List ℕ
+leftIn (done result count detail) entry = placed result entry
+leftIn (refused r) entry = entry

@@ -1,0 +1,82 @@
+-- Document 01, "Groups and rendering": which gates reach each other, the strongly connected groups and their order.
+use Prim.Native.Nat.{ℕ, zero, suc, _*_}
+use mathlib.Core.Path.{_≡_}
+use mathlib.Core.Bool.{Bool, true, false, cond, not, _&&_, _||_}
+use mathlib.Core.List.{List, [], _∷_, _++_, map}
+use lib.ListN.{length, getD}
+use lib.Dec.{eqb, ltb}
+use Rattle.laws.specs.Lists.{all, any, keep, tab, joined, upTo, member, least, sum}
+use Rattle.netlist.specs.Netlist.{Operand, input, gate, constant, Gate, Block, gateCount, gateOf}
+
+unfoldable pub gateOperand : Operand → List ℕ
+gateOperand (input i) = []
+gateOperand (gate j) = j ∷ []
+gateOperand (constant b) = []
+
+-- the gates among gate i's operands
+unfoldable pub readBy : Block → ℕ → List ℕ
+readBy b i = joined (map gateOperand (gateOf b i .operands))
+
+unfoldable pub reads : Block → ℕ → ℕ → Bool
+reads b i j = member j (readBy b i)
+
+-- gate i "reaches" gate j "through operands", or is the same
+pub data Path (b : Block) : ℕ → ℕ → Type 0 where
+  stay : {i : ℕ} → Path b i i
+  step : {i j k : ℕ} → reads b i j ≡ true → Path b j k → Path b i k
+
+-- The same, computed. A set of gates is a Boolean for each; it grows by what its gates read, m times over.
+unfoldable pub has : List Bool → ℕ → Bool
+has set j = getD set j false
+
+unfoldable pub grown : Block → List Bool → List Bool
+grown b set = tab (λ j. has set j || any (λ i. has set i && reads b i j) (upTo (gateCount b))) (gateCount b)
+
+unfoldable pub grownTimes : Block → ℕ → List Bool → List Bool
+grownTimes b zero set = set
+grownTimes b (suc t) set = grown b (grownTimes b t set)
+
+unfoldable pub reach : Block → ℕ → List Bool
+reach b i = grownTimes b (gateCount b) (tab (eqb i) (gateCount b))
+
+unfoldable pub reaches : Block → ℕ → ℕ → Bool
+reaches b i j = has (reach b i) j
+
+-- "Two gates are in one group when they are the same or each reaches the other through operands."
+unfoldable pub sameGroup : Block → ℕ → ℕ → Bool
+sameGroup b i j = reaches b i j && reaches b j i
+
+-- the group of gate j, ascending
+unfoldable pub groupOf : Block → ℕ → List ℕ
+groupOf b j = keep (sameGroup b j) (upTo (gateCount b))
+
+-- the group reads, "outside" itself, "no gate of a group not yet numbered"; `done` are the gates of the numbered groups
+unfoldable pub ready : Block → List ℕ → List ℕ → Bool
+ready b done group = all (λ i. all (λ k. member k group || member k done) (readBy b i)) group
+
+-- gate j's group can be numbered next
+unfoldable pub mayBeNext : Block → List ℕ → ℕ → Bool
+mayBeNext b done j = not (member j done) && ready b done (groupOf b j)
+
+-- "the one holding the lowest gate number is next": the groups from here on, when those of `done` are numbered
+unfoldable pub groupsAfter : Block → ℕ → List ℕ → List (List ℕ)
+groupsAfter b zero done = []
+groupsAfter b (suc more) done =
+    let j = least (mayBeNext b done) (gateCount b) in
+    let rest = groupsAfter b more (done ++ groupOf b j) in
+    cond (ltb j (gateCount b)) (groupOf b j ∷ rest) []
+
+-- "Groups are numbered one by one"; there are at most as many as gates
+unfoldable pub groups : Block → List (List ℕ)
+groups b = groupsAfter b (gateCount b) []
+
+-- the number of gate j's group
+unfoldable pub groupNumber : Block → ℕ → ℕ
+groupNumber b j = least (λ g. member j (getD (groups b) g [])) (length (groups b))
+
+unfoldable pub groupNumbers : Block → List ℕ
+groupNumbers b = tab (groupNumber b) (gateCount b)
+
+-- "Copies in all: the sum of g × g."
+unfoldable pub copyCount : Block → ℕ
+copyCount b = sum (map (λ g. length g * length g) (groups b))

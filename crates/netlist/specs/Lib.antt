@@ -1,0 +1,19 @@
+-- The definitions: what a reader of the library must believe. One file to a section of document 01, lower ones first.
+pub mod Limits
+pub mod Values
+pub mod Kinds
+pub mod Netlist
+pub mod StoredBlock
+pub mod Rounds
+pub mod Cover
+pub mod Groups
+pub mod Rendering
+pub mod Syntax
+pub mod Parse
+pub mod Reading
+pub mod Writing
+pub mod Line
+pub mod Answers
+pub mod Operations
+pub mod Program
+pub mod Specimens

@@ -1,0 +1,35 @@
+-- Document 01, Line: "the line of the text that holds a given place, as the part of the caller's own text, without its LF".
+use Prim.Native.Nat.{ℕ, zero, suc, _+_, _-_, min}
+use mathlib.Core.Bool.{cond}
+use mathlib.Core.List.{List, [], _∷_}
+use lib.ListN.{length, getD, take, drop}
+use lib.Dec.{eqb}
+
+abbrev pub lf : ℕ
+lf = 10
+
+-- "A place past the end counts as the end"
+unfoldable pub clamped : List ℕ → ℕ → ℕ
+clamped text place = min place (length text)
+
+-- behind the last LF among the first p bytes
+unfoldable pub startBefore : List ℕ → ℕ → ℕ
+startBefore text zero = 0
+startBefore text (suc p) = cond (eqb (getD text p 0) lf) (suc p) (startBefore text p)
+
+-- "An LF belongs to the line it ends.": how many bytes stand before the first LF
+unfoldable pub untilLf : List ℕ → ℕ
+untilLf [] = 0
+untilLf (c ∷ s) = cond (eqb c lf) 0 (suc (untilLf s))
+
+unfoldable pub lineStart : List ℕ → ℕ → ℕ
+lineStart text place = startBefore text (clamped text place)
+
+unfoldable pub lineEnd : List ℕ → ℕ → ℕ
+lineEnd text place = clamped text place + untilLf (drop (clamped text place) text)
+
+unfoldable pub lineLength : List ℕ → ℕ → ℕ
+lineLength text place = lineEnd text place - lineStart text place
+
+unfoldable pub lineAt : List ℕ → ℕ → List ℕ
+lineAt text place = take (lineLength text place) (drop (lineStart text place) text)

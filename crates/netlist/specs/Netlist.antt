@@ -1,0 +1,42 @@
+-- A netlist as a record: what the stored block and the text both stand for, and what the meaning is defined on.
+use Prim.Native.Nat.{ℕ}
+use mathlib.Core.Bool.{Bool, true, false}
+use mathlib.Core.List.{List, []}
+use lib.ListN.{length, getD}
+
+-- a name's bytes
+abbrev pub Name : Type 0
+Name = List ℕ
+
+-- what a gate reads or an output shows: input i, gate j, or a constant
+pub data Operand : Type 0 where
+  input : ℕ → Operand
+  gate : ℕ → Operand
+  constant : Bool → Operand
+
+pub record Gate : Type 0 where
+  pub kind : ℕ
+  pub operands : List Operand
+
+pub record Output : Type 0 where
+  pub port : Name
+  pub node : Operand
+
+pub record Block : Type 0 where
+  pub inputs : List Name
+  pub gates : List Gate
+  pub outputs : List Output
+
+-- n, m and k of document 01
+abbrev pub inputCount : Block → ℕ
+inputCount b = length (b .inputs)
+
+abbrev pub gateCount : Block → ℕ
+gateCount b = length (b .gates)
+
+abbrev pub outputCount : Block → ℕ
+outputCount b = length (b .outputs)
+
+-- gate j; past the end a gate that reads nothing
+abbrev pub gateOf : Block → ℕ → Gate
+gateOf b j = getD (b .gates) j (record { kind = 0; operands = [] })

@@ -1,0 +1,148 @@
+-- Document 01, "The stored block": the words of a netlist, the netlist of a slice of words, and which words are torn.
+use Prim.Native.Nat.{ℕ, zero, suc, _+_, _-_, _*_, _/_, _%_}
+use mathlib.Core.Bool.{Bool, true, false, cond, not, _&&_, _||_}
+use mathlib.Core.List.{List, [], _∷_, _++_, map}
+use lib.ListN.{length, getD}
+use lib.Dec.{eqb, leb, ltb}
+use Rattle.laws.specs.Lists.{same, all, tab, joined, trimmed, distinct}
+use Rattle.netlist.specs.Limits.{maxInputs, maxGates, maxOutputs, maxName}
+use Rattle.netlist.specs.Kinds.{isKind, arityFits}
+use Rattle.netlist.specs.Netlist.{Name, Operand, input, gate, constant, Gate, Output, Block, inputCount, gateCount, outputCount}
+
+-- ---- where the parts stand: "n; m gates; k outputs; per input 4 words of name; per gate 5 words; per output 4 words of port and 1 of
+-- node number"
+
+abbrev pub nameSize : ℕ
+nameSize = 4
+
+abbrev pub gateSize : ℕ
+gateSize = 5
+
+abbrev pub outputSize : ℕ
+outputSize = 5
+
+abbrev pub operandWords : ℕ
+operandWords = 4
+
+abbrev pub inputsAt : ℕ
+inputsAt = 3
+
+unfoldable pub gatesAt : ℕ → ℕ
+gatesAt n = inputsAt + nameSize * n
+
+unfoldable pub outputsAt : ℕ → ℕ → ℕ
+outputsAt n m = gatesAt n + gateSize * m
+
+-- ---- names: "1 to 8 bytes of a-z, 0-9 and `_`, and no digit first. An input's name and a PORT don't start with `_`."
+
+unfoldable pub letter : ℕ → Bool
+letter c = leb 97 c && leb c 122
+
+unfoldable pub digit : ℕ → Bool
+digit c = leb 48 c && leb c 57
+
+unfoldable pub underscore : ℕ → Bool
+underscore c = eqb c 95
+
+unfoldable pub nameByte : ℕ → Bool
+nameByte c = letter c || digit c || underscore c
+
+unfoldable pub nameStart : ℕ → Bool
+nameStart c = letter c || underscore c
+
+-- a name whose first byte passes the test `start`
+unfoldable pub legalName : (ℕ → Bool) → Name → Bool
+legalName start s = leb 1 (length s) && leb (length s) maxName && start (getD s 0 0) && all nameByte s
+
+-- the name of an input, and a port
+unfoldable pub plainName : Name → Bool
+plainName = legalName letter
+
+-- the name of a gate, and any name that is used
+unfoldable pub nodeName : Name → Bool
+nodeName = legalName nameStart
+
+-- "A name word is first byte + 256 × second, unused bytes zero at the end."
+unfoldable pub nameWords : Name → List ℕ
+nameWords s = tab (λ i. getD s (2 * i) 0 + 256 * getD s (2 * i + 1) 0) nameSize
+
+unfoldable pub nameAt : List ℕ → ℕ → Name
+nameAt ws at = trimmed (joined (tab (λ i. getD ws (at + i) 0 % 256 ∷ getD ws (at + i) 0 / 256 ∷ []) nameSize))
+
+-- ---- nodes: "input i is i; gate j is n + j", "65534 for constant 0, 65535 for constant 1"
+
+unfoldable pub nodeWord : ℕ → Operand → ℕ
+nodeWord n (input i) = i
+nodeWord n (gate j) = n + j
+nodeWord n (constant false) = 65534
+nodeWord n (constant true) = 65535
+
+unfoldable pub operandOf : ℕ → ℕ → Operand
+operandOf n w =
+    cond (ltb w n) (input w)
+    (cond (eqb w 65534) (constant false)
+    (cond (eqb w 65535) (constant true) (gate (w - n))))
+
+-- ---- gates: "A gate's first word is kind + 8 × operand count", its four operand words, "unused ones are 0"
+
+unfoldable pub gateWords : ℕ → Gate → List ℕ
+gateWords n g =
+    (g .kind + 8 * length (g .operands)) ∷ tab (λ i. getD (map (nodeWord n) (g .operands)) i 0) operandWords
+
+unfoldable pub gateAt : ℕ → List ℕ → ℕ → Gate
+gateAt n ws at =
+    record { kind = getD ws at 0 % 8; operands = tab (λ i. operandOf n (getD ws (at + 1 + i) 0)) (getD ws at 0 / 8) }
+
+unfoldable pub outputWords : ℕ → Output → List ℕ
+outputWords n o = nameWords (o .port) ++ (nodeWord n (o .node) ∷ [])
+
+unfoldable pub outputAt : ℕ → List ℕ → ℕ → Output
+outputAt n ws at = record { port = nameAt ws at; node = operandOf n (getD ws (at + nameSize) 0) }
+
+-- ---- the whole block
+
+unfoldable pub encode : Block → List ℕ
+encode b =
+    inputCount b ∷ gateCount b ∷ outputCount b
+    ∷ joined (map nameWords (b .inputs))
+    ++ joined (map (gateWords (inputCount b)) (b .gates))
+    ++ joined (map (outputWords (inputCount b)) (b .outputs))
+
+unfoldable pub decode : List ℕ → Block
+decode ws =
+    let n = getD ws 0 0 in
+    let m = getD ws 1 0 in
+    let k = getD ws 2 0 in
+    record {
+      inputs = tab (λ i. nameAt ws (inputsAt + nameSize * i)) n;
+      gates = tab (λ j. gateAt n ws (gatesAt n + gateSize * j)) m;
+      outputs = tab (λ o. outputAt n ws (outputsAt n m + outputSize * o)) k;
+    }
+
+-- ---- the rules: "limits, names legal and not twice, kinds, counts, nodes"
+
+-- a node that is there; for an output, "not a constant"
+unfoldable pub isNode : Block → Operand → Bool
+isNode b (input i) = ltb i (inputCount b)
+isNode b (gate j) = ltb j (gateCount b)
+isNode b (constant c) = false
+
+unfoldable pub isOperand : Block → Operand → Bool
+isOperand b (input i) = isNode b (input i)
+isOperand b (gate j) = isNode b (gate j)
+isOperand b (constant c) = true
+
+unfoldable pub gateFits : Block → Gate → Bool
+gateFits b g = isKind (g .kind) && arityFits (g .kind) (length (g .operands)) && all (isOperand b) (g .operands)
+
+unfoldable pub wellFormed : Block → Bool
+wellFormed b =
+    leb (inputCount b) maxInputs && leb (gateCount b) maxGates && leb (outputCount b) maxOutputs
+    && all plainName (b .inputs) && distinct (b .inputs)
+    && all (gateFits b) (b .gates)
+    && all (λ o. plainName (o .port)) (b .outputs) && distinct (map (λ (o : Output). o .port) (b .outputs))
+    && all (λ o. isNode b (o .node)) (b .outputs)
+
+-- "words break any rule of the stored block": they are not the encoding of a well-formed block
+unfoldable pub torn : List ℕ → Bool
+torn ws = not (wellFormed (decode ws) && same (encode (decode ws)) ws)

@@ -1,0 +1,116 @@
+-- Document 01, "The netlist text": syntax trees, what each looks like, and which texts are legal.
+use Prim.Native.Nat.{ℕ, zero, suc}
+use mathlib.Core.Path.{_≡_}
+use mathlib.Core.Logic.{_⊎_}
+use mathlib.Core.Bool.{Bool, true, false, _&&_}
+use mathlib.Core.List.{List, [], _∷_, _++_}
+use lib.ListN.{length, take}
+use Rattle.laws.specs.Lists.{ascii, all}
+use Rattle.netlist.specs.Limits.{maxDepth}
+use Rattle.netlist.specs.Kinds.{isKind, arityFits, keyword}
+use Rattle.netlist.specs.Netlist.{Name}
+use Rattle.netlist.specs.StoredBlock.{plainName, nodeName}
+
+-- "An OPERAND is a NAME, the constant `0` or `1`, or another EXPR"; EXPR is a kind and its operands.
+mutual
+  pub data Term : Type 0 where
+    name : Name → Term
+    literal : Bool → Term
+    apply : ℕ → Terms → Term
+
+  pub data Terms : Type 0 where
+    nil : Terms
+    cons : Term → Terms → Terms
+
+pub record GateLine : Type 0 where
+  pub name : Name
+  pub kind : ℕ
+  pub terms : Terms
+
+pub record OutputLine : Type 0 where
+  pub port : Name
+  pub shown : Name
+
+-- "all inputs, all gates, all outputs. Any of the three may be missing."
+pub record Tree : Type 0 where
+  pub inputs : List Name
+  pub gates : List GateLine
+  pub outputs : List OutputLine
+
+-- ---- what a tree looks like; each function is given what follows
+
+unfoldable mutual
+  pub printTerm : Term → List ℕ → List ℕ
+  printTerm (name s) rest = s ++ rest
+  printTerm (literal false) rest = ascii "0" ++ rest
+  printTerm (literal true) rest = ascii "1" ++ rest
+  printTerm (apply k ts) rest = ascii "(" ++ (keyword k ++ printTerms ts (ascii ")" ++ rest))
+
+  pub printTerms : Terms → List ℕ → List ℕ
+  printTerms nil rest = rest
+  printTerms (cons t ts) rest = ascii " " ++ printTerm t (printTerms ts rest)
+
+-- "Input: `(in NAME)`."
+unfoldable pub printInput : Name → List ℕ → List ℕ
+printInput s rest = ascii "(in " ++ (s ++ (ascii ")\n" ++ rest))
+
+-- "Gate: `(gate NAME EXPR)`."
+unfoldable pub printGate : GateLine → List ℕ → List ℕ
+printGate g rest = ascii "(gate " ++ (g .name ++ (ascii " " ++ printTerm (apply (g .kind) (g .terms)) (ascii ")\n" ++ rest)))
+
+-- "Output: `(out PORT NAME)`."
+unfoldable pub printOutput : OutputLine → List ℕ → List ℕ
+printOutput o rest = ascii "(out " ++ (o .port ++ (ascii " " ++ (o .shown ++ (ascii ")\n" ++ rest))))
+
+unfoldable pub printLines : {A : Type 0} → (A → List ℕ → List ℕ) → List A → List ℕ → List ℕ
+printLines line [] rest = rest
+printLines line (x ∷ xs) rest = line x (printLines line xs rest)
+
+unfoldable pub print : Tree → List ℕ
+print t = printLines printInput (t .inputs) (printLines printGate (t .gates) (printLines printOutput (t .outputs) []))
+
+-- ---- which trees are legal
+
+unfoldable pub termCount : Terms → ℕ
+termCount nil = 0
+termCount (cons t ts) = suc (termCount ts)
+
+-- with `depth` levels of EXPR left
+unfoldable mutual
+  pub legalTerm : Term → ℕ → Bool
+  legalTerm (name s) depth = nodeName s
+  legalTerm (literal b) depth = true
+  legalTerm (apply k ts) zero = false
+  legalTerm (apply k ts) (suc depth) = isKind k && arityFits k (termCount ts) && legalTerms ts depth
+
+  pub legalTerms : Terms → ℕ → Bool
+  legalTerms nil depth = true
+  legalTerms (cons t ts) depth = legalTerm t depth && legalTerms ts depth
+
+-- "The outermost EXPR has depth 1; depth 8 is the greatest."
+unfoldable pub legalGate : GateLine → Bool
+legalGate g = nodeName (g .name) && legalTerm (apply (g .kind) (g .terms)) maxDepth
+
+unfoldable pub legalOutput : OutputLine → Bool
+legalOutput o = plainName (o .port) && nodeName (o .shown)
+
+unfoldable pub legalTree : Tree → Bool
+legalTree t = all plainName (t .inputs) && all legalGate (t .gates) && all legalOutput (t .outputs)
+
+-- ---- which texts are legal
+
+pub record Legal (text : List ℕ) : Type 0 where
+  pub tree : Tree
+  pub legal : legalTree tree ≡ true
+  pub printed : print tree ≡ text
+
+-- some legal text begins so
+pub record Viable (beginning : List ℕ) : Type 0 where
+  pub rest : List ℕ
+  pub legal : Legal (beginning ++ rest)
+
+-- Refusal 2 at this place: "bytes before the first that no legal text has after that beginning, or the length if cut off"
+pub record FirstBad (text : List ℕ) (place : ℕ) : Type 0 where
+  pub illegal : Legal text → ⊥
+  pub begins : Viable (take place text)
+  pub bad : (place ≡ length text) ⊎ (Viable (take (suc place) text) → ⊥)

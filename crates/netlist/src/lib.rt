@@ -1,0 +1,43 @@
+// The declared types of the answers and of the table of kinds. specs/ says what each case means; nothing here runs.
+
+// One of document 01's eleven refusals, with the place or the setting that it tells.
+pub enum Refusal {
+    // 1, overlong
+    TextTooLong,
+    // 2, form: the place of the first byte that no legal text has there
+    SyntaxError(usize),
+    // 3, crowded
+    OverLimit,
+    // 4, twice: the place of the earliest declaration that repeats another
+    DuplicateDeclaration(usize),
+    // 5, unknown: the earliest place of a name that is not declared
+    UndeclaredName(usize),
+    // 6, torn
+    MalformedBlock,
+    // 7, setting
+    BadSetting,
+    // 8, swollen
+    TooManyCopies,
+    // 9, undecided: the lowest setting that is not settled
+    NotSettled(usize),
+    // 10, looped
+    NotStraight,
+    // 11, short
+    NoRoom,
+}
+
+// What an operation answers.
+pub enum Answer {
+    Done { count: usize, detail: usize },
+    Refused(Refusal),
+}
+
+// A row of the table of kinds: the least and the greatest operand count, the controlling value, what it forces, and the keyword's
+// bytes, zero behind its end.
+pub struct Row {
+    pub fewest: usize,
+    pub most: usize,
+    pub controlling: u8,
+    pub forced: u8,
+    pub keyword: [u8; 4],
+}

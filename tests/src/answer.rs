@@ -1,0 +1,61 @@
+//! The three numbers each operation answers, and document 01's table of refusals.
+
+/// The number (0 on success), the count and the detail of an answer.
+#[derive(Debug, Clone, Copy, PartialEq, Eq)]
+pub struct Answer {
+    pub number: u64,
+    pub count: u64,
+    pub detail: u64,
+}
+
+pub const TEXT_TOO_LONG: u64 = 1;
+pub const SYNTAX_ERROR: u64 = 2;
+pub const OVER_A_LIMIT: u64 = 3;
+pub const DUPLICATE_DECLARATION: u64 = 4;
+pub const UNDECLARED_NAME: u64 = 5;
+pub const MALFORMED_BLOCK: u64 = 6;
+pub const BAD_SETTING: u64 = 7;
+pub const TOO_MANY_COPIES: u64 = 8;
+pub const NOT_SETTLED: u64 = 9;
+pub const NOT_STRAIGHT: u64 = 10;
+pub const NO_ROOM: u64 = 11;
+
+impl Answer {
+    /// Success, with a count.
+    pub fn success(count: usize) -> Answer {
+        Answer {
+            number: 0,
+            count: count as u64,
+            detail: 0,
+        }
+    }
+
+    /// A refusal, with a detail (0 where document 01 states none).
+    pub fn refusal(number: u64, detail: usize) -> Answer {
+        Answer {
+            number,
+            count: 0,
+            detail: detail as u64,
+        }
+    }
+}
+
+/// A count and a result, or the answer that refuses.
+pub(crate) type Outcome<T> = Result<(usize, Vec<T>), Answer>;
+
+/// Refuses with `number` and no detail where `bad` holds.
+pub(crate) fn refuse_if(bad: bool, number: u64) -> Result<(), Answer> {
+    match bad {
+        true => Err(Answer::refusal(number, 0)),
+        false => Ok(()),
+    }
+}
+
+/// The answer and the result; the result is empty where the operation refuses.
+pub(crate) fn told<T>(outcome: Outcome<T>, room: usize) -> (Answer, Vec<T>) {
+    match outcome {
+        Ok((_, result)) if result.len() > room => (Answer::refusal(NO_ROOM, 0), Vec::new()),
+        Ok((count, result)) => (Answer::success(count), result),
+        Err(refusal) => (refusal, Vec::new()),
+    }
+}

@@ -1,0 +1,48 @@
+//! Cover, by brute force over all partial assignments and all settings.
+
+use crate::answer::{told, Answer, Outcome};
+use crate::malformed::well_formed;
+use crate::values::Network;
+
+/// Two words an entry, the mask of fixed inputs and of those fixed at 1; count: entries.
+pub fn cover(block: &[u16], room: usize) -> (Answer, Vec<u16>) {
+    told(covered(block), room)
+}
+
+fn covered(words: &[u16]) -> Outcome<u16> {
+    let block = well_formed(words)?;
+    let entries = entries(&Network::new(&block).settled_settings());
+    let words = entries.iter().flat_map(|&(mask, ones)| [mask, ones]);
+    Ok((entries.len(), words.map(|word| word as u16).collect()))
+}
+
+/// The cover of a list that tells which settings are settled, ascending.
+pub fn entries(settled: &[bool]) -> Vec<(usize, usize)> {
+    let sound = soundness(settled);
+    let mut entries = assignments(settled.len());
+    entries.retain(|&(mask, ones)| sound[mask][ones]);
+    entries.retain(|&(mask, ones)| {
+        let fixed = (0..usize::BITS).map(|i| 1 << i);
+        let mut fixed = fixed.filter(|bit| mask & bit != 0);
+        fixed.all(|bit| !sound[mask & !bit][ones & !bit])
+    });
+    entries
+}
+
+/// Every partial assignment, as fixed inputs and those fixed at 1, ascending.
+fn assignments(settings: usize) -> Vec<(usize, usize)> {
+    let masks = 0..settings;
+    let below = |mask| (0..=mask).map(move |ones| (mask, ones));
+    let part = |&(mask, ones): &(usize, usize)| ones & !mask == 0;
+    masks.flat_map(below).filter(part).collect()
+}
+
+/// For each assignment, whether every setting that agrees with it is settled.
+fn soundness(settled: &[bool]) -> Vec<Vec<bool>> {
+    let mut sound = vec![vec![false; settled.len()]; settled.len()];
+    for (mask, ones) in assignments(settled.len()) {
+        let mut agreeing = (0..settled.len()).filter(|setting| setting & mask == ones);
+        sound[mask][ones] = agreeing.all(|setting| settled[setting]);
+    }
+    sound
+}

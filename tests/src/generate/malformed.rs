@@ -1,0 +1,178 @@
+//! Blocks that break one rule of the stored block each.
+
+use super::Random;
+use crate::block::{Block, Gate, Kind, Output, Source, ONE_WORD, ZERO_WORD};
+use crate::limits::*;
+
+/// A `not`, and the other kinds with two, three and four operands.
+const ADDED_GATES: usize = 1 + 4 * 3;
+
+/// The rule broken and the words, for each rule; made from a well-formed block.
+pub fn malformed(random: &mut Random, block: &Block) -> Vec<(&'static str, Vec<u16>)> {
+    let block = filled(random, block);
+    let mut made = lengths(random, &block);
+    made.extend(limits(&block));
+    made.extend(names(random, &block));
+    made.extend(gates(random, &block));
+    made.extend(outputs(random, &block));
+    made
+}
+
+/// The block with two inputs, a gate of each kind and count, and two outputs at least.
+fn filled(random: &mut Random, block: &Block) -> Block {
+    let mut block = block.clone();
+    let mut used = block.inputs.clone();
+    block.gates.truncate(GATES - ADDED_GATES);
+    block.outputs.clear();
+    while block.inputs.len() < 2 {
+        block.inputs.push(random.fresh_name(&mut used));
+    }
+    let (n, m) = (block.inputs.len(), block.gates.len());
+    for operand in block.gates.iter_mut().flat_map(|gate| &mut gate.operands) {
+        match operand {
+            Source::Gate(gate) if *gate >= m => *operand = Source::Gate(m),
+            Source::Input(input) if *input >= n => *operand = Source::Input(0),
+            _ => {}
+        }
+    }
+    block.gates.push(one_operand());
+    for kind in Kind::MANY {
+        for count in 2..=OPERANDS {
+            let operands = vec![Source::Input(1); count];
+            block.gates.push(Gate { kind, operands });
+        }
+    }
+    let mut used = Vec::new();
+    for node in [Source::Input(1), Source::Gate(0)] {
+        let port = random.fresh_name(&mut used);
+        block.outputs.push(Output { port, node });
+    }
+    block
+}
+
+fn one_operand() -> Gate {
+    Gate {
+        kind: Kind::Not,
+        operands: vec![Source::Input(1)],
+    }
+}
+
+/// The words with one of them replaced.
+fn with(words: &[u16], place: usize, word: u16) -> Vec<u16> {
+    let mut words = words.to_vec();
+    words[place] = word;
+    words
+}
+
+fn lengths(random: &mut Random, block: &Block) -> Vec<(&'static str, Vec<u16>)> {
+    let words = block.to_words();
+    let cut = random.below(words.len());
+    let longer = [words.clone(), vec![0]].concat();
+    vec![
+        ("no words", Vec::new()),
+        ("two words", vec![0, 0]),
+        ("cut off", words[..cut].to_vec()),
+        ("one word short", words[..words.len() - 1].to_vec()),
+        ("one word more", longer),
+        (
+            "an input too many in the head",
+            with(&words, 0, words[0] + 1),
+        ),
+        ("a gate too few in the head", with(&words, 1, words[1] - 1)),
+        ("65,535 outputs in the head", with(&words, 2, 65_535)),
+    ]
+}
+
+fn limits(block: &Block) -> Vec<(&'static str, Vec<u16>)> {
+    let [mut inputs, mut gates, mut outputs] = [(); 3].map(|()| block.clone());
+    inputs.inputs = (0..=INPUTS).map(|i| format!("i{i}")).collect();
+    gates.gates.resize_with(GATES + 1, one_operand);
+    let output = |number| Output {
+        port: format!("o{number}"),
+        node: Source::Input(0),
+    };
+    outputs.outputs = (0..=OUTPUTS).map(output).collect();
+    vec![
+        ("11 inputs", inputs.to_words()),
+        ("1,025 gates", gates.to_words()),
+        ("17 outputs", outputs.to_words()),
+    ]
+}
+
+fn names(random: &mut Random, block: &Block) -> Vec<(&'static str, Vec<u16>)> {
+    let bad = [
+        ("no bytes in a name", ""),
+        ("a digit first", "7a"),
+        ("an underscore first", "_a"),
+        ("a capital letter", "aA"),
+        ("a space", "a a"),
+        ("a byte below the letters", "a`"),
+        ("a byte above the letters", "a{"),
+        ("a byte below the digits", "a/"),
+        ("a byte above the digits", "a:"),
+        ("a zero byte inside", "a\0a"),
+        ("a zero byte first", "\0a"),
+        ("a zero byte, then the last", "abc\0\0\0\0a"),
+        ("a byte above 127", "a\u{80}"),
+    ];
+    let mut made = Vec::new();
+    for (rule, name) in bad {
+        let mut block = block.clone();
+        match random.chance(50) {
+            true => block.inputs[random.below(2)] = name.to_string(),
+            false => block.outputs[random.below(2)].port = name.to_string(),
+        }
+        made.push((rule, block.to_words()));
+    }
+    let [mut inputs, mut ports] = [(); 2].map(|()| block.clone());
+    inputs.inputs[1] = inputs.inputs[0].clone();
+    ports.outputs[1].port = ports.outputs[0].port.clone();
+    made.push(("an input name twice", inputs.to_words()));
+    made.push(("a port twice", ports.to_words()));
+    made
+}
+
+fn gates(random: &mut Random, block: &Block) -> Vec<(&'static str, Vec<u16>)> {
+    let words = block.to_words();
+    let nodes = (block.inputs.len() + block.gates.len()) as u16;
+    let place = |gate: usize| HEAD_WORDS + NAME_WORDS * block.inputs.len() + GATE_WORDS * gate;
+    let at = place(random.below(block.gates.len()));
+    let one_at = place(block.gates.len() - ADDED_GATES);
+    let (kind, count) = (words[at] % 8, words[at] / 8);
+    let last = at + usize::from(count);
+    let used = at + random.between(1, usize::from(count));
+    vec![
+        ("kind 5", with(&words, at, 5 + 8 * count)),
+        ("kind 6", with(&words, at, 6 + 8 * count)),
+        ("kind 7", with(&words, at, 7 + 8 * count)),
+        ("no operands", with(&words, at, kind)),
+        ("five operands", with(&words, at, kind + 8 * 5)),
+        ("bits beyond the count", with(&words, at, words[at] + 64)),
+        (
+            "the top bit of a kind word",
+            with(&words, at, words[at] + 32_768),
+        ),
+        ("an and with one operand", with(&words, one_at, 1 + 8)),
+        ("a not with two operands", with(&words, at, 2 * 8)),
+        ("a word after the operands", with(&words, one_at + 2, 1)),
+        ("the last unused word", with(&words, one_at + 4, 65_535)),
+        (
+            "an operand fewer in the count",
+            with(&with(&words, last, 1), at, words[at] - 8),
+        ),
+        ("an operand that is no node", with(&words, used, nodes)),
+        ("operand 65,533", with(&words, used, ZERO_WORD - 1)),
+    ]
+}
+
+fn outputs(random: &mut Random, block: &Block) -> Vec<(&'static str, Vec<u16>)> {
+    let words = block.to_words();
+    let nodes = (block.inputs.len() + block.gates.len()) as u16;
+    let at = words.len() - 1 - OUTPUT_WORDS * random.below(2);
+    vec![
+        ("an output that is no node", with(&words, at, nodes)),
+        ("an output 65,533", with(&words, at, ZERO_WORD - 1)),
+        ("an output of constant 0", with(&words, at, ZERO_WORD)),
+        ("an output of constant 1", with(&words, at, ONE_WORD)),
+    ]
+}

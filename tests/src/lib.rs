@@ -1,0 +1,34 @@
+//! A second, independent program for every operation of document 01, to compare the proved one with.
+//! Written from the papers only, in plain safe Rust, and in other ways than the definitions go.
+//! A block is lent as its words; `room` is the length of the slice for the result.
+
+pub mod answer;
+pub mod block;
+pub mod cover;
+pub mod generate;
+pub mod groups;
+pub mod limits;
+pub mod line;
+pub mod malformed;
+pub mod parser;
+pub mod program;
+pub mod recogniser;
+pub mod render;
+pub mod rounds;
+pub mod settle;
+pub mod specimens;
+pub mod text;
+pub mod values;
+pub mod verdict;
+pub mod write;
+
+pub use answer::Answer;
+pub use cover::cover;
+pub use groups::groups;
+pub use line::line;
+pub use program::unloop;
+pub use render::render;
+pub use settle::{pass, settle};
+pub use text::read;
+pub use verdict::verdict;
+pub use write::write;

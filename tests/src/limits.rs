@@ -1,0 +1,33 @@
+//! Every limit of document 01, by name.
+
+/// The longest text, in bytes.
+pub const TEXT_BYTES: usize = 61_440;
+/// The most inputs of a block.
+pub const INPUTS: usize = 10;
+/// The most gates of a block, and the most copies of a rendering.
+pub const GATES: usize = 1_024;
+/// The most outputs of a block.
+pub const OUTPUTS: usize = 16;
+/// The longest name or port, in bytes.
+pub const NAME_BYTES: usize = 8;
+/// The greatest depth of an expression; the outermost has depth 1.
+pub const DEPTH: usize = 8;
+/// The most operands of a gate, and the operand words stored for each.
+pub const OPERANDS: usize = 4;
+/// The words of a stored name.
+pub const NAME_WORDS: usize = NAME_BYTES / 2;
+/// The words of a stored gate: its kind and count, and its operands.
+pub const GATE_WORDS: usize = 1 + OPERANDS;
+/// The words of a stored output: its port and its node.
+pub const OUTPUT_WORDS: usize = NAME_WORDS + 1;
+/// The words before the first input's name.
+pub const HEAD_WORDS: usize = 3;
+/// The longest stored block, in words.
+pub const BLOCK_WORDS: usize = block_words(INPUTS, GATES, OUTPUTS);
+/// The longest text of Write, in bytes.
+pub const WRITTEN_BYTES: usize = 56_758;
+
+/// The length of a stored block with n inputs, m gates and k outputs.
+pub const fn block_words(n: usize, m: usize, k: usize) -> usize {
+    HEAD_WORDS + NAME_WORDS * n + GATE_WORDS * m + OUTPUT_WORDS * k
+}

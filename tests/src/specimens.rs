@@ -1,0 +1,43 @@
+//! The texts of document 01's specimens.
+
+use crate::limits::BLOCK_WORDS;
+use crate::read;
+
+/// The words of a text; panics where Read refuses it.
+pub fn words_of(text: &str) -> Vec<u16> {
+    let (answer, words) = read(text.as_bytes(), BLOCK_WORDS);
+    assert_eq!(answer.number, 0, "{answer:?} to {text}");
+    words
+}
+
+/// Specimen 4: two gates that wait for each other unless a = 0 or b = 1.
+pub const TWO_GATES: &str = "(in a)\n(in b)\n(gate p (and a q))\n(gate q (or b p))\n";
+
+/// Specimen 5: a unique two-valued solution that isn't settled.
+pub const UNIQUE_SOLUTION: &str = "(gate p (or p (not p)))\n";
+
+/// Specimen 5: a gate that reads itself and is settled.
+pub const SELF_READER: &str = "(gate p (or p 1))\n";
+
+/// Specimen 6: six gates after 003, Example 1.
+pub const SIX_GATES: &str = "(in a)\n(in b)\n(in c)\n(in d)\n(in x)\n\
+    (gate g1 (and x g6))\n(gate g2 (or a g1))\n(gate g3 (and b g2))\n\
+    (gate g4 (or x g3))\n(gate g5 (and c g4))\n(gate g6 (or d g5))\n";
+
+/// Specimen 9: the input of `unloop`.
+pub const PROGRAM_INPUT: &str = "(in s)\n(gate p (and s q))\n(gate q (or s p))\n(out y q)\n";
+
+/// Specimen 9: the output of `unloop`.
+pub const PROGRAM_OUTPUT: &str = "(in s)\n(gate _0 (and s 0))\n(gate _1 (or s _0))\n\
+    (gate _2 (and s _1))\n(gate _3 (or s _2))\n(out y _3)\n";
+
+/// Specimen 7: a ring of `size` gates; gate 0 is `first` of the last, each other `not` of the one before.
+pub fn ring(size: usize, first: &str) -> String {
+    let last = size - 1;
+    let first = first.replace("LAST", &format!("g{last}"));
+    let mut text = format!("(gate g0 {first})\n");
+    for gate in 1..size {
+        text += &format!("(gate g{gate} (not g{}))\n", gate - 1);
+    }
+    text
+}

@@ -1,0 +1,139 @@
+//! Document 01's specimens 1 to 9, starred or not, whole.
+
+mod common;
+
+use common::answer;
+use simulator::limits::{BLOCK_WORDS, WRITTEN_BYTES};
+use simulator::specimens::*;
+use simulator::{cover, groups, pass, read, render, settle, unloop, verdict, write};
+
+/// Read refuses the text so, whatever the room.
+fn refused(text: &str, number: u64, detail: u64) {
+    for room in [0, BLOCK_WORDS] {
+        let told = read(text.as_bytes(), room);
+        assert_eq!(told, (answer(number, 0, detail), vec![]), "{text}");
+    }
+}
+
+/// The text of the rendering, by way of the words.
+fn rendered_text(text: &str) -> String {
+    let (told, words) = render(&words_of(text), BLOCK_WORDS);
+    assert_eq!(told, answer(0, words.len() as u64, 0));
+    String::from_utf8(write(&words, WRITTEN_BYTES).1).unwrap()
+}
+
+#[test]
+fn specimen_1() {
+    let words = words_of("");
+    assert_eq!(words, [0, 0, 0]);
+    assert_eq!(verdict(&words), answer(0, 1, 1));
+    assert_eq!(cover(&words, 2), (answer(0, 1, 0), vec![0, 0]));
+    assert_eq!(cover(&words, 1), (answer(11, 0, 0), vec![]));
+    assert_eq!(groups(&words, 0), (answer(0, 0, 0), vec![]));
+    assert_eq!(settle(&words, &[], 0), (answer(0, 0, 0), vec![]));
+    assert_eq!(pass(&words, &[], 0), (answer(0, 0, 0), vec![]));
+    assert_eq!(render(&words, 3), (answer(0, 3, 0), words.clone()));
+    assert_eq!(write(&words, 0), (answer(0, 0, 0), vec![]));
+    assert_eq!(unloop(b""), b"");
+}
+
+#[test]
+fn specimen_2() {
+    refused("(in a)", 2, 6);
+    refused("(in _a)", 2, 4);
+    refused("(in _a)\n", 2, 4);
+    assert_eq!(unloop(b"(in a)"), b"(refused 2 6)\n");
+}
+
+#[test]
+fn specimen_3() {
+    refused("(in a)\n(in a)\n", 4, 11);
+    refused("(in a)\n(gate p (not r))\n", 5, 20);
+    assert_eq!(unloop(b"(in a)\n(in a)\n"), b"(refused 4 11)\n");
+}
+
+#[test]
+fn specimen_4() {
+    let words = words_of(TWO_GATES);
+    assert_eq!(verdict(&words), answer(0, 3, 1));
+    assert_eq!(cover(&words, 4), (answer(0, 2, 0), vec![1, 0, 2, 2]));
+    assert_eq!(render(&words, BLOCK_WORDS), (answer(9, 0, 1), vec![]));
+    assert_eq!(render(&words, 0), (answer(9, 0, 1), vec![]));
+    assert_eq!(groups(&words, 2), (answer(0, 1, 0), vec![0, 0]));
+    assert_eq!(settle(&words, &[1, 0], 2), (answer(0, 0, 0), vec![2, 2]));
+    assert_eq!(settle(&words, &[0, 2], 2), (answer(0, 1, 0), vec![0, 2]));
+    assert_eq!(unloop(TWO_GATES.as_bytes()), b"(refused 9 1)\n");
+}
+
+#[test]
+fn specimen_5() {
+    let words = words_of(UNIQUE_SOLUTION);
+    assert_eq!(words, [0, 2, 0, 8, 1, 0, 0, 0, 18, 1, 0, 0, 0]);
+    assert_eq!(render(&words, BLOCK_WORDS), (answer(9, 0, 0), vec![]));
+    assert_eq!(verdict(&words), answer(0, 0, 0));
+    assert_eq!(cover(&words, 0), (answer(0, 0, 0), vec![]));
+    assert_eq!(rendered_text(SELF_READER), "(gate _0 (or 0 1))\n");
+}
+
+#[test]
+fn specimen_6() {
+    let words = words_of(SIX_GATES);
+    assert_eq!(verdict(&words), answer(0, 32, 32));
+    assert_eq!(cover(&words, 2), (answer(0, 1, 0), vec![0, 0]));
+    assert_eq!(groups(&words, 6), (answer(0, 1, 0), vec![0; 6]));
+    assert_eq!(render(&words, BLOCK_WORDS).1[1], 36);
+    let setting = [0, 1, 1, 0, 0];
+    assert_eq!(settle(&words, &setting, 6), (answer(0, 6, 0), vec![0; 6]));
+    assert_eq!(pass(&words, &setting, 6), (answer(10, 0, 0), vec![]));
+}
+
+#[test]
+fn specimen_7() {
+    let ring_of_32 = ring(32, "(and LAST 0)");
+    let (told, words) = render(&words_of(&ring_of_32), BLOCK_WORDS);
+    assert_eq!((told, words[1]), (answer(0, 3 + 5 * 1024, 0), 1024));
+    let one_more = ring_of_32 + "(gate lone (not 0))\n";
+    let told = render(&words_of(&one_more), BLOCK_WORDS);
+    assert_eq!(told, (answer(8, 0, 0), vec![]));
+    let ring_of_33 = words_of(&ring(33, "(not LAST)"));
+    assert_eq!(verdict(&ring_of_33), answer(0, 0, 0));
+    assert_eq!(render(&ring_of_33, 0), (answer(8, 0, 0), vec![]));
+}
+
+#[test]
+fn specimen_8_names() {
+    words_of("(in abcdefgh)\n(gate _2345678 (not abcdefgh))\n(out a_000000 _2345678)\n");
+    refused("(in abcdefghi)\n", 2, 12);
+    refused("(gate _23456789 (not 0))\n", 2, 14);
+    refused("(gate p (not abcdefghi))\n", 2, 21);
+    refused("(out abcdefghi p)\n", 2, 13);
+    refused("(out y abcdefghi)\n", 2, 15);
+}
+
+#[test]
+fn specimen_8_depth() {
+    let nested = |depth: usize| {
+        let (open, close) = ("(not ".repeat(depth), ")".repeat(depth));
+        format!("(gate p {open}0{close})\n")
+    };
+    assert_eq!(words_of(&nested(8)).len(), 3 + 5 * 8);
+    refused(&nested(9), 2, 48);
+}
+
+#[test]
+fn specimen_8_inputs() {
+    let inputs = |count: usize| -> String { (0..count).map(|i| format!("(in a{i})\n")).collect() };
+    assert_eq!(words_of(&inputs(10))[..3], [10, 0, 0]);
+    refused(&inputs(11), 3, 0);
+}
+
+#[test]
+fn specimen_9() {
+    let output = unloop(PROGRAM_INPUT.as_bytes());
+    assert_eq!(String::from_utf8(output).unwrap(), PROGRAM_OUTPUT);
+    let words = words_of(PROGRAM_INPUT);
+    let name = |letter: u8| [u16::from(letter), 0, 0, 0];
+    let [s, y] = [name(b's'), name(b'y')];
+    let gates = [[17, 0, 2, 0, 0], [18, 0, 1, 0, 0]].concat();
+    assert_eq!(words, [&[1, 2, 1], &s[..], &gates, &y, &[2]].concat());
+}
