@@ -4,21 +4,55 @@ use mathlib.Core.Bool.{Bool, true, false, cond, not, _&&_, _||_}
 use mathlib.Core.List.{List, [], _∷_}
 use lib.ListN.{length, getD}
 use lib.Dec.{eqb, leb, ltb}
-use Rattle.laws.specs.Lists.{all, any, upTo, tab}
+use Rattle.laws.specs.Lists.{all, upTo}
 use Rattle.netlist.specs.Limits.{maxInputs, maxGates, maxOutputs}
 use Rattle.netlist.specs.Kinds.{isKind, arityFits}
-use Rattle.netlist.specs.StoredBlock.{nameSize, gateSize, outputSize, operandWords, inputsAt, gatesAt, outputsAt, letter, nameByte}
+use Rattle.netlist.specs.StoredBlock.{nameSize, gateSize, outputSize, operandWords, inputsAt, gatesAt, outputsAt, letter, nameByte, bytesAt}
 
--- byte i of the name whose first word is at `at`
-unfoldable pub nameByteAt : List ℕ → ℕ → ℕ → ℕ
-nameByteAt ws at i = cond (eqb (i % 2) 0) (getD ws (at + i / 2) 0 % 256) (getD ws (at + i / 2) 0 / 256)
+-- name bytes, and then only zeros
+unfoldable pub padded : List ℕ → Bool
+padded [] = true
+padded (c ∷ cs) = cond (eqb c 0) (all (eqb 0) cs) (nameByte c && padded cs)
 
--- byte i of a name: a name byte, or 0 with only zeros behind it; `left` bytes are left from i on
-unfoldable pub tailFits : List ℕ → ℕ → ℕ → ℕ → Bool
-tailFits ws at i zero = true
-tailFits ws at i (suc left) =
-    cond (eqb (nameByteAt ws at i) 0) (zerosFrom ws at (suc i) left) (nameByte (nameByteAt ws at i) && tailFits ws at (suc i) left)
-  where
-    zerosFrom : List ℕ → ℕ → ℕ → ℕ → Bool
-    zerosFrom ws at i zero = true
-    zerosFrom ws at i (suc left) = eqb (nameByteAt ws at i) 0 && zerosFrom ws at (suc i) left
+-- the eight bytes of an input's name or a port
+unfoldable pub nameRule : List ℕ → ℕ → Bool
+nameRule ws at = letter (getD (bytesAt ws at) 0 0) && padded (bytesAt ws at)
+
+unfoldable pub sameName : List ℕ → ℕ → ℕ → Bool
+sameName ws at other = all (λ i. eqb (getD ws (at + i) 0) (getD ws (other + i) 0)) (upTo nameSize)
+
+-- `count` names from `at` on, `size` words apart: legal, and not twice
+unfoldable pub namesRule : List ℕ → ℕ → ℕ → ℕ → Bool
+namesRule ws at size count =
+    all (λ j. nameRule ws (at + size * j) && all (λ i. not (sameName ws (at + size * i) (at + size * j))) (upTo j)) (upTo count)
+
+-- an input or a gate; `nodes` is n + m
+unfoldable pub nodeRule : ℕ → ℕ → Bool
+nodeRule nodes w = ltb w nodes
+
+unfoldable pub operandRule : ℕ → ℕ → Bool
+operandRule nodes w = nodeRule nodes w || eqb w 65534 || eqb w 65535
+
+-- the gate whose first word is at `at`
+unfoldable pub gateRule : List ℕ → ℕ → ℕ → Bool
+gateRule ws nodes at =
+    isKind (getD ws at 0 % 8) && arityFits (getD ws at 0 % 8) (getD ws at 0 / 8)
+    && all (λ i. cond (ltb i (getD ws at 0 / 8)) (operandRule nodes (getD ws (at + 1 + i) 0)) (eqb (getD ws (at + 1 + i) 0) 0)) (upTo operandWords)
+
+-- "A slice of 16-bit words of exactly this length", and the limits
+unfoldable pub headerRule : List ℕ → Bool
+headerRule ws =
+    leb inputsAt (length ws)
+    && leb (getD ws 0 0) maxInputs && leb (getD ws 1 0) maxGates && leb (getD ws 2 0) maxOutputs
+    && eqb (length ws) (outputsAt (getD ws 0 0) (getD ws 1 0) + outputSize * getD ws 2 0)
+
+unfoldable pub intact : List ℕ → Bool
+intact ws =
+    let n = getD ws 0 0 in
+    let m = getD ws 1 0 in
+    let k = getD ws 2 0 in
+    headerRule ws
+    && namesRule ws inputsAt nameSize n
+    && all (λ j. gateRule ws (n + m) (gatesAt n + gateSize * j)) (upTo m)
+    && namesRule ws (outputsAt n m) outputSize k
+    && all (λ o. nodeRule (n + m) (getD ws (outputsAt n m + outputSize * o + nameSize) 0)) (upTo k)

@@ -10,7 +10,7 @@ use Rattle.laws.specs.Lists.{ascii, same, all, repeated, tab, joined}
 use Rattle.netlist.specs.Limits.{maxText}
 use Rattle.netlist.specs.Values.{code, valueOf, invert, defined}
 use Rattle.netlist.specs.Kinds.{row, rows, rowOf, isNot, isKind, fewestOperands, mostOperands, arityFits, keyword, ruled, gateValue}
-use Rattle.netlist.specs.StoredBlock.{gatesAt, outputsAt, letter, digit, underscore, nameByte, nameStart, legalName, plainName, nodeName, nameWords, nameAt, nodeWord, operandOf, gateWords, gateAt, outputWords, outputAt, encode, decode, isNode, isOperand, gateFits, wellFormed, torn}
+use Rattle.netlist.specs.StoredBlock.{gatesAt, outputsAt, letter, digit, underscore, nameByte, nameStart, legalName, plainName, nodeName, nameWords, bytesAt, nameAt, nodeWord, operandOf, gateWords, gateAt, outputWords, outputAt, encode, decode, isNode, isOperand, gateFits, wellFormed, torn}
 use Rattle.netlist.specs.Rounds.{operandValue, evaluated, round, afterRounds, stable, rounds, settled, bit, settingOf, settingCount, settledUnder, settledAt, settledSettings, lowestUnsettled}
 use Rattle.netlist.specs.Cover.{fixes, agrees, soundUnder, sound, without, minimal, within, assignmentsAt, assignments, cover, coverWords}
 use Rattle.netlist.specs.Groups.{gateOperand, readBy, reads, has, grown, grownTimes, reach, reaches, sameGroup, groupOf, ready, mayBeNext, groupsAfter, groups, groupNumber, groupNumbers, copyCount}
@@ -199,5 +199,5 @@ specimens =
 
 -- All of them come out as stated.
 pub specimens-hold : all right specimens ≡ true
-unfolding code valueOf invert defined row rows rowOf isNot isKind fewestOperands mostOperands arityFits keyword ruled gateValue gatesAt outputsAt letter digit underscore nameByte nameStart legalName plainName nodeName nameWords nameAt nodeWord operandOf gateWords gateAt outputWords outputAt encode decode isNode isOperand gateFits wellFormed torn operandValue evaluated round afterRounds stable rounds settled bit settingOf settingCount settledUnder settledAt settledSettings lowestUnsettled fixes agrees soundUnder sound without minimal within assignmentsAt assignments cover coverWords gateOperand readBy reads has grown grownTimes reach reaches sameGroup groupOf ready mayBeNext groupsAfter groups groupNumber groupNumbers copyCount passes schedule noCopies copiedOperand copied copies newestAfter lastCopies rendering straight sweepFrom sweep printTerm printInput printGate printOutput printLines print pure stop onTest ifNext expect onParsed bind nameBytes nameAfter nameReader kindReader spaced termsReader exprReader leafOr termReader addInput addGate addOutput inputLine gateLine outputLine atEnd line outputsReader gatesReader textReader parse gatesIn lineGates overLimit mentions linesLength gateLinesAt outputLinesAt inputMention gateMention portMention shownMention termMentions operandMentions declaredNodes declaredPorts usedNames firstRepeat orElse firstDuplicate firstOutside firstUndeclared inputBindings gateBindings bindings lookup termNode termsNodes termGates linesGates blockOf digits decimal gateName nodeNameOf termOf termsOf flatLine flatTree writtenText clamped startBefore untilLf lineStart lineEnd lineLength lineAt refusalNumber refusalDetail numberOf countOf detailOf refuseIf refuseAt inRoom answerOf leftIn counted readTree readParsed reading read badSetting settling settle verdict covering coverOf grouping groupsOf renderBlock rendered render sweeping pass written write chained refusalLine shown unloop report answered right wordsOf _⇒_ with specimen4 specimen6 rendered6 kinds eleven ring specimens
+unfolding code valueOf invert defined row rows rowOf isNot isKind fewestOperands mostOperands arityFits keyword ruled gateValue gatesAt outputsAt letter digit underscore nameByte nameStart legalName plainName nodeName nameWords bytesAt nameAt nodeWord operandOf gateWords gateAt outputWords outputAt encode decode isNode isOperand gateFits wellFormed torn operandValue evaluated round afterRounds stable rounds settled bit settingOf settingCount settledUnder settledAt settledSettings lowestUnsettled fixes agrees soundUnder sound without minimal within assignmentsAt assignments cover coverWords gateOperand readBy reads has grown grownTimes reach reaches sameGroup groupOf ready mayBeNext groupsAfter groups groupNumber groupNumbers copyCount passes schedule noCopies copiedOperand copied copies newestAfter lastCopies rendering straight sweepFrom sweep printTerm printInput printGate printOutput printLines print pure stop onTest ifNext expect onParsed bind nameBytes nameAfter nameReader kindReader spaced termsReader exprReader leafOr termReader addInput addGate addOutput inputLine gateLine outputLine atEnd line outputsReader gatesReader textReader parse gatesIn lineGates overLimit mentions linesLength gateLinesAt outputLinesAt inputMention gateMention portMention shownMention termMentions operandMentions declaredNodes declaredPorts usedNames firstRepeat orElse firstDuplicate firstOutside firstUndeclared inputBindings gateBindings bindings lookup termNode termsNodes termGates linesGates blockOf digits decimal gateName nodeNameOf termOf termsOf flatLine flatTree writtenText clamped startBefore untilLf lineStart lineEnd lineLength lineAt refusalNumber refusalDetail numberOf countOf detailOf refuseIf refuseAt inRoom answerOf leftIn counted readTree readParsed reading read badSetting settling settle verdict covering coverOf grouping groupsOf renderBlock rendered render sweeping pass written write chained refusalLine shown unloop report answered right wordsOf _⇒_ with specimen4 specimen6 rendered6 kinds eleven ring specimens
 specimens-hold = refl

@@ -66,8 +66,12 @@ nodeName = legalName nameStart
 unfoldable pub nameWords : Name → List ℕ
 nameWords s = tab (λ i. getD s (2 * i) 0 + 256 * getD s (2 * i + 1) 0) nameSize
 
+-- the eight bytes of the name whose words start at `at`
+unfoldable pub bytesAt : List ℕ → ℕ → List ℕ
+bytesAt ws at = joined (tab (λ i. getD ws (at + i) 0 % 256 ∷ getD ws (at + i) 0 / 256 ∷ []) nameSize)
+
 unfoldable pub nameAt : List ℕ → ℕ → Name
-nameAt ws at = trimmed (joined (tab (λ i. getD ws (at + i) 0 % 256 ∷ getD ws (at + i) 0 / 256 ∷ []) nameSize))
+nameAt ws at = trimmed (bytesAt ws at)
 
 -- ---- nodes: "input i is i; gate j is n + j", "65534 for constant 0, 65535 for constant 1"
 
