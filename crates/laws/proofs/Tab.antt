@@ -1,0 +1,56 @@
+-- The list of a function's first values: its length, its elements, when two are equal, and how a loop fills a slice with it. Assumes nothing.
+use mathlib.Core.Path.{_≡_, refl, sym, ap, _∙_}
+use mathlib.Core.Logic.{_⊎_, inl, inr, ⊎-elim}
+use mathlib.Core.List.{List, [], _∷_, _++_, map, append-assoc, append-nil}
+use Prim.Native.Nat.{ℕ, zero, suc, _+_, _≤_, _<_}
+use native.Mathlib.Nat.{not-suc-le-zero, le-refl, add-zero}
+use native.Mathlib.Numerals.{add-one}
+use native.Mathlib.Omega.{arith}
+use lib.ListN.{length, getD, drop, set, length-append, List·getD-append}
+use lib.Seq.{getD-at, set-at, drop-cons, ext-getD}
+use Rattle.laws.specs.Lists.{tab, placed}
+use Rattle.laws.proofs.Tests.{eq-or-ne}
+
+module _ {A : Type 0} where
+  pub length-tab : (f : ℕ → A) (n : ℕ) → length (tab f n) ≡ n
+  length-tab f zero = refl
+  length-tab f (suc n) = rw (length-append, length-tab f n) (omega arith)
+
+  pub getD-tab : (f : ℕ → A) (n i : ℕ) (d : A) → i < n → getD (tab f n) i d ≡ f i
+  getD-tab f zero i d h = absurd (not-suc-le-zero h)
+  getD-tab f (suc n) i d h = ⊎-elim at (λ ne. before (omega arith) (getD-tab f n i d (omega arith))) (eq-or-ne i n)
+    where
+      at : i ≡ n → getD (tab f (suc n)) i d ≡ f i
+      at e = rw e (getD-at (tab f n) (f n) [] d n (length-tab f n))
+
+      before : i < n → getD (tab f n) i d ≡ f i → getD (tab f (suc n)) i d ≡ f i
+      before l e = let l′ : i < length (tab f n) = rw (length-tab f n) l in List·getD-append (tab f n) (f n ∷ []) d i l′ ∙ e
+
+  -- two functions that agree below n have the same list
+  pub tab-ext : (f g : ℕ → A) (n : ℕ) → ((i : ℕ) → i < n → f i ≡ g i) → tab f n ≡ tab g n
+  tab-ext f g zero h = refl
+  tab-ext f g (suc n) h =
+      let e : tab f n ≡ tab g n = tab-ext f g n (λ i l. h i (omega arith)) in
+      let e′ : f n ≡ g n = h n (omega arith) in
+      rw (e, e′)
+
+  -- a list is the list of its elements
+  pub tab-getD : (d : A) (xs : List A) (n : ℕ) → length xs ≡ n → tab (λ i. getD xs i d) n ≡ xs
+  tab-getD d xs n e =
+      ext-getD d (tab (λ i. getD xs i d) n) xs (length-tab (λ i. getD xs i d) n ∙ sym e)
+      (λ i l. getD-tab (λ i. getD xs i d) n i d (rw (length-tab (λ i. getD xs i d) n) at l))
+
+  -- a loop that has filled n elements of a slice fills the next
+  pub set-placed-tab : (f : ℕ → A) (n : ℕ) (entry : List A) → n < length entry → set (placed (tab f n) entry) n (f n) ≡ placed (tab f (suc n)) entry
+  set-placed-tab f n entry h =
+      rw (length-tab f n, drop-cons entry n (f n) h)
+      (set-at (tab f n) (getD entry n (f n)) (drop (suc n) entry) (f n) n (length-tab f n) ∙ rw (length-tab f (suc n), append-assoc))
+
+module _ {A B : Type 0} where
+  map-append : (g : A → B) (xs ys : List A) → map g (xs ++ ys) ≡ map g xs ++ map g ys
+  map-append g [] ys = refl
+  map-append g (x ∷ xs) ys = ap {B = List B} (λ r. g x ∷ r) (map-append g xs ys)
+
+  pub map-tab : (g : A → B) (f : ℕ → A) (n : ℕ) → map g (tab f n) ≡ tab (λ i. g (f i)) n
+  map-tab g f zero = refl
+  map-tab g f (suc n) = map-append g (tab f n) (f n ∷ []) ∙ ap (λ (r : List B). r ++ (g (f n) ∷ [])) (map-tab g f n)
