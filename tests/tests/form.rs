@@ -17,9 +17,10 @@ const LINES: [&str; 7] = [
     "(out y a",
 ];
 
-fn endings() -> BTreeSet<&'static [u8]> {
+fn endings() -> &'static BTreeSet<&'static [u8]> {
+    static ENDINGS: OnceLock<BTreeSet<&[u8]>> = OnceLock::new();
     let suffixes = |line: &'static str| (0..=line.len()).map(move |i| &line.as_bytes()[i..]);
-    LINES.iter().copied().flat_map(suffixes).collect()
+    ENDINGS.get_or_init(|| LINES.into_iter().flat_map(suffixes).collect())
 }
 
 /// Every way to close `open` brackets, with or without an operand before each but the last.

@@ -13,7 +13,7 @@ use simulator::values::{setting_bytes, Network};
 use simulator::*;
 
 /// A few blocks up to every limit.
-const LARGE: std::ops::Range<u64> = 0..24;
+const LARGE: std::ops::Range<u64> = 0..40;
 
 #[test]
 fn written_blocks_read_back() {
@@ -24,7 +24,7 @@ fn written_blocks_read_back() {
         let told = answer(0, words.len() as u64, 0);
         assert_eq!(read(&text, BLOCK_WORDS), (told, words.to_vec()));
     };
-    for_blocks(0..8_000, Size::SMALL, check);
+    for_blocks(0..20_000, Size::SMALL, check);
     for_blocks(LARGE, Size::LARGE, check);
 }
 
@@ -41,7 +41,7 @@ fn events_and_rounds_agree() {
             assert_eq!(settle(words, &setting, GATES), told);
         }
     };
-    for_blocks(0..8_000, Size::SMALL, check);
+    for_blocks(0..20_000, Size::SMALL, check);
     for_blocks(LARGE, Size::LARGE, check);
 }
 
@@ -62,7 +62,7 @@ fn straight_blocks() {
         let told = answer(0, words.len() as u64, 0);
         assert_eq!(render(words, BLOCK_WORDS), (told, words.to_vec()));
     };
-    for_blocks(0..8_000, Size::SMALL, &mut check);
+    for_blocks(0..20_000, Size::SMALL, &mut check);
     for_blocks(LARGE, Size::LARGE, &mut check);
     assert!(straight > 2_000);
 }
@@ -128,7 +128,7 @@ fn renderings() {
             loops_rendered += usize::from(sum > block.gates.len());
         }
     };
-    for_blocks(0..8_000, Size::SMALL, &mut check);
+    for_blocks(0..20_000, Size::SMALL, &mut check);
     for_blocks(LARGE, Size::LARGE, &mut check);
     let middle = Size {
         gates: 120,
@@ -140,7 +140,7 @@ fn renderings() {
 
 #[test]
 fn covers() {
-    for_blocks(0..8_000, Size::SMALL, |_, block, words| {
+    for_blocks(0..20_000, Size::SMALL, |_, block, words| {
         let settings = 1 << block.inputs.len();
         let (told, entries) = cover(words, 2 * 59_049);
         assert_eq!(told, answer(0, entries.len() as u64 / 2, 0));

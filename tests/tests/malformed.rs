@@ -59,7 +59,7 @@ fn legal(place: usize, word: u16) -> bool {
         11 => two_or_more,
         16 => two_or_more || word == 8,
         // Operands of p, and the first of q.
-        12 | 13 | 17 => word < 4 || word >= 65_534,
+        12 | 13 | 17 => !(4..65_534).contains(&word),
         // Further operands would have to be counted.
         14 | 15 | 18..=20 => word == 0,
         25 => word < 4,

@@ -4,7 +4,7 @@ mod common;
 
 use common::answer;
 use simulator::block::{Block, Gate, Kind, Output, Source};
-use simulator::limits::{BLOCK_WORDS, GATES, INPUTS, OUTPUTS, TEXT_BYTES, WRITTEN_BYTES};
+use simulator::limits::{BLOCK_WORDS, GATES, INPUTS, OUTPUTS, WRITTEN_BYTES};
 use simulator::malformed::is_malformed;
 use simulator::specimens::words_of;
 use simulator::{groups, line, pass, read, render, settle, unloop, verdict, write};
@@ -77,11 +77,11 @@ fn crowded_twice_unknown() {
 
 #[test]
 fn longest_text() {
-    let junk = "x".repeat(TEXT_BYTES + 1);
+    let junk = "x".repeat(61_441);
     assert_eq!(refusal(&junk), (1, 0));
     assert_eq!(refusal(&junk[1..]), (2, 0));
     assert_eq!(unloop(junk.as_bytes()), b"(refused 1 0)\n");
-    let lines = "(in a)\n".repeat(TEXT_BYTES / 7 + 1);
+    let lines = "(in a)\n".repeat(8_778);
     assert_eq!(refusal(&lines), (1, 0));
     assert_eq!(refusal(&lines[7..]), (3, 0));
 }

@@ -1,5 +1,6 @@
 -- Facts on Bools, numbers and lists that two or more crates use, each stated once.
 pub mod Tests
+pub mod Elements
 pub mod Tab
 pub mod Quantifiers
 pub mod Same
