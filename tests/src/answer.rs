@@ -8,16 +8,27 @@ pub struct Answer {
     pub detail: u64,
 }
 
+/// Document 01's word: overlong.
 pub const TEXT_TOO_LONG: u64 = 1;
+/// Document 01's word: form.
 pub const SYNTAX_ERROR: u64 = 2;
+/// Document 01's word: crowded.
 pub const OVER_A_LIMIT: u64 = 3;
+/// Document 01's word: twice.
 pub const DUPLICATE_DECLARATION: u64 = 4;
+/// Document 01's word: unknown.
 pub const UNDECLARED_NAME: u64 = 5;
+/// Document 01's word: torn.
 pub const MALFORMED_BLOCK: u64 = 6;
+/// Document 01's word: setting.
 pub const BAD_SETTING: u64 = 7;
+/// Document 01's word: swollen.
 pub const TOO_MANY_COPIES: u64 = 8;
+/// Document 01's word: undecided.
 pub const NOT_SETTLED: u64 = 9;
+/// Document 01's word: looped.
 pub const NOT_STRAIGHT: u64 = 10;
+/// Document 01's word: short.
 pub const NO_ROOM: u64 = 11;
 
 impl Answer {
