@@ -23,18 +23,18 @@ fn change(random: &mut Random, text: &mut Vec<u8>) {
         1 => text.insert(place, byte),
         2 if place < text.len() => drop(text.remove(place)),
         3 if place < text.len() => text[place] = byte,
-        4 => repeat_line(random, text, place),
+        4 => repeat_line(random, text),
         _ => rename(random, text),
     }
 }
 
-/// Writes the line that holds `place` again somewhere, whole.
-fn repeat_line(random: &mut Random, text: &mut Vec<u8>, place: usize) {
+/// Writes one of the lines again somewhere, whole.
+fn repeat_line(random: &mut Random, text: &mut Vec<u8>) {
     let lines: Vec<&[u8]> = text.split_inclusive(|&b| b == b'\n').collect();
     if lines.is_empty() {
         return;
     }
-    let line = lines[place % lines.len()].to_vec();
+    let line = random.pick(&lines).to_vec();
     let before = random.below(lines.len() + 1);
     let at: usize = lines[..before].iter().map(|line| line.len()).sum();
     text.splice(at..at, line);

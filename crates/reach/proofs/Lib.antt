@@ -1,0 +1,3 @@
+-- The laws of reach, groups and their order.
+pub mod ListFacts
+pub mod Reach

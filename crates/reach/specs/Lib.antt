@@ -1,0 +1,3 @@
+-- Conditions that the laws of groups speak of.
+pub mod Orders
+pub mod Inside
