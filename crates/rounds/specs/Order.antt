@@ -1,0 +1,47 @@
+-- The information order on values and states, and the sets of gates that it is asked on. The laws of this crate, and the crates that
+-- cite them, are stated with these. Assumes nothing.
+use Prim.Native.Nat.{ℕ, _+_, _<_}
+use mathlib.Core.Path.{_≡_}
+use mathlib.Core.Logic.{_⊎_}
+use mathlib.Core.Bool.{Bool, true, cond}
+use mathlib.Core.List.{List, [], _∷_}
+use lib.ListN.{getD}
+use Rattle.laws.specs.Lists.{member}
+use Rattle.netlist.specs.Values.{Value, undefined, val, defined}
+use Rattle.netlist.specs.Netlist.{Block, gateCount}
+use Rattle.netlist.specs.Groups.{reads}
+
+-- v says no more than w: it is undefined, or the same
+abbrev pub Below : Value → Value → Type 0
+Below v w = (b : Bool) → v ≡ val b → w ≡ val b
+
+-- the same of two lists of operand values, one by one
+pub data BelowEach : List Value → List Value → Type 0 where
+  none : BelowEach [] []
+  more : {v w : Value} {vs ws : List Value} → Below v w → BelowEach vs ws → BelowEach (v ∷ vs) (w ∷ ws)
+
+-- the same of two states, on a set of gates
+abbrev pub BelowOn : (ℕ → Type 0) → List Value → List Value → Type 0
+BelowOn S v w = (j : ℕ) → S j → Below (getD v j undefined) (getD w j undefined)
+
+-- the same of two states, at every gate
+abbrev pub BelowAll : List Value → List Value → Type 0
+BelowAll v w = (j : ℕ) → Below (getD v j undefined) (getD w j undefined)
+
+-- the set's gates read only inputs, constants and gates of the set
+abbrev pub Closed : Block → (ℕ → Type 0) → Type 0
+Closed b S = (j k : ℕ) → S j → j < gateCount b → reads b j k ≡ true → S k
+
+-- the gates listed, as a set
+abbrev pub Listed : List ℕ → ℕ → Type 0
+Listed js j = member j js ≡ true
+
+-- `group` reads only itself and the gates `before`, of which none is in the group
+pub record Follows (b : Block) (before : ℕ → Type 0) (group : List ℕ) : Type 0 where
+  pub inside : (j k : ℕ) → Listed group j → reads b j k ≡ true → before k ⊎ Listed group k
+  pub apart : (k : ℕ) → before k → Listed group k → ⊥
+
+-- how many of the gates listed have a value 0 or 1
+unfoldable pub definedAmong : List ℕ → List Value → ℕ
+definedAmong [] v = 0
+definedAmong (j ∷ js) v = cond (defined (getD v j undefined)) 1 0 + definedAmong js v
