@@ -1,0 +1,76 @@
+-- A breadth-first search over gates, as list functions: which operand words are gates, and what marking a list of gates adds.
+use Prim.Native.Nat.{ℕ, _+_, _-_, _*_, _/_, _≤_, _<_}
+use mathlib.Core.Path.{_≡_}
+use mathlib.Core.Logic.{_⊎_}
+use mathlib.Core.Bool.{Bool, true, cond, not, _&&_}
+use mathlib.Core.List.{List, [], _∷_}
+use lib.ListN.{length, getD, set}
+use lib.Seq.{sets}
+use lib.Dec.{eqb, leb, ltb}
+use Rattle.laws.specs.Lists.{tab, joined, countBelow}
+use Rattle.netlist.specs.Netlist.{Block}
+use Rattle.netlist.specs.Groups.{Path, reads, readBy}
+use Rattle.netlist.specs.StoredBlock.{decode}
+
+-- the gate that an operand word of a block of n inputs and m gates names, if it names one
+unfoldable pub wordGate : ℕ → ℕ → ℕ → List ℕ
+wordGate n m w = cond (leb n w && ltb w (n + m)) ((w - n) ∷ []) []
+
+-- the gates among the first `count` operand words of the gate at `at`
+unfoldable pub wordGates : List ℕ → ℕ → ℕ → ℕ → ℕ → List ℕ
+wordGates ws n m at count = joined (tab (λ i. wordGate n m (getD ws (at + 1 + i) 0)) count)
+
+-- flags after these gates are marked
+unfoldable pub marked : List ℕ → List ℕ → List ℕ
+marked flags [] = flags
+marked flags (k ∷ ks) = marked (set flags k 1) ks
+
+-- those of these gates that were not marked before, each once
+unfoldable pub fresh : List ℕ → List ℕ → List ℕ
+fresh flags [] = []
+fresh flags (k ∷ ks) = cond (eqb (getD flags k 0) 0) (k ∷ fresh (set flags k 1) ks) (fresh (set flags k 1) ks)
+
+-- how many of the first m flags are set
+unfoldable pub setFlags : List ℕ → ℕ → ℕ
+setFlags flags m = countBelow (λ k. not (eqb (getD flags k 0) 0)) m
+
+-- each marked gate is queued once, so the queue's end is the number of marked gates and never passes m
+pub record Room (m : ℕ) (flags queue : List ℕ) (tail : ℕ) : Type 0 where
+  pub flagRoom : m ≤ length flags
+  pub queueRoom : m ≤ length queue
+  pub small : m ≤ 65535
+  pub counted : setFlags flags m ≡ tail
+
+-- flags, queue and its end after these gates are marked
+pub record Extended (ks flags queue : List ℕ) (tail : ℕ) (flags′ queue′ : List ℕ) (tail′ : ℕ) : Type 0 where
+  pub flagsAre : flags′ ≡ marked flags ks
+  pub queueIs : queue′ ≡ sets queue tail (fresh flags ks)
+  pub tailIs : tail′ ≡ tail + length (fresh flags ks)
+
+-- A search from `start` in block b, under way: what is marked is reached and queued, and what the first `head` queued gates read is marked.
+pub record Searching (b : Block) (m start : ℕ) (flags queue : List ℕ) (head tail : ℕ) : Type 0 where
+  pub room : Room m flags queue tail
+  pub behind : head ≤ tail
+  pub bits : (k : ℕ) → k < m → (getD flags k 0 ≡ 0) ⊎ (getD flags k 0 ≡ 1)
+  pub started : getD flags start 0 ≡ 1
+  pub reached : (k : ℕ) → k < m → getD flags k 0 ≡ 1 → Path b start k
+  pub queued : (q : ℕ) → q < tail → (getD queue q 0 < m) × (getD flags (getD queue q 0) 0 ≡ 1)
+  pub visited : (q : ℕ) → q < head → (k : ℕ) → reads b (getD queue q 0) k ≡ true → getD flags k 0 ≡ 1
+  pub found : (k : ℕ) → k < m → getD flags k 0 ≡ 1 → (q : ℕ) × (q < tail) × (getD queue q 0 ≡ k)
+
+-- what a search needs: the words are read as the block's gates, and flags and queue have room for every gate
+pub record SearchReady (ws : List ℕ) (n m gates : ℕ) (flags queue : List ℕ) : Type 0 where
+  pub fewInputs : n ≤ 65535
+  pub fewGates : m ≤ 1024
+  pub near : gates ≤ 1024
+  pub flagRoom : m ≤ length flags
+  pub queueRoom : m ≤ length queue
+  pub operands : (i : ℕ) → i < m → wordGates ws n m (gates + 5 * i) (getD ws (gates + 5 * i) 0 / 8) ≡ readBy (decode ws) i
+  pub inside : (i k : ℕ) → i < m → reads (decode ws) i k ≡ true → k < m
+
+-- a search's end: exactly the gates that are reached are marked, and counted
+pub record Reached (b : Block) (m start : ℕ) (flags : List ℕ) (count : ℕ) : Type 0 where
+  pub bits : (k : ℕ) → k < m → (getD flags k 0 ≡ 0) ⊎ (getD flags k 0 ≡ 1)
+  pub sound : (k : ℕ) → k < m → getD flags k 0 ≡ 1 → Path b start k
+  pub complete : (k : ℕ) → Path b start k → getD flags k 0 ≡ 1
+  pub counts : count ≡ setFlags flags m

@@ -1,0 +1,2 @@
+// Breadth-first search over gates: what one gate reaches through operands. Callers are in `groups`.
+pub mod walk;

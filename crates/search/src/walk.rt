@@ -1,0 +1,103 @@
+// Breadth-first search along operands: what one gate reaches.
+ghost use mathlib.Core.Path.{_≡_};
+ghost use mathlib.Core.List.{[], _∷_, _++_};
+ghost use Prim.Native.Nat.{_+_, _*_, _/_, _≤_, _<_};
+ghost use lib.ListN.{length, getD, drop, replicate};
+ghost use Rattle.search.specs.Search.{wordGate, wordGates, Room, Extended, SearchReady, Reached};
+ghost use Rattle.netlist.specs.StoredBlock.{decode};
+use ternary::read::word_at;
+
+// Marks gate `k`, and queues it if it was not marked; the queue's new end.
+fn mark(k: usize, m: usize, flags: &mut [u8], queue: &mut [u16], tail: usize) -> usize
+    requires { ⌜ (k < m) × Room m (now flags) (now queue) tail ⌝ }
+    ensures { λ r. ⌜ Extended (k ∷ []) (now (flags .entry)) (now (queue .entry)) tail (now (flags .exit)) (now (queue .exit)) r ⌝ }
+{
+    let was = flags[k];
+    flags[k] = 1;
+    if was != 0 {
+        return tail;
+    }
+    queue[tail] = k as u16;
+    tail + 1
+}
+
+// Marks the gate that an operand word names, if it names one.
+fn mark_word(
+    w: usize,
+    n: usize,
+    m: usize,
+    flags: &mut [u8],
+    queue: &mut [u16],
+    tail: usize,
+) -> usize
+    requires { ⌜ (n ≤ 65535) × Room m (now flags) (now queue) tail ⌝ }
+    ensures { λ r. ⌜ Extended (wordGate n m w) (now (flags .entry)) (now (queue .entry)) tail (now (flags .exit)) (now (queue .exit)) r ⌝ }
+{
+    if n <= w {
+        if w < n + m {
+            return mark(w - n, m, flags, queue, tail);
+        }
+    }
+    tail
+}
+
+// Marks the gates that the gate at `at` reads.
+fn visit(
+    words: &[u16],
+    n: usize,
+    m: usize,
+    at: usize,
+    flags: &mut [u8],
+    queue: &mut [u16],
+    tail: usize,
+) -> usize
+    requires { ⌜ (at ≤ 65535) × (n ≤ 65535) × Room m (now flags) (now queue) tail ⌝ }
+    ensures { λ r. ⌜ Extended (wordGates (now (words .entry)) n m at (getD (now (words .entry)) at 0 / 8)) (now (flags .entry)) (now (queue .entry)) tail (now (flags .exit)) (now (queue .exit)) r ⌝ }
+{
+    let count = word_at(words, at) / 8;
+    let mut end = tail;
+    let mut i = 0;
+    while i < count {
+        end = mark_word(word_at(words, at + 1 + i), n, m, flags, queue, end);
+        i += 1;
+    }
+    end
+}
+
+// No gate is marked.
+fn clear(m: usize, flags: &mut [u8])
+    requires { ⌜ m ≤ length (now flags) ⌝ }
+    ensures { λ r. ⌜ now (flags .exit) ≡ replicate m 0 ++ drop m (now (flags .entry)) ⌝ }
+{
+    let mut i = 0;
+    while i < m {
+        flags[i] = 0;
+        i += 1;
+    }
+}
+
+// Marks every gate that gate `start` reaches; how many they are. The first gate's words stand at `gates`.
+pub fn mark_reach(
+    words: &[u16],
+    n: usize,
+    m: usize,
+    gates: usize,
+    start: usize,
+    flags: &mut [u8],
+    queue: &mut [u16],
+) -> usize
+    requires { ⌜ (start < m) × SearchReady (now words) n m gates (now flags) (now queue) ⌝ }
+    ensures { λ r. ⌜ Reached (decode (now (words .entry))) m start (now (flags .exit)) r ⌝ }
+{
+    clear(m, flags);
+    flags[start] = 1;
+    queue[0] = start as u16;
+    let mut head = 0;
+    let mut tail = 1;
+    while head < tail {
+        let i = word_at(queue, head);
+        tail = visit(words, n, m, gates + 5 * i, flags, queue, tail);
+        head += 1;
+    }
+    tail
+}
