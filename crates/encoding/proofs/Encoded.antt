@@ -1,0 +1,101 @@
+-- The words of a block: their number, and where each part's words stand. Cited by RoundTrip and Readers. Assumes nothing.
+use mathlib.Core.Path.{_≡_, refl, sym, ap, _∙_}
+use mathlib.Core.List.{List, [], _∷_, _++_, map, append-assoc, append-nil}
+use Prim.Native.Nat.{ℕ, _+_, _*_, _<_}
+use native.Mathlib.Nat.{add-assoc}
+use native.Mathlib.Omega.{arith}
+use lib.ListN.{length, getD, length-append}
+use Rattle.laws.specs.Lists.{joined}
+use Rattle.netlist.specs.Netlist.{Name, Output, Block, inputCount, gateCount, outputCount, gateOf}
+use Rattle.netlist.specs.StoredBlock.{nameSize, gateSize, outputSize, inputsAt, gatesAt, outputsAt, nameWords, gateWords, outputWords, encode}
+use Rattle.encoding.proofs.ListFacts.{length-joined, getD-joined, getD-middle}
+use Rattle.encoding.proofs.Names.{length-nameWords}
+use Rattle.encoding.proofs.Gates.{length-gateWords, GateStands}
+use Rattle.encoding.proofs.Outputs.{length-outputWords, OutputStands}
+use Rattle.encoding.proofs.WellFormed.{noGate}
+
+-- the words of the inputs, the gates and the outputs
+inputPart : Block → List ℕ
+inputPart b = joined (map nameWords (b .inputs))
+
+gatePart : Block → List ℕ
+gatePart b = joined (map (gateWords (inputCount b)) (b .gates))
+
+outputPart : Block → List ℕ
+outputPart b = joined (map (outputWords (inputCount b)) (b .outputs))
+
+header : Block → List ℕ
+header b = inputCount b ∷ gateCount b ∷ outputCount b ∷ []
+
+module _ (b : Block) where
+  encode-parts : encode b ≡ header b ++ inputPart b ++ gatePart b ++ outputPart b
+  unfolding encode header inputPart gatePart outputPart
+  encode-parts = refl
+
+  length-inputPart : length (inputPart b) ≡ nameSize * inputCount b
+  unfolding inputPart
+  length-inputPart = length-joined nameWords nameSize length-nameWords (b .inputs)
+
+  length-gatePart : length (gatePart b) ≡ gateSize * gateCount b
+  unfolding gatePart
+  length-gatePart = length-joined (gateWords (inputCount b)) gateSize (length-gateWords (inputCount b)) (b .gates)
+
+  length-outputPart : length (outputPart b) ≡ outputSize * outputCount b
+  unfolding outputPart
+  length-outputPart = length-joined (outputWords (inputCount b)) outputSize (length-outputWords (inputCount b)) (b .outputs)
+
+  -- the three counts come first
+  pub encode-inputCount : getD (encode b) 0 0 ≡ inputCount b
+  unfolding encode
+  encode-inputCount = refl
+
+  pub encode-gateCount : getD (encode b) 1 0 ≡ gateCount b
+  unfolding encode
+  encode-gateCount = refl
+
+  pub encode-outputCount : getD (encode b) 2 0 ≡ outputCount b
+  unfolding encode
+  encode-outputCount = refl
+
+  length-before-gates : length (header b ++ inputPart b) ≡ gatesAt (inputCount b)
+  unfolding gatesAt header
+  length-before-gates = rw (length-append (header b) (inputPart b), length-inputPart)
+
+  length-before-outputs : length (header b ++ inputPart b ++ gatePart b) ≡ outputsAt (inputCount b) (gateCount b)
+  unfolding outputsAt
+  length-before-outputs = rw (length-append (header b ++ inputPart b) (gatePart b), length-before-gates, length-gatePart)
+
+  -- "A slice of 16-bit words of exactly this length"
+  pub length-encode : length (encode b) ≡ outputsAt (inputCount b) (gateCount b) + outputSize * outputCount b
+  length-encode = rw (encode-parts, length-append (header b ++ inputPart b ++ gatePart b) (outputPart b), length-before-outputs, length-outputPart)
+
+  -- then the names of the inputs
+  pub encode-input : (j : ℕ) (d : Name) → j < inputCount b
+      → (i : ℕ) → i < nameSize → getD (encode b) (inputsAt + nameSize * j + i) 0 ≡ getD (nameWords (getD (b .inputs) j d)) i 0
+  unfolding header inputPart
+  encode-input j d h i l =
+      ap (λ (p : ℕ). getD (encode b) p 0) (add-assoc inputsAt (nameSize * j) i)
+      ∙ ap (λ (ws : List ℕ). getD ws (inputsAt + (nameSize * j + i)) 0) (encode-parts ∙ append-assoc (header b ++ inputPart b) (gatePart b) (outputPart b))
+      ∙ getD-middle (header b) (inputPart b) (gatePart b ++ outputPart b) inputsAt (nameSize * j + i) 0 refl (rw length-inputPart (omega arith))
+      ∙ getD-joined nameWords nameSize length-nameWords (b .inputs) j i d 0 h l
+
+  -- then the gates
+  pub encode-gate : (j : ℕ) → j < gateCount b → GateStands (inputCount b) (encode b) (gatesAt (inputCount b) + gateSize * j) (gateOf b j)
+  unfolding gatePart
+  encode-gate j h i l =
+      ap (λ (p : ℕ). getD (encode b) p 0) (add-assoc (gatesAt (inputCount b)) (gateSize * j) i)
+      ∙ ap (λ (ws : List ℕ). getD ws (gatesAt (inputCount b) + (gateSize * j + i)) 0) encode-parts
+      ∙ getD-middle (header b ++ inputPart b) (gatePart b) (outputPart b) (gatesAt (inputCount b)) (gateSize * j + i) 0 length-before-gates
+      (rw length-gatePart (omega arith))
+      ∙ getD-joined (gateWords (inputCount b)) gateSize (length-gateWords (inputCount b)) (b .gates) j i noGate 0 h l
+
+  -- then the outputs
+  pub encode-output : (o : ℕ) (d : Output) → o < outputCount b
+      → OutputStands (inputCount b) (encode b) (outputsAt (inputCount b) (gateCount b) + outputSize * o) (getD (b .outputs) o d)
+  unfolding outputPart
+  encode-output o d h i l =
+      ap (λ (p : ℕ). getD (encode b) p 0) (add-assoc (outputsAt (inputCount b) (gateCount b)) (outputSize * o) i)
+      ∙ ap (λ (ws : List ℕ). getD ws (outputsAt (inputCount b) (gateCount b) + (outputSize * o + i)) 0) (encode-parts ∙ sym (append-nil (header b ++ inputPart b ++ gatePart b ++ outputPart b)))
+      ∙ getD-middle (header b ++ inputPart b ++ gatePart b) (outputPart b) [] (outputsAt (inputCount b) (gateCount b)) (outputSize * o + i) 0 length-before-outputs
+      (rw length-outputPart (omega arith))
+      ∙ getD-joined (outputWords (inputCount b)) outputSize (length-outputWords (inputCount b)) (b .outputs) o i d 0 h l

@@ -1,0 +1,124 @@
+-- Encode and decode undo each other: on words of the right length whose unused operand words are 0, and on well-formed blocks.
+-- Cited by Intact and by whoever writes or reads blocks. Assumes nothing.
+use mathlib.Core.Path.{_≡_, refl, sym, ap, _∙_}
+use mathlib.Core.Bool.{true, false, _&&_}
+use mathlib.Core.List.{List, [], _∷_, _++_, map}
+use Prim.Native.Nat.{ℕ, _+_, _*_, _<_}
+use native.Mathlib.Nat.{add-assoc}
+use lib.ListN.{length, getD}
+use borrow.Author.Tests.{not-false}
+use Rattle.laws.specs.Lists.{tab, joined, same}
+use Rattle.laws.proofs.Tests.{and-left, and-right}
+use Rattle.laws.proofs.Tab.{length-tab, tab-ext, tab-getD, map-tab}
+use Rattle.laws.proofs.Same.{same-eq, eq-same}
+use Rattle.laws.proofs.Quantifiers.{all-at}
+use Rattle.netlist.specs.Netlist.{Name, Gate, Output, Block, inputCount, gateCount, outputCount, gateOf}
+use Rattle.netlist.specs.StoredBlock.{nameSize, gateSize, outputSize, inputsAt, gatesAt, outputsAt, plainName, nameWords, nameAt, gateWords, gateAt, outputWords, outputAt, gateFits, isNode, encode, decode, wellFormed, torn}
+use Rattle.encoding.proofs.ListFacts.{tab-add, tab-is, joined-tab}
+use Rattle.encoding.proofs.Names.{nameWords-nameAt, nameAt-nameWords}
+use Rattle.encoding.proofs.Gates.{gateWords-gateAt, gateAt-gateWords, Unused}
+use Rattle.encoding.proofs.Outputs.{outputWords-outputAt, outputAt-outputWords}
+use Rattle.encoding.proofs.WellFormed.{noGate, noOutput, WellFormed, wellFormed-parts, few-nodes}
+use Rattle.encoding.proofs.Encoded.{encode-input, encode-gate, encode-output}
+
+-- ---- words, a block, and the words again
+
+-- parts read from words at a fixed distance are those words
+part : {A : Type 0} (ws : List ℕ) (g : A → List ℕ) (f : ℕ → A) (at size count : ℕ)
+    → ((j : ℕ) → j < count → g (f j) ≡ tab (λ i. getD ws (at + size * j + i) 0) size)
+    → joined (map g (tab f count)) ≡ tab (λ i. getD ws (at + i) 0) (size * count)
+part ws g f at size count h =
+    ap joined
+    (map-tab g f count
+    ∙ tab-ext (λ j. g (f j)) (λ j. tab (λ i. getD ws (at + (size * j + i)) 0) size) count
+    (λ j l. h j l ∙ tab-ext (λ i. getD ws (at + size * j + i) 0) (λ i. getD ws (at + (size * j + i)) 0) size (λ i k. rw (add-assoc at (size * j) i))))
+    ∙ joined-tab (λ i. getD ws (at + i) 0) size count
+
+-- words of the right length, with the unused operand words 0, are the words of the block that they hold
+pub encode-decode : (ws : List ℕ) (n m k : ℕ) → getD ws 0 0 ≡ n → getD ws 1 0 ≡ m → getD ws 2 0 ≡ k → length ws ≡ outputsAt n m + outputSize * k
+    → ((j : ℕ) → j < m → Unused ws (gatesAt n + gateSize * j)) → encode (decode ws) ≡ ws
+unfolding encode decode outputsAt gatesAt
+encode-decode ws n m k en em ek size unused =
+    rw (en, em, ek, length-tab name n, length-tab the-gate m, length-tab output k, names, gates, outputs)
+    (sym whole ∙ tab-getD 0 ws (outputsAt n m + outputSize * k) size)
+  where
+    name : ℕ → Name
+    name i = nameAt ws (inputsAt + nameSize * i)
+
+    the-gate : ℕ → Gate
+    the-gate j = gateAt n ws (gatesAt n + gateSize * j)
+
+    output : ℕ → Output
+    output o = outputAt n ws (outputsAt n m + outputSize * o)
+
+    from : ℕ → ℕ → List ℕ
+    from at size = tab (λ i. getD ws (at + i) 0) size
+
+    names : joined (map nameWords (tab name n)) ≡ from inputsAt (nameSize * n)
+    names = part ws nameWords name inputsAt nameSize n (λ j l. nameWords-nameAt ws (inputsAt + nameSize * j))
+
+    gates : joined (map (gateWords n) (tab the-gate m)) ≡ from (gatesAt n) (gateSize * m)
+    gates = part ws (gateWords n) the-gate (gatesAt n) gateSize m (λ j l. gateWords-gateAt n ws (gatesAt n + gateSize * j) (unused j l))
+
+    outputs : joined (map (outputWords n) (tab output k)) ≡ from (outputsAt n m) (outputSize * k)
+    outputs = part ws (outputWords n) output (outputsAt n m) outputSize k (λ o l. outputWords-outputAt n ws (outputsAt n m + outputSize * o))
+
+    whole : tab (λ i. getD ws i 0) (outputsAt n m + outputSize * k)
+        ≡ n ∷ m ∷ k ∷ from inputsAt (nameSize * n) ++ from (gatesAt n) (gateSize * m) ++ from (outputsAt n m) (outputSize * k)
+    whole =
+        let f : ℕ → ℕ = λ i. getD ws i 0 in
+        rw (tab-add f (outputsAt n m) (outputSize * k), tab-add f (gatesAt n) (gateSize * m), tab-add f inputsAt (nameSize * n), en, em, ek)
+
+-- ---- a well-formed block, its words, and the block again
+
+-- the words of a well-formed block hold that block
+pub decode-encode : (b : Block) → wellFormed b ≡ true → decode (encode b) ≡ b
+unfolding encode decode
+decode-encode b h = λ i. record { inputs = inputs-are i; gates = gates-are i; outputs = outputs-are i }
+  where
+    w : WellFormed b
+    w = wellFormed-parts b h
+
+    n : ℕ
+    n = inputCount b
+
+    m : ℕ
+    m = gateCount b
+
+    k : ℕ
+    k = outputCount b
+
+    inputs-are : tab (λ i. nameAt (encode b) (inputsAt + nameSize * i)) n ≡ b .inputs
+    inputs-are =
+        tab-is (λ i. nameAt (encode b) (inputsAt + nameSize * i)) (b .inputs) []
+        (λ i l. nameAt-nameWords (encode b) (inputsAt + nameSize * i) (getD (b .inputs) i []) (all-at plainName (b .inputs) i [] (w .inputNames) l) (encode-input b i [] l))
+
+    gates-are : tab (λ j. gateAt n (encode b) (gatesAt n + gateSize * j)) m ≡ b .gates
+    gates-are =
+        tab-is (λ j. gateAt n (encode b) (gatesAt n + gateSize * j)) (b .gates) noGate
+        (λ j l. gateAt-gateWords b (encode b) (gatesAt n + gateSize * j) (gateOf b j) (few-nodes b w) (all-at (gateFits b) (b .gates) j noGate (w .gatesFit) l) (encode-gate b j l))
+
+    outputs-are : tab (λ o. outputAt n (encode b) (outputsAt n m + outputSize * o)) k ≡ b .outputs
+    outputs-are =
+        tab-is (λ o. outputAt n (encode b) (outputsAt n m + outputSize * o)) (b .outputs) noOutput
+        (λ o l. outputAt-outputWords b (encode b) (outputsAt n m + outputSize * o) (getD (b .outputs) o noOutput) (few-nodes b w)
+        (all-at (λ o. plainName (o .port)) (b .outputs) o noOutput (w .portNames) l)
+        (all-at (λ o. isNode b (o .node)) (b .outputs) o noOutput (w .nodesThere) l)
+        (encode-output b o noOutput l))
+
+-- ---- torn
+
+-- words that are not torn are the words of the block that they hold
+pub whole-encode : (ws : List ℕ) → torn ws ≡ false → encode (decode ws) ≡ ws
+unfolding torn
+whole-encode ws h = same-eq (encode (decode ws)) ws (and-right (wellFormed (decode ws)) (same (encode (decode ws)) ws) (not-false (wellFormed (decode ws) && same (encode (decode ws)) ws) h))
+
+-- and that block is well-formed
+pub whole-wellFormed : (ws : List ℕ) → torn ws ≡ false → wellFormed (decode ws) ≡ true
+unfolding torn
+whole-wellFormed ws h = and-left (wellFormed (decode ws)) (same (encode (decode ws)) ws) (not-false (wellFormed (decode ws) && same (encode (decode ws)) ws) h)
+
+-- the words of a well-formed block are not torn
+pub encode-whole : (b : Block) → wellFormed b ≡ true → torn (encode b) ≡ false
+unfolding torn
+encode-whole b h = rw (decode-encode b h, h, eq-same (encode b) (encode b) refl)

@@ -1,0 +1,100 @@
+-- A well-formed block, rule by rule: the rules' names, taken apart and put together, and a law for a block with another's interface (Render).
+-- Cited by RoundTrip, Readers and by whoever shows a block well-formed. Assumes nothing.
+use mathlib.Core.Path.{_≡_, sym, ap, _∙_}
+use mathlib.Core.Bool.{true, false}
+use mathlib.Core.List.{[], map}
+use Prim.Native.Nat.{ℕ, _+_, _≤_, _<_}
+use native.Mathlib.Omega.{arith}
+use lib.ListN.{getD, length-map}
+use borrow.Author.Tests.{leb-true, le-leb}
+use Rattle.laws.specs.Lists.{all, distinct}
+use Rattle.laws.proofs.Quantifiers.{all-from}
+use Rattle.netlist.specs.Limits.{maxInputs, maxGates, maxOutputs}
+use Rattle.netlist.specs.Netlist.{Name, constant, Gate, Output, Block, inputCount, gateCount, outputCount, gateOf}
+use Rattle.netlist.specs.StoredBlock.{plainName, gateFits, isNode, wellFormed}
+use Rattle.encoding.proofs.ListFacts.{and-parts, all-map}
+
+-- what a list of gates and a list of outputs hold past their end
+abbrev pub noGate : Gate
+noGate = record { kind = 0; operands = [] }
+
+abbrev pub noOutput : Output
+noOutput = record { port = []; node = constant false }
+
+-- "limits, names legal and not twice, kinds, counts, nodes"
+pub record WellFormed (b : Block) : Type 0 where
+  pub fewInputs : inputCount b ≤ maxInputs
+  pub fewGates : gateCount b ≤ maxGates
+  pub fewOutputs : outputCount b ≤ maxOutputs
+  pub inputNames : all plainName (b .inputs) ≡ true
+  pub inputsDistinct : distinct (b .inputs) ≡ true
+  pub gatesFit : all (gateFits b) (b .gates) ≡ true
+  pub portNames : all (λ o. plainName (o .port)) (b .outputs) ≡ true
+  pub portsDistinct : distinct (map (λ (o : Output). o .port) (b .outputs)) ≡ true
+  pub nodesThere : all (λ o. isNode b (o .node)) (b .outputs) ≡ true
+
+-- a block is well-formed when it meets the rules
+pub wellFormed-from : (b : Block) → WellFormed b → wellFormed b ≡ true
+unfolding wellFormed
+wellFormed-from b w =
+    let inputs = le-leb (inputCount b) maxInputs (w .fewInputs) in
+    let gates = le-leb (gateCount b) maxGates (w .fewGates) in
+    let outputs = le-leb (outputCount b) maxOutputs (w .fewOutputs) in
+    rw (inputs, gates, outputs, w .inputNames, w .inputsDistinct, w .gatesFit, w .portNames, w .portsDistinct, w .nodesThere)
+
+-- what "well-formed" says, rule by rule
+pub wellFormed-parts : (b : Block) → wellFormed b ≡ true → WellFormed b
+unfolding wellFormed
+wellFormed-parts b h =
+    let h8 = and-parts _ _ h in
+    let h7 = and-parts _ _ (h8 .0) in
+    let h6 = and-parts _ _ (h7 .0) in
+    let h5 = and-parts _ _ (h6 .0) in
+    let h4 = and-parts _ _ (h5 .0) in
+    let h3 = and-parts _ _ (h4 .0) in
+    let h2 = and-parts _ _ (h3 .0) in
+    let h1 = and-parts _ _ (h2 .0) in
+    record {
+      fewInputs = leb-true (inputCount b) maxInputs (h1 .0);
+      fewGates = leb-true (gateCount b) maxGates (h1 .1);
+      fewOutputs = leb-true (outputCount b) maxOutputs (h2 .1);
+      inputNames = h3 .1;
+      inputsDistinct = h4 .1;
+      gatesFit = h5 .1;
+      portNames = h6 .1;
+      portsDistinct = h7 .1;
+      nodesThere = h8 .1;
+    }
+
+-- the numbers of nodes are below those of the constants
+pub few-nodes : (b : Block) → WellFormed b → inputCount b + gateCount b ≤ 65534
+few-nodes b w = omega (arith, w .fewInputs, w .fewGates)
+
+-- A block with the inputs and the ports of a well-formed one is well-formed, if it has no more gates than allowed, its gates fit and its outputs show
+-- nodes that are there.
+pub wellFormed-interface : (b c : Block) → wellFormed b ≡ true
+    → c .inputs ≡ b .inputs
+    → map (λ (o : Output). o .port) (c .outputs) ≡ map (λ (o : Output). o .port) (b .outputs)
+    → gateCount c ≤ maxGates
+    → ((j : ℕ) → j < gateCount c → gateFits c (gateOf c j) ≡ true)
+    → ((i : ℕ) (d : Output) → i < outputCount c → isNode c (getD (c .outputs) i d .node) ≡ true)
+    → wellFormed c ≡ true
+wellFormed-interface b c h inputs ports few fit there =
+    wellFormed-from c
+    (record {
+      fewInputs = rw inputs (w .fewInputs);
+      fewGates = few;
+      fewOutputs = rw (sym (length-map (c .outputs) port-of), ports, length-map (b .outputs) port-of) (w .fewOutputs);
+      inputNames = rw inputs (w .inputNames);
+      inputsDistinct = rw inputs (w .inputsDistinct);
+      gatesFit = all-from (gateFits c) (c .gates) noGate fit;
+      portNames = sym (all-map plainName port-of (c .outputs)) ∙ ap (all plainName) ports ∙ all-map plainName port-of (b .outputs) ∙ w .portNames;
+      portsDistinct = rw ports (w .portsDistinct);
+      nodesThere = all-from (λ o. isNode c (o .node)) (c .outputs) noOutput (λ i l. there i noOutput l);
+    })
+  where
+    w : WellFormed b
+    w = wellFormed-parts b h
+
+    port-of : Output → Name
+    port-of o = o .port
