@@ -1,29 +1,33 @@
 -- What `reach` computes: gate i reaches gate j exactly when there is a path. Growing m times is enough, by counting.
 -- The other files of this crate cite it. Assumes nothing.
-use Prim.Native.Nat.{ℕ, zero, suc, _+_, _≤_, _<_}
-use mathlib.Core.Path.{_≡_, refl, sym, ap, _∙_}
+use Prim.Native.Nat.{ℕ, zero, suc, _≤_, _<_}
+use mathlib.Core.Path.{_≡_, refl, sym, _∙_}
 use mathlib.Core.Logic.{_⊎_, inl, inr, ⊎-elim}
 use mathlib.Core.Bool.{Bool, true, false, _&&_, _||_, true≢false}
-use mathlib.Core.List.{List, [], _∷_, map}
+use mathlib.Core.List.{List, []}
 use native.Mathlib.Omega.{arith}
 use lib.ListN.{length, getD, List·getD-eq-default}
-use lib.Dec.{eqb, ltb}
-use borrow.Author.Tests.{eqb-true, eq-eqb, ltb-true, ltb-false}
-use Rattle.laws.specs.Lists.{any, tab, joined, upTo, member, countBelow}
-use Rattle.netlist.specs.Netlist.{Block, gateCount, gateOf}
-use Rattle.netlist.specs.Groups.{gateOperand, readBy, reads, Path, stay, step, has, grown, grownTimes, reach, reaches}
+use lib.Seq.{ext-getD}
+use lib.Dec.{eqb}
+use borrow.Author.Tests.{eqb-true, eq-eqb}
+use Rattle.laws.specs.Lists.{any, tab, upTo, countBelow}
+use Rattle.laws.proofs.Tests.{bool-cases, not-both, and-intro, and-left, and-right, or-left, or-right, or-cases, same-test, lt-or-le}
+use Rattle.laws.proofs.Tab.{length-tab, getD-tab}
+use Rattle.laws.proofs.Quantifiers.{any-below, below-any}
+use Rattle.netlist.specs.Netlist.{Block, gateCount}
+use Rattle.netlist.specs.Groups.{readBy, reads, Path, stay, step, has, grown, grownTimes, reach, reaches}
 use Rattle.reach.specs.Inside.{Closed}
-use Rattle.reach.proofs.ListFacts.{either, true-false, and-intro, and-left, and-right, or-left, or-right, or-cases, any-found, any-intro, member-upTo, upTo-below, length-tab, getD-tab, countBelow-mono, countBelow-less, countBelow-le, countBelow-full}
+use Rattle.reach.proofs.Counting.{countBelow-less, countBelow-full}
 
 -- only a gate that is there reads
 pub reads-below : (b : Block) (i k : ℕ) → reads b i k ≡ true → i < gateCount b
 unfolding reads readBy
-reads-below b i k h = go (either (ltb i (gateCount b)))
+reads-below b i k h = go (lt-or-le i (gateCount b))
   where
-    go : (ltb i (gateCount b) ≡ true) ⊎ (ltb i (gateCount b) ≡ false) → i < gateCount b
-    go (inl e) = ltb-true i _ e
+    go : (i < gateCount b) ⊎ (gateCount b ≤ i) → i < gateCount b
+    go (inl e) = e
     go (inr e) =
-        let d = List·getD-eq-default (b .gates) (record { kind = 0; operands = [] }) (ltb-false i _ e) in
+        let d = List·getD-eq-default (b .gates) (record { kind = 0; operands = [] }) e in
         absurd (true≢false (sym (rw d at h)))
 
 -- paths follow one another
@@ -37,18 +41,20 @@ module _ (b : Block) where
   -- a set's entry past the gates is false
   pub has-below : (set : List Bool) (j : ℕ) → length set ≡ gateCount b → has set j ≡ true → j < gateCount b
   unfolding has
-  has-below set j e h = go (either (ltb j (gateCount b)))
+  has-below set j e h = go (lt-or-le j (gateCount b))
     where
-      go : (ltb j (gateCount b) ≡ true) ⊎ (ltb j (gateCount b) ≡ false) → j < gateCount b
-      go (inl l) = ltb-true j _ l
+      go : (j < gateCount b) ⊎ (gateCount b ≤ j) → j < gateCount b
+      go (inl l) = l
       go (inr l) =
-          let u : length set ≤ j = (let v = ltb-false j _ l in omega arith) in
-          absurd (true-false h (List·getD-eq-default set false u))
+          let u : length set ≤ j = omega arith in
+          not-both h (List·getD-eq-default set false u)
 
+  -- a grown set has an entry for each gate
   pub length-grown : (set : List Bool) → length (grown b set) ≡ gateCount b
   unfolding grown
   length-grown set = length-tab _ (gateCount b)
 
+  -- as often as it grows
   pub length-grownTimes : (t : ℕ) (set : List Bool) → length set ≡ gateCount b → length (grownTimes b t set) ≡ gateCount b
   unfolding grownTimes
   length-grownTimes zero set e = e
@@ -62,21 +68,23 @@ module _ (b : Block) where
   pub grown-keeps : (set : List Bool) (j : ℕ) → j < gateCount b → has set j ≡ true → has (grown b set) j ≡ true
   grown-keeps set j h e = has-grown set j h ∙ or-left _ _ e
 
+  -- and adds what is read
   pub grown-reads : (set : List Bool) (i j : ℕ) → j < gateCount b → has set i ≡ true → reads b i j ≡ true → has (grown b set) j ≡ true
   grown-reads set i j h e r =
       has-grown set j h
-      ∙ or-right (has set j) _ (any-intro _ (upTo (gateCount b)) i (member-upTo i _ (reads-below b i j r)) (and-intro _ _ e r))
+      ∙ or-right (has set j) _ (below-any (λ i. has set i && reads b i j) (gateCount b) i (reads-below b i j r) (and-intro _ _ e r))
 
-  -- and adds only what is read
+  -- and nothing else
   pub grown-cases : (set : List Bool) (j : ℕ) → j < gateCount b → has (grown b set) j ≡ true → (has set j ≡ true) ⊎ ((i : ℕ) × (has set i ≡ true) × (reads b i j ≡ true))
   grown-cases set j h e = go (or-cases _ _ (sym (has-grown set j h) ∙ e))
     where
       go : (has set j ≡ true) ⊎ (any (λ i. has set i && reads b i j) (upTo (gateCount b)) ≡ true) → (has set j ≡ true) ⊎ ((i : ℕ) × (has set i ≡ true) × (reads b i j ≡ true))
       go (inl u) = inl u
       go (inr u) =
-          let r = any-found (λ i. has set i && reads b i j) (upTo (gateCount b)) u in
+          let r = any-below (λ i. has set i && reads b i j) (gateCount b) u in
           inr (r .0, and-left _ _ (r .2), and-right (has set (r .0)) _ (r .2))
 
+  -- however often it grows, a set keeps what it has
   pub grownTimes-keeps : (t : ℕ) (set : List Bool) (j : ℕ) → j < gateCount b → has set j ≡ true → has (grownTimes b t set) j ≡ true
   unfolding grownTimes
   grownTimes-keeps zero set j h e = e
@@ -97,16 +105,15 @@ module _ (b : Block) where
   -- a growth that changes nothing: the set is closed; one that does adds a gate
   closed-or-more : (set : List Bool) → Closed b set ⊎ (size set < size (grown b set))
   unfolding size
-  closed-or-more set = go (either (ltb (size set) (size (grown b set))))
+  closed-or-more set = go (lt-or-le (size set) (size (grown b set)))
     where
-      go : (ltb (size set) (size (grown b set)) ≡ true) ⊎ (ltb (size set) (size (grown b set)) ≡ false) → Closed b set ⊎ (size set < size (grown b set))
-      go (inl u) = inr (ltb-true _ _ u)
-      go (inr u) = inl (λ i j hi hj e r. ⊎-elim (λ v. v) (λ v. absurd (more i j hj e r v)) (either (has set j)))
+      go : (size set < size (grown b set)) ⊎ (size (grown b set) ≤ size set) → Closed b set ⊎ (size set < size (grown b set))
+      go (inl u) = inr u
+      go (inr u) = inl (λ i j hi hj e r. ⊎-elim (λ v. v) (λ v. absurd (more i j hj e r v)) (bool-cases (has set j)))
         where
           more : (i j : ℕ) → j < gateCount b → has set i ≡ true → reads b i j ≡ true → has set j ≡ false → ⊥
           more i j hj e r v =
               let l = countBelow-less (has set) (has (grown b set)) (gateCount b) (grown-keeps set) j hj v (grown-reads set i j hj e r) in
-              let w = ltb-false (size set) (size (grown b set)) u in
               omega arith
 
   closed-or-many : (t : ℕ) (set : List Bool) → Closed b (grownTimes b t set) ⊎ (t ≤ size (grownTimes b t set))
@@ -129,6 +136,7 @@ module _ (b : Block) where
 
   -- ---- reach
 
+  -- the reach of a gate has an entry for each gate
   pub length-reach : (i : ℕ) → length (reach b i) ≡ gateCount b
   unfolding reach
   length-reach i = length-grownTimes (gateCount b) _ (length-tab _ (gateCount b))
@@ -138,12 +146,13 @@ module _ (b : Block) where
   unfolding reaches
   reaches-below i j h = has-below (reach b i) j (length-reach i) h
 
+  -- a gate reaches itself
   pub reaches-refl : (i : ℕ) → i < gateCount b → reaches b i i ≡ true
   unfolding reaches reach has
   reaches-refl i h =
       grownTimes-keeps (gateCount b) (tab (eqb i) (gateCount b)) i h (getD-tab (eqb i) (gateCount b) i false h ∙ eq-eqb i i refl)
 
-  -- what is reached reaches what it reads
+  -- what a reached gate reads is reached
   pub reaches-reads : (i j k : ℕ) → reaches b i j ≡ true → reads b j k ≡ true → k < gateCount b → reaches b i k ≡ true
   unfolding reaches reach
   reaches-reads i j k h r l = grownTimes-closed _ j k (reads-below b j k r) l h r
@@ -171,6 +180,7 @@ module _ (b : Block) where
     where
       set : List Bool
       set = grownTimes b t (tab (eqb i) (gateCount b))
+
       go : (has set j ≡ true) ⊎ ((k : ℕ) × (has set k ≡ true) × (reads b k j ≡ true)) → ((k : ℕ) → has set k ≡ true → Path b i k × (i < gateCount b)) → Path b i j × (i < gateCount b)
       go (inl u) f = f j u
       go (inr u) f = let r = f (u .0) (u .1) in (path-append (r .0) (step (u .2) stay), r .1)
@@ -185,5 +195,23 @@ module _ (b : Block) where
   unfolding reaches reach
   reaches-from i j h = grown-path i (gateCount b) j h .1
 
+  -- what a reached gate reaches is reached
   pub reaches-trans : (i j k : ℕ) → reaches b i j ≡ true → reaches b j k ≡ true → reaches b i k ≡ true
   reaches-trans i j k h g = path-reaches i k (reaches-below j k g) (path-append (reaches-path i j h) (reaches-path j k g))
+
+  -- ---- reach, recognised
+
+  closed-path : {i j : ℕ} (set : List Bool) → Closed b set → has set i ≡ true → Path b i j → j < gateCount b → has set j ≡ true
+  closed-path set c e stay h = e
+  closed-path set c e (step {i} {j} r p) h = closed-path set c (c i j (reads-below b i j r) (path-below p h) e r) p h
+
+  -- a closed set that has gate i has all that it reaches
+  pub reach-least : (set : List Bool) (i j : ℕ) → Closed b set → has set i ≡ true → reaches b i j ≡ true → has set j ≡ true
+  reach-least set i j c e h = closed-path set c e (reaches-path i j h) (reaches-below i j h)
+
+  -- a closed set that has gate i, and only what it reaches, is its reach
+  pub reach-is : (set : List Bool) (i : ℕ) → length set ≡ gateCount b → Closed b set → has set i ≡ true → ((j : ℕ) → has set j ≡ true → reaches b i j ≡ true) → set ≡ reach b i
+  unfolding reaches has
+  reach-is set i l c e f =
+      ext-getD false set (reach b i) (l ∙ sym (length-reach i))
+      (λ j h. same-test (getD set j false) (getD (reach b i) j false) (f j) (reach-least set i j c e))
