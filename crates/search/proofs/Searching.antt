@@ -22,7 +22,7 @@ use Rattle.search.proofs.Marking.{room-kept, count-le, set-new}
 
 -- ---- what marking a list does to a flag
 
-kept : (flags ks : List ℕ) (k : ℕ) → getD flags k 0 ≡ 1 → getD (marked flags ks) k 0 ≡ 1
+pub kept : (flags ks : List ℕ) (k : ℕ) → getD flags k 0 ≡ 1 → getD (marked flags ks) k 0 ≡ 1
 unfolding marked
 kept flags [] k h = h
 kept flags (j ∷ ks) k h = kept (set flags j 1) ks k (one (eq-or-ne k j))
@@ -31,7 +31,7 @@ kept flags (j ∷ ks) k h = kept (set flags j 1) ks k (one (eq-or-ne k j))
     one (inr ne) = getD-set-other flags j k 1 0 ne ∙ h
     one (inl e) = ⊎-elim (λ l. rw e (getD-set-same flags j 1 0 l)) (λ l. rw (set-out flags j 1 l) h) (lt-or-le j (length flags))
 
-marks : (flags ks : List ℕ) (k : ℕ) → k < length flags → member k ks ≡ true → getD (marked flags ks) k 0 ≡ 1
+pub marks : (flags ks : List ℕ) (k : ℕ) → k < length flags → member k ks ≡ true → getD (marked flags ks) k 0 ≡ 1
 unfolding marked
 marks flags [] k l h = absurd (false≢true h)
 marks flags (j ∷ ks) k l h =
@@ -40,7 +40,7 @@ marks flags (j ∷ ks) k l h =
     (or-cases (eqb k j) (member k ks) h)
 
 -- a flag changes only for a gate of the list
-only : (flags ks : List ℕ) (k : ℕ) → (getD (marked flags ks) k 0 ≡ getD flags k 0) ⊎ (member k ks ≡ true)
+pub only : (flags ks : List ℕ) (k : ℕ) → (getD (marked flags ks) k 0 ≡ getD flags k 0) ⊎ (member k ks ≡ true)
 unfolding marked
 only flags [] k = inl refl
 only flags (j ∷ ks) k = go (eq-or-ne k j) (only (set flags j 1) ks k)

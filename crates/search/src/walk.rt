@@ -65,7 +65,7 @@ fn visit(
 }
 
 // No gate is marked.
-fn clear(m: usize, flags: &mut [u8])
+pub fn clear(m: usize, flags: &mut [u8])
     requires { ⌜ m ≤ length (now flags) ⌝ }
     ensures { λ r. ⌜ now (flags .exit) ≡ replicate m 0 ++ drop m (now (flags .entry)) ⌝ }
 {

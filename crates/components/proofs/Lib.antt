@@ -1,0 +1,3 @@
+-- Mathematics of components and their numbering; no function of src/ is named.
+pub mod ListFacts
+pub mod Sizes

@@ -1,0 +1,2 @@
+// Strongly connected groups of gates, each named by its lowest gate. Callers are in `groups`.
+pub mod leaders;
