@@ -1,0 +1,110 @@
+-- Demand 3: every gate whose settled value is 0 or 1 has it at its last copy, in every block and under every setting; so the outputs agree
+-- wherever the setting is settled, and in a sound block under every setting. Render's code cites it. Assumes nothing.
+use Prim.Native.Nat.{ℕ, zero, suc, _≤_, _<_}
+use mathlib.Core.Path.{_≡_, refl, sym, ap, _∙_}
+use mathlib.Core.Bool.{true, false, false≢true}
+use mathlib.Core.List.{List, [], _++_}
+use native.Mathlib.Omega.{arith}
+use borrow.Author.Tests.{ltb-true}
+use lib.ListN.{length, getD, take, replicate, length-replicate}
+use lib.Seq.{take-suc, take-length}
+use Rattle.laws.specs.Lists.{joined}
+use Rattle.laws.proofs.Quantifiers.{all-at}
+use Rattle.netlist.specs.Values.{Value, undefined, val, defined}
+use Rattle.netlist.specs.Netlist.{Operand, input, gate, constant, Output, Block, inputCount, gateCount, outputCount}
+use Rattle.netlist.specs.StoredBlock.{isNode, wellFormed}
+use Rattle.netlist.specs.Rounds.{operandValue, outputValue, settled, settingOf, settingCount, settledUnder, settledAt}
+use Rattle.netlist.specs.Cover.{sound}
+use Rattle.netlist.specs.Groups.{groups}
+use Rattle.netlist.specs.Rendering.{passes, schedule, copiedOperand, lastCopies, rendering, sweep}
+use Rattle.encoding.proofs.WellFormed.{wellFormed-parts}
+use Rattle.rounds.specs.Order.{Below, BelowOn, Listed, Follows}
+use Rattle.rounds.specs.Steps.{run}
+use Rattle.rounds.proofs.Values.{below-of-eq, below-trans, below-defined}
+use Rattle.rounds.proofs.Rounds.{length-settled}
+use Rattle.rounds.proofs.AnyOrder.{length-run, run-append}
+use Rattle.rounds.proofs.Passes.{passes-above}
+use Rattle.reach.specs.Inside.{Inside}
+use Rattle.reach.proofs.ListFacts.{member-cases, member-right, once-apart}
+use Rattle.reach.proofs.Inside.{wellFormed-inside}
+use Rattle.reach.proofs.Order.{groups-all, groups-numbered, groups-closed}
+use Rattle.reach.proofs.Build.{joined-snoc}
+use Rattle.agreement.specs.Copies.{scheduleOf, groupAt, gatesBefore}
+use Rattle.agreement.proofs.Schedule.{scheduleOf-take, scheduleOf-all}
+use Rattle.agreement.proofs.Block.{rendering-node}
+use Rattle.agreement.proofs.Sound.{sound-settledAt}
+use Rattle.agreement.proofs.Run.{lastCopy-value}
+
+module _ (b : Block) where
+  gatesBefore-next : (t : ℕ) → t < length (groups b) → gatesBefore b (suc t) ≡ gatesBefore b t ++ groupAt b t
+  gatesBefore-next t l = ap joined (take-suc (groups b) t [] l) ∙ joined-snoc (take t (groups b)) (groupAt b t)
+
+  -- A group reads only itself and the groups before it, and shares no gate with them.
+  pub group-follows : (t : ℕ) → t < length (groups b) → Follows b (Listed (gatesBefore b t)) (groupAt b t)
+  group-follows t l =
+      record {
+        inside =
+            λ j k m r. member-cases k (gatesBefore b t) (groupAt b t)
+            (rw (gatesBefore-next t l) at
+            (groups-closed b (suc t) j k (rw (gatesBefore-next t l) (member-right j (gatesBefore b t) (groupAt b t) m)) r));
+        apart = λ k m n. once-apart (gatesBefore b t) (groupAt b t) (rw (gatesBefore-next t l) at (groups-numbered b (suc t) .once)) k m n;
+      }
+
+  module _ (x : List Value) (v : List Value) (sized : length v ≡ gateCount b) where
+    -- After the passes over the first groups, from any start, their gates are above the settled values.
+    pub groups-above : (t : ℕ) → t ≤ length (groups b)
+        → BelowOn (Listed (gatesBefore b t)) (settled b x) (run b x (scheduleOf (take t (groups b))) v)
+    groups-above zero l = λ j m. absurd (false≢true m)
+    groups-above (suc t) l =
+        let before = run b x (scheduleOf (take t (groups b))) v in
+        let r =
+        passes-above b x (Listed (gatesBefore b t)) (groupAt b t) (group-follows t l) before
+        (length-run b x (scheduleOf (take t (groups b))) v ∙ sized) (groups-above t (omega arith)) in
+        λ j m. rw (scheduleOf-take b t l, run-append b x (scheduleOf (take t (groups b))) (passes (groupAt b t)) v)
+        (r j (member-cases j (gatesBefore b t) (groupAt b t) (rw (gatesBefore-next t l) at m)))
+
+    -- After a run along the schedule, from any start, every gate is above its settled value.
+    pub schedule-above : Inside b → (j : ℕ) → j < gateCount b
+        → Below (getD (settled b x) j undefined) (getD (run b x (schedule b) v) j undefined)
+    schedule-above inside j l =
+        rw (scheduleOf-all b) at
+        (groups-above (length (groups b)) (omega arith) j (rw (take-length (groups b)) (groups-all b inside j l)))
+
+  -- In every block, under every x, a gate whose settled value is 0 or 1 has it at its last copy.
+  pub agreement : Inside b → (x : List Value) (j : ℕ) → j < gateCount b
+      → Below (getD (settled b x) j undefined) (operandValue x (sweep (rendering b) x) (getD (lastCopies b) j (constant false)))
+  agreement inside x j l =
+      below-trans (schedule-above x (replicate (gateCount b) (val false)) (length-replicate (gateCount b) (val false)) inside j l)
+      (below-of-eq (sym (lastCopy-value b x inside j l)))
+
+  module _ (w : wellFormed b ≡ true) (s : ℕ) (h : settledAt b s ≡ true) where
+    x : List Value
+    x = settingOf (inputCount b) s
+
+    node-agrees : (o : Operand) → isNode b o ≡ true
+        → operandValue x (sweep (rendering b) x) (copiedOperand (lastCopies b) o) ≡ operandValue x (settled b x) o
+    unfolding operandValue copiedOperand isNode settledAt settledUnder x
+    node-agrees (input i) k = refl
+    node-agrees (constant c) k = refl
+    node-agrees (gate j) k =
+        let l : j < gateCount b = ltb-true j (gateCount b) k in
+        sym
+        (below-defined (getD (settled b x) j undefined) (operandValue x (sweep (rendering b) x) (getD (lastCopies b) j (constant false)))
+        (agreement (wellFormed-inside b w) x j l) (all-at defined (settled b x) j undefined h (rw (length-settled b x) l)))
+
+  -- Under a settled setting each output has, read from a sweep of the rendering, the value of the original's output of the same number.
+  pub outputs-agree : wellFormed b ≡ true → (s : ℕ) → settledAt b s ≡ true → (o : ℕ) (d e : Output) → o < outputCount b
+      → outputValue (settingOf (inputCount b) s) (sweep (rendering b) (settingOf (inputCount b) s)) (getD (rendering b .outputs) o d)
+      ≡ outputValue (settingOf (inputCount b) s) (settled b (settingOf (inputCount b) s)) (getD (b .outputs) o e)
+  unfolding outputValue x
+  outputs-agree w s h o d e l =
+      rw (rendering-node b o d e l)
+      (node-agrees w s h (getD (b .outputs) o e .node)
+      (all-at (λ o. isNode b (o .node)) (b .outputs) o e (wellFormed-parts b w .nodesThere) l))
+
+  -- Demand 3: in a sound block the outputs agree under every setting.
+  pub sound-outputs-agree : wellFormed b ≡ true → sound b ≡ true → (s : ℕ) → s < settingCount b → (o : ℕ) (d e : Output) → o < outputCount b
+      → outputValue (settingOf (inputCount b) s) (sweep (rendering b) (settingOf (inputCount b) s)) (getD (rendering b .outputs) o d)
+      ≡ outputValue (settingOf (inputCount b) s) (settledUnder b s) (getD (b .outputs) o e)
+  unfolding settledUnder
+  sound-outputs-agree w h s l o d e k = outputs-agree w s (sound-settledAt b h s l) o d e k

@@ -1,0 +1,2 @@
+-- What the laws of rendering speak of.
+pub mod Copies
