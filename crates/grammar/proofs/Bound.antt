@@ -1,0 +1,145 @@
+-- The result of reading a text does not depend on the bound on lines, once it is at least the length. Assumes nothing.
+use Prim.Native.Nat.{ℕ, zero, suc, _-_, _≤_}
+use mathlib.Core.Path.{_≡_, refl, sym, _∙_}
+use mathlib.Core.Bool.{Bool, true, false}
+use mathlib.Core.List.{List, [], _∷_}
+use native.Mathlib.Omega.{arith}
+use lib.ListN.{length}
+use lib.Dec.{eqb}
+use Rattle.laws.specs.Lists.{ascii}
+use Rattle.netlist.specs.Limits.{maxDepth}
+use Rattle.netlist.specs.StoredBlock.{letter, nameByte, nameStart}
+use Rattle.netlist.specs.Syntax.{Terms, Tree}
+use Rattle.netlist.specs.Parse.{Parsed, Reader, got, stuck, stop, onTest, ifNext, expect, onParsed, bind, nameReader, exprReader, termReader, inputLine, gateLine, outputLine, atEnd, line, outputsReader, gatesReader, textReader}
+use Rattle.grammar.proofs.SoundTerms.{letter-nameByte, nameStart-nameByte}
+use Rattle.grammar.proofs.Shorter.{nameReader-shorter, exprReader-shorter}
+
+-- two readers answer alike on texts of at most k bytes
+record Alike {A : Type 0} (k : ℕ) (r q : Reader A) : Type 0 where
+  alike : (s : List ℕ) → length s ≤ k → r s ≡ q s
+
+-- what is left of a text is not longer
+record Shrinks {A : Type 0} (r : Reader A) : Type 0 where
+  shrinks : (s : List ℕ) (a : A) (t : List ℕ) → r s ≡ got a t → length t ≤ length s
+
+module _ {A : Type 0} (k : ℕ) where
+  alike-self : {r : Reader A} → Alike k r r
+  alike-self = record { alike = λ s le. refl }
+
+  alike-ifNext : (test : ℕ → Bool) (f g : ℕ → Reader A) (r q : Reader A) → ((c : ℕ) → Alike k (f c) (g c)) → Alike k r q
+      → Alike k (ifNext test f r) (ifNext test g q)
+  unfolding ifNext onTest
+  alike-ifNext test f g r q h e = record { alike = go }
+    where
+      behind : (b : Bool) (c : ℕ) (s : List ℕ) → suc (length s) ≤ k → onTest b f r c s ≡ onTest b g q c s
+      behind true c s le = h c .alike s (omega arith)
+      behind false c s le = e .alike (c ∷ s) le
+
+      go : (s : List ℕ) → length s ≤ k → ifNext test f r s ≡ ifNext test g q s
+      go [] le = e .alike [] le
+      go (c ∷ s) le = behind (test c) c s le
+
+  alike-expect : (cs : List ℕ) (r q : Reader A) → Alike k r q → Alike k (expect cs r) (expect cs q)
+  unfolding expect
+  alike-expect [] r q h = h
+  alike-expect (c ∷ cs) r q h = alike-ifNext (eqb c) _ _ stop stop (λ _. alike-expect cs r q h) alike-self
+
+module _ {A B : Type 0} (k : ℕ) where
+  alike-bind : (r : Reader A) (f g : A → Reader B) → Shrinks r → ((a : A) → Alike k (f a) (g a)) → Alike k (bind r f) (bind r g)
+  unfolding bind onParsed
+  alike-bind r f g sh h = record { alike = λ s le. go s le (r s) refl }
+    where
+      go : (s : List ℕ) → length s ≤ k → (p : Parsed A) → r s ≡ p → onParsed f p ≡ onParsed g p
+      go s le (got a t) e = let m = sh .shrinks s a t e in h a .alike t (omega arith)
+      go s le (stuck n) e = refl
+
+  alike-first : (r q : Reader A) (f : A → Reader B) → Alike k r q → Alike k (bind r f) (bind q f)
+  unfolding bind
+  alike-first r q f h = record { alike = λ s le. rw (h .alike s le) }
+
+nameReader-shrinks : (start : ℕ → Bool) → ((c : ℕ) → start c ≡ true → nameByte c ≡ true) → Shrinks (nameReader start)
+nameReader-shrinks start within = record { shrinks = λ s x t e. let h = nameReader-shorter start within s x t e in omega arith }
+
+exprReader-shrinks : {A : Type 0} (depth : ℕ) (make : ℕ → Terms → A) → Shrinks (exprReader (termReader depth) make)
+exprReader-shrinks depth make = record { shrinks = λ s a t e. let h = exprReader-shorter depth make s a t e in omega arith }
+
+module _ (k : ℕ) (r q : Reader Tree) (h : Alike k r q) (a b : Reader Tree) (e : Alike k a b) where
+  inputLine-alike : Alike k (inputLine r a) (inputLine q b)
+  unfolding inputLine
+  inputLine-alike =
+      alike-ifNext k _ _ _ _ _
+      (λ _. alike-expect k (ascii "n ") _ _ (alike-bind k (nameReader letter) _ _ (nameReader-shrinks letter letter-nameByte)
+      λ s. alike-expect k (ascii ")\n") _ _ (alike-first k r q _ h))) e
+
+  gateLine-alike : Alike k (gateLine r a) (gateLine q b)
+  unfolding gateLine
+  gateLine-alike =
+      alike-ifNext k _ _ _ _ _
+      (λ _. alike-expect k (ascii "ate ") _ _ (alike-bind k (nameReader nameStart) _ _ (nameReader-shrinks nameStart nameStart-nameByte)
+      λ s. alike-expect k (ascii " (") _ _ (alike-bind k (exprReader (termReader (maxDepth - 1)) _) _ _ (exprReader-shrinks (maxDepth - 1) _)
+      λ g. alike-expect k (ascii ")\n") _ _ (alike-first k r q _ h)))) e
+
+  outputLine-alike : Alike k (outputLine r a) (outputLine q b)
+  unfolding outputLine
+  outputLine-alike =
+      alike-ifNext k _ _ _ _ _
+      (λ _. alike-expect k (ascii "ut ") _ _ (alike-bind k (nameReader letter) _ _ (nameReader-shrinks letter letter-nameByte)
+      λ p. alike-expect k (ascii " ") _ _ (alike-bind k (nameReader nameStart) _ _ (nameReader-shrinks nameStart nameStart-nameByte)
+      λ s. alike-expect k (ascii ")\n") _ _ (alike-first k r q _ h)))) e
+
+line-alike : (k : ℕ) (r q : Reader Tree) → Alike k r q → Alike (suc k) (line r) (line q)
+unfolding line ifNext onTest
+line-alike k r q h = record { alike = go }
+  where
+    behind : (b : Bool) (c : ℕ) (s : List ℕ) → length s ≤ k → onTest b (λ _. r) atEnd c s ≡ onTest b (λ _. q) atEnd c s
+    behind true c s le = h .alike s le
+    behind false c s le = refl
+
+    go : (s : List ℕ) → length s ≤ suc k → line r s ≡ line q s
+    go [] le = refl
+    go (c ∷ s) le = behind (eqb 40 c) c s (omega arith)
+
+alike-zero : (r q : Reader Tree) → r [] ≡ q [] → Alike zero r q
+alike-zero r q e = record { alike = go }
+  where
+    go : (s : List ℕ) → length s ≤ zero → r s ≡ q s
+    go [] le = e
+    go (c ∷ s) le = absurd (omega arith)
+
+module _ (reader : ℕ → Reader Tree) (empty : (n : ℕ) → reader n [] ≡ atEnd [])
+    (step : (k n m : ℕ) → k ≤ n → k ≤ m → Alike k (reader n) (reader m) → Alike (suc k) (reader (suc n)) (reader (suc m))) where
+  any-bound : (k n m : ℕ) → k ≤ n → k ≤ m → Alike k (reader n) (reader m)
+  any-bound zero n m a b = alike-zero (reader n) (reader m) (empty n ∙ sym (empty m))
+  any-bound (suc k) zero m a b = absurd (omega arith)
+  any-bound (suc k) (suc n) zero a b = absurd (omega arith)
+  any-bound (suc k) (suc n) (suc m) a b = step k n m (omega arith) (omega arith) (any-bound k n m (omega arith) (omega arith))
+
+outputs-bound : (k n m : ℕ) → k ≤ n → k ≤ m → Alike k (outputsReader n) (outputsReader m)
+unfolding outputsReader line ifNext
+outputs-bound = any-bound outputsReader empty λ k n m a b h. line-alike k _ _ (outputLine-alike k _ _ h stop stop (alike-self k))
+  where
+    empty : (n : ℕ) → outputsReader n [] ≡ atEnd []
+    empty zero = refl
+    empty (suc n) = refl
+
+gates-bound : (k n m : ℕ) → k ≤ n → k ≤ m → Alike k (gatesReader n) (gatesReader m)
+unfolding gatesReader line ifNext
+gates-bound = any-bound gatesReader empty λ k n m a b h. line-alike k _ _
+    (gateLine-alike k _ _ h _ _ (outputLine-alike k _ _ (outputs-bound k n m a b) stop stop (alike-self k)))
+  where
+    empty : (n : ℕ) → gatesReader n [] ≡ atEnd []
+    empty zero = refl
+    empty (suc n) = refl
+
+text-bound : (k n m : ℕ) → k ≤ n → k ≤ m → Alike k (textReader n) (textReader m)
+unfolding textReader line ifNext
+text-bound = any-bound textReader empty λ k n m a b h. line-alike k _ _ (inputLine-alike k _ _ h _ _
+    (gateLine-alike k _ _ (gates-bound k n m a b) _ _ (outputLine-alike k _ _ (outputs-bound k n m a b) stop stop (alike-self k))))
+  where
+    empty : (n : ℕ) → textReader n [] ≡ atEnd []
+    empty zero = refl
+    empty (suc n) = refl
+
+-- Every bound that is at least the length gives one result.
+pub textReader-bound : (n m : ℕ) (s : List ℕ) → length s ≤ n → length s ≤ m → textReader n s ≡ textReader m s
+textReader-bound n m s a b = text-bound (length s) n m a b .alike s (omega arith)

@@ -1,0 +1,22 @@
+-- Laws of the netlist text's grammar: each file one topic, lower ones first.
+pub mod ListFacts
+pub mod Equations
+pub mod Readings
+pub mod SoundTerms
+pub mod Sound
+pub mod Lengths
+pub mod CompleteTerms
+pub mod Complete
+pub mod Refusals
+pub mod RefusedText
+pub mod Shorter
+pub mod Places
+pub mod Bound
+pub mod Adequacy
+pub mod WellFormed
+pub mod WritingNames
+pub mod WritingTree
+pub mod WritingBlock
+pub mod WritingRefusals
+pub mod WritingLength
+pub mod RoundTrip

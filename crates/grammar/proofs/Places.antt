@@ -1,0 +1,70 @@
+-- Where the lines of a printed tree stand: a print is its own bytes and then what follows, and lengths add up. Cited for places of names.
+-- Assumes nothing.
+use Prim.Native.Nat.{ℕ, _+_}
+use mathlib.Core.Path.{_≡_, refl, sym, ap, _∙_}
+use mathlib.Core.List.{List, [], _∷_, _++_, append-assoc}
+use native.Mathlib.Omega.{arith}
+use lib.ListN.{length, drop, length-append}
+use lib.Seq.{drop-at, drop-drop}
+use Rattle.laws.specs.Lists.{ascii}
+use Rattle.netlist.specs.Netlist.{Name}
+use Rattle.netlist.specs.Syntax.{Term, apply, GateLine, OutputLine, Tree, printTerm, printInput, printGate, printOutput, printLines, print}
+use Rattle.netlist.specs.Reading.{linesLength, gateLinesAt, outputLinesAt}
+use Rattle.grammar.proofs.Shorter.{printTerm-append}
+
+pub term-measure : (t : Term) (rest : List ℕ) → length (printTerm t rest) ≡ length (printTerm t []) + length rest
+term-measure t rest = ap length (printTerm-append t [] rest) ∙ length-append (printTerm t []) rest
+
+pub printInput-split : (x : Name) (rest : List ℕ) → printInput x rest ≡ printInput x [] ++ rest
+unfolding printInput
+printInput-split x rest = simp append-assoc
+
+pub printOutput-split : (o : OutputLine) (rest : List ℕ) → printOutput o rest ≡ printOutput o [] ++ rest
+unfolding printOutput
+printOutput-split o rest = simp append-assoc
+
+pub printGate-split : (g : GateLine) (rest : List ℕ) → printGate g rest ≡ printGate g [] ++ rest
+unfolding printGate
+printGate-split g rest = rw (printTerm-append (apply (g .kind) (g .terms)) (ascii ")\n") rest) (simp append-assoc)
+
+module _ {A : Type 0} (line : A → List ℕ → List ℕ) (split : (x : A) (rest : List ℕ) → line x rest ≡ line x [] ++ rest) where
+  pub lines-split : (xs : List A) (rest : List ℕ) → printLines line xs rest ≡ printLines line xs [] ++ rest
+  unfolding printLines
+  lines-split [] rest = refl
+  lines-split (x ∷ xs) rest =
+      split x (printLines line xs rest) ∙ ap (λ s. line x [] ++ s) (lines-split xs rest)
+      ∙ sym (append-assoc (line x []) (printLines line xs []) rest)
+      ∙ ap (λ s. s ++ rest) (sym (split x (printLines line xs [])))
+
+  pub lines-measure : (xs : List A) (rest : List ℕ) → length (printLines line xs rest) ≡ linesLength line xs + length rest
+  unfolding printLines linesLength
+  lines-measure [] rest = omega arith
+  lines-measure (x ∷ xs) rest =
+      let h = ap length (split x (printLines line xs rest)) in
+      let g = length-append (line x []) (printLines line xs rest) in
+      let r = lines-measure xs rest in
+      omega arith
+
+  pub lines-drop : (xs : List A) (rest : List ℕ) → drop (linesLength line xs) (printLines line xs rest) ≡ rest
+  lines-drop xs rest =
+      let l : length (printLines line xs []) ≡ linesLength line xs = omega (arith, lines-measure xs []) in
+      rw (lines-split xs rest) (drop-at (printLines line xs []) rest (linesLength line xs) l)
+
+-- The gates' lines, the outputs' lines and the end of a printed tree stand where the definitions say.
+module _ (t : Tree) where
+  pub gates-at : drop (gateLinesAt t) (print t) ≡ printLines printGate (t .gates) (printLines printOutput (t .outputs) [])
+  unfolding print gateLinesAt
+  gates-at = lines-drop printInput printInput-split (t .inputs) _
+
+  pub outputs-at : drop (outputLinesAt t) (print t) ≡ printLines printOutput (t .outputs) []
+  unfolding outputLinesAt
+  outputs-at = sym (drop-drop (linesLength printGate (t .gates)) (gateLinesAt t) (print t))
+      ∙ rw gates-at (lines-drop printGate printGate-split (t .gates) _)
+
+  pub print-measure : length (print t) ≡ outputLinesAt t + linesLength printOutput (t .outputs)
+  unfolding print outputLinesAt gateLinesAt
+  print-measure =
+      let a = lines-measure printOutput printOutput-split (t .outputs) [] in
+      let b = lines-measure printGate printGate-split (t .gates) (printLines printOutput (t .outputs) []) in
+      let c = lines-measure printInput printInput-split (t .inputs) (printLines printGate (t .gates) (printLines printOutput (t .outputs) [])) in
+      omega arith

@@ -1,0 +1,120 @@
+-- Every reader of the grammar is good: it refuses at the first byte that no accepted text has there. Assumes nothing.
+use Prim.Native.Nat.{ℕ, zero, suc, _-_}
+use mathlib.Core.Path.{_≡_, refl}
+use mathlib.Core.Logic.{inl}
+use mathlib.Core.Bool.{Bool, true, false, false≢true}
+use mathlib.Core.List.{List, [], _∷_}
+use native.Mathlib.Omega.{arith}
+use Rattle.laws.specs.Lists.{ascii}
+use Rattle.netlist.specs.Limits.{maxName, maxDepth}
+use Rattle.netlist.specs.Kinds.{fewestOperands, mostOperands}
+use Rattle.netlist.specs.StoredBlock.{letter, nameByte, nameStart}
+use Rattle.netlist.specs.Syntax.{Term, Terms, name, literal, apply, nil, cons, Tree}
+use Rattle.netlist.specs.Parse.{Reader, stuck, stop, nameBytes, nameAfter, nameReader, kindReader, spaced, termsReader, exprReader, leafOr, termReader, addInput, addGate, inputLine, gateLine, outputLine, atEnd, line, outputsReader, gatesReader, textReader}
+use Rattle.grammar.proofs.Refusals.{Fails, Good, HalfGood, GoodBefore, HalfGoodBefore, half-stop, good-ifNext, good-expect, before-pure, before-stop, before-ifNext, halfBefore-ifNext, before-half, before-expect, before-bind, good-made}
+
+nameBytes-good : (most : ℕ) → GoodBefore (nameBytes most)
+unfolding nameBytes nameByte letter
+nameBytes-good zero = before-pure []
+nameBytes-good (suc most) =
+    before-ifNext nameByte _ _ (λ c q. before-bind (nameBytes most) _ (nameBytes-good most) λ cs. before-pure (c ∷ cs))
+    (before-half (before-pure [])) 97 refl
+
+nameAfter-good : (c : ℕ) → GoodBefore (nameAfter c)
+unfolding nameAfter
+nameAfter-good c = before-bind (nameBytes (maxName - 1)) _ (nameBytes-good (maxName - 1)) λ cs. before-pure (c ∷ cs)
+
+nameReader-good : (start : ℕ → Bool) → start 97 ≡ true → GoodBefore (nameReader start)
+unfolding nameReader
+nameReader-good start h = before-ifNext start _ _ (λ c q. nameAfter-good c) before-stop 97 h
+
+kindReader-good : GoodBefore kindReader
+unfolding kindReader
+kindReader-good =
+    before-ifNext _ _ _ (λ _ _. before-expect (ascii "nd") _ (before-pure 1))
+    (before-half (before-ifNext _ _ _ (λ _ _. before-expect (ascii "r") _ (before-pure 2))
+    (before-half (before-ifNext _ _ _ (λ _ _. before-ifNext _ _ _ (λ _ _. before-expect (ascii "nd") _ (before-pure 3))
+    (before-half (before-ifNext _ _ _ (λ _ _. before-ifNext _ _ _ (λ _ _. before-pure 0)
+    (before-half (before-ifNext _ _ _ (λ _ _. before-pure 4) before-stop 114 refl)) 116 refl)
+    before-stop 111 refl)) 97 refl)
+    before-stop 110 refl)) 111 refl)) 97 refl
+
+spaced-good : (term : Reader Term) (others : Reader Terms) → GoodBefore term → GoodBefore others → GoodBefore (spaced term others)
+unfolding spaced
+spaced-good term others b c = before-expect (ascii " ") _ (before-bind term _ b λ t. before-bind others _ c λ ts. before-pure (cons t ts))
+
+termsReader-good : (term : Reader Term) → GoodBefore term → (most needed : ℕ) → GoodBefore (termsReader term most needed)
+unfolding termsReader
+termsReader-good term b zero needed = before-expect (ascii ")") _ (before-pure nil)
+termsReader-good term b (suc most) zero =
+    before-ifNext _ _ _ (λ _ _. before-pure nil) (before-half (spaced-good term _ b (termsReader-good term b most zero))) 41 refl
+termsReader-good term b (suc most) (suc needed) = spaced-good term _ b (termsReader-good term b most needed)
+
+exprReader-good : {A : Type 0} (term : Reader Term) (make : ℕ → Terms → A) → GoodBefore term → GoodBefore (exprReader term make)
+unfolding exprReader
+exprReader-good term make b =
+    before-bind kindReader _ kindReader-good λ k. before-bind (termsReader term (mostOperands k) (fewestOperands k)) _
+    (termsReader-good term b (mostOperands k) (fewestOperands k)) λ ts. before-pure (make k ts)
+
+leafOr-good : (inner : Reader Term) → HalfGoodBefore inner → GoodBefore (leafOr inner)
+unfolding leafOr nameStart letter
+leafOr-good inner b =
+    before-ifNext nameStart _ _ (λ c _. before-bind (nameAfter c) _ (nameAfter-good c) λ s. before-pure (name s))
+    (halfBefore-ifNext _ _ _ (λ _ _. before-pure (literal false))
+    (halfBefore-ifNext _ _ _ (λ _ _. before-pure (literal true)) b)) 97 refl
+
+termReader-good : (depth : ℕ) → GoodBefore (termReader depth)
+unfolding termReader
+termReader-good zero = leafOr-good stop before-stop
+termReader-good (suc depth) =
+    leafOr-good _ (before-half (before-expect (ascii "(") _ (exprReader-good (termReader depth) apply (termReader-good depth))))
+
+module _ (others otherwise : Reader Tree) (g : Good others) (h : HalfGood otherwise) where
+  inputLine-good : Good (inputLine others otherwise)
+  unfolding inputLine letter
+  inputLine-good =
+      good-ifNext _ _ _ (λ _ _. good-expect (ascii "n ") _
+      (nameReader-good letter refl .good _ λ s. good-expect (ascii ")\n") _ (good-made others (addInput s) g))) h 105 refl
+
+  outputLine-good : Good (outputLine others otherwise)
+  unfolding outputLine nameStart letter
+  outputLine-good =
+      good-ifNext _ _ _ (λ _ _. good-expect (ascii "ut ") _ (nameReader-good letter refl .good _ λ p. good-expect (ascii " ") _
+      (nameReader-good nameStart refl .good _ λ s. good-expect (ascii ")\n") _ (good-made others _ g)))) h 111 refl
+
+  gateLine-good : Good (gateLine others otherwise)
+  unfolding gateLine nameStart letter
+  gateLine-good =
+      good-ifNext _ _ _ (λ _ _. good-expect (ascii "ate ") _ (nameReader-good nameStart refl .good _ λ s. good-expect (ascii " (") _
+      (exprReader-good (termReader (maxDepth - 1)) _ (termReader-good (maxDepth - 1)) .good _ λ y. good-expect (ascii ")\n") _
+      (good-made others (addGate y) g)))) h 103 refl
+
+atEnd-good : Good atEnd
+unfolding atEnd
+atEnd-good = record { half = record { fails = go }; sample = []; accepts = refl }
+  where
+    go : (s : List ℕ) (n : ℕ) → atEnd s ≡ stuck n → Fails atEnd s n
+    go [] n e = let z : _≡_ {A = ℕ} 0 1 = cc in absurd (omega arith)
+    go (c ∷ s) n e = inl (cc, λ w h. false≢true h)
+
+line-good : (behind : Reader Tree) → Good behind → Good (line behind)
+unfolding line
+line-good behind g = good-ifNext _ _ _ (λ _ _. g) (atEnd-good .half) 40 refl
+
+outputsReader-good : (n : ℕ) → Good (outputsReader n)
+unfolding outputsReader
+outputsReader-good zero = atEnd-good
+outputsReader-good (suc n) = line-good _ (outputLine-good _ _ (outputsReader-good n) half-stop)
+
+gatesReader-good : (n : ℕ) → Good (gatesReader n)
+unfolding gatesReader
+gatesReader-good zero = atEnd-good
+gatesReader-good (suc n) = line-good _ (gateLine-good _ _ (gatesReader-good n) (outputLine-good _ _ (outputsReader-good n) half-stop .half))
+
+-- With every bound on the lines, what is refused cannot go on, and what was read before can.
+pub textReader-good : (n : ℕ) → Good (textReader n)
+unfolding textReader
+textReader-good zero = atEnd-good
+textReader-good (suc n) =
+    line-good _ (inputLine-good _ _ (textReader-good n)
+    (gateLine-good _ _ (gatesReader-good n) (outputLine-good _ _ (outputsReader-good n) half-stop .half) .half))
