@@ -1,2 +1,4 @@
-// One gate's value from a block's words, and the small readers below it. Callers cite specs of `netlist`.
+// One gate's value from a block's words, the table of kinds, and the small readers below them. Callers cite specs of `netlist`.
+pub mod gate;
 pub mod read;
+pub mod table;

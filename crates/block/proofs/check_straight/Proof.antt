@@ -1,0 +1,45 @@
+-- `block::check_straight` meets its contract: a block is straight exactly when each gate keeps its rule with only the inputs and the lower gates
+-- as nodes (`straight-is`). Assumes nothing.
+use borrow.Author.Needs.{needs}
+use Rattle.encoding.proofs.Readers.{whole-parts}
+use Rattle.block.proofs.StraightLaws.{straight-is}
+use Rattle.block.proofs.check_straight.Statement.{statement}
+use Rattle.block.proofs.check_straight.Tie as tie
+
+inputs-of-requires : tie.Need-inputs-of-requires
+inputs-of-requires c κs = search needs
+
+gates-of-requires : tie.Need-gates-of-requires
+gates-of-requires c κs = search needs
+
+read-lower-requires : tie.Need-read-lower-requires
+read-lower-requires c κs =
+    let s = c .before .before .before in
+    let w = whole-parts (s .args .words .now) (s .pre) in
+    rw (c .before .inputs-of .ensures, c .gates-of .ensures) (w .fewInputs, w .fewGates)
+
+returns : tie.Need-returns
+returns c =
+    let s = c .before .before .before .before .before in
+    rw (
+      ← straight-is (s .args .words .now) (s .pre),
+      ← c .before .before .before .inputs-of .ensures,
+      ← c .before .before .gates-of .ensures,
+      ← c .before .read-lower .ensures,
+      c .if1 .taken,
+    )
+
+returns-2 : tie.Need-returns-2
+returns-2 c =
+    let s = c .before .before .before .before .before in
+    rw (
+      ← straight-is (s .args .words .now) (s .pre),
+      ← c .before .before .before .inputs-of .ensures,
+      ← c .before .before .gates-of .ensures,
+      ← c .before .read-lower .ensures,
+      c .if1 .left,
+    )
+
+pub check-straight-spec : {M : Type 1} → statement M
+check-straight-spec =
+    tie.close (tie.spec inputs-of-requires gates-of-requires read-lower-requires returns returns-2)

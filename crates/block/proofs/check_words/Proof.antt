@@ -1,0 +1,17 @@
+-- `block::check_words` meets its contract: words are torn exactly when they break a rule (`intact-torn` of `encoding`). Assumes nothing.
+use borrow.Author.Needs.{needs}
+use Rattle.encoding.proofs.Intact.{intact-torn}
+use Rattle.block.proofs.check_words.Statement.{statement}
+use Rattle.block.proofs.check_words.Tie as tie
+
+is-intact-requires : tie.Need-is-intact-requires
+is-intact-requires c κs = search needs
+
+returns : tie.Need-returns
+returns c = rw (intact-torn (c .before .before .before .args .words .now), ← c .before .is-intact .ensures, c .if1 .taken)
+
+returns-2 : tie.Need-returns-2
+returns-2 c = rw (intact-torn (c .before .before .before .args .words .now), ← c .before .is-intact .ensures, c .if1 .left)
+
+pub check-words-spec : {M : Type 1} → statement M
+check-words-spec = tie.close (tie.spec is-intact-requires returns returns-2)

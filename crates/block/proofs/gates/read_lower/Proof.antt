@@ -1,0 +1,64 @@
+-- `block::gates::read_lower` meets its contract: all gates passed read only lower ones. Assumes nothing.
+use mathlib.Core.Path.{_≡_, refl}
+use mathlib.Core.Bool.{true}
+use Prim.Native.Nat.{_≤_, _-_}
+use borrow.Author.Needs.{needs}
+use Rattle.laws.specs.Lists.{all, upTo}
+use Rattle.block.proofs.TestLaws.{passes, fails, passed}
+use Rattle.block.specs.Steps.{lowerRuleAt}
+use Rattle.block.proofs.gates.read_lower.Statement.{statement}
+use Rattle.block.proofs.gates.read_lower.Tie as tie
+
+abbrev Inv-loop : tie.InvT-loop
+Inv-loop words n m j₀ j = (j ≤ m) × (all (lowerRuleAt words n) (upTo j) ≡ true)
+
+abbrev μ-loop : tie.MeasureT-loop
+μ-loop words n m j₀ j = m - j
+
+loop-holds : tie.Need-loop-holds Inv-loop μ-loop
+loop-holds c = (search needs, refl)
+
+add-fits-at : tie.Need-add-fits-at Inv-loop μ-loop
+add-fits-at c = search needs
+
+fits-at-requires : tie.Need-fits-at-requires Inv-loop μ-loop
+fits-at-requires c κs = search needs
+
+returns : tie.Need-returns Inv-loop μ-loop
+returns c =
+    let a = c .before .before .before .before .before .args in
+    let l = c .before .before .before .loop in
+    fails (lowerRuleAt (a .words .now) (a .n)) (a .m) (l .j) (search needs) (c .before .fits-at .ensures) (c .if1 .taken)
+
+add-j : tie.Need-add-j Inv-loop μ-loop
+add-j c = search needs
+
+loop-less : tie.Need-loop-less Inv-loop μ-loop
+loop-less c = search needs
+
+loop-again : tie.Need-loop-again Inv-loop μ-loop
+loop-again c =
+    let a = c .before .before .before .before .before .args in
+    let l = c .before .before .before .loop in
+    (search needs, passes (lowerRuleAt (a .words .now) (a .n)) (l .j) (l .inv .1) (c .before .fits-at .ensures) (c .if1 .left))
+
+returns-2 : tie.Need-returns-2 Inv-loop μ-loop
+returns-2 c =
+    let a = c .before .before .before .args in
+    let l = c .before .loop in
+    passed (lowerRuleAt (a .words .now) (a .n)) (a .m) (l .j) (l .inv .0) (c .loop-test .left) (l .inv .1)
+
+pub read-lower-spec : {M : Type 1} → statement M
+read-lower-spec =
+    tie.close
+    (tie.spec
+    Inv-loop
+    μ-loop
+    loop-holds
+    add-fits-at
+    fits-at-requires
+    returns
+    add-j
+    loop-less
+    loop-again
+    returns-2)

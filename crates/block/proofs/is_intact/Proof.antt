@@ -1,0 +1,47 @@
+-- `block::is_intact` meets its contract: the header's rule, and once it holds the rules of the parts. Assumes nothing.
+use mathlib.Core.Path.{sym, _∙_}
+use lib.ListN.{getD}
+use borrow.Author.Needs.{needs}
+use borrow.Author.Tests.{not-true, not-false}
+use Rattle.encoding.specs.Rules.{intact}
+use Rattle.block.proofs.HeaderLaws.{Limits, header-limits}
+use Rattle.block.proofs.is_intact.Statement.{statement}
+use Rattle.block.proofs.is_intact.Tie as tie
+
+fits-requires : tie.Need-fits-requires
+fits-requires c κs = search needs
+
+returns : tie.Need-returns
+unfolding intact
+returns c = rw (sym (c .before .fits2 .ensures) ∙ not-true _ (c .if1 .taken))
+
+inputs-of-requires : tie.Need-inputs-of-requires
+inputs-of-requires c κs = search needs
+
+gates-of-requires : tie.Need-gates-of-requires
+gates-of-requires c κs = search needs
+
+outputs-of-requires : tie.Need-outputs-of-requires
+outputs-of-requires c κs = search needs
+
+parts-fit-requires : tie.Need-parts-fit-requires
+parts-fit-requires c κs =
+    let ws = c .before .before .before .before .before .before .args .words .now in
+    let l : Limits (getD ws 0 0) (getD ws 1 0) (getD ws 2 0) = header-limits ws (sym (c .before .before .before .before .fits2 .ensures) ∙ not-false _ (c .before .before .before .if1 .left)) in
+    rw (c .before .before .inputs-of .ensures, c .before .gates-of .ensures, c .outputs-of .ensures) (l .inputs, (l .gates, l .outputs))
+
+returns-2 : tie.Need-returns-2
+unfolding intact
+returns-2 c = rw (sym (c .before .before .before .before .before .fits2 .ensures) ∙ not-false _ (c .before .before .before .before .if1 .left), ← c .before .before .before .inputs-of .ensures, ← c .before .before .gates-of .ensures, ← c .before .outputs-of .ensures) (c .parts-fit .ensures)
+
+pub is-intact-spec : {M : Type 1} → statement M
+is-intact-spec =
+    tie.close
+    (tie.spec
+    fits-requires
+    returns
+    inputs-of-requires
+    gates-of-requires
+    outputs-of-requires
+    parts-fit-requires
+    returns-2)

@@ -1,0 +1,21 @@
+-- `block::names::byte_at` meets its contract: two bytes to a word, the lower half first. Assumes nothing.
+use borrow.Author.Needs.{needs}
+use borrow.Author.Tests.{eq-eqb, ne-eqb}
+use Rattle.block.proofs.NameLaws.{byte-is}
+use Rattle.block.proofs.names.byte_at.Statement.{statement}
+use Rattle.block.proofs.names.byte_at.Tie as tie
+
+add-word-at : tie.Need-add-word-at
+add-word-at c = search needs
+
+word-at-requires : tie.Need-word-at-requires
+word-at-requires c κs = search needs
+
+returns : tie.Need-returns
+returns c = let a = c .before .before .before .args in rw (← byte-is (a .words .now) (a .at) (a .i) (search needs), eq-eqb _ 0 (c .if1 .taken), c .before .word-at .ensures)
+
+returns-2 : tie.Need-returns-2
+returns-2 c = let a = c .before .before .before .args in rw (← byte-is (a .words .now) (a .at) (a .i) (search needs), ne-eqb _ 0 (c .if1 .left), c .before .word-at .ensures)
+
+pub byte-at-spec : {M : Type 1} → statement M
+byte-at-spec = tie.close (tie.spec add-word-at word-at-requires returns returns-2)

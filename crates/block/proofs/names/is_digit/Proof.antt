@@ -1,0 +1,15 @@
+-- `block::names::is_digit` meets its contract. Assumes nothing.
+use borrow.Author.Needs.{needs}
+use Rattle.netlist.specs.StoredBlock.{digit}
+use Rattle.block.proofs.names.is_digit.Statement.{statement}
+use Rattle.block.proofs.names.is_digit.Tie as tie
+
+is-between-requires : tie.Need-is-between-requires
+is-between-requires c κs = search needs
+
+returns : tie.Need-returns
+unfolding digit
+returns c = c .is-between .ensures
+
+pub is-digit-spec : {M : Type 1} → statement M
+is-digit-spec = tie.close (tie.spec is-between-requires returns)

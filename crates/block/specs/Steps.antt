@@ -1,0 +1,60 @@
+-- The rules of the stored block as the loops of src/ step through them: names for the tests under each "all" of the rules in `encoding`.
+use Prim.Native.Nat.{ℕ, _+_, _*_}
+use mathlib.Core.Bool.{Bool, cond, not, _&&_}
+use mathlib.Core.List.{List}
+use lib.ListN.{getD, drop}
+use lib.Dec.{eqb, ltb}
+use Rattle.laws.specs.Lists.{all, upTo}
+use Rattle.netlist.specs.StoredBlock.{nameSize, gateSize, outputSize, inputsAt, gatesAt, outputsAt}
+use Rattle.encoding.specs.Rules.{nameRule, sameName, namesRule, nodeRule, operandRule, gateRule}
+
+-- from byte i on only zeros
+abbrev pub zerosFrom : List ℕ → ℕ → Bool
+zerosFrom bytes i = all (eqb 0) (drop i bytes)
+
+-- word i of two names
+abbrev pub sameWord : List ℕ → ℕ → ℕ → ℕ → Bool
+sameWord ws at other i = eqb (getD ws (at + i) 0) (getD ws (other + i) 0)
+
+-- of names `size` words apart from `at` on, i is not j
+abbrev pub otherName : List ℕ → ℕ → ℕ → ℕ → ℕ → Bool
+otherName ws at size j i = not (sameName ws (at + size * i) (at + size * j))
+
+abbrev pub othersBefore : List ℕ → ℕ → ℕ → ℕ → Bool
+othersBefore ws at size j = all (otherName ws at size j) (upTo j)
+
+abbrev pub newName : List ℕ → ℕ → ℕ → ℕ → Bool
+newName ws at size j = nameRule ws (at + size * j) && othersBefore ws at size j
+
+-- operand word i of the gate at `at`
+abbrev pub slotRule : List ℕ → ℕ → ℕ → ℕ → ℕ → Bool
+slotRule ws nodes at count i = cond (ltb i count) (operandRule nodes (getD ws (at + 1 + i) 0)) (eqb (getD ws (at + 1 + i) 0) 0)
+
+-- gate j of a block of n inputs
+abbrev pub gateRuleAt : List ℕ → ℕ → ℕ → ℕ → Bool
+gateRuleAt ws nodes n j = gateRule ws nodes (gatesAt n + gateSize * j)
+
+abbrev pub gatesRule : List ℕ → ℕ → ℕ → ℕ → Bool
+gatesRule ws nodes n m = all (gateRuleAt ws nodes n) (upTo m)
+
+-- gate j with the inputs and the gates below it as nodes
+abbrev pub lowerRuleAt : List ℕ → ℕ → ℕ → Bool
+lowerRuleAt ws n j = gateRuleAt ws (n + j) n j
+
+abbrev pub lowerRule : List ℕ → ℕ → ℕ → Bool
+lowerRule ws n m = all (lowerRuleAt ws n) (upTo m)
+
+-- output o of those from `at` on
+abbrev pub shownRule : List ℕ → ℕ → ℕ → ℕ → Bool
+shownRule ws nodes at o = nodeRule nodes (getD ws (at + outputSize * o + nameSize) 0)
+
+abbrev pub shownRules : List ℕ → ℕ → ℕ → ℕ → Bool
+shownRules ws nodes at k = all (shownRule ws nodes at) (upTo k)
+
+-- the parts behind a header of n inputs, m gates and k outputs
+abbrev pub partsRule : List ℕ → ℕ → ℕ → ℕ → Bool
+partsRule ws n m k =
+    namesRule ws inputsAt nameSize n
+    && gatesRule ws (n + m) n m
+    && namesRule ws (outputsAt n m) outputSize k
+    && shownRules ws (n + m) (outputsAt n m) k

@@ -1,0 +1,130 @@
+// The gates of a block: kinds, operand counts and operands; and whether each gate reads only lower ones.
+use crate::header::GATE_SIZE;
+use crate::header::OPERAND_WORDS;
+use crate::header::gates_at;
+use ternary::read::word_at;
+ghost use mathlib.Core.Path.{_≡_};
+ghost use mathlib.Core.Bool.{_&&_};
+ghost use Prim.Native.Nat.{_≤_, _<_, _+_, _*_};
+ghost use Rattle.laws.specs.Lists.{all, upTo};
+ghost use Rattle.netlist.specs.Limits.{maxInputs, maxGates};
+ghost use Rattle.netlist.specs.Kinds.{isKind, arityFits};
+ghost use Rattle.encoding.specs.Rules.{nodeRule, operandRule, gateRule};
+ghost use Rattle.block.specs.Steps.{slotRule, gateRuleAt, gatesRule, lowerRule};
+
+// "kinds 0 not, 1 and, 2 or, 3 nand, 4 nor", "`not` with one operand, or `and`, `or`, `nand`, `nor` with two to four"
+pub fn has_arity(kind: usize, count: usize) -> bool
+    ensures { λ r. ⌜ r ≡ isKind kind && arityFits kind count ⌝ }
+{
+    match kind {
+        0 => match count {
+            1 => true,
+            _ => false,
+        },
+        1 | 2 | 3 | 4 => match count {
+            2..=4 => true,
+            _ => false,
+        },
+        _ => false,
+    }
+}
+
+// An input or a gate: `nodes` is how many there are.
+pub fn is_node(nodes: usize, word: usize) -> bool
+    ensures { λ r. ⌜ r ≡ nodeRule nodes word ⌝ }
+{
+    word < nodes
+}
+
+// "65534 for constant 0, 65535 for constant 1"
+pub const CONSTANT_0: usize = 65534;
+
+pub const CONSTANT_1: usize = 65535;
+
+// An operand word: a node number or a constant.
+fn is_operand(nodes: usize, word: usize) -> bool
+    ensures { λ r. ⌜ r ≡ operandRule nodes word ⌝ }
+{
+    if is_node(nodes, word) {
+        return true;
+    }
+    word == CONSTANT_0 || word == CONSTANT_1
+}
+
+// Operand word i of the gate at `at`: an operand below the count, 0 from there on.
+fn slot_fits(words: &[u16], nodes: usize, at: usize, count: usize, i: usize) -> bool
+    requires { ⌜ at ≤ 8192 ⌝ }
+    requires { ⌜ i < 4 ⌝ }
+    ensures { λ r. ⌜ r ≡ slotRule (now (words .entry)) nodes at count i ⌝ }
+{
+    let word = word_at(words, at + 1 + i);
+    if i < count {
+        is_operand(nodes, word)
+    } else {
+        word == 0
+    }
+}
+
+fn slots_fit(words: &[u16], nodes: usize, at: usize, count: usize) -> bool
+    requires { ⌜ at ≤ 8192 ⌝ }
+    ensures { λ r. ⌜ r ≡ all (slotRule (now (words .entry)) nodes at count) (upTo 4) ⌝ }
+{
+    let mut i = 0;
+    while i < OPERAND_WORDS {
+        if !slot_fits(words, nodes, at, count, i) {
+            return false;
+        }
+        i += 1;
+    }
+    true
+}
+
+// The gate whose first word is at `at`.
+fn fits(words: &[u16], nodes: usize, at: usize) -> bool
+    requires { ⌜ at ≤ 8192 ⌝ }
+    ensures { λ r. ⌜ r ≡ gateRule (now (words .entry)) nodes at ⌝ }
+{
+    let head = word_at(words, at);
+    has_arity(head % 8, head / 8) && slots_fit(words, nodes, at, head / 8)
+}
+
+// Gate j of a block of n inputs.
+fn fits_at(words: &[u16], nodes: usize, n: usize, j: usize) -> bool
+    requires { ⌜ n ≤ maxInputs ⌝ }
+    requires { ⌜ j ≤ maxGates ⌝ }
+    ensures { λ r. ⌜ r ≡ gateRuleAt (now (words .entry)) nodes n j ⌝ }
+{
+    fits(words, nodes, gates_at(n) + GATE_SIZE * j)
+}
+
+// "kinds, counts, nodes" of all m gates.
+pub fn fit(words: &[u16], nodes: usize, n: usize, m: usize) -> bool
+    requires { ⌜ n ≤ maxInputs ⌝ }
+    requires { ⌜ m ≤ maxGates ⌝ }
+    ensures { λ r. ⌜ r ≡ gatesRule (now (words .entry)) nodes n m ⌝ }
+{
+    let mut j = 0;
+    while j < m {
+        if !fits_at(words, nodes, n, j) {
+            return false;
+        }
+        j += 1;
+    }
+    true
+}
+
+// Does each gate keep its rule with only the inputs and the lower gates as nodes?
+pub fn read_lower(words: &[u16], n: usize, m: usize) -> bool
+    requires { ⌜ n ≤ maxInputs ⌝ }
+    requires { ⌜ m ≤ maxGates ⌝ }
+    ensures { λ r. ⌜ r ≡ lowerRule (now (words .entry)) n m ⌝ }
+{
+    let mut j = 0;
+    while j < m {
+        if !fits_at(words, n + j, n, j) {
+            return false;
+        }
+        j += 1;
+    }
+    true
+}

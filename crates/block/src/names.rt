@@ -1,0 +1,168 @@
+// The names of inputs and the ports: each legal, none twice.
+use crate::header::NAME_SIZE;
+use ternary::read::word_at;
+ghost use mathlib.Core.Path.{_≡_};
+ghost use mathlib.Core.Bool.{_&&_};
+ghost use Prim.Native.Nat.{_≤_, _<_, _+_, _*_};
+ghost use lib.ListN.{getD};
+ghost use lib.Dec.{leb};
+ghost use Rattle.netlist.specs.StoredBlock.{letter, digit, nameByte, bytesAt};
+ghost use Rattle.encoding.specs.Rules.{padded, nameRule, sameName, namesRule};
+ghost use Rattle.block.specs.Steps.{zerosFrom, otherName, othersBefore, newName};
+
+fn is_between(low: usize, high: usize, c: usize) -> bool
+    ensures { λ r. ⌜ r ≡ leb low c && leb c high ⌝ }
+{
+    low <= c && c <= high
+}
+
+// "a-z"
+fn is_letter(c: usize) -> bool
+    ensures { λ r. ⌜ r ≡ letter c ⌝ }
+{
+    is_between(97, 122, c)
+}
+
+// "0-9"
+fn is_digit(c: usize) -> bool
+    ensures { λ r. ⌜ r ≡ digit c ⌝ }
+{
+    is_between(48, 57, c)
+}
+
+// "a-z, 0-9 and `_`"
+fn is_name_byte(c: usize) -> bool
+    ensures { λ r. ⌜ r ≡ nameByte c ⌝ }
+{
+    if is_letter(c) {
+        return true;
+    }
+    if is_digit(c) {
+        return true;
+    }
+    c == 95
+}
+
+// Byte i of the eight bytes of the name whose words start at `at`.
+fn byte_at(words: &[u16], at: usize, i: usize) -> usize
+    requires { ⌜ at ≤ 65535 ⌝ }
+    requires { ⌜ i < 8 ⌝ }
+    ensures { λ r. ⌜ r ≡ getD (bytesAt (now (words .entry)) at) i 0 ⌝ }
+{
+    let word = word_at(words, at + i / 2);
+    if i % 2 == 0 { word % 256 } else { word / 256 }
+}
+
+// Are the bytes from i on all zero?
+fn only_zeros(words: &[u16], at: usize, i: usize) -> bool
+    requires { ⌜ at ≤ 65535 ⌝ }
+    requires { ⌜ i ≤ 8 ⌝ }
+    ensures { λ r. ⌜ r ≡ zerosFrom (bytesAt (now (words .entry)) at) i ⌝ }
+{
+    let mut j = i;
+    while j < 8 {
+        if byte_at(words, at, j) != 0 {
+            return false;
+        }
+        j += 1;
+    }
+    true
+}
+
+// Name bytes, and then only zeros?
+fn is_padded(words: &[u16], at: usize) -> bool
+    requires { ⌜ at ≤ 65535 ⌝ }
+    ensures { λ r. ⌜ r ≡ padded (bytesAt (now (words .entry)) at) ⌝ }
+{
+    let mut i = 0;
+    while i < 8 {
+        let c = byte_at(words, at, i);
+        if c == 0 {
+            return only_zeros(words, at, i + 1);
+        }
+        if !is_name_byte(c) {
+            return false;
+        }
+        i += 1;
+    }
+    true
+}
+
+// Is the name at `at` legal?
+fn is_legal(words: &[u16], at: usize) -> bool
+    requires { ⌜ at ≤ 65535 ⌝ }
+    ensures { λ r. ⌜ r ≡ nameRule (now (words .entry)) at ⌝ }
+{
+    is_letter(byte_at(words, at, 0)) && is_padded(words, at)
+}
+
+// Are the names at two places the same?
+fn is_same(words: &[u16], at: usize, other: usize) -> bool
+    requires { ⌜ at ≤ 65535 ⌝ }
+    requires { ⌜ other ≤ 65535 ⌝ }
+    ensures { λ r. ⌜ r ≡ sameName (now (words .entry)) at other ⌝ }
+{
+    let mut i = 0;
+    while i < NAME_SIZE {
+        if word_at(words, at + i) != word_at(words, other + i) {
+            return false;
+        }
+        i += 1;
+    }
+    true
+}
+
+// Of names `size` words apart from `at` on: do numbers i and j differ?
+fn differ(words: &[u16], at: usize, size: usize, j: usize, i: usize) -> bool
+    requires { ⌜ at ≤ 8192 ⌝ }
+    requires { ⌜ size ≤ 5 ⌝ }
+    requires { ⌜ j ≤ 1024 ⌝ }
+    requires { ⌜ i ≤ 1024 ⌝ }
+    ensures { λ r. ⌜ r ≡ otherName (now (words .entry)) at size j i ⌝ }
+{
+    !is_same(words, at + size * i, at + size * j)
+}
+
+// Does name j differ from all before it?
+fn is_new(words: &[u16], at: usize, size: usize, j: usize) -> bool
+    requires { ⌜ at ≤ 8192 ⌝ }
+    requires { ⌜ size ≤ 5 ⌝ }
+    requires { ⌜ j ≤ 1024 ⌝ }
+    ensures { λ r. ⌜ r ≡ othersBefore (now (words .entry)) at size j ⌝ }
+{
+    let mut i = 0;
+    while i < j {
+        if !differ(words, at, size, j, i) {
+            return false;
+        }
+        i += 1;
+    }
+    true
+}
+
+// Is name j legal, and not one of those before it?
+fn is_legal_and_new(words: &[u16], at: usize, size: usize, j: usize) -> bool
+    requires { ⌜ at ≤ 8192 ⌝ }
+    requires { ⌜ size ≤ 5 ⌝ }
+    requires { ⌜ j ≤ 1024 ⌝ }
+    ensures { λ r. ⌜ r ≡ newName (now (words .entry)) at size j ⌝ }
+{
+    is_legal(words, at + size * j) && is_new(words, at, size, j)
+}
+
+// "names legal and not twice": `count` names from `at` on, `size` words apart.
+pub fn fit(words: &[u16], at: usize, size: usize, count: usize) -> bool
+    requires { ⌜ at ≤ 8192 ⌝ }
+    requires { ⌜ size ≤ 5 ⌝ }
+    requires { ⌜ count ≤ 1024 ⌝ }
+    ensures { λ r. ⌜ r ≡ namesRule (now (words .entry)) at size count ⌝ }
+{
+    let mut j = 0;
+    while j < count {
+        if !is_legal_and_new(words, at, size, j) {
+            return false;
+        }
+        j += 1;
+    }
+    true
+}

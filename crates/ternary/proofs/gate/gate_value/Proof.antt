@@ -1,0 +1,95 @@
+-- `ternary::gate::gate_value` meets its contract: a legal head word leaves only the two arms that evaluate, and each is the
+-- definition's. Assumes nothing.
+use mathlib.Core.Path.{_≡_, sym, ap, _∙_}
+use Prim.Native.Nat.{_/_, _%_}
+use denote.Ref.{now}
+use borrow.Author.Needs.{needs}
+use native.Mathlib.Omega.{arith}
+use Rattle.netlist.specs.Values.{code}
+use Rattle.ternary.proofs.Codes.{value-code}
+use Rattle.ternary.proofs.Ruled.{forced-low}
+use Rattle.ternary.proofs.Heads.{Head, headOf, evaluated-not, evaluated-row}
+use Rattle.ternary.proofs.gate.gate_value.Statement.{statement}
+use Rattle.ternary.proofs.gate.gate_value.Tie as tie
+
+-- what is known of the head word
+head : (c : tie.After-word-at) → Head (now (c .before .before .before .before .args .words)) (c .before .before .before .before .args .at) (c .word-at .result)
+head c = headOf _ _ _ (c .before .before .before .before .pre) (c .word-at .ensures)
+
+word-at-requires : tie.Need-word-at-requires
+word-at-requires c κs = search needs
+
+add-word-at : tie.Need-add-word-at
+add-word-at c = omega (arith, head (c .before .before))
+
+word-at-requires-2 : tie.Need-word-at-requires-2
+word-at-requires-2 c κs = search needs
+
+operand-value-requires : tie.Need-operand-value-requires
+operand-value-requires c κs = search needs
+
+invert-value-requires : tie.Need-invert-value-requires
+invert-value-requires c κs = search needs
+
+add-ruled-value : tie.Need-add-ruled-value
+add-ruled-value c = omega (arith, head (c .before .before .before .before))
+
+row-of-requires : tie.Need-row-of-requires
+row-of-requires c κs = search needs
+
+ruled-value-requires : tie.Need-ruled-value-requires
+ruled-value-requires c κs =
+    let h = head (c .before .before .before .before .before) in
+    (omega arith, (omega arith, rw (c .row-of .ensures (omega arith)) (forced-low _ (omega arith) (h .kind))))
+
+returns : tie.Need-returns
+returns c =
+    let w = c .before .before .before .before .before in
+    let a = w .before .before .before .before .args in
+    c .invert-value .ensures
+    ∙ rw (c .before .operand-value .ensures, value-code)
+    (ap code
+    (sym
+    (evaluated-not (a .n) (now (a .words)) (a .at) (now (a .inputs)) (now (a .gates)) (w .word-at .result) (c .before .before .word-at2 .result)
+    (w .word-at .ensures) (c .before .before .word-at2 .ensures) (c .before .before .before .before .match .keys1) (c .before .before .before .match2 .keys1))))
+
+returns-2 : tie.Need-returns-2
+returns-2 c = absurd (c .match2 .rest .1 (head (c .before .before) .one (c .before .match .keys1)))
+
+returns-3 : tie.Need-returns-3
+returns-3 c =
+    let w = c .before .before .before .before .before .before in
+    let a = w .before .before .before .before .args in
+    c .ruled-value .ensures
+    ∙ rw (c .before .row-of .ensures (omega arith))
+    (ap code
+    (sym
+    (evaluated-row (a .n) (now (a .words)) (a .at) (now (a .inputs)) (now (a .gates)) (w .word-at .result) (w .word-at .ensures) (omega arith))))
+
+returns-4 : tie.Need-returns-4
+returns-4 c = absurd (omega (arith, head (c .before .before .before) .some (omega arith)))
+
+returns-5 : tie.Need-returns-5
+returns-5 c = absurd (omega (arith, head (c .before .before .before .before) .some (omega arith)))
+
+returns-6 : tie.Need-returns-6
+returns-6 c = absurd (omega (arith, head (c .before .before) .kind))
+
+pub gate-value-spec : {M : Type 1} → statement M
+gate-value-spec =
+    tie.close
+    (tie.spec
+    word-at-requires
+    add-word-at
+    word-at-requires-2
+    operand-value-requires
+    invert-value-requires
+    add-ruled-value
+    row-of-requires
+    ruled-value-requires
+    returns
+    returns-2
+    returns-3
+    returns-4
+    returns-5
+    returns-6)
