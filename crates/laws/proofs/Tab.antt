@@ -47,7 +47,7 @@ module _ {A : Type 0} where
       (set-at (tab f n) (getD entry n (f n)) (drop (suc n) entry) (f n) n (length-tab f n) ∙ rw (length-tab f (suc n), append-assoc))
 
 module _ {A B : Type 0} where
-  map-append : (g : A → B) (xs ys : List A) → map g (xs ++ ys) ≡ map g xs ++ map g ys
+  pub map-append : (g : A → B) (xs ys : List A) → map g (xs ++ ys) ≡ map g xs ++ map g ys
   map-append g [] ys = refl
   map-append g (x ∷ xs) ys = ap {B = List B} (λ r. g x ∷ r) (map-append g xs ys)
 

@@ -236,7 +236,7 @@ search-end s e inside i k l h (step {j = j} r p) = search-end s e inside j k (in
 
 -- ---- its start and its end
 
-cleared-at : (m : ℕ) (flags : List ℕ) (k : ℕ) → k < m → getD (replicate m 0 ++ drop m flags) k 0 ≡ 0
+pub cleared-at : (m : ℕ) (flags : List ℕ) (k : ℕ) → k < m → getD (replicate m 0 ++ drop m flags) k 0 ≡ 0
 cleared-at m flags k l =
     List·getD-append (replicate m 0) (drop m flags) 0 k (rw (length-replicate {A = ℕ} m 0) l) ∙ getD-replicate m k 0 0 l
 

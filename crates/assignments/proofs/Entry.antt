@@ -1,0 +1,139 @@
+-- Why `number_of`, `is_minimal` and `is_entry` are right: laws over plain lists and numbers, one for each way through the code.
+-- Assumes nothing.
+use mathlib.Core.Path.{_≡_, refl, sym, _∙_}
+use mathlib.Core.Bool.{Bool, true, false, not, _&&_}
+use mathlib.Core.List.{List}
+use Prim.Native.Nat.{ℕ, _+_, _-_, _*_, _/_, _%_, _^_, _≤_, _<_}
+use native.Mathlib.Nat.{mod-lt, div-lt-iff-lt-mul}
+use native.Mathlib.Omega.{arith}
+use lib.Dec.{eqb}
+use lib.Bits.{bitAnd}
+use lib.Pow.{pow-pos}
+use lib.ListN.{length, getD}
+use borrow.Author.Tests.{eq-eqb, ne-eqb}
+use Rattle.laws.proofs.Tests.{not-true-false}
+use Rattle.netlist.specs.Limits.{maxInputs}
+use Rattle.netlist.specs.Rounds.{bit}
+use Rattle.netlist.specs.Cover.{Assignment, fixes, without, within}
+use Rattle.assignments.specs.Over.{masks, Legal}
+use Rattle.assignments.specs.Tables.{numberOf}
+use Rattle.assignments.specs.Entries.{pairAt, soundBy, neededBy, minimalBy, entryBy, Numbered, Weighed}
+use Rattle.assignments.proofs.ListFacts.{all-fails}
+use Rattle.assignments.proofs.Agree.{within-at, within-and, and-within}
+use Rattle.assignments.proofs.Numbers.{number-lt, number-weights, number-without, weight-lt}
+use Rattle.assignments.proofs.Bounds.{three-fits}
+
+-- `number_of`: the sums fit, and the difference is the number
+pub record Sums (weights : List ℕ) (n size fixed ones : ℕ) : Type 0 where
+  pub adds-up : numberOf n (masks fixed ones) + 2 * getD weights fixed 0 + 1 ≡ size + getD weights ones 0
+  pub fixed-small : getD weights fixed 0 < size
+  pub ones-small : getD weights ones 0 < size
+  pub fits : size ≤ 3 ^ maxInputs
+
+pub sums : {weights : List ℕ} {n size fixed ones : ℕ} → Weighed weights n size → Legal n (masks fixed ones) → Sums weights n size fixed ones
+sums {weights} {n} {size} {fixed} {ones} w ok = record {
+  adds-up =
+      rw (w .right fixed (ok .fixed-lt), w .right ones (ok .ones-lt), w .size-is)
+      (number-weights n (masks fixed ones) (within-at n fixed ones (ok .inside)));
+  fixed-small = rw (w .right fixed (ok .fixed-lt), w .size-is) (weight-lt n fixed);
+  ones-small = rw (w .right ones (ok .ones-lt), w .size-is) (weight-lt n ones);
+  fits = rw (w .size-is) (three-fits {i = n} {n = n} (omega arith) (w .few));
+}
+
+-- `is_minimal`: a number of the table
+pub record InTable (sound : List ℕ) (n number : ℕ) : Type 0 where
+  pub below : number < 3 ^ n
+  pub fits : 3 ^ n ≤ 3 ^ maxInputs
+  pub room : 3 ^ n ≤ length sound
+
+-- .. at input i
+module _ {sound : List ℕ} {n fixed ones number : ℕ} (d : Numbered sound n fixed ones number) {power i : ℕ} (p : power ≡ 3 ^ i) (l : i < n) where
+  abbrev entry : Assignment
+  entry = masks fixed ones
+
+  pub power-small : power ≤ 3 ^ maxInputs
+  power-small = rw p (three-fits {i = i} {n = n} (omega arith) (d .few))
+
+  -- a free input is not dropped
+  pub needed-free : (fixed / 2 ^ i % 2 ≡ 1 → ⊥) → neededBy sound n entry i ≡ true
+  unfolding neededBy fixes bit
+  needed-free ne = rw (ne-eqb (fixed / 2 ^ i % 2) 1 ne)
+
+  module _ (f : fixed / 2 ^ i % 2 ≡ 1) where
+    -- the number with the input dropped
+    dropped : numberOf n (without entry i) ≡ number + (2 - ones / 2 ^ i % 2) * power
+    unfolding bit
+    dropped = rw (p, d .is) (number-without n entry i (d .legal) l f)
+
+    pub dropped-in : InTable sound n (number + (2 - ones / 2 ^ i % 2) * power)
+    dropped-in = record {
+      below = rw (← dropped) (number-lt n (without entry i));
+      fits = three-fits {i = n} {n = n} (omega arith) (d .few);
+      room = d .room;
+    }
+
+    needed-is : neededBy sound n entry i ≡ not (eqb (getD sound (number + (2 - ones / 2 ^ i % 2) * power) 0) 1)
+    unfolding neededBy fixes bit soundBy
+    needed-is = rw (eq-eqb (fixed / 2 ^ i % 2) 1 f, dropped)
+
+    pub needed-fixed : (getD sound (number + (2 - ones / 2 ^ i % 2) * power) 0 ≡ 1 → ⊥) → neededBy sound n entry i ≡ true
+    needed-fixed ne = needed-is ∙ rw (ne-eqb (getD sound (number + (2 - ones / 2 ^ i % 2) * power) 0) 1 ne)
+
+    pub not-minimal : getD sound (number + (2 - ones / 2 ^ i % 2) * power) 0 ≡ 1 → false ≡ minimalBy sound n entry
+    unfolding minimalBy
+    not-minimal e =
+        sym (all-fails (neededBy sound n entry) n i l (needed-is ∙ rw (eq-eqb (getD sound (number + (2 - ones / 2 ^ i % 2) * power) 0) 1 e)))
+
+-- `is_entry`, at pair number q of masks of n bits
+pub record Pair (sound : List ℕ) (n q fixed ones : ℕ) : Type 0 where
+  pub few : n ≤ maxInputs
+  pub room : 3 ^ n ≤ length sound
+  pub below : q < 2 ^ n * 2 ^ n
+  pub fixed-is : fixed ≡ q / 2 ^ n
+  pub ones-is : ones ≡ q % 2 ^ n
+
+module _ {sound : List ℕ} {n q fixed ones : ℕ} (pair : Pair sound n q fixed ones) where
+  pair-is : pairAt n q ≡ masks fixed ones
+  unfolding pairAt
+  pair-is = rw (pair .fixed-is, pair .ones-is)
+
+  ones-small : ones < 2 ^ n
+  ones-small = rw (pair .ones-is) (mod-lt q (pow-pos n))
+
+  pub pair-legal : bitAnd ones fixed ≡ ones → Legal n (masks fixed ones)
+  pair-legal e = record {
+    fixed-lt = rw (pair .fixed-is) (div-lt-iff-lt-mul (pow-pos n) .1 (pair .below));
+    ones-lt = ones-small;
+    inside = within-and n fixed ones e;
+  }
+
+  pub not-within : (bitAnd ones fixed ≡ ones → ⊥) → false ≡ entryBy sound n q
+  unfolding entryBy
+  not-within ne = sym (rw (pair-is, not-true-false (within n fixed ones) (λ h. ne (and-within n fixed ones ones-small h))))
+
+  module _ {number : ℕ} (e : number ≡ numberOf n (masks fixed ones)) where
+    pub not-sound : (getD sound number 0 ≡ 1 → ⊥) → false ≡ entryBy sound n q
+    unfolding entryBy soundBy
+    not-sound ne =
+        let s : eqb (getD sound (numberOf n (masks fixed ones)) 0) 1 ≡ false = rw (← e) (ne-eqb (getD sound number 0) 1 ne) in
+        sym (rw (pair-is, s) (none (within n fixed ones)))
+      where
+        none : (b : Bool) → b && false ≡ false
+        none true = refl
+        none false = refl
+
+    pub minimal-entry : bitAnd ones fixed ≡ ones → getD sound number 0 ≡ 1 → {r : Bool} → r ≡ minimalBy sound n (masks fixed ones)
+        → r ≡ entryBy sound n q
+    unfolding entryBy soundBy
+    minimal-entry w h m =
+        let s : eqb (getD sound (numberOf n (masks fixed ones)) 0) 1 ≡ true = rw (← e) (eq-eqb (getD sound number 0) 1 h) in
+        m ∙ sym (rw (pair-is, within-and n fixed ones w, s))
+
+    pub number-below : number < length sound
+    number-below =
+        let l : numberOf n (masks fixed ones) < 3 ^ n = number-lt n (masks fixed ones) in
+        let r : 3 ^ n ≤ length sound = pair .room in
+        omega arith
+
+    pub numbered : bitAnd ones fixed ≡ ones → Numbered sound n fixed ones number
+    numbered w = record { few = pair .few; room = pair .room; legal = pair-legal w; is = e }

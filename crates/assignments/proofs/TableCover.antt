@@ -1,0 +1,64 @@
+-- The entries found by the table of soundness are the cover. Cited by the proof of the public function. Assumes nothing.
+use mathlib.Core.Path.{_≡_, refl, sym, ap, subst, _∙_}
+use mathlib.Core.Bool.{Bool, true, false, not, _||_}
+use mathlib.Core.List.{List, map}
+use Prim.Native.Nat.{ℕ, _*_, _^_, _≤_}
+use lib.Dec.{eqb}
+use lib.ListN.{length, getD}
+use Rattle.laws.specs.Lists.{upTo, placed}
+use Rattle.netlist.specs.Limits.{maxInputs}
+use Rattle.netlist.specs.Cover.{Assignment, fixes, without}
+use Rattle.assignments.specs.Over.{soundOver, minimalOver, coverOver}
+use Rattle.assignments.specs.Tables.{numberOf, soundByte, soundTable, byteOf, weightOf, weightTable}
+use Rattle.assignments.specs.Entries.{pairAt, isEntry, entryAt, soundBy, neededBy, minimalBy, entryBy, entriesBelow, entriesBy, Weighed, EntriesWritten}
+use Rattle.assignments.proofs.ListFacts.{all-ext, keep-ext, placed-at}
+use Rattle.assignments.proofs.Numbers.{number-lt}
+use Rattle.assignments.proofs.SoundTable.{byte-number}
+use Rattle.assignments.proofs.Flat.{cover-flat}
+
+-- the weights that `fill_weights` leaves are right
+pub weights-right : {n size : ℕ} {weights : List ℕ} (entry : List ℕ) → n ≤ maxInputs → size ≡ 3 ^ n
+    → weights ≡ placed (weightTable n) entry → 2 ^ n ≤ length weights
+    → Weighed weights n size
+unfolding weightTable
+weights-right {n} {size} {weights} entry h s e r = record {
+  few = h;
+  size-is = s;
+  room = r;
+  right = λ m l. ap (λ (xs : List ℕ). getD xs m 0) e ∙ placed-at (weightOf n) (2 ^ n) entry m 0 l;
+}
+
+-- the byte at an assignment's number says whether it is sound
+module _ (p : ℕ → Bool) (n : ℕ) (entry : List ℕ) where
+  abbrev table : List ℕ
+  table = placed (soundTable p n) entry
+
+  sound-by : (a : Assignment) → soundBy table n a ≡ soundOver p n a
+  unfolding soundBy soundTable byteOf
+  sound-by a =
+      ap (λ (x : ℕ). eqb x 1) (placed-at (soundByte p n) (3 ^ n) entry (numberOf n a) 0 (number-lt n a) ∙ byte-number p n a)
+      ∙ is-one (soundOver p n a)
+    where
+      is-one : (b : Bool) → eqb (byteOf b) 1 ≡ b
+      is-one true = refl
+      is-one false = refl
+
+  minimal-by : (a : Assignment) → minimalBy table n a ≡ minimalOver p n a
+  unfolding minimalBy neededBy minimalOver
+  minimal-by a =
+      all-ext (neededBy table n a) (λ i. not (fixes a i) || not (soundOver p n (without a i))) n
+      (λ i l. ap (λ (b : Bool). not (fixes a i) || not b) (sound-by (without a i)))
+
+  entry-by : (q : ℕ) → entryBy table n q ≡ entryAt p n q
+  unfolding entryBy entryAt isEntry
+  entry-by q = rw (sound-by (pairAt n q), minimal-by (pairAt n q))
+
+  pub entries-cover : entriesBy table n ≡ coverOver p n
+  unfolding entriesBy entriesBelow
+  entries-cover = ap (map (pairAt n)) (keep-ext (entryBy table n) (entryAt p n) entry-by (upTo (2 ^ n * 2 ^ n))) ∙ sym (cover-flat p n)
+
+-- what is written by the table that `fill_sound` leaves is the cover
+pub cover-written : (p : ℕ → Bool) (n : ℕ) (sound entry : List ℕ) {before after : List ℕ} {count : ℕ} → sound ≡ placed (soundTable p n) entry
+    → EntriesWritten (entriesBy sound n) before after count → EntriesWritten (coverOver p n) before after count
+cover-written p n sound entry {before} {after} {count} e w =
+    subst (λ (xs : List Assignment). EntriesWritten xs before after count) (ap (λ (xs : List ℕ). entriesBy xs n) e ∙ entries-cover p n entry) w

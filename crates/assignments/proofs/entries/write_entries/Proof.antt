@@ -1,0 +1,40 @@
+-- `entries::write_entries` meets its contract: the count tells whether there is room. Assumes nothing.
+use Prim.Native.Nat.{_*_, _^_, _≤_}
+use native.Mathlib.Omega.{arith}
+use lib.ListN.{length}
+use Rattle.netlist.specs.Limits.{maxInputs}
+use Rattle.assignments.specs.Entries.{entriesBy}
+use Rattle.assignments.proofs.Bounds.{pairs-fit}
+use Rattle.assignments.proofs.Listing.{entries-few, with-room, without-room}
+use borrow.Author.Needs.{needs}
+use Rattle.assignments.proofs.entries.write_entries.Statement.{statement}
+use Rattle.assignments.proofs.entries.write_entries.Tie as tie
+
+count-entries-requires : tie.Need-count-entries-requires
+count-entries-requires c κs = search needs
+
+mul-if1 : tie.Need-mul-if1
+mul-if1 c =
+    let args = c .before .before .before .before .args in
+    let f : length (entriesBy (args .sound .now) (args .n)) ≤ 2 ^ (args .n) * 2 ^ (args .n) = entries-few (args .sound .now) (args .n) in
+    let g : 2 ^ (args .n) * 2 ^ (args .n) ≤ 2 ^ (2 * maxInputs) = pairs-fit (c .before .before .before .before .pre .0 .few) in
+    omega (arith, c .count-entries .ensures)
+
+list-entries-requires : tie.Need-list-entries-requires
+list-entries-requires c κs = search needs
+
+same-length : tie.Need-same-length
+same-length c = search needs
+
+returns : tie.Need-returns
+returns c =
+    with-room (c .before .before .before .before .before .count-entries .ensures) (c .before .before .before .before .if1 .taken)
+    (c .before .before .list-entries .ensures)
+
+returns-2 : tie.Need-returns-2
+returns-2 c = without-room (c .before .count-entries .ensures) (c .if1 .left)
+
+pub write-entries-spec : {M : Type 1} → statement M
+write-entries-spec =
+    tie.close
+    (tie.spec count-entries-requires mul-if1 list-entries-requires same-length returns returns-2)

@@ -1,0 +1,47 @@
+// Cover's core, over a table that says which settings are settled: the sound and minimal partial assignments of n inputs, in order.
+// The operation Cover simulates each setting once, and then calls `cover_entries`.
+mod entries;
+mod tables;
+
+use entries::write_entries;
+use tables::fill_sound;
+use tables::fill_weights;
+use tables::power_of_3;
+ghost use Prim.Native.Nat.{_^_, _≤_};
+ghost use lib.ListN.{length};
+ghost use Rattle.netlist.specs.Limits.{maxInputs};
+ghost use Rattle.assignments.specs.Over.{coverOver};
+ghost use Rattle.assignments.specs.Tables.{settledBy};
+ghost use Rattle.assignments.specs.Entries.{EntriesWritten};
+
+// 3^10 assignments and 2^10 masks: the most that ten inputs have.
+const ASSIGNMENTS: usize = 59049;
+
+const MASKS: usize = 1024;
+
+// The number of entries; their words, two an entry, where `out` has room for all of them. `settled` has a 1 for each settled setting.
+pub fn cover_entries(settled: &[u8], n: usize, out: &mut [u16]) -> usize
+    requires { ⌜ (n ≤ maxInputs) × (2 ^ n ≤ length (now settled)) ⌝ }
+    ensures { λ r. ⌜ EntriesWritten (coverOver (settledBy (now (settled .entry))) n) (now (out .entry)) (now (out .exit)) r ⌝ }
+{
+    let mut sound = [0u8; ASSIGNMENTS];
+    let mut weights = [0u16; MASKS];
+    cover_within(settled, n, &mut sound, &mut weights, out)
+}
+
+// The same, with the two tables lent.
+fn cover_within(
+    settled: &[u8],
+    n: usize,
+    sound: &mut [u8],
+    weights: &mut [u16],
+    out: &mut [u16],
+) -> usize
+    requires { ⌜ (n ≤ maxInputs) × (2 ^ n ≤ length (now settled)) × (3 ^ n ≤ length (now sound)) × (2 ^ n ≤ length (now weights)) ⌝ }
+    ensures { λ r. ⌜ EntriesWritten (coverOver (settledBy (now (settled .entry))) n) (now (out .entry)) (now (out .exit)) r ⌝ }
+{
+    let size = power_of_3(n);
+    fill_weights(n, weights);
+    fill_sound(settled, n, size, sound);
+    write_entries(sound, weights, n, size, out)
+}

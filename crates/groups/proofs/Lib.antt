@@ -1,0 +1,7 @@
+-- Mathematics of numbering; no function of src/ is named.
+pub mod Obstacles
+pub mod Filling
+pub mod Order
+pub mod Turns
+pub mod Whole
+pub mod Answered

@@ -1,0 +1,140 @@
+-- The numbers before, during and after the numbering loop. Cited by `number_groups`. Assumes nothing.
+use mathlib.Core.Path.{_≡_, refl, sym, ap, _∙_, subst}
+use mathlib.Core.Logic.{_⊎_, inl, inr, ⊎-elim}
+use mathlib.Core.Bool.{Bool, true, false, cond}
+use mathlib.Core.List.{List, [], _∷_, _++_}
+use Prim.Native.Nat.{ℕ, zero, suc, _+_, _≤_, _<_}
+use native.Mathlib.Nat.{le-antisymm}
+use native.Mathlib.Numerals.{add-one}
+use native.Mathlib.Omega.{arith}
+use lib.ListN.{length, getD, take, drop, replicate, length-replicate, replicate-append-replicate}
+use lib.Seq.{take-all, drop-at, length-front}
+use lib.Dec.{eqb, ltb}
+use borrow.Author.Tests.{eqb-true, eqb-false, eq-eqb, ne-eqb, ltb-true, ltb-false, lt-ltb, le-ltb}
+use Rattle.laws.specs.Lists.{tab, placed, joined, member, least}
+use Rattle.laws.proofs.Tests.{not-both, lt-or-le, eq-or-ne}
+use Rattle.laws.proofs.Tab.{tab-ext, length-tab}
+use Rattle.netlist.specs.Netlist.{Block, gateCount}
+use Rattle.netlist.specs.StoredBlock.{decode}
+use Rattle.netlist.specs.Groups.{sameGroup, groupOf, mayBeNext, groups, groupNumber, groupNumbers}
+use Rattle.reach.specs.Inside.{Inside}
+use Rattle.reach.specs.Numbering.{nextGate}
+use Rattle.reach.proofs.SameGroup.{member-groupOf, sameGroup-sym}
+use Rattle.reach.proofs.Next.{mayBeNext-left}
+use Rattle.reach.proofs.Order.{length-groups, groups-all, nextGate-passes}
+use Rattle.reach.proofs.GroupNumber.{groupNumber-is, groupNumber-below, groupNumber-member}
+use Rattle.reach.proofs.Build.{groups-at}
+use Rattle.search.proofs.Searching.{cleared-at, cleared-length}
+use Rattle.components.proofs.Sizes.{leaders-same}
+use Rattle.components.proofs.ListFacts.{placed-tab}
+use Rattle.groups.specs.Numbering.{noNumber, renumbered, numberUpTo, NumberReady, GroupsNumbered, blockedAfter}
+use Rattle.groups.proofs.Order.{State}
+
+-- a list of one number
+tab-constant : (f : ℕ → ℕ) (v m : ℕ) → ((j : ℕ) → j < m → f j ≡ v) → tab f m ≡ replicate m v
+tab-constant f v zero h = refl
+tab-constant f v (suc m) h =
+    let e : tab f m ≡ replicate m v = tab-constant f v m (λ j l. h j (omega arith)) in
+    let e′ : f m ≡ v = h m (omega arith) in
+    rw (e, e′) (replicate-append-replicate m 1 v ∙ rw add-one refl)
+
+none-number : (b : Block) (j : ℕ) → numberUpTo b 0 j ≡ noNumber
+unfolding numberUpTo
+none-number b j = rw (le-ltb (groupNumber b j) 0 (omega arith)) refl
+
+-- no group has a number yet
+pub numbers-none : (b : Block) (m : ℕ) (entry : List ℕ) → replicate m noNumber ++ drop m entry ≡ placed (tab (numberUpTo b 0) m) (replicate m noNumber ++ drop m entry)
+numbers-none b m entry =
+    let e : tab (numberUpTo b 0) m ≡ replicate m noNumber = tab-constant (numberUpTo b 0) noNumber m (λ j l. none-number b j) in
+    rw (e, length-replicate {A = ℕ} m noNumber, drop-at (replicate m noNumber) (drop m entry) m (length-replicate {A = ℕ} m noNumber)) refl
+
+-- the loop's arrays are in the state that the tests speak of
+pub state-now : {ws : List ℕ} {n m gates g : ℕ} {leaders numbers blocked : List ℕ} (numbers₀ entry : List ℕ) → NumberReady ws n m gates leaders → numbers ≡ placed (tab (numberUpTo (decode ws) g) m) numbers₀ → m ≤ length entry → blocked ≡ blockedAfter ws n m gates numbers leaders m (replicate m 0 ++ drop m entry) → State ws n m gates g leaders numbers (replicate m 0 ++ drop m entry) blocked
+state-now {ws} {n} {m} {gates} {g} {leaders} {numbers} numbers₀ entry r is room e =
+    record {
+      prepared = r;
+      numbersAre = λ j l. rw is (placed-tab (numberUpTo (decode ws) g) m numbers₀ j 0 l);
+      clear = λ k l. cleared-at m entry k l;
+      room = rw (cleared-length m entry room) room;
+      blockedIs = e;
+    }
+
+module _ (b : Block) (inside : Inside b) where
+  -- there is a next gate only while groups are left, and always then
+  next-within : (g : ℕ) → nextGate b (joined (take g (groups b))) < gateCount b → g < length (groups b)
+  next-within g h = ⊎-elim (λ l. l) (λ ge. not-both (all-done ge) (mayBeNext-left b (joined (take g (groups b))) (nextGate b (joined (take g (groups b)))) (nextGate-passes b (joined (take g (groups b))) h))) (lt-or-le g (length (groups b)))
+    where
+      all-done : length (groups b) ≤ g → member (nextGate b (joined (take g (groups b)))) (joined (take g (groups b))) ≡ true
+      all-done ge = rw (take-all g (groups b) ge) (groups-all b inside (nextGate b (joined (groups b))) (rw (take-all g (groups b) ge) at h))
+
+  none-next : (g : ℕ) → g ≤ length (groups b) → gateCount b ≤ nextGate b (joined (take g (groups b))) → g ≡ length (groups b)
+  none-next g le h = ⊎-elim (λ l. absurd (omega (arith, groups-at b g l .0))) (λ ge. le-antisymm le ge) (lt-or-le g (length (groups b)))
+
+  -- one group more has its number
+  number-more : (g i j : ℕ) → nextGate b (joined (take g (groups b))) ≡ j → i < gateCount b → j < gateCount b → cond (sameGroup b i j) g (numberUpTo b g i) ≡ numberUpTo b (g + 1) i
+  unfolding numberUpTo
+  number-more g i j is il jl = go (sameGroup b i j) refl
+    where
+      lt : g < length (groups b)
+      lt = next-within g (rw is jl)
+
+      group : getD (groups b) g [] ≡ groupOf b j
+      group = rw is at (groups-at b g lt .1)
+
+      go : (t : Bool) → sameGroup b i j ≡ t → cond t g (cond (ltb (groupNumber b i) g) (groupNumber b i) noNumber) ≡ cond (ltb (groupNumber b i) (g + 1)) (groupNumber b i) noNumber
+      go true e =
+          let m : member i (getD (groups b) g []) ≡ true = rw (group, member-groupOf b j i) (sameGroup-sym b i j e) in
+          let is-g : groupNumber b i ≡ g = groupNumber-is b i g m in
+          rw (is-g, lt-ltb g (g + 1) (omega arith)) refl
+      go false e =
+          let ne : groupNumber b i ≡ g → ⊥ = λ q. not-both (sameGroup-sym b j i (sym (member-groupOf b j i) ∙ rw (← group, ← q) (groupNumber-member b inside i il))) e in
+          ⊎-elim (λ l. rw (lt-ltb (groupNumber b i) g l, lt-ltb (groupNumber b i) (g + 1) (omega arith)) refl)
+          (λ l. rw (le-ltb (groupNumber b i) g l, le-ltb (groupNumber b i) (g + 1) (omega arith)) refl) (lt-or-le (groupNumber b i) g)
+
+  -- all groups have their numbers
+  all-numbered : tab (numberUpTo b (length (groups b))) (gateCount b) ≡ groupNumbers b
+  unfolding numberUpTo groupNumbers
+  all-numbered = tab-ext (numberUpTo b (length (groups b))) (groupNumber b) (gateCount b) (λ j l. rw (lt-ltb (groupNumber b j) (length (groups b)) (groupNumber-below b inside j l)) refl)
+
+-- what stands behind the numbers stays
+behind : (f : ℕ → ℕ) (m : ℕ) (numbers entry : List ℕ) → numbers ≡ placed (tab f m) entry → drop m numbers ≡ drop m entry
+behind f m numbers entry is =
+    rw (is, length-tab f m) (drop-at (tab f m) (drop m entry) m (length-tab f m))
+
+-- a turn of the loop gives the next group its number
+pub numbers-more : {ws : List ℕ} {n m gates : ℕ} {leaders : List ℕ} (g : ℕ) (numbers₀ numbers : List ℕ) (j leader : ℕ) (numbers′ : List ℕ) → NumberReady ws n m gates leaders → numbers ≡ placed (tab (numberUpTo (decode ws) g) m) numbers₀ → j ≡ nextGate (decode ws) (joined (take g (groups (decode ws)))) → j < m → leader ≡ getD leaders j 0 → numbers′ ≡ placed (tab (renumbered leaders leader g numbers) m) numbers → numbers′ ≡ placed (tab (numberUpTo (decode ws) (g + 1)) m) numbers₀
+unfolding renumbered
+numbers-more {ws} {n} {m} {gates} {leaders} g numbers₀ numbers j leader numbers′ r is next jl lead e =
+    e
+    ∙ rw (length-tab (renumbered leaders leader g numbers) m, length-tab (numberUpTo (decode ws) (g + 1)) m, behind (numberUpTo (decode ws) g) m numbers numbers₀ is)
+    (ap (λ (l : List ℕ). l ++ drop m numbers₀) (tab-ext (renumbered leaders leader g numbers) (numberUpTo (decode ws) (g + 1)) m each))
+  where
+    in-block : {i : ℕ} → i < m → i < gateCount (decode ws)
+    in-block {i} l = rw (← r .gatesAre) l
+
+    each : (i : ℕ) → i < m → cond (eqb (getD leaders i 0) leader) g (getD numbers i 0) ≡ numberUpTo (decode ws) (g + 1) i
+    each i il =
+        let old : getD numbers i 0 ≡ numberUpTo (decode ws) g i = rw is (placed-tab (numberUpTo (decode ws) g) m numbers₀ i 0 il) in
+        rw (old, lead, r .leads i il, r .leads j jl, leaders-same (decode ws) i j (in-block il) (in-block jl))
+        (number-more (decode ws) (r .inside) g i j (sym next) (in-block il) (in-block jl))
+
+-- the loop's end
+pub numbers-end : {ws : List ℕ} {n m gates : ℕ} {leaders : List ℕ} (g : ℕ) (entry numbers₀ numbers : List ℕ) → NumberReady ws n m gates leaders → numbers₀ ≡ replicate m noNumber ++ drop m entry → numbers ≡ placed (tab (numberUpTo (decode ws) g) m) numbers₀ → g ≡ length (groups (decode ws)) → GroupsNumbered (decode ws) entry numbers g
+unfolding groupNumbers
+numbers-end {ws} {n} {m} {gates} {leaders} g entry numbers₀ numbers r start is end =
+    record {
+      numbersAre =
+          is
+          ∙ rw (length-tab (numberUpTo (decode ws) g) m, start, drop-at (replicate m noNumber) (drop m entry) m (length-replicate {A = ℕ} m noNumber), length-tab (groupNumber (decode ws)) (gateCount (decode ws)), end, r .gatesAre)
+          (ap (λ (l : List ℕ). l ++ drop (gateCount (decode ws)) entry) (all-numbered (decode ws) (r .inside)));
+      countIs = end;
+    }
+
+pub end-early : {ws : List ℕ} {n m gates : ℕ} {leaders : List ℕ} (g j : ℕ) → NumberReady ws n m gates leaders → g ≤ length (groups (decode ws)) → j ≡ nextGate (decode ws) (joined (take g (groups (decode ws)))) → m ≤ j → g ≡ length (groups (decode ws))
+end-early {ws} {m = m} g j r le next h = none-next (decode ws) (r .inside) g le (rw (← next, ← r .gatesAre) h)
+
+pub end-late : {ws : List ℕ} {n m gates : ℕ} {leaders : List ℕ} (g : ℕ) → NumberReady ws n m gates leaders → g ≤ length (groups (decode ws)) → m ≤ g → g ≡ length (groups (decode ws))
+end-late {ws} {m = m} g r le h = let t : length (groups (decode ws)) ≤ gateCount (decode ws) = length-groups (decode ws) in omega (arith, r .gatesAre)
+
+pub more-within : {ws : List ℕ} {n m gates : ℕ} {leaders : List ℕ} (g j : ℕ) → NumberReady ws n m gates leaders → j ≡ nextGate (decode ws) (joined (take g (groups (decode ws)))) → j < m → g + 1 ≤ length (groups (decode ws))
+more-within {ws} {m = m} g j r next l = rw add-one (next-within (decode ws) (r .inside) g (rw (← next, ← r .gatesAre) l))
