@@ -1,13 +1,12 @@
 -- Values and their codes, and the value of an operand by what its word is. Assumes nothing.
-use mathlib.Core.Path.{_≡_, refl, sym, ap, _∙_}
-use mathlib.Core.Bool.{Bool, true, false, cond}
-use mathlib.Core.List.{List, map}
+use mathlib.Core.Path.{_≡_, refl}
+use mathlib.Core.Bool.{true, false}
+use mathlib.Core.List.{List}
 use Prim.Native.Nat.{ℕ, zero, suc, _-_, _≤_, _<_}
 use native.Mathlib.Omega.{arith}
 use lib.ListN.{getD, List·getD-map}
 use borrow.Author.Tests.{lt-ltb, le-ltb, ne-eqb}
-use Rattle.netlist.specs.Values.{Value, undefined, val, code, valueOf, invert, defined}
-use Rattle.netlist.specs.Netlist.{Operand, input, gate, constant}
+use Rattle.netlist.specs.Values.{Value, undefined, val, code, valueOf, defined}
 use Rattle.netlist.specs.Rounds.{operandValue}
 use Rattle.netlist.specs.StoredBlock.{operandOf}
 use Rattle.ternary.specs.Legal.{wordValue}

@@ -1,20 +1,20 @@
 -- A gate's head word: what a legal one says, and the gate's value by its kind. Assumes nothing.
-use mathlib.Core.Path.{_≡_, refl, sym, ap, _∙_}
+use mathlib.Core.Path.{_≡_, refl}
 use mathlib.Core.Logic.{⊎-elim}
-use mathlib.Core.Bool.{Bool, true, false, cond, _&&_, false≢true}
-use mathlib.Core.List.{List, [], _∷_, map}
-use Prim.Native.Nat.{ℕ, zero, suc, _+_, _-_, _/_, _%_, _≤_, _<_}
+use mathlib.Core.Bool.{Bool, true, false, _&&_}
+use mathlib.Core.List.{List, map}
+use Prim.Native.Nat.{ℕ, _+_, _-_, _/_, _%_, _≤_, _<_}
 use native.Mathlib.Nat.{add-zero}
 use native.Mathlib.Omega.{arith}
 use lib.ListN.{length, getD, List·getD-eq-default}
 use lib.Dec.{eqb, leb}
 use borrow.Author.Tests.{leb-true, ne-eqb, eqb-true}
-use Rattle.laws.specs.Lists.{tab, all}
+use Rattle.laws.specs.Lists.{tab}
 use Rattle.laws.proofs.Tab.{map-tab}
 use Rattle.laws.proofs.Tests.{and-left, and-right, lt-or-le}
 use Rattle.laws.proofs.Quantifiers.{all-at}
 use Rattle.netlist.specs.declared.Row.{Row}
-use Rattle.netlist.specs.Values.{Value, undefined, code, valueOf, invert}
+use Rattle.netlist.specs.Values.{valueOf, invert}
 use Rattle.netlist.specs.Kinds.{row, rows, rowOf, isNot, isKind, fewestOperands, mostOperands, arityFits, ruled, gateValue}
 use Rattle.netlist.specs.Rounds.{operandValue, evaluated}
 use Rattle.netlist.specs.StoredBlock.{operandOf, gateAt}

@@ -1,5 +1,5 @@
 -- `ternary::gate::coded` meets its contract: below 2 a number is its own code, and any other counts as undefined. Assumes nothing.
-use mathlib.Core.Path.{sym, ap}
+use mathlib.Core.Path.{sym}
 use Rattle.netlist.specs.Values.{code}
 use Rattle.ternary.proofs.Codes.{code-low, high-undefined}
 use Rattle.ternary.proofs.gate.coded.Statement.{statement}

@@ -1,7 +1,6 @@
 -- `ternary::gate::gate_value` meets its contract: a legal head word leaves only the two arms that evaluate, and each is the
 -- definition's. Assumes nothing.
-use mathlib.Core.Path.{_≡_, sym, ap, _∙_}
-use Prim.Native.Nat.{_/_, _%_}
+use mathlib.Core.Path.{sym, ap, _∙_}
 use denote.Ref.{now}
 use borrow.Author.Needs.{needs}
 use native.Mathlib.Omega.{arith}

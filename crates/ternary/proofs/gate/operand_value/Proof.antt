@@ -1,10 +1,8 @@
 -- `ternary::gate::operand_value` meets its contract: one law for each thing that a word can be. Assumes nothing.
-use mathlib.Core.Path.{_≡_, sym, ap, _∙_}
-use mathlib.Core.Bool.{Bool, true, false}
 use denote.Ref.{now}
 use borrow.Author.Needs.{needs}
 use native.Mathlib.Omega.{arith}
-use Rattle.netlist.specs.Values.{code, valueOf}
+use Rattle.netlist.specs.Values.{code}
 use Rattle.ternary.proofs.Codes.{input-value, gate-value, zero-value, one-value}
 use Rattle.ternary.proofs.gate.operand_value.Statement.{statement}
 use Rattle.ternary.proofs.gate.operand_value.Tie as tie

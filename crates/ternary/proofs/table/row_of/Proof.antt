@@ -1,9 +1,9 @@
 -- `ternary::table::row_of` meets its contract: the array is the definitions' table, row by row. Assumes nothing.
-use mathlib.Core.Path.{_≡_, refl, sym}
+use mathlib.Core.Path.{sym}
 use Prim.Native.Nat.{_-_}
 use borrow.Author.Needs.{needs}
 use native.Mathlib.Omega.{arith}
-use lib.ListN.{length, List·getD-eq-default}
+use lib.ListN.{List·getD-eq-default}
 use Rattle.laws.proofs.Elements.{getD-defaults}
 use Rattle.netlist.specs.Kinds.{row, rows, rowOf}
 use Rattle.ternary.proofs.table.row_of.Statement.{statement}

@@ -1,0 +1,248 @@
+-- What is written, part after part, is the encoding of the rendering. Cited by `write_rendering`. Assumes nothing.
+use Prim.Native.Nat.{ℕ, zero, suc, _+_, _*_, _≤_, _<_}
+use mathlib.Core.Path.{_≡_, refl, sym, ap, ap₂, _∙_}
+use mathlib.Core.Bool.{false}
+use mathlib.Core.List.{List, [], _∷_, _++_, map}
+use native.Mathlib.Nat.{zero-add, add-assoc}
+use native.Mathlib.Omega.{arith}
+use lib.ListN.{length, getD, set, take, drop, replicate, length-take, length-append, length-replicate}
+use lib.Seq.{sets, sets-eq, take-suc, take-length, length-take-le, getD-take}
+use Rattle.laws.specs.Lists.{tab, joined, placed}
+use Rattle.laws.proofs.Tab.{tab-ext, map-tab, length-tab}
+use Rattle.netlist.specs.Netlist.{Operand, gate, constant, Gate, Output, Block, inputCount, gateCount, outputCount, gateOf}
+use Rattle.netlist.specs.StoredBlock.{gateSize, outputSize, gatesAt, outputsAt, nameWords, nameAt, nodeWord, gateWords, gateAt, outputWords, outputAt, encode, decode, torn}
+use Rattle.netlist.specs.Rendering.{schedule, noCopies, copiedOperand, copied, copies, newestAfter, lastCopies, rendering}
+use Rattle.encoding.proofs.ListFacts.{joined-tab}
+use Rattle.encoding.proofs.Names.{nameWords-nameAt}
+use Rattle.encoding.proofs.Decoded.{decode-inputCount, decode-gateCount, decode-outputCount, decode-gate}
+use Rattle.encoding.proofs.Encoded.{length-encode}
+use Rattle.encoding.proofs.Intact.{Intact}
+use Rattle.encoding.proofs.Readers.{GateWhole, whole-parts, whole-gate, whole-node}
+use Rattle.agreement.proofs.ListFacts.{map-append}
+use Rattle.agreement.proofs.Copies.{length-noCopies, length-newestAfter, newestAfter-snoc, copies-snoc}
+use Rattle.agreement.proofs.Schedule.{schedule-below}
+use Rattle.agreement.proofs.Block.{rendering-inputs, length-schedule-is, length-rendering-outputs}
+use Rattle.copying.specs.Words.{wordFrom, tableAfter, copyWords, copyAt, shownAt, Order, Ready}
+use Rattle.copying.proofs.ListFacts.{sets-sets, joined-snoc, length-joined-tab}
+use Rattle.copying.proofs.Words.{length-tableAfter, length-copyAt}
+use Rattle.copying.proofs.Copied.{Stands, copy-words, shown-words, stands-none, stands-set}
+
+-- The words of the input names are copied as they are.
+names-written : (ws : List ℕ) → tab (wordFrom ws 3) (4 * getD ws 0 0) ≡ joined (map nameWords (decode ws .inputs))
+unfolding wordFrom decode
+names-written ws =
+    sym
+    (ap joined
+    (map-tab nameWords (λ i. nameAt ws (3 + 4 * i)) (getD ws 0 0)
+    ∙ tab-ext (λ j. nameWords (nameAt ws (3 + 4 * j))) (λ j. tab (λ i. wordFrom ws 3 (4 * j + i)) 4) (getD ws 0 0)
+    (λ j l. nameWords-nameAt ws (3 + 4 * j)
+    ∙ tab-ext (λ i. getD ws (3 + 4 * j + i) 0) (λ i. wordFrom ws 3 (4 * j + i)) 4
+    (λ i k. ap (λ (p : ℕ). getD ws p 0) (add-assoc 3 (4 * j) i))))
+    ∙ joined-tab (wordFrom ws 3) 4 (getD ws 0 0))
+
+module _ (ws : List ℕ) (n m k : ℕ) (whole : torn ws ≡ false) (inputsAre : n ≡ getD ws 0 0) (gatesAre : m ≡ getD ws 1 0) (outputsAre : k ≡ getD ws 2 0) where
+  parts : Intact ws n m k
+  parts = rw (inputsAre, gatesAre, outputsAre) (whole-parts ws whole)
+
+  few : n + m ≤ 65534
+  few = omega (arith, parts .fewInputs, parts .fewGates)
+
+  gate-whole : (j : ℕ) → j < m → GateWhole ws (n + m) (gatesAt n + gateSize * j)
+  gate-whole j l = rw (inputsAre, gatesAre) (whole-gate ws whole j (rw (← gatesAre) l))
+
+  gate-is : (j : ℕ) → j < m → gateOf (decode ws) j ≡ gateAt n ws (gatesAt n + gateSize * j)
+  gate-is j l = rw inputsAre (decode-gate ws j (rw (← gatesAre) l))
+
+  -- The words of a copy of gate j.
+  copy-written : (table : List ℕ) (newest : List Operand) → Stands n m table newest → (j : ℕ) → j < m
+      → copyWords ws (gatesAt n) n m j table ≡ gateWords n (copied newest (gateOf (decode ws) j))
+  unfolding copyWords
+  copy-written table newest stands j l =
+      copy-words n m few table newest stands ws (gatesAt n + gateSize * j) (gate-whole j l)
+      ∙ ap (λ (g : Gate). gateWords n (copied newest g)) (sym (gate-is j l))
+
+  -- ---- the outputs
+
+  -- output o of the rendering
+  shown : Output → Output
+  shown o = record { port = o .port; node = copiedOperand (lastCopies (decode ws)) (o .node) }
+
+  outputs-of : decode ws .outputs ≡ tab (λ o. outputAt n ws (outputsAt n m + outputSize * o)) k
+  unfolding decode
+  outputs-of = rw (inputsAre, gatesAre, outputsAre) refl
+
+  node-below : (o : ℕ) → o < k → getD ws (outputsAt n m + outputSize * o + 4) 0 < n + m
+  node-below o l = rw (inputsAre, gatesAre) (whole-node ws whole o (rw (← outputsAre) l))
+
+  outputs-written : (table : List ℕ) → Stands n m table (lastCopies (decode ws))
+      → joined (tab (shownAt ws (outputsAt n m) n m table) k) ≡ joined (map (outputWords n) (rendering (decode ws) .outputs))
+  unfolding rendering outputAt shownAt shown
+  outputs-written table stands =
+      ap joined
+      (tab-ext (shownAt ws (outputsAt n m) n m table) (λ o. outputWords n (shown (outputAt n ws (outputsAt n m + outputSize * o)))) k
+      (λ o l. shown-words n m few table (lastCopies (decode ws)) stands ws (outputsAt n m + outputSize * o) (node-below o l)))
+      ∙ sym
+      (ap (λ (os : List Output). joined (map (outputWords n) (map shown os))) outputs-of
+      ∙ ap joined
+      (ap (map (outputWords n)) (map-tab shown (λ o. outputAt n ws (outputsAt n m + outputSize * o)) k)
+      ∙ map-tab (outputWords n) (λ o. shown (outputAt n ws (outputsAt n m + outputSize * o))) k))
+
+  -- ---- the copies
+
+  module _ (order : List ℕ) (total : ℕ) (totalIs : total ≡ length (schedule (decode ws)))
+      (taken : take total order ≡ schedule (decode ws)) where
+    scheduled : (t : ℕ) → t < total → getD order t 0 ≡ getD (schedule (decode ws)) t 0
+    scheduled t l = sym (getD-take total order t 0 l) ∙ ap (λ (js : List ℕ). getD js t 0) taken
+
+    pub ordered-below : (t : ℕ) → t < total → getD order t 0 < m
+    ordered-below t l = rw (scheduled t l, gatesAre, ← decode-gateCount ws) (schedule-below (decode ws) t (rw (← totalIs) l))
+
+    newest : ℕ → List Operand
+    newest t = newestAfter (noCopies (decode ws)) 0 (take t (schedule (decode ws)))
+
+    take-next : (t : ℕ) → t < total → take (suc t) (schedule (decode ws)) ≡ take t (schedule (decode ws)) ++ (getD order t 0 ∷ [])
+    take-next t l = rw (scheduled t l) (take-suc (schedule (decode ws)) t 0 (rw (← totalIs) l))
+
+    newest-next : (t : ℕ) → t < total → newest (suc t) ≡ set (newest t) (getD order t 0) (gate t)
+    unfolding newest
+    newest-next t l =
+        rw (take-next t l)
+        (newestAfter-snoc (noCopies (decode ws)) 0 (take t (schedule (decode ws))) (getD order t 0)
+        ∙ ap (λ (u : ℕ). set (newest t) (getD order t 0) (gate u))
+        (zero-add (length (take t (schedule (decode ws)))) ∙ length-take-le t (schedule (decode ws)) (rw (← totalIs) (omega arith))))
+
+    length-newest : (t : ℕ) → length (newest t) ≡ m
+    unfolding newest
+    length-newest t =
+        length-newestAfter (noCopies (decode ws)) 0 (take t (schedule (decode ws))) ∙ length-noCopies (decode ws) ∙ decode-gateCount ws ∙ sym gatesAre
+
+    all-taken : take total (schedule (decode ws)) ≡ schedule (decode ws)
+    all-taken = rw totalIs (take-length (schedule (decode ws)))
+
+    module _ (table : List ℕ) (long : m ≤ length table) (none : Stands n m table (noCopies (decode ws))) where
+      -- After t copies the table is that of the definition.
+      stands-after : (t : ℕ) → t ≤ total → Stands n m (tableAfter n order table t) (newest t)
+      unfolding tableAfter newest newestAfter
+      stands-after zero l = none
+      stands-after (suc t) l =
+          rw (newest-next t l)
+          (stands-set n m (tableAfter n order table t) (newest t) (getD order t 0) t
+          (rw (length-tableAfter n order table t) (omega (arith, ordered-below t l))) (rw (length-newest t) (ordered-below t l))
+          (stands-after t (omega arith)))
+
+      copies-written : (t : ℕ) → t ≤ total
+          → joined (tab (copyAt ws (gatesAt n) n m order table) t)
+          ≡ joined (map (gateWords n) (copies (decode ws) (noCopies (decode ws)) 0 (take t (schedule (decode ws)))))
+      unfolding copyAt newest copies
+      copies-written zero l = refl
+      copies-written (suc t) l =
+          joined-snoc (tab (copyAt ws (gatesAt n) n m order table) t) (copyAt ws (gatesAt n) n m order table t)
+          ∙ ap₂ {C = List ℕ} (λ (xs ys : List ℕ). xs ++ ys) (copies-written t (omega arith))
+          (copy-written (tableAfter n order table t) (newest t) (stands-after t (omega arith)) (getD order t 0) (ordered-below t l))
+          ∙ sym
+          (rw (take-next t l, copies-snoc (decode ws) (noCopies (decode ws)) 0 (take t (schedule (decode ws))) (getD order t 0), map-append (gateWords n))
+          (joined-snoc (map (gateWords n) (copies (decode ws) (noCopies (decode ws)) 0 (take t (schedule (decode ws)))))
+          (gateWords n (copied (newest t) (gateOf (decode ws) (getD order t 0))))))
+
+      -- All copies: the gates of the rendering, and the table of the last copies.
+      gates-written : joined (tab (copyAt ws (gatesAt n) n m order table) total) ≡ joined (map (gateWords n) (rendering (decode ws) .gates))
+      unfolding rendering
+      gates-written =
+          copies-written total (omega arith)
+          ∙ ap (λ (js : List ℕ). joined (map (gateWords n) (copies (decode ws) (noCopies (decode ws)) 0 js))) all-taken
+
+      stands-last : Stands n m (tableAfter n order table total) (lastCopies (decode ws))
+      unfolding lastCopies newest
+      stands-last j l =
+          stands-after total (omega arith) j l
+          ∙ ap (λ (js : List ℕ). nodeWord n (getD (newestAfter (noCopies (decode ws)) 0 js) j (constant false))) all-taken
+
+-- The four parts of a block's words.
+encode-of : (b : Block) (n t k : ℕ) (names gates outputs : List ℕ) → inputCount b ≡ n → gateCount b ≡ t → outputCount b ≡ k
+    → names ≡ joined (map nameWords (b .inputs)) → gates ≡ joined (map (gateWords n) (b .gates)) → outputs ≡ joined (map (outputWords n) (b .outputs))
+    → encode b ≡ (n ∷ t ∷ k ∷ []) ++ names ++ gates ++ outputs
+unfolding encode
+encode-of b n t k names gates outputs en et ek en′ eg eo = rw (en′, eg, eo, ← en, ← et, ← ek) refl
+
+-- Lists stored one after the other, from the start.
+sets-at : (entry a b : List ℕ) (i : ℕ) → i ≡ length a → sets (sets entry 0 a) i b ≡ sets entry 0 (a ++ b)
+sets-at entry a b i e = ap (λ (p : ℕ). sets (sets entry 0 a) p b) (e ∙ sym (zero-add (length a))) ∙ sets-sets entry 0 a b
+
+four-sets : (entry a b c d : List ℕ) (i j k : ℕ) → i ≡ length a → j ≡ i + length b → k ≡ j + length c
+    → sets (sets (sets (sets entry 0 a) i b) j c) k d ≡ sets entry 0 (a ++ b ++ c ++ d)
+four-sets entry a b c d i j k ei ej ek =
+    ap (λ (l : List ℕ). sets (sets l j c) k d) (sets-at entry a b i ei)
+    ∙ ap (λ (l : List ℕ). sets l k d) (sets-at entry (a ++ b) c j (rw (length-append a b) (omega arith)))
+    ∙ sets-at entry (a ++ b ++ c) d k (rw (length-append (a ++ b) c, length-append a b) (omega arith))
+
+sets-placed : (entry xs : List ℕ) → length xs ≤ length entry → sets entry 0 xs ≡ placed xs entry
+sets-placed entry xs l =
+    sets-eq xs entry 0 (rw (zero-add (length xs)) l) ∙ ap (λ (p : ℕ). xs ++ drop p entry) (zero-add (length xs))
+
+-- The numbers that the code computes with are small, and the slices long enough.
+pub record Sizes (ws : List ℕ) (n m k total : ℕ) (out : List ℕ) : Type 0 where
+  pub fewInputs : n ≤ 10
+  pub fewGates : m ≤ 1024
+  pub fewOutputs : k ≤ 16
+  pub words : length ws ≡ 3 + 4 * n + 5 * m + 5 * k
+  pub room : 3 + 4 * n + 5 * total + 5 * k ≤ length out
+
+module _ (ws : List ℕ) (n m k : ℕ) (order : List ℕ) (total : ℕ) (newest out : List ℕ) (r : Ready ws n m k order total newest out) where
+  counts : (inputCount (rendering (decode ws)) ≡ n) × (gateCount (rendering (decode ws)) ≡ total) × (outputCount (rendering (decode ws)) ≡ k)
+  counts = (
+    ap {B = ℕ} length (rendering-inputs (decode ws)) ∙ decode-inputCount ws ∙ sym (r .inputsAre),
+    sym (length-schedule-is (decode ws)) ∙ sym (r .totalIs),
+    length-rendering-outputs (decode ws) ∙ decode-outputCount ws ∙ sym (r .outputsAre),
+  )
+
+  pub sizes : Sizes ws n m k total out
+  unfolding outputsAt gatesAt
+  sizes =
+      let p = parts ws n m k (r .whole) (r .inputsAre) (r .gatesAre) (r .outputsAre) in
+      record {
+        fewInputs = p .fewInputs;
+        fewGates = p .fewGates;
+        fewOutputs = p .fewOutputs;
+        words = p .sized;
+        room = rw (length-encode (rendering (decode ws)), counts .0, counts .1, counts .2) at (r .room);
+      }
+
+  pub ordered : Order m total order
+  ordered = record { listed = omega (arith, sym (length-take total order) ∙ ap {B = ℕ} length (r .scheduled) ∙ sym (r .totalIs)); inside = ordered-below ws n m k (r .whole) (r .inputsAre) (r .gatesAre) (r .outputsAre) order total (r .totalIs) (r .scheduled) }
+
+  pub rendering-written : (table out₁ out₂ out₃ last out₄ : List ℕ) → out₁ ≡ sets out 0 (n ∷ total ∷ k ∷ [])
+      → out₂ ≡ sets out₁ 3 (tab (wordFrom ws 3) (4 * n)) → table ≡ replicate m 65534 ++ drop m newest
+      → out₃ ≡ sets out₂ (3 + 4 * n) (joined (tab (copyAt ws (3 + 4 * n) n m order table) total)) → last ≡ tableAfter n order table total
+      → out₄ ≡ sets out₃ (3 + 4 * n + 5 * total) (joined (tab (shownAt ws (3 + 4 * n + 5 * m) n m last) k))
+      → out₄ ≡ placed (encode (rendering (decode ws))) out
+  unfolding outputsAt gatesAt noCopies
+  rendering-written table out₁ out₂ out₃ last out₄ e₁ e₂ et e₃ el e₄ =
+      rw (e₄, e₃, e₂, e₁)
+      (four-sets out (n ∷ total ∷ k ∷ []) names gates outputs 3 (3 + 4 * n) (3 + 4 * n + 5 * total) refl
+      (ap (λ (p : ℕ). 3 + p) (sym (length-tab (wordFrom ws 3) (4 * n))))
+      (ap (λ (p : ℕ). 3 + 4 * n + p) (sym (length-joined-tab (copyAt ws (3 + 4 * n) n m order table) 5 (length-copyAt ws (3 + 4 * n) n m order table) total)))
+      ∙ ap (sets out 0) (sym encoded)
+      ∙ sets-placed out (encode (rendering (decode ws))) (r .room))
+    where
+      names : List ℕ
+      names = tab (wordFrom ws 3) (4 * n)
+
+      gates : List ℕ
+      gates = joined (tab (copyAt ws (3 + 4 * n) n m order table) total)
+
+      outputs : List ℕ
+      outputs = joined (tab (shownAt ws (3 + 4 * n + 5 * m) n m last) k)
+
+      long : m ≤ length table
+      long = rw (et, length-append (replicate {A = ℕ} m 65534) (drop m newest), length-replicate {A = ℕ} m 65534) (omega arith)
+
+      none : Stands n m table (noCopies (decode ws))
+      none = rw et (stands-none n m newest (gateCount (decode ws)) (decode-gateCount ws ∙ sym (r .gatesAre)))
+
+      encoded : encode (rendering (decode ws)) ≡ (n ∷ total ∷ k ∷ []) ++ names ++ gates ++ outputs
+      encoded =
+          encode-of (rendering (decode ws)) n total k names gates outputs (counts .0) (counts .1) (counts .2)
+          (rw (r .inputsAre, rendering-inputs (decode ws)) (names-written ws))
+          (gates-written ws n m k (r .whole) (r .inputsAre) (r .gatesAre) (r .outputsAre) order total (r .totalIs) (r .scheduled) table long none)
+          (outputs-written ws n m k (r .whole) (r .inputsAre) (r .gatesAre) (r .outputsAre) last
+          (rw el (stands-last ws n m k (r .whole) (r .inputsAre) (r .gatesAre) (r .outputsAre) order total (r .totalIs) (r .scheduled) table long none)))

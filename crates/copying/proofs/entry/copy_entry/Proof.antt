@@ -1,0 +1,72 @@
+-- `copying::entry::copy_entry` meets its contract: after i turns i of the five words are written. Assumes nothing.
+use Prim.Native.Nat.{_+_, _-_, _≤_}
+use mathlib.Core.Path.{_≡_, refl, _∙_}
+use native.Mathlib.Omega.{arith}
+use lib.ListN.{length, length-set}
+use lib.Seq.{sets}
+use Rattle.laws.specs.Lists.{tab}
+use Rattle.copying.specs.Words.{entryWord, entryWords}
+use Rattle.copying.proofs.ListFacts.{sets-next}
+use Rattle.copying.proofs.entry.copy_entry.Statement.{statement}
+use Rattle.copying.proofs.entry.copy_entry.Tie as tie
+
+abbrev Inv-loop : tie.InvT-loop
+Inv-loop words from n m first last newest out₀ to i₀ out i = (i ≤ 5) × (out ≡ sets out₀ to (tab (entryWord words from n m first last newest) i)) × (length out ≡ length out₀)
+
+abbrev μ-loop : tie.MeasureT-loop
+μ-loop words from n m first last newest out₀ to i₀ out i = 5 - i
+
+loop-holds : tie.Need-loop-holds Inv-loop μ-loop
+loop-holds c = (omega arith, refl, refl)
+
+entry-word-requires : tie.Need-entry-word-requires Inv-loop μ-loop
+entry-word-requires c κs = omega arith
+
+add-out : tie.Need-add-out Inv-loop μ-loop
+add-out c = omega arith
+
+mul-out : tie.Need-mul-out Inv-loop μ-loop
+mul-out c = omega arith
+
+slice-write-out : tie.Need-slice-write-out Inv-loop μ-loop
+slice-write-out c = omega arith
+
+add-i : tie.Need-add-i Inv-loop μ-loop
+add-i c = omega arith
+
+loop-less : tie.Need-loop-less Inv-loop μ-loop
+loop-less c = omega arith
+
+loop-again : tie.Need-loop-again Inv-loop μ-loop
+loop-again c =
+    let a = c .before .before .before .before .before .before .args in
+    let l = c .before .before .loop in (
+      omega arith,
+      sets-next (a .out .now) (l .out) (a .to) (entryWord (a .words .now) (a .from) (a .n) (a .m) (a .first) (a .last) (a .newest .now))
+          (l .i) (c .entry-word .result) (l .inv .1) (c .entry-word .ensures),
+      length-set (l .out) (a .to + l .i) (c .entry-word .result) ∙ l .inv .2,
+    )
+
+same-length : tie.Need-same-length Inv-loop μ-loop
+same-length c = c .before .loop .inv .2
+
+returns : tie.Need-returns Inv-loop μ-loop
+unfolding entryWords
+returns c = let all : c .before .loop .i ≡ 5 = omega arith in rw all at (c .before .loop .inv .1)
+
+pub copy-entry-spec : {M : Type 1} → statement M
+copy-entry-spec =
+    tie.close
+    (tie.spec
+    Inv-loop
+    μ-loop
+    loop-holds
+    entry-word-requires
+    add-out
+    mul-out
+    slice-write-out
+    add-i
+    loop-less
+    loop-again
+    same-length
+    returns)

@@ -1,0 +1,79 @@
+-- `copying::entry::copy_words` meets its contract: after i turns i words are copied. Assumes nothing.
+use Prim.Native.Nat.{_+_, _-_, _≤_}
+use mathlib.Core.Path.{_≡_, refl, _∙_}
+use native.Mathlib.Omega.{arith}
+use lib.ListN.{length, getD, length-set}
+use lib.Seq.{sets}
+use Rattle.laws.specs.Lists.{tab}
+use Rattle.copying.specs.Words.{wordFrom}
+use Rattle.copying.proofs.ListFacts.{sets-next}
+use Rattle.copying.proofs.entry.copy_words.Statement.{statement}
+use Rattle.copying.proofs.entry.copy_words.Tie as tie
+
+abbrev Inv-loop : tie.InvT-loop
+Inv-loop words at count out₀ i₀ out i = (i ≤ count) × (out ≡ sets out₀ at (tab (wordFrom words at) i)) × (length out ≡ length out₀)
+
+abbrev μ-loop : tie.MeasureT-loop
+μ-loop words at count out₀ i₀ out i = count - i
+
+loop-holds : tie.Need-loop-holds Inv-loop μ-loop
+loop-holds c = (omega arith, refl, refl)
+
+add-out : tie.Need-add-out Inv-loop μ-loop
+add-out c = omega arith
+
+mul-out : tie.Need-mul-out Inv-loop μ-loop
+mul-out c = omega arith
+
+shared-slice-read-out : tie.Need-shared-slice-read-out Inv-loop μ-loop
+shared-slice-read-out c = omega arith
+
+add-out-2 : tie.Need-add-out-2 Inv-loop μ-loop
+add-out-2 c = omega arith
+
+mul-out-2 : tie.Need-mul-out-2 Inv-loop μ-loop
+mul-out-2 c = omega arith
+
+slice-write-out : tie.Need-slice-write-out Inv-loop μ-loop
+slice-write-out c = omega arith
+
+add-i : tie.Need-add-i Inv-loop μ-loop
+add-i c = omega arith
+
+loop-less : tie.Need-loop-less Inv-loop μ-loop
+loop-less c = omega arith
+
+loop-again : tie.Need-loop-again Inv-loop μ-loop
+unfolding wordFrom
+loop-again c =
+    let a = c .before .before .before .args in
+    let l = c .before .before .loop in (
+      omega arith,
+      sets-next (a .out .now) (l .out) (a .at) (wordFrom (a .words .now) (a .at)) (l .i) (getD (a .words .now) (a .at + l .i) 0) (l .inv .1) refl,
+      length-set (l .out) (a .at + l .i) (getD (a .words .now) (a .at + l .i) 0) ∙ l .inv .2,
+    )
+
+same-length : tie.Need-same-length Inv-loop μ-loop
+same-length c = c .before .loop .inv .2
+
+returns : tie.Need-returns Inv-loop μ-loop
+returns c = let all : c .before .loop .i ≡ c .before .before .args .count = omega arith in rw (← all) (c .before .loop .inv .1)
+
+pub copy-words-spec : {M : Type 1} → statement M
+copy-words-spec =
+    tie.close
+    (tie.spec
+    Inv-loop
+    μ-loop
+    loop-holds
+    add-out
+    mul-out
+    shared-slice-read-out
+    add-out-2
+    mul-out-2
+    slice-write-out
+    add-i
+    loop-less
+    loop-again
+    same-length
+    returns)

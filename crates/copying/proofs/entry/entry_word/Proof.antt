@@ -1,0 +1,41 @@
+-- `copying::entry::entry_word` meets its contract: its two tests are the range. Assumes nothing.
+use mathlib.Core.Path.{sym, _∙_}
+use mathlib.Core.Logic.{inl, inr}
+use native.Mathlib.Omega.{arith}
+use Rattle.copying.proofs.Words.{entry-mapped, entry-kept}
+use borrow.Author.Needs.{needs}
+use Rattle.copying.proofs.entry.entry_word.Statement.{statement}
+use Rattle.copying.proofs.entry.entry_word.Tie as tie
+
+add-w : tie.Need-add-w
+add-w c = search needs
+
+mul-w : tie.Need-mul-w
+mul-w c = search needs
+
+shared-slice-read-w : tie.Need-shared-slice-read-w
+shared-slice-read-w c = search needs
+
+mapped-requires : tie.Need-mapped-requires
+mapped-requires c κs = search needs
+
+returns : tie.Need-returns
+returns c =
+    let a = c .before .before .before .before .before .before .args in
+    c .mapped .ensures
+    ∙ sym (entry-mapped (a .words .now) (a .from) (a .n) (a .m) (a .first) (a .last) (a .newest .now) (a .i) (omega arith) (omega arith))
+
+returns-2 : tie.Need-returns-2
+returns-2 c =
+    let a = c .before .before .before .before .before .args in
+    sym (entry-kept (a .words .now) (a .from) (a .n) (a .m) (a .first) (a .last) (a .newest .now) (a .i) (inr (c .if2 .left)))
+
+returns-3 : tie.Need-returns-3
+returns-3 c =
+    let a = c .before .before .before .before .args in
+    sym (entry-kept (a .words .now) (a .from) (a .n) (a .m) (a .first) (a .last) (a .newest .now) (a .i) (inl (c .if1 .left)))
+
+pub entry-word-spec : {M : Type 1} → statement M
+entry-word-spec =
+    tie.close
+    (tie.spec add-w mul-w shared-slice-read-w mapped-requires returns returns-2 returns-3)

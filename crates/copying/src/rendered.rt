@@ -1,0 +1,118 @@
+// The rendering's words: header, input names, a copy of each scheduled gate, outputs at last copies.
+ghost use mathlib.Core.Path.{_≡_};
+ghost use mathlib.Core.List.{[], _∷_};
+ghost use Prim.Native.Nat.{_+_, _*_, _≤_, _<_};
+ghost use lib.ListN.{length, set};
+ghost use lib.Seq.{sets};
+ghost use Rattle.laws.specs.Lists.{tab, joined, placed};
+ghost use Rattle.netlist.specs.StoredBlock.{decode, encode};
+ghost use Rattle.netlist.specs.Rendering.{rendering};
+ghost use Rattle.copying.specs.Words.{tableAfter, copyWords, copyAt, shownAt, EntryRoom, GateRoom, Order, Ready};
+use crate::entry::clear;
+use crate::entry::copy_entry;
+use crate::entry::copy_words;
+
+// Writes the three counts.
+fn write_header(n: usize, total: usize, k: usize, out: &mut [u16])
+    requires { ⌜ (n ≤ 10) × (total ≤ 1024) × (k ≤ 16) × (3 ≤ length (now out)) ⌝ }
+    ensures { λ r. ⌜ now (out .exit) ≡ sets (now (out .entry)) 0 (n ∷ total ∷ k ∷ []) ⌝ }
+{
+    out[0] = n as u16;
+    out[1] = total as u16;
+    out[2] = k as u16;
+}
+
+// Writes copy `t`, which is of gate `j`, and makes it the newest of its gate. The first gate's words stand at `gates`.
+fn copy_gate(
+    words: &[u16],
+    gates: usize,
+    n: usize,
+    m: usize,
+    j: usize,
+    t: usize,
+    newest: &mut [u16],
+    out: &mut [u16],
+)
+    requires { ⌜ (j < m) × GateRoom (now words) gates n m (t + 1) (now newest) (now out) ⌝ }
+    ensures { λ r. ⌜ now (out .exit) ≡ sets (now (out .entry)) (gates + 5 * t) (copyWords (now (words .entry)) gates n m j (now (newest .entry))) ⌝ }
+    ensures { λ r. ⌜ now (newest .exit) ≡ set (now (newest .entry)) j (n + t) ⌝ }
+{
+    let from = gates + 5 * j;
+    let count = words[from] as usize / 8;
+    copy_entry(words, from, n, m, 1, 1 + count, newest, out, gates + 5 * t);
+    newest[j] = (n + t) as u16;
+}
+
+// Writes the copies of the first `total` gates of `order`.
+fn copy_gates(
+    words: &[u16],
+    gates: usize,
+    n: usize,
+    m: usize,
+    order: &[u16],
+    total: usize,
+    newest: &mut [u16],
+    out: &mut [u16],
+)
+    requires { ⌜ Order m total (now order) × GateRoom (now words) gates n m total (now newest) (now out) ⌝ }
+    ensures { λ r. ⌜ now (out .exit) ≡ sets (now (out .entry)) gates (joined (tab (copyAt (now (words .entry)) gates n m (now (order .entry)) (now (newest .entry))) total)) ⌝ }
+    ensures { λ r. ⌜ now (newest .exit) ≡ tableAfter n (now (order .entry)) (now (newest .entry)) total ⌝ }
+{
+    let mut t = 0;
+    while t < total {
+        copy_gate(words, gates, n, m, order[t] as usize, t, newest, out);
+        t += 1;
+    }
+}
+
+// Writes the `k` outputs that stand at `from`, each at what stands for its node in the end.
+fn copy_outputs(
+    words: &[u16],
+    from: usize,
+    n: usize,
+    m: usize,
+    k: usize,
+    newest: &[u16],
+    out: &mut [u16],
+    to: usize,
+)
+    requires { ⌜ EntryRoom (now words) from n m (now newest) (now out) to k ⌝ }
+    ensures { λ r. ⌜ now (out .exit) ≡ sets (now (out .entry)) to (joined (tab (shownAt (now (words .entry)) from n m (now (newest .entry))) k)) ⌝ }
+{
+    let mut o = 0;
+    while o < k {
+        copy_entry(words, from + 5 * o, n, m, 4, 5, newest, out, to + 5 * o);
+        o += 1;
+    }
+}
+
+// Writes the rendering of the block that `words` hold; `order` is its schedule, and `newest` is altered.
+pub fn write_rendering(
+    words: &[u16],
+    n: usize,
+    m: usize,
+    k: usize,
+    order: &[u16],
+    total: usize,
+    newest: &mut [u16],
+    out: &mut [u16],
+)
+    requires { ⌜ Ready (now words) n m k (now order) total (now newest) (now out) ⌝ }
+    ensures { λ r. ⌜ now (out .exit) ≡ placed (encode (rendering (decode (now (words .entry))))) (now (out .entry)) ⌝ }
+{
+    let gates = 3 + 4 * n;
+    write_header(n, total, k, out);
+    copy_words(words, 3, 4 * n, out);
+    clear(m, newest);
+    copy_gates(words, gates, n, m, order, total, newest, out);
+    copy_outputs(
+        words,
+        gates + 5 * m,
+        n,
+        m,
+        k,
+        newest,
+        out,
+        gates + 5 * total,
+    );
+}

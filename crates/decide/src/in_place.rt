@@ -1,0 +1,101 @@
+// The settled values of a setting, found in place: any order is right (`rounds`), the groups' order is fast. `inputs` and `values` have
+// exactly one byte for each input and each gate.
+ghost use mathlib.Core.Path.{_≡_};
+ghost use mathlib.Core.List.{[], _∷_, map};
+ghost use Prim.Native.Nat.{_+_, _*_, _≤_, _<_};
+ghost use lib.ListN.{length, getD, replicate};
+ghost use Rattle.netlist.specs.Values.{code, valueOf};
+ghost use Rattle.netlist.specs.Netlist.{gateCount};
+ghost use Rattle.netlist.specs.StoredBlock.{decode};
+ghost use Rattle.netlist.specs.Rounds.{settled, settingOf, settledUnder};
+ghost use Rattle.decide.specs.InPlace.{Legible, Visits, Underway, Swept, Ready};
+use ternary::gate::gate_value;
+use ternary::read::word_at;
+
+// The bits of setting number `s`, the lowest first.
+pub fn set_inputs(s: usize, inputs: &mut [u8])
+    requires { ⌜ length (now inputs) ≤ 10 ⌝ }
+    ensures { λ r. ⌜ now (inputs .exit) ≡ map code (settingOf (length (now (inputs .entry))) s) ⌝ }
+{
+    let mut i = 0;
+    while i < inputs.len() {
+        inputs[i] = ((s >> i) % 2) as u8;
+        i += 1;
+    }
+}
+
+// Evaluates gate `j` and stores its value; whether that is another.
+fn step(words: &[u16], n: usize, gates: usize, j: usize, inputs: &[u8], values: &mut [u8]) -> bool
+    requires { ⌜ (j < gateCount (decode (now words))) × Legible (now words) n gates × Underway (decode (now words)) (map valueOf (now inputs)) (now values) ⌝ }
+    ensures { λ r. ⌜ Swept (decode (now (words .entry))) (map valueOf (now (inputs .entry))) (j ∷ []) (now (values .entry)) (now (values .exit)) r ⌝ }
+{
+    let was = values[j];
+    let value = gate_value(words, n, gates + 5 * j, inputs, values);
+    values[j] = value;
+    value != was
+}
+
+// Evaluates the gates along `order`, each value stored at once; whether any changed.
+pub fn sweep_in_place(
+    words: &[u16],
+    n: usize,
+    gates: usize,
+    order: &[u16],
+    inputs: &[u8],
+    values: &mut [u8],
+) -> bool
+    requires { ⌜ Legible (now words) n gates × Visits (gateCount (decode (now words))) (now order) × Underway (decode (now words)) (map valueOf (now inputs)) (now values) ⌝ }
+    ensures { λ r. ⌜ Swept (decode (now (words .entry))) (map valueOf (now (inputs .entry))) (now (order .entry)) (now (values .entry)) (now (values .exit)) r ⌝ }
+{
+    let mut changed = false;
+    let mut i = 0;
+    while i < order.len() {
+        changed = step(words, n, gates, order[i] as usize, inputs, values) | changed;
+        i += 1;
+    }
+    changed
+}
+
+// Every gate is undefined.
+fn undefine(values: &mut [u8])
+    ensures { λ r. ⌜ now (values .exit) ≡ replicate (length (now (values .entry))) 2 ⌝ }
+{
+    let mut i = 0;
+    while i < values.len() {
+        values[i] = 2;
+        i += 1;
+    }
+}
+
+// The settled values under the inputs' values.
+pub fn settle_in_place(
+    words: &[u16],
+    n: usize,
+    gates: usize,
+    order: &[u16],
+    inputs: &[u8],
+    values: &mut [u8],
+)
+    requires { ⌜ Legible (now words) n gates × Visits (gateCount (decode (now words))) (now order) × (length (now values) ≡ gateCount (decode (now words))) ⌝ }
+    ensures { λ r. ⌜ now (values .exit) ≡ map code (settled (decode (now (words .entry))) (map valueOf (now (inputs .entry)))) ⌝ }
+{
+    undefine(values);
+    while sweep_in_place(words, n, gates, order, inputs, values) {}
+}
+
+// The settled values under setting number `s`.
+pub fn settle_setting(
+    words: &[u16],
+    n: usize,
+    gates: usize,
+    order: &[u16],
+    s: usize,
+    inputs: &mut [u8],
+    values: &mut [u8],
+)
+    requires { ⌜ Ready (now words) n gates (now order) (now inputs) (now values) ⌝ }
+    ensures { λ r. ⌜ now (values .exit) ≡ map code (settledUnder (decode (now (words .entry))) s) ⌝ }
+{
+    set_inputs(s, inputs);
+    settle_in_place(words, n, gates, order, inputs, values);
+}

@@ -1,0 +1,53 @@
+-- How a loop fills the beginning of a slice, one element a turn. Assumes nothing.
+use mathlib.Core.Path.{_≡_, refl, sym, ap, _∙_}
+use mathlib.Core.Bool.{Bool, true, false, not, _&&_}
+use mathlib.Core.List.{List, [], _∷_, _++_}
+use Prim.Native.Nat.{ℕ, _+_, _<_}
+use native.Mathlib.Numerals.{add-one}
+use native.Mathlib.Omega.{arith}
+use lib.Dec.{eqb}
+use lib.Seq.{take-suc, length-take-le}
+use borrow.Author.Tests.{eq-eqb, ne-eqb}
+use lib.ListN.{length, getD, take, set, length-append, length-set}
+use Rattle.laws.specs.Lists.{same, placed}
+use Rattle.ternary.proofs.ListFacts.{and-true, and-false}
+use Rattle.simulate.proofs.ListFacts.{set-placed, getD-placed, same-more}
+
+-- the first j elements are those of xs, the rest is as at entry
+pub record Filling (entry slice xs : List ℕ) (j : ℕ) : Type 0 where
+  pub long : length xs ≡ j
+  pub kept : length slice ≡ length entry
+  pub holds : slice ≡ placed xs entry
+
+pub filling-none : (entry : List ℕ) → Filling entry entry [] 0
+filling-none entry = record { long = refl; kept = refl; holds = refl }
+
+pub filling-more : {entry slice xs ys : List ℕ} {j : ℕ} → Filling entry slice xs j → j < length entry → (a : ℕ) → ys ≡ xs ++ (a ∷ [])
+    → Filling entry (set slice j a) ys (j + 1)
+filling-more {entry} {slice} {xs} {ys} {j} f l a e =
+    rw e
+    (record {
+      long = rw (length-append, f .long);
+      kept = length-set slice j a ∙ f .kept;
+      holds = rw (f .holds) (set-placed xs entry j a (f .long) l);
+    })
+
+-- ---- a loop that copies `next` and tells whether something changed
+
+-- some of the first j bytes of `next` is not that of `entry`
+abbrev pub changedBelow : List ℕ → List ℕ → ℕ → Bool
+changedBelow next entry j = not (same (take j next) (take j entry))
+
+module _ (entry slice next : List ℕ) (j : ℕ) (f : Filling entry slice (take j next) j) (l : j < length entry) (k : j < length next) where
+  same-here : (t : Bool) → eqb (getD next j 0) (getD slice j 0) ≡ t
+      → changedBelow next entry (j + 1) ≡ not (same (take j next) (take j entry) && t)
+  same-here t e =
+      let d : getD slice j 0 ≡ getD entry j 0 = rw (f .holds) (getD-placed (take j next) entry j 0 (f .long) l) in
+      let s : length (take j next) ≡ length (take j entry) = length-take-le j next (omega arith) ∙ sym (length-take-le j entry (omega arith)) in
+      rw (add-one, take-suc next j 0 k, take-suc entry j 0 l, same-more (take j next) (take j entry) (getD next j 0) (getD entry j 0) s, ← d, e)
+
+  pub changed-here : (getD slice j 0 ≡ getD next j 0 → ⊥) → true ≡ changedBelow next entry (j + 1)
+  changed-here h = sym (same-here false (ne-eqb (getD next j 0) (getD slice j 0) (λ e. h (sym e))) ∙ ap not (and-false (same (take j next) (take j entry))))
+
+  pub same-so-far : getD slice j 0 ≡ getD next j 0 → changedBelow next entry j ≡ changedBelow next entry (j + 1)
+  same-so-far h = sym (same-here true (eq-eqb (getD next j 0) (getD slice j 0) (sym h)) ∙ ap not (and-true (same (take j next) (take j entry))))

@@ -1,0 +1,47 @@
+-- What the rounds in src/ ask of a block's words, and what they leave in the slice of values.
+use mathlib.Core.Path.{_≡_}
+use mathlib.Core.Bool.{Bool, false, not}
+use mathlib.Core.List.{List, map}
+use Prim.Native.Nat.{ℕ, _≤_, _<_}
+use lib.ListN.{getD, take}
+use Rattle.laws.specs.Lists.{same, placed}
+use Rattle.netlist.specs.Values.{code, valueOf}
+use Rattle.netlist.specs.Netlist.{gateOf}
+use Rattle.netlist.specs.StoredBlock.{decode, torn}
+use Rattle.netlist.specs.Rounds.{evaluated, round, rounds, settled}
+use Rattle.netlist.specs.Rendering.{sweep}
+
+-- gate j of a block that is not torn, of n inputs
+pub record InBlock (ws : List ℕ) (n j : ℕ) : Type 0 where
+  pub whole : torn ws ≡ false
+  pub inputs : n ≡ getD ws 0 0
+  pub below : j < getD ws 1 0
+
+-- a block that is not torn, of n inputs and m gates, whose values a slice of `room` bytes holds
+pub record ForRounds (ws : List ℕ) (n m room : ℕ) : Type 0 where
+  pub whole : torn ws ≡ false
+  pub inputs : n ≡ getD ws 0 0
+  pub gates : m ≡ getD ws 1 0
+  pub fits : m ≤ room
+
+-- the code of gate j's value, from the bytes of the setting and of the gates' values
+unfoldable pub gateCode : List ℕ → List ℕ → List ℕ → ℕ → ℕ
+gateCode ws setting values j = code (evaluated (map valueOf setting) (map valueOf values) (gateOf (decode ws) j))
+
+-- the codes of all gates after one round from `values`
+unfoldable pub roundCodes : List ℕ → List ℕ → List ℕ → List ℕ
+roundCodes ws setting values = map code (round (decode ws) (map valueOf setting) (map valueOf values))
+
+-- one round over the first m bytes of a slice; `changed`: it changed one of them
+pub record Rounded (ws setting : List ℕ) (m : ℕ) (entry exit : List ℕ) (changed : Bool) : Type 0 where
+  pub values : exit ≡ placed (roundCodes ws setting (take m entry)) entry
+  pub told : changed ≡ not (same (roundCodes ws setting (take m entry)) (take m entry))
+
+-- the settled values in the first bytes of a slice, and the number of rounds
+pub record Settled (ws setting entry exit : List ℕ) (count : ℕ) : Type 0 where
+  pub values : exit ≡ placed (map code (settled (decode ws) (map valueOf setting))) entry
+  pub reported : count ≡ rounds (decode ws) (map valueOf setting)
+
+-- the codes of all gates after one sweep
+unfoldable pub sweepCodes : List ℕ → List ℕ → List ℕ
+sweepCodes ws setting = map code (sweep (decode ws) (map valueOf setting))

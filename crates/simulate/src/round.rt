@@ -1,0 +1,120 @@
+// Rounds of a block that is not torn, all gates at once: into a spare slice, and then over the values of the round before.
+use block::header::GATE_SIZE;
+use block::header::gates_at;
+use block::header::gates_of;
+use block::header::inputs_of;
+use ternary::gate::gate_value;
+ghost use mathlib.Core.Path.{_≡_};
+ghost use mathlib.Core.Bool.{false, not};
+ghost use Prim.Native.Nat.{_≤_, _<_};
+ghost use lib.ListN.{length, getD, take, replicate};
+ghost use Rattle.laws.specs.Lists.{same, placed};
+ghost use Rattle.netlist.specs.StoredBlock.{torn};
+ghost use Rattle.simulate.specs.Rounded.{InBlock, ForRounds, gateCode, roundCodes, Rounded, Settled};
+
+// The value of gate j, from the setting and the gates' values.
+pub fn value_of_gate(words: &[u16], n: usize, j: usize, setting: &[u8], gates: &[u8]) -> u8
+    requires { ⌜ InBlock (now words) n j ⌝ }
+    ensures { λ r. ⌜ r ≡ gateCode (now (words .entry)) (now (setting .entry)) (now (gates .entry)) j ⌝ }
+{
+    gate_value(words, n, gates_at(n) + GATE_SIZE * j, setting, gates)
+}
+
+// "A round evaluates all gates at once from the round before.": into the first bytes of `next`.
+fn round_into(words: &[u16], n: usize, m: usize, setting: &[u8], values: &[u8], next: &mut [u8])
+    requires { ⌜ ForRounds (now words) n m (length (now next)) ⌝ }
+    ensures { λ r. ⌜ now (next .exit) ≡ placed (roundCodes (now (words .entry)) (now (setting .entry)) (now (values .entry))) (now (next .entry)) ⌝ }
+{
+    let mut j = 0;
+    while j < m {
+        next[j] = value_of_gate(words, n, j, setting, values);
+        j += 1;
+    }
+}
+
+// The first m bytes of `next` over those of `values`: does one differ?
+fn copy_changed(next: &[u8], m: usize, values: &mut [u8]) -> bool
+    requires { ⌜ m ≤ length (now next) ⌝ }
+    requires { ⌜ m ≤ length (now values) ⌝ }
+    ensures { λ r. ⌜ now (values .exit) ≡ placed (take m (now (next .entry))) (now (values .entry)) ⌝ }
+    ensures { λ r. ⌜ r ≡ not (same (take m (now (next .entry))) (take m (now (values .entry)))) ⌝ }
+{
+    let mut changed = false;
+    let mut i = 0;
+    while i < m {
+        let v = next[i];
+        if values[i] != v {
+            changed = true;
+        }
+        values[i] = v;
+        i += 1;
+    }
+    changed
+}
+
+// One round over the first m bytes of `values`: did it change something?
+fn next_round(
+    words: &[u16],
+    n: usize,
+    m: usize,
+    setting: &[u8],
+    values: &mut [u8],
+    next: &mut [u8],
+) -> bool
+    requires { ⌜ ForRounds (now words) n m (length (now values)) ⌝ }
+    requires { ⌜ m ≤ length (now next) ⌝ }
+    ensures { λ r. ⌜ Rounded (now (words .entry)) (now (setting .entry)) m (now (values .entry)) (now (values .exit)) r ⌝ }
+{
+    round_into(words, n, m, setting, &values[..m], next);
+    copy_changed(next, m, values)
+}
+
+// "Before the first all gates are 2."
+fn clear(values: &mut [u8], m: usize)
+    requires { ⌜ m ≤ length (now values) ⌝ }
+    ensures { λ r. ⌜ now (values .exit) ≡ placed (replicate m 2) (now (values .entry)) ⌝ }
+{
+    let mut j = 0;
+    while j < m {
+        values[j] = 2;
+        j += 1;
+    }
+}
+
+// Rounds until one changes nothing; how many changed something. `next` is spare room.
+fn settle_with(
+    words: &[u16],
+    n: usize,
+    m: usize,
+    setting: &[u8],
+    values: &mut [u8],
+    next: &mut [u8],
+) -> usize
+    requires { ⌜ ForRounds (now words) n m (length (now values)) ⌝ }
+    requires { ⌜ m ≤ length (now next) ⌝ }
+    ensures { λ r. ⌜ Settled (now (words .entry)) (now (setting .entry)) (now (values .entry)) (now (values .exit)) r ⌝ }
+{
+    clear(values, m);
+    let mut count = 0;
+    while next_round(words, n, m, setting, values, next) {
+        count += 1;
+    }
+    count
+}
+
+// The settled values into the first bytes of `values`; how many rounds changed something.
+pub fn settle_into(words: &[u16], setting: &[u8], values: &mut [u8]) -> usize
+    requires { ⌜ torn (now words) ≡ false ⌝ }
+    requires { ⌜ getD (now words) 1 0 ≤ length (now values) ⌝ }
+    ensures { λ r. ⌜ Settled (now (words .entry)) (now (setting .entry)) (now (values .entry)) (now (values .exit)) r ⌝ }
+{
+    let mut next = [0u8; 1024];
+    settle_with(
+        words,
+        inputs_of(words),
+        gates_of(words),
+        setting,
+        values,
+        &mut next,
+    )
+}
