@@ -1,0 +1,115 @@
+-- Settled settings: what a setting's values say, the lowest that is not settled, and the count. Cited by this crate's functions. Assumes nothing.
+use mathlib.Core.Path.{_≡_, refl, sym, ap, _∙_}
+use mathlib.Core.Bool.{Bool, true, false, cond, not}
+use mathlib.Core.List.{List, map}
+use Prim.Native.Nat.{ℕ, zero, suc, _+_, _^_, _≤_, _<_}
+use native.Mathlib.Omega.{arith}
+use native.Mathlib.Numerals.{add-one}
+use lib.ListN.{length, getD, length-map, List·getD-map}
+use lib.Pow.{pow-mono}
+use Rattle.laws.specs.Lists.{countBelow}
+use Rattle.laws.proofs.Tests.{not-true-false, not-both}
+use Rattle.laws.proofs.Elements.{getD-defaults}
+use Rattle.laws.proofs.Quantifiers.{all-at, all-from}
+use Rattle.laws.proofs.Least.{least-le, least-below, least-is}
+use Rattle.netlist.specs.Values.{undefined, code, defined}
+use Rattle.netlist.specs.Netlist.{Block, inputCount}
+use Rattle.netlist.specs.Rounds.{settingCount, settledUnder, settledAt, settledSettings, lowestUnsettled}
+use Rattle.ternary.proofs.Codes.{defined-code, undefined-code}
+use Rattle.verdict.specs.Flags.{settledFlag}
+
+module _ (b : Block) (s : ℕ) (values : List ℕ) (are : values ≡ map code (settledUnder b s)) where
+  as-many : length values ≡ length (settledUnder b s)
+  as-many = ap length are ∙ length-map (settledUnder b s) code
+
+  value-at : (j : ℕ) → j < length values → getD values j 0 ≡ code (getD (settledUnder b s) j undefined)
+  unfolding code
+  value-at j l = getD-defaults values j 0 2 l ∙ rw are (List·getD-map code (settledUnder b s) j undefined)
+
+  -- a setting is settled where no byte is 2,
+  pub settled-when : ((j : ℕ) → j < length values → getD values j 0 ≡ 2 → ⊥) → settledAt b s ≡ true
+  unfolding settledAt
+  settled-when h =
+      all-from defined (settledUnder b s) undefined
+      (λ j l. let l′ : j < length values = rw as-many l in
+      defined-code (getD (settledUnder b s) j undefined) (λ e. h j l′ (value-at j l′ ∙ e)))
+
+  -- and not where one is
+  pub unsettled-when : (j : ℕ) → j < length values → getD values j 0 ≡ 2 → settledAt b s ≡ false
+  unfolding settledAt
+  unsettled-when j l e =
+      not-true-false (settledAt b s)
+      (λ t. not-both (all-at defined (settledUnder b s) j undefined t (rw as-many at l))
+      (undefined-code (getD (settledUnder b s) j undefined) (sym (value-at j l) ∙ e)))
+
+  -- the same of the flag
+  pub flag-settled : ((j : ℕ) → j < length values → getD values j 0 ≡ 2 → ⊥) → 1 ≡ settledFlag b s
+  unfolding settledFlag
+  flag-settled h = rw (settled-when h) refl
+
+  pub flag-unsettled : (j : ℕ) → j < length values → getD values j 0 ≡ 2 → 0 ≡ settledFlag b s
+  unfolding settledFlag
+  flag-unsettled j l e = rw (unsettled-when j l e) refl
+
+not-false-true : (a : Bool) → not a ≡ false → a ≡ true
+not-false-true true h = refl
+not-false-true false h = sym h
+
+count-all : (p : ℕ → Bool) (n : ℕ) → ((i : ℕ) → i < n → p i ≡ true) → countBelow p n ≡ n
+count-all p zero h = refl
+count-all p (suc n) h =
+    let e : countBelow p n ≡ n = count-all p n (λ i l. h i (omega arith)) in
+    let e′ : p n ≡ true = h n (omega arith) in
+    rw (e, e′) (omega arith)
+
+module _ (b : Block) where
+  -- there are 2^n settings
+  pub setting-count : (n count : ℕ) → n ≡ inputCount b → count ≡ 2 ^ n → count ≡ settingCount b
+  unfolding settingCount
+  setting-count n count e f = rw (f, e) refl
+
+  -- the first that is not settled, with all below it settled, is the lowest
+  pub lowest-found : (r count : ℕ) → count ≡ settingCount b → r ≤ count → ((i : ℕ) → i < r → settledAt b i ≡ true)
+      → (r < count → settledAt b r ≡ false) → r ≡ lowestUnsettled b
+  unfolding lowestUnsettled
+  lowest-found r count e l before at =
+      sym (least-is (λ s. not (settledAt b s)) (settingCount b) r (rw (← e) l) (λ i m. rw (before i m) refl)
+      (λ m. rw (at (rw e m)) refl))
+
+  pub lowest-le : (count : ℕ) → count ≡ settingCount b → lowestUnsettled b ≤ count
+  unfolding lowestUnsettled
+  lowest-le count e = rw e (least-le (λ s. not (settledAt b s)) (settingCount b))
+
+  -- all below the lowest other are settled
+  pub count-lowest : lowestUnsettled b ≡ countBelow (settledAt b) (lowestUnsettled b)
+  unfolding lowestUnsettled
+  count-lowest =
+      sym (count-all (settledAt b) (lowestUnsettled b)
+      (λ i l. not-false-true (settledAt b i) (least-below (λ s. not (settledAt b s)) (settingCount b) i l)))
+
+  pub flag-le : (s : ℕ) → settledFlag b s ≤ 1
+  unfolding settledFlag
+  flag-le s = go (settledAt b s)
+    where
+      go : (a : Bool) → cond a 1 0 ≤ 1
+      go true = omega arith
+      go false = omega arith
+
+  pub count-le : (s : ℕ) → countBelow (settledAt b) s ≤ s
+  unfolding settledFlag
+  count-le zero = omega arith
+  count-le (suc s) = omega (arith, count-le s, flag-le s)
+
+  -- one setting more
+  pub count-more : (s : ℕ) → countBelow (settledAt b) (s + 1) ≡ countBelow (settledAt b) s + settledFlag b s
+  unfolding settledFlag
+  count-more s = rw add-one refl
+
+  -- all settings
+  pub count-end : (s count : ℕ) → count ≡ settingCount b → s ≡ count → countBelow (settledAt b) s ≡ settledSettings b
+  unfolding settledSettings
+  count-end s count e f = rw (f, e) refl
+
+-- at most 1,024 settings
+pub few-settings : (n : ℕ) → n ≤ 10 → 2 ^ n ≤ 1024
+few-settings n l = pow-mono l

@@ -1,0 +1,4 @@
+-- Mathematics of the search over settings; no function of src/ is named.
+pub mod Counting
+pub mod Outcomes
+pub mod GroupOrder

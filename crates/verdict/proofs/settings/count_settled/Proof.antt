@@ -1,0 +1,99 @@
+-- `verdict::settings::count_settled` meets its contract: `settled` counts the settled settings below s. Assumes nothing.
+use Rattle.verdict.proofs.Counting.{setting-count, lowest-le, count-lowest, count-le, count-more, count-end, flag-le, few-settings}
+use Prim.Native.Nat.{_-_, _≤_}
+use mathlib.Core.Path.{_≡_, refl, sym, _∙_}
+use native.Mathlib.Omega.{arith}
+use lib.ListN.{length}
+use Rattle.netlist.specs.StoredBlock.{decode}
+use Rattle.netlist.specs.Rounds.{settledAt}
+use Rattle.decide.proofs.Legible.{ready-kept}
+use Rattle.laws.specs.Lists.{countBelow}
+use Rattle.verdict.proofs.settings.count_settled.Statement.{statement}
+use Rattle.verdict.proofs.settings.count_settled.Tie as tie
+
+abbrev Inv-loop : tie.InvT-loop
+Inv-loop words n gates order lowest inputs₀ values₀ count settled₀ s₀ inputs values settled s = (s ≤ count) × (settled ≡ countBelow (settledAt (decode words)) s) × (length inputs ≡ length inputs₀) × (length values ≡ length values₀)
+
+abbrev μ-loop : tie.MeasureT-loop
+μ-loop words n gates order lowest inputs₀ values₀ count settled₀ s₀ inputs values settled s = count - s
+
+setting-count-requires : tie.Need-setting-count-requires Inv-loop μ-loop
+setting-count-requires c κs = c .before .before .before .before .pre .0 .fewInputs
+
+loop-holds : tie.Need-loop-holds Inv-loop μ-loop
+loop-holds c =
+    let s = c .before .before .before .before .before in
+    let block = decode (s .args .words .now) in
+    let whole = setting-count block (s .args .n) (c .setting-count .result) (s .pre .0 .legible .inputs) (c .setting-count .ensures) in
+    (rw (s .pre .1) (lowest-le block (c .setting-count .result) whole), rw (s .pre .1) (count-lowest block), refl, refl)
+
+settled-flag-requires : tie.Need-settled-flag-requires Inv-loop μ-loop
+settled-flag-requires c κs = let l = c .before .before .before .loop in ready-kept (c .before .before .before .before .before .before .before .before .before .pre .0) (l .inv .2) (l .inv .3)
+
+cast-settled : tie.Need-cast-settled Inv-loop μ-loop
+cast-settled c = omega (arith, c .before .before .before .before .settled-flag .ensures, flag-le (decode (c .before .before .before .before .before .before .before .before .before .before .before .before .before .before .args .words .now)) (c .before .before .before .before .before .before .before .before .loop .s))
+
+add-settled : tie.Need-add-settled Inv-loop μ-loop
+add-settled c =
+    let s = c .before .before .before .before .before .before .before .before .before .before .before .before .before .before in
+    let l = c .before .before .before .before .before .before .before .before .loop in
+    let block = decode (s .args .words .now) in
+    omega (
+      arith,
+      l .inv .1,
+      count-le block (l .s),
+      c .before .before .before .before .settled-flag .ensures,
+      flag-le block (l .s),
+      c .before .before .before .before .before .before .before .loop-test .taken,
+      c .before .before .before .before .before .before .before .before .before .setting-count .ensures,
+      few-settings (s .args .n) (s .pre .0 .fewInputs),
+    )
+
+add-s : tie.Need-add-s Inv-loop μ-loop
+add-s c = omega arith
+
+loop-less : tie.Need-loop-less Inv-loop μ-loop
+loop-less c = omega arith
+
+loop-again : tie.Need-loop-again Inv-loop μ-loop
+loop-again c =
+    let l = c .before .before .before .before .before .before .before .before .loop in
+    let e = c .before .before .before .before .settled-flag in (
+      omega arith,
+      rw (l .inv .1, e .ensures) (sym (count-more (decode (c .before .before .before .before .before .before .before .before .before .before .before .before .before .before .args .words .now)) (l .s))),
+      e .kept .1 .1 .1 .1 .1 .0 ∙ l .inv .2,
+      e .kept .1 .1 .1 .1 .1 .1 .0 ∙ l .inv .3,
+    )
+
+same-length : tie.Need-same-length Inv-loop μ-loop
+same-length c = c .before .loop .inv .2
+
+same-length-2 : tie.Need-same-length-2 Inv-loop μ-loop
+same-length-2 c = c .before .loop .inv .3
+
+returns : tie.Need-returns Inv-loop μ-loop
+returns c =
+    let s = c .before .before .before .before .before .before .before in
+    let l = c .before .loop in
+    let count = c .before .before .setting-count in
+    let block = decode (s .args .words .now) in
+    let all : l .s ≡ count .result = omega arith in
+    l .inv .1 ∙ count-end block (l .s) (count .result) (setting-count block (s .args .n) (count .result) (s .pre .0 .legible .inputs) (count .ensures)) all
+
+pub count-settled-spec : {M : Type 1} → statement M
+count-settled-spec =
+    tie.close
+    (tie.spec
+    Inv-loop
+    μ-loop
+    setting-count-requires
+    loop-holds
+    settled-flag-requires
+    cast-settled
+    add-settled
+    add-s
+    loop-less
+    loop-again
+    same-length
+    same-length-2
+    returns)

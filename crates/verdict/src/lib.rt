@@ -1,0 +1,65 @@
+// Verdict (document 01): how many settings are settled, and the lowest other.
+ghost use mathlib.Core.Path.{_≡_};
+ghost use mathlib.Core.Bool.{false};
+ghost use mathlib.Core.List.{_++_};
+ghost use Prim.Native.Nat.{_≤_};
+ghost use lib.ListN.{length, drop};
+ghost use Rattle.laws.specs.Lists.{upTo, placed};
+ghost use Rattle.netlist.specs.Answers.{answerOf};
+ghost use Rattle.netlist.specs.StoredBlock.{torn};
+ghost use Rattle.netlist.specs.Operations.{verdict as verdictOf};
+use block::Check;
+use block::check_words;
+use block::header;
+use netlist::Answer;
+use netlist::Refusal;
+
+pub mod settings;
+
+// Gates 0, 1, .., m - 1.
+fn ascending(m: usize, order: &mut [u16])
+    requires { ⌜ m ≤ length (now order) ⌝ }
+    requires { ⌜ m ≤ 1024 ⌝ }
+    ensures { λ r. ⌜ now (order .exit) ≡ placed (upTo m) (now (order .entry)) ⌝ }
+{
+    let mut j = 0;
+    while j < m {
+        order[j] = j as u16;
+        j += 1;
+    }
+}
+
+// Verdict of a block that is not torn, with room for an order, the inputs' values and the gates'.
+fn whole_verdict(words: &[u16], order: &mut [u16], inputs: &mut [u8], values: &mut [u8]) -> Answer
+    requires { ⌜ torn (now words) ≡ false ⌝ }
+    requires { ⌜ length (now order) ≡ 1024 ⌝ }
+    requires { ⌜ length (now inputs) ≡ 10 ⌝ }
+    requires { ⌜ length (now values) ≡ 1024 ⌝ }
+    ensures { λ r. ⌜ r ≡ answerOf (verdictOf (now (words .entry))) ⌝ }
+{
+    let n = header::inputs_of(words);
+    let m = header::gates_of(words);
+    let gates = header::gates_at(n);
+    ascending(m, order);
+    settings::search_settings(
+        words,
+        n,
+        gates,
+        &order[..m],
+        &mut inputs[..n],
+        &mut values[..m],
+    )
+}
+
+// "count: settled settings; detail: the lowest other, or 2^n if none"
+pub fn verdict(words: &[u16]) -> Answer
+    ensures { λ r. ⌜ r ≡ answerOf (verdictOf (now (words .entry))) ⌝ }
+{
+    let Check::Whole = check_words(words) else {
+        return Answer::Refused(Refusal::MalformedBlock);
+    };
+    let mut order = [0u16; 1024];
+    let mut inputs = [0u8; 10];
+    let mut values = [0u8; 1024];
+    whole_verdict(words, &mut order, &mut inputs, &mut values)
+}
