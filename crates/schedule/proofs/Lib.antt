@@ -1,0 +1,4 @@
+-- Mathematics of listing groups; no function of src/ is named.
+pub mod Listing
+pub mod Sums
+pub mod Blocks
