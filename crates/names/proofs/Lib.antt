@@ -1,0 +1,14 @@
+-- Laws of lines and names, over plain lists.
+pub mod ListFacts
+pub mod Scanning
+pub mod Starts
+pub mod Filling
+pub mod Packing
+pub mod JoinedLines
+pub mod TreeLines
+pub mod TreeWalk
+pub mod TreeCounts
+pub mod TreeTable
+pub mod Lookup
+pub mod Repeats
+pub mod TreeSearch

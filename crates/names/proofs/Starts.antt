@@ -1,0 +1,86 @@
+-- Line by line through a text: starts stay inside, and each turn of the loops over lines adds one line. Assumes nothing.
+use Prim.Native.Nat.{ℕ, zero, suc, _+_, _-_, _≤_, _<_}
+use mathlib.Core.Path.{_≡_, refl, _∙_}
+use mathlib.Core.Bool.{Bool, true, false, cond}
+use mathlib.Core.List.{List, [], _∷_, _++_}
+use native.Mathlib.Numerals.{add-one}
+use native.Mathlib.Omega.{arith}
+use lib.ListN.{length, getD, drop, length-drop}
+use lib.Dec.{eqb, ltb}
+use borrow.Author.Tests.{ltb-true}
+use Rattle.laws.specs.Lists.{tab}
+use Rattle.names.specs.Lines.{times, lineLength, lineOpens, lineStart, gatesTo, letterAt, nameOffset, lineWord, linesWith}
+use Rattle.names.proofs.Scanning.{one-le, lineLength-le, lineOpens-le}
+
+pub start-le : (text : List ℕ) (i : ℕ) → lineStart text i ≤ length text
+unfolding lineStart
+start-le text zero = omega arith
+start-le text (suc i) =
+    let h = start-le text i in
+    let g = lineLength-le (drop (lineStart text i) text) in
+    omega (arith, length-drop (lineStart text i) text)
+
+pub gatesTo-le : (text : List ℕ) (i : ℕ) → gatesTo text i ≤ lineStart text i
+unfolding lineStart gatesTo
+gatesTo-le text zero = omega arith
+gatesTo-le text (suc i) =
+    let h = gatesTo-le text i in
+    let g = lineOpens-le (drop (lineStart text i) text) in
+    omega arith
+
+pub times-append : (b : ℕ) (xs ys : List ℕ) → times b (xs ++ ys) ≡ times b xs + times b ys
+times-append b [] ys = omega arith
+times-append b (x ∷ xs) ys = omega (arith, times-append b xs ys)
+
+-- the next line's start, and the gates up to it, from those of the line
+module _ (text : List ℕ) (i at : ℕ) (here′ : at ≡ lineStart text i) where
+  pub start-more : at + lineLength (drop at text) ≡ lineStart text (i + 1)
+  unfolding lineStart
+  start-more = rw (here′, add-one)
+
+  pub gates-more : (gates : ℕ) → gates ≡ gatesTo text i → gates + (lineOpens (drop at text) - 1) ≡ gatesTo text (i + 1)
+  unfolding gatesTo
+  gates-more gates e = rw (e, here′, add-one)
+
+  -- there are no more gates than bytes
+  pub gates-within : (gates more : ℕ) → gates ≡ gatesTo text i → more ≡ lineOpens (drop at text) - 1 → gates + more ≤ length text
+  gates-within gates more e f =
+      let h = gates-more gates e in
+      let g = gatesTo-le text (i + 1) in
+      let s = start-le text (i + 1) in
+      omega arith
+
+  pub with-more : (letter n one byte : ℕ) → n ≡ linesWith letter text i → byte ≡ getD text (at + 1) 0 → one ≡ cond (eqb byte letter) 1 0 → n + one ≡ linesWith letter text (i + 1)
+  unfolding linesWith letterAt
+  with-more letter n one byte e f g =
+      let v : one ≡ cond (eqb (letterAt text i) letter) 1 0 = g ∙ rw (f, here′) in
+      let w : linesWith letter text (i + 1) ≡ linesWith letter text i + (cond (eqb (letterAt text i) letter) 1 0 + 0) = rw (add-one i) (times-append letter (tab (letterAt text) i) (letterAt text i ∷ [])) in
+      omega arith
+
+-- no more lines than lines
+pub with-le : (letter : ℕ) (text : List ℕ) (i : ℕ) → linesWith letter text i ≤ i
+unfolding linesWith letterAt
+with-le letter text zero = omega arith
+with-le letter text (suc i) =
+    let h = with-le letter text i in
+    let o = one-le (eqb (getD text (lineStart text i + 1) 0) letter) in
+    rw (times-append letter (tab (letterAt text) i) (letterAt text i ∷ [])) (omega arith)
+
+-- what stands before a declared name is at most 6 bytes
+pub offset-le : (letter : ℕ) → nameOffset letter ≤ 6
+unfolding nameOffset
+offset-le letter = go (eqb letter 105) (eqb letter 103)
+  where
+    go : (a b : Bool) → cond a 4 (cond b 6 5) ≤ 6
+    go true b = omega arith
+    go false true = omega arith
+    go false false = omega arith
+
+-- a node number is at most the inputs and gates so far
+pub lineWord-le : (n i gates : ℕ) → lineWord n i gates ≤ n + gates
+unfolding lineWord
+lineWord-le n i gates = go (ltb i n) refl
+  where
+    go : (b : Bool) → ltb i n ≡ b → cond b i (n + (gates - 1)) ≤ n + gates
+    go true e = let h : i < n = ltb-true i n e in omega arith
+    go false e = omega arith

@@ -1,0 +1,164 @@
+-- The counts that the bytes of a tree's text give are the tree's, and so are the limits. Assumes nothing.
+use Prim.Native.Nat.{ℕ, zero, suc, _+_, _-_, _≤_}
+use mathlib.Core.Path.{_≡_, refl, sym, _∙_}
+use mathlib.Core.Bool.{Bool, true, false, cond, not, _&&_}
+use mathlib.Core.List.{List, [], _∷_, _++_, map}
+use native.Mathlib.Omega.{arith}
+use lib.ListN.{length, replicate, length-append, length-map}
+use lib.Seq.{getD-drop}
+use lib.Dec.{eqb, leb}
+use borrow.Author.Tests.{leb-true}
+use Rattle.laws.specs.Lists.{all, joined, sum, tab}
+use Rattle.laws.proofs.Tests.{and-left, and-right}
+use Rattle.laws.proofs.Tab.{tab-ext}
+use Rattle.netlist.specs.Limits.{maxText, maxInputs, maxGates, maxOutputs}
+use Rattle.netlist.specs.StoredBlock.{plainName}
+use Rattle.netlist.specs.Syntax.{Legal, GateLine, Tree, legalGate, legalOutput}
+use Rattle.netlist.specs.Reading.{lineGates, overLimit}
+use Rattle.names.specs.Lines.{times, lineStart, letterAt, linesWith}
+use Rattle.names.specs.Trees.{inputText, gateText, outputText, treeLines}
+use Rattle.names.specs.Results.{Prints, countsOf, treeCounts, limitsFor, limitsOf, TableRoom}
+use Rattle.names.specs.declared.Counts.{Counts}
+use Rattle.names.specs.declared.Limits.the-variants.{Within, Over}
+use Rattle.names.proofs.ListFacts.{map-append, sum-append}
+use Rattle.names.proofs.Starts.{times-append}
+use Rattle.names.proofs.JoinedLines.{line-count, times-joined}
+use Rattle.names.proofs.TreeLines.{TreeLine, legal-parts, tree-lines, print-lines, input-line, gate-line, output-line}
+use Rattle.names.proofs.TreeWalk.{letters-walk}
+
+-- a legal text is the print of its tree
+pub legal-prints : {text : List ℕ} (l : Legal text) → Prints (l .tree) text
+legal-prints l = record { legal = l .legal; printed = l .printed }
+
+-- the text of a tree is its lines
+pub text-is : {t : Tree} {text : List ℕ} → Prints t text → text ≡ joined (treeLines t)
+text-is {t} p = sym (p .printed) ∙ print-lines t
+
+pub line-total : (t : Tree) → length (treeLines t) ≡ length (t .inputs) + (length (t .gates) + length (t .outputs))
+unfolding treeLines
+line-total t = simp (length-append, length-map)
+
+-- ---- lines by their letter
+
+times-replicate : (b n c : ℕ) → eqb c b ≡ true → times b (replicate n c) ≡ n
+times-replicate b zero c e = refl
+times-replicate b (suc n) c e = let h = times-replicate b n c e in rw e (omega arith)
+
+times-others : (b n c : ℕ) → eqb c b ≡ false → times b (replicate n c) ≡ 0
+times-others b zero c e = refl
+times-others b (suc n) c e = let h = times-others b n c e in rw e (omega arith)
+
+module _ {t : Tree} {text : List ℕ} (p : Prints t text) where
+  pub lines-are : times 10 text ≡ length (t .inputs) + (length (t .gates) + length (t .outputs))
+  lines-are = rw (text-is p) (line-count (treeLines t) (tree-lines t (p .legal)) ∙ line-total t)
+
+  letters : tab (letterAt text) (times 10 text) ≡ replicate (length (t .inputs)) 105 ++ (replicate (length (t .gates)) 103 ++ replicate (length (t .outputs)) 111)
+  unfolding letterAt
+  letters =
+      rw (text-is p, line-count (treeLines t) (tree-lines t (p .legal)))
+      (tab-ext _ _ (length (treeLines t)) (λ i l. sym (getD-drop (lineStart (joined (treeLines t)) i) (joined (treeLines t)) 1 0)) ∙ letters-walk t (p .legal))
+
+  split : (b : ℕ) → linesWith b text (times 10 text) ≡ times b (replicate (length (t .inputs)) 105) + (times b (replicate (length (t .gates)) 103) + times b (replicate (length (t .outputs)) 111))
+  unfolding linesWith
+  split b = rw (letters, times-append b (replicate (length (t .inputs)) 105), times-append b (replicate (length (t .gates)) 103))
+
+  pub inputs-are : linesWith 105 text (times 10 text) ≡ length (t .inputs)
+  inputs-are =
+      let a = times-replicate 105 (length (t .inputs)) 105 refl in
+      let b = times-others 105 (length (t .gates)) 103 refl in
+      let c = times-others 105 (length (t .outputs)) 111 refl in
+      omega (arith, split 105)
+
+  pub named-are : linesWith 103 text (times 10 text) ≡ length (t .gates)
+  named-are =
+      let a = times-others 103 (length (t .inputs)) 105 refl in
+      let b = times-replicate 103 (length (t .gates)) 103 refl in
+      let c = times-others 103 (length (t .outputs)) 111 refl in
+      omega (arith, split 103)
+
+  pub outputs-are : linesWith 111 text (times 10 text) ≡ length (t .outputs)
+  outputs-are =
+      let a = times-others 111 (length (t .inputs)) 105 refl in
+      let b = times-others 111 (length (t .gates)) 103 refl in
+      let c = times-replicate 111 (length (t .outputs)) 111 refl in
+      omega (arith, split 111)
+
+-- ---- gates: each line has one bracket of its own, each gate one more
+
+opens-are : {A : Type 0} (legal : A → Bool) (line : A → List ℕ) (gates : A → ℕ) → ((x : A) → legal x ≡ true → TreeLine (line x) (gates x)) → (xs : List A) → all legal xs ≡ true
+    → sum (map (times 40) (map line xs)) ≡ length xs + sum (map gates xs)
+opens-are legal line gates f [] h = refl
+opens-are legal line gates f (x ∷ xs) h =
+    let a = f x (and-left (legal x) (all legal xs) h) .opens in
+    let b = opens-are legal line gates f xs (and-right (legal x) (all legal xs) h) in
+    omega arith
+
+pub sum-none : {A : Type 0} (xs : List A) → sum (map (λ x. 0) xs) ≡ 0
+sum-none [] = refl
+sum-none (x ∷ xs) = let h = sum-none xs in omega arith
+
+module _ {t : Tree} {text : List ℕ} (p : Prints t text) where
+  all-opens : times 40 text ≡ length (t .inputs) + ((length (t .gates) + sum (map lineGates (t .gates))) + length (t .outputs))
+  unfolding treeLines
+  all-opens =
+      let q = legal-parts t (p .legal) in
+      let a = opens-are plainName inputText (λ x. 0) input-line (t .inputs) (q .inputs) in
+      let b = opens-are legalGate gateText lineGates gate-line (t .gates) (q .gates) in
+      let c = opens-are legalOutput outputText (λ x. 0) output-line (t .outputs) (q .outputs) in
+      let d = sum-none (t .inputs) in
+      let e = sum-none (t .outputs) in
+      rw (text-is p, times-joined 40 (treeLines t), map-append (times 40) (map inputText (t .inputs)), map-append (times 40) (map gateText (t .gates)), sum-append, sum-append) (omega arith)
+
+  pub gates-are : times 40 text - times 10 text ≡ sum (map lineGates (t .gates))
+  gates-are = omega (arith, all-opens, lines-are p)
+
+  -- The counts of the bytes are the counts of the tree.
+  pub counts-are : countsOf text ≡ treeCounts t
+  unfolding countsOf treeCounts
+  counts-are = rw (inputs-are p, named-are p, outputs-are p, gates-are)
+
+  -- 3: the limits, from the counts
+  pub limits-are : limitsFor (countsOf text) ≡ limitsOf t
+  unfolding limitsFor treeCounts limitsOf overLimit
+  limits-are = rw counts-are (go (leb (length (t .inputs)) maxInputs && leb (sum (map lineGates (t .gates))) maxGates && leb (length (t .outputs)) maxOutputs))
+    where
+      go : (b : Bool) → cond b Within Over ≡ cond (not b) Over Within
+      go true = refl
+      go false = refl
+
+-- ---- within the limits there is room
+
+pub record WithinLimits (t : Tree) : Type 0 where
+  pub inputs : length (t .inputs) ≤ maxInputs
+  pub gates : sum (map lineGates (t .gates)) ≤ maxGates
+  pub outputs : length (t .outputs) ≤ maxOutputs
+
+pub limits-within : (t : Tree) → limitsOf t ≡ Within → WithinLimits t
+unfolding limitsOf overLimit
+limits-within t h = go (leb (length (t .inputs)) maxInputs) (leb (sum (map lineGates (t .gates))) maxGates) (leb (length (t .outputs)) maxOutputs) refl refl refl h
+  where
+    never : {A : Type 0} → Over ≡ Within → A
+    never e = let z : _≡_ {A = ℕ} 0 1 = cc in absurd (omega arith)
+
+    go : (a b c : Bool) → leb (length (t .inputs)) maxInputs ≡ a → leb (sum (map lineGates (t .gates))) maxGates ≡ b → leb (length (t .outputs)) maxOutputs ≡ c
+        → cond (not (a && b && c)) Over Within ≡ Within → WithinLimits t
+    go true true true p q r h = record { inputs = leb-true _ _ p; gates = leb-true _ _ q; outputs = leb-true _ _ r }
+    go true true false p q r h = never h
+    go true false c p q r h = never h
+    go false b c p q r h = never h
+
+-- a named gate is a gate
+pub named-le : (gs : List GateLine) → length gs ≤ sum (map lineGates gs)
+unfolding lineGates
+named-le [] = omega arith
+named-le (g ∷ gs) = let h = named-le gs in omega arith
+
+-- Within the limits, tables of these lengths have room.
+pub table-room : {t : Tree} {text : List ℕ} → Prints t text → limitsOf t ≡ Within → (c : Counts) → c ≡ treeCounts t → (names places words : List ℕ)
+    → length text ≤ maxText → maxInputs + maxGates + maxOutputs ≤ length names → maxInputs + maxGates + maxOutputs ≤ length places → maxInputs + maxGates ≤ length words
+    → TableRoom c text names places words
+unfolding treeCounts
+table-room {t} p h c e names places words short a b d =
+    let w = limits-within t h in
+    let g = named-le (t .gates) in
+    rw e (record { short = short; few = w .inputs; numberRoom = omega arith; placeRoom = omega arith; nodeRoom = omega arith })

@@ -1,0 +1,164 @@
+-- The tables that src/ fills from a tree's text hold the tree's declared names, their places and their node numbers. Assumes nothing.
+use Prim.Native.Nat.{ℕ, zero, suc, _+_, _-_, _≤_, _<_}
+use mathlib.Core.Path.{_≡_, refl, sym, ap, ap₂, _∙_}
+use mathlib.Core.Bool.{Bool, true}
+use mathlib.Core.List.{List, [], _∷_, _++_, map}
+use native.Mathlib.Nat.{add-zero}
+use native.Mathlib.Omega.{arith}
+use lib.ListN.{length, getD, take, drop, length-map}
+use lib.Seq.{take-length, getD-drop, drop-drop, take-append-add, take-append-le}
+use borrow.Author.Tests.{lt-ltb, le-ltb}
+use Rattle.laws.specs.Lists.{all, sum, tab, placed}
+use Rattle.laws.proofs.Tests.{and-left, and-right}
+use Rattle.laws.proofs.Tab.{length-tab, tab-ext, map-tab}
+use Rattle.netlist.specs.Netlist.{Name, gate}
+use Rattle.netlist.specs.StoredBlock.{plainName, nodeWord}
+use Rattle.netlist.specs.Syntax.{GateLine, Tree, legalGate}
+use Rattle.netlist.specs.Reading.{Mention, Binding, lineGates, inputBindings, gateBindings, bindings}
+use Rattle.names.specs.Lines.{times, lineStart, gatesTo, declaredPlace, placeAt, lineWord, wordAt}
+use Rattle.names.specs.Packed.{packed, nameAt, packedAt, packedThrough}
+use Rattle.names.specs.Trees.{inputText, gateText, outputText, treeLines}
+use Rattle.names.specs.Results.{Prints, treeCounts, declared, packedNames, namePlaces, nodeWords, Declared}
+use Rattle.names.specs.declared.Counts.{Counts}
+use Rattle.names.proofs.ListFacts.{tab-front, tab-add, map-append, sum-append}
+use Rattle.names.proofs.Filling.{filled-front, filled-at}
+use Rattle.names.proofs.JoinedLines.{line-count, innerOpens, gates-are}
+use Rattle.names.proofs.TreeLines.{TreeLine, legal-parts, tree-lines, input-line, gate-line}
+use Rattle.names.proofs.TreeWalk.{mentionAt, declared-walk}
+use Rattle.names.proofs.TreeCounts.{text-is, line-total, lines-are, sum-none}
+
+-- the declaration in line i of a text
+abbrev pub mentionIn : List ℕ → ℕ → Mention
+mentionIn text i = mentionAt (lineStart text i) (drop (lineStart text i) text)
+
+module _ (text : List ℕ) (i : ℕ) where
+  place-in : placeAt text i ≡ mentionIn text i .place
+  unfolding placeAt declaredPlace mentionAt
+  place-in = rw (getD-drop (lineStart text i) text 1 0)
+
+  name-in : nameAt text (placeAt text i) ≡ mentionIn text i .name
+  unfolding nameAt placeAt declaredPlace mentionAt
+  name-in = rw (getD-drop (lineStart text i) text 1 0, drop-drop)
+
+module _ {t : Tree} {text : List ℕ} (p : Prints t text) where
+  pub declared-are : tab (mentionIn text) (times 10 text) ≡ declared t
+  declared-are = rw (text-is p, line-count (treeLines t) (tree-lines t (p .legal))) (declared-walk t (p .legal))
+
+  -- The places in the table are those of the declared names.
+  pub places-are : tab (placeAt text) (times 10 text) ≡ namePlaces t
+  unfolding namePlaces
+  places-are =
+      tab-ext _ _ (times 10 text) (λ i l. place-in text i)
+      ∙ sym (map-tab (λ (d : Mention). d .place) (mentionIn text) (times 10 text)) ∙ ap (map (λ (d : Mention). d .place)) declared-are
+
+  -- The numbers in the table are those of the declared names.
+  pub names-are : (places : List ℕ) → ((i : ℕ) → i < times 10 text → getD places i 0 ≡ placeAt text i) → tab (packedThrough text places) (times 10 text) ≡ packedNames t
+  unfolding packedNames packedThrough packedAt
+  names-are places h =
+      tab-ext _ _ (times 10 text) (λ i l. rw (h i l, name-in text i))
+      ∙ sym (map-tab (λ (d : Mention). packed (d .name)) (mentionIn text) (times 10 text)) ∙ ap (map (λ (d : Mention). packed (d .name))) declared-are
+
+-- ---- node numbers
+
+inner-of : {A : Type 0} (legal : A → Bool) (line : A → List ℕ) (gates : A → ℕ) → ((x : A) → legal x ≡ true → TreeLine (line x) (gates x)) → (xs : List A) → all legal xs ≡ true
+    → (i : ℕ) → sum (map innerOpens (take i (map line xs))) ≡ sum (map gates (take i xs))
+inner-of legal line gates f xs h zero = refl
+inner-of legal line gates f [] h (suc i) = refl
+inner-of legal line gates f (x ∷ xs) h (suc i) =
+    let a = f x (and-left (legal x) (all legal xs) h) .opens in
+    let b = inner-of legal line gates f xs (and-right (legal x) (all legal xs) h) i in
+    omega arith
+
+-- the numbers of the inputs
+input-words : (n k : ℕ) (ss : List Name) → map (λ (b : Binding). nodeWord n (b .node)) (inputBindings ss k) ≡ tab (λ i. k + i) (length ss)
+unfolding inputBindings nodeWord
+input-words n k [] = refl
+input-words n k (s ∷ ss) =
+    sym (tab-front (λ i. k + i) (length ss) ∙ rw add-zero (ap (λ (r : List ℕ). k ∷ r) (tab-ext _ _ (length ss) (λ i l. omega arith) ∙ sym (input-words n (suc k) ss))))
+
+-- the numbers of the named gates, when `first` gates stand before
+gate-words : (n first : ℕ) (gs : List GateLine) → map (λ (b : Binding). nodeWord n (b .node)) (gateBindings gs first) ≡ tab (λ j. n + (first + sum (map lineGates (take (suc j) gs)) - 1)) (length gs)
+unfolding gateBindings nodeWord lineGates
+gate-words n first [] = refl
+gate-words n first (g ∷ gs) =
+    sym
+    (tab-front (λ j. n + (first + sum (map lineGates (take (suc j) (g ∷ gs))) - 1)) (length gs)
+    ∙ ap₂ _∷_ (omega arith) (tab-ext _ _ (length gs) (λ j l. omega arith) ∙ sym (gate-words n (first + lineGates g) gs)))
+
+module _ {t : Tree} {text : List ℕ} (p : Prints t text) where
+  abbrev n : ℕ
+  n = length (t .inputs)
+
+  input-word : (i : ℕ) → i < n → wordAt text n i ≡ 0 + i
+  unfolding wordAt lineWord
+  input-word i l = rw (lt-ltb i n l) (omega arith)
+
+  -- the gates up to the end of gate line j
+  gates-to : (j : ℕ) → j < length (t .gates) → gatesTo text (suc (n + j)) ≡ sum (map lineGates (take (suc j) (t .gates)))
+  unfolding treeLines
+  gates-to j l =
+      let q = legal-parts t (p .legal) in
+      let few : suc (n + j) ≤ length (treeLines t) = omega (arith, line-total t) in
+      let one : suc (n + j) ≡ length (map inputText (t .inputs)) + suc j = omega (arith, length-map (t .inputs) inputText) in
+      let some : suc j ≤ length (map gateText (t .gates)) = omega (arith, length-map (t .gates) gateText) in
+      let front : take (suc (n + j)) (treeLines t) ≡ map inputText (t .inputs) ++ take (suc j) (map gateText (t .gates)) =
+      ap (λ k. take k (treeLines t)) one
+      ∙ take-append-add (map inputText (t .inputs)) (map gateText (t .gates) ++ map outputText (t .outputs)) (suc j)
+      ∙ ap (λ (r : List (List ℕ)). map inputText (t .inputs) ++ r) (take-append-le (suc j) (map gateText (t .gates)) (map outputText (t .outputs)) some) in
+      let a = rw take-length at (inner-of plainName inputText (λ x. 0) input-line (t .inputs) (q .inputs) (length (map inputText (t .inputs)))) in
+      let z = sum-none (take (length (map inputText (t .inputs))) (t .inputs)) in
+      let b = inner-of legalGate gateText lineGates gate-line (t .gates) (q .gates) (suc j) in
+      let whole = gates-are (treeLines t) (tree-lines t (p .legal)) (suc (n + j)) few in
+      rw (text-is p)
+      (whole ∙ rw (front, map-append innerOpens (map inputText (t .inputs)) (take (suc j) (map gateText (t .gates))), sum-append) (omega arith))
+
+  gate-word : (j : ℕ) → j < length (t .gates) → wordAt text n (n + j) ≡ n + (0 + sum (map lineGates (take (suc j) (t .gates))) - 1)
+  unfolding wordAt lineWord
+  gate-word j l = let h : n ≤ n + j = omega arith in rw (le-ltb (n + j) n h, gates-to j l) (omega arith)
+
+  -- The node numbers in the table are those of the declared nodes.
+  pub words-are : tab (wordAt text (length (t .inputs))) (length (t .inputs) + length (t .gates)) ≡ nodeWords t
+  unfolding nodeWords bindings
+  words-are =
+      tab-add (wordAt text n) n (length (t .gates))
+      ∙ rw (tab-ext _ _ n input-word, tab-ext _ _ (length (t .gates)) gate-word)
+      (sym (map-append _ (inputBindings (t .inputs) 0) (gateBindings (t .gates) 0) ∙ rw (input-words n 0 (t .inputs), gate-words n 0 (t .gates))))
+
+-- ---- the tables as they are filled
+
+module _ {t : Tree} {text : List ℕ} (p : Prints t text) where
+  -- as many declarations as lines, as many bindings as inputs and named gates
+  pub declared-length : length (declared t) ≡ length (t .inputs) + length (t .gates) + length (t .outputs)
+  declared-length = ap length (sym (declared-are p)) ∙ length-tab (mentionIn text) (times 10 text) ∙ (lines-are p ∙ omega arith)
+
+  pub bindings-length : length (bindings t) ≡ length (t .inputs) + length (t .gates)
+  unfolding nodeWords
+  bindings-length =
+      sym (length-map (bindings t) (λ (b : Binding). nodeWord (length (t .inputs)) (b .node)))
+      ∙ ap length (sym (words-are p)) ∙ length-tab (wordAt text (length (t .inputs))) (length (t .inputs) + length (t .gates))
+
+  -- what the loops fill in are the tables of the tree
+  pub tables-are : (c : Counts) (names places words names₀ places₀ words₀ : List ℕ) → c ≡ treeCounts t
+      → c .inputs + c .named + c .outputs ≤ length places₀
+      → places ≡ placed (tab (placeAt text) (c .inputs + c .named + c .outputs)) places₀
+      → names ≡ placed (tab (packedThrough text places) (c .inputs + c .named + c .outputs)) names₀
+      → words ≡ placed (tab (wordAt text (c .inputs)) (c .inputs + c .named)) words₀
+      → Declared t names places words
+  unfolding treeCounts
+  tables-are c names places words names₀ places₀ words₀ counted room ps ns ws =
+      let lines : c .inputs + c .named + c .outputs ≡ times 10 text = rw counted (omega (arith, lines-are p)) in
+      let total : length (declared t) ≡ times 10 text = rw (declared-length, lines-are p) (omega arith) in
+      let nodes : c .inputs + c .named ≡ length (t .inputs) + length (t .gates) = rw counted refl in
+      let inputs : c .inputs ≡ length (t .inputs) = rw counted refl in
+      let ps′ : places ≡ placed (tab (placeAt text) (times 10 text)) places₀ = rw lines at ps in
+      let ns′ : names ≡ placed (tab (packedThrough text places) (times 10 text)) names₀ = rw lines at ns in
+      let ws′ : words ≡ placed (tab (wordAt text (length (t .inputs))) (length (t .inputs) + length (t .gates))) words₀ = rw (nodes, inputs) at ws in
+      let read : (i : ℕ) → i < times 10 text → getD places i 0 ≡ placeAt text i = λ i l.
+      rw ps′ (filled-at (placeAt text) (times 10 text) places₀ i l) in
+      record {
+        table = record {
+          numbersAre = rw (total, ns′, filled-front (packedThrough text places) (times 10 text) names₀) (names-are p places read);
+          placesAre = rw (total, ps′, filled-front (placeAt text) (times 10 text) places₀) (places-are p);
+        };
+        nodesAre = rw (bindings-length, ws′, filled-front (wordAt text (length (t .inputs))) (length (t .inputs) + length (t .gates)) words₀) (words-are p);
+      }

@@ -1,0 +1,44 @@
+-- `names::lines::next_line` meets its contract. Assumes nothing.
+use mathlib.Core.Path.{_≡_}
+use native.Mathlib.Omega.{arith}
+use lib.ListN.{drop, length-drop}
+use borrow.Author.Needs.{needs}
+use Rattle.names.specs.Lines.{lineLength}
+use Rattle.names.proofs.Scanning.{rest-part, lineLength-le}
+use Rattle.names.proofs.lines.next_line.Statement.{statement}
+use Rattle.names.proofs.lines.next_line.Tie as tie
+
+sub-line-length : tie.Need-sub-line-length
+sub-line-length c = search needs
+
+part-line-length-start : tie.Need-part-line-length-start
+part-line-length-start c = search needs
+
+part-line-length-end : tie.Need-part-line-length-end
+part-line-length-end c = search needs
+
+line-length-requires : tie.Need-line-length-requires
+line-length-requires c κs = search needs
+
+add-result : tie.Need-add-result
+add-result c =
+    let a = c .before .before .before .args in
+    let e : c .line-length .result ≡ lineLength (drop (a .at) (a .text .now)) = rw (rest-part (a .text .now) (a .at)) at (c .line-length .ensures) in
+    omega (arith, lineLength-le (drop (a .at) (a .text .now)), length-drop (a .at) (a .text .now))
+
+returns : tie.Need-returns
+returns c =
+    let a = c .before .before .before .args in
+    let e : c .line-length .result ≡ lineLength (drop (a .at) (a .text .now)) = rw (rest-part (a .text .now) (a .at)) at (c .line-length .ensures) in
+    rw e
+
+pub next-line-spec : {M : Type 1} → statement M
+next-line-spec =
+    tie.close
+    (tie.spec
+    sub-line-length
+    part-line-length-start
+    part-line-length-end
+    line-length-requires
+    add-result
+    returns)

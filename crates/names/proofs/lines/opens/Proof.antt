@@ -1,0 +1,70 @@
+-- `names::lines::opens` meets its contract: the brackets passed and those left in the line are the line's. Assumes nothing.
+use Prim.Native.Nat.{_+_, _-_, _≤_}
+use mathlib.Core.Path.{_≡_}
+use native.Mathlib.Omega.{arith}
+use lib.ListN.{length, getD, drop}
+use lib.Dec.{eqb}
+use borrow.Author.Needs.{needs}
+use Rattle.names.specs.Lines.{lineOpens}
+use Rattle.names.proofs.Scanning.{opens-more, opens-last, opens-end, one-le}
+use Rattle.names.proofs.lines.opens.Statement.{statement}
+use Rattle.names.proofs.lines.opens.Tie as tie
+
+abbrev Inv-loop : tie.InvT-loop
+Inv-loop s n₀ i₀ n i = (i ≤ length s) × (n ≤ i) × (n + lineOpens (drop i s) ≡ lineOpens s)
+
+abbrev μ-loop : tie.MeasureT-loop
+μ-loop s n₀ i₀ n i = length s - i
+
+loop-holds : tie.Need-loop-holds Inv-loop μ-loop
+loop-holds c = (omega arith, omega arith, omega arith)
+
+shared-slice-read-if1 : tie.Need-shared-slice-read-if1 Inv-loop μ-loop
+shared-slice-read-if1 c = omega arith
+
+returns : tie.Need-returns Inv-loop μ-loop
+returns c = let l = c .before .before .before .loop in opens-last (c .before .before .before .before .before .args .s .now) (l .i) (omega arith) (l .n) (c .if1 .taken) (l .inv .2)
+
+shared-slice-read-one-if : tie.Need-shared-slice-read-one-if Inv-loop μ-loop
+shared-slice-read-one-if c = omega arith
+
+one-if-requires : tie.Need-one-if-requires Inv-loop μ-loop
+one-if-requires c κs = search needs
+
+add-n : tie.Need-add-n Inv-loop μ-loop
+add-n c = omega (arith, c .one-if .ensures, one-le (eqb (getD (c .before .before .before .before .before .before .before .args .s .now) (c .before .before .before .before .before .loop .i) 0) 40))
+
+add-i : tie.Need-add-i Inv-loop μ-loop
+add-i c = omega arith
+
+loop-less : tie.Need-loop-less Inv-loop μ-loop
+loop-less c = omega arith
+
+loop-again : tie.Need-loop-again Inv-loop μ-loop
+loop-again c =
+    let s = c .before .before .before .before .before .before .before .args .s .now in
+    let l = c .before .before .before .before .before .loop in (
+      omega arith,
+      omega (arith, c .one-if .ensures, one-le (eqb (getD s (l .i) 0) 40)),
+      opens-more s (l .i) (omega arith) (l .n) (c .one-if .result) (c .before .before .if1 .left) (l .inv .2) (c .one-if .ensures),
+    )
+
+returns-2 : tie.Need-returns-2 Inv-loop μ-loop
+returns-2 c = let l = c .before .loop in opens-end (c .before .before .before .args .s .now) (l .i) (l .n) (omega arith) (l .inv .2)
+
+pub opens-spec : {M : Type 1} → statement M
+opens-spec =
+    tie.close
+    (tie.spec
+    Inv-loop
+    μ-loop
+    loop-holds
+    shared-slice-read-if1
+    returns
+    shared-slice-read-one-if
+    one-if-requires
+    add-n
+    add-i
+    loop-less
+    loop-again
+    returns-2)

@@ -1,0 +1,31 @@
+-- `names::pack::pack_at` meets its contract: past the end there is no name. Assumes nothing.
+use lib.ListN.{drop-of-length-le}
+use borrow.Author.Needs.{needs}
+use Rattle.names.specs.Packed.{nameFront, nameAt, packedAt}
+use Rattle.names.proofs.Scanning.{rest-part}
+use Rattle.names.proofs.pack.pack_at.Statement.{statement}
+use Rattle.names.proofs.pack.pack_at.Tie as tie
+
+sub-pack : tie.Need-sub-pack
+sub-pack c = search needs
+
+part-pack-start : tie.Need-part-pack-start
+part-pack-start c = search needs
+
+part-pack-end : tie.Need-part-pack-end
+part-pack-end c = search needs
+
+pack-requires : tie.Need-pack-requires
+pack-requires c κs = search needs
+
+returns : tie.Need-returns
+unfolding nameFront nameAt packedAt
+returns c = let a = c .before .before .before .before .args in rw (rest-part (a .text .now) (a .at)) at (c .pack .ensures)
+
+returns-2 : tie.Need-returns-2
+unfolding nameFront nameAt packedAt
+returns-2 c = let a = c .before .before .args in rw (drop-of-length-le (a .text .now) (c .if1 .left))
+
+pub pack-at-spec : {M : Type 1} → statement M
+pack-at-spec =
+    tie.close (tie.spec sub-pack part-pack-start part-pack-end pack-requires returns returns-2)

@@ -1,0 +1,91 @@
+-- `names::search::duplicate` meets its contract. Assumes nothing.
+use Prim.Native.Nat.{_+_}
+use mathlib.Core.Path.{sym}
+use native.Mathlib.Omega.{arith}
+use lib.Seq.{length-take-le}
+use borrow.Author.Needs.{needs}
+use Rattle.names.proofs.TreeSearch.{node-repeats, port-repeats, none-repeats}
+use Rattle.names.proofs.search.duplicate.Statement.{statement}
+use Rattle.names.proofs.search.duplicate.Tie as tie
+
+add-nodes : tie.Need-add-nodes
+add-nodes c = search needs
+
+slice-aggregate-first-repeat : tie.Need-slice-aggregate-first-repeat
+slice-aggregate-first-repeat c = let s = c .before .before .before .before in sym (length-take-le (s .args .c .inputs + s .args .c .named) (s .args .names .now) (omega arith))
+
+first-repeat-requires : tie.Need-first-repeat-requires
+first-repeat-requires c κs = search needs
+
+mul-t11 : tie.Need-mul-t11
+mul-t11 c = search needs
+
+shared-slice-read-t13 : tie.Need-shared-slice-read-t13
+shared-slice-read-t13 c = search needs
+
+returns : tie.Need-returns
+returns c =
+    λ t legal counted table.
+    let s = c .before .before .before .before .before .before .before in
+    node-repeats t legal (s .args .c) counted (s .args .names .now) (s .args .places .now) table (s .pre .0) (s .pre .1) (c .before .before .first-repeat .result) (c .before .before .first-repeat .ensures) (c .before .if1 .taken)
+
+add-first-repeat : tie.Need-add-first-repeat
+add-first-repeat c = search needs
+
+mul-first-repeat : tie.Need-mul-first-repeat
+mul-first-repeat c = search needs
+
+sub-first-repeat : tie.Need-sub-first-repeat
+sub-first-repeat c = search needs
+
+part-first-repeat-start : tie.Need-part-first-repeat-start
+part-first-repeat-start c = search needs
+
+part-first-repeat-end : tie.Need-part-first-repeat-end
+part-first-repeat-end c = search needs
+
+first-repeat-requires-2 : tie.Need-first-repeat-requires-2
+first-repeat-requires-2 c κs = search needs
+
+add-t20 : tie.Need-add-t20
+add-t20 c = search needs
+
+mul-t21 : tie.Need-mul-t21
+mul-t21 c = search needs
+
+shared-slice-read-t23 : tie.Need-shared-slice-read-t23
+shared-slice-read-t23 c = search needs
+
+returns-2 : tie.Need-returns-2
+returns-2 c =
+    λ t legal counted table.
+    let s = c .before .before .before .before .before .before .before .before .before .before in
+    port-repeats t legal (s .args .c) counted (s .args .names .now) (s .args .places .now) table (s .pre .0) (s .pre .1) (c .before .before .before .before .before .first-repeat .result) (c .before .before .before .before .before .first-repeat .ensures) (c .before .before .before .before .if1 .left) (c .before .before .first-repeat2 .result) (c .before .before .first-repeat2 .ensures) (c .before .if2 .taken)
+
+returns-3 : tie.Need-returns-3
+returns-3 c =
+    λ t legal counted table.
+    let s = c .before .before .before .before .before .before .before .before .before in
+    none-repeats t legal (s .args .c) counted (s .args .names .now) (s .args .places .now) table (s .pre .0) (s .pre .1) (c .before .before .before .before .first-repeat .result) (c .before .before .before .before .first-repeat .ensures) (c .before .before .before .if1 .left) (c .before .first-repeat2 .result) (c .before .first-repeat2 .ensures) (c .if2 .left)
+
+pub duplicate-spec : {M : Type 1} → statement M
+duplicate-spec =
+    tie.close
+    (tie.spec
+    add-nodes
+    slice-aggregate-first-repeat
+    first-repeat-requires
+    mul-t11
+    shared-slice-read-t13
+    returns
+    add-first-repeat
+    mul-first-repeat
+    sub-first-repeat
+    part-first-repeat-start
+    part-first-repeat-end
+    first-repeat-requires-2
+    add-t20
+    mul-t21
+    shared-slice-read-t23
+    returns-2
+    returns-3)

@@ -1,0 +1,51 @@
+-- `names::search::first_repeat` meets its contract: no name passed repeats one before it. Assumes nothing.
+use Prim.Native.Nat.{ℕ, _-_, _≤_, _<_}
+use mathlib.Core.Bool.{false}
+use mathlib.Core.Path.{_≡_, sym, _∙_}
+use native.Mathlib.Omega.{arith}
+use lib.ListN.{length}
+use Rattle.names.specs.Search.{repeatsAt}
+use Rattle.names.proofs.Filling.{first-found, none-found, passed-more, none-before}
+use Rattle.names.proofs.search.first_repeat.Statement.{statement}
+use Rattle.names.proofs.search.first_repeat.Tie as tie
+
+abbrev Inv-loop : tie.InvT-loop
+Inv-loop names i₀ i = (i ≤ length names) × ((j : ℕ) → j < i → repeatsAt names j ≡ false)
+
+abbrev μ-loop : tie.MeasureT-loop
+μ-loop names i₀ i = length names - i
+
+loop-holds : tie.Need-loop-holds Inv-loop μ-loop
+loop-holds c = (omega arith, none-before (repeatsAt (c .before .args .names .now)))
+
+repeats-requires : tie.Need-repeats-requires Inv-loop μ-loop
+repeats-requires c κs = omega arith
+
+returns : tie.Need-returns Inv-loop μ-loop
+returns c = let l = c .before .before .before .loop in first-found (repeatsAt (c .before .before .before .before .before .args .names .now)) (length (c .before .before .before .before .before .args .names .now)) (l .i) (l .inv .1) (omega arith) (sym (c .before .repeats .ensures) ∙ c .if1 .taken)
+
+add-i : tie.Need-add-i Inv-loop μ-loop
+add-i c = omega arith
+
+loop-less : tie.Need-loop-less Inv-loop μ-loop
+loop-less c = omega arith
+
+loop-again : tie.Need-loop-again Inv-loop μ-loop
+loop-again c = let l = c .before .before .before .loop in (omega arith, passed-more (repeatsAt (c .before .before .before .before .before .args .names .now)) (length (c .before .before .before .before .before .args .names .now)) (l .i) (l .inv .1) (sym (c .before .repeats .ensures) ∙ c .if1 .left))
+
+returns-2 : tie.Need-returns-2 Inv-loop μ-loop
+returns-2 c = let l = c .before .loop in none-found (repeatsAt (c .before .before .before .args .names .now)) (length (c .before .before .before .args .names .now)) (l .i) (l .inv .1) (l .inv .0) (omega arith)
+
+pub first-repeat-spec : {M : Type 1} → statement M
+first-repeat-spec =
+    tie.close
+    (tie.spec
+    Inv-loop
+    μ-loop
+    loop-holds
+    repeats-requires
+    returns
+    add-i
+    loop-less
+    loop-again
+    returns-2)

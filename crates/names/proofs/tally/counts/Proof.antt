@@ -1,0 +1,15 @@
+-- `names::tally::counts` meets its contract, by the law on the counts of bytes. Assumes nothing.
+use mathlib.Core.Path.{_∙_}
+use borrow.Author.Needs.{needs}
+use Rattle.names.proofs.TreeCounts.{counts-are}
+use Rattle.names.proofs.tally.counts.Statement.{statement}
+use Rattle.names.proofs.tally.counts.Tie as tie
+
+count-bytes-requires : tie.Need-count-bytes-requires
+count-bytes-requires c κs = search needs
+
+returns : tie.Need-returns
+returns c = λ t p. c .count-bytes .ensures ∙ counts-are p
+
+pub counts-spec : {M : Type 1} → statement M
+counts-spec = tie.close (tie.spec count-bytes-requires returns)

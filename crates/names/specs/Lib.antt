@@ -1,0 +1,5 @@
+pub mod Lines
+pub mod Packed
+pub mod Search
+pub mod Trees
+pub mod Results

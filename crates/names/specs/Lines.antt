@@ -1,0 +1,59 @@
+-- A text as lines, read from its bytes alone: where line i starts, which letter follows its bracket, where its declared name stands, and
+-- how many gates close up to its end. On the print of a legal tree these are the tree's own numbers (proofs/).
+use Prim.Native.Nat.{ℕ, zero, suc, _+_, _-_}
+use mathlib.Core.Bool.{cond}
+use mathlib.Core.List.{List, [], _∷_}
+use lib.ListN.{getD, drop}
+use lib.Dec.{eqb, ltb}
+use Rattle.laws.specs.Lists.{tab}
+
+-- how often a number stands in a list
+abbrev pub times : ℕ → List ℕ → ℕ
+times b [] = 0
+times b (x ∷ xs) = cond (eqb x b) 1 0 + times b xs
+
+-- the bytes up to the first LF, that LF counted
+abbrev pub lineLength : List ℕ → ℕ
+lineLength [] = 0
+lineLength (x ∷ xs) = suc (cond (eqb x 10) 0 (lineLength xs))
+
+-- the opening brackets before the first LF
+abbrev pub lineOpens : List ℕ → ℕ
+lineOpens [] = 0
+lineOpens (x ∷ xs) = cond (eqb x 10) 0 (cond (eqb x 40) 1 0 + lineOpens xs)
+
+-- where line i starts
+unfoldable pub lineStart : List ℕ → ℕ → ℕ
+lineStart text zero = 0
+lineStart text (suc i) = lineStart text i + lineLength (drop (lineStart text i) text)
+
+-- the gates in the first i lines: a line has one bracket that is no gate's
+unfoldable pub gatesTo : List ℕ → ℕ → ℕ
+gatesTo text zero = 0
+gatesTo text (suc i) = gatesTo text i + (lineOpens (drop (lineStart text i) text) - 1)
+
+-- the letter behind the bracket of line i: `i`, `g` or `o`
+unfoldable pub letterAt : List ℕ → ℕ → ℕ
+letterAt text i = getD text (lineStart text i + 1) 0
+
+-- "(in ", "(gate " or "(out " stands before the name
+unfoldable pub nameOffset : ℕ → ℕ
+nameOffset letter = cond (eqb letter 105) 4 (cond (eqb letter 103) 6 5)
+
+-- the place of the name that the line at `at` declares, and that line i does
+unfoldable pub declaredPlace : List ℕ → ℕ → ℕ
+declaredPlace text at = at + nameOffset (getD text (at + 1) 0)
+
+unfoldable pub placeAt : List ℕ → ℕ → ℕ
+placeAt text i = declaredPlace text (lineStart text i)
+
+-- the node that line i declares, of a text of n inputs, when `gates` gates close up to its end
+unfoldable pub lineWord : ℕ → ℕ → ℕ → ℕ
+lineWord n i gates = cond (ltb i n) i (n + (gates - 1))
+
+unfoldable pub wordAt : List ℕ → ℕ → ℕ → ℕ
+wordAt text n i = lineWord n i (gatesTo text (suc i))
+
+-- how many of the first `count` lines begin with this letter
+unfoldable pub linesWith : ℕ → List ℕ → ℕ → ℕ
+linesWith letter text count = times letter (tab (letterAt text) count)

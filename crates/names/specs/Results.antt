@@ -1,0 +1,90 @@
+-- What the functions of src/ answer, in terms of the tree that a text prints.
+use Prim.Native.Nat.{ℕ, _+_, _-_, _≤_}
+use mathlib.Core.Path.{_≡_}
+use mathlib.Core.Bool.{true, cond, _&&_}
+use mathlib.Core.List.{List, _++_, map}
+use mathlib.Core.Option.{Option, none, some}
+use lib.ListN.{length, take}
+use lib.Dec.{leb}
+use Rattle.laws.specs.Lists.{sum}
+use Rattle.netlist.specs.Limits.{maxText, maxInputs, maxGates, maxOutputs}
+use Rattle.netlist.specs.StoredBlock.{nodeWord}
+use Rattle.netlist.specs.Syntax.{Tree, legalTree, print}
+use Rattle.netlist.specs.Reading.{Mention, Binding, lineGates, overLimit, declaredNodes, declaredPorts, bindings}
+use Rattle.names.specs.Packed.{packed}
+use Rattle.names.specs.Lines.{times, linesWith}
+use Rattle.names.specs.declared.Counts.{Counts}
+use Rattle.names.specs.declared.Limits.{Limits}
+use Rattle.names.specs.declared.Limits.the-variants.{Within, Over}
+use Rattle.names.specs.declared.Repeat.{Repeat}
+use Rattle.names.specs.declared.Repeat.the-variants.{None, At}
+
+-- the text is this tree's, which is legal
+pub record Prints (t : Tree) (text : List ℕ) : Type 0 where
+  pub legal : legalTree t ≡ true
+  pub printed : print t ≡ text
+
+-- the counts as the bytes give them
+unfoldable pub countsOf : List ℕ → Counts
+countsOf text =
+    let lines = times 10 text in
+    record {
+      inputs = linesWith 105 text lines;
+      named = linesWith 103 text lines;
+      outputs = linesWith 111 text lines;
+      gates = times 40 text - lines;
+    }
+
+-- the counts as the tree gives them
+unfoldable pub treeCounts : Tree → Counts
+treeCounts t =
+    record {
+      inputs = length (t .inputs);
+      named = length (t .gates);
+      outputs = length (t .outputs);
+      gates = sum (map lineGates (t .gates));
+    }
+
+-- 3: "above 10 inputs, 1,024 gates (inner ones counted) or 16 outputs", of counts and of a tree
+unfoldable pub limitsFor : Counts → Limits
+limitsFor c = cond (leb (c .inputs) maxInputs && leb (c .gates) maxGates && leb (c .outputs) maxOutputs) Within Over
+
+unfoldable pub limitsOf : Tree → Limits
+limitsOf t = cond (overLimit t) Over Within
+
+-- 4: the place of the earliest declaration that repeats another
+unfoldable pub repeatOf : Option ℕ → Repeat
+repeatOf none = None
+repeatOf (some place) = At place
+
+-- every declaration, in the order of the text: the nodes, then the ports
+unfoldable pub declared : Tree → List Mention
+declared t = declaredNodes t ++ declaredPorts t
+
+unfoldable pub packedNames : Tree → List ℕ
+packedNames t = map (λ (d : Mention). packed (d .name)) (declared t)
+
+unfoldable pub namePlaces : Tree → List ℕ
+namePlaces t = map (λ (d : Mention). d .place) (declared t)
+
+-- the node numbers of the declared nodes
+unfoldable pub nodeWords : Tree → List ℕ
+nodeWords t = map (λ (b : Binding). nodeWord (length (t .inputs)) (b .node)) (bindings t)
+
+-- the tables hold the tree's declared names: their numbers and their places
+pub record NameTable (t : Tree) (names places : List ℕ) : Type 0 where
+  pub numbersAre : take (length (declared t)) names ≡ packedNames t
+  pub placesAre : take (length (declared t)) places ≡ namePlaces t
+
+-- and the numbers of the declared nodes
+pub record Declared (t : Tree) (names places words : List ℕ) : Type 0 where
+  pub table : NameTable t names places
+  pub nodesAre : take (length (bindings t)) words ≡ nodeWords t
+
+-- room for the tables of a text with these counts
+pub record TableRoom (c : Counts) (text names places words : List ℕ) : Type 0 where
+  pub short : length text ≤ maxText
+  pub few : c .inputs ≤ maxInputs
+  pub numberRoom : c .inputs + c .named + c .outputs ≤ length names
+  pub placeRoom : c .inputs + c .named + c .outputs ≤ length places
+  pub nodeRoom : c .inputs + c .named ≤ length words

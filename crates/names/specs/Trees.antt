@@ -1,0 +1,28 @@
+-- The lines of a tree's text.
+use Prim.Native.Nat.{ℕ}
+use mathlib.Core.Bool.{Bool, true, false, cond}
+use mathlib.Core.List.{List, [], _∷_, _++_, map}
+use lib.Dec.{eqb}
+use Rattle.netlist.specs.Netlist.{Name}
+use Rattle.netlist.specs.Syntax.{GateLine, OutputLine, Tree, printInput, printGate, printOutput}
+
+unfoldable pub inputText : Name → List ℕ
+inputText s = printInput s []
+
+unfoldable pub gateText : GateLine → List ℕ
+gateText g = printGate g []
+
+unfoldable pub outputText : OutputLine → List ℕ
+outputText o = printOutput o []
+
+unfoldable pub treeLines : Tree → List (List ℕ)
+treeLines t = map inputText (t .inputs) ++ (map gateText (t .gates) ++ map outputText (t .outputs))
+
+-- an LF stands at the end, and nowhere before
+abbrev pub isEmpty : List ℕ → Bool
+isEmpty [] = true
+isEmpty (x ∷ xs) = false
+
+abbrev pub isLine : List ℕ → Bool
+isLine [] = false
+isLine (x ∷ xs) = cond (eqb x 10) (isEmpty xs) (isLine xs)
