@@ -1,0 +1,15 @@
+-- The laws that the proofs of the functions cite, lower ones first. Assumes nothing.
+pub mod ListFacts
+mod Shortens
+mod Continues
+mod Chain
+mod First
+mod Words
+mod Counts
+mod KindWords
+mod Operands
+mod OperandLists
+mod LineSteps
+mod LineChoice
+mod Phases
+mod Reached

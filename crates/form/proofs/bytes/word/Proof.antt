@@ -1,0 +1,77 @@
+-- `form::bytes::word` meets its contract. The loop's invariant: the answer on the whole is the answer on what is left of the word and of the text.
+-- Assumes nothing.
+use Rattle.form.proofs.bytes.word.Statement.{statement}
+use Rattle.form.proofs.bytes.word.Tie as tie
+use Prim.Native.Nat.{_-_, _≤_}
+use mathlib.Core.Path.{_≡_, refl, sym, _∙_}
+use native.Mathlib.Numerals.{add-one}
+use native.Mathlib.Omega.{arith}
+use lib.ListN.{length}
+use Rattle.form.proofs.Words.{wordFrom, word-over, word-short, word-same, word-other}
+
+abbrev Inv-loop : tie.InvT-loop
+Inv-loop s bytes i₀ i = (i ≤ length bytes) × (i ≤ length s) × (wordFrom bytes s 0 ≡ wordFrom bytes s i)
+
+abbrev μ-loop : tie.MeasureT-loop
+μ-loop s bytes i₀ i = length bytes - i
+
+loop-holds : tie.Need-loop-holds Inv-loop μ-loop
+loop-holds c = (omega arith, omega arith, refl)
+
+sub-t7 : tie.Need-sub-t7 Inv-loop μ-loop
+sub-t7 c = c .before .before .loop .inv .1
+
+returns : tie.Need-returns Inv-loop μ-loop
+returns c = sym (c .before .before .loop .inv .2 ∙ word-short (c .before .before .before .args .bytes .now) (c .before .before .before .args .s .now) (c .before .before .loop .i) (c .before .loop-test .taken) (c .if1 .taken))
+
+shared-slice-read-if2 : tie.Need-shared-slice-read-if2 Inv-loop μ-loop
+shared-slice-read-if2 c = omega arith
+
+shared-slice-read-if2-2 : tie.Need-shared-slice-read-if2-2 Inv-loop μ-loop
+shared-slice-read-if2-2 c = omega arith
+
+sub-t13 : tie.Need-sub-t13 Inv-loop μ-loop
+sub-t13 c = c .before .before .before .before .before .loop .inv .1
+
+returns-2 : tie.Need-returns-2 Inv-loop μ-loop
+returns-2 c = let b = c .before .before .before .before in
+    let a = b .before .before .args in
+    sym (b .before .loop .inv .2 ∙ word-other (a .bytes .now) (a .s .now) (b .before .loop .i) (b .loop-test .taken) (c .before .before .before .if1 .left) (c .if2 .taken))
+
+add-i : tie.Need-add-i Inv-loop μ-loop
+add-i c = omega arith
+
+loop-less : tie.Need-loop-less Inv-loop μ-loop
+loop-less c = omega arith
+
+loop-again : tie.Need-loop-again Inv-loop μ-loop
+loop-again c = let b = c .before .before .before .before in
+    let a = b .before .before .args in
+    let e = b .before .loop .inv .2 ∙ word-same (a .bytes .now) (a .s .now) (b .before .loop .i) (b .loop-test .taken) (c .before .before .before .if1 .left) (c .if2 .left) in
+    (omega arith, omega arith, rw (add-one (b .before .loop .i)) e)
+
+sub-t15 : tie.Need-sub-t15 Inv-loop μ-loop
+sub-t15 c = c .before .loop .inv .1
+
+returns-3 : tie.Need-returns-3 Inv-loop μ-loop
+returns-3 c = let a = c .before .before .args in
+    sym (c .before .loop .inv .2 ∙ word-over (a .bytes .now) (a .s .now) (c .before .loop .i) (c .loop-test .left) (c .before .loop .inv .1))
+
+pub word-spec : {M : Type 1} → statement M
+word-spec =
+    tie.close
+    (tie.spec
+    Inv-loop
+    μ-loop
+    loop-holds
+    sub-t7
+    returns
+    shared-slice-read-if2
+    shared-slice-read-if2-2
+    sub-t13
+    returns-2
+    add-i
+    loop-less
+    loop-again
+    sub-t15
+    returns-3)

@@ -1,0 +1,60 @@
+-- `form::names::name` meets its contract: a first byte that passes the test, and at most seven more.
+-- Assumes nothing.
+use borrow.Author.Needs.{needs}
+use Rattle.form.proofs.names.name.Statement.{statement}
+use Rattle.form.proofs.names.name.Tie as tie
+use mathlib.Core.Path.{sym, ap, _∙_, _≡_}
+use mathlib.Core.Bool.{true}
+use lib.ListN.{getD}
+use borrow.Author.Tests.{not-true, not-false}
+use Rattle.netlist.specs.Parse.{nameBytes}
+use Rattle.form.specs.Scan.{scanOf, firstByte}
+use Rattle.form.proofs.ListFacts.{rest-is-drop}
+use Rattle.form.proofs.Operands.{name-there, name-first, name-none}
+
+-- what the test of the first byte tells
+starts-is : (c : tie.After-starts) → c .starts .result ≡ firstByte (c .before .before .before .args .underscore) (getD (c .before .before .before .args .s .now) 0 0)
+starts-is c = c .starts .ensures ∙ ap (firstByte (c .before .before .before .args .underscore)) (c .before .byte-at .ensures)
+
+starts-at : (c : tie.Else1) → firstByte (c .before .before .before .before .args .underscore) (getD (c .before .before .before .before .args .s .now) 0 0) ≡ true
+starts-at c = sym (starts-is (c .before)) ∙ not-false (c .before .starts .result) (c .if1 .left)
+
+byte-at-requires : tie.Need-byte-at-requires
+byte-at-requires c κs = search needs
+
+starts-requires : tie.Need-starts-requires
+starts-requires c κs = search needs
+
+returns : tie.Need-returns
+returns c = let a = c .before .before .before .before .args in
+    sym (name-none (a .underscore) (a .s .now) (sym (starts-is (c .before)) ∙ not-true (c .before .starts .result) (c .if1 .taken)))
+
+sub-name-bytes : tie.Need-sub-name-bytes
+sub-name-bytes c = name-there (c .before .before .before .before .args .underscore) (c .before .before .before .before .args .s .now) (starts-at c)
+
+part-name-bytes-start : tie.Need-part-name-bytes-start
+part-name-bytes-start c = name-there (c .before .before .before .before .args .underscore) (c .before .before .before .before .args .s .now) (starts-at c)
+
+part-name-bytes-end : tie.Need-part-name-bytes-end
+part-name-bytes-end c = search needs
+
+name-bytes-requires : tie.Need-name-bytes-requires
+name-bytes-requires c κs = search needs
+
+returns-2 : tie.Need-returns-2
+returns-2 c = let b = c .before .before in
+    let a = b .before .before .before .before .args in
+    c .name-bytes .ensures ∙ ap (λ t. scanOf (nameBytes 7 t)) (rest-is-drop (a .s .now) 1) ∙ sym (name-first (a .underscore) (a .s .now) (starts-at b))
+
+pub name-spec : {M : Type 1} → statement M
+name-spec =
+    tie.close
+    (tie.spec
+    byte-at-requires
+    starts-requires
+    returns
+    sub-name-bytes
+    part-name-bytes-start
+    part-name-bytes-end
+    name-bytes-requires
+    returns-2)

@@ -1,0 +1,393 @@
+-- The cycle of calls {expression, operand, operands}. Bytes left fall: each measure is twice the length of the text, one more for an
+-- expression, whose operands may begin where it does. Each answer is that of netlist's reader, one law for each way through the code.
+-- Assumes nothing.
+use Prim.Native.Nat.{ℕ, _<_}
+use borrow.Fn.Kinds.{In}
+use borrow.Fn.PlainCycle.{Measures, is, falls, and}
+use Rattle.form.proofs.terms.expression.Reads as expression
+use Rattle.form.proofs.terms.expression.Kinds as expression-kinds
+use Rattle.form.proofs.terms.+expression+operand+operands.Lts-expression as expression-lts
+use Rattle.form.proofs.terms.operand.Reads as operand
+use Rattle.form.proofs.terms.operand.Kinds as operand-kinds
+use Rattle.form.proofs.terms.+expression+operand+operands.Lts-operand as operand-lts
+use Rattle.form.proofs.terms.operands.Reads as operands
+use Rattle.form.proofs.terms.operands.Kinds as operands-kinds
+use Rattle.form.proofs.terms.+expression+operand+operands.Lts-operands as operands-lts
+use Rattle.form.proofs.bytes.byte_at.Reads as byte-at-reads
+use Rattle.form.proofs.bytes.is_name_start.Reads as is-name-start-reads
+use Rattle.form.proofs.bytes.word.Reads as word-reads
+use Rattle.form.proofs.names.name_bytes.Reads as name-bytes-reads
+use Rattle.form.proofs.terms.fewest_operands.Reads as fewest-operands-reads
+use Rattle.form.proofs.terms.kind.Reads as kind-reads
+use Rattle.form.proofs.terms.most_operands.Reads as most-operands-reads
+use Rattle.form.proofs.terms.one_less.Reads as one-less-reads
+use Rattle.form.proofs.terms.+expression+operand+operands.{statement}
+use Rattle.form.proofs.terms.+expression+operand+operands.Tie.{close}
+use borrow.Author.Needs.{needs}
+use mathlib.Core.Path.{_≡_, sym, ap, _∙_}
+use mathlib.Core.Bool.{false}
+use Prim.Native.Nat.{suc, _-_, _*_, _≤_}
+use native.Mathlib.Omega.{arith}
+use lib.ListN.{length, getD}
+use Rattle.netlist.specs.StoredBlock.{nameStart}
+use Rattle.netlist.specs.Kinds.{mostOperands, fewestOperands}
+use Rattle.netlist.specs.Syntax.{Term, apply}
+use Rattle.netlist.specs.Parse.{nameBytes, termReader, termsReader, exprReader}
+use Rattle.form.specs.Scan.{scanOf}
+use Rattle.form.proofs.ListFacts.{rest-is-drop}
+use Rattle.form.proofs.Shortens.{shortens-term}
+use Rattle.form.proofs.Continues.{left-short}
+use Rattle.form.proofs.Chain.{At, lent-last, lent-rest, lent-last-length, lent-rest-length, then-bad, then-next, then-last, behind-first}
+use Rattle.form.proofs.First.{byte-there}
+use Rattle.form.proofs.Operands.{inner, start-there, operand-name, operand-0, operand-1, operand-inner, inner-deepest, inner-other, inner-expression}
+use Rattle.form.proofs.OperandLists.{operandThen, continues-operand, list-full, list-closed, list-needed, list-other, list-more, expression-kind, expression-none}
+
+abbrev μ-expression : Measures 1 expression-kinds.ps ℕ
+μ-expression κs a = suc (2 * length (a .0 .now))
+
+abbrev μ-operand : Measures 1 operand-kinds.ps ℕ
+μ-operand κs a = 2 * length (a .0 .now)
+
+abbrev μ-operands : Measures 1 operands-kinds.ps ℕ
+μ-operands κs a = 2 * length (a .0 .now)
+
+abbrev expression-at : ℕ → In 1 expression-kinds.ps
+expression-at t =
+    and 1 expression-kinds.ps (is 1 expression-kinds.ps μ-expression t) expression.Pre
+
+abbrev expression-below : ℕ → In 1 expression-kinds.ps
+expression-below t =
+    and 1 expression-kinds.ps (falls 1 expression-kinds.ps _<_ μ-expression t) expression.Pre
+
+abbrev operand-at : ℕ → In 1 operand-kinds.ps
+operand-at t = and 1 operand-kinds.ps (is 1 operand-kinds.ps μ-operand t) operand.Pre
+
+abbrev operand-below : ℕ → In 1 operand-kinds.ps
+operand-below t = and 1 operand-kinds.ps (falls 1 operand-kinds.ps _<_ μ-operand t) operand.Pre
+
+abbrev operands-at : ℕ → In 1 operands-kinds.ps
+operands-at t = and 1 operands-kinds.ps (is 1 operands-kinds.ps μ-operands t) operands.Pre
+
+abbrev operands-below : ℕ → In 1 operands-kinds.ps
+operands-below t =
+    and 1 operands-kinds.ps (falls 1 operands-kinds.ps _<_ μ-operands t) operands.Pre
+
+abbrev expression-claims : ℕ → expression-lts.Claims
+expression-claims t = (kind-reads.Asked, kind-reads.Learnt, most-operands-reads.Asked, most-operands-reads.Learnt, fewest-operands-reads.Asked, fewest-operands-reads.Learnt, operands-below t, operands.Post)
+
+abbrev operand-claims : ℕ → operand-lts.Claims
+operand-claims t = (byte-at-reads.Asked, byte-at-reads.Learnt, is-name-start-reads.Asked, is-name-start-reads.Learnt, name-bytes-reads.Asked, name-bytes-reads.Learnt, expression-below t, expression.Post)
+
+abbrev operands-claims : ℕ → operands-lts.Claims
+operands-claims t = (word-reads.Asked, word-reads.Learnt, byte-at-reads.Asked, byte-at-reads.Learnt, operand-below t, operand.Post, one-less-reads.Asked, one-less-reads.Learnt, operands-below t, operands.Post)
+
+-- behind the kind: the operands are left
+expression-chain : (t : ℕ) (c : expression-lts.After-known-told (expression-claims t) (expression-at t) expression.Post)
+    → At (scanOf (exprReader {A = Term} (termReader (c .before .before .before .before .before .args .depth)) apply (c .before .before .before .before .before .args .s .now)))
+    (c .before .before .before .before .before .args .s .now)
+    (c .before .kind2 .given .0 .1 .0)
+    (λ u. scanOf (termsReader (termReader (c .before .before .before .before .before .args .depth)) (mostOperands (c .before .kind2 .given .0 .0)) (fewestOperands (c .before .kind2 .given .0 .0)) u))
+expression-chain t c =
+    let a = c .before .before .before .before .before .args in
+    expression-kind (termReader (a .depth)) apply (a .s .now) (sym (c .before .kind2 .given .1) ∙ c .before .before .before .kind .ensures)
+
+expression-kind-requires : (t : ℕ) → expression-lts.Need-kind-requires (expression-claims t) (expression-at t) expression.Post
+expression-kind-requires t c κs = search needs
+
+expression-enum-known-kind : (t : ℕ) → expression-lts.Need-enum-known-kind (expression-claims t) (expression-at t) expression.Post
+expression-enum-known-kind t c = search needs
+
+expression-sub-at : (t : ℕ) → expression-lts.Need-sub-at (expression-claims t) (expression-at t) expression.Post
+expression-sub-at t c = expression-chain t c .within
+
+expression-most-operands-requires : (t : ℕ) → expression-lts.Need-most-operands-requires (expression-claims t) (expression-at t) expression.Post
+expression-most-operands-requires t c κs = search needs
+
+expression-fewest-operands-requires : (t : ℕ) → expression-lts.Need-fewest-operands-requires (expression-claims t) (expression-at t) expression.Post
+expression-fewest-operands-requires t c κs = search needs
+
+expression-sub-operands : (t : ℕ) → expression-lts.Need-sub-operands (expression-claims t) (expression-at t) expression.Post
+expression-sub-operands t c = search needs
+
+expression-part-operands-start : (t : ℕ) → expression-lts.Need-part-operands-start (expression-claims t) (expression-at t) expression.Post
+expression-part-operands-start t c = search needs
+
+expression-part-operands-end : (t : ℕ) → expression-lts.Need-part-operands-end (expression-claims t) (expression-at t) expression.Post
+expression-part-operands-end t c = search needs
+
+expression-operands-requires : (t : ℕ) → expression-lts.Need-operands-requires (expression-claims t) (expression-at t) expression.Post
+expression-operands-requires t c κs = let b = c .before .before .before in
+    let s = b .before .before .before .before .before .args .s .now in
+    let n = b .before .kind2 .given .0 .1 .0 in
+    let w : n ≤ length s = expression-chain t b .within in
+    (omega (arith, lent-last-length n s w, b .before .before .before .before .before .pre .0), tt)
+
+expression-enum-known-left : (t : ℕ) → expression-lts.Need-enum-known-left (expression-claims t) (expression-at t) expression.Post
+expression-enum-known-left t c = search needs
+
+expression-returns : (t : ℕ) → expression-lts.Need-returns (expression-claims t) (expression-at t) expression.Post
+expression-returns t c = let b = c .before .before .before .before in
+    let s = b .before .before .before .before .before .args .s .now in
+    let e = rw (c .before .before .before .most-operands .ensures, c .before .before .fewest-operands .ensures) at (c .operands .ensures) in
+    then-last (termsReader (termReader (b .before .before .before .before .before .args .depth)) (mostOperands (b .before .kind2 .given .0 .0)) (fewestOperands (b .before .kind2 .given .0 .0)))
+    (expression-chain t b) (lent-last (b .before .kind2 .given .0 .1 .0) s) e
+
+expression-returns-2 : (t : ℕ) → expression-lts.Need-returns-2 (expression-claims t) (expression-at t) expression.Post
+expression-returns-2 t c = let a = c .before .before .before .before .before .args in
+    sym (expression-none (termReader (a .depth)) apply (a .s .now) (sym (c .before .left .given .1) ∙ c .before .before .before .kind .ensures))
+
+-- what the tests of an operand's first byte tell
+start-is : (t : ℕ) (c : operand-lts.After-is-name-start (operand-claims t) (operand-at t) operand.Post)
+    → c .is-name-start .result ≡ nameStart (getD (c .before .before .before .args .s .now) 0 0)
+start-is t c = c .is-name-start .ensures ∙ ap nameStart (c .before .byte-at .ensures)
+
+no-start : (t : ℕ) (c : operand-lts.Else1 (operand-claims t) (operand-at t) operand.Post) → nameStart (getD (c .before .before .before .before .args .s .now) 0 0) ≡ false
+no-start t c = sym (start-is t (c .before)) ∙ c .if1 .left
+
+no-leaf : (t : ℕ) (c : operand-lts.Else3 (operand-claims t) (operand-at t) operand.Post)
+    → scanOf (termReader (c .before .before .before .before .before .before .args .depth) (c .before .before .before .before .before .before .args .s .now))
+    ≡ scanOf (inner (c .before .before .before .before .before .before .args .depth) (c .before .before .before .before .before .before .args .s .now))
+no-leaf t c =
+    let a = c .before .before .before .before .before .before .args in
+    operand-inner (a .depth) (a .s .now) (no-start t (c .before .before)) (c .before .before .before .before .byte-at .ensures) (c .before .if2 .left) (c .if3 .left)
+
+operand-byte-at-requires : (t : ℕ) → operand-lts.Need-byte-at-requires (operand-claims t) (operand-at t) operand.Post
+operand-byte-at-requires t c κs = search needs
+
+operand-is-name-start-requires : (t : ℕ) → operand-lts.Need-is-name-start-requires (operand-claims t) (operand-at t) operand.Post
+operand-is-name-start-requires t c κs = search needs
+
+operand-sub-name-bytes : (t : ℕ) → operand-lts.Need-sub-name-bytes (operand-claims t) (operand-at t) operand.Post
+operand-sub-name-bytes t c = start-there (c .before .before .before .before .args .s .now) (sym (start-is t (c .before)) ∙ c .if1 .taken)
+
+operand-part-name-bytes-start : (t : ℕ) → operand-lts.Need-part-name-bytes-start (operand-claims t) (operand-at t) operand.Post
+operand-part-name-bytes-start t c = start-there (c .before .before .before .before .args .s .now) (sym (start-is t (c .before)) ∙ c .if1 .taken)
+
+operand-part-name-bytes-end : (t : ℕ) → operand-lts.Need-part-name-bytes-end (operand-claims t) (operand-at t) operand.Post
+operand-part-name-bytes-end t c = search needs
+
+operand-name-bytes-requires : (t : ℕ) → operand-lts.Need-name-bytes-requires (operand-claims t) (operand-at t) operand.Post
+operand-name-bytes-requires t c κs = search needs
+
+operand-returns : (t : ℕ) → operand-lts.Need-returns (operand-claims t) (operand-at t) operand.Post
+operand-returns t c = let b = c .before .before in
+    let a = b .before .before .before .before .args in
+    c .name-bytes .ensures ∙ ap (λ u. scanOf (nameBytes 7 u)) (rest-is-drop (a .s .now) 1)
+    ∙ sym (operand-name (a .depth) (a .s .now) (sym (start-is t (b .before)) ∙ b .if1 .taken))
+
+operand-sub-t12 : (t : ℕ) → operand-lts.Need-sub-t12 (operand-claims t) (operand-at t) operand.Post
+operand-sub-t12 t c = byte-there (c .before .before .before .before .before .args .s .now) (c .before .before .before .byte-at .ensures) (c .if2 .taken) (omega arith)
+
+operand-returns-2 : (t : ℕ) → operand-lts.Need-returns-2 (operand-claims t) (operand-at t) operand.Post
+operand-returns-2 t c = let a = c .before .before .before .before .before .args in
+    sym (operand-0 (a .depth) (a .s .now) (no-start t (c .before)) (c .before .before .before .byte-at .ensures) (c .if2 .taken))
+
+operand-sub-t14 : (t : ℕ) → operand-lts.Need-sub-t14 (operand-claims t) (operand-at t) operand.Post
+operand-sub-t14 t c = byte-there (c .before .before .before .before .before .before .args .s .now) (c .before .before .before .before .byte-at .ensures) (c .if3 .taken) (omega arith)
+
+operand-returns-3 : (t : ℕ) → operand-lts.Need-returns-3 (operand-claims t) (operand-at t) operand.Post
+operand-returns-3 t c = let a = c .before .before .before .before .before .before .args in
+    sym (operand-1 (a .depth) (a .s .now) (no-start t (c .before .before)) (c .before .before .before .before .byte-at .ensures) (c .before .if2 .left) (c .if3 .taken))
+
+operand-returns-4 : (t : ℕ) → operand-lts.Need-returns-4 (operand-claims t) (operand-at t) operand.Post
+operand-returns-4 t c = let a = c .before .before .before .before .before .before .before .args in
+    sym (no-leaf t (c .before) ∙ inner-deepest (a .depth) (a .s .now) (c .if4 .taken))
+
+operand-returns-5 : (t : ℕ) → operand-lts.Need-returns-5 (operand-claims t) (operand-at t) operand.Post
+operand-returns-5 t c = let a = c .before .before .before .before .before .before .before .before .args in
+    sym (no-leaf t (c .before .before) ∙ inner-other (a .depth) (a .s .now) (c .before .if4 .left) (c .before .before .before .before .before .before .byte-at .ensures) (c .if5 .taken))
+
+operand-sub-expression : (t : ℕ) → operand-lts.Need-sub-expression (operand-claims t) (operand-at t) operand.Post
+operand-sub-expression t c = byte-there (c .before .before .before .before .before .before .before .before .args .s .now) (c .before .before .before .before .before .before .byte-at .ensures) (c .if5 .left) (omega arith)
+
+operand-part-expression-start : (t : ℕ) → operand-lts.Need-part-expression-start (operand-claims t) (operand-at t) operand.Post
+operand-part-expression-start t c = byte-there (c .before .before .before .before .before .before .before .before .args .s .now) (c .before .before .before .before .before .before .byte-at .ensures) (c .if5 .left) (omega arith)
+
+operand-part-expression-end : (t : ℕ) → operand-lts.Need-part-expression-end (operand-claims t) (operand-at t) operand.Post
+operand-part-expression-end t c = search needs
+
+operand-sub-expression-2 : (t : ℕ) → operand-lts.Need-sub-expression-2 (operand-claims t) (operand-at t) operand.Post
+operand-sub-expression-2 t c = omega (arith, c .before .before .if4 .left)
+
+operand-expression-requires : (t : ℕ) → operand-lts.Need-expression-requires (operand-claims t) (operand-at t) operand.Post
+operand-expression-requires t c κs = let b = c .before in
+    let s = b .before .before .before .before .before .before .before .before .args .s .now in
+    let w : 0 < length s = byte-there s (b .before .before .before .before .before .before .byte-at .ensures) (b .if5 .left) (omega arith) in
+    (omega (arith, lent-rest-length s w, b .before .before .before .before .before .before .before .before .pre .0), tt)
+
+operand-returns-6 : (t : ℕ) → operand-lts.Need-returns-6 (operand-claims t) (operand-at t) operand.Post
+operand-returns-6 t c = let b = c .before .before in
+    let a = b .before .before .before .before .before .before .before .before .args in
+    c .expression .ensures ∙ ap (λ u. scanOf (exprReader {A = Term} (termReader (a .depth - 1)) apply u)) (rest-is-drop (a .s .now) 1)
+    ∙ sym (no-leaf t (b .before .before) ∙ inner-expression (a .depth) (a .s .now) (b .before .if4 .left) (b .before .before .before .before .before .before .byte-at .ensures) (b .if5 .left))
+
+-- behind a list's space: an operand and the others are left; behind that operand: the others
+space-there : (t : ℕ) (c : operands-lts.Else4 (operands-claims t) (operands-at t) operands.Post) → 0 < length (c .before .before .before .before .before .args .s .now)
+space-there t c = byte-there (c .before .before .before .before .before .args .s .now) (c .before .before .byte-at .ensures) (c .if4 .left) (omega arith)
+
+operands-chain : (t : ℕ) (c : operands-lts.Else4 (operands-claims t) (operands-at t) operands.Post)
+    → let a = c .before .before .before .before .before .args in
+    At (scanOf (termsReader (termReader (a .depth)) (a .most) (a .needed) (a .s .now))) (a .s .now) (length (a .s .now) - 1)
+    (λ u. scanOf (operandThen (termReader (a .depth)) (termsReader (termReader (a .depth)) (a .most - 1) (a .needed - 1)) u))
+operands-chain t c =
+    let a = c .before .before .before .before .before .args in
+    behind-first (a .s .now) (space-there t c)
+    (list-more (termReader (a .depth)) (a .most) (a .needed) (a .s .now) (c .before .before .before .if1 .left) (c .before .before .byte-at .ensures) (c .before .if2 .left) (c .if4 .left))
+
+operands-chain-2 : (t : ℕ) (c : operands-lts.After-known-told (operands-claims t) (operands-at t) operands.Post)
+    → let a = c .before .before .before .before .before .before .before .before .before .before .args in
+    At (scanOf (termsReader (termReader (a .depth)) (a .most) (a .needed) (a .s .now))) (a .s .now) (c .before .found .given .0 .0)
+    (λ u. scanOf (termsReader (termReader (a .depth)) (a .most - 1) (a .needed - 1) u))
+operands-chain-2 t c =
+    let b = c .before .before .before .before .before in
+    let a = b .before .before .before .before .before .args in
+    then-next (continues-operand (termReader (a .depth)) (termsReader (termReader (a .depth)) (a .most - 1) (a .needed - 1))) (shortens-term (a .depth))
+    (operands-chain t b) (lent-rest (a .s .now) (space-there t b)) (c .before .before .before .operand .ensures) (c .before .found .given .1)
+
+operands-slice-aggregate-word : (t : ℕ) → operands-lts.Need-slice-aggregate-word (operands-claims t) (operands-at t) operands.Post
+operands-slice-aggregate-word t c = search needs
+
+operands-word-requires : (t : ℕ) → operands-lts.Need-word-requires (operands-claims t) (operands-at t) operands.Post
+operands-word-requires t c κs = search needs
+
+operands-returns : (t : ℕ) → operands-lts.Need-returns (operands-claims t) (operands-at t) operands.Post
+operands-returns t c = let a = c .before .before .before .before .args in
+    c .word .ensures ∙ sym (list-full (termReader (a .depth)) (a .most) (a .needed) (a .s .now) (c .before .before .if1 .taken))
+
+operands-byte-at-requires : (t : ℕ) → operands-lts.Need-byte-at-requires (operands-claims t) (operands-at t) operands.Post
+operands-byte-at-requires t c κs = search needs
+
+operands-sub-t16 : (t : ℕ) → operands-lts.Need-sub-t16 (operands-claims t) (operands-at t) operands.Post
+operands-sub-t16 t c = byte-there (c .before .before .before .before .before .args .s .now) (c .before .before .byte-at .ensures) (c .before .if2 .taken) (omega arith)
+
+operands-returns-2 : (t : ℕ) → operands-lts.Need-returns-2 (operands-claims t) (operands-at t) operands.Post
+operands-returns-2 t c = let a = c .before .before .before .before .before .args in
+    sym (list-closed (termReader (a .depth)) (a .most) (a .needed) (a .s .now) (c .before .before .before .if1 .left) (c .before .before .byte-at .ensures) (c .before .if2 .taken) (c .if3 .taken))
+
+operands-returns-3 : (t : ℕ) → operands-lts.Need-returns-3 (operands-claims t) (operands-at t) operands.Post
+operands-returns-3 t c = let a = c .before .before .before .before .before .args in
+    sym (list-needed (termReader (a .depth)) (a .most) (a .needed) (a .s .now) (c .before .before .before .if1 .left) (c .before .before .byte-at .ensures) (c .before .if2 .taken) (c .if3 .left))
+
+operands-returns-4 : (t : ℕ) → operands-lts.Need-returns-4 (operands-claims t) (operands-at t) operands.Post
+operands-returns-4 t c = let a = c .before .before .before .before .before .args in
+    sym (list-other (termReader (a .depth)) (a .most) (a .needed) (a .s .now) (c .before .before .before .if1 .left) (c .before .before .byte-at .ensures) (c .before .if2 .left) (c .if4 .taken))
+
+operands-sub-operand : (t : ℕ) → operands-lts.Need-sub-operand (operands-claims t) (operands-at t) operands.Post
+operands-sub-operand t c = space-there t c
+
+operands-part-operand-start : (t : ℕ) → operands-lts.Need-part-operand-start (operands-claims t) (operands-at t) operands.Post
+operands-part-operand-start t c = space-there t c
+
+operands-part-operand-end : (t : ℕ) → operands-lts.Need-part-operand-end (operands-claims t) (operands-at t) operands.Post
+operands-part-operand-end t c = search needs
+
+operands-operand-requires : (t : ℕ) → operands-lts.Need-operand-requires (operands-claims t) (operands-at t) operands.Post
+operands-operand-requires t c κs = let b = c .before in
+    (omega (arith, lent-rest-length (b .before .before .before .before .before .args .s .now) (space-there t b), space-there t b, b .before .before .before .before .before .pre .0), tt)
+
+operands-enum-known-found : (t : ℕ) → operands-lts.Need-enum-known-found (operands-claims t) (operands-at t) operands.Post
+operands-enum-known-found t c = search needs
+
+operands-enum-told : (t : ℕ) → operands-lts.Need-enum-told (operands-claims t) (operands-at t) operands.Post
+operands-enum-told t c = search needs
+
+operands-returns-5 : (t : ℕ) → operands-lts.Need-returns-5 (operands-claims t) (operands-at t) operands.Post
+operands-returns-5 t c = let b = c .before .before .before .before in
+    let a = b .before .before .before .before .before .args in
+    then-bad (continues-operand (termReader (a .depth)) (termsReader (termReader (a .depth)) (a .most - 1) (a .needed - 1)))
+    (operands-chain t b) (lent-rest (a .s .now) (space-there t b)) (c .before .before .operand .ensures) (c .enum-told .given .1)
+
+operands-sub-at : (t : ℕ) → operands-lts.Need-sub-at (operands-claims t) (operands-at t) operands.Post
+operands-sub-at t c = operands-chain-2 t c .within
+
+operands-one-less-requires : (t : ℕ) → operands-lts.Need-one-less-requires (operands-claims t) (operands-at t) operands.Post
+operands-one-less-requires t c κs = search needs
+
+operands-sub-operands : (t : ℕ) → operands-lts.Need-sub-operands (operands-claims t) (operands-at t) operands.Post
+operands-sub-operands t c = search needs
+
+operands-part-operands-start : (t : ℕ) → operands-lts.Need-part-operands-start (operands-claims t) (operands-at t) operands.Post
+operands-part-operands-start t c = search needs
+
+operands-part-operands-end : (t : ℕ) → operands-lts.Need-part-operands-end (operands-claims t) (operands-at t) operands.Post
+operands-part-operands-end t c = search needs
+
+operands-sub-operands-2 : (t : ℕ) → operands-lts.Need-sub-operands-2 (operands-claims t) (operands-at t) operands.Post
+operands-sub-operands-2 t c = omega (arith, c .before .before .before .before .before .before .before .before .before .before .if1 .left)
+
+operands-operands-requires : (t : ℕ) → operands-lts.Need-operands-requires (operands-claims t) (operands-at t) operands.Post
+operands-operands-requires t c κs = let b = c .before .before in
+    let d = b .before .before .before .before .before in
+    let s = d .before .before .before .before .before .args .s .now in
+    let n = b .before .found .given .0 .0 in
+    let l : n ≤ length s - 1 = rw (lent-rest-length s (space-there t d)) at (left-short (shortens-term (d .before .before .before .before .before .args .depth)) _ (sym (b .before .found .given .1) ∙ b .before .before .before .operand .ensures)) in
+    (omega (arith, lent-last-length n s (operands-chain-2 t b .within), space-there t d, d .before .before .before .before .before .pre .0), tt)
+
+operands-returns-6 : (t : ℕ) → operands-lts.Need-returns-6 (operands-claims t) (operands-at t) operands.Post
+operands-returns-6 t c = let b = c .before .before .before in
+    let a = b .before .before .before .before .before .before .before .before .before .before .args in
+    let e = rw (c .before .before .one-less .ensures) at (c .operands .ensures) in
+    then-last (termsReader (termReader (a .depth)) (a .most - 1) (a .needed - 1)) (operands-chain-2 t b) (lent-last (b .before .found .given .0 .0) (a .s .now)) e
+
+pub +expression+operand+operands-spec : {M : Type 1} → statement M
++expression+operand+operands-spec =
+    close μ-expression μ-operand μ-operands (λ t. expression-lts.spec (expression-claims t) (expression-at t)
+    expression.Post
+    (expression-kind-requires t)
+    (expression-enum-known-kind t)
+    (expression-sub-at t)
+    (expression-most-operands-requires t)
+    (expression-fewest-operands-requires t)
+    (expression-sub-operands t)
+    (expression-part-operands-start t)
+    (expression-part-operands-end t)
+    (expression-operands-requires t)
+    (expression-enum-known-left t)
+    (expression-returns t)
+    (expression-returns-2 t))
+    (λ t. operand-lts.spec (operand-claims t) (operand-at t)
+    operand.Post
+    (operand-byte-at-requires t)
+    (operand-is-name-start-requires t)
+    (operand-sub-name-bytes t)
+    (operand-part-name-bytes-start t)
+    (operand-part-name-bytes-end t)
+    (operand-name-bytes-requires t)
+    (operand-returns t)
+    (operand-sub-t12 t)
+    (operand-returns-2 t)
+    (operand-sub-t14 t)
+    (operand-returns-3 t)
+    (operand-returns-4 t)
+    (operand-returns-5 t)
+    (operand-sub-expression t)
+    (operand-part-expression-start t)
+    (operand-part-expression-end t)
+    (operand-sub-expression-2 t)
+    (operand-expression-requires t)
+    (operand-returns-6 t))
+    λ t. operands-lts.spec (operands-claims t) (operands-at t)
+    operands.Post
+    (operands-slice-aggregate-word t)
+    (operands-word-requires t)
+    (operands-returns t)
+    (operands-byte-at-requires t)
+    (operands-sub-t16 t)
+    (operands-returns-2 t)
+    (operands-returns-3 t)
+    (operands-returns-4 t)
+    (operands-sub-operand t)
+    (operands-part-operand-start t)
+    (operands-part-operand-end t)
+    (operands-operand-requires t)
+    (operands-enum-known-found t)
+    (operands-enum-told t)
+    (operands-returns-5 t)
+    (operands-sub-at t)
+    (operands-one-less-requires t)
+    (operands-sub-operands t)
+    (operands-part-operands-start t)
+    (operands-part-operands-end t)
+    (operands-sub-operands-2 t)
+    (operands-operands-requires t)
+    (operands-returns-6 t)

@@ -1,0 +1,28 @@
+-- `form::terms::kind_word` meets its contract: a kind's word is read as any word is.
+-- Assumes nothing.
+use borrow.Author.Needs.{needs}
+use Rattle.form.proofs.terms.kind_word.Statement.{statement}
+use Rattle.form.proofs.terms.kind_word.Tie as tie
+use mathlib.Core.Path.{sym, ap, _∙_}
+use Rattle.form.proofs.KindWords.{kindFrom, kind-word-is}
+
+word-requires : tie.Need-word-requires
+word-requires c κs = search needs
+
+enum-known-left : tie.Need-enum-known-left
+enum-known-left c = search needs
+
+enum-known-left-2 : tie.Need-enum-known-left-2
+enum-known-left-2 c = search needs
+
+returns : tie.Need-returns
+returns c = let a = c .before .before .before .before .before .before .args in
+    sym (kind-word-is (a .kind) (a .bytes .now) (a .s .now) ∙ ap (kindFrom (a .kind)) (sym (c .before .before .before .word .ensures) ∙ c .before .left .given .1))
+
+returns-2 : tie.Need-returns-2
+returns-2 c = let a = c .before .before .before .before .before .before .args in
+    sym (kind-word-is (a .kind) (a .bytes .now) (a .s .now) ∙ ap (kindFrom (a .kind)) (sym (c .before .before .before .word .ensures) ∙ c .before .left2 .given .1))
+
+pub kind-word-spec : {M : Type 1} → statement M
+kind-word-spec =
+    tie.close (tie.spec word-requires enum-known-left enum-known-left-2 returns returns-2)

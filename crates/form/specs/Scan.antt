@@ -1,0 +1,105 @@
+-- What `form` answers, and what its readers answer of netlist's readers: bytes left, and no tree. Read's crate cites `formOf`.
+-- Assumes nothing: these are definitions.
+use Prim.Native.Nat.{ℕ, _-_}
+use mathlib.Core.Bool.{Bool, true, false, cond, _&&_}
+use mathlib.Core.List.{List}
+use lib.ListN.{length, getD}
+use lib.Dec.{eqb, leb}
+use Rattle.laws.specs.Lists.{ascii, is}
+use Rattle.netlist.specs.StoredBlock.{letter, nameStart}
+use Rattle.netlist.specs.Limits.{maxDepth}
+use Rattle.netlist.specs.Syntax.{Tree, apply}
+use Rattle.netlist.specs.Parse.{Parsed, got, stuck, Reader, pure, stop, ifNext, expect, bind, nameReader, exprReader, termReader, parse}
+use Rattle.form.specs.declared.TextForm.{TextForm}
+use Rattle.form.specs.declared.TextForm.the-variants.{Legal, Bad}
+use Rattle.form.specs.declared.Scan.{Scan}
+use Rattle.form.specs.declared.Scan.the-variants.{Next, Bad as Stuck}
+use Rattle.form.specs.declared.Kind.{Kind}
+use Rattle.form.specs.declared.Kind.the-variants.{Is, Bad as NoKind}
+
+-- the place is the number of bytes before the bad one
+abbrev pub formAt : List ℕ → Parsed Tree → TextForm
+formAt text (got t rest) = Legal
+formAt text (stuck left) = Bad (length text - left)
+
+-- "text not of the grammar; detail: bytes before the first that no legal text has after that beginning, or the length if cut off"
+unfoldable pub formOf : List ℕ → TextForm
+formOf text = formAt text (parse text)
+
+-- the bytes left of what a reader answers
+abbrev pub scanOf : {A : Type 0} → Parsed A → Scan
+scanOf (got a rest) = Next (length rest)
+scanOf (stuck left) = Stuck left
+
+abbrev pub kindOf : Parsed ℕ → Kind
+kindOf (got k rest) = Is k (length rest)
+kindOf (stuck left) = NoKind left
+
+-- ---- parts of netlist's readers that are functions of their own in the code
+
+-- these bytes
+unfoldable pub wordReader : List ℕ → Reader ℕ
+wordReader w = expect w (pure 0)
+
+-- the first byte of a name, where `_` may stand or not
+unfoldable pub firstByte : Bool → ℕ → Bool
+firstByte true = nameStart
+firstByte false = letter
+
+-- a kind behind the rest of its word
+unfoldable pub kindWord : List ℕ → ℕ → Reader ℕ
+kindWord w k = expect w (pure k)
+
+-- behind `no`, and behind `n`
+unfoldable pub kindNo : Reader ℕ
+kindNo = ifNext (is "t") (λ _. pure 0) (ifNext (is "r") (λ _. pure 4) stop)
+
+unfoldable pub kindN : Reader ℕ
+kindN = ifNext (is "a") (λ _. kindWord (ascii "nd") 3) (ifNext (is "o") (λ _. kindNo) stop)
+
+-- one line behind its opening bracket, without its tree, and what follows each of its parts
+abbrev pub lineEnd : Reader ℕ
+lineEnd = wordReader (ascii ")\n")
+
+unfoldable pub inputName : Reader ℕ
+inputName = bind (nameReader (firstByte false)) (λ _. lineEnd)
+
+unfoldable pub inputReader : Reader ℕ
+inputReader = expect (ascii "in ") inputName
+
+unfoldable pub gateExpression : Reader ℕ
+gateExpression = bind (exprReader (termReader (maxDepth - 1)) apply) (λ _. lineEnd)
+
+unfoldable pub gateBracket : Reader ℕ
+gateBracket = expect (ascii " (") gateExpression
+
+unfoldable pub gateName : Reader ℕ
+gateName = bind (nameReader (firstByte true)) (λ _. gateBracket)
+
+unfoldable pub gateReader : Reader ℕ
+gateReader = expect (ascii "gate ") gateName
+
+unfoldable pub outputShown : Reader ℕ
+outputShown = bind (nameReader (firstByte true)) (λ _. lineEnd)
+
+unfoldable pub outputSpace : Reader ℕ
+outputSpace = expect (ascii " ") outputShown
+
+unfoldable pub outputPort : Reader ℕ
+outputPort = bind (nameReader (firstByte false)) (λ _. outputSpace)
+
+unfoldable pub outputReader : Reader ℕ
+outputReader = expect (ascii "out ") outputPort
+
+-- one line by its letter, of those that may come in a phase: 0 all, 1 gates and outputs, 2 outputs
+unfoldable pub lineBehind : ℕ → Reader ℕ
+lineBehind phase s =
+    cond (is "i" (getD s 0 0) && eqb phase 0) (inputReader s)
+    (cond (is "g" (getD s 0 0) && leb phase 1) (gateReader s) (outputReader s))
+
+unfoldable pub lineReader : ℕ → Reader ℕ
+lineReader phase = expect (ascii "(") (lineBehind phase)
+
+-- the phase behind a line with this letter
+unfoldable pub phaseOf : ℕ → ℕ
+phaseOf c = cond (is "i" c) 0 (cond (is "g" c) 1 2)

@@ -1,0 +1,112 @@
+// Lines. Each reader gets the rest of the text behind a line's opening bracket.
+use crate::Scan;
+use crate::bytes;
+use crate::names;
+use crate::terms;
+ghost use mathlib.Core.Path.{_≡_};
+ghost use Rattle.form.specs.Scan.{scanOf, inputReader, gateReader, outputReader, lineReader, phaseOf};
+
+// `in NAME)` and its LF.
+fn input_line(s: &[u8]) -> Scan
+    ensures { λ r. ⌜ r ≡ scanOf (inputReader (now (s .entry))) ⌝ }
+{
+    let found = bytes::word(s, b"in ");
+    let Scan::Next(left) = found else {
+        return found;
+    };
+    let at = s.len() - left;
+    let found = names::name(&s[at..], false);
+    let Scan::Next(left) = found else {
+        return found;
+    };
+    let at = s.len() - left;
+    bytes::word(&s[at..], b")\n")
+}
+
+// `gate NAME EXPR)` and its LF.
+fn gate_line(s: &[u8]) -> Scan
+    ensures { λ r. ⌜ r ≡ scanOf (gateReader (now (s .entry))) ⌝ }
+{
+    let found = bytes::word(s, b"gate ");
+    let Scan::Next(left) = found else {
+        return found;
+    };
+    let at = s.len() - left;
+    let found = names::name(&s[at..], true);
+    let Scan::Next(left) = found else {
+        return found;
+    };
+    let at = s.len() - left;
+    let found = bytes::word(&s[at..], b" (");
+    let Scan::Next(left) = found else {
+        return found;
+    };
+    let at = s.len() - left;
+    let found = terms::expression(&s[at..], 7);
+    let Scan::Next(left) = found else {
+        return found;
+    };
+    let at = s.len() - left;
+    bytes::word(&s[at..], b")\n")
+}
+
+// `out PORT NAME)` and its LF.
+fn output_line(s: &[u8]) -> Scan
+    ensures { λ r. ⌜ r ≡ scanOf (outputReader (now (s .entry))) ⌝ }
+{
+    let found = bytes::word(s, b"out ");
+    let Scan::Next(left) = found else {
+        return found;
+    };
+    let at = s.len() - left;
+    let found = names::name(&s[at..], false);
+    let Scan::Next(left) = found else {
+        return found;
+    };
+    let at = s.len() - left;
+    let found = bytes::word(&s[at..], b" ");
+    let Scan::Next(left) = found else {
+        return found;
+    };
+    let at = s.len() - left;
+    let found = names::name(&s[at..], true);
+    let Scan::Next(left) = found else {
+        return found;
+    };
+    let at = s.len() - left;
+    bytes::word(&s[at..], b")\n")
+}
+
+// Which lines may come behind a line with this letter: 0 all, 1 gates and outputs, 2 outputs.
+pub fn phase_of(letter: u8) -> usize
+    ensures { λ r. ⌜ r ≡ phaseOf letter ⌝ }
+{
+    if letter == b'i' {
+        return 0;
+    }
+    if letter == b'g' {
+        return 1;
+    }
+    2
+}
+
+// One line, of those that may come in this phase.
+pub fn line(s: &[u8], phase: usize) -> Scan
+    ensures { λ r. ⌜ r ≡ scanOf (lineReader phase (now (s .entry))) ⌝ }
+{
+    if bytes::byte_at(s, 0) != b'(' {
+        return Scan::Bad(s.len());
+    }
+    let c = bytes::byte_at(s, 1);
+    if c == b'i' {
+        if phase == 0 {
+            return input_line(&s[1..]);
+        }
+    }
+    if c == b'g' {
+        if phase <= 1 {
+            return gate_line(&s[1..]);
+        }
+    }
+    output_line(&s[1..])
+}

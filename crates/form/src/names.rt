@@ -1,0 +1,43 @@
+// Names and ports.
+use crate::Scan;
+use crate::bytes;
+ghost use mathlib.Core.Path.{_≡_};
+ghost use Rattle.netlist.specs.Parse.{nameBytes, nameReader};
+ghost use Rattle.form.specs.Scan.{scanOf, firstByte};
+
+// The bytes left behind at most `most` name bytes.
+pub fn name_bytes(s: &[u8], most: usize) -> usize
+    ensures { λ r. ⌜ Scan.Next r ≡ scanOf (nameBytes most (now (s .entry))) ⌝ }
+{
+    let mut i: usize = 0;
+    while i < most {
+        let c = bytes::byte_at(s, i);
+        if !bytes::is_name_byte(c) {
+            return s.len() - i;
+        }
+        i += 1;
+    }
+    s.len() - i
+}
+
+// The first byte of a name: a letter, or also `_`.
+fn starts(c: u8, underscore: bool) -> bool
+    ensures { λ r. ⌜ r ≡ firstByte underscore c ⌝ }
+{
+    if underscore {
+        bytes::is_name_start(c)
+    } else {
+        bytes::is_letter(c)
+    }
+}
+
+// A name of 1 to 8 bytes.
+pub fn name(s: &[u8], underscore: bool) -> Scan
+    ensures { λ r. ⌜ r ≡ scanOf (nameReader (firstByte underscore) (now (s .entry))) ⌝ }
+{
+    let c = bytes::byte_at(s, 0);
+    if !starts(c, underscore) {
+        return Scan::Bad(s.len());
+    }
+    Scan::Next(name_bytes(&s[1..], 7))
+}

@@ -1,0 +1,41 @@
+-- `line::line` meets its contract: the part between the two ends, which lie in order inside the text.
+-- Assumes nothing.
+use borrow.Author.Needs.{needs}
+use Rattle.line.proofs.line.Statement.{statement}
+use Rattle.line.proofs.line.Tie as tie
+use native.Mathlib.Omega.{arith}
+use Rattle.netlist.specs.Line.{lineLength, lineAt}
+use Rattle.line.proofs.Ends.{ends-in-order, end-inside}
+
+line-start-requires : tie.Need-line-start-requires
+line-start-requires c κs = search needs
+
+line-end-requires : tie.Need-line-end-requires
+line-end-requires c κs = search needs
+
+sub-result : tie.Need-sub-result
+sub-result c = let a = c .before .before .before .args in
+    omega (arith, ends-in-order (a .text .now) (a .place), c .before .line-start .ensures, c .line-end .ensures)
+
+part-result-start : tie.Need-part-result-start
+part-result-start c = let a = c .before .before .before .args in
+    omega (arith, ends-in-order (a .text .now) (a .place), c .before .line-start .ensures, c .line-end .ensures)
+
+part-result-end : tie.Need-part-result-end
+part-result-end c = let a = c .before .before .before .args in
+    omega (arith, end-inside (a .text .now) (a .place), c .line-end .ensures)
+
+returns : tie.Need-returns
+unfolding lineAt lineLength
+returns c = rw (c .before .before .line-start .ensures, c .before .line-end .ensures)
+
+pub line-spec : {M : Type 1} → statement M
+line-spec =
+    tie.close
+    (tie.spec
+    line-start-requires
+    line-end-requires
+    sub-result
+    part-result-start
+    part-result-end
+    returns)

@@ -1,0 +1,65 @@
+-- `line::line_start` meets its contract. The loop goes down from the place; its invariant: the start before `at` is the start.
+-- Assumes nothing.
+use Rattle.line.proofs.line_start.Statement.{statement}
+use Rattle.line.proofs.line_start.Tie as tie
+use mathlib.Core.Path.{_≡_, refl, sym, ap, _∙_}
+use Prim.Native.Nat.{_≤_}
+use native.Mathlib.Omega.{arith}
+use lib.ListN.{length}
+use Rattle.netlist.specs.Line.{startBefore, lineStart}
+use Rattle.line.proofs.Ends.{start-at, start-before, clamped-le}
+
+abbrev Inv-loop : tie.InvT-loop
+Inv-loop text place at₀ at = (at ≤ length text) × (lineStart text place ≡ startBefore text at)
+
+abbrev μ-loop : tie.MeasureT-loop
+μ-loop text place at₀ at = at
+
+clamp-requires : tie.Need-clamp-requires Inv-loop μ-loop
+clamp-requires c κs = tt
+
+loop-holds : tie.Need-loop-holds Inv-loop μ-loop
+unfolding lineStart
+loop-holds c = let a = c .before .before .args in
+    rw (c .clamp .ensures) (clamped-le (a .text .now) (a .place), refl)
+
+sub-if1 : tie.Need-sub-if1 Inv-loop μ-loop
+sub-if1 c = omega arith
+
+shared-slice-read-if1 : tie.Need-shared-slice-read-if1 Inv-loop μ-loop
+shared-slice-read-if1 c = omega arith
+
+returns : tie.Need-returns Inv-loop μ-loop
+returns c = let l = c .before .before .before in
+    sym (l .loop .inv .1 ∙ start-at (l .before .before .before .args .text .now) (l .loop .at) (c .before .before .loop-test .taken) (c .if1 .taken))
+
+sub-at : tie.Need-sub-at Inv-loop μ-loop
+sub-at c = omega arith
+
+loop-less : tie.Need-loop-less Inv-loop μ-loop
+loop-less c = omega arith
+
+loop-again : tie.Need-loop-again Inv-loop μ-loop
+loop-again c = let l = c .before .before .before in
+    (omega arith, l .loop .inv .1 ∙ start-before (l .before .before .before .args .text .now) (l .loop .at) (c .before .before .loop-test .taken) (c .if1 .left))
+
+returns-2 : tie.Need-returns-2 Inv-loop μ-loop
+unfolding startBefore
+returns-2 c = let z : c .before .loop .at ≡ 0 = omega arith in
+    sym (c .before .loop .inv .1 ∙ ap (startBefore (c .before .before .before .before .args .text .now)) z)
+
+pub line-start-spec : {M : Type 1} → statement M
+line-start-spec =
+    tie.close
+    (tie.spec
+    Inv-loop
+    μ-loop
+    clamp-requires
+    loop-holds
+    sub-if1
+    shared-slice-read-if1
+    returns
+    sub-at
+    loop-less
+    loop-again
+    returns-2)

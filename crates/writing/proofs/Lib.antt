@@ -1,0 +1,9 @@
+-- Mathematics of the written text; no function of src/ is named.
+pub mod ListFacts
+pub mod Appending
+pub mod TrimmedLaws
+pub mod DecimalLaws
+pub mod NameLaws
+pub mod OperandLaws
+pub mod WrittenText
+pub mod Outcomes

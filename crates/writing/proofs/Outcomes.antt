@@ -1,0 +1,46 @@
+-- What `write` answers and leaves: refused as torn, refused for room, or the whole text. Cited by `write`. Assumes nothing.
+use Prim.Native.Nat.{ℕ, _+_, _≤_, _<_}
+use mathlib.Core.Path.{_≡_, refl}
+use mathlib.Core.Bool.{true, false}
+use mathlib.Core.List.{List, _++_}
+use native.Mathlib.Omega.{arith}
+use lib.ListN.{length, getD}
+use lib.Seq.{sets, sets-eq}
+use borrow.Author.Tests.{lt-ltb, le-ltb}
+use Rattle.laws.specs.Lists.{placed}
+use Rattle.netlist.specs.StoredBlock.{gatesAt, outputsAt, decode, torn}
+use Rattle.netlist.specs.Answers.{done, refused, refuseIf, inRoom}
+use Rattle.netlist.specs.declared.Refusal.the-variants.{MalformedBlock, NoRoom}
+use Rattle.netlist.specs.Operations.{counted, written, write}
+use Rattle.grammar.proofs.WritingLength.{written-length}
+use Rattle.writing.specs.Pieces.{Short, pieces, inputText, gateText, outputText, blockText}
+use Rattle.writing.proofs.WrittenText.{decoded-well, written-pieces}
+
+-- the three parts, from the header's words
+pub block-of : (ws : List ℕ) (n m k gates outputs : ℕ) → n ≡ getD ws 0 0 → m ≡ getD ws 1 0 → k ≡ getD ws 2 0
+    → gates ≡ gatesAt n → outputs ≡ outputsAt n m
+    → blockText ws ≡ pieces (inputText ws) n ++ (pieces (gateText ws gates) m ++ pieces (outputText ws outputs) k)
+unfolding blockText
+block-of ws n m k gates outputs en em ek eg eo = rw (eg, eo, en, em, ek) refl
+
+-- what is written is short
+pub block-short : (ws : List ℕ) → torn ws ≡ false → Short (blockText ws) 0
+block-short ws whole =
+    record { small = rw (← written-pieces ws whole) (omega (arith, written-length (decode ws) (decoded-well ws whole))) }
+
+pub outcome-torn : (ws : List ℕ) (room : ℕ) → torn ws ≡ true → write ws room ≡ refused MalformedBlock
+unfolding write written refuseIf inRoom
+outcome-torn ws room t = rw t refl
+
+module _ (ws : List ℕ) (room : ℕ) (whole : torn ws ≡ false) where
+  pub outcome-short : room < length (blockText ws) → write ws room ≡ refused NoRoom
+  unfolding write written counted refuseIf inRoom
+  outcome-short l = rw (whole, written-pieces ws whole, lt-ltb room (length (blockText ws)) l) refl
+
+  pub outcome-done : length (blockText ws) ≤ room → write ws room ≡ done (blockText ws) (length (blockText ws)) 0
+  unfolding write written counted refuseIf inRoom
+  outcome-done l = rw (whole, written-pieces ws whole, le-ltb room (length (blockText ws)) l) refl
+
+-- a piece at the start, and what stood behind it
+pub sets-placed : (xs l : List ℕ) → length xs ≤ length l → sets l 0 xs ≡ placed xs l
+sets-placed xs l h = let e : 0 + length xs ≡ length xs = omega arith in rw e at (sets-eq xs l 0 (omega arith))

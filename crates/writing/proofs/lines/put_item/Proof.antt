@@ -1,0 +1,39 @@
+-- `writing::lines::put_item` meets its contract: a space, and then the operand. Assumes nothing.
+use borrow.Author.Needs.{needs}
+use Rattle.laws.specs.Lists.{ascii}
+use Rattle.writing.specs.Pieces.{itemText}
+use Rattle.writing.proofs.Appending.{appended-then, short-first, short-rest}
+use Rattle.writing.proofs.lines.put_item.Statement.{statement}
+use Rattle.writing.proofs.lines.put_item.Tie as tie
+
+put-requires : tie.Need-put-requires
+unfolding itemText
+put-requires c κs = short-first {xs = ascii " "} _ (c .before .before .before .pre .1)
+
+add-put-operand : tie.Need-add-put-operand
+add-put-operand c = search needs
+
+add-put-operand-2 : tie.Need-add-put-operand-2
+add-put-operand-2 c = search needs
+
+put-operand-requires : tie.Need-put-operand-requires
+unfolding itemText
+put-operand-requires c κs = short-rest {xs = ascii " "} _ (c .before .before .before .before .before .before .before .pre .1) (c .before .before .before .put .ensures)
+
+same-length : tie.Need-same-length
+same-length c = search needs
+
+returns : tie.Need-returns
+unfolding itemText
+returns c = appended-then (c .before .before .before .before .before .before .put .ensures) (c .before .before .put-operand .ensures)
+
+pub put-item-spec : {M : Type 1} → statement M
+put-item-spec =
+    tie.close
+    (tie.spec
+    put-requires
+    add-put-operand
+    add-put-operand-2
+    put-operand-requires
+    same-length
+    returns)

@@ -1,0 +1,95 @@
+-- `writing::lines::put_output` meets its contract: its five pieces, one after the other. Assumes nothing.
+use native.Mathlib.Omega.{arith}
+use borrow.Author.Needs.{needs}
+use Rattle.laws.specs.Lists.{ascii}
+use Rattle.writing.specs.Pieces.{outputText}
+use Rattle.writing.proofs.Appending.{appended-then, short-first, short-rest}
+use Rattle.writing.proofs.lines.put_output.Statement.{statement}
+use Rattle.writing.proofs.lines.put_output.Tie as tie
+
+mul-port : tie.Need-mul-port
+mul-port c = search needs
+
+add-port : tie.Need-add-port
+add-port c = search needs
+
+slice-aggregate-put-all : tie.Need-slice-aggregate-put-all
+slice-aggregate-put-all c = search needs
+
+put-all-requires : tie.Need-put-all-requires
+unfolding outputText
+put-all-requires c κs = short-first {xs = ascii "(out "} _ (c .before .before .before .before .pre .1)
+
+put-name-requires : tie.Need-put-name-requires
+unfolding outputText
+put-name-requires c κs =
+    let opened = c .before .before .before in
+    (omega arith, short-first _ (short-rest _ (opened .before .before .before .before .before .pre .1) (opened .put-all .ensures)))
+
+put-requires : tie.Need-put-requires
+unfolding outputText
+put-requires c κs =
+    let named = c .before .before .before in
+    let opened = named .before .before .before .before in
+    let a = short-rest _ (opened .before .before .before .before .before .pre .1) (opened .put-all .ensures) in
+    short-first {xs = ascii " "} _ (short-rest _ a (named .put-name .ensures))
+
+add-put-operand : tie.Need-add-put-operand
+add-put-operand c = search needs
+
+put-operand-requires : tie.Need-put-operand-requires
+unfolding outputText
+put-operand-requires c κs =
+    let spaced = c .before .before .before in
+    let named = spaced .before .before .before .before in
+    let opened = named .before .before .before .before in
+    let a = short-rest _ (opened .before .before .before .before .before .pre .1) (opened .put-all .ensures) in
+    let b = short-rest _ a (named .put-name .ensures) in
+    short-first _ (short-rest {xs = ascii " "} _ b (spaced .put .ensures))
+
+slice-aggregate-put-all-2 : tie.Need-slice-aggregate-put-all-2
+slice-aggregate-put-all-2 c = search needs
+
+put-all-requires-2 : tie.Need-put-all-requires-2
+unfolding outputText
+put-all-requires-2 c κs =
+    let filled = c .before .before .before .before in
+    let spaced = filled .before .before .before .before in
+    let named = spaced .before .before .before .before in
+    let opened = named .before .before .before .before in
+    let a = short-rest _ (opened .before .before .before .before .before .pre .1) (opened .put-all .ensures) in
+    let b = short-rest _ a (named .put-name .ensures) in
+    let d = short-rest {xs = ascii " "} _ b (spaced .put .ensures) in
+    short-rest _ d (filled .put-operand .ensures)
+
+same-length : tie.Need-same-length
+same-length c = search needs
+
+returns : tie.Need-returns
+unfolding outputText
+returns c =
+    let closed = c .before .before in
+    let filled = closed .before .before .before .before .before in
+    let spaced = filled .before .before .before .before in
+    let named = spaced .before .before .before .before in
+    let opened = named .before .before .before .before in
+    appended-then (opened .put-all .ensures)
+    (appended-then (named .put-name .ensures)
+    (appended-then (spaced .put .ensures) (appended-then (filled .put-operand .ensures) (closed .put-all2 .ensures))))
+
+pub put-output-spec : {M : Type 1} → statement M
+put-output-spec =
+    tie.close
+    (tie.spec
+    mul-port
+    add-port
+    slice-aggregate-put-all
+    put-all-requires
+    put-name-requires
+    put-requires
+    add-put-operand
+    put-operand-requires
+    slice-aggregate-put-all-2
+    put-all-requires-2
+    same-length
+    returns)

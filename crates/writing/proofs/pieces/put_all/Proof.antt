@@ -1,0 +1,62 @@
+-- `writing::pieces::put_all` meets its contract: after i turns the first i bytes are appended. Assumes nothing.
+use Prim.Native.Nat.{_-_, _≤_}
+use native.Mathlib.Omega.{arith}
+use lib.Seq.{take-all}
+use lib.ListN.{length, take}
+use Rattle.writing.specs.Pieces.{Appended}
+use Rattle.writing.proofs.Appending.{appended-none, appended-length, bytes-turn, short-byte}
+use Rattle.writing.proofs.pieces.put_all.Statement.{statement}
+use Rattle.writing.proofs.pieces.put_all.Tie as tie
+
+abbrev Inv-loop : tie.InvT-loop
+Inv-loop text₀ at bytes end₀ i₀ text end i = (i ≤ length bytes) × Appended (take i bytes) text₀ at text end
+
+abbrev μ-loop : tie.MeasureT-loop
+μ-loop text₀ at bytes end₀ i₀ text end i = length bytes - i
+
+loop-holds : tie.Need-loop-holds Inv-loop μ-loop
+loop-holds c =
+    let a = c .before .before .args in
+    (omega arith, appended-none (a .text .now) (a .at))
+
+shared-slice-read-put : tie.Need-shared-slice-read-put Inv-loop μ-loop
+shared-slice-read-put c = omega arith
+
+put-requires : tie.Need-put-requires Inv-loop μ-loop
+put-requires c κs =
+    let a = c .before .before .before .before .before .before .args in
+    let l = c .before .before .before .loop in
+    short-byte (a .bytes .now) (l .i) _ (c .before .before .loop-test .taken) (c .before .before .before .before .before .before .pre) (l .inv .1)
+
+add-i : tie.Need-add-i Inv-loop μ-loop
+add-i c = omega arith
+
+loop-less : tie.Need-loop-less Inv-loop μ-loop
+loop-less c = omega arith
+
+loop-again : tie.Need-loop-again Inv-loop μ-loop
+loop-again c =
+    let a = c .before .before .before .before .before .before .before .before .before .args in
+    let l = c .before .before .before .before .before .before .loop in
+    (omega arith, bytes-turn (a .bytes .now) (l .i) (c .before .before .before .before .before .loop-test .taken) (l .inv .1) (c .before .before .put .ensures))
+
+same-length : tie.Need-same-length Inv-loop μ-loop
+same-length c = appended-length (c .before .loop .inv .1)
+
+returns : tie.Need-returns Inv-loop μ-loop
+returns c = rw (take-all (c .before .loop .i) (c .before .before .before .before .args .bytes .now) (omega arith)) at (c .before .loop .inv .1)
+
+pub put-all-spec : {M : Type 1} → statement M
+put-all-spec =
+    tie.close
+    (tie.spec
+    Inv-loop
+    μ-loop
+    loop-holds
+    shared-slice-read-put
+    put-requires
+    add-i
+    loop-less
+    loop-again
+    same-length
+    returns)

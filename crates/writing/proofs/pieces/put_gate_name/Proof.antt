@@ -1,0 +1,27 @@
+-- `writing::pieces::put_gate_name` meets its contract: `_`, and then the number. Assumes nothing.
+use borrow.Author.Needs.{needs}
+use Rattle.laws.specs.Lists.{ascii}
+use Rattle.netlist.specs.Writing.{gateName, decimal}
+use Rattle.writing.proofs.Appending.{appended-then, short-first, short-rest}
+use Rattle.writing.proofs.pieces.put_gate_name.Statement.{statement}
+use Rattle.writing.proofs.pieces.put_gate_name.Tie as tie
+
+put-requires : tie.Need-put-requires
+unfolding gateName
+put-requires c κs = short-first {xs = ascii "_"} (decimal (c .before .before .args .j)) (c .before .before .pre)
+
+put-decimal-requires : tie.Need-put-decimal-requires
+unfolding gateName
+put-decimal-requires c κs =
+    let opened = c .before .before .before in
+    short-rest (decimal (opened .before .before .before .args .j)) (opened .before .before .before .pre) (opened .put .ensures)
+
+same-length : tie.Need-same-length
+same-length c = search needs
+
+returns : tie.Need-returns
+unfolding gateName
+returns c = appended-then (c .before .before .before .before .before .before .put .ensures) (c .before .before .put-decimal .ensures)
+
+pub put-gate-name-spec : {M : Type 1} → statement M
+put-gate-name-spec = tie.close (tie.spec put-requires put-decimal-requires same-length returns)

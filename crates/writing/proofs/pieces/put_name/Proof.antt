@@ -1,0 +1,32 @@
+-- `writing::pieces::put_name` meets its contract: a name is its eight bytes without the zeros at the end. Assumes nothing.
+use borrow.Author.Needs.{needs}
+use Rattle.netlist.specs.StoredBlock.{nameAt}
+use Rattle.writing.proofs.pieces.put_name.Statement.{statement}
+use Rattle.writing.proofs.pieces.put_name.Tie as tie
+
+name-bytes-requires : tie.Need-name-bytes-requires
+name-bytes-requires c κs = search needs
+
+slice-aggregate-put-trimmed : tie.Need-slice-aggregate-put-trimmed
+slice-aggregate-put-trimmed c = search needs
+
+put-trimmed-requires : tie.Need-put-trimmed-requires
+unfolding nameAt
+put-trimmed-requires c κs = rw (c .before .before .name-bytes .ensures) (c .before .before .before .before .before .pre .1)
+
+same-length : tie.Need-same-length
+same-length c = search needs
+
+returns : tie.Need-returns
+unfolding nameAt
+returns c = rw (c .before .before .before .before .before .name-bytes .ensures) at (c .before .before .put-trimmed .ensures)
+
+pub put-name-spec : {M : Type 1} → statement M
+put-name-spec =
+    tie.close
+    (tie.spec
+    name-bytes-requires
+    slice-aggregate-put-trimmed
+    put-trimmed-requires
+    same-length
+    returns)

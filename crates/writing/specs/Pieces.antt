@@ -1,0 +1,60 @@
+-- The pieces that the functions write, each as the words of the block give it. proofs/WrittenText.antt shows that together they are the
+-- written text of `netlist`.
+use Prim.Native.Nat.{ℕ, _+_, _*_, _/_, _%_, _≤_}
+use mathlib.Core.Path.{_≡_}
+use mathlib.Core.List.{List, [], _++_}
+use lib.ListN.{length, getD}
+use lib.Seq.{sets}
+use Rattle.laws.specs.Lists.{ascii, tab, joined}
+use Rattle.netlist.specs.Kinds.{keyword}
+use Rattle.netlist.specs.StoredBlock.{nameSize, gateSize, outputSize, inputsAt, gatesAt, outputsAt, nameAt, operandOf, decode}
+use Rattle.netlist.specs.Syntax.{printTerm}
+use Rattle.netlist.specs.Writing.{gateName, termOf}
+
+-- A text and its end after a piece was appended at `at`. What does not fit is left out, and counted all the same.
+pub record Appended (piece text : List ℕ) (at : ℕ) (text′ : List ℕ) (end : ℕ) : Type 0 where
+  pub textIs : text′ ≡ sets text at piece
+  pub endIs : end ≡ at + length piece
+
+-- the end stays a small number
+pub record Short (piece : List ℕ) (at : ℕ) : Type 0 where
+  pub small : at + length piece ≤ 65535
+
+-- f 0, f 1, .., f (count - 1), one after the other
+unfoldable pub pieces : (ℕ → List ℕ) → ℕ → List ℕ
+pieces f count = joined (tab f count)
+
+-- the operand whose word is at `at`
+unfoldable pub operandText : List ℕ → ℕ → List ℕ
+operandText ws at = printTerm (termOf (decode ws) (operandOf (getD ws 0 0) (getD ws at 0))) []
+
+-- operand i of the gate whose first word is at `at`, with the space before it
+unfoldable pub itemText : List ℕ → ℕ → ℕ → List ℕ
+itemText ws at i = ascii " " ++ operandText ws (at + 1 + i)
+
+-- the gate whose first word is at `at`: its expression
+unfoldable pub expressionText : List ℕ → ℕ → List ℕ
+expressionText ws at = ascii "(" ++ (keyword (getD ws at 0 % 8) ++ (pieces (itemText ws at) (getD ws at 0 / 8) ++ ascii ")"))
+
+-- ---- the lines
+
+unfoldable pub inputText : List ℕ → ℕ → List ℕ
+inputText ws i = ascii "(in " ++ (nameAt ws (inputsAt + nameSize * i) ++ ascii ")\n")
+
+-- gate j of those from `at` on
+unfoldable pub gateText : List ℕ → ℕ → ℕ → List ℕ
+gateText ws at j = ascii "(gate " ++ (gateName j ++ (ascii " " ++ (expressionText ws (at + gateSize * j) ++ ascii ")\n")))
+
+-- output o of those from `at` on
+unfoldable pub outputText : List ℕ → ℕ → ℕ → List ℕ
+outputText ws at o =
+    ascii "(out "
+    ++ (nameAt ws (at + outputSize * o)
+    ++ (ascii " " ++ (operandText ws (at + outputSize * o + nameSize) ++ ascii ")\n")))
+
+-- the three parts
+unfoldable pub blockText : List ℕ → List ℕ
+blockText ws =
+    pieces (inputText ws) (getD ws 0 0)
+    ++ (pieces (gateText ws (gatesAt (getD ws 0 0))) (getD ws 1 0)
+    ++ pieces (outputText ws (outputsAt (getD ws 0 0) (getD ws 1 0))) (getD ws 2 0))

@@ -1,0 +1,147 @@
+// Bytes, names, numbers and operands, each appended to a text at `at`. Each function answers the new end. What does not fit into the
+// text is left out, and counted all the same.
+use block::header::INPUTS_AT;
+use block::header::NAME_SIZE;
+use block::header::inputs_of;
+use ternary::read::word_at;
+use ternary::table::row_of;
+ghost use mathlib.Core.Path.{_≡_};
+ghost use mathlib.Core.List.{[], _∷_};
+ghost use Prim.Native.Nat.{_≤_};
+ghost use lib.ListN.{length, take};
+ghost use Rattle.laws.specs.Lists.{trimmed};
+ghost use Rattle.netlist.specs.Kinds.{keyword};
+ghost use Rattle.netlist.specs.StoredBlock.{bytesAt, nameAt};
+ghost use Rattle.netlist.specs.Writing.{decimal, gateName};
+ghost use Rattle.writing.specs.Pieces.{Appended, Short, operandText};
+
+// One byte.
+pub fn put(text: &mut [u8], at: usize, byte: u8) -> usize
+    requires { ⌜ Short (byte ∷ []) at ⌝ }
+    ensures { λ r. ⌜ Appended (byte ∷ []) (now (text .entry)) at (now (text .exit)) r ⌝ }
+{
+    let end = at + 1;
+    if at < text.len() {
+        text[at] = byte;
+    }
+    end
+}
+
+// All bytes of a slice.
+pub fn put_all(text: &mut [u8], at: usize, bytes: &[u8]) -> usize
+    requires { ⌜ Short (now bytes) at ⌝ }
+    ensures { λ r. ⌜ Appended (now (bytes .entry)) (now (text .entry)) at (now (text .exit)) r ⌝ }
+{
+    let mut end = at;
+    let mut i = 0;
+    while i < bytes.len() {
+        end = put(text, end, bytes[i]);
+        i += 1;
+    }
+    end
+}
+
+// How many bytes are left without the zeros at the end.
+fn trimmed_length(bytes: &[u8]) -> usize
+    ensures { λ r. ⌜ (r ≤ length (now (bytes .entry))) × (take r (now (bytes .entry)) ≡ trimmed (now (bytes .entry))) ⌝ }
+{
+    let mut count = bytes.len();
+    while 0 < count {
+        if bytes[count - 1] != 0 {
+            return count;
+        }
+        count -= 1;
+    }
+    0
+}
+
+// The bytes without the zeros at the end.
+fn put_trimmed(text: &mut [u8], at: usize, bytes: &[u8]) -> usize
+    requires { ⌜ Short (trimmed (now bytes)) at ⌝ }
+    ensures { λ r. ⌜ Appended (trimmed (now (bytes .entry))) (now (text .entry)) at (now (text .exit)) r ⌝ }
+{
+    let count = trimmed_length(bytes);
+    put_all(text, at, &bytes[..count])
+}
+
+// "A name word is first byte + 256 × second": the eight bytes of the name at `from`.
+fn name_bytes(words: &[u16], from: usize) -> [u8; 8]
+    requires { ⌜ from ≤ 1000000 ⌝ }
+    ensures { λ r. ⌜ r ≡ bytesAt (now (words .entry)) from ⌝ }
+{
+    let a = word_at(words, from);
+    let b = word_at(words, from + 1);
+    let c = word_at(words, from + 2);
+    let d = word_at(words, from + 3);
+    [
+        (a % 256) as u8,
+        (a / 256) as u8,
+        (b % 256) as u8,
+        (b / 256) as u8,
+        (c % 256) as u8,
+        (c / 256) as u8,
+        (d % 256) as u8,
+        (d / 256) as u8,
+    ]
+}
+
+// The name whose words start at `from`.
+pub fn put_name(text: &mut [u8], at: usize, words: &[u16], from: usize) -> usize
+    requires { ⌜ from ≤ 1000000 ⌝ }
+    requires { ⌜ Short (nameAt (now words) from) at ⌝ }
+    ensures { λ r. ⌜ Appended (nameAt (now (words .entry)) from) (now (text .entry)) at (now (text .exit)) r ⌝ }
+{
+    let bytes = name_bytes(words, from);
+    put_trimmed(text, at, &bytes)
+}
+
+// The decimal digits of a number.
+fn put_decimal(text: &mut [u8], at: usize, v: usize) -> usize
+    requires { ⌜ Short (decimal v) at ⌝ }
+    ensures { λ r. ⌜ Appended (decimal v) (now (text .entry)) at (now (text .exit)) r ⌝ }
+{
+    if v < 10 {
+        return put(text, at, (48 + v) as u8);
+    }
+    let end = put_decimal(text, at, v / 10);
+    put(text, end, (48 + v % 10) as u8)
+}
+
+// "named `_` and their decimal number"
+pub fn put_gate_name(text: &mut [u8], at: usize, j: usize) -> usize
+    requires { ⌜ Short (gateName j) at ⌝ }
+    ensures { λ r. ⌜ Appended (gateName j) (now (text .entry)) at (now (text .exit)) r ⌝ }
+{
+    let end = put(text, at, b'_');
+    put_decimal(text, end, j)
+}
+
+// The keyword of a kind: `not`, or that of the kind's row.
+pub fn put_keyword(text: &mut [u8], at: usize, kind: usize) -> usize
+    requires { ⌜ Short (keyword kind) at ⌝ }
+    ensures { λ r. ⌜ Appended (keyword kind) (now (text .entry)) at (now (text .exit)) r ⌝ }
+{
+    if kind == 0 {
+        return put_all(text, at, b"not");
+    }
+    let row = row_of(kind);
+    let bytes = row.keyword;
+    put_trimmed(text, at, &bytes)
+}
+
+// The operand whose word is at `from`: an input's name, a gate's name, `0` or `1`.
+pub fn put_operand(text: &mut [u8], at: usize, words: &[u16], from: usize) -> usize
+    requires { ⌜ Short (operandText (now words) from) at ⌝ }
+    ensures { λ r. ⌜ Appended (operandText (now (words .entry)) from) (now (text .entry)) at (now (text .exit)) r ⌝ }
+{
+    let n = inputs_of(words);
+    let word = word_at(words, from);
+    if word < n {
+        return put_name(text, at, words, INPUTS_AT + NAME_SIZE * word);
+    }
+    match word {
+        65534 => put(text, at, b'0'),
+        65535 => put(text, at, b'1'),
+        _ => put_gate_name(text, at, word - n),
+    }
+}
