@@ -1,10 +1,7 @@
 // Verdict (document 01): how many settings are settled, and the lowest other.
 ghost use mathlib.Core.Path.{_≡_};
 ghost use mathlib.Core.Bool.{false};
-ghost use mathlib.Core.List.{_++_};
-ghost use Prim.Native.Nat.{_≤_};
-ghost use lib.ListN.{length, drop};
-ghost use Rattle.laws.specs.Lists.{upTo, placed};
+ghost use lib.ListN.{length};
 ghost use Rattle.netlist.specs.Answers.{answerOf};
 ghost use Rattle.netlist.specs.StoredBlock.{torn};
 ghost use Rattle.netlist.specs.Operations.{verdict as verdictOf};
@@ -13,21 +10,9 @@ use block::check_words;
 use block::header;
 use netlist::Answer;
 use netlist::Refusal;
+use schedule::order::order_gates;
 
 pub mod settings;
-
-// Gates 0, 1, .., m - 1.
-fn ascending(m: usize, order: &mut [u16])
-    requires { ⌜ m ≤ length (now order) ⌝ }
-    requires { ⌜ m ≤ 1024 ⌝ }
-    ensures { λ r. ⌜ now (order .exit) ≡ placed (upTo m) (now (order .entry)) ⌝ }
-{
-    let mut j = 0;
-    while j < m {
-        order[j] = j as u16;
-        j += 1;
-    }
-}
 
 // Verdict of a block that is not torn, with room for an order, the inputs' values and the gates'.
 fn whole_verdict(words: &[u16], order: &mut [u16], inputs: &mut [u8], values: &mut [u8]) -> Answer
@@ -40,7 +25,7 @@ fn whole_verdict(words: &[u16], order: &mut [u16], inputs: &mut [u8], values: &m
     let n = header::inputs_of(words);
     let m = header::gates_of(words);
     let gates = header::gates_at(n);
-    ascending(m, order);
+    order_gates(words, order);
     settings::search_settings(
         words,
         n,

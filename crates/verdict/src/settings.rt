@@ -13,7 +13,7 @@ use decide::in_place::settle_setting;
 use netlist::Answer;
 
 // "A setting gives every input 0 or 1": 2^n of them.
-fn setting_count(n: usize) -> usize
+pub fn setting_count(n: usize) -> usize
     requires { ⌜ n ≤ 10 ⌝ }
     ensures { λ r. ⌜ r ≡ 2 ^ n ⌝ }
 {

@@ -1,13 +1,12 @@
 -- `verdict::whole_verdict` meets its contract: whole words are what the search asks. Assumes nothing.
-use lib.ListN.{drop, length}
+use lib.ListN.{length}
 use Prim.Native.Nat.{_≤_}
 use mathlib.Core.Path.{sym, _∙_}
 use native.Mathlib.Omega.{arith}
-use lib.Seq.{length-take-le, take-at}
-use Rattle.laws.specs.Lists.{upTo}
-use Rattle.laws.proofs.Tab.{length-tab}
+use lib.Seq.{length-take-le}
 use Rattle.encoding.proofs.Readers.{whole-parts}
-use Rattle.decide.proofs.Legible.{ascending-visits, whole-ready}
+use Rattle.decide.proofs.Legible.{whole-ready}
+use Rattle.verdict.proofs.GroupOrder.{ordered-visits}
 use Rattle.verdict.proofs.Outcomes.{answer-whole}
 use borrow.Author.Needs.{needs}
 use Rattle.verdict.proofs.whole_verdict.Statement.{statement}
@@ -22,22 +21,21 @@ gates-of-requires c κs = search needs
 gates-at-requires : tie.Need-gates-at-requires
 gates-at-requires c κs = rw (c .before .inputs-of .ensures) (omega (arith, whole-parts (c .before .before .before .before .before .before .args .words .now) (c .before .before .before .before .before .before .pre .0) .fewInputs))
 
-ascending-requires : tie.Need-ascending-requires
-ascending-requires c κs =
+order-gates-requires : tie.Need-order-gates-requires
+order-gates-requires c κs =
     let s = c .before .before .before .before .before .before .before .before in
-    let few = whole-parts (s .args .words .now) (s .pre .0) .fewGates in
-    (omega (arith, c .before .before .gates-of .ensures, few, s .pre .1 .0), omega (arith, c .before .before .gates-of .ensures, few))
+    (s .pre .0, omega (arith, whole-parts (s .args .words .now) (s .pre .0) .fewGates, s .pre .1 .0))
 
 slice-reshare-prefix-search-settings : tie.Need-slice-reshare-prefix-search-settings
 slice-reshare-prefix-search-settings c =
     let s = c .before .before .before .before .before .before .before .before .before .before .before in
-    omega (arith, c .before .before .before .before .before .gates-of .ensures, whole-parts (s .args .words .now) (s .pre .0) .fewGates, s .pre .1 .0, c .before .before .ascending .kept .1 .0)
+    omega (arith, c .before .before .before .before .before .gates-of .ensures, whole-parts (s .args .words .now) (s .pre .0) .fewGates, s .pre .1 .0, c .before .before .order-gates .kept .1 .0)
 
 slice-aggregate-search-settings : tie.Need-slice-aggregate-search-settings
 slice-aggregate-search-settings c =
     let s = c .before .before .before .before .before .before .before .before .before .before .before .before in
     let m = c .before .before .before .before .before .before .gates-of in
-    let e = c .before .before .before .ascending in
+    let e = c .before .before .before .order-gates in
     let room : m .result ≤ length (e .last .1 .0) =
     omega (arith, m .ensures, whole-parts (s .args .words .now) (s .pre .0) .fewGates, s .pre .1 .0, e .kept .1 .0) in
     sym (length-take-le (m .result) (e .last .1 .0) room)
@@ -73,14 +71,14 @@ search-settings-requires c κs =
     let s = c .before .before .before .before .before .before .before .before .before .before .before .before .before .before in
     let n = c .before .before .before .before .before .before .before .before .before .inputs-of in
     let m = c .before .before .before .before .before .before .before .before .gates-of in
-    let e = c .before .before .before .before .before .ascending in
+    let e = c .before .before .before .before .before .order-gates in
     let whole = whole-parts (s .args .words .now) (s .pre .0) in
     let inputRoom : n .result ≤ length (s .args .inputs .now) = omega (arith, n .ensures, whole .fewInputs, s .pre .1 .1 .0) in
     let valueRoom : m .result ≤ length (s .args .values .now) = omega (arith, m .ensures, whole .fewGates, s .pre .1 .1 .1) in
-    rw (e .ensures, take-at (upTo (m .result)) (drop (length (upTo (m .result))) (s .args .order .now)) (m .result) (length-tab (λ k. k) (m .result)))
-    (whole-ready (s .args .words .now) (n .result) (m .result) (c .before .before .before .before .before .before .before .gates-at .result) (upTo (m .result)) _ _ (s .pre .0)
-    (n .ensures) (m .ensures) (c .before .before .before .before .before .before .before .gates-at .ensures) (ascending-visits (m .result))
-    (length-take-le (n .result) (s .args .inputs .now) inputRoom) (length-take-le (m .result) (s .args .values .now) valueRoom))
+    whole-ready (s .args .words .now) (n .result) (m .result) (c .before .before .before .before .before .before .before .gates-at .result) _ _ _ (s .pre .0)
+    (n .ensures) (m .ensures) (c .before .before .before .before .before .before .before .gates-at .ensures)
+    (ordered-visits (s .args .words .now) (m .result) (s .args .order .now) _ (s .pre .0) (m .ensures) (e .ensures))
+    (length-take-le (n .result) (s .args .inputs .now) inputRoom) (length-take-le (m .result) (s .args .values .now) valueRoom)
 
 same-length : tie.Need-same-length
 same-length c = search needs
@@ -101,7 +99,7 @@ whole-verdict-spec =
     inputs-of-requires
     gates-of-requires
     gates-at-requires
-    ascending-requires
+    order-gates-requires
     slice-reshare-prefix-search-settings
     slice-aggregate-search-settings
     slice-relend-prefix-search-settings
