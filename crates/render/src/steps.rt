@@ -1,0 +1,123 @@
+// The steps of Render: number the groups, count the copies, look for a setting that is not settled, write.
+ghost use mathlib.Core.Path.{_≡_};
+ghost use mathlib.Core.Bool.{false};
+ghost use Prim.Native.Nat.{_≤_};
+ghost use lib.ListN.{length, getD};
+ghost use Rattle.netlist.specs.StoredBlock.{decode, torn};
+ghost use Rattle.netlist.specs.Rounds.{lowestUnsettled};
+ghost use Rattle.netlist.specs.Cover.{sound};
+ghost use Rattle.render.specs.Tests.{settingsOf, Planned, LowestReady, SearchReady, WriteReady, ArrayRoom, Answered};
+use crate::Plan;
+use crate::Settings;
+use block::header;
+use copying::rendered::write_rendering;
+use groups::assign::assign;
+use netlist::Answer;
+use netlist::Refusal;
+use schedule::Copies;
+use schedule::count_copies;
+use schedule::fill_order;
+use schedule::fill_schedule;
+use verdict::settings::lowest_unsettled;
+use verdict::settings::setting_count;
+
+// Numbers the groups and counts the copies.
+fn plan(words: &[u16], numbers: &mut [u16]) -> Plan
+    requires { ⌜ (torn (now words) ≡ false) × (getD (now words) 1 0 ≤ length (now numbers)) ⌝ }
+    ensures { λ r. ⌜ Planned (now (words .entry)) (now (numbers .exit)) r ⌝ }
+{
+    let count = assign(words, numbers);
+    let Copies::Fit(total) = count_copies(header::gates_of(words), numbers, count) else {
+        return Plan::TooMany;
+    };
+    Plan::Fit { count, total }
+}
+
+// The lowest setting that is not settled, or 2^n; the gates are evaluated along `order`.
+fn lowest_along(words: &[u16], order: &[u16], inputs: &mut [u8], values: &mut [u8]) -> usize
+    requires { ⌜ LowestReady (now words) (now order) (now inputs) (now values) ⌝ }
+    ensures { λ r. ⌜ r ≡ lowestUnsettled (decode (now (words .entry))) ⌝ }
+{
+    let n = header::inputs_of(words);
+    let m = header::gates_of(words);
+    let gates = header::gates_at(n);
+    lowest_unsettled(
+        words,
+        n,
+        gates,
+        &order[..m],
+        &mut inputs[..n],
+        &mut values[..m],
+    )
+}
+
+// Looks for a setting that is not settled.
+fn find_unsettled(
+    words: &[u16],
+    numbers: &[u16],
+    count: usize,
+    order: &mut [u16],
+    inputs: &mut [u8],
+    values: &mut [u8],
+) -> Settings
+    requires { ⌜ SearchReady (now words) (now numbers) count (now order) (now inputs) (now values) ⌝ }
+    ensures { λ r. ⌜ r ≡ settingsOf (sound (decode (now (words .entry)))) (lowestUnsettled (decode (now (words .entry)))) ⌝ }
+{
+    fill_order(header::gates_of(words), numbers, count, order);
+    let lowest = lowest_along(words, order, inputs, values);
+    if lowest < setting_count(header::inputs_of(words)) {
+        return Settings::Unsettled(lowest);
+    }
+    Settings::AllSettled
+}
+
+// Writes the rendered block, if there is room.
+fn finish(
+    words: &[u16],
+    numbers: &[u16],
+    count: usize,
+    total: usize,
+    order: &mut [u16],
+    newest: &mut [u16],
+    rendered: &mut [u16],
+) -> Answer
+    requires { ⌜ WriteReady (now words) (now numbers) count total (now order) (now newest) ⌝ }
+    ensures { λ r. ⌜ Answered (now (words .entry)) (now (rendered .entry)) r (now (rendered .exit)) ⌝ }
+{
+    let n = header::inputs_of(words);
+    let m = header::gates_of(words);
+    let k = header::outputs_of(words);
+    let size = header::outputs_at(n, total) + 5 * k;
+    if rendered.len() < size {
+        return Answer::Refused(Refusal::NoRoom);
+    }
+    fill_schedule(m, numbers, count, order);
+    write_rendering(words, n, m, k, order, total, newest, rendered);
+    Answer::Done {
+        count: size,
+        detail: 0,
+    }
+}
+
+// Render of a block that is not torn.
+pub fn render_with(
+    words: &[u16],
+    numbers: &mut [u16],
+    order: &mut [u16],
+    newest: &mut [u16],
+    inputs: &mut [u8],
+    values: &mut [u8],
+    rendered: &mut [u16],
+) -> Answer
+    requires { ⌜ ArrayRoom (now words) (now numbers) (now order) (now newest) (now inputs) (now values) ⌝ }
+    ensures { λ r. ⌜ Answered (now (words .entry)) (now (rendered .entry)) r (now (rendered .exit)) ⌝ }
+{
+    let Plan::Fit { count, total } = plan(words, numbers) else {
+        return Answer::Refused(Refusal::TooManyCopies);
+    };
+    let settings = find_unsettled(words, numbers, count, order, inputs, values);
+    if let Settings::Unsettled(lowest) = settings {
+        return Answer::Refused(Refusal::NotSettled(lowest));
+    }
+    finish(words, numbers, count, total, order, newest, rendered)
+}
