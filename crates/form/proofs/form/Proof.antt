@@ -5,7 +5,7 @@ use Rattle.form.proofs.form.Statement.{statement}
 use Rattle.form.proofs.form.Tie as tie
 use borrow.Author.Needs.{needs}
 use mathlib.Core.Path.{sym, ap, _∙_}
-use Prim.Native.Nat.{_<_}
+use Prim.Native.Nat.{_-_, _<_}
 use native.Mathlib.Omega.{arith}
 use lib.ListN.{length}
 use Rattle.form.specs.Scan.{phaseOf}

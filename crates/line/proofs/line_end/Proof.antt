@@ -3,7 +3,7 @@
 use Rattle.line.proofs.line_end.Statement.{statement}
 use Rattle.line.proofs.line_end.Tie as tie
 use mathlib.Core.Path.{_≡_, refl, sym, _∙_}
-use Prim.Native.Nat.{_≤_, _+_}
+use Prim.Native.Nat.{_≤_, _+_, _-_}
 use native.Mathlib.Numerals.{add-one}
 use native.Mathlib.Omega.{arith}
 use lib.ListN.{length, drop}

@@ -1,5 +1,5 @@
 -- `entries::is_entry` meets its contract: one law for each of its three answers. Assumes nothing.
-use Prim.Native.Nat.{_*_, _/_, _%_, _^_}
+use Prim.Native.Nat.{_-_, _*_, _/_, _%_, _^_}
 use mathlib.Core.Path.{refl}
 use lib.Bits.{bitAnd}
 use lib.Pow.{pow-pos}

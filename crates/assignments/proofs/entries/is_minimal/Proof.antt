@@ -1,5 +1,5 @@
 -- `entries::is_minimal` meets its contract: each input passed is free or needed; one that can be dropped decides at once. Assumes nothing.
-use Prim.Native.Nat.{_+_, _*_, _/_, _%_, _^_, _≤_}
+use Prim.Native.Nat.{_+_, _-_, _*_, _/_, _%_, _^_, _≤_}
 use mathlib.Core.Path.{_≡_, refl, sym}
 use mathlib.Core.Logic.{⊎-elim}
 use mathlib.Core.Bool.{true}

@@ -1,6 +1,6 @@
 -- `entries::list_entries` meets its contract: the words of the entries among the pairs passed stand in front (`Written`), and there is room
 -- for the next, since there is room for all. Assumes nothing.
-use Prim.Native.Nat.{_+_, _*_, _/_, _%_, _^_, _≤_, _<_}
+use Prim.Native.Nat.{_+_, _-_, _*_, _/_, _%_, _^_, _≤_, _<_}
 use mathlib.Core.Path.{sym, _∙_}
 use mathlib.Core.Logic.{⊎-elim}
 use native.Mathlib.Omega.{arith}

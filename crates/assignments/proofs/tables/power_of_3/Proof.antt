@@ -1,5 +1,5 @@
 -- `tables::power_of_3` meets its contract: after i turns the variable is 3^i, and the limit on inputs keeps it small. Assumes nothing.
-use Prim.Native.Nat.{ℕ, _^_, _≤_}
+use Prim.Native.Nat.{ℕ, _^_, _-_, _≤_}
 use mathlib.Core.Path.{_≡_, ap, _∙_}
 use native.Mathlib.Omega.{arith}
 use borrow.Author.Needs.{needs}

@@ -1,6 +1,6 @@
 -- `tables::sound_at` meets its contract: the digits read so far fix their inputs (`Scanned`), so the first free input splits the assignment
 -- into two with smaller numbers, and where there is none one setting decides. Assumes nothing.
-use Prim.Native.Nat.{_*_, _^_, _≤_, _<_}
+use Prim.Native.Nat.{_-_, _*_, _^_, _≤_, _<_}
 use mathlib.Core.Logic.{⊎-elim}
 use native.Mathlib.Omega.{arith}
 use borrow.Author.Needs.{needs}

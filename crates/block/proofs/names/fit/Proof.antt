@@ -1,7 +1,7 @@
 -- `block::names::fit` meets its contract: the names passed are legal and new. Assumes nothing.
 use mathlib.Core.Path.{_≡_, refl}
 use mathlib.Core.Bool.{true}
-use Prim.Native.Nat.{_≤_}
+use Prim.Native.Nat.{_≤_, _-_}
 use borrow.Author.Needs.{needs}
 use Rattle.laws.specs.Lists.{all, upTo}
 use Rattle.block.proofs.TestLaws.{passes, fails, passed}

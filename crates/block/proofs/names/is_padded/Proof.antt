@@ -1,6 +1,6 @@
 -- `block::names::is_padded` meets its contract: the bytes passed are name bytes, so the rest decides. Assumes nothing.
 use mathlib.Core.Path.{_≡_, refl, sym, ap, _∙_}
-use Prim.Native.Nat.{_≤_}
+use Prim.Native.Nat.{_≤_, _-_}
 use borrow.Author.Needs.{needs}
 use lib.ListN.{drop}
 use Rattle.netlist.specs.StoredBlock.{bytesAt}

@@ -1,7 +1,7 @@
 -- `block::names::is_same` meets its contract: the words passed are the same. Assumes nothing.
 use mathlib.Core.Path.{_≡_, refl}
 use mathlib.Core.Bool.{true, false}
-use Prim.Native.Nat.{_≤_}
+use Prim.Native.Nat.{_≤_, _-_}
 use borrow.Author.Needs.{needs}
 use Rattle.laws.specs.Lists.{all, upTo}
 use borrow.Author.Tests.{eq-eqb, ne-eqb}

@@ -1,6 +1,6 @@
 -- `block::names::only_zeros` meets its contract: the bytes passed are zero. Assumes nothing.
 use mathlib.Core.Path.{_≡_, refl, sym, ap, _∙_}
-use Prim.Native.Nat.{_≤_}
+use Prim.Native.Nat.{_≤_, _-_}
 use borrow.Author.Needs.{needs}
 use Rattle.laws.specs.Lists.{all}
 use Rattle.netlist.specs.StoredBlock.{bytesAt}

@@ -1,5 +1,5 @@
 -- `components::leaders::lead` meets its contract: of the gates that gate j reaches, those that reach as many are its group. Assumes nothing.
-use Prim.Native.Nat.{_≤_, _<_}
+use Prim.Native.Nat.{_-_, _≤_, _<_}
 use mathlib.Core.Path.{_≡_, refl, _∙_}
 use borrow.Author.Needs.{needs}
 use native.Mathlib.Omega.{arith}

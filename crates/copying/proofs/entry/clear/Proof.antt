@@ -1,5 +1,5 @@
 -- `copying::entry::clear` meets its contract: after i turns the first i entries are constant 0's word. Assumes nothing.
-use Prim.Native.Nat.{_≤_}
+use Prim.Native.Nat.{_-_, _≤_}
 use mathlib.Core.Path.{_≡_, refl, _∙_}
 use mathlib.Core.List.{_++_}
 use native.Mathlib.Omega.{arith}

@@ -1,5 +1,5 @@
 -- `copying::rendered::copy_outputs` meets its contract: after o turns o outputs stand. Assumes nothing.
-use Prim.Native.Nat.{_≤_}
+use Prim.Native.Nat.{_-_, _≤_}
 use mathlib.Core.Path.{_≡_, refl, _∙_}
 use native.Mathlib.Omega.{arith}
 use lib.ListN.{length}

@@ -1,6 +1,6 @@
 -- `decide::in_place::set_inputs` meets its contract: after i turns the first i bytes are bits 0, .., i - 1. Assumes nothing.
 use mathlib.Core.Path.{sym, _≡_, refl, _∙_}
-use Prim.Native.Nat.{_≤_}
+use Prim.Native.Nat.{_-_, _≤_}
 use native.Mathlib.Omega.{arith}
 use native.Mathlib.Numerals.{add-one}
 use lib.ListN.{length, length-set}

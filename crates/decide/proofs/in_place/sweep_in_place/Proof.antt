@@ -1,6 +1,6 @@
 -- `decide::in_place::sweep_in_place` meets its contract: after i turns the first i gates of the order have been evaluated. Assumes nothing.
 use lib.ListN.{getD, length, take}
-use Prim.Native.Nat.{_≤_}
+use Prim.Native.Nat.{_-_, _≤_}
 use mathlib.Core.Path.{_≡_}
 use mathlib.Core.List.{map}
 use native.Mathlib.Omega.{arith}

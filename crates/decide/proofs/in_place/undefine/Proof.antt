@@ -1,7 +1,7 @@
 -- `decide::in_place::undefine` meets its contract: after i turns the first i bytes are 2. Assumes nothing.
 use mathlib.Core.List.{append-nil, _++_}
 use lib.Seq.{drop-length}
-use Prim.Native.Nat.{_≤_}
+use Prim.Native.Nat.{_-_, _≤_}
 use mathlib.Core.Path.{_≡_, refl, _∙_}
 use native.Mathlib.Omega.{arith}
 use borrow.Author.Fill.{fill-none, fill-more}

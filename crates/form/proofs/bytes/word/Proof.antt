@@ -2,7 +2,7 @@
 -- Assumes nothing.
 use Rattle.form.proofs.bytes.word.Statement.{statement}
 use Rattle.form.proofs.bytes.word.Tie as tie
-use Prim.Native.Nat.{_≤_}
+use Prim.Native.Nat.{_-_, _≤_}
 use mathlib.Core.Path.{_≡_, refl, sym, _∙_}
 use native.Mathlib.Numerals.{add-one}
 use native.Mathlib.Omega.{arith}

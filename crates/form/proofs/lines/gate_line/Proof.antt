@@ -4,6 +4,7 @@ use borrow.Author.Needs.{needs}
 use Rattle.form.proofs.lines.gate_line.Statement.{statement}
 use Rattle.form.proofs.lines.gate_line.Tie as tie
 use mathlib.Core.Bool.{true}
+use Prim.Native.Nat.{_-_}
 use Rattle.laws.specs.Lists.{ascii}
 use Rattle.netlist.specs.Limits.{maxDepth}
 use Rattle.netlist.specs.Syntax.{apply}

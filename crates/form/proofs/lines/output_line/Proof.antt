@@ -4,6 +4,7 @@ use borrow.Author.Needs.{needs}
 use Rattle.form.proofs.lines.output_line.Statement.{statement}
 use Rattle.form.proofs.lines.output_line.Tie as tie
 use mathlib.Core.Bool.{true, false}
+use Prim.Native.Nat.{_-_}
 use Rattle.laws.specs.Lists.{ascii}
 use Rattle.form.specs.Scan.{scanOf, firstByte, outputReader, outputPort, outputSpace, outputShown, lineEnd}
 use Rattle.form.proofs.Shortens.{shortens-name}

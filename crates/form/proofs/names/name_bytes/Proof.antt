@@ -3,7 +3,7 @@
 -- Assumes nothing.
 use Rattle.form.proofs.names.name_bytes.Statement.{statement}
 use Rattle.form.proofs.names.name_bytes.Tie as tie
-use Prim.Native.Nat.{_≤_, _<_}
+use Prim.Native.Nat.{_-_, _≤_, _<_}
 use mathlib.Core.Path.{_≡_, sym, ap, _∙_}
 use mathlib.Core.Bool.{true, false}
 use borrow.Author.Tests.{not-true, not-false}

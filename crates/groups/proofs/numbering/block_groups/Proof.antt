@@ -1,5 +1,5 @@
 -- `groups::numbering::block_groups` meets its contract: one gate after the other is looked at. Assumes nothing.
-use Prim.Native.Nat.{_≤_}
+use Prim.Native.Nat.{_-_, _≤_}
 use mathlib.Core.Path.{_≡_, refl, _∙_}
 use native.Mathlib.Omega.{arith}
 use lib.ListN.{length}

@@ -1,5 +1,5 @@
 -- `groups::numbering::is_obstructed` meets its contract: none of the operand words passed so far is an obstacle. Assumes nothing.
-use Prim.Native.Nat.{_/_, _≤_}
+use Prim.Native.Nat.{_-_, _/_, _≤_}
 use mathlib.Core.Path.{_≡_, _∙_, sym}
 use mathlib.Core.Bool.{false}
 use borrow.Author.Needs.{needs}

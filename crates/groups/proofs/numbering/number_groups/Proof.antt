@@ -1,5 +1,5 @@
 -- `groups::numbering::number_groups` meets its contract: each turn gives the next group of document 01's order its number. Assumes nothing.
-use Prim.Native.Nat.{_≤_}
+use Prim.Native.Nat.{_-_, _≤_}
 use mathlib.Core.Path.{_≡_, refl, _∙_}
 use borrow.Author.Needs.{needs}
 use borrow.Author.Count.{falls}

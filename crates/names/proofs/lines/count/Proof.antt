@@ -1,5 +1,5 @@
 -- `names::lines::count` meets its contract: what was counted and what is left to count are the whole count. Assumes nothing.
-use Prim.Native.Nat.{_+_, _≤_}
+use Prim.Native.Nat.{_+_, _-_, _≤_}
 use mathlib.Core.Path.{_≡_}
 use native.Mathlib.Omega.{arith}
 use lib.ListN.{length, getD, drop}

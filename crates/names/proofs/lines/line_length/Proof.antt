@@ -1,5 +1,5 @@
 -- `names::lines::line_length` meets its contract: the bytes passed and the rest of the line are the line. Assumes nothing.
-use Prim.Native.Nat.{_+_, _≤_}
+use Prim.Native.Nat.{_+_, _-_, _≤_}
 use mathlib.Core.Path.{_≡_}
 use native.Mathlib.Omega.{arith}
 use lib.ListN.{length, drop}

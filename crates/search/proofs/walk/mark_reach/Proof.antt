@@ -1,5 +1,5 @@
 -- `search::walk::mark_reach` meets its contract: a breadth-first search, whose invariant `Searching` holds from `search-start` on.
-use Prim.Native.Nat.{_+_, _*_, _/_, _<_}
+use Prim.Native.Nat.{_+_, _-_, _*_, _/_, _<_}
 use mathlib.Core.Path.{_≡_, refl, _∙_}
 use borrow.Author.Needs.{needs}
 use borrow.Author.Count.{falls}

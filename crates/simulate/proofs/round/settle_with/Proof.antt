@@ -2,7 +2,7 @@
 -- something. The measure is the number of gates less that count. Assumes nothing.
 use mathlib.Core.Path.{_≡_, refl, _∙_}
 use mathlib.Core.Bool.{true}
-use Prim.Native.Nat.{_+_, _<_}
+use Prim.Native.Nat.{_+_, _<_, _-_}
 use native.Mathlib.Omega.{arith}
 use mathlib.Core.List.{map}
 use denote.Ref.{now}

@@ -1,6 +1,6 @@
 -- `simulate::sweep::sweep_gates` meets its contract: it fills the slice gate by gate, each from the values already there. Assumes nothing.
 use mathlib.Core.Path.{_≡_, sym}
-use Prim.Native.Nat.{_≤_}
+use Prim.Native.Nat.{_≤_, _-_}
 use native.Mathlib.Omega.{arith}
 use denote.Ref.{now}
 use lib.ListN.{getD}

@@ -1,5 +1,6 @@
 -- `ternary::table::row_of` meets its contract: the array is the definitions' table, row by row. Assumes nothing.
 use mathlib.Core.Path.{sym}
+use Prim.Native.Nat.{_-_}
 use borrow.Author.Needs.{needs}
 use native.Mathlib.Omega.{arith}
 use lib.ListN.{List·getD-eq-default}

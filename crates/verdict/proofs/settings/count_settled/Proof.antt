@@ -1,6 +1,6 @@
 -- `verdict::settings::count_settled` meets its contract: `settled` counts the settled settings below s. Assumes nothing.
 use Rattle.verdict.proofs.Counting.{setting-count, lowest-le, count-lowest, count-le, count-more, count-end, flag-le, few-settings}
-use Prim.Native.Nat.{_≤_}
+use Prim.Native.Nat.{_-_, _≤_}
 use mathlib.Core.Path.{_≡_, refl, sym, _∙_}
 use native.Mathlib.Omega.{arith}
 use lib.ListN.{length}

@@ -1,7 +1,7 @@
 -- `verdict::settings::fill_settled` meets its contract: after s turns the first s bytes are flags. Assumes nothing.
 use lib.ListN.{length-set, length}
 use Rattle.laws.proofs.Tab.{set-placed-tab}
-use Prim.Native.Nat.{_^_, _≤_, _<_}
+use Prim.Native.Nat.{_-_, _^_, _≤_, _<_}
 use mathlib.Core.Path.{_≡_, refl, _∙_}
 use native.Mathlib.Omega.{arith}
 use native.Mathlib.Numerals.{add-one}

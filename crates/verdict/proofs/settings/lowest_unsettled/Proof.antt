@@ -1,7 +1,7 @@
 -- `verdict::settings::lowest_unsettled` meets its contract: every setting passed is settled, and the one at which the loops are left is not.
 -- Assumes nothing.
 use Rattle.verdict.proofs.Counting.{setting-count, settled-when, unsettled-when, lowest-found}
-use Prim.Native.Nat.{ℕ, _≤_, _<_}
+use Prim.Native.Nat.{ℕ, _-_, _≤_, _<_}
 use mathlib.Core.Path.{_≡_, refl, _∙_}
 use mathlib.Core.Bool.{true, false}
 use native.Mathlib.Omega.{arith}

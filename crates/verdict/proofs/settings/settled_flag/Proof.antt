@@ -1,7 +1,7 @@
 -- `verdict::settings::settled_flag` meets its contract: every gate passed is defined. Assumes nothing.
 use borrow.Author.Needs.{needs}
 use Rattle.verdict.proofs.Counting.{flag-settled, flag-unsettled}
-use Prim.Native.Nat.{ℕ, _≤_, _<_}
+use Prim.Native.Nat.{ℕ, _-_, _≤_, _<_}
 use mathlib.Core.Path.{_≡_}
 use native.Mathlib.Omega.{arith}
 use borrow.Author.Count.{below-more}

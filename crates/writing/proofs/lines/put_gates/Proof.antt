@@ -1,5 +1,5 @@
 -- `writing::lines::put_gates` meets its contract: after j turns the first j lines are appended. Assumes nothing.
-use Prim.Native.Nat.{_≤_}
+use Prim.Native.Nat.{_-_, _≤_}
 use mathlib.Core.Path.{_≡_}
 use native.Mathlib.Omega.{arith}
 use Rattle.writing.specs.Pieces.{Appended, pieces, gateText}

@@ -1,5 +1,5 @@
 -- `writing::pieces::put_all` meets its contract: after i turns the first i bytes are appended. Assumes nothing.
-use Prim.Native.Nat.{_≤_}
+use Prim.Native.Nat.{_-_, _≤_}
 use native.Mathlib.Omega.{arith}
 use lib.Seq.{take-all}
 use lib.ListN.{length, take}
