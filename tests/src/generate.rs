@@ -1,11 +1,13 @@
 //! Seeded random blocks and texts, and the means to tell which one failed.
 
 pub mod blocks;
+pub mod large;
 pub mod malformed;
 pub mod spoiled;
 pub mod texts;
 
 pub use blocks::{block, Shape};
+pub use large::large;
 pub use malformed::malformed;
 pub use spoiled::{over_a_limit, spoiled};
 pub use texts::text;

@@ -85,7 +85,7 @@ fn straight(random: &mut Random, n: usize, m: usize) -> Vec<Gate> {
 }
 
 /// The same gates under other numbers.
-fn shuffled(gates: Vec<Gate>, random: &mut Random) -> Vec<Gate> {
+pub(super) fn shuffled(gates: Vec<Gate>, random: &mut Random) -> Vec<Gate> {
     let new_number = random.permutation(gates.len());
     let mut moved = gates.clone();
     for (old, mut gate) in gates.into_iter().enumerate() {

@@ -1,0 +1,31 @@
+-- What a reply shows of an answer, for the proofs of the functions. Assumes nothing.
+use mathlib.Core.Path.{_≡_, refl}
+use mathlib.Core.List.{List}
+use Prim.Native.Nat.{ℕ}
+use lib.ListN.{length}
+use Rattle.netlist.specs.declared.Answer.{Answer}
+use Rattle.netlist.specs.declared.Refusal.{Refusal}
+use Rattle.netlist.specs.declared.Answer.the-variants.{Done, Refused}
+use Rattle.netlist.specs.Answers.{refusalNumber, refusalDetail, numberOf, countOf, detailOf, answerOf}
+use Rattle.netlist.specs.Operations.{render}
+use Rattle.render.specs.Promise.{RenderPromise}
+use Rattle.exports.specs.declared.Reply.{Reply}
+use Rattle.exports.specs.Replies.{Shows, refusedReply, RenderReply}
+
+-- A reply that shows an answer shows an equal one.
+pub shows-same : {a b : Answer} {r : Reply} → a ≡ b → Shows a r → Shows b r
+shows-same e s = rw (← e) s
+
+-- A refusal is shown by its number and its detail.
+pub shows-refusal : {a e : Refusal} {r : Reply} → a ≡ e → r ≡ refusedReply (refusalNumber e) (refusalDetail e) → Shows (Refused a) r
+unfolding refusedReply numberOf countOf detailOf
+shows-refusal p q = rw (p, q) record { number = refl; count = refl; detail = refl }
+
+-- A success is shown by 0, its count and its detail.
+pub shows-done : {a : Answer} {count detail : ℕ} → a ≡ Done count detail → Shows a record { number = 0; count = count; detail = detail }
+unfolding numberOf countOf detailOf
+shows-done p = rw p record { number = refl; count = refl; detail = refl }
+
+-- The reply of an answer that keeps Render's promise.
+pub render-reply : {ws entry : List ℕ} {a : Answer} {r : Reply} {exit : List ℕ} → RenderPromise ws entry a exit → Shows a r → RenderReply ws entry r exit
+render-reply p s = record { shows = shows-same (p .answers) s; promise = rw (← p .answers) p }

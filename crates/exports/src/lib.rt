@@ -1,0 +1,143 @@
+// The operations of document 01 as C functions, for programs in other languages: include/unloop.h declares them. Each has its operation's
+// promise and no condition. A slice is a pointer and a length.
+ghost use mathlib.Core.Path.{_≡_};
+ghost use lib.ListN.{length};
+ghost use Rattle.netlist.specs.declared.Answer.the-variants.{Refused};
+ghost use Rattle.netlist.specs.Answers.{answerOf, leftIn};
+ghost use Rattle.netlist.specs.Operations.{write, settle, pass, verdict, coverOf, groupsOf};
+ghost use Rattle.netlist.specs.Line.{lineStart, lineLength};
+ghost use Rattle.exports.specs.Replies.{Shows, refusedReply, RenderReply};
+use netlist::Answer;
+use netlist::Refusal;
+
+// An answer's number (0 on success), count and detail.
+#[repr(C)]
+pub struct Reply {
+    pub number: usize,
+    pub count: usize,
+    pub detail: usize,
+}
+
+// Where a line starts, and how many bytes it has.
+#[repr(C)]
+pub struct Span {
+    pub start: usize,
+    pub length: usize,
+}
+
+// A refusal's three words: "count 0".
+fn refused(number: usize, detail: usize) -> Reply
+    ensures { λ r. ⌜ r ≡ refusedReply number detail ⌝ }
+{
+    Reply {
+        number,
+        count: 0,
+        detail,
+    }
+}
+
+// The numbers of the table of refusals; "detail 0 but where stated".
+fn reply_of_refusal(refusal: Refusal) -> Reply
+    ensures { λ r. ⌜ Shows (Refused refusal) r ⌝ }
+{
+    match refusal {
+        Refusal::TextTooLong => refused(1, 0),
+        Refusal::SyntaxError(place) => refused(2, place),
+        Refusal::OverLimit => refused(3, 0),
+        Refusal::DuplicateDeclaration(place) => refused(4, place),
+        Refusal::UndeclaredName(place) => refused(5, place),
+        Refusal::MalformedBlock => refused(6, 0),
+        Refusal::BadSetting => refused(7, 0),
+        Refusal::TooManyCopies => refused(8, 0),
+        Refusal::NotSettled(setting) => refused(9, setting),
+        Refusal::NotStraight => refused(10, 0),
+        Refusal::NoRoom => refused(11, 0),
+    }
+}
+
+// The three words of an answer.
+fn reply_of(answer: Answer) -> Reply
+    ensures { λ r. ⌜ Shows answer r ⌝ }
+{
+    match answer {
+        Answer::Done { count, detail } => Reply {
+            number: 0,
+            count,
+            detail,
+        },
+        Answer::Refused(refusal) => reply_of_refusal(refusal),
+    }
+}
+
+// Write: block to text; count: bytes.
+#[no_mangle]
+pub extern "C" fn unloop_write(block: &[u16], text: &mut [u8]) -> Reply
+    ensures answers { λ r. ⌜ Shows (answerOf (write (now (block .entry)) (length (now (text .entry))))) r ⌝ }
+    ensures leaves { λ r. ⌜ now (text .exit) ≡ leftIn (write (now (block .entry)) (length (now (text .entry)))) (now (text .entry)) ⌝ }
+{
+    reply_of(writing::write(block, text))
+}
+
+// Settle: the settled value of each gate; count: rounds.
+#[no_mangle]
+pub extern "C" fn unloop_settle(block: &[u16], setting: &[u8], values: &mut [u8]) -> Reply
+    ensures answers { λ r. ⌜ Shows (answerOf (settle (now (block .entry)) (now (setting .entry)) (length (now (values .entry))))) r ⌝ }
+    ensures leaves { λ r. ⌜ now (values .exit) ≡ leftIn (settle (now (block .entry)) (now (setting .entry)) (length (now (values .entry)))) (now (values .entry)) ⌝ }
+{
+    reply_of(simulate::settle::settle(block, setting, values))
+}
+
+// Pass: the values of a straight block in one sweep; count: gates.
+#[no_mangle]
+pub extern "C" fn unloop_pass(block: &[u16], setting: &[u8], values: &mut [u8]) -> Reply
+    ensures answers { λ r. ⌜ Shows (answerOf (pass (now (block .entry)) (now (setting .entry)) (length (now (values .entry))))) r ⌝ }
+    ensures leaves { λ r. ⌜ now (values .exit) ≡ leftIn (pass (now (block .entry)) (now (setting .entry)) (length (now (values .entry)))) (now (values .entry)) ⌝ }
+{
+    reply_of(simulate::pass::pass(block, setting, values))
+}
+
+// Verdict: count: settled settings; detail: the lowest other, or 2^n if none.
+#[no_mangle]
+pub extern "C" fn unloop_verdict(block: &[u16]) -> Reply
+    ensures { λ r. ⌜ Shows (answerOf (verdict (now (block .entry)))) r ⌝ }
+{
+    reply_of(verdict::verdict(block))
+}
+
+// Cover: two words an entry; count: entries.
+#[no_mangle]
+pub extern "C" fn unloop_cover(block: &[u16], entries: &mut [u16]) -> Reply
+    ensures answers { λ r. ⌜ Shows (answerOf (coverOf (now (block .entry)) (length (now (entries .entry))))) r ⌝ }
+    ensures leaves { λ r. ⌜ now (entries .exit) ≡ leftIn (coverOf (now (block .entry)) (length (now (entries .entry)))) (now (entries .entry)) ⌝ }
+{
+    reply_of(cover::cover(block, entries))
+}
+
+// Groups: each gate's group number; count: groups.
+#[no_mangle]
+pub extern "C" fn unloop_groups(block: &[u16], numbers: &mut [u16]) -> Reply
+    ensures answers { λ r. ⌜ Shows (answerOf (groupsOf (now (block .entry)) (length (now (numbers .entry))))) r ⌝ }
+    ensures leaves { λ r. ⌜ now (numbers .exit) ≡ leftIn (groupsOf (now (block .entry)) (length (now (numbers .entry)))) (now (numbers .entry)) ⌝ }
+{
+    reply_of(groups::groups(block, numbers))
+}
+
+// Render: the rendered block; count: words.
+#[no_mangle]
+pub extern "C" fn unloop_render(block: &[u16], rendered: &mut [u16]) -> Reply
+    ensures { λ r. ⌜ RenderReply (now (block .entry)) (now (rendered .entry)) r (now (rendered .exit)) ⌝ }
+{
+    reply_of(render::render(block, rendered))
+}
+
+// Line: the line that holds the place, as the part of the caller's own text, without its LF.
+#[no_mangle]
+pub extern "C" fn unloop_line(text: &[u8], place: usize) -> Span
+    ensures { λ r. ⌜ r .start ≡ lineStart (now (text .entry)) place ⌝ }
+    ensures { λ r. ⌜ r .length ≡ lineLength (now (text .entry)) place ⌝ }
+{
+    Span {
+        start: line::line_start(text, place),
+        length: line::line_length(text, place),
+    }
+}

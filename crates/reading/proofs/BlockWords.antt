@@ -1,0 +1,165 @@
+-- The words that Read writes are the encoding of the tree's block. Assumes nothing.
+use mathlib.Core.Path.{_≡_, refl, sym, ap, ap₂, _∙_}
+use mathlib.Core.Bool.{true}
+use mathlib.Core.List.{List, [], _∷_, _++_, map, append-assoc}
+use Prim.Native.Nat.{ℕ, _+_, _*_, _≤_}
+use native.Mathlib.Omega.{arith}
+use lib.ListN.{length, getD, take, length-append, length-map}
+use lib.Seq.{sets, take-take, take-at, getD-take}
+use Rattle.laws.specs.Lists.{all, tab, joined, sum}
+use Rattle.laws.proofs.Tests.{and-left, and-right}
+use Rattle.laws.proofs.Tab.{length-tab, tab-ext, tab-getD, map-tab}
+use Rattle.netlist.specs.Netlist.{Name, gateCount, outputCount}
+use Rattle.netlist.specs.StoredBlock.{plainName, nameWords, gateWords, outputWords, gatesAt, outputsAt, encode}
+use Rattle.netlist.specs.Syntax.{name, apply, GateLine, Tree, legalTree, print, printInput, printGate}
+use Rattle.netlist.specs.Reading.{Mention, mentions, inputMention, gateMention, gateLinesAt, declaredNodes, declaredPorts, gatesIn, lineGates, Binding, bindings, termGates, linesGates, blockOf}
+use Rattle.encoding.proofs.Encoded.{length-encode}
+use Rattle.encoding.proofs.ListFacts.{length-joined}
+use Rattle.encoding.proofs.Gates.{length-gateWords}
+use Rattle.encoding.proofs.Outputs.{length-outputWords}
+use Rattle.names.specs.declared.Counts.{Counts}
+use Rattle.names.specs.Packed.{packed}
+use Rattle.names.specs.Results.{Prints, treeCounts, declared, packedNames}
+use Rattle.names.proofs.ListFacts.{map-append, map-map}
+use Rattle.names.proofs.TreeLines.{name-bytes, legal-parts}
+use Rattle.names.proofs.TreeTable.{declared-length}
+use Rattle.terms.specs.Ports.{portWords}
+use Rattle.terms.proofs.PortNames.{port-words}
+use Rattle.terms.proofs.Closings.{gates-count}
+use Rattle.terms.proofs.ListFacts.{sets-append}
+use Rattle.reading.specs.Words.{nameOf, wordOf, blockWords, wordCount}
+use Rattle.reading.specs.Steps.{WriteReady}
+use Rattle.reading.proofs.ListFacts.{placed-front, length-joined-tab}
+
+-- ---- the number of gates
+
+lines-gates : (gs : List GateLine) (bs : List Binding) (first : ℕ) → length (linesGates gs bs first) ≡ sum (map lineGates gs)
+unfolding linesGates lineGates gatesIn
+lines-gates [] bs first = refl
+lines-gates (g ∷ gs) bs first =
+    length-append (termGates (apply (g .kind) (g .terms)) bs first) (linesGates gs bs (first + lineGates g))
+    ∙ ap₂ (λ (a b : ℕ). a + b) (gates-count (apply (g .kind) (g .terms)) bs first) (lines-gates gs bs (first + lineGates g))
+
+module _ (t : Tree) where
+  pub block-gates : gateCount (blockOf t) ≡ sum (map lineGates (t .gates))
+  unfolding blockOf
+  block-gates = lines-gates (t .gates) (bindings t) 0
+
+  pub block-outputs : outputCount (blockOf t) ≡ length (t .outputs)
+  unfolding blockOf
+  block-outputs = length-map (t .outputs) _
+
+  pub block-inputs : blockOf t .inputs ≡ t .inputs
+  unfolding blockOf
+  block-inputs = refl
+
+  pub block-length : (c : Counts) → c ≡ treeCounts t → length (encode (blockOf t)) ≡ wordCount c
+  unfolding wordCount treeCounts outputsAt gatesAt
+  block-length c e = length-encode (blockOf t) ∙ rw (e, block-inputs, block-gates, block-outputs) refl
+
+-- ---- the names of the inputs
+
+input-numbers : (ss : List Name) (at : ℕ) → map (λ (d : Mention). packed (d .name)) (mentions printInput inputMention ss at) ≡ map packed ss
+unfolding mentions inputMention
+input-numbers [] at = refl
+input-numbers (s ∷ ss) at = ap {B = List ℕ} (λ r. packed s ∷ r) (input-numbers ss _)
+
+names-words : (ss : List Name) → all plainName ss ≡ true → map (λ (s : Name). portWords (packed s)) ss ≡ map nameWords ss
+unfolding plainName
+names-words [] h = refl
+names-words (s ∷ ss) h =
+    ap₂ (λ (a : List ℕ) (r : List (List ℕ)). a ∷ r) (port-words s (name-bytes _ s (and-left (plainName s) (all plainName ss) h)))
+    (names-words ss (and-right (plainName s) (all plainName ss) h))
+
+module _ (t : Tree) (legal : legalTree t ≡ true) (names : List ℕ) (is : take (length (declared t)) names ≡ packedNames t) where
+  prints : Prints t (print t)
+  prints = record { legal = legal; printed = refl }
+
+  number : Mention → ℕ
+  number d = packed (d .name)
+
+  first-numbers : take (length (t .inputs)) names ≡ map packed (t .inputs)
+  unfolding declared packedNames declaredNodes number
+  first-numbers =
+      let n = length (t .inputs) in
+      let ins = mentions printInput inputMention (t .inputs) 0 in
+      let gs = mentions printGate gateMention (t .gates) (gateLinesAt t) in
+      let e : map number (declared t) ≡ map packed (t .inputs) ++ (map number gs ++ map number (declaredPorts t)) =
+      map-append number (ins ++ gs) (declaredPorts t)
+      ∙ ap (λ (r : List ℕ). r ++ map number (declaredPorts t)) (map-append number ins gs ∙ ap (λ (r : List ℕ). r ++ map number gs) (input-numbers (t .inputs) 0))
+      ∙ append-assoc (map packed (t .inputs)) (map number gs) (map number (declaredPorts t)) in
+      let l : n ≤ length (declared t) = rw (declared-length prints) (omega arith) in
+      sym (take-take n (length (declared t)) names l) ∙ ap (take n) (is ∙ e) ∙ take-at (map packed (t .inputs)) _ n (length-map (t .inputs) packed)
+
+  input-words : tab (nameOf names) (length (t .inputs)) ≡ map nameWords (t .inputs)
+  unfolding nameOf
+  input-words =
+      let n = length (t .inputs) in
+      let ps = map packed (t .inputs) in
+      tab-ext (nameOf names) (λ i. portWords (getD ps i 0)) n (λ i l. ap portWords (sym (getD-take n names i 0 l) ∙ ap (λ (r : List ℕ). getD r i 0) first-numbers))
+      ∙ sym (map-tab portWords (λ i. getD ps i 0) n)
+      ∙ ap (map portWords) (tab-getD 0 ps n (length-map (t .inputs) packed))
+      ∙ sym (map-map portWords packed (t .inputs))
+      ∙ names-words (t .inputs) (legal-parts t legal .inputs)
+
+four-parts : {i g o i′ g′ o′ : ℕ} {N G O N′ G′ O′ : List ℕ} → i ≡ i′ → g ≡ g′ → o ≡ o′ → N ≡ N′ → G ≡ G′ → O ≡ O′
+    → _≡_ {A = List ℕ} ((i ∷ g ∷ o ∷ []) ++ N ++ G ++ O) ((i′ ∷ g′ ∷ o′ ∷ []) ++ N′ ++ G′ ++ O′)
+four-parts p q r x y z = rw (p, q, r, x, y, z)
+
+module _ {text : List ℕ} {c : Counts} {names gates outputs : List ℕ} (w : WriteReady text c names gates outputs) where
+  abbrev t : Tree
+  t = w .tree
+
+  abbrev n : ℕ
+  n = length (t .inputs)
+
+  inputs-are : c .inputs ≡ n
+  unfolding treeCounts
+  inputs-are = ap (λ (d : Counts). d .inputs) (w .counted)
+
+  gates-are : c .gates ≡ gateCount (blockOf t)
+  unfolding treeCounts
+  gates-are = ap (λ (d : Counts). d .gates) (w .counted) ∙ sym (block-gates t)
+
+  outputs-are : c .outputs ≡ outputCount (blockOf t)
+  unfolding treeCounts
+  outputs-are = ap (λ (d : Counts). d .outputs) (w .counted) ∙ sym (block-outputs t)
+
+  pub gates-length : length (joined (map (gateWords n) (blockOf t .gates))) ≡ 5 * c .gates
+  gates-length = length-joined (gateWords n) 5 (length-gateWords n) (blockOf t .gates) ∙ ap (λ (k : ℕ). 5 * k) (sym gates-are)
+
+  pub outputs-length : length (joined (map (outputWords n) (blockOf t .outputs))) ≡ 5 * c .outputs
+  outputs-length = length-joined (outputWords n) 5 (length-outputWords n) (blockOf t .outputs) ∙ ap (λ (k : ℕ). 5 * k) (sym outputs-are)
+
+  -- the words are the block's
+  pub words-are : blockWords c names gates outputs ≡ encode (blockOf t)
+  unfolding blockWords encode wordOf blockOf
+  words-are =
+      four-parts inputs-are gates-are outputs-are
+      (ap (λ (k : ℕ). joined (tab (nameOf names) k)) inputs-are ∙ ap joined (input-words t (w .limited .prints .legal) names (w .numbersAre)))
+      (ap (λ (r : List ℕ). tab (wordOf r) (5 * c .gates)) (w .gatesWritten) ∙ placed-front 0 _ (w .gates₀) (5 * c .gates) gates-length)
+      (ap (λ (r : List ℕ). tab (wordOf r) (5 * c .outputs)) (w .outputsWritten) ∙ placed-front 0 _ (w .outputs₀) (5 * c .outputs) outputs-length)
+
+-- ---- writing the four parts
+
+pub name-size : (names : List ℕ) (i : ℕ) → length (nameOf names i) ≡ 4
+unfolding nameOf portWords
+name-size names i = refl
+
+pub block-written : (c : Counts) (names gates outputs block a b d e : List ℕ) → a ≡ sets block 0 (c .inputs ∷ c .gates ∷ c .outputs ∷ [])
+    → b ≡ sets a 3 (joined (tab (nameOf names) (c .inputs)))
+    → d ≡ sets b (3 + 4 * c .inputs) (tab (wordOf gates) (5 * c .gates))
+    → e ≡ sets d (3 + 4 * c .inputs + 5 * c .gates) (tab (wordOf outputs) (5 * c .outputs))
+    → e ≡ sets block 0 (blockWords c names gates outputs)
+unfolding blockWords
+block-written c names gates outputs block a b d e p q r s =
+    let head = c .inputs ∷ c .gates ∷ c .outputs ∷ [] in
+    let ns = joined (tab (nameOf names) (c .inputs)) in
+    let gs = tab (wordOf gates) (5 * c .gates) in
+    let os = tab (wordOf outputs) (5 * c .outputs) in
+    let l : length ns ≡ 4 * c .inputs = length-joined-tab (nameOf names) 4 (name-size names) (c .inputs) in
+    let m : length (head ++ ns) ≡ 3 + 4 * c .inputs = omega (arith, length-append head ns, l) in
+    let k : length (head ++ ns ++ gs) ≡ 3 + 4 * c .inputs + 5 * c .gates = omega (arith, length-append (head ++ ns) gs, m, length-tab (wordOf gates) (5 * c .gates)) in
+    let u : b ≡ sets block 0 (head ++ ns) = q ∙ rw p (sets-append head block 0 3 ns (omega arith)) in
+    let v : d ≡ sets block 0 (head ++ ns ++ gs) = r ∙ rw u (sets-append (head ++ ns) block 0 (3 + 4 * c .inputs) gs (omega (arith, m))) in
+    s ∙ rw v (sets-append (head ++ ns ++ gs) block 0 (3 + 4 * c .inputs + 5 * c .gates) os (omega (arith, k)))

@@ -1,0 +1,74 @@
+-- `reading::words::put_words` meets its contract: one word a turn. Assumes nothing.
+use native.Mathlib.Omega.{arith}
+use mathlib.Core.Path.{_≡_, refl, _∙_}
+use Rattle.reading.proofs.words.put_words.Statement.{statement}
+use Rattle.reading.proofs.words.put_words.Tie as tie
+use Prim.Native.Nat.{_+_, _-_, _≤_}
+use lib.ListN.{length, getD, length-set}
+use lib.Seq.{sets}
+use Rattle.laws.specs.Lists.{tab}
+use Rattle.reading.specs.Words.{wordOf}
+use Rattle.reading.proofs.ListFacts.{stored-next}
+
+abbrev Inv-loop : tie.InvT-loop
+Inv-loop words count block₀ at i₀ block i = (i ≤ count) × (block ≡ sets block₀ at (tab (wordOf words) i)) × (length block ≡ length block₀)
+
+abbrev μ-loop : tie.MeasureT-loop
+μ-loop words count block₀ at i₀ block i = count - i
+
+loop-holds : tie.Need-loop-holds Inv-loop μ-loop
+loop-holds c = (omega arith, refl, refl)
+
+mul-block : tie.Need-mul-block Inv-loop μ-loop
+mul-block c = omega arith
+
+shared-slice-read-block : tie.Need-shared-slice-read-block Inv-loop μ-loop
+shared-slice-read-block c = omega arith
+
+add-block : tie.Need-add-block Inv-loop μ-loop
+add-block c = omega arith
+
+mul-block-2 : tie.Need-mul-block-2 Inv-loop μ-loop
+mul-block-2 c = omega arith
+
+slice-write-block : tie.Need-slice-write-block Inv-loop μ-loop
+slice-write-block c = omega arith
+
+add-i : tie.Need-add-i Inv-loop μ-loop
+add-i c = omega arith
+
+loop-less : tie.Need-loop-less Inv-loop μ-loop
+loop-less c = omega arith
+
+loop-again : tie.Need-loop-again Inv-loop μ-loop
+unfolding wordOf
+loop-again c = let a = c .before .before .before .args in
+    let l = c .before .before .loop in (
+      omega arith,
+      stored-next (wordOf (a .words .now)) (a .block .now) (l .block) (a .at) (l .i) (getD (a .words .now) (l .i) 0) (l .inv .1) refl,
+      length-set (l .block) (a .at + l .i) (getD (a .words .now) (l .i) 0) ∙ l .inv .2,
+    )
+
+same-length : tie.Need-same-length Inv-loop μ-loop
+same-length c = c .before .loop .inv .2
+
+returns : tie.Need-returns Inv-loop μ-loop
+returns c = let all : c .before .loop .i ≡ c .before .before .args .count = omega arith in rw (← all) (c .before .loop .inv .1)
+
+pub put-words-spec : {M : Type 1} → statement M
+put-words-spec =
+    tie.close
+    (tie.spec
+    Inv-loop
+    μ-loop
+    loop-holds
+    mul-block
+    shared-slice-read-block
+    add-block
+    mul-block-2
+    slice-write-block
+    add-i
+    loop-less
+    loop-again
+    same-length
+    returns)

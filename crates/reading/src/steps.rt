@@ -1,0 +1,88 @@
+// The steps of Read on a text that is a legal tree's and within the limits: declare, look for repeats, resolve, write.
+use crate::words::put_block;
+use names::Counts;
+use names::Repeat;
+use names::search::duplicate;
+use names::table::declare;
+use names::tally::counts;
+use netlist::Answer;
+use netlist::Refusal;
+use terms::Uses;
+use terms::resolve;
+ghost use Rattle.reading.specs.Steps.{Ready, Tabled, TablesReady, Resolving, WriteReady, Answered};
+
+// The tables of the declared names, and 4.
+fn tables(
+    text: &[u8],
+    c: Counts,
+    names: &mut [u64],
+    places: &mut [usize],
+    nodes: &mut [u16],
+) -> Repeat
+    requires { ⌜ TablesReady (now text) c (now names) (now places) (now nodes) ⌝ }
+    ensures { λ r. ⌜ Tabled (now (text .entry)) c (now (names .exit)) (now (nodes .exit)) r ⌝ }
+{
+    declare(text, c, names, places, nodes);
+    duplicate(c, names, places)
+}
+
+// 11, and the block's words.
+fn finish(
+    text: &[u8],
+    c: Counts,
+    names: &[u64],
+    gates: &[u16],
+    outputs: &[u16],
+    block: &mut [u16],
+) -> Answer
+    requires { ⌜ WriteReady (now text) c (now names) (now gates) (now outputs) ⌝ }
+    ensures { λ r. ⌜ Answered (now (text .entry)) (now (block .entry)) r (now (block .exit)) ⌝ }
+{
+    let count = 3 + 4 * c.inputs + 5 * c.gates + 5 * c.outputs;
+    if block.len() < count {
+        return Answer::Refused(Refusal::NoRoom);
+    }
+    put_block(c, names, gates, outputs, block);
+    Answer::Done { count, detail: 0 }
+}
+
+// 5, then the rest.
+fn read_terms(
+    text: &[u8],
+    c: Counts,
+    names: &[u64],
+    nodes: &[u16],
+    gates: &mut [u16],
+    outputs: &mut [u16],
+    block: &mut [u16],
+) -> Answer
+    requires { ⌜ Resolving (now text) c (now names) (now nodes) (now gates) (now outputs) ⌝ }
+    ensures { λ r. ⌜ Answered (now (text .entry)) (now (block .entry)) r (now (block .exit)) ⌝ }
+{
+    let uses = resolve(text, c, names, nodes, gates, outputs);
+    if let Uses::Undeclared(place) = uses {
+        return Answer::Refused(Refusal::UndeclaredName(place));
+    }
+    finish(text, c, names, gates, outputs, block)
+}
+
+// 4, then 5 and the rest.
+pub fn read_with(
+    text: &[u8],
+    names: &mut [u64],
+    places: &mut [usize],
+    nodes: &mut [u16],
+    gates: &mut [u16],
+    outputs: &mut [u16],
+    block: &mut [u16],
+) -> Answer
+    requires { ⌜ Ready (now text) (now names) (now places) (now nodes) (now gates) (now outputs) ⌝ }
+    ensures { λ r. ⌜ Answered (now (text .entry)) (now (block .entry)) r (now (block .exit)) ⌝ }
+{
+    let c = counts(text);
+    let repeat = tables(text, c, names, places, nodes);
+    if let Repeat::At(place) = repeat {
+        return Answer::Refused(Refusal::DuplicateDeclaration(place));
+    }
+    read_terms(text, c, names, nodes, gates, outputs, block)
+}

@@ -1,0 +1,68 @@
+// The block's words: the counts, the names of the inputs, and the words of gates and outputs that are there already.
+use names::Counts;
+ghost use mathlib.Core.Path.{_≡_};
+ghost use mathlib.Core.List.{[], _∷_};
+ghost use Prim.Native.Nat.{_+_, _*_, _≤_};
+ghost use lib.ListN.{length};
+ghost use lib.Seq.{sets};
+ghost use Rattle.laws.specs.Lists.{tab, joined};
+ghost use Rattle.terms.specs.Ports.{portWords};
+ghost use Rattle.reading.specs.Words.{nameOf, wordOf, blockWords, PutReady};
+
+// Writes the three counts.
+fn put_counts(c: Counts, block: &mut [u16])
+    requires { ⌜ (c .inputs ≤ 10) × (c .gates ≤ 1024) × (c .outputs ≤ 16) × (3 ≤ length (now block)) ⌝ }
+    ensures { λ r. ⌜ now (block .exit) ≡ sets (now (block .entry)) 0 (c .inputs ∷ c .gates ∷ c .outputs ∷ []) ⌝ }
+{
+    block[0] = c.inputs as u16;
+    block[1] = c.gates as u16;
+    block[2] = c.outputs as u16;
+}
+
+// Writes the four words of the name with this number.
+fn put_name(block: &mut [u16], at: usize, name: u64)
+    requires { ⌜ at + 4 ≤ length (now block) ⌝ }
+    ensures { λ r. ⌜ now (block .exit) ≡ sets (now (block .entry)) at (portWords name) ⌝ }
+{
+    block[at] = (name % 65536) as u16;
+    block[at + 1] = (name / 65536 % 65536) as u16;
+    block[at + 2] = (name / 4294967296 % 65536) as u16;
+    block[at + 3] = (name / 281474976710656 % 65536) as u16;
+}
+
+// Writes the first n names.
+fn put_names(names: &[u64], n: usize, block: &mut [u16])
+    requires { ⌜ (n ≤ length (now names)) × (3 + 4 * n ≤ length (now block)) ⌝ }
+    ensures { λ r. ⌜ now (block .exit) ≡ sets (now (block .entry)) 3 (joined (tab (nameOf (now (names .entry))) n)) ⌝ }
+{
+    let mut i = 0;
+    while i < n {
+        put_name(block, 3 + 4 * i, names[i]);
+        i += 1;
+    }
+}
+
+// Copies the first words to `at`.
+fn put_words(words: &[u16], count: usize, block: &mut [u16], at: usize)
+    requires { ⌜ (count ≤ length (now words)) × (at + count ≤ length (now block)) ⌝ }
+    ensures { λ r. ⌜ now (block .exit) ≡ sets (now (block .entry)) at (tab (wordOf (now (words .entry))) count) ⌝ }
+{
+    let mut i = 0;
+    while i < count {
+        block[at + i] = words[i];
+        i += 1;
+    }
+}
+
+// Writes a whole block.
+pub fn put_block(c: Counts, names: &[u64], gates: &[u16], outputs: &[u16], block: &mut [u16])
+    requires { ⌜ PutReady c (now names) (now gates) (now outputs) (now block) ⌝ }
+    ensures { λ r. ⌜ now (block .exit) ≡ sets (now (block .entry)) 0 (blockWords c (now (names .entry)) (now (gates .entry)) (now (outputs .entry))) ⌝ }
+{
+    let first = 3 + 4 * c.inputs;
+    let last = first + 5 * c.gates;
+    put_counts(c, block);
+    put_names(names, c.inputs, block);
+    put_words(gates, 5 * c.gates, block, first);
+    put_words(outputs, 5 * c.outputs, block, last);
+}

@@ -1,0 +1,79 @@
+/* unloop: takes loops out of gate netlists. The static library of the proved crate `exports`, for x86-64 Linux.
+
+   Each function keeps its operation's promise for every argument, and none has a condition but C's own: a pointer
+   is to as many elements as the length behind it says, and is aligned (an empty slice may be lent as any pointer that
+   is not null and is aligned); a slice that is written overlaps no other. A function keeps nothing of what it is
+   lent, and a refusal alters nothing. Read is not here yet. */
+#ifndef UNLOOP_H
+#define UNLOOP_H
+
+#include <stddef.h>
+#include <stdint.h>
+
+#ifdef __cplusplus
+extern "C" {
+#endif
+
+/* A number, 0 on success; a count; a detail. A refusal has count 0, and detail 0 but where stated. */
+typedef struct unloop_reply {
+    size_t number;
+    size_t count;
+    size_t detail;
+} unloop_reply;
+
+/* The numbers of the refusals that these functions give. */
+enum unloop_refusal {
+    UNLOOP_DONE = 0,
+    UNLOOP_MALFORMED_BLOCK = 6,
+    UNLOOP_BAD_SETTING = 7,
+    UNLOOP_TOO_MANY_COPIES = 8,
+    UNLOOP_NOT_SETTLED = 9, /* detail: the lowest setting that is not settled */
+    UNLOOP_NOT_STRAIGHT = 10,
+    UNLOOP_NO_ROOM = 11
+};
+
+/* Enough room for every result: words of a block, bytes of a text, gates, words of a cover. */
+enum unloop_room {
+    UNLOOP_BLOCK_WORDS = 5243,
+    UNLOOP_TEXT_BYTES = 61440,
+    UNLOOP_GATES = 1024,
+    UNLOOP_COVER_WORDS = 118098
+};
+
+/* A part of a text. */
+typedef struct unloop_span {
+    size_t start;
+    size_t length;
+} unloop_span;
+
+/* Write: block to text; count: bytes. 6, 11. */
+unloop_reply unloop_write(const uint16_t *block, size_t block_length, uint8_t *text, size_t text_length);
+
+/* Settle: the settled value of each gate, a byte each, from one byte an input, 0, 1 or 2; count: rounds. 6, 7, 11. */
+unloop_reply unloop_settle(const uint16_t *block, size_t block_length, const uint8_t *setting, size_t setting_length,
+                           uint8_t *values, size_t values_length);
+
+/* Pass: the values of a straight block in one sweep, equal to Settle's; count: gates. 6, 10, 7, 11. */
+unloop_reply unloop_pass(const uint16_t *block, size_t block_length, const uint8_t *setting, size_t setting_length,
+                         uint8_t *values, size_t values_length);
+
+/* Verdict: count: settled settings; detail: the lowest other, or 2^n if none. 6. */
+unloop_reply unloop_verdict(const uint16_t *block, size_t block_length);
+
+/* Cover: two words an entry; count: entries. 6, 11. */
+unloop_reply unloop_cover(const uint16_t *block, size_t block_length, uint16_t *entries, size_t entries_length);
+
+/* Groups: each gate's group number, a word each; count: groups. 6, 11. */
+unloop_reply unloop_groups(const uint16_t *block, size_t block_length, uint16_t *numbers, size_t numbers_length);
+
+/* Render: the rendered block; count: words. 6, 8, 9, 11. */
+unloop_reply unloop_render(const uint16_t *block, size_t block_length, uint16_t *rendered, size_t rendered_length);
+
+/* Line: the line that holds the place, without its LF. Never refuses. */
+unloop_span unloop_line(const uint8_t *text, size_t text_length, size_t place);
+
+#ifdef __cplusplus
+}
+#endif
+
+#endif

@@ -1,0 +1,69 @@
+/* Calls every function of include/unloop.h on document 01's specimens 4, 5, 6 and 9, and says where an answer is another. */
+#include "unloop.h"
+#include <stdio.h>
+#include <string.h>
+
+static int failures = 0;
+
+static void check(int ok, const char *what)
+{
+    if (!ok) {
+        failures++;
+        fprintf(stderr, "smoke: %s\n", what);
+    }
+}
+
+static void answers(unloop_reply reply, size_t number, size_t count, size_t detail, const char *what)
+{
+    check(reply.number == number && reply.count == count && reply.detail == detail, what);
+    if (reply.number != number || reply.count != count || reply.detail != detail)
+        fprintf(stderr, "  %zu %zu %zu\n", reply.number, reply.count, reply.detail);
+}
+
+#define LENGTH(a) (sizeof(a) / sizeof((a)[0]))
+
+/* Specimen 9: (in s) (gate p (and s q)) (gate q (or s p)) (out y q). */
+static const uint16_t looped[] = {1, 2, 1, 's', 0, 0, 0, 17, 0, 2, 0, 0, 18, 0, 1, 0, 0, 'y', 0, 0, 0, 2};
+static const char written[] = "(in s)\n(gate _0 (and s 0))\n(gate _1 (or s _0))\n(gate _2 (and s _1))\n(gate _3 (or s _2))\n(out y _3)\n";
+
+/* Specimen 5: (gate p (or p (not p))). */
+static const uint16_t unsettled[] = {0, 2, 0, 8, 1, 0, 0, 0, 18, 1, 0, 0, 0};
+
+/* Specimen 4: (in a) (in b) (gate p (and a q)) (gate q (or b p)). */
+static const uint16_t waiting[] = {2, 2, 0, 'a', 0, 0, 0, 'b', 0, 0, 0, 17, 0, 3, 0, 0, 18, 1, 2, 0, 0};
+
+int main(void)
+{
+    static uint16_t rendered[UNLOOP_BLOCK_WORDS];
+    static uint8_t text[UNLOOP_TEXT_BYTES];
+    static uint16_t words[UNLOOP_COVER_WORDS];
+    uint8_t values[4] = {9, 9, 9, 9};
+    const uint8_t one[] = {1}, bad[] = {3}, a_1_b_0[] = {1, 0};
+
+    answers(unloop_render(looped, LENGTH(looped), rendered, LENGTH(rendered)), 0, 32, 0, "render");
+    answers(unloop_write(rendered, 32, text, sizeof text), 0, sizeof written - 1, 0, "write");
+    check(memcmp(text, written, sizeof written - 1) == 0, "the written text");
+    answers(unloop_write(rendered, 32, text, sizeof written - 2), 11, 0, 0, "write, one byte short");
+    answers(unloop_pass(rendered, 32, one, 1, values, 4), 0, 4, 0, "pass");
+    check(values[0] == 0 && values[1] == 1 && values[2] == 1 && values[3] == 1, "the values of pass");
+    answers(unloop_pass(looped, LENGTH(looped), one, 1, values, 4), 10, 0, 0, "pass on a loop");
+    answers(unloop_settle(looped, LENGTH(looped), one, 1, values, 4), 0, 2, 0, "settle");
+    check(values[0] == 1 && values[1] == 1 && values[2] == 1 && values[3] == 1, "the values of settle");
+    answers(unloop_settle(looped, LENGTH(looped), bad, 1, values, 4), 7, 0, 0, "settle from a bad setting");
+    answers(unloop_settle(waiting, LENGTH(waiting), a_1_b_0, 2, values, 2), 0, 0, 0, "settle, undefined");
+    check(values[0] == 2 && values[1] == 2 && values[2] == 1, "the undefined values");
+    answers(unloop_verdict(looped, LENGTH(looped)), 0, 2, 2, "verdict");
+    answers(unloop_verdict(waiting, LENGTH(waiting)), 0, 3, 1, "verdict of specimen 4");
+    answers(unloop_verdict(looped, LENGTH(looped) - 1), 6, 0, 0, "verdict of torn words");
+    answers(unloop_cover(waiting, LENGTH(waiting), words, LENGTH(words)), 0, 2, 0, "cover");
+    check(words[0] == 1 && words[1] == 0 && words[2] == 2 && words[3] == 2 && words[4] == 0, "the entries");
+    answers(unloop_groups(unsettled, LENGTH(unsettled), words, 2), 0, 1, 0, "groups");
+    check(words[0] == 0 && words[1] == 0, "the group numbers");
+    answers(unloop_render(unsettled, LENGTH(unsettled), rendered, LENGTH(rendered)), 9, 0, 0, "render of specimen 5");
+    answers(unloop_render(waiting, LENGTH(waiting), rendered, 0), 9, 0, 1, "render of specimen 4");
+    unloop_span span = unloop_line((const uint8_t *)written, sizeof written - 1, 10);
+    check(span.start == 7 && span.length == 19, "line");
+    if (failures == 0)
+        puts("smoke: ok");
+    return failures != 0;
+}

@@ -1,0 +1,112 @@
+//! Blocks at the limits, each the hardest of its kind for some operation.
+
+use super::blocks::shuffled;
+use super::Random;
+use crate::block::{Block, Gate, Kind, Output, Source};
+use crate::limits::{GATES, INPUTS};
+
+/// The blocks, by name.
+pub fn large() -> Vec<(&'static str, Block)> {
+    let mut random = Random::new(1);
+    vec![
+        ("straight-chain", full(chain(|gate| gate.checked_sub(1)))),
+        ("reversed-chain", full(reversed_chain())),
+        (
+            "shuffled-chain",
+            full(shuffled(reversed_chain(), &mut random)),
+        ),
+        ("straight-fours", full(straight_fours(&mut random, GATES))),
+        ("ring-of-1024", full(ring(0, GATES))),
+        ("reversed-ring-of-1024", full(reversed_ring(GATES))),
+        ("shuffled-ring", full(shuffled(ring(0, GATES), &mut random))),
+        ("unbroken-ring-of-1024", full(unbroken_ring(GATES))),
+        ("ring-of-32", full(ring(0, 32))),
+        ("reversed-ring-of-32", full(reversed_ring(32))),
+        ("groups-of-5-and-lone", full(groups_of_5(&mut random))),
+    ]
+}
+
+/// With all inputs, and sixteen outputs at the last gates.
+fn full(gates: Vec<Gate>) -> Block {
+    let output = |number| Output {
+        port: format!("o{number}"),
+        node: Source::Gate(gates.len() - 1 - number),
+    };
+    Block {
+        inputs: (0..INPUTS).map(|i| format!("i{i}")).collect(),
+        outputs: (0..crate::limits::OUTPUTS).map(output).collect(),
+        gates,
+    }
+}
+
+/// A `nand` of an input and another gate, or of two inputs.
+fn joined(number: usize, other: Option<usize>) -> Gate {
+    let input = Source::Input(number % INPUTS);
+    let other = other.map_or(Source::Input((number + 1) % INPUTS), Source::Gate);
+    Gate {
+        kind: Kind::Nand,
+        operands: vec![input, other],
+    }
+}
+
+fn chain(read: impl Fn(usize) -> Option<usize>) -> Vec<Gate> {
+    (0..GATES).map(|gate| joined(gate, read(gate))).collect()
+}
+
+fn reversed_chain() -> Vec<Gate> {
+    chain(|gate| Some(gate + 1).filter(|&next| next < GATES))
+}
+
+/// Each gate reads the four before it, or inputs.
+fn straight_fours(random: &mut Random, count: usize) -> Vec<Gate> {
+    let operand = |gate: usize, back: usize| match gate.checked_sub(back) {
+        Some(read) => Source::Gate(read),
+        None => Source::Input((gate + back) % INPUTS),
+    };
+    let gate = |gate| Gate {
+        kind: random.pick(&Kind::MANY),
+        operands: (1..=4).map(|back| operand(gate, back)).collect(),
+    };
+    (0..count).map(gate).collect()
+}
+
+/// Each gate `not` of the one before; the first is broken by a constant.
+fn ring(base: usize, size: usize) -> Vec<Gate> {
+    let not = |rank: usize| Gate {
+        kind: Kind::Not,
+        operands: vec![Source::Gate(base + rank - 1)],
+    };
+    let first = Gate {
+        kind: Kind::And,
+        operands: vec![Source::Gate(base + size - 1), Source::Constant(false)],
+    };
+    std::iter::once(first).chain((1..size).map(not)).collect()
+}
+
+/// Each gate `not` of the one behind it; the last is broken by a constant.
+fn reversed_ring(size: usize) -> Vec<Gate> {
+    let mut gates = ring(0, size);
+    gates.reverse();
+    for operand in gates.iter_mut().flat_map(|gate| &mut gate.operands) {
+        if let Source::Gate(read) = operand {
+            *operand = Source::Gate(size - 1 - *read);
+        }
+    }
+    gates
+}
+
+/// Nothing breaks it: no gate is ever defined.
+fn unbroken_ring(size: usize) -> Vec<Gate> {
+    let mut gates = ring(0, size);
+    gates[0].operands[1] = Source::Constant(true);
+    gates
+}
+
+/// 32 rings of 5 and straight gates: 1,024 copies.
+fn groups_of_5(random: &mut Random) -> Vec<Gate> {
+    let mut gates = straight_fours(random, GATES - 32 * 25);
+    for _ in 0..32 {
+        gates.extend(ring(gates.len(), 5));
+    }
+    gates
+}

@@ -1,0 +1,103 @@
+//! The proved library, through the C functions of `include/unloop.h`, with slices for pointers and lengths.
+//! Only there where `rt staticlib exports` was run before.
+
+use crate::Answer;
+
+#[repr(C)]
+struct Reply {
+    number: usize,
+    count: usize,
+    detail: usize,
+}
+
+#[repr(C)]
+struct Span {
+    start: usize,
+    length: usize,
+}
+
+// A slice is passed as two parameters: as one, Rust would put a third slice on the stack whole, where C has its pointer in a register.
+extern "C" {
+    fn unloop_write(block: *const u16, words: usize, text: *mut u8, room: usize) -> Reply;
+    fn unloop_settle(
+        block: *const u16,
+        words: usize,
+        setting: *const u8,
+        inputs: usize,
+        values: *mut u8,
+        room: usize,
+    ) -> Reply;
+    fn unloop_pass(
+        block: *const u16,
+        words: usize,
+        setting: *const u8,
+        inputs: usize,
+        values: *mut u8,
+        room: usize,
+    ) -> Reply;
+    fn unloop_verdict(block: *const u16, words: usize) -> Reply;
+    fn unloop_cover(block: *const u16, words: usize, entries: *mut u16, room: usize) -> Reply;
+    fn unloop_groups(block: *const u16, words: usize, numbers: *mut u16, room: usize) -> Reply;
+    fn unloop_render(block: *const u16, words: usize, rendered: *mut u16, room: usize) -> Reply;
+    fn unloop_line(text: *const u8, bytes: usize, place: usize) -> Span;
+}
+
+impl From<Reply> for Answer {
+    fn from(reply: Reply) -> Answer {
+        Answer {
+            number: reply.number as u64,
+            count: reply.count as u64,
+            detail: reply.detail as u64,
+        }
+    }
+}
+
+// Each call is safe: the functions have no condition but that a pointer and a length are a slice's, and they keep no pointer.
+
+/// Block to text; count: bytes.
+pub fn write(block: &[u16], text: &mut [u8]) -> Answer {
+    unsafe { unloop_write(block.as_ptr(), block.len(), text.as_mut_ptr(), text.len()) }.into()
+}
+
+/// The settled value of each gate; count: rounds.
+pub fn settle(block: &[u16], setting: &[u8], values: &mut [u8]) -> Answer {
+    let (words, inputs, room) = (block.len(), setting.len(), values.len());
+    let (block, setting, values) = (block.as_ptr(), setting.as_ptr(), values.as_mut_ptr());
+    unsafe { unloop_settle(block, words, setting, inputs, values, room) }.into()
+}
+
+/// The values of a straight block in one sweep; count: gates.
+pub fn pass(block: &[u16], setting: &[u8], values: &mut [u8]) -> Answer {
+    let (words, inputs, room) = (block.len(), setting.len(), values.len());
+    let (block, setting, values) = (block.as_ptr(), setting.as_ptr(), values.as_mut_ptr());
+    unsafe { unloop_pass(block, words, setting, inputs, values, room) }.into()
+}
+
+/// Count: settled settings; detail: the lowest other, or 2^n if none.
+pub fn verdict(block: &[u16]) -> Answer {
+    unsafe { unloop_verdict(block.as_ptr(), block.len()) }.into()
+}
+
+/// Two words an entry; count: entries.
+pub fn cover(block: &[u16], entries: &mut [u16]) -> Answer {
+    let (words, room) = (block.len(), entries.len());
+    unsafe { unloop_cover(block.as_ptr(), words, entries.as_mut_ptr(), room) }.into()
+}
+
+/// Each gate's group number; count: groups.
+pub fn groups(block: &[u16], numbers: &mut [u16]) -> Answer {
+    let (words, room) = (block.len(), numbers.len());
+    unsafe { unloop_groups(block.as_ptr(), words, numbers.as_mut_ptr(), room) }.into()
+}
+
+/// The rendered block; count: words.
+pub fn render(block: &[u16], rendered: &mut [u16]) -> Answer {
+    let (words, room) = (block.len(), rendered.len());
+    unsafe { unloop_render(block.as_ptr(), words, rendered.as_mut_ptr(), room) }.into()
+}
+
+/// The start and length of the line that holds `place`, without its LF.
+pub fn line(text: &[u8], place: usize) -> (usize, usize) {
+    let span = unsafe { unloop_line(text.as_ptr(), text.len(), place) };
+    (span.start, span.length)
+}
