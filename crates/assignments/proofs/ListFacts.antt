@@ -3,14 +3,14 @@
 use mathlib.Core.Path.{_≡_, refl, sym, ap, _∙_}
 use mathlib.Core.Logic.{_⊎_, inl, inr, ⊎-elim}
 use mathlib.Core.Bool.{Bool, true, false, cond, not, _&&_, _||_, false≢true}
-use mathlib.Core.List.{List, [], _∷_, _++_, map, append-assoc, append-nil}
+use mathlib.Core.List.{List, [], _∷_, _++_, map, append-nil}
 use Prim.Native.Nat.{ℕ, zero, suc, _+_, _≤_, _<_}
-use native.Mathlib.Nat.{not-suc-le-zero, add-zero, add-suc}
+use native.Mathlib.Nat.{not-suc-le-zero}
 use native.Mathlib.Numerals.{add-one}
 use native.Mathlib.Omega.{arith}
 use lib.ListN.{length, getD, drop, set, length-append, List·getD-append}
 use lib.Seq.{getD-at}
-use Rattle.laws.specs.Lists.{all, any, keep, tab, upTo, joined, placed}
+use Rattle.laws.specs.Lists.{all, any, keep, tab, upTo, placed}
 use Rattle.laws.proofs.Tab.{length-tab, getD-tab, set-placed-tab}
 use Rattle.laws.proofs.Tests.{eq-or-ne, lt-or-le, not-both, same-test, not-true-false}
 use Rattle.laws.proofs.Quantifiers.{all-below, below-all}
@@ -67,15 +67,6 @@ module _ {A : Type 0} where
       go true e = rw e
       go false e = e
 
-  pub joined-append : (xs ys : List (List A)) → joined (xs ++ ys) ≡ joined xs ++ joined ys
-  joined-append [] ys = refl
-  joined-append (x ∷ xs) ys = rw (joined-append xs ys, append-assoc x (joined xs) (joined ys))
-
-  -- the first n + m values are the first n and then m more
-  pub tab-add : (f : ℕ → A) (n m : ℕ) → tab f (n + m) ≡ tab f n ++ tab (λ j. f (n + j)) m
-  tab-add f n zero = rw (add-zero, append-nil)
-  tab-add f n (suc m) = rw (add-suc, tab-add f n m, append-assoc)
-
   -- a loop that fills a slice with the values of f stores the next one
   pub fill-next : (f : ℕ → A) (n : ℕ) (entry : List A) {xs : List A} {v : A} → xs ≡ placed (tab f n) entry → v ≡ f n → n < length entry
       → set xs n v ≡ placed (tab f (n + 1)) entry
@@ -87,10 +78,6 @@ module _ {A : Type 0} where
       List·getD-append (tab f n) (drop (length (tab f n)) entry) d i (rw (length-tab f n) l) ∙ getD-tab f n i d l
 
 module _ {A B : Type 0} where
-  pub map-append : (g : A → B) (xs ys : List A) → map g (xs ++ ys) ≡ map g xs ++ map g ys
-  map-append g [] ys = refl
-  map-append g (x ∷ xs) ys = ap {B = List B} (λ r. g x ∷ r) (map-append g xs ys)
-
   -- a test of the images is a test of the elements
   pub keep-map : (p : B → Bool) (g : A → B) (xs : List A) → keep p (map g xs) ≡ map g (keep (λ x. p (g x)) xs)
   keep-map p g [] = refl

@@ -5,3 +5,4 @@ pub mod Tab
 pub mod Quantifiers
 pub mod Same
 pub mod Least
+pub mod Lists

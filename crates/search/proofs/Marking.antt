@@ -2,18 +2,19 @@
 use mathlib.Core.Path.{_≡_, refl, sym, ap, ap₂, _∙_, subst}
 use mathlib.Core.Logic.{_⊎_, inl, inr, ⊎-elim}
 use mathlib.Core.Bool.{Bool, true, false, cond, not, _&&_}
-use mathlib.Core.List.{List, [], _∷_, _++_, append-nil, append-assoc}
+use mathlib.Core.List.{List, [], _∷_, _++_, append-nil}
 use Prim.Native.Nat.{ℕ, zero, suc, _+_, _-_, _≤_, _<_}
 use native.Mathlib.Nat.{add-zero, add-assoc, not-suc-le-zero}
 use native.Mathlib.Numerals.{add-one}
 use native.Mathlib.Omega.{arith}
 use lib.ListN.{length, getD, set, length-append, length-set}
-use lib.Seq.{getD-set-same, getD-set-other, sets, length-sets, set-out}
+use lib.Seq.{getD-set-same, getD-set-other, length-sets, set-out}
 use lib.Dec.{eqb, leb, ltb}
 use borrow.Author.Tests.{eqb-true, eqb-false, eq-eqb, ne-eqb, ltb-true, leb-true, lt-ltb, le-ltb, le-leb, lt-leb}
 use Rattle.laws.specs.Lists.{all, tab, joined, countBelow}
 use Rattle.laws.proofs.Tests.{eq-or-ne, lt-or-le, and-left, and-right}
 use Rattle.laws.proofs.Quantifiers.{all-append}
+use Rattle.laws.proofs.Lists.{joined-append, sets-sets}
 use Rattle.search.specs.Search.{wordGate, wordGates, marked, fresh, setFlags, Room, Extended}
 
 -- ---- lists put together
@@ -33,12 +34,6 @@ fresh-append flags [] js = refl
 fresh-append flags (k ∷ ks) js =
     ap (λ (r : List ℕ). cond (eqb (getD flags k 0) 0) (k ∷ r) r) (fresh-append (set flags k 1) ks js)
     ∙ sym (cond-append (eqb (getD flags k 0) 0) k (fresh (set flags k 1) ks) (fresh (marked (set flags k 1) ks) js))
-
-pub sets-sets : (l : List ℕ) (i : ℕ) (xs ys : List ℕ) → sets (sets l i xs) (i + length xs) ys ≡ sets l i (xs ++ ys)
-sets-sets l i [] ys = rw (add-zero)
-sets-sets l i (x ∷ xs) ys =
-    let e : i + suc (length xs) ≡ suc i + length xs = omega arith in
-    rw e (sets-sets (set l i x) (suc i) xs ys)
 
 -- marking one list and then another is marking both
 pub extended-then : {ks js flags queue : List ℕ} {tail : ℕ} {flags₁ queue₁ : List ℕ} {tail₁ : ℕ} {flags₂ queue₂ : List ℕ} {tail₂ : ℕ} → Extended ks flags queue tail flags₁ queue₁ tail₁ → Extended js flags₁ queue₁ tail₁ flags₂ queue₂ tail₂ → Extended (ks ++ js) flags queue tail flags₂ queue₂ tail₂
@@ -204,10 +199,6 @@ word-none n m w (inr hi) = go (leb n w)
     go : (b : Bool) → cond (b && ltb w (n + m)) ((w - n) ∷ []) [] ≡ []
     go true = rw (le-ltb w (n + m) hi) refl
     go false = refl
-
-pub joined-append : (xs ys : List (List ℕ)) → joined (xs ++ ys) ≡ joined xs ++ joined ys
-joined-append [] ys = refl
-joined-append (x ∷ xs) ys = ap (λ (r : List ℕ). x ++ r) (joined-append xs ys) ∙ sym (append-assoc x (joined xs) (joined ys))
 
 -- one operand word more
 pub words-more : (ws : List ℕ) (n m at i : ℕ) → wordGates ws n m at (suc i) ≡ wordGates ws n m at i ++ wordGate n m (getD ws (at + 1 + i) 0)
