@@ -9,13 +9,12 @@ use lib.ListN.{length, getD, take, length-append}
 use lib.Seq.{take-suc, take-length}
 use Rattle.laws.specs.Lists.{joined, member, sum, tab, upTo}
 use Rattle.laws.proofs.Quantifiers.{member-from}
-use Rattle.laws.proofs.Lists.{joined-append, joined-snoc}
+use Rattle.laws.proofs.Lists.{joined-append, joined-snoc, member-cases, member-left, member-right}
 use Rattle.netlist.specs.Netlist.{Block, gateCount}
 use Rattle.netlist.specs.Groups.{groups, copyCount}
 use Rattle.netlist.specs.Rendering.{straight, passes, schedule}
 use Rattle.rounds.proofs.ListFacts.{member-repeated as repeated-member}
 use Rattle.reach.specs.Inside.{Inside}
-use Rattle.reach.proofs.ListFacts.{member-cases, member-left, member-right}
 use Rattle.reach.proofs.Order.{groups-all, groups-all-numbered}
 use Rattle.reach.proofs.Straight.{straight-groups}
 use Rattle.reach.proofs.Copies.{square, copies-take}

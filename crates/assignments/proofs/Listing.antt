@@ -10,11 +10,11 @@ use borrow.Author.Tests.{le-leb, lt-leb}
 use lib.Seq.{set-at, drop-cons}
 use Rattle.laws.specs.Lists.{keep, upTo, joined, placed, tab}
 use Rattle.laws.proofs.Tab.{length-tab, tab-add}
-use Rattle.laws.proofs.Lists.{joined-append}
+use Rattle.laws.proofs.Lists.{joined-append, keep-append}
 use Rattle.netlist.specs.Cover.{Assignment}
 use Rattle.assignments.specs.Entries.{pairAt, entryBy, entriesBelow, entriesBy, EntriesWritten}
 use Rattle.assignments.specs.Over.{wordsOf}
-use Rattle.assignments.proofs.ListFacts.{keep-append, keep-le, keep-upTo-suc}
+use Rattle.assignments.proofs.ListFacts.{keep-le, keep-upTo-suc}
 
 module _ (table : List ℕ) (n q : ℕ) where
   -- one pair more: an entry, or none

@@ -12,6 +12,7 @@ use Rattle.laws.specs.Lists.{same, upTo}
 use Rattle.laws.proofs.Tests.{same-test, and-left, and-right, and-intro, lt-or-le, not-both}
 use Rattle.laws.proofs.Tab.{length-tab}
 use Rattle.laws.proofs.Same.{same-eq, eq-same, same-refl}
+use Rattle.laws.proofs.Lists.{map-set, map-replicate}
 use Rattle.netlist.specs.Values.{Value, undefined, code, valueOf}
 use Rattle.netlist.specs.Netlist.{Gate, Block, gateCount, gateOf}
 use Rattle.netlist.specs.Rounds.{evaluated, settled}
@@ -23,7 +24,7 @@ use Rattle.rounds.proofs.Counting.{definedAmong-le}
 use Rattle.rounds.proofs.AnyOrder.{length-run, run-append, start-below-settled, run-below-settled, fixed-settled}
 use Rattle.rounds.proofs.InPlace.{start-rising, run-grows, run-rising, run-same-by-count, run-fixed}
 use Rattle.decide.specs.InPlace.{Visits, Underway, Swept}
-use Rattle.decide.proofs.ListFacts.{map-set, map-replicate, same-set}
+use Rattle.decide.proofs.ListFacts.{same-set}
 use Rattle.decide.proofs.Bytes.{values-back}
 
 not-and : (a b : Bool) → not a || not b ≡ not (a && b)

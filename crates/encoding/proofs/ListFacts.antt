@@ -13,7 +13,7 @@ use borrow.Author.Tests.{eqb-true}
 use Rattle.laws.specs.Lists.{all, tab, joined, upTo, same, memberList, distinct, onto, trimmed}
 use Rattle.laws.proofs.Tests.{and-left, and-right, same-test, not-true-false, not-both}
 use Rattle.laws.proofs.Tab.{tab-ext, tab-getD, tab-add}
-use Rattle.laws.proofs.Quantifiers.{all-append, any-at, any-from, all-tab-at, all-tab-from, all-below, below-all}
+use Rattle.laws.proofs.Quantifiers.{any-at, any-from, all-tab-at, all-tab-from, all-below, below-all}
 use Rattle.laws.proofs.Lists.{joined-snoc}
 
 -- both parts of a conjunction
@@ -42,11 +42,6 @@ module _ {A : Type 0} where
   -- a list of values is the list whose elements they are
   pub tab-is : (f : ℕ → A) (xs : List A) (d : A) → ((i : ℕ) → i < length xs → f i ≡ getD xs i d) → tab f (length xs) ≡ xs
   tab-is f xs d h = tab-ext f (λ i. getD xs i d) (length xs) h ∙ tab-getD d xs (length xs) refl
-
-  -- all of lists put one behind the other
-  pub all-joined : (p : A → Bool) (xs : List (List A)) → all p (joined xs) ≡ all (all p) xs
-  all-joined p [] = refl
-  all-joined p (x ∷ xs) = all-append p x (joined xs) ∙ ap (λ (t : Bool). all p x && t) (all-joined p xs)
 
   -- parts of one size, one after the other, are one list of values
   pub joined-tab : (f : ℕ → A) (size m : ℕ) → joined (tab (λ j. tab (λ i. f (size * j + i)) size) m) ≡ tab f (size * m)

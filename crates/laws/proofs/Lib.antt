@@ -6,3 +6,4 @@ pub mod Quantifiers
 pub mod Same
 pub mod Least
 pub mod Lists
+pub mod Counting
