@@ -18,14 +18,13 @@ use Rattle.netlist.specs.Netlist.{Gate, Block, gateCount, gateOf}
 use Rattle.netlist.specs.Rounds.{evaluated, settled}
 use Rattle.rounds.specs.Order.{BelowAll, definedAmong}
 use Rattle.rounds.specs.Steps.{stepAt, run}
-use Rattle.rounds.proofs.Values.{below-of-eq}
+use Rattle.rounds.proofs.Values.{below-of-eq, values-codes}
 use Rattle.rounds.proofs.States.{states-antisym}
 use Rattle.rounds.proofs.Counting.{definedAmong-le}
 use Rattle.rounds.proofs.AnyOrder.{length-run, run-append, start-below-settled, run-below-settled, fixed-settled}
 use Rattle.rounds.proofs.InPlace.{start-rising, run-grows, run-rising, run-same-by-count, run-fixed}
 use Rattle.decide.specs.InPlace.{Visits, Underway, Swept}
 use Rattle.decide.proofs.ListFacts.{same-set}
-use Rattle.decide.proofs.Bytes.{values-back}
 
 not-and : (a b : Bool) → not a || not b ≡ not (a && b)
 not-and true b = refl
@@ -57,7 +56,7 @@ module _ {b : Block} {x : List Value} where
   -- the state that the bytes code
   swept-values : {js bytes after : List ℕ} {changed : Bool} → Swept b x js bytes after changed
       → map valueOf after ≡ run b x js (map valueOf bytes)
-  swept-values {js} {bytes} s = rw (s .are) (values-back (run b x js (map valueOf bytes)))
+  swept-values {js} {bytes} s = rw (s .are) (values-codes (run b x js (map valueOf bytes)))
 
   pub swept-length : {js bytes after : List ℕ} {changed : Bool} → Swept b x js bytes after changed → length after ≡ length bytes
   swept-length {js} {bytes} s =
