@@ -19,7 +19,7 @@ row controlling forced word =
 unfoldable pub rows : List Row
 rows = row 0 0 "and\0" ∷ row 1 1 "or\0\0" ∷ row 0 1 "nand" ∷ row 1 0 "nor\0" ∷ []
 
--- the row of kind k; all zero where k has none
+-- the row of kind k, from 1 on; all zero behind the last. `not` is asked apart, so kind 0 never reads a row
 unfoldable pub rowOf : ℕ → Row
 rowOf k = getD rows (k - 1) (record { fewest = 0; most = 0; controlling = 0; forced = 0; keyword = ascii "\0\0\0\0" })
 

@@ -1,6 +1,6 @@
 -- `render::render` meets its promise: the answer and the slice are the definition's, and the definition has every part of it. Assumes nothing.
 use Prim.Native.Nat.{_≤_}
-use mathlib.Core.Path.{_≡_, refl}
+use mathlib.Core.Path.{refl}
 use native.Mathlib.Omega.{arith}
 use lib.ListN.{length, getD}
 use Rattle.netlist.specs.Answers.{answerOf, leftIn}
@@ -11,23 +11,16 @@ use Rattle.render.proofs.Told.{answered-promise}
 use borrow.Author.Needs.{needs}
 use Rattle.render.proofs.render.Statement.{statement}
 use Rattle.render.proofs.render.Tie as tie
-use Rattle.render.proofs.render.Reads as reads
-use Rattle.render.proofs.render.Lts as lts
-use Rattle.block.proofs.check_words.Reads as check-words-reads
-use Rattle.render.proofs.steps.render_with.Reads as render-with-reads
 
--- src/lib.rt:25:24
 check-words-requires : tie.Need-check-words-requires
 check-words-requires c κs = search needs
 
 enum-told : tie.Need-enum-told
 enum-told c = search needs
 
--- src/lib.rt:26:32
 enum-told-2 : tie.Need-enum-told-2
 enum-told-2 c = search needs
 
--- src/lib.rt:26:9
 returns : tie.Need-returns
 unfolding answerOf leftIn
 returns c =
@@ -36,27 +29,21 @@ returns c =
     let is = render-torn ws (length (s .args .rendered .now)) (told-torn ws (c .before .before .check-words .ensures) (c .enum-told2 .given .1)) in
     answered-promise ws (s .args .rendered .now) (s .args .rendered .now) _ (record { answers = rw is refl; leaves = rw is refl })
 
--- src/lib.rt:33:31
 slice-aggregate-render-with : tie.Need-slice-aggregate-render-with
 slice-aggregate-render-with c = search needs
 
--- src/lib.rt:33:45
 slice-aggregate-render-with-2 : tie.Need-slice-aggregate-render-with-2
 slice-aggregate-render-with-2 c = search needs
 
--- src/lib.rt:33:57
 slice-aggregate-render-with-3 : tie.Need-slice-aggregate-render-with-3
 slice-aggregate-render-with-3 c = search needs
 
--- src/lib.rt:33:70
 slice-aggregate-render-with-4 : tie.Need-slice-aggregate-render-with-4
 slice-aggregate-render-with-4 c = search needs
 
--- src/lib.rt:33:83
 slice-aggregate-render-with-5 : tie.Need-slice-aggregate-render-with-5
 slice-aggregate-render-with-5 c = search needs
 
--- src/lib.rt:33:5
 render-with-requires : tie.Need-render-with-requires
 render-with-requires c κs =
     let s = c .before .before .before .before .before .before .before .before .before .before .before in
@@ -72,11 +59,9 @@ render-with-requires c κs =
       valueRoom = few;
     }
 
--- src/lib.rt:22:1
 same-length : tie.Need-same-length
 same-length c = search needs
 
--- src/lib.rt:22:1
 returns-2 : tie.Need-returns-2
 returns-2 c = let s = c .before .before .before .before .before .before .before .before .before .before .before .before .before .before .before .before .before .before .before in answered-promise (s .args .words .now) (s .args .rendered .now) _ _ (c .before .before .before .before .before .before .before .render-with .ensures)
 

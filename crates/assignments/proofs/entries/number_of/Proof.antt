@@ -1,10 +1,5 @@
 -- `entries::number_of` meets its contract: the number and the weights of the two masks add up. Assumes nothing.
-use Prim.Native.Nat.{_+_, _*_, _^_, _≤_, _<_}
-use mathlib.Core.Path.{_≡_}
 use native.Mathlib.Omega.{arith}
-use lib.ListN.{getD}
-use Rattle.netlist.specs.Limits.{maxInputs}
-use Rattle.assignments.specs.Tables.{numberOf}
 use Rattle.assignments.proofs.Entry.{Sums, sums}
 use borrow.Author.Needs.{needs}
 use Rattle.assignments.proofs.entries.number_of.Statement.{statement}

@@ -1,6 +1,6 @@
 -- `components::leaders::lead` meets its contract: of the gates that gate j reaches, those that reach as many are its group. Assumes nothing.
 use Prim.Native.Nat.{_-_, _≤_, _<_}
-use mathlib.Core.Path.{_≡_, refl, sym, _∙_}
+use mathlib.Core.Path.{_≡_, refl, _∙_}
 use borrow.Author.Needs.{needs}
 use native.Mathlib.Omega.{arith}
 use lib.ListN.{length, length-set}
@@ -12,11 +12,6 @@ use Rattle.components.specs.Leaders.{leaderOf}
 use Rattle.components.proofs.Sizes.{leader-found, leader-below, still-ready}
 use Rattle.components.proofs.leaders.lead.Statement.{statement}
 use Rattle.components.proofs.leaders.lead.Tie as tie
-use Rattle.components.proofs.leaders.lead.Reads as reads
-use Rattle.components.proofs.leaders.lead.Lts as lts
-use Rattle.components.proofs.leaders.lowest_of_size.Reads as lowest-of-size-reads
-use Rattle.search.proofs.walk.mark_reach.Reads as mark-reach-reads
-use Rattle.ternary.proofs.read.word_at.Reads as word-at-reads
 
 abbrev Inv-loop : tie.InvT-loop
 Inv-loop words n m gates sizes leaders₀ flags₀ queue₀ j₀ leaders flags queue j =
@@ -25,21 +20,17 @@ Inv-loop words n m gates sizes leaders₀ flags₀ queue₀ j₀ leaders flags q
 abbrev μ-loop : tie.MeasureT-loop
 μ-loop words n m gates sizes leaders₀ flags₀ queue₀ j₀ leaders flags queue j = m - j
 
--- src/components.rt:47:5
 loop-holds : tie.Need-loop-holds Inv-loop μ-loop
 loop-holds c = (omega arith, refl, refl, refl, refl)
 
--- src/components.rt:48:9
 mark-reach-requires : tie.Need-mark-reach-requires Inv-loop μ-loop
 mark-reach-requires c κs =
     let l = c .before .before .before .loop in
     (c .before .before .loop-test .taken, still-ready (c .before .before .before .before .before .before .before .before .before .pre .1 .search) (l .inv .3) (l .inv .4))
 
--- src/components.rt:49:54
 word-at-requires : tie.Need-word-at-requires Inv-loop μ-loop
 word-at-requires c κs = search needs
 
--- src/components.rt:49:13
 lowest-of-size-requires : tie.Need-lowest-of-size-requires Inv-loop μ-loop
 lowest-of-size-requires c κs =
     let s = c .before .before .before .before .before .before .before .before .before .before .before .before .before .before .before .before in
@@ -47,7 +38,6 @@ lowest-of-size-requires c κs =
     c .before .before .before .before .before .before .mark-reach .kept .1 .1 .1 .1 .1 .0 ∙ c .before .before .before .before .before .before .before .before .before .before .loop .inv .3 in
     (rw kept (s .pre .1 .search .flagRoom), s .pre .1 .search .fewGates)
 
--- src/components.rt:50:22
 cast-leaders : tie.Need-cast-leaders Inv-loop μ-loop
 cast-leaders c =
     let s = c .before .before .before .before .before .before .before .before .before .before .before .before .before .before .before .before .before in
@@ -57,23 +47,18 @@ cast-leaders c =
     let lt : l .j < gateCount (decode (s .args .words .now)) = rw (← s .pre .1 .gatesAre) (c .before .before .before .before .before .before .before .before .before .before .loop-test .taken) in
     omega (arith, leader-below (decode (s .args .words .now)) (l .j) lt, s .pre .1 .gatesAre, s .pre .1 .search .fewGates)
 
--- src/components.rt:50:9
 mul-leaders : tie.Need-mul-leaders Inv-loop μ-loop
 mul-leaders c = omega (arith, c .before .before .before .before .before .before .before .before .before .before .before .before .before .before .before .before .before .pre .1 .search .fewGates, c .before .before .before .before .before .before .before .before .before .before .loop-test .taken)
 
--- src/components.rt:50:9
 slice-write-leaders : tie.Need-slice-write-leaders Inv-loop μ-loop
 slice-write-leaders c = omega (arith, c .before .before .before .before .before .before .before .before .before .before .before .before .before .before .before .before .before .pre .0, c .before .before .before .before .before .before .before .before .before .before .before .loop .inv .2, c .before .before .before .before .before .before .before .before .before .before .loop-test .taken)
 
--- src/components.rt:51:9
 add-j : tie.Need-add-j Inv-loop μ-loop
 add-j c = omega arith
 
--- src/components.rt:47:5
 loop-less : tie.Need-loop-less Inv-loop μ-loop
 loop-less c = omega arith
 
--- src/components.rt:47:5
 loop-again : tie.Need-loop-again Inv-loop μ-loop
 loop-again c =
     let s = c .before .before .before .before .before .before .before .before .before .before .before .before .before .before .before .before .before in
@@ -88,19 +73,15 @@ loop-again c =
       c .before .before .before .before .before .before .before .mark-reach .kept .1 .1 .1 .1 .1 .1 .0 ∙ l .inv .4,
     )
 
--- src/components.rt:42:1
 same-length : tie.Need-same-length Inv-loop μ-loop
 same-length c = c .before .loop .inv .2
 
--- src/components.rt:42:1
 same-length-2 : tie.Need-same-length-2 Inv-loop μ-loop
 same-length-2 c = c .before .loop .inv .3
 
--- src/components.rt:42:1
 same-length-3 : tie.Need-same-length-3 Inv-loop μ-loop
 same-length-3 c = c .before .loop .inv .4
 
--- src/components.rt:42:1
 returns : tie.Need-returns Inv-loop μ-loop
 returns c = let all : c .before .loop .j ≡ c .before .before .before .before .before .before .before .args .m = omega arith in rw (← all) (c .before .loop .inv .1)
 

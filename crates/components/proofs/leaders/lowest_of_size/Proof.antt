@@ -1,21 +1,18 @@
 -- `components::leaders::lowest_of_size` meets its contract: no gate passed so far is marked and of the size. Assumes nothing.
 use Prim.Native.Nat.{ℕ, _-_, _≤_, _<_}
-use mathlib.Core.Path.{_≡_, refl, sym, _∙_}
+use mathlib.Core.Path.{_≡_, sym, _∙_}
 use mathlib.Core.Logic.{⊎-elim}
 use mathlib.Core.Bool.{false}
 use borrow.Author.Needs.{needs}
 use borrow.Author.Count.{below-more}
 use native.Mathlib.Nat.{not-suc-le-zero}
 use native.Mathlib.Omega.{arith}
-use lib.ListN.{length, getD}
+use lib.ListN.{getD}
 use Rattle.laws.proofs.Least.{least-is}
 use Rattle.components.specs.Leaders.{markedOfSize}
 use Rattle.components.proofs.Sizes.{marked-of-size, not-marked, not-of-size}
 use Rattle.components.proofs.leaders.lowest_of_size.Statement.{statement}
 use Rattle.components.proofs.leaders.lowest_of_size.Tie as tie
-use Rattle.components.proofs.leaders.lowest_of_size.Reads as reads
-use Rattle.components.proofs.leaders.lowest_of_size.Lts as lts
-use Rattle.ternary.proofs.read.word_at.Reads as word-at-reads
 
 abbrev Inv-loop : tie.InvT-loop
 Inv-loop flags sizes m size k₀ k = (k ≤ m) × ((i : ℕ) → i < k → markedOfSize flags sizes size i ≡ false)
@@ -23,19 +20,15 @@ Inv-loop flags sizes m size k₀ k = (k ≤ m) × ((i : ℕ) → i < k → marke
 abbrev μ-loop : tie.MeasureT-loop
 μ-loop flags sizes m size k₀ k = m - k
 
--- src/components.rt:30:5
 loop-holds : tie.Need-loop-holds Inv-loop μ-loop
 loop-holds c = (omega arith, λ i l. absurd (not-suc-le-zero l))
 
--- src/components.rt:31:12
 shared-slice-read-if1 : tie.Need-shared-slice-read-if1 Inv-loop μ-loop
 shared-slice-read-if1 c = omega arith
 
--- src/components.rt:32:16
 word-at-requires : tie.Need-word-at-requires Inv-loop μ-loop
 word-at-requires c κs = search needs
 
--- src/components.rt:33:17
 returns : tie.Need-returns Inv-loop μ-loop
 returns c =
     let s = c .before .before .before .before .before .before .before .before in
@@ -44,15 +37,12 @@ returns c =
     sym (least-is (markedOfSize (s .args .flags .now) (s .args .sizes .now) (s .args .size)) (s .args .m) (l .k) (omega arith) (l .inv .1)
     (λ lt. marked-of-size (s .args .flags .now) (s .args .sizes .now) (s .args .size) (l .k) (c .before .before .if1 .taken) e))
 
--- src/components.rt:36:9
 add-k : tie.Need-add-k Inv-loop μ-loop
 add-k c = omega arith
 
--- src/components.rt:30:5
 loop-less : tie.Need-loop-less Inv-loop μ-loop
 loop-less c = omega arith
 
--- src/components.rt:30:5
 loop-again : tie.Need-loop-again Inv-loop μ-loop
 loop-again c =
     let s = c .before .before .before .before .before .before in
@@ -61,7 +51,6 @@ loop-again c =
       below-more (λ (i : ℕ). markedOfSize (s .args .flags .now) (s .args .sizes .now) (s .args .size) i ≡ false) (l .k) (l .inv .1) (⊎-elim (λ w. not-of-size (s .args .flags .now) (s .args .sizes .now) (s .args .size) (l .k) (λ e. w .2 .left (w .1 .ensures ∙ e))) (λ w. not-marked (s .args .flags .now) (s .args .sizes .now) (s .args .size) (l .k) (w .left)) (c .if1 .came)),
     )
 
--- src/components.rt:25:1
 returns-2 : tie.Need-returns-2 Inv-loop μ-loop
 returns-2 c =
     let s = c .before .before .before .before in

@@ -10,9 +10,6 @@ use Rattle.components.specs.Leaders.{reachSize}
 use Rattle.components.proofs.Sizes.{search-size, reachSize-le, still-ready}
 use Rattle.components.proofs.leaders.measure.Statement.{statement}
 use Rattle.components.proofs.leaders.measure.Tie as tie
-use Rattle.components.proofs.leaders.measure.Reads as reads
-use Rattle.components.proofs.leaders.measure.Lts as lts
-use Rattle.search.proofs.walk.mark_reach.Reads as mark-reach-reads
 
 abbrev Inv-loop : tie.InvT-loop
 Inv-loop words n m gates sizes₀ flags₀ queue₀ j₀ sizes flags queue j =
@@ -21,39 +18,31 @@ Inv-loop words n m gates sizes₀ flags₀ queue₀ j₀ sizes flags queue j =
 abbrev μ-loop : tie.MeasureT-loop
 μ-loop words n m gates sizes₀ flags₀ queue₀ j₀ sizes flags queue j = m - j
 
--- src/components.rt:17:5
 loop-holds : tie.Need-loop-holds Inv-loop μ-loop
 loop-holds c = (omega arith, refl, refl, refl, refl)
 
--- src/components.rt:18:13
 mark-reach-requires : tie.Need-mark-reach-requires Inv-loop μ-loop
 mark-reach-requires c κs =
     let l = c .before .before .before .loop in
     (c .before .before .loop-test .taken, still-ready (c .before .before .before .before .before .before .before .before .pre .1 .search) (l .inv .3) (l .inv .4))
 
--- src/components.rt:19:20
 cast-sizes : tie.Need-cast-sizes Inv-loop μ-loop
 cast-sizes c =
     let s = c .before .before .before .before .before .before .before .before .before .before .before .before .before in
     omega (arith, search-size (c .before .before .before .before .before .before .before .before .before .before .before .before .before .pre .1 .gatesAre) (c .before .before .before .before .mark-reach .ensures), reachSize-le (decode (s .args .words .now)) (c .before .before .before .before .before .before .before .before .loop .j), s .pre .1 .gatesAre, s .pre .1 .search .fewGates)
 
--- src/components.rt:19:9
 mul-sizes : tie.Need-mul-sizes Inv-loop μ-loop
 mul-sizes c = omega (arith, c .before .before .before .before .before .before .before .before .before .before .before .before .before .pre .1 .search .fewGates, c .before .before .before .before .before .before .before .loop-test .taken)
 
--- src/components.rt:19:9
 slice-write-sizes : tie.Need-slice-write-sizes Inv-loop μ-loop
 slice-write-sizes c = omega (arith, c .before .before .before .before .before .before .before .before .before .before .before .before .before .pre .0, c .before .before .before .before .before .before .before .before .loop .inv .2, c .before .before .before .before .before .before .before .loop-test .taken)
 
--- src/components.rt:20:9
 add-j : tie.Need-add-j Inv-loop μ-loop
 add-j c = omega arith
 
--- src/components.rt:17:5
 loop-less : tie.Need-loop-less Inv-loop μ-loop
 loop-less c = omega arith
 
--- src/components.rt:17:5
 loop-again : tie.Need-loop-again Inv-loop μ-loop
 loop-again c =
     let s = c .before .before .before .before .before .before .before .before .before .before .before .before .before in
@@ -67,19 +56,15 @@ loop-again c =
       c .before .before .before .before .mark-reach .kept .1 .1 .1 .1 .1 .1 .0 ∙ l .inv .4,
     )
 
--- src/components.rt:12:1
 same-length : tie.Need-same-length Inv-loop μ-loop
 same-length c = c .before .loop .inv .2
 
--- src/components.rt:12:1
 same-length-2 : tie.Need-same-length-2 Inv-loop μ-loop
 same-length-2 c = c .before .loop .inv .3
 
--- src/components.rt:12:1
 same-length-3 : tie.Need-same-length-3 Inv-loop μ-loop
 same-length-3 c = c .before .loop .inv .4
 
--- src/components.rt:12:1
 returns : tie.Need-returns Inv-loop μ-loop
 returns c = let all : c .before .loop .j ≡ c .before .before .before .before .before .before .args .m = omega arith in rw (← all) (c .before .loop .inv .1)
 

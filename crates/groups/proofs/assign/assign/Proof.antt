@@ -5,42 +5,28 @@ use Rattle.encoding.proofs.Readers.{whole-parts}
 use borrow.Author.Needs.{needs}
 use Rattle.groups.proofs.assign.assign.Statement.{statement}
 use Rattle.groups.proofs.assign.assign.Tie as tie
-use Rattle.groups.proofs.assign.assign.Reads as reads
-use Rattle.groups.proofs.assign.assign.Lts as lts
-use Rattle.block.proofs.header.gates_at.Reads as gates-at-reads
-use Rattle.block.proofs.header.gates_of.Reads as gates-of-reads
-use Rattle.block.proofs.header.inputs_of.Reads as inputs-of-reads
-use Rattle.groups.proofs.assign.assign_with.Reads as assign-with-reads
 
--- src/assign.rt:28:9
 inputs-of-requires : tie.Need-inputs-of-requires
 inputs-of-requires c κs = search needs
 
--- src/assign.rt:29:9
 gates-of-requires : tie.Need-gates-of-requires
 gates-of-requires c κs = search needs
 
--- src/assign.rt:30:9
 gates-at-requires : tie.Need-gates-at-requires
 gates-at-requires c κs = omega (arith, c .before .inputs-of .ensures, whole-parts (c .before .before .before .before .args .words .now) (c .before .before .before .before .pre .0) .fewInputs)
 
--- src/assign.rt:35:46
 slice-aggregate-assign-with : tie.Need-slice-aggregate-assign-with
 slice-aggregate-assign-with c = search needs
 
--- src/assign.rt:35:58
 slice-aggregate-assign-with-2 : tie.Need-slice-aggregate-assign-with-2
 slice-aggregate-assign-with-2 c = search needs
 
--- src/assign.rt:35:72
 slice-aggregate-assign-with-3 : tie.Need-slice-aggregate-assign-with-3
 slice-aggregate-assign-with-3 c = search needs
 
--- src/assign.rt:35:84
 slice-aggregate-assign-with-4 : tie.Need-slice-aggregate-assign-with-4
 slice-aggregate-assign-with-4 c = search needs
 
--- src/assign.rt:35:5
 assign-with-requires : tie.Need-assign-with-requires
 assign-with-requires c κs =
     let s = c .before .before .before .before .before .before .before .before .before .before in
@@ -58,11 +44,9 @@ assign-with-requires c κs =
       flagRoom = m;
     }
 
--- src/assign.rt:24:1
 same-length : tie.Need-same-length
 same-length c = search needs
 
--- src/assign.rt:24:1
 returns : tie.Need-returns
 returns c = search needs
 

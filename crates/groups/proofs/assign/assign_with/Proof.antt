@@ -4,17 +4,10 @@ use Rattle.groups.proofs.Answered.{ready-for, sizes-for, number-for}
 use borrow.Author.Needs.{needs}
 use Rattle.groups.proofs.assign.assign_with.Statement.{statement}
 use Rattle.groups.proofs.assign.assign_with.Tie as tie
-use Rattle.groups.proofs.assign.assign_with.Reads as reads
-use Rattle.groups.proofs.assign.assign_with.Lts as lts
-use Rattle.components.proofs.leaders.lead.Reads as lead-reads
-use Rattle.components.proofs.leaders.measure.Reads as measure-reads
-use Rattle.groups.proofs.numbering.number_groups.Reads as number-groups-reads
 
--- src/assign.rt:18:5
 measure-requires : tie.Need-measure-requires
 measure-requires c κs = let s = c .before .before .before .before .before .before .before .before .before in (s .pre .sizeRoom, ready-for (s .pre) (s .args .flags .now) (s .args .queue .now) refl refl)
 
--- src/assign.rt:19:5
 lead-requires : tie.Need-lead-requires
 lead-requires c κs =
     let s = c .before .before .before .before .before .before .before .before .before .before .before .before .before .before .before .before .before .before .before .before in
@@ -24,34 +17,27 @@ lead-requires c κs =
       sizes-for (s .pre) (r .last .1 .1 .1 .1 .0) (s .args .sizes .now) (r .ensures),
     )
 
--- src/assign.rt:20:5
 number-groups-requires : tie.Need-number-groups-requires
 number-groups-requires c κs =
     let s = c .before .before .before .before .before .before .before .before .before .before .before .before .before .before .before .before .before .before .before .before .before .before .before .before .before .before .before .before .before .before in
     let flags-kept = c .before .before .before .before .before .before .before .before .before .lead .kept .1 .1 .1 .1 .1 .1 .0 ∙ c .before .before .before .before .before .before .before .before .before .before .before .before .before .before .before .before .before .before .before .before .measure .kept .1 .1 .1 .1 .1 .0 in
     (s .pre .numberRoom, rw flags-kept (s .pre .flagRoom), number-for (s .pre) (c .before .before .before .before .before .before .before .before .before .lead .last .1 .1 .1 .1 .1 .0) (s .args .leaders .now) (c .before .before .before .before .before .before .before .before .before .lead .ensures))
 
--- src/assign.rt:14:1
 same-length : tie.Need-same-length
 same-length c = search needs
 
--- src/assign.rt:14:1
 same-length-2 : tie.Need-same-length-2
 same-length-2 c = search needs
 
--- src/assign.rt:14:1
 same-length-3 : tie.Need-same-length-3
 same-length-3 c = search needs
 
--- src/assign.rt:14:1
 same-length-4 : tie.Need-same-length-4
 same-length-4 c = search needs
 
--- src/assign.rt:14:1
 same-length-5 : tie.Need-same-length-5
 same-length-5 c = search needs
 
--- src/assign.rt:14:1
 returns : tie.Need-returns
 returns c = search needs
 

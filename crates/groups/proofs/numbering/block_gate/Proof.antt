@@ -1,55 +1,41 @@
 use borrow.Author.Needs.{needs}
 -- `groups::numbering::block_gate` meets its contract, by the ways through its tests. Assumes nothing.
 use Prim.Native.Nat.{_<_}
-use mathlib.Core.Path.{_≡_, _∙_, sym}
+use mathlib.Core.Path.{_∙_, sym}
 use mathlib.Core.Bool.{true, false}
 use native.Mathlib.Omega.{arith}
 use borrow.Author.Tests.{not-true, not-false}
-use lib.ListN.{length, getD}
-use Rattle.laws.specs.Lists.{any}
+use lib.ListN.{length}
 use Rattle.netlist.specs.Netlist.{gateCount}
 use Rattle.netlist.specs.StoredBlock.{decode}
 use Rattle.components.proofs.Sizes.{leader-below}
-use Rattle.groups.specs.Numbering.{obstacle, gateReads}
 use Rattle.groups.proofs.Obstacles.{blocked-numbered, blocked-free, blocked-one, obstructed-reads}
 use Rattle.groups.proofs.numbering.block_gate.Statement.{statement}
 use Rattle.groups.proofs.numbering.block_gate.Tie as tie
-use Rattle.groups.proofs.numbering.block_gate.Reads as reads
-use Rattle.groups.proofs.numbering.block_gate.Lts as lts
-use Rattle.groups.proofs.numbering.is_obstructed.Reads as is-obstructed-reads
-use Rattle.ternary.proofs.read.word_at.Reads as word-at-reads
 
--- src/numbering.rt:53:8
 word-at-requires : tie.Need-word-at-requires
 word-at-requires c κs = search needs
 
--- src/numbering.rt:54:9
 returns : tie.Need-returns
 returns c = λ cleared is. blocked-numbered (c .before .before .before .before .before .before .args .words .now) (c .before .before .before .before .before .before .args .n) (c .before .before .before .before .before .before .args .m) (c .before .before .before .before .before .before .args .gates) (c .before .before .before .before .before .before .args .numbers .now) (c .before .before .before .before .before .before .args .leaders .now) (c .before .before .before .before .before .before .args .i) cleared (c .before .before .before .before .before .before .args .blocked .now) is (λ e. c .if1 .taken (c .before .word-at .ensures ∙ e))
 
--- src/numbering.rt:56:9
 word-at-requires-2 : tie.Need-word-at-requires-2
 word-at-requires-2 c κs = search needs
 
--- src/numbering.rt:57:44
 mul-is-obstructed : tie.Need-mul-is-obstructed
 mul-is-obstructed c = search needs
 
--- src/numbering.rt:57:36
 add-is-obstructed : tie.Need-add-is-obstructed
 add-is-obstructed c = search needs
 
--- src/numbering.rt:57:9
 is-obstructed-requires : tie.Need-is-obstructed-requires
 is-obstructed-requires c κs = search needs
 
--- src/numbering.rt:58:9
 returns-2 : tie.Need-returns-2
 returns-2 c =
     λ cleared is. blocked-free (c .before .before .before .before .before .before .before .before .before .args .words .now) (c .before .before .before .before .before .before .before .before .before .args .n) (c .before .before .before .before .before .before .before .before .before .args .m) (c .before .before .before .before .before .before .before .before .before .args .gates) (c .before .before .before .before .before .before .before .before .before .args .numbers .now) (c .before .before .before .before .before .before .before .before .before .args .leaders .now) (c .before .before .before .before .before .before .before .before .before .args .i) cleared (c .before .before .before .before .before .before .before .before .before .args .blocked .now) is
     (obstructed-reads (c .before .before .before .before .before .before .before .before .before .args .words .now) (c .before .before .before .before .before .before .before .before .before .args .n) (c .before .before .before .before .before .before .before .before .before .args .m) (c .before .before .before .before .before .before .before .before .before .args .gates) (c .before .before .before .before .before .before .before .before .before .args .numbers .now) (c .before .before .before .before .before .before .before .before .before .args .leaders .now) (c .before .before .before .before .before .before .before .before .before .args .i) (c .before .before .word-at2 .result) (c .before .is-obstructed .result) false (c .before .before .word-at2 .ensures) (c .before .is-obstructed .ensures) (not-true (c .before .is-obstructed .result) (c .if2 .taken)))
 
--- src/numbering.rt:60:5
 slice-write-blocked : tie.Need-slice-write-blocked
 slice-write-blocked c =
     let s = c .before .before .before .before .before .before .before .before .before in
@@ -57,11 +43,9 @@ slice-write-blocked c =
     let inside : s .args .i < gateCount (decode (s .args .words .now)) = rw (← s .pre .2 .gatesAre) (s .pre .0) in
     omega (arith, w .ensures, s .pre .2 .leads (s .args .i) (s .pre .0), leader-below (decode (s .args .words .now)) (s .args .i) inside, s .pre .2 .gatesAre, s .pre .1)
 
--- src/numbering.rt:49:1
 same-length : tie.Need-same-length
 same-length c = search needs
 
--- src/numbering.rt:49:1
 returns-3 : tie.Need-returns-3
 returns-3 c =
     λ cleared is. rw (c .before .before .word-at2 .ensures)

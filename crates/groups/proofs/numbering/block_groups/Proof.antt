@@ -1,7 +1,6 @@
 -- `groups::numbering::block_groups` meets its contract: one gate after the other is looked at. Assumes nothing.
 use Prim.Native.Nat.{_-_, _≤_}
 use mathlib.Core.Path.{_≡_, refl, _∙_}
-use borrow.Author.Needs.{needs}
 use native.Mathlib.Omega.{arith}
 use lib.ListN.{length}
 use Rattle.search.proofs.Searching.{cleared-length}
@@ -9,10 +8,6 @@ use Rattle.groups.specs.Numbering.{blockedAfter}
 use Rattle.groups.proofs.Obstacles.{blocked-none}
 use Rattle.groups.proofs.numbering.block_groups.Statement.{statement}
 use Rattle.groups.proofs.numbering.block_groups.Tie as tie
-use Rattle.groups.proofs.numbering.block_groups.Reads as reads
-use Rattle.groups.proofs.numbering.block_groups.Lts as lts
-use Rattle.groups.proofs.numbering.block_gate.Reads as block-gate-reads
-use Rattle.search.proofs.walk.clear.Reads as clear-reads
 
 abbrev Inv-loop : tie.InvT-loop
 Inv-loop words n m gates numbers leaders blocked₀ i₀ blocked i =
@@ -21,41 +16,33 @@ Inv-loop words n m gates numbers leaders blocked₀ i₀ blocked i =
 abbrev μ-loop : tie.MeasureT-loop
 μ-loop words n m gates numbers leaders blocked₀ i₀ blocked i = m - i
 
--- src/numbering.rt:68:5
 clear-requires : tie.Need-clear-requires Inv-loop μ-loop
 clear-requires c κs = c .before .before .before .before .before .pre .0
 
--- src/numbering.rt:70:5
 loop-holds : tie.Need-loop-holds Inv-loop μ-loop
 loop-holds c = (omega arith, blocked-none _ _ _ _ _ _ _, refl)
 
--- src/numbering.rt:71:9
 block-gate-requires : tie.Need-block-gate-requires Inv-loop μ-loop
 block-gate-requires c κs =
     let s = c .before .before .before .before .before .before .before .before .before .before .before in
     (c .before .loop-test .taken, rw (c .before .before .loop .inv .2, c .before .before .before .before .before .clear .ensures, cleared-length (s .args .m) (s .args .blocked .now) (s .pre .0)) (s .pre .0), s .pre .1)
 
--- src/numbering.rt:72:9
 add-i : tie.Need-add-i Inv-loop μ-loop
 add-i c = omega arith
 
--- src/numbering.rt:70:5
 loop-less : tie.Need-loop-less Inv-loop μ-loop
 loop-less c = omega arith
 
--- src/numbering.rt:70:5
 loop-again : tie.Need-loop-again Inv-loop μ-loop
 loop-again c =
     let l = c .before .before .before .before .before .loop in
     (omega arith, c .before .before .block-gate .ensures _ (l .inv .1), c .before .before .block-gate .kept .1 .1 .1 .1 .1 .1 .1 .0 ∙ l .inv .2)
 
--- src/numbering.rt:64:1
 same-length : tie.Need-same-length Inv-loop μ-loop
 same-length c =
     let s = c .before .before .before .before .before .before .before .before .before .before in
     c .before .loop .inv .2 ∙ rw (c .before .before .before .before .clear .ensures) (cleared-length (s .args .m) (s .args .blocked .now) (s .pre .0))
 
--- src/numbering.rt:64:1
 returns : tie.Need-returns Inv-loop μ-loop
 returns c =
     let all : c .before .loop .i ≡ c .before .before .before .before .before .before .before .before .before .before .args .m = omega arith in

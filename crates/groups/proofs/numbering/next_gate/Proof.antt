@@ -7,15 +7,11 @@ use borrow.Author.Needs.{needs}
 use borrow.Author.Count.{below-more}
 use native.Mathlib.Nat.{not-suc-le-zero}
 use native.Mathlib.Omega.{arith}
-use lib.ListN.{length, getD}
 use Rattle.laws.proofs.Least.{least-is}
 use Rattle.groups.specs.Numbering.{mayFollow}
 use Rattle.groups.proofs.Obstacles.{may-follow, numbered-not, blocked-not}
 use Rattle.groups.proofs.numbering.next_gate.Statement.{statement}
 use Rattle.groups.proofs.numbering.next_gate.Tie as tie
-use Rattle.groups.proofs.numbering.next_gate.Reads as reads
-use Rattle.groups.proofs.numbering.next_gate.Lts as lts
-use Rattle.ternary.proofs.read.word_at.Reads as word-at-reads
 
 abbrev Inv-loop : tie.InvT-loop
 Inv-loop m numbers leaders blocked j₀ j = (j ≤ m) × ((i : ℕ) → i < j → mayFollow numbers leaders blocked i ≡ false)
@@ -23,39 +19,31 @@ Inv-loop m numbers leaders blocked j₀ j = (j ≤ m) × ((i : ℕ) → i < j �
 abbrev μ-loop : tie.MeasureT-loop
 μ-loop m numbers leaders blocked j₀ j = m - j
 
--- src/numbering.rt:71:5
 loop-holds : tie.Need-loop-holds Inv-loop μ-loop
 loop-holds c = (omega arith, λ i l. absurd (not-suc-le-zero l))
 
--- src/numbering.rt:72:12
 word-at-requires : tie.Need-word-at-requires Inv-loop μ-loop
 word-at-requires c κs = search needs
 
--- src/numbering.rt:73:17
 word-at-requires-2 : tie.Need-word-at-requires-2 Inv-loop μ-loop
 word-at-requires-2 c κs = search needs
 
--- src/numbering.rt:74:16
 shared-slice-read-if2 : tie.Need-shared-slice-read-if2 Inv-loop μ-loop
 shared-slice-read-if2 c =
     omega (arith, c .before .word-at2 .ensures, c .before .before .before .before .before .before .before .before .before .pre .2 (c .before .before .before .before .before .loop .j) (c .before .before .before .before .loop-test .taken), c .before .before .before .before .before .before .before .before .before .pre .0)
 
--- src/numbering.rt:75:17
 returns : tie.Need-returns Inv-loop μ-loop
 returns c =
     let l = c .before .before .before .before .before .before .loop in
     sym (least-is (mayFollow (c .before .before .before .before .before .before .before .before .before .before .args .numbers .now) (c .before .before .before .before .before .before .before .before .before .before .args .leaders .now) (c .before .before .before .before .before .before .before .before .before .before .args .blocked .now)) (c .before .before .before .before .before .before .before .before .before .before .args .m) (l .j) (omega arith) (l .inv .1)
     (λ lt. may-follow (c .before .before .before .before .before .before .before .before .before .before .args .numbers .now) (c .before .before .before .before .before .before .before .before .before .before .args .leaders .now) (c .before .before .before .before .before .before .before .before .before .before .args .blocked .now) (l .j) (sym (c .before .before .before .before .word-at .ensures) ∙ c .before .before .before .if1 .taken) (rw (← c .before .before .word-at2 .ensures) (c .if2 .taken))))
 
--- src/numbering.rt:78:9
 add-j : tie.Need-add-j Inv-loop μ-loop
 add-j c = omega arith
 
--- src/numbering.rt:71:5
 loop-less : tie.Need-loop-less Inv-loop μ-loop
 loop-less c = omega arith
 
--- src/numbering.rt:71:5
 loop-again : tie.Need-loop-again Inv-loop μ-loop
 loop-again c =
     let l = c .before .before .before .loop in (
@@ -65,7 +53,6 @@ loop-again c =
           (λ w. numbered-not (c .before .before .before .before .before .before .before .args .numbers .now) (c .before .before .before .before .before .before .before .args .leaders .now) (c .before .before .before .before .before .before .before .args .blocked .now) (l .j) (λ e. w .left (c .before .word-at .ensures ∙ e))) (c .if1 .came)),
     )
 
--- src/numbering.rt:66:1
 returns-2 : tie.Need-returns-2 Inv-loop μ-loop
 returns-2 c =
     let all : c .before .loop .j ≡ c .before .before .before .before .before .args .m = omega arith in

@@ -1,5 +1,5 @@
 -- `groups::numbering::number_group` meets its contract: after i turns the first i numbers are the new ones. Assumes nothing.
-use Prim.Native.Nat.{ℕ, _-_, _≤_, _<_}
+use Prim.Native.Nat.{_-_, _≤_, _<_}
 use mathlib.Core.Path.{_≡_, refl, _∙_, sym}
 use mathlib.Core.Logic.{⊎-elim}
 use borrow.Author.Needs.{needs}
@@ -10,9 +10,6 @@ use Rattle.groups.specs.Numbering.{renumbered}
 use Rattle.groups.proofs.Filling.{renumber, keep-number}
 use Rattle.groups.proofs.numbering.number_group.Statement.{statement}
 use Rattle.groups.proofs.numbering.number_group.Tie as tie
-use Rattle.groups.proofs.numbering.number_group.Reads as reads
-use Rattle.groups.proofs.numbering.number_group.Lts as lts
-use Rattle.ternary.proofs.read.word_at.Reads as word-at-reads
 
 abbrev Inv-loop : tie.InvT-loop
 Inv-loop m leaders leader g numbers₀ i₀ numbers i = (i ≤ m) × (numbers ≡ placed (tab (renumbered leaders leader g numbers₀) i) numbers₀) × (length numbers ≡ length numbers₀)
@@ -20,35 +17,27 @@ Inv-loop m leaders leader g numbers₀ i₀ numbers i = (i ≤ m) × (numbers �
 abbrev μ-loop : tie.MeasureT-loop
 μ-loop m leaders leader g numbers₀ i₀ numbers i = m - i
 
--- src/numbering.rt:89:5
 loop-holds : tie.Need-loop-holds Inv-loop μ-loop
 loop-holds c = (omega arith, refl, refl)
 
--- src/numbering.rt:90:12
 word-at-requires : tie.Need-word-at-requires Inv-loop μ-loop
 word-at-requires c κs = search needs
 
--- src/numbering.rt:91:26
 cast-numbers : tie.Need-cast-numbers Inv-loop μ-loop
 cast-numbers c = omega arith
 
--- src/numbering.rt:91:13
 mul-numbers : tie.Need-mul-numbers Inv-loop μ-loop
 mul-numbers c = omega arith
 
--- src/numbering.rt:91:13
 slice-write-numbers : tie.Need-slice-write-numbers Inv-loop μ-loop
 slice-write-numbers c = omega arith
 
--- src/numbering.rt:93:9
 add-i : tie.Need-add-i Inv-loop μ-loop
 add-i c = omega arith
 
--- src/numbering.rt:89:5
 loop-less : tie.Need-loop-less Inv-loop μ-loop
 loop-less c = omega arith
 
--- src/numbering.rt:89:5
 loop-again : tie.Need-loop-again Inv-loop μ-loop
 loop-again c =
     let s = c .before .before .before .before .before .before in
@@ -62,11 +51,9 @@ loop-again c =
       ⊎-elim (λ w. rw (w .1) (length-set (l .numbers) (l .i) (s .args .g) ∙ l .inv .2)) (λ w. rw (w .1) (l .inv .2)) (c .if1 .came),
     )
 
--- src/numbering.rt:84:1
 same-length : tie.Need-same-length Inv-loop μ-loop
 same-length c = c .before .loop .inv .2
 
--- src/numbering.rt:84:1
 returns : tie.Need-returns Inv-loop μ-loop
 returns c = let all : c .before .loop .i ≡ c .before .before .before .before .args .m = omega arith in rw (← all) (c .before .loop .inv .1)
 

@@ -1,6 +1,6 @@
 -- `groups::numbering::number_groups` meets its contract: each turn gives the next group of document 01's order its number. Assumes nothing.
-use Prim.Native.Nat.{_+_, _-_, _≤_, _<_}
-use mathlib.Core.Path.{_≡_, refl, sym, _∙_}
+use Prim.Native.Nat.{_-_, _≤_}
+use mathlib.Core.Path.{_≡_, refl, _∙_}
 use borrow.Author.Needs.{needs}
 use borrow.Author.Count.{falls}
 use native.Mathlib.Omega.{arith}
@@ -14,13 +14,6 @@ use Rattle.groups.proofs.Order.{next-found, leaders-below}
 use Rattle.groups.proofs.Turns.{numbers-none, state-now, numbers-more, numbers-end, end-early, end-late, more-within}
 use Rattle.groups.proofs.numbering.number_groups.Statement.{statement}
 use Rattle.groups.proofs.numbering.number_groups.Tie as tie
-use Rattle.groups.proofs.numbering.number_groups.Reads as reads
-use Rattle.groups.proofs.numbering.number_groups.Lts as lts
-use Rattle.groups.proofs.numbering.block_groups.Reads as block-groups-reads
-use Rattle.groups.proofs.numbering.forget.Reads as forget-reads
-use Rattle.groups.proofs.numbering.next_gate.Reads as next-gate-reads
-use Rattle.groups.proofs.numbering.number_group.Reads as number-group-reads
-use Rattle.ternary.proofs.read.word_at.Reads as word-at-reads
 
 abbrev Inv-loop : tie.InvT-loop
 Inv-loop words n m gates leaders numbers₀ blocked₀ g₀ numbers blocked g =
@@ -29,11 +22,9 @@ Inv-loop words n m gates leaders numbers₀ blocked₀ g₀ numbers blocked g =
 abbrev μ-loop : tie.MeasureT-loop
 μ-loop words n m gates leaders numbers₀ blocked₀ g₀ numbers blocked g = m - g
 
--- src/numbering.rt:125:5
 forget-requires : tie.Need-forget-requires Inv-loop μ-loop
 forget-requires c κs = (c .before .before .before .before .before .pre .0, c .before .before .before .before .before .pre .2 .fewGates)
 
--- src/numbering.rt:127:5
 loop-holds : tie.Need-loop-holds Inv-loop μ-loop
 loop-holds c =
     let s = c .before .before .before .before .before .before .before .before in (
@@ -43,25 +34,20 @@ loop-holds c =
       refl,
     )
 
--- src/numbering.rt:128:9
 block-groups-requires : tie.Need-block-groups-requires Inv-loop μ-loop
 block-groups-requires c κs = (rw (c .before .before .before .loop .inv .3) (c .before .before .before .before .before .before .before .before .before .before .before .before .pre .1), c .before .before .before .before .before .before .before .before .before .before .before .before .pre .2)
 
--- src/numbering.rt:129:13
 next-gate-requires : tie.Need-next-gate-requires Inv-loop μ-loop
 next-gate-requires c κs =
     let s = c .before .before .before .before .before .before .before .before .before .before .before .before .before .before .before .before .before in
     (rw (c .before .before .before .before .block-groups .kept .1 .1 .1 .1 .1 .1 .0, c .before .before .before .before .before .before .before .before .loop .inv .3) (s .pre .1), s .pre .2 .fewGates, leaders-below (s .pre .2))
 
--- src/numbering.rt:131:13
 same-length : tie.Need-same-length Inv-loop μ-loop
 same-length c = c .before .before .before .before .before .before .before .before .before .before .loop .inv .2 ∙ c .before .before .before .before .before .before .before .before .before .before .before .before .before .forget .kept .1 .0
 
--- src/numbering.rt:131:13
 same-length-2 : tie.Need-same-length-2 Inv-loop μ-loop
 same-length-2 c = c .before .before .before .before .before .before .block-groups .kept .1 .1 .1 .1 .1 .1 .0 ∙ c .before .before .before .before .before .before .before .before .before .before .loop .inv .3
 
--- src/numbering.rt:131:13
 returns : tie.Need-returns Inv-loop μ-loop
 returns c =
     let s = c .before .before .before .before .before .before .before .before .before .before .before .before .before .before .before .before .before .before .before in
@@ -72,26 +58,21 @@ returns c =
     numbers-end (l .g) (s .args .numbers .now) (c .before .before .before .before .before .before .before .before .before .before .before .before .before .forget .last .1 .0) (l .numbers) (s .pre .2) (c .before .before .before .before .before .before .before .before .before .before .before .before .before .forget .ensures) (l .inv .1)
     (end-early (l .g) (c .before .next-gate .result) (s .pre .2) (l .inv .0) next (c .if1 .taken))
 
--- src/numbering.rt:133:34
 word-at-requires : tie.Need-word-at-requires Inv-loop μ-loop
 word-at-requires c κs = search needs
 
--- src/numbering.rt:133:9
 number-group-requires : tie.Need-number-group-requires Inv-loop μ-loop
 number-group-requires c κs =
     let s = c .before .before .before .before .before .before .before .before .before .before .before .before .before .before .before .before .before .before .before .before .before in
     let len : length (c .before .before .before .before .before .before .before .before .before .before .before .before .loop .numbers) ≡ length (s .args .numbers .now) = c .before .before .before .before .before .before .before .before .before .before .before .before .loop .inv .2 ∙ c .before .before .before .before .before .before .before .before .before .before .before .before .before .before .before .forget .kept .1 .0 in
     (rw len (s .pre .0), s .pre .2 .fewGates, omega (arith, c .before .before .before .before .before .before .before .before .before .before .before .loop-test .taken, s .pre .2 .fewGates))
 
--- src/numbering.rt:134:9
 add-g : tie.Need-add-g Inv-loop μ-loop
 add-g c = omega (arith, c .before .before .before .before .before .before .before .before .before .before .before .before .before .before .loop-test .taken, c .before .before .before .before .before .before .before .before .before .before .before .before .before .before .before .before .before .before .before .before .before .before .before .before .pre .2 .fewGates)
 
--- src/numbering.rt:127:5
 loop-less : tie.Need-loop-less Inv-loop μ-loop
 loop-less c = falls (c .before .before .before .before .before .before .before .before .before .before .before .before .before .before .before .before .before .before .before .before .before .before .before .before .args .m) (c .before .before .before .before .before .before .before .before .before .before .before .before .before .before .before .loop .g) (c .before .before .before .before .before .before .before .before .before .before .before .before .before .before .loop-test .taken)
 
--- src/numbering.rt:127:5
 loop-again : tie.Need-loop-again Inv-loop μ-loop
 loop-again c =
     let s = c .before .before .before .before .before .before .before .before .before .before .before .before .before .before .before .before .before .before .before .before .before .before .before .before in
@@ -106,15 +87,12 @@ loop-again c =
       c .before .before .before .before .before .before .before .before .before .before .before .block-groups .kept .1 .1 .1 .1 .1 .1 .0 ∙ l .inv .3,
     )
 
--- src/numbering.rt:121:1
 same-length-3 : tie.Need-same-length-3 Inv-loop μ-loop
 same-length-3 c = c .before .loop .inv .2 ∙ c .before .before .before .before .forget .kept .1 .0
 
--- src/numbering.rt:121:1
 same-length-4 : tie.Need-same-length-4 Inv-loop μ-loop
 same-length-4 c = c .before .loop .inv .3
 
--- src/numbering.rt:121:1
 returns-2 : tie.Need-returns-2 Inv-loop μ-loop
 returns-2 c =
     let s = c .before .before .before .before .before .before .before .before .before .before in

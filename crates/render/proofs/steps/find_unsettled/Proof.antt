@@ -1,6 +1,5 @@
 -- `render::steps::find_unsettled` meets its contract: the groups' order visits every gate. Assumes nothing.
-use Prim.Native.Nat.{_≤_}
-use mathlib.Core.Path.{_≡_, refl, sym, _∙_}
+use mathlib.Core.Path.{refl}
 use native.Mathlib.Omega.{arith}
 use lib.ListN.{length, getD}
 use Rattle.encoding.proofs.Readers.{whole-parts}
@@ -10,26 +9,16 @@ use Rattle.render.proofs.Told.{found-unsettled, found-none}
 use borrow.Author.Needs.{needs}
 use Rattle.render.proofs.steps.find_unsettled.Statement.{statement}
 use Rattle.render.proofs.steps.find_unsettled.Tie as tie
-use Rattle.render.proofs.steps.find_unsettled.Reads as reads
-use Rattle.render.proofs.steps.find_unsettled.Lts as lts
-use Rattle.block.proofs.header.gates_of.Reads as gates-of-reads
-use Rattle.block.proofs.header.inputs_of.Reads as inputs-of-reads
-use Rattle.render.proofs.steps.lowest_along.Reads as lowest-along-reads
-use Rattle.schedule.proofs.fill_order.Reads as fill-order-reads
-use Rattle.verdict.proofs.settings.setting_count.Reads as setting-count-reads
 
--- src/steps.rt:52:16
 gates-of-requires : tie.Need-gates-of-requires
 gates-of-requires c κs = search needs
 
--- src/steps.rt:52:5
 fill-order-requires : tie.Need-fill-order-requires
 fill-order-requires c κs =
     let s = c .before .before .before .before .before .before .before in
     let a = s .pre .numbersAre in
     rw (c .before .gates-of .ensures) (a .few, count-few a, rw (order-length a) (s .pre .orderRoom))
 
--- src/steps.rt:53:9
 lowest-along-requires : tie.Need-lowest-along-requires
 lowest-along-requires c κs =
     let s = c .before .before .before .before .before .before .before .before .before .before .before .before .before in
@@ -45,43 +34,33 @@ lowest-along-requires c κs =
       valueRoom = s .pre .valueRoom;
     }
 
--- src/steps.rt:54:31
 inputs-of-requires : tie.Need-inputs-of-requires
 inputs-of-requires c κs = search needs
 
--- src/steps.rt:54:17
 setting-count-requires : tie.Need-setting-count-requires
 setting-count-requires c κs = let s = c .before .before .before .before .before .before .before .before .before .before .before .before .before .before .before .before .before .before .before in omega (arith, c .inputs-of .ensures, whole-parts (s .args .words .now) (s .pre .whole) .fewInputs)
 
--- src/steps.rt:55:9
 same-length : tie.Need-same-length
 same-length c = search needs
 
--- src/steps.rt:55:9
 same-length-2 : tie.Need-same-length-2
 same-length-2 c = search needs
 
--- src/steps.rt:55:9
 same-length-3 : tie.Need-same-length-3
 same-length-3 c = search needs
 
--- src/steps.rt:55:9
 returns : tie.Need-returns
 returns c = found-unsettled (c .before .before .before .before .before .before .before .before .before .before .before .before .before .before .before .before .before .before .before .before .before .args .words .now) (c .before .before .inputs-of .result) (c .before .before .before .before .before .before .before .lowest-along .result) (c .before .setting-count .result) (c .before .before .inputs-of .ensures) (c .before .before .before .before .before .before .before .lowest-along .ensures) (c .before .setting-count .ensures) (c .if1 .taken)
 
--- src/steps.rt:48:1
 same-length-4 : tie.Need-same-length-4
 same-length-4 c = search needs
 
--- src/steps.rt:48:1
 same-length-5 : tie.Need-same-length-5
 same-length-5 c = search needs
 
--- src/steps.rt:48:1
 same-length-6 : tie.Need-same-length-6
 same-length-6 c = search needs
 
--- src/steps.rt:48:1
 returns-2 : tie.Need-returns-2
 returns-2 c = found-none (c .before .before .before .before .before .before .before .before .before .before .before .before .before .before .before .before .before .before .before .before .before .args .words .now) (c .before .before .inputs-of .result) (c .before .before .before .before .before .before .before .lowest-along .result) (c .before .setting-count .result) (c .before .before .inputs-of .ensures) (c .before .before .before .before .before .before .before .lowest-along .ensures) (c .before .setting-count .ensures) (c .if1 .left)
 

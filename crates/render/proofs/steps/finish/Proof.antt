@@ -1,61 +1,44 @@
 -- `render::steps::finish` meets its contract: the room is the rendered block's length, and the words are the rendering's. Assumes nothing.
-use Prim.Native.Nat.{ℕ, _+_, _*_, _≤_, _<_}
-use mathlib.Core.Path.{_≡_, refl, sym, ap, _∙_}
+use Prim.Native.Nat.{_+_, _*_, _≤_, _<_}
+use mathlib.Core.Path.{_≡_, refl, sym}
 use native.Mathlib.Omega.{arith}
-use lib.ListN.{length, getD}
-use Rattle.netlist.specs.declared.Answer.the-variants.{Done}
+use lib.ListN.{length}
 use Rattle.netlist.specs.StoredBlock.{gatesAt, outputsAt, encode, decode}
 use Rattle.netlist.specs.Limits.{maxCopies}
 use Rattle.netlist.specs.Groups.{copyCount}
 use Rattle.netlist.specs.Rendering.{rendering}
 use Rattle.netlist.specs.Answers.{answerOf, leftIn}
 use Rattle.encoding.proofs.Readers.{whole-parts}
-use Rattle.agreement.proofs.Block.{length-schedule-is, rendering-count}
 use Rattle.schedule.proofs.Blocks.{count-few, plan-schedule}
 use Rattle.render.proofs.Cases.{render-short, render-done}
 use Rattle.render.proofs.Told.{rendered-size, scheduled, schedule-length}
 use borrow.Author.Needs.{needs}
 use Rattle.render.proofs.steps.finish.Statement.{statement}
 use Rattle.render.proofs.steps.finish.Tie as tie
-use Rattle.render.proofs.steps.finish.Reads as reads
-use Rattle.render.proofs.steps.finish.Lts as lts
-use Rattle.block.proofs.header.gates_of.Reads as gates-of-reads
-use Rattle.block.proofs.header.inputs_of.Reads as inputs-of-reads
-use Rattle.block.proofs.header.outputs_at.Reads as outputs-at-reads
-use Rattle.block.proofs.header.outputs_of.Reads as outputs-of-reads
-use Rattle.copying.proofs.rendered.write_rendering.Reads as write-rendering-reads
-use Rattle.schedule.proofs.fill_schedule.Reads as fill-schedule-reads
 
--- src/steps.rt:65:9
 inputs-of-requires : tie.Need-inputs-of-requires
 inputs-of-requires c κs = search needs
 
--- src/steps.rt:66:9
 gates-of-requires : tie.Need-gates-of-requires
 gates-of-requires c κs = search needs
 
--- src/steps.rt:67:9
 outputs-of-requires : tie.Need-outputs-of-requires
 outputs-of-requires c κs = search needs
 
--- src/steps.rt:68:16
 outputs-at-requires : tie.Need-outputs-at-requires
 outputs-at-requires c κs = let s = c .before .before .before .before .before .before .before .before in (omega (arith, c .before .before .inputs-of .ensures, whole-parts (s .args .words .now) (s .pre .whole) .fewInputs), omega (arith, s .pre .fits))
 
--- src/steps.rt:68:47
 mul-size : tie.Need-mul-size
 mul-size c =
     let s = c .before .before .before .before .before .before .before .before .before in
     omega (arith, c .outputs-at .ensures, c .before .outputs-of .ensures, whole-parts (s .args .words .now) (s .pre .whole) .fewOutputs, c .before .before .before .inputs-of .ensures, whole-parts (s .args .words .now) (s .pre .whole) .fewInputs, s .pre .fits)
 
--- src/steps.rt:68:16
 add-size : tie.Need-add-size
 unfolding gatesAt outputsAt
 add-size c =
     let s = c .before .before .before .before .before .before .before .before .before in
     omega (arith, c .outputs-at .ensures, c .before .outputs-of .ensures, whole-parts (s .args .words .now) (s .pre .whole) .fewOutputs, c .before .before .before .inputs-of .ensures, whole-parts (s .args .words .now) (s .pre .whole) .fewInputs, s .pre .fits)
 
--- src/steps.rt:70:9
 returns : tie.Need-returns
 unfolding answerOf leftIn
 returns c =
@@ -68,14 +51,12 @@ returns c =
     let is = render-short ws (length (s .args .rendered .now)) (s .pre .whole) few (s .pre .settled) short in
     record { answers = rw is refl; leaves = rw is refl }
 
--- src/steps.rt:72:5
 fill-schedule-requires : tie.Need-fill-schedule-requires
 fill-schedule-requires c κs =
     let s = c .before .before .before .before .before .before .before .before .before .before .before in
     let a = s .pre .numbersAre in
     rw (c .before .before .before .before .gates-of .ensures) (a .few, count-few a, rw (plan-schedule a, schedule-length (s .args .words .now) (s .args .total) (s .pre .totalIs)) (omega (arith, s .pre .fits, s .pre .orderRoom)))
 
--- src/steps.rt:73:5
 write-rendering-requires : tie.Need-write-rendering-requires
 write-rendering-requires c κs =
     let s = c .before .before .before .before .before .before .before .before .before .before .before .before .before .before .before .before .before in
@@ -98,19 +79,15 @@ write-rendering-requires c κs =
       room = rw size (c .before .before .before .before .before .before .before .if1 .left);
     }
 
--- src/steps.rt:61:1
 same-length : tie.Need-same-length
 same-length c = search needs
 
--- src/steps.rt:61:1
 same-length-2 : tie.Need-same-length-2
 same-length-2 c = search needs
 
--- src/steps.rt:61:1
 same-length-3 : tie.Need-same-length-3
 same-length-3 c = search needs
 
--- src/steps.rt:61:1
 returns-2 : tie.Need-returns-2
 unfolding answerOf leftIn
 returns-2 c =

@@ -1,54 +1,38 @@
 -- `render::steps::lowest_along` meets its contract: parts of n and m elements are what the search asks. Assumes nothing.
-use Prim.Native.Nat.{_≤_}
-use mathlib.Core.Path.{_≡_, sym}
+use mathlib.Core.Path.{sym}
 use native.Mathlib.Omega.{arith}
-use lib.ListN.{length, getD}
+use lib.ListN.{length}
 use lib.Seq.{length-take-le}
 use Rattle.encoding.proofs.Readers.{whole-parts}
 use Rattle.decide.proofs.Legible.{whole-ready}
 use borrow.Author.Needs.{needs}
 use Rattle.render.proofs.steps.lowest_along.Statement.{statement}
 use Rattle.render.proofs.steps.lowest_along.Tie as tie
-use Rattle.render.proofs.steps.lowest_along.Reads as reads
-use Rattle.render.proofs.steps.lowest_along.Lts as lts
-use Rattle.block.proofs.header.gates_at.Reads as gates-at-reads
-use Rattle.block.proofs.header.gates_of.Reads as gates-of-reads
-use Rattle.block.proofs.header.inputs_of.Reads as inputs-of-reads
-use Rattle.verdict.proofs.settings.lowest_unsettled.Reads as lowest-unsettled-reads
 
--- src/steps.rt:41:9
 inputs-of-requires : tie.Need-inputs-of-requires
 inputs-of-requires c κs = search needs
 
--- src/steps.rt:42:9
 gates-of-requires : tie.Need-gates-of-requires
 gates-of-requires c κs = search needs
 
--- src/steps.rt:43:9
 gates-at-requires : tie.Need-gates-at-requires
 gates-at-requires c κs = let s = c .before .before .before .before .before .before in omega (arith, c .before .inputs-of .ensures, whole-parts (s .args .words .now) (s .pre .whole) .fewInputs)
 
--- src/steps.rt:44:39
 slice-aggregate-lowest-unsettled : tie.Need-slice-aggregate-lowest-unsettled
 slice-aggregate-lowest-unsettled c = let s = c .before .before .before .before .before .before .before .before in sym (length-take-le (c .before .before .gates-of .result) (s .args .order .now) (rw (c .before .before .gates-of .ensures) (s .pre .orderRoom)))
 
--- src/steps.rt:44:52
 slice-relend-prefix-lowest-unsettled : tie.Need-slice-relend-prefix-lowest-unsettled
 slice-relend-prefix-lowest-unsettled c = search needs
 
--- src/steps.rt:44:52
 slice-aggregate-lowest-unsettled-2 : tie.Need-slice-aggregate-lowest-unsettled-2
 slice-aggregate-lowest-unsettled-2 c = let s = c .before .before .before .before .before .before .before .before .before in sym (length-take-le (c .before .before .before .before .inputs-of .result) (s .args .inputs .now) (rw (c .before .before .before .before .inputs-of .ensures) (s .pre .inputRoom)))
 
--- src/steps.rt:44:70
 slice-relend-prefix-lowest-unsettled-2 : tie.Need-slice-relend-prefix-lowest-unsettled-2
 slice-relend-prefix-lowest-unsettled-2 c = search needs
 
--- src/steps.rt:44:70
 slice-aggregate-lowest-unsettled-3 : tie.Need-slice-aggregate-lowest-unsettled-3
 slice-aggregate-lowest-unsettled-3 c = let s = c .before .before .before .before .before .before .before .before .before .before in sym (length-take-le (c .before .before .before .before .gates-of .result) (s .args .values .now) (rw (c .before .before .before .before .gates-of .ensures) (s .pre .valueRoom)))
 
--- src/steps.rt:44:5
 lowest-unsettled-requires : tie.Need-lowest-unsettled-requires
 lowest-unsettled-requires c κs =
     let s = c .before .before .before .before .before .before .before .before .before .before in
@@ -59,15 +43,12 @@ lowest-unsettled-requires c κs =
     (length-take-le (n .result) (s .args .inputs .now) (rw (n .ensures) (s .pre .inputRoom)))
     (length-take-le (m .result) (s .args .values .now) (rw (m .ensures) (s .pre .valueRoom)))
 
--- src/steps.rt:37:1
 same-length : tie.Need-same-length
 same-length c = search needs
 
--- src/steps.rt:37:1
 same-length-2 : tie.Need-same-length-2
 same-length-2 c = search needs
 
--- src/steps.rt:37:1
 returns : tie.Need-returns
 returns c = search needs
 

@@ -1,48 +1,36 @@
 -- `render::steps::plan` meets its contract: the squares of the numbers' groups are the copies. Assumes nothing.
-use mathlib.Core.Path.{_≡_, sym, ap, _∙_}
-use lib.ListN.{getD, length}
+use mathlib.Core.Path.{ap, _∙_}
+use lib.ListN.{length}
 use Rattle.netlist.specs.StoredBlock.{decode}
 use Rattle.netlist.specs.Groups.{groups}
-use Rattle.schedule.specs.Listing.{Numbers, copiesOf}
+use Rattle.schedule.specs.Listing.{copiesOf}
 use Rattle.schedule.proofs.Blocks.{assigned-numbers, count-few, squares-copies}
 use Rattle.render.proofs.Told.{plan-many, plan-fit, planned-numbers}
 use borrow.Author.Needs.{needs}
 use Rattle.render.proofs.steps.plan.Statement.{statement}
 use Rattle.render.proofs.steps.plan.Tie as tie
-use Rattle.render.proofs.steps.plan.Reads as reads
-use Rattle.render.proofs.steps.plan.Lts as lts
-use Rattle.block.proofs.header.gates_of.Reads as gates-of-reads
-use Rattle.groups.proofs.assign.assign.Reads as assign-reads
-use Rattle.schedule.proofs.count_copies.Reads as count-copies-reads
 
--- src/steps.rt:29:9
 assign-requires : tie.Need-assign-requires
 assign-requires c κs = search needs
 
--- src/steps.rt:30:43
 gates-of-requires : tie.Need-gates-of-requires
 gates-of-requires c κs = search needs
 
--- src/steps.rt:30:30
 count-copies-requires : tie.Need-count-copies-requires
 count-copies-requires c κs =
     let s = c .before .before .before .before .before .before .before .before in
     let a = assigned-numbers (s .args .words .now) (s .pre .0) (c .before .gates-of .ensures) (c .before .before .before .before .assign .ensures) in
     (a .few, count-few a)
 
--- src/steps.rt:30:21
 enum-known-total : tie.Need-enum-known-total
 enum-known-total c = search needs
 
--- src/steps.rt:31:9
 enum-told : tie.Need-enum-told
 enum-told c = search needs
 
--- src/steps.rt:31:9
 same-length : tie.Need-same-length
 same-length c = search needs
 
--- src/steps.rt:31:9
 returns : tie.Need-returns
 returns c =
     let s = c .before .before .before .before .before .before .before .before .before .before .before in
@@ -52,11 +40,9 @@ returns c =
       numbersAre = planned-numbers (s .args .words .now) (c .before .before .before .before .gates-of .ensures) a;
     }
 
--- src/steps.rt:25:1
 same-length-2 : tie.Need-same-length-2
 same-length-2 c = search needs
 
--- src/steps.rt:25:1
 returns-2 : tie.Need-returns-2
 returns-2 c =
     let s = c .before .before .before .before .before .before .before .before .before .before .before .before in

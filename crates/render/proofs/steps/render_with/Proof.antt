@@ -1,7 +1,6 @@
 -- `render::steps::render_with` meets its contract: the tests in document 01's order, 8 before 9 before 11. Assumes nothing.
-use Prim.Native.Nat.{_≤_}
-use mathlib.Core.Path.{_≡_, refl, ap, sym, _∙_}
-use lib.ListN.{length, getD}
+use mathlib.Core.Path.{refl, ap, _∙_}
+use lib.ListN.{length}
 use Rattle.netlist.specs.StoredBlock.{decode}
 use Rattle.netlist.specs.Answers.{answerOf, leftIn}
 use Rattle.netlist.specs.declared.Answer.the-variants.{Refused}
@@ -11,29 +10,19 @@ use Rattle.render.proofs.Told.{told-many, told-fit, told-unsettled, tol
 use borrow.Author.Needs.{needs}
 use Rattle.render.proofs.steps.render_with.Statement.{statement}
 use Rattle.render.proofs.steps.render_with.Tie as tie
-use Rattle.render.proofs.steps.render_with.Reads as reads
-use Rattle.render.proofs.steps.render_with.Lts as lts
-use Rattle.render.proofs.steps.find_unsettled.Reads as find-unsettled-reads
-use Rattle.render.proofs.steps.finish.Reads as finish-reads
-use Rattle.render.proofs.steps.plan.Reads as plan-reads
 
--- src/steps.rt:82:38
 plan-requires : tie.Need-plan-requires
 plan-requires c κs = search needs
 
--- src/steps.rt:82:21
 enum-known-count : tie.Need-enum-known-count
 enum-known-count c = search needs
 
--- src/steps.rt:83:32
 enum-told : tie.Need-enum-told
 enum-told c = search needs
 
--- src/steps.rt:83:9
 same-length : tie.Need-same-length
 same-length c = search needs
 
--- src/steps.rt:83:9
 returns : tie.Need-returns
 unfolding answerOf leftIn
 returns c =
@@ -42,7 +31,6 @@ returns c =
     let is = render-swollen ws (length (s .args .rendered .now)) (s .pre .whole) (told-many (decode ws) (c .before .before .before .before .plan .result) (c .before .before .before .before .plan .ensures .planIs) (c .enum-told .given .1)) in
     record { answers = rw is refl; leaves = rw is refl }
 
--- src/steps.rt:85:9
 find-unsettled-requires : tie.Need-find-unsettled-requires
 find-unsettled-requires c κs =
     let s = c .before .before .before .before .before .before .before .before .before .before .before .before .before .before .before .before .before .before in
@@ -56,27 +44,21 @@ find-unsettled-requires c κs =
       valueRoom = s .pre .valueRoom;
     }
 
--- src/steps.rt:86:32
 enum-known-settings : tie.Need-enum-known-settings
 enum-known-settings c = search needs
 
--- src/steps.rt:87:9
 same-length-2 : tie.Need-same-length-2
 same-length-2 c = search needs
 
--- src/steps.rt:87:9
 same-length-3 : tie.Need-same-length-3
 same-length-3 c = search needs
 
--- src/steps.rt:87:9
 same-length-4 : tie.Need-same-length-4
 same-length-4 c = search needs
 
--- src/steps.rt:87:9
 same-length-5 : tie.Need-same-length-5
 same-length-5 c = search needs
 
--- src/steps.rt:87:9
 returns-2 : tie.Need-returns-2
 unfolding answerOf leftIn
 returns-2 c =
@@ -90,7 +72,6 @@ returns-2 c =
 enum-told-2 : tie.Need-enum-told-2
 enum-told-2 c = search needs
 
--- src/steps.rt:89:5
 finish-requires : tie.Need-finish-requires
 finish-requires c κs =
     let s = c .before .before .before .before .before .before .before .before .before .before .before .before .before .before .before .before .before .before .before .before .before .before .before .before .before .before .before .before .before .before .before in
@@ -106,31 +87,24 @@ finish-requires c κs =
       tableRoom = s .pre .tableRoom;
     }
 
--- src/steps.rt:78:1
 same-length-6 : tie.Need-same-length-6
 same-length-6 c = search needs
 
--- src/steps.rt:78:1
 same-length-7 : tie.Need-same-length-7
 same-length-7 c = search needs
 
--- src/steps.rt:78:1
 same-length-8 : tie.Need-same-length-8
 same-length-8 c = search needs
 
--- src/steps.rt:78:1
 same-length-9 : tie.Need-same-length-9
 same-length-9 c = search needs
 
--- src/steps.rt:78:1
 same-length-10 : tie.Need-same-length-10
 same-length-10 c = search needs
 
--- src/steps.rt:78:1
 same-length-11 : tie.Need-same-length-11
 same-length-11 c = search needs
 
--- src/steps.rt:78:1
 returns-3 : tie.Need-returns-3
 returns-3 c = search needs
 

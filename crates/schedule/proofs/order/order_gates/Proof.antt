@@ -3,23 +3,16 @@ use Rattle.encoding.proofs.Readers.{whole-parts}
 use borrow.Author.Needs.{needs}
 use Rattle.schedule.proofs.order.order_gates.Statement.{statement}
 use Rattle.schedule.proofs.order.order_gates.Tie as tie
-use Rattle.schedule.proofs.order.order_gates.Reads as reads
-use Rattle.schedule.proofs.order.order_gates.Lts as lts
-use Rattle.schedule.proofs.order.order_with.Reads as order-with-reads
 
--- src/order.rt:28:23
 slice-aggregate-order-with : tie.Need-slice-aggregate-order-with
 slice-aggregate-order-with c = search needs
 
--- src/order.rt:28:5
 order-with-requires : tie.Need-order-with-requires
 order-with-requires c κs = let s = c .before .before .before .before in (s .pre .0, whole-parts (s .args .words .now) (s .pre .0) .fewGates, s .pre .1)
 
--- src/order.rt:23:1
 same-length : tie.Need-same-length
 same-length c = search needs
 
--- src/order.rt:23:1
 returns : tie.Need-returns
 returns c = search needs
 

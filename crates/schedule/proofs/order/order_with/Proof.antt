@@ -1,40 +1,27 @@
 -- `schedule::order::order_with` meets its contract: the gates with each number are the groups. Assumes nothing.
-use mathlib.Core.Path.{sym, _∙_}
-use native.Mathlib.Omega.{arith}
 use Rattle.schedule.proofs.Blocks.{assigned-numbers, count-few, order-length, order-groups, front}
 use borrow.Author.Needs.{needs}
 use Rattle.schedule.proofs.order.order_with.Statement.{statement}
 use Rattle.schedule.proofs.order.order_with.Tie as tie
-use Rattle.schedule.proofs.order.order_with.Reads as reads
-use Rattle.schedule.proofs.order.order_with.Lts as lts
-use Rattle.block.proofs.header.gates_of.Reads as gates-of-reads
-use Rattle.groups.proofs.assign.assign.Reads as assign-reads
-use Rattle.schedule.proofs.fill_order.Reads as fill-order-reads
 
--- src/order.rt:18:9
 assign-requires : tie.Need-assign-requires
 assign-requires c κs = search needs
 
--- src/order.rt:19:16
 gates-of-requires : tie.Need-gates-of-requires
 gates-of-requires c κs = search needs
 
--- src/order.rt:19:5
 fill-order-requires : tie.Need-fill-order-requires
 fill-order-requires c κs =
     let s = c .before .before .before .before .before .before .before .before .before .before in
     let a = assigned-numbers (s .args .words .now) (s .pre .0) (c .before .before .gates-of .ensures) (c .before .before .before .before .before .assign .ensures) in
     (a .few, count-few a, rw (order-length a, c .before .before .gates-of .ensures) (s .pre .2))
 
--- src/order.rt:14:1
 same-length : tie.Need-same-length
 same-length c = search needs
 
--- src/order.rt:14:1
 same-length-2 : tie.Need-same-length-2
 same-length-2 c = search needs
 
--- src/order.rt:14:1
 returns : tie.Need-returns
 returns c =
     let s = c .before .before .before .before .before .before .before .before .before .before .before .before .before in

@@ -1,6 +1,6 @@
 -- `search::walk::mark_reach` meets its contract: a breadth-first search, whose invariant `Searching` holds from `search-start` on.
-use Prim.Native.Nat.{_+_, _-_, _*_, _/_, _≤_, _<_}
-use mathlib.Core.Path.{_≡_, refl, _∙_, sym}
+use Prim.Native.Nat.{_+_, _-_, _*_, _/_, _<_}
+use mathlib.Core.Path.{_≡_, refl, _∙_}
 use borrow.Author.Needs.{needs}
 use borrow.Author.Count.{falls}
 use native.Mathlib.Omega.{arith}
@@ -12,11 +12,6 @@ use Rattle.search.proofs.Marking.{words-inside, flags-length, queue-len
 use Rattle.search.proofs.Searching.{search-start, search-turn, search-reached, room-tail, cleared-length}
 use Rattle.search.proofs.walk.mark_reach.Statement.{statement}
 use Rattle.search.proofs.walk.mark_reach.Tie as tie
-use Rattle.search.proofs.walk.mark_reach.Reads as reads
-use Rattle.search.proofs.walk.mark_reach.Lts as lts
-use Rattle.search.proofs.walk.clear.Reads as clear-reads
-use Rattle.search.proofs.walk.visit.Reads as visit-reads
-use Rattle.ternary.proofs.read.word_at.Reads as word-at-reads
 
 abbrev Inv-loop : tie.InvT-loop
 Inv-loop words n m gates start flags₀ queue₀ head₀ tail₀ flags queue head tail =
@@ -25,28 +20,23 @@ Inv-loop words n m gates start flags₀ queue₀ head₀ tail₀ flags queue hea
 abbrev μ-loop : tie.MeasureT-loop
 μ-loop words n m gates start flags₀ queue₀ head₀ tail₀ flags queue head tail = m - head
 
--- src/search.rt:69:5
 clear-requires : tie.Need-clear-requires Inv-loop μ-loop
 clear-requires c κs = search needs
 
--- src/search.rt:70:5
 slice-write-flags : tie.Need-slice-write-flags Inv-loop μ-loop
 slice-write-flags c =
     let s = c .before .before .before .before .before .before .before in
     rw (c .before .before .clear .ensures, cleared-length (s .args .m) (s .args .flags .now) (s .pre .1 .flagRoom)) (omega arith)
 
--- src/search.rt:71:16
 cast-queue : tie.Need-cast-queue Inv-loop μ-loop
 cast-queue c = search needs
 
--- src/search.rt:71:5
 slice-write-queue : tie.Need-slice-write-queue Inv-loop μ-loop
 slice-write-queue c =
     let s = c .before .before .before .before .before .before .before in
     let h : 0 < length (s .args .queue .now) = omega (arith, s .pre .0, s .pre .1 .queueRoom) in
     h
 
--- src/search.rt:74:5
 loop-holds : tie.Need-loop-holds Inv-loop μ-loop
 loop-holds c =
     let s = c .before .before .before .before .before .before .before in (
@@ -57,11 +47,9 @@ loop-holds c =
       refl,
     )
 
--- src/search.rt:75:13
 word-at-requires : tie.Need-word-at-requires Inv-loop μ-loop
 word-at-requires c κs = search needs
 
--- src/search.rt:76:43
 mul-visit : tie.Need-mul-visit Inv-loop μ-loop
 mul-visit c =
     let s = c .before .before .before .before .before .before .before .before .before .before .before in
@@ -70,7 +58,6 @@ mul-visit c =
     let i : getD (l .queue) (l .head) 0 < s .args .m = l .inv .0 .queued (l .head) (c .before .before .loop-test .taken) .0 in
     omega (arith, w .ensures, s .pre .1 .fewGates, s .pre .1 .near)
 
--- src/search.rt:76:35
 add-visit : tie.Need-add-visit Inv-loop μ-loop
 add-visit c =
     let s = c .before .before .before .before .before .before .before .before .before .before .before in
@@ -79,7 +66,6 @@ add-visit c =
     let i : getD (l .queue) (l .head) 0 < s .args .m = l .inv .0 .queued (l .head) (c .before .before .loop-test .taken) .0 in
     omega (arith, w .ensures, s .pre .1 .fewGates, s .pre .1 .near)
 
--- src/search.rt:76:9
 visit-requires : tie.Need-visit-requires Inv-loop μ-loop
 visit-requires c κs =
     let s = c .before .before .before .before .before .before .before .before .before .before .before .before .before in
@@ -88,18 +74,15 @@ visit-requires c κs =
     let i : getD (l .queue) (l .head) 0 < s .args .m = l .inv .0 .queued (l .head) (c .before .before .before .before .loop-test .taken) .0 in
     (omega (arith, w .ensures, s .pre .1 .fewGates, s .pre .1 .near), s .pre .1 .fewInputs, l .inv .0 .room)
 
--- src/search.rt:77:9
 add-head : tie.Need-add-head Inv-loop μ-loop
 add-head c =
     omega (arith, room-tail (c .before .before .before .before .before .before .before .before .before .before .loop .inv .0 .room), c .before .before .before .before .before .before .before .before .before .before .before .before .before .before .before .before .before .before .pre .1 .fewGates, c .before .before .before .before .before .before .before .before .before .loop-test .taken)
 
--- src/search.rt:74:5
 loop-less : tie.Need-loop-less Inv-loop μ-loop
 loop-less c =
     let l = c .before .before .before .before .before .before .before .before .before .before .loop in
     falls (c .before .before .before .before .before .before .before .before .before .before .before .before .before .before .before .before .before .before .args .m) (l .head) (omega (arith, room-tail (l .inv .0 .room), c .before .before .before .before .before .before .before .before .before .loop-test .taken))
 
--- src/search.rt:74:5
 loop-again : tie.Need-loop-again Inv-loop μ-loop
 loop-again c =
     let s = c .before .before .before .before .before .before .before .before .before .before .before .before .before .before .before .before .before .before in
@@ -117,18 +100,15 @@ loop-again c =
       queue-length e ∙ l .inv .2,
     )
 
--- src/search.rt:65:1
 same-length : tie.Need-same-length Inv-loop μ-loop
 same-length c =
     let s = c .before .before .before .before .before .before .before .before .before in
     c .before .loop .inv .1
     ∙ rw (length-set, c .before .before .before .before .clear .ensures) (cleared-length (s .args .m) (s .args .flags .now) (s .pre .1 .flagRoom))
 
--- src/search.rt:65:1
 same-length-2 : tie.Need-same-length-2 Inv-loop μ-loop
 same-length-2 c = c .before .loop .inv .2 ∙ length-set (c .before .before .before .before .before .before .before .before .before .args .queue .now) 0 (c .before .before .before .before .before .before .before .before .before .args .start)
 
--- src/search.rt:65:1
 returns : tie.Need-returns Inv-loop μ-loop
 returns c = let s = c .before .before .before .before .before .before .before .before .before in search-reached (c .before .loop .inv .0) (c .loop-test .left) (s .pre .0) (s .pre .1 .inside)
 

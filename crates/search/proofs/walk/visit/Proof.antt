@@ -1,15 +1,11 @@
 use mathlib.Core.Path.{_≡_}
-use Prim.Native.Nat.{ℕ, _+_, _-_, _/_, _≤_}
+use Prim.Native.Nat.{_-_, _/_, _≤_}
 use borrow.Author.Needs.{needs}
 use native.Mathlib.Omega.{arith}
-use Rattle.search.specs.Search.{wordGate, wordGates, Room, Extended}
+use Rattle.search.specs.Search.{wordGate, wordGates, Extended}
 use Rattle.search.proofs.Marking.{extended-none, room-kept, words-inside, words-none, word-turn, flags-length, queue-length}
 use Rattle.search.proofs.walk.visit.Statement.{statement}
 use Rattle.search.proofs.walk.visit.Tie as tie
-use Rattle.search.proofs.walk.visit.Reads as reads
-use Rattle.search.proofs.walk.visit.Lts as lts
-use Rattle.search.proofs.walk.mark_word.Reads as mark-word-reads
-use Rattle.ternary.proofs.read.word_at.Reads as word-at-reads
 
 abbrev Inv-loop : tie.InvT-loop
 Inv-loop words n m at flags₀ queue₀ tail count end₀ i₀ flags queue end i = (i ≤ count) × Extended (wordGates words n m at i) flags₀ queue₀ tail flags queue end
@@ -17,59 +13,47 @@ Inv-loop words n m at flags₀ queue₀ tail count end₀ i₀ flags queue end i
 abbrev μ-loop : tie.MeasureT-loop
 μ-loop words n m at flags₀ queue₀ tail count end₀ i₀ flags queue end i = count - i
 
--- src/search.rt:41:17
 word-at-requires : tie.Need-word-at-requires Inv-loop μ-loop
 word-at-requires c κs = search needs
 
--- src/search.rt:44:5
 loop-holds : tie.Need-loop-holds Inv-loop μ-loop
 loop-holds c =
     let a = c .before .before .before .before .args in
     (search needs, rw (words-none (a .words .now) (a .n) (a .m) (a .at)) (extended-none (a .flags .now) (a .queue .now) (a .tail)))
 
--- src/search.rt:45:40
 add-word-at : tie.Need-add-word-at Inv-loop μ-loop
 add-word-at c = omega arith
 
--- src/search.rt:45:40
 add-word-at-2 : tie.Need-add-word-at-2 Inv-loop μ-loop
 add-word-at-2 c = omega arith
 
--- src/search.rt:45:25
 word-at-requires-2 : tie.Need-word-at-requires-2 Inv-loop μ-loop
 word-at-requires-2 c κs = search needs
 
--- src/search.rt:45:9
 mark-word-requires : tie.Need-mark-word-requires Inv-loop μ-loop
 mark-word-requires c κs =
     let s = c .before .before .before .before .before .before .before .before .before in
     let l = c .before .before .before .before .loop in
     (s .pre .1, room-kept (s .pre .2) (words-inside (s .args .words .now) (s .args .n) (s .args .m) (s .args .at) (l .i)) (l .inv .1))
 
--- src/search.rt:46:9
 add-i : tie.Need-add-i Inv-loop μ-loop
 add-i c = omega arith
 
--- src/search.rt:44:5
 loop-less : tie.Need-loop-less Inv-loop μ-loop
 loop-less c = omega arith
 
--- src/search.rt:44:5
 loop-again : tie.Need-loop-again Inv-loop μ-loop
 loop-again c =
     let a = c .before .before .before .before .before .before .before .before .before .before .before .before .before .before .args in
     let l = c .before .before .before .before .before .before .before .before .before .loop in
     (omega arith, word-turn (a .words .now) (a .n) (a .m) (a .at) (l .i) (c .before .before .before .before .before .before .before .word-at2 .result) (c .before .before .before .before .before .before .before .word-at2 .ensures) (l .inv .1) (c .before .before .before .before .mark-word .ensures))
 
--- src/search.rt:37:1
 same-length : tie.Need-same-length Inv-loop μ-loop
 same-length c = flags-length (c .before .loop .inv .1)
 
--- src/search.rt:37:1
 same-length-2 : tie.Need-same-length-2 Inv-loop μ-loop
 same-length-2 c = queue-length (c .before .loop .inv .1)
 
--- src/search.rt:37:1
 returns : tie.Need-returns Inv-loop μ-loop
 returns c =
     let all : c .before .loop .i ≡ c .before .before .word-at .result / 8 = omega arith in

@@ -1,0 +1,35 @@
+// Which settings are settled: each is simulated once, along the groups' order.
+ghost use mathlib.Core.Path.{_≡_};
+ghost use mathlib.Core.Bool.{false};
+ghost use Rattle.netlist.specs.StoredBlock.{decode, torn};
+ghost use Rattle.cover.specs.Table.{CoverRoom, Tabulated};
+use block::header;
+use schedule::order::order_gates;
+use verdict::settings::fill_settled;
+
+// For each setting of a block that is not torn: 1 where it is settled, else 0.
+pub fn tabulate(
+    words: &[u16],
+    order: &mut [u16],
+    inputs: &mut [u8],
+    values: &mut [u8],
+    settled: &mut [u8],
+)
+    requires { ⌜ torn (now words) ≡ false ⌝ }
+    requires { ⌜ CoverRoom (now order) (now inputs) (now values) (now settled) ⌝ }
+    ensures { λ _. ⌜ Tabulated (decode (now (words .entry))) (now (settled .exit)) ⌝ }
+{
+    let n = header::inputs_of(words);
+    let m = header::gates_of(words);
+    let gates = header::gates_at(n);
+    order_gates(words, order);
+    fill_settled(
+        words,
+        n,
+        gates,
+        &order[..m],
+        &mut inputs[..n],
+        &mut values[..m],
+        settled,
+    );
+}

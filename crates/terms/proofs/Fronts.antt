@@ -1,0 +1,104 @@
+-- What the functions of src/leaves answer, way by way, and what that is at the front of a print. Assumes nothing.
+use mathlib.Core.Path.{_≡_, refl}
+use mathlib.Core.Bool.{true}
+use mathlib.Core.List.{List, _++_}
+use Prim.Native.Nat.{ℕ, zero, suc, _+_, _-_, _≤_, _<_}
+use native.Mathlib.Omega.{arith}
+use lib.ListN.{length, getD}
+use borrow.Author.Tests.{ne-eqb, lt-ltb, le-ltb}
+use Rattle.names.specs.Packed.{packed, nameFront}
+use Rattle.names.specs.Search.{indexOf}
+use Rattle.terms.specs.declared.Leaf.{Leaf}
+use Rattle.netlist.specs.Kinds.{isKind, keyword, isNot, rowOf, rows, row}
+use Rattle.grammar.proofs.SoundTerms.{by-kind}
+use Rattle.terms.specs.Leaves.{kindHere, wordLength, nameLength, indexHere, earlier, nameHere, constantHere, leafHere}
+
+pub earlier-first : (u v : ℕ) → (u ≡ 0 → ⊥) → u ≡ earlier u v
+unfolding earlier
+earlier-first zero v h = absurd (h refl)
+earlier-first (suc u) v h = refl
+
+pub earlier-none : (u : ℕ) → earlier u 0 ≡ u
+unfolding earlier
+earlier-none zero = refl
+earlier-none (suc u) = refl
+
+pub earlier-assoc : (u v w : ℕ) → earlier (earlier u v) w ≡ earlier u (earlier v w)
+unfolding earlier
+earlier-assoc zero v w = refl
+earlier-assoc (suc u) v w = refl
+
+-- ---- a kind's word
+
+module _ (s : List ℕ) where
+  pub kind-and : getD s 0 0 ≡ 97 → 1 ≡ kindHere s
+  unfolding kindHere
+  kind-and e = rw e
+
+  pub kind-or : getD s 0 0 ≡ 111 → 2 ≡ kindHere s
+  unfolding kindHere
+  kind-or e = rw e
+
+  module _ (a : getD s 0 0 ≡ 97 → ⊥) (b : getD s 0 0 ≡ 111 → ⊥) where
+    pub kind-nand : getD s 1 0 ≡ 97 → 3 ≡ kindHere s
+    unfolding kindHere
+    kind-nand e = rw (ne-eqb (getD s 0 0) 97 a, ne-eqb (getD s 0 0) 111 b, e)
+
+    pub kind-not : (getD s 1 0 ≡ 97 → ⊥) → getD s 2 0 ≡ 116 → 0 ≡ kindHere s
+    unfolding kindHere
+    kind-not d e = rw (ne-eqb (getD s 0 0) 97 a, ne-eqb (getD s 0 0) 111 b, ne-eqb (getD s 1 0) 97 d, e)
+
+    pub kind-nor : (getD s 1 0 ≡ 97 → ⊥) → (getD s 2 0 ≡ 116 → ⊥) → 4 ≡ kindHere s
+    unfolding kindHere
+    kind-nor d e = rw (ne-eqb (getD s 0 0) 97 a, ne-eqb (getD s 0 0) 111 b, ne-eqb (getD s 1 0) 97 d, ne-eqb (getD s 2 0) 116 e)
+
+-- at a kind's word it is that kind
+pub kind-back : (rest : List ℕ) (k : ℕ) → isKind k ≡ true → kindHere (keyword k ++ rest) ≡ k
+unfolding kindHere keyword isNot rowOf rows row
+kind-back rest = by-kind (λ k. kindHere (keyword k ++ rest) ≡ k) refl refl refl refl refl
+
+pub word-back : (k : ℕ) → isKind k ≡ true → wordLength k ≡ length (keyword k)
+unfolding wordLength keyword isNot rowOf rows row
+word-back = by-kind (λ k. wordLength k ≡ length (keyword k)) refl refl refl refl refl
+
+pub kind-below : (k : ℕ) → isKind k ≡ true → k ≤ 4
+unfolding isKind
+kind-below = by-kind (λ k. k ≤ 4) (omega arith) (omega arith) (omega arith) (omega arith) (omega arith)
+
+pub length-two : (k : ℕ) → k ≡ 2 → 2 ≡ wordLength k
+unfolding wordLength
+length-two k e = rw e
+
+pub length-four : (k : ℕ) → (k ≡ 2 → ⊥) → k ≡ 3 → 4 ≡ wordLength k
+unfolding wordLength
+length-four k d e = rw e
+
+pub length-three : (k : ℕ) → (k ≡ 2 → ⊥) → (k ≡ 3 → ⊥) → 3 ≡ wordLength k
+unfolding wordLength
+length-three k d e = rw (ne-eqb k 2 d, ne-eqb k 3 e)
+
+-- ---- an operand that is no expression
+
+module _ (s names words : List ℕ) (unknown : ℕ) where
+  pub leaf-0 : getD s 0 0 ≡ 48 → constantHere s 65534 unknown ≡ leafHere s names words unknown
+  unfolding leafHere
+  leaf-0 e = rw e
+
+  pub leaf-1 : getD s 0 0 ≡ 49 → constantHere s 65535 unknown ≡ leafHere s names words unknown
+  unfolding leafHere
+  leaf-1 e = rw e
+
+  pub leaf-name : (getD s 0 0 ≡ 48 → ⊥) → (getD s 0 0 ≡ 49 → ⊥) → nameHere s names words unknown ≡ leafHere s names words unknown
+  unfolding leafHere
+  leaf-name a b = rw (ne-eqb (getD s 0 0) 48 a, ne-eqb (getD s 0 0) 49 b)
+
+  module _ {l i p u : ℕ} (a : l ≡ length (nameFront 8 s)) (b : p ≡ packed (nameFront 8 s)) (d : i ≡ indexOf names (length names) p) where
+    pub name-found : i < length names → u ≡ earlier unknown 0
+        → _≡_ {A = Leaf} (record { left = length s - l; word = getD words i 0; unknown = u }) (nameHere s names words unknown)
+    unfolding nameHere nameLength indexHere
+    name-found h e = rw (e, a, ← b, ← d, lt-ltb i (length names) h)
+
+    pub name-unknown : length names ≤ i → u ≡ earlier unknown (length s + 1)
+        → _≡_ {A = Leaf} (record { left = length s - l; word = 65534; unknown = u }) (nameHere s names words unknown)
+    unfolding nameHere nameLength indexHere
+    name-unknown h e = rw (e, a, ← b, ← d, le-ltb i (length names) h)

@@ -1,0 +1,37 @@
+-- `terms::leaves::leaf_here` meets its contract. Assumes nothing.
+use mathlib.Core.Path.{sym, _∙_}
+use native.Mathlib.Omega.{arith}
+use Rattle.terms.proofs.Fronts.{leaf-0, leaf-1, leaf-name}
+use Rattle.terms.specs.Leaves.{constantHere}
+use Rattle.terms.proofs.ListFacts.{byte-there}
+use borrow.Author.Needs.{needs}
+use Rattle.terms.proofs.leaves.leaf_here.Statement.{statement}
+use Rattle.terms.proofs.leaves.leaf_here.Tie as tie
+
+byte-at-requires : tie.Need-byte-at-requires
+byte-at-requires c κs = search needs
+
+sub-t8 : tie.Need-sub-t8
+sub-t8 c = byte-there (c .before .before .before .before .before .args .s .now) 48 (sym (c .before .byte-at .ensures) ∙ c .if1 .taken) (omega arith)
+
+returns : tie.Need-returns
+unfolding constantHere
+returns c = let a = c .before .before .before .before .before .args in leaf-0 (a .s .now) (a .names .now) (a .words .now) (a .unknown) (sym (c .before .byte-at .ensures) ∙ c .if1 .taken)
+
+sub-t9 : tie.Need-sub-t9
+sub-t9 c = byte-there (c .before .before .before .before .before .before .args .s .now) 49 (sym (c .before .before .byte-at .ensures) ∙ c .if2 .taken) (omega arith)
+
+returns-2 : tie.Need-returns-2
+unfolding constantHere
+returns-2 c = let a = c .before .before .before .before .before .before .args in leaf-1 (a .s .now) (a .names .now) (a .words .now) (a .unknown) (sym (c .before .before .byte-at .ensures) ∙ c .if2 .taken)
+
+name-here-requires : tie.Need-name-here-requires
+name-here-requires c κs = search needs
+
+returns-3 : tie.Need-returns-3
+returns-3 c = let a = c .before .before .before .before .before .before .before .args in c .name-here .ensures ∙ leaf-name (a .s .now) (a .names .now) (a .words .now) (a .unknown) (λ e. c .before .before .if1 .left (c .before .before .before .byte-at .ensures ∙ e)) (λ e. c .before .if2 .left (c .before .before .before .byte-at .ensures ∙ e))
+
+pub leaf-here-spec : {M : Type 1} → statement M
+leaf-here-spec =
+    tie.close
+    (tie.spec byte-at-requires sub-t8 returns sub-t9 returns-2 name-here-requires returns-3)

@@ -1,0 +1,56 @@
+-- `terms::leaves::name_here` meets its contract. Assumes nothing.
+use native.Mathlib.Omega.{arith}
+use Rattle.terms.proofs.Fronts.{name-found, name-unknown}
+use Rattle.names.proofs.Packing.{front-shorter}
+use borrow.Author.Needs.{needs}
+use Rattle.terms.proofs.leaves.name_here.Statement.{statement}
+use Rattle.terms.proofs.leaves.name_here.Tie as tie
+
+name-length-requires : tie.Need-name-length-requires
+name-length-requires c κs = search needs
+
+sub-left : tie.Need-sub-left
+sub-left c = omega (arith, c .name-length .ensures, front-shorter 8 (c .before .before .before .before .args .s .now))
+
+pack-requires : tie.Need-pack-requires
+pack-requires c κs = search needs
+
+find-requires : tie.Need-find-requires
+find-requires c κs = search needs
+
+mul-word : tie.Need-mul-word
+mul-word c = search needs
+
+shared-slice-read-word : tie.Need-shared-slice-read-word
+shared-slice-read-word c = search needs
+
+earlier-requires : tie.Need-earlier-requires
+earlier-requires c κs = search needs
+
+returns : tie.Need-returns
+returns c = let a = c .before .before .before .before .before .before .before .before .before .args in name-found (a .s .now) (a .names .now) (a .words .now) (a .unknown) (c .before .before .before .before .before .name-length .ensures) (c .before .before .before .before .pack .ensures) (c .before .before .before .find .ensures) (c .before .before .if1 .taken) (c .earlier .ensures)
+
+add-earlier : tie.Need-add-earlier
+add-earlier c = search needs
+
+earlier-requires-2 : tie.Need-earlier-requires-2
+earlier-requires-2 c κs = search needs
+
+returns-2 : tie.Need-returns-2
+returns-2 c = let a = c .before .before .before .before .before .before .before .before .args in name-unknown (a .s .now) (a .names .now) (a .words .now) (a .unknown) (c .before .before .before .before .name-length .ensures) (c .before .before .before .pack .ensures) (c .before .before .find .ensures) (c .before .if1 .left) (c .earlier2 .ensures)
+
+pub name-here-spec : {M : Type 1} → statement M
+name-here-spec =
+    tie.close
+    (tie.spec
+    name-length-requires
+    sub-left
+    pack-requires
+    find-requires
+    mul-word
+    shared-slice-read-word
+    earlier-requires
+    returns
+    add-earlier
+    earlier-requires-2
+    returns-2)

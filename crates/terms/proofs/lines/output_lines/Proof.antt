@@ -1,0 +1,81 @@
+-- `terms::lines::output_lines` meets its contract: what is done so far and what the other lines add is what all add. Assumes nothing.
+use native.Mathlib.Omega.{arith}
+use borrow.Author.Needs.{needs}
+use Prim.Native.Nat.{ℕ, _-_}
+use Rattle.netlist.specs.Limits.{maxOutputs}
+use Rattle.terms.specs.Lines.{outputForm, LinesOn}
+use Rattle.terms.proofs.LineForms.{output-lawful}
+use Rattle.terms.proofs.LineSteps.{lines-start, line-here, lines-kept, lines-step, lines-end}
+use Rattle.terms.proofs.lines.output_lines.Statement.{statement}
+use Rattle.terms.proofs.lines.output_lines.Tie as tie
+
+abbrev Inv-loop : tie.InvT-loop
+Inv-loop text lines names words seen outputs₀ left₀ first₀ unknown₀ i₀ outputs left first unknown i = (n : ℕ) → LinesOn outputForm lines text n names words seen outputs₀ i left first unknown outputs
+
+abbrev μ-loop : tie.MeasureT-loop
+μ-loop text lines names words seen outputs₀ left₀ first₀ unknown₀ i₀ outputs left first unknown i = lines - i
+
+loop-holds : tie.Need-loop-holds Inv-loop μ-loop
+loop-holds c = λ n. let a = c .before .before .before .before .args in lines-start outputForm output-lawful (a .lines) (a .text .now) n (a .names .now) (a .words .now) (a .seen) (a .outputs .now)
+
+sub-output-line : tie.Need-sub-output-line Inv-loop μ-loop
+sub-output-line c = omega (arith, c .before .loop .inv 0 .within)
+
+sub-output-line-2 : tie.Need-sub-output-line-2 Inv-loop μ-loop
+sub-output-line-2 c = omega arith
+
+part-output-line-start : tie.Need-part-output-line-start Inv-loop μ-loop
+part-output-line-start c = omega arith
+
+part-output-line-end : tie.Need-part-output-line-end Inv-loop μ-loop
+part-output-line-end c = search needs
+
+output-line-requires : tie.Need-output-line-requires Inv-loop μ-loop
+output-line-requires c κs = let b = c .before .before in
+    let a = b .before .before .before .before .before .before .args in
+    let n = b .before .before .before .before .before .before .pre .0 in
+    let l = b .before .loop in
+    (n, line-here outputForm output-lawful (a .lines) (a .text .now) n (a .names .now) (a .words .now) (a .seen) (a .outputs .now) (l .i) (l .left) (l .first) (l .unknown) (l .outputs) (l .inv n) maxOutputs (b .before .before .before .before .before .before .pre .1) (b .loop-test .taken))
+
+add-i : tie.Need-add-i Inv-loop μ-loop
+add-i c = omega (arith, c .before .before .before .before .before .loop-test .taken, c .before .before .before .before .before .before .before .before .before .before .before .fits .lines)
+
+loop-less : tie.Need-loop-less Inv-loop μ-loop
+loop-less c = omega (arith, c .before .before .before .before .before .loop-test .taken)
+
+loop-again : tie.Need-loop-again Inv-loop μ-loop
+loop-again c = λ n.
+    let b = c .before .before .before .before .before in
+    let a = b .before .before .before .before .before .before .args in
+    let l = b .before .loop in
+    let g = c .before .before .output-line in
+    let m = b .before .before .before .before .before .before .pre .0 in
+    lines-step outputForm output-lawful (a .lines) (a .text .now) n (a .names .now) (a .words .now) (a .seen) (a .outputs .now) (l .i) (l .left) (l .first) (l .unknown) (l .outputs) (l .inv n) (g .last .1 .1 .1 .1 .1 .0) (g .result) (g .ensures n)
+    (lines-kept outputForm output-lawful (a .lines) (a .text .now) m (a .names .now) (a .words .now) (a .seen) (a .outputs .now) (l .i) (l .left) (l .first) (l .unknown) (l .outputs) (l .inv m) (g .last .1 .1 .1 .1 .1 .0) (g .result) (g .ensures m) maxOutputs (b .before .before .before .before .before .before .pre .1) (b .loop-test .taken)) (b .loop-test .taken)
+
+same-length : tie.Need-same-length Inv-loop μ-loop
+same-length c = c .before .loop .inv 0 .same
+
+returns : tie.Need-returns Inv-loop μ-loop
+returns c = λ n.
+    let a = c .before .before .before .before .before .before .args in
+    let l = c .before .loop in
+    lines-end outputForm output-lawful (a .lines) (a .text .now) n (a .names .now) (a .words .now) (a .seen) (a .outputs .now) (l .i) (l .left) (l .first) (l .unknown) (l .outputs) (l .inv n) (c .loop-test .left)
+
+pub output-lines-spec : {M : Type 1} → statement M
+output-lines-spec =
+    tie.close
+    (tie.spec
+    Inv-loop
+    μ-loop
+    loop-holds
+    sub-output-line
+    sub-output-line-2
+    part-output-line-start
+    part-output-line-end
+    output-line-requires
+    add-i
+    loop-less
+    loop-again
+    same-length
+    returns)

@@ -1,0 +1,97 @@
+// What stands at the front of a text: a kind's word, a name, a constant.
+use crate::Leaf;
+use names::lines::byte_at;
+use names::pack::name_length;
+use names::pack::pack;
+use names::search::find;
+ghost use mathlib.Core.Path.{_≡_};
+ghost use Prim.Native.Nat.{_≤_};
+ghost use lib.ListN.{length};
+ghost use Rattle.terms.specs.Leaves.{kindHere, wordLength, nameLength, indexHere, earlier, nameHere, constantHere, leafHere};
+
+// The words of the constants.
+const ZERO: u16 = 65534;
+
+const ONE: u16 = 65535;
+
+// The kind whose word stands here.
+pub fn kind_here(s: &[u8]) -> usize
+    ensures { λ r. ⌜ r ≡ kindHere (now (s .entry)) ⌝ }
+{
+    let c = byte_at(s, 0);
+    if c == b'a' {
+        return 1;
+    }
+    if c == b'o' {
+        return 2;
+    }
+    if byte_at(s, 1) == b'a' {
+        return 3;
+    }
+    if byte_at(s, 2) == b't' { 0 } else { 4 }
+}
+
+// The bytes of a kind's word.
+pub fn word_length(kind: usize) -> usize
+    ensures { λ r. ⌜ r ≡ wordLength kind ⌝ }
+{
+    if kind == 2 {
+        return 2;
+    }
+    if kind == 3 { 4 } else { 3 }
+}
+
+// The first of two that is not 0.
+fn earlier(first: usize, later: usize) -> usize
+    ensures { λ r. ⌜ r ≡ earlier first later ⌝ }
+{
+    if first == 0 { later } else { first }
+}
+
+// A name, looked up in the table; one that is not there counts as constant 0.
+pub fn name_here(s: &[u8], names: &[u64], words: &[u16], unknown: usize) -> Leaf
+    requires { ⌜ length (now words) ≡ length (now names) ⌝ }
+    ensures { λ r. ⌜ r ≡ nameHere (now (s .entry)) (now (names .entry)) (now (words .entry)) unknown ⌝ }
+{
+    let left = s.len() - name_length(s);
+    let i = find(names, names.len(), pack(s));
+    if i < names.len() {
+        let word = words[i];
+        let unknown = earlier(unknown, 0);
+        return Leaf {
+            left,
+            word,
+            unknown,
+        };
+    }
+    let unknown = earlier(unknown, s.len() + 1);
+    Leaf {
+        left,
+        word: ZERO,
+        unknown,
+    }
+}
+
+// An operand that is no expression.
+pub fn leaf_here(s: &[u8], names: &[u64], words: &[u16], unknown: usize) -> Leaf
+    requires { ⌜ length (now words) ≡ length (now names) ⌝ }
+    ensures { λ r. ⌜ r ≡ leafHere (now (s .entry)) (now (names .entry)) (now (words .entry)) unknown ⌝ }
+{
+    let c = byte_at(s, 0);
+    let left = s.len();
+    if c == b'0' {
+        return Leaf {
+            left: left - 1,
+            word: ZERO,
+            unknown,
+        };
+    }
+    if c == b'1' {
+        return Leaf {
+            left: left - 1,
+            word: ONE,
+            unknown,
+        };
+    }
+    name_here(s, names, words, unknown)
+}

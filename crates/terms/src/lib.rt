@@ -1,0 +1,86 @@
+// The operands of a text that is known to be the print of a tree: the first name that is not declared, and the words of gates and outputs.
+use lines::gate_lines;
+use lines::input_lines;
+use lines::output_lines;
+use names::Counts;
+ghost use mathlib.Core.Path.{_≡_};
+ghost use Rattle.terms.specs.Resolution.{Ready, Resolved};
+
+mod leaves;
+mod lines;
+mod walk;
+
+// 5: every used name is declared, or the place of the first that is not.
+pub enum Uses {
+    Known,
+    Undeclared(usize),
+}
+
+// A name or a constant: the bytes left behind it, its node's word, and `unknown` as in `Found`.
+pub struct Leaf {
+    pub left: usize,
+    pub word: u16,
+    pub unknown: usize,
+}
+
+// An operand: the bytes left behind it, its node's word, the gates that have closed, and one more than the bytes left from the first
+// undeclared name on, or 0.
+pub struct Found {
+    pub left: usize,
+    pub word: u16,
+    pub gates: usize,
+    pub unknown: usize,
+}
+
+// An operand list behind its closing bracket: as `Found`, and the number of operands.
+pub struct Listed {
+    pub left: usize,
+    pub count: usize,
+    pub gates: usize,
+    pub unknown: usize,
+}
+
+// A line, or some lines: the bytes left behind them, the gates or outputs up to there, and `unknown` as in `Found`.
+pub struct Walked {
+    pub left: usize,
+    pub number: usize,
+    pub unknown: usize,
+}
+
+// Fills in the words of gates and outputs of a text with these counts and these tables of its declared names and their nodes.
+pub fn resolve(
+    text: &[u8],
+    c: Counts,
+    names: &[u64],
+    words: &[u16],
+    gates: &mut [u16],
+    outputs: &mut [u16],
+) -> Uses
+    requires { ⌜ Ready (now text) c (now names) (now words) (now gates) (now outputs) ⌝ }
+    ensures { λ r. ⌜ Resolved (now (text .entry)) c (now (names .entry)) (now (words .entry)) (now (gates .entry)) (now (gates .exit)) (now (outputs .entry)) (now (outputs .exit)) r ⌝ }
+{
+    let length = text.len();
+    let n = c.inputs;
+    let nodes = n + c.named;
+    let left = input_lines(text, n);
+    let walked = gate_lines(
+        &text[length - left..],
+        c.named,
+        n,
+        &names[..nodes],
+        &words[..nodes],
+        gates,
+    );
+    let last = output_lines(
+        &text[length - walked.left..],
+        c.outputs,
+        &names[..nodes],
+        &words[..nodes],
+        walked.unknown,
+        outputs,
+    );
+    if last.unknown == 0 {
+        return Uses::Known;
+    }
+    Uses::Undeclared(length + 1 - last.unknown)
+}

@@ -1,0 +1,168 @@
+// The walk over lines. Each line's reader gets the rest of the text.
+use crate::Walked;
+use crate::leaves::name_here;
+use crate::walk::operand;
+use names::pack::name_length;
+use names::pack::pack;
+ghost use mathlib.Core.Path.{_≡_};
+ghost use mathlib.Core.List.{[], _∷_, _++_};
+ghost use Prim.Native.Nat.{ℕ, _+_, _*_, _≤_};
+ghost use lib.ListN.{length};
+ghost use lib.Seq.{sets};
+ghost use Rattle.netlist.specs.Limits.{maxGates, maxOutputs};
+ghost use Rattle.terms.specs.Lines.{inputForm, gateForm, outputForm, LineHere, LineRead, LinesHere, LinesRead};
+ghost use Rattle.terms.specs.Ports.{portWords};
+
+// The bytes left behind `(in NAME)` and its LF.
+fn input_line(s: &[u8]) -> usize
+    requires { ⌜ LineHere inputForm 0 (now s) 0 [] [] 0 [] ⌝ }
+    ensures { λ r. ⌜ LineRead inputForm (now (s .entry)) 0 [] [] 0 0 [] [] (record { left = r; number = 0; unknown = 0 }) ⌝ }
+{
+    s.len() - (6 + name_length(&s[4..]))
+}
+
+// `(gate NAME EXPR)` and its LF.
+fn gate_line(
+    s: &[u8],
+    n: usize,
+    names: &[u64],
+    words: &[u16],
+    first: usize,
+    unknown: usize,
+    gates: &mut [u16],
+) -> Walked
+    requires { ⌜ LineHere gateForm maxGates (now s) n (now names) (now words) first (now gates) ⌝ }
+    ensures { λ r. ⌜ LineRead gateForm (now (s .entry)) n (now (names .entry)) (now (words .entry)) first unknown (now (gates .entry)) (now (gates .exit)) r ⌝ }
+{
+    let at = 7 + name_length(&s[6..]);
+    let one = operand(&s[at..], 8, n, names, words, first, unknown, gates);
+    Walked {
+        left: one.left - 2,
+        number: one.gates,
+        unknown: one.unknown,
+    }
+}
+
+// Writes an output's five words: the port's name and the node.
+fn put_output(outputs: &mut [u16], number: usize, port: u64, word: u16)
+    requires { ⌜ 5 * number + 5 ≤ length (now outputs) ⌝ }
+    ensures { λ _. ⌜ now (outputs .exit) ≡ sets (now (outputs .entry)) (5 * number) (portWords port ++ (word ∷ [])) ⌝ }
+{
+    let at = 5 * number;
+    outputs[at] = (port % 65536) as u16;
+    outputs[at + 1] = (port / 65536 % 65536) as u16;
+    outputs[at + 2] = (port / 4294967296 % 65536) as u16;
+    outputs[at + 3] = (port / 281474976710656 % 65536) as u16;
+    outputs[at + 4] = word;
+}
+
+// `(out PORT NAME)` and its LF.
+fn output_line(
+    s: &[u8],
+    names: &[u64],
+    words: &[u16],
+    first: usize,
+    unknown: usize,
+    outputs: &mut [u16],
+) -> Walked
+    requires { ⌜ ((n : ℕ) × LineHere outputForm maxOutputs (now s) n (now names) (now words) first (now outputs)) ⌝ }
+    ensures { λ r. ⌜ ((n : ℕ) → LineRead outputForm (now (s .entry)) n (now (names .entry)) (now (words .entry)) first unknown (now (outputs .entry)) (now (outputs .exit)) r) ⌝ }
+{
+    let at = 6 + name_length(&s[5..]);
+    let shown = name_here(&s[at..], names, words, unknown);
+    put_output(outputs, first, pack(&s[5..]), shown.word);
+    Walked {
+        left: shown.left - 2,
+        number: first + 1,
+        unknown: shown.unknown,
+    }
+}
+
+// The bytes left behind all input lines.
+pub fn input_lines(text: &[u8], lines: usize) -> usize
+    requires { ⌜ LinesHere inputForm 0 lines (now text) 0 [] [] [] ⌝ }
+    ensures { λ r. ⌜ LinesRead inputForm lines (now (text .entry)) 0 [] [] 0 [] [] (record { left = r; number = 0; unknown = 0 }) ⌝ }
+{
+    let mut left = text.len();
+    let mut i = 0;
+    while i < lines {
+        left = input_line(&text[text.len() - left..]);
+        i += 1;
+    }
+    left
+}
+
+// All gate lines.
+pub fn gate_lines(
+    text: &[u8],
+    lines: usize,
+    n: usize,
+    names: &[u64],
+    words: &[u16],
+    gates: &mut [u16],
+) -> Walked
+    requires { ⌜ LinesHere gateForm maxGates lines (now text) n (now names) (now words) (now gates) ⌝ }
+    ensures { λ r. ⌜ LinesRead gateForm lines (now (text .entry)) n (now (names .entry)) (now (words .entry)) 0 (now (gates .entry)) (now (gates .exit)) r ⌝ }
+{
+    let mut left = text.len();
+    let mut first = 0;
+    let mut unknown = 0;
+    let mut i = 0;
+    while i < lines {
+        let one = gate_line(
+            &text[text.len() - left..],
+            n,
+            names,
+            words,
+            first,
+            unknown,
+            gates,
+        );
+        left = one.left;
+        first = one.number;
+        unknown = one.unknown;
+        i += 1;
+    }
+    Walked {
+        left,
+        number: first,
+        unknown,
+    }
+}
+
+// All output lines.
+pub fn output_lines(
+    text: &[u8],
+    lines: usize,
+    names: &[u64],
+    words: &[u16],
+    seen: usize,
+    outputs: &mut [u16],
+) -> Walked
+    requires { ⌜ ((n : ℕ) × LinesHere outputForm maxOutputs lines (now text) n (now names) (now words) (now outputs)) ⌝ }
+    ensures { λ r. ⌜ ((n : ℕ) → LinesRead outputForm lines (now (text .entry)) n (now (names .entry)) (now (words .entry)) seen (now (outputs .entry)) (now (outputs .exit)) r) ⌝ }
+{
+    let mut left = text.len();
+    let mut first = 0;
+    let mut unknown = seen;
+    let mut i = 0;
+    while i < lines {
+        let one = output_line(
+            &text[text.len() - left..],
+            names,
+            words,
+            first,
+            unknown,
+            outputs,
+        );
+        left = one.left;
+        first = one.number;
+        unknown = one.unknown;
+        i += 1;
+    }
+    Walked {
+        left,
+        number: first,
+        unknown,
+    }
+}

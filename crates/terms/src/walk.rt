@@ -1,0 +1,117 @@
+// The walk over expressions. The readers of an operand and of an operand list call each other; depth left and bytes left fall.
+use crate::Found;
+use crate::Listed;
+use crate::leaves::kind_here;
+use crate::leaves::leaf_here;
+use crate::leaves::word_length;
+use names::lines::byte_at;
+ghost use mathlib.Core.Path.{_≡_};
+ghost use mathlib.Core.List.{_∷_};
+ghost use Prim.Native.Nat.{_+_, _*_, _≤_};
+ghost use lib.ListN.{length};
+ghost use lib.Seq.{sets};
+ghost use Rattle.terms.specs.Walk.{TermHere, TermRead, TermsHere, TermsRead};
+
+// Writes a gate's five words.
+fn put_gate(gates: &mut [u16], number: usize, kind: usize, count: usize, slots: &[u16])
+    requires { ⌜ 5 * number + 5 ≤ length (now gates) ⌝ }
+    requires { ⌜ (kind ≤ 4) × (count ≤ 4) ⌝ }
+    requires { ⌜ length (now slots) ≡ 4 ⌝ }
+    ensures { λ _. ⌜ now (gates .exit) ≡ sets (now (gates .entry)) (5 * number) ((kind + 8 * count) ∷ now (slots .entry)) ⌝ }
+{
+    let at = 5 * number;
+    gates[at] = (kind + 8 * count) as u16;
+    gates[at + 1] = slots[0];
+    gates[at + 2] = slots[1];
+    gates[at + 3] = slots[2];
+    gates[at + 4] = slots[3];
+}
+
+// An operand, with `depth` levels of expressions left, when `first` gates have closed.
+pub fn operand(
+    s: &[u8],
+    depth: usize,
+    n: usize,
+    names: &[u64],
+    words: &[u16],
+    first: usize,
+    unknown: usize,
+    gates: &mut [u16],
+) -> Found
+    requires { ⌜ TermHere (now s) depth n (now names) (now words) first (now gates) ⌝ }
+    ensures { λ r. ⌜ TermRead (now (s .entry)) depth n (now (names .entry)) (now (words .entry)) first unknown (now (gates .entry)) (now (gates .exit)) r ⌝ }
+{
+    if byte_at(s, 0) != b'(' {
+        let leaf = leaf_here(s, names, words, unknown);
+        return Found {
+            left: leaf.left,
+            word: leaf.word,
+            gates: first,
+            unknown: leaf.unknown,
+        };
+    }
+    let kind = kind_here(&s[1..]);
+    let at = 1 + word_length(kind);
+    let mut slots: [u16; 4] = [0; 4];
+    let list = operands(
+        &s[at..],
+        depth - 1,
+        n,
+        names,
+        words,
+        first,
+        unknown,
+        0,
+        gates,
+        &mut slots,
+    );
+    put_gate(gates, list.gates, kind, list.count, &slots);
+    Found {
+        left: list.left,
+        word: (n + list.gates) as u16,
+        gates: list.gates + 1,
+        unknown: list.unknown,
+    }
+}
+
+// The operands from here to the closing bracket, of which i stand before; their words go into `slots`.
+fn operands(
+    s: &[u8],
+    depth: usize,
+    n: usize,
+    names: &[u64],
+    words: &[u16],
+    first: usize,
+    unknown: usize,
+    i: usize,
+    gates: &mut [u16],
+    slots: &mut [u16],
+) -> Listed
+    requires { ⌜ TermsHere (now s) depth n (now names) (now words) first i (now gates) (now slots) ⌝ }
+    ensures { λ r. ⌜ TermsRead (now (s .entry)) depth n (now (names .entry)) (now (words .entry)) first unknown i (now (gates .entry)) (now (gates .exit)) (now (slots .entry)) (now (slots .exit)) r ⌝ }
+{
+    let length = s.len();
+    if byte_at(s, 0) == b')' {
+        return Listed {
+            left: length - 1,
+            count: i,
+            gates: first,
+            unknown,
+        };
+    }
+    let one = operand(&s[1..], depth, n, names, words, first, unknown, gates);
+    slots[i] = one.word;
+    let at = length - one.left;
+    operands(
+        &s[at..],
+        depth,
+        n,
+        names,
+        words,
+        one.gates,
+        one.unknown,
+        i + 1,
+        gates,
+        slots,
+    )
+}
