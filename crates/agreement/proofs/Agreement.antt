@@ -10,6 +10,7 @@ use lib.ListN.{length, getD, take, replicate, length-replicate}
 use lib.Seq.{take-suc, take-length}
 use Rattle.laws.specs.Lists.{joined}
 use Rattle.laws.proofs.Quantifiers.{all-at}
+use Rattle.laws.proofs.Lists.{joined-snoc, member-cases, member-right}
 use Rattle.netlist.specs.Values.{Value, undefined, val, defined}
 use Rattle.netlist.specs.Netlist.{Operand, input, gate, constant, Output, Block, inputCount, gateCount, outputCount}
 use Rattle.netlist.specs.StoredBlock.{isNode, wellFormed}
@@ -25,10 +26,9 @@ use Rattle.rounds.proofs.Rounds.{length-settled}
 use Rattle.rounds.proofs.AnyOrder.{length-run, run-append}
 use Rattle.rounds.proofs.Passes.{passes-above}
 use Rattle.reach.specs.Inside.{Inside}
-use Rattle.reach.proofs.ListFacts.{member-cases, member-right, once-apart}
+use Rattle.reach.proofs.ListFacts.{once-apart}
 use Rattle.reach.proofs.Inside.{wellFormed-inside}
 use Rattle.reach.proofs.Order.{groups-all, groups-numbered, groups-closed}
-use Rattle.reach.proofs.Build.{joined-snoc}
 use Rattle.agreement.specs.Copies.{scheduleOf, groupAt, gatesBefore}
 use Rattle.agreement.proofs.Schedule.{scheduleOf-take, scheduleOf-all}
 use Rattle.agreement.proofs.Block.{rendering-node}

@@ -9,11 +9,11 @@ use native.Mathlib.Omega.{arith}
 use lib.ListN.{length, getD, set, take, length-map, length-set, length-replicate, List·getD-map}
 use lib.Seq.{getD-set-same}
 use Rattle.laws.specs.Lists.{joined, member}
+use Rattle.laws.proofs.Lists.{member-first, member-cases, member-one}
 use Rattle.netlist.specs.Netlist.{Operand, input, gate, constant, Gate, Block, gateCount, gateOf}
 use Rattle.netlist.specs.Groups.{gateOperand}
 use Rattle.netlist.specs.Rendering.{noCopies, copiedOperand, copied, copies, newestAfter}
-use Rattle.rounds.proofs.ListFacts.{getD-replicate-default, member-cases, member-append, AfterSet, new, old, after-set}
-use Rattle.reach.proofs.ListFacts.{member-one}
+use Rattle.rounds.proofs.ListFacts.{getD-replicate-default, AfterSet, new, old, after-set}
 use Rattle.agreement.specs.Copies.{IsCopy, AreCopies}
 
 input-not-gate : {i j : ℕ} → input i ≡ gate j → ⊥
@@ -107,7 +107,7 @@ has-copied newest t [] j l m = absurd (false≢true m)
 has-copied newest t (i ∷ js) j l m =
     ⊎-elim
     (λ e. newestAfter-keeps (set newest i (gate t)) (suc t) js j (t, rw e (getD-set-same newest i (gate t) (constant false) (rw e at l))))
-    (λ s. has-copied (set newest i (gate t)) (suc t) js j (rw length-set l) s) (member-cases j i js m)
+    (λ s. has-copied (set newest i (gate t)) (suc t) js j (rw length-set l) s) (member-first j i js m)
 
 -- For a gate that is copied stands a copy.
 pub newestAfter-copied : (newest : List Operand) (t : ℕ) (js : List ℕ) (j : ℕ) → j < length newest → member j js ≡ true
@@ -189,4 +189,4 @@ copied-reads t newest h g k m = go (g .operands) m
     go [] m = absurd (false≢true m)
     go (o ∷ os) m =
         ⊎-elim (one (copiedOperand newest o) (copiedOperand-below t newest h o)) (go os)
-        (member-append k (gateOperand (copiedOperand newest o)) (joined (map gateOperand (map (copiedOperand newest) os))) m)
+        (member-cases k (gateOperand (copiedOperand newest o)) (joined (map gateOperand (map (copiedOperand newest) os))) m)

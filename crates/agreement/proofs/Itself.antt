@@ -12,12 +12,12 @@ use lib.Seq.{take-suc, take-length, getD-set-same, getD-set-other}
 use Rattle.laws.specs.Lists.{all, member, joined, upTo}
 use Rattle.laws.proofs.Tests.{and-left, and-right, eq-or-ne}
 use Rattle.laws.proofs.Tab.{length-tab}
+use Rattle.laws.proofs.Lists.{member-head, member-rest}
 use Rattle.netlist.specs.Netlist.{Operand, input, gate, constant, Gate, Output, Block, gateCount, gateOf}
 use Rattle.netlist.specs.StoredBlock.{isNode, wellFormed, encode}
 use Rattle.netlist.specs.Groups.{gateOperand, readBy, reads}
 use Rattle.netlist.specs.Rendering.{straight, noCopies, copiedOperand, copied, copies, newestAfter, lastCopies, rendering}
 use Rattle.encoding.proofs.WellFormed.{wellFormed-parts}
-use Rattle.rounds.proofs.ListFacts.{member-head, member-rest}
 use Rattle.reach.proofs.Straight.{straight-reads}
 use Rattle.agreement.proofs.Copies.{length-noCopies, length-newestAfter, newestAfter-snoc, copies-snoc}
 use Rattle.agreement.proofs.Schedule.{schedule-straight}

@@ -1,26 +1,12 @@
 -- Facts on lists that are nobody's in particular. Assumes nothing.
 use Prim.Native.Nat.{ℕ, zero, suc, _+_, _*_}
-use mathlib.Core.Path.{_≡_, refl, sym, ap, _∙_}
+use mathlib.Core.Path.{_≡_, sym, ap, _∙_}
 use mathlib.Core.Bool.{true}
-use mathlib.Core.List.{List, [], _∷_, _++_, map}
+use mathlib.Core.List.{List}
 use native.Mathlib.Nat.{zero-mul, suc-mul}
-use lib.ListN.{length, set, replicate, length-append}
+use lib.ListN.{length, length-append}
 use Rattle.laws.specs.Lists.{repeated, member}
-use Rattle.reach.proofs.ListFacts.{member-right}
-
-module _ {A B : Type 0} (f : A → B) where
-  pub map-append : (xs ys : List A) → map f (xs ++ ys) ≡ map f xs ++ map f ys
-  map-append [] ys = refl
-  map-append (x ∷ xs) ys = ap {B = List B} (λ r. f x ∷ r) (map-append xs ys)
-
-  pub map-set : (xs : List A) (i : ℕ) (a : A) → map f (set xs i a) ≡ set (map f xs) i (f a)
-  map-set [] i a = refl
-  map-set (x ∷ xs) zero a = refl
-  map-set (x ∷ xs) (suc i) a = ap {B = List B} (λ r. f x ∷ r) (map-set xs i a)
-
-  pub map-replicate : (n : ℕ) (a : A) → map f (replicate n a) ≡ replicate n (f a)
-  map-replicate zero a = refl
-  map-replicate (suc n) a = ap {B = List B} (λ r. f a ∷ r) (map-replicate n a)
+use Rattle.laws.proofs.Lists.{member-right}
 
 pub length-repeated : {A : Type 0} (n : ℕ) (xs : List A) → length (repeated n xs) ≡ n * length xs
 length-repeated zero xs = sym (zero-mul (length xs))

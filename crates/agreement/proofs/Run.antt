@@ -8,6 +8,7 @@ use native.Mathlib.Omega.{arith}
 use lib.ListN.{length, getD, set, replicate, length-append, length-set, length-replicate, List·getD-append}
 use lib.Seq.{ext-getD, getD-at}
 use Rattle.laws.specs.Lists.{member, joined}
+use Rattle.laws.proofs.Lists.{member-head, member-rest, map-set, map-replicate}
 use Rattle.netlist.specs.Values.{Value, undefined, val}
 use Rattle.netlist.specs.Netlist.{Operand, input, gate, constant, Gate, Block, gateCount, gateOf}
 use Rattle.netlist.specs.Kinds.{gateValue}
@@ -16,12 +17,10 @@ use Rattle.netlist.specs.Groups.{gateOperand, readBy, reads}
 use Rattle.netlist.specs.Rendering.{schedule, noCopies, copiedOperand, copied, copies, newestAfter, lastCopies, rendering, sweepFrom, sweep}
 use Rattle.encoding.proofs.ListFacts.{getD-map}
 use Rattle.rounds.specs.Steps.{stepAt, run}
-use Rattle.rounds.proofs.ListFacts.{member-head, member-rest}
 use Rattle.rounds.proofs.AnyOrder.{length-run}
 use Rattle.reach.specs.Inside.{Inside}
 use Rattle.reach.proofs.ListFacts.{map-same}
 use Rattle.agreement.specs.Copies.{IsCopy, AreCopies, valuesOf}
-use Rattle.agreement.proofs.ListFacts.{map-set, map-replicate}
 use Rattle.agreement.proofs.Copies.{noCopies-areCopies, length-noCopies, set-areCopies}
 use Rattle.agreement.proofs.Block.{length-lastCopies}
 

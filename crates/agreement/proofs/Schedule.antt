@@ -4,23 +4,22 @@ use Prim.Native.Nat.{ℕ, zero, suc, _≤_, _<_}
 use mathlib.Core.Path.{_≡_, refl, sym, ap, _∙_}
 use mathlib.Core.Logic.{⊎-elim}
 use mathlib.Core.Bool.{true, false≢true}
-use mathlib.Core.List.{List, [], _∷_, _++_, map}
+use mathlib.Core.List.{List, [], _∷_, _++_, map, map-append}
 use lib.ListN.{length, getD, take, length-append}
 use lib.Seq.{take-suc, take-length}
 use Rattle.laws.specs.Lists.{joined, member, sum, tab, upTo}
 use Rattle.laws.proofs.Quantifiers.{member-from}
+use Rattle.laws.proofs.Lists.{joined-append, joined-snoc, member-cases, member-left, member-right}
 use Rattle.netlist.specs.Netlist.{Block, gateCount}
 use Rattle.netlist.specs.Groups.{groups, copyCount}
 use Rattle.netlist.specs.Rendering.{straight, passes, schedule}
 use Rattle.rounds.proofs.ListFacts.{member-repeated as repeated-member}
 use Rattle.reach.specs.Inside.{Inside}
-use Rattle.reach.proofs.ListFacts.{joined-append, member-cases, member-left, member-right}
 use Rattle.reach.proofs.Order.{groups-all, groups-all-numbered}
 use Rattle.reach.proofs.Straight.{straight-groups}
 use Rattle.reach.proofs.Copies.{square, copies-take}
-use Rattle.reach.proofs.Build.{joined-snoc}
 use Rattle.agreement.specs.Copies.{scheduleOf, groupAt}
-use Rattle.agreement.proofs.ListFacts.{map-append, length-repeated, member-repeated-from}
+use Rattle.agreement.proofs.ListFacts.{length-repeated, member-repeated-from}
 
 -- ---- one group
 

@@ -2,16 +2,16 @@
 -- Render's code cites it. Assumes nothing.
 use Prim.Native.Nat.{ℕ, suc, _+_, _*_, _≤_, _<_}
 use mathlib.Core.Path.{_≡_, refl, sym, ap, _∙_}
-use mathlib.Core.List.{List, [], _∷_, _++_, map, append-assoc}
+use mathlib.Core.List.{List, [], _∷_, _++_, map, append-assoc, append-nil}
 use native.Mathlib.Omega.{arith}
 use lib.Arith.{digits-lt}
 use lib.ListN.{length, getD, take, length-append}
 use lib.Seq.{take-suc, take-length, length-take-le}
 use Rattle.laws.specs.Lists.{repeated, sum}
+use Rattle.laws.proofs.Lists.{sum-map-append}
 use Rattle.netlist.specs.Netlist.{Block}
 use Rattle.netlist.specs.Groups.{groups, copyCount}
 use Rattle.netlist.specs.Rendering.{passes, schedule}
-use Rattle.reach.proofs.ListFacts.{append-nil, sum-map-append}
 use Rattle.reach.proofs.Copies.{square, copies-take}
 use Rattle.agreement.specs.Copies.{scheduleOf, groupAt, copiedBy}
 use Rattle.agreement.proofs.ListFacts.{length-repeated}

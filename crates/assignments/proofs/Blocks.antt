@@ -6,12 +6,13 @@ use mathlib.Core.List.{List, [], _∷_}
 use Prim.Native.Nat.{ℕ, _^_, _<_}
 use lib.ListN.{length, getD}
 use Rattle.laws.specs.Lists.{any}
+use Rattle.laws.proofs.Quantifiers.{all-ext}
 use Rattle.netlist.specs.Netlist.{Block, inputCount}
 use Rattle.netlist.specs.Rounds.{settledAt, settingCount, lowestUnsettled}
 use Rattle.netlist.specs.Cover.{Assignment, fixes, agrees, without, assignments, soundUnder, sound, minimal, cover, coverWords}
 use Rattle.assignments.specs.Over.{soundOver, minimalOver, coverOver, wordsOf, nothing, Listed, Before}
 use Rattle.assignments.specs.Tables.{settledBy}
-use Rattle.assignments.proofs.ListFacts.{all-ext, keep-ext}
+use Rattle.assignments.proofs.ListFacts.{keep-ext}
 use Rattle.assignments.proofs.Cover.{entries-listed, listed-entries, entries-ascend}
 use Rattle.assignments.proofs.Covered.{covered, nothing-sound-least, least-nothing-sound, nothing-sound-cover, cover-nothing-sound}
 

@@ -2,16 +2,17 @@
 -- Assumes nothing.
 use mathlib.Core.Path.{_≡_, sym, ap, _∙_}
 use mathlib.Core.Bool.{Bool, _&&_}
-use mathlib.Core.List.{[], _∷_, map, append-nil}
+use mathlib.Core.List.{[], _∷_, map, append-nil, map-append}
 use Prim.Native.Nat.{ℕ, zero, suc, _+_, _*_, _^_, _<_}
 use native.Mathlib.Nat.{zero-mul, suc-mul}
 use lib.Arith.{digits-div, digits-mod}
 use Rattle.laws.specs.Lists.{keep, tab, upTo, joined}
-use Rattle.laws.proofs.Tab.{tab-ext, map-tab}
+use Rattle.laws.proofs.Tab.{tab-ext, map-tab, tab-add}
+use Rattle.laws.proofs.Lists.{joined-append, keep-append}
 use Rattle.netlist.specs.Cover.{Assignment, within, assignments, assignmentsAt}
 use Rattle.assignments.specs.Over.{soundOver, minimalOver, coverOver, masks}
 use Rattle.assignments.specs.Entries.{pairAt, isEntry, entryAt}
-use Rattle.assignments.proofs.ListFacts.{keep-append, keep-keep, keep-map, joined-append, map-append, tab-add}
+use Rattle.assignments.proofs.ListFacts.{keep-keep, keep-map}
 
 inside : ℕ → Assignment → Bool
 inside n a = within n (a .fixed) (a .ones)

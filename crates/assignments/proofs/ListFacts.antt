@@ -3,17 +3,17 @@
 use mathlib.Core.Path.{_≡_, refl, sym, ap, _∙_}
 use mathlib.Core.Logic.{_⊎_, inl, inr, ⊎-elim}
 use mathlib.Core.Bool.{Bool, true, false, cond, not, _&&_, _||_, false≢true}
-use mathlib.Core.List.{List, [], _∷_, _++_, map, append-assoc, append-nil}
+use mathlib.Core.List.{List, [], _∷_, _++_, map, append-nil}
 use Prim.Native.Nat.{ℕ, zero, suc, _+_, _≤_, _<_}
-use native.Mathlib.Nat.{not-suc-le-zero, add-zero, add-suc}
-use native.Mathlib.Numerals.{add-one}
+use native.Mathlib.Nat.{not-suc-le-zero}
 use native.Mathlib.Omega.{arith}
-use lib.ListN.{length, getD, drop, set, length-append, List·getD-append}
+use lib.ListN.{length, getD, length-append, List·getD-append}
 use lib.Seq.{getD-at}
-use Rattle.laws.specs.Lists.{all, any, keep, tab, upTo, joined, placed}
-use Rattle.laws.proofs.Tab.{length-tab, getD-tab, set-placed-tab}
-use Rattle.laws.proofs.Tests.{eq-or-ne, lt-or-le, not-both, same-test, not-true-false}
+use Rattle.laws.specs.Lists.{all, any, keep, upTo}
+use Rattle.laws.proofs.Tests.{eq-or-ne, lt-or-le, not-both, not-true-false}
 use Rattle.laws.proofs.Quantifiers.{all-below, below-all}
+use Rattle.laws.proofs.Lists.{keep-append}
+pub use Rattle.laws.proofs.Tab.{placed-tab as placed-at}
 
 -- "not a, or b" says that a implies b
 pub implies-use : (a b : Bool) → not a || b ≡ true → a ≡ true → b ≡ true
@@ -25,15 +25,6 @@ implies-from true b f = f refl
 implies-from false b f = refl
 
 module _ {A : Type 0} where
-  pub keep-append : (p : A → Bool) (xs ys : List A) → keep p (xs ++ ys) ≡ keep p xs ++ keep p ys
-  keep-append p [] ys = refl
-  keep-append p (x ∷ xs) ys = go (p x) (keep-append p xs ys)
-    where
-      go : (b : Bool) → keep p (xs ++ ys) ≡ keep p xs ++ keep p ys
-          → cond b (x ∷ keep p (xs ++ ys)) (keep p (xs ++ ys)) ≡ cond b (x ∷ keep p xs) (keep p xs) ++ keep p ys
-      go true e = ap (λ (r : List A). x ∷ r) e
-      go false e = e
-
   -- kept twice is kept by both tests
   pub keep-keep : (p q : A → Bool) (xs : List A) → keep p (keep q xs) ≡ keep (λ x. q x && p x) xs
   keep-keep p q [] = refl
@@ -67,30 +58,7 @@ module _ {A : Type 0} where
       go true e = rw e
       go false e = e
 
-  pub joined-append : (xs ys : List (List A)) → joined (xs ++ ys) ≡ joined xs ++ joined ys
-  joined-append [] ys = refl
-  joined-append (x ∷ xs) ys = rw (joined-append xs ys, append-assoc x (joined xs) (joined ys))
-
-  -- the first n + m values are the first n and then m more
-  pub tab-add : (f : ℕ → A) (n m : ℕ) → tab f (n + m) ≡ tab f n ++ tab (λ j. f (n + j)) m
-  tab-add f n zero = rw (add-zero, append-nil)
-  tab-add f n (suc m) = rw (add-suc, tab-add f n m, append-assoc)
-
-  -- a loop that fills a slice with the values of f stores the next one
-  pub fill-next : (f : ℕ → A) (n : ℕ) (entry : List A) {xs : List A} {v : A} → xs ≡ placed (tab f n) entry → v ≡ f n → n < length entry
-      → set xs n v ≡ placed (tab f (n + 1)) entry
-  fill-next f n entry e w l = rw (e, w, add-one n) (set-placed-tab f n entry l)
-
-  -- what is filled so far reads as the values of f
-  pub placed-at : (f : ℕ → A) (n : ℕ) (entry : List A) (i : ℕ) (d : A) → i < n → getD (placed (tab f n) entry) i d ≡ f i
-  placed-at f n entry i d l =
-      List·getD-append (tab f n) (drop (length (tab f n)) entry) d i (rw (length-tab f n) l) ∙ getD-tab f n i d l
-
 module _ {A B : Type 0} where
-  pub map-append : (g : A → B) (xs ys : List A) → map g (xs ++ ys) ≡ map g xs ++ map g ys
-  map-append g [] ys = refl
-  map-append g (x ∷ xs) ys = ap {B = List B} (λ r. g x ∷ r) (map-append g xs ys)
-
   -- a test of the images is a test of the elements
   pub keep-map : (p : B → Bool) (g : A → B) (xs : List A) → keep p (map g xs) ≡ map g (keep (λ x. p (g x)) xs)
   keep-map p g [] = refl
@@ -100,12 +68,6 @@ module _ {A B : Type 0} where
           → cond b (g x ∷ keep p (map g xs)) (keep p (map g xs)) ≡ map g (cond b (x ∷ keep (λ x. p (g x)) xs) (keep (λ x. p (g x)) xs))
       go true e = ap (λ (r : List B). g x ∷ r) e
       go false e = e
-
--- two tests that agree below n hold together there
-pub all-ext : (p q : ℕ → Bool) (n : ℕ) → ((i : ℕ) → i < n → p i ≡ q i) → all p (upTo n) ≡ all q (upTo n)
-all-ext p q n h =
-    same-test (all p (upTo n)) (all q (upTo n)) (λ a. below-all q n (λ i l. sym (h i l) ∙ all-below p n i a l))
-    (λ a. below-all p n (λ i l. h i l ∙ all-below q n i a l))
 
 -- a test that holds below i and at i holds below i + 1
 pub all-next : (p : ℕ → Bool) (i : ℕ) → all p (upTo i) ≡ true → p i ≡ true → all p (upTo (i + 1)) ≡ true

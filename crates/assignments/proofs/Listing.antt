@@ -1,7 +1,7 @@
 -- What `count_entries` and `list_entries` know after q pairs, and how it grows: laws over plain lists. Assumes nothing.
 use mathlib.Core.Path.{_≡_, refl, sym, ap, _∙_}
 use mathlib.Core.Bool.{true, false}
-use mathlib.Core.List.{List, [], _∷_, _++_, map, append-nil, append-assoc}
+use mathlib.Core.List.{List, [], _∷_, _++_, map, append-nil, append-assoc, map-append}
 use Prim.Native.Nat.{ℕ, suc, _+_, _-_, _*_, _/_, _%_, _^_, _≤_, _<_}
 use native.Mathlib.Numerals.{add-one}
 use native.Mathlib.Omega.{arith}
@@ -9,11 +9,12 @@ use lib.ListN.{length, getD, drop, set, length-append, length-set, length-map}
 use borrow.Author.Tests.{le-leb, lt-leb}
 use lib.Seq.{set-at, drop-cons}
 use Rattle.laws.specs.Lists.{keep, upTo, joined, placed, tab}
-use Rattle.laws.proofs.Tab.{length-tab}
+use Rattle.laws.proofs.Tab.{length-tab, tab-add}
+use Rattle.laws.proofs.Lists.{joined-append, keep-append}
 use Rattle.netlist.specs.Cover.{Assignment}
 use Rattle.assignments.specs.Entries.{pairAt, entryBy, entriesBelow, entriesBy, EntriesWritten}
 use Rattle.assignments.specs.Over.{wordsOf}
-use Rattle.assignments.proofs.ListFacts.{keep-append, keep-le, keep-upTo-suc, map-append, joined-append, tab-add}
+use Rattle.assignments.proofs.ListFacts.{keep-le, keep-upTo-suc}
 
 module _ (table : List ℕ) (n q : ℕ) where
   -- one pair more: an entry, or none

@@ -9,13 +9,13 @@ use native.Mathlib.Omega.{arith}
 use lib.Dec.{eqb}
 use borrow.Author.Tests.{eq-eqb, eqb-true, ne-eqb}
 use Rattle.laws.proofs.Tests.{eq-or-ne, same-test, or-cases, or-left, or-right, and-left, and-right, and-intro}
-use Rattle.laws.proofs.Quantifiers.{all-below, below-all}
+use Rattle.laws.proofs.Quantifiers.{all-below, below-all, all-ext}
 use Rattle.netlist.specs.Rounds.{bit}
 use Rattle.netlist.specs.Cover.{Assignment, agrees, fixes}
 use Rattle.assignments.specs.Digits.{digit, numeral}
 use Rattle.assignments.specs.Over.{soundOver}
 use Rattle.assignments.specs.Tables.{digitOf, numberOf, agreesDigits, soundDigits, soundByte, byteOf}
-use Rattle.assignments.proofs.ListFacts.{implies-use, implies-from, all-ext}
+use Rattle.assignments.proofs.ListFacts.{implies-use, implies-from}
 use Rattle.assignments.proofs.Digits.{numeral-lt, digit-numeral, digit-lowered, digit-kept}
 use Rattle.assignments.proofs.Agree.{bit-lt, bits-eq}
 use Rattle.assignments.proofs.Numbers.{number-digit}

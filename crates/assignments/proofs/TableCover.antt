@@ -6,12 +6,14 @@ use Prim.Native.Nat.{ℕ, _*_, _^_, _≤_}
 use lib.Dec.{eqb}
 use lib.ListN.{length, getD}
 use Rattle.laws.specs.Lists.{upTo, placed}
+use Rattle.laws.proofs.Tab.{placed-tab}
+use Rattle.laws.proofs.Quantifiers.{all-ext}
 use Rattle.netlist.specs.Limits.{maxInputs}
 use Rattle.netlist.specs.Cover.{Assignment, fixes, without}
 use Rattle.assignments.specs.Over.{soundOver, minimalOver, coverOver}
 use Rattle.assignments.specs.Tables.{numberOf, soundByte, soundTable, byteOf, weightOf, weightTable}
 use Rattle.assignments.specs.Entries.{pairAt, isEntry, entryAt, soundBy, neededBy, minimalBy, entryBy, entriesBelow, entriesBy, Weighed, EntriesWritten}
-use Rattle.assignments.proofs.ListFacts.{all-ext, keep-ext, placed-at}
+use Rattle.assignments.proofs.ListFacts.{keep-ext}
 use Rattle.assignments.proofs.Numbers.{number-lt}
 use Rattle.assignments.proofs.SoundTable.{byte-number}
 use Rattle.assignments.proofs.Flat.{cover-flat}
@@ -25,7 +27,7 @@ weights-right {n} {size} {weights} entry h s e r = record {
   few = h;
   size-is = s;
   room = r;
-  right = λ m l. ap (λ (xs : List ℕ). getD xs m 0) e ∙ placed-at (weightOf n) (2 ^ n) entry m 0 l;
+  right = λ m l. ap (λ (xs : List ℕ). getD xs m 0) e ∙ placed-tab (weightOf n) (2 ^ n) entry m 0 l;
 }
 
 -- the byte at an assignment's number says whether it is sound
@@ -36,7 +38,7 @@ module _ (p : ℕ → Bool) (n : ℕ) (entry : List ℕ) where
   sound-by : (a : Assignment) → soundBy table n a ≡ soundOver p n a
   unfolding soundBy soundTable byteOf
   sound-by a =
-      ap (λ (x : ℕ). eqb x 1) (placed-at (soundByte p n) (3 ^ n) entry (numberOf n a) 0 (number-lt n a) ∙ byte-number p n a)
+      ap (λ (x : ℕ). eqb x 1) (placed-tab (soundByte p n) (3 ^ n) entry (numberOf n a) 0 (number-lt n a) ∙ byte-number p n a)
       ∙ is-one (soundOver p n a)
     where
       is-one : (b : Bool) → eqb (byteOf b) 1 ≡ b

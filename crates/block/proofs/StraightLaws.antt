@@ -3,7 +3,7 @@
 use mathlib.Core.Path.{_≡_, refl, sym, ap, _∙_}
 use mathlib.Core.Logic.{⊎-elim}
 use mathlib.Core.Bool.{Bool, true, false, _&&_, _||_}
-use mathlib.Core.List.{List, [], _∷_, map}
+use mathlib.Core.List.{List, map}
 use Prim.Native.Nat.{ℕ, _+_, _-_, _*_, _/_, _≤_, _<_}
 use native.Mathlib.Omega.{arith}
 use lib.ListN.{getD}
@@ -12,7 +12,8 @@ use borrow.Author.Tests.{lt-ltb, le-ltb, eq-eqb, ne-eqb}
 use Rattle.laws.specs.Lists.{all, upTo, tab, joined}
 use Rattle.laws.proofs.Tests.{same-test, lt-or-le, eq-or-ne}
 use Rattle.laws.proofs.Tab.{map-tab}
-use Rattle.laws.proofs.Quantifiers.{all-append, all-below, below-all}
+use Rattle.laws.proofs.Quantifiers.{all-below, below-all, all-ext}
+use Rattle.laws.proofs.Lists.{all-joined}
 use Rattle.netlist.specs.Netlist.{Operand}
 use Rattle.netlist.specs.StoredBlock.{gateSize, operandWords, gatesAt, operandOf, gateAt, decode, torn}
 use Rattle.netlist.specs.Groups.{gateOperand, readBy}
@@ -22,18 +23,6 @@ use Rattle.encoding.proofs.ListFacts.{all-tab}
 use Rattle.encoding.proofs.Readers.{GateWhole, gateRule-parts, whole-parts}
 use Rattle.encoding.proofs.Decoded.{decode-gate, decode-gateCount}
 use Rattle.block.specs.Steps.{slotRule, lowerRuleAt, lowerRule}
-
--- all of the elements of all lists
-all-joined : {A : Type 0} (p : A → Bool) (xs : List (List A)) → all p (joined xs) ≡ all (all p) xs
-all-joined p [] = refl
-all-joined p (x ∷ xs) = all-append p x (joined xs) ∙ ap (λ (b : Bool). all p x && b) (all-joined p xs)
-
--- tests that agree below n
-all-agree : (p q : ℕ → Bool) (n : ℕ) → ((i : ℕ) → i < n → p i ≡ q i) → all p (upTo n) ≡ all q (upTo n)
-all-agree p q n h =
-    same-test (all p (upTo n)) (all q (upTo n))
-    (λ a. below-all q n (λ i l. sym (h i l) ∙ all-below p n i a l))
-    (λ a. below-all p n (λ i l. h i l ∙ all-below q n i a l))
 
 -- gate j reads, in an operand word, no gate but a lower one
 lower : ℕ → ℕ → Bool
@@ -75,7 +64,7 @@ lower-gate n j ws at =
     all-joined (lower j) (map gateOperand (tab operand count))
     ∙ ap (all (all (lower j))) (map-tab gateOperand operand count)
     ∙ all-tab (all (lower j)) (λ i. gateOperand (operand i)) count
-    ∙ all-agree (λ i. all (lower j) (gateOperand (operand i))) (λ i. operandRule (n + j) (word i)) count (λ i l. lower-operand n j (word i))
+    ∙ all-ext (λ i. all (lower j) (gateOperand (operand i))) (λ i. operandRule (n + j) (word i)) count (λ i l. lower-operand n j (word i))
   where
     word : ℕ → ℕ
     word i = getD ws (at + 1 + i) 0
@@ -118,7 +107,7 @@ gate-operands ws nodes all-nodes at h =
 pub straight-is : (ws : List ℕ) → torn ws ≡ false → lowerRule ws (getD ws 0 0) (getD ws 1 0) ≡ straight (decode ws)
 unfolding straight readBy lower
 straight-is ws h =
-    all-agree (lowerRuleAt ws n) reads-lower m agree ∙ sym (ap (λ (k : ℕ). all reads-lower (upTo k)) (decode-gateCount ws))
+    all-ext (lowerRuleAt ws n) reads-lower m agree ∙ sym (ap (λ (k : ℕ). all reads-lower (upTo k)) (decode-gateCount ws))
   where
     n : ℕ
     n = getD ws 0 0

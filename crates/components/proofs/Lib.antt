@@ -1,3 +1,2 @@
 -- Mathematics of components and their numbering; no function of src/ is named.
-pub mod ListFacts
 pub mod Sizes

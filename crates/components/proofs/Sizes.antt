@@ -12,13 +12,12 @@ use borrow.Author.Tests.{eqb-true, eqb-false, eq-eqb, ne-eqb}
 use Rattle.laws.specs.Lists.{countBelow, least}
 use Rattle.laws.proofs.Tests.{bool-cases, and-left, and-right, and-intro, same-test, not-both, lt-or-le}
 use Rattle.laws.proofs.Least.{least-is, least-le, least-below, least-at}
+use Rattle.laws.proofs.Counting.{countBelow-less, countBelow-le, countBelow-ext}
 use Rattle.netlist.specs.Netlist.{Block, gateCount}
 use Rattle.netlist.specs.Groups.{Path, reaches, sameGroup}
 use Rattle.reach.proofs.Reach.{path-reaches, reaches-path, reaches-below, reaches-trans, reaches-refl}
-use Rattle.reach.proofs.Counting.{countBelow-less, countBelow-le}
 use Rattle.reach.proofs.SameGroup.{sameGroup-refl, sameGroup-sym, sameGroup-trans, sameGroup-below}
 use Rattle.search.specs.Search.{setFlags, Reached, SearchReady}
-use Rattle.search.proofs.Marking.{count-cong}
 use Rattle.components.specs.Leaders.{reachSize, leaderOf, markedOfSize, Sizes}
 
 one-zero : {a : ℕ} {A : Type 0} → a ≡ 0 → a ≡ 1 → A
@@ -49,7 +48,7 @@ pub search-size : {b : Block} {m j : ℕ} {flags : List ℕ} {count : ℕ} → m
 unfolding setFlags reachSize
 search-size {b} {m} {j} {flags} e r =
     let r′ : Reached b (gateCount b) j flags _ = rw e at r in
-    r′ .counts ∙ count-cong (λ k. not (eqb (getD flags k 0) 0)) (reaches b j) (gateCount b) (flag-not r′)
+    r′ .counts ∙ countBelow-ext (λ k. not (eqb (getD flags k 0) 0)) (reaches b j) (gateCount b) (flag-not r′)
 
 pub reachSize-le : (b : Block) (j : ℕ) → reachSize b j ≤ gateCount b
 unfolding reachSize
@@ -70,7 +69,7 @@ size-back b j k l jk e = ⊎-elim (λ t. t) (λ f. absurd (smaller f)) (bool-cas
 same-size : (b : Block) (j k : ℕ) → sameGroup b j k ≡ true → reachSize b k ≡ reachSize b j
 unfolding reachSize sameGroup
 same-size b j k h =
-    count-cong (reaches b k) (reaches b j) (gateCount b)
+    countBelow-ext (reaches b k) (reaches b j) (gateCount b)
     (λ i il.
     same-test (reaches b k i) (reaches b j i)
     (λ ki. reaches-trans b j k i (and-left (reaches b j k) (reaches b k j) h) ki)

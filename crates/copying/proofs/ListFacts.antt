@@ -1,24 +1,17 @@
 -- Storing lists one after the other in a longer one. Cited by every function that writes words. Assumes nothing.
 use Prim.Native.Nat.{ℕ, zero, suc, _+_, _*_}
 use mathlib.Core.Path.{_≡_, sym, ap, _∙_}
-use mathlib.Core.List.{List, [], _∷_, _++_, append-nil}
-use native.Mathlib.Nat.{add-zero, mul-suc, mul-zero}
+use mathlib.Core.List.{List, [], _∷_}
+use native.Mathlib.Nat.{mul-suc, mul-zero}
 use native.Mathlib.Numerals.{add-one}
 use native.Mathlib.Omega.{arith}
 use lib.ListN.{length, set, length-append}
 use lib.Seq.{sets}
 use Rattle.laws.specs.Lists.{tab, joined}
 use Rattle.laws.proofs.Tab.{length-tab}
-use Rattle.reach.proofs.ListFacts.{joined-append}
+use Rattle.laws.proofs.Lists.{sets-sets, joined-snoc}
 
 module _ {A : Type 0} where
-  -- One list and then another.
-  pub sets-sets : (l : List A) (i : ℕ) (xs ys : List A) → sets (sets l i xs) (i + length xs) ys ≡ sets l i (xs ++ ys)
-  sets-sets l i [] ys = rw (add-zero)
-  sets-sets l i (x ∷ xs) ys =
-      let e : i + suc (length xs) ≡ suc i + length xs = omega arith in
-      rw e (sets-sets (set l i x) (suc i) xs ys)
-
   -- One element more of a list that a function gives.
   sets-tab : (l : List A) (i : ℕ) (f : ℕ → A) (k : ℕ) → set (sets l i (tab f k)) (i + k) (f k) ≡ sets l i (tab f (k + 1))
   sets-tab l i f k =
@@ -29,9 +22,6 @@ module _ {A : Type 0} where
   pub sets-next : (l out : List A) (i : ℕ) (f : ℕ → A) (k : ℕ) (x : A) → out ≡ sets l i (tab f k) → x ≡ f k
       → set out (i + k) x ≡ sets l i (tab f (k + 1))
   sets-next l out i f k x e h = rw (e, h) (sets-tab l i f k)
-
-  pub joined-snoc : (xs : List (List A)) (x : List A) → joined (xs ++ (x ∷ [])) ≡ joined xs ++ x
-  joined-snoc xs x = joined-append xs (x ∷ []) ∙ ap (λ (r : List A). joined xs ++ r) (append-nil x)
 
   module _ (f : ℕ → List A) (size : ℕ) (sized : (j : ℕ) → length (f j) ≡ size) where
     pub length-joined-tab : (k : ℕ) → length (joined (tab f k)) ≡ size * k

@@ -2,13 +2,14 @@
 use Prim.Native.Nat.{ℕ, zero, suc, _+_, _*_, _≤_, _<_}
 use mathlib.Core.Path.{_≡_, refl, sym, ap, ap₂, _∙_}
 use mathlib.Core.Bool.{false}
-use mathlib.Core.List.{List, [], _∷_, _++_, map}
+use mathlib.Core.List.{List, [], _∷_, _++_, map, map-append}
 use native.Mathlib.Nat.{zero-add, add-assoc}
 use native.Mathlib.Omega.{arith}
 use lib.ListN.{length, getD, set, take, drop, replicate, length-take, length-append, length-replicate}
 use lib.Seq.{sets, sets-eq, take-suc, take-length, length-take-le, getD-take}
 use Rattle.laws.specs.Lists.{tab, joined, placed}
 use Rattle.laws.proofs.Tab.{tab-ext, map-tab, length-tab}
+use Rattle.laws.proofs.Lists.{sets-sets, joined-snoc}
 use Rattle.netlist.specs.Netlist.{Operand, gate, constant, Gate, Output, Block, inputCount, gateCount, outputCount, gateOf}
 use Rattle.netlist.specs.StoredBlock.{gateSize, outputSize, gatesAt, outputsAt, nameWords, nameAt, nodeWord, gateWords, gateAt, outputWords, outputAt, encode, decode, torn}
 use Rattle.netlist.specs.Rendering.{schedule, noCopies, copiedOperand, copied, copies, newestAfter, lastCopies, rendering}
@@ -18,12 +19,11 @@ use Rattle.encoding.proofs.Decoded.{decode-inputCount, decode-gateCount, decode
 use Rattle.encoding.proofs.Encoded.{length-encode}
 use Rattle.encoding.proofs.Intact.{Intact}
 use Rattle.encoding.proofs.Readers.{GateWhole, whole-parts, whole-gate, whole-node}
-use Rattle.agreement.proofs.ListFacts.{map-append}
 use Rattle.agreement.proofs.Copies.{length-noCopies, length-newestAfter, newestAfter-snoc, copies-snoc}
 use Rattle.agreement.proofs.Schedule.{schedule-below}
 use Rattle.agreement.proofs.Block.{rendering-inputs, length-schedule-is, length-rendering-outputs}
 use Rattle.copying.specs.Words.{wordFrom, tableAfter, copyWords, copyAt, shownAt, Order, Ready}
-use Rattle.copying.proofs.ListFacts.{sets-sets, joined-snoc, length-joined-tab}
+use Rattle.copying.proofs.ListFacts.{length-joined-tab}
 use Rattle.copying.proofs.Words.{length-tableAfter, length-copyAt}
 use Rattle.copying.proofs.Copied.{Stands, copy-words, shown-words, stands-none, stands-set}
 

@@ -1,19 +1,13 @@
--- Values as bytes: states there and back, and the bytes of a setting. Assumes nothing.
-use mathlib.Core.Path.{_≡_, refl, ap₂, _∙_}
-use mathlib.Core.List.{List, [], _∷_, map}
+-- The bytes of a setting. Assumes nothing.
+use mathlib.Core.Path.{_≡_, refl, _∙_}
+use mathlib.Core.List.{map}
 use Prim.Native.Nat.{ℕ, zero, suc, _/_, _%_, _^_, _<_}
 use native.Mathlib.Omega.{arith}
 use lib.Dec.{eqb}
 use Rattle.laws.specs.Lists.{tab}
 use Rattle.laws.proofs.Tab.{tab-ext, map-tab}
-use Rattle.netlist.specs.Values.{Value, val, code, valueOf}
+use Rattle.netlist.specs.Values.{val, code}
 use Rattle.netlist.specs.Rounds.{bit, settingOf}
-use Rattle.ternary.proofs.Codes.{value-code}
-
--- a state is that of its codes
-pub values-back : (v : List Value) → map valueOf (map code v) ≡ v
-values-back [] = refl
-values-back (x ∷ v) = ap₂ _∷_ (value-code x) (values-back v)
 
 low-code : (k : ℕ) → k < 2 → code (val (eqb k 1)) ≡ k
 unfolding code

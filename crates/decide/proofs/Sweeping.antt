@@ -12,19 +12,19 @@ use Rattle.laws.specs.Lists.{same, upTo}
 use Rattle.laws.proofs.Tests.{same-test, and-left, and-right, and-intro, lt-or-le, not-both}
 use Rattle.laws.proofs.Tab.{length-tab}
 use Rattle.laws.proofs.Same.{same-eq, eq-same, same-refl}
+use Rattle.laws.proofs.Lists.{map-set, map-replicate}
 use Rattle.netlist.specs.Values.{Value, undefined, code, valueOf}
 use Rattle.netlist.specs.Netlist.{Gate, Block, gateCount, gateOf}
 use Rattle.netlist.specs.Rounds.{evaluated, settled}
 use Rattle.rounds.specs.Order.{BelowAll, definedAmong}
 use Rattle.rounds.specs.Steps.{stepAt, run}
-use Rattle.rounds.proofs.Values.{below-of-eq}
+use Rattle.rounds.proofs.Values.{below-of-eq, values-codes}
 use Rattle.rounds.proofs.States.{states-antisym}
 use Rattle.rounds.proofs.Counting.{definedAmong-le}
 use Rattle.rounds.proofs.AnyOrder.{length-run, run-append, start-below-settled, run-below-settled, fixed-settled}
 use Rattle.rounds.proofs.InPlace.{start-rising, run-grows, run-rising, run-same-by-count, run-fixed}
 use Rattle.decide.specs.InPlace.{Visits, Underway, Swept}
-use Rattle.decide.proofs.ListFacts.{map-set, map-replicate, same-set}
-use Rattle.decide.proofs.Bytes.{values-back}
+use Rattle.decide.proofs.ListFacts.{same-set}
 
 not-and : (a b : Bool) → not a || not b ≡ not (a && b)
 not-and true b = refl
@@ -56,7 +56,7 @@ module _ {b : Block} {x : List Value} where
   -- the state that the bytes code
   swept-values : {js bytes after : List ℕ} {changed : Bool} → Swept b x js bytes after changed
       → map valueOf after ≡ run b x js (map valueOf bytes)
-  swept-values {js} {bytes} s = rw (s .are) (values-back (run b x js (map valueOf bytes)))
+  swept-values {js} {bytes} s = rw (s .are) (values-codes (run b x js (map valueOf bytes)))
 
   pub swept-length : {js bytes after : List ℕ} {changed : Bool} → Swept b x js bytes after changed → length after ≡ length bytes
   swept-length {js} {bytes} s =

@@ -12,13 +12,13 @@ use lib.Dec.{eqb, leb, ltb}
 use borrow.Author.Tests.{eqb-true, leb-true, lt-ltb, le-ltb, eq-eqb, ne-eqb}
 use Rattle.laws.specs.Lists.{all, tab, upTo}
 use Rattle.laws.proofs.Tests.{and-left, and-right, and-intro, lt-or-le}
-use Rattle.laws.proofs.Tab.{length-tab, getD-tab, tab-ext, map-tab}
+use Rattle.laws.proofs.Tab.{length-tab, getD-tab, tab-ext, map-tab, tab-add}
 use Rattle.laws.proofs.Quantifiers.{all-at, all-tab-at, all-tab-from, all-below, below-all}
 use Rattle.netlist.specs.Kinds.{isKind, arityFits, mostOperands, fewestOperands, rowOf, rows, row, isNot}
 use Rattle.netlist.specs.Netlist.{Operand, constant, Gate, Block, inputCount, gateCount}
 use Rattle.netlist.specs.StoredBlock.{gateSize, operandWords, nodeWord, operandOf, gateWords, gateAt, isOperand, gateFits}
 use Rattle.encoding.specs.Rules.{operandRule, gateRule}
-use Rattle.encoding.proofs.ListFacts.{tab-add, tab-is, getD-map}
+use Rattle.encoding.proofs.ListFacts.{tab-is, getD-map}
 use Rattle.encoding.proofs.Nodes.{nodeWord-operandOf, operandOf-nodeWord, isOperand-operandOf}
 
 -- ---- kinds and counts

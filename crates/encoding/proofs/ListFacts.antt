@@ -2,9 +2,9 @@
 -- Assumes nothing.
 use mathlib.Core.Path.{_≡_, refl, sym, ap, _∙_}
 use mathlib.Core.Bool.{Bool, true, false, cond, _&&_, false≢true}
-use mathlib.Core.List.{List, [], _∷_, _++_, map, append-assoc, append-nil}
+use mathlib.Core.List.{List, [], _∷_, _++_, map}
 use Prim.Native.Nat.{ℕ, zero, suc, _+_, _*_, _≤_, _<_, zero-le, suc-le-suc}
-use native.Mathlib.Nat.{not-suc-le-zero, le-of-suc-le-suc, add-zero, add-suc, mul-suc, mul-zero, zero-add}
+use native.Mathlib.Nat.{not-suc-le-zero, le-of-suc-le-suc, mul-suc, mul-zero, zero-add}
 use native.Mathlib.Omega.{arith}
 use lib.ListN.{length, getD, length-append, List·getD-append}
 use lib.Seq.{getD-append-add}
@@ -12,8 +12,9 @@ use lib.Dec.{eqb}
 use borrow.Author.Tests.{eqb-true}
 use Rattle.laws.specs.Lists.{all, tab, joined, upTo, same, memberList, distinct, onto, trimmed}
 use Rattle.laws.proofs.Tests.{and-left, and-right, same-test, not-true-false, not-both}
-use Rattle.laws.proofs.Tab.{tab-ext, tab-getD}
-use Rattle.laws.proofs.Quantifiers.{all-append, any-at, any-from, all-tab-at, all-tab-from, all-below, below-all}
+use Rattle.laws.proofs.Tab.{tab-ext, tab-getD, tab-add}
+use Rattle.laws.proofs.Quantifiers.{any-at, any-from, all-tab-at, all-tab-from, all-below, below-all}
+use Rattle.laws.proofs.Lists.{joined-snoc}
 
 -- both parts of a conjunction
 pub and-parts : (a b : Bool) → a && b ≡ true → (a ≡ true) × (b ≡ true)
@@ -41,20 +42,6 @@ module _ {A : Type 0} where
   -- a list of values is the list whose elements they are
   pub tab-is : (f : ℕ → A) (xs : List A) (d : A) → ((i : ℕ) → i < length xs → f i ≡ getD xs i d) → tab f (length xs) ≡ xs
   tab-is f xs d h = tab-ext f (λ i. getD xs i d) (length xs) h ∙ tab-getD d xs (length xs) refl
-
-  -- the first a + b values are the first a and then b more
-  pub tab-add : (f : ℕ → A) (a b : ℕ) → tab f (a + b) ≡ tab f a ++ tab (λ i. f (a + i)) b
-  tab-add f a zero = rw (add-zero, append-nil)
-  tab-add f a (suc b) = rw (add-suc, tab-add f a b, append-assoc)
-
-  joined-snoc : (xs : List (List A)) (x : List A) → joined (xs ++ (x ∷ [])) ≡ joined xs ++ x
-  joined-snoc [] x = append-nil x
-  joined-snoc (y ∷ xs) x = rw (joined-snoc xs x, append-assoc)
-
-  -- all of lists put one behind the other
-  pub all-joined : (p : A → Bool) (xs : List (List A)) → all p (joined xs) ≡ all (all p) xs
-  all-joined p [] = refl
-  all-joined p (x ∷ xs) = all-append p x (joined xs) ∙ ap (λ (t : Bool). all p x && t) (all-joined p xs)
 
   -- parts of one size, one after the other, are one list of values
   pub joined-tab : (f : ℕ → A) (size m : ℕ) → joined (tab (λ j. tab (λ i. f (size * j + i)) size) m) ≡ tab f (size * m)

@@ -23,7 +23,8 @@ use Rattle.encoding.proofs.ListFacts.{all-and, all-tab, joined-tab, dis
 
 -- ---- the rule on the bytes
 
-nameByte-range : (c : ℕ) → nameByte c ≡ true → (48 ≤ c) × (c ≤ 122)
+-- a name byte is neither 0 nor above 122
+pub nameByte-range : (c : ℕ) → nameByte c ≡ true → (48 ≤ c) × (c ≤ 122)
 unfolding nameByte letter digit underscore
 nameByte-range c h =
     ⊎-elim

@@ -9,12 +9,12 @@ use lib.ListN.{length, getD}
 use borrow.Author.Tests.{not-false}
 use Rattle.laws.specs.Lists.{tab, joined, same}
 use Rattle.laws.proofs.Tests.{and-left, and-right}
-use Rattle.laws.proofs.Tab.{length-tab, tab-ext, tab-getD, map-tab}
+use Rattle.laws.proofs.Tab.{length-tab, tab-ext, tab-getD, map-tab, tab-add}
 use Rattle.laws.proofs.Same.{same-eq, eq-same}
 use Rattle.laws.proofs.Quantifiers.{all-at}
 use Rattle.netlist.specs.Netlist.{Name, Gate, Output, Block, inputCount, gateCount, outputCount, gateOf}
 use Rattle.netlist.specs.StoredBlock.{nameSize, gateSize, outputSize, inputsAt, gatesAt, outputsAt, plainName, nameWords, nameAt, gateWords, gateAt, outputWords, outputAt, gateFits, isNode, encode, decode, wellFormed, torn}
-use Rattle.encoding.proofs.ListFacts.{tab-add, tab-is, joined-tab}
+use Rattle.encoding.proofs.ListFacts.{tab-is, joined-tab}
 use Rattle.encoding.proofs.Names.{nameWords-nameAt, nameAt-nameWords}
 use Rattle.encoding.proofs.Gates.{gateWords-gateAt, gateAt-gateWords, Unused}
 use Rattle.encoding.proofs.Outputs.{outputWords-outputAt, outputAt-outputWords}

@@ -11,9 +11,10 @@ use borrow.Author.Tests.{ltb-true, lt-ltb}
 use Rattle.laws.specs.Lists.{all, tab, joined}
 use Rattle.laws.proofs.Tests.{and-intro, lt-or-le}
 use Rattle.laws.proofs.Quantifiers.{all-at, all-from, all-append, all-tab-from}
+use Rattle.laws.proofs.Lists.{all-joined}
 use Rattle.netlist.specs.Netlist.{Name, constant, Gate, Output, Block, inputCount, gateCount, outputCount}
 use Rattle.netlist.specs.StoredBlock.{operandWords, gatesAt, outputsAt, letter, plainName, nameWords, nodeWord, gateWords, outputWords, isNode, isOperand, gateFits, encode, decode, wellFormed, torn}
-use Rattle.encoding.proofs.ListFacts.{all-map, all-joined, getD-map}
+use Rattle.encoding.proofs.ListFacts.{all-map, getD-map}
 use Rattle.encoding.proofs.Names.{length-nameWords, legal-words}
 use Rattle.encoding.proofs.Nodes.{nodeWord-small, isNode-isOperand}
 use Rattle.encoding.proofs.Gates.{no-operand-word, kind-small, arity-four, fits-kind, fits-arity, fits-operands}

@@ -6,11 +6,12 @@ use Prim.Native.Nat.{ℕ, _-_, _≤_, _<_}
 use native.Mathlib.Omega.{arith}
 use native.Mathlib.Nat.{le-trans}
 use lib.ListN.{length, drop, take, length-drop}
+use Rattle.laws.proofs.Elements.{rest-is-drop}
 use Rattle.netlist.specs.Parse.{Reader}
 use Rattle.form.specs.declared.Scan.{Scan}
 use Rattle.form.specs.declared.Scan.the-variants.{Next, Bad}
 use Rattle.form.specs.Scan.{scanOf}
-use Rattle.form.proofs.ListFacts.{rest-is-drop, lastOnes, last-last, length-last}
+use Rattle.form.proofs.ListFacts.{lastOnes, last-last, length-last}
 use Rattle.form.proofs.Shortens.{Shortens}
 use Rattle.form.proofs.Continues.{Continues, left-short, then-read, then-refused}
 

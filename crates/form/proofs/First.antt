@@ -15,11 +15,6 @@ pub there : (test : ℕ → Bool) (s : List ℕ) → test 0 ≡ false → test (
 there test [] z h = not-both h z
 there test (c ∷ s) z h = omega arith
 
--- a byte that is not 0 is there
-pub byte-there : (s : List ℕ) {b c : ℕ} → b ≡ getD s 0 0 → b ≡ c → 0 < c → 0 < length s
-byte-there [] e f h = omega arith
-byte-there (x ∷ s) e f h = omega arith
-
 module _ {A : Type 0} (first : ℕ → Reader A) (second : Reader A) where
   pub if-taken : (test : ℕ → Bool) (s : List ℕ) → test 0 ≡ false → test (getD s 0 0) ≡ true → ifNext test first second s ≡ first (getD s 0 0) (drop 1 s)
   unfolding ifNext onTest

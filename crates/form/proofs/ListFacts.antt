@@ -3,16 +3,11 @@ use mathlib.Core.Path.{_≡_, refl}
 use mathlib.Core.Bool.{Bool, true, false, _||_}
 use mathlib.Core.List.{List, [], _∷_}
 use Prim.Native.Nat.{ℕ, _+_, _-_, _≤_, _<_}
-use native.Mathlib.Nat.{le-of-eq}
 use native.Mathlib.Omega.{arith}
-use lib.ListN.{length, getD, take, drop, length-drop}
-use lib.Seq.{take-all, drop-drop}
+use lib.ListN.{length, getD, drop, length-drop}
+use lib.Seq.{drop-drop}
 
 module _ {A : Type 0} where
-  -- a part from `k` to the end
-  pub rest-is-drop : (xs : List A) (k : ℕ) → take (length xs - k) (drop k xs) ≡ drop k xs
-  rest-is-drop xs k = take-all (length xs - k) (drop k xs) (le-of-eq (length-drop k xs))
-
   -- the last n elements
   abbrev pub lastOnes : ℕ → List A → List A
   lastOnes n xs = drop (length xs - n) xs

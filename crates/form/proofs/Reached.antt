@@ -4,13 +4,14 @@ use mathlib.Core.List.{List}
 use Prim.Native.Nat.{ℕ, suc, _-_, _≤_, _<_}
 use native.Mathlib.Omega.{arith}
 use lib.ListN.{length, take, drop, getD, length-drop, drop-of-length-le}
+use Rattle.laws.proofs.Elements.{rest-is-drop}
 use Rattle.netlist.specs.Syntax.{Tree}
 use Rattle.netlist.specs.Parse.{Parsed, got, stuck, parse}
 use Rattle.form.specs.declared.TextForm.the-variants.{Legal, Bad}
 use Rattle.form.specs.declared.Scan.{Scan}
 use Rattle.form.specs.declared.Scan.the-variants.{Next, Bad as Stuck}
 use Rattle.form.specs.Scan.{formAt, formOf, scanOf, lineReader, phaseOf}
-use Rattle.form.proofs.ListFacts.{rest-is-drop, lastOnes, last-last}
+use Rattle.form.proofs.ListFacts.{lastOnes, last-last}
 use Rattle.form.proofs.Continues.{thenOf, stuck-short, then-read, then-refused}
 use Rattle.form.proofs.LineChoice.{shortens-line, line-shorter}
 use Rattle.form.proofs.Phases.{linesReader, lines-step, lines-over}

@@ -7,7 +7,7 @@ use mathlib.Core.List.{List, [], _∷_, _++_, map}
 use native.Mathlib.Omega.{arith}
 use lib.ListN.{length, getD, length-append, List·getD-append}
 use lib.Seq.{getD-append-add}
-use Rattle.laws.specs.Lists.{same, memberList, distinct, tab, upTo, sum}
+use Rattle.laws.specs.Lists.{same, memberList, distinct, tab, upTo}
 use Rattle.laws.proofs.Tests.{not-true-false, lt-or-le}
 use Rattle.laws.proofs.Quantifiers.{any-from}
 use Rattle.laws.proofs.Same.{same-eq, eq-same}
@@ -68,7 +68,3 @@ apart-append xs ys p q cross i j l g e = go (lt-or-le i (length xs)) (lt-or-le j
     go (inr a) (inl b) = omega (arith, n)
     go (inr a) (inr b) = q (i - length xs) (j - length xs) (omega (arith, n)) (omega (arith, n))
         (sym (getD-behind xs ys i [] a) ∙ e ∙ getD-behind xs ys j [] b)
-
-pub sum-map-append : {A : Type 0} (f : A → ℕ) (xs ys : List A) → sum (map f (xs ++ ys)) ≡ sum (map f xs) + sum (map f ys)
-sum-map-append f [] ys = omega arith
-sum-map-append f (x ∷ xs) ys = omega (arith, sum-map-append f xs ys)

@@ -17,7 +17,8 @@ use Rattle.netlist.specs.Syntax.{OutputLine}
 use Rattle.netlist.specs.Reading.{gatesIn, gatesInside, lineGates, Binding, inputBindings, gateBindings, bindings, lookup, termNode, termsNodes, termGates, termsGates, linesGates, blockOf}
 use Rattle.netlist.specs.Writing.{gateName, nodeNameOf, termOf, termsOf, flatLine, flatTree}
 use Rattle.grammar.proofs.ListFacts.{ne-same, distinct-apart, distinct-parts, tab-map}
-use Rattle.grammar.proofs.WellFormed.{WellFormed, well-formed, gate-facts}
+use Rattle.encoding.proofs.WellFormed.{WellFormed, wellFormed-parts}
+use Rattle.grammar.proofs.WellFormed.{gate-facts}
 use Rattle.grammar.proofs.WritingNames.{gateName-injective, gateName-no-input}
 
 -- ---- flat expressions have no gates inside
@@ -94,7 +95,7 @@ module _ (b : Block) (w : WellFormed b) where
   unfolding bindings flatTree
   found-gate j l =
       lookup-past (b .inputs) 0 _ (gateName j)
-      (λ i m q. gateName-no-input j (getD (b .inputs) i []) (all-at plainName (b .inputs) i [] (w .inputsLegal) m) (sym q))
+      (λ i m q. gateName-no-input j (getD (b .inputs) i []) (all-at plainName (b .inputs) i [] (w .inputNames) m) (sym q))
       ∙ lookup-written b (gateCount b) (w .fewGates) j l
 
   found : (o : Operand) → isNode b o ≡ true → lookup (bindings (flatTree b)) (nodeNameOf b o) ≡ o
@@ -144,5 +145,5 @@ module _ (b : Block) (w : WellFormed b) where
 pub blockOf-flatTree : (b : Block) → wellFormed b ≡ true → blockOf (flatTree b) ≡ b
 unfolding blockOf flatTree
 blockOf-flatTree b h =
-    let w = well-formed b h in
-    λ i. record { inputs = b .inputs; gates = written-gates b w i; outputs = outputs-shown b w (b .outputs) (w .nodesShown) i }
+    let w = wellFormed-parts b h in
+    λ i. record { inputs = b .inputs; gates = written-gates b w i; outputs = outputs-shown b w (b .outputs) (w .nodesThere) i }

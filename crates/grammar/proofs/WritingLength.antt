@@ -10,15 +10,17 @@ use lib.Dec.{leb}
 use borrow.Author.Tests.{leb-true}
 use Rattle.laws.specs.Lists.{ascii, all, tab, upTo, sum}
 use Rattle.laws.proofs.Tab.{length-tab}
+use Rattle.laws.proofs.Lists.{sum-map-append}
 use Rattle.netlist.specs.Limits.{maxName, maxGates}
 use Rattle.netlist.specs.Kinds.{isKind, mostOperands, keyword, isNot, rowOf, rows, row}
 use Rattle.netlist.specs.Netlist.{Name, Operand, input, gate, constant, Output, Block, gateCount, gateOf}
 use Rattle.netlist.specs.StoredBlock.{nameByte, legalName, plainName, nodeName, isNode, isOperand, wellFormed}
 use Rattle.netlist.specs.Syntax.{printTerm, printTerms, printInput, printGate, printOutput, printLines, print}
 use Rattle.netlist.specs.Writing.{digits, decimal, gateName, nodeNameOf, termOf, termsOf, flatLine, flatTree, writtenText}
-use Rattle.grammar.proofs.ListFacts.{and3, tab-map, sum-map-append}
+use Rattle.grammar.proofs.ListFacts.{and3, tab-map}
 use Rattle.grammar.proofs.SoundTerms.{by-kind}
-use Rattle.grammar.proofs.WellFormed.{WellFormed, well-formed, gate-facts}
+use Rattle.encoding.proofs.WellFormed.{WellFormed, wellFormed-parts}
+use Rattle.grammar.proofs.WellFormed.{gate-facts}
 use Rattle.grammar.proofs.WritingTree.{node-legal}
 
 name-short : (start : ℕ → Bool) (x : Name) → legalName start x ≡ true → length x ≤ maxName
@@ -135,9 +137,9 @@ module _ (b : Block) (w : WellFormed b) where
 pub written-length : (b : Block) → wellFormed b ≡ true → length (writtenText b) ≤ 56758
 unfolding writtenText print flatTree
 written-length b h =
-    let w = well-formed b h in
-    let o = outputs-length b w (b .outputs) [] (w .portsLegal) (w .nodesShown) in
+    let w = wellFormed-parts b h in
+    let o = outputs-length b w (b .outputs) [] (w .portNames) (w .nodesThere) in
     let shown = printLines printOutput (map (λ (o : Output). record { port = o .port; shown = nodeNameOf b (o .node) }) (b .outputs)) [] in
     let g = tab-length b w (gateCount b) (w .fewGates) shown in
-    let i = inputs-length (b .inputs) (printLines printGate (tab (flatLine b) (gateCount b)) shown) (w .inputsLegal) in
+    let i = inputs-length (b .inputs) (printLines printGate (tab (flatLine b) (gateCount b)) shown) (w .inputNames) in
     omega (arith, w .fewInputs, w .fewGates, w .fewOutputs)

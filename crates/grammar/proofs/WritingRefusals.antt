@@ -18,7 +18,8 @@ use Rattle.netlist.specs.Syntax.{name, GateLine, OutputLine, printInput, printG
 use Rattle.netlist.specs.Reading.{lineGates, overLimit, Mention, mentions, inputMention, gateMention, portMention, shownMention, termMentions, termsMentions, operandMentions, declaredNodes, declaredPorts, usedNames, firstRepeat, orElse, firstDuplicate, firstOutside, firstUndeclared}
 use Rattle.netlist.specs.Writing.{gateName, nodeNameOf, termOf, termsOf, flatLine, flatTree}
 use Rattle.grammar.proofs.ListFacts.{ne-same, memberList-from, distinct-apart, tab-map, Apart, apart-append}
-use Rattle.grammar.proofs.WellFormed.{WellFormed, well-formed, gate-facts}
+use Rattle.encoding.proofs.WellFormed.{WellFormed, wellFormed-parts}
+use Rattle.grammar.proofs.WellFormed.{gate-facts}
 use Rattle.grammar.proofs.WritingNames.{gateName-injective, gateName-no-input}
 use Rattle.grammar.proofs.WritingBlock.{flat-lineGates}
 
@@ -32,7 +33,7 @@ lines-sum b (j ∷ js) = rw (flat-lineGates b j, lines-sum b js) (omega arith)
 pub flatTree-within : (b : Block) → wellFormed b ≡ true → overLimit (flatTree b) ≡ false
 unfolding overLimit flatTree
 flatTree-within b h =
-    let w = well-formed b h in
+    let w = wellFormed-parts b h in
     let e : length (upTo (gateCount b)) ≡ gateCount b = length-tab (λ k. k) (gateCount b) in
     rw (
       le-leb (inputCount b) maxInputs (w .fewInputs),
@@ -95,7 +96,7 @@ module _ (b : Block) (w : WellFormed b) where
       apart-append (b .inputs) (tab gateName (gateCount b)) (distinct-apart (b .inputs) (w .inputsDistinct)) gates-apart
       λ i j l g e.
       let m : length (tab gateName (gateCount b)) ≡ gateCount b = length-tab gateName (gateCount b) in
-      gateName-no-input j (getD (b .inputs) i []) (all-at plainName (b .inputs) i [] (w .inputsLegal) l)
+      gateName-no-input j (getD (b .inputs) i []) (all-at plainName (b .inputs) i [] (w .inputNames) l)
       (e ∙ getD-tab gateName (gateCount b) j [] (omega arith))
 
 written-ports : (b : Block) → map nameOf (declaredPorts (flatTree b)) ≡ map (λ (o : Output). o .port) (b .outputs)
@@ -107,7 +108,7 @@ written-ports b =
 pub flatTree-unrepeated : (b : Block) → wellFormed b ≡ true → firstDuplicate (flatTree b) ≡ none
 unfolding firstDuplicate orElse
 flatTree-unrepeated b h =
-    let w = well-formed b h in
+    let w = wellFormed-parts b h in
     let nodes : Apart (map nameOf (declaredNodes (flatTree b))) = rw (written-names b) (names-apart b w) in
     let ports : Apart (map nameOf (declaredPorts (flatTree b))) =
     rw (written-ports b) (distinct-apart (map (λ (o : Output). o .port) (b .outputs)) (w .portsDistinct)) in
@@ -175,9 +176,9 @@ module _ (b : Block) (w : WellFormed b) where
   unfolding usedNames flatTree
   used-declared =
       all-append declared (mentions printGate operandMentions (tab (flatLine b) (gateCount b)) _) _
-      ∙ rw (gates-declared (gateCount b)) (outputs-declared (b .outputs) _ (w .nodesShown))
+      ∙ rw (gates-declared (gateCount b)) (outputs-declared (b .outputs) _ (w .nodesThere))
 
 -- A written block uses no name that it does not declare.
 pub flatTree-declared : (b : Block) → wellFormed b ≡ true → firstUndeclared (flatTree b) ≡ none
 unfolding firstUndeclared
-flatTree-declared b h = rw (written-names b) (none-outside (writtenNames b) (usedNames (flatTree b)) (used-declared b (well-formed b h)))
+flatTree-declared b h = rw (written-names b) (none-outside (writtenNames b) (usedNames (flatTree b)) (used-declared b (wellFormed-parts b h)))

@@ -16,7 +16,7 @@ use Rattle.netlist.specs.StoredBlock.{letter, nameByte, nameStart, legalName, p
 use Rattle.netlist.specs.Syntax.{termCount, legalTerm, legalTerms, legalGate, legalOutput, legalTree}
 use Rattle.netlist.specs.Writing.{nodeNameOf, termOf, termsOf, flatLine, flatTree}
 use Rattle.grammar.proofs.ListFacts.{and3}
-use Rattle.grammar.proofs.WellFormed.{WellFormed, well-formed}
+use Rattle.encoding.proofs.WellFormed.{WellFormed, wellFormed-parts}
 use Rattle.grammar.proofs.WritingNames.{gateName-legal}
 
 plain-node : (x : Name) → plainName x ≡ true → nodeName x ≡ true
@@ -28,7 +28,7 @@ plain-node x h =
 module _ (b : Block) (w : WellFormed b) where
   pub node-legal : (o : Operand) → isNode b o ≡ true → nodeName (nodeNameOf b o) ≡ true
   unfolding nodeNameOf isNode
-  node-legal (input i) h = plain-node _ (all-at plainName (b .inputs) i [] (w .inputsLegal) (ltb-true i (inputCount b) h))
+  node-legal (input i) h = plain-node _ (all-at plainName (b .inputs) i [] (w .inputNames) (ltb-true i (inputCount b) h))
   node-legal (gate j) h = let g = ltb-true j (gateCount b) h in gateName-legal j (omega (arith, w .fewGates))
   node-legal (constant c) h = absurd (false≢true h)
 
@@ -71,6 +71,6 @@ module _ (b : Block) (w : WellFormed b) where
 pub flatTree-legal : (b : Block) → wellFormed b ≡ true → legalTree (flatTree b) ≡ true
 unfolding legalTree flatTree
 flatTree-legal b h =
-    let w = well-formed b h in
-    rw (w .inputsLegal, all-tab-from legalGate (flatLine b) (gateCount b) (line-legal b w))
-    (outputs-legal b w (b .outputs) (w .portsLegal) (w .nodesShown))
+    let w = wellFormed-parts b h in
+    rw (w .inputNames, all-tab-from legalGate (flatLine b) (gateCount b) (line-legal b w))
+    (outputs-legal b w (b .outputs) (w .portNames) (w .nodesThere))

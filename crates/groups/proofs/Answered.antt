@@ -7,7 +7,7 @@ use native.Mathlib.Omega.{arith}
 use lib.ListN.{length, getD}
 use borrow.Author.Tests.{lt-ltb, le-ltb}
 use Rattle.laws.specs.Lists.{tab, placed}
-use Rattle.laws.proofs.Tab.{length-tab}
+use Rattle.laws.proofs.Tab.{length-tab, placed-tab}
 use Rattle.netlist.specs.declared.Refusal.the-variants.{MalformedBlock, NoRoom}
 use Rattle.netlist.specs.Netlist.{gateCount}
 use Rattle.netlist.specs.StoredBlock.{decode, torn, gatesAt}
@@ -16,7 +16,6 @@ use Rattle.netlist.specs.Answers.{done, refused, refuseIf, inRoom}
 use Rattle.netlist.specs.Operations.{grouping, groupsOf}
 use Rattle.encoding.proofs.Decoded.{decode-gateCount}
 use Rattle.components.specs.Leaders.{reachSize, leaderOf, Ready, Sizes}
-use Rattle.components.proofs.ListFacts.{placed-tab}
 use Rattle.groups.specs.Numbering.{NumberReady, AssignReady}
 use Rattle.groups.proofs.Whole.{search-ready, number-ready}
 

@@ -1,7 +1,7 @@
 -- The tests of the numbering loop, by the ways through the code. Assumes nothing.
 use mathlib.Core.Path.{_≡_, refl, sym, ap, _∙_}
 use mathlib.Core.Logic.{_⊎_, inl, inr, ⊎-elim}
-use mathlib.Core.Bool.{Bool, true, false, cond, not, _&&_, _||_}
+use mathlib.Core.Bool.{Bool, true, false, cond, not, _||_, and-false}
 use mathlib.Core.List.{List, [], _∷_, _++_, map}
 use Prim.Native.Nat.{ℕ, zero, suc, _+_, _-_, _*_, _/_, _≤_, _<_}
 use native.Mathlib.Numerals.{add-one}
@@ -14,14 +14,10 @@ use Rattle.laws.specs.Lists.{any, keep, upTo}
 use Rattle.laws.proofs.Tests.{eq-or-ne, or-left, or-right}
 use Rattle.laws.proofs.Quantifiers.{any-append}
 use Rattle.laws.proofs.Tab.{map-append}
-use Rattle.reach.proofs.ListFacts.{keep-append}
+use Rattle.laws.proofs.Lists.{keep-append}
 use Rattle.search.specs.Search.{wordGate, wordGates, marked}
 use Rattle.search.proofs.Marking.{word-gate, word-none, words-more, words-none, marked-append}
 use Rattle.groups.specs.Numbering.{noNumber, unnumbered, obstacle, gateReads, obstructs, blockedAfter, mayFollow}
-
-and-false : (b : Bool) → b && false ≡ false
-and-false true = refl
-and-false false = refl
 
 module _ (numbers leaders : List ℕ) (leader n m : ℕ) where
   pub no-gate : (w : ℕ) → (w < n) ⊎ (n + m ≤ w) → false ≡ any (obstacle numbers leaders leader) (wordGate n m w)

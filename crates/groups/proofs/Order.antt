@@ -14,7 +14,7 @@ use lib.Dec.{eqb, ltb}
 use borrow.Author.Tests.{eqb-true, eqb-false, eq-eqb, ne-eqb, ltb-true, ltb-false, lt-ltb, le-ltb, not-true, not-false}
 use Rattle.laws.specs.Lists.{all, any, keep, tab, placed, joined, upTo, member, least}
 use Rattle.laws.proofs.Tests.{bool-cases, and-left, and-right, and-intro, same-test, not-both, or-cases, or-left, or-right, eq-or-ne, lt-or-le, not-true-false}
-use Rattle.laws.proofs.Tab.{tab-ext, length-tab}
+use Rattle.laws.proofs.Tab.{tab-ext, length-tab, placed-tab}
 use Rattle.laws.proofs.Quantifiers.{member-at, member-from, any-at, any-from, all-below}
 use Rattle.netlist.specs.Netlist.{Block, gateCount}
 use Rattle.netlist.specs.StoredBlock.{decode}
@@ -31,7 +31,6 @@ use Rattle.search.specs.Search.{marked}
 use Rattle.search.proofs.Searching.{kept, marks, only, cleared-at, cleared-length}
 use Rattle.components.specs.Leaders.{leaderOf}
 use Rattle.components.proofs.Sizes.{leader-below, leaders-same, least-cong}
-use Rattle.components.proofs.ListFacts.{placed-tab}
 use Rattle.groups.specs.Numbering.{noNumber, unnumbered, obstacle, gateReads, obstructs, blockedAfter, mayFollow, renumbered, numberUpTo, NumberReady, GroupsNumbered}
 
 take-at : {A : Type 0} (t : ℕ) (xs : List A) (i : ℕ) (d : A) → i < t → getD (take t xs) i d ≡ getD xs i d

@@ -13,7 +13,7 @@ use lib.Dec.{eqb, ltb}
 use borrow.Author.Tests.{eqb-true, eqb-false, eq-eqb, ne-eqb, ltb-true, ltb-false, lt-ltb, le-ltb}
 use Rattle.laws.specs.Lists.{tab, placed, joined, member, least}
 use Rattle.laws.proofs.Tests.{not-both, lt-or-le, eq-or-ne}
-use Rattle.laws.proofs.Tab.{tab-ext, length-tab}
+use Rattle.laws.proofs.Tab.{tab-ext, length-tab, placed-tab}
 use Rattle.netlist.specs.Netlist.{Block, gateCount}
 use Rattle.netlist.specs.StoredBlock.{decode}
 use Rattle.netlist.specs.Groups.{sameGroup, groupOf, mayBeNext, groups, groupNumber, groupNumbers}
@@ -26,7 +26,6 @@ use Rattle.reach.proofs.GroupNumber.{groupNumber-is, groupNumber-below, groupNu
 use Rattle.reach.proofs.Build.{groups-at}
 use Rattle.search.proofs.Searching.{cleared-at, cleared-length}
 use Rattle.components.proofs.Sizes.{leaders-same}
-use Rattle.components.proofs.ListFacts.{placed-tab}
 use Rattle.groups.specs.Numbering.{noNumber, renumbered, numberUpTo, NumberReady, GroupsNumbered, blockedAfter}
 use Rattle.groups.proofs.Order.{State}
 

@@ -5,3 +5,5 @@ pub mod Tab
 pub mod Quantifiers
 pub mod Same
 pub mod Least
+pub mod Lists
+pub mod Counting

@@ -10,7 +10,7 @@ use lib.ListN.{length, getD}
 use lib.Dec.{eqb}
 use borrow.Author.Tests.{eqb-true, eq-eqb}
 use Rattle.laws.specs.Lists.{all, any, tab, upTo, member}
-use Rattle.laws.proofs.Tests.{and-left, and-right, and-intro, or-cases, or-left, or-right}
+use Rattle.laws.proofs.Tests.{and-left, and-right, and-intro, or-cases, or-left, or-right, same-test}
 use Rattle.laws.proofs.Tab.{length-tab, getD-tab}
 
 module _ {A : Type 0} (p : A → Bool) where
@@ -88,6 +88,12 @@ module _ (p : ℕ → Bool) (n : ℕ) where
 
   pub below-any : (i : ℕ) → i < n → p i ≡ true → any p (upTo n) ≡ true
   below-any = any-tab-from p (λ k. k) n
+
+-- two tests that agree below n hold together there
+pub all-ext : (p q : ℕ → Bool) (n : ℕ) → ((i : ℕ) → i < n → p i ≡ q i) → all p (upTo n) ≡ all q (upTo n)
+all-ext p q n h =
+    same-test (all p (upTo n)) (all q (upTo n)) (λ a. below-all q n (λ i l. sym (h i l) ∙ all-below p n i a l))
+    (λ a. below-all p n (λ i l. h i l ∙ all-below q n i a l))
 
 -- a member stands at some index, and what stands at an index is a member
 pub member-at : (x : ℕ) (xs : List ℕ) → member x xs ≡ true → (i : ℕ) × (i < length xs) × (getD xs i 0 ≡ x)

@@ -2,12 +2,13 @@
 use mathlib.Core.Path.{_≡_, refl, sym, ap, _∙_}
 use mathlib.Core.Logic.{_⊎_, inl, inr, ⊎-elim}
 use mathlib.Core.List.{List, [], _∷_, _++_, map, append-assoc, append-nil}
+pub use mathlib.Core.List.{map-append}
 use Prim.Native.Nat.{ℕ, zero, suc, _+_, _≤_, _<_}
-use native.Mathlib.Nat.{not-suc-le-zero, le-refl, add-zero}
+use native.Mathlib.Nat.{not-suc-le-zero, le-refl, add-zero, add-suc}
 use native.Mathlib.Numerals.{add-one}
 use native.Mathlib.Omega.{arith}
 use lib.ListN.{length, getD, drop, set, length-append, List·getD-append}
-use lib.Seq.{getD-at, set-at, drop-cons, ext-getD}
+use lib.Seq.{getD-at, set-at, drop-cons, drop-length, ext-getD}
 use Rattle.laws.specs.Lists.{tab, placed}
 use Rattle.laws.proofs.Tests.{eq-or-ne}
 
@@ -25,6 +26,11 @@ module _ {A : Type 0} where
 
       before : i < n → getD (tab f n) i d ≡ f i → getD (tab f (suc n)) i d ≡ f i
       before l e = let l′ : i < length (tab f n) = rw (length-tab f n) l in List·getD-append (tab f n) (f n ∷ []) d i l′ ∙ e
+
+  -- the first a + b values are the first a and then b more
+  pub tab-add : (f : ℕ → A) (a b : ℕ) → tab f (a + b) ≡ tab f a ++ tab (λ i. f (a + i)) b
+  tab-add f a zero = rw (add-zero, append-nil)
+  tab-add f a (suc b) = rw (add-suc, tab-add f a b, append-assoc)
 
   -- two functions that agree below n have the same list
   pub tab-ext : (f g : ℕ → A) (n : ℕ) → ((i : ℕ) → i < n → f i ≡ g i) → tab f n ≡ tab g n
@@ -46,11 +52,25 @@ module _ {A : Type 0} where
       rw (length-tab f n, drop-cons entry n (f n) h)
       (set-at (tab f n) (getD entry n (f n)) (drop (suc n) entry) (f n) n (length-tab f n) ∙ rw (length-tab f (suc n), append-assoc))
 
-module _ {A B : Type 0} where
-  pub map-append : (g : A → B) (xs ys : List A) → map g (xs ++ ys) ≡ map g xs ++ map g ys
-  map-append g [] ys = refl
-  map-append g (x ∷ xs) ys = ap {B = List B} (λ r. g x ∷ r) (map-append g xs ys)
+  -- the same of a loop's slice, by its next number
+  pub fill-next : (f : ℕ → A) (j : ℕ) (entry slice : List A) (v : A) → slice ≡ placed (tab f j) entry → j < length entry → v ≡ f j → set slice j v ≡ placed (tab f (j + 1)) entry
+  fill-next f j entry slice v is l e = rw (is, e, add-one) (set-placed-tab f j entry l)
 
+  -- a place that is kept
+  pub keep-next : (f : ℕ → A) (j : ℕ) (entry slice : List A) (d : A) → slice ≡ placed (tab f j) entry → j < length entry → getD entry j d ≡ f j → slice ≡ placed (tab f (j + 1)) entry
+  keep-next f j entry slice d is l e =
+      is ∙ rw (add-one, length-tab f j, length-tab f (suc j), drop-cons entry j d l, e) (sym (append-assoc (tab f j) (f j ∷ []) (drop (suc j) entry)))
+
+  -- what is filled stands there
+  pub placed-tab : (f : ℕ → A) (n : ℕ) (entry : List A) (j : ℕ) (d : A) → j < n → getD (placed (tab f n) entry) j d ≡ f j
+  placed-tab f n entry j d l =
+      List·getD-append (tab f n) _ d j (rw (length-tab f n) l) ∙ getD-tab f n j d l
+
+  -- a slice filled to its end
+  pub placed-all : (xs entry : List A) → length xs ≡ length entry → placed xs entry ≡ xs
+  placed-all xs entry e = rw (e, drop-length entry) (append-nil xs)
+
+module _ {A B : Type 0} where
   pub map-tab : (g : A → B) (f : ℕ → A) (n : ℕ) → map g (tab f n) ≡ tab (λ i. g (f i)) n
   map-tab g f zero = refl
   map-tab g f (suc n) = map-append g (tab f n) (f n ∷ []) ∙ ap (λ (r : List B). r ++ (g (f n) ∷ [])) (map-tab g f n)

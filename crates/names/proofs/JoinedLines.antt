@@ -3,7 +3,7 @@
 use Prim.Native.Nat.{ℕ, zero, suc, _+_, _-_, _≤_, _<_}
 use mathlib.Core.Path.{_≡_, refl, sym, ap, _∙_}
 use mathlib.Core.Bool.{Bool, true, false, cond, false≢true}
-use mathlib.Core.List.{List, [], _∷_, _++_, map, append-nil}
+use mathlib.Core.List.{List, [], _∷_, _++_, map, append-nil, map-append}
 use native.Mathlib.Nat.{add-zero, zero-add, add-assoc}
 use native.Mathlib.Omega.{arith}
 use lib.ListN.{length, getD, take, drop, length-append, take-append-drop}
@@ -14,9 +14,10 @@ use Rattle.laws.specs.Lists.{all, joined, sum, tab}
 use Rattle.laws.proofs.Quantifiers.{all-at}
 use Rattle.laws.proofs.Tests.{and-left, and-right}
 use Rattle.laws.proofs.Tab.{tab-ext}
+use Rattle.laws.proofs.Lists.{joined-append, sum-append}
 use Rattle.names.specs.Lines.{times, lineLength, lineOpens, lineStart, gatesTo}
 use Rattle.names.specs.Trees.{isEmpty, isLine}
-use Rattle.names.proofs.ListFacts.{tab-front, joined-append, map-append, sum-append}
+use Rattle.names.proofs.ListFacts.{tab-front}
 use Rattle.names.proofs.Starts.{times-append}
 
 -- ---- one line

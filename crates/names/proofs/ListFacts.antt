@@ -1,37 +1,19 @@
 -- Facts on lists and sums that are nobody's in particular. Assumes nothing.
-use Prim.Native.Nat.{ℕ, zero, suc, _+_}
-use mathlib.Core.Path.{_≡_, refl, sym, ap}
-use mathlib.Core.List.{List, [], _∷_, _++_, map, append-assoc, append-nil}
+pub use mathlib.Core.List.{map-append}
+use Prim.Native.Nat.{ℕ, zero, suc}
+use mathlib.Core.Path.{_≡_, refl, ap}
+use mathlib.Core.List.{List, [], _∷_, _++_, map}
 use mathlib.Core.Bool.{Bool, true, false, _||_}
-use native.Mathlib.Nat.{add-zero, add-suc}
-use native.Mathlib.Omega.{arith}
 use lib.ListN.{take}
-use Rattle.laws.specs.Lists.{tab, joined, sum, all}
+use Rattle.laws.specs.Lists.{tab, all}
 use Rattle.laws.proofs.Tests.{and-left, and-right, and-intro}
+pub use Rattle.laws.proofs.Lists.{joined-append}
 
 module _ {A : Type 0} where
   -- the first value, and then the others
   pub tab-front : (f : ℕ → A) (n : ℕ) → tab f (suc n) ≡ f 0 ∷ tab (λ i. f (suc i)) n
   tab-front f zero = refl
   tab-front f (suc n) = ap (λ (l : List A). l ++ (f (suc n) ∷ [])) (tab-front f n)
-
-  -- the first a + b values are the first a and then b more
-  pub tab-add : (f : ℕ → A) (a b : ℕ) → tab f (a + b) ≡ tab f a ++ tab (λ i. f (a + i)) b
-  tab-add f a zero = rw (add-zero, append-nil)
-  tab-add f a (suc b) = rw (add-suc, tab-add f a b, append-assoc)
-
-  pub joined-append : (xs ys : List (List A)) → joined (xs ++ ys) ≡ joined xs ++ joined ys
-  joined-append [] ys = refl
-  joined-append (x ∷ xs) ys = rw (joined-append xs ys) (sym (append-assoc x (joined xs) (joined ys)))
-
-module _ {A B : Type 0} where
-  pub map-append : (g : A → B) (xs ys : List A) → map g (xs ++ ys) ≡ map g xs ++ map g ys
-  map-append g [] ys = refl
-  map-append g (x ∷ xs) ys = ap {B = List B} (λ r. g x ∷ r) (map-append g xs ys)
-
-pub sum-append : (xs ys : List ℕ) → sum (xs ++ ys) ≡ sum xs + sum ys
-sum-append [] ys = omega arith
-sum-append (x ∷ xs) ys = let h = sum-append xs ys in omega arith
 
 module _ {A B : Type 0} where
   pub take-map : (g : A → B) (i : ℕ) (xs : List A) → take i (map g xs) ≡ map g (take i xs)

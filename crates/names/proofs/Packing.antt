@@ -1,34 +1,17 @@
 -- The name at the front of a text, byte by byte, and its number. Assumes nothing.
 use Prim.Native.Nat.{ℕ, zero, suc, _+_, _-_, _*_, _≤_, _<_}
 use mathlib.Core.Path.{_≡_, refl, ap, ap₂, _∙_}
-use mathlib.Core.Logic.{⊎-elim}
-use mathlib.Core.Bool.{Bool, true, false, cond, _||_}
+use mathlib.Core.Bool.{Bool, true, false, cond}
 use mathlib.Core.List.{List, [], _∷_}
 use native.Mathlib.Numerals.{add-one}
 use native.Mathlib.Omega.{arith}
 use lib.ListN.{length, getD, drop, drop-of-length-le}
 use lib.Seq.{drop-cons}
-use lib.Dec.{leb}
-use borrow.Author.Tests.{leb-true, eqb-true}
 use Rattle.laws.specs.Lists.{all}
-use Rattle.laws.proofs.Tests.{and-left, and-right, and-intro, or-cases}
-use Rattle.netlist.specs.StoredBlock.{letter, digit, underscore, nameByte}
+use Rattle.laws.proofs.Tests.{and-left, and-right, and-intro}
+use Rattle.netlist.specs.StoredBlock.{nameByte}
+pub use Rattle.encoding.proofs.Names.{nameByte-range as name-byte-range}
 use Rattle.names.specs.Packed.{packed, nameFront}
-
--- a name byte is neither 0 nor above 122
-pub name-byte-range : (c : ℕ) → nameByte c ≡ true → (48 ≤ c) × (c ≤ 122)
-unfolding nameByte letter digit underscore
-name-byte-range c h =
-    ⊎-elim (λ a. ⊎-elim l d (or-cases (letter c) (digit c) a)) u (or-cases (letter c || digit c) (underscore c) h)
-  where
-    l : letter c ≡ true → (48 ≤ c) × (c ≤ 122)
-    l e = let a = leb-true 97 c (and-left (leb 97 c) (leb c 122) e) in let b = leb-true c 122 (and-right (leb 97 c) (leb c 122) e) in (omega arith, b)
-
-    d : digit c ≡ true → (48 ≤ c) × (c ≤ 122)
-    d e = let a = leb-true 48 c (and-left (leb 48 c) (leb c 57) e) in let b = leb-true c 57 (and-right (leb 48 c) (leb c 57) e) in (a, omega arith)
-
-    u : underscore c ≡ true → (48 ≤ c) × (c ≤ 122)
-    u e = let a = eqb-true c 95 e in (omega arith, omega arith)
 
 -- ---- the front of a list
 

@@ -2,7 +2,7 @@
 use Prim.Native.Nat.{ℕ, zero, suc, _+_, _-_, _≤_}
 use mathlib.Core.Path.{_≡_, refl, sym, _∙_}
 use mathlib.Core.Bool.{Bool, true, false, cond, not, _&&_}
-use mathlib.Core.List.{List, [], _∷_, _++_, map}
+use mathlib.Core.List.{List, [], _∷_, _++_, map, map-append}
 use native.Mathlib.Omega.{arith}
 use lib.ListN.{length, replicate, length-append, length-map}
 use lib.Seq.{getD-drop}
@@ -11,6 +11,7 @@ use borrow.Author.Tests.{leb-true}
 use Rattle.laws.specs.Lists.{all, joined, sum, tab}
 use Rattle.laws.proofs.Tests.{and-left, and-right}
 use Rattle.laws.proofs.Tab.{tab-ext}
+use Rattle.laws.proofs.Lists.{sum-append}
 use Rattle.netlist.specs.Limits.{maxText, maxInputs, maxGates, maxOutputs}
 use Rattle.netlist.specs.StoredBlock.{plainName}
 use Rattle.netlist.specs.Syntax.{Legal, GateLine, Tree, legalGate, legalOutput}
@@ -20,7 +21,6 @@ use Rattle.names.specs.Trees.{inputText, gateText, outputText, treeLines
 use Rattle.names.specs.Results.{Prints, countsOf, treeCounts, limitsFor, limitsOf, TableRoom}
 use Rattle.names.specs.declared.Counts.{Counts}
 use Rattle.names.specs.declared.Limits.the-variants.{Within, Over}
-use Rattle.names.proofs.ListFacts.{map-append, sum-append}
 use Rattle.names.proofs.Starts.{times-append}
 use Rattle.names.proofs.JoinedLines.{line-count, times-joined}
 use Rattle.names.proofs.TreeLines.{TreeLine, legal-parts, tree-lines, print-lines, input-line, gate-line, output-line}

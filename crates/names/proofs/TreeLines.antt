@@ -12,6 +12,7 @@ use borrow.Author.Tests.{ne-eqb}
 use Rattle.laws.specs.Lists.{ascii, all, joined}
 use Rattle.laws.proofs.Quantifiers.{all-append}
 use Rattle.laws.proofs.Tests.{and-left, and-right, and-intro}
+use Rattle.laws.proofs.Lists.{joined-append}
 use Rattle.netlist.specs.Kinds.{isKind, arityFits, keyword, isNot, rowOf, rows, row}
 use Rattle.netlist.specs.Netlist.{Name}
 use Rattle.netlist.specs.StoredBlock.{legalName, letter, digit, underscore, nameByte, plainName, nodeName}
@@ -22,7 +23,6 @@ use Rattle.grammar.proofs.Shorter.{printTerm-append}
 use Rattle.grammar.proofs.Places.{printInput-split, printGate-split, printOutput-split}
 use Rattle.names.specs.Lines.{times}
 use Rattle.names.specs.Trees.{inputText, gateText, outputText, treeLines, isLine}
-use Rattle.names.proofs.ListFacts.{joined-append}
 use Rattle.names.proofs.Starts.{times-append}
 use Rattle.names.proofs.JoinedLines.{line-append}
 use Rattle.names.proofs.Packing.{name-byte-range}

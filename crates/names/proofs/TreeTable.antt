@@ -2,7 +2,7 @@
 use Prim.Native.Nat.{ℕ, zero, suc, _+_, _-_, _≤_, _<_}
 use mathlib.Core.Path.{_≡_, refl, sym, ap, ap₂, _∙_}
 use mathlib.Core.Bool.{Bool, true}
-use mathlib.Core.List.{List, [], _∷_, _++_, map}
+use mathlib.Core.List.{List, [], _∷_, _++_, map, map-append}
 use native.Mathlib.Nat.{add-zero}
 use native.Mathlib.Omega.{arith}
 use lib.ListN.{length, getD, take, drop, length-map}
@@ -10,7 +10,8 @@ use lib.Seq.{take-length, getD-drop, drop-drop, take-append-add, take-append-le}
 use borrow.Author.Tests.{lt-ltb, le-ltb}
 use Rattle.laws.specs.Lists.{all, sum, tab, placed}
 use Rattle.laws.proofs.Tests.{and-left, and-right}
-use Rattle.laws.proofs.Tab.{length-tab, tab-ext, map-tab}
+use Rattle.laws.proofs.Tab.{length-tab, tab-ext, map-tab, tab-add}
+use Rattle.laws.proofs.Lists.{sum-append}
 use Rattle.netlist.specs.Netlist.{Name, gate}
 use Rattle.netlist.specs.StoredBlock.{plainName, nodeWord}
 use Rattle.netlist.specs.Syntax.{GateLine, Tree, legalGate}
@@ -20,7 +21,7 @@ use Rattle.names.specs.Packed.{packed, nameAt, packedAt, packedThrough}
 use Rattle.names.specs.Trees.{inputText, gateText, outputText, treeLines}
 use Rattle.names.specs.Results.{Prints, treeCounts, declared, packedNames, namePlaces, nodeWords, Declared}
 use Rattle.names.specs.declared.Counts.{Counts}
-use Rattle.names.proofs.ListFacts.{tab-front, tab-add, map-append, sum-append}
+use Rattle.names.proofs.ListFacts.{tab-front}
 use Rattle.names.proofs.Filling.{filled-front, filled-at}
 use Rattle.names.proofs.JoinedLines.{line-count, innerOpens, gates-are}
 use Rattle.names.proofs.TreeLines.{TreeLine, legal-parts, tree-lines, input-line, gate-line}

@@ -4,25 +4,22 @@ use Prim.Native.Nat.{ℕ, zero, suc, _-_, _≤_, _<_}
 use mathlib.Core.Path.{_≡_, refl, sym, ap, _∙_}
 use mathlib.Core.Logic.{_⊎_, inl, inr}
 use mathlib.Core.Bool.{true}
-use mathlib.Core.List.{List, [], _∷_, _++_, append-assoc}
+use mathlib.Core.List.{List, [], _∷_, _++_, append-assoc, append-nil}
 use native.Mathlib.Omega.{arith}
 use lib.ListN.{length, getD, take, length-append, List·getD-append}
 use lib.Seq.{take-nil, getD-at, length-take-le}
 use Rattle.laws.specs.Lists.{joined, member, countBelow}
 use Rattle.laws.proofs.Tests.{not-both, lt-or-le}
+use Rattle.laws.proofs.Lists.{joined-snoc}
+use Rattle.laws.proofs.Counting.{countBelow-le}
 use Rattle.netlist.specs.Netlist.{Block, gateCount}
 use Rattle.netlist.specs.Groups.{groupOf, mayBeNext, groupsAfter, groups, groupNumber}
 use Rattle.reach.specs.Numbering.{Numbered, nextGate, Built, none, next}
-use Rattle.reach.proofs.ListFacts.{append-nil, entry-below, joined-append, least-at-most}
-use Rattle.reach.proofs.Counting.{countBelow-le}
+use Rattle.reach.proofs.ListFacts.{entry-below, least-at-most}
 use Rattle.reach.proofs.SameGroup.{groupOf-same, groupOf-equal}
 use Rattle.reach.proofs.Next.{mayBeNext-left, mayBeNext-ready, mayBeNext-intro, next-new, numbered-none, numbered-next, next-counts}
 use Rattle.reach.proofs.Order.{nextGate-passes, groupsAfter-elim, groupsAfter-found, groupsAfter-none}
 use Rattle.reach.proofs.GroupNumber.{groupNumber-is}
-
--- the gates of a list of groups and one more
-pub joined-snoc : (gs : List (List ℕ)) (g : List ℕ) → joined (gs ++ (g ∷ [])) ≡ joined gs ++ g
-joined-snoc gs g = joined-append gs (g ∷ []) ∙ ap (λ (l : List ℕ). joined gs ++ l) (append-nil g)
 
 module _ (b : Block) where
   -- the next gate is the lowest of its group

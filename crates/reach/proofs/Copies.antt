@@ -7,12 +7,13 @@ use native.Mathlib.Omega.{arith}
 use native.Mathlib.Nat.{mul-suc}
 use lib.ListN.{length, getD, take, drop, take-append-drop, List·getD-map}
 use Rattle.laws.specs.Lists.{joined, sum}
+use Rattle.laws.proofs.Lists.{length-joined, sum-map-append}
 use Rattle.netlist.specs.Netlist.{Block, gateCount}
 use Rattle.netlist.specs.Groups.{groups, copyCount, groupsAfter}
 use Rattle.netlist.specs.Rendering.{straight}
 use Rattle.reach.specs.Inside.{Inside, Loopless}
 use Rattle.reach.specs.Numbering.{Built}
-use Rattle.reach.proofs.ListFacts.{length-joined, map-same, sum-at, sum-map-append, sum-mono}
+use Rattle.reach.proofs.ListFacts.{map-same, sum-at, sum-mono}
 use Rattle.reach.proofs.Order.{length-joined-groups}
 use Rattle.reach.proofs.Build.{built-rest}
 use Rattle.reach.proofs.Straight.{groups-single, straight-inside, straight-loopless}

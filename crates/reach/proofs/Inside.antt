@@ -9,13 +9,13 @@ use lib.Dec.{leb}
 use borrow.Author.Tests.{ltb-true}
 use Rattle.laws.specs.Lists.{all, joined, member, distinct}
 use Rattle.laws.proofs.Tests.{and-left, and-right}
+use Rattle.laws.proofs.Lists.{member-cases, member-one}
 use Rattle.netlist.specs.Limits.{maxInputs, maxGates, maxOutputs}
 use Rattle.netlist.specs.Netlist.{Operand, input, gate, constant, Gate, Output, Block, inputCount, gateCount, outputCount}
 use Rattle.netlist.specs.Kinds.{isKind, arityFits}
 use Rattle.netlist.specs.StoredBlock.{plainName, isNode, isOperand, gateFits, wellFormed}
 use Rattle.netlist.specs.Groups.{gateOperand, readBy, reads}
 use Rattle.reach.specs.Inside.{Inside}
-use Rattle.reach.proofs.ListFacts.{member-cases, member-one}
 
 -- an operand that is there reads only gates that are there
 operand-inside : (b : Block) (o : Operand) (k : ℕ) → isOperand b o ≡ true → member k (gateOperand o) ≡ true → k < gateCount b

@@ -1,50 +1,22 @@
 -- Facts on numbers in lists, on what passes a test, and on lists one after the other, that are nobody's in particular.
 -- Cited by every file of this crate. Assumes nothing.
-use Prim.Native.Nat.{ℕ, zero, suc, _+_, _≤_, _<_}
+use Prim.Native.Nat.{ℕ, zero, suc, _≤_, _<_}
 use mathlib.Core.Path.{_≡_, refl, sym, ap, _∙_}
 use mathlib.Core.Logic.{_⊎_, inl, inr, ⊎-elim}
 use mathlib.Core.Bool.{Bool, true, false, cond, _&&_, _||_, true≢false, and-false, false≢true}
-use mathlib.Core.List.{List, [], _∷_, _++_, map, append-assoc}
+use mathlib.Core.List.{List, [], _∷_, _++_, map, append-nil}
 use native.Mathlib.Omega.{arith}
-use lib.ListN.{length, getD, length-append}
+use lib.ListN.{length, getD}
 use lib.Dec.{eqb}
-use borrow.Author.Tests.{eqb-true, eq-eqb}
+use borrow.Author.Tests.{eqb-true}
 use Rattle.laws.specs.Lists.{all, keep, joined, upTo, sum, member, least}
-use Rattle.laws.proofs.Tests.{not-both, not-true-false, and-left, and-right, and-intro, or-cases, or-left, or-right, lt-or-le}
+use Rattle.laws.proofs.Tests.{not-both, not-true-false, and-left, and-right, and-intro, or-cases, or-right, lt-or-le}
 use Rattle.laws.proofs.Least.{least-below}
 use Rattle.laws.proofs.Quantifiers.{member-from}
+use Rattle.laws.proofs.Lists.{member-left, member-right, member-cases, member-one, member-head, keep-append}
 use Rattle.reach.specs.Orders.{Once, Ascending}
 
 -- ---- numbers in lists
-
--- a number is in one list after the other when it is in either
-pub member-append : (x : ℕ) (xs ys : List ℕ) → member x (xs ++ ys) ≡ (member x xs || member x ys)
-member-append x [] ys = refl
-member-append x (y ∷ xs) ys = go (eqb x y) (member-append x xs ys)
-  where
-    go : (t : Bool) → member x (xs ++ ys) ≡ (member x xs || member x ys) → (t || member x (xs ++ ys)) ≡ ((t || member x xs) || member x ys)
-    go true e = refl
-    go false e = e
-
--- in the first,
-pub member-left : (x : ℕ) (xs ys : List ℕ) → member x xs ≡ true → member x (xs ++ ys) ≡ true
-member-left x xs ys h = member-append x xs ys ∙ or-left _ _ h
-
--- in the second,
-pub member-right : (x : ℕ) (xs ys : List ℕ) → member x ys ≡ true → member x (xs ++ ys) ≡ true
-member-right x xs ys h = member-append x xs ys ∙ or-right (member x xs) _ h
-
--- and in no other case
-pub member-cases : (x : ℕ) (xs ys : List ℕ) → member x (xs ++ ys) ≡ true → (member x xs ≡ true) ⊎ (member x ys ≡ true)
-member-cases x xs ys h = or-cases _ _ (sym (member-append x xs ys) ∙ h)
-
--- the one number of a list
-pub member-one : (x y : ℕ) → member x (y ∷ []) ≡ true → x ≡ y
-member-one x y h = ⊎-elim (eqb-true x y) (λ e. absurd (false≢true e)) (or-cases (eqb x y) false h)
-
--- the first number is in the list
-pub member-head : (x : ℕ) (xs : List ℕ) → member x (x ∷ xs) ≡ true
-member-head x xs = or-left _ _ (eq-eqb x x refl)
 
 -- a test that all pass passes at each
 pub all-member : (p : ℕ → Bool) (xs : List ℕ) → all p xs ≡ true → (x : ℕ) → member x xs ≡ true → p x ≡ true
@@ -71,21 +43,6 @@ all-fails p (y ∷ xs) h = go (p y) refl h (all-fails p xs)
     go false e k f = (y, member-head y xs, e)
 
 -- ---- the elements that pass, and 0 .. n - 1
-
-module _ {A : Type 0} where
-  -- nothing behind a list changes nothing
-  pub append-nil : (xs : List A) → xs ++ [] ≡ xs
-  append-nil [] = refl
-  append-nil (x ∷ xs) = ap (λ (l : List A). x ∷ l) (append-nil xs)
-
-  -- what passes of one list after the other
-  pub keep-append : (p : A → Bool) (xs ys : List A) → keep p (xs ++ ys) ≡ keep p xs ++ keep p ys
-  keep-append p [] ys = refl
-  keep-append p (x ∷ xs) ys = go (p x) (keep-append p xs ys)
-    where
-      go : (t : Bool) → keep p (xs ++ ys) ≡ keep p xs ++ keep p ys → cond t (x ∷ keep p (xs ++ ys)) (keep p (xs ++ ys)) ≡ cond t (x ∷ keep p xs) (keep p xs) ++ keep p ys
-      go true e = ap (λ (l : List A). x ∷ l) e
-      go false e = e
 
 -- what is below n is among 0 .. n - 1
 pub member-upTo : (k n : ℕ) → k < n → member k (upTo n) ≡ true
@@ -197,17 +154,6 @@ least-at-most p n i e = ⊎-elim (λ u. not-both e (least-below p n i u)) (λ u.
 
 -- ---- one list after the other
 
-module _ {A : Type 0} where
-  -- joining one list of lists after the other
-  pub joined-append : (xs ys : List (List A)) → joined (xs ++ ys) ≡ joined xs ++ joined ys
-  joined-append [] ys = refl
-  joined-append (x ∷ xs) ys = ap (λ (l : List A). x ++ l) (joined-append xs ys) ∙ sym (append-assoc x (joined xs) (joined ys))
-
-  -- as long as the lists together
-  pub length-joined : (xs : List (List A)) → length (joined xs) ≡ sum (map length xs)
-  length-joined [] = refl
-  length-joined (x ∷ xs) = length-append x (joined xs) ∙ ap (λ (k : ℕ). length x + k) (length-joined xs)
-
 -- what is in one of the lists is in all of them joined
 pub member-joined : (x : ℕ) (xs : List (List ℕ)) (g : ℕ) → member x (getD xs g []) ≡ true → member x (joined xs) ≡ true
 member-joined x [] g h = absurd (false≢true h)
@@ -265,11 +211,6 @@ sum-at (x ∷ xs) zero = omega arith
 sum-at (x ∷ xs) (suc i) = let r = sum-at xs i in omega arith
 
 module _ {A : Type 0} where
-  -- a sum over one list after the other
-  pub sum-map-append : (f : A → ℕ) (xs ys : List A) → sum (map f (xs ++ ys)) ≡ sum (map f xs) + sum (map f ys)
-  sum-map-append f [] ys = omega arith
-  sum-map-append f (x ∷ xs) ys = let r = sum-map-append f xs ys in omega arith
-
   -- where each is at most the other, so is the sum
   pub sum-mono : (f g : A → ℕ) (xs : List A) → ((x : A) → f x ≤ g x) → sum (map f xs) ≤ sum (map g xs)
   sum-mono f g [] h = omega arith

@@ -9,12 +9,13 @@ use native.Mathlib.Omega.{arith}
 use borrow.Author.Tests.{not-true}
 use Rattle.laws.specs.Lists.{all, member, least, countBelow}
 use Rattle.laws.proofs.Tests.{bool-cases, not-both, and-intro, and-left, and-right, or-left, or-right, or-cases, not-true-false}
+use Rattle.laws.proofs.Lists.{member-left, member-right, member-cases}
+use Rattle.laws.proofs.Counting.{countBelow-less}
 use Rattle.netlist.specs.Netlist.{Block, gateCount}
 use Rattle.netlist.specs.Groups.{readBy, reads, reaches, sameGroup, groupOf, ready, mayBeNext}
 use Rattle.reach.specs.Inside.{Inside}
 use Rattle.reach.specs.Numbering.{Numbered}
-use Rattle.reach.proofs.ListFacts.{all-member, all-intro, all-fails, member-left, member-right, member-cases, once-append, least-at-most}
-use Rattle.reach.proofs.Counting.{countBelow-less}
+use Rattle.reach.proofs.ListFacts.{all-member, all-intro, all-fails, once-append, least-at-most}
 use Rattle.reach.proofs.Reach.{reaches-refl, reaches-trans, reaches-below, reaches-reads}
 use Rattle.reach.proofs.SameGroup.{sameGroup-sym, sameGroup-trans, groupOf-member, groupOf-same, groupOf-below, groupOf-self, groupOf-once}
 

@@ -4,7 +4,7 @@ use Prim.Native.Nat.{ℕ, zero, suc, _+_, _≤_, _<_}
 use mathlib.Core.Path.{_≡_, refl, sym, ap, _∙_}
 use mathlib.Core.Logic.{_⊎_, inl, inr}
 use mathlib.Core.Bool.{Bool, true, _||_, false≢true}
-use mathlib.Core.List.{List, [], _∷_, _++_, append-assoc}
+use mathlib.Core.List.{List, [], _∷_, _++_, append-assoc, append-nil}
 use native.Mathlib.Omega.{arith}
 use lib.ListN.{length, getD, take, length-take}
 use lib.Seq.{getD-take, take-length}
@@ -12,13 +12,15 @@ use borrow.Author.Tests.{lt-ltb, le-ltb}
 use Rattle.laws.specs.Lists.{joined, member, least, countBelow}
 use Rattle.laws.proofs.Tests.{lt-or-le}
 use Rattle.laws.proofs.Least.{least-at}
+use Rattle.laws.proofs.Lists.{member-append}
+use Rattle.laws.proofs.Counting.{countBelow-full, countBelow-all}
 use Rattle.netlist.specs.Netlist.{Block, gateCount}
 use Rattle.netlist.specs.Groups.{reads, groupOf, mayBeNext, groupsAfter, groups}
 use Rattle.reach.specs.Orders.{Once}
 use Rattle.reach.specs.Inside.{Inside}
 use Rattle.reach.specs.Numbering.{Numbered, nextGate}
-use Rattle.reach.proofs.ListFacts.{member-append, append-nil, entry-below, member-joined, joined-member, once-joined}
-use Rattle.reach.proofs.Counting.{once-length, countBelow-full, countBelow-all}
+use Rattle.reach.proofs.ListFacts.{entry-below, member-joined, joined-member, once-joined}
+use Rattle.reach.proofs.Counting.{once-length}
 use Rattle.reach.proofs.SameGroup.{groupOf-same, groupOf-self, groupOf-equal}
 use Rattle.reach.proofs.Next.{mayBeNext-same, none-left, numbered-none, numbered-next, next-counts}
 

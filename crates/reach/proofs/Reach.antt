@@ -14,10 +14,10 @@ use Rattle.laws.specs.Lists.{any, tab, upTo, countBelow}
 use Rattle.laws.proofs.Tests.{bool-cases, not-both, and-intro, and-left, and-right, or-left, or-right, or-cases, same-test, lt-or-le}
 use Rattle.laws.proofs.Tab.{length-tab, getD-tab}
 use Rattle.laws.proofs.Quantifiers.{any-below, below-any}
+use Rattle.laws.proofs.Counting.{countBelow-less, countBelow-full}
 use Rattle.netlist.specs.Netlist.{Block, gateCount}
 use Rattle.netlist.specs.Groups.{readBy, reads, Path, stay, step, has, grown, grownTimes, reach, reaches}
 use Rattle.reach.specs.Inside.{Closed}
-use Rattle.reach.proofs.Counting.{countBelow-less, countBelow-full}
 
 -- only a gate that is there reads
 pub reads-below : (b : Block) (i k : ℕ) → reads b i k ≡ true → i < gateCount b

@@ -6,11 +6,11 @@ use mathlib.Core.Bool.{Bool, true}
 use lib.ListN.{length}
 use Rattle.laws.specs.Lists.{keep, upTo, member, countBelow}
 use Rattle.laws.proofs.Tests.{and-intro, and-left, and-right, same-test}
+use Rattle.laws.proofs.Counting.{length-keep, countBelow-le}
 use Rattle.netlist.specs.Netlist.{Block, gateCount}
 use Rattle.netlist.specs.Groups.{reaches, sameGroup, groupOf}
 use Rattle.reach.specs.Orders.{Once, Ascending}
 use Rattle.reach.proofs.ListFacts.{member-upTo, member-keep, keep-ascending, ascending-once}
-use Rattle.reach.proofs.Counting.{length-keep, countBelow-le}
 use Rattle.reach.proofs.Reach.{reaches-refl, reaches-trans, reaches-below}
 
 module _ (b : Block) where

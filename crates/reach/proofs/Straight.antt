@@ -11,17 +11,18 @@ use borrow.Author.Tests.{ltb-true}
 use Rattle.laws.specs.Lists.{tab, joined, upTo}
 use Rattle.laws.proofs.Tests.{not-both, and-left, and-right, not-true-false}
 use Rattle.laws.proofs.Least.{least-is}
+use Rattle.laws.proofs.Lists.{joined-snoc, member-one}
 use Rattle.netlist.specs.Netlist.{Block, gateCount}
 use Rattle.netlist.specs.Groups.{readBy, reads, Path, stay, step, reaches, sameGroup, groupOf, mayBeNext, groups}
 use Rattle.netlist.specs.Rendering.{straight}
 use Rattle.reach.specs.Inside.{Inside, Loopless}
 use Rattle.reach.specs.Numbering.{nextGate, Built, none, next}
-use Rattle.reach.proofs.ListFacts.{all-member, member-upTo, upTo-below, member-one, keep-one}
+use Rattle.reach.proofs.ListFacts.{all-member, member-upTo, upTo-below, keep-one}
 use Rattle.reach.proofs.Reach.{reads-below, reaches-path}
 use Rattle.reach.proofs.SameGroup.{sameGroup-refl}
 use Rattle.reach.proofs.Next.{ready-intro, mayBeNext-intro, mayBeNext-left}
 use Rattle.reach.proofs.Order.{groups-entry}
-use Rattle.reach.proofs.Build.{built-groups, joined-snoc}
+use Rattle.reach.proofs.Build.{built-groups}
 
 -- a gate that is in a group with no other is its group
 pub groupOf-single : (b : Block) (j : ℕ) → j < gateCount b → ((k : ℕ) → sameGroup b j k ≡ true → k ≡ j) → groupOf b j ≡ j ∷ []

@@ -12,9 +12,9 @@ use lib.Dec.{eqb}
 use lib.Seq.{ext-getD}
 use Rattle.laws.specs.Lists.{upTo}
 use Rattle.laws.proofs.Quantifiers.{below-any}
+use Rattle.laws.proofs.Lists.{member-head, member-rest, member-first}
 use Rattle.netlist.specs.Values.{Value, undefined, val, defined}
 use Rattle.rounds.specs.Order.{Below, BelowOn, BelowAll, Listed, definedAmong}
-use Rattle.rounds.proofs.ListFacts.{member-head, member-rest, member-cases}
 
 -- one value counts 1 where it is 0 or 1
 one : Value → ℕ
@@ -66,7 +66,7 @@ module _ (v w : List Value) where
       let m : definedAmong js v ≤ definedAmong js w = definedAmong-mono js (rest-below i js h) in
       let rest : (j : ℕ) → Listed js j → getD v j undefined ≡ getD w j undefined = definedAmong-same js (rest-below i js h) (omega arith) in
       let same : getD v i undefined ≡ getD w i undefined = one-same (getD v i undefined) (getD w i undefined) (head-below i js h) (omega arith) in
-      ⊎-elim (λ e. rw e same) (rest j) (member-cases j i js s)
+      ⊎-elim (λ e. rw e same) (rest j) (member-first j i js s)
 
   -- Where no gate more is defined, the whole state is the same.
   pub same-by-count : (n : ℕ) → length v ≡ n → length w ≡ n → BelowAll v w → definedAmong (upTo n) w ≤ definedAmong (upTo n) v → v ≡ w

@@ -6,13 +6,13 @@ use mathlib.Core.Bool.{true}
 use mathlib.Core.List.{List, [], _∷_, map}
 use lib.ListN.{length, getD, length-map}
 use Rattle.laws.specs.Lists.{all, member, joined}
+use Rattle.laws.proofs.Lists.{member-head, member-rest}
 use Rattle.netlist.specs.Values.{Value, undefined, val, defined}
 use Rattle.netlist.specs.Netlist.{Operand, input, gate, constant, Gate, Block, gateOf}
 use Rattle.netlist.specs.Rounds.{operandValue, evaluated}
 use Rattle.netlist.specs.Groups.{gateOperand, readBy, reads}
 use Rattle.rounds.specs.Order.{Below, BelowEach, none, more, BelowAll}
 use Rattle.rounds.proofs.Values.{below-refl, below-of-eq, below-antisym}
-use Rattle.rounds.proofs.ListFacts.{member-head, member-rest}
 use Rattle.rounds.proofs.Gates.{gateValue-mono, gateValue-defined}
 
 module _ (x u w : List Value) where

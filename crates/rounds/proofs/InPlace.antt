@@ -11,6 +11,7 @@ use lib.ListN.{length, getD, replicate}
 use lib.Seq.{getD-set-same}
 use Rattle.laws.specs.Lists.{upTo}
 use Rattle.laws.proofs.Quantifiers.{below-any}
+use Rattle.laws.proofs.Lists.{member-first}
 use Rattle.netlist.specs.Values.{Value, undefined}
 use Rattle.netlist.specs.Netlist.{Block, gateCount, gateOf}
 use Rattle.netlist.specs.Rounds.{evaluated, settled}
@@ -18,7 +19,7 @@ use Rattle.rounds.specs.Order.{Below, BelowAll, Listed, definedAmong}
 use Rattle.rounds.specs.Steps.{stepAt, run, Rising}
 use Rattle.rounds.proofs.Values.{below-of-eq, below-of-undefined, below-refl, below-trans}
 use Rattle.rounds.proofs.Evaluation.{evaluated-mono-all}
-use Rattle.rounds.proofs.ListFacts.{getD-replicate-default, member-cases, AfterSet, new, old, after-set}
+use Rattle.rounds.proofs.ListFacts.{getD-replicate-default, AfterSet, new, old, after-set}
 use Rattle.rounds.proofs.States.{states-antisym, below-set}
 use Rattle.rounds.proofs.Counting.{same-by-count}
 use Rattle.rounds.proofs.AnyOrder.{length-step, length-run, fixed-settled}
@@ -76,7 +77,7 @@ module _ (b : Block) (x : List Value) where
       let later : Listed js j → evaluated x v (gateOf b j) ≡ getD v j undefined =
       λ t. subst (λ (u : List Value). evaluated x u (gateOf b j) ≡ getD u j undefined) e
       (run-fixed js (stepAt b x i v) (step-rising i v h) (λ k. below-trans (l k) (step-grows i v h k)) j t (rw (length-step b x i v) m)) in
-      ⊎-elim now later (member-cases j i js s)
+      ⊎-elim now later (member-first j i js s)
 
   -- A rising state below the settled values that a run over all gates does not change is the settled one.
   pub in-place-settled : (v : List Value) → length v ≡ gateCount b → BelowAll v (settled b x) → Rising b x v

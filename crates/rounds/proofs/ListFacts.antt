@@ -3,15 +3,13 @@ use Prim.Native.Nat.{ℕ, zero, suc, _≤_, _<_}
 use mathlib.Core.Path.{_≡_, refl, sym}
 use mathlib.Core.Logic.{_⊎_, inl, inr, ⊎-elim}
 use mathlib.Core.Bool.{Bool, true, false, _||_, true≢false, false≢true}
-use mathlib.Core.List.{List, [], _∷_, _++_, map}
+use mathlib.Core.List.{List, [], _∷_, map}
 use native.Mathlib.Omega.{arith}
-use borrow.Author.Tests.{eqb-true, eq-eqb}
-use lib.Dec.{eqb}
 use lib.ListN.{length, getD, set, replicate}
 use lib.Seq.{set-out, getD-set-same, getD-set-other}
 use Rattle.laws.specs.Lists.{member, repeated}
-use Rattle.laws.proofs.Quantifiers.{any-append}
-use Rattle.laws.proofs.Tests.{lt-or-le, eq-or-ne, or-left, or-right, or-cases}
+use Rattle.laws.proofs.Tests.{lt-or-le, eq-or-ne}
+use Rattle.laws.proofs.Lists.{member-cases}
 
 module _ {A : Type 0} where
   -- the default n times over is the default everywhere
@@ -57,20 +55,7 @@ pub or-false-right : (a b : Bool) → a || b ≡ false → b ≡ false
 or-false-right true b h = absurd (true≢false h)
 or-false-right false b h = h
 
--- the head of a list is in it, and so is what is in the rest; and nothing else is
-pub member-head : (x : ℕ) (xs : List ℕ) → member x (x ∷ xs) ≡ true
-member-head x xs = or-left (eqb x x) (member x xs) (eq-eqb x x refl)
-
-pub member-rest : (x y : ℕ) (xs : List ℕ) → member x xs ≡ true → member x (y ∷ xs) ≡ true
-member-rest x y xs h = or-right (eqb x y) (member x xs) h
-
-pub member-cases : (x y : ℕ) (xs : List ℕ) → member x (y ∷ xs) ≡ true → (x ≡ y) ⊎ (member x xs ≡ true)
-member-cases x y xs h = ⊎-elim (λ e. inl (eqb-true x y e)) (λ m. inr m) (or-cases (eqb x y) (member x xs) h)
-
-pub member-append : (x : ℕ) (xs ys : List ℕ) → member x (xs ++ ys) ≡ true → (member x xs ≡ true) ⊎ (member x ys ≡ true)
-member-append x xs ys h = or-cases (member x xs) (member x ys) (rw (any-append (eqb x) xs ys) at h)
-
 -- what is in a list n times over is in the list
 pub member-repeated : (x n : ℕ) (xs : List ℕ) → member x (repeated n xs) ≡ true → member x xs ≡ true
 member-repeated x zero xs h = absurd (false≢true h)
-member-repeated x (suc n) xs h = ⊎-elim (member-repeated x n xs) (λ m. m) (member-append x (repeated n xs) xs h)
+member-repeated x (suc n) xs h = ⊎-elim (member-repeated x n xs) (λ m. m) (member-cases x (repeated n xs) xs h)

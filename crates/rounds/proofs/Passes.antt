@@ -9,6 +9,7 @@ use native.Mathlib.Omega.{arith}
 use lib.ListN.{length, getD, List·getD-eq-default}
 use Rattle.laws.specs.Lists.{repeated}
 use Rattle.laws.proofs.Tests.{lt-or-le}
+use Rattle.laws.proofs.Lists.{member-head, member-rest, member-first}
 use Rattle.netlist.specs.Values.{Value, undefined}
 use Rattle.netlist.specs.Netlist.{Block, gateCount, gateOf}
 use Rattle.netlist.specs.Rendering.{passes}
@@ -17,7 +18,7 @@ use Rattle.rounds.specs.Order.{Below, BelowOn, Listed, Follows, definedA
 use Rattle.rounds.specs.Steps.{stepAt, run}
 use Rattle.rounds.proofs.Values.{below-of-eq, below-of-undefined, below-trans}
 use Rattle.rounds.proofs.Evaluation.{evaluated-mono}
-use Rattle.rounds.proofs.ListFacts.{member-head, member-rest, member-repeated, member-cases, AfterSet, new, old, after-set}
+use Rattle.rounds.proofs.ListFacts.{member-repeated, AfterSet, new, old, after-set}
 use Rattle.rounds.proofs.States.{start-below, below-set}
 use Rattle.rounds.proofs.Counting.{definedAmong-le, definedAmong-mono, definedAmong-same}
 use Rattle.rounds.proofs.Rounds.{getD-round, length-afterRounds, afterRounds-grow}
@@ -79,7 +80,7 @@ module _ (b : Block) (x : List Value) (before : ℕ → Type 0) (group : List �
       go (old n q) (inl p) = inl (below-trans p (below-of-eq (sym q)))
       go (old n q) (inr m) =
           ⊎-elim (λ e. inl (below-of-undefined _ (undefined-outside (suc r) k (omega (arith, n e, h .sized))))) (λ t. inr t)
-          (member-cases k i js m)
+          (member-first k i js m)
 
   -- a pass over the group puts it above the next round
   pass-above : (r : ℕ) (v : List Value) → Ready r v → Ready (suc r) (run b x group v)

@@ -2,6 +2,7 @@
 use Prim.Native.Nat.{ℕ, _≤_}
 use mathlib.Core.Path.{_≡_, refl, ap, _∙_, sym}
 use mathlib.Core.Bool.{Bool, true, false}
+use mathlib.Core.List.{List, [], _∷_, map}
 use native.Mathlib.Omega.{arith}
 use Rattle.netlist.specs.Values.{Value, undefined, val, code, valueOf, defined}
 use Rattle.rounds.specs.Order.{Below}
@@ -12,6 +13,11 @@ unfolding code valueOf
 valueOf-code undefined = refl
 valueOf-code (val false) = refl
 valueOf-code (val true) = refl
+
+-- and so for a state
+pub values-codes : (s : List Value) → map valueOf (map code s) ≡ s
+values-codes [] = refl
+values-codes (v ∷ s) = rw (valueOf-code v, values-codes s)
 
 -- two values with one code are one
 pub code-injective : (v w : Value) → code v ≡ code w → v ≡ w

@@ -2,18 +2,20 @@
 use mathlib.Core.Path.{_≡_, refl, sym, ap, ap₂, _∙_, subst}
 use mathlib.Core.Logic.{_⊎_, inl, inr, ⊎-elim}
 use mathlib.Core.Bool.{Bool, true, false, cond, not, _&&_}
-use mathlib.Core.List.{List, [], _∷_, _++_, append-nil, append-assoc}
+use mathlib.Core.List.{List, [], _∷_, _++_, append-nil}
 use Prim.Native.Nat.{ℕ, zero, suc, _+_, _-_, _≤_, _<_}
-use native.Mathlib.Nat.{add-zero, add-assoc, not-suc-le-zero}
+use native.Mathlib.Nat.{add-zero, add-assoc}
 use native.Mathlib.Numerals.{add-one}
 use native.Mathlib.Omega.{arith}
 use lib.ListN.{length, getD, set, length-append, length-set}
-use lib.Seq.{getD-set-same, getD-set-other, sets, length-sets, set-out}
+use lib.Seq.{getD-set-same, getD-set-other, length-sets, set-out}
 use lib.Dec.{eqb, leb, ltb}
 use borrow.Author.Tests.{eqb-true, eqb-false, eq-eqb, ne-eqb, ltb-true, leb-true, lt-ltb, le-ltb, le-leb, lt-leb}
-use Rattle.laws.specs.Lists.{all, tab, joined, countBelow}
+use Rattle.laws.specs.Lists.{all, tab, joined}
 use Rattle.laws.proofs.Tests.{eq-or-ne, lt-or-le, and-left, and-right}
 use Rattle.laws.proofs.Quantifiers.{all-append}
+use Rattle.laws.proofs.Lists.{joined-append, sets-sets}
+use Rattle.laws.proofs.Counting.{countBelow-ext, countBelow-le, countBelow-one}
 use Rattle.search.specs.Search.{wordGate, wordGates, marked, fresh, setFlags, Room, Extended}
 
 -- ---- lists put together
@@ -33,12 +35,6 @@ fresh-append flags [] js = refl
 fresh-append flags (k ∷ ks) js =
     ap (λ (r : List ℕ). cond (eqb (getD flags k 0) 0) (k ∷ r) r) (fresh-append (set flags k 1) ks js)
     ∙ sym (cond-append (eqb (getD flags k 0) 0) k (fresh (set flags k 1) ks) (fresh (marked (set flags k 1) ks) js))
-
-pub sets-sets : (l : List ℕ) (i : ℕ) (xs ys : List ℕ) → sets (sets l i xs) (i + length xs) ys ≡ sets l i (xs ++ ys)
-sets-sets l i [] ys = rw (add-zero)
-sets-sets l i (x ∷ xs) ys =
-    let e : i + suc (length xs) ≡ suc i + length xs = omega arith in
-    rw e (sets-sets (set l i x) (suc i) xs ys)
 
 -- marking one list and then another is marking both
 pub extended-then : {ks js flags queue : List ℕ} {tail : ℕ} {flags₁ queue₁ : List ℕ} {tail₁ : ℕ} {flags₂ queue₂ : List ℕ} {tail₂ : ℕ} → Extended ks flags queue tail flags₁ queue₁ tail₁ → Extended js flags₁ queue₁ tail₁ flags₂ queue₂ tail₂ → Extended (ks ++ js) flags queue tail flags₂ queue₂ tail₂
@@ -74,36 +70,6 @@ extended-new k flags queue tail h =
 
 -- ---- counting
 
-pub count-cong : (p q : ℕ → Bool) (m : ℕ) → ((k : ℕ) → k < m → p k ≡ q k) → countBelow p m ≡ countBelow q m
-count-cong p q zero h = refl
-count-cong p q (suc m) h =
-    let e : countBelow p m ≡ countBelow q m = count-cong p q m (λ k l. h k (omega arith)) in
-    let e′ : p m ≡ q m = h m (omega arith) in
-    rw (e, e′)
-
-pub count-le : (p : ℕ → Bool) (m : ℕ) → countBelow p m ≤ m
-count-le p zero = omega arith
-count-le p (suc m) = go (p m) (count-le p m)
-  where
-    go : (b : Bool) → countBelow p m ≤ m → countBelow p m + cond b 1 0 ≤ suc m
-    go true h = omega arith
-    go false h = omega arith
-
--- a number that fails and would pass makes one more
-count-more : (p q : ℕ → Bool) (m k : ℕ) → k < m → p k ≡ false → q k ≡ true → ((j : ℕ) → (j ≡ k → ⊥) → p j ≡ q j) → countBelow q m ≡ suc (countBelow p m)
-count-more p q zero k l pf qt h = absurd (not-suc-le-zero l)
-count-more p q (suc m) k l pf qt h = ⊎-elim at (λ ne. before ne (count-more p q m k (omega arith) pf qt h)) (eq-or-ne m k)
-  where
-    at : m ≡ k → countBelow q (suc m) ≡ suc (countBelow p (suc m))
-    at e =
-        let eq : countBelow q m ≡ countBelow p m = sym (count-cong p q m (λ j jl. h j (λ je. omega arith))) in
-        let pm : p m ≡ false = rw e pf in
-        let qm : q m ≡ true = rw e qt in
-        rw (eq, pm, qm) (omega arith)
-
-    before : (m ≡ k → ⊥) → countBelow q m ≡ suc (countBelow p m) → countBelow q (suc m) ≡ suc (countBelow p (suc m))
-    before ne e = let em : p m ≡ q m = h m ne in rw (e, em) (omega arith)
-
 isSet : List ℕ → ℕ → Bool
 isSet flags k = not (eqb (getD flags k 0) 0)
 
@@ -125,7 +91,7 @@ set-old flags k j h = ⊎-elim at other (eq-or-ne j k)
 
 count-old : (flags : List ℕ) (k m : ℕ) → (getD flags k 0 ≡ 0 → ⊥) → setFlags flags m ≡ setFlags (set flags k 1) m
 unfolding setFlags isSet
-count-old flags k m h = count-cong (isSet flags) (isSet (set flags k 1)) m (λ j jl. set-old flags k j h)
+count-old flags k m h = countBelow-ext (isSet flags) (isSet (set flags k 1)) m (λ j jl. set-old flags k j h)
 
 -- one more flag is set
 pub set-new : (flags : List ℕ) (k m : ℕ) → k < m → m ≤ length flags → getD flags k 0 ≡ 0 → setFlags (set flags k 1) m ≡ suc (setFlags flags m)
@@ -134,14 +100,14 @@ set-new flags k m l fits h =
     let before : isSet flags k ≡ false = rw (eq-eqb (getD flags k 0) 0 h) refl in
     let inside : k < length flags = omega arith in
     let after : isSet (set flags k 1) k ≡ true = rw (getD-set-same flags k 1 0 inside) refl in
-    count-more (isSet flags) (isSet (set flags k 1)) m k l before after (λ j ne. rw (getD-set-other flags k j 1 0 ne) refl)
+    countBelow-one (isSet flags) (isSet (set flags k 1)) m k l before after (λ j ne. rw (getD-set-other flags k j 1 0 ne) refl)
 
 -- there is room in the queue for a gate that is not marked
 pub room-below : {m : ℕ} {flags queue : List ℕ} {tail : ℕ} (k : ℕ) → Room m flags queue tail → k < m → getD flags k 0 ≡ 0 → tail < m
 unfolding setFlags
 room-below {m} {flags} {queue} {tail} k r l h =
     let more : setFlags (set flags k 1) m ≡ suc (setFlags flags m) = set-new flags k m l (r .flagRoom) h in
-    let most : setFlags (set flags k 1) m ≤ m = count-le (λ j. not (eqb (getD (set flags k 1) j 0) 0)) m in
+    let most : setFlags (set flags k 1) m ≤ m = countBelow-le (λ j. not (eqb (getD (set flags k 1) j 0) 0)) m in
     let same : setFlags flags m ≡ tail = r .counted in
     omega arith
 
@@ -204,10 +170,6 @@ word-none n m w (inr hi) = go (leb n w)
     go : (b : Bool) → cond (b && ltb w (n + m)) ((w - n) ∷ []) [] ≡ []
     go true = rw (le-ltb w (n + m) hi) refl
     go false = refl
-
-pub joined-append : (xs ys : List (List ℕ)) → joined (xs ++ ys) ≡ joined xs ++ joined ys
-joined-append [] ys = refl
-joined-append (x ∷ xs) ys = ap (λ (r : List ℕ). x ++ r) (joined-append xs ys) ∙ sym (append-assoc x (joined xs) (joined ys))
 
 -- one operand word more
 pub words-more : (ws : List ℕ) (n m at i : ℕ) → wordGates ws n m at (suc i) ≡ wordGates ws n m at i ++ wordGate n m (getD ws (at + 1 + i) 0)

@@ -15,10 +15,11 @@ use borrow.Author.Tests.{eqb-true, eqb-false, eq-eqb, ne-eqb, ltb-true}
 use Rattle.laws.specs.Lists.{all, any, member}
 use Rattle.laws.proofs.Tests.{eq-or-ne, lt-or-le, and-left, and-right, or-cases, or-left, or-right}
 use Rattle.laws.proofs.Quantifiers.{member-at, member-from, all-at}
+use Rattle.laws.proofs.Counting.{countBelow-le}
 use Rattle.netlist.specs.Netlist.{Block}
 use Rattle.netlist.specs.Groups.{Path, stay, step, reads, readBy}
 use Rattle.search.specs.Search.{marked, fresh, setFlags, Room, Extended, Searching, Reached}
-use Rattle.search.proofs.Marking.{room-kept, count-le, set-new}
+use Rattle.search.proofs.Marking.{room-kept, set-new}
 
 -- ---- what marking a list does to a flag
 
@@ -96,7 +97,7 @@ sets-at l i (x ∷ xs) (suc p) h fits =
 -- the queue never passes m
 pub room-tail : {m : ℕ} {flags queue : List ℕ} {tail : ℕ} → Room m flags queue tail → tail ≤ m
 unfolding setFlags
-room-tail {m} {flags} r = subst (λ (t : ℕ). t ≤ m) (r .counted) (count-le (λ k. not (eqb (getD flags k 0) 0)) m)
+room-tail {m} {flags} r = subst (λ (t : ℕ). t ≤ m) (r .counted) (countBelow-le (λ k. not (eqb (getD flags k 0) 0)) m)
 
 one-of : {a : ℕ} → a ≡ 0 → a ≡ 1 → ⊥
 one-of z o = let e : _≡_ {A = ℕ} 0 1 = sym z ∙ o in omega arith

@@ -12,18 +12,13 @@ use Rattle.netlist.specs.StoredBlock.{decode, torn, gatesAt, gateSize}
 use Rattle.netlist.specs.Rounds.{evaluated, round}
 use Rattle.encoding.proofs.Decoded.{decode-gateCount}
 use Rattle.encoding.proofs.Readers.{whole-gate}
-use Rattle.rounds.proofs.Values.{valueOf-code}
+use Rattle.rounds.proofs.Values.{values-codes}
 use Rattle.ternary.specs.Legal.{LegalHead}
 use Rattle.simulate.specs.Rounded.{gateCode, roundCodes}
 
 -- the gates of a block that is not torn have legal head words
 pub legal-head : (ws : List ℕ) (j : ℕ) → torn ws ≡ false → j < getD ws 1 0 → LegalHead ws (gatesAt (getD ws 0 0) + gateSize * j)
 legal-head ws j h l = let head = whole-gate ws h j l in record { kind = head .known; count = head .arity }
-
--- the codes of a state stand for it
-pub values-codes : (s : List Value) → map valueOf (map code s) ≡ s
-values-codes [] = refl
-values-codes (v ∷ s) = rw (valueOf-code v, values-codes s)
 
 module _ (ws setting values : List ℕ) where
   -- a round's codes, gate by gate

@@ -1,6 +1,6 @@
 -- How a loop fills the beginning of a slice, one element a turn. Assumes nothing.
 use mathlib.Core.Path.{_≡_, refl, sym, ap, _∙_}
-use mathlib.Core.Bool.{Bool, true, false, not, _&&_}
+use mathlib.Core.Bool.{Bool, true, false, not, _&&_, and-true, and-false}
 use mathlib.Core.List.{List, [], _∷_, _++_}
 use Prim.Native.Nat.{ℕ, _+_, _<_}
 use native.Mathlib.Numerals.{add-one}
@@ -10,7 +10,6 @@ use lib.Seq.{take-suc, length-take-le}
 use borrow.Author.Tests.{eq-eqb, ne-eqb}
 use lib.ListN.{length, getD, take, set, length-append, length-set}
 use Rattle.laws.specs.Lists.{same, placed}
-use Rattle.ternary.proofs.ListFacts.{and-true, and-false}
 use Rattle.simulate.proofs.ListFacts.{set-placed, getD-placed, same-more}
 
 -- the first j elements are those of xs, the rest is as at entry

@@ -1,6 +1,6 @@
 -- A list placed over the beginning of another, and filled element by element; sameness of two lists that grow. Assumes nothing.
 use mathlib.Core.Path.{_≡_, refl, sym, ap, _∙_}
-use mathlib.Core.Bool.{Bool, true, false, _&&_}
+use mathlib.Core.Bool.{Bool, true, false, _&&_, and-true}
 use mathlib.Core.List.{List, [], _∷_, _++_, map, append-assoc}
 use Prim.Native.Nat.{ℕ, zero, suc, _+_, _-_, _≤_, _<_}
 use native.Mathlib.Numerals.{add-one}
@@ -9,7 +9,6 @@ use lib.ListN.{length, getD, take, drop, set, replicate, length-append, length-d
 use lib.Dec.{eqb}
 use lib.Seq.{set-at, getD-at, drop-cons, drop-at, take-at}
 use Rattle.laws.specs.Lists.{same, placed}
-use Rattle.ternary.proofs.ListFacts.{and-true}
 
 module _ {A : Type 0} where
   pub length-placed : (xs entry : List A) → length xs ≤ length entry → length (placed xs entry) ≡ length entry

@@ -11,9 +11,9 @@ use Rattle.netlist.specs.StoredBlock.{decode}
 use Rattle.netlist.specs.Rendering.{sweep}
 use Rattle.encoding.proofs.Decoded.{decode-gateCount}
 use Rattle.rounds.proofs.Sweep.{length-sweep, getD-sweep}
+use Rattle.rounds.proofs.Values.{values-codes}
 use Rattle.simulate.specs.Rounded.{gateCode, sweepCodes}
 use Rattle.simulate.proofs.ListFacts.{take-placed, map-more}
-use Rattle.simulate.proofs.Codes.{values-codes}
 use Rattle.simulate.proofs.Filling.{Filling}
 
 module _ (ws setting : List ℕ) where

@@ -1,6 +1,6 @@
 -- What a row of the table says of a gate's operands, found operand by operand, over the row and the operand count. Assumes nothing.
 use mathlib.Core.Path.{_≡_, refl, sym}
-use mathlib.Core.Bool.{Bool, true, false, not}
+use mathlib.Core.Bool.{Bool, true, false, not, and-true, and-false}
 use mathlib.Core.List.{[], _∷_}
 use Prim.Native.Nat.{ℕ, suc, _+_, _-_, _≤_, _<_}
 use native.Mathlib.Numerals.{add-one}
@@ -12,7 +12,6 @@ use Rattle.laws.proofs.Quantifiers.{any-tab-from, any-append, all-append, all-a
 use Rattle.netlist.specs.declared.Row.{Row}
 use Rattle.netlist.specs.Values.{Value, code, valueOf, invert, defined}
 use Rattle.netlist.specs.Kinds.{rows, row, rowOf, ruled}
-use Rattle.ternary.proofs.ListFacts.{and-true, and-false}
 use Rattle.ternary.proofs.Codes.{code-low, defined-code, undefined-code}
 
 -- the operand has the controlling value

@@ -2,7 +2,7 @@
 use mathlib.Core.Path.{_≡_, refl, sym, ap, _∙_}
 use mathlib.Core.Bool.{Bool, true, false, cond, not}
 use mathlib.Core.List.{List, map}
-use Prim.Native.Nat.{ℕ, zero, suc, _+_, _^_, _≤_, _<_}
+use Prim.Native.Nat.{ℕ, _+_, _^_, _≤_, _<_}
 use native.Mathlib.Omega.{arith}
 use native.Mathlib.Numerals.{add-one}
 use lib.ListN.{length, getD, length-map, List·getD-map}
@@ -12,6 +12,7 @@ use Rattle.laws.proofs.Tests.{not-true-false, not-both}
 use Rattle.laws.proofs.Elements.{getD-defaults}
 use Rattle.laws.proofs.Quantifiers.{all-at, all-from}
 use Rattle.laws.proofs.Least.{least-le, least-below, least-is}
+use Rattle.laws.proofs.Counting.{countBelow-all, countBelow-le}
 use Rattle.netlist.specs.Values.{undefined, code, defined}
 use Rattle.netlist.specs.Netlist.{Block, inputCount}
 use Rattle.netlist.specs.Rounds.{settingCount, settledUnder, settledAt, settledSettings, lowestUnsettled}
@@ -55,13 +56,6 @@ not-false-true : (a : Bool) → not a ≡ false → a ≡ true
 not-false-true true h = refl
 not-false-true false h = sym h
 
-count-all : (p : ℕ → Bool) (n : ℕ) → ((i : ℕ) → i < n → p i ≡ true) → countBelow p n ≡ n
-count-all p zero h = refl
-count-all p (suc n) h =
-    let e : countBelow p n ≡ n = count-all p n (λ i l. h i (omega arith)) in
-    let e′ : p n ≡ true = h n (omega arith) in
-    rw (e, e′) (omega arith)
-
 module _ (b : Block) where
   -- there are 2^n settings
   pub setting-count : (n count : ℕ) → n ≡ inputCount b → count ≡ 2 ^ n → count ≡ settingCount b
@@ -84,7 +78,7 @@ module _ (b : Block) where
   pub count-lowest : lowestUnsettled b ≡ countBelow (settledAt b) (lowestUnsettled b)
   unfolding lowestUnsettled
   count-lowest =
-      sym (count-all (settledAt b) (lowestUnsettled b)
+      sym (countBelow-all (settledAt b) (lowestUnsettled b)
       (λ i l. not-false-true (settledAt b i) (least-below (λ s. not (settledAt b s)) (settingCount b) i l)))
 
   pub flag-le : (s : ℕ) → settledFlag b s ≤ 1
@@ -96,9 +90,7 @@ module _ (b : Block) where
       go false = omega arith
 
   pub count-le : (s : ℕ) → countBelow (settledAt b) s ≤ s
-  unfolding settledFlag
-  count-le zero = omega arith
-  count-le (suc s) = omega (arith, count-le s, flag-le s)
+  count-le s = countBelow-le (settledAt b) s
 
   -- one setting more
   pub count-more : (s : ℕ) → countBelow (settledAt b) (s + 1) ≡ countBelow (settledAt b) s + settledFlag b s

@@ -10,8 +10,8 @@ use lib.ListN.{length, set, getD, take, length-append}
 use lib.Seq.{length-sets, set-out, take-suc, length-take-le}
 use Rattle.laws.specs.Lists.{tab, joined}
 use Rattle.laws.proofs.Tests.{eq-or-ne}
+use Rattle.laws.proofs.Lists.{sets-sets, joined-append}
 use Rattle.writing.specs.Pieces.{Appended, Short, pieces}
-use Rattle.writing.proofs.ListFacts.{sets-sets, joined-append}
 
 pub appended-none : (text : List ℕ) (at : ℕ) → Appended [] text at text at
 appended-none text at = record { textIs = refl; endIs = sym (add-zero at) }

@@ -1,5 +1,4 @@
 -- Mathematics of the written text; no function of src/ is named.
-pub mod ListFacts
 pub mod Appending
 pub mod TrimmedLaws
 pub mod DecimalLaws

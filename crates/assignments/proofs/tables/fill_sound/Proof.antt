@@ -6,8 +6,8 @@ use borrow.Author.Needs.{needs}
 use mathlib.Core.List.{List}
 use lib.ListN.{length, getD, length-set}
 use Rattle.laws.specs.Lists.{tab, placed}
+use Rattle.laws.proofs.Tab.{fill-next, placed-tab}
 use Rattle.assignments.specs.Tables.{settledBy, soundByte, soundTable}
-use Rattle.assignments.proofs.ListFacts.{fill-next, placed-at}
 use Rattle.assignments.proofs.tables.fill_sound.Statement.{statement}
 use Rattle.assignments.proofs.tables.fill_sound.Tie as tie
 
@@ -31,7 +31,7 @@ sound-at-requires c κs =
       room = omega arith;
       right = λ j l.
           ap (λ (xs : List ℕ). getD xs j 0) (loop .inv .2)
-          ∙ placed-at (soundByte (settledBy (args .settled .now)) (args .n)) (loop .k) (args .sound .now) j 0 l;
+          ∙ placed-tab (soundByte (settledBy (args .settled .now)) (args .n)) (loop .k) (args .sound .now) j 0 l;
     }
 
 slice-write-sound : tie.Need-slice-write-sound Inv-loop μ-loop
@@ -49,7 +49,7 @@ loop-again c =
     let loop = c .before .before .before .loop in (
       omega arith,
       simp length-set (loop .inv .1),
-      fill-next (soundByte (settledBy (args .settled .now)) (args .n)) (loop .k) (args .sound .now) (loop .inv .2) (c .sound-at .ensures) (omega arith),
+      fill-next (soundByte (settledBy (args .settled .now)) (args .n)) (loop .k) (args .sound .now) _ _ (loop .inv .2) (omega arith) (c .sound-at .ensures),
     )
 
 same-length : tie.Need-same-length Inv-loop μ-loop

@@ -6,11 +6,11 @@ use native.Mathlib.Omega.{arith}
 use borrow.Author.Needs.{needs}
 use lib.ListN.{length, length-set}
 use Rattle.laws.specs.Lists.{tab, placed}
+use Rattle.laws.proofs.Tab.{fill-next}
 use Rattle.netlist.specs.Limits.{maxInputs}
 use Rattle.assignments.specs.Tables.{weightOf, weightTable}
 use Rattle.assignments.proofs.Numbers.{weight-lt}
 use Rattle.assignments.proofs.Bounds.{two-fits, three-fits, shifted}
-use Rattle.assignments.proofs.ListFacts.{fill-next}
 use Rattle.assignments.proofs.tables.fill_weights.Statement.{statement}
 use Rattle.assignments.proofs.tables.fill_weights.Tie as tie
 
@@ -58,7 +58,7 @@ loop-again c = (
   c .before .before .loop .inv .1,
   simp length-set (c .before .before .loop .inv .2),
   fill-next (weightOf (c .before .before .before .before .args .n)) (c .before .before .loop .mask) (c .before .before .before .before .args .weights .now)
-      (c .before .before .loop .inv .3) (c .weight-of .ensures) (omega arith),
+      _ _ (c .before .before .loop .inv .3) (omega arith) (c .weight-of .ensures),
 )
 
 same-length : tie.Need-same-length Inv-loop μ-loop

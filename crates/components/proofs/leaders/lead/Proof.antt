@@ -5,11 +5,11 @@ use borrow.Author.Needs.{needs}
 use native.Mathlib.Omega.{arith}
 use lib.ListN.{length, length-set}
 use Rattle.laws.specs.Lists.{tab, placed}
+use Rattle.laws.proofs.Tab.{fill-next}
 use Rattle.netlist.specs.Netlist.{gateCount}
 use Rattle.netlist.specs.StoredBlock.{decode}
 use Rattle.components.specs.Leaders.{leaderOf}
 use Rattle.components.proofs.Sizes.{leader-found, leader-below, still-ready}
-use Rattle.components.proofs.ListFacts.{fill-next}
 use Rattle.components.proofs.leaders.lead.Statement.{statement}
 use Rattle.components.proofs.leaders.lead.Tie as tie
 

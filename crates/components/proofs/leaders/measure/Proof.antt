@@ -4,10 +4,10 @@ use mathlib.Core.Path.{_≡_, refl, _∙_}
 use native.Mathlib.Omega.{arith}
 use lib.ListN.{length, length-set}
 use Rattle.laws.specs.Lists.{tab, placed}
+use Rattle.laws.proofs.Tab.{fill-next}
 use Rattle.netlist.specs.StoredBlock.{decode}
 use Rattle.components.specs.Leaders.{reachSize}
 use Rattle.components.proofs.Sizes.{search-size, reachSize-le, still-ready}
-use Rattle.components.proofs.ListFacts.{fill-next}
 use Rattle.components.proofs.leaders.measure.Statement.{statement}
 use Rattle.components.proofs.leaders.measure.Tie as tie
 

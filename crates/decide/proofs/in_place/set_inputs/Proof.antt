@@ -5,9 +5,8 @@ use native.Mathlib.Omega.{arith}
 use native.Mathlib.Numerals.{add-one}
 use lib.ListN.{length, length-set}
 use Rattle.laws.specs.Lists.{tab, placed}
-use Rattle.laws.proofs.Tab.{set-placed-tab, length-tab}
+use Rattle.laws.proofs.Tab.{set-placed-tab, length-tab, placed-all}
 use Rattle.netlist.specs.Rounds.{bit}
-use Rattle.decide.proofs.ListFacts.{placed-all}
 use Rattle.decide.proofs.Bytes.{setting-bytes}
 use Rattle.decide.proofs.in_place.set_inputs.Statement.{statement}
 use Rattle.decide.proofs.in_place.set_inputs.Tie as tie

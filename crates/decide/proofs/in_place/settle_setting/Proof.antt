@@ -2,8 +2,8 @@
 use mathlib.Core.Path.{refl, _∙_}
 use lib.ListN.{length}
 use Rattle.netlist.specs.Rounds.{settingOf, settledUnder}
-use Rattle.decide.proofs.Bytes.{values-back}
 use borrow.Author.Needs.{needs}
+use Rattle.rounds.proofs.Values.{values-codes}
 use Rattle.decide.proofs.in_place.settle_setting.Statement.{statement}
 use Rattle.decide.proofs.in_place.settle_setting.Tie as tie
 
@@ -25,7 +25,7 @@ returns c =
     let s = c .before .before .before .before .before .before .before .before .before .before .before .before .before in
     let bits = c .before .before .before .before .before .before .before .set-inputs .ensures in
     c .before .before .settle-in-place .ensures
-    ∙ rw (bits, values-back (settingOf (length (s .args .inputs .now)) (s .args .s)), s .pre .inputRoom, s .pre .legible .inputs) refl
+    ∙ rw (bits, values-codes (settingOf (length (s .args .inputs .now)) (s .args .s)), s .pre .inputRoom, s .pre .legible .inputs) refl
 
 pub settle-setting-spec : {M : Type 1} → statement M
 settle-setting-spec =

@@ -8,9 +8,8 @@ use mathlib.Core.Logic.{⊎-elim}
 use Prim.Native.Nat.{_≤_, _<_}
 use native.Mathlib.Omega.{arith}
 use lib.ListN.{length, drop, getD}
+use Rattle.laws.proofs.Elements.{rest-is-drop, byte-there}
 use Rattle.form.specs.Scan.{scanOf, inputReader, gateReader, outputReader, lineReader, lineBehind}
-use Rattle.form.proofs.ListFacts.{rest-is-drop}
-use Rattle.form.proofs.First.{byte-there}
 use Rattle.form.proofs.LineChoice.{chosen-input, chosen-gate, chosen-output, line-bracket, line-none, letter-at}
 
 -- behind the opening bracket

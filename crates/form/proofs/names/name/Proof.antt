@@ -7,9 +7,9 @@ use mathlib.Core.Path.{sym, ap, _∙_, _≡_}
 use mathlib.Core.Bool.{true}
 use lib.ListN.{getD}
 use borrow.Author.Tests.{not-true, not-false}
+use Rattle.laws.proofs.Elements.{rest-is-drop}
 use Rattle.netlist.specs.Parse.{nameBytes}
 use Rattle.form.specs.Scan.{scanOf, firstByte}
-use Rattle.form.proofs.ListFacts.{rest-is-drop}
 use Rattle.form.proofs.Operands.{name-there, name-first, name-none}
 
 -- what the test of the first byte tells

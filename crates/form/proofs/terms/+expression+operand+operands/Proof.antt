@@ -29,16 +29,15 @@ use mathlib.Core.Bool.{false}
 use Prim.Native.Nat.{suc, _-_, _*_, _≤_}
 use native.Mathlib.Omega.{arith}
 use lib.ListN.{length, getD}
+use Rattle.laws.proofs.Elements.{rest-is-drop, byte-there}
 use Rattle.netlist.specs.StoredBlock.{nameStart}
 use Rattle.netlist.specs.Kinds.{mostOperands, fewestOperands}
 use Rattle.netlist.specs.Syntax.{Term, apply}
 use Rattle.netlist.specs.Parse.{nameBytes, termReader, termsReader, exprReader}
 use Rattle.form.specs.Scan.{scanOf}
-use Rattle.form.proofs.ListFacts.{rest-is-drop}
 use Rattle.form.proofs.Shortens.{shortens-term}
 use Rattle.form.proofs.Continues.{left-short}
 use Rattle.form.proofs.Chain.{At, lent-last, lent-rest, lent-last-length, lent-rest-length, then-bad, then-next, then-last, behind-first}
-use Rattle.form.proofs.First.{byte-there}
 use Rattle.form.proofs.Operands.{inner, start-there, operand-name, operand-0, operand-1, operand-inner, inner-deepest, inner-other, inner-expression}
 use Rattle.form.proofs.OperandLists.{operandThen, continues-operand, list-full, list-closed, list-needed, list-other, list-more, expression-kind, expression-none}
 

@@ -5,9 +5,9 @@ use Rattle.form.proofs.terms.kind_n.Statement.{statement}
 use Rattle.form.proofs.terms.kind_n.Tie as tie
 use mathlib.Core.Path.{sym, ap, _∙_}
 use native.Mathlib.Omega.{arith}
-use Rattle.form.proofs.First.{byte-there, byte-taken, byte-left}
+use Rattle.form.proofs.First.{byte-taken, byte-left}
 use Rattle.laws.specs.Lists.{ascii}
-use Rattle.form.proofs.ListFacts.{rest-is-drop}
+use Rattle.laws.proofs.Elements.{rest-is-drop, byte-there}
 use Rattle.netlist.specs.Parse.{stop}
 use Rattle.form.specs.Scan.{kindOf, kindWord, kindNo, kindN}
 

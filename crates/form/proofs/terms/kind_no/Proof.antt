@@ -5,8 +5,9 @@ use Rattle.form.proofs.terms.kind_no.Statement.{statement}
 use Rattle.form.proofs.terms.kind_no.Tie as tie
 use mathlib.Core.Path.{sym, ap, _∙_}
 use native.Mathlib.Omega.{arith}
-use Rattle.form.proofs.First.{byte-there, byte-taken, byte-left}
+use Rattle.form.proofs.First.{byte-taken, byte-left}
 use lib.ListN.{length-drop}
+use Rattle.laws.proofs.Elements.{byte-there}
 use Rattle.netlist.specs.Parse.{pure, stop}
 use Rattle.form.specs.declared.Kind.the-variants.{Is}
 use Rattle.form.specs.Scan.{kindOf, kindNo}
