@@ -31,7 +31,7 @@ use Rattle.render.specs.Promise.{portOf, Renders, RenderPromise}
 use Rattle.render.proofs.Cases.{renderBy, render-by}
 
 -- what is rendered when the block is whole, sound, and has few enough copies
-rendered-so : (ws : List ℕ) → torn ws ≡ false → copyCount (decode ws) ≤ maxCopies → sound (decode ws) ≡ true → Renders ws (encode (rendering (decode ws)))
+pub rendered-so : (ws : List ℕ) → torn ws ≡ false → copyCount (decode ws) ≤ maxCopies → sound (decode ws) ≡ true → Renders ws (encode (rendering (decode ws)))
 unfolding portOf
 rendered-so ws t m s =
     let w : wellFormed (decode ws) ≡ true = whole-wellFormed ws t in

@@ -9,7 +9,7 @@ ghost use Rattle.netlist.specs.Answers.{answerOf, leftIn};
 ghost use Rattle.netlist.specs.Operations.{write};
 
 mod lines;
-mod pieces;
+pub mod pieces;
 
 // Write (6, 11). The first pass is over a text of one byte, and only measures.
 pub fn write(words: &[u16], text: &mut [u8]) -> Answer

@@ -96,7 +96,7 @@ pub fn put_name(text: &mut [u8], at: usize, words: &[u16], from: usize) -> usize
 }
 
 // The decimal digits of a number.
-fn put_decimal(text: &mut [u8], at: usize, v: usize) -> usize
+pub fn put_decimal(text: &mut [u8], at: usize, v: usize) -> usize
     requires { ⌜ Short (decimal v) at ⌝ }
     ensures { λ r. ⌜ Appended (decimal v) (now (text .entry)) at (now (text .exit)) r ⌝ }
 {

@@ -1,0 +1,58 @@
+-- If the program writes a text, it is faithful: from Render's promise and the round trip of Write and Read. Assumes nothing.
+use mathlib.Core.Path.{_≡_, refl, sym, ap, _∙_}
+use mathlib.Core.Bool.{Bool, true, false, not}
+use mathlib.Core.List.{List}
+use Prim.Native.Nat.{ℕ}
+use native.Mathlib.Omega.{arith}
+use lib.Dec.{ltb}
+use borrow.Author.Tests.{ltb-false}
+use Rattle.netlist.specs.declared.Refusal.the-variants.{MalformedBlock, TooManyCopies, NotSettled}
+use Rattle.netlist.specs.Limits.{maxCopies}
+use Rattle.netlist.specs.StoredBlock.{encode, decode, torn}
+use Rattle.netlist.specs.Rounds.{lowestUnsettled}
+use Rattle.netlist.specs.Cover.{sound}
+use Rattle.netlist.specs.Groups.{copyCount}
+use Rattle.netlist.specs.Rendering.{rendering}
+use Rattle.netlist.specs.Writing.{writtenText}
+use Rattle.netlist.specs.Answers.{Outcome, done, refused, refuseIf}
+use Rattle.netlist.specs.Operations.{counted, reading, renderBlock, rendered, written}
+use Rattle.netlist.specs.Program.{chained, shown, unloop}
+use Rattle.grammar.proofs.RoundTrip.{reading-written-words}
+use Rattle.render.specs.Promise.{Renders}
+use Rattle.render.proofs.Promise.{rendered-so}
+use Rattle.convert.specs.EndToEnd.{Wrote, Faithful}
+
+written-whole : (ws : List ℕ) → torn ws ≡ false → written ws ≡ counted (writtenText (decode ws))
+unfolding written refuseIf
+written-whole ws h = rw h refl
+
+module _ (text ws : List ℕ) (count detail : ℕ) (e : reading text ≡ done ws count detail) where
+  faithful : Renders ws (encode (rendering (decode ws))) → rendered ws ≡ counted (encode (rendering (decode ws))) → Faithful text
+  unfolding unloop chained shown counted
+  faithful r is =
+      let out = encode (rendering (decode ws)) in
+      let w : unloop text ≡ writtenText (decode out) = rw (e, is, written-whole out (r .notTorn)) refl in
+      record {
+        block = ws;
+        copies = out;
+        count = count;
+        detail = detail;
+        reads = e;
+        readsBack = ap reading w ∙ reading-written-words out (r .notTorn);
+        renders = r;
+      }
+
+  by-tests : (t m s : Bool) → torn ws ≡ t → ltb maxCopies (copyCount (decode ws)) ≡ m → sound (decode ws) ≡ s → Wrote (chained (refuseIf t MalformedBlock (refuseIf m TooManyCopies (refuseIf (not s) (NotSettled (lowestUnsettled (decode ws))) (counted (encode (rendering (decode ws))))))) written) → Faithful text
+  unfolding rendered renderBlock refuseIf chained Wrote
+  by-tests true m s et em es h = absurd h
+  by-tests false true s et em es h = absurd h
+  by-tests false false false et em es h = absurd h
+  by-tests false false true et em es h = faithful (rendered-so ws et (ltb-false maxCopies (copyCount (decode ws)) em) es) (rw (et, em, es) refl)
+
+pub end-to-end : (text : List ℕ) → Wrote (chained (chained (reading text) rendered) written) → Faithful text
+unfolding rendered renderBlock chained Wrote
+end-to-end text h = go (reading text) refl h
+  where
+    go : (o : Outcome) → reading text ≡ o → Wrote (chained (chained o rendered) written) → Faithful text
+    go (done ws count detail) e w = by-tests text ws count detail e (torn ws) (ltb maxCopies (copyCount (decode ws))) (sound (decode ws)) refl refl refl w
+    go (refused r) e w = absurd w

@@ -1,0 +1,57 @@
+-- `convert::convert_rendered` meets its contract. Assumes nothing.
+use borrow.Author.Needs.{needs}
+use Rattle.convert.proofs.convert_rendered.Statement.{statement}
+use Rattle.convert.proofs.convert_rendered.Tie as tie
+use lib.ListN.{length}
+use Rattle.netlist.specs.Operations.{write, written}
+use Rattle.convert.proofs.Telling.{told-refused, kept-refused, told-done, shown-refused, shown-gave}
+use Rattle.convert.proofs.Sizes.{write-fits}
+
+write-requires : tie.Need-write-requires
+write-requires c κs = search needs
+
+enum-known-why : tie.Need-enum-known-why
+enum-known-why c = search needs
+
+tell-requires : tie.Need-tell-requires
+tell-requires c κs = search needs
+
+enum-known-count : tie.Need-enum-known-count
+enum-known-count c = search needs
+
+same-length : tie.Need-same-length
+same-length c = search needs
+
+returns : tie.Need-returns
+unfolding write
+returns c = let a = c .before .before .before .before .before .before .before .before .before .before .before .before .before .args in
+    let o = written (a .words .now) in
+    let f = write-fits (length (a .out .now)) (c .before .before .before .before .before .before .before .before .before .before .before .before .before .pre) (a .words .now) in
+    let e = c .before .before .before .before .before .before .before .before .before .write .ensures in
+    shown-refused o (c .before .before .before .before .before .why .given .0 .0) (a .out .now) _ _ _
+    (told-refused o _ (a .out .now) _ f (e .0) (e .1) (c .before .before .before .before .before .why .given .0 .0) (c .before .before .before .before .before .why .given .1))
+    (kept-refused o _ (a .out .now) _ f (e .0) (e .1) (c .before .before .before .before .before .why .given .0 .0) (c .before .before .before .before .before .why .given .1)) (c .before .before .tell .ensures)
+
+same-length-2 : tie.Need-same-length-2
+same-length-2 c = search needs
+
+returns-2 : tie.Need-returns-2
+unfolding write
+returns-2 c = let a = c .before .before .before .before .before .before .before .before .before .args in
+    let o = written (a .words .now) in
+    let f = write-fits (length (a .out .now)) (c .before .before .before .before .before .before .before .before .before .pre) (a .words .now) in
+    let e = c .before .before .before .before .before .write .ensures in
+    shown-gave (told-done o _ (a .out .now) _ f (e .0) (e .1) (c .before .count .given .0 .0) (c .before .count .given .0 .1 .0) (c .before .count .given .1))
+
+pub convert-rendered-spec : {M : Type 1} → statement M
+convert-rendered-spec =
+    tie.close
+    (tie.spec
+    write-requires
+    enum-known-why
+    tell-requires
+    enum-known-count
+    same-length
+    returns
+    same-length-2
+    returns-2)

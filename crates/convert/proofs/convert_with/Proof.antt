@@ -1,0 +1,79 @@
+-- `convert::convert_with` meets its contract. Assumes nothing.
+use mathlib.Core.Path.{sym}
+use borrow.Author.Needs.{needs}
+use Rattle.convert.proofs.convert_with.Statement.{statement}
+use Rattle.convert.proofs.convert_with.Tie as tie
+use lib.ListN.{length}
+use Rattle.netlist.specs.Operations.{read, reading}
+use Rattle.convert.proofs.Telling.{told-refused, told-done, gave-within, unloop-refused, unloop-gave}
+use Rattle.convert.proofs.Sizes.{read-fits}
+use lib.Seq.{length-take-le}
+
+read-requires : tie.Need-read-requires
+read-requires c κs = search needs
+
+enum-known-why : tie.Need-enum-known-why
+enum-known-why c = search needs
+
+tell-requires : tie.Need-tell-requires
+tell-requires c κs = search needs
+
+enum-known-count : tie.Need-enum-known-count
+enum-known-count c = search needs
+
+slice-reshare-prefix-convert-block : tie.Need-slice-reshare-prefix-convert-block
+unfolding read
+slice-reshare-prefix-convert-block c = gave-within (told-done (reading (c .before .before .before .before .before .before .before .before .before .before .before .args .text .now)) _ (c .before .before .before .before .before .before .before .before .before .before .before .args .block .now) _ (read-fits (length (c .before .before .before .before .before .before .before .before .before .before .before .args .block .now)) (c .before .before .before .before .before .before .before .before .before .before .before .pre .0) (c .before .before .before .before .before .before .before .before .before .before .before .args .text .now)) (c .before .before .before .before .before .read .ensures .0) (c .before .before .before .before .before .read .ensures .1) (c .before .count .given .0 .0) (c .before .count .given .0 .1 .0) (c .before .count .given .1))
+
+slice-aggregate-convert-block : tie.Need-slice-aggregate-convert-block
+unfolding read
+slice-aggregate-convert-block c = sym (length-take-le _ _ (gave-within (told-done (reading (c .before .before .before .before .before .before .before .before .before .before .before .before .args .text .now)) _ (c .before .before .before .before .before .before .before .before .before .before .before .before .args .block .now) _ (read-fits (length (c .before .before .before .before .before .before .before .before .before .before .before .before .args .block .now)) (c .before .before .before .before .before .before .before .before .before .before .before .before .pre .0) (c .before .before .before .before .before .before .before .before .before .before .before .before .args .text .now)) (c .before .before .before .before .before .before .read .ensures .0) (c .before .before .before .before .before .before .read .ensures .1) (c .before .before .count .given .0 .0) (c .before .before .count .given .0 .1 .0) (c .before .before .count .given .1))))
+
+convert-block-requires : tie.Need-convert-block-requires
+convert-block-requires c κs = search needs
+
+same-length : tie.Need-same-length
+same-length c = search needs
+
+same-length-2 : tie.Need-same-length-2
+same-length-2 c = search needs
+
+returns : tie.Need-returns
+unfolding read
+returns c = let a = c .before .before .before .before .before .before .before .before .before .before .before .before .before .before .before .args in
+    let o = reading (a .text .now) in
+    let f = read-fits (length (a .block .now)) (c .before .before .before .before .before .before .before .before .before .before .before .before .before .before .before .pre .0) (a .text .now) in
+    unloop-refused (a .text .now) (c .before .before .before .before .before .why .given .0 .0) (told-refused o _ (a .block .now) _ f (c .before .before .before .before .before .before .before .before .before .read .ensures .0) (c .before .before .before .before .before .before .before .before .before .read .ensures .1) (c .before .before .before .before .before .why .given .0 .0) (c .before .before .before .before .before .why .given .1)) (c .before .before .tell .ensures)
+
+same-length-3 : tie.Need-same-length-3
+same-length-3 c = search needs
+
+same-length-4 : tie.Need-same-length-4
+same-length-4 c = search needs
+
+same-length-5 : tie.Need-same-length-5
+same-length-5 c = search needs
+
+returns-2 : tie.Need-returns-2
+unfolding read
+returns-2 c = let g = told-done (reading (c .before .before .before .before .before .before .before .before .before .before .before .before .before .before .before .before .before .before .before .args .text .now)) _ (c .before .before .before .before .before .before .before .before .before .before .before .before .before .before .before .before .before .before .before .args .block .now) _ (read-fits (length (c .before .before .before .before .before .before .before .before .before .before .before .before .before .before .before .before .before .before .before .args .block .now)) (c .before .before .before .before .before .before .before .before .before .before .before .before .before .before .before .before .before .before .before .pre .0) (c .before .before .before .before .before .before .before .before .before .before .before .before .before .before .before .before .before .before .before .args .text .now)) (c .before .before .before .before .before .before .before .before .before .before .before .before .before .read .ensures .0) (c .before .before .before .before .before .before .before .before .before .before .before .before .before .read .ensures .1) (c .before .before .before .before .before .before .before .before .before .count .given .0 .0) (c .before .before .before .before .before .before .before .before .before .count .given .0 .1 .0) (c .before .before .before .before .before .before .before .before .before .count .given .1) in
+    unloop-gave (c .before .before .before .before .before .before .before .before .before .before .before .before .before .before .before .before .before .before .before .args .text .now) g (c .before .before .before .before .convert-block .ensures)
+
+pub convert-with-spec : {M : Type 1} → statement M
+convert-with-spec =
+    tie.close
+    (tie.spec
+    read-requires
+    enum-known-why
+    tell-requires
+    enum-known-count
+    slice-reshare-prefix-convert-block
+    slice-aggregate-convert-block
+    convert-block-requires
+    same-length
+    same-length-2
+    returns
+    same-length-3
+    same-length-4
+    same-length-5
+    returns-2)

@@ -1,0 +1,66 @@
+-- `convert::refusal::tell` meets its contract: its five pieces, one after the other. Assumes nothing.
+use borrow.Author.Needs.{needs}
+use Rattle.convert.proofs.refusal.tell.Statement.{statement}
+use Rattle.convert.proofs.refusal.tell.Tie as tie
+use Rattle.writing.proofs.Appending.{appended-then, short-first, short-rest}
+use Rattle.convert.proofs.Lines.{toldLine, told-short, line-told}
+
+number-of-requires : tie.Need-number-of-requires
+number-of-requires c κs = search needs
+
+detail-of-requires : tie.Need-detail-of-requires
+detail-of-requires c κs = search needs
+
+slice-aggregate-put-all : tie.Need-slice-aggregate-put-all
+slice-aggregate-put-all c = search needs
+
+put-all-requires : tie.Need-put-all-requires
+put-all-requires c κs = search needs
+
+put-decimal-requires : tie.Need-put-decimal-requires
+unfolding toldLine
+put-decimal-requires c κs = short-first _ (short-rest _ (told-short (c .before .before .before .before .before .before .before .number-of .ok) (c .before .before .before .before .before .before .detail-of .ok)) (c .before .before .before .put-all .ensures))
+
+slice-aggregate-put-all-2 : tie.Need-slice-aggregate-put-all-2
+slice-aggregate-put-all-2 c = search needs
+
+put-all-requires-2 : tie.Need-put-all-requires-2
+unfolding toldLine
+put-all-requires-2 c κs = short-first _ (short-rest _ (short-rest _ (told-short (c .before .before .before .before .before .before .before .before .before .before .before .before .number-of .ok) (c .before .before .before .before .before .before .before .before .before .before .before .detail-of .ok)) (c .before .before .before .before .before .before .before .before .put-all .ensures)) (c .before .before .before .before .put-decimal .ensures))
+
+put-decimal-requires-2 : tie.Need-put-decimal-requires-2
+unfolding toldLine
+put-decimal-requires-2 c κs = short-first _ (short-rest _ (short-rest _ (short-rest _ (told-short (c .before .before .before .before .before .before .before .before .before .before .before .before .before .before .before .before .number-of .ok) (c .before .before .before .before .before .before .before .before .before .before .before .before .before .before .before .detail-of .ok)) (c .before .before .before .before .before .before .before .before .before .before .before .before .put-all .ensures)) (c .before .before .before .before .before .before .before .before .put-decimal .ensures)) (c .before .before .before .put-all2 .ensures))
+
+slice-aggregate-put-all-3 : tie.Need-slice-aggregate-put-all-3
+slice-aggregate-put-all-3 c = search needs
+
+put-all-requires-3 : tie.Need-put-all-requires-3
+unfolding toldLine
+put-all-requires-3 c κs = short-rest _ (short-rest _ (short-rest _ (short-rest _ (told-short (c .before .before .before .before .before .before .before .before .before .before .before .before .before .before .before .before .before .before .before .before .before .number-of .ok) (c .before .before .before .before .before .before .before .before .before .before .before .before .before .before .before .before .before .before .before .before .detail-of .ok)) (c .before .before .before .before .before .before .before .before .before .before .before .before .before .before .before .before .before .put-all .ensures)) (c .before .before .before .before .before .before .before .before .before .before .before .before .before .put-decimal .ensures)) (c .before .before .before .before .before .before .before .before .put-all2 .ensures)) (c .before .before .before .before .put-decimal2 .ensures)
+
+same-length : tie.Need-same-length
+same-length c = search needs
+
+returns : tie.Need-returns
+unfolding toldLine
+returns c = let a = c .before .before .before .before .before .before .before .before .before .before .before .before .before .before .before .before .before .before .before .before .before .before .before .before .before .before .args in
+    line-told (a .why) (a .out .now) _ _ (c .before .before .before .before .before .before .before .before .before .before .before .before .before .before .before .before .before .before .before .before .before .before .before .before .before .before .pre) (c .before .before .before .before .before .before .before .before .before .before .before .before .before .before .before .before .before .before .before .before .before .before .before .before .number-of .ensures) (c .before .before .before .before .before .before .before .before .before .before .before .before .before .before .before .before .before .before .before .before .before .before .before .detail-of .ensures) (c .before .before .before .before .before .before .before .before .before .before .before .before .before .before .before .before .before .before .before .before .before .before .before .before .number-of .ok) (c .before .before .before .before .before .before .before .before .before .before .before .before .before .before .before .before .before .before .before .before .before .before .before .detail-of .ok)
+    (appended-then (c .before .before .before .before .before .before .before .before .before .before .before .before .before .before .before .before .before .before .before .before .put-all .ensures) (appended-then (c .before .before .before .before .before .before .before .before .before .before .before .before .before .before .before .before .put-decimal .ensures) (appended-then (c .before .before .before .before .before .before .before .before .before .before .before .put-all2 .ensures) (appended-then (c .before .before .before .before .before .before .before .put-decimal2 .ensures) (c .before .before .put-all3 .ensures)))))
+
+pub tell-spec : {M : Type 1} → statement M
+tell-spec =
+    tie.close
+    (tie.spec
+    number-of-requires
+    detail-of-requires
+    slice-aggregate-put-all
+    put-all-requires
+    put-decimal-requires
+    slice-aggregate-put-all-2
+    put-all-requires-2
+    put-decimal-requires-2
+    slice-aggregate-put-all-3
+    put-all-requires-3
+    same-length
+    returns)

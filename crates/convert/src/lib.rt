@@ -1,0 +1,57 @@
+// What the program writes: Read, Render and Write one after the other, or the line of the refusal (document 01, "The program").
+use netlist::Answer;
+use reading::read;
+use refusal::tell;
+use render::render;
+use writing::write;
+ghost use mathlib.Core.Path.{_≡_};
+ghost use Prim.Native.Nat.{_≤_};
+ghost use lib.ListN.{length};
+ghost use Rattle.netlist.specs.Operations.{reading, rendered, written};
+ghost use Rattle.netlist.specs.Program.{chained, unloop};
+ghost use Rattle.convert.specs.Shown.{maxWords, maxWritten, Shown, Converted};
+
+mod refusal;
+
+// Write, or its refusal.
+fn convert_rendered(words: &[u16], out: &mut [u8]) -> usize
+    requires { ⌜ maxWritten ≤ length (now out) ⌝ }
+    ensures { λ r. ⌜ Shown (written (now (words .entry))) (now (out .entry)) (now (out .exit)) r ⌝ }
+{
+    match write(words, out) {
+        Answer::Refused(why) => tell(why, out),
+        Answer::Done { count, detail: _ } => count,
+    }
+}
+
+// Render and what follows, or the refusal.
+fn convert_block(words: &[u16], copies: &mut [u16], out: &mut [u8]) -> usize
+    requires { ⌜ (maxWords ≤ length (now copies)) × (maxWritten ≤ length (now out)) ⌝ }
+    ensures { λ r. ⌜ Shown (chained (rendered (now (words .entry))) written) (now (out .entry)) (now (out .exit)) r ⌝ }
+{
+    match render(words, copies) {
+        Answer::Refused(why) => tell(why, out),
+        Answer::Done { count, detail: _ } => convert_rendered(&copies[..count], out),
+    }
+}
+
+// Read and what follows, or the refusal.
+fn convert_with(text: &[u8], block: &mut [u16], copies: &mut [u16], out: &mut [u8]) -> usize
+    requires { ⌜ (maxWords ≤ length (now block)) × (maxWords ≤ length (now copies)) × (maxWritten ≤ length (now out)) ⌝ }
+    ensures { λ r. ⌜ Converted (now (text .entry)) (now (out .entry)) (now (out .exit)) r ⌝ }
+{
+    match read(text, block) {
+        Answer::Refused(why) => tell(why, out),
+        Answer::Done { count, detail: _ } => convert_block(&block[..count], copies, out),
+    }
+}
+
+// The program's output for this text, at the start of `out`; answers its length.
+pub fn convert(text: &[u8], out: &mut [u8]) -> usize
+    requires { ⌜ maxWritten ≤ length (now out) ⌝ }
+    ensures { λ r. ⌜ Converted (now (text .entry)) (now (out .entry)) (now (out .exit)) r ⌝ }
+{
+    let mut block = [0u16; 5243];
+    let mut copies = [0u16; 5243];
+    convert_with(text, &mut block, &mut copies, out)
+}
