@@ -1,18 +1,14 @@
 -- A refusal's line is short. Cited by `tell`. Assumes nothing.
 use mathlib.Core.Path.{_≡_, refl, ap, _∙_}
-use mathlib.Core.Logic.{_⊎_, ⊎-elim}
+use mathlib.Core.Logic.{⊎-elim}
 use mathlib.Core.List.{List, [], _∷_, _++_}
 use Prim.Native.Nat.{ℕ, zero, suc, _+_, _*_, _^_, _/_, _%_, _≤_, _<_}
 use native.Mathlib.Nat.{pow-suc, zero-add}
 use native.Mathlib.Omega.{arith}
-use types.Run.{OneOf, miss}
-use denote.Enum.Declared.{tagOf}
 use lib.ListN.{length, length-append}
 use Rattle.laws.specs.Lists.{ascii, placed}
 use Rattle.laws.proofs.Tests.{lt-or-le}
 use Rattle.netlist.specs.declared.Refusal.{Refusal}
-use Rattle.netlist.specs.declared.Refusal.the-variants.{TextTooLong, SyntaxError, OverLimit, DuplicateDeclaration, UndeclaredName, MalformedBlock, BadSetting, TooManyCopies, NotSettled, NotStraight, NoRoom}
-use Rattle.netlist.proofs.Refusal.{the-type}
 use Rattle.netlist.specs.Writing.{decimal}
 use Rattle.netlist.specs.Answers.{refused, refusalNumber, refusalDetail}
 use Rattle.netlist.specs.Program.{refusalLine, shown}
@@ -59,21 +55,3 @@ line-told r entry exit end {number} {detail} room e f n d a =
       textIs = a .textIs ∙ stored-front (toldLine number detail) entry (omega (arith, line-length n d, room)) ∙ ap (λ (l : List ℕ). placed l entry) is;
       countIs = a .endIs ∙ rw (zero-add) (ap length is);
     }
-
--- the tags of the refusals that tell no place and no setting
-abbrev plain : List ℕ
-plain = 0 ∷ 2 ∷ 5 ∷ 6 ∷ 7 ∷ 9 ∷ 10 ∷ []
-
-pub detail-none : (r : Refusal) → OneOf plain (tagOf the-type r) → 0 ≡ refusalDetail r
-unfolding refusalDetail
-detail-none TextTooLong k = refl
-detail-none (SyntaxError p) k = absurd (miss plain 1 tt k)
-detail-none OverLimit k = refl
-detail-none (DuplicateDeclaration p) k = absurd (miss plain 3 tt k)
-detail-none (UndeclaredName p) k = absurd (miss plain 4 tt k)
-detail-none MalformedBlock k = refl
-detail-none BadSetting k = refl
-detail-none TooManyCopies k = refl
-detail-none (NotSettled p) k = absurd (miss plain 8 tt k)
-detail-none NotStraight k = refl
-detail-none NoRoom k = refl

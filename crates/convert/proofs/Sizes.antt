@@ -23,7 +23,7 @@ use Rattle.netlist.specs.Answers.{Outcome, refused, refuseIf, refuseAt}
 use Rattle.netlist.specs.Operations.{counted, readTree, readParsed, reading, renderBlock, rendered, written}
 use Rattle.encoding.proofs.Encoded.{length-encode}
 use Rattle.encoding.proofs.RoundTrip.{whole-wellFormed}
-use Rattle.grammar.proofs.WellFormed.{well-formed}
+use Rattle.encoding.proofs.WellFormed.{wellFormed-parts}
 use Rattle.grammar.proofs.WritingLength.{written-length}
 use Rattle.agreement.proofs.Block.{rendering-count, rendering-inputs, length-rendering-outputs}
 use Rattle.names.specs.declared.Limits.the-variants.{Within}
@@ -70,7 +70,7 @@ module _ (room : ℕ) where
     unfolding outputsAt gatesAt
     rendered-length ws whole few =
         let b = decode ws in
-        let w = well-formed b (whole-wellFormed ws whole) in
+        let w = wellFormed-parts b (whole-wellFormed ws whole) in
         let i : inputCount (rendering b) ≡ inputCount b = ap {B = ℕ} length (rendering-inputs b) in
         omega (arith, h, length-encode (rendering b), i, rendering-count b, length-rendering-outputs b, w .fewInputs, few, w .fewOutputs)
 

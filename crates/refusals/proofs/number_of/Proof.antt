@@ -1,8 +1,8 @@
--- `convert::refusal::number_of` meets its contract. Assumes nothing.
+-- `refusals::number_of` meets its contract. Assumes nothing.
 use mathlib.Core.Path.{sym, ap}
 use borrow.Author.Needs.{needs}
-use Rattle.convert.proofs.refusal.number_of.Statement.{statement}
-use Rattle.convert.proofs.refusal.number_of.Tie as tie
+use Rattle.refusals.proofs.number_of.Statement.{statement}
+use Rattle.refusals.proofs.number_of.Tie as tie
 use Rattle.netlist.specs.Answers.{refusalNumber}
 
 enum-told : tie.Need-enum-told

@@ -1,10 +1,10 @@
--- `convert::refusal::detail_of` meets its contract. Assumes nothing.
+-- `refusals::detail_of` meets its contract. Assumes nothing.
 use mathlib.Core.Path.{sym, ap}
 use borrow.Author.Needs.{needs}
-use Rattle.convert.proofs.refusal.detail_of.Statement.{statement}
-use Rattle.convert.proofs.refusal.detail_of.Tie as tie
+use Rattle.refusals.proofs.detail_of.Statement.{statement}
+use Rattle.refusals.proofs.detail_of.Tie as tie
 use Rattle.netlist.specs.Answers.{refusalDetail}
-use Rattle.convert.proofs.Lines.{detail-none}
+use Rattle.refusals.proofs.Plain.{detail-none}
 
 enum-known-why : tie.Need-enum-known-why
 enum-known-why c = search needs
