@@ -10,16 +10,16 @@ use Rattle.netlist.specs.Answers.{refusalNumber, refusalDetail, numberOf, count
 use Rattle.netlist.specs.Operations.{render}
 use Rattle.render.specs.Promise.{RenderPromise}
 use Rattle.exports.specs.declared.Reply.{Reply}
-use Rattle.exports.specs.Replies.{Shows, refusedReply, RenderReply}
+use Rattle.exports.specs.Replies.{Shows, RenderReply}
 
 -- A reply that shows an answer shows an equal one.
 pub shows-same : {a b : Answer} {r : Reply} → a ≡ b → Shows a r → Shows b r
 shows-same e s = rw (← e) s
 
 -- A refusal is shown by its number and its detail.
-pub shows-refusal : {a e : Refusal} {r : Reply} → a ≡ e → r ≡ refusedReply (refusalNumber e) (refusalDetail e) → Shows (Refused a) r
-unfolding refusedReply numberOf countOf detailOf
-shows-refusal p q = rw (p, q) record { number = refl; count = refl; detail = refl }
+pub shows-refusal : (a : Refusal) {number detail : ℕ} → number ≡ refusalNumber a → detail ≡ refusalDetail a → Shows (Refused a) record { number = number; count = 0; detail = detail }
+unfolding numberOf countOf detailOf
+shows-refusal a p q = record { number = p; count = refl; detail = q }
 
 -- A success is shown by 0, its count and its detail.
 pub shows-done : {a : Answer} {count detail : ℕ} → a ≡ Done count detail → Shows a record { number = 0; count = count; detail = detail }

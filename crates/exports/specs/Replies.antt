@@ -15,10 +15,6 @@ pub record Shows (a : Answer) (r : Reply) : Type 0 where
   pub count : r .count ≡ countOf a
   pub detail : r .detail ≡ detailOf a
 
--- "Refused: count 0"
-unfoldable pub refusedReply : ℕ → ℕ → Reply
-refusedReply number detail = record { number = number; count = 0; detail = detail }
-
 -- Render's whole promise, for the answer that the reply shows.
 pub record RenderReply (ws entry : List ℕ) (r : Reply) (exit : List ℕ) : Type 0 where
   pub shows : Shows (answerOf (render ws (length entry))) r

@@ -6,9 +6,11 @@ ghost use Rattle.netlist.specs.declared.Answer.the-variants.{Refused};
 ghost use Rattle.netlist.specs.Answers.{answerOf, leftIn};
 ghost use Rattle.netlist.specs.Operations.{read, write, settle, pass, verdict, coverOf, groupsOf};
 ghost use Rattle.netlist.specs.Line.{lineStart, lineLength};
-ghost use Rattle.exports.specs.Replies.{Shows, refusedReply, RenderReply};
+ghost use Rattle.exports.specs.Replies.{Shows, RenderReply};
 use netlist::Answer;
 use netlist::Refusal;
+use refusals::detail_of;
+use refusals::number_of;
 
 // An answer's number (0 on success), count and detail.
 #[repr(C)]
@@ -26,32 +28,15 @@ pub struct Span {
 }
 
 // A refusal's three words: "count 0".
-fn refused(number: usize, detail: usize) -> Reply
-    ensures { λ r. ⌜ r ≡ refusedReply number detail ⌝ }
+fn reply_of_refusal(refusal: Refusal) -> Reply
+    ensures { λ r. ⌜ Shows (Refused refusal) r ⌝ }
 {
+    let number = number_of(refusal);
+    let detail = detail_of(refusal);
     Reply {
         number,
         count: 0,
         detail,
-    }
-}
-
-// The numbers of the table of refusals; "detail 0 but where stated".
-fn reply_of_refusal(refusal: Refusal) -> Reply
-    ensures { λ r. ⌜ Shows (Refused refusal) r ⌝ }
-{
-    match refusal {
-        Refusal::TextTooLong => refused(1, 0),
-        Refusal::SyntaxError(place) => refused(2, place),
-        Refusal::OverLimit => refused(3, 0),
-        Refusal::DuplicateDeclaration(place) => refused(4, place),
-        Refusal::UndeclaredName(place) => refused(5, place),
-        Refusal::MalformedBlock => refused(6, 0),
-        Refusal::BadSetting => refused(7, 0),
-        Refusal::TooManyCopies => refused(8, 0),
-        Refusal::NotSettled(setting) => refused(9, setting),
-        Refusal::NotStraight => refused(10, 0),
-        Refusal::NoRoom => refused(11, 0),
     }
 }
 
