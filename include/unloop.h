@@ -3,7 +3,7 @@
    Each function keeps its operation's promise for every argument, and none has a condition but C's own: a pointer
    is to as many elements as the length behind it says, and is aligned (an empty slice may be lent as any pointer that
    is not null and is aligned); a slice that is written overlaps no other. A function keeps nothing of what it is
-   lent, and a refusal alters nothing. Read is not here yet. */
+   lent, and a refusal alters nothing. */
 #ifndef UNLOOP_H
 #define UNLOOP_H
 
@@ -24,6 +24,11 @@ typedef struct unloop_reply {
 /* The numbers of the refusals that these functions give. */
 enum unloop_refusal {
     UNLOOP_DONE = 0,
+    UNLOOP_TEXT_TOO_LONG = 1,
+    UNLOOP_SYNTAX_ERROR = 2, /* detail: the offset of the first byte that no legal text has there; of a text cut off, its length */
+    UNLOOP_OVER_A_LIMIT = 3,
+    UNLOOP_DUPLICATE_DECLARATION = 4, /* detail: the offset of the repeated name */
+    UNLOOP_UNDECLARED_NAME = 5,       /* detail: the offset of the name */
     UNLOOP_MALFORMED_BLOCK = 6,
     UNLOOP_BAD_SETTING = 7,
     UNLOOP_TOO_MANY_COPIES = 8,
@@ -45,6 +50,9 @@ typedef struct unloop_span {
     size_t start;
     size_t length;
 } unloop_span;
+
+/* Read: text to block; count: words. 1, 2, 3, 4, 5, 11. */
+unloop_reply unloop_read(const uint8_t *text, size_t text_length, uint16_t *block, size_t block_length);
 
 /* Write: block to text; count: bytes. 6, 11. */
 unloop_reply unloop_write(const uint16_t *block, size_t block_length, uint8_t *text, size_t text_length);

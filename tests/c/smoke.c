@@ -22,8 +22,9 @@ static void answers(unloop_reply reply, size_t number, size_t count, size_t deta
 
 #define LENGTH(a) (sizeof(a) / sizeof((a)[0]))
 
-/* Specimen 9: (in s) (gate p (and s q)) (gate q (or s p)) (out y q). */
+/* Specimen 9: its words, its text, and the text of its rendering. */
 static const uint16_t looped[] = {1, 2, 1, 's', 0, 0, 0, 17, 0, 2, 0, 0, 18, 0, 1, 0, 0, 'y', 0, 0, 0, 2};
+static const char netlist[] = "(in s)\n(gate p (and s q))\n(gate q (or s p))\n(out y q)\n";
 static const char written[] = "(in s)\n(gate _0 (and s 0))\n(gate _1 (or s _0))\n(gate _2 (and s _1))\n(gate _3 (or s _2))\n(out y _3)\n";
 
 /* Specimen 5: (gate p (or p (not p))). */
@@ -31,6 +32,18 @@ static const uint16_t unsettled[] = {0, 2, 0, 8, 1, 0, 0, 0, 18, 1, 0, 0, 0};
 
 /* Specimen 4: (in a) (in b) (gate p (and a q)) (gate q (or b p)). */
 static const uint16_t waiting[] = {2, 2, 0, 'a', 0, 0, 0, 'b', 0, 0, 0, 17, 0, 3, 0, 0, 18, 1, 2, 0, 0};
+
+static void read_specimen(void)
+{
+    const uint8_t *text = (const uint8_t *)netlist;
+    const size_t bytes = sizeof netlist - 1;
+    uint16_t block[LENGTH(looped)];
+
+    answers(unloop_read(text, bytes, block, LENGTH(block)), 0, LENGTH(looped), 0, "read");
+    check(memcmp(block, looped, sizeof looped) == 0, "the words read");
+    answers(unloop_read(text, bytes - 1, block, LENGTH(block)), 2, 0, bytes - 1, "read of a text cut off");
+    answers(unloop_read(text, bytes, block, LENGTH(block) - 1), 11, 0, 0, "read, one word short");
+}
 
 int main(void)
 {
@@ -40,6 +53,7 @@ int main(void)
     uint8_t values[4] = {9, 9, 9, 9};
     const uint8_t one[] = {1}, bad[] = {3}, a_1_b_0[] = {1, 0};
 
+    read_specimen();
     answers(unloop_render(looped, LENGTH(looped), rendered, LENGTH(rendered)), 0, 32, 0, "render");
     answers(unloop_write(rendered, 32, text, sizeof text), 0, sizeof written - 1, 0, "write");
     check(memcmp(text, written, sizeof written - 1) == 0, "the written text");

@@ -2,14 +2,16 @@
 
 pub mod blocks;
 pub mod large;
+pub mod long;
 pub mod malformed;
 pub mod spoiled;
 pub mod texts;
 
 pub use blocks::{block, Shape};
 pub use large::large;
+pub use long::long_texts;
 pub use malformed::malformed;
-pub use spoiled::{over_a_limit, spoiled};
+pub use spoiled::{near_a_limit, over_a_limit, spoiled};
 pub use texts::text;
 
 use crate::block::Block;

@@ -18,6 +18,7 @@ struct Span {
 
 // A slice is passed as two parameters: as one, Rust would put a third slice on the stack whole, where C has its pointer in a register.
 extern "C" {
+    fn unloop_read(text: *const u8, bytes: usize, block: *mut u16, room: usize) -> Reply;
     fn unloop_write(block: *const u16, words: usize, text: *mut u8, room: usize) -> Reply;
     fn unloop_settle(
         block: *const u16,
@@ -53,6 +54,11 @@ impl From<Reply> for Answer {
 }
 
 // Each call is safe: the functions have no condition but that a pointer and a length are a slice's, and they keep no pointer.
+
+/// Text to block; count: words.
+pub fn read(text: &[u8], block: &mut [u16]) -> Answer {
+    unsafe { unloop_read(text.as_ptr(), text.len(), block.as_mut_ptr(), block.len()) }.into()
+}
 
 /// Block to text; count: bytes.
 pub fn write(block: &[u16], text: &mut [u8]) -> Answer {

@@ -6,8 +6,11 @@ mod common;
 
 use common::answer;
 use simulator::block::Block;
-use simulator::generate::{for_blocks, for_texts, large, malformed, spoiled, Random, Report, Size};
-use simulator::limits::{GATES, INPUTS};
+use simulator::generate::{
+    for_blocks, for_texts, large, long_texts, malformed, near_a_limit, spoiled, Random, Report,
+    Size,
+};
+use simulator::limits::{BLOCK_WORDS, GATES, INPUTS, TEXT_BYTES, WRITTEN_BYTES};
 use simulator::specimens::*;
 use simulator::{library, Answer};
 use std::cell::Cell;
@@ -123,6 +126,88 @@ fn compare_block(random: &mut Random, words: &[u16]) {
     }
 }
 
+/// Compares Read with what is expected of it; a refusal also where there is room for every block.
+fn compare_read(text: &[u8], expected: (Answer, Vec<u16>)) {
+    let _report = Report(|| format!("read of {}", text.escape_ascii()));
+    let run = |block: &mut [u16]| library::read(text, block);
+    if expected.0.number != 0 {
+        let unaltered = vec![9_999; BLOCK_WORDS];
+        assert_eq!(lent(BLOCK_WORDS, 9_999, run), (expected.0, unaltered));
+    }
+    compare("read", 9_999, expected, run);
+}
+
+/// Compares Read with the simulator's.
+fn compare_text(text: &[u8]) {
+    compare_read(text, simulator::read(text, usize::MAX));
+}
+
+#[test]
+fn legal_texts() {
+    let check = |_: &mut Random, text: &[u8], _: &Block| compare_text(text);
+    for_texts(0..20_000, Size::SMALL, check);
+    for_texts(0..200, Size::LARGE, check);
+    answered_often(&[0, 11], 40_000);
+}
+
+#[test]
+fn spoiled_texts() {
+    let check = |random: &mut Random, text: &[u8], _: &Block| compare_text(&spoiled(random, text));
+    for_texts(0..40_000, Size::SMALL, check);
+    for_texts(0..400, Size::LARGE, check);
+    answered_often(&[0, 2, 4, 5, 11], 1_000);
+}
+
+#[test]
+fn texts_near_a_limit() {
+    for seed in 0..400 {
+        let mut random = Random::new(seed);
+        let text = near_a_limit(&mut random, seed as usize % 2);
+        let _report = Report(|| format!("seed {seed}"));
+        compare_text(&text);
+        compare_text(&spoiled(&mut random, &text));
+    }
+    answered_often(&[0, 2, 3, 4, 5, 11], 20);
+}
+
+#[test]
+fn longest_texts() {
+    for (name, text) in long_texts() {
+        let _report = Report(|| name.to_string());
+        compare_text(&text);
+        // One byte fewer, and with LF up to the greatest length and one byte more.
+        compare_text(&text[..text.len() - 1]);
+        for length in [TEXT_BYTES, TEXT_BYTES + 1] {
+            let mut text = text.clone();
+            text.resize(length, b'\n');
+            compare_text(&text);
+        }
+    }
+    answered_often(&[0, 1, 2, 3, 11], 2);
+}
+
+/// Read gives back the words that Write was lent.
+fn compare_written(words: &[u16]) {
+    let mut text = vec![0; WRITTEN_BYTES];
+    let told = library::write(words, &mut text);
+    assert_eq!(told.number, 0);
+    text.truncate(told.count as usize);
+    let told = answer(0, words.len() as u64, 0);
+    compare_read(&text, (told, words.to_vec()));
+}
+
+#[test]
+fn written_blocks_read_back() {
+    let check = |_: &mut Random, _: &Block, words: &[u16]| compare_written(words);
+    for_blocks(0..20_000, Size::SMALL, check);
+    for_blocks(30_000..30_024, Size::LARGE, check);
+    for (name, block) in large() {
+        let _report = Report(|| name.to_string());
+        compare_written(&block.to_words());
+    }
+    answered_often(&[0, 11], 40_000);
+}
+
 #[test]
 fn generated_blocks() {
     let check = |random: &mut Random, _: &Block, words: &[u16]| compare_block(random, words);
@@ -211,6 +296,7 @@ fn specimens() {
     ];
     for text in texts {
         let _report = Report(|| text.to_string());
+        compare_text(text.as_bytes());
         compare_block(&mut Random::new(0), &words_of(text));
         let n = usize::from(words_of(text)[0]);
         for number in 0..3_usize.pow(n as u32).min(243) {

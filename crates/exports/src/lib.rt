@@ -4,7 +4,7 @@ ghost use mathlib.Core.Path.{_≡_};
 ghost use lib.ListN.{length};
 ghost use Rattle.netlist.specs.declared.Answer.the-variants.{Refused};
 ghost use Rattle.netlist.specs.Answers.{answerOf, leftIn};
-ghost use Rattle.netlist.specs.Operations.{write, settle, pass, verdict, coverOf, groupsOf};
+ghost use Rattle.netlist.specs.Operations.{read, write, settle, pass, verdict, coverOf, groupsOf};
 ghost use Rattle.netlist.specs.Line.{lineStart, lineLength};
 ghost use Rattle.exports.specs.Replies.{Shows, RenderReply};
 use netlist::Answer;
@@ -52,6 +52,15 @@ fn reply_of(answer: Answer) -> Reply
         },
         Answer::Refused(refusal) => reply_of_refusal(refusal),
     }
+}
+
+// Read: text to block; count: words.
+#[no_mangle]
+pub extern "C" fn unloop_read(text: &[u8], block: &mut [u16]) -> Reply
+    ensures answers { λ r. ⌜ Shows (answerOf (read (now (text .entry)) (length (now (block .entry))))) r ⌝ }
+    ensures leaves { λ r. ⌜ now (block .exit) ≡ leftIn (read (now (text .entry)) (length (now (block .entry)))) (now (block .entry)) ⌝ }
+{
+    reply_of(reading::read(text, block))
 }
 
 // Write: block to text; count: bytes.

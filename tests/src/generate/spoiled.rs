@@ -51,19 +51,24 @@ fn rename(random: &mut Random, text: &mut [u8]) {
 
 /// A text of the grammar with one limit of refusal 3 passed by one.
 pub fn over_a_limit(random: &mut Random) -> Vec<u8> {
+    near_a_limit(random, 1)
+}
+
+/// A text of the grammar at one limit of refusal 3, or `more` above it.
+pub fn near_a_limit(random: &mut Random, more: usize) -> Vec<u8> {
     let lines =
         |count: usize, line: &dyn Fn(usize) -> String| -> String { (0..count).map(line).collect() };
     let repeated = random.chance(50);
     let number = |i: usize| if repeated { 0 } else { i };
     let text = match random.below(4) {
-        0 => lines(limits::INPUTS + 1, &|i| format!("(in a{})\n", number(i))),
-        1 => lines(limits::GATES + 1, &|i| {
+        0 => lines(limits::INPUTS + more, &|i| format!("(in a{})\n", number(i))),
+        1 => lines(limits::GATES + more, &|i| {
             format!("(gate a{} (not 0))\n", number(i))
         }),
-        2 => lines(limits::OUTPUTS + 1, &|i| {
+        2 => lines(limits::OUTPUTS + more, &|i| {
             format!("(out a{} b)\n", number(i))
         }),
-        _ => lines(205, &|i| {
+        _ => lines((limits::GATES + more) / 5, &|i| {
             let inner = "(and (not 0) (not 1) (not 0) (not 1))";
             format!("(gate a{} {inner})\n", number(i))
         }),
