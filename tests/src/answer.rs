@@ -51,6 +51,16 @@ impl Answer {
     }
 }
 
+impl From<unloop::Reply> for Answer {
+    fn from(reply: unloop::Reply) -> Answer {
+        Answer {
+            number: reply.number,
+            count: reply.count,
+            detail: reply.detail,
+        }
+    }
+}
+
 /// A count and a result, or the answer that refuses.
 pub(crate) type Outcome<T> = Result<(usize, Vec<T>), Answer>;
 

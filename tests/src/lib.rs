@@ -7,8 +7,6 @@ pub mod block;
 pub mod cover;
 pub mod generate;
 pub mod groups;
-#[cfg(library)]
-pub mod library;
 pub mod limits;
 pub mod line;
 pub mod malformed;

@@ -1,6 +1,4 @@
 //! The proved library against the simulator: numbers, counts, details, results, and what is left in the lent slices.
-//! Empty where the library is not built (`rt staticlib exports`).
-#![cfg(library)]
 
 mod common;
 
@@ -12,9 +10,10 @@ use simulator::generate::{
 };
 use simulator::limits::{BLOCK_WORDS, GATES, INPUTS, TEXT_BYTES, WRITTEN_BYTES};
 use simulator::specimens::*;
-use simulator::{library, Answer};
+use simulator::Answer;
 use std::cell::Cell;
 use std::fmt::Debug;
+use unloop::Reply;
 
 /// Elements on both sides of a lent slice, which no operation may touch.
 const MARGIN: usize = 8;
@@ -36,7 +35,7 @@ fn answered_often(numbers: &[usize], least: usize) {
 fn lent<T: Copy + PartialEq + Debug>(
     room: usize,
     filler: T,
-    run: impl Fn(&mut [T]) -> Answer,
+    run: impl Fn(&mut [T]) -> Reply,
 ) -> (Answer, Vec<T>) {
     let mut held = vec![filler; MARGIN + room + MARGIN];
     let told = run(&mut held[MARGIN..MARGIN + room]);
@@ -44,7 +43,7 @@ fn lent<T: Copy + PartialEq + Debug>(
     assert!(held.iter().all(|&kept| kept == filler), "before the slice");
     let (left, behind) = left.split_at(room);
     assert!(behind.iter().all(|&k| k == filler), "behind the slice");
-    (told, left.to_vec())
+    (told.into(), left.to_vec())
 }
 
 /// Compares one operation in slices that are exactly long enough, one short, longer and empty.
@@ -52,7 +51,7 @@ fn compare<T: Copy + PartialEq + Debug>(
     operation: &str,
     filler: T,
     (told, result): (Answer, Vec<T>),
-    run: impl Fn(&mut [T]) -> Answer,
+    run: impl Fn(&mut [T]) -> Reply,
 ) {
     let exact = result.len();
     let mut rooms = vec![exact, exact + 13];
@@ -81,29 +80,32 @@ fn compare_values(words: &[u16], setting: &[u8]) {
     let all = usize::MAX;
     let settled = simulator::settle(words, setting, all);
     compare("settle", 9, settled, |values| {
-        library::settle(words, setting, values)
+        unloop::settle(words, setting, values)
     });
     let passed = simulator::pass(words, setting, all);
     compare("pass", 9, passed, |values| {
-        library::pass(words, setting, values)
+        unloop::pass(words, setting, values)
     });
 }
 
 /// Compares every operation on a block but Settle and Pass.
 fn compare_words(words: &[u16]) {
     let all = usize::MAX;
-    assert_eq!(library::verdict(words), simulator::verdict(words));
+    assert_eq!(
+        Answer::from(unloop::verdict(words)),
+        simulator::verdict(words)
+    );
     compare("write", 9, simulator::write(words, all), |text| {
-        library::write(words, text)
+        unloop::write(words, text)
     });
     compare("groups", 9_999, simulator::groups(words, all), |numbers| {
-        library::groups(words, numbers)
+        unloop::groups(words, numbers)
     });
     compare("render", 9_999, simulator::render(words, all), |rendered| {
-        library::render(words, rendered)
+        unloop::render(words, rendered)
     });
     compare("cover", 9_999, simulator::cover(words, all), |entries| {
-        library::cover(words, entries)
+        unloop::cover(words, entries)
     });
 }
 
@@ -129,7 +131,7 @@ fn compare_block(random: &mut Random, words: &[u16]) {
 /// Compares Read with what is expected of it; a refusal also where there is room for every block.
 fn compare_read(text: &[u8], expected: (Answer, Vec<u16>)) {
     let _report = Report(|| format!("read of {}", text.escape_ascii()));
-    let run = |block: &mut [u16]| library::read(text, block);
+    let run = |block: &mut [u16]| unloop::read(text, block);
     if expected.0.number != 0 {
         let unaltered = vec![9_999; BLOCK_WORDS];
         assert_eq!(lent(BLOCK_WORDS, 9_999, run), (expected.0, unaltered));
@@ -189,7 +191,7 @@ fn longest_texts() {
 /// Read gives back the words that Write was lent.
 fn compare_written(words: &[u16]) {
     let mut text = vec![0; WRITTEN_BYTES];
-    let told = library::write(words, &mut text);
+    let told = unloop::write(words, &mut text);
     assert_eq!(told.number, 0);
     text.truncate(told.count as usize);
     let told = answer(0, words.len() as u64, 0);
@@ -226,16 +228,19 @@ fn largest_blocks() {
     for (name, block) in large() {
         let _report = Report(|| name.to_string());
         let words = block.to_words();
-        assert_eq!(library::verdict(&words), simulator::verdict(&words));
+        assert_eq!(
+            Answer::from(unloop::verdict(&words)),
+            simulator::verdict(&words)
+        );
         compare("groups", 9, simulator::groups(&words, GATES), |numbers| {
-            library::groups(&words, numbers)
+            unloop::groups(&words, numbers)
         });
         let rendered = simulator::render(&words, usize::MAX);
         compare("render", 9, rendered, |rendered| {
-            library::render(&words, rendered)
+            unloop::render(&words, rendered)
         });
         compare("write", 9, simulator::write(&words, usize::MAX), |text| {
-            library::write(&words, text)
+            unloop::write(&words, text)
         });
         for value in 0..3 {
             compare_values(&words, &[value; INPUTS]);
@@ -304,7 +309,7 @@ fn specimens() {
             compare_values(&words_of(text), &(0..n).map(digit).collect::<Vec<u8>>());
         }
     }
-    let render = |text: &str| library::render(&words_of(text), &mut [0; 5_243]);
+    let render = |text: &str| Answer::from(unloop::render(&words_of(text), &mut [0; 5_243]));
     assert_eq!(render(&ring_of_32), answer(0, 3 + 5 * 1_024, 0));
     assert_eq!(render(&lone), answer(8, 0, 0));
     assert_eq!(render(&ring_of_33), answer(8, 0, 0));
@@ -315,7 +320,7 @@ fn lines() {
     let places = |text: &[u8]| {
         for place in (0..=text.len() + 2).chain([usize::MAX]) {
             let expected = simulator::line(text, place);
-            assert_eq!(library::line(text, place), expected, "place {place}");
+            assert_eq!(unloop::line(text, place), expected, "place {place}");
         }
     };
     places(b"");

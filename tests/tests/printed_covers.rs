@@ -5,8 +5,6 @@ mod common;
 
 use common::answer;
 use simulator::cover::entries;
-#[cfg(library)]
-use simulator::library;
 use simulator::specimens::{words_of, SIX_GATES, TWO_GATES};
 use simulator::{cover, settle, verdict, Answer};
 
@@ -49,18 +47,12 @@ fn printed(names: &str, printed: &[&str], list: &[u16]) {
     assert_eq!(words.collect::<Vec<u16>>(), list);
 }
 
-/// The simulator's cover, and the library's where it is linked.
-fn covers(words: &[u16]) -> Vec<(Answer, Vec<u16>)> {
-    #[allow(unused_mut)]
-    let mut covers = vec![cover(words, usize::MAX)];
-    #[cfg(library)]
-    {
-        let mut entries = vec![0; 2 * 59_049];
-        let told = library::cover(words, &mut entries);
-        entries.truncate(2 * told.count as usize);
-        covers.push((told, entries));
-    }
-    covers
+/// The simulator's cover, and the library's.
+fn covers(words: &[u16]) -> [(Answer, Vec<u16>); 2] {
+    let mut entries = vec![0; 2 * 59_049];
+    let told = unloop::cover(words, &mut entries);
+    entries.truncate(2 * told.count as usize);
+    [cover(words, usize::MAX), (told.into(), entries)]
 }
 
 /// The circuit's cover is the list of words, in this order, whoever computes it.

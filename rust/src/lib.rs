@@ -1,13 +1,13 @@
 //! The proved library, through the C functions of `include/unloop.h`, with slices for pointers and lengths.
-//! Only there where `rt staticlib exports` was run before.
+//! No call needs a test beforehand: each answers a number, 0 or one of the refusals, and a refusal alters nothing lent.
 
-use crate::Answer;
-
+/// The number (0, or which refusal), the count and the detail of an answer.
 #[repr(C)]
-struct Reply {
-    number: usize,
-    count: usize,
-    detail: usize,
+#[derive(Debug, Clone, Copy, PartialEq, Eq)]
+pub struct Reply {
+    pub number: u64,
+    pub count: u64,
+    pub detail: u64,
 }
 
 #[repr(C)]
@@ -43,63 +43,53 @@ extern "C" {
     fn unloop_line(text: *const u8, bytes: usize, place: usize) -> Span;
 }
 
-impl From<Reply> for Answer {
-    fn from(reply: Reply) -> Answer {
-        Answer {
-            number: reply.number as u64,
-            count: reply.count as u64,
-            detail: reply.detail as u64,
-        }
-    }
-}
-
 // Each call is safe: the functions have no condition but that a pointer and a length are a slice's, and they keep no pointer.
 
 /// Text to block; count: words.
-pub fn read(text: &[u8], block: &mut [u16]) -> Answer {
-    unsafe { unloop_read(text.as_ptr(), text.len(), block.as_mut_ptr(), block.len()) }.into()
+pub fn read(text: &[u8], block: &mut [u16]) -> Reply {
+    unsafe { unloop_read(text.as_ptr(), text.len(), block.as_mut_ptr(), block.len()) }
 }
 
 /// Block to text; count: bytes.
-pub fn write(block: &[u16], text: &mut [u8]) -> Answer {
-    unsafe { unloop_write(block.as_ptr(), block.len(), text.as_mut_ptr(), text.len()) }.into()
+pub fn write(block: &[u16], text: &mut [u8]) -> Reply {
+    unsafe { unloop_write(block.as_ptr(), block.len(), text.as_mut_ptr(), text.len()) }
 }
 
 /// The settled value of each gate; count: rounds.
-pub fn settle(block: &[u16], setting: &[u8], values: &mut [u8]) -> Answer {
+pub fn settle(block: &[u16], setting: &[u8], values: &mut [u8]) -> Reply {
     let (words, inputs, room) = (block.len(), setting.len(), values.len());
     let (block, setting, values) = (block.as_ptr(), setting.as_ptr(), values.as_mut_ptr());
-    unsafe { unloop_settle(block, words, setting, inputs, values, room) }.into()
+    unsafe { unloop_settle(block, words, setting, inputs, values, room) }
 }
 
 /// The values of a straight block in one sweep; count: gates.
-pub fn pass(block: &[u16], setting: &[u8], values: &mut [u8]) -> Answer {
+pub fn pass(block: &[u16], setting: &[u8], values: &mut [u8]) -> Reply {
     let (words, inputs, room) = (block.len(), setting.len(), values.len());
     let (block, setting, values) = (block.as_ptr(), setting.as_ptr(), values.as_mut_ptr());
-    unsafe { unloop_pass(block, words, setting, inputs, values, room) }.into()
+    unsafe { unloop_pass(block, words, setting, inputs, values, room) }
 }
 
 /// Count: settled settings; detail: the lowest other, or 2^n if none.
-pub fn verdict(block: &[u16]) -> Answer {
-    unsafe { unloop_verdict(block.as_ptr(), block.len()) }.into()
+pub fn verdict(block: &[u16]) -> Reply {
+    unsafe { unloop_verdict(block.as_ptr(), block.len()) }
 }
 
 /// Two words an entry; count: entries.
-pub fn cover(block: &[u16], entries: &mut [u16]) -> Answer {
+pub fn cover(block: &[u16], entries: &mut [u16]) -> Reply {
     let (words, room) = (block.len(), entries.len());
-    unsafe { unloop_cover(block.as_ptr(), words, entries.as_mut_ptr(), room) }.into()
+    unsafe { unloop_cover(block.as_ptr(), words, entries.as_mut_ptr(), room) }
 }
 
 /// Each gate's group number; count: groups.
-pub fn groups(block: &[u16], numbers: &mut [u16]) -> Answer {
+pub fn groups(block: &[u16], numbers: &mut [u16]) -> Reply {
     let (words, room) = (block.len(), numbers.len());
-    unsafe { unloop_groups(block.as_ptr(), words, numbers.as_mut_ptr(), room) }.into()
+    unsafe { unloop_groups(block.as_ptr(), words, numbers.as_mut_ptr(), room) }
 }
 
 /// The rendered block; count: words.
-pub fn render(block: &[u16], rendered: &mut [u16]) -> Answer {
+pub fn render(block: &[u16], rendered: &mut [u16]) -> Reply {
     let (words, room) = (block.len(), rendered.len());
-    unsafe { unloop_render(block.as_ptr(), words, rendered.as_mut_ptr(), room) }.into()
+    unsafe { unloop_render(block.as_ptr(), words, rendered.as_mut_ptr(), room) }
 }
 
 /// The start and length of the line that holds `place`, without its LF.

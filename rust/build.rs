@@ -1,0 +1,17 @@
+//! Links the proved library, which `rt staticlib exports` makes.
+
+use std::path::Path;
+
+fn main() {
+    let folder = Path::new(env!("CARGO_MANIFEST_DIR")).join("../target/staticlib");
+    let library = folder.join("libexports.a");
+    println!("cargo::rerun-if-changed={}", library.display());
+    if !library.exists() {
+        println!(
+            "cargo::error=no {}: run 'rt staticlib exports' first",
+            library.display()
+        );
+    }
+    println!("cargo::rustc-link-search=native={}", folder.display());
+    println!("cargo::rustc-link-lib=static=exports");
+}
