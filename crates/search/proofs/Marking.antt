@@ -108,7 +108,7 @@ unfolding setFlags
 room-below {m} {flags} {queue} {tail} k r l h =
     let more : setFlags (set flags k 1) m ≡ suc (setFlags flags m) = set-new flags k m l (r .flagRoom) h in
     let most : setFlags (set flags k 1) m ≤ m = countBelow-le (λ j. not (eqb (getD (set flags k 1) j 0) 0)) m in
-    let same : setFlags flags m ≡ tail = r .counted in
+    let enough : tail ≤ setFlags flags m = r .counted in
     omega arith
 
 pub length-marked : (flags ks : List ℕ) → length (marked flags ks) ≡ length flags
@@ -140,7 +140,9 @@ room-kept {m} {ks} {flags} {queue} {tail} r inside e =
       flagRoom = rw (e .flagsAre, length-marked) (r .flagRoom);
       queueRoom = rw (e .queueIs, length-sets) (r .queueRoom);
       small = r .small;
-      counted = rw (e .flagsAre, e .tailIs, marked-count flags ks m (r .flagRoom) inside, r .counted) refl;
+      counted =
+          let enough : tail ≤ setFlags flags m = r .counted in
+          rw (e .flagsAre, e .tailIs, marked-count flags ks m (r .flagRoom) inside) (omega arith);
     }
 
 -- ---- operand words

@@ -4,7 +4,7 @@ use mathlib.Core.Path.{_≡_, refl, sym, ap, _∙_, subst}
 use mathlib.Core.Logic.{_⊎_, inl, inr, ⊎-elim}
 use mathlib.Core.Bool.{Bool, true, false, cond, not, _&&_, _||_, false≢true}
 use mathlib.Core.List.{List, [], _∷_, _++_}
-use Prim.Native.Nat.{ℕ, zero, suc, _+_, _-_, _≤_, _<_}
+use Prim.Native.Nat.{ℕ, zero, suc, _+_, _-_, _*_, _/_, _≤_, _<_}
 use native.Mathlib.Nat.{add-zero, not-suc-le-zero, le-of-suc-le-suc}
 use native.Mathlib.Numerals.{add-one}
 use native.Mathlib.Omega.{arith}
@@ -17,8 +17,9 @@ use Rattle.laws.proofs.Tests.{eq-or-ne, lt-or-le, and-left, and-right, or-cases
 use Rattle.laws.proofs.Quantifiers.{member-at, member-from, all-at}
 use Rattle.laws.proofs.Counting.{countBelow-le}
 use Rattle.netlist.specs.Netlist.{Block}
+use Rattle.netlist.specs.StoredBlock.{decode}
 use Rattle.netlist.specs.Groups.{Path, stay, step, reads, readBy}
-use Rattle.search.specs.Search.{marked, fresh, setFlags, Room, Extended, Searching, Reached}
+use Rattle.search.specs.Search.{marked, fresh, setFlags, Room, Extended, Queued, Searching, GatesReady, StartReady, Reached, wordGates, gateReads}
 use Rattle.search.proofs.Marking.{room-kept, set-new}
 
 -- ---- what marking a list does to a flag
@@ -97,7 +98,9 @@ sets-at l i (x ∷ xs) (suc p) h fits =
 -- the queue never passes m
 pub room-tail : {m : ℕ} {flags queue : List ℕ} {tail : ℕ} → Room m flags queue tail → tail ≤ m
 unfolding setFlags
-room-tail {m} {flags} r = subst (λ (t : ℕ). t ≤ m) (r .counted) (countBelow-le (λ k. not (eqb (getD flags k 0) 0)) m)
+room-tail {m} {flags} r =
+    let most : setFlags flags m ≤ m = countBelow-le (λ k. not (eqb (getD flags k 0) 0)) m in
+    omega (arith, r .counted)
 
 one-of : {a : ℕ} → a ≡ 0 → a ≡ 1 → ⊥
 one-of z o = let e : _≡_ {A = ℕ} 0 1 = sym z ∙ o in omega arith
@@ -107,14 +110,14 @@ pub path-more : {b : Block} {i j k : ℕ} → Path b i j → reads b j k ≡ tru
 path-more stay r = step r stay
 path-more (step s p) r = step s (path-more p r)
 
-module _ {b : Block} {m start : ℕ} {flags queue : List ℕ} {head tail : ℕ} (s : Searching b m start flags queue head tail) (ks : List ℕ)
+module _ {b : Block} {m start : ℕ} {barred flags queue : List ℕ} {head tail : ℕ} (s : Searching b m start barred flags queue head tail) (ks : List ℕ)
     (are : ks ≡ readBy b (getD queue head 0)) (inside : all (λ k. ltb k m) ks ≡ true) (more : head < tail)
     {flags′ queue′ : List ℕ} {tail′ : ℕ} (e : Extended ks flags queue tail flags′ queue′ tail′) where
   room′ : Room m flags′ queue′ tail′
   room′ = room-kept (s .room) inside e
 
-  flag-room : m ≤ length flags
-  flag-room = s .room .flagRoom
+  longer : tail ≤ tail′
+  longer = let t : tail′ ≡ tail + length (fresh flags ks) = e .tailIs in omega arith
 
   reads-in : (k : ℕ) → reads b (getD queue head 0) k ≡ true → member k ks ≡ true
   unfolding reads
@@ -133,7 +136,7 @@ module _ {b : Block} {m start : ℕ} {flags queue : List ℕ} {head tail : ℕ} 
   old-flag k h = rw (e .flagsAre) (kept flags ks k h)
 
   new-flag : (k : ℕ) → member k ks ≡ true → getD flags′ k 0 ≡ 1
-  new-flag k h = rw (e .flagsAre) (marks flags ks k (omega (arith, below k h, flag-room)) h)
+  new-flag k h = rw (e .flagsAre) (marks flags ks k (omega (arith, below k h, s .room .flagRoom)) h)
 
   flag-cases : (k : ℕ) → (getD flags′ k 0 ≡ getD flags k 0) ⊎ (member k ks ≡ true)
   flag-cases k = rw (e .flagsAre) (only flags ks k)
@@ -151,49 +154,35 @@ module _ {b : Block} {m start : ℕ} {flags queue : List ℕ} {head tail : ℕ} 
   new-queue : (p : ℕ) → p < length (fresh flags ks) → getD queue′ (tail + p) 0 ≡ getD (fresh flags ks) p 0
   new-queue p l = rw (e .queueIs) (sets-at queue tail (fresh flags ks) p l queue-fits)
 
-  -- what stands in the queue
-  queued′ : (q : ℕ) → q < tail′ → (getD queue′ q 0 < m) × (getD flags′ (getD queue′ q 0) 0 ≡ 1)
-  queued′ q l = ⊎-elim old new (lt-or-le q tail)
-    where
-      old : q < tail → (getD queue′ q 0 < m) × (getD flags′ (getD queue′ q 0) 0 ≡ 1)
-      old h = rw (old-queue q h) (s .queued q h .0, old-flag (getD queue q 0) (s .queued q h .1))
+  still-queued : (k : ℕ) → Queued queue tail k → Queued queue′ tail′ k
+  still-queued k r = let lt : r .0 < tail = r .1 in (r .0, omega (arith, longer), old-queue (r .0) (r .1) ∙ r .2)
 
-      new : tail ≤ q → (getD queue′ q 0 < m) × (getD flags′ (getD queue′ q 0) 0 ≡ 1)
+  -- what stands in the queue
+  queued′ : (q : ℕ) → q < tail′ → (getD queue′ q 0 < m) × Path b start (getD queue′ q 0)
+  queued′ q l = ⊎-elim (λ h. rw (old-queue q h) (s .queued q h)) new (lt-or-le q tail)
+    where
+      new : tail ≤ q → (getD queue′ q 0 < m) × Path b start (getD queue′ q 0)
       new h =
           let t : tail′ ≡ tail + length (fresh flags ks) = e .tailIs in
           let p : q - tail < length (fresh flags ks) = omega arith in
           let back : tail + (q - tail) ≡ q = omega arith in
           let is : getD queue′ q 0 ≡ getD (fresh flags ks) (q - tail) 0 = rw back at (new-queue (q - tail) p) in
           let in-ks : member (getD (fresh flags ks) (q - tail) 0) ks ≡ true = fresh-of flags ks (getD (fresh flags ks) (q - tail) 0) (member-from (getD (fresh flags ks) (q - tail) 0) (fresh flags ks) (q - tail) p refl) in
-          rw is (below (getD (fresh flags ks) (q - tail) 0) in-ks, new-flag (getD (fresh flags ks) (q - tail) 0) in-ks)
+          rw is (below (getD (fresh flags ks) (q - tail) 0) in-ks, path-more (s .queued head more .1) (in-reads (getD (fresh flags ks) (q - tail) 0) in-ks))
 
-  found′ : (k : ℕ) → k < m → getD flags′ k 0 ≡ 1 → (q : ℕ) × (q < tail′) × (getD queue′ q 0 ≡ k)
+  found′ : (k : ℕ) → k < m → getD flags′ k 0 ≡ 1 → (getD barred k 0 ≡ 1) ⊎ Queued queue′ tail′ k
   found′ k l h = ⊎-elim fresh-one old (s .bits k l)
     where
-      t : tail′ ≡ tail + length (fresh flags ks)
-      t = e .tailIs
+      old : getD flags k 0 ≡ 1 → (getD barred k 0 ≡ 1) ⊎ Queued queue′ tail′ k
+      old o = ⊎-elim (λ x. inl x) (λ r. inr (still-queued k r)) (s .found k l o)
 
-      old : getD flags k 0 ≡ 1 → (q : ℕ) × (q < tail′) × (getD queue′ q 0 ≡ k)
-      old o =
-          let r : (q : ℕ) × (q < tail) × (getD queue q 0 ≡ k) = s .found k l o in
-          let lt : r .0 < tail = r .1 in
-          (r .0, omega arith, old-queue (r .0) (r .1) ∙ r .2)
-
-      fresh-one : getD flags k 0 ≡ 0 → (q : ℕ) × (q < tail′) × (getD queue′ q 0 ≡ k)
+      fresh-one : getD flags k 0 ≡ 0 → (getD barred k 0 ≡ 1) ⊎ Queued queue′ tail′ k
       fresh-one z =
+          let t : tail′ ≡ tail + length (fresh flags ks) = e .tailIs in
           let in-ks : member k ks ≡ true = ⊎-elim (λ same. absurd (one-of (same ∙ z) h)) (λ x. x) (flag-cases k) in
           let r : (p : ℕ) × (p < length (fresh flags ks)) × (getD (fresh flags ks) p 0 ≡ k) = member-at k (fresh flags ks) (fresh-all flags ks k in-ks z) in
           let lt : r .0 < length (fresh flags ks) = r .1 in
-          (tail + r .0, omega arith, new-queue (r .0) (r .1) ∙ r .2)
-
-  reached′ : (k : ℕ) → k < m → getD flags′ k 0 ≡ 1 → Path b start k
-  reached′ k l h = ⊎-elim (λ same. s .reached k l (sym same ∙ h)) new (flag-cases k)
-    where
-      at : (getD queue head 0 < m) × (getD flags (getD queue head 0) 0 ≡ 1)
-      at = s .queued head more
-
-      new : member k ks ≡ true → Path b start k
-      new i = path-more (s .reached (getD queue head 0) (at .0) (at .1)) (in-reads k i)
+          inr (tail + r .0, omega arith, new-queue (r .0) (r .1) ∙ r .2)
 
   visited′ : (q : ℕ) → q < head + 1 → (k : ℕ) → reads b (getD queue′ q 0) k ≡ true → getD flags′ k 0 ≡ 1
   visited′ q l k r = ⊎-elim now earlier (eq-or-ne q head)
@@ -211,85 +200,56 @@ module _ {b : Block} {m start : ℕ} {flags queue : List ℕ} {head tail : ℕ} 
       earlier ne = old-flag k (s .visited q (omega arith) k r′)
 
   -- one gate is taken from the queue and what it reads is marked
-  pub search-turn : Searching b m start flags′ queue′ (head + 1) tail′
+  pub search-turn : Searching b m start barred flags′ queue′ (head + 1) tail′
   search-turn =
       record {
         room = room′;
-        behind = let t : tail′ ≡ tail + length (fresh flags ks) = e .tailIs in omega arith;
+        behind = omega (arith, longer);
         bits = λ k l. ⊎-elim (λ same. ⊎-elim (λ z. inl (same ∙ z)) (λ o. inr (same ∙ o)) (s .bits k l)) (λ i. inr (new-flag k i)) (flag-cases k);
-        started = old-flag start (s .started);
-        reached = reached′;
+        started = still-queued start (s .started);
         queued = queued′;
         visited = visited′;
         found = found′;
       }
 
-worked-off : {b : Block} {m start : ℕ} {flags queue : List ℕ} {head tail : ℕ} → Searching b m start flags queue head tail → tail ≤ head → (i j : ℕ) → i < m → getD flags i 0 ≡ 1 → reads b i j ≡ true → getD flags j 0 ≡ 1
-worked-off {head = head} {tail = tail} s e i j l h r =
-    let q = s .found i l h in
-    let lt : q .0 < tail = q .1 in
-    s .visited (q .0) (omega arith) j (rw (q .2) r)
-
--- when the queue is worked off, every gate that is reached is marked
-pub search-end : {b : Block} {m start : ℕ} {flags queue : List ℕ} {head tail : ℕ} → Searching b m start flags queue head tail → tail ≤ head → ((i k : ℕ) → i < m → reads b i k ≡ true → k < m) → (i k : ℕ) → i < m → getD flags i 0 ≡ 1 → Path b i k → getD flags k 0 ≡ 1
-search-end s e inside i k l h stay = h
-search-end s e inside i k l h (step {j = j} r p) = search-end s e inside j k (inside i j l r) (worked-off s e i j l h r) p
-
 -- ---- its start and its end
 
-pub cleared-at : (m : ℕ) (flags : List ℕ) (k : ℕ) → k < m → getD (replicate m 0 ++ drop m flags) k 0 ≡ 0
-cleared-at m flags k l =
-    List·getD-append (replicate m 0) (drop m flags) 0 k (rw (length-replicate {A = ℕ} m 0) l) ∙ getD-replicate m k 0 0 l
-
-pub cleared-length : (m : ℕ) (flags : List ℕ) → m ≤ length flags → length (replicate m 0 ++ drop m flags) ≡ length flags
-cleared-length m flags h = rw (length-append, length-replicate {A = ℕ} m 0, length-drop) (omega arith)
-
-none-set : (flags : List ℕ) (m : ℕ) → ((k : ℕ) → k < m → getD flags k 0 ≡ 0) → setFlags flags m ≡ 0
-unfolding setFlags
-none-set flags zero h = refl
-none-set flags (suc m) h =
-    let ih : setFlags flags m ≡ 0 = none-set flags m (λ k l. h k (omega arith)) in
-    let z : getD flags m 0 ≡ 0 = h m (omega arith) in
-    rw (z) (omega arith)
-
--- only the start is marked and queued
-pub search-start : (b : Block) (m start : ℕ) (flags queue : List ℕ) → start < m → m ≤ length flags → m ≤ length queue → m ≤ 1024 → Searching b m start (set (replicate m 0 ++ drop m flags) start 1) (set queue 0 start) 0 1
-search-start b m start flags queue l flagRoom queueRoom few =
+-- only the start is queued
+pub search-start : (b : Block) (m start : ℕ) (flags queue : List ℕ) → StartReady m start flags → m ≤ length flags → m ≤ length queue → m ≤ 1024 → Searching b m start (set flags start 1) (set flags start 1) (set queue 0 start) 0 1
+search-start b m start flags queue ready flagRoom queueRoom few =
     record {
-      room = record { flagRoom = rw (length-set, len) flagRoom; queueRoom = rw length-set queueRoom; small = omega arith; counted = set-new cleared start m l (rw len flagRoom) (zero-at start l) ∙ rw (none-set cleared m zero-at) refl };
+      room = record { flagRoom = rw length-set flagRoom; queueRoom = rw length-set queueRoom; small = omega arith; counted = rw (set-new flags start m (ready .below) flagRoom (ready .free)) (omega arith) };
       behind = omega arith;
-      bits = λ k kl. ⊎-elim (λ e. inr (rw e marked-start)) (λ ne. inl (others k kl ne)) (eq-or-ne k start);
-      started = marked-start;
-      reached = λ k kl h. ⊎-elim (λ e. rw e stay) (λ ne. absurd (one-of (others k kl ne) h)) (eq-or-ne k start);
-      queued = λ q ql. let z : q ≡ 0 = omega arith in rw (z, first) (l, marked-start);
+      bits = λ k kl. ⊎-elim (λ e. inr (rw e marked-start)) (λ ne. rw (others k ne) (ready .bits k kl)) (eq-or-ne k start);
+      started = (0, omega arith, first);
+      queued = λ q ql. let z : q ≡ 0 = omega arith in rw (z, first) (ready .below, stay);
       visited = λ q ql. absurd (not-suc-le-zero ql);
-      found = λ k kl h. ⊎-elim (λ e. (0, omega arith, first ∙ sym e)) (λ ne. absurd (one-of (others k kl ne) h)) (eq-or-ne k start);
+      found = λ k kl h. inl h;
     }
   where
-    cleared : List ℕ
-    cleared = replicate m 0 ++ drop m flags
+    marked-start : getD (set flags start 1) start 0 ≡ 1
+    marked-start = getD-set-same flags start 1 0 (omega (arith, ready .below))
 
-    len : length cleared ≡ length flags
-    len = cleared-length m flags flagRoom
-
-    zero-at : (k : ℕ) → k < m → getD cleared k 0 ≡ 0
-    zero-at k kl = cleared-at m flags k kl
-
-    marked-start : getD (set cleared start 1) start 0 ≡ 1
-    marked-start = getD-set-same cleared start 1 0 (rw len (omega arith))
-
-    others : (k : ℕ) → k < m → (k ≡ start → ⊥) → getD (set cleared start 1) k 0 ≡ 0
-    others k kl ne = getD-set-other cleared start k 1 0 ne ∙ zero-at k kl
+    others : (k : ℕ) → (k ≡ start → ⊥) → getD (set flags start 1) k 0 ≡ getD flags k 0
+    others k ne = getD-set-other flags start k 1 0 ne
 
     first : getD (set queue 0 start) 0 0 ≡ start
-    first = getD-set-same queue 0 start 0 (omega arith)
+    first = getD-set-same queue 0 start 0 (omega (arith, ready .below))
 
--- exactly what is reached is marked
-pub search-reached : {b : Block} {m start : ℕ} {flags queue : List ℕ} {head tail : ℕ} → Searching b m start flags queue head tail → tail ≤ head → start < m → ((i k : ℕ) → i < m → reads b i k ≡ true → k < m) → Reached b m start flags tail
-search-reached {start = start} s e l inside =
+-- when the queue is worked off, it is closed but for barred gates
+pub search-reached : {b : Block} {m start : ℕ} {flags queue : List ℕ} {head tail : ℕ} (barred : List ℕ) → Searching b m start (set barred start 1) flags queue head tail → tail ≤ head → ((i k : ℕ) → i < m → reads b i k ≡ true → k < m) → Reached b m start barred queue tail
+search-reached {start = start} {queue = queue} {tail = tail} barred s e inside =
     record {
-      bits = s .bits;
-      sound = s .reached;
-      complete = λ k p. search-end s e inside start k l (s .started) p;
-      counts = sym (s .room .counted);
+      few = room-tail (s .room);
+      started = s .started;
+      sound = s .queued;
+      closed = λ q l k r. ⊎-elim (before k) (λ f. inr f) (s .found k (inside (getD queue q 0) k (s .queued q l .0) r) (s .visited q (omega arith) k r));
     }
+  where
+    before : (k : ℕ) → getD (set barred start 1) k 0 ≡ 1 → (getD barred k 0 ≡ 1) ⊎ Queued queue tail k
+    before k h = ⊎-elim (λ same. inr (rw same (s .started))) (λ ne. inl (sym (getD-set-other barred start k 1 0 ne) ∙ h)) (eq-or-ne k start)
+
+-- a gate's words, read as its operands
+pub gate-words : {ws : List ℕ} {n m gates : ℕ} → GatesReady ws n m gates → (i : ℕ) → i < m → wordGates ws n m (gates + 5 * i) (getD ws (gates + 5 * i) 0 / 8) ≡ readBy (decode ws) i
+unfolding gateReads
+gate-words g i l = g .operands i l

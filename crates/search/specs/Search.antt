@@ -30,16 +30,20 @@ unfoldable pub fresh : List ℕ → List ℕ → List ℕ
 fresh flags [] = []
 fresh flags (k ∷ ks) = cond (eqb (getD flags k 0) 0) (k ∷ fresh (set flags k 1) ks) (fresh (set flags k 1) ks)
 
+-- the gates that gate i reads, by its words; the first gate's words stand at `gates`
+unfoldable pub gateReads : List ℕ → ℕ → ℕ → ℕ → ℕ → List ℕ
+gateReads ws n m gates i = wordGates ws n m (gates + 5 * i) (getD ws (gates + 5 * i) 0 / 8)
+
 -- how many of the first m flags are set
 unfoldable pub setFlags : List ℕ → ℕ → ℕ
 setFlags flags m = countBelow (λ k. not (eqb (getD flags k 0) 0)) m
 
--- each marked gate is queued once, so the queue's end is the number of marked gates and never passes m
+-- each queued gate is marked, and queued once, so the queue's end never passes m
 pub record Room (m : ℕ) (flags queue : List ℕ) (tail : ℕ) : Type 0 where
   pub flagRoom : m ≤ length flags
   pub queueRoom : m ≤ length queue
   pub small : m ≤ 65535
-  pub counted : setFlags flags m ≡ tail
+  pub counted : tail ≤ setFlags flags m
 
 -- flags, queue and its end after these gates are marked
 pub record Extended (ks flags queue : List ℕ) (tail : ℕ) (flags′ queue′ : List ℕ) (tail′ : ℕ) : Type 0 where
@@ -47,30 +51,44 @@ pub record Extended (ks flags queue : List ℕ) (tail : ℕ) (flags′ queue′ 
   pub queueIs : queue′ ≡ sets queue tail (fresh flags ks)
   pub tailIs : tail′ ≡ tail + length (fresh flags ks)
 
--- A search from `start` in block b, under way: what is marked is reached and queued, and what the first `head` queued gates read is marked.
-pub record Searching (b : Block) (m start : ℕ) (flags queue : List ℕ) (head tail : ℕ) : Type 0 where
+-- gate k stands in the queue
+abbrev pub Queued : List ℕ → ℕ → ℕ → Type 0
+Queued queue tail k = (q : ℕ) × (q < tail) × (getD queue q 0 ≡ k)
+
+-- A search from `start` in block b, under way, past no gate of `barred`: what is queued is reached and marked, what is marked is queued or
+-- barred, and what the first `head` queued gates read is marked.
+pub record Searching (b : Block) (m start : ℕ) (barred flags queue : List ℕ) (head tail : ℕ) : Type 0 where
   pub room : Room m flags queue tail
   pub behind : head ≤ tail
   pub bits : (k : ℕ) → k < m → (getD flags k 0 ≡ 0) ⊎ (getD flags k 0 ≡ 1)
-  pub started : getD flags start 0 ≡ 1
-  pub reached : (k : ℕ) → k < m → getD flags k 0 ≡ 1 → Path b start k
-  pub queued : (q : ℕ) → q < tail → (getD queue q 0 < m) × (getD flags (getD queue q 0) 0 ≡ 1)
+  pub started : Queued queue tail start
+  pub queued : (q : ℕ) → q < tail → (getD queue q 0 < m) × Path b start (getD queue q 0)
   pub visited : (q : ℕ) → q < head → (k : ℕ) → reads b (getD queue q 0) k ≡ true → getD flags k 0 ≡ 1
-  pub found : (k : ℕ) → k < m → getD flags k 0 ≡ 1 → (q : ℕ) × (q < tail) × (getD queue q 0 ≡ k)
+  pub found : (k : ℕ) → k < m → getD flags k 0 ≡ 1 → (getD barred k 0 ≡ 1) ⊎ Queued queue tail k
 
--- what a search needs: the words are read as the block's gates, and flags and queue have room for every gate
-pub record SearchReady (ws : List ℕ) (n m gates : ℕ) (flags queue : List ℕ) : Type 0 where
+-- the words are read as the block's gates
+pub record GatesReady (ws : List ℕ) (n m gates : ℕ) : Type 0 where
   pub fewInputs : n ≤ 65535
   pub fewGates : m ≤ 1024
   pub near : gates ≤ 1024
-  pub flagRoom : m ≤ length flags
-  pub queueRoom : m ≤ length queue
-  pub operands : (i : ℕ) → i < m → wordGates ws n m (gates + 5 * i) (getD ws (gates + 5 * i) 0 / 8) ≡ readBy (decode ws) i
+  pub operands : (i : ℕ) → i < m → gateReads ws n m gates i ≡ readBy (decode ws) i
   pub inside : (i k : ℕ) → i < m → reads (decode ws) i k ≡ true → k < m
 
--- a search's end: exactly the gates that are reached are marked, and counted
-pub record Reached (b : Block) (m start : ℕ) (flags : List ℕ) (count : ℕ) : Type 0 where
+-- room for a search
+pub record SearchReady (ws : List ℕ) (n m gates : ℕ) (flags queue : List ℕ) : Type 0 where
+  pub whole : GatesReady ws n m gates
+  pub flagRoom : m ≤ length flags
+  pub queueRoom : m ≤ length queue
+
+-- `start` is there and not barred, and a flag is 0 or 1
+pub record StartReady (m start : ℕ) (flags : List ℕ) : Type 0 where
+  pub below : start < m
+  pub free : getD flags start 0 ≡ 0
   pub bits : (k : ℕ) → k < m → (getD flags k 0 ≡ 0) ⊎ (getD flags k 0 ≡ 1)
-  pub sound : (k : ℕ) → k < m → getD flags k 0 ≡ 1 → Path b start k
-  pub complete : (k : ℕ) → Path b start k → getD flags k 0 ≡ 1
-  pub counts : count ≡ setFlags flags m
+
+-- a search's end: the queue holds `start`, only gates that it reaches, and what they read but for barred gates
+pub record Reached (b : Block) (m start : ℕ) (barred queue : List ℕ) (count : ℕ) : Type 0 where
+  pub few : count ≤ m
+  pub started : Queued queue count start
+  pub sound : (q : ℕ) → q < count → (getD queue q 0 < m) × Path b start (getD queue q 0)
+  pub closed : (q : ℕ) → q < count → (k : ℕ) → reads b (getD queue q 0) k ≡ true → (getD barred k 0 ≡ 1) ⊎ Queued queue count k

@@ -1,9 +1,8 @@
 // Breadth-first search along operands: what one gate reaches.
-ghost use mathlib.Core.Path.{_≡_};
-ghost use mathlib.Core.List.{[], _∷_, _++_};
-ghost use Prim.Native.Nat.{_+_, _*_, _/_, _≤_, _<_};
-ghost use lib.ListN.{length, getD, drop, replicate};
-ghost use Rattle.search.specs.Search.{wordGate, wordGates, Room, Extended, SearchReady, Reached};
+ghost use mathlib.Core.List.{[], _∷_};
+ghost use Prim.Native.Nat.{_/_, _≤_, _<_};
+ghost use lib.ListN.{getD};
+ghost use Rattle.search.specs.Search.{wordGate, wordGates, Room, Extended, StartReady, SearchReady, Reached};
 ghost use Rattle.netlist.specs.StoredBlock.{decode};
 use ternary::read::word_at;
 
@@ -64,20 +63,9 @@ fn visit(
     end
 }
 
-// No gate is marked.
-pub fn clear(m: usize, flags: &mut [u8])
-    requires { ⌜ m ≤ length (now flags) ⌝ }
-    ensures { λ r. ⌜ now (flags .exit) ≡ replicate m 0 ++ drop m (now (flags .entry)) ⌝ }
-{
-    let mut i = 0;
-    while i < m {
-        flags[i] = 0;
-        i += 1;
-    }
-}
-
-// Marks every gate that gate `start` reaches; how many they are. The first gate's words stand at `gates`.
-pub fn mark_reach(
+// Queues gate `start` and every gate that it reaches past no gate that was marked before; how many they are. They are marked too.
+// The first gate's words stand at `gates`.
+pub fn queue_reach(
     words: &[u16],
     n: usize,
     m: usize,
@@ -86,10 +74,9 @@ pub fn mark_reach(
     flags: &mut [u8],
     queue: &mut [u16],
 ) -> usize
-    requires { ⌜ (start < m) × SearchReady (now words) n m gates (now flags) (now queue) ⌝ }
-    ensures { λ r. ⌜ Reached (decode (now (words .entry))) m start (now (flags .exit)) r ⌝ }
+    requires { ⌜ StartReady m start (now flags) × SearchReady (now words) n m gates (now flags) (now queue) ⌝ }
+    ensures { λ r. ⌜ Reached (decode (now (words .entry))) m start (now (flags .entry)) (now (queue .exit)) r ⌝ }
 {
-    clear(m, flags);
     flags[start] = 1;
     queue[0] = start as u16;
     let mut head = 0;

@@ -1,0 +1,115 @@
+-- `search::walk::queue_reach` meets its contract: a breadth-first search, whose invariant `Searching` holds from `search-start` on.
+-- Assumes nothing.
+use Prim.Native.Nat.{_+_, _-_, _*_, _/_, _<_}
+use mathlib.Core.Path.{_≡_, refl, _∙_}
+use borrow.Author.Needs.{needs}
+use borrow.Author.Count.{falls}
+use native.Mathlib.Omega.{arith}
+use lib.ListN.{length, getD, length-set}
+use Rattle.netlist.specs.StoredBlock.{decode}
+use Rattle.netlist.specs.Groups.{readBy}
+use Rattle.search.specs.Search.{wordGates, Searching}
+use Rattle.search.proofs.Marking.{words-inside, flags-length, queue-length}
+use Rattle.search.proofs.Searching.{search-start, search-turn, search-reached, gate-words, room-tail}
+use Rattle.search.proofs.walk.queue_reach.Statement.{statement}
+use Rattle.search.proofs.walk.queue_reach.Tie as tie
+
+abbrev Inv-loop : tie.InvT-loop
+Inv-loop words n m gates start flags₀ queue₀ head₀ tail₀ flags queue head tail =
+    Searching (decode words) m start flags₀ flags queue head tail × (length flags ≡ length flags₀) × (length queue ≡ length queue₀)
+
+abbrev μ-loop : tie.MeasureT-loop
+μ-loop words n m gates start flags₀ queue₀ head₀ tail₀ flags queue head tail = m - head
+
+slice-write-flags : tie.Need-slice-write-flags Inv-loop μ-loop
+slice-write-flags c = omega (arith, c .before .before .before .pre .0 .below, c .before .before .before .pre .1 .flagRoom)
+
+cast-queue : tie.Need-cast-queue Inv-loop μ-loop
+cast-queue c = omega (arith, c .before .before .before .pre .0 .below, c .before .before .before .pre .1 .whole .fewGates)
+
+slice-write-queue : tie.Need-slice-write-queue Inv-loop μ-loop
+slice-write-queue c = omega (arith, c .before .before .before .pre .0 .below, c .before .before .before .pre .1 .queueRoom)
+
+loop-holds : tie.Need-loop-holds Inv-loop μ-loop
+loop-holds c =
+    let s = c .before .before .before in (
+      search-start (decode (s .args .words .now)) (s .args .m) (s .args .start) (s .args .flags .now) (s .args .queue .now) (s .pre .0) (s .pre .1 .flagRoom) (s .pre .1 .queueRoom) (s .pre .1 .whole .fewGates),
+      refl,
+      refl,
+    )
+
+word-at-requires : tie.Need-word-at-requires Inv-loop μ-loop
+word-at-requires c κs = search needs
+
+mul-visit : tie.Need-mul-visit Inv-loop μ-loop
+mul-visit c =
+    let s = c .before .before .before .before .before .before .before in
+    let l = c .before .before .before .loop in
+    omega (arith, l .inv .0 .queued (l .head) (c .before .before .loop-test .taken) .0, c .word-at .ensures, s .pre .1 .whole .fewGates)
+
+add-visit : tie.Need-add-visit Inv-loop μ-loop
+add-visit c =
+    let s = c .before .before .before .before .before .before .before in
+    let l = c .before .before .before .loop in
+    omega (arith, l .inv .0 .queued (l .head) (c .before .before .loop-test .taken) .0, c .word-at .ensures, s .pre .1 .whole .fewGates, s .pre .1 .whole .near)
+
+visit-requires : tie.Need-visit-requires Inv-loop μ-loop
+visit-requires c κs =
+    let s = c .before .before .before .before .before .before .before .before .before in
+    let l = c .before .before .before .before .before .loop in
+    (omega (arith, l .inv .0 .queued (l .head) (c .before .before .before .before .loop-test .taken) .0, c .before .before .word-at .ensures, s .pre .1 .whole .fewGates, s .pre .1 .whole .near), s .pre .1 .whole .fewInputs, l .inv .0 .room)
+
+add-head : tie.Need-add-head Inv-loop μ-loop
+add-head c = omega (arith, room-tail (c .before .before .before .before .before .before .before .before .before .before .loop .inv .0 .room), c .before .before .before .before .before .before .before .before .before .before .before .before .before .before .pre .1 .whole .fewGates, c .before .before .before .before .before .before .before .before .before .loop-test .taken)
+
+loop-less : tie.Need-loop-less Inv-loop μ-loop
+loop-less c =
+    let l = c .before .before .before .before .before .before .before .before .before .before .loop in
+    falls (c .before .before .before .before .before .before .before .before .before .before .before .before .before .before .args .m) (l .head) (omega (arith, room-tail (l .inv .0 .room), c .before .before .before .before .before .before .before .before .before .loop-test .taken))
+
+loop-again : tie.Need-loop-again Inv-loop μ-loop
+loop-again c =
+    let s = c .before .before .before .before .before .before .before .before .before .before .before .before .before .before in
+    let l = c .before .before .before .before .before .before .before .before .before .before .loop in
+    let w = c .before .before .before .before .before .before .before .word-at in
+    let ws = s .args .words .now in
+    let at = s .args .gates + 5 * w .result in
+    let lt : getD (l .queue) (l .head) 0 < s .args .m = l .inv .0 .queued (l .head) (c .before .before .before .before .before .before .before .before .before .loop-test .taken) .0 in
+    let lt′ : w .result < s .args .m = rw (w .ensures) lt in
+    let are : wordGates ws (s .args .n) (s .args .m) at (getD ws at 0 / 8) ≡ readBy (decode ws) (getD (l .queue) (l .head) 0) = rw (← w .ensures) (gate-words (s .pre .1 .whole) (w .result) lt′) in
+    let e = c .before .before .before .before .visit .ensures in (
+      search-turn (l .inv .0) (wordGates ws (s .args .n) (s .args .m) at (getD ws at 0 / 8)) are
+          (words-inside ws (s .args .n) (s .args .m) at (getD ws at 0 / 8)) (c .before .before .before .before .before .before .before .before .before .loop-test .taken) e,
+      flags-length e ∙ l .inv .1,
+      queue-length e ∙ l .inv .2,
+    )
+
+same-length : tie.Need-same-length Inv-loop μ-loop
+same-length c = c .before .loop .inv .1 ∙ length-set (c .before .before .before .before .before .args .flags .now) (c .before .before .before .before .before .args .start) 1
+
+same-length-2 : tie.Need-same-length-2 Inv-loop μ-loop
+same-length-2 c = c .before .loop .inv .2 ∙ length-set (c .before .before .before .before .before .args .queue .now) 0 (c .before .before .before .before .before .args .start)
+
+returns : tie.Need-returns Inv-loop μ-loop
+returns c = search-reached (c .before .before .before .before .before .args .flags .now) (c .before .loop .inv .0) (c .loop-test .left) (c .before .before .before .before .before .pre .1 .whole .inside)
+
+pub queue-reach-spec : {M : Type 1} → statement M
+queue-reach-spec =
+    tie.close
+    (tie.spec
+    Inv-loop
+    μ-loop
+    slice-write-flags
+    cast-queue
+    slice-write-queue
+    loop-holds
+    word-at-requires
+    mul-visit
+    add-visit
+    visit-requires
+    add-head
+    loop-less
+    loop-again
+    same-length
+    same-length-2
+    returns)
