@@ -1,2 +1,4 @@
--- Mathematics of components and their numbering; no function of src/ is named.
-pub mod Sizes
+-- Mathematics of components; no function of src/ is named.
+pub mod Leader
+pub mod Joining
+pub mod Found

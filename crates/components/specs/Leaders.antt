@@ -1,33 +1,87 @@
--- Strongly connected groups from the sizes of what gates reach: two gates are in one group when one reaches the other and both reach as many.
-use Prim.Native.Nat.{ℕ, _<_}
+-- The leader of a strongly connected group is its lowest gate; and how leaders are found, on arrays: a gate's leader or 65535.
+use Prim.Native.Nat.{ℕ, _+_, _≤_, _<_}
 use mathlib.Core.Path.{_≡_}
-use mathlib.Core.Bool.{Bool, _&&_}
+use mathlib.Core.Bool.{Bool, true, false, cond, _&&_}
 use mathlib.Core.List.{List}
-use lib.ListN.{getD}
-use lib.Dec.{eqb}
-use Rattle.laws.specs.Lists.{countBelow, least}
+use lib.ListN.{length, getD, set}
+use lib.Dec.{eqb, ltb}
+use Rattle.laws.specs.Lists.{any, countBelow, least}
 use Rattle.netlist.specs.Netlist.{Block, gateCount}
 use Rattle.netlist.specs.StoredBlock.{decode}
-use Rattle.netlist.specs.Groups.{reaches, sameGroup}
-use Rattle.search.specs.Search.{SearchReady}
+use Rattle.netlist.specs.Groups.{sameGroup}
+use Rattle.search.specs.Search.{gateReads, GatesReady, SearchReady}
 
--- how many gates gate j reaches
-unfoldable pub reachSize : Block → ℕ → ℕ
-reachSize b j = countBelow (reaches b j) (gateCount b)
+abbrev pub noLeader : ℕ
+noLeader = 65535
 
 -- the lowest gate of gate j's group
 unfoldable pub leaderOf : Block → ℕ → ℕ
 leaderOf b j = least (sameGroup b j) (gateCount b)
 
--- marked, and of this size
-unfoldable pub markedOfSize : List ℕ → List ℕ → ℕ → ℕ → Bool
-markedOfSize flags sizes size k = eqb (getD flags k 0) 1 && eqb (getD sizes k 0) size
+-- gate j's leader when the groups of the leaders below l have theirs
+unfoldable pub leaderUpTo : Block → ℕ → ℕ → ℕ
+leaderUpTo b l j = cond (ltb (leaderOf b j) l) (leaderOf b j) noLeader
+
+-- a flag for each gate that has a leader
+unfoldable pub barredBy : List ℕ → ℕ → ℕ
+barredBy leaders k = cond (eqb (getD leaders k 0) noLeader) 0 1
+
+unfoldable pub ledBy : List ℕ → ℕ → ℕ → Bool
+ledBy leaders leader k = eqb (getD leaders k 0) leader
+
+-- gate k has no leader, and reads a gate that `leader` leads
+unfoldable pub joins : List ℕ → ℕ → ℕ → ℕ → ℕ → List ℕ → ℕ → Bool
+joins ws n m gates leader leaders k = eqb (getD leaders k 0) noLeader && any (ledBy leaders leader) (gateReads ws n m gates k)
+
+-- what `lead_gate` does
+pub record LedOne (ws : List ℕ) (n m gates leader k : ℕ) (leaders leaders′ : List ℕ) (did : Bool) : Type 0 where
+  pub answer : did ≡ joins ws n m gates leader leaders k
+  pub leaves : leaders′ ≡ cond did (set leaders k leader) leaders
+
+-- queued gates that join `leader`, one after the other, in any order
+pub data Joined (ws : List ℕ) (n m gates leader : ℕ) (queue : List ℕ) (count : ℕ) (entry : List ℕ) : List ℕ → Type 0 where
+  none : Joined ws n m gates leader queue count entry entry
+  more : {leaders : List ℕ} → Joined ws n m gates leader queue count entry leaders → (q : ℕ) → q < count → joins ws n m gates leader leaders (getD queue q 0) ≡ true → Joined ws n m gates leader queue count entry (set leaders (getD queue q 0) leader)
+
+-- how many gates have no leader
+unfoldable pub unled : List ℕ → ℕ → ℕ
+unled leaders m = countBelow (λ k. eqb (getD leaders k 0) noLeader) m
+
+-- no queued gate joins
+abbrev pub Quiet : List ℕ → ℕ → ℕ → ℕ → ℕ → List ℕ → ℕ → List ℕ → Type 0
+Quiet ws n m gates leader queue count leaders = (q : ℕ) → q < count → joins ws n m gates leader leaders (getD queue q 0) ≡ false
+
+-- what `lead_once` does
+pub record Swept (ws : List ℕ) (n m gates leader : ℕ) (queue : List ℕ) (count : ℕ) (leaders leaders′ : List ℕ) (changed : Bool) : Type 0 where
+  pub steps : Joined ws n m gates leader queue count leaders leaders′
+  pub quiet : changed ≡ false → (leaders′ ≡ leaders) × Quiet ws n m gates leader queue count leaders
+  pub fewer : changed ≡ true → unled leaders′ m < unled leaders m
+
+-- what `lead_queued` does
+pub record Spread (ws : List ℕ) (n m gates leader : ℕ) (queue : List ℕ) (count : ℕ) (leaders leaders′ : List ℕ) : Type 0 where
+  pub steps : Joined ws n m gates leader queue count leaders leaders′
+  pub quiet : Quiet ws n m gates leader queue count leaders′
+
+-- what both need
+pub record QueueReady (ws : List ℕ) (n m gates leader : ℕ) (queue : List ℕ) (count : ℕ) (leaders : List ℕ) : Type 0 where
+  pub whole : GatesReady ws n m gates
+  pub below : leader < m
+  pub room : m ≤ length leaders
+  pub queued : (q : ℕ) → q < count → getD queue q 0 < m
 
 -- a whole block's words, n and m, and room for a search
 pub record Ready (ws : List ℕ) (n m gates : ℕ) (flags queue : List ℕ) : Type 0 where
   pub search : SearchReady ws n m gates flags queue
   pub gatesAre : m ≡ gateCount (decode ws)
 
--- what `measure` leaves
-abbrev pub Sizes : Block → ℕ → List ℕ → Type 0
-Sizes b m sizes = (j : ℕ) → j < m → getD sizes j 0 ≡ reachSize b j
+-- the groups of the leaders below l have theirs, and nothing is stored past the gates
+pub record Led (b : Block) (m l : ℕ) (entry leaders : List ℕ) : Type 0 where
+  pub sameLength : length leaders ≡ length entry
+  pub first : (j : ℕ) → j < m → getD leaders j 0 ≡ leaderUpTo b l j
+  pub rest : (j : ℕ) → m ≤ j → getD leaders j 0 ≡ getD entry j 0
+
+-- it is `leader`'s turn
+pub record LeadReady (ws : List ℕ) (m leader : ℕ) (leaders : List ℕ) : Type 0 where
+  pub below : leader < m
+  pub room : m ≤ length leaders
+  pub lower : (j : ℕ) → j < m → getD leaders j 0 ≡ leaderUpTo (decode ws) leader j

@@ -1,70 +1,180 @@
-// The lowest gate of each gate's strongly connected group.
+// The lowest gate of each gate's strongly connected group, its leader. Gates are taken in ascending order; one without a leader leads itself
+// and those gates that it reaches, past no gate that has a leader, and that reach it back.
 ghost use mathlib.Core.Path.{_≡_};
-ghost use Prim.Native.Nat.{_≤_, _<_};
-ghost use lib.ListN.{length, getD};
-ghost use Rattle.laws.specs.Lists.{tab, placed, least};
+ghost use Prim.Native.Nat.{_/_, _+_, _≤_, _<_};
+ghost use mathlib.Core.List.{_++_};
+ghost use lib.ListN.{length, getD, drop, replicate};
+ghost use Rattle.laws.specs.Lists.{any, tab, placed};
 ghost use Rattle.netlist.specs.StoredBlock.{decode};
-ghost use Rattle.components.specs.Leaders.{reachSize, leaderOf, markedOfSize, Ready, Sizes};
-use search::walk::mark_reach;
+ghost use Rattle.search.specs.Search.{wordGate, wordGates, GatesReady};
+ghost use Rattle.components.specs.Leaders.{leaderOf, noLeader, barredBy, ledBy, LedOne, Swept, Spread, QueueReady, Ready, LeadReady, Led};
+use search::walk::queue_reach;
 use ternary::read::word_at;
 
-// How many gates each gate reaches.
-pub fn measure(
+pub const NO_LEADER: usize = 65535;
+
+// No gate has a leader.
+pub fn forget(m: usize, leaders: &mut [u16])
+    requires { ⌜ (m ≤ length (now leaders)) × (m ≤ 1024) ⌝ }
+    ensures { λ r. ⌜ now (leaders .exit) ≡ replicate m noLeader ++ drop m (now (leaders .entry)) ⌝ }
+{
+    let mut i = 0;
+    while i < m {
+        leaders[i] = 65535;
+        i += 1;
+    }
+}
+
+// Marks the gates that have a leader.
+fn bar(m: usize, leaders: &[u16], flags: &mut [u8])
+    requires { ⌜ (m ≤ length (now flags)) × (m ≤ 1024) ⌝ }
+    ensures { λ r. ⌜ now (flags .exit) ≡ placed (tab (barredBy (now (leaders .entry))) m) (now (flags .entry)) ⌝ }
+{
+    let mut i = 0;
+    while i < m {
+        flags[i] = (word_at(leaders, i) != NO_LEADER) as u8;
+        i += 1;
+    }
+}
+
+// The operand word names a gate that `leader` leads.
+fn is_led(w: usize, n: usize, m: usize, leaders: &[u16], leader: usize) -> bool
+    requires { ⌜ (n ≤ 65535) × (m ≤ 1024) ⌝ }
+    ensures { λ r. ⌜ r ≡ any (ledBy (now (leaders .entry)) leader) (wordGate n m w) ⌝ }
+{
+    if w < n {
+        return false;
+    }
+    if n + m <= w {
+        return false;
+    }
+    word_at(leaders, w - n) == leader
+}
+
+// The gate at `at` reads such a gate.
+fn reads_led(words: &[u16], n: usize, m: usize, at: usize, leaders: &[u16], leader: usize) -> bool
+    requires { ⌜ (at ≤ 65535) × (n ≤ 65535) × (m ≤ 1024) ⌝ }
+    ensures { λ r. ⌜ r ≡ any (ledBy (now (leaders .entry)) leader) (wordGates (now (words .entry)) n m at (getD (now (words .entry)) at 0 / 8)) ⌝ }
+{
+    let count = word_at(words, at) / 8;
+    let mut i = 0;
+    while i < count {
+        if is_led(word_at(words, at + 1 + i), n, m, leaders, leader) {
+            return true;
+        }
+        i += 1;
+    }
+    false
+}
+
+// Gate k, if it has no leader and reads a gate that `leader` leads, gets that leader; whether it did.
+fn lead_gate(
     words: &[u16],
     n: usize,
     m: usize,
     gates: usize,
-    sizes: &mut [u16],
+    leader: usize,
+    k: usize,
+    leaders: &mut [u16],
+) -> bool
+    requires { ⌜ (k < m) × (leader < m) × (m ≤ length (now leaders)) × GatesReady (now words) n m gates ⌝ }
+    ensures { λ r. ⌜ LedOne (now (words .entry)) n m gates leader k (now (leaders .entry)) (now (leaders .exit)) r ⌝ }
+{
+    if word_at(leaders, k) != NO_LEADER {
+        return false;
+    }
+    if !reads_led(words, n, m, gates + 5 * k, leaders, leader) {
+        return false;
+    }
+    leaders[k] = leader as u16;
+    true
+}
+
+// The same for each queued gate, the last first; whether any got the leader.
+fn lead_once(
+    words: &[u16],
+    n: usize,
+    m: usize,
+    gates: usize,
+    leader: usize,
+    queue: &[u16],
+    count: usize,
+    leaders: &mut [u16],
+) -> bool
+    requires { ⌜ QueueReady (now words) n m gates leader (now queue) count (now leaders) ⌝ }
+    ensures { λ r. ⌜ Swept (now (words .entry)) n m gates leader (now (queue .entry)) count (now (leaders .entry)) (now (leaders .exit)) r ⌝ }
+{
+    let mut changed = false;
+    let mut left = count;
+    while 0 < left {
+        left -= 1;
+        if lead_gate(words, n, m, gates, leader, word_at(queue, left), leaders) {
+            changed = true;
+        }
+    }
+    changed
+}
+
+// The same until no queued gate gets the leader any more.
+fn lead_queued(
+    words: &[u16],
+    n: usize,
+    m: usize,
+    gates: usize,
+    leader: usize,
+    queue: &[u16],
+    count: usize,
+    leaders: &mut [u16],
+)
+    requires { ⌜ QueueReady (now words) n m gates leader (now queue) count (now leaders) ⌝ }
+    ensures { λ r. ⌜ Spread (now (words .entry)) n m gates leader (now (queue .entry)) count (now (leaders .entry)) (now (leaders .exit)) ⌝ }
+{
+    let mut changed = true;
+    while changed {
+        changed = lead_once(words, n, m, gates, leader, queue, count, leaders);
+    }
+}
+
+// Gives the gates that `leader` leads their leader, when those of lower leaders have theirs. If `leader` has one itself, it leads none.
+fn lead_group(
+    words: &[u16],
+    n: usize,
+    m: usize,
+    gates: usize,
+    leader: usize,
+    leaders: &mut [u16],
     flags: &mut [u8],
     queue: &mut [u16],
 )
-    requires { ⌜ (m ≤ length (now sizes)) × Ready (now words) n m gates (now flags) (now queue) ⌝ }
-    ensures { λ r. ⌜ now (sizes .exit) ≡ placed (tab (reachSize (decode (now (words .entry)))) m) (now (sizes .entry)) ⌝ }
+    requires { ⌜ LeadReady (now words) m leader (now leaders) × Ready (now words) n m gates (now flags) (now queue) ⌝ }
+    ensures { λ r. ⌜ Led (decode (now (words .entry))) m (leader + 1) (now (leaders .entry)) (now (leaders .exit)) ⌝ }
 {
-    let mut j = 0;
-    while j < m {
-        let size = mark_reach(words, n, m, gates, j, flags, queue);
-        sizes[j] = size as u16;
-        j += 1;
+    if word_at(leaders, leader) != NO_LEADER {
+        return;
     }
+    bar(m, leaders, flags);
+    let count = queue_reach(words, n, m, gates, leader, flags, queue);
+    leaders[leader] = leader as u16;
+    lead_queued(words, n, m, gates, leader, queue, count, leaders);
 }
 
-// The lowest marked gate of this size, or m.
-fn lowest_of_size(flags: &[u8], sizes: &[u16], m: usize, size: usize) -> usize
-    requires { ⌜ (m ≤ length (now flags)) × (m ≤ 1024) ⌝ }
-    ensures { λ r. ⌜ r ≡ least (markedOfSize (now (flags .entry)) (now (sizes .entry)) size) m ⌝ }
-{
-    let mut k = 0;
-    while k < m {
-        if flags[k] == 1 {
-            if word_at(sizes, k) == size {
-                return k;
-            }
-        }
-        k += 1;
-    }
-    m
-}
-
-// The lowest gate of each gate's group, from the sizes of what gates reach.
+// The lowest gate of each gate's group.
 pub fn lead(
     words: &[u16],
     n: usize,
     m: usize,
     gates: usize,
-    sizes: &[u16],
     leaders: &mut [u16],
     flags: &mut [u8],
     queue: &mut [u16],
 )
-    requires { ⌜ (m ≤ length (now leaders)) × Ready (now words) n m gates (now flags) (now queue) × Sizes (decode (now words)) m (now sizes) ⌝ }
+    requires { ⌜ (m ≤ length (now leaders)) × Ready (now words) n m gates (now flags) (now queue) ⌝ }
     ensures { λ r. ⌜ now (leaders .exit) ≡ placed (tab (leaderOf (decode (now (words .entry)))) m) (now (leaders .entry)) ⌝ }
 {
+    forget(m, leaders);
     let mut j = 0;
     while j < m {
-        mark_reach(words, n, m, gates, j, flags, queue);
-        let leader = lowest_of_size(flags, sizes, m, word_at(sizes, j));
-        leaders[j] = leader as u16;
+        lead_group(words, n, m, gates, j, leaders, flags, queue);
         j += 1;
     }
 }

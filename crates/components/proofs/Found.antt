@@ -1,0 +1,301 @@
+-- When no queued gate joins any more, exactly the leader's group has joined. Cited by `lead_group` and `lead`. Assumes nothing.
+use mathlib.Core.Path.{_≡_, refl, sym, ap, _∙_, subst}
+use mathlib.Core.Logic.{_⊎_, inl, inr, ⊎-elim}
+use mathlib.Core.Bool.{Bool, true, false, cond, not, _&&_}
+use mathlib.Core.List.{List, _++_}
+use Prim.Native.Nat.{ℕ, zero, suc, _+_, _-_, _≤_, _<_}
+use native.Mathlib.Omega.{arith}
+use lib.ListN.{length, getD, set, drop, replicate, length-set, length-append, length-drop, length-replicate, getD-replicate, List·getD-append}
+use lib.Seq.{getD-set-same, getD-set-other, getD-append-add, getD-drop, ext-getD}
+use lib.Dec.{eqb, ltb}
+use borrow.Author.Tests.{eqb-true, eq-eqb, ne-eqb, lt-ltb, le-ltb}
+use Rattle.laws.specs.Lists.{any, member, tab, placed}
+use Rattle.laws.proofs.Tests.{bool-cases, not-both, and-left, and-right, and-intro, eq-or-ne, lt-or-le}
+use Rattle.laws.proofs.Quantifiers.{any-at, any-from, member-at, member-from}
+use Rattle.laws.proofs.Tab.{placed-tab, length-tab}
+use Rattle.netlist.specs.Netlist.{Block, gateCount}
+use Rattle.netlist.specs.StoredBlock.{decode}
+use Rattle.netlist.specs.Groups.{Path, stay, step, reads, readBy, reaches, sameGroup}
+use Rattle.reach.proofs.Reach.{path-reaches, reaches-path, reaches-below, reaches-trans, reaches-refl}
+use Rattle.reach.proofs.SameGroup.{sameGroup-refl, sameGroup-sym, sameGroup-trans, sameGroup-below}
+use Rattle.search.specs.Search.{gateReads, GatesReady, SearchReady, StartReady, Queued, Reached}
+use Rattle.components.specs.Leaders.{noLeader, leaderOf, leaderUpTo, barredBy, ledBy, joins, Joined, none, more, Quiet, Spread, QueueReady, LeadReady, Led}
+use Rattle.components.proofs.Leader.{leader-below, leader-same, same-leader, leader-le, leader-leads}
+use Rattle.components.proofs.Joining.{joins-free, joined-length}
+
+-- an element past what is placed
+past : (xs : List ℕ) (m : ℕ) (entry : List ℕ) → length xs ≡ m → (k : ℕ) → m ≤ k → getD (xs ++ drop m entry) k 0 ≡ getD entry k 0
+past xs m entry len k h =
+    let e : m + (k - m) ≡ k = omega arith in
+    let t : getD (xs ++ drop m entry) (length xs + (k - m)) 0 ≡ getD (drop m entry) (k - m) 0 = getD-append-add xs (drop m entry) (k - m) 0 in
+    (rw (len, e) at t) ∙ getD-drop m entry (k - m) 0 ∙ rw e refl
+
+-- a slice is known by its first m elements and the rest
+placed-is : (f : ℕ → ℕ) (m : ℕ) (entry slice : List ℕ) → m ≤ length entry → length slice ≡ length entry → ((k : ℕ) → k < m → getD slice k 0 ≡ f k) → ((k : ℕ) → m ≤ k → getD slice k 0 ≡ getD entry k 0) → slice ≡ placed (tab f m) entry
+placed-is f m entry slice room len first rest = ext-getD 0 slice (placed (tab f m) entry) lengths (λ k l. ⊎-elim (λ h. first k h ∙ sym (placed-tab f m entry k 0 h)) (λ h. rest k h ∙ sym (behind k h)) (lt-or-le k m))
+  where
+    lengths : length slice ≡ length (placed (tab f m) entry)
+    lengths = len ∙ sym (rw (length-append, length-drop, length-tab f m) (omega arith))
+
+    behind : (k : ℕ) → m ≤ k → getD (placed (tab f m) entry) k 0 ≡ getD entry k 0
+    behind k h = rw (length-tab f m) (past (tab f m) m entry (length-tab f m) k h)
+
+-- ---- leaders so far
+
+up-below : (b : Block) (l j : ℕ) → leaderOf b j < l → leaderUpTo b l j ≡ leaderOf b j
+unfolding leaderUpTo
+up-below b l j h = rw (lt-ltb (leaderOf b j) l h) refl
+
+up-above : (b : Block) (l j : ℕ) → l ≤ leaderOf b j → leaderUpTo b l j ≡ noLeader
+unfolding leaderUpTo
+up-above b l j h = rw (le-ltb (leaderOf b j) l h) refl
+
+-- who is in one group has one leader
+led-same : (b : Block) (l k : ℕ) → leaderOf b l ≡ l → sameGroup b l k ≡ true → leaderOf b k ≡ l
+led-same b l k e h = sym (same-leader b l k h) ∙ e
+
+-- who has a leader is in one group with it
+led-group : (b : Block) (l k : ℕ) → k < gateCount b → leaderOf b k ≡ l → sameGroup b l k ≡ true
+led-group b l k h e = sameGroup-sym b k l (rw (← e) (leader-same b k h))
+
+module _ (ws : List ℕ) (n m gates l : ℕ) (whole : GatesReady ws n m gates) (gatesAre : m ≡ gateCount (decode ws)) (entry : List ℕ) (ready : LeadReady ws m l entry) (free : getD entry l 0 ≡ noLeader) where
+  abbrev b : Block
+  b = decode ws
+
+  below : {k : ℕ} → k < m → k < gateCount b
+  below {k} h = subst (λ (g : ℕ). k < g) gatesAre h
+
+  above : {k : ℕ} → k < gateCount b → k < m
+  above {k} h = subst (λ (g : ℕ). k < g) (sym gatesAre) h
+
+  small : l < 1024
+  small = omega (arith, ready .below, whole .fewGates)
+
+  -- gate l leads
+  leads : leaderOf b l ≡ l
+  leads = ⊎-elim (λ h. absurd (lower h)) (λ h. let le : leaderOf b l ≤ l = leader-le b l (below (ready .below)) in omega arith) (lt-or-le (leaderOf b l) l)
+    where
+      lower : leaderOf b l < l → ⊥
+      lower h = let e : noLeader ≡ leaderOf b l = sym (free) ∙ ready .lower l (ready .below) ∙ up-below b l l h in omega (arith, small)
+
+  -- no gate had gate l for its leader, and a gate of its group had none
+  not-yet : (k : ℕ) → k < m → getD entry k 0 ≡ l → ⊥
+  not-yet k h e =
+      ⊎-elim
+      (λ lt. let s : l ≡ leaderOf b k = sym e ∙ ready .lower k h ∙ up-below b l k lt in omega arith)
+      (λ ge. let s : l ≡ noLeader = sym e ∙ ready .lower k h ∙ up-above b l k ge in omega (arith, small))
+      (lt-or-le (leaderOf b k) l)
+
+  group-free : (k : ℕ) → sameGroup b l k ≡ true → getD entry k 0 ≡ noLeader
+  group-free k h =
+      let e : leaderOf b k ≡ l = led-same b l k leads h in
+      ready .lower k (above (sameGroup-below b l k h)) ∙ up-above b l k (omega arith)
+
+  abbrev entry₁ : List ℕ
+  entry₁ = set entry l l
+
+  at-l : getD entry₁ l 0 ≡ l
+  at-l = getD-set-same entry l l 0 (omega (arith, ready .below, ready .room))
+
+  module _ (queue : List ℕ) (count : ℕ) (barred : List ℕ) (are : (k : ℕ) → k < m → getD barred k 0 ≡ barredBy entry k) (r : Reached b m l barred queue count) where
+    -- ---- the queue holds the group
+
+    not-barred : (k : ℕ) → sameGroup b l k ≡ true → getD barred k 0 ≡ 1 → ⊥
+    unfolding barredBy
+    not-barred k h e =
+        let z : barredBy entry k ≡ 0 = rw (eq-eqb (getD entry k 0) noLeader (group-free k h)) refl in
+        let c : _≡_ {A = ℕ} 0 1 = sym z ∙ sym (are k (above (sameGroup-below b l k h))) ∙ e in
+        omega arith
+
+    from : (i k : ℕ) → k < gateCount b → sameGroup b l i ≡ true → Queued queue count i → Path b i k → reaches b k l ≡ true → Queued queue count k
+    unfolding sameGroup
+    from i k kl g q stay back = q
+    from i k kl g q (step {j = j} d p) back =
+        let jl : j < m = whole .inside i j (above (sameGroup-below b l i g)) d in
+        let lj : reaches b l j ≡ true = reaches-trans b l i j (and-left (reaches b l i) (reaches b i l) g) (path-reaches b i j (below jl) (step d stay)) in
+        let back′ : reaches b j l ≡ true = reaches-trans b j k l (path-reaches b j k kl p) back in
+        let gj : sameGroup b l j ≡ true = and-intro (reaches b l j) (reaches b j l) lj back′ in
+        from j k kl gj (⊎-elim (λ x. absurd (not-barred j gj x)) (λ x. x) (r .closed (q .0) (q .1) j (rw (q .2) d))) p back
+
+    group-queued : (k : ℕ) → sameGroup b l k ≡ true → Queued queue count k
+    unfolding sameGroup
+    group-queued k g = from l k (sameGroup-below b l k g) (sameGroup-refl b l (below (ready .below))) (r .started) (reaches-path b l k (and-left (reaches b l k) (reaches b k l) g)) (and-right (reaches b l k) (reaches b k l) g)
+
+    -- ---- what joins is of the group
+
+    -- a gate that joins reads one that gate l leads
+    joins-reads : (leaders : List ℕ) (k : ℕ) → k < m → joins ws n m gates l leaders k ≡ true → (j : ℕ) × (reads b k j ≡ true) × (getD leaders j 0 ≡ l)
+    unfolding joins ledBy reads
+    joins-reads leaders k kl h =
+        let e : any (ledBy leaders l) (readBy b k) ≡ true = rw (whole .operands k kl) at (and-right (eqb (getD leaders k 0) noLeader) (any (ledBy leaders l) (gateReads ws n m gates k)) h) in
+        let a = any-at (ledBy leaders l) (readBy b k) 0 e in
+        (getD (readBy b k) (a .0) 0, member-from (getD (readBy b k) (a .0) 0) (readBy b k) (a .0) (a .1) refl, eqb-true (getD leaders (getD (readBy b k) (a .0) 0) 0) l (a .2))
+
+    -- and a gate without a leader that reads such a one joins
+    reads-joins : (leaders : List ℕ) (k j : ℕ) → k < m → getD leaders k 0 ≡ noLeader → reads b k j ≡ true → getD leaders j 0 ≡ l → joins ws n m gates l leaders k ≡ true
+    unfolding joins ledBy reads
+    reads-joins leaders k j kl free d e =
+        let a = member-at j (readBy b k) d in
+        let t : ledBy leaders l (getD (readBy b k) (a .0) 0) ≡ true = rw (a .2) (eq-eqb (getD leaders j 0) l e) in
+        and-intro (eqb (getD leaders k 0) noLeader) (any (ledBy leaders l) (gateReads ws n m gates k)) (eq-eqb (getD leaders k 0) noLeader free)
+        (rw (whole .operands k kl) (any-from (ledBy leaders l) (readBy b k) (a .0) 0 (a .1) t))
+
+    -- gate l keeps itself for its leader
+    joined-start : {leaders : List ℕ} → Joined ws n m gates l queue count entry₁ leaders → getD leaders l 0 ≡ l
+    joined-start none = at-l
+    joined-start (more {leaders = before} s q lt h) = getD-set-other before (getD queue q 0) l l 0 (other (joined-start s)) ∙ joined-start s
+      where
+        other : getD before l 0 ≡ l → l ≡ getD queue q 0 → ⊥
+        other ih e = let f : getD before l 0 ≡ noLeader = rw (← e) at (joins-free ws n m gates l before (getD queue q 0) h) in let g : l ≡ noLeader = sym ih ∙ f in omega (arith, small)
+
+    -- a gate keeps what it had, or is of the group and has gate l
+    joined-sound : {leaders : List ℕ} → Joined ws n m gates l queue count entry₁ leaders → (k : ℕ) → k < m → (getD leaders k 0 ≡ getD entry k 0) ⊎ ((getD leaders k 0 ≡ l) × (sameGroup b l k ≡ true))
+    unfolding sameGroup
+    joined-sound none k kl =
+        ⊎-elim (λ e. inr (rw e (at-l, sameGroup-refl b l (below (ready .below))))) (λ ne. inl (getD-set-other entry l k l 0 ne)) (eq-or-ne k l)
+    joined-sound (more {leaders = before} s q lt h) k kl = ⊎-elim (here (λ j jl. joined-sound s j jl)) (λ ne. rw (getD-set-other before (getD queue q 0) k l 0 ne) (joined-sound s k kl)) (eq-or-ne k (getD queue q 0))
+      where
+        at : (getD queue q 0 < m) × Path b l (getD queue q 0)
+        at = r .sound q lt
+
+        group : ((j : ℕ) → j < m → (getD before j 0 ≡ getD entry j 0) ⊎ ((getD before j 0 ≡ l) × (sameGroup b l j ≡ true))) → sameGroup b l (getD queue q 0) ≡ true
+        group ih =
+            let d = joins-reads before (getD queue q 0) (at .0) h in
+            let jl : d .0 < m = whole .inside (getD queue q 0) (d .0) (at .0) (d .1) in
+            let g : sameGroup b l (d .0) ≡ true = ⊎-elim (λ e. absurd (not-yet (d .0) jl (sym e ∙ d .2))) (λ e. e .1) (ih (d .0) jl) in
+            and-intro (reaches b l (getD queue q 0)) (reaches b (getD queue q 0) l)
+            (path-reaches b l (getD queue q 0) (below (at .0)) (at .1))
+            (reaches-trans b (getD queue q 0) (d .0) l (path-reaches b (getD queue q 0) (d .0) (below jl) (step (d .1) stay)) (and-right (reaches b l (d .0)) (reaches b (d .0) l) g))
+
+        here : ((j : ℕ) → j < m → (getD before j 0 ≡ getD entry j 0) ⊎ ((getD before j 0 ≡ l) × (sameGroup b l j ≡ true))) → k ≡ getD queue q 0 → (getD (set before (getD queue q 0) l) k 0 ≡ getD entry k 0) ⊎ ((getD (set before (getD queue q 0) l) k 0 ≡ l) × (sameGroup b l k ≡ true))
+        here ih e =
+            let room : getD queue q 0 < length before = rw (joined-length ws n m gates l queue count s, length-set) (omega (arith, at .0, ready .room)) in
+            inr (rw e (getD-set-same before (getD queue q 0) l 0 room, group ih))
+
+    -- ---- and at last all of it has joined
+
+    joined-complete : {leaders : List ℕ} → Joined ws n m gates l queue count entry₁ leaders → Quiet ws n m gates l queue count leaders → (k : ℕ) → sameGroup b l k ≡ true → Path b k l → getD leaders k 0 ≡ l
+    unfolding sameGroup
+    joined-complete s quiet k g stay = joined-start s
+    joined-complete {leaders} s quiet k g (step {j = j} d p) = ⊎-elim (λ e. absurd (still (λ gj. joined-complete s quiet j gj p) e)) (λ e. e .0) (joined-sound s k kl)
+      where
+        kl : k < m
+        kl = above (sameGroup-below b l k g)
+
+        jl : j < m
+        jl = whole .inside k j kl d
+
+        gj : sameGroup b l j ≡ true
+        gj =
+            and-intro (reaches b l j) (reaches b j l)
+            (reaches-trans b l k j (and-left (reaches b l k) (reaches b k l) g) (path-reaches b k j (below jl) (step d stay)))
+            (path-reaches b j l (below (ready .below)) p)
+
+        still : (sameGroup b l j ≡ true → getD leaders j 0 ≡ l) → getD leaders k 0 ≡ getD entry k 0 → ⊥
+        still ih e =
+            let q = group-queued k g in
+            let no : joins ws n m gates l leaders k ≡ false = rw (q .2) at (quiet (q .0) (q .1)) in
+            not-both (reads-joins leaders k j kl (e ∙ group-free k g) d (ih gj)) no
+
+    -- nothing is stored past the gates
+    joined-rest : {leaders : List ℕ} → Joined ws n m gates l queue count entry₁ leaders → (k : ℕ) → m ≤ k → getD leaders k 0 ≡ getD entry k 0
+    joined-rest none k h = getD-set-other entry l k l 0 (λ e. omega (arith, ready .below))
+    joined-rest (more {leaders = before} s q lt h) k le = getD-set-other before (getD queue q 0) k l 0 (λ e. omega (arith, r .sound q lt .0)) ∙ joined-rest s k le
+
+    found-at : {leaders : List ℕ} → Joined ws n m gates l queue count entry₁ leaders → Quiet ws n m gates l queue count leaders → (k : ℕ) → k < m → getD leaders k 0 ≡ leaderUpTo b (l + 1) k
+    unfolding sameGroup
+    found-at {leaders} s quiet k kl = ⊎-elim lower (λ ge. ⊎-elim (λ e. same e) (λ ne. higher (omega arith)) (eq-or-ne (leaderOf b k) l)) (lt-or-le (leaderOf b k) l)
+      where
+        kept : (leaderOf b k ≡ l → ⊥) → getD leaders k 0 ≡ getD entry k 0
+        kept ne = ⊎-elim (λ e. e) (λ e. absurd (ne (led-same b l k leads (e .1)))) (joined-sound s k kl)
+
+        lower : leaderOf b k < l → getD leaders k 0 ≡ leaderUpTo b (l + 1) k
+        lower h = kept (λ e. omega arith) ∙ ready .lower k kl ∙ up-below b l k h ∙ sym (up-below b (l + 1) k (omega arith))
+
+        same : leaderOf b k ≡ l → getD leaders k 0 ≡ leaderUpTo b (l + 1) k
+        same e =
+            let g : sameGroup b l k ≡ true = led-group b l k (below kl) e in
+            joined-complete s quiet k g (reaches-path b k l (and-right (reaches b l k) (reaches b k l) g)) ∙ sym (up-below b (l + 1) k (omega arith) ∙ e)
+
+        higher : l < leaderOf b k → getD leaders k 0 ≡ leaderUpTo b (l + 1) k
+        higher h = kept (λ e. omega arith) ∙ ready .lower k kl ∙ up-above b l k (omega arith) ∙ sym (up-above b (l + 1) k (omega arith))
+
+    -- the group has its leader
+    pub group-found : {leaders : List ℕ} → Spread ws n m gates l queue count entry₁ leaders → Led b m (l + 1) entry leaders
+    group-found s =
+        record {
+          sameLength = joined-length ws n m gates l queue count (s .steps) ∙ length-set entry l l;
+          first = found-at (s .steps) (s .quiet);
+          rest = joined-rest (s .steps);
+        }
+
+-- ---- what the search needs
+
+-- the flags that `bar` leaves
+pub barred-at : (leaders flags entry : List ℕ) (m : ℕ) → flags ≡ placed (tab (barredBy leaders) m) entry → (k : ℕ) → k < m → getD flags k 0 ≡ barredBy leaders k
+barred-at leaders flags entry m e k l = rw e (placed-tab (barredBy leaders) m entry k 0 l)
+
+pub start-ready : (leaders flags entry : List ℕ) (m l : ℕ) → flags ≡ placed (tab (barredBy leaders) m) entry → l < m → getD leaders l 0 ≡ noLeader → StartReady m l flags
+unfolding barredBy
+start-ready leaders flags entry m l e lt free =
+    record {
+      below = lt;
+      free = barred-at leaders flags entry m e l lt ∙ rw (eq-eqb (getD leaders l 0) noLeader free) refl;
+      bits = λ k kl. rw (barred-at leaders flags entry m e k kl) (bit (eqb (getD leaders k 0) noLeader));
+    }
+  where
+    bit : (t : Bool) → (_≡_ {A = ℕ} (cond t 0 1) 0) ⊎ (_≡_ {A = ℕ} (cond t 0 1) 1)
+    bit true = inl refl
+    bit false = inr refl
+
+-- a search needs only the lengths of its flags and its queue
+pub still-room : {ws : List ℕ} {n m gates : ℕ} {flags queue flags′ queue′ : List ℕ} → SearchReady ws n m gates flags queue → length flags′ ≡ length flags → length queue′ ≡ length queue → SearchReady ws n m gates flags′ queue′
+still-room s e f = record { whole = s .whole; flagRoom = rw e (s .flagRoom); queueRoom = rw f (s .queueRoom) }
+
+pub queue-ready : {ws : List ℕ} {n m gates l count : ℕ} {leaders barred queue : List ℕ} → GatesReady ws n m gates → LeadReady ws m l leaders → Reached (decode ws) m l barred queue count → QueueReady ws n m gates l queue count (set leaders l l)
+queue-ready w a r = record { whole = w; below = a .below; room = rw length-set (a .room); queued = λ q lt. r .sound q lt .0 }
+
+-- ---- from turn to turn
+
+-- a gate that has a leader leads none
+pub group-had : (ws : List ℕ) (m l : ℕ) (leaders : List ℕ) → m ≡ gateCount (decode ws) → LeadReady ws m l leaders → (getD leaders l 0 ≡ noLeader → ⊥) → Led (decode ws) m (l + 1) leaders leaders
+group-had ws m l leaders gatesAre ready had = record { sameLength = refl; first = λ k kl. ready .lower k kl ∙ same k kl; rest = λ k h. refl }
+  where
+    not-leader : (k : ℕ) → k < m → leaderOf (decode ws) k ≡ l → ⊥
+    not-leader k kl e =
+        let is : leaderOf (decode ws) l ≡ l = rw e at (leader-leads (decode ws) k (subst (λ (g : ℕ). k < g) gatesAre kl)) in
+        had (ready .lower l (ready .below) ∙ up-above (decode ws) l l (omega arith))
+
+    same : (k : ℕ) → k < m → leaderUpTo (decode ws) l k ≡ leaderUpTo (decode ws) (l + 1) k
+    same k kl =
+        ⊎-elim
+        (λ h. up-below (decode ws) l k h ∙ sym (up-below (decode ws) (l + 1) k (omega arith)))
+        (λ h. up-above (decode ws) l k h ∙ sym (up-above (decode ws) (l + 1) k (⊎-elim (λ e. absurd (not-leader k kl e)) (λ ne. omega arith) (eq-or-ne (leaderOf (decode ws) k) l))))
+        (lt-or-le (leaderOf (decode ws) k) l)
+
+pub led-start : (b : Block) (m : ℕ) (entry : List ℕ) → Led b m 0 (replicate m noLeader ++ drop m entry) (replicate m noLeader ++ drop m entry)
+led-start b m entry =
+    record {
+      sameLength = refl;
+      first = λ k l. List·getD-append (replicate m noLeader) (drop m entry) 0 k (rw (length-replicate {A = ℕ} m noLeader) l) ∙ getD-replicate m k noLeader 0 l ∙ sym (up-above b 0 k (omega arith));
+      rest = λ k h. refl;
+    }
+
+pub led-ready : {ws : List ℕ} {m l : ℕ} {entry leaders : List ℕ} → Led (decode ws) m l entry leaders → l < m → m ≤ length entry → LeadReady ws m l leaders
+led-ready s lt room = record { below = lt; room = rw (s .sameLength) room; lower = s .first }
+
+pub led-next : {b : Block} {m l : ℕ} {entry leaders leaders′ : List ℕ} → Led b m l entry leaders → Led b m (l + 1) leaders leaders′ → Led b m (l + 1) entry leaders′
+led-next s t = record { sameLength = t .sameLength ∙ s .sameLength; first = t .first; rest = λ k h. t .rest k h ∙ s .rest k h }
+
+-- every gate has its leader
+pub led-end : {b : Block} {m l : ℕ} (entry : List ℕ) {leaders : List ℕ} → m ≡ gateCount b → m ≤ length entry → m ≤ l → Led b m l (replicate m noLeader ++ drop m entry) leaders → leaders ≡ placed (tab (leaderOf b) m) entry
+led-end {b} {m} {l} entry {leaders} gatesAre room ge s =
+    placed-is (leaderOf b) m entry leaders room (s .sameLength ∙ cleared-length)
+    (λ k kl. s .first k kl ∙ up-below b l k (let lt : leaderOf b k < gateCount b = leader-below b k (subst (λ (g : ℕ). k < g) gatesAre kl) in omega arith))
+    (λ k h. s .rest k h ∙ behind k h)
+  where
+    cleared-length : length (replicate m noLeader ++ drop m entry) ≡ length entry
+    cleared-length = rw (length-append, length-replicate {A = ℕ} m noLeader, length-drop) (omega arith)
+
+    behind : (k : ℕ) → m ≤ k → getD (replicate m noLeader ++ drop m entry) k 0 ≡ getD entry k 0
+    behind k h = past (replicate m noLeader) m entry (length-replicate {A = ℕ} m noLeader) k h
