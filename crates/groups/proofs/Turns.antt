@@ -1,22 +1,22 @@
 -- The numbers before, during and after the numbering loop. Cited by `number_groups`. Assumes nothing.
-use mathlib.Core.Path.{_≡_, refl, sym, ap, _∙_, subst}
-use mathlib.Core.Logic.{_⊎_, inl, inr, ⊎-elim}
+use mathlib.Core.Path.{_≡_, refl, sym, ap, _∙_}
+use mathlib.Core.Logic.{⊎-elim}
 use mathlib.Core.Bool.{Bool, true, false, cond}
-use mathlib.Core.List.{List, [], _∷_, _++_}
+use mathlib.Core.List.{List, [], _++_}
 use Prim.Native.Nat.{ℕ, zero, suc, _+_, _≤_, _<_}
 use native.Mathlib.Nat.{le-antisymm}
 use native.Mathlib.Numerals.{add-one}
 use native.Mathlib.Omega.{arith}
 use lib.ListN.{length, getD, take, drop, replicate, length-replicate, replicate-append-replicate}
-use lib.Seq.{take-all, drop-at, length-front}
+use lib.Seq.{take-all, drop-at}
 use lib.Dec.{eqb, ltb}
-use borrow.Author.Tests.{eqb-true, eqb-false, eq-eqb, ne-eqb, ltb-true, ltb-false, lt-ltb, le-ltb}
+use borrow.Author.Tests.{lt-ltb, le-ltb}
 use Rattle.laws.specs.Lists.{tab, placed, joined, member, least}
-use Rattle.laws.proofs.Tests.{not-both, lt-or-le, eq-or-ne}
+use Rattle.laws.proofs.Tests.{not-both, lt-or-le}
 use Rattle.laws.proofs.Tab.{tab-ext, length-tab, placed-tab}
 use Rattle.netlist.specs.Netlist.{Block, gateCount}
 use Rattle.netlist.specs.StoredBlock.{decode}
-use Rattle.netlist.specs.Groups.{sameGroup, groupOf, mayBeNext, groups, groupNumber, groupNumbers}
+use Rattle.netlist.specs.Groups.{sameGroup, groupOf, groups, groupNumber, groupNumbers}
 use Rattle.reach.specs.Inside.{Inside}
 use Rattle.reach.specs.Numbering.{nextGate}
 use Rattle.reach.proofs.SameGroup.{member-groupOf, sameGroup-sym}
@@ -24,10 +24,9 @@ use Rattle.reach.proofs.Next.{mayBeNext-left}
 use Rattle.reach.proofs.Order.{length-groups, groups-all, nextGate-passes}
 use Rattle.reach.proofs.GroupNumber.{groupNumber-is, groupNumber-below, groupNumber-member}
 use Rattle.reach.proofs.Build.{groups-at}
-use Rattle.search.proofs.Searching.{cleared-at, cleared-length}
-use Rattle.components.proofs.Sizes.{leaders-same}
-use Rattle.groups.specs.Numbering.{noNumber, renumbered, numberUpTo, NumberReady, GroupsNumbered, blockedAfter}
-use Rattle.groups.proofs.Order.{State}
+use Rattle.groups.specs.Numbering.{noNumber, leadsNext, renumbered, numberUpTo, NumberReady, Watching, GroupsNumbered}
+use Rattle.groups.proofs.Leading.{in-block, lead-same}
+use Rattle.groups.proofs.Order.{State, next-leads, next-found}
 
 -- a list of one number
 tab-constant : (f : ℕ → ℕ) (v m : ℕ) → ((j : ℕ) → j < m → f j ≡ v) → tab f m ≡ replicate m v
@@ -47,16 +46,20 @@ numbers-none b m entry =
     let e : tab (numberUpTo b 0) m ≡ replicate m noNumber = tab-constant (numberUpTo b 0) noNumber m (λ j l. none-number b j) in
     rw (e, length-replicate {A = ℕ} m noNumber, drop-at (replicate m noNumber) (drop m entry) m (length-replicate {A = ℕ} m noNumber)) refl
 
--- the loop's arrays are in the state that the tests speak of
-pub state-now : {ws : List ℕ} {n m gates g : ℕ} {leaders numbers blocked : List ℕ} (numbers₀ entry : List ℕ) → NumberReady ws n m gates leaders → numbers ≡ placed (tab (numberUpTo (decode ws) g) m) numbers₀ → m ≤ length entry → blocked ≡ blockedAfter ws n m gates numbers leaders m (replicate m 0 ++ drop m entry) → State ws n m gates g leaders numbers (replicate m 0 ++ drop m entry) blocked
-state-now {ws} {n} {m} {gates} {g} {leaders} {numbers} numbers₀ entry r is room e =
+-- and no witness is known
+pub watching-none : {ws : List ℕ} {n m gates : ℕ} {leaders witnesses : List ℕ} (entry : List ℕ) → NumberReady ws n m gates leaders → m ≤ length witnesses → witnesses ≡ replicate m noNumber ++ drop m entry → Watching ws n m gates leaders witnesses
+watching-none {m = m} {witnesses = witnesses} entry r room is =
     record {
       prepared = r;
-      numbersAre = λ j l. rw is (placed-tab (numberUpTo (decode ws) g) m numbers₀ j 0 l);
-      clear = λ k l. cleared-at m entry k l;
-      room = rw (cleared-length m entry room) room;
-      blockedIs = e;
+      room = room;
+      witnessed = λ l il below. absurd (omega (arith, unknown l il, r .fewGates));
     }
+  where
+    same : witnesses ≡ placed (tab (λ j. noNumber) m) entry
+    same = is ∙ rw (tab-constant (λ j. noNumber) noNumber m (λ j l. refl), length-replicate {A = ℕ} m noNumber) refl
+
+    unknown : (l : ℕ) → l < m → getD witnesses l 0 ≡ noNumber
+    unknown l il = rw same (placed-tab (λ j. noNumber) m entry l 0 il)
 
 module _ (b : Block) (inside : Inside b) where
   -- there is a next gate only while groups are left, and always then
@@ -100,22 +103,37 @@ behind : (f : ℕ → ℕ) (m : ℕ) (numbers entry : List ℕ) → numbers ≡ 
 behind f m numbers entry is =
     rw (is, length-tab f m) (drop-at (tab f m) (drop m entry) m (length-tab f m))
 
--- a turn of the loop gives the next group its number
-pub numbers-more : {ws : List ℕ} {n m gates : ℕ} {leaders : List ℕ} (g : ℕ) (numbers₀ numbers : List ℕ) (j leader : ℕ) (numbers′ : List ℕ) → NumberReady ws n m gates leaders → numbers ≡ placed (tab (numberUpTo (decode ws) g) m) numbers₀ → j ≡ nextGate (decode ws) (joined (take g (groups (decode ws)))) → j < m → leader ≡ getD leaders j 0 → numbers′ ≡ placed (tab (renumbered leaders leader g numbers) m) numbers → numbers′ ≡ placed (tab (numberUpTo (decode ws) (g + 1)) m) numbers₀
-unfolding renumbered
-numbers-more {ws} {n} {m} {gates} {leaders} g numbers₀ numbers j leader numbers′ r is next jl lead e =
-    e
-    ∙ rw (length-tab (renumbered leaders leader g numbers) m, length-tab (numberUpTo (decode ws) (g + 1)) m, behind (numberUpTo (decode ws) g) m numbers numbers₀ is)
-    (ap (λ (l : List ℕ). l ++ drop m numbers₀) (tab-ext (renumbered leaders leader g numbers) (numberUpTo (decode ws) (g + 1)) m each))
-  where
-    in-block : {i : ℕ} → i < m → i < gateCount (decode ws)
-    in-block {i} l = rw (← r .gatesAre) l
+-- a turn of the loop: gate j leads the next group
+module _ {ws : List ℕ} {n m gates : ℕ} {leaders : List ℕ} (r : NumberReady ws n m gates leaders) (g : ℕ) (numbers₀ numbers : List ℕ) (is : numbers ≡ placed (tab (numberUpTo (decode ws) g) m) numbers₀) (j : ℕ) (found : j ≡ least (leadsNext (decode ws) m numbers leaders) m) where
+  number-now : (i : ℕ) → i < m → getD numbers i 0 ≡ numberUpTo (decode ws) g i
+  number-now i l = rw is (placed-tab (numberUpTo (decode ws) g) m numbers₀ i 0 l)
 
-    each : (i : ℕ) → i < m → cond (eqb (getD leaders i 0) leader) g (getD numbers i 0) ≡ numberUpTo (decode ws) (g + 1) i
-    each i il =
-        let old : getD numbers i 0 ≡ numberUpTo (decode ws) g i = rw is (placed-tab (numberUpTo (decode ws) g) m numbers₀ i 0 il) in
-        rw (old, lead, r .leads i il, r .leads j jl, leaders-same (decode ws) i j (in-block il) (in-block jl))
-        (number-more (decode ws) (r .inside) g i j (sym next) (in-block il) (in-block jl))
+  now : State ws n m gates g leaders numbers
+  now = record { prepared = r; numbersAre = number-now }
+
+  next : j ≡ nextGate (decode ws) (joined (take g (groups (decode ws))))
+  next = found ∙ next-found now
+
+  -- there is none: all groups have their numbers
+  pub turn-last : g ≤ length (groups (decode ws)) → m ≤ j → g ≡ length (groups (decode ws))
+  turn-last le h = none-next (decode ws) (r .inside) g le (rw (← next, ← r .gatesAre) h)
+
+  module _ (l : j < m) where
+    pub turn-within : g + 1 ≤ length (groups (decode ws))
+    turn-within = rw add-one (next-within (decode ws) (r .inside) g (rw (← next) (in-block r l)))
+
+    -- the gates that j leads are those of the next group
+    pub turn-numbers : (numbers′ : List ℕ) → numbers′ ≡ placed (tab (renumbered leaders j g numbers) m) numbers → numbers′ ≡ placed (tab (numberUpTo (decode ws) (g + 1)) m) numbers₀
+    unfolding renumbered
+    turn-numbers numbers′ e =
+        e
+        ∙ rw (length-tab (renumbered leaders j g numbers) m, length-tab (numberUpTo (decode ws) (g + 1)) m, behind (numberUpTo (decode ws) g) m numbers numbers₀ is)
+        (ap (λ (l : List ℕ). l ++ drop m numbers₀) (tab-ext (renumbered leaders j g numbers) (numberUpTo (decode ws) (g + 1)) m each))
+      where
+        each : (i : ℕ) → i < m → cond (eqb (getD leaders i 0) j) g (getD numbers i 0) ≡ numberUpTo (decode ws) (g + 1) i
+        each i il =
+            let led : eqb (getD leaders i 0) j ≡ sameGroup (decode ws) i j = rw (next-leads now j l next) at (lead-same r i j il l) in
+            rw (led, number-now i il) (number-more (decode ws) (r .inside) g i j (sym next) (in-block r il) (in-block r l))
 
 -- the loop's end
 pub numbers-end : {ws : List ℕ} {n m gates : ℕ} {leaders : List ℕ} (g : ℕ) (entry numbers₀ numbers : List ℕ) → NumberReady ws n m gates leaders → numbers₀ ≡ replicate m noNumber ++ drop m entry → numbers ≡ placed (tab (numberUpTo (decode ws) g) m) numbers₀ → g ≡ length (groups (decode ws)) → GroupsNumbered (decode ws) entry numbers g
@@ -129,11 +147,5 @@ numbers-end {ws} {n} {m} {gates} {leaders} g entry numbers₀ numbers r start is
       countIs = end;
     }
 
-pub end-early : {ws : List ℕ} {n m gates : ℕ} {leaders : List ℕ} (g j : ℕ) → NumberReady ws n m gates leaders → g ≤ length (groups (decode ws)) → j ≡ nextGate (decode ws) (joined (take g (groups (decode ws)))) → m ≤ j → g ≡ length (groups (decode ws))
-end-early {ws} {m = m} g j r le next h = none-next (decode ws) (r .inside) g le (rw (← next, ← r .gatesAre) h)
-
 pub end-late : {ws : List ℕ} {n m gates : ℕ} {leaders : List ℕ} (g : ℕ) → NumberReady ws n m gates leaders → g ≤ length (groups (decode ws)) → m ≤ g → g ≡ length (groups (decode ws))
 end-late {ws} {m = m} g r le h = let t : length (groups (decode ws)) ≤ gateCount (decode ws) = length-groups (decode ws) in omega (arith, r .gatesAre)
-
-pub more-within : {ws : List ℕ} {n m gates : ℕ} {leaders : List ℕ} (g j : ℕ) → NumberReady ws n m gates leaders → j ≡ nextGate (decode ws) (joined (take g (groups (decode ws)))) → j < m → g + 1 ≤ length (groups (decode ws))
-more-within {ws} {m = m} g j r next l = rw add-one (next-within (decode ws) (r .inside) g (rw (← next, ← r .gatesAre) l))

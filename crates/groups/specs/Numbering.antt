@@ -1,16 +1,16 @@
 -- Numbering groups one by one, on arrays: a gate's number or 65535, and each gate's leader, the lowest gate of its group.
-use Prim.Native.Nat.{ℕ, suc, _+_, _*_, _/_, _≤_, _<_}
+use Prim.Native.Nat.{ℕ, _+_, _*_, _/_, _≤_, _<_}
 use mathlib.Core.Path.{_≡_}
-use mathlib.Core.Bool.{Bool, false, cond, not, _&&_}
-use mathlib.Core.List.{List, map}
+use mathlib.Core.Bool.{Bool, true, false, cond, not, _&&_, _||_}
+use mathlib.Core.List.{List, []}
 use lib.ListN.{length, getD}
 use lib.Dec.{eqb, ltb}
-use Rattle.laws.specs.Lists.{any, keep, tab, placed, upTo}
+use Rattle.laws.specs.Lists.{any, keep, tab, placed, joined, upTo, member}
 use Rattle.netlist.specs.Netlist.{Block, gateCount}
 use Rattle.netlist.specs.StoredBlock.{decode, torn, gatesAt}
-use Rattle.netlist.specs.Groups.{readBy, groups, groupNumber, groupNumbers}
+use Rattle.netlist.specs.Groups.{readBy, mayBeNext, groups, groupNumber, groupNumbers}
 use Rattle.reach.specs.Inside.{Inside}
-use Rattle.search.specs.Search.{wordGates, marked}
+use Rattle.search.specs.Search.{wordGates}
 use Rattle.components.specs.Leaders.{leaderOf}
 
 abbrev pub noNumber : ℕ
@@ -27,19 +27,26 @@ obstacle numbers leaders leader k = unnumbered numbers k && not (eqb (getD leade
 unfoldable pub gateReads : List ℕ → ℕ → ℕ → ℕ → ℕ → List ℕ
 gateReads ws n m gates i = wordGates ws n m (gates + 5 * i) (getD ws (gates + 5 * i) 0 / 8)
 
--- gate i has no number yet, and keeps its group from being next
-unfoldable pub obstructs : List ℕ → ℕ → ℕ → ℕ → List ℕ → List ℕ → ℕ → Bool
-obstructs ws n m gates numbers leaders i =
-    unnumbered numbers i && any (obstacle numbers leaders (getD leaders i 0)) (gateReads ws n m gates i)
+-- what the gates below `count` that `leader` leads read
+unfoldable pub groupReads : List ℕ → ℕ → ℕ → ℕ → List ℕ → ℕ → ℕ → List ℕ
+groupReads ws n m gates leaders leader count = joined (tab (λ i. cond (eqb (getD leaders i 0) leader) (gateReads ws n m gates i) []) count)
 
--- flags at the leaders of groups that cannot be next, when the first `i` gates are looked at
-unfoldable pub blockedAfter : List ℕ → ℕ → ℕ → ℕ → List ℕ → List ℕ → ℕ → List ℕ → List ℕ
-blockedAfter ws n m gates numbers leaders i cleared =
-    marked cleared (map (λ j. getD leaders j 0) (keep (obstructs ws n m gates numbers leaders) (upTo i)))
+-- the group that `leader` leads reads gate k outside itself, whatever has a number
+unfoldable pub outside : List ℕ → ℕ → ℕ → ℕ → List ℕ → ℕ → ℕ → Bool
+outside ws n m gates leaders leader k = member k (groupReads ws n m gates leaders leader m) && not (eqb (getD leaders k 0) leader)
 
--- gate j has no number yet, and its group is not blocked
-unfoldable pub mayFollow : List ℕ → List ℕ → List ℕ → ℕ → Bool
-mayFollow numbers leaders blocked j = unnumbered numbers j && eqb (getD blocked (getD leaders j 0) 0) 0
+-- gate j's group needs no look: it has a number, a lower gate leads it, or its witness has no number
+unfoldable pub passed : ℕ → List ℕ → List ℕ → List ℕ → ℕ → Bool
+passed m numbers leaders witnesses j =
+    not (unnumbered numbers j) || (not (eqb (getD leaders j 0) j) || (ltb (getD witnesses j 0) m && unnumbered numbers (getD witnesses j 0)))
+
+-- the gates that have a number
+unfoldable pub numberedGates : ℕ → List ℕ → List ℕ
+numberedGates m numbers = keep (λ j. not (unnumbered numbers j)) (upTo m)
+
+-- gate j leads a group that may be next
+unfoldable pub leadsNext : Block → ℕ → List ℕ → List ℕ → ℕ → Bool
+leadsNext b m numbers leaders j = eqb (getD leaders j 0) j && mayBeNext b (numberedGates m numbers) j
 
 -- every gate of the group that `leader` leads has number g
 unfoldable pub renumbered : List ℕ → ℕ → ℕ → List ℕ → ℕ → ℕ
@@ -59,10 +66,20 @@ pub record NumberReady (ws : List ℕ) (n m gates : ℕ) (leaders : List ℕ) : 
   pub inside : Inside (decode ws)
   pub leads : (j : ℕ) → j < m → getD leaders j 0 ≡ leaderOf (decode ws) j
 
--- one gate more is looked at: the flags of i gates become those of i + 1
-abbrev pub BlockedOne : List ℕ → ℕ → ℕ → ℕ → List ℕ → List ℕ → ℕ → List ℕ → List ℕ → Type 0
-BlockedOne ws n m gates numbers leaders i flags flags′ =
-    (cleared : List ℕ) → flags ≡ blockedAfter ws n m gates numbers leaders i cleared → flags′ ≡ blockedAfter ws n m gates numbers leaders (i + 1) cleared
+-- r is one of these gates, and passes the test; or it is m or more, and none of them does
+pub record Sought (test : ℕ → Bool) (ks : List ℕ) (m r : ℕ) : Type 0 where
+  pub found : r < m → (member r ks ≡ true) × (test r ≡ true)
+  pub none : m ≤ r → any test ks ≡ false
+
+-- `leader` leads no lower gate
+abbrev pub Lowest : List ℕ → ℕ → Type 0
+Lowest leaders leader = (i : ℕ) → i < leader → getD leaders i 0 ≡ leader → ⊥
+
+-- each witness below m is a gate that the group reads outside itself
+pub record Watching (ws : List ℕ) (n m gates : ℕ) (leaders witnesses : List ℕ) : Type 0 where
+  pub prepared : NumberReady ws n m gates leaders
+  pub room : m ≤ length witnesses
+  pub witnessed : (l : ℕ) → l < m → getD witnesses l 0 < m → outside ws n m gates leaders l (getD witnesses l 0) ≡ true
 
 -- the end of numbering
 pub record GroupsNumbered (b : Block) (entry exit : List ℕ) (count : ℕ) : Type 0 where

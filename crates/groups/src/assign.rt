@@ -27,7 +27,7 @@ fn assign_with(
 {
     measure(words, n, m, gates, sizes, flags, queue);
     lead(words, n, m, gates, sizes, leaders, flags, queue);
-    number_groups(words, n, m, gates, leaders, numbers, flags)
+    number_groups(words, n, m, gates, leaders, numbers, queue)
 }
 
 // Writes each gate's group number; how many groups there are.

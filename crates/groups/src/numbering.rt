@@ -1,13 +1,12 @@
 // Groups are numbered one by one: of those that read no gate without a number outside themselves, the one with the lowest gate is next.
 ghost use mathlib.Core.Path.{_≡_};
-ghost use Prim.Native.Nat.{ℕ, _+_, _/_, _≤_, _<_};
+ghost use Prim.Native.Nat.{_+_, _/_, _≤_, _<_};
 ghost use mathlib.Core.List.{_++_};
 ghost use lib.ListN.{length, getD, drop, replicate};
 ghost use Rattle.laws.specs.Lists.{any, least, tab, placed};
 ghost use Rattle.netlist.specs.StoredBlock.{decode};
 ghost use Rattle.search.specs.Search.{wordGate, wordGates};
-ghost use Rattle.groups.specs.Numbering.{obstacle, obstructs, blockedAfter, BlockedOne, noNumber, mayFollow, renumbered, NumberReady, GroupsNumbered};
-use search::walk::clear;
+ghost use Rattle.groups.specs.Numbering.{noNumber, obstacle, groupReads, passed, leadsNext, renumbered, Sought, Lowest, NumberReady, Watching, GroupsNumbered};
 use ternary::read::word_at;
 
 pub const NO_NUMBER: usize = 65535;
@@ -36,8 +35,8 @@ fn is_obstacle(
     word_at(leaders, w - n) != leader
 }
 
-// The gate at `at` reads such a gate.
-fn is_obstructed(
+// The first such gate that the gate at `at` reads, or m.
+fn obstacle_of_gate(
     words: &[u16],
     n: usize,
     m: usize,
@@ -45,90 +44,121 @@ fn is_obstructed(
     numbers: &[u16],
     leaders: &[u16],
     leader: usize,
-) -> bool
+) -> usize
     requires { ⌜ (at ≤ 65535) × (n ≤ 65535) × (m ≤ 1024) ⌝ }
-    ensures { λ r. ⌜ r ≡ any (obstacle (now (numbers .entry)) (now (leaders .entry)) leader) (wordGates (now (words .entry)) n m at (getD (now (words .entry)) at 0 / 8)) ⌝ }
+    ensures { λ r. ⌜ Sought (obstacle (now (numbers .entry)) (now (leaders .entry)) leader) (wordGates (now (words .entry)) n m at (getD (now (words .entry)) at 0 / 8)) m r ⌝ }
 {
     let count = word_at(words, at) / 8;
     let mut i = 0;
     while i < count {
-        if is_obstacle(word_at(words, at + 1 + i), n, m, numbers, leaders, leader) {
-            return true;
+        let w = word_at(words, at + 1 + i);
+        if is_obstacle(w, n, m, numbers, leaders, leader) {
+            return w - n;
         }
         i += 1;
     }
+    m
+}
+
+// The first such gate that the group reads, or m; `leader` is its lowest gate.
+fn obstacle_of_group(
+    words: &[u16],
+    n: usize,
+    m: usize,
+    gates: usize,
+    numbers: &[u16],
+    leaders: &[u16],
+    leader: usize,
+) -> usize
+    requires { ⌜ (leader < m) × NumberReady (now words) n m gates (now leaders) ⌝ }
+    ensures { λ r. ⌜ Sought (obstacle (now (numbers .entry)) (now (leaders .entry)) leader) (groupReads (now (words .entry)) n m gates (now (leaders .entry)) leader m) m r ⌝ }
+{
+    let mut i = leader;
+    while i < m {
+        if word_at(leaders, i) == leader {
+            let k = obstacle_of_gate(words, n, m, gates + 5 * i, numbers, leaders, leader);
+            if k < m {
+                return k;
+            }
+        }
+        i += 1;
+    }
+    m
+}
+
+// Gate j's group needs no look: it has a number, a lower gate leads it, or the obstacle last found has no number yet.
+fn is_passed(m: usize, j: usize, numbers: &[u16], leaders: &[u16], witnesses: &[u16]) -> bool
+    ensures { λ r. ⌜ r ≡ passed m (now (numbers .entry)) (now (leaders .entry)) (now (witnesses .entry)) j ⌝ }
+{
+    if word_at(numbers, j) != NO_NUMBER {
+        return true;
+    }
+    if word_at(leaders, j) != j {
+        return true;
+    }
+    let k = word_at(witnesses, j);
+    if m <= k {
+        return false;
+    }
+    word_at(numbers, k) == NO_NUMBER
+}
+
+// Gate j leads a group that may be next; if an obstacle is found, it is remembered.
+fn leads_next(
+    words: &[u16],
+    n: usize,
+    m: usize,
+    gates: usize,
+    j: usize,
+    numbers: &[u16],
+    leaders: &[u16],
+    witnesses: &mut [u16],
+) -> bool
+    requires { ⌜ (j < m) × Watching (now words) n m gates (now leaders) (now witnesses) ⌝ }
+    ensures tells { λ r. ⌜ r ≡ leadsNext (decode (now (words .entry))) m (now (numbers .entry)) (now (leaders .entry)) j ⌝ }
+    ensures watches { λ r. ⌜ Watching (now (words .entry)) n m gates (now (leaders .entry)) (now (witnesses .exit)) ⌝ }
+{
+    if is_passed(m, j, numbers, leaders, witnesses) {
+        return false;
+    }
+    let k = obstacle_of_group(words, n, m, gates, numbers, leaders, j);
+    if m <= k {
+        return true;
+    }
+    witnesses[j] = k as u16;
     false
 }
 
-// Flags the leader of gate i's group, if gate i keeps it from being next.
-fn block_gate(
-    words: &[u16],
-    n: usize,
-    m: usize,
-    gates: usize,
-    i: usize,
-    numbers: &[u16],
-    leaders: &[u16],
-    blocked: &mut [u8],
-)
-    requires { ⌜ (i < m) × (m ≤ length (now blocked)) × NumberReady (now words) n m gates (now leaders) ⌝ }
-    ensures { λ r. ⌜ BlockedOne (now (words .entry)) n m gates (now (numbers .entry)) (now (leaders .entry)) i (now (blocked .entry)) (now (blocked .exit)) ⌝ }
-{
-    if word_at(numbers, i) != NO_NUMBER {
-        return;
-    }
-    let leader = word_at(leaders, i);
-    if !is_obstructed(words, n, m, gates + 5 * i, numbers, leaders, leader) {
-        return;
-    }
-    blocked[leader] = 1;
-}
-
-// Flags the leaders of the groups that cannot be next.
-fn block_groups(
+// The lowest gate that leads a group that may be next, or m.
+fn next_group(
     words: &[u16],
     n: usize,
     m: usize,
     gates: usize,
     numbers: &[u16],
     leaders: &[u16],
-    blocked: &mut [u8],
-)
-    requires { ⌜ (m ≤ length (now blocked)) × NumberReady (now words) n m gates (now leaders) ⌝ }
-    ensures { λ r. ⌜ now (blocked .exit) ≡ blockedAfter (now (words .entry)) n m gates (now (numbers .entry)) (now (leaders .entry)) m (replicate m 0 ++ drop m (now (blocked .entry))) ⌝ }
-{
-    clear(m, blocked);
-    let mut i = 0;
-    while i < m {
-        block_gate(words, n, m, gates, i, numbers, leaders, blocked);
-        i += 1;
-    }
-}
-
-// The lowest gate whose group may be next, or m.
-fn next_gate(m: usize, numbers: &[u16], leaders: &[u16], blocked: &[u8]) -> usize
-    requires { ⌜ (m ≤ length (now blocked)) × (m ≤ 1024) × ((j : ℕ) → j < m → getD (now leaders) j 0 < m) ⌝ }
-    ensures { λ r. ⌜ r ≡ least (mayFollow (now (numbers .entry)) (now (leaders .entry)) (now (blocked .entry))) m ⌝ }
+    witnesses: &mut [u16],
+) -> usize
+    requires { ⌜ Watching (now words) n m gates (now leaders) (now witnesses) ⌝ }
+    ensures finds { λ r. ⌜ r ≡ least (leadsNext (decode (now (words .entry))) m (now (numbers .entry)) (now (leaders .entry))) m ⌝ }
+    ensures watches { λ r. ⌜ Watching (now (words .entry)) n m gates (now (leaders .entry)) (now (witnesses .exit)) ⌝ }
 {
     let mut j = 0;
     while j < m {
-        if word_at(numbers, j) == NO_NUMBER {
-            let leader = word_at(leaders, j);
-            if blocked[leader] == 0 {
-                return j;
-            }
+        if leads_next(words, n, m, gates, j, numbers, leaders, witnesses) {
+            return j;
         }
         j += 1;
     }
     m
 }
 
-// Gives number g to every gate that `leader` leads.
+// Gives number g to every gate that `leader` leads; none below it is one.
 fn number_group(m: usize, leaders: &[u16], leader: usize, g: usize, numbers: &mut [u16])
-    requires { ⌜ (m ≤ length (now numbers)) × (m ≤ 1024) × (g < 1024) ⌝ }
+    requires { ⌜ (m ≤ length (now numbers)) × (m ≤ 1024) × (g < 1024) × (leader ≤ m) × Lowest (now leaders) leader ⌝ }
     ensures { λ r. ⌜ now (numbers .exit) ≡ placed (tab (renumbered (now (leaders .entry)) leader g (now (numbers .entry))) m) (now (numbers .entry)) ⌝ }
 {
-    let mut i = 0;
+    let mut i = leader;
     while i < m {
         if word_at(leaders, i) == leader {
             numbers[i] = g as u16;
@@ -137,7 +167,7 @@ fn number_group(m: usize, leaders: &[u16], leader: usize, g: usize, numbers: &mu
     }
 }
 
-// No gate has a number.
+// No gate has a number; or no witness is known.
 fn forget(m: usize, numbers: &mut [u16])
     requires { ⌜ (m ≤ length (now numbers)) × (m ≤ 1024) ⌝ }
     ensures { λ r. ⌜ now (numbers .exit) ≡ replicate m noNumber ++ drop m (now (numbers .entry)) ⌝ }
@@ -157,20 +187,20 @@ pub fn number_groups(
     gates: usize,
     leaders: &[u16],
     numbers: &mut [u16],
-    blocked: &mut [u8],
+    witnesses: &mut [u16],
 ) -> usize
-    requires { ⌜ (m ≤ length (now numbers)) × (m ≤ length (now blocked)) × NumberReady (now words) n m gates (now leaders) ⌝ }
+    requires { ⌜ (m ≤ length (now numbers)) × (m ≤ length (now witnesses)) × NumberReady (now words) n m gates (now leaders) ⌝ }
     ensures { λ r. ⌜ GroupsNumbered (decode (now (words .entry))) (now (numbers .entry)) (now (numbers .exit)) r ⌝ }
 {
     forget(m, numbers);
+    forget(m, witnesses);
     let mut g = 0;
     while g < m {
-        block_groups(words, n, m, gates, numbers, leaders, blocked);
-        let j = next_gate(m, numbers, leaders, blocked);
+        let j = next_group(words, n, m, gates, numbers, leaders, witnesses);
         if m <= j {
             return g;
         }
-        number_group(m, leaders, word_at(leaders, j), g, numbers);
+        number_group(m, leaders, j, g, numbers);
         g += 1;
     }
     g

@@ -20,8 +20,8 @@ lead-requires c κs =
 number-groups-requires : tie.Need-number-groups-requires
 number-groups-requires c κs =
     let s = c .before .before .before .before .before .before .before .before .before .before .before .before .before .before .before .before .before .before .before .before .before .before .before .before .before .before .before .before .before .before in
-    let flags-kept = c .before .before .before .before .before .before .before .before .before .lead .kept .1 .1 .1 .1 .1 .1 .0 ∙ c .before .before .before .before .before .before .before .before .before .before .before .before .before .before .before .before .before .before .before .before .measure .kept .1 .1 .1 .1 .1 .0 in
-    (s .pre .numberRoom, rw flags-kept (s .pre .flagRoom), number-for (s .pre) (c .before .before .before .before .before .before .before .before .before .lead .last .1 .1 .1 .1 .1 .0) (s .args .leaders .now) (c .before .before .before .before .before .before .before .before .before .lead .ensures))
+    let queue-kept = c .before .before .before .before .before .before .before .before .before .lead .kept .1 .1 .1 .1 .1 .1 .1 .0 ∙ c .before .before .before .before .before .before .before .before .before .before .before .before .before .before .before .before .before .before .before .before .measure .kept .1 .1 .1 .1 .1 .1 .0 in
+    (s .pre .numberRoom, rw queue-kept (s .pre .queueRoom), number-for (s .pre) (c .before .before .before .before .before .before .before .before .before .lead .last .1 .1 .1 .1 .1 .0) (s .args .leaders .now) (c .before .before .before .before .before .before .before .before .before .lead .ensures))
 
 same-length : tie.Need-same-length
 same-length c = search needs

@@ -1,4 +1,4 @@
--- `groups::numbering::number_group` meets its contract: after i turns the first i numbers are the new ones. Assumes nothing.
+-- `groups::numbering::number_group` meets its contract: when gate i is reached, the first i numbers are the new ones. Assumes nothing.
 use Prim.Native.Nat.{_-_, _≤_, _<_}
 use mathlib.Core.Path.{_≡_, refl, _∙_, sym}
 use mathlib.Core.Logic.{⊎-elim}
@@ -7,7 +7,7 @@ use native.Mathlib.Omega.{arith}
 use lib.ListN.{length, length-set}
 use Rattle.laws.specs.Lists.{tab, placed}
 use Rattle.groups.specs.Numbering.{renumbered}
-use Rattle.groups.proofs.Filling.{renumber, keep-number}
+use Rattle.groups.proofs.Filling.{renumber, keep-number, kept-below}
 use Rattle.groups.proofs.numbering.number_group.Statement.{statement}
 use Rattle.groups.proofs.numbering.number_group.Tie as tie
 
@@ -18,7 +18,9 @@ abbrev μ-loop : tie.MeasureT-loop
 μ-loop m leaders leader g numbers₀ i₀ numbers i = m - i
 
 loop-holds : tie.Need-loop-holds Inv-loop μ-loop
-loop-holds c = (omega arith, refl, refl)
+loop-holds c =
+    let s = c .before .before in
+    (s .pre .3, kept-below (s .args .leaders .now) (s .args .leader) (s .args .g) (s .args .numbers .now) (s .pre .4) (s .args .leader) (omega arith) (omega arith), refl)
 
 word-at-requires : tie.Need-word-at-requires Inv-loop μ-loop
 word-at-requires c κs = search needs

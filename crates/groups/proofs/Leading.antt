@@ -1,0 +1,113 @@
+-- Leaders: each is its group's lowest gate, and when a group that a gate leads may be next. Assumes nothing.
+use mathlib.Core.Path.{_≡_, refl, sym, ap, _∙_}
+use mathlib.Core.Logic.{inl, inr, ⊎-elim}
+use mathlib.Core.Bool.{Bool, true, false, not}
+use mathlib.Core.List.{List}
+use Prim.Native.Nat.{ℕ, _≤_, _<_}
+use native.Mathlib.Omega.{arith}
+use lib.ListN.{length, getD}
+use lib.Dec.{eqb}
+use borrow.Author.Tests.{eqb-true, eq-eqb, not-true, not-false}
+use Rattle.laws.specs.Lists.{any, upTo, member}
+use Rattle.laws.proofs.Tests.{bool-cases, same-test, and-left, and-right, and-intro, not-both, not-true-false}
+use Rattle.laws.proofs.Least.{least-at}
+use Rattle.laws.proofs.Quantifiers.{member-at, any-from}
+use Rattle.netlist.specs.Netlist.{Block, gateCount}
+use Rattle.netlist.specs.StoredBlock.{decode}
+use Rattle.netlist.specs.Groups.{readBy, reads, sameGroup, groupOf, mayBeNext}
+use Rattle.reach.proofs.ListFacts.{member-keep, member-upTo, upTo-below, least-at-most}
+use Rattle.reach.proofs.SameGroup.{sameGroup-refl, groupOf-member, groupOf-same, groupOf-below}
+use Rattle.reach.proofs.Next.{ready-reads, ready-intro, mayBeNext-intro, mayBeNext-ready}
+use Rattle.components.specs.Leaders.{leaderOf}
+use Rattle.components.proofs.Sizes.{leader-below, leaders-same}
+use Rattle.groups.specs.Numbering.{unnumbered, obstacle, groupReads, outside, numberedGates, Lowest, NumberReady}
+use Rattle.groups.proofs.Obstacles.{read-by, reads-of}
+
+any-member : (test : ℕ → Bool) (ks : List ℕ) (k : ℕ) → member k ks ≡ true → test k ≡ true → any test ks ≡ true
+any-member test ks k h t =
+    let r : (i : ℕ) × (i < length ks) × (getD ks i 0 ≡ k) = member-at k ks h in
+    any-from test ks (r .0) 0 (r .1) (rw (r .2) t)
+
+-- the numbered gates are those that are not unnumbered
+pub done-member : (m : ℕ) (numbers : List ℕ) (k : ℕ) → k < m → member k (numberedGates m numbers) ≡ not (unnumbered numbers k)
+unfolding numberedGates
+done-member m numbers k l = rw (member-keep (λ j. not (unnumbered numbers j)) (upTo m) k, member-upTo k m l) refl
+
+pub done-below : (m : ℕ) (numbers : List ℕ) (k : ℕ) → member k (numberedGates m numbers) ≡ true → k < m
+unfolding numberedGates
+done-below m numbers k h =
+    upTo-below k m (and-left (member k (upTo m)) (not (unnumbered numbers k)) (sym (member-keep (λ j. not (unnumbered numbers j)) (upTo m) k) ∙ h))
+
+-- ---- leaders
+
+leader-le : (b : Block) (j : ℕ) → j < gateCount b → leaderOf b j ≤ j
+unfolding leaderOf
+leader-le b j l = least-at-most (sameGroup b j) (gateCount b) j (sameGroup-refl b j l)
+
+leader-same : (b : Block) (j : ℕ) → j < gateCount b → sameGroup b j (leaderOf b j) ≡ true
+unfolding leaderOf
+leader-same b j l = least-at (sameGroup b j) (gateCount b) (leader-below b j l)
+
+module _ {ws : List ℕ} {n m gates : ℕ} {leaders : List ℕ} (r : NumberReady ws n m gates leaders) where
+  pub in-block : {j : ℕ} → j < m → j < gateCount (decode ws)
+  in-block {j} l = rw (← r .gatesAre) l
+
+  pub from-block : {j : ℕ} → j < gateCount (decode ws) → j < m
+  from-block {j} l = rw (r .gatesAre) l
+
+  pub lead-same : (i j : ℕ) → i < m → j < m → eqb (getD leaders i 0) (getD leaders j 0) ≡ sameGroup (decode ws) i j
+  lead-same i j il jl = rw (r .leads i il, r .leads j jl) (leaders-same (decode ws) i j (in-block il) (in-block jl))
+
+  pub lead-le : (j : ℕ) → j < m → getD leaders j 0 ≤ j
+  lead-le j l = rw (r .leads j l) (leader-le (decode ws) j (in-block l))
+
+  pub lead-group : (j : ℕ) → j < m → sameGroup (decode ws) j (getD leaders j 0) ≡ true
+  lead-group j l = rw (r .leads j l) (leader-same (decode ws) j (in-block l))
+
+  -- a leader is its group's lowest gate
+  pub lowest : (leader : ℕ) → leader < m → Lowest leaders leader
+  lowest leader l i il e = let le : getD leaders i 0 ≤ i = lead-le i (omega arith) in omega arith
+
+  -- ---- whether gate j's group may be next, where j leads it
+
+  module _ (numbers : List ℕ) (j : ℕ) (l : j < m) (leads : getD leaders j 0 ≡ j) where
+    abbrev done : List ℕ
+    done = numberedGates m numbers
+
+    -- the gates that j leads are those of its group
+    led : (i : ℕ) → i < m → eqb (getD leaders i 0) j ≡ member i (groupOf (decode ws) j)
+    led i il =
+        let both : eqb (getD leaders j 0) (getD leaders i 0) ≡ sameGroup (decode ws) j i = lead-same j i l il in
+        same-test (eqb (getD leaders i 0) j) (member i (groupOf (decode ws) j))
+        (λ e. groupOf-member (decode ws) j i (sym both ∙ eq-eqb (getD leaders j 0) (getD leaders i 0) (leads ∙ sym (eqb-true (getD leaders i 0) j e))))
+        (λ e. eq-eqb (getD leaders i 0) j (sym (eqb-true (getD leaders j 0) (getD leaders i 0) (both ∙ groupOf-same (decode ws) j i e)) ∙ leads))
+
+    -- the group reads a gate outside itself that has no number
+    pub waits : (k : ℕ) → outside ws n m gates leaders j k ≡ true → unnumbered numbers k ≡ true → mayBeNext (decode ws) done j ≡ false
+    unfolding outside reads
+    waits k o u =
+        let w = read-by ws n m gates leaders j k (and-left (member k (groupReads ws n m gates leaders j m)) (not (eqb (getD leaders k 0) j)) o) in
+        let apart : eqb (getD leaders k 0) j ≡ false = not-true (eqb (getD leaders k 0) j) (and-right (member k (groupReads ws n m gates leaders j m)) (not (eqb (getD leaders k 0) j)) o) in
+        let read : reads (decode ws) (w .0) k ≡ true = rw (r .operands (w .0) (w .1)) at (w .3) in
+        let kl : k < m = from-block (r .inside (w .0) k read) in
+        not-true-false (mayBeNext (decode ws) done j) (λ t.
+        ⊎-elim
+        (λ g. not-both (led k kl ∙ g) apart)
+        (λ d. not-both d (done-member m numbers k kl ∙ ap not u))
+        (ready-reads (decode ws) done (groupOf (decode ws) j) (mayBeNext-ready (decode ws) done j t) (w .0) k (sym (led (w .0) (w .1)) ∙ eq-eqb (getD leaders (w .0) 0) j (w .2)) read))
+
+    -- it reads none
+    pub free : unnumbered numbers j ≡ true → any (obstacle numbers leaders j) (groupReads ws n m gates leaders j m) ≡ false → mayBeNext (decode ws) done j ≡ true
+    unfolding obstacle reads
+    free u none =
+        mayBeNext-intro (decode ws) done j (done-member m numbers j l ∙ ap not u)
+        (ready-intro (decode ws) done (groupOf (decode ws) j) (λ i k im read.
+        let kl : k < m = from-block (r .inside i k read) in
+        ⊎-elim inr (λ d. ⊎-elim inl (λ g. not-both (found i k im read kl d g) none) (bool-cases (member k (groupOf (decode ws) j)))) (bool-cases (member k done))))
+      where
+        found : (i k : ℕ) → member i (groupOf (decode ws) j) ≡ true → member k (readBy (decode ws) i) ≡ true → k < m → member k done ≡ false → member k (groupOf (decode ws) j) ≡ false → any (obstacle numbers leaders j) (groupReads ws n m gates leaders j m) ≡ true
+        found i k im read kl d g =
+            let il : i < m = from-block (groupOf-below (decode ws) j i im) in
+            any-member (obstacle numbers leaders j) (groupReads ws n m gates leaders j m) k
+            (reads-of ws n m gates leaders j i k il (eqb-true (getD leaders i 0) j (led i il ∙ im)) (rw (r .operands i il) read))
+            (and-intro (unnumbered numbers k) (not (eqb (getD leaders k 0) j)) (not-false (unnumbered numbers k) (sym (done-member m numbers k kl) ∙ d)) (ap not (led k kl ∙ g)))
