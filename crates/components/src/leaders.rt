@@ -13,7 +13,7 @@ use ternary::read::word_at;
 
 pub const NO_LEADER: usize = 65535;
 
-// No gate has a leader.
+// Stores 65535, which is no gate, for each gate.
 pub fn forget(m: usize, leaders: &mut [u16])
     requires { ⌜ (m ≤ length (now leaders)) × (m ≤ 1024) ⌝ }
     ensures { λ r. ⌜ now (leaders .exit) ≡ replicate m noLeader ++ drop m (now (leaders .entry)) ⌝ }

@@ -15,7 +15,7 @@ use Rattle.netlist.specs.Groups.{groups, groupNumber, groupNumbers}
 use Rattle.netlist.specs.Answers.{done, refused, refuseIf, inRoom}
 use Rattle.netlist.specs.Operations.{grouping, groupsOf}
 use Rattle.encoding.proofs.Decoded.{decode-gateCount}
-use Rattle.components.specs.Leaders.{reachSize, leaderOf, Ready, Sizes}
+use Rattle.components.specs.Leaders.{leaderOf, Ready}
 use Rattle.groups.specs.Numbering.{NumberReady, AssignReady}
 use Rattle.groups.proofs.Whole.{search-ready, number-ready}
 
@@ -36,15 +36,12 @@ module _ (ws : List ℕ) (room : ℕ) where
   unfolding groupsOf inRoom refuseIf grouping
   groups-done t h = rw (t, numbers-length, le-ltb room (getD ws 1 0) h) refl
 
-module _ {ws : List ℕ} {n m gates : ℕ} {numbers sizes leaders queue flags : List ℕ} (a : AssignReady ws n m gates numbers sizes leaders queue flags) where
+module _ {ws : List ℕ} {n m gates : ℕ} {numbers leaders queue flags : List ℕ} (a : AssignReady ws n m gates numbers leaders queue flags) where
   pub ready-for : (flags′ queue′ : List ℕ) → length flags′ ≡ length flags → length queue′ ≡ length queue → Ready ws n m gates flags′ queue′
   ready-for flags′ queue′ f q =
       let f′ : getD ws 1 0 ≤ length flags′ = rw (f, ← a .gatesAre) (a .flagRoom) in
       let q′ : getD ws 1 0 ≤ length queue′ = rw (q, ← a .gatesAre) (a .queueRoom) in
       rw (a .firstIs, a .inputsAre, a .gatesAre) (search-ready ws (a .whole) flags′ queue′ f′ q′)
-
-  pub sizes-for : (sizes′ entry : List ℕ) → sizes′ ≡ placed (tab (reachSize (decode ws)) m) entry → Sizes (decode ws) m sizes′
-  sizes-for sizes′ entry e j l = rw e (placed-tab (reachSize (decode ws)) m entry j 0 l)
 
   pub number-for : (leaders′ entry : List ℕ) → leaders′ ≡ placed (tab (leaderOf (decode ws)) m) entry → NumberReady ws n m gates leaders′
   number-for leaders′ entry e =

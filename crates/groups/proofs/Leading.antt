@@ -19,7 +19,7 @@ use Rattle.reach.proofs.ListFacts.{member-keep, member-upTo, upTo-below, least-
 use Rattle.reach.proofs.SameGroup.{sameGroup-refl, groupOf-member, groupOf-same, groupOf-below}
 use Rattle.reach.proofs.Next.{ready-reads, ready-intro, mayBeNext-intro, mayBeNext-ready}
 use Rattle.components.specs.Leaders.{leaderOf}
-use Rattle.components.proofs.Sizes.{leader-below, leaders-same}
+use Rattle.components.proofs.Leader.{leaders-same, leader-le, leader-same}
 use Rattle.groups.specs.Numbering.{unnumbered, obstacle, groupReads, outside, numberedGates, Lowest, NumberReady}
 use Rattle.groups.proofs.Obstacles.{read-by, reads-of}
 
@@ -39,14 +39,6 @@ done-below m numbers k h =
     upTo-below k m (and-left (member k (upTo m)) (not (unnumbered numbers k)) (sym (member-keep (λ j. not (unnumbered numbers j)) (upTo m) k) ∙ h))
 
 -- ---- leaders
-
-leader-le : (b : Block) (j : ℕ) → j < gateCount b → leaderOf b j ≤ j
-unfolding leaderOf
-leader-le b j l = least-at-most (sameGroup b j) (gateCount b) j (sameGroup-refl b j l)
-
-leader-same : (b : Block) (j : ℕ) → j < gateCount b → sameGroup b j (leaderOf b j) ≡ true
-unfolding leaderOf
-leader-same b j l = least-at (sameGroup b j) (gateCount b) (leader-below b j l)
 
 module _ {ws : List ℕ} {n m gates : ℕ} {leaders : List ℕ} (r : NumberReady ws n m gates leaders) where
   pub in-block : {j : ℕ} → j < m → j < gateCount (decode ws)
@@ -88,7 +80,7 @@ module _ {ws : List ℕ} {n m gates : ℕ} {leaders : List ℕ} (r : NumberReady
     waits k o u =
         let w = read-by ws n m gates leaders j k (and-left (member k (groupReads ws n m gates leaders j m)) (not (eqb (getD leaders k 0) j)) o) in
         let apart : eqb (getD leaders k 0) j ≡ false = not-true (eqb (getD leaders k 0) j) (and-right (member k (groupReads ws n m gates leaders j m)) (not (eqb (getD leaders k 0) j)) o) in
-        let read : reads (decode ws) (w .0) k ≡ true = rw (r .operands (w .0) (w .1)) at (w .3) in
+        let read : reads (decode ws) (w .0) k ≡ true = rw (r .whole .operands (w .0) (w .1)) at (w .3) in
         let kl : k < m = from-block (r .inside (w .0) k read) in
         not-true-false (mayBeNext (decode ws) done j) (λ t.
         ⊎-elim
@@ -109,5 +101,5 @@ module _ {ws : List ℕ} {n m gates : ℕ} {leaders : List ℕ} (r : NumberReady
         found i k im read kl d g =
             let il : i < m = from-block (groupOf-below (decode ws) j i im) in
             any-member (obstacle numbers leaders j) (groupReads ws n m gates leaders j m) k
-            (reads-of ws n m gates leaders j i k il (eqb-true (getD leaders i 0) j (led i il ∙ im)) (rw (r .operands i il) read))
+            (reads-of ws n m gates leaders j i k il (eqb-true (getD leaders i 0) j (led i il ∙ im)) (rw (r .whole .operands i il) read))
             (and-intro (unnumbered numbers k) (not (eqb (getD leaders k 0) j)) (not-false (unnumbered numbers k) (sym (done-member m numbers k kl) ∙ d)) (ap not (led k kl ∙ g)))

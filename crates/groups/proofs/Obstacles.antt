@@ -15,9 +15,10 @@ use Rattle.laws.proofs.Quantifiers.{any-append}
 use Rattle.laws.proofs.Tab.{length-tab, getD-tab}
 use Rattle.laws.proofs.Lists.{joined-snoc, member-head}
 use Rattle.reach.proofs.ListFacts.{member-joined, joined-member}
-use Rattle.search.specs.Search.{wordGate, wordGates}
-use Rattle.search.proofs.Marking.{word-gate, word-none, words-more, words-none}
-use Rattle.groups.specs.Numbering.{noNumber, unnumbered, obstacle, gateReads, groupReads, Sought, Lowest}
+use Rattle.search.specs.Search.{wordGate, wordGates, gateReads}
+use Rattle.search.proofs.Marking.{word-gate, word-none}
+use Rattle.search.proofs.Operands.{one-gate, none-yet}
+use Rattle.groups.specs.Numbering.{noNumber, unnumbered, obstacle, groupReads, Sought, Lowest}
 
 -- ---- lists one after the other
 
@@ -33,20 +34,13 @@ tab-member f n x h =
 -- ---- one operand word
 
 module _ (numbers leaders : List ℕ) (leader n m : ℕ) where
-  pub no-gate : (w : ℕ) → (w < n) ⊎ (n + m ≤ w) → false ≡ any (obstacle numbers leaders leader) (wordGate n m w)
-  no-gate w h = rw (word-none n m w h) refl
-
   pub has-number : (w : ℕ) → n ≤ w → w < n + m → (getD numbers (w - n) 0 ≡ noNumber → ⊥) → false ≡ any (obstacle numbers leaders leader) (wordGate n m w)
   unfolding obstacle unnumbered
   has-number w lo hi h = rw (word-gate n m w lo hi, ne-eqb (getD numbers (w - n) 0) noNumber h) refl
 
   pub no-number : (w : ℕ) → n ≤ w → w < n + m → getD numbers (w - n) 0 ≡ noNumber → not (eqb (getD leaders (w - n) 0) leader) ≡ any (obstacle numbers leaders leader) (wordGate n m w)
   unfolding obstacle unnumbered
-  no-number w lo hi h = rw (word-gate n m w lo hi, eq-eqb (getD numbers (w - n) 0) noNumber h) (or-false (not (eqb (getD leaders (w - n) 0) leader)))
-    where
-      or-false : (b : Bool) → b ≡ b || false
-      or-false true = refl
-      or-false false = refl
+  no-number w lo hi h = rw (eq-eqb (getD numbers (w - n) 0) noNumber h) at (one-gate (obstacle numbers leaders leader) n m w lo hi)
 
 -- ---- the words of a gate
 
@@ -64,12 +58,8 @@ module _ (test : ℕ → Bool) (n m : ℕ) where
       one : n ≤ w → w < n + m → test (w - n) ≡ true
       one lo hi = ⊎-elim (λ e. e) (λ e. not-both e refl) (or-cases (test (w - n)) false (rw (word-gate n m w lo hi) at h))
 
-  pub no-words : (ws : List ℕ) (at : ℕ) → any test (wordGates ws n m at 0) ≡ false
-  no-words ws at = rw (words-none ws n m at) refl
-
   pub word-passed : (ws : List ℕ) (at i w : ℕ) → w ≡ getD ws (at + 1 + i) 0 → any test (wordGates ws n m at i) ≡ false → {t : Bool} → t ≡ any test (wordGate n m w) → t ≡ false → any test (wordGates ws n m at (i + 1)) ≡ false
-  word-passed ws at i w e h is t =
-      rw (add-one, words-more ws n m at i, any-append test (wordGates ws n m at i) (wordGate n m (getD ws (at + 1 + i) 0)), h, ← e, ← is, t) refl
+  word-passed ws at i w e h is t = none-yet test n m ws at i h (rw (← e) (sym is ∙ t))
 
   pub word-found : (ws : List ℕ) (at i count w : ℕ) → w ≡ getD ws (at + 1 + i) 0 → i < count → {t : Bool} → t ≡ any test (wordGate n m w) → t ≡ true → Sought test (wordGates ws n m at count) m (w - n)
   unfolding wordGates

@@ -72,7 +72,7 @@ module _ {ws : List ℕ} {n m gates g : ℕ} {leaders numbers : List ℕ} (s : S
 
   left : (j : ℕ) → j < m → unnumbered numbers j ≡ not (member j done)
   left j l =
-      open-is b (s .prepared .inside) g numbers (rw (← s .prepared .gatesAre) (s .prepared .fewGates)) (λ k kl. s .numbersAre k (from-block (s .prepared) kl)) j (in-block (s .prepared) l)
+      open-is b (s .prepared .inside) g numbers (rw (← s .prepared .gatesAre) (s .prepared .whole .fewGates)) (λ k kl. s .numbersAre k (from-block (s .prepared) kl)) j (in-block (s .prepared) l)
 
   -- the gates with a number are those of the first g groups
   same-done : (k : ℕ) → member k (numberedGates m numbers) ≡ member k done

@@ -52,7 +52,7 @@ watching-none {m = m} {witnesses = witnesses} entry r room is =
     record {
       prepared = r;
       room = room;
-      witnessed = λ l il below. absurd (omega (arith, unknown l il, r .fewGates));
+      witnessed = λ l il below. absurd (omega (arith, unknown l il, r .whole .fewGates));
     }
   where
     same : witnesses ≡ placed (tab (λ j. noNumber) m) entry

@@ -15,10 +15,10 @@ use Rattle.netlist.specs.Groups.{gateOperand, readBy}
 use Rattle.encoding.proofs.Nodes.{operandOf-input, operandOf-zero, operandOf-one, operandOf-gate}
 use Rattle.encoding.proofs.Readers.{OperandWord, whole-parts, whole-gate, whole-reads}
 use Rattle.encoding.proofs.Decoded.{decode-gate, decode-gateCount}
-use Rattle.search.specs.Search.{wordGate, wordGates, SearchReady}
+use Rattle.search.specs.Search.{wordGate, wordGates, SearchReady, gateReads, GatesReady}
 use Rattle.search.proofs.Marking.{word-gate, word-none}
 use Rattle.components.specs.Leaders.{leaderOf, Ready}
-use Rattle.groups.specs.Numbering.{gateReads, NumberReady}
+use Rattle.groups.specs.Numbering.{NumberReady}
 
 -- an operand word names the gate that the operand is
 word-operand : (n m w : ℕ) → n + m ≤ 65534 → OperandWord (n + m) w → wordGate n m w ≡ gateOperand (operandOf n w)
@@ -53,31 +53,19 @@ module _ (ws : List ℕ) (whole : torn ws ≡ false) where
   unfolding gatesAt
   near = omega (arith, whole-parts ws whole .fewInputs)
 
-  pub search-ready : (flags queue : List ℕ) → getD ws 1 0 ≤ length flags → getD ws 1 0 ≤ length queue → Ready ws (getD ws 0 0) (getD ws 1 0) (gatesAt (getD ws 0 0)) flags queue
-  search-ready flags queue f q =
-      record {
-        search =
-            record {
-              fewInputs = omega (arith, whole-parts ws whole .fewInputs);
-              fewGates = whole-parts ws whole .fewGates;
-              near = near;
-              flagRoom = f;
-              queueRoom = q;
-              operands = operands;
-              inside = λ i k l r. rw (← decode-gateCount ws) (whole-reads ws whole i k r);
-            };
-        gatesAre = sym (decode-gateCount ws);
-      }
-
-  pub number-ready : (leaders : List ℕ) → ((j : ℕ) → j < getD ws 1 0 → getD leaders j 0 ≡ leaderOf (decode ws) j) → NumberReady ws (getD ws 0 0) (getD ws 1 0) (gatesAt (getD ws 0 0)) leaders
+  gates-ready : GatesReady ws (getD ws 0 0) (getD ws 1 0) (gatesAt (getD ws 0 0))
   unfolding gateReads
-  number-ready leaders h =
+  gates-ready =
       record {
         fewInputs = omega (arith, whole-parts ws whole .fewInputs);
         fewGates = whole-parts ws whole .fewGates;
         near = near;
-        gatesAre = sym (decode-gateCount ws);
         operands = operands;
-        inside = whole-reads ws whole;
-        leads = h;
+        inside = λ i k l r. rw (← decode-gateCount ws) (whole-reads ws whole i k r);
       }
+
+  pub search-ready : (flags queue : List ℕ) → getD ws 1 0 ≤ length flags → getD ws 1 0 ≤ length queue → Ready ws (getD ws 0 0) (getD ws 1 0) (gatesAt (getD ws 0 0)) flags queue
+  search-ready flags queue f q = record { search = record { whole = gates-ready; flagRoom = f; queueRoom = q }; gatesAre = sym (decode-gateCount ws) }
+
+  pub number-ready : (leaders : List ℕ) → ((j : ℕ) → j < getD ws 1 0 → getD leaders j 0 ≡ leaderOf (decode ws) j) → NumberReady ws (getD ws 0 0) (getD ws 1 0) (gatesAt (getD ws 0 0)) leaders
+  number-ready leaders h = record { whole = gates-ready; gatesAre = sym (decode-gateCount ws); inside = whole-reads ws whole; leads = h }

@@ -1,5 +1,5 @@
 -- Numbering groups one by one, on arrays: a gate's number or 65535, and each gate's leader, the lowest gate of its group.
-use Prim.Native.Nat.{ℕ, _+_, _*_, _/_, _≤_, _<_}
+use Prim.Native.Nat.{ℕ, _≤_, _<_}
 use mathlib.Core.Path.{_≡_}
 use mathlib.Core.Bool.{Bool, true, false, cond, not, _&&_, _||_}
 use mathlib.Core.List.{List, []}
@@ -8,9 +8,9 @@ use lib.Dec.{eqb, ltb}
 use Rattle.laws.specs.Lists.{any, keep, tab, placed, joined, upTo, member}
 use Rattle.netlist.specs.Netlist.{Block, gateCount}
 use Rattle.netlist.specs.StoredBlock.{decode, torn, gatesAt}
-use Rattle.netlist.specs.Groups.{readBy, mayBeNext, groups, groupNumber, groupNumbers}
+use Rattle.netlist.specs.Groups.{mayBeNext, groups, groupNumber, groupNumbers}
 use Rattle.reach.specs.Inside.{Inside}
-use Rattle.search.specs.Search.{wordGates}
+use Rattle.search.specs.Search.{gateReads, GatesReady}
 use Rattle.components.specs.Leaders.{leaderOf}
 
 abbrev pub noNumber : ℕ
@@ -22,10 +22,6 @@ unnumbered numbers k = eqb (getD numbers k 0) noNumber
 -- a gate without a number, of another group than `leader` leads
 unfoldable pub obstacle : List ℕ → List ℕ → ℕ → ℕ → Bool
 obstacle numbers leaders leader k = unnumbered numbers k && not (eqb (getD leaders k 0) leader)
-
--- the words of gate i, the first gate's being at `gates`
-unfoldable pub gateReads : List ℕ → ℕ → ℕ → ℕ → ℕ → List ℕ
-gateReads ws n m gates i = wordGates ws n m (gates + 5 * i) (getD ws (gates + 5 * i) 0 / 8)
 
 -- what the gates below `count` that `leader` leads read
 unfoldable pub groupReads : List ℕ → ℕ → ℕ → ℕ → List ℕ → ℕ → ℕ → List ℕ
@@ -58,11 +54,8 @@ numberUpTo b g j = cond (ltb (groupNumber b j) g) (groupNumber b j) noNumber
 
 -- what numbering needs: whole words, leaders, and room
 pub record NumberReady (ws : List ℕ) (n m gates : ℕ) (leaders : List ℕ) : Type 0 where
-  pub fewInputs : n ≤ 65535
-  pub fewGates : m ≤ 1024
-  pub near : gates ≤ 1024
+  pub whole : GatesReady ws n m gates
   pub gatesAre : m ≡ gateCount (decode ws)
-  pub operands : (i : ℕ) → i < m → gateReads ws n m gates i ≡ readBy (decode ws) i
   pub inside : Inside (decode ws)
   pub leads : (j : ℕ) → j < m → getD leaders j 0 ≡ leaderOf (decode ws) j
 
@@ -87,13 +80,12 @@ pub record GroupsNumbered (b : Block) (entry exit : List ℕ) (count : ℕ) : Ty
   pub countIs : count ≡ length (groups b)
 
 -- a whole block's words and header, and room for every gate in each array
-pub record AssignReady (ws : List ℕ) (n m gates : ℕ) (numbers sizes leaders queue flags : List ℕ) : Type 0 where
+pub record AssignReady (ws : List ℕ) (n m gates : ℕ) (numbers leaders queue flags : List ℕ) : Type 0 where
   pub whole : torn ws ≡ false
   pub inputsAre : n ≡ getD ws 0 0
   pub gatesAre : m ≡ getD ws 1 0
   pub firstIs : gates ≡ gatesAt n
   pub numberRoom : m ≤ length numbers
-  pub sizeRoom : m ≤ length sizes
   pub leaderRoom : m ≤ length leaders
   pub queueRoom : m ≤ length queue
   pub flagRoom : m ≤ length flags

@@ -8,25 +8,22 @@ ghost use Rattle.groups.specs.Numbering.{GroupsNumbered, AssignReady};
 use crate::numbering::number_groups;
 use block::header;
 use components::leaders::lead;
-use components::leaders::measure;
 
-// With arrays for the sizes of reach, the leaders, the search and the groups that cannot be next, each of at least m elements.
+// With arrays for the leaders, the search and the groups that cannot be next, each of at least m elements.
 fn assign_with(
     words: &[u16],
     n: usize,
     m: usize,
     gates: usize,
     numbers: &mut [u16],
-    sizes: &mut [u16],
     leaders: &mut [u16],
     queue: &mut [u16],
     flags: &mut [u8],
 ) -> usize
-    requires { ⌜ AssignReady (now words) n m gates (now numbers) (now sizes) (now leaders) (now queue) (now flags) ⌝ }
+    requires { ⌜ AssignReady (now words) n m gates (now numbers) (now leaders) (now queue) (now flags) ⌝ }
     ensures { λ r. ⌜ GroupsNumbered (decode (now (words .entry))) (now (numbers .entry)) (now (numbers .exit)) r ⌝ }
 {
-    measure(words, n, m, gates, sizes, flags, queue);
-    lead(words, n, m, gates, sizes, leaders, flags, queue);
+    lead(words, n, m, gates, leaders, flags, queue);
     number_groups(words, n, m, gates, leaders, numbers, queue)
 }
 
@@ -38,7 +35,6 @@ pub fn assign(words: &[u16], numbers: &mut [u16]) -> usize
     let n = header::inputs_of(words);
     let m = header::gates_of(words);
     let gates = header::gates_at(n);
-    let mut sizes = [0u16; 1024];
     let mut leaders = [0u16; 1024];
     let mut queue = [0u16; 1024];
     let mut flags = [0u8; 1024];
@@ -48,7 +44,6 @@ pub fn assign(words: &[u16], numbers: &mut [u16]) -> usize
         m,
         gates,
         numbers,
-        &mut sizes,
         &mut leaders,
         &mut queue,
         &mut flags,

@@ -7,6 +7,7 @@ ghost use Rattle.laws.specs.Lists.{any, least, tab, placed};
 ghost use Rattle.netlist.specs.StoredBlock.{decode};
 ghost use Rattle.search.specs.Search.{wordGate, wordGates};
 ghost use Rattle.groups.specs.Numbering.{noNumber, obstacle, groupReads, passed, leadsNext, renumbered, Sought, Lowest, NumberReady, Watching, GroupsNumbered};
+use components::leaders::forget;
 use ternary::read::word_at;
 
 pub const NO_NUMBER: usize = 65535;
@@ -167,18 +168,6 @@ fn number_group(m: usize, leaders: &[u16], leader: usize, g: usize, numbers: &mu
     }
 }
 
-// No gate has a number; or no witness is known.
-fn forget(m: usize, numbers: &mut [u16])
-    requires { ⌜ (m ≤ length (now numbers)) × (m ≤ 1024) ⌝ }
-    ensures { λ r. ⌜ now (numbers .exit) ≡ replicate m noNumber ++ drop m (now (numbers .entry)) ⌝ }
-{
-    let mut i = 0;
-    while i < m {
-        numbers[i] = 65535;
-        i += 1;
-    }
-}
-
 // Each gate's group number; how many groups there are.
 pub fn number_groups(
     words: &[u16],
@@ -192,6 +181,7 @@ pub fn number_groups(
     requires { ⌜ (m ≤ length (now numbers)) × (m ≤ length (now witnesses)) × NumberReady (now words) n m gates (now leaders) ⌝ }
     ensures { λ r. ⌜ GroupsNumbered (decode (now (words .entry))) (now (numbers .entry)) (now (numbers .exit)) r ⌝ }
 {
+    // No gate has a number, and no witness is known.
     forget(m, numbers);
     forget(m, witnesses);
     let mut g = 0;

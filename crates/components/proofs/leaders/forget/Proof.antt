@@ -1,4 +1,4 @@
--- `components::leaders::forget` meets its contract: after i turns the first i gates have no leader. Assumes nothing.
+-- `components::leaders::forget` meets its contract: after i turns it stands at the first i gates. Assumes nothing.
 use Prim.Native.Nat.{_+_, _-_, _≤_}
 use mathlib.Core.Path.{_≡_, refl, _∙_}
 use mathlib.Core.List.{_++_}

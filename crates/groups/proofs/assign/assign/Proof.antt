@@ -24,21 +24,17 @@ slice-aggregate-assign-with-2 c = search needs
 slice-aggregate-assign-with-3 : tie.Need-slice-aggregate-assign-with-3
 slice-aggregate-assign-with-3 c = search needs
 
-slice-aggregate-assign-with-4 : tie.Need-slice-aggregate-assign-with-4
-slice-aggregate-assign-with-4 c = search needs
-
 assign-with-requires : tie.Need-assign-with-requires
 assign-with-requires c κs =
-    let s = c .before .before .before .before .before .before .before .before .before .before in
+    let s = c .before .before .before .before .before .before .before .before .before in
     let few = whole-parts (s .args .words .now) (s .pre .0) .fewGates in
-    let m : c .before .before .before .before .before .before .gates-of .result ≤ 1024 = omega (arith, c .before .before .before .before .before .before .gates-of .ensures) in
+    let m : c .before .before .before .before .before .gates-of .result ≤ 1024 = omega (arith, c .before .before .before .before .before .gates-of .ensures) in
     record {
       whole = s .pre .0;
-      inputsAre = c .before .before .before .before .before .before .before .inputs-of .ensures;
-      gatesAre = c .before .before .before .before .before .before .gates-of .ensures;
-      firstIs = c .before .before .before .before .before .gates-at .ensures;
-      numberRoom = rw (c .before .before .before .before .before .before .gates-of .ensures) (s .pre .1);
-      sizeRoom = m;
+      inputsAre = c .before .before .before .before .before .before .inputs-of .ensures;
+      gatesAre = c .before .before .before .before .before .gates-of .ensures;
+      firstIs = c .before .before .before .before .gates-at .ensures;
+      numberRoom = rw (c .before .before .before .before .before .gates-of .ensures) (s .pre .1);
       leaderRoom = m;
       queueRoom = m;
       flagRoom = m;
@@ -60,7 +56,6 @@ assign-spec =
     slice-aggregate-assign-with
     slice-aggregate-assign-with-2
     slice-aggregate-assign-with-3
-    slice-aggregate-assign-with-4
     assign-with-requires
     same-length
     returns)

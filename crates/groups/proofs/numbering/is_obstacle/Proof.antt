@@ -1,20 +1,22 @@
-use borrow.Author.Needs.{needs}
 -- `groups::numbering::is_obstacle` meets its contract, by the ways through its tests. Assumes nothing.
+use borrow.Author.Needs.{needs}
 use mathlib.Core.Path.{_∙_, sym}
 use mathlib.Core.Logic.{inl, inr}
 use native.Mathlib.Omega.{arith}
-use Rattle.groups.proofs.Obstacles.{no-gate, has-number, no-number}
+use Rattle.search.proofs.Operands.{no-gate}
+use Rattle.groups.specs.Numbering.{obstacle}
+use Rattle.groups.proofs.Obstacles.{has-number, no-number}
 use Rattle.groups.proofs.numbering.is_obstacle.Statement.{statement}
 use Rattle.groups.proofs.numbering.is_obstacle.Tie as tie
 
 returns : tie.Need-returns
-returns c = no-gate (c .before .before .before .args .numbers .now) (c .before .before .before .args .leaders .now) (c .before .before .before .args .leader) (c .before .before .before .args .n) (c .before .before .before .args .m) (c .before .before .before .args .w) (inl (c .if1 .taken))
+returns c = no-gate (obstacle (c .before .before .before .args .numbers .now) (c .before .before .before .args .leaders .now) (c .before .before .before .args .leader)) (c .before .before .before .args .n) (c .before .before .before .args .m) (c .before .before .before .args .w) (inl (c .if1 .taken))
 
 add-if2 : tie.Need-add-if2
 add-if2 c = search needs
 
 returns-2 : tie.Need-returns-2
-returns-2 c = no-gate (c .before .before .before .before .args .numbers .now) (c .before .before .before .before .args .leaders .now) (c .before .before .before .before .args .leader) (c .before .before .before .before .args .n) (c .before .before .before .before .args .m) (c .before .before .before .before .args .w) (inr (c .if2 .taken))
+returns-2 c = no-gate (obstacle (c .before .before .before .before .args .numbers .now) (c .before .before .before .before .args .leaders .now) (c .before .before .before .before .args .leader)) (c .before .before .before .before .args .n) (c .before .before .before .before .args .m) (c .before .before .before .before .args .w) (inr (c .if2 .taken))
 
 word-at-requires : tie.Need-word-at-requires
 word-at-requires c κs = search needs

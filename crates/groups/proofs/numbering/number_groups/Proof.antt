@@ -21,10 +21,10 @@ abbrev μ-loop : tie.MeasureT-loop
 μ-loop words n m gates leaders numbers₀ witnesses₀ g₀ numbers witnesses g = m - g
 
 forget-requires : tie.Need-forget-requires Inv-loop μ-loop
-forget-requires c κs = let s = c .before .before .before .before .before in (s .pre .0, s .pre .2 .fewGates)
+forget-requires c κs = let s = c .before .before .before .before .before in (s .pre .0, s .pre .2 .whole .fewGates)
 
 forget-requires-2 : tie.Need-forget-requires-2 Inv-loop μ-loop
-forget-requires-2 c κs = let s = c .before .before .before .before .before .before .before .before .before in (s .pre .1, s .pre .2 .fewGates)
+forget-requires-2 c κs = let s = c .before .before .before .before .before .before .before .before .before in (s .pre .1, s .pre .2 .whole .fewGates)
 
 loop-holds : tie.Need-loop-holds Inv-loop μ-loop
 loop-holds c =
@@ -61,14 +61,14 @@ number-group-requires c κs =
     let f = c .before .before .before .before .before .before .before .before .before .before .before .before .before .before .before .forget in
     let room : s .args .m ≤ length (l .numbers) = rw (l .inv .2, f .kept .1 .0) (s .pre .0) in (
       room,
-      s .pre .2 .fewGates,
-      omega (arith, c .before .before .before .before .before .before .before .loop-test .taken, s .pre .2 .fewGates),
+      s .pre .2 .whole .fewGates,
+      omega (arith, c .before .before .before .before .before .before .before .loop-test .taken, s .pre .2 .whole .fewGates),
       omega (arith, c .before .if1 .left),
       lowest (s .pre .2) (c .before .before .before .before .next-group .result) (c .before .if1 .left),
     )
 
 add-g : tie.Need-add-g Inv-loop μ-loop
-add-g c = omega (arith, c .before .before .before .before .before .before .before .before .before .before .loop-test .taken, c .before .before .before .before .before .before .before .before .before .before .before .before .before .before .before .before .before .before .before .before .before .before .before .before .pre .2 .fewGates)
+add-g c = omega (arith, c .before .before .before .before .before .before .before .before .before .before .loop-test .taken, c .before .before .before .before .before .before .before .before .before .before .before .before .before .before .before .before .before .before .before .before .before .before .before .before .pre .2 .whole .fewGates)
 
 loop-less : tie.Need-loop-less Inv-loop μ-loop
 loop-less c = falls (c .before .before .before .before .before .before .before .before .before .before .before .before .before .before .before .before .before .before .before .before .before .before .before .before .args .m) (c .before .before .before .before .before .before .before .before .before .before .before .loop .g) (c .before .before .before .before .before .before .before .before .before .before .loop-test .taken)

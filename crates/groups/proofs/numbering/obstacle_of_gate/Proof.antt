@@ -7,7 +7,8 @@ use native.Mathlib.Omega.{arith}
 use Rattle.laws.specs.Lists.{any}
 use Rattle.search.specs.Search.{wordGates}
 use Rattle.groups.specs.Numbering.{obstacle}
-use Rattle.groups.proofs.Obstacles.{word-names, no-words, word-passed, word-found, words-passed}
+use Rattle.search.proofs.Operands.{no-words}
+use Rattle.groups.proofs.Obstacles.{word-names, word-passed, word-found, words-passed}
 use Rattle.groups.proofs.numbering.obstacle_of_gate.Statement.{statement}
 use Rattle.groups.proofs.numbering.obstacle_of_gate.Tie as tie
 
