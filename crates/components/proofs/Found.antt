@@ -19,44 +19,8 @@ use Rattle.netlist.specs.Groups.{Path, stay, step, reads, readBy, reaches, same
 use Rattle.reach.proofs.Reach.{path-reaches, reaches-path, reaches-below, reaches-trans, reaches-refl}
 use Rattle.reach.proofs.SameGroup.{sameGroup-refl, sameGroup-sym, sameGroup-trans, sameGroup-below}
 use Rattle.search.specs.Search.{gateReads, GatesReady, SearchReady, StartReady, Queued, Reached}
-use Rattle.components.specs.Leaders.{noLeader, leaderOf, leaderUpTo, barredBy, ledBy, joins, Joined, none, more, Quiet, Spread, QueueReady, LeadReady, Led}
-use Rattle.components.proofs.Leader.{leader-below, leader-same, same-leader, leader-le, leader-leads}
+use Rattle.components.specs.Leaders.{noLeader, barredBy, ledBy, joins, Joined, none, more, Quiet, Spread, QueueReady, LeadReady, givenBy, GroupLed}
 use Rattle.components.proofs.Joining.{joins-free, joined-length}
-
--- an element past what is placed
-past : (xs : List ℕ) (m : ℕ) (entry : List ℕ) → length xs ≡ m → (k : ℕ) → m ≤ k → getD (xs ++ drop m entry) k 0 ≡ getD entry k 0
-past xs m entry len k h =
-    let e : m + (k - m) ≡ k = omega arith in
-    let t : getD (xs ++ drop m entry) (length xs + (k - m)) 0 ≡ getD (drop m entry) (k - m) 0 = getD-append-add xs (drop m entry) (k - m) 0 in
-    (rw (len, e) at t) ∙ getD-drop m entry (k - m) 0 ∙ rw e refl
-
--- a slice is known by its first m elements and the rest
-placed-is : (f : ℕ → ℕ) (m : ℕ) (entry slice : List ℕ) → m ≤ length entry → length slice ≡ length entry → ((k : ℕ) → k < m → getD slice k 0 ≡ f k) → ((k : ℕ) → m ≤ k → getD slice k 0 ≡ getD entry k 0) → slice ≡ placed (tab f m) entry
-placed-is f m entry slice room len first rest = ext-getD 0 slice (placed (tab f m) entry) lengths (λ k l. ⊎-elim (λ h. first k h ∙ sym (placed-tab f m entry k 0 h)) (λ h. rest k h ∙ sym (behind k h)) (lt-or-le k m))
-  where
-    lengths : length slice ≡ length (placed (tab f m) entry)
-    lengths = len ∙ sym (rw (length-append, length-drop, length-tab f m) (omega arith))
-
-    behind : (k : ℕ) → m ≤ k → getD (placed (tab f m) entry) k 0 ≡ getD entry k 0
-    behind k h = rw (length-tab f m) (past (tab f m) m entry (length-tab f m) k h)
-
--- ---- leaders so far
-
-up-below : (b : Block) (l j : ℕ) → leaderOf b j < l → leaderUpTo b l j ≡ leaderOf b j
-unfolding leaderUpTo
-up-below b l j h = rw (lt-ltb (leaderOf b j) l h) refl
-
-up-above : (b : Block) (l j : ℕ) → l ≤ leaderOf b j → leaderUpTo b l j ≡ noLeader
-unfolding leaderUpTo
-up-above b l j h = rw (le-ltb (leaderOf b j) l h) refl
-
--- who is in one group has one leader
-led-same : (b : Block) (l k : ℕ) → leaderOf b l ≡ l → sameGroup b l k ≡ true → leaderOf b k ≡ l
-led-same b l k e h = sym (same-leader b l k h) ∙ e
-
--- who has a leader is in one group with it
-led-group : (b : Block) (l k : ℕ) → k < gateCount b → leaderOf b k ≡ l → sameGroup b l k ≡ true
-led-group b l k h e = sameGroup-sym b k l (rw (← e) (leader-same b k h))
 
 module _ (ws : List ℕ) (n m gates l : ℕ) (whole : GatesReady ws n m gates) (gatesAre : m ≡ gateCount (decode ws)) (entry : List ℕ) (ready : LeadReady ws m l entry) (free : getD entry l 0 ≡ noLeader) where
   abbrev b : Block
@@ -71,25 +35,16 @@ module _ (ws : List ℕ) (n m gates l : ℕ) (whole : GatesReady ws n m gates) (
   small : l < 1024
   small = omega (arith, ready .below, whole .fewGates)
 
-  -- gate l leads
-  leads : leaderOf b l ≡ l
-  leads = ⊎-elim (λ h. absurd (lower h)) (λ h. let le : leaderOf b l ≤ l = leader-le b l (below (ready .below)) in omega arith) (lt-or-le (leaderOf b l) l)
-    where
-      lower : leaderOf b l < l → ⊥
-      lower h = let e : noLeader ≡ leaderOf b l = sym (free) ∙ ready .lower l (ready .below) ∙ up-below b l l h in omega (arith, small)
-
   -- no gate had gate l for its leader, and a gate of its group had none
   not-yet : (k : ℕ) → k < m → getD entry k 0 ≡ l → ⊥
   not-yet k h e =
       ⊎-elim
-      (λ lt. let s : l ≡ leaderOf b k = sym e ∙ ready .lower k h ∙ up-below b l k lt in omega arith)
-      (λ ge. let s : l ≡ noLeader = sym e ∙ ready .lower k h ∙ up-above b l k ge in omega (arith, small))
-      (lt-or-le (leaderOf b k) l)
+      (λ none. let s : l ≡ noLeader = sym e ∙ none in omega (arith, small))
+      (λ g. let s : noLeader ≡ l = sym free ∙ ready .grouped .alike l k (ready .below) h (rw e at g) ∙ e in omega (arith, small))
+      (ready .grouped .own k h)
 
   group-free : (k : ℕ) → sameGroup b l k ≡ true → getD entry k 0 ≡ noLeader
-  group-free k h =
-      let e : leaderOf b k ≡ l = led-same b l k leads h in
-      ready .lower k (above (sameGroup-below b l k h)) ∙ up-above b l k (omega arith)
+  group-free k h = sym (ready .grouped .alike l k (ready .below) (above (sameGroup-below b l k h)) h) ∙ free
 
   abbrev entry₁ : List ℕ
   entry₁ = set entry l l
@@ -202,32 +157,29 @@ module _ (ws : List ℕ) (n m gates l : ℕ) (whole : GatesReady ws n m gates) (
     joined-rest none k h = getD-set-other entry l k l 0 (λ e. omega (arith, ready .below))
     joined-rest (more {leaders = before} s q lt h) k le = getD-set-other before (getD queue q 0) k l 0 (λ e. omega (arith, r .sound q lt .0)) ∙ joined-rest s k le
 
-    found-at : {leaders : List ℕ} → Joined ws n m gates l queue count entry₁ leaders → Quiet ws n m gates l queue count leaders → (k : ℕ) → k < m → getD leaders k 0 ≡ leaderUpTo b (l + 1) k
-    unfolding sameGroup
-    found-at {leaders} s quiet k kl = ⊎-elim lower (λ ge. ⊎-elim (λ e. same e) (λ ne. higher (omega arith)) (eq-or-ne (leaderOf b k) l)) (lt-or-le (leaderOf b k) l)
+    found-at : {leaders : List ℕ} → Joined ws n m gates l queue count entry₁ leaders → Quiet ws n m gates l queue count leaders → (k : ℕ) → k < m → getD leaders k 0 ≡ givenBy b l entry k
+    unfolding sameGroup givenBy
+    found-at {leaders} s quiet k kl = rw (eq-eqb (getD entry l 0) noLeader free) (⊎-elim inside outside (bool-cases (sameGroup b l k)))
       where
-        kept : (leaderOf b k ≡ l → ⊥) → getD leaders k 0 ≡ getD entry k 0
-        kept ne = ⊎-elim (λ e. e) (λ e. absurd (ne (led-same b l k leads (e .1)))) (joined-sound s k kl)
+        inside : sameGroup b l k ≡ true → getD leaders k 0 ≡ cond (sameGroup b l k) l (getD entry k 0)
+        inside g = rw g (joined-complete s quiet k g (reaches-path b k l (and-right (reaches b l k) (reaches b k l) g)))
 
-        lower : leaderOf b k < l → getD leaders k 0 ≡ leaderUpTo b (l + 1) k
-        lower h = kept (λ e. omega arith) ∙ ready .lower k kl ∙ up-below b l k h ∙ sym (up-below b (l + 1) k (omega arith))
-
-        same : leaderOf b k ≡ l → getD leaders k 0 ≡ leaderUpTo b (l + 1) k
-        same e =
-            let g : sameGroup b l k ≡ true = led-group b l k (below kl) e in
-            joined-complete s quiet k g (reaches-path b k l (and-right (reaches b l k) (reaches b k l) g)) ∙ sym (up-below b (l + 1) k (omega arith) ∙ e)
-
-        higher : l < leaderOf b k → getD leaders k 0 ≡ leaderUpTo b (l + 1) k
-        higher h = kept (λ e. omega arith) ∙ ready .lower k kl ∙ up-above b l k (omega arith) ∙ sym (up-above b (l + 1) k (omega arith))
+        outside : sameGroup b l k ≡ false → getD leaders k 0 ≡ cond (sameGroup b l k) l (getD entry k 0)
+        outside g = rw g (⊎-elim (λ e. e) (λ e. not-both (e .1) g) (joined-sound s k kl))
 
     -- the group has its leader
-    pub group-found : {leaders : List ℕ} → Spread ws n m gates l queue count entry₁ leaders → Led b m (l + 1) entry leaders
+    pub group-found : {leaders : List ℕ} → Spread ws n m gates l queue count entry₁ leaders → GroupLed b m l entry leaders
     group-found s =
         record {
           sameLength = joined-length ws n m gates l queue count (s .steps) ∙ length-set entry l l;
           first = found-at (s .steps) (s .quiet);
           rest = joined-rest (s .steps);
         }
+
+-- a gate that has a leader changes nothing
+pub group-had : (b : Block) (m l : ℕ) (leaders : List ℕ) → (getD leaders l 0 ≡ noLeader → ⊥) → GroupLed b m l leaders leaders
+unfolding givenBy
+group-had b m l leaders had = record { sameLength = refl; first = λ k kl. rw (ne-eqb (getD leaders l 0) noLeader had) refl; rest = λ k h. refl }
 
 -- ---- what the search needs
 
@@ -254,48 +206,3 @@ still-room s e f = record { whole = s .whole; flagRoom = rw e (s .flagRoom); que
 
 pub queue-ready : {ws : List ℕ} {n m gates l count : ℕ} {leaders barred queue : List ℕ} → GatesReady ws n m gates → LeadReady ws m l leaders → Reached (decode ws) m l barred queue count → QueueReady ws n m gates l queue count (set leaders l l)
 queue-ready w a r = record { whole = w; below = a .below; room = rw length-set (a .room); queued = λ q lt. r .sound q lt .0 }
-
--- ---- from turn to turn
-
--- a gate that has a leader leads none
-pub group-had : (ws : List ℕ) (m l : ℕ) (leaders : List ℕ) → m ≡ gateCount (decode ws) → LeadReady ws m l leaders → (getD leaders l 0 ≡ noLeader → ⊥) → Led (decode ws) m (l + 1) leaders leaders
-group-had ws m l leaders gatesAre ready had = record { sameLength = refl; first = λ k kl. ready .lower k kl ∙ same k kl; rest = λ k h. refl }
-  where
-    not-leader : (k : ℕ) → k < m → leaderOf (decode ws) k ≡ l → ⊥
-    not-leader k kl e =
-        let is : leaderOf (decode ws) l ≡ l = rw e at (leader-leads (decode ws) k (subst (λ (g : ℕ). k < g) gatesAre kl)) in
-        had (ready .lower l (ready .below) ∙ up-above (decode ws) l l (omega arith))
-
-    same : (k : ℕ) → k < m → leaderUpTo (decode ws) l k ≡ leaderUpTo (decode ws) (l + 1) k
-    same k kl =
-        ⊎-elim
-        (λ h. up-below (decode ws) l k h ∙ sym (up-below (decode ws) (l + 1) k (omega arith)))
-        (λ h. up-above (decode ws) l k h ∙ sym (up-above (decode ws) (l + 1) k (⊎-elim (λ e. absurd (not-leader k kl e)) (λ ne. omega arith) (eq-or-ne (leaderOf (decode ws) k) l))))
-        (lt-or-le (leaderOf (decode ws) k) l)
-
-pub led-start : (b : Block) (m : ℕ) (entry : List ℕ) → Led b m 0 (replicate m noLeader ++ drop m entry) (replicate m noLeader ++ drop m entry)
-led-start b m entry =
-    record {
-      sameLength = refl;
-      first = λ k l. List·getD-append (replicate m noLeader) (drop m entry) 0 k (rw (length-replicate {A = ℕ} m noLeader) l) ∙ getD-replicate m k noLeader 0 l ∙ sym (up-above b 0 k (omega arith));
-      rest = λ k h. refl;
-    }
-
-pub led-ready : {ws : List ℕ} {m l : ℕ} {entry leaders : List ℕ} → Led (decode ws) m l entry leaders → l < m → m ≤ length entry → LeadReady ws m l leaders
-led-ready s lt room = record { below = lt; room = rw (s .sameLength) room; lower = s .first }
-
-pub led-next : {b : Block} {m l : ℕ} {entry leaders leaders′ : List ℕ} → Led b m l entry leaders → Led b m (l + 1) leaders leaders′ → Led b m (l + 1) entry leaders′
-led-next s t = record { sameLength = t .sameLength ∙ s .sameLength; first = t .first; rest = λ k h. t .rest k h ∙ s .rest k h }
-
--- every gate has its leader
-pub led-end : {b : Block} {m l : ℕ} (entry : List ℕ) {leaders : List ℕ} → m ≡ gateCount b → m ≤ length entry → m ≤ l → Led b m l (replicate m noLeader ++ drop m entry) leaders → leaders ≡ placed (tab (leaderOf b) m) entry
-led-end {b} {m} {l} entry {leaders} gatesAre room ge s =
-    placed-is (leaderOf b) m entry leaders room (s .sameLength ∙ cleared-length)
-    (λ k kl. s .first k kl ∙ up-below b l k (let lt : leaderOf b k < gateCount b = leader-below b k (subst (λ (g : ℕ). k < g) gatesAre kl) in omega arith))
-    (λ k h. s .rest k h ∙ behind k h)
-  where
-    cleared-length : length (replicate m noLeader ++ drop m entry) ≡ length entry
-    cleared-length = rw (length-append, length-replicate {A = ℕ} m noLeader, length-drop) (omega arith)
-
-    behind : (k : ℕ) → m ≤ k → getD (replicate m noLeader ++ drop m entry) k 0 ≡ getD entry k 0
-    behind k h = past (replicate m noLeader) m entry (length-replicate {A = ℕ} m noLeader) k h

@@ -2,3 +2,4 @@
 pub mod Leader
 pub mod Joining
 pub mod Found
+pub mod Lowest

@@ -1,10 +1,11 @@
 -- The leader of a strongly connected group is its lowest gate; and how leaders are found, on arrays: a gate's leader or 65535.
-use Prim.Native.Nat.{ℕ, _+_, _≤_, _<_}
+use Prim.Native.Nat.{ℕ, _-_, _≤_, _<_}
 use mathlib.Core.Path.{_≡_}
+use mathlib.Core.Logic.{_⊎_}
 use mathlib.Core.Bool.{Bool, true, false, cond, _&&_}
 use mathlib.Core.List.{List}
 use lib.ListN.{length, getD, set}
-use lib.Dec.{eqb, ltb}
+use lib.Dec.{eqb}
 use Rattle.laws.specs.Lists.{any, countBelow, least}
 use Rattle.netlist.specs.Netlist.{Block, gateCount}
 use Rattle.netlist.specs.StoredBlock.{decode}
@@ -17,10 +18,6 @@ noLeader = 65535
 -- the lowest gate of gate j's group
 unfoldable pub leaderOf : Block → ℕ → ℕ
 leaderOf b j = least (sameGroup b j) (gateCount b)
-
--- gate j's leader when the groups of the leaders below l have theirs
-unfoldable pub leaderUpTo : Block → ℕ → ℕ → ℕ
-leaderUpTo b l j = cond (ltb (leaderOf b j) l) (leaderOf b j) noLeader
 
 -- a flag for each gate that has a leader
 unfoldable pub barredBy : List ℕ → ℕ → ℕ
@@ -74,14 +71,50 @@ pub record Ready (ws : List ℕ) (n m gates : ℕ) (flags queue : List ℕ) : Ty
   pub search : SearchReady ws n m gates flags queue
   pub gatesAre : m ≡ gateCount (decode ws)
 
--- the groups of the leaders below l have theirs, and nothing is stored past the gates
-pub record Led (b : Block) (m l : ℕ) (entry leaders : List ℕ) : Type 0 where
-  pub sameLength : length leaders ≡ length entry
-  pub first : (j : ℕ) → j < m → getD leaders j 0 ≡ leaderUpTo b l j
-  pub rest : (j : ℕ) → m ≤ j → getD leaders j 0 ≡ getD entry j 0
+-- gates of one group have the same leader, or all none; a leader is one of its group
+pub record Grouped (b : Block) (m : ℕ) (leaders : List ℕ) : Type 0 where
+  pub alike : (i j : ℕ) → i < m → j < m → sameGroup b i j ≡ true → getD leaders i 0 ≡ getD leaders j 0
+  pub own : (j : ℕ) → j < m → (getD leaders j 0 ≡ noLeader) ⊎ (sameGroup b (getD leaders j 0) j ≡ true)
 
 -- it is `leader`'s turn
 pub record LeadReady (ws : List ℕ) (m leader : ℕ) (leaders : List ℕ) : Type 0 where
   pub below : leader < m
   pub room : m ≤ length leaders
-  pub lower : (j : ℕ) → j < m → getD leaders j 0 ≡ leaderUpTo (decode ws) leader j
+  pub grouped : Grouped (decode ws) m leaders
+
+-- gate j's leader after gate l's turn
+unfoldable pub givenBy : Block → ℕ → List ℕ → ℕ → ℕ
+givenBy b l leaders j = cond (eqb (getD leaders l 0) noLeader && sameGroup b l j) l (getD leaders j 0)
+
+-- what `lead_group` does; nothing is stored past the gates
+pub record GroupLed (b : Block) (m l : ℕ) (entry leaders : List ℕ) : Type 0 where
+  pub sameLength : length leaders ≡ length entry
+  pub first : (j : ℕ) → j < m → getD leaders j 0 ≡ givenBy b l entry j
+  pub rest : (j : ℕ) → m ≤ j → getD leaders j 0 ≡ getD entry j 0
+
+-- the gate that is taken after t others, from either end
+unfoldable pub takenAt : Bool → ℕ → ℕ → ℕ
+takenAt downward m t = cond downward (m - 1 - t) t
+
+-- every group has a leader
+pub record AllLed (b : Block) (m : ℕ) (entry leaders : List ℕ) : Type 0 where
+  pub sameLength : length leaders ≡ length entry
+  pub grouped : Grouped b m leaders
+  pub led : (j : ℕ) → j < m → getD leaders j 0 ≡ noLeader → ⊥
+  pub rest : (j : ℕ) → m ≤ j → getD leaders j 0 ≡ getD entry j 0
+
+-- the first gate with gate k's leader
+unfoldable pub firstLike : List ℕ → ℕ → ℕ
+firstLike leaders k = least (λ j. eqb (getD leaders j 0) (getD leaders k 0)) k
+
+-- what `first_led` does
+pub record FirstLed (leader k : ℕ) (firsts firsts′ : List ℕ) (first : ℕ) : Type 0 where
+  pub answer : first ≡ cond (eqb (getD firsts leader 0) noLeader) k (getD firsts leader 0)
+  pub leaves : firsts′ ≡ cond (eqb (getD firsts leader 0) noLeader) (set firsts leader k) firsts
+
+-- what `lower` needs
+pub record LowerReady (m : ℕ) (leaders firsts : List ℕ) : Type 0 where
+  pub few : m ≤ 1024
+  pub room : m ≤ length leaders
+  pub firstRoom : m ≤ length firsts
+  pub below : (j : ℕ) → j < m → getD leaders j 0 < m

@@ -1,5 +1,5 @@
-// The lowest gate of each gate's strongly connected group, its leader. Gates are taken in ascending order; one without a leader leads itself
-// and those gates that it reaches, past no gate that has a leader, and that reach it back.
+// The lowest gate of each gate's strongly connected group, its leader. Gates are taken one by one; one without a leader leads itself and those
+// gates that it reaches, past no gate that has a leader, and that reach it back. At last each group's lowest gate becomes its leader.
 ghost use mathlib.Core.Path.{_≡_};
 ghost use Prim.Native.Nat.{_/_, _+_, _≤_, _<_};
 ghost use mathlib.Core.List.{_++_};
@@ -7,7 +7,7 @@ ghost use lib.ListN.{length, getD, drop, replicate};
 ghost use Rattle.laws.specs.Lists.{any, tab, placed};
 ghost use Rattle.netlist.specs.StoredBlock.{decode};
 ghost use Rattle.search.specs.Search.{wordGate, wordGates, GatesReady};
-ghost use Rattle.components.specs.Leaders.{leaderOf, noLeader, barredBy, ledBy, LedOne, Swept, Spread, QueueReady, Ready, LeadReady, Led};
+ghost use Rattle.components.specs.Leaders.{leaderOf, noLeader, barredBy, ledBy, LedOne, Swept, Spread, QueueReady, Ready, LeadReady, GroupLed, AllLed, takenAt, FirstLed, LowerReady, firstLike};
 use search::walk::queue_reach;
 use ternary::read::word_at;
 
@@ -135,7 +135,7 @@ fn lead_queued(
     }
 }
 
-// Gives the gates that `leader` leads their leader, when those of lower leaders have theirs. If `leader` has one itself, it leads none.
+// If gate `leader` has no leader, its group gets it.
 fn lead_group(
     words: &[u16],
     n: usize,
@@ -147,7 +147,7 @@ fn lead_group(
     queue: &mut [u16],
 )
     requires { ⌜ LeadReady (now words) m leader (now leaders) × Ready (now words) n m gates (now flags) (now queue) ⌝ }
-    ensures { λ r. ⌜ Led (decode (now (words .entry))) m (leader + 1) (now (leaders .entry)) (now (leaders .exit)) ⌝ }
+    ensures { λ r. ⌜ GroupLed (decode (now (words .entry))) m leader (now (leaders .entry)) (now (leaders .exit)) ⌝ }
 {
     if word_at(leaders, leader) != NO_LEADER {
         return;
@@ -156,6 +156,91 @@ fn lead_group(
     let count = queue_reach(words, n, m, gates, leader, flags, queue);
     leaders[leader] = leader as u16;
     lead_queued(words, n, m, gates, leader, queue, count, leaders);
+}
+
+// Most gates read higher gates, by their first operands. It decides the order in which gates are taken; any is right, but a gate whose
+// operands have leaders costs least.
+fn reads_upward(words: &[u16], n: usize, m: usize, gates: usize) -> bool
+    requires { ⌜ (n ≤ 65535) × (m ≤ 1024) × (gates ≤ 1024) ⌝ }
+{
+    let mut upward = 0;
+    let mut i = 0;
+    while i < m {
+        if n + i < word_at(words, gates + 5 * i + 1) {
+            upward += 1;
+        }
+        i += 1;
+    }
+    m < 2 * upward
+}
+
+// The gate that is taken after t others.
+fn taken(downward: bool, m: usize, t: usize) -> usize
+    requires { ⌜ t < m ⌝ }
+    ensures { λ r. ⌜ r ≡ takenAt downward m t ⌝ }
+{
+    if downward {
+        return m - 1 - t;
+    }
+    t
+}
+
+// Every group has one of its gates for its leader.
+fn lead_groups(
+    words: &[u16],
+    n: usize,
+    m: usize,
+    gates: usize,
+    leaders: &mut [u16],
+    flags: &mut [u8],
+    queue: &mut [u16],
+)
+    requires { ⌜ (m ≤ length (now leaders)) × Ready (now words) n m gates (now flags) (now queue) ⌝ }
+    ensures { λ r. ⌜ AllLed (decode (now (words .entry))) m (now (leaders .entry)) (now (leaders .exit)) ⌝ }
+{
+    forget(m, leaders);
+    let downward = reads_upward(words, n, m, gates);
+    let mut t = 0;
+    while t < m {
+        lead_group(
+            words,
+            n,
+            m,
+            gates,
+            taken(downward, m, t),
+            leaders,
+            flags,
+            queue,
+        );
+        t += 1;
+    }
+}
+
+// The first gate that had this leader; gate k, if none had.
+fn first_led(leader: usize, k: usize, firsts: &mut [u16]) -> usize
+    requires { ⌜ (leader < length (now firsts)) × (k < 1024) ⌝ }
+    ensures { λ r. ⌜ FirstLed leader k (now (firsts .entry)) (now (firsts .exit)) r ⌝ }
+{
+    let first = word_at(firsts, leader);
+    if first != NO_LEADER {
+        return first;
+    }
+    firsts[leader] = k as u16;
+    k
+}
+
+// Each gate gets the first gate that has the same leader.
+fn lower(m: usize, leaders: &mut [u16], firsts: &mut [u16])
+    requires { ⌜ LowerReady m (now leaders) (now firsts) ⌝ }
+    ensures { λ r. ⌜ now (leaders .exit) ≡ placed (tab (firstLike (now (leaders .entry))) m) (now (leaders .entry)) ⌝ }
+{
+    forget(m, firsts);
+    let mut k = 0;
+    while k < m {
+        let first = first_led(word_at(leaders, k), k, firsts);
+        leaders[k] = first as u16;
+        k += 1;
+    }
 }
 
 // The lowest gate of each gate's group.
@@ -171,10 +256,6 @@ pub fn lead(
     requires { ⌜ (m ≤ length (now leaders)) × Ready (now words) n m gates (now flags) (now queue) ⌝ }
     ensures { λ r. ⌜ now (leaders .exit) ≡ placed (tab (leaderOf (decode (now (words .entry)))) m) (now (leaders .entry)) ⌝ }
 {
-    forget(m, leaders);
-    let mut j = 0;
-    while j < m {
-        lead_group(words, n, m, gates, j, leaders, flags, queue);
-        j += 1;
-    }
+    lead_groups(words, n, m, gates, leaders, flags, queue);
+    lower(m, leaders, queue);
 }

@@ -4,6 +4,7 @@ use mathlib.Core.Path.{_≡_, refl, sym, _∙_}
 use native.Mathlib.Omega.{arith}
 use borrow.Author.Needs.{needs}
 use lib.ListN.{length-set}
+use Rattle.netlist.specs.StoredBlock.{decode}
 use Rattle.components.proofs.Found.{group-found, group-had, barred-at, start-ready, still-room, queue-ready}
 use Rattle.components.proofs.leaders.lead_group.Statement.{statement}
 use Rattle.components.proofs.leaders.lead_group.Tie as tie
@@ -15,7 +16,7 @@ same-length : tie.Need-same-length
 same-length c = search needs
 
 returns : tie.Need-returns
-returns c = let s = c .before .before .before .before .before .before .before in group-had (s .args .words .now) (s .args .m) (s .args .leader) (s .args .leaders .now) (s .pre .1 .gatesAre) (s .pre .0) (λ e. c .if1 .taken (c .before .word-at .ensures ∙ e))
+returns c = let s = c .before .before .before .before .before .before .before in group-had (decode (s .args .words .now)) (s .args .m) (s .args .leader) (s .args .leaders .now) (λ e. c .if1 .taken (c .before .word-at .ensures ∙ e))
 
 bar-requires : tie.Need-bar-requires
 bar-requires c κs = search needs

@@ -1,0 +1,236 @@
+-- From turn to turn every group gets a leader, and at last its lowest gate. Cited by `lead_groups`, `lower` and `lead`. Assumes nothing.
+use mathlib.Core.Path.{_≡_, refl, sym, _∙_, subst}
+use mathlib.Core.Logic.{_⊎_, inl, inr, ⊎-elim}
+use mathlib.Core.Bool.{Bool, true, false, cond, _&&_}
+use mathlib.Core.List.{List, _++_}
+use Prim.Native.Nat.{ℕ, _+_, _-_, _≤_, _<_}
+use native.Mathlib.Nat.{not-suc-le-zero}
+use native.Mathlib.Omega.{arith}
+use lib.ListN.{length, getD, set, drop, replicate, length-set, length-append, length-drop, length-replicate, getD-replicate, List·getD-append}
+use lib.Seq.{getD-set-same, getD-set-other, getD-append-add, getD-drop, ext-getD}
+use lib.Dec.{eqb}
+use borrow.Author.Tests.{eqb-true, eq-eqb, ne-eqb}
+use Rattle.laws.specs.Lists.{tab, placed, least}
+use Rattle.laws.proofs.Tests.{bool-cases, same-test, not-both, and-left, and-right, eq-or-ne, lt-or-le, not-true-false}
+use Rattle.laws.proofs.Least.{least-is, least-le, least-below, least-at}
+use Rattle.laws.proofs.Tab.{placed-tab, length-tab}
+use Rattle.netlist.specs.Netlist.{Block, gateCount}
+use Rattle.netlist.specs.StoredBlock.{decode}
+use Rattle.netlist.specs.Groups.{sameGroup}
+use Rattle.reach.proofs.SameGroup.{sameGroup-refl, sameGroup-sym, sameGroup-trans, sameGroup-below}
+use Rattle.components.specs.Leaders.{noLeader, leaderOf, Grouped, LeadReady, givenBy, GroupLed, takenAt, AllLed, firstLike, FirstLed, LowerReady}
+
+-- ---- slices
+
+-- an element past what is placed
+past : (xs : List ℕ) (m : ℕ) (entry : List ℕ) → length xs ≡ m → (k : ℕ) → m ≤ k → getD (xs ++ drop m entry) k 0 ≡ getD entry k 0
+past xs m entry len k h =
+    let e : m + (k - m) ≡ k = omega arith in
+    let t : getD (xs ++ drop m entry) (length xs + (k - m)) 0 ≡ getD (drop m entry) (k - m) 0 = getD-append-add xs (drop m entry) (k - m) 0 in
+    (rw (len, e) at t) ∙ getD-drop m entry (k - m) 0 ∙ rw e refl
+
+-- a slice is known by its first m elements and the rest
+placed-is : (f : ℕ → ℕ) (m : ℕ) (entry slice : List ℕ) → m ≤ length entry → length slice ≡ length entry → ((k : ℕ) → k < m → getD slice k 0 ≡ f k) → ((k : ℕ) → m ≤ k → getD slice k 0 ≡ getD entry k 0) → slice ≡ placed (tab f m) entry
+placed-is f m entry slice room len first rest = ext-getD 0 slice (placed (tab f m) entry) lengths (λ k l. ⊎-elim (λ h. first k h ∙ sym (placed-tab f m entry k 0 h)) (λ h. rest k h ∙ sym (behind k h)) (lt-or-le k m))
+  where
+    lengths : length slice ≡ length (placed (tab f m) entry)
+    lengths = len ∙ sym (rw (length-append, length-drop, length-tab f m) (omega arith))
+
+    behind : (k : ℕ) → m ≤ k → getD (placed (tab f m) entry) k 0 ≡ getD entry k 0
+    behind k h = rw (length-tab f m) (past (tab f m) m entry (length-tab f m) k h)
+
+-- ---- turns
+
+module _ (b : Block) (m : ℕ) (gatesAre : m ≡ gateCount b) (few : m ≤ 1024) where
+  -- at first no gate has a leader
+  pub grouped-none : (entry : List ℕ) → Grouped b m (replicate m noLeader ++ drop m entry)
+  grouped-none entry = record { alike = λ i j il jl g. at i il ∙ sym (at j jl); own = λ j jl. inl (at j jl) }
+    where
+      at : (k : ℕ) → k < m → getD (replicate m noLeader ++ drop m entry) k 0 ≡ noLeader
+      at k l = List·getD-append (replicate m noLeader) (drop m entry) 0 k (rw (length-replicate {A = ℕ} m noLeader) l) ∙ getD-replicate m k noLeader 0 l
+
+  module _ {l : ℕ} (lt : l < m) {entry leaders : List ℕ} (g : Grouped b m entry) (t : GroupLed b m l entry leaders) where
+    -- what is given: gate l, or what stood there
+    given : (k : ℕ) → k < m → ((getD leaders k 0 ≡ l) × (sameGroup b l k ≡ true) × (getD entry l 0 ≡ noLeader)) ⊎ ((getD leaders k 0 ≡ getD entry k 0) × (eqb (getD entry l 0) noLeader && sameGroup b l k ≡ false))
+    unfolding givenBy
+    given k kl = ⊎-elim yes no (bool-cases (eqb (getD entry l 0) noLeader && sameGroup b l k))
+      where
+        yes : eqb (getD entry l 0) noLeader && sameGroup b l k ≡ true → ((getD leaders k 0 ≡ l) × (sameGroup b l k ≡ true) × (getD entry l 0 ≡ noLeader)) ⊎ ((getD leaders k 0 ≡ getD entry k 0) × (eqb (getD entry l 0) noLeader && sameGroup b l k ≡ false))
+        yes h = inl (t .first k kl ∙ rw h refl, and-right (eqb (getD entry l 0) noLeader) (sameGroup b l k) h, eqb-true (getD entry l 0) noLeader (and-left (eqb (getD entry l 0) noLeader) (sameGroup b l k) h))
+
+        no : eqb (getD entry l 0) noLeader && sameGroup b l k ≡ false → ((getD leaders k 0 ≡ l) × (sameGroup b l k ≡ true) × (getD entry l 0 ≡ noLeader)) ⊎ ((getD leaders k 0 ≡ getD entry k 0) × (eqb (getD entry l 0) noLeader && sameGroup b l k ≡ false))
+        no h = inr (t .first k kl ∙ rw h refl, h)
+
+    pub grouped-next : Grouped b m leaders
+    unfolding givenBy
+    grouped-next =
+        record {
+          alike = λ i j il jl same.
+              let e : sameGroup b l i ≡ sameGroup b l j = same-test (sameGroup b l i) (sameGroup b l j) (λ h. sameGroup-trans b l i j h same) (λ h. sameGroup-trans b l j i h (sameGroup-sym b i j same)) in
+              t .first i il ∙ rw (e, g .alike i j il jl same) (sym (t .first j jl));
+          own = λ j jl. ⊎-elim (λ y. inr (rw (y .0) (y .1))) (λ n. rw (n .0) (g .own j jl)) (given j jl);
+        }
+
+    -- who has a leader keeps one
+    pub led-kept : (k : ℕ) → k < m → (getD entry k 0 ≡ noLeader → ⊥) → getD leaders k 0 ≡ noLeader → ⊥
+    led-kept k kl had none = ⊎-elim (λ y. let e : l ≡ noLeader = sym (y .0) ∙ none in omega arith) (λ n. had (sym (n .0) ∙ none)) (given k kl)
+
+    -- gate l has one now
+    pub led-now : getD leaders l 0 ≡ noLeader → ⊥
+    led-now none =
+        ⊎-elim (λ y. let e : l ≡ noLeader = sym (y .0) ∙ none in omega arith)
+        (λ n. not-both (both (sym (n .0) ∙ none)) (n .1))
+        (given l lt)
+      where
+        both : getD entry l 0 ≡ noLeader → eqb (getD entry l 0) noLeader && sameGroup b l l ≡ true
+        both e = rw (eq-eqb (getD entry l 0) noLeader e, sameGroup-refl b l (subst (λ (c : ℕ). l < c) gatesAre lt)) refl
+
+  -- t gates have had their turn
+  pub record Turns (downward : Bool) (t : ℕ) (entry leaders : List ℕ) : Type 0 where
+    pub within : t ≤ m
+    pub sameLength : length leaders ≡ length entry
+    pub grouped : Grouped b m leaders
+    pub led : (i : ℕ) → i < t → getD leaders (takenAt downward m i) 0 ≡ noLeader → ⊥
+    pub rest : (k : ℕ) → m ≤ k → getD leaders k 0 ≡ getD entry k 0
+
+  pub taken-below : (downward : Bool) (t : ℕ) → t < m → takenAt downward m t < m
+  unfolding takenAt
+  taken-below true t l = omega arith
+  taken-below false t l = l
+
+  taken-back : (downward : Bool) (t : ℕ) → t < m → takenAt downward m (takenAt downward m t) ≡ t
+  unfolding takenAt
+  taken-back true t l = omega arith
+  taken-back false t l = refl
+
+  pub turns-start : (downward : Bool) (entry : List ℕ) → Grouped b m entry → Turns downward 0 entry entry
+  turns-start downward entry g =
+      record { within = omega arith; sameLength = refl; grouped = g; led = λ i l. absurd (not-suc-le-zero l); rest = λ k h. refl }
+
+  pub turns-next : {downward : Bool} {t : ℕ} {entry leaders leaders′ : List ℕ} → Turns downward t entry leaders → t < m → (l : ℕ) → l ≡ takenAt downward m t → GroupLed b m l leaders leaders′ → Turns downward (t + 1) entry leaders′
+  turns-next {downward} {t} {entry} {leaders} {leaders′} s lt l is g =
+      let ll : l < m = rw is (taken-below downward t lt) in
+      record {
+        within = omega arith;
+        sameLength = g .sameLength ∙ s .sameLength;
+        grouped = grouped-next ll (s .grouped) g;
+        led = λ i il. ⊎-elim (λ e. rw e (subst (λ (k : ℕ). getD leaders′ k 0 ≡ noLeader → ⊥) is (led-now ll (s .grouped) g))) (λ ne. led-kept ll (s .grouped) g (takenAt downward m i) (taken-below downward i (omega arith)) (s .led i (omega arith))) (eq-or-ne i t);
+        rest = λ k h. g .rest k h ∙ s .rest k h;
+      }
+
+  pub turns-end : {downward : Bool} {t : ℕ} (entry : List ℕ) {leaders : List ℕ} → m ≤ length entry → m ≤ t → Turns downward t (replicate m noLeader ++ drop m entry) leaders → AllLed b m entry leaders
+  turns-end {downward} {t} entry {leaders} room ge s =
+      record {
+        sameLength = s .sameLength ∙ rw (length-append, length-replicate {A = ℕ} m noLeader, length-drop) (omega arith);
+        grouped = s .grouped;
+        led = λ j jl. subst (λ (k : ℕ). getD leaders k 0 ≡ noLeader → ⊥) (taken-back downward j jl) (s .led (takenAt downward m j) (omega (arith, taken-below downward j jl)));
+        rest = λ k h. s .rest k h ∙ past (replicate m noLeader) m entry (length-replicate {A = ℕ} m noLeader) k h;
+      }
+
+-- ---- the first gate that has a leader
+
+-- `firsts` tells of each leader the first of the k gates below that has it
+pub record Firsts (leaders : List ℕ) (m k : ℕ) (firsts : List ℕ) : Type 0 where
+  pub known : (r : ℕ) → r < m → ((getD firsts r 0 ≡ noLeader) × ((j : ℕ) → j < k → getD leaders j 0 ≡ r → ⊥)) ⊎ ((getD firsts r 0 < k) × (getD leaders (getD firsts r 0) 0 ≡ r) × ((j : ℕ) → j < getD firsts r 0 → getD leaders j 0 ≡ r → ⊥))
+
+pub firsts-none : (leaders : List ℕ) (m : ℕ) (entry : List ℕ) → Firsts leaders m 0 (replicate m noLeader ++ drop m entry)
+firsts-none leaders m entry =
+    record { known = λ r l. inl (List·getD-append (replicate m noLeader) (drop m entry) 0 r (rw (length-replicate {A = ℕ} m noLeader) l) ∙ getD-replicate m r noLeader 0 l, λ j h. absurd (not-suc-le-zero h)) }
+
+module _ {leaders : List ℕ} {m k : ℕ} {firsts : List ℕ} (f : Firsts leaders m k firsts) (kl : k < m) (few : m ≤ 1024) (leader : ℕ) (is : leader ≡ getD leaders k 0) (small : leader < m) {firsts′ : List ℕ} {first : ℕ} (o : FirstLed leader k firsts firsts′ first) where
+  pub first-is : first ≡ firstLike leaders k
+  unfolding firstLike
+  first-is = ⊎-elim none some (f .known leader small)
+    where
+      none : (getD firsts leader 0 ≡ noLeader) × ((j : ℕ) → j < k → getD leaders j 0 ≡ leader → ⊥) → first ≡ least (λ j. eqb (getD leaders j 0) (getD leaders k 0)) k
+      none h =
+          o .answer ∙ rw (eq-eqb (getD firsts leader 0) noLeader (h .0))
+          (sym (least-is (λ j. eqb (getD leaders j 0) (getD leaders k 0)) k k (omega arith) (λ i il. ne-eqb (getD leaders i 0) (getD leaders k 0) (λ e. h .1 i il (e ∙ sym is))) (λ lt. absurd (omega arith))))
+
+      some : (getD firsts leader 0 < k) × (getD leaders (getD firsts leader 0) 0 ≡ leader) × ((j : ℕ) → j < getD firsts leader 0 → getD leaders j 0 ≡ leader → ⊥) → first ≡ least (λ j. eqb (getD leaders j 0) (getD leaders k 0)) k
+      some h =
+          let lt : getD firsts leader 0 < k = h .0 in
+          o .answer ∙ rw (ne-eqb (getD firsts leader 0) noLeader (λ e. omega arith))
+          (sym (least-is (λ j. eqb (getD leaders j 0) (getD leaders k 0)) k (getD firsts leader 0) (omega arith) (λ i il. ne-eqb (getD leaders i 0) (getD leaders k 0) (λ e. h .2 i il (e ∙ sym is))) (λ l. eq-eqb (getD leaders (getD firsts leader 0) 0) (getD leaders k 0) (h .1 ∙ is))))
+
+  abbrev Known : ℕ → ℕ → Type 0
+  Known r x = ((x ≡ noLeader) × ((j : ℕ) → j < k + 1 → getD leaders j 0 ≡ r → ⊥)) ⊎ ((x < k + 1) × (getD leaders x 0 ≡ r) × ((j : ℕ) → j < x → getD leaders j 0 ≡ r → ⊥))
+
+  pub firsts-next : m ≤ length firsts → Firsts leaders m (k + 1) firsts′
+  firsts-next room = record { known = λ r rl. ⊎-elim (λ e. rw e here) (other r rl) (eq-or-ne r leader) }
+    where
+      here : Known leader (getD firsts′ leader 0)
+      here =
+          ⊎-elim
+          (λ h. rw (o .leaves, eq-eqb (getD firsts leader 0) noLeader (h .0), getD-set-same firsts leader k 0 (omega arith)) (inr (omega arith, sym is, h .1)))
+          (λ h. let lt : getD firsts leader 0 < k = h .0 in rw (o .leaves, ne-eqb (getD firsts leader 0) noLeader (λ e. omega arith)) (inr (omega arith, h .1, h .2)))
+          (f .known leader small)
+
+      kept : (r : ℕ) → (r ≡ leader → ⊥) → getD firsts′ r 0 ≡ getD firsts r 0
+      kept r ne = rw (o .leaves) (either (eqb (getD firsts leader 0) noLeader))
+        where
+          either : (t : Bool) → getD (cond t (set firsts leader k) firsts) r 0 ≡ getD firsts r 0
+          either true = getD-set-other firsts leader r k 0 ne
+          either false = refl
+
+      other : (r : ℕ) → r < m → (r ≡ leader → ⊥) → Known r (getD firsts′ r 0)
+      other r rl ne =
+          rw (kept r ne)
+          (⊎-elim
+          (λ h. inl (h .0, λ j jl e. ⊎-elim (λ at. ne (sym e ∙ rw at (sym is))) (λ nat. h .1 j (omega arith) e) (eq-or-ne j k)))
+          (λ h. let lt : getD firsts r 0 < k = h .0 in inr (omega arith, h .1, h .2))
+          (f .known r rl))
+
+-- a gate whose turn is still to come
+pub still-there : (f : ℕ → ℕ) (k : ℕ) (entry slice : List ℕ) → slice ≡ placed (tab f k) entry → getD slice k 0 ≡ getD entry k 0
+still-there f k entry slice e = rw (e, length-tab f k) (past (tab f k) k entry (length-tab f k) k (omega arith))
+
+-- what is found is not above the gate
+pub first-le : (leaders : List ℕ) (k : ℕ) → firstLike leaders k ≤ k
+unfolding firstLike
+first-le leaders k = least-le (λ j. eqb (getD leaders j 0) (getD leaders k 0)) k
+
+-- ---- which is the group's lowest gate
+
+module _ {b : Block} {m : ℕ} {entry leaders : List ℕ} (gatesAre : m ≡ gateCount b) (a : AllLed b m entry leaders) where
+  in-block : {j : ℕ} → j < m → j < gateCount b
+  in-block {j} l = subst (λ (c : ℕ). j < c) gatesAre l
+
+  -- who has the same leader is of the same group
+  same-led : (i k : ℕ) → i < m → k < m → getD leaders i 0 ≡ getD leaders k 0 → sameGroup b k i ≡ true
+  same-led i k il kl e =
+      sameGroup-trans b k (getD leaders k 0) i (sameGroup-sym b (getD leaders k 0) k (owned k kl)) (rw (← e) (owned i il))
+    where
+      owned : (j : ℕ) → j < m → sameGroup b (getD leaders j 0) j ≡ true
+      owned j jl = ⊎-elim (λ h. absurd (a .led j jl h)) (λ h. h) (a .grouped .own j jl)
+
+  first-leads : (k : ℕ) → k < m → firstLike leaders k ≡ leaderOf b k
+  unfolding firstLike leaderOf
+  first-leads k kl =
+      sym (least-is (sameGroup b k) (gateCount b) f (omega (arith, in-block kl, f-le))
+      (λ i il. not-true-false (sameGroup b k i) (λ g. not-both (eq-eqb (getD leaders i 0) (getD leaders k 0) (sym (a .grouped .alike k i kl (omega (arith, il, f-le)) g))) (least-below test k i il)))
+      (λ lt. ⊎-elim (λ h. same-led f k (omega arith) kl (eqb-true (getD leaders f 0) (getD leaders k 0) (least-at test k h))) (λ h. let e : f ≡ k = omega (arith, f-le) in rw e (sameGroup-refl b k (in-block kl))) (lt-or-le f k)))
+    where
+      test : ℕ → Bool
+      test j = eqb (getD leaders j 0) (getD leaders k 0)
+
+      f : ℕ
+      f = least test k
+
+      f-le : f ≤ k
+      f-le = least-le test k
+
+  pub lower-ready : (firsts : List ℕ) → m ≤ 1024 → m ≤ length entry → m ≤ length firsts → LowerReady m leaders firsts
+  lower-ready firsts few room firstRoom =
+      record {
+        few = few;
+        room = rw (a .sameLength) room;
+        firstRoom = firstRoom;
+        below = λ j jl. ⊎-elim (λ h. absurd (a .led j jl h)) (λ h. subst (λ (c : ℕ). getD leaders j 0 < c) (sym gatesAre) (sameGroup-below b j (getD leaders j 0) (sameGroup-sym b (getD leaders j 0) j h))) (a .grouped .own j jl);
+      }
+
+  pub lowest-led : {final : List ℕ} → m ≤ length entry → final ≡ placed (tab (firstLike leaders) m) leaders → final ≡ placed (tab (leaderOf b) m) entry
+  lowest-led {final} room e =
+      placed-is (leaderOf b) m entry final room (rw (e, length-append, length-drop, length-tab (firstLike leaders) m) (omega (arith, a .sameLength)))
+      (λ k kl. rw e (placed-tab (firstLike leaders) m leaders k 0 kl) ∙ first-leads k kl)
+      (λ k h. rw e (rw (length-tab (firstLike leaders) m) (past (tab (firstLike leaders) m) m leaders (length-tab (firstLike leaders) m) k h)) ∙ a .rest k h)
