@@ -1,11 +1,11 @@
+-- `groups::obstacle::is_obstacle` meets its contract, by the ways through its tests. Assumes nothing.
 use borrow.Author.Needs.{needs}
--- `groups::numbering::is_obstacle` meets its contract, by the ways through its tests. Assumes nothing.
 use mathlib.Core.Path.{_∙_, sym}
 use mathlib.Core.Logic.{inl, inr}
 use native.Mathlib.Omega.{arith}
 use Rattle.groups.proofs.Obstacles.{no-gate, has-number, no-number}
-use Rattle.groups.proofs.numbering.is_obstacle.Statement.{statement}
-use Rattle.groups.proofs.numbering.is_obstacle.Tie as tie
+use Rattle.groups.proofs.obstacle.is_obstacle.Statement.{statement}
+use Rattle.groups.proofs.obstacle.is_obstacle.Tie as tie
 
 returns : tie.Need-returns
 returns c = no-gate (c .before .before .before .args .numbers .now) (c .before .before .before .args .leaders .now) (c .before .before .before .args .leader) (c .before .before .before .args .n) (c .before .before .before .args .m) (c .before .before .before .args .w) (inl (c .if1 .taken))
