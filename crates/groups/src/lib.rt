@@ -9,6 +9,7 @@ use netlist::Refusal;
 
 pub mod assign;
 pub mod numbering;
+mod obstacle;
 
 // Groups (6, 11): each gate's group number, a word each; count: groups.
 pub fn groups(words: &[u16], numbers: &mut [u16]) -> Answer

@@ -1,4 +1,4 @@
--- `groups::numbering::obstacle_of_gate` meets its contract: none of the operand words passed so far is an obstacle. Assumes nothing.
+-- `groups::obstacle::obstacle_of_gate` meets its contract: none of the operand words passed so far is an obstacle. Assumes nothing.
 use Prim.Native.Nat.{_-_, _/_, _≤_}
 use mathlib.Core.Path.{_≡_}
 use mathlib.Core.Bool.{false}
@@ -9,8 +9,8 @@ use Rattle.search.specs.Search.{wordGates}
 use Rattle.groups.specs.Numbering.{obstacle}
 use Rattle.search.proofs.Operands.{no-words}
 use Rattle.groups.proofs.Obstacles.{word-names, word-passed, word-found, words-passed}
-use Rattle.groups.proofs.numbering.obstacle_of_gate.Statement.{statement}
-use Rattle.groups.proofs.numbering.obstacle_of_gate.Tie as tie
+use Rattle.groups.proofs.obstacle.obstacle_of_gate.Statement.{statement}
+use Rattle.groups.proofs.obstacle.obstacle_of_gate.Tie as tie
 
 abbrev Inv-loop : tie.InvT-loop
 Inv-loop words n m at numbers leaders leader count i₀ i = (i ≤ count) × (any (obstacle numbers leaders leader) (wordGates words n m at i) ≡ false)

@@ -1,4 +1,4 @@
--- `groups::numbering::is_obstacle` meets its contract, by the ways through its tests. Assumes nothing.
+-- `groups::obstacle::is_obstacle` meets its contract, by the ways through its tests. Assumes nothing.
 use borrow.Author.Needs.{needs}
 use mathlib.Core.Path.{_∙_, sym}
 use mathlib.Core.Logic.{inl, inr}
@@ -6,8 +6,8 @@ use native.Mathlib.Omega.{arith}
 use Rattle.search.proofs.Operands.{no-gate}
 use Rattle.groups.specs.Numbering.{obstacle}
 use Rattle.groups.proofs.Obstacles.{has-number, no-number}
-use Rattle.groups.proofs.numbering.is_obstacle.Statement.{statement}
-use Rattle.groups.proofs.numbering.is_obstacle.Tie as tie
+use Rattle.groups.proofs.obstacle.is_obstacle.Statement.{statement}
+use Rattle.groups.proofs.obstacle.is_obstacle.Tie as tie
 
 returns : tie.Need-returns
 returns c = no-gate (obstacle (c .before .before .before .args .numbers .now) (c .before .before .before .args .leaders .now) (c .before .before .before .args .leader)) (c .before .before .before .args .n) (c .before .before .before .args .m) (c .before .before .before .args .w) (inl (c .if1 .taken))

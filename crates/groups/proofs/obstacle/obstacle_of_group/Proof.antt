@@ -1,4 +1,4 @@
--- `groups::numbering::obstacle_of_group` meets its contract: no gate of the group below gate i reads an obstacle. Assumes nothing.
+-- `groups::obstacle::obstacle_of_group` meets its contract: no gate of the group below gate i reads an obstacle. Assumes nothing.
 use Prim.Native.Nat.{_-_, _≤_}
 use mathlib.Core.Path.{_≡_, _∙_, sym}
 use mathlib.Core.Logic.{⊎-elim}
@@ -9,8 +9,8 @@ use Rattle.laws.specs.Lists.{any}
 use Rattle.groups.specs.Numbering.{obstacle, groupReads}
 use Rattle.groups.proofs.Obstacles.{gate-other, gate-passed, gate-found, gates-below, gates-passed}
 use Rattle.groups.proofs.Leading.{lowest}
-use Rattle.groups.proofs.numbering.obstacle_of_group.Statement.{statement}
-use Rattle.groups.proofs.numbering.obstacle_of_group.Tie as tie
+use Rattle.groups.proofs.obstacle.obstacle_of_group.Statement.{statement}
+use Rattle.groups.proofs.obstacle.obstacle_of_group.Tie as tie
 
 abbrev Inv-loop : tie.InvT-loop
 Inv-loop words n m gates numbers leaders leader i₀ i = (i ≤ m) × (any (obstacle numbers leaders leader) (groupReads words n m gates leaders leader i) ≡ false)
