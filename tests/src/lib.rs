@@ -4,7 +4,9 @@
 
 pub mod answer;
 pub mod block;
+pub mod catalogue;
 pub mod cover;
+pub mod executed;
 pub mod generate;
 pub mod groups;
 pub mod limits;
