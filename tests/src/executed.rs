@@ -55,6 +55,20 @@ impl Scratch {
         fs::write(path, content).expect("a file");
     }
 
+    /// Writes a script that can be run. Another process writes it: a file that this one still has open, or one of its
+    /// children in another thread, is too busy to be run.
+    pub fn put_script(&self, name: &str, script: &str) {
+        let (source, target) = (format!("{name}.source"), self.path(name));
+        self.put(&source, script);
+        let source = self.path(&source);
+        let copied = Command::new("install")
+            .args(["-m", "755"])
+            .args([&source, &target])
+            .status();
+        assert!(copied.expect("install").success());
+        fs::remove_file(source).expect("written above");
+    }
+
     pub fn get(&self, name: &str) -> String {
         let bytes = fs::read(self.path(name)).unwrap_or_else(|e| panic!("{name}: {e}"));
         String::from_utf8(bytes).expect("text")
