@@ -7,22 +7,31 @@ use std::process::{Command, Output};
 use std::time::{Duration, SystemTime};
 use std::{env, fs, thread};
 
-/// The commands that the script itself uses.
-const TOOLS: [&str; 11] = [
-    "bash", "cat", "dirname", "env", "find", "flock", "mkdir", "mv", "readlink", "sleep", "touch",
+/// The commands that the scripts use.
+const TOOLS: [&str; 13] = [
+    "bash", "cat", "chmod", "dirname", "env", "find", "flock", "mkdir", "mv", "readlink", "rm",
+    "sleep", "touch",
 ];
 
-/// Makes its result unless there is one, as `rt check` leaves what is up to date. It takes a while, and would take the input too.
+const RESULTS: [&str; 3] = [
+    "target/bin/unloop",
+    "target/staticlib/libexports.a",
+    "target/driver/release/unloop-files",
+];
+
+/// Makes its result unless it is up to date, which `rt check` tells by a stamp of its own. It takes a while, and would take the
+/// input too.
 const RT: &str = r#"#!/usr/bin/env bash
 echo "rt $*" >> calls
 cat > eaten
 sleep 0.1
 case $1 in
-  check) result=target/bin/unloop ;;
-  staticlib) result=target/staticlib/libexports.a ;;
+  check) result=target/bin/unloop stamp=target/stamp/unloop ;;
+  staticlib) result=target/staticlib/libexports.a stamp=$result ;;
 esac
-mkdir -p "${result%/*}"
-[ -e "$result" ] || touch "$result"
+[ -e "$stamp" ] && exit
+mkdir -p "${result%/*}" target/stamp
+touch "$stamp" "$result"
 "#;
 
 /// Makes a driver that writes its arguments, one a line, and its input.
@@ -41,33 +50,40 @@ chmod +x target/driver/release/unloop-files
 
 const ALL_BUILT: &str = "rt check unloop\nrt staticlib exports\ncargo build\n";
 
-/// A repository with nothing built.
+/// A repository with nothing built, its sources two hours old.
 fn repository() -> Scratch {
     let scratch = Scratch::new();
-    for name in [
+    let usage = "rust/src/bin/unloop-files/usage.txt";
+    for source in [
         "crates.txt",
         "crates/a/src/lib.rt",
         "rust/build.rs",
         "rust/Cargo.toml",
+        usage,
     ] {
-        scratch.put(name, "");
-        age(&scratch, name, 7_200);
+        scratch.put(source, "usage\n");
     }
-    scratch.put("rust/src/bin/unloop-files/usage.txt", "usage\n");
-    for folder in ["crates/a/src", "crates/a", "crates", "rust/src"] {
-        age(&scratch, folder, 7_200);
+    for source in ["crates.txt", "crates", "rust"] {
+        age_all(&scratch.path(source));
     }
     scratch.put("calls", "");
-    scratch.put_script(
-        "bin/unloop",
-        &fs::read_to_string(root().join("bin/unloop")).unwrap(),
-    );
+    let launcher = fs::read_to_string(root().join("bin/unloop")).unwrap();
+    scratch.put_script("bin/unloop", &launcher);
     scratch.put_script("tools/rt", RT);
     scratch.put_script("tools/cargo", CARGO);
-    for tool in TOOLS.iter().chain(&["chmod"]) {
+    for tool in TOOLS {
         symlink(found(tool), scratch.path("tools").join(tool)).unwrap();
     }
     scratch
+}
+
+/// Makes a file, or a folder and all in it, two hours old.
+fn age_all(path: &Path) {
+    if path.is_dir() {
+        let entries = fs::read_dir(path).unwrap();
+        entries.for_each(|entry| age_all(&entry.unwrap().path()));
+    }
+    set_age(path, 7_200);
 }
 
 /// Where a command is.
@@ -77,11 +93,14 @@ fn found(tool: &str) -> PathBuf {
     places.find(|place| place.exists()).expect(tool)
 }
 
-/// Sets the time of a file or folder to so many seconds ago.
 fn age(scratch: &Scratch, name: &str, seconds: u64) {
+    set_age(&scratch.path(name), seconds);
+}
+
+/// Sets the time of a file or folder to so many seconds ago.
+fn set_age(path: &Path, seconds: u64) {
     let time = SystemTime::now() - Duration::from_secs(seconds);
-    let file = fs::File::open(scratch.path(name)).unwrap();
-    file.set_modified(time).unwrap();
+    fs::File::open(path).unwrap().set_modified(time).unwrap();
 }
 
 fn run(scratch: &Scratch, words: &[&str]) -> Output {
@@ -117,56 +136,52 @@ fn builds_what_is_missing_once() {
     assert_eq!(String::from_utf8_lossy(&ended.stdout), output);
 }
 
-#[test]
-fn builds_again_where_a_source_is_newer_and_then_no_more() {
+/// A repository where all is built, an hour ago, of sources of two hours ago; no stamp tells of a later build.
+fn built_an_hour_ago() -> Scratch {
     let scratch = repository();
     run(&scratch, &[]);
-    fs::remove_dir_all(scratch.path("target/built")).unwrap();
-    let [program, library, driver] = [
-        "target/bin/unloop",
-        "target/staticlib/libexports.a",
-        "target/driver/release/unloop-files",
-    ];
-    [program, library, driver]
-        .iter()
-        .for_each(|built| age(&scratch, built, 3_600));
     scratch.put("calls", "");
-    age(&scratch, "rust/src", 7_200);
-    age(&scratch, "rust/src/bin", 7_200);
-    age(&scratch, "rust/src/bin/unloop-files", 7_200);
-    age(&scratch, "rust/src/bin/unloop-files/usage.txt", 7_200);
+    RESULTS.iter().for_each(|built| age(&scratch, built, 3_600));
+    fs::remove_dir_all(scratch.path("target/built")).unwrap();
     told(&scratch, &run(&scratch, &[]), 7, "", "");
+    scratch
+}
 
-    // The program and the library are made of all crates; they stay as old as they were.
-    let two = BUILDING
-        .lines()
-        .take(2)
-        .map(|line| format!("{line}\n"))
-        .collect::<String>();
+/// The program and the library are made of all crates. Here they stay as old as they were.
+#[test]
+fn builds_again_where_a_crate_is_newer_and_then_no_more() {
     for source in ["crates/a/src/lib.rt", "crates/a/src", "crates.txt"] {
-        let _ = fs::remove_dir_all(scratch.path("target/built"));
+        let scratch = built_an_hour_ago();
         age(&scratch, source, 1_800);
+        let two: String = BUILDING.split_inclusive('\n').take(2).collect();
         let calls = "rt check unloop\nrt staticlib exports\n";
         told(&scratch, &run(&scratch, &[]), 7, &two, calls);
         told(&scratch, &run(&scratch, &[]), 7, "", "");
-        age(&scratch, source, 7_200);
     }
+}
 
-    // The driver is made of its own sources and the library.
-    let third = "unloop: building target/driver/release/unloop-files\n";
-    for source in [
-        "rust/src/bin/unloop-files/usage.txt",
-        "rust/build.rs",
-        "rust/Cargo.toml",
-        library,
-    ] {
-        let _ = fs::remove_dir_all(scratch.path("target/built"));
+/// The driver is made of its own sources and the library.
+#[test]
+fn builds_the_driver_again_where_its_sources_are_newer_and_then_no_more() {
+    let usage = "rust/src/bin/unloop-files/usage.txt";
+    for source in [usage, "rust/build.rs", "rust/Cargo.toml", RESULTS[1]] {
+        let scratch = built_an_hour_ago();
         age(&scratch, source, 1_800);
+        let third = BUILDING.split_inclusive('\n').nth(2).unwrap();
         told(&scratch, &run(&scratch, &[]), 7, third, "cargo build\n");
         told(&scratch, &run(&scratch, &[]), 7, "", "");
-        age(&scratch, source, 3_600);
-        age(&scratch, driver, 3_000);
     }
+}
+
+#[test]
+fn builds_a_program_that_was_removed() {
+    let scratch = repository();
+    run(&scratch, &[]);
+    scratch.put("calls", "");
+    fs::remove_file(scratch.path("target/bin/unloop")).unwrap();
+    let first = BUILDING.split_inclusive('\n').next().unwrap();
+    told(&scratch, &run(&scratch, &[]), 7, first, "rt check unloop\n");
+    told(&scratch, &run(&scratch, &[]), 7, "", "");
 }
 
 #[test]
