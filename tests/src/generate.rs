@@ -98,6 +98,11 @@ impl Size {
         gates: 9,
         outputs: 4,
     };
+    /// Blocks that Verdict is quick on.
+    pub const MIDDLE: Size = Size {
+        gates: 120,
+        ..Size::LARGE
+    };
     /// Blocks up to every limit.
     pub const LARGE: Size = Size {
         inputs: crate::limits::INPUTS,
