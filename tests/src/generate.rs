@@ -6,6 +6,8 @@ pub mod long;
 pub mod malformed;
 pub mod spoiled;
 pub mod texts;
+pub mod typical;
+pub mod wide;
 
 pub use blocks::{block, Shape};
 pub use large::large;
@@ -13,6 +15,8 @@ pub use long::long_texts;
 pub use malformed::malformed;
 pub use spoiled::{near_a_limit, over_a_limit, spoiled};
 pub use texts::text;
+pub use typical::{typical, Loops};
+pub use wide::widest_cover;
 
 use crate::block::Block;
 use std::ops::Range;
@@ -123,6 +127,17 @@ pub fn for_blocks(
         let block = block(&mut random, shape, size);
         let words = block.to_words();
         let _report = Report(|| format!("seed {seed}, {shape:?}, {words:?}, {block:?}"));
+        check(&mut random, &block, &words);
+    }
+}
+
+/// Checks a block as they are met, and its words, for each seed.
+pub fn for_typical_blocks(seeds: Range<u64>, mut check: impl FnMut(&mut Random, &Block, &[u16])) {
+    for seed in seeds {
+        let mut random = Random::new(seed);
+        let block = typical(&mut random, Loops::of(seed));
+        let words = block.to_words();
+        let _report = Report(|| format!("seed {seed}, typical, {words:?}, {block:?}"));
         check(&mut random, &block, &words);
     }
 }

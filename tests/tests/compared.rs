@@ -6,7 +6,7 @@ mod common;
 use common::answer;
 use simulator::compare::tally::{answered_often, print_compared};
 use simulator::compare::*;
-use simulator::generate::{large, long_texts, Random, Report, Size};
+use simulator::generate::{large, long_texts, widest_cover, Random, Report, Size};
 use simulator::limits::TEXT_BYTES;
 use simulator::specimens::*;
 use simulator::Answer;
@@ -64,6 +64,18 @@ fn generated_blocks() {
     seeded::blocks(20_000..20_100, Size::MIDDLE);
     seeded::blocks(30_000..30_024, Size::LARGE);
     answered_often(&[0, 7, 8, 9, 10, 11], 20);
+}
+
+#[test]
+fn typical_blocks() {
+    seeded::typical_blocks(0..200);
+    answered_often(&[0, 7, 9, 10, 11], 20);
+}
+
+#[test]
+fn cover_with_most_entries() {
+    compare_largest(&widest_cover().to_words());
+    print_compared();
 }
 
 #[test]

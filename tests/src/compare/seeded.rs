@@ -2,13 +2,19 @@
 
 use super::{compare_block, compare_lines, compare_text, compare_written};
 use crate::generate::{
-    for_blocks, for_texts, malformed, near_a_limit, spoiled, Random, Report, Size,
+    for_blocks, for_texts, for_typical_blocks, malformed, near_a_limit, spoiled, Random, Report,
+    Size,
 };
 use std::ops::Range;
 
 /// Blocks in every operation.
 pub fn blocks(seeds: Range<u64>, size: Size) {
     for_blocks(seeds, size, |random, _, words| compare_block(random, words));
+}
+
+/// Blocks as they are met, in every operation.
+pub fn typical_blocks(seeds: Range<u64>) {
+    for_typical_blocks(seeds, |random, _, words| compare_block(random, words));
 }
 
 /// Blocks written and read back.
