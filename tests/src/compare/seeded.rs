@@ -2,9 +2,10 @@
 
 use super::{compare_block, compare_lines, compare_text, compare_written};
 use crate::generate::{
-    for_blocks, for_texts, for_typical_blocks, malformed, near_a_limit, spoiled, Random, Report,
-    Size,
+    for_blocks, for_texts, for_typical_blocks, long_texts, malformed, near_a_limit, spoiled,
+    Random, Report, Size,
 };
+use crate::limits::TEXT_BYTES;
 use std::ops::Range;
 
 /// Blocks in every operation.
@@ -75,6 +76,20 @@ pub fn texts_near_a_limit(seeds: Range<u64>) {
         let _report = Report(|| format!("seed {seed}"));
         compare_text(&text);
         compare_text(&spoiled(&mut random, &text));
+    }
+}
+
+/// The longest texts spoiled, then filled up with LF to about the greatest length.
+pub fn longest_texts(seeds: Range<u64>) {
+    for seed in seeds {
+        let mut random = Random::new(seed);
+        let _report = Report(|| format!("seed {seed}"));
+        for (_, text) in long_texts() {
+            let mut text = spoiled(&mut random, &text);
+            compare_text(&text);
+            text.resize(random.between(TEXT_BYTES - 1, TEXT_BYTES + 1), b'\n');
+            compare_text(&text);
+        }
     }
 }
 
