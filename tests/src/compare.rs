@@ -83,7 +83,8 @@ pub fn compare_values(words: &[u16], setting: &[u8]) {
 fn compare_words(words: &[u16]) {
     let all = usize::MAX;
     count(|tally| tally.words += 1);
-    assert_eq!(Answer::from(unloop::verdict(words)), crate::verdict(words));
+    let told = Answer::from(unloop::verdict(words));
+    assert_eq!(told, crate::verdict(words), "verdict");
     compare("write", 9, crate::write(words, all), |text| {
         unloop::write(words, text)
     });
