@@ -10,7 +10,7 @@ pub mod typical;
 pub mod wide;
 
 pub use blocks::{block, Shape};
-pub use large::large;
+pub use large::{large, longest_written};
 pub use long::long_texts;
 pub use malformed::malformed;
 pub use spoiled::{near_a_limit, over_a_limit, spoiled};
