@@ -1,0 +1,5 @@
+//! The proved library against a plain Rust program that does the same work: times of both, measured in one run.
+
+pub mod inputs;
+pub mod measure;
+pub mod plain;
