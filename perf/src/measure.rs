@@ -29,9 +29,9 @@ pub struct Operation<I, T> {
 
 /// At least so many calls of each program on each input, and so long for both together...
 const REPETITIONS: usize = 5;
-const ENOUGH: Duration = Duration::from_millis(600);
+const ENOUGH: Duration = Duration::from_millis(1_000);
 /// ... unless they have taken so long already.
-const TOO_LONG: Duration = Duration::from_secs(3);
+const TOO_LONG: Duration = Duration::from_secs(4);
 
 impl<I, T: Copy + PartialEq + Debug> Operation<I, T> {
     /// The times on the inputs of a set, in sum. Panics where the programs differ.
