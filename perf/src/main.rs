@@ -1,5 +1,5 @@
-//! Prints the times of both programs as a table, or with `--lines` as `NAME ratio seconds`: the library's time for one call on each
-//! input of the set, and its ratio to the plain program's.
+//! Prints the times of both programs as a table, or with `--lines` as `NAME ratio seconds`: the library's processor time for one call on
+//! each input of the set, and its ratio to the plain program's.
 
 use perf::inputs::{self, Set, UnderSetting};
 use perf::measure::{Line, Operation};
@@ -22,7 +22,9 @@ fn main() -> ExitCode {
         }
     };
     if arguments.is_empty() {
-        println!("One call, the best of several; `typical` is the sum over 20 blocks of 50 to 200 gates.");
+        println!(
+            "Processor time of one call, best of several; `typical` is the sum over 20 blocks."
+        );
         let [library, plain] = ["library ms", "plain ms"];
         println!("{:34} {library:>12} {plain:>12} {:>8}", "name", "ratio");
     }

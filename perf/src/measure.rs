@@ -1,11 +1,12 @@
 //! Both programs in turn on the same inputs, and the best time of each.
 
+use crate::clock;
 use std::fmt::Debug;
 use std::hint::black_box;
 use std::time::{Duration, Instant};
 use unloop::Reply;
 
-/// What was measured under a name: the seconds of one call on each input of a set, by either program.
+/// What was measured under a name: the processor time of one call on each input of a set, in seconds, by either program.
 pub struct Line {
     pub name: String,
     pub library: f64,
@@ -63,9 +64,9 @@ impl<I, T: Copy + PartialEq + Debug> Operation<I, T> {
     /// The answer and the slice after one call; the slice is filled before the clock starts.
     fn timed(&self, run: fn(&I, &mut [T]) -> Reply, input: &I, took: &mut f64) -> (Reply, Vec<T>) {
         let mut result = vec![self.filler; self.room];
-        let start = Instant::now();
+        let start = clock::seconds();
         let told = black_box(run)(black_box(input), black_box(&mut result));
-        *took += start.elapsed().as_secs_f64();
+        *took += clock::seconds() - start;
         (told, black_box(result))
     }
 }
