@@ -36,6 +36,16 @@ pub enum Source {
     Gate(usize),
 }
 
+impl Source {
+    /// The same source where gates have new numbers.
+    pub fn renumbered(self, new_number: &[usize]) -> Source {
+        match self {
+            Source::Gate(gate) => Source::Gate(new_number[gate]),
+            kept => kept,
+        }
+    }
+}
+
 /// A gate: its kind and its operands.
 #[derive(Debug, Clone, PartialEq, Eq)]
 pub struct Gate {

@@ -6,13 +6,17 @@ pub mod long;
 pub mod malformed;
 pub mod spoiled;
 pub mod texts;
+pub mod typical;
+pub mod wide;
 
 pub use blocks::{block, Shape};
-pub use large::large;
+pub use large::{large, longest_written};
 pub use long::long_texts;
 pub use malformed::malformed;
 pub use spoiled::{near_a_limit, over_a_limit, spoiled};
 pub use texts::text;
+pub use typical::{typical, Loops};
+pub use wide::widest_cover;
 
 use crate::block::Block;
 use std::ops::Range;
@@ -98,6 +102,11 @@ impl Size {
         gates: 9,
         outputs: 4,
     };
+    /// Blocks that Verdict is quick on.
+    pub const MIDDLE: Size = Size {
+        gates: 120,
+        ..Size::LARGE
+    };
     /// Blocks up to every limit.
     pub const LARGE: Size = Size {
         inputs: crate::limits::INPUTS,
@@ -118,6 +127,17 @@ pub fn for_blocks(
         let block = block(&mut random, shape, size);
         let words = block.to_words();
         let _report = Report(|| format!("seed {seed}, {shape:?}, {words:?}, {block:?}"));
+        check(&mut random, &block, &words);
+    }
+}
+
+/// Checks a block as they are met, and its words, for each seed.
+pub fn for_typical_blocks(seeds: Range<u64>, mut check: impl FnMut(&mut Random, &Block, &[u16])) {
+    for seed in seeds {
+        let mut random = Random::new(seed);
+        let block = typical(&mut random, Loops::of(seed));
+        let words = block.to_words();
+        let _report = Report(|| format!("seed {seed}, typical, {words:?}, {block:?}"));
         check(&mut random, &block, &words);
     }
 }

@@ -1,10 +1,14 @@
 //! A second, independent program for every operation of document 01, to compare the proved one with.
 //! Written from the papers only, in plain safe Rust, and in other ways than the definitions go.
 //! A block is lent as its words; `room` is the length of the slice for the result.
+//! `generate` makes the input, `compare` compares the two programs on it; nothing else here calls the proved one.
 
 pub mod answer;
 pub mod block;
+pub mod catalogue;
+pub mod compare;
 pub mod cover;
+pub mod executed;
 pub mod generate;
 pub mod groups;
 pub mod limits;

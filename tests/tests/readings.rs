@@ -3,8 +3,8 @@
 mod common;
 
 use common::answer;
-use simulator::block::{Block, Gate, Kind, Output, Source};
-use simulator::limits::{BLOCK_WORDS, GATES, INPUTS, OUTPUTS, WRITTEN_BYTES};
+use simulator::generate::longest_written;
+use simulator::limits::{BLOCK_WORDS, WRITTEN_BYTES};
 use simulator::malformed::is_malformed;
 use simulator::specimens::words_of;
 use simulator::{groups, line, pass, read, render, settle, unloop, verdict, write};
@@ -96,27 +96,9 @@ fn room() {
     assert_eq!(told, (answer(11, 0, 0), vec![]));
 }
 
-/// The largest block: every limit reached, every name and operand as long as can be.
-fn largest() -> Block {
-    let name = |prefix: &str, i: usize| format!("{prefix}{i:07}");
-    let gate = Gate {
-        kind: Kind::Nand,
-        operands: vec![Source::Input(9); 4],
-    };
-    let output = |i| Output {
-        port: name("y", i),
-        node: Source::Input(0),
-    };
-    Block {
-        inputs: (0..INPUTS).map(|i| name("x", i)).collect(),
-        gates: vec![gate; GATES],
-        outputs: (0..OUTPUTS).map(output).collect(),
-    }
-}
-
 #[test]
 fn largest_block() {
-    let words = largest().to_words();
+    let words = longest_written().to_words();
     assert_eq!((words.len(), BLOCK_WORDS), (5_243, 5_243));
     let (told, text) = write(&words, WRITTEN_BYTES);
     assert_eq!(told, answer(0, 56_758, 0));

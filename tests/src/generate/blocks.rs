@@ -84,15 +84,18 @@ fn straight(random: &mut Random, n: usize, m: usize) -> Vec<Gate> {
     (0..m).map(|number| gate(random, n, number)).collect()
 }
 
-/// The same gates under other numbers.
+/// The same gates in random order.
 pub(super) fn shuffled(gates: Vec<Gate>, random: &mut Random) -> Vec<Gate> {
     let new_number = random.permutation(gates.len());
+    renumbered(gates, &new_number)
+}
+
+/// The same gates under other numbers.
+pub(super) fn renumbered(gates: Vec<Gate>, new_number: &[usize]) -> Vec<Gate> {
     let mut moved = gates.clone();
     for (old, mut gate) in gates.into_iter().enumerate() {
         for operand in &mut gate.operands {
-            if let Source::Gate(read) = operand {
-                *operand = Source::Gate(new_number[*read]);
-            }
+            *operand = operand.renumbered(new_number);
         }
         moved[new_number[old]] = gate;
     }

@@ -3,7 +3,7 @@
 use super::blocks::shuffled;
 use super::Random;
 use crate::block::{Block, Gate, Kind, Output, Source};
-use crate::limits::{GATES, INPUTS};
+use crate::limits::{GATES, INPUTS, OUTPUTS};
 
 /// The blocks, by name.
 pub fn large() -> Vec<(&'static str, Block)> {
@@ -26,6 +26,24 @@ pub fn large() -> Vec<(&'static str, Block)> {
     ]
 }
 
+/// The block with the longest text: every limit reached, every name and operand as long as can be.
+pub fn longest_written() -> Block {
+    let name = |prefix: &str, i: usize| format!("{prefix}{i:07}");
+    let gate = Gate {
+        kind: Kind::Nand,
+        operands: vec![Source::Input(9); 4],
+    };
+    let output = |i| Output {
+        port: name("y", i),
+        node: Source::Input(0),
+    };
+    Block {
+        inputs: (0..INPUTS).map(|i| name("x", i)).collect(),
+        gates: vec![gate; GATES],
+        outputs: (0..OUTPUTS).map(output).collect(),
+    }
+}
+
 /// With all inputs, and sixteen outputs at the last gates.
 fn full(gates: Vec<Gate>) -> Block {
     let output = |number| Output {
@@ -34,7 +52,7 @@ fn full(gates: Vec<Gate>) -> Block {
     };
     Block {
         inputs: (0..INPUTS).map(|i| format!("i{i}")).collect(),
-        outputs: (0..crate::limits::OUTPUTS).map(output).collect(),
+        outputs: (0..OUTPUTS).map(output).collect(),
         gates,
     }
 }

@@ -1,0 +1,6 @@
+//! The proved library against a plain Rust program that does the same work: times of both, measured in one run.
+
+mod clock;
+pub mod inputs;
+pub mod measure;
+pub mod plain;

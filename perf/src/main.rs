@@ -1,0 +1,162 @@
+//! Prints the times of both programs as a table, or with `--lines` as `NAME ratio seconds`: the library's processor time for one call on
+//! each input of the set, and its ratio to the plain program's.
+
+use perf::inputs::{self, Set, UnderSetting};
+use perf::measure::{Line, Operation};
+use perf::plain;
+use simulator::limits::{BLOCK_WORDS, GATES, WRITTEN_BYTES};
+use std::env;
+use std::fmt::Debug;
+use std::process::ExitCode;
+
+const USAGE: &str = "usage: perf/run [--lines]";
+
+fn main() -> ExitCode {
+    let arguments: Vec<String> = env::args().skip(1).collect();
+    let print = match arguments.iter().map(String::as_str).collect::<Vec<_>>()[..] {
+        [] => print_row,
+        ["--lines"] => print_line,
+        _ => {
+            eprintln!("{USAGE}");
+            return ExitCode::from(2);
+        }
+    };
+    if arguments.is_empty() {
+        println!(
+            "Processor time of one call, best of several; `typical` is the sum over 20 blocks."
+        );
+        let [library, plain] = ["library ms", "plain ms"];
+        println!("{:34} {library:>12} {plain:>12} {:>8}", "name", "ratio");
+    }
+    measure_texts(print);
+    measure_values(print);
+    measure_searches(print);
+    measure_results(print);
+    ExitCode::SUCCESS
+}
+
+fn print_row(line: &Line) {
+    let [library, plain] = [line.library, line.plain].map(|seconds| 1_000.0 * seconds);
+    let (name, ratio) = (&line.name, line.ratio());
+    println!("{name:34} {library:12.4} {plain:12.4} {ratio:8.2}");
+}
+
+fn print_line(line: &Line) {
+    println!("{} {:.3} {:.9}", line.name, line.ratio(), line.library);
+}
+
+fn measure<I, T: Copy + PartialEq + Debug>(
+    print: fn(&Line),
+    operation: Operation<I, T>,
+    sets: Vec<Set<I>>,
+) {
+    for (name, inputs) in sets {
+        print(&operation.measured(&name, &inputs));
+    }
+}
+
+fn measure_texts(print: fn(&Line)) {
+    let read = Operation {
+        name: "read",
+        room: BLOCK_WORDS,
+        filler: 9_999,
+        library: |text: &Vec<u8>, block| unloop::read(text, block),
+        plain: |text, block| plain::read(text, block),
+    };
+    measure(print, read, inputs::texts());
+    let write = Operation {
+        name: "write",
+        room: WRITTEN_BYTES,
+        filler: 9,
+        library: |words: &Vec<u16>, text| unloop::write(words, text),
+        plain: |words, text| plain::write(words, text),
+    };
+    measure(print, write, inputs::blocks(&["longest"]));
+}
+
+fn measure_values(print: fn(&Line)) {
+    let settle = Operation {
+        name: "settle",
+        room: GATES,
+        filler: 9,
+        library: |(words, setting): &UnderSetting, values| unloop::settle(words, setting, values),
+        plain: |(words, setting), values| plain::settle(words, setting, values),
+    };
+    let pass = Operation {
+        name: "pass",
+        library: |(words, setting): &UnderSetting, values| unloop::pass(words, setting, values),
+        plain: |(words, setting), values| plain::pass(words, setting, values),
+        ..settle
+    };
+    let worst = [
+        "reversed-chain",
+        "shuffled-chain",
+        "straight-fours",
+        "ring-of-1024",
+        "shuffled-ring",
+    ];
+    measure(print, settle, inputs::settings(&worst));
+    let straight = ["straight-chain", "straight-fours"];
+    measure(print, pass, inputs::straight(&straight));
+}
+
+fn measure_searches(print: fn(&Line)) {
+    let worst = [
+        "reversed-chain",
+        "shuffled-chain",
+        "straight-fours",
+        "ring-of-1024",
+        "reversed-ring-of-1024",
+        "shuffled-ring",
+        "unbroken-ring-of-1024",
+    ];
+    let verdict = Operation {
+        name: "verdict",
+        room: 0,
+        filler: 0_u16,
+        library: |words: &Vec<u16>, _| unloop::verdict(words),
+        plain: |words, _| plain::verdict(words),
+    };
+    measure(print, verdict, inputs::blocks(&worst));
+    let groups = Operation {
+        name: "groups",
+        room: GATES,
+        filler: 9_999,
+        library: |words: &Vec<u16>, numbers| unloop::groups(words, numbers),
+        plain: |words, numbers| plain::groups(words, numbers),
+    };
+    measure(print, groups, inputs::blocks(&worst));
+}
+
+fn measure_results(print: fn(&Line)) {
+    let render = Operation {
+        name: "render",
+        room: BLOCK_WORDS,
+        filler: 9_999,
+        library: |words: &Vec<u16>, rendered| unloop::render(words, rendered),
+        plain: |words, rendered| plain::render(words, rendered),
+    };
+    let worst = [
+        "reversed-chain",
+        "straight-fours",
+        "ring-of-32",
+        "reversed-ring-of-32",
+        "groups-of-5-and-lone",
+    ];
+    measure(print, render, inputs::blocks(&worst));
+    let cover = Operation {
+        name: "cover",
+        // Two words for each partial assignment of ten inputs.
+        room: 2 * 3_usize.pow(10),
+        filler: 9_999,
+        library: |words: &Vec<u16>, entries| unloop::cover(words, entries),
+        plain: |words, entries| plain::cover(words, entries),
+    };
+    let worst = [
+        "reversed-chain",
+        "straight-fours",
+        "reversed-ring-of-1024",
+        "most-entries",
+    ];
+    measure(print, cover, inputs::blocks(&worst));
+}

@@ -1,0 +1,53 @@
+//! The words of the command line.
+
+use crate::source::shown;
+use std::ffi::OsString;
+use std::path::PathBuf;
+
+#[derive(Debug, Default)]
+pub struct Options {
+    pub files: Vec<PathBuf>,
+    pub into: Option<PathBuf>,
+    pub force: bool,
+}
+
+#[derive(Debug)]
+pub enum Request {
+    Help,
+    Run(Options),
+}
+
+/// What is asked for, or what is wrong with it in one line.
+pub fn parse(mut words: impl Iterator<Item = OsString>) -> Result<Request, String> {
+    let mut options = Options::default();
+    while let Some(word) = words.next() {
+        match word.to_str() {
+            Some("--help") => return Ok(Request::Help),
+            Some("--force") => options.force = true,
+            Some("--into") => match words.next() {
+                Some(folder) => options.into = Some(folder.into()),
+                None => return Err(wrong("--into needs a DIR")),
+            },
+            Some("--") => {
+                options.files.extend(words.map(PathBuf::from));
+                break;
+            }
+            _ if word.as_encoded_bytes().starts_with(b"-") => {
+                let option = shown(word.as_ref());
+                return Err(wrong(&format!("unknown option {option}")));
+            }
+            _ => options.files.push(word.into()),
+        }
+    }
+    if options.into.is_some() && options.files.is_empty() {
+        return Err(wrong("--into needs a FILE: standard input has no name"));
+    }
+    if options.force && options.into.is_none() {
+        return Err(wrong("--force needs --into DIR"));
+    }
+    Ok(Request::Run(options))
+}
+
+fn wrong(what: &str) -> String {
+    format!("{what} (see --help)")
+}

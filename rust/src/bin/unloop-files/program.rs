@@ -1,0 +1,31 @@
+//! The proved program, run once for each text.
+
+use crate::source::reason;
+use std::io::Write;
+use std::path::PathBuf;
+use std::process::{Command, Stdio};
+
+/// The program's path.
+pub struct Program(pub PathBuf);
+
+impl Program {
+    /// What it writes to standard output for this text; an error if it doesn't end as it should.
+    pub fn run(&self, text: &[u8]) -> Result<Vec<u8>, String> {
+        let failed = |why: String| format!("{} failed: {why}", self.0.display());
+        let mut child = Command::new(&self.0)
+            .stdin(Stdio::piped())
+            .stdout(Stdio::piped())
+            .stderr(Stdio::null())
+            .spawn()
+            .map_err(|error| failed(reason(&error)))?;
+        // It reads all of the text before it writes, so neither waits for the other.
+        let given = child.stdin.take().expect("piped").write_all(text);
+        let ended = child.wait_with_output();
+        let ended = ended.map_err(|error| failed(reason(&error)))?;
+        if !ended.status.success() {
+            return Err(failed(ended.status.to_string()));
+        }
+        given.map_err(|error| failed(reason(&error)))?;
+        Ok(ended.stdout)
+    }
+}

@@ -1,0 +1,47 @@
+//! Where a text comes from.
+
+use std::fs::File;
+use std::io::{self, Read};
+use std::path::{Path, PathBuf};
+
+/// One byte more than the longest text, so that a longer one is refused and a huge file costs no more.
+const BYTES_READ: u64 = 61_441;
+
+pub enum Source {
+    Input,
+    File(PathBuf),
+}
+
+impl Source {
+    /// How reports name it.
+    pub fn name(&self) -> String {
+        match self {
+            Source::Input => "<stdin>".to_string(),
+            Source::File(path) => shown(path),
+        }
+    }
+
+    pub fn text(&self) -> io::Result<Vec<u8>> {
+        let mut text = Vec::new();
+        match self {
+            Source::Input => io::stdin().lock().take(BYTES_READ).read_to_end(&mut text)?,
+            Source::File(path) => File::open(path)?.take(BYTES_READ).read_to_end(&mut text)?,
+        };
+        Ok(text)
+    }
+}
+
+/// A path in one line, whatever bytes it has.
+pub fn shown(path: &Path) -> String {
+    let name = path.to_string_lossy();
+    name.replace(char::is_control, "?")
+}
+
+/// An error in words, without the system's number.
+pub fn reason(error: &io::Error) -> String {
+    let words = error.to_string();
+    match words.split_once(" (os error ") {
+        Some((words, _)) => words.to_string(),
+        None => words,
+    }
+}

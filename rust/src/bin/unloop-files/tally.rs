@@ -1,0 +1,84 @@
+//! How many files were rendered, refused or in error, and the exit status that says so.
+
+use crate::report::Refusal;
+use std::collections::BTreeMap;
+use std::fmt;
+
+/// The exit status of any error.
+pub const ERROR: u8 = 2;
+
+#[derive(Debug, Clone, Copy)]
+pub enum Outcome {
+    Rendered,
+    Refused(Refusal),
+    Error,
+}
+
+impl fmt::Display for Outcome {
+    fn fmt(&self, f: &mut fmt::Formatter) -> fmt::Result {
+        match self {
+            Outcome::Rendered => write!(f, "rendered"),
+            Outcome::Refused(refusal) => write!(f, "refused {} {}", refusal.number, refusal.word()),
+            Outcome::Error => write!(f, "error"),
+        }
+    }
+}
+
+#[derive(Default)]
+pub struct Tally {
+    rendered: usize,
+    /// By number, with its word.
+    refused: BTreeMap<usize, (&'static str, usize)>,
+    errors: usize,
+}
+
+impl Tally {
+    pub fn count(&mut self, outcome: Outcome) {
+        match outcome {
+            Outcome::Rendered => self.rendered += 1,
+            Outcome::Refused(refusal) => {
+                let counted = self.refused.entry(refusal.number);
+                counted.or_insert((refusal.word(), 0)).1 += 1;
+            }
+            Outcome::Error => self.errors += 1,
+        }
+    }
+
+    pub fn files(&self) -> usize {
+        self.rendered + self.refusals() + self.errors
+    }
+
+    fn refusals(&self) -> usize {
+        self.refused.values().map(|(_, count)| count).sum()
+    }
+
+    /// As `3 files: 1 rendered, 1 refused (1 with 9 undecided), 1 error`.
+    pub fn summary(&self) -> String {
+        let mut line = counted(self.files(), "file") + ": ";
+        line += &format!("{} rendered, {} refused", self.rendered, self.refusals());
+        let refused = self.refused.iter();
+        let refused =
+            refused.map(|(number, (word, count))| format!("{count} with {number} {word}"));
+        let refused: Vec<String> = refused.collect();
+        if !refused.is_empty() {
+            line += &format!(" ({})", refused.join(", "));
+        }
+        if self.errors > 0 {
+            line += &format!(", {}", counted(self.errors, "error"));
+        }
+        line
+    }
+
+    pub fn status(&self) -> u8 {
+        match (self.errors, self.refusals()) {
+            (0, 0) => 0,
+            (0, _) => 1,
+            _ => ERROR,
+        }
+    }
+}
+
+fn counted(count: usize, what: &str) -> String {
+    let plural = if count == 1 { "" } else { "s" };
+    format!("{count} {what}{plural}")
+}

@@ -1,0 +1,17 @@
+//! Writes NAME.out and NAME.cover beside each NAME.net given, by the simulator alone; what it wrote is to be read before it is kept:
+//! cargo run --release --bin expected -- ../catalogue/NAME.net.
+
+use simulator::catalogue::{cover_of, out};
+use std::path::PathBuf;
+use std::{env, fs, io};
+
+fn main() -> io::Result<()> {
+    for file in env::args_os().skip(1).map(PathBuf::from) {
+        let text = fs::read(&file)?;
+        fs::write(file.with_extension("out"), out(&text))?;
+        if let Some(cover) = cover_of(&text) {
+            fs::write(file.with_extension("cover"), cover)?;
+        }
+    }
+    Ok(())
+}

@@ -1,0 +1,155 @@
+//! The comparisons on fresh seeds, for some minutes.
+
+use simulator::compare::seeded;
+use simulator::compare::tally::Tally;
+use simulator::generate::Size;
+use std::env;
+use std::ops::Range;
+use std::panic::{catch_unwind, AssertUnwindSafe};
+use std::process::ExitCode;
+use std::time::{Duration, Instant, SystemTime, UNIX_EPOCH};
+
+const USAGE: &str = "usage: tests/soak N [SEED]
+Compares the proved library with the simulator on generated input for N minutes (1 or more).
+Round after round takes the next seed through every kind of input, the costly kinds in some rounds only.
+SEED, below 2^63, is the first round's; without it, one is made from the clock. It is printed first.
+A progress line comes about every ten seconds. The first difference ends the run with status 1, after the
+seed and the input were printed; starting at the seed printed meets it again in the first round.
+";
+
+/// Between two progress lines.
+const PROGRESS: Duration = Duration::from_secs(10);
+
+/// A kind of generated input, met in the first round and then in each `every`th. Generators take turns by the seed modulo 2, 4
+/// and 10, so each `every` is prime to those.
+struct Kind {
+    name: &'static str,
+    every: u64,
+    compare: fn(Range<u64>),
+}
+
+const fn kind(name: &'static str, every: u64, compare: fn(Range<u64>)) -> Kind {
+    Kind {
+        name,
+        every,
+        compare,
+    }
+}
+
+const KINDS: [Kind; 15] = [
+    kind("small blocks", 1, |s| seeded::blocks(s, Size::SMALL)),
+    kind("middle blocks", 101, |s| seeded::blocks(s, Size::MIDDLE)),
+    kind("large blocks", 2_001, |s| seeded::blocks(s, Size::LARGE)),
+    kind("typical blocks", 51, seeded::typical_blocks),
+    kind("written small blocks", 1, |s| {
+        seeded::written_blocks(s, Size::SMALL)
+    }),
+    kind("written large blocks", 101, |s| {
+        seeded::written_blocks(s, Size::LARGE)
+    }),
+    kind("malformed blocks", 11, seeded::malformed_words),
+    kind("mangled blocks", 1, seeded::mangled_words),
+    kind("legal small texts", 1, |s| {
+        seeded::legal_texts(s, Size::SMALL)
+    }),
+    kind("legal large texts", 51, |s| {
+        seeded::legal_texts(s, Size::LARGE)
+    }),
+    kind("spoiled small texts", 1, |s| {
+        seeded::spoiled_texts(s, Size::SMALL)
+    }),
+    kind("spoiled large texts", 51, |s| {
+        seeded::spoiled_texts(s, Size::LARGE)
+    }),
+    kind("texts near a limit", 51, seeded::texts_near_a_limit),
+    kind("longest texts", 301, seeded::longest_texts),
+    kind("texts by line", 11, seeded::lines),
+];
+
+fn main() -> ExitCode {
+    let arguments: Vec<String> = env::args().skip(1).collect();
+    if arguments == ["--help"] {
+        print!("{USAGE}");
+        return ExitCode::SUCCESS;
+    }
+    let Some((minutes, seed)) = run_of(&arguments) else {
+        eprint!("{USAGE}");
+        return ExitCode::from(2);
+    };
+    println!("first seed {seed}, for {minutes} min");
+    let mut soak = Soak::new(seed, Duration::from_secs(60 * minutes));
+    // The panic has printed itself and the reports by the time it is caught.
+    let agreed = catch_unwind(AssertUnwindSafe(|| soak.run())).is_ok();
+    let end = if agreed { "nothing differs" } else { "DIFFERS" };
+    println!("in all {}: {end}", soak.state());
+    ExitCode::from(u8::from(!agreed))
+}
+
+/// The minutes and the first seed that the arguments ask for.
+fn run_of(arguments: &[String]) -> Option<(u64, u64)> {
+    let (minutes, seed) = match arguments {
+        [minutes] => (minutes, fresh_seed()),
+        [minutes, seed] => (minutes, seed.parse().ok()?),
+        _ => return None,
+    };
+    let minutes: u32 = minutes.parse().ok()?;
+    (minutes > 0 && seed < 1 << 63).then_some((minutes.into(), seed))
+}
+
+/// Far above the seeds of the tests.
+fn fresh_seed() -> u64 {
+    let now = SystemTime::now().duration_since(UNIX_EPOCH);
+    now.map_or(1 << 32, |now| now.as_micros() as u64)
+}
+
+struct Soak {
+    first: u64,
+    rounds: u64,
+    start: Instant,
+    length: Duration,
+    told: Instant,
+    counts: [u64; KINDS.len()],
+}
+
+impl Soak {
+    fn new(first: u64, length: Duration) -> Soak {
+        let start = Instant::now();
+        Soak {
+            first,
+            rounds: 0,
+            start,
+            length,
+            told: start,
+            counts: [0; KINDS.len()],
+        }
+    }
+
+    fn run(&mut self) {
+        while self.start.elapsed() < self.length {
+            let seed = self.first + self.rounds;
+            for (index, kind) in KINDS.iter().enumerate() {
+                if self.rounds.is_multiple_of(kind.every) {
+                    (kind.compare)(seed..seed + 1);
+                    self.counts[index] += 1;
+                }
+            }
+            self.rounds += 1;
+            if self.told.elapsed() >= PROGRESS {
+                self.told = Instant::now();
+                println!("{}", self.state());
+            }
+        }
+    }
+
+    /// Seconds, rounds, seeds of each kind, and what was compared.
+    fn state(&self) -> String {
+        let counts = KINDS.iter().zip(self.counts);
+        let counts: Vec<String> = counts.map(|(k, c)| format!("{c} {}", k.name)).collect();
+        let seconds = self.start.elapsed().as_secs();
+        let (rounds, counts) = (self.rounds, counts.join(", "));
+        format!(
+            "{seconds} s, {rounds} rounds: {counts}; {}",
+            Tally::so_far()
+        )
+    }
+}

@@ -1,0 +1,172 @@
+//! The proved library against the simulator: numbers, counts, details, results, and what is left in the lent slices.
+//! A difference panics, and a `Report` tells the input.
+
+pub mod seeded;
+pub mod tally;
+
+use crate::generate::{Random, Report};
+use crate::limits::{BLOCK_WORDS, INPUTS, WRITTEN_BYTES};
+use crate::Answer;
+use std::fmt::Debug;
+use tally::count;
+use unloop::Reply;
+
+/// Elements on both sides of a lent slice, which no operation may touch.
+const MARGIN: usize = 8;
+
+/// Runs an operation on a slice of `room` elements, and gives its answer and the slice.
+fn lent<T: Copy + PartialEq + Debug>(
+    room: usize,
+    filler: T,
+    run: impl Fn(&mut [T]) -> Reply,
+) -> (Answer, Vec<T>) {
+    let mut held = vec![filler; MARGIN + room + MARGIN];
+    let told = run(&mut held[MARGIN..MARGIN + room]);
+    let left = held.split_off(MARGIN);
+    assert!(held.iter().all(|&kept| kept == filler), "before the slice");
+    let (left, behind) = left.split_at(room);
+    assert!(behind.iter().all(|&k| k == filler), "behind the slice");
+    (told.into(), left.to_vec())
+}
+
+/// Compares one operation in slices that are exactly long enough, one short, longer and empty.
+fn compare<T: Copy + PartialEq + Debug>(
+    operation: &str,
+    filler: T,
+    expected: (Answer, Vec<T>),
+    run: impl Fn(&mut [T]) -> Reply,
+) {
+    let exact = expected.1.len();
+    let mut rooms = vec![exact, exact + 13];
+    if exact > 0 {
+        rooms.extend([exact - 1, 0]);
+    }
+    compare_in(&rooms, operation, filler, expected, run);
+}
+
+/// Compares one operation in slices of these lengths.
+fn compare_in<T: Copy + PartialEq + Debug>(
+    rooms: &[usize],
+    operation: &str,
+    filler: T,
+    (told, result): (Answer, Vec<T>),
+    run: impl Fn(&mut [T]) -> Reply,
+) {
+    let exact = result.len();
+    for &room in rooms {
+        let mut expected = (told, vec![filler; room]);
+        if told.number == 0 && room < exact {
+            expected.0 = Answer::refusal(crate::answer::NO_ROOM, 0);
+        } else {
+            expected.1[..exact].copy_from_slice(&result);
+        }
+        let got = lent(room, filler, &run);
+        assert_eq!(got, expected, "{operation} in a slice of {room}");
+        count(|tally| tally.answered[got.0.number as usize] += 1);
+    }
+}
+
+/// Compares Settle and Pass from one setting.
+pub fn compare_values(words: &[u16], setting: &[u8]) {
+    let _report = Report(|| format!("setting {setting:?}"));
+    count(|tally| tally.settings += 1);
+    let all = usize::MAX;
+    compare("settle", 9, crate::settle(words, setting, all), |values| {
+        unloop::settle(words, setting, values)
+    });
+    compare("pass", 9, crate::pass(words, setting, all), |values| {
+        unloop::pass(words, setting, values)
+    });
+}
+
+/// Compares every operation on a block but Settle, Pass and Cover.
+fn compare_words(words: &[u16]) {
+    let all = usize::MAX;
+    count(|tally| tally.words += 1);
+    let told = Answer::from(unloop::verdict(words));
+    assert_eq!(told, crate::verdict(words), "verdict");
+    compare("write", 9, crate::write(words, all), |text| {
+        unloop::write(words, text)
+    });
+    compare("groups", 9_999, crate::groups(words, all), |numbers| {
+        unloop::groups(words, numbers)
+    });
+    compare("render", 9_999, crate::render(words, all), |rendered| {
+        unloop::render(words, rendered)
+    });
+}
+
+/// A setting of `n` bytes; now and then one byte more or fewer, or a byte above 2.
+fn setting(random: &mut Random, n: usize) -> Vec<u8> {
+    let length = match random.below(12) {
+        0 => n + 1,
+        1 => n.saturating_sub(1),
+        _ => n,
+    };
+    let values = if random.chance(8) { 256 } else { 3 };
+    (0..length).map(|_| random.below(values) as u8).collect()
+}
+
+/// Compares every operation on a block, Settle and Pass from four settings.
+pub fn compare_block(random: &mut Random, words: &[u16]) {
+    compare_words(words);
+    let cover = crate::cover(words, usize::MAX);
+    compare("cover", 9_999, cover, |entries| {
+        unloop::cover(words, entries)
+    });
+    let n = words.first().map_or(0, |&n| usize::from(n).min(INPUTS));
+    for _ in 0..4 {
+        compare_values(words, &setting(random, n));
+    }
+}
+
+/// Compares every operation on one of the largest blocks, Cover in two slices only: it may take seconds.
+pub fn compare_largest(words: &[u16]) {
+    compare_words(words);
+    let cover = crate::cover(words, usize::MAX);
+    let exact = cover.1.len();
+    let rooms = [Some(exact), exact.checked_sub(1)];
+    let rooms: Vec<usize> = rooms.into_iter().flatten().collect();
+    compare_in(&rooms, "cover", 9_999, cover, |entries| {
+        unloop::cover(words, entries)
+    });
+    for value in 0..3 {
+        compare_values(words, &[value; INPUTS]);
+    }
+}
+
+/// Compares Read with what is expected of it; a refusal also where there is room for every block.
+fn compare_read(text: &[u8], expected: (Answer, Vec<u16>)) {
+    let _report = Report(|| format!("read of {}", text.escape_ascii()));
+    count(|tally| tally.texts += 1);
+    let run = |block: &mut [u16]| unloop::read(text, block);
+    if expected.0.number != 0 {
+        let unaltered = vec![9_999; BLOCK_WORDS];
+        assert_eq!(lent(BLOCK_WORDS, 9_999, run), (expected.0, unaltered));
+    }
+    compare("read", 9_999, expected, run);
+}
+
+/// Compares Read with the simulator's.
+pub fn compare_text(text: &[u8]) {
+    compare_read(text, crate::read(text, usize::MAX));
+}
+
+/// Read gives back the words that Write was lent.
+pub fn compare_written(words: &[u16]) {
+    let mut text = vec![0; WRITTEN_BYTES];
+    let told = unloop::write(words, &mut text);
+    assert_eq!(told.number, 0);
+    text.truncate(told.count as usize);
+    compare_read(&text, (Answer::success(words.len()), words.to_vec()));
+}
+
+/// Compares Line at every place of a text, and past its end.
+pub fn compare_lines(text: &[u8]) {
+    let _report = Report(|| format!("lines of {}", text.escape_ascii()));
+    for place in (0..=text.len() + 2).chain([usize::MAX]) {
+        let expected = crate::line(text, place);
+        assert_eq!(unloop::line(text, place), expected, "place {place}");
+        count(|tally| tally.places += 1);
+    }
+}

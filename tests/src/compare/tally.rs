@@ -1,0 +1,75 @@
+//! How much was compared on this thread; each test has a thread of its own.
+
+use std::cell::Cell;
+use std::fmt::{self, Display, Formatter};
+use std::thread;
+
+/// Counts of what was compared.
+#[derive(Debug, Clone, Copy)]
+pub struct Tally {
+    /// Lists of words, each in every operation on a block.
+    pub words: usize,
+    /// Settings, each with a list of words in Settle and Pass.
+    pub settings: usize,
+    /// Texts in Read.
+    pub texts: usize,
+    /// Places of texts in Line.
+    pub places: usize,
+    /// Answers by number, those of Verdict and Line apart.
+    pub answered: [usize; 12],
+}
+
+thread_local! {
+    static TALLY: Cell<Tally> = const {
+        Cell::new(Tally {
+            words: 0,
+            settings: 0,
+            texts: 0,
+            places: 0,
+            answered: [0; 12],
+        })
+    };
+}
+
+impl Tally {
+    /// What was compared so far.
+    pub fn so_far() -> Tally {
+        TALLY.get()
+    }
+}
+
+/// Counts something more.
+pub(super) fn count(add: impl Fn(&mut Tally)) {
+    let mut tally = TALLY.get();
+    add(&mut tally);
+    TALLY.set(tally);
+}
+
+impl Display for Tally {
+    fn fmt(&self, f: &mut Formatter<'_>) -> fmt::Result {
+        let Tally {
+            words,
+            settings,
+            texts,
+            places,
+            answered,
+        } = self;
+        write!(f, "{words} lists of words, {settings} settings, ")?;
+        write!(f, "{texts} texts, {places} places of lines, ")?;
+        write!(f, "answers by number {answered:?}")
+    }
+}
+
+/// Prints what this test compared.
+pub fn print_compared() {
+    let name = thread::current().name().unwrap_or_default().to_string();
+    println!("{name} compared {}", Tally::so_far());
+}
+
+/// Prints what this test compared; each of the numbers was answered often in it.
+pub fn answered_often(numbers: &[usize], least: usize) {
+    print_compared();
+    let answered = Tally::so_far().answered;
+    let often = |&number: &usize| answered[number] >= least;
+    assert!(numbers.iter().all(often), "{answered:?}");
+}

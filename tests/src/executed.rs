@@ -1,0 +1,91 @@
+//! The proved program as a process, and folders for tests that need files.
+
+use std::io::Write;
+use std::path::{Path, PathBuf};
+use std::process::{Command, Output, Stdio};
+use std::sync::atomic::{AtomicUsize, Ordering};
+use std::{env, fs, process};
+
+/// The repository.
+pub fn root() -> PathBuf {
+    let tests = Path::new(env!("CARGO_MANIFEST_DIR"));
+    tests.parent().expect("tests/ stands in it").to_path_buf()
+}
+
+/// What target/bin/unloop writes to standard output for a text.
+pub fn written_by_the_program(text: &[u8]) -> Vec<u8> {
+    let ended = ended(&mut Command::new(root().join("target/bin/unloop")), text);
+    assert!(ended.status.success(), "{ended:?}");
+    assert!(ended.stderr.is_empty(), "{ended:?}");
+    ended.stdout
+}
+
+/// Runs a command with this standard input to its end.
+pub fn ended(command: &mut Command, input: &[u8]) -> Output {
+    let pipes = command.stdin(Stdio::piped());
+    let pipes = pipes.stdout(Stdio::piped()).stderr(Stdio::piped());
+    let mut child = pipes.spawn().unwrap_or_else(|e| panic!("{command:?}: {e}"));
+    // A command may end without reading its input.
+    let _ = child.stdin.take().expect("piped").write_all(input);
+    child.wait_with_output().expect("it ends")
+}
+
+/// A folder of its own for a test, removed with all that is in it.
+pub struct Scratch(PathBuf);
+
+impl Scratch {
+    #[allow(clippy::new_without_default)]
+    pub fn new() -> Scratch {
+        static MADE: AtomicUsize = AtomicUsize::new(0);
+        let number = MADE.fetch_add(1, Ordering::Relaxed);
+        let name = format!("unloop test {} {number}", process::id());
+        let path = env::temp_dir().join(name);
+        fs::create_dir(&path).expect("a new folder");
+        Scratch(path)
+    }
+
+    pub fn path(&self, name: &str) -> PathBuf {
+        self.0.join(name)
+    }
+
+    /// Writes a file, in folders that are made where they are missing.
+    pub fn put(&self, name: &str, content: impl AsRef<[u8]>) {
+        let path = self.path(name);
+        fs::create_dir_all(path.parent().expect("in the folder")).expect("folders");
+        fs::write(path, content).expect("a file");
+    }
+
+    /// Writes a script that can be run. Another process writes it: a file that this one still has open, or one of its
+    /// children in another thread, is too busy to be run.
+    pub fn put_script(&self, name: &str, script: &str) {
+        let (source, target) = (format!("{name}.source"), self.path(name));
+        self.put(&source, script);
+        let source = self.path(&source);
+        let copied = Command::new("install")
+            .args(["-m", "755"])
+            .args([&source, &target])
+            .status();
+        assert!(copied.expect("install").success());
+        fs::remove_file(source).expect("written above");
+    }
+
+    pub fn get(&self, name: &str) -> String {
+        let bytes = fs::read(self.path(name)).unwrap_or_else(|e| panic!("{name}: {e}"));
+        String::from_utf8(bytes).expect("text")
+    }
+
+    /// The names in one of its folders, sorted, hidden ones too.
+    pub fn names(&self, folder: &str) -> Vec<String> {
+        let entries = fs::read_dir(self.path(folder)).expect("a folder");
+        let name = |entry: fs::DirEntry| entry.file_name().into_string().expect("text");
+        let mut names: Vec<String> = entries.map(|entry| name(entry.expect("entry"))).collect();
+        names.sort();
+        names
+    }
+}
+
+impl Drop for Scratch {
+    fn drop(&mut self) {
+        let _ = fs::remove_dir_all(&self.0);
+    }
+}

@@ -1,0 +1,400 @@
+//! `bin/unloop` on files: what it writes where and what it leaves alone, its options and its exit status.
+
+mod session;
+
+use session::{command, run, told, with};
+use simulator::executed::{ended, root, Scratch};
+use simulator::specimens::{PROGRAM_INPUT, PROGRAM_OUTPUT};
+use std::fs;
+use std::io::Write;
+use std::os::unix::fs::symlink;
+use std::process::{Command, Output, Stdio};
+use std::thread;
+
+/// A netlist other than the specimen, and its rendering.
+const INVERTER: &str = "(in a)\n(gate p (not a))\n(out y p)\n";
+const INVERTED: &str = "(in a)\n(gate _0 (not a))\n(out y _0)\n";
+/// Refused with 9.
+const LATCH: &str = "(in s)\n(in r)\n(gate q (nor r n))\n(gate n (nor s q))\n";
+const LATCH_REPORT: &str =
+    ": undecided\n  not settled with s = 0, r = 0\n  settles with s = 1\n  settles with r = 1\n";
+
+#[test]
+fn one_file_to_standard_output() {
+    let scratch = with(&[("a b.net", PROGRAM_INPUT)]);
+    told(run(&scratch, &["a b.net"]), 0, PROGRAM_OUTPUT, "");
+    assert_eq!(scratch.names("."), ["a b.net"]);
+    assert_eq!(scratch.get("a b.net"), PROGRAM_INPUT);
+}
+
+#[test]
+fn several_files_to_standard_output_and_a_summary() {
+    let scratch = with(&[("a", PROGRAM_INPUT), ("b", LATCH), ("c", INVERTER)]);
+    let output = format!("{PROGRAM_OUTPUT}(refused 9 0)\n{INVERTED}");
+    let errors = format!("b{LATCH_REPORT}3 files: 2 rendered, 1 refused (1 with 9 undecided)\n");
+    told(run(&scratch, &["a", "b", "c"]), 1, &output, &errors);
+}
+
+#[test]
+fn standard_input() {
+    let scratch = Scratch::new();
+    let given = |text: &str| ended(&mut command(&scratch), text.as_bytes());
+    told(given(PROGRAM_INPUT), 0, PROGRAM_OUTPUT, "");
+    told(given(""), 0, "", "");
+    let errors = "<stdin>:1:7: form\n(in a)\n      ^\n";
+    told(given("(in a)"), 1, "(refused 2 6)\n", errors);
+}
+
+#[test]
+fn empty_file() {
+    let scratch = with(&[("empty.net", "")]);
+    told(run(&scratch, &["empty.net"]), 0, "", "");
+    let errors = "1/1 empty.net: rendered\n1 file: 1 rendered, 0 refused\n";
+    told(
+        run(&scratch, &["--into", "out", "empty.net"]),
+        0,
+        "",
+        errors,
+    );
+    assert_eq!(scratch.get("out/empty.net"), "");
+}
+
+#[test]
+fn into_a_folder() {
+    let files = [
+        ("in/a.net", PROGRAM_INPUT),
+        ("b.net", LATCH),
+        ("c.net", INVERTER),
+    ];
+    let scratch = with(&files);
+    let errors = format!(
+        "1/3 in/a.net: rendered\nb.net{LATCH_REPORT}2/3 b.net: refused 9 undecided\n3/3 c.net: rendered\n\
+         3 files: 2 rendered, 1 refused (1 with 9 undecided)\n"
+    );
+    let words = ["--into", "new/out", "in/a.net", "b.net", "c.net"];
+    told(run(&scratch, &words), 1, "", &errors);
+    assert_eq!(scratch.names("new/out"), ["a.net", "c.net"]);
+    assert_eq!(scratch.get("new/out/a.net"), PROGRAM_OUTPUT);
+    assert_eq!(scratch.get("new/out/c.net"), INVERTED);
+    files
+        .iter()
+        .for_each(|(name, text)| assert_eq!(scratch.get(name), *text));
+}
+
+#[test]
+fn nothing_is_overwritten_without_force() {
+    let scratch = with(&[("a", PROGRAM_INPUT), ("b", INVERTER), ("out/a", "kept")]);
+    let errors =
+        "unloop: out/a: exists already (--force replaces it)\n1/2 a: error\n2/2 b: rendered\n\
+                  2 files: 1 rendered, 0 refused, 1 error\n";
+    told(run(&scratch, &["--into", "out", "a", "b"]), 2, "", errors);
+    assert_eq!(scratch.get("out/a"), "kept");
+    assert_eq!(scratch.get("out/b"), INVERTED);
+    assert_eq!(scratch.names("out"), ["a", "b"]);
+}
+
+/// Not even a link that leads nowhere.
+#[test]
+fn no_link_is_overwritten_without_force() {
+    let scratch = with(&[("a", PROGRAM_INPUT), ("out/b", "")]);
+    symlink("nowhere", scratch.path("out/a")).unwrap();
+    assert_eq!(
+        run(&scratch, &["--into", "out", "a"]).status.code(),
+        Some(2)
+    );
+    assert_eq!(scratch.names("out"), ["a", "b"]);
+    assert!(fs::read_link(scratch.path("out/a")).is_ok());
+}
+
+#[test]
+fn force_replaces() {
+    let scratch = with(&[("a", PROGRAM_INPUT), ("out/a", "old"), ("linked", "kept")]);
+    let errors = "1/1 a: rendered\n1 file: 1 rendered, 0 refused\n";
+    let words = ["--force", "--into", "out", "a"];
+    told(run(&scratch, &words), 0, "", errors);
+    assert_eq!(scratch.get("out/a"), PROGRAM_OUTPUT);
+    // A link is replaced, and what it leads to is not.
+    fs::remove_file(scratch.path("out/a")).unwrap();
+    symlink("../linked", scratch.path("out/a")).unwrap();
+    told(run(&scratch, &words), 0, "", errors);
+    assert_eq!(scratch.get("out/a"), PROGRAM_OUTPUT);
+    assert_eq!(scratch.get("linked"), "kept");
+    assert_eq!(scratch.names("out"), ["a"]);
+}
+
+#[test]
+fn same_names() {
+    let scratch = with(&[("a/x", PROGRAM_INPUT), ("b/x", INVERTER)]);
+    for force in [&[][..], &["--force"]] {
+        let _ = fs::remove_dir_all(scratch.path("out"));
+        let words = [force, &["--into", "out", "a/x", "b/x"]].concat();
+        let errors =
+            "1/2 a/x: rendered\nunloop: b/x: a FILE before it has the same name\n2/2 b/x: error\n\
+                      2 files: 1 rendered, 0 refused, 1 error\n";
+        told(run(&scratch, &words), 2, "", errors);
+        assert_eq!(scratch.get("out/x"), PROGRAM_OUTPUT);
+        assert_eq!(scratch.names("out"), ["x"]);
+    }
+}
+
+#[test]
+fn originals_are_never_overwritten() {
+    let scratch = with(&[
+        ("x", PROGRAM_INPUT),
+        ("a/y", INVERTER),
+        ("out/y", PROGRAM_INPUT),
+    ]);
+    symlink("../x", scratch.path("out/x")).unwrap();
+    for (words, path) in [
+        (&["--into", ".", "x"][..], "./x"),
+        (&["--force", "--into", ".", "./x"], "./x"),
+        (&["--force", "--into", "out", "x"], "out/x"),
+        // The rendering of one file in the place of another.
+        (&["--force", "--into", "out", "a/y", "out/y"], "out/y"),
+    ] {
+        let ended = run(&scratch, words);
+        let line = format!("unloop: {path}: is one of the FILEs, and isn't overwritten\n");
+        let errors = String::from_utf8(ended.stderr).unwrap();
+        assert!(errors.starts_with(&line), "{words:?}: {errors}");
+        assert_eq!(ended.status.code(), Some(2), "{words:?}");
+        assert_eq!(scratch.get("x"), PROGRAM_INPUT);
+        assert_eq!(scratch.get("out/y"), PROGRAM_INPUT);
+        assert_eq!(scratch.names("out"), ["x", "y"]);
+        assert_eq!(scratch.names("."), ["a", "out", "x"]);
+    }
+}
+
+/// Of runs at the same time that write the same name, one does, and the file is its.
+#[test]
+fn one_of_many_at_once() {
+    let scratch = with(&[("a/x", PROGRAM_INPUT), ("b/x", INVERTER)]);
+    for round in 0..5 {
+        let folder = format!("out{round}");
+        let start = |file: &'static str| run(&scratch, &["--into", &folder, file]).status.code();
+        let ends: Vec<Option<i32>> = thread::scope(|scope| {
+            let files = ["a/x", "b/x", "a/x", "b/x"];
+            let started = files.map(|file| scope.spawn(move || start(file)));
+            started.into_iter().map(|run| run.join().unwrap()).collect()
+        });
+        assert_eq!(
+            ends.iter().filter(|&&end| end == Some(0)).count(),
+            1,
+            "{ends:?}"
+        );
+        assert_eq!(
+            ends.iter().filter(|&&end| end == Some(2)).count(),
+            3,
+            "{ends:?}"
+        );
+        let expected = if ends[0] == Some(0) || ends[2] == Some(0) {
+            PROGRAM_OUTPUT
+        } else {
+            INVERTED
+        };
+        assert_eq!(scratch.get(&format!("{folder}/x")), expected);
+        assert_eq!(scratch.names(&folder), ["x"]);
+    }
+}
+
+#[test]
+fn files_that_cannot_be_read() {
+    let scratch = with(&[("a", PROGRAM_INPUT), ("folder/b", "")]);
+    symlink("nowhere", scratch.path("link")).unwrap();
+    let errors = "unloop: gone: No such file or directory\nunloop: folder: Is a directory\n\
+                  unloop: link: No such file or directory\nunloop: a/b: Not a directory\n\
+                  5 files: 1 rendered, 0 refused, 4 errors\n";
+    let words = ["gone", "folder", "link", "a/b", "a"];
+    told(run(&scratch, &words), 2, PROGRAM_OUTPUT, errors);
+    let errors = "unloop: gone: No such file or directory\n";
+    told(run(&scratch, &["gone"]), 2, "", errors);
+    let errors = "unloop: gone: No such file or directory\n1/2 gone: error\n2/2 a: rendered\n\
+                  2 files: 1 rendered, 0 refused, 1 error\n";
+    told(
+        run(&scratch, &["--into", "out", "gone", "a"]),
+        2,
+        "",
+        errors,
+    );
+    assert_eq!(scratch.names("out"), ["a"]);
+    let errors = "unloop: folder/..: has no name of its own\n1/1 folder/..: error\n1 file: 0 rendered, 0 refused, 1 error\n";
+    told(
+        run(&scratch, &["--into", "out", "folder/.."]),
+        2,
+        "",
+        errors,
+    );
+}
+
+#[test]
+fn folders_that_cannot_be_written() {
+    let scratch = with(&[("a", PROGRAM_INPUT), ("b", ""), ("out/a/c", "")]);
+    let ended = run(&scratch, &["--into", "b", "a"]);
+    told(ended, 2, "", "unloop: b: File exists\n");
+    let errors =
+        "unloop: out/a: Is a directory\n1/1 a: error\n1 file: 0 rendered, 0 refused, 1 error\n";
+    told(
+        run(&scratch, &["--force", "--into", "out", "a"]),
+        2,
+        "",
+        errors,
+    );
+    assert_eq!(scratch.names("out"), ["a"]);
+    assert_eq!(scratch.names("out/a"), ["c"]);
+}
+
+#[test]
+fn bad_usage() {
+    let scratch = with(&[("a", PROGRAM_INPUT), ("-b", INVERTER), ("--help", INVERTER)]);
+    for (words, line) in [
+        (&["--frobnicate", "a"][..], "unknown option --frobnicate"),
+        (&["a", "-x"], "unknown option -x"),
+        (&["-\x1b\n"], "unknown option -??"),
+        (&["a", "--into"], "--into needs a DIR"),
+        (
+            &["--into", "out"],
+            "--into needs a FILE: standard input has no name",
+        ),
+        (&["--force", "a"], "--force needs --into DIR"),
+    ] {
+        let errors = format!("unloop: {line} (see --help)\n");
+        told(run(&scratch, words), 2, "", &errors);
+    }
+    assert_eq!(scratch.names("."), ["--help", "-b", "a"]);
+    let both = format!("{INVERTED}{INVERTED}");
+    let errors = "2 files: 2 rendered, 0 refused\n";
+    told(run(&scratch, &["--", "-b", "--help"]), 0, &both, errors);
+}
+
+#[test]
+fn help() {
+    let scratch = Scratch::new();
+    let usage = root().join("rust/src/bin/unloop-files/usage.txt");
+    let usage = fs::read_to_string(usage).unwrap();
+    assert!(usage.starts_with("usage: bin/unloop [FILE ...]\n"));
+    told(run(&scratch, &["--help"]), 0, &usage, "");
+    told(run(&scratch, &["--force", "--help"]), 0, &usage, "");
+}
+
+/// A reader that has gone ends the run without a word, on either of the two.
+#[test]
+fn readers_that_have_gone() {
+    let scratch = with(&[("a", PROGRAM_INPUT), ("b", LATCH)]);
+    let mut command = command(&scratch);
+    let pipes = command.stdin(Stdio::piped()).stdout(Stdio::piped());
+    let mut child = pipes.stderr(Stdio::piped()).spawn().unwrap();
+    // It waits for its input, so the reader has gone before it writes.
+    drop(child.stdout.take());
+    let mut input = child.stdin.take().unwrap();
+    input.write_all(PROGRAM_INPUT.as_bytes()).unwrap();
+    drop(input);
+    let ended = child.wait_with_output().unwrap();
+    told(ended, 2, "", "");
+
+    let into = ["--into", "out", "a", "b"];
+    let (reader, writer) = std::io::pipe().unwrap();
+    drop(reader);
+    let status = self::command(&scratch).args(into).stderr(writer).status();
+    assert_eq!(status.unwrap().code(), Some(1));
+    assert_eq!(scratch.get("out/a"), PROGRAM_OUTPUT);
+}
+
+#[test]
+fn standard_output_that_is_full() {
+    let scratch = with(&[("a", PROGRAM_INPUT)]);
+    let full = fs::File::options().write(true).open("/dev/full").unwrap();
+    let (reader, writer) = std::io::pipe().unwrap();
+    let status = command(&scratch)
+        .args(["a", "a"])
+        .stdout(full)
+        .stderr(writer)
+        .status();
+    assert_eq!(status.unwrap().code(), Some(2));
+    let errors = std::io::read_to_string(reader).unwrap();
+    assert_eq!(errors, "unloop: standard output: No space left on device\n");
+}
+
+/// The driver with another program than the proved one.
+fn with_program(scratch: &Scratch, program: &str) -> Output {
+    run(scratch, &[]); // built
+    let driver = root().join("target/driver/release/unloop-files");
+    let mut driver = Command::new(driver);
+    ended(
+        driver.current_dir(scratch.path(".")).args([program, "a"]),
+        b"",
+    )
+}
+
+#[test]
+fn programs_that_fail() {
+    let scratch = with(&[("a", PROGRAM_INPUT)]);
+    let program =
+        |name: &str, script: &str| scratch.put_script(name, &format!("#!/bin/sh\n{script}\n"));
+    let errors = "unloop: a: ./gone failed: No such file or directory\n";
+    told(with_program(&scratch, "./gone"), 2, "", errors);
+    program("fails", "cat; echo no >&2; exit 3");
+    let errors = "unloop: a: ./fails failed: exit status: 3\n";
+    told(with_program(&scratch, "./fails"), 2, "", errors);
+    program("killed", "kill -9 $$");
+    let errors = "unloop: a: ./killed failed: signal: 9 (SIGKILL)\n";
+    told(with_program(&scratch, "./killed"), 2, "", errors);
+    for strange in [
+        "(refused 12 0)",
+        "(refused 2)",
+        "(refused 2 0)x",
+        "(refused 2 -1)",
+        "(refused 0 0)",
+    ] {
+        program("strange", &format!("cat >/dev/null; echo '{strange}'"));
+        let errors = "unloop: a: the program's answer is no refusal that is known here\n";
+        told(with_program(&scratch, "./strange"), 2, "", errors);
+    }
+}
+
+#[test]
+fn through_a_link() {
+    let scratch = with(&[("a", PROGRAM_INPUT)]);
+    run(&scratch, &[]); // built
+    symlink(root().join("bin/unloop"), scratch.path("linked")).unwrap();
+    symlink("linked", scratch.path("again")).unwrap();
+    let mut command = Command::new("./again");
+    let ended = ended(command.current_dir(scratch.path(".")).arg("a"), b"");
+    told(ended, 0, PROGRAM_OUTPUT, "");
+}
+
+/// Renderings of the whole catalogue are the files that stand beside the netlists, and nothing else is written.
+#[test]
+fn catalogue() {
+    let scratch = Scratch::new();
+    let folder = root().join("catalogue");
+    let entries = fs::read_dir(&folder).unwrap();
+    let paths = entries.map(|entry| entry.unwrap().path());
+    let netlists: Vec<_> = paths
+        .filter(|path| path.extension().is_some_and(|e| e == "net"))
+        .collect();
+    let ended = ended(
+        command(&scratch).args(["--into", "out"]).args(&netlists),
+        b"",
+    );
+    let mut rendered = Vec::new();
+    for path in &netlists {
+        let expected = fs::read_to_string(path.with_extension("out")).unwrap();
+        if !expected.starts_with("(refused ") {
+            let name = path.file_name().unwrap().to_str().unwrap().to_string();
+            assert_eq!(scratch.get(&format!("out/{name}")), expected);
+            rendered.push(name);
+        }
+    }
+    rendered.sort();
+    assert_eq!(scratch.names("out"), rendered);
+    let (all, rendered) = (netlists.len(), rendered.len());
+    let summary = format!(
+        "{all} files: {rendered} rendered, {} refused (",
+        all - rendered
+    );
+    let errors = String::from_utf8(ended.stderr).unwrap();
+    assert!(
+        errors.lines().last().unwrap().starts_with(&summary),
+        "{errors}"
+    );
+    assert_eq!(ended.status.code(), Some(1));
+}

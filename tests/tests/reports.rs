@@ -1,0 +1,154 @@
+//! What `bin/unloop` says of a netlist that is refused, and its summary.
+
+mod session;
+
+use session::{command, run, told, with};
+use simulator::executed::{ended, Scratch};
+use simulator::generate::long_texts;
+use simulator::limits::TEXT_BYTES;
+use std::ffi::OsStr;
+use std::os::unix::ffi::OsStrExt;
+
+/// The report of a text that is refused at a place, and the line of standard output.
+#[track_caller]
+fn at_a_place(text: &[u8], output: &str, report: &str) {
+    let scratch = Scratch::new();
+    scratch.put("x.net", text);
+    told(run(&scratch, &["x.net"]), 1, output, report);
+}
+
+#[test]
+fn form() {
+    let report = "x.net:1:5: form\n(in _a)\n    ^\n";
+    at_a_place(b"(in _a)\n", "(refused 2 4)\n", report);
+    // Cut off, in the first line and later.
+    at_a_place(
+        b"(in a)",
+        "(refused 2 6)\n",
+        "x.net:1:7: form\n(in a)\n      ^\n",
+    );
+    let report = "x.net:2:6: form\n(in b\n     ^\n";
+    at_a_place(b"(in a)\n(in b", "(refused 2 12)\n", report);
+    // At the LF that ends a line, on an empty line, at a line's first byte.
+    let report = "x.net:2:6: form\n(in b\n     ^\n";
+    at_a_place(b"(in a)\n(in b\n(in c)\n", "(refused 2 12)\n", report);
+    at_a_place(
+        b"(in a)\n\n(in b)\n",
+        "(refused 2 7)\n",
+        "x.net:2:1: form\n\n^\n",
+    );
+    at_a_place(b"\n", "(refused 2 0)\n", "x.net:1:1: form\n\n^\n");
+    let text = b"(in a)\n(in b)\n(gate p (and a b))\nout y p)\n";
+    at_a_place(text, "(refused 2 33)\n", "x.net:4:1: form\nout y p)\n^\n");
+}
+
+/// One column for each byte, and no byte that a terminal obeys.
+#[test]
+fn bytes_outside_of_text() {
+    let text = b"(in a)\n(in \x1b[31m\t\xc3\xa9\x00\x7f~)\n";
+    let report = "x.net:2:5: form\n(in ?[31m?????~)\n    ^\n";
+    at_a_place(text, "(refused 2 11)\n", report);
+    let report = "x.net:1:7: form\n(in ab?)\n      ^\n";
+    at_a_place(b"(in ab\r)\n", "(refused 2 6)\n", report);
+}
+
+#[test]
+fn declared_twice_and_not_at_all() {
+    let report = "x.net:2:5: twice\n(in a)\n    ^\n";
+    at_a_place(b"(in a)\n(in a)\n", "(refused 4 11)\n", report);
+    let text = b"(in a)\n(gate p (not a))\n(gate a (not p))\n";
+    let report = "x.net:3:7: twice\n(gate a (not p))\n      ^\n";
+    at_a_place(text, "(refused 4 30)\n", report);
+    let text = b"(in a)\n(gate p (or a (not rest)))\n";
+    let report = "x.net:2:20: unknown\n(gate p (or a (not rest)))\n                   ^\n";
+    at_a_place(text, "(refused 5 26)\n", report);
+    let report = "x.net:2:8: unknown\n(out y p)\n       ^\n";
+    at_a_place(b"(in a)\n(out y p)\n", "(refused 5 14)\n", report);
+}
+
+#[test]
+fn refusals_without_a_place() {
+    let inputs: String = (0..11).map(|i| format!("(in a{i})\n")).collect();
+    at_a_place(inputs.as_bytes(), "(refused 3 0)\n", "x.net: crowded\n");
+    let ring = simulator::specimens::ring(33, "(not LAST)");
+    at_a_place(ring.as_bytes(), "(refused 8 0)\n", "x.net: swollen\n");
+}
+
+#[test]
+fn longest_texts() {
+    let (_, longest) = long_texts().pop().expect("texts");
+    assert_eq!(longest.len(), TEXT_BYTES);
+    at_a_place(&longest, "(refused 3 0)\n", "x.net: crowded\n");
+    for length in [TEXT_BYTES + 1, TEXT_BYTES + 2, 3_000_000] {
+        let mut text = longest.clone();
+        text.resize(length, b'x');
+        at_a_place(&text, "(refused 1 0)\n", "x.net: overlong\n");
+    }
+}
+
+#[test]
+fn undecided() {
+    let text = b"(gate p (or p (not p)))\n";
+    let report = "x.net: undecided\n  not settled\n  settles under no setting\n";
+    at_a_place(text, "(refused 9 0)\n", report);
+    let text = b"(in a)\n(in eight_88)\n(gate p (not p))\n";
+    let report =
+        "x.net: undecided\n  not settled with a = 0, eight_88 = 0\n  settles under no setting\n";
+    at_a_place(text, "(refused 9 0)\n", report);
+    // Two pins of three in each entry.
+    let text = b"(in s)\n(in a)\n(in b)\n(gate h (and s a))\n(gate k (and (not s) b))\n\
+                 (gate p (or h k q))\n(gate q (or h k p))\n";
+    let report =
+        "x.net: undecided\n  not settled with s = 0, a = 0, b = 0\n  settles with s = 1, a = 1\n\
+                  \x20 settles with s = 0, b = 1\n  settles with a = 1, b = 1\n";
+    at_a_place(text, "(refused 9 0)\n", report);
+}
+
+/// Each of `pins` opens the loop at 1.
+fn open_by_any(pins: usize) -> String {
+    let inputs = (0..pins).map(|i| format!("(in a{i})\n"));
+    let gates = (0..pins).map(|i| format!("(gate g{i} (or a{i} g{}))\n", (i + 1) % pins));
+    inputs.chain(gates).collect()
+}
+
+#[test]
+fn long_covers() {
+    for (pins, more) in [(8, ""), (9, "  and 1 more\n"), (10, "  and 2 more\n")] {
+        let all: Vec<String> = (0..pins).map(|i| format!("a{i} = 0")).collect();
+        let mut report = format!("x.net: undecided\n  not settled with {}\n", all.join(", "));
+        (0..8).for_each(|i| report += &format!("  settles with a{i} = 1\n"));
+        report += more;
+        at_a_place(open_by_any(pins).as_bytes(), "(refused 9 0)\n", &report);
+    }
+}
+
+#[test]
+fn summary_by_number() {
+    let files = [
+        ("1", "(in a)\n(in a)\n"),
+        ("2", "x"),
+        ("3", "(in a)\n(gate p (and a p))\n"),
+        ("4", "(in a)\n(out y a)\n"),
+        ("5", "(gate p (not p))\n"),
+        ("6", "x"),
+        ("7", "y"),
+    ];
+    let scratch = with(&files);
+    let names = files.map(|(name, _)| name);
+    let words = [&["--into", "out", "gone", "8"][..], &names].concat();
+    let ended = run(&scratch, &words);
+    let errors = String::from_utf8(ended.stderr).unwrap();
+    let summary = "9 files: 1 rendered, 6 refused (3 with 2 form, 1 with 4 twice, 2 with 9 undecided), 2 errors";
+    assert_eq!(errors.lines().last(), Some(summary));
+    assert_eq!(ended.status.code(), Some(2));
+}
+
+/// A name's own bytes don't break the one line, nor reach a terminal.
+#[test]
+fn names_with_control_bytes() {
+    let scratch = Scratch::new();
+    let mut command = command(&scratch);
+    let ended = ended(command.arg(OsStr::from_bytes(b"a\n\x1b[31m\xff")), b"");
+    let errors = "unloop: a??[31m\u{fffd}: No such file or directory\n";
+    told(ended, 2, "", errors);
+}
