@@ -1,14 +1,13 @@
 // Groups are numbered one by one: of those that read no gate without a number outside themselves, the one with the lowest gate is next.
 ghost use mathlib.Core.Path.{_≡_};
 ghost use Prim.Native.Nat.{_≤_, _<_};
-ghost use mathlib.Core.List.{_++_};
-ghost use lib.ListN.{length, drop, replicate};
+ghost use lib.ListN.{length};
 ghost use Rattle.laws.specs.Lists.{least, tab, placed};
 ghost use Rattle.netlist.specs.StoredBlock.{decode};
 ghost use Rattle.groups.specs.Numbering.{passed, leadsNext, renumbered, Lowest, NumberReady, Watching, GroupsNumbered};
-use components::leaders::forget;
 use crate::obstacle::NO_NUMBER;
 use crate::obstacle::obstacle_of_group;
+use components::leaders::forget;
 use ternary::read::word_at;
 
 // Gate j's group needs no look: it has a number, a lower gate leads it, or the obstacle last found has no number yet.
