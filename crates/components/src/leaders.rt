@@ -158,18 +158,21 @@ fn lead_group(
     lead_queued(words, n, m, gates, leader, queue, count, leaders);
 }
 
-// Most gates read higher gates, by their first operands. It decides the order in which gates are taken; any is right, but a gate whose
-// operands have leaders costs least.
+// More than every second gate reads a higher gate, or some read several. It decides the order in which gates are taken; any is right, but a
+// gate whose operands have leaders costs least.
 fn reads_upward(words: &[u16], n: usize, m: usize, gates: usize) -> bool
     requires { ⌜ (n ≤ 65535) × (m ≤ 1024) × (gates ≤ 1024) ⌝ }
 {
     let mut upward = 0;
-    let mut i = 0;
-    while i < m {
-        if n + i < word_at(words, gates + 5 * i + 1) {
-            upward += 1;
+    let mut p = 0;
+    while p < 5 * m {
+        let w = word_at(words, gates + p);
+        if n + p / 5 < w {
+            if w < n + m {
+                upward += 1;
+            }
         }
-        i += 1;
+        p += 1;
     }
     m < 2 * upward
 }
