@@ -9,7 +9,7 @@ use crate::numbering::number_groups;
 use block::header;
 use components::leaders::lead;
 
-// With arrays for the leaders, the search and the groups that cannot be next, each of at least m elements.
+// With arrays for the leaders and the search, each of at least m elements. The queue is used again for the obstacles found.
 fn assign_with(
     words: &[u16],
     n: usize,
