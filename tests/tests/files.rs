@@ -31,7 +31,10 @@ fn one_file_to_standard_output() {
 fn several_files_to_standard_output_and_a_summary() {
     let scratch = with(&[("a", PROGRAM_INPUT), ("b", LATCH), ("c", INVERTER)]);
     let output = format!("{PROGRAM_OUTPUT}(refused 9 0)\n{INVERTED}");
-    let errors = format!("b{LATCH_REPORT}3 files: 2 rendered, 1 refused (1 with 9 undecided)\n");
+    let summary = "3 files: 2 rendered, 1 refused (1 with 9 undecided)";
+    let errors = format!(
+        "1/3 a: rendered\nb{LATCH_REPORT}2/3 b: refused 9 undecided\n3/3 c: rendered\n{summary}\n"
+    );
     told(run(&scratch, &["a", "b", "c"]), 1, &output, &errors);
 }
 

@@ -15,7 +15,7 @@ use program::Program;
 use report::Refusal;
 use screen::Screen;
 use source::Source;
-use std::io::{self, Write};
+use std::io::{self, IsTerminal, Write};
 use std::process::ExitCode;
 use tally::{Outcome, Tally};
 
@@ -81,9 +81,11 @@ impl Run {
             Some(path) => Some(Folder::open(path, force, &files)?),
             None => None,
         };
-        let screen = match folder {
-            Some(_) => Screen::with_progress(files.len()),
-            None => Screen::plain(),
+        // Renderings on the same terminal would be overwritten.
+        let free = folder.is_some() || !io::stdout().is_terminal();
+        let screen = match folder.is_some() || files.len() > 1 {
+            true => Screen::with_progress(files.len(), free),
+            false => Screen::plain(),
         };
         let sources = match files.is_empty() {
             true => vec![Source::Input],

@@ -23,11 +23,12 @@ impl Screen {
         }
     }
 
-    pub fn with_progress(total: usize) -> Screen {
+    /// `free`: nothing else is written to the terminal.
+    pub fn with_progress(total: usize, free: bool) -> Screen {
         let obeys = std::env::var_os("TERM").is_some_and(|term| term != "dumb");
         Screen {
             total: Some(total),
-            in_place: obeys && io::stderr().is_terminal(),
+            in_place: free && obeys && io::stderr().is_terminal(),
         }
     }
 
