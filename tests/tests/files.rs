@@ -203,8 +203,10 @@ fn one_of_many_at_once() {
 fn files_that_cannot_be_read() {
     let scratch = with(&[("a", PROGRAM_INPUT), ("folder/b", "")]);
     symlink("nowhere", scratch.path("link")).unwrap();
-    let errors = "unloop: gone: No such file or directory\nunloop: folder: Is a directory\n\
-                  unloop: link: No such file or directory\nunloop: a/b: Not a directory\n\
+    let errors = "unloop: gone: No such file or directory\n1/5 gone: error\n\
+                  unloop: folder: Is a directory\n2/5 folder: error\n\
+                  unloop: link: No such file or directory\n3/5 link: error\n\
+                  unloop: a/b: Not a directory\n4/5 a/b: error\n5/5 a: rendered\n\
                   5 files: 1 rendered, 0 refused, 4 errors\n";
     let words = ["gone", "folder", "link", "a/b", "a"];
     told(run(&scratch, &words), 2, PROGRAM_OUTPUT, errors);
@@ -264,7 +266,7 @@ fn bad_usage() {
     }
     assert_eq!(scratch.names("."), ["--help", "-b", "a"]);
     let both = format!("{INVERTED}{INVERTED}");
-    let errors = "2 files: 2 rendered, 0 refused\n";
+    let errors = "1/2 -b: rendered\n2/2 --help: rendered\n2 files: 2 rendered, 0 refused\n";
     told(run(&scratch, &["--", "-b", "--help"]), 0, &both, errors);
 }
 
