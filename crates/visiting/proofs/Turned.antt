@@ -1,14 +1,14 @@
 -- An order of all gates stays one when a group's gates are written anew, since a search kept to the group queues all of it. Cited by
 -- this crate's functions. Assumes nothing.
 use mathlib.Core.Path.{_≡_, refl, sym, _∙_}
-use mathlib.Core.Logic.{_⊎_, inl, inr, ⊎-elim}
+use mathlib.Core.Logic.{_⊎_, ⊎-elim}
 use mathlib.Core.Bool.{true}
 use mathlib.Core.List.{List}
 use Prim.Native.Nat.{ℕ, _+_, _-_, _≤_, _<_}
 use native.Mathlib.Omega.{arith}
 use lib.ListN.{length, getD, set, take, length-set}
 use lib.Seq.{length-take-le, getD-take, getD-set-same, getD-set-other}
-use Rattle.laws.specs.Lists.{member, tab, placed}
+use Rattle.laws.specs.Lists.{tab, placed}
 use Rattle.laws.proofs.Tests.{eq-or-ne, lt-or-le}
 use Rattle.laws.proofs.Quantifiers.{member-at, member-from}
 use Rattle.netlist.specs.Netlist.{Block, gateCount}

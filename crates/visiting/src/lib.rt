@@ -24,16 +24,7 @@ pub fn order_groups(words: &[u16], numbers: &[u16], count: usize, order: &mut [u
     fill_order(m, numbers, count, order);
     let mut flags = [0u8; 1024];
     let mut queue = [0u16; 1024];
-    turning::turn_groups(
-        words,
-        n,
-        m,
-        gates,
-        numbers,
-        order,
-        &mut flags,
-        &mut queue,
-    );
+    turning::turn_groups(words, n, m, gates, numbers, order, &mut flags, &mut queue);
 }
 
 // With room for a number of each gate.

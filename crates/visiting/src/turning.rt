@@ -81,9 +81,7 @@ pub fn turn_groups(
     let mut at = 0;
     while at < m {
         let end = group_end(m, numbers, order, at);
-        turn_group(
-            words, n, m, gates, numbers, at, end, order, flags, queue,
-        );
+        turn_group(words, n, m, gates, numbers, at, end, order, flags, queue);
         at = end;
     }
 }

@@ -3,9 +3,6 @@ use Rattle.encoding.proofs.Readers.{whole-parts}
 use borrow.Author.Needs.{needs}
 use Rattle.visiting.proofs.order_gates.Statement.{statement}
 use Rattle.visiting.proofs.order_gates.Tie as tie
-use Rattle.visiting.proofs.order_gates.Reads as reads
-use Rattle.visiting.proofs.order_gates.Lts as lts
-use Rattle.visiting.proofs.order_with.Reads as order-with-reads
 
 slice-aggregate-order-with : tie.Need-slice-aggregate-order-with
 slice-aggregate-order-with c = search needs

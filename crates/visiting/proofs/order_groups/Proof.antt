@@ -8,13 +8,6 @@ use Rattle.visiting.proofs.GroupOrder.{filled-ordered, turn-ready}
 use borrow.Author.Needs.{needs}
 use Rattle.visiting.proofs.order_groups.Statement.{statement}
 use Rattle.visiting.proofs.order_groups.Tie as tie
-use Rattle.visiting.proofs.order_groups.Reads as reads
-use Rattle.visiting.proofs.order_groups.Lts as lts
-use Rattle.block.proofs.header.gates_at.Reads as gates-at-reads
-use Rattle.block.proofs.header.gates_of.Reads as gates-of-reads
-use Rattle.block.proofs.header.inputs_of.Reads as inputs-of-reads
-use Rattle.schedule.proofs.fill_order.Reads as fill-order-reads
-use Rattle.visiting.proofs.turning.turn_groups.Reads as turn-groups-reads
 
 inputs-of-requires : tie.Need-inputs-of-requires
 inputs-of-requires c κs = search needs

@@ -4,10 +4,6 @@ use Rattle.schedule.proofs.Blocks.{assigned-numbers}
 use borrow.Author.Needs.{needs}
 use Rattle.visiting.proofs.order_with.Statement.{statement}
 use Rattle.visiting.proofs.order_with.Tie as tie
-use Rattle.visiting.proofs.order_with.Reads as reads
-use Rattle.visiting.proofs.order_with.Lts as lts
-use Rattle.groups.proofs.assign.assign.Reads as assign-reads
-use Rattle.visiting.proofs.order_groups.Reads as order-groups-reads
 
 assign-requires : tie.Need-assign-requires
 assign-requires c κs = search needs

@@ -1,16 +1,11 @@
 -- `visiting::turning::group_end` meets its contract: the gates passed have the first one's number. Assumes nothing.
-use Prim.Native.Nat.{_+_, _-_, _≤_, _<_}
-use mathlib.Core.Path.{_≡_, sym, _∙_}
+use Prim.Native.Nat.{_-_}
 use native.Mathlib.Omega.{arith}
 use borrow.Author.Needs.{needs}
-use lib.ListN.{length}
 use Rattle.visiting.specs.Turning.{Run}
 use Rattle.visiting.proofs.Turned.{run-one, run-next}
 use Rattle.visiting.proofs.turning.group_end.Statement.{statement}
 use Rattle.visiting.proofs.turning.group_end.Tie as tie
-use Rattle.visiting.proofs.turning.group_end.Reads as reads
-use Rattle.visiting.proofs.turning.group_end.Lts as lts
-use Rattle.ternary.proofs.read.word_at.Reads as word-at-reads
 
 abbrev Inv-loop : tie.InvT-loop
 Inv-loop m numbers order at g end₀ end = Run m numbers order at end

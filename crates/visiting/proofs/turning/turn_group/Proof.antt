@@ -5,12 +5,6 @@ use Rattle.visiting.proofs.Turned.{group-start, turned-visits}
 use borrow.Author.Needs.{needs}
 use Rattle.visiting.proofs.turning.turn_group.Statement.{statement}
 use Rattle.visiting.proofs.turning.turn_group.Tie as tie
-use Rattle.visiting.proofs.turning.turn_group.Reads as reads
-use Rattle.visiting.proofs.turning.turn_group.Lts as lts
-use Rattle.components.proofs.leaders.bar_others.Reads as bar-others-reads
-use Rattle.search.proofs.walk.queue_reach.Reads as queue-reach-reads
-use Rattle.ternary.proofs.read.word_at.Reads as word-at-reads
-use Rattle.visiting.proofs.turning.turn_queue.Reads as turn-queue-reads
 
 add-if1 : tie.Need-add-if1
 add-if1 c = search needs

@@ -1,5 +1,5 @@
 -- `visiting::turning::turn_groups` meets its contract: each group's turn keeps an order of all gates. Assumes nothing.
-use Prim.Native.Nat.{_-_, _<_}
+use Prim.Native.Nat.{_-_}
 use mathlib.Core.Path.{_≡_, refl, _∙_}
 use native.Mathlib.Omega.{arith}
 use lib.ListN.{length}
@@ -7,10 +7,6 @@ use Rattle.visiting.specs.Turning.{Ordered}
 use Rattle.visiting.proofs.Turned.{still-ready}
 use Rattle.visiting.proofs.turning.turn_groups.Statement.{statement}
 use Rattle.visiting.proofs.turning.turn_groups.Tie as tie
-use Rattle.visiting.proofs.turning.turn_groups.Reads as reads
-use Rattle.visiting.proofs.turning.turn_groups.Lts as lts
-use Rattle.visiting.proofs.turning.group_end.Reads as group-end-reads
-use Rattle.visiting.proofs.turning.turn_group.Reads as turn-group-reads
 
 abbrev Inv-loop : tie.InvT-loop
 Inv-loop words n m gates numbers order₀ flags₀ queue₀ at₀ order flags queue at = Ordered m order × (length order ≡ length order₀) × (length flags ≡ length flags₀) × (length queue ≡ length queue₀)
