@@ -25,23 +25,35 @@ use Rattle.visiting.specs.Turning.{Turned, Run, Ordered, TurnReady}
 -- ---- gates written one by one
 
 module _ (queue : List ℕ) (count at : ℕ) (entry : List ℕ) where
-  pub turn-none : Turned queue count at 0 entry entry
-  turn-none = record { sameLength = refl; before = λ i l. refl; turned = λ q l. absurd (omega arith); behind = λ i l. refl }
+  pub turn-first : getD entry at 0 ≡ getD queue 0 0 → Turned queue count at 1 entry entry
+  turn-first is = record { sameLength = refl; before = λ i l. refl; first = is; turned = λ q lo hi. absurd (omega arith); behind = λ i l. refl }
 
-  pub turn-next : {done : ℕ} {order : List ℕ} (x : ℕ) → Turned queue count at done entry order → at + done < length entry → x ≡ getD queue (count - 1 - done) 0 → Turned queue count at (done + 1) entry (set order (at + done) x)
-  turn-next {done} {order} x t room is =
+  pub turn-next : {done : ℕ} {order : List ℕ} (x : ℕ) → Turned queue count at done entry order → 0 < done → at + done < length entry → x ≡ getD queue (count - done) 0 → Turned queue count at (done + 1) entry (set order (at + done) x)
+  turn-next {done} {order} x t some room is =
       record {
         sameLength = length-set order (at + done) x ∙ t .sameLength;
         before = λ i l. getD-set-other order (at + done) i x 0 (λ e. omega arith) ∙ t .before i l;
-        turned = λ q l. ⊎-elim (here q) (there q l) (eq-or-ne q done);
+        first = getD-set-other order (at + done) at x 0 (λ e. omega arith) ∙ t .first;
+        turned = λ q lo hi. ⊎-elim (here q) (there q lo hi) (eq-or-ne q done);
         behind = λ i l. getD-set-other order (at + done) i x 0 (λ e. omega arith) ∙ t .behind i (omega arith);
       }
     where
-      here : (q : ℕ) → q ≡ done → getD (set order (at + done) x) (at + q) 0 ≡ getD queue (count - 1 - q) 0
+      here : (q : ℕ) → q ≡ done → getD (set order (at + done) x) (at + q) 0 ≡ getD queue (count - q) 0
       here q e = rw e (getD-set-same order (at + done) x 0 (omega (arith, t .sameLength)) ∙ is)
 
-      there : (q : ℕ) → q < done + 1 → (q ≡ done → ⊥) → getD (set order (at + done) x) (at + q) 0 ≡ getD queue (count - 1 - q) 0
-      there q l ne = getD-set-other order (at + done) (at + q) x 0 (λ e. ne (omega arith)) ∙ t .turned q (omega arith)
+      there : (q : ℕ) → 0 < q → q < done + 1 → (q ≡ done → ⊥) → getD (set order (at + done) x) (at + q) 0 ≡ getD queue (count - q) 0
+      there q lo hi ne = getD-set-other order (at + done) (at + q) x 0 (λ e. ne (omega arith)) ∙ t .turned q lo (omega arith)
+
+-- the first gate was stored before the others
+pub turn-all : (queue : List ℕ) (count at x : ℕ) {entry order : List ℕ} → Turned queue count at count (set entry at x) order → 0 < count → Turned queue count at count entry order
+turn-all queue count at x {entry} t some =
+    record {
+      sameLength = t .sameLength ∙ length-set entry at x;
+      before = λ i l. t .before i l ∙ getD-set-other entry at i x 0 (λ e. omega arith);
+      first = t .first;
+      turned = t .turned;
+      behind = λ i l. t .behind i l ∙ getD-set-other entry at i x 0 (λ e. omega arith);
+    }
 
 -- ---- gates of one number
 
@@ -123,10 +135,16 @@ module _ {ws : List ℕ} {n m gates : ℕ} {numbers flags queue₀ : List ℕ} (
       where
         -- a place of the run holds a queued gate, another what it held
         inner : (i : ℕ) → at ≤ i → i < end → getD order′ i 0 < m
-        inner i lo hi =
-            let place : at + (i - at) ≡ i = omega arith in
-            let h : getD order′ i 0 ≡ getD queue (count - 1 - (i - at)) 0 = rw place at (t .turned (i - at) (omega arith)) in
-            rw h (r .sound (count - 1 - (i - at)) (omega arith) .0)
+        inner i lo hi = ⊎-elim front rest (eq-or-ne i at)
+          where
+            front : i ≡ at → getD order′ i 0 < m
+            front e = rw (e, t .first) (r .sound 0 (omega arith) .0)
+
+            rest : (i ≡ at → ⊥) → getD order′ i 0 < m
+            rest ne =
+                let place : at + (i - at) ≡ i = omega arith in
+                let h : getD order′ i 0 ≡ getD queue (count - (i - at)) 0 = rw place at (t .turned (i - at) (omega arith) (omega arith)) in
+                rw h (r .sound (count - (i - at)) (omega arith) .0)
 
         gate : (i : ℕ) → i < m → getD order′ i 0 < m
         gate i l =
@@ -136,16 +154,21 @@ module _ {ws : List ℕ} {n m gates : ℕ} {numbers flags queue₀ : List ℕ} (
             (lt-or-le i at)
 
         -- a gate that stood in the run is queued, and stands there again
-        again : (i j : ℕ) → getD order i 0 ≡ j → at ≤ i → i < end → Queued order′ m j
-        again i j is lo hi =
-            let q = queued j (rw is at (in-group i lo hi)) in
-            let turn : count - 1 - (count - 1 - q .0) ≡ q .0 = omega (arith, q .1) in
-            (at + (count - 1 - q .0), omega (arith, q .1, run .ends), t .turned (count - 1 - q .0) (omega (arith, q .1)) ∙ rw turn (q .2))
+        place-in : (j : ℕ) → Queued queue count j → Queued order′ m j
+        place-in j q = ⊎-elim front rest (eq-or-ne (q .0) 0)
+          where
+            front : q .0 ≡ 0 → Queued order′ m j
+            front e = (at, omega (arith, run .begins, run .ends), t .first ∙ rw e at (q .2))
+
+            rest : (q .0 ≡ 0 → ⊥) → Queued order′ m j
+            rest ne =
+                let turn : count - (count - q .0) ≡ q .0 = omega (arith, q .1) in
+                (at + (count - q .0), omega (arith, q .1, run .ends), t .turned (count - q .0) (omega (arith, q .1)) (omega (arith, q .1)) ∙ rw turn (q .2))
 
         every : (j : ℕ) → j < m → Queued order′ m j
         every j l =
             let p = place-of o j l in
             ⊎-elim
             (λ lo. (p .0, p .1, t .before (p .0) lo ∙ p .2))
-            (λ lo. ⊎-elim (again (p .0) j (p .2) lo) (λ hi. (p .0, p .1, t .behind (p .0) (rw fits hi) ∙ p .2)) (lt-or-le (p .0) end))
+            (λ lo. ⊎-elim (λ hi. place-in j (queued j (rw (p .2) at (in-group (p .0) lo hi)))) (λ hi. (p .0, p .1, t .behind (p .0) (rw fits hi) ∙ p .2)) (lt-or-le (p .0) end))
             (lt-or-le (p .0) at)

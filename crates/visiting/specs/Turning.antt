@@ -9,11 +9,12 @@ use Rattle.reach.specs.Inside.{Inside}
 use Rattle.components.specs.Leaders.{Ready}
 use Rattle.decide.specs.InPlace.{Visits}
 
--- of `count` queued gates, the last `done` stand from place `at` on, the last first; the other places are as they were
+-- of `count` queued gates, the first stands at place `at`, and the last behind it, the last first, `done` in all; other places are as they were
 pub record Turned (queue : List ℕ) (count at done : ℕ) (entry order : List ℕ) : Type 0 where
   pub sameLength : length order ≡ length entry
   pub before : (i : ℕ) → i < at → getD order i 0 ≡ getD entry i 0
-  pub turned : (q : ℕ) → q < done → getD order (at + q) 0 ≡ getD queue (count - 1 - q) 0
+  pub first : getD order at 0 ≡ getD queue 0 0
+  pub turned : (q : ℕ) → 0 < q → q < done → getD order (at + q) 0 ≡ getD queue (count - q) 0
   pub behind : (i : ℕ) → at + done ≤ i → getD order i 0 ≡ getD entry i 0
 
 -- the gates from place `at` up to `end` have one number

@@ -1,5 +1,5 @@
-// Inside each group the gates are put into the reverse of the order in which a breadth-first search from the group's first gate queues them,
-// so that most stand behind their operands.
+// Inside a group most gates shall stand behind their operands. So a breadth-first search along operands starts at the group's first gate, past
+// no gate of another group, and all but that gate are written in the reverse of the order in which it queues them.
 ghost use Prim.Native.Nat.{_+_, _≤_, _<_};
 ghost use lib.ListN.{length, take};
 ghost use Rattle.decide.specs.InPlace.{Visits};
@@ -8,14 +8,15 @@ use components::leaders::bar_others;
 use search::walk::queue_reach;
 use ternary::read::word_at;
 
-// Writes the first `count` queued gates from place `at` on, the last first.
+// Writes the first `count` queued gates from place `at` on: the first, and then the others, the last first.
 fn turn_queue(queue: &[u16], count: usize, order: &mut [u16], at: usize)
-    requires { ⌜ (count ≤ length (now queue)) × (at + count ≤ length (now order)) ⌝ }
+    requires { ⌜ (0 < count) × (count ≤ length (now queue)) × (at + count ≤ length (now order)) ⌝ }
     ensures { λ r. ⌜ Turned (now (queue .entry)) count at count (now (order .entry)) (now (order .exit)) ⌝ }
 {
-    let mut q = 0;
+    order[at] = queue[0];
+    let mut q = 1;
     while q < count {
-        order[at + q] = queue[count - 1 - q];
+        order[at + q] = queue[count - q];
         q += 1;
     }
 }
@@ -36,7 +37,7 @@ fn group_end(m: usize, numbers: &[u16], order: &[u16], at: usize) -> usize
     end
 }
 
-// The same for the gates of one group, which stand from `at` up to `end`.
+// Does so for the gates of one group, which stand from `at` up to `end`. If the search queues more or fewer gates, they are left as they are.
 fn turn_group(
     words: &[u16],
     n: usize,
@@ -64,7 +65,7 @@ fn turn_group(
     turn_queue(queue, count, order, at);
 }
 
-// The same for every group; an order of all gates stays one.
+// Does so for every group; an order of all gates stays one.
 pub fn turn_groups(
     words: &[u16],
     n: usize,
