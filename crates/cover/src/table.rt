@@ -1,11 +1,11 @@
-// Which settings are settled: each is simulated once, along the groups' order.
+// Which settings are settled: each is simulated once, along the order of `visiting`.
 ghost use mathlib.Core.Path.{_≡_};
 ghost use mathlib.Core.Bool.{false};
 ghost use Rattle.netlist.specs.StoredBlock.{decode, torn};
 ghost use Rattle.cover.specs.Table.{CoverRoom, Tabulated};
 use block::header;
-use schedule::order::order_gates;
 use verdict::settings::fill_settled;
+use visiting::order_gates;
 
 // For each setting of a block that is not torn: 1 where it is settled, else 0.
 pub fn tabulate(

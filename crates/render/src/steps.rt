@@ -16,10 +16,10 @@ use netlist::Answer;
 use netlist::Refusal;
 use schedule::Copies;
 use schedule::count_copies;
-use schedule::fill_order;
 use schedule::fill_schedule;
 use verdict::settings::lowest_unsettled;
 use verdict::settings::setting_count;
+use visiting::order_groups;
 
 // Numbers the groups and counts the copies.
 fn plan(words: &[u16], numbers: &mut [u16]) -> Plan
@@ -63,7 +63,7 @@ fn find_unsettled(
     requires { ⌜ SearchReady (now words) (now numbers) count (now order) (now inputs) (now values) ⌝ }
     ensures { λ r. ⌜ r ≡ settingsOf (sound (decode (now (words .entry)))) (lowestUnsettled (decode (now (words .entry)))) ⌝ }
 {
-    fill_order(header::gates_of(words), numbers, count, order);
+    order_groups(words, numbers, count, order);
     let lowest = lowest_along(words, order, inputs, values);
     if lowest < setting_count(header::inputs_of(words)) {
         return Settings::Unsettled(lowest);

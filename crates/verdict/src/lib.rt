@@ -10,7 +10,7 @@ use block::check_words;
 use block::header;
 use netlist::Answer;
 use netlist::Refusal;
-use schedule::order::order_gates;
+use visiting::order_gates;
 
 pub mod settings;
 

@@ -6,7 +6,6 @@ use native.Mathlib.Omega.{arith}
 use lib.Seq.{length-take-le}
 use Rattle.encoding.proofs.Readers.{whole-parts}
 use Rattle.decide.proofs.Legible.{whole-ready}
-use Rattle.verdict.proofs.GroupOrder.{ordered-visits}
 use Rattle.verdict.proofs.Outcomes.{answer-whole}
 use borrow.Author.Needs.{needs}
 use Rattle.verdict.proofs.whole_verdict.Statement.{statement}
@@ -77,7 +76,7 @@ search-settings-requires c κs =
     let valueRoom : m .result ≤ length (s .args .values .now) = omega (arith, m .ensures, whole .fewGates, s .pre .1 .1 .1) in
     whole-ready (s .args .words .now) (n .result) (m .result) (c .before .before .before .before .before .before .before .gates-at .result) _ _ _ (s .pre .0)
     (n .ensures) (m .ensures) (c .before .before .before .before .before .before .before .gates-at .ensures)
-    (ordered-visits (s .args .words .now) (m .result) (s .args .order .now) _ (s .pre .0) (m .ensures) (e .ensures))
+    (rw (m .ensures) (e .ensures))
     (length-take-le (n .result) (s .args .inputs .now) inputRoom) (length-take-le (m .result) (s .args .values .now) valueRoom)
 
 same-length : tie.Need-same-length

@@ -9,7 +9,6 @@ use Rattle.encoding.proofs.Decoded.{decode-inputCount}
 use Rattle.encoding.proofs.Readers.{whole-parts}
 use Rattle.decide.proofs.Legible.{whole-ready}
 use Rattle.verdict.proofs.Counting.{few-settings}
-use Rattle.verdict.proofs.GroupOrder.{ordered-visits}
 use Rattle.cover.proofs.Flags.{tabulated}
 use borrow.Author.Needs.{needs}
 use Rattle.cover.proofs.table.tabulate.Statement.{statement}
@@ -82,7 +81,7 @@ fill-settled-requires c κs =
     let valueRoom : m .result ≤ length (s .args .values .now) = omega (arith, m .ensures, whole .fewGates, s .pre .1 .valueRoom) in
     let few : 2 ^ n .result ≤ 1024 = few-settings (n .result) (omega (arith, n .ensures, whole .fewInputs)) in (
       whole-ready (s .args .words .now) (n .result) (m .result) (c .before .before .before .before .before .before .before .before .gates-at .result) _ _ _ (s .pre .0) (n .ensures) (m .ensures) (c .before .before .before .before .before .before .before .before .gates-at .ensures)
-          (ordered-visits (s .args .words .now) (m .result) (s .args .order .now) _ (s .pre .0) (m .ensures) (e .ensures))
+          (rw (m .ensures) (e .ensures))
           (length-take-le (n .result) (s .args .inputs .now) inputRoom) (length-take-le (m .result) (s .args .values .now) valueRoom),
       omega (arith, few, s .pre .1 .settledRoom),
     )

@@ -1,8 +1,8 @@
--- `schedule::order::order_gates` meets its contract: there is room for the 1,024 gates that a block may have. Assumes nothing.
+-- `visiting::order_gates` meets its contract: there is room for the 1,024 gates that a block may have. Assumes nothing.
 use Rattle.encoding.proofs.Readers.{whole-parts}
 use borrow.Author.Needs.{needs}
-use Rattle.schedule.proofs.order.order_gates.Statement.{statement}
-use Rattle.schedule.proofs.order.order_gates.Tie as tie
+use Rattle.visiting.proofs.order_gates.Statement.{statement}
+use Rattle.visiting.proofs.order_gates.Tie as tie
 
 slice-aggregate-order-with : tie.Need-slice-aggregate-order-with
 slice-aggregate-order-with c = search needs
