@@ -12,7 +12,7 @@ use Rattle.netlist.specs.declared.Refusal.{Refusal}
 use Rattle.netlist.specs.Writing.{decimal}
 use Rattle.netlist.specs.Answers.{refused, refusalNumber, refusalDetail}
 use Rattle.netlist.specs.Program.{refusalLine, shown}
-use Rattle.writing.specs.Pieces.{Appended, Short}
+use Rattle.writing.specs.Pieces.{Appended}
 use Rattle.writing.proofs.DecimalLaws.{decimal-one, decimal-more}
 use Rattle.reading.proofs.ListFacts.{stored-front}
 use Rattle.convert.specs.Shown.{maxLine, Shown}
@@ -42,9 +42,6 @@ module _ {number detail : ℕ} (n : number < 18446744073709551616) (d : detail <
   line-length : length (toldLine number detail) ≤ 52
   unfolding toldLine
   line-length = simp length-append (omega (arith, number-short number n, number-short detail d))
-
-  pub told-short : Short (toldLine number detail) 0
-  told-short = record { small = omega (arith, line-length) }
 
 pub line-told : (r : Refusal) (entry exit : List ℕ) (end : ℕ) {number detail : ℕ} → maxLine ≤ length entry → number ≡ refusalNumber r → detail ≡ refusalDetail r
     → number < 18446744073709551616 → detail < 18446744073709551616 → Appended (toldLine number detail) entry 0 exit end → Shown (refused r) entry exit end
