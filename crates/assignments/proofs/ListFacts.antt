@@ -11,7 +11,7 @@ use lib.ListN.{length, getD, length-append, List·getD-append}
 use lib.Seq.{getD-at}
 use Rattle.laws.specs.Lists.{all, any, keep, upTo}
 use Rattle.laws.proofs.Tests.{eq-or-ne, lt-or-le, not-both, not-true-false}
-use Rattle.laws.proofs.Quantifiers.{all-below, below-all}
+use Rattle.laws.proofs.Quantifiers.{all-below}
 use Rattle.laws.proofs.Lists.{keep-append}
 pub use Rattle.laws.proofs.Tab.{placed-tab as placed-at}
 
@@ -68,11 +68,6 @@ module _ {A B : Type 0} where
           → cond b (g x ∷ keep p (map g xs)) (keep p (map g xs)) ≡ map g (cond b (x ∷ keep (λ x. p (g x)) xs) (keep (λ x. p (g x)) xs))
       go true e = ap (λ (r : List B). g x ∷ r) e
       go false e = e
-
--- a test that holds below i and at i holds below i + 1
-pub all-next : (p : ℕ → Bool) (i : ℕ) → all p (upTo i) ≡ true → p i ≡ true → all p (upTo (i + 1)) ≡ true
-all-next p i h e =
-    below-all p (i + 1) (λ j l. ⊎-elim (λ (q : j ≡ i). rw q e) (λ (ne : j ≡ i → ⊥). all-below p i j h (omega arith)) (eq-or-ne j i))
 
 -- a test that fails at some number does not hold of all
 pub all-fails : (p : ℕ → Bool) (n i : ℕ) → i < n → p i ≡ false → all p (upTo n) ≡ false

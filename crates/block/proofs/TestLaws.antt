@@ -3,19 +3,15 @@ use mathlib.Core.Path.{_≡_, sym, _∙_}
 use mathlib.Core.Bool.{Bool, true, false, not}
 use Prim.Native.Nat.{ℕ, _+_, _≤_, _<_}
 use native.Mathlib.Nat.{le-antisymm}
-use native.Mathlib.Numerals.{add-one}
 use borrow.Author.Tests.{not-true, not-false}
 use Rattle.laws.specs.Lists.{all, upTo}
 use Rattle.laws.proofs.Tests.{not-both, not-true-false}
-use Rattle.laws.proofs.Quantifiers.{all-append, all-below}
+use Rattle.laws.proofs.Quantifiers.{all-below, all-next}
 
 module _ (p : ℕ → Bool) where
   -- one number more passes
-  pub passes-one : (i : ℕ) → all p (upTo i) ≡ true → p i ≡ true → all p (upTo (i + 1)) ≡ true
-  passes-one i h e = rw (add-one, all-append, h, e)
-
   pub passes : {r : Bool} (i : ℕ) → all p (upTo i) ≡ true → r ≡ p i → not r ≡ false → all p (upTo (i + 1)) ≡ true
-  passes {r} i h e t = passes-one i h (sym e ∙ not-false r t)
+  passes {r} i h e t = all-next p i h (sym e ∙ not-false r t)
 
   -- one number fails
   pub fails-one : (n i : ℕ) → i < n → p i ≡ false → false ≡ all p (upTo n)

@@ -8,13 +8,13 @@ use native.Mathlib.Omega.{arith}
 use lib.ListN.{length, length-append}
 use Rattle.laws.specs.Lists.{ascii, placed}
 use Rattle.laws.proofs.Tests.{lt-or-le}
+use Rattle.laws.proofs.Slices.{sets-placed}
 use Rattle.netlist.specs.declared.Refusal.{Refusal}
 use Rattle.netlist.specs.Writing.{decimal}
 use Rattle.netlist.specs.Answers.{refused, refusalNumber, refusalDetail}
 use Rattle.netlist.specs.Program.{refusalLine, shown}
 use Rattle.writing.specs.Pieces.{Appended}
 use Rattle.writing.proofs.DecimalLaws.{decimal-one, decimal-more}
-use Rattle.reading.proofs.ListFacts.{stored-front}
 use Rattle.convert.specs.Shown.{maxLine, Shown}
 
 -- a number below 10 ^ (k + 1) has at most k + 1 digits
@@ -49,6 +49,6 @@ unfolding shown refusalLine toldLine
 line-told r entry exit end {number} {detail} room e f n d a =
     let is : toldLine number detail ≡ refusalLine r = rw (e, f) refl in
     record {
-      textIs = a .textIs ∙ stored-front (toldLine number detail) entry (omega (arith, line-length n d, room)) ∙ ap (λ (l : List ℕ). placed l entry) is;
+      textIs = a .textIs ∙ sets-placed (toldLine number detail) entry (omega (arith, line-length n d, room)) ∙ ap (λ (l : List ℕ). placed l entry) is;
       countIs = a .endIs ∙ rw (zero-add) (ap length is);
     }

@@ -9,6 +9,7 @@ use lib.Seq.{sets, take-take, take-at, getD-take}
 use Rattle.laws.specs.Lists.{all, tab, joined, sum}
 use Rattle.laws.proofs.Tests.{and-left, and-right}
 use Rattle.laws.proofs.Tab.{length-tab, tab-ext, tab-getD, map-tab}
+use Rattle.laws.proofs.Stores.{sets-append, length-joined-tab}
 use Rattle.netlist.specs.Netlist.{Name, gateCount, outputCount}
 use Rattle.netlist.specs.StoredBlock.{plainName, nameWords, gateWords, outputWords, gatesAt, outputsAt, encode}
 use Rattle.netlist.specs.Syntax.{name, apply, GateLine, Tree, legalTree, print, printInput, printGate}
@@ -26,10 +27,9 @@ use Rattle.names.proofs.TreeTable.{declared-length}
 use Rattle.terms.specs.Ports.{portWords}
 use Rattle.terms.proofs.PortNames.{port-words}
 use Rattle.terms.proofs.Closings.{gates-count}
-use Rattle.terms.proofs.ListFacts.{sets-append}
 use Rattle.reading.specs.Words.{nameOf, wordOf, blockWords, wordCount}
 use Rattle.reading.specs.Steps.{WriteReady}
-use Rattle.reading.proofs.ListFacts.{placed-front, length-joined-tab}
+use Rattle.reading.proofs.ListFacts.{placed-front}
 
 -- ---- the number of gates
 

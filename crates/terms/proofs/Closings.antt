@@ -21,8 +21,8 @@ use Rattle.terms.specs.declared.Listed.{Listed}
 use Rattle.terms.specs.Leaves.{earlier, nameLength, indexHere, nameHere, constantHere, leafHere}
 use Rattle.terms.specs.Walk.{Ends, leftOf, declaredNames, unknownAfter, wordsOf, Table, TermAt, TermDone, TermsDone}
 use Rattle.laws.proofs.Tab.{map-append}
+use Rattle.laws.proofs.Stores.{sets-append}
 use Rattle.names.proofs.ListFacts.{joined-append}
-use Rattle.terms.proofs.ListFacts.{sets-append}
 use Rattle.terms.proofs.Fronts.{earlier-none, earlier-assoc, leaf-name}
 use Rattle.terms.proofs.Lookups.{front-back, numbersOf, nodesOf, looked}
 use Rattle.terms.proofs.Openings.{name-begins}

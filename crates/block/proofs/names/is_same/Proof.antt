@@ -4,8 +4,9 @@ use mathlib.Core.Bool.{true, false}
 use Prim.Native.Nat.{_≤_, _-_}
 use borrow.Author.Needs.{needs}
 use Rattle.laws.specs.Lists.{all, upTo}
+use Rattle.laws.proofs.Quantifiers.{all-next}
 use borrow.Author.Tests.{eq-eqb, ne-eqb}
-use Rattle.block.proofs.TestLaws.{passes-one, fails-one, passed}
+use Rattle.block.proofs.TestLaws.{fails-one, passed}
 use Rattle.block.specs.Steps.{sameWord}
 use Rattle.encoding.specs.Rules.{sameName}
 use Rattle.block.proofs.names.is_same.Statement.{statement}
@@ -51,7 +52,7 @@ loop-again c =
     let a = c .before .before .before .before .before .before .args in
     let l = c .before .before .before .before .loop in
     let e : sameWord (a .words .now) (a .at) (a .other) (l .i) ≡ true = rw (← c .before .before .word-at .ensures, ← c .before .word-at2 .ensures) (eq-eqb _ _ (c .if1 .left)) in
-    (search needs, passes-one (sameWord (a .words .now) (a .at) (a .other)) (l .i) (l .inv .1) e)
+    (search needs, all-next (sameWord (a .words .now) (a .at) (a .other)) (l .i) (l .inv .1) e)
 
 returns-2 : tie.Need-returns-2 Inv-loop μ-loop
 unfolding sameName
