@@ -1,7 +1,7 @@
 -- The numbering loop follows document 01's rule. Cited by `number_groups`. Assumes nothing.
 use mathlib.Core.Path.{_≡_, refl, sym, ap, _∙_}
 use mathlib.Core.Logic.{⊎-elim}
-use mathlib.Core.Bool.{Bool, true, false, cond, not, and-false}
+use mathlib.Core.Bool.{Bool, true, false, cond, not, and-false, Bool·not-not}
 use mathlib.Core.List.{List, []}
 use Prim.Native.Nat.{ℕ, _≤_, _<_}
 use native.Mathlib.Nat.{le-antisymm}
@@ -73,12 +73,8 @@ module _ {ws : List ℕ} {n m gates g : ℕ} {leaders numbers : List ℕ} (s : S
 
   -- the gates with a number are those of the first g groups
   same-done : (k : ℕ) → member k (numberedGates m numbers) ≡ member k done
-  same-done k = ⊎-elim (λ l. done-member m numbers k l ∙ ap not (left k l) ∙ not-not (member k done)) (λ ge. none ge ∙ sym (outside-done ge)) (lt-or-le k m)
+  same-done k = ⊎-elim (λ l. done-member m numbers k l ∙ ap not (left k l) ∙ Bool·not-not (member k done)) (λ ge. none ge ∙ sym (outside-done ge)) (lt-or-le k m)
     where
-      not-not : (t : Bool) → not (not t) ≡ t
-      not-not true = refl
-      not-not false = refl
-
       none : m ≤ k → member k (numberedGates m numbers) ≡ false
       none ge = not-true-false (member k (numberedGates m numbers)) (λ t. let lt : k < m = done-below m numbers k t in omega arith)
 

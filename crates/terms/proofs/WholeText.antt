@@ -2,7 +2,7 @@
 -- Assumes nothing.
 use mathlib.Core.Path.{_≡_, refl, sym, ap, _∙_}
 use mathlib.Core.Bool.{true}
-use mathlib.Core.List.{List, [], _∷_, _++_, map, append-assoc}
+use mathlib.Core.List.{List, [], _∷_, _++_, map, append-assoc, map-append, map-map}
 use Prim.Native.Nat.{ℕ, suc, _+_, _-_, _*_, _≤_}
 use native.Mathlib.Omega.{arith}
 use lib.ListN.{length, take, drop, length-map, length-append}
@@ -22,7 +22,6 @@ use Rattle.grammar.proofs.Places.{printInput-split, printGate-split, lines-spli
 use Rattle.names.specs.Packed.{packed}
 use Rattle.names.specs.declared.Counts.{Counts}
 use Rattle.names.specs.Results.{treeCounts, declared, packedNames, nodeWords}
-use Rattle.names.proofs.ListFacts.{map-append, map-map}
 use Rattle.names.proofs.TreeLines.{legal-parts}
 use Rattle.names.proofs.TreeCounts.{WithinLimits, limits-within, sum-none, named-le}
 use Rattle.names.proofs.TreeTable.{bindings-length}
@@ -87,7 +86,7 @@ module _ (t : Tree) (text : List ℕ) (c : Counts) (names words : List ℕ) (w :
       rw node-count
       (sym (take-take (length (declaredNodes t)) (length (declared t)) names h) ∙ ap (take (length (declaredNodes t))) (w .numbersAre ∙ map-append f (declaredNodes t) (declaredPorts t))
       ∙ take-at (map f (declaredNodes t)) (map f (declaredPorts t)) (length (declaredNodes t)) (length-map (declaredNodes t) f)
-      ∙ map-map packed (λ (d : Mention). d .name) (declaredNodes t) ∙ ap (map packed) (sym (bound-names t)) ∙ sym (map-map packed (λ (b : Binding). b .name) (bindings t)))
+      ∙ sym (map-map packed (λ (d : Mention). d .name) (declaredNodes t)) ∙ ap (map packed) (sym (bound-names t)) ∙ map-map packed (λ (b : Binding). b .name) (bindings t))
 
   node-values : take (c .inputs + c .named) words ≡ map (λ (b : Binding). nodeWord (length (t .inputs)) (b .node)) (bindings t)
   unfolding nodeWords
