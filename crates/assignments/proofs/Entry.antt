@@ -12,13 +12,13 @@ use lib.Pow.{pow-pos}
 use lib.ListN.{length, getD}
 use borrow.Author.Tests.{eq-eqb, ne-eqb}
 use Rattle.laws.proofs.Tests.{not-true-false}
+use Rattle.laws.proofs.Quantifiers.{all-not}
 use Rattle.netlist.specs.Limits.{maxInputs}
 use Rattle.netlist.specs.Rounds.{bit}
 use Rattle.netlist.specs.Cover.{Assignment, fixes, without, within}
 use Rattle.assignments.specs.Over.{masks, Legal}
 use Rattle.assignments.specs.Tables.{numberOf}
 use Rattle.assignments.specs.Entries.{pairAt, soundBy, neededBy, minimalBy, entryBy, Numbered, Weighed}
-use Rattle.assignments.proofs.ListFacts.{all-fails}
 use Rattle.assignments.proofs.Agree.{within-at, within-and, and-within}
 use Rattle.assignments.proofs.Numbers.{number-lt, number-weights, number-without, weight-lt}
 use Rattle.assignments.proofs.Bounds.{three-fits}
@@ -82,7 +82,7 @@ module _ {sound : List ℕ} {n fixed ones number : ℕ} (d : Numbered sound n fi
     pub not-minimal : getD sound (number + (2 - ones / 2 ^ i % 2) * power) 0 ≡ 1 → false ≡ minimalBy sound n entry
     unfolding minimalBy
     not-minimal e =
-        sym (all-fails (neededBy sound n entry) n i l (needed-is ∙ rw (eq-eqb (getD sound (number + (2 - ones / 2 ^ i % 2) * power) 0) 1 e)))
+        sym (all-not (neededBy sound n entry) n i l (needed-is ∙ rw (eq-eqb (getD sound (number + (2 - ones / 2 ^ i % 2) * power) 0) 1 e)))
 
 -- `is_entry`, at pair number q of masks of n bits
 pub record Pair (sound : List ℕ) (n q fixed ones : ℕ) : Type 0 where

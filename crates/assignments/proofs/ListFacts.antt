@@ -9,9 +9,8 @@ use native.Mathlib.Nat.{not-suc-le-zero}
 use native.Mathlib.Omega.{arith}
 use lib.ListN.{length, getD, length-append, List·getD-append}
 use lib.Seq.{getD-at}
-use Rattle.laws.specs.Lists.{all, any, keep, upTo}
-use Rattle.laws.proofs.Tests.{eq-or-ne, lt-or-le, not-both, not-true-false}
-use Rattle.laws.proofs.Quantifiers.{all-below, below-all}
+use Rattle.laws.specs.Lists.{any, keep, upTo}
+use Rattle.laws.proofs.Tests.{eq-or-ne, lt-or-le, not-both}
 use Rattle.laws.proofs.Lists.{keep-append}
 pub use Rattle.laws.proofs.Tab.{placed-tab as placed-at}
 
@@ -68,15 +67,6 @@ module _ {A B : Type 0} where
           → cond b (g x ∷ keep p (map g xs)) (keep p (map g xs)) ≡ map g (cond b (x ∷ keep (λ x. p (g x)) xs) (keep (λ x. p (g x)) xs))
       go true e = ap (λ (r : List B). g x ∷ r) e
       go false e = e
-
--- a test that holds below i and at i holds below i + 1
-pub all-next : (p : ℕ → Bool) (i : ℕ) → all p (upTo i) ≡ true → p i ≡ true → all p (upTo (i + 1)) ≡ true
-all-next p i h e =
-    below-all p (i + 1) (λ j l. ⊎-elim (λ (q : j ≡ i). rw q e) (λ (ne : j ≡ i → ⊥). all-below p i j h (omega arith)) (eq-or-ne j i))
-
--- a test that fails at some number does not hold of all
-pub all-fails : (p : ℕ → Bool) (n i : ℕ) → i < n → p i ≡ false → all p (upTo n) ≡ false
-all-fails p n i l e = not-true-false (all p (upTo n)) (λ h. not-both (all-below p n i h l) e)
 
 -- the numbers below a bound that pass a test
 module _ (q : ℕ → Bool) where

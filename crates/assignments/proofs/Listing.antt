@@ -2,15 +2,15 @@
 use mathlib.Core.Path.{_≡_, refl, sym, ap, _∙_}
 use mathlib.Core.Bool.{true, false}
 use mathlib.Core.List.{List, [], _∷_, _++_, map, append-nil, append-assoc, map-append}
-use Prim.Native.Nat.{ℕ, suc, _+_, _-_, _*_, _/_, _%_, _^_, _≤_, _<_}
+use Prim.Native.Nat.{ℕ, _+_, _-_, _*_, _/_, _%_, _^_, _≤_, _<_}
 use native.Mathlib.Numerals.{add-one}
 use native.Mathlib.Omega.{arith}
-use lib.ListN.{length, getD, drop, set, length-append, length-set, length-map}
+use lib.ListN.{length, set, length-append, length-set, length-map}
 use borrow.Author.Tests.{le-leb, lt-leb}
-use lib.Seq.{set-at, drop-cons}
 use Rattle.laws.specs.Lists.{keep, upTo, joined, placed, tab}
 use Rattle.laws.proofs.Tab.{length-tab, tab-add}
 use Rattle.laws.proofs.Lists.{joined-append, keep-append}
+use Rattle.laws.proofs.Slices.{set-placed}
 use Rattle.netlist.specs.Cover.{Assignment}
 use Rattle.assignments.specs.Entries.{pairAt, entryBy, entriesBelow, entriesBy, EntriesWritten}
 use Rattle.assignments.specs.Over.{wordsOf}
@@ -55,12 +55,6 @@ pub length-words : (xs : List Assignment) → length (wordsOf xs) ≡ 2 * length
 unfolding wordsOf
 length-words [] = refl
 length-words (x ∷ xs) = let i : length (wordsOf xs) ≡ 2 * length xs = length-words xs in omega arith
-
--- the next element behind those placed
-set-placed : (xs entry : List ℕ) (v : ℕ) → length xs < length entry → set (placed xs entry) (length xs) v ≡ placed (xs ++ (v ∷ [])) entry
-set-placed xs entry v l =
-    rw (drop-cons entry (length xs) v l, set-at xs (getD entry (length xs) v) (drop (suc (length xs)) entry) v (length xs) refl)
-    (rw (append-assoc xs (v ∷ []) (drop (length (xs ++ (v ∷ []))) entry), length-append xs (v ∷ []), add-one (length xs)))
 
 -- the entries among the first q pairs are written
 pub record Written (sound entry out : List ℕ) (n q pairs at : ℕ) : Type 0 where
@@ -125,7 +119,7 @@ module _ {sound entry out : List ℕ} {n q pairs at : ℕ} (w : Written sound en
         let a : length so-far ≡ at = at-words in
         let c : length (entriesBelow sound n (q + 1)) ≡ length (entriesBelow sound n q) + 1 = count-add sound n q e in
         let first : set out at (q / 2 ^ n) ≡ placed (so-far ++ (q / 2 ^ n ∷ [])) entry =
-        rw (w .words, ← a) (set-placed so-far entry (q / 2 ^ n) (omega arith)) in
+        rw (w .words, ← a) (set-placed so-far entry (length so-far) (q / 2 ^ n) refl (omega arith)) in
         let here : length (so-far ++ (q / 2 ^ n ∷ [])) ≡ at + 1 = length-append so-far (q / 2 ^ n ∷ []) ∙ omega arith in
         record {
           within = omega arith;
@@ -133,7 +127,7 @@ module _ {sound entry out : List ℕ} {n q pairs at : ℕ} (w : Written sound en
           same-length = simp length-set (w .same-length);
           at-is = omega (arith, w .at-is);
           words =
-              rw (first, o, ← here) (set-placed (so-far ++ (q / 2 ^ n ∷ [])) entry (q % 2 ^ n) (rw here (omega arith)))
+              rw (first, o, ← here) (set-placed (so-far ++ (q / 2 ^ n ∷ [])) entry (length (so-far ++ (q / 2 ^ n ∷ []))) (q % 2 ^ n) refl (rw here (omega arith)))
               ∙ ap (λ (xs : List ℕ). placed xs entry) (sym next-words);
         }
 

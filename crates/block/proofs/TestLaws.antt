@@ -3,26 +3,18 @@ use mathlib.Core.Path.{_≡_, sym, _∙_}
 use mathlib.Core.Bool.{Bool, true, false, not}
 use Prim.Native.Nat.{ℕ, _+_, _≤_, _<_}
 use native.Mathlib.Nat.{le-antisymm}
-use native.Mathlib.Numerals.{add-one}
 use borrow.Author.Tests.{not-true, not-false}
 use Rattle.laws.specs.Lists.{all, upTo}
-use Rattle.laws.proofs.Tests.{not-both, not-true-false}
-use Rattle.laws.proofs.Quantifiers.{all-append, all-below}
+use Rattle.laws.proofs.Quantifiers.{all-next, all-not}
 
 module _ (p : ℕ → Bool) where
   -- one number more passes
-  pub passes-one : (i : ℕ) → all p (upTo i) ≡ true → p i ≡ true → all p (upTo (i + 1)) ≡ true
-  passes-one i h e = rw (add-one, all-append, h, e)
-
   pub passes : {r : Bool} (i : ℕ) → all p (upTo i) ≡ true → r ≡ p i → not r ≡ false → all p (upTo (i + 1)) ≡ true
-  passes {r} i h e t = passes-one i h (sym e ∙ not-false r t)
+  passes {r} i h e t = all-next p i h (sym e ∙ not-false r t)
 
   -- one number fails
-  pub fails-one : (n i : ℕ) → i < n → p i ≡ false → false ≡ all p (upTo n)
-  fails-one n i l e = sym (not-true-false (all p (upTo n)) (λ h. not-both (all-below p n i h l) e))
-
   pub fails : {r : Bool} (n i : ℕ) → i < n → r ≡ p i → not r ≡ true → false ≡ all p (upTo n)
-  fails {r} n i l e t = fails-one n i l (sym e ∙ not-true r t)
+  fails {r} n i l e t = sym (all-not p n i l (sym e ∙ not-true r t))
 
   -- all have passed
   pub passed : (n i : ℕ) → i ≤ n → n ≤ i → all p (upTo i) ≡ true → true ≡ all p (upTo n)

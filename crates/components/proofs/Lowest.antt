@@ -6,38 +6,31 @@ use mathlib.Core.List.{List, _++_}
 use Prim.Native.Nat.{ℕ, _+_, _-_, _≤_, _<_}
 use native.Mathlib.Nat.{not-suc-le-zero}
 use native.Mathlib.Omega.{arith}
-use lib.ListN.{length, getD, set, drop, replicate, length-set, length-append, length-drop, length-replicate, getD-replicate, List·getD-append}
-use lib.Seq.{getD-set-same, getD-set-other, getD-append-add, getD-drop, ext-getD}
+use lib.ListN.{length, getD, set, drop, replicate, length-append, length-drop, length-replicate, getD-replicate, List·getD-append}
+use lib.Seq.{getD-set-same, getD-set-other, ext-getD}
 use lib.Dec.{eqb}
 use borrow.Author.Tests.{eqb-true, eq-eqb, ne-eqb}
 use Rattle.laws.specs.Lists.{tab, placed, least}
 use Rattle.laws.proofs.Tests.{bool-cases, same-test, not-both, and-left, and-right, eq-or-ne, lt-or-le, not-true-false}
 use Rattle.laws.proofs.Least.{least-is, least-le, least-below, least-at}
 use Rattle.laws.proofs.Tab.{placed-tab, length-tab}
+use Rattle.laws.proofs.Slices.{length-placed, getD-past}
 use Rattle.netlist.specs.Netlist.{Block, gateCount}
-use Rattle.netlist.specs.StoredBlock.{decode}
 use Rattle.netlist.specs.Groups.{sameGroup}
 use Rattle.reach.proofs.SameGroup.{sameGroup-refl, sameGroup-sym, sameGroup-trans, sameGroup-below}
-use Rattle.components.specs.Leaders.{noLeader, leaderOf, Grouped, LeadReady, givenBy, GroupLed, takenAt, AllLed, firstLike, FirstLed, LowerReady}
+use Rattle.components.specs.Leaders.{noLeader, leaderOf, Grouped, givenBy, GroupLed, takenAt, AllLed, firstLike, FirstLed, LowerReady}
 
 -- ---- slices
-
--- an element past what is placed
-past : (xs : List ℕ) (m : ℕ) (entry : List ℕ) → length xs ≡ m → (k : ℕ) → m ≤ k → getD (xs ++ drop m entry) k 0 ≡ getD entry k 0
-past xs m entry len k h =
-    let e : m + (k - m) ≡ k = omega arith in
-    let t : getD (xs ++ drop m entry) (length xs + (k - m)) 0 ≡ getD (drop m entry) (k - m) 0 = getD-append-add xs (drop m entry) (k - m) 0 in
-    (rw (len, e) at t) ∙ getD-drop m entry (k - m) 0 ∙ rw e refl
 
 -- a slice is known by its first m elements and the rest
 placed-is : (f : ℕ → ℕ) (m : ℕ) (entry slice : List ℕ) → m ≤ length entry → length slice ≡ length entry → ((k : ℕ) → k < m → getD slice k 0 ≡ f k) → ((k : ℕ) → m ≤ k → getD slice k 0 ≡ getD entry k 0) → slice ≡ placed (tab f m) entry
 placed-is f m entry slice room len first rest = ext-getD 0 slice (placed (tab f m) entry) lengths (λ k l. ⊎-elim (λ h. first k h ∙ sym (placed-tab f m entry k 0 h)) (λ h. rest k h ∙ sym (behind k h)) (lt-or-le k m))
   where
     lengths : length slice ≡ length (placed (tab f m) entry)
-    lengths = len ∙ sym (rw (length-append, length-drop, length-tab f m) (omega arith))
+    lengths = len ∙ sym (length-placed (tab f m) entry (rw (length-tab f m) room))
 
     behind : (k : ℕ) → m ≤ k → getD (placed (tab f m) entry) k 0 ≡ getD entry k 0
-    behind k h = rw (length-tab f m) (past (tab f m) m entry (length-tab f m) k h)
+    behind k h = rw (length-tab f m) (getD-past (tab f m) entry m k 0 (length-tab f m) h)
 
 -- ---- turns
 
@@ -124,7 +117,7 @@ module _ (b : Block) (m : ℕ) (gatesAre : m ≡ gateCount b) (few : m ≤ 1024)
         sameLength = s .sameLength ∙ rw (length-append, length-replicate {A = ℕ} m noLeader, length-drop) (omega arith);
         grouped = s .grouped;
         led = λ j jl. subst (λ (k : ℕ). getD leaders k 0 ≡ noLeader → ⊥) (taken-back downward j jl) (s .led (takenAt downward m j) (omega (arith, taken-below downward j jl)));
-        rest = λ k h. s .rest k h ∙ past (replicate m noLeader) m entry (length-replicate {A = ℕ} m noLeader) k h;
+        rest = λ k h. s .rest k h ∙ getD-past (replicate m noLeader) entry m k 0 (length-replicate {A = ℕ} m noLeader) h;
       }
 
 -- ---- the first gate that has a leader
@@ -183,7 +176,7 @@ module _ {leaders : List ℕ} {m k : ℕ} {firsts : List ℕ} (f : Firsts leader
 
 -- a gate whose turn is still to come
 pub still-there : (f : ℕ → ℕ) (k : ℕ) (entry slice : List ℕ) → slice ≡ placed (tab f k) entry → getD slice k 0 ≡ getD entry k 0
-still-there f k entry slice e = rw (e, length-tab f k) (past (tab f k) k entry (length-tab f k) k (omega arith))
+still-there f k entry slice e = rw (e, length-tab f k) (getD-past (tab f k) entry k k 0 (length-tab f k) (omega arith))
 
 -- what is found is not above the gate
 pub first-le : (leaders : List ℕ) (k : ℕ) → firstLike leaders k ≤ k
@@ -233,4 +226,4 @@ module _ {b : Block} {m : ℕ} {entry leaders : List ℕ} (gatesAre : m ≡ gate
   lowest-led {final} room e =
       placed-is (leaderOf b) m entry final room (rw (e, length-append, length-drop, length-tab (firstLike leaders) m) (omega (arith, a .sameLength)))
       (λ k kl. rw e (placed-tab (firstLike leaders) m leaders k 0 kl) ∙ first-leads k kl)
-      (λ k h. rw e (rw (length-tab (firstLike leaders) m) (past (tab (firstLike leaders) m) m leaders (length-tab (firstLike leaders) m) k h)) ∙ a .rest k h)
+      (λ k h. rw e (rw (length-tab (firstLike leaders) m) (getD-past (tab (firstLike leaders) m) leaders m k 0 (length-tab (firstLike leaders) m) h)) ∙ a .rest k h)

@@ -8,13 +8,13 @@ use native.Mathlib.Omega.{arith}
 use lib.ListN.{length, length-append}
 use Rattle.laws.specs.Lists.{ascii, placed}
 use Rattle.laws.proofs.Tests.{lt-or-le}
+use Rattle.laws.proofs.Slices.{sets-placed}
 use Rattle.netlist.specs.declared.Refusal.{Refusal}
 use Rattle.netlist.specs.Writing.{decimal}
 use Rattle.netlist.specs.Answers.{refused, refusalNumber, refusalDetail}
 use Rattle.netlist.specs.Program.{refusalLine, shown}
-use Rattle.writing.specs.Pieces.{Appended, Short}
+use Rattle.writing.specs.Pieces.{Appended}
 use Rattle.writing.proofs.DecimalLaws.{decimal-one, decimal-more}
-use Rattle.reading.proofs.ListFacts.{stored-front}
 use Rattle.convert.specs.Shown.{maxLine, Shown}
 
 -- a number below 10 ^ (k + 1) has at most k + 1 digits
@@ -43,15 +43,12 @@ module _ {number detail : ℕ} (n : number < 18446744073709551616) (d : detail <
   unfolding toldLine
   line-length = simp length-append (omega (arith, number-short number n, number-short detail d))
 
-  pub told-short : Short (toldLine number detail) 0
-  told-short = record { small = omega (arith, line-length) }
-
 pub line-told : (r : Refusal) (entry exit : List ℕ) (end : ℕ) {number detail : ℕ} → maxLine ≤ length entry → number ≡ refusalNumber r → detail ≡ refusalDetail r
     → number < 18446744073709551616 → detail < 18446744073709551616 → Appended (toldLine number detail) entry 0 exit end → Shown (refused r) entry exit end
 unfolding shown refusalLine toldLine
 line-told r entry exit end {number} {detail} room e f n d a =
     let is : toldLine number detail ≡ refusalLine r = rw (e, f) refl in
     record {
-      textIs = a .textIs ∙ stored-front (toldLine number detail) entry (omega (arith, line-length n d, room)) ∙ ap (λ (l : List ℕ). placed l entry) is;
+      textIs = a .textIs ∙ sets-placed (toldLine number detail) entry (omega (arith, line-length n d, room)) ∙ ap (λ (l : List ℕ). placed l entry) is;
       countIs = a .endIs ∙ rw (zero-add) (ap length is);
     }

@@ -3,17 +3,16 @@ use mathlib.Core.Path.{_≡_, refl, sym, ap, _∙_}
 use mathlib.Core.List.{List}
 use Prim.Native.Nat.{ℕ, _≤_}
 use native.Mathlib.Omega.{arith}
-use lib.ListN.{length, take, drop}
-use lib.Seq.{take-at}
+use lib.ListN.{length, take}
 use borrow.Author.Tests.{le-ltb}
 use Rattle.laws.specs.Lists.{placed}
+use Rattle.laws.proofs.Slices.{placed-room, take-placed}
 use Rattle.netlist.specs.declared.Refusal.{Refusal}
 use Rattle.netlist.specs.declared.Answer.{Answer}
 use Rattle.netlist.specs.declared.Answer.the-variants.{Done, Refused}
 use Rattle.netlist.specs.Answers.{Outcome, done, refused, refuseIf, inRoom, answerOf, leftIn}
 use Rattle.netlist.specs.Operations.{reading, rendered, written}
 use Rattle.netlist.specs.Program.{chained, shown, unloop}
-use Rattle.reading.proofs.ListFacts.{placed-room}
 use Rattle.convert.specs.Shown.{Shown, Converted}
 
 -- the result fits, and the count is its length
@@ -70,7 +69,7 @@ module _ (o : Outcome) (a : Answer) (entry exit : List ℕ) (f : Fits (length en
             is = i;
             counts = g .1;
             within = g .0;
-            front = rw l (take-at result (drop (length result) entry) count (sym (g .1)));
+            front = rw l (take-placed result entry count (sym (g .1)));
             left = l;
           }
       go (refused s) q h = let z : _≡_ {A = ℕ} 0 1 = cc in absurd (omega arith)

@@ -10,8 +10,8 @@ use lib.ListN.{length, getD, set, length-set}
 use lib.Dec.{leb, ltb}
 use lib.Seq.{sets}
 use Rattle.laws.specs.Lists.{tab, joined}
+use Rattle.laws.proofs.Stores.{sets-joined-next}
 use Rattle.copying.specs.Words.{mappedWord, entryWord, entryWords, tableAfter, copyWords, copyAt, shownAt}
-use Rattle.copying.proofs.ListFacts.{sets-joined-next}
 
 -- The choice that both kinds of words make: inside a range, or not.
 between : {A : Type 0} (a x b : ℕ) (y z : A) → a ≤ x → x < b → cond (leb a x && ltb x b) y z ≡ y

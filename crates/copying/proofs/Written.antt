@@ -6,10 +6,12 @@ use mathlib.Core.List.{List, [], _∷_, _++_, map, map-append}
 use native.Mathlib.Nat.{zero-add, add-assoc}
 use native.Mathlib.Omega.{arith}
 use lib.ListN.{length, getD, set, take, drop, replicate, length-take, length-append, length-replicate}
-use lib.Seq.{sets, sets-eq, take-suc, take-length, length-take-le, getD-take}
+use lib.Seq.{sets, take-suc, take-length, length-take-le, getD-take}
 use Rattle.laws.specs.Lists.{tab, joined, placed}
 use Rattle.laws.proofs.Tab.{tab-ext, map-tab, length-tab}
-use Rattle.laws.proofs.Lists.{sets-sets, joined-snoc}
+use Rattle.laws.proofs.Lists.{joined-snoc}
+use Rattle.laws.proofs.Stores.{sets-append, length-joined-tab}
+use Rattle.laws.proofs.Slices.{sets-placed}
 use Rattle.netlist.specs.Netlist.{Operand, gate, constant, Gate, Output, Block, inputCount, gateCount, outputCount, gateOf}
 use Rattle.netlist.specs.StoredBlock.{gateSize, outputSize, gatesAt, outputsAt, nameWords, nameAt, nodeWord, gateWords, gateAt, outputWords, outputAt, encode, decode, torn}
 use Rattle.netlist.specs.Rendering.{schedule, noCopies, copiedOperand, copied, copies, newestAfter, lastCopies, rendering}
@@ -23,7 +25,6 @@ use Rattle.agreement.proofs.Copies.{length-noCopies, length-newestAfter, newest
 use Rattle.agreement.proofs.Schedule.{schedule-below}
 use Rattle.agreement.proofs.Block.{rendering-inputs, length-schedule-is, length-rendering-outputs}
 use Rattle.copying.specs.Words.{wordFrom, tableAfter, copyWords, copyAt, shownAt, Order, Ready}
-use Rattle.copying.proofs.ListFacts.{length-joined-tab}
 use Rattle.copying.proofs.Words.{length-tableAfter, length-copyAt}
 use Rattle.copying.proofs.Copied.{Stands, copy-words, shown-words, stands-none, stands-set}
 
@@ -165,19 +166,12 @@ unfolding encode
 encode-of b n t k names gates outputs en et ek en′ eg eo = rw (en′, eg, eo, ← en, ← et, ← ek) refl
 
 -- Lists stored one after the other, from the start.
-sets-at : (entry a b : List ℕ) (i : ℕ) → i ≡ length a → sets (sets entry 0 a) i b ≡ sets entry 0 (a ++ b)
-sets-at entry a b i e = ap (λ (p : ℕ). sets (sets entry 0 a) p b) (e ∙ sym (zero-add (length a))) ∙ sets-sets entry 0 a b
-
 four-sets : (entry a b c d : List ℕ) (i j k : ℕ) → i ≡ length a → j ≡ i + length b → k ≡ j + length c
     → sets (sets (sets (sets entry 0 a) i b) j c) k d ≡ sets entry 0 (a ++ b ++ c ++ d)
 four-sets entry a b c d i j k ei ej ek =
-    ap (λ (l : List ℕ). sets (sets l j c) k d) (sets-at entry a b i ei)
-    ∙ ap (λ (l : List ℕ). sets l k d) (sets-at entry (a ++ b) c j (rw (length-append a b) (omega arith)))
-    ∙ sets-at entry (a ++ b ++ c) d k (rw (length-append (a ++ b) c, length-append a b) (omega arith))
-
-sets-placed : (entry xs : List ℕ) → length xs ≤ length entry → sets entry 0 xs ≡ placed xs entry
-sets-placed entry xs l =
-    sets-eq xs entry 0 (rw (zero-add (length xs)) l) ∙ ap (λ (p : ℕ). xs ++ drop p entry) (zero-add (length xs))
+    ap (λ (l : List ℕ). sets (sets l j c) k d) (sets-append a entry 0 i b (omega arith))
+    ∙ ap (λ (l : List ℕ). sets l k d) (sets-append (a ++ b) entry 0 j c (rw (length-append a b) (omega arith)))
+    ∙ sets-append (a ++ b ++ c) entry 0 k d (rw (length-append (a ++ b) c, length-append a b) (omega arith))
 
 -- The numbers that the code computes with are small, and the slices long enough.
 pub record Sizes (ws : List ℕ) (n m k total : ℕ) (out : List ℕ) : Type 0 where
@@ -222,7 +216,7 @@ module _ (ws : List ℕ) (n m k : ℕ) (order : List ℕ) (total : ℕ) (newest 
       (ap (λ (p : ℕ). 3 + p) (sym (length-tab (wordFrom ws 3) (4 * n))))
       (ap (λ (p : ℕ). 3 + 4 * n + p) (sym (length-joined-tab (copyAt ws (3 + 4 * n) n m order table) 5 (length-copyAt ws (3 + 4 * n) n m order table) total)))
       ∙ ap (sets out 0) (sym encoded)
-      ∙ sets-placed out (encode (rendering (decode ws))) (r .room))
+      ∙ sets-placed (encode (rendering (decode ws))) out (r .room))
     where
       names : List ℕ
       names = tab (wordFrom ws 3) (4 * n)

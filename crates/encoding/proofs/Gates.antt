@@ -27,7 +27,7 @@ pub kind-small : (k : ℕ) → isKind k ≡ true → k ≤ 4
 unfolding isKind rows row
 kind-small k h = leb-true k 4 h
 
-most-four : (k : ℕ) → mostOperands k ≤ operandWords
+pub most-four : (k : ℕ) → mostOperands k ≤ operandWords
 unfolding mostOperands rowOf rows row isNot
 most-four zero = omega arith
 most-four (suc zero) = omega arith

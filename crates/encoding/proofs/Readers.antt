@@ -1,20 +1,19 @@
 -- What holds of a block that is not torn: of its words at a gate and at an output, and of the gates that its gates read. The parts themselves, for
 -- every list of words, are in Decoded. Cited by the crates that work on stored blocks. Assumes nothing.
-use mathlib.Core.Path.{_≡_, sym, ap, _∙_}
+use mathlib.Core.Path.{_≡_, sym, _∙_}
 use mathlib.Core.Logic.{_⊎_, inl, inr, ⊎-elim}
-use mathlib.Core.Bool.{true, false, _||_, false≢true}
-use mathlib.Core.List.{List, [], _∷_, map}
+use mathlib.Core.Bool.{true, false, _||_}
+use mathlib.Core.List.{List}
 use Prim.Native.Nat.{ℕ, _+_, _*_, _/_, _%_, _≤_, _<_}
-use native.Mathlib.Omega.{arith}
-use lib.ListN.{length, getD, List·getD-eq-default}
+use lib.ListN.{length, getD}
 use lib.Dec.{ltb, eqb}
 use borrow.Author.Tests.{ltb-true, eqb-true, not-false}
-use Rattle.laws.specs.Lists.{all, joined, member}
-use Rattle.laws.proofs.Tests.{and-left, and-right, or-cases, lt-or-le}
-use Rattle.laws.proofs.Quantifiers.{all-at, any-append}
+use Rattle.laws.proofs.Tests.{or-cases}
+use Rattle.laws.proofs.Quantifiers.{all-at}
+use Rattle.reach.proofs.Inside.{wellFormed-inside}
 use Rattle.netlist.specs.Kinds.{isKind, arityFits}
-use Rattle.netlist.specs.Netlist.{Operand, input, gate, constant, Gate, Output, Block, gateCount, outputCount, gateOf}
-use Rattle.netlist.specs.Groups.{gateOperand, readBy, reads}
+use Rattle.netlist.specs.Netlist.{Operand, Output, Block, gateCount, outputCount, gateOf}
+use Rattle.netlist.specs.Groups.{reads}
 use Rattle.netlist.specs.StoredBlock.{nameSize, gateSize, outputSize, operandWords, gatesAt, outputsAt, isNode, isOperand, gateFits, decode, wellFormed, torn}
 use Rattle.encoding.specs.Rules.{nodeRule, operandRule, gateRule, intact}
 use Rattle.encoding.proofs.Gates.{Unused, kind-small, arity-four, arity-not, arity-others, gateRule-kind, gateRule-arity, gateRule-operand, gateRule-unused, fits-operands}
@@ -94,31 +93,6 @@ module _ (b : Block) (h : wellFormed b ≡ true) where
   pub wellFormed-output : (o : ℕ) (d : Output) → o < outputCount b → isNode b (getD (b .outputs) o d .node) ≡ true
   wellFormed-output o d l = all-at (λ o. isNode b (o .node)) (b .outputs) o d (wellFormed-parts b h .nodesThere) l
 
--- the gates among operands that are there
-member-gates : (b : Block) (os : List Operand) (k : ℕ) → all (isOperand b) os ≡ true → member k (joined (map gateOperand os)) ≡ true → k < gateCount b
-unfolding gateOperand isOperand isNode
-member-gates b [] k h e = absurd (false≢true e)
-member-gates b (o ∷ os) k h e =
-    ⊎-elim (one o (and-left (isOperand b o) (all (isOperand b) os) h))
-    (member-gates b os k (and-right (isOperand b o) (all (isOperand b) os) h))
-    (or-cases (member k (gateOperand o)) (member k (joined (map gateOperand os))) (sym (any-append (eqb k) (gateOperand o) (joined (map gateOperand os))) ∙ e))
-  where
-    one : (o : Operand) → isOperand b o ≡ true → member k (gateOperand o) ≡ true → k < gateCount b
-    one (input i) p q = absurd (false≢true q)
-    one (constant c) p q = absurd (false≢true q)
-    one (gate j) p q =
-        let there : j < gateCount b = ltb-true j (gateCount b) p in
-        let same : k ≡ j = ⊎-elim (λ t. eqb-true k j t) (λ f. absurd (false≢true f)) (or-cases (eqb k j) false q) in omega arith
-
 -- a gate that is read is there
-pub wellFormed-reads : (b : Block) → wellFormed b ≡ true → (i k : ℕ) → reads b i k ≡ true → k < gateCount b
-unfolding reads readBy
-wellFormed-reads b h i k e =
-    ⊎-elim
-    (λ l. member-gates b (gateOf b i .operands) k (fits-operands b (gateOf b i) (wellFormed-gate b h i l)) e)
-    (λ l. absurd (false≢true (ap (λ (g : Gate). member k (joined (map gateOperand (g .operands)))) (sym (List·getD-eq-default (b .gates) noGate {n = i} l)) ∙ e)))
-    (lt-or-le i (gateCount b))
-
--- and so in words that are not torn
 pub whole-reads : (ws : List ℕ) → torn ws ≡ false → (i k : ℕ) → reads (decode ws) i k ≡ true → k < gateCount (decode ws)
-whole-reads ws h = wellFormed-reads (decode ws) (whole-wellFormed ws h)
+whole-reads ws h = wellFormed-inside (decode ws) (whole-wellFormed ws h)

@@ -11,8 +11,9 @@ use borrow.Author.Tests.{leb-true}
 use Rattle.laws.specs.Lists.{ascii, all, tab, upTo, sum}
 use Rattle.laws.proofs.Tab.{length-tab}
 use Rattle.laws.proofs.Lists.{sum-map-append}
+use Rattle.encoding.proofs.Gates.{most-four}
 use Rattle.netlist.specs.Limits.{maxName, maxGates}
-use Rattle.netlist.specs.Kinds.{isKind, mostOperands, keyword, isNot, rowOf, rows, row}
+use Rattle.netlist.specs.Kinds.{isKind, keyword, isNot, rowOf, rows, row}
 use Rattle.netlist.specs.Netlist.{Name, Operand, input, gate, constant, Output, Block, gateCount, gateOf}
 use Rattle.netlist.specs.StoredBlock.{nameByte, legalName, plainName, nodeName, isNode, isOperand, wellFormed}
 use Rattle.netlist.specs.Syntax.{printTerm, printTerms, printInput, printGate, printOutput, printLines, print}
@@ -55,10 +56,6 @@ names-few m le =
 keyword-short : (k : ℕ) → isKind k ≡ true → length (keyword k) ≤ 4
 unfolding keyword rowOf rows row isNot
 keyword-short = by-kind (λ k. length (keyword k) ≤ 4) (omega arith) (omega arith) (omega arith) (omega arith) (omega arith)
-
-operands-few : (k : ℕ) → isKind k ≡ true → mostOperands k ≤ 4
-unfolding mostOperands rowOf rows row isNot
-operands-few = by-kind (λ k. mostOperands k ≤ 4) (omega arith) (omega arith) (omega arith) (omega arith) (omega arith)
 
 inputs-length : (xs : List Name) (rest : List ℕ) → all plainName xs ≡ true
     → length (printLines printInput xs rest) ≤ 14 * length xs + length rest
@@ -111,7 +108,7 @@ module _ (b : Block) (w : WellFormed b) where
       let f = gate-facts b w j in
       let g = gateOf b j in
       let k = keyword-short (g .kind) (f .kindLegal) in
-      let m = operands-few (g .kind) (f .kindLegal) in
+      let m = most-four (g .kind) in
       let n = f .few in
       let s = terms-short (g .operands) (ascii "))\n" ++ rest) (f .fit) in
       simp length-append (omega arith)

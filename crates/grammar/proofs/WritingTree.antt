@@ -19,7 +19,7 @@ use Rattle.grammar.proofs.ListFacts.{and3}
 use Rattle.encoding.proofs.WellFormed.{WellFormed, wellFormed-parts}
 use Rattle.grammar.proofs.WritingNames.{gateName-legal}
 
-plain-node : (x : Name) → plainName x ≡ true → nodeName x ≡ true
+pub plain-node : (x : Name) → plainName x ≡ true → nodeName x ≡ true
 unfolding plainName nodeName legalName nameStart
 plain-node x h =
     let a = and3 (leb 1 (length x) && leb (length x) maxName) (letter (getD x 0 0)) (all nameByte x) h in

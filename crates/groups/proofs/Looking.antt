@@ -2,7 +2,7 @@
 -- `next_group`. Assumes nothing.
 use mathlib.Core.Path.{_≡_, refl, sym, _∙_}
 use mathlib.Core.Logic.{⊎-elim}
-use mathlib.Core.Bool.{Bool, true, false, not, _&&_, _||_, and-false}
+use mathlib.Core.Bool.{Bool, true, false, not, _&&_, and-false}
 use mathlib.Core.List.{List}
 use Prim.Native.Nat.{ℕ, _+_, _≤_, _<_}
 use native.Mathlib.Nat.{le-refl}
@@ -13,17 +13,13 @@ use lib.Seq.{getD-set-same, getD-set-other}
 use lib.Dec.{eqb, ltb}
 use borrow.Author.Tests.{eqb-true, eq-eqb, ne-eqb, ltb-true, lt-ltb, le-ltb, not-true, not-false}
 use Rattle.laws.specs.Lists.{member, least}
-use Rattle.laws.proofs.Tests.{bool-cases, and-left, and-right, and-intro, not-both, or-cases, eq-or-ne, not-true-false}
+use Rattle.laws.proofs.Tests.{bool-cases, and-left, and-right, and-intro, not-both, or-cases, eq-or-ne, not-true-false, or-neither}
 use Rattle.laws.proofs.Least.{least-is}
 use Rattle.netlist.specs.StoredBlock.{decode}
 use Rattle.netlist.specs.Groups.{mayBeNext}
 use Rattle.reach.proofs.Next.{mayBeNext-left}
 use Rattle.groups.specs.Numbering.{noNumber, unnumbered, obstacle, groupReads, outside, passed, numberedGates, leadsNext, Sought, Watching}
 use Rattle.groups.proofs.Leading.{done-member, waits, free}
-
-or-none : (a b : Bool) → a || b ≡ false → (a ≡ false) × (b ≡ false)
-or-none true b e = not-both refl e
-or-none false b e = (refl, e)
 
 -- a search upwards that has passed the numbers below j
 module _ (test : ℕ → Bool) (m j : ℕ) (none : (i : ℕ) → i < j → test i ≡ false) where
@@ -91,8 +87,8 @@ module _ {ws : List ℕ} {n m gates : ℕ} {leaders witnesses : List ℕ} (w : W
     not-passed : (unnumbered numbers j ≡ true) × (getD leaders j 0 ≡ j)
     unfolding passed
     not-passed =
-        let q = or-none (not (unnumbered numbers j)) _ (sym is ∙ looked) in
-        (not-false (unnumbered numbers j) (q .0), eqb-true (getD leaders j 0) j (not-false (eqb (getD leaders j 0) j) (or-none (not (eqb (getD leaders j 0) j)) _ (q .1) .0)))
+        let q = or-neither (not (unnumbered numbers j)) _ (sym is ∙ looked) in
+        (not-false (unnumbered numbers j) (q .0), eqb-true (getD leaders j 0) j (not-false (eqb (getD leaders j 0) j) (or-neither (not (eqb (getD leaders j 0) j)) _ (q .1) .0)))
 
     module _ (k : ℕ) (s : Sought (obstacle numbers leaders j) (groupReads ws n m gates leaders j m) m k) where
       pub look-free : m ≤ k → (true ≡ leadsNext (decode ws) m numbers leaders j) × Watching ws n m gates leaders witnesses

@@ -1,7 +1,7 @@
 -- The numbering loop follows document 01's rule. Cited by `number_groups`. Assumes nothing.
 use mathlib.Core.Path.{_≡_, refl, sym, ap, _∙_}
 use mathlib.Core.Logic.{⊎-elim}
-use mathlib.Core.Bool.{Bool, true, false, cond, not, and-false}
+use mathlib.Core.Bool.{Bool, true, false, cond, not, and-false, Bool·not-not}
 use mathlib.Core.List.{List, []}
 use Prim.Native.Nat.{ℕ, _≤_, _<_}
 use native.Mathlib.Nat.{le-antisymm}
@@ -26,9 +26,6 @@ use Rattle.reach.proofs.GroupNumber.{groupNumber-is, groupNumber-below, groupNu
 use Rattle.groups.specs.Numbering.{noNumber, unnumbered, numberedGates, leadsNext, numberUpTo, NumberReady}
 use Rattle.groups.proofs.Leading.{done-member, done-below, in-block, from-block, lead-le, lead-group}
 
-take-at : {A : Type 0} (t : ℕ) (xs : List A) (i : ℕ) (d : A) → i < t → getD (take t xs) i d ≡ getD xs i d
-take-at t xs i d l = getD-take t xs i d l
-
 module _ (b : Block) (inside : Inside b) where
   -- the gates of the first g groups are those with a number below g
   numbered-below : (g j : ℕ) → j < gateCount b → member j (joined (take g (groups b))) ≡ ltb (groupNumber b j) g
@@ -38,13 +35,13 @@ module _ (b : Block) (inside : Inside b) where
       forth h =
           let r : (h : ℕ) × (h < length (take g (groups b))) × (member j (getD (take g (groups b)) h []) ≡ true) = joined-member j (take g (groups b)) h in
           let lt : r .0 < g = omega (arith, r .1, rw (length-take g (groups b)) at (r .1)) in
-          let m : member j (getD (groups b) (r .0) []) ≡ true = rw (take-at g (groups b) (r .0) [] lt) at (r .2) in
+          let m : member j (getD (groups b) (r .0) []) ≡ true = rw (getD-take g (groups b) (r .0) [] lt) at (r .2) in
           lt-ltb (groupNumber b j) g (rw (groupNumber-is b j (r .0) m) lt)
 
       back : ltb (groupNumber b j) g ≡ true → member j (joined (take g (groups b))) ≡ true
       back h =
           let lt : groupNumber b j < g = ltb-true (groupNumber b j) g h in
-          member-joined j (take g (groups b)) (groupNumber b j) (rw (take-at g (groups b) (groupNumber b j) [] lt) (groupNumber-member b inside j l))
+          member-joined j (take g (groups b)) (groupNumber b j) (rw (getD-take g (groups b) (groupNumber b j) [] lt) (groupNumber-member b inside j l))
 
   -- the state of the numbers tells which gates are done
   open-is : (g : ℕ) (numbers : List ℕ) → gateCount b ≤ 1024 → ((j : ℕ) → j < gateCount b → getD numbers j 0 ≡ numberUpTo b g j) → (j : ℕ) → j < gateCount b → unnumbered numbers j ≡ not (member j (joined (take g (groups b))))
@@ -76,12 +73,8 @@ module _ {ws : List ℕ} {n m gates g : ℕ} {leaders numbers : List ℕ} (s : S
 
   -- the gates with a number are those of the first g groups
   same-done : (k : ℕ) → member k (numberedGates m numbers) ≡ member k done
-  same-done k = ⊎-elim (λ l. done-member m numbers k l ∙ ap not (left k l) ∙ not-not (member k done)) (λ ge. none ge ∙ sym (outside-done ge)) (lt-or-le k m)
+  same-done k = ⊎-elim (λ l. done-member m numbers k l ∙ ap not (left k l) ∙ Bool·not-not (member k done)) (λ ge. none ge ∙ sym (outside-done ge)) (lt-or-le k m)
     where
-      not-not : (t : Bool) → not (not t) ≡ t
-      not-not true = refl
-      not-not false = refl
-
       none : m ≤ k → member k (numberedGates m numbers) ≡ false
       none ge = not-true-false (member k (numberedGates m numbers)) (λ t. let lt : k < m = done-below m numbers k t in omega arith)
 

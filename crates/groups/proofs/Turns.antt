@@ -14,6 +14,7 @@ use borrow.Author.Tests.{lt-ltb, le-ltb}
 use Rattle.laws.specs.Lists.{tab, placed, joined, member, least}
 use Rattle.laws.proofs.Tests.{not-both, lt-or-le}
 use Rattle.laws.proofs.Tab.{tab-ext, length-tab, placed-tab}
+use Rattle.laws.proofs.Slices.{drop-placed}
 use Rattle.netlist.specs.Netlist.{Block, gateCount}
 use Rattle.netlist.specs.StoredBlock.{decode}
 use Rattle.netlist.specs.Groups.{sameGroup, groupOf, groups, groupNumber, groupNumbers}
@@ -98,11 +99,6 @@ module _ (b : Block) (inside : Inside b) where
   unfolding numberUpTo groupNumbers
   all-numbered = tab-ext (numberUpTo b (length (groups b))) (groupNumber b) (gateCount b) (λ j l. rw (lt-ltb (groupNumber b j) (length (groups b)) (groupNumber-below b inside j l)) refl)
 
--- what stands behind the numbers stays
-behind : (f : ℕ → ℕ) (m : ℕ) (numbers entry : List ℕ) → numbers ≡ placed (tab f m) entry → drop m numbers ≡ drop m entry
-behind f m numbers entry is =
-    rw (is, length-tab f m) (drop-at (tab f m) (drop m entry) m (length-tab f m))
-
 -- a turn of the loop: gate j leads the next group
 module _ {ws : List ℕ} {n m gates : ℕ} {leaders : List ℕ} (r : NumberReady ws n m gates leaders) (g : ℕ) (numbers₀ numbers : List ℕ) (is : numbers ≡ placed (tab (numberUpTo (decode ws) g) m) numbers₀) (j : ℕ) (found : j ≡ least (leadsNext (decode ws) m numbers leaders) m) where
   number-now : (i : ℕ) → i < m → getD numbers i 0 ≡ numberUpTo (decode ws) g i
@@ -126,8 +122,9 @@ module _ {ws : List ℕ} {n m gates : ℕ} {leaders : List ℕ} (r : NumberReady
     pub turn-numbers : (numbers′ : List ℕ) → numbers′ ≡ placed (tab (renumbered leaders j g numbers) m) numbers → numbers′ ≡ placed (tab (numberUpTo (decode ws) (g + 1)) m) numbers₀
     unfolding renumbered
     turn-numbers numbers′ e =
+        let behind : drop m numbers ≡ drop m numbers₀ = rw is (drop-placed (tab (numberUpTo (decode ws) g) m) numbers₀ m (length-tab (numberUpTo (decode ws) g) m)) in
         e
-        ∙ rw (length-tab (renumbered leaders j g numbers) m, length-tab (numberUpTo (decode ws) (g + 1)) m, behind (numberUpTo (decode ws) g) m numbers numbers₀ is)
+        ∙ rw (length-tab (renumbered leaders j g numbers) m, length-tab (numberUpTo (decode ws) (g + 1)) m, behind)
         (ap (λ (l : List ℕ). l ++ drop m numbers₀) (tab-ext (renumbered leaders j g numbers) (numberUpTo (decode ws) (g + 1)) m each))
       where
         each : (i : ℕ) → i < m → cond (eqb (getD leaders i 0) j) g (getD numbers i 0) ≡ numberUpTo (decode ws) (g + 1) i

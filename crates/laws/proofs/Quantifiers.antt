@@ -1,16 +1,16 @@
 -- "All" and "any" over a list and over the numbers below a bound, taken apart and put together. Assumes nothing.
 use mathlib.Core.Path.{_≡_, refl, sym, ap, _∙_, subst}
-use mathlib.Core.Logic.{_⊎_, inl, inr, ⊎-elim}
-use mathlib.Core.Bool.{Bool, true, false, _&&_, _||_, false≢true}
-use mathlib.Core.List.{List, [], _∷_, _++_, map}
-use Prim.Native.Nat.{ℕ, zero, suc, _≤_, _<_, zero-le, suc-le-suc}
+use mathlib.Core.Logic.{_⊎_, ⊎-elim}
+use mathlib.Core.Bool.{Bool, true, _&&_, _||_, and-assoc, or-assoc, false≢true, false}
+use mathlib.Core.List.{List, [], _∷_, _++_}
+use Prim.Native.Nat.{ℕ, zero, suc, _+_, _<_, zero-le, suc-le-suc}
 use native.Mathlib.Nat.{not-suc-le-zero, le-of-suc-le-suc}
-use native.Mathlib.Omega.{arith}
+use native.Mathlib.Numerals.{add-one}
 use lib.ListN.{length, getD}
 use lib.Dec.{eqb}
 use borrow.Author.Tests.{eqb-true, eq-eqb}
 use Rattle.laws.specs.Lists.{all, any, tab, upTo, member}
-use Rattle.laws.proofs.Tests.{and-left, and-right, and-intro, or-cases, or-left, or-right, same-test}
+use Rattle.laws.proofs.Tests.{and-left, and-right, and-intro, or-cases, or-left, or-right, same-test, not-both, not-true-false}
 use Rattle.laws.proofs.Tab.{length-tab, getD-tab}
 
 module _ {A : Type 0} (p : A → Bool) where
@@ -39,19 +39,11 @@ module _ {A : Type 0} (p : A → Bool) where
 
   pub all-append : (xs ys : List A) → all p (xs ++ ys) ≡ all p xs && all p ys
   all-append [] ys = refl
-  all-append (x ∷ xs) ys = ap (λ (b : Bool). p x && b) (all-append xs ys) ∙ regroup (p x) (all p xs) (all p ys)
-    where
-      regroup : (a b c : Bool) → a && (b && c) ≡ (a && b) && c
-      regroup true b c = refl
-      regroup false b c = refl
+  all-append (x ∷ xs) ys = ap (λ (b : Bool). p x && b) (all-append xs ys) ∙ sym (and-assoc (p x) (all p xs) (all p ys))
 
   pub any-append : (xs ys : List A) → any p (xs ++ ys) ≡ any p xs || any p ys
   any-append [] ys = refl
-  any-append (x ∷ xs) ys = ap (λ (b : Bool). p x || b) (any-append xs ys) ∙ regroup (p x) (any p xs) (any p ys)
-    where
-      regroup : (a b c : Bool) → a || (b || c) ≡ (a || b) || c
-      regroup true b c = refl
-      regroup false b c = refl
+  any-append (x ∷ xs) ys = ap (λ (b : Bool). p x || b) (any-append xs ys) ∙ sym (or-assoc (p x) (any p xs) (any p ys))
 
 -- over a list of values of a function
 module _ {A : Type 0} (p : A → Bool) (f : ℕ → A) (n : ℕ) where
@@ -88,6 +80,14 @@ module _ (p : ℕ → Bool) (n : ℕ) where
 
   pub below-any : (i : ℕ) → i < n → p i ≡ true → any p (upTo n) ≡ true
   below-any = any-tab-from p (λ k. k) n
+
+-- one number more passes
+pub all-next : (p : ℕ → Bool) (i : ℕ) → all p (upTo i) ≡ true → p i ≡ true → all p (upTo (i + 1)) ≡ true
+all-next p i h e = rw (add-one, all-append, h, e)
+
+-- a test that fails at a number below n does not hold of all
+pub all-not : (p : ℕ → Bool) (n i : ℕ) → i < n → p i ≡ false → all p (upTo n) ≡ false
+all-not p n i l e = not-true-false (all p (upTo n)) (λ h. not-both (all-below p n i h l) e)
 
 -- two tests that agree below n hold together there
 pub all-ext : (p q : ℕ → Bool) (n : ℕ) → ((i : ℕ) → i < n → p i ≡ q i) → all p (upTo n) ≡ all q (upTo n)

@@ -1,16 +1,17 @@
 -- The list of a function's first values: its length, its elements, when two are equal, and how a loop fills a slice with it. Assumes nothing.
 use mathlib.Core.Path.{_≡_, refl, sym, ap, _∙_}
-use mathlib.Core.Logic.{_⊎_, inl, inr, ⊎-elim}
+use mathlib.Core.Logic.{_⊎_, ⊎-elim}
 use mathlib.Core.List.{List, [], _∷_, _++_, map, append-assoc, append-nil}
 pub use mathlib.Core.List.{map-append}
-use Prim.Native.Nat.{ℕ, zero, suc, _+_, _≤_, _<_}
-use native.Mathlib.Nat.{not-suc-le-zero, le-refl, add-zero, add-suc}
+use Prim.Native.Nat.{ℕ, zero, suc, _+_, _<_}
+use native.Mathlib.Nat.{not-suc-le-zero, add-zero, add-suc}
 use native.Mathlib.Numerals.{add-one}
 use native.Mathlib.Omega.{arith}
 use lib.ListN.{length, getD, drop, set, length-append, List·getD-append}
-use lib.Seq.{getD-at, set-at, drop-cons, drop-length, ext-getD}
+use lib.Seq.{getD-at, drop-cons, drop-length, ext-getD}
 use Rattle.laws.specs.Lists.{tab, placed}
 use Rattle.laws.proofs.Tests.{eq-or-ne}
+use Rattle.laws.proofs.Slices.{set-placed}
 
 module _ {A : Type 0} where
   pub length-tab : (f : ℕ → A) (n : ℕ) → length (tab f n) ≡ n
@@ -48,9 +49,7 @@ module _ {A : Type 0} where
 
   -- a loop that has filled n elements of a slice fills the next
   pub set-placed-tab : (f : ℕ → A) (n : ℕ) (entry : List A) → n < length entry → set (placed (tab f n) entry) n (f n) ≡ placed (tab f (suc n)) entry
-  set-placed-tab f n entry h =
-      rw (length-tab f n, drop-cons entry n (f n) h)
-      (set-at (tab f n) (getD entry n (f n)) (drop (suc n) entry) (f n) n (length-tab f n) ∙ rw (length-tab f (suc n), append-assoc))
+  set-placed-tab f n entry h = set-placed (tab f n) entry n (f n) (length-tab f n) h
 
   -- the same of a loop's slice, by its next number
   pub fill-next : (f : ℕ → A) (j : ℕ) (entry slice : List A) (v : A) → slice ≡ placed (tab f j) entry → j < length entry → v ≡ f j → set slice j v ≡ placed (tab f (j + 1)) entry

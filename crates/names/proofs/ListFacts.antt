@@ -1,5 +1,4 @@
 -- Facts on lists and sums that are nobody's in particular. Assumes nothing.
-pub use mathlib.Core.List.{map-append}
 use Prim.Native.Nat.{ℕ, zero, suc}
 use mathlib.Core.Path.{_≡_, refl, ap}
 use mathlib.Core.List.{List, [], _∷_, _++_, map}
@@ -20,11 +19,6 @@ module _ {A B : Type 0} where
   take-map g zero xs = refl
   take-map g (suc i) [] = refl
   take-map g (suc i) (x ∷ xs) = ap {B = List B} (λ r. g x ∷ r) (take-map g i xs)
-
-module _ {A B C : Type 0} where
-  pub map-map : (g : B → C) (f : A → B) (xs : List A) → map (λ x. g (f x)) xs ≡ map g (map f xs)
-  map-map g f [] = refl
-  map-map g f (x ∷ xs) = ap {B = List C} (λ r. g (f x) ∷ r) (map-map g f xs)
 
 pub all-take : {A : Type 0} (p : A → Bool) (i : ℕ) (xs : List A) → all p xs ≡ true → all p (take i xs) ≡ true
 all-take p zero xs h = refl

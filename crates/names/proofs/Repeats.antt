@@ -2,7 +2,7 @@
 use Prim.Native.Nat.{ℕ, zero, suc, _≤_, _<_}
 use mathlib.Core.Path.{_≡_, refl, sym, ap, _∙_}
 use mathlib.Core.Bool.{true, false}
-use mathlib.Core.List.{List, [], _∷_, map}
+use mathlib.Core.List.{List, [], _∷_, map, map-map}
 use mathlib.Core.Option.{none, some}
 use native.Mathlib.Omega.{arith}
 use lib.ListN.{length, getD, take, drop, length-map, List·getD-map, drop-of-length-le}
@@ -16,7 +16,7 @@ use Rattle.netlist.specs.Reading.{Mention, firstRepeat}
 use Rattle.names.specs.Packed.{packed}
 use Rattle.names.specs.Search.{indexOf, repeatsAt}
 use Rattle.names.proofs.Lookup.{Bytes, index-same, index-member}
-use Rattle.names.proofs.ListFacts.{map-map, take-map, all-take, or-swap}
+use Rattle.names.proofs.ListFacts.{take-map, all-take, or-swap}
 
 abbrev nameOf : Mention → Name
 nameOf d = d .name
@@ -46,7 +46,7 @@ module _ (ds : List Mention) (bytes : Bytes (map nameOf ds)) where
       let names = take i (map nameOf ds) in
       let here′ : getD (map keyOf ds) i 0 ≡ packed (getD ds i nobody .name) = List·getD-map keyOf ds i nobody in
       let size : length names ≡ i = length-take-le i (map nameOf ds) (rw (length-map ds nameOf) (omega arith)) in
-      let before : take i (map keyOf ds) ≡ map packed names = ap (take i) (map-map packed nameOf ds) ∙ take-map packed i (map nameOf ds) in
+      let before : take i (map keyOf ds) ≡ map packed names = ap (take i) (sym (map-map packed nameOf ds)) ∙ take-map packed i (map nameOf ds) in
       let cut : indexOf (map keyOf ds) i (packed (getD ds i nobody .name)) ≡ indexOf (map packed names) i (packed (getD ds i nobody .name)) =
       index-same (map keyOf ds) (map packed names) i (packed (getD ds i nobody .name)) (λ j h. sym (rw (← before) (getD-take i (map keyOf ds) j 0 h))) in
       let one : all nameByte (getD ds i nobody .name) ≡ true = rw (List·getD-map nameOf ds i nobody) at (all-at (all nameByte) (map nameOf ds) i [] bytes (rw (length-map ds nameOf) l)) in

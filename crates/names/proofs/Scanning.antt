@@ -5,15 +5,11 @@ use mathlib.Core.Bool.{Bool, true, false, cond}
 use mathlib.Core.List.{List, [], _∷_}
 use native.Mathlib.Numerals.{add-one}
 use native.Mathlib.Omega.{arith}
-use lib.ListN.{length, getD, take, drop, length-drop, drop-of-length-le}
-use lib.Seq.{drop-cons, take-all}
+use lib.ListN.{length, getD, drop, drop-of-length-le}
+use lib.Seq.{drop-cons}
 use lib.Dec.{eqb}
 use borrow.Author.Tests.{ne-eqb}
 use Rattle.names.specs.Lines.{times, lineLength, lineOpens}
-
--- the part of a slice from a place on
-pub rest-part : (s : List ℕ) (at : ℕ) → take (length s - at) (drop at s) ≡ drop at s
-rest-part s at = take-all (length s - at) (drop at s) (omega (arith, length-drop at s))
 
 module _ (s : List ℕ) (i : ℕ) (inside : i < length s) where
   -- a byte more is counted

@@ -2,7 +2,7 @@
 use Prim.Native.Nat.{ℕ, suc, _+_, _-_, _≤_, _<_}
 use mathlib.Core.Path.{_≡_, refl, sym, ap, ap₂, _∙_}
 use mathlib.Core.Bool.{Bool, true}
-use mathlib.Core.List.{List, [], _∷_, _++_, map, map-append}
+use mathlib.Core.List.{List, [], _∷_, _++_, map, map-append, map-map}
 use mathlib.Core.Option.{none}
 use native.Mathlib.Omega.{arith}
 use lib.ListN.{length, getD, take, drop, length-map, length-append}
@@ -21,7 +21,6 @@ use Rattle.names.specs.Search.{indexOf, repeatsAt}
 use Rattle.names.specs.Results.{Prints, treeCounts, declared, packedNames, namePlaces, nodeWords, repeatOf, NameTable, Declared}
 use Rattle.names.specs.declared.Counts.{Counts}
 use Rattle.names.specs.declared.Repeat.the-variants.{None, At}
-use Rattle.names.proofs.ListFacts.{map-map}
 use Rattle.names.proofs.TreeLines.{legal-parts, name-bytes}
 use Rattle.names.proofs.TreeTable.{declared-length, bindings-length}
 use Rattle.names.proofs.Lookup.{Bytes, index-same, index-member, index-lookup}
@@ -217,7 +216,7 @@ module _ (t : Tree) (legal : legalTree t ≡ true) (names places words : List �
   keys-held : (i : ℕ) → i < length (declaredNodes t) → getD names i 0 ≡ getD (map packed (mentioned (declaredNodes t))) i 0
   unfolding packedNames
   keys-held i l =
-      rw (← map-map packed (λ (d : Mention). d .name) (declaredNodes t), ← nodes-held t _ names (tables .table .numbersAre) nameRoom) (sym (getD-take (length (declaredNodes t)) names i 0 l))
+      rw (map-map packed (λ (d : Mention). d .name) (declaredNodes t), ← nodes-held t _ names (tables .table .numbersAre) nameRoom) (sym (getD-take (length (declaredNodes t)) names i 0 l))
 
   index-is : index ≡ indexOf (map packed (mentioned (declaredNodes t))) (length (declaredNodes t)) (packed s)
   index-is = index-same names (map packed (mentioned (declaredNodes t))) (length (declaredNodes t)) (packed s) keys-held

@@ -10,9 +10,10 @@ use lib.Seq.{take-length, getD-drop, drop-drop, take-append-add, take-append-le}
 use borrow.Author.Tests.{lt-ltb, le-ltb}
 use Rattle.laws.specs.Lists.{all, sum, tab, placed}
 use Rattle.laws.proofs.Tests.{and-left, and-right}
-use Rattle.laws.proofs.Tab.{length-tab, tab-ext, map-tab, tab-add}
+use Rattle.laws.proofs.Tab.{length-tab, tab-ext, map-tab, tab-add, placed-tab}
 use Rattle.laws.proofs.Lists.{sum-append}
-use Rattle.netlist.specs.Netlist.{Name, gate}
+use Rattle.laws.proofs.Slices.{take-placed}
+use Rattle.netlist.specs.Netlist.{Name}
 use Rattle.netlist.specs.StoredBlock.{plainName, nodeWord}
 use Rattle.netlist.specs.Syntax.{GateLine, Tree, legalGate}
 use Rattle.netlist.specs.Reading.{Mention, Binding, lineGates, inputBindings, gateBindings, bindings}
@@ -22,7 +23,6 @@ use Rattle.names.specs.Trees.{inputText, gateText, outputText, treeLines
 use Rattle.names.specs.Results.{Prints, treeCounts, declared, packedNames, namePlaces, nodeWords, Declared}
 use Rattle.names.specs.declared.Counts.{Counts}
 use Rattle.names.proofs.ListFacts.{tab-front}
-use Rattle.names.proofs.Filling.{filled-front, filled-at}
 use Rattle.names.proofs.JoinedLines.{line-count, innerOpens, gates-are}
 use Rattle.names.proofs.TreeLines.{TreeLine, legal-parts, tree-lines, input-line, gate-line}
 use Rattle.names.proofs.TreeWalk.{mentionAt, declared-walk}
@@ -155,11 +155,11 @@ module _ {t : Tree} {text : List ℕ} (p : Prints t text) where
       let ns′ : names ≡ placed (tab (packedThrough text places) (times 10 text)) names₀ = rw lines at ns in
       let ws′ : words ≡ placed (tab (wordAt text (length (t .inputs))) (length (t .inputs) + length (t .gates))) words₀ = rw (nodes, inputs) at ws in
       let read : (i : ℕ) → i < times 10 text → getD places i 0 ≡ placeAt text i = λ i l.
-      rw ps′ (filled-at (placeAt text) (times 10 text) places₀ i l) in
+      rw ps′ (placed-tab (placeAt text) (times 10 text) places₀ i 0 l) in
       record {
         table = record {
-          numbersAre = rw (total, ns′, filled-front (packedThrough text places) (times 10 text) names₀) (names-are p places read);
-          placesAre = rw (total, ps′, filled-front (placeAt text) (times 10 text) places₀) (places-are p);
+          numbersAre = rw (total, ns′, take-placed (tab (packedThrough text places) (times 10 text)) names₀ (times 10 text) (length-tab (packedThrough text places) (times 10 text))) (names-are p places read);
+          placesAre = rw (total, ps′, take-placed (tab (placeAt text) (times 10 text)) places₀ (times 10 text) (length-tab (placeAt text) (times 10 text))) (places-are p);
         };
-        nodesAre = rw (bindings-length, ws′, filled-front (wordAt text (length (t .inputs))) (length (t .inputs) + length (t .gates)) words₀) (words-are p);
+        nodesAre = rw (bindings-length, ws′, take-placed (tab (wordAt text (length (t .inputs))) (length (t .inputs) + length (t .gates))) words₀ (length (t .inputs) + length (t .gates)) (length-tab (wordAt text (length (t .inputs))) (length (t .inputs) + length (t .gates)))) (words-are p);
       }

@@ -1,14 +1,14 @@
 -- Which group may be numbered next, that there is one while a gate is left, and that numbering it keeps what is numbered closed.
 -- The order of the groups and the code of Groups cite it. Assumes nothing.
 use Prim.Native.Nat.{ℕ, zero, suc, _≤_, _<_}
-use mathlib.Core.Path.{_≡_, refl, ap, fun-ext}
+use mathlib.Core.Path.{_≡_, ap, fun-ext}
 use mathlib.Core.Logic.{_⊎_, inl, inr, ⊎-elim}
-use mathlib.Core.Bool.{Bool, true, false, not, _&&_, _||_, true≢false, false≢true}
+use mathlib.Core.Bool.{Bool, true, false, not, _&&_, _||_, false≢true}
 use mathlib.Core.List.{List, [], _++_}
 use native.Mathlib.Omega.{arith}
 use borrow.Author.Tests.{not-true}
 use Rattle.laws.specs.Lists.{all, member, least, countBelow}
-use Rattle.laws.proofs.Tests.{bool-cases, not-both, and-intro, and-left, and-right, or-left, or-right, or-cases, not-true-false}
+use Rattle.laws.proofs.Tests.{bool-cases, not-both, and-intro, and-left, and-right, or-left, or-right, or-cases, not-true-false, or-neither}
 use Rattle.laws.proofs.Lists.{member-left, member-right, member-cases}
 use Rattle.laws.proofs.Counting.{countBelow-less}
 use Rattle.netlist.specs.Netlist.{Block, gateCount}
@@ -38,12 +38,8 @@ module _ (b : Block) where
   ready-fails done group h =
       let r = all-fails _ group h in
       let s = all-fails _ (readBy b (r .0)) (r .2) in
-      let e = or-false-left (member (s .0) group) (member (s .0) done) (s .2) in
+      let e = or-neither (member (s .0) group) (member (s .0) done) (s .2) in
       (r .0, s .0, r .1, s .1, e .0, e .1)
-    where
-      or-false-left : (x y : Bool) → (x || y) ≡ false → (x ≡ false) × (y ≡ false)
-      or-false-left true y e = absurd (true≢false e)
-      or-false-left false y e = (refl, e)
 
   -- a gate may be next when it is not numbered and its group is ready
   pub mayBeNext-intro : (done : List ℕ) (j : ℕ) → member j done ≡ false → ready b done (groupOf b j) ≡ true → mayBeNext b done j ≡ true

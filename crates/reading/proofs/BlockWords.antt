@@ -1,7 +1,7 @@
 -- The words that Read writes are the encoding of the tree's block. Assumes nothing.
 use mathlib.Core.Path.{_≡_, refl, sym, ap, ap₂, _∙_}
 use mathlib.Core.Bool.{true}
-use mathlib.Core.List.{List, [], _∷_, _++_, map, append-assoc}
+use mathlib.Core.List.{List, [], _∷_, _++_, map, append-assoc, map-append, map-map}
 use Prim.Native.Nat.{ℕ, _+_, _*_, _≤_}
 use native.Mathlib.Omega.{arith}
 use lib.ListN.{length, getD, take, length-append, length-map}
@@ -9,6 +9,7 @@ use lib.Seq.{sets, take-take, take-at, getD-take}
 use Rattle.laws.specs.Lists.{all, tab, joined, sum}
 use Rattle.laws.proofs.Tests.{and-left, and-right}
 use Rattle.laws.proofs.Tab.{length-tab, tab-ext, tab-getD, map-tab}
+use Rattle.laws.proofs.Stores.{sets-append, length-joined-tab}
 use Rattle.netlist.specs.Netlist.{Name, gateCount, outputCount}
 use Rattle.netlist.specs.StoredBlock.{plainName, nameWords, gateWords, outputWords, gatesAt, outputsAt, encode}
 use Rattle.netlist.specs.Syntax.{name, apply, GateLine, Tree, legalTree, print, printInput, printGate}
@@ -20,16 +21,14 @@ use Rattle.encoding.proofs.Outputs.{length-outputWords}
 use Rattle.names.specs.declared.Counts.{Counts}
 use Rattle.names.specs.Packed.{packed}
 use Rattle.names.specs.Results.{Prints, treeCounts, declared, packedNames}
-use Rattle.names.proofs.ListFacts.{map-append, map-map}
 use Rattle.names.proofs.TreeLines.{name-bytes, legal-parts}
 use Rattle.names.proofs.TreeTable.{declared-length}
 use Rattle.terms.specs.Ports.{portWords}
 use Rattle.terms.proofs.PortNames.{port-words}
 use Rattle.terms.proofs.Closings.{gates-count}
-use Rattle.terms.proofs.ListFacts.{sets-append}
 use Rattle.reading.specs.Words.{nameOf, wordOf, blockWords, wordCount}
 use Rattle.reading.specs.Steps.{WriteReady}
-use Rattle.reading.proofs.ListFacts.{placed-front, length-joined-tab}
+use Rattle.reading.proofs.ListFacts.{placed-front}
 
 -- ---- the number of gates
 
@@ -99,7 +98,7 @@ module _ (t : Tree) (legal : legalTree t ≡ true) (names : List ℕ) (is : take
       tab-ext (nameOf names) (λ i. portWords (getD ps i 0)) n (λ i l. ap portWords (sym (getD-take n names i 0 l) ∙ ap (λ (r : List ℕ). getD r i 0) first-numbers))
       ∙ sym (map-tab portWords (λ i. getD ps i 0) n)
       ∙ ap (map portWords) (tab-getD 0 ps n (length-map (t .inputs) packed))
-      ∙ sym (map-map portWords packed (t .inputs))
+      ∙ map-map portWords packed (t .inputs)
       ∙ names-words (t .inputs) (legal-parts t legal .inputs)
 
 four-parts : {i g o i′ g′ o′ : ℕ} {N G O N′ G′ O′ : List ℕ} → i ≡ i′ → g ≡ g′ → o ≡ o′ → N ≡ N′ → G ≡ G′ → O ≡ O′

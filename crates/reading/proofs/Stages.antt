@@ -8,6 +8,7 @@ use native.Mathlib.Omega.{arith}
 use lib.ListN.{length, take, length-map, length-take}
 use lib.Seq.{sets}
 use Rattle.laws.specs.Lists.{joined}
+use Rattle.laws.proofs.Slices.{sets-placed, placed-room}
 use Rattle.netlist.specs.declared.Answer.the-variants.{Done, Refused}
 use Rattle.netlist.specs.declared.Refusal.the-variants.{DuplicateDeclaration, UndeclaredName, NoRoom}
 use Rattle.netlist.specs.StoredBlock.{gateWords, outputWords, encode}
@@ -28,7 +29,6 @@ use Rattle.terms.specs.Resolution.{Resolved}
 use Rattle.terms.specs.Resolution as resolution
 use Rattle.reading.specs.Words.{blockWords, wordCount, PutReady}
 use Rattle.reading.specs.Steps.{Answered, Ready, TablesReady, Tabled, Resolving, WriteReady}
-use Rattle.reading.proofs.ListFacts.{stored-front, placed-room}
 use Rattle.reading.proofs.Outcomes.{read-twice, read-unknown, read-short, read-done, told-single, told-twice, told-known, told-undeclared}
 use Rattle.reading.proofs.BlockWords.{block-length, gates-length, outputs-length, words-are}
 
@@ -169,5 +169,5 @@ module _ {text : List ℕ} {c : Counts} {names gates outputs : List ℕ} (w : Wr
       let is = read-done (w .tree) text (length entry) (w .limited) (w .single) (w .known) (rw size l) in
       record {
         answers = rw (is, size) refl;
-        leaves = rw is (e ∙ rw (words-are w) (stored-front (encode (blockOf (w .tree))) entry (rw size l)));
+        leaves = rw is (e ∙ rw (words-are w) (sets-placed (encode (blockOf (w .tree))) entry (rw size l)));
       }

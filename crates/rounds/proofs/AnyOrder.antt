@@ -9,12 +9,12 @@ use lib.Dec.{eqb}
 use lib.Seq.{ext-getD, getD-set-other}
 use borrow.Author.Tests.{eqb-false}
 use Rattle.laws.specs.Lists.{member}
+use Rattle.laws.proofs.Tests.{or-neither}
 use Rattle.netlist.specs.Values.{Value, undefined}
 use Rattle.netlist.specs.Netlist.{Block, gateCount, gateOf}
 use Rattle.netlist.specs.Rounds.{evaluated, settled}
 use Rattle.rounds.specs.Order.{BelowAll}
 use Rattle.rounds.specs.Steps.{stepAt, run}
-use Rattle.rounds.proofs.ListFacts.{or-false-left, or-false-right}
 use Rattle.rounds.proofs.Values.{below-of-eq, below-trans}
 use Rattle.rounds.proofs.Evaluation.{evaluated-mono-all}
 use Rattle.rounds.proofs.States.{start-below, set-below, set-below-set}
@@ -43,8 +43,8 @@ module _ (b : Block) (x : List Value) where
   unfolding run stepAt
   run-elsewhere [] v k h = refl
   run-elsewhere (j ∷ js) v k h =
-      run-elsewhere js (stepAt b x j v) k (or-false-right (eqb k j) (member k js) h)
-      ∙ getD-set-other v j k (evaluated x v (gateOf b j)) undefined (eqb-false k j (or-false-left (eqb k j) (member k js) h))
+      run-elsewhere js (stepAt b x j v) k (or-neither (eqb k j) (member k js) h .1)
+      ∙ getD-set-other v j k (evaluated x v (gateOf b j)) undefined (eqb-false k j (or-neither (eqb k j) (member k js) h .0))
 
   -- A step keeps the order of two states.
   pub step-mono : (j : ℕ) (u w : List Value) → length u ≡ length w → BelowAll u w → BelowAll (stepAt b x j u) (stepAt b x j w)

@@ -2,7 +2,7 @@
 use Prim.Native.Nat.{ℕ, zero, suc, _≤_, _<_}
 use mathlib.Core.Path.{_≡_, refl, sym}
 use mathlib.Core.Logic.{_⊎_, inl, inr, ⊎-elim}
-use mathlib.Core.Bool.{Bool, true, false, _||_, true≢false, false≢true}
+use mathlib.Core.Bool.{true, false≢true}
 use mathlib.Core.List.{List, [], _∷_, map}
 use native.Mathlib.Omega.{arith}
 use lib.ListN.{length, getD, set, replicate}
@@ -45,15 +45,6 @@ module _ {A B : Type 0} (f : A → B) (injective : (a b : A) → f a ≡ f b →
       let p : x ≡ y = injective x y (cc) in
       let q : xs ≡ ys = map-injective xs ys (cc) in
       cc
-
--- where neither test holds, each fails
-pub or-false-left : (a b : Bool) → a || b ≡ false → a ≡ false
-or-false-left true b h = h
-or-false-left false b h = refl
-
-pub or-false-right : (a b : Bool) → a || b ≡ false → b ≡ false
-or-false-right true b h = absurd (true≢false h)
-or-false-right false b h = h
 
 -- what is in a list n times over is in the list
 pub member-repeated : (x n : ℕ) (xs : List ℕ) → member x (repeated n xs) ≡ true → member x xs ≡ true

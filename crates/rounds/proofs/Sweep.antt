@@ -5,26 +5,15 @@ use mathlib.Core.Bool.{true}
 use mathlib.Core.List.{List, [], _∷_, _++_}
 use native.Mathlib.Nat.{zero-add, add-zero, le-of-suc-le-suc}
 use native.Mathlib.Omega.{arith}
-use borrow.Author.Tests.{ltb-true}
 use lib.ListN.{length, getD, take, length-append}
-use lib.Dec.{ltb}
 use lib.Seq.{ext-getD, take-take, take-length, take-append-seam, getD-take, getD-append-seam}
-use Rattle.laws.specs.Lists.{all}
-use Rattle.laws.proofs.Quantifiers.{all-at, all-below, member-at}
+use Rattle.reach.proofs.Straight.{straight-reads}
 use Rattle.netlist.specs.Values.{Value, undefined}
 use Rattle.netlist.specs.Netlist.{Gate, Block, gateCount, gateOf}
 use Rattle.netlist.specs.Rounds.{evaluated, settled}
-use Rattle.netlist.specs.Groups.{reads, readBy}
 use Rattle.netlist.specs.Rendering.{straight, sweepFrom, sweep}
 use Rattle.rounds.proofs.Evaluation.{evaluated-agree}
 use Rattle.rounds.proofs.Rounds.{evaluated-settled, length-settled}
-
--- In a straight block a gate reads lower gates only.
-pub straight-reads : (b : Block) → straight b ≡ true → (j k : ℕ) → j < gateCount b → reads b j k ≡ true → k < j
-unfolding straight reads
-straight-reads b h j k l r =
-    let (i, m, e) = member-at k (readBy b j) r in
-    ltb-true k j (rw e at (all-at (λ i. ltb i j) (readBy b j) i 0 (all-below (λ j. all (λ i. ltb i j) (readBy b j)) (gateCount b) j h l) m))
 
 -- Two states of a straight block that are fixed at every gate agree.
 pub straight-unique : (b : Block) (x u w : List Value) → straight b ≡ true
@@ -37,7 +26,7 @@ straight-unique b x u w h fu fw j l = below (suc j) j l (omega arith)
     below zero j l m = absurd (omega arith)
     below (suc n) j l m =
         sym (fu j l)
-        ∙ evaluated-agree x u w b j (λ k r. let q : k < j = straight-reads b h j k l r in below n k (omega arith) (omega arith)) ∙ fw j l
+        ∙ evaluated-agree x u w b j (λ k r. let q : k < j = straight-reads b h j k r in below n k (omega arith) (omega arith)) ∙ fw j l
 
 module _ (x : List Value) where
   pub length-sweepFrom : (found : List Value) (gs : List Gate) → length (sweepFrom x found gs) ≡ length found + length gs
@@ -90,7 +79,7 @@ module _ (b : Block) (x : List Value) where
       → evaluated x (sweep b x) (gateOf b j) ≡ getD (sweep b x) j undefined
   evaluated-sweep h j l =
       evaluated-agree x (sweep b x) (take j (sweep b x)) b j
-      (λ k r. sym (getD-take j (sweep b x) k undefined (straight-reads b h j k l r))) ∙ sym (getD-sweep j l)
+      (λ k r. sym (getD-take j (sweep b x) k undefined (straight-reads b h j k r))) ∙ sym (getD-sweep j l)
 
   -- One sweep of a straight block gives the settled values.
   pub sweep-settled : straight b ≡ true → sweep b x ≡ settled b x

@@ -10,7 +10,8 @@ use lib.Seq.{take-suc, length-take-le}
 use borrow.Author.Tests.{eq-eqb, ne-eqb}
 use lib.ListN.{length, getD, take, set, length-append, length-set}
 use Rattle.laws.specs.Lists.{same, placed}
-use Rattle.simulate.proofs.ListFacts.{set-placed, getD-placed, same-more}
+use Rattle.laws.proofs.Slices.{set-placed, getD-past}
+use Rattle.simulate.proofs.ListFacts.{same-more}
 
 -- the first j elements are those of xs, the rest is as at entry
 pub record Filling (entry slice xs : List ℕ) (j : ℕ) : Type 0 where
@@ -41,7 +42,7 @@ module _ (entry slice next : List ℕ) (j : ℕ) (f : Filling entry slice (take 
   same-here : (t : Bool) → eqb (getD next j 0) (getD slice j 0) ≡ t
       → changedBelow next entry (j + 1) ≡ not (same (take j next) (take j entry) && t)
   same-here t e =
-      let d : getD slice j 0 ≡ getD entry j 0 = rw (f .holds) (getD-placed (take j next) entry j 0 (f .long) l) in
+      let d : getD slice j 0 ≡ getD entry j 0 = rw (f .holds) (getD-past (take j next) entry (length (take j next)) j 0 refl (omega (arith, f .long))) in
       let s : length (take j next) ≡ length (take j entry) = length-take-le j next (omega arith) ∙ sym (length-take-le j entry (omega arith)) in
       rw (add-one, take-suc next j 0 k, take-suc entry j 0 l, same-more (take j next) (take j entry) (getD next j 0) (getD entry j 0) s, ← d, e)
 

@@ -8,13 +8,14 @@ use native.Mathlib.Omega.{arith}
 use lib.ListN.{length, getD, take, replicate, length-map, length-replicate}
 use borrow.Author.Tests.{not-true, not-false}
 use Rattle.laws.specs.Lists.{same, placed}
+use Rattle.laws.proofs.Slices.{take-placed}
 use Rattle.netlist.specs.Values.{code, valueOf}
 use Rattle.netlist.specs.StoredBlock.{decode}
 use Rattle.netlist.specs.Rounds.{afterRounds, stable, rounds, settled}
 use Rattle.encoding.proofs.Decoded.{decode-gateCount}
 use Rattle.rounds.proofs.Rounds.{length-afterRounds, rounds-more, rounds-end, afterRounds-settled, length-settled}
 use Rattle.simulate.specs.Rounded.{roundCodes, Rounded, Settled}
-use Rattle.simulate.proofs.ListFacts.{take-placed, placed-placed}
+use Rattle.simulate.proofs.ListFacts.{placed-placed}
 use Rattle.simulate.proofs.Codes.{length-roundCodes, roundCodes-of, codes-start}
 
 -- a round by way of a spare slice

@@ -1,11 +1,12 @@
 -- The codes that a sweep has found so far, gate by gate. Assumes nothing.
 use mathlib.Core.Path.{_≡_, ap, _∙_}
-use mathlib.Core.List.{List, [], _∷_, _++_, map}
+use mathlib.Core.List.{List, [], _∷_, _++_, map, map-append}
 use Prim.Native.Nat.{ℕ, _+_, _<_}
 use native.Mathlib.Nat.{le-of-eq}
 use native.Mathlib.Numerals.{add-one}
 use lib.ListN.{length, getD, take}
 use lib.Seq.{take-suc, take-all}
+use Rattle.laws.proofs.Slices.{take-placed}
 use Rattle.netlist.specs.Values.{undefined, code, valueOf}
 use Rattle.netlist.specs.StoredBlock.{decode}
 use Rattle.netlist.specs.Rendering.{sweep}
@@ -13,7 +14,6 @@ use Rattle.encoding.proofs.Decoded.{decode-gateCount}
 use Rattle.rounds.proofs.Sweep.{length-sweep, getD-sweep}
 use Rattle.rounds.proofs.Values.{values-codes}
 use Rattle.simulate.specs.Rounded.{gateCode, sweepCodes}
-use Rattle.simulate.proofs.ListFacts.{take-placed, map-more}
 use Rattle.simulate.proofs.Filling.{Filling}
 
 module _ (ws setting : List ℕ) where
@@ -32,7 +32,7 @@ module _ (ws setting : List ℕ) where
       let t : take j values ≡ swept j = rw (f .holds) (take-placed (swept j) entry j (f .long)) in
       let g : r ≡ code (getD (sweep b x) j undefined) =
       e ∙ rw (t, values-codes (take j (sweep b x)), getD-sweep b x j (rw (decode-gateCount ws) l)) in
-      rw (add-one, take-suc (sweep b x) j undefined m, g) (map-more code (take j (sweep b x)) (getD (sweep b x) j undefined))
+      rw (add-one, take-suc (sweep b x) j undefined m, g) (map-append code (take j (sweep b x)) (getD (sweep b x) j undefined ∷ []))
 
   -- all of them
   pub swept-all : swept (getD ws 1 0) ≡ sweepCodes ws setting

@@ -8,6 +8,7 @@ use Prim.Native.Nat.{ℕ, _+_, _-_, _*_, _≤_}
 use native.Mathlib.Omega.{arith}
 use lib.ListN.{length, length-append}
 use Rattle.laws.specs.Lists.{all, placed, joined}
+use Rattle.laws.proofs.Slices.{sets-placed}
 use Rattle.netlist.specs.Limits.{maxGates, maxOutputs}
 use Rattle.netlist.specs.Netlist.{Output}
 use Rattle.netlist.specs.StoredBlock.{gateWords, outputWords}
@@ -22,7 +23,7 @@ use Rattle.terms.specs.Leaves.{earlier}
 use Rattle.terms.specs.Walk.{leftOf, declaredNames, unknownAfter, wordsOf}
 use Rattle.terms.specs.Lines.{LineForm, gateForm, outputForm, outputOf, linesWords, linesCost, LinesDone}
 use Rattle.terms.specs.Resolution.{TreeAt, TreeDone}
-use Rattle.terms.proofs.ListFacts.{sets-placed, sum-ones}
+use Rattle.terms.proofs.ListFacts.{sum-ones}
 use Rattle.terms.proofs.Closings.{words-append, unknown-append}
 use Rattle.terms.proofs.LineSteps.{Lawful}
 use Rattle.terms.proofs.LineForms.{gate-lawful, output-lawful}

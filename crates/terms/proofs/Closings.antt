@@ -2,7 +2,7 @@
 -- Assumes nothing.
 use mathlib.Core.Path.{_≡_, refl, sym, ap, _∙_}
 use mathlib.Core.Bool.{Bool, true, false, cond}
-use mathlib.Core.List.{List, [], _∷_, _++_, map}
+use mathlib.Core.List.{List, [], _∷_, _++_, map, map-append}
 use mathlib.Core.Option.{none, some}
 use Prim.Native.Nat.{ℕ, suc, _+_, _-_, _*_, _≤_, _<_}
 use native.Mathlib.Omega.{arith}
@@ -20,9 +20,8 @@ use Rattle.terms.specs.declared.Found.{Found}
 use Rattle.terms.specs.declared.Listed.{Listed}
 use Rattle.terms.specs.Leaves.{earlier, nameLength, indexHere, nameHere, constantHere, leafHere}
 use Rattle.terms.specs.Walk.{Ends, leftOf, declaredNames, unknownAfter, wordsOf, Table, TermAt, TermDone, TermsDone}
-use Rattle.laws.proofs.Tab.{map-append}
-use Rattle.names.proofs.ListFacts.{joined-append}
-use Rattle.terms.proofs.ListFacts.{sets-append}
+use Rattle.laws.proofs.Stores.{sets-append}
+use Rattle.laws.proofs.Lists.{joined-append}
 use Rattle.terms.proofs.Fronts.{earlier-none, earlier-assoc, leaf-name}
 use Rattle.terms.proofs.Lookups.{front-back, numbersOf, nodesOf, looked}
 use Rattle.terms.proofs.Openings.{name-begins}

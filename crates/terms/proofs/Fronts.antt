@@ -3,7 +3,6 @@ use mathlib.Core.Path.{_≡_, refl}
 use mathlib.Core.Bool.{true}
 use mathlib.Core.List.{List, _++_}
 use Prim.Native.Nat.{ℕ, zero, suc, _+_, _-_, _≤_, _<_}
-use native.Mathlib.Omega.{arith}
 use lib.ListN.{length, getD}
 use borrow.Author.Tests.{ne-eqb, lt-ltb, le-ltb}
 use Rattle.names.specs.Packed.{packed, nameFront}
@@ -60,10 +59,6 @@ kind-back rest = by-kind (λ k. kindHere (keyword k ++ rest) ≡ k) refl refl re
 pub word-back : (k : ℕ) → isKind k ≡ true → wordLength k ≡ length (keyword k)
 unfolding wordLength keyword isNot rowOf rows row
 word-back = by-kind (λ k. wordLength k ≡ length (keyword k)) refl refl refl refl refl
-
-pub kind-below : (k : ℕ) → isKind k ≡ true → k ≤ 4
-unfolding isKind
-kind-below = by-kind (λ k. k ≤ 4) (omega arith) (omega arith) (omega arith) (omega arith) (omega arith)
 
 pub length-two : (k : ℕ) → k ≡ 2 → 2 ≡ wordLength k
 unfolding wordLength

@@ -8,6 +8,7 @@ use lib.ListN.{length, take, drop, length-append}
 use lib.Seq.{sets, drop-at}
 use Rattle.laws.specs.Lists.{ascii, all}
 use Rattle.laws.proofs.Tests.{and-left, and-right}
+use Rattle.laws.proofs.Elements.{rest-is-drop}
 use Rattle.netlist.specs.Limits.{maxGates, maxDepth}
 use Rattle.netlist.specs.Netlist.{Name}
 use Rattle.netlist.specs.StoredBlock.{letter, digit, underscore, nameByte, nameStart, legalName, plainName, nodeName, nameWords, nodeWord, outputWords}
@@ -18,7 +19,6 @@ use Rattle.names.specs.Packed.{packed, nameFront}
 use Rattle.terms.specs.declared.Found.{Found}
 use Rattle.terms.specs.Walk.{Table, TermAt, TermHere, TermDone, TermRead}
 use Rattle.terms.specs.Lines.{inputForm, gateForm, outputForm, outputOf, LineAt, LineHere, LineRead}
-use Rattle.names.proofs.Scanning.{rest-part}
 use Rattle.terms.proofs.Lookups.{front-back}
 use Rattle.names.proofs.TreeLines.{name-bytes}
 use Rattle.terms.proofs.PortNames.{port-words}
@@ -62,7 +62,7 @@ module _ (w x r : List ℕ) (c : ℕ) where
   name-behind : (start : ℕ → Bool) (j : ℕ) → j ≡ length w → legalName start x ≡ true → nameByte c ≡ false
       → nameFront 8 (take (length (w ++ (x ++ (c ∷ r))) - j) (drop j (w ++ (x ++ (c ∷ r))))) ≡ x
   name-behind start j e h f =
-      rw (e, rest-part (w ++ (x ++ (c ∷ r))) (length w), behind-word) (front-back start x (c ∷ r) h f)
+      rw (e, rest-is-drop (w ++ (x ++ (c ∷ r))) (length w), behind-word) (front-back start x (c ∷ r) h f)
 
 -- ---- input lines
 
@@ -140,7 +140,7 @@ module _ (s : List ℕ) (k : ℕ) (e : k ≡ length (nameFront 8 (take (length s
           term = apply (p .line .kind) (p .line .terms);
           rest = ascii ")\n" ++ p .rest;
           table = p .table;
-          here = rw (rest-part s (7 + k)) (gate-parts (p .line) (p .rest) (p .here) .inner);
+          here = rw (rest-is-drop s (7 + k)) (gate-parts (p .line) (p .rest) (p .here) .inner);
           few = p .few;
           inputs = p .inputs;
           room = p .room;
@@ -150,7 +150,7 @@ module _ (s : List ℕ) (k : ℕ) (e : k ≡ length (nameFront 8 (take (length s
       gate-done : (bs : List Binding) (g : GateLine) (rest : List ℕ) (at : ℕ) → Table n bs names words → LineAt gateForm g rest s
           → TermDone n bs (apply (g .kind) (g .terms)) at (drop (7 + k) s) (ascii ")\n" ++ rest) first seen gates after one
       gate-done bs g rest at t w =
-          let r′ = rw (rest-part s (7 + k)) at r in
+          let r′ = rw (rest-is-drop s (7 + k)) at r in
           r′ .done bs (apply (g .kind) (g .terms)) (ascii ")\n" ++ rest) at t (gate-parts g rest w .inner)
 
       pub gate-left : LineHere gateForm maxGates s n names words first gates → 2 ≤ one .left
@@ -215,7 +215,7 @@ module _ (s : List ℕ) (k : ℕ) (e : k ≡ length (nameFront 8 (take (length s
     unfolding nameByte letter digit underscore
     shown-done bs o rest at t w =
         let c = output-parts o rest w in
-        rw (f, rest-part s (6 + k), c .inner, ← t .packedNames, ← t .nodeWords)
+        rw (f, rest-is-drop s (6 + k), c .inner, ← t .packedNames, ← t .nodeWords)
         (name-done n bs at first seen (ascii ")\n" ++ rest) array (o .shown) (c .legalShown) refl (t .legal))
 
     pub output-left : (bs : List Binding) (o : OutputLine) (rest : List ℕ) → Table n bs names words → LineAt outputForm o rest s → 2 ≤ l .left

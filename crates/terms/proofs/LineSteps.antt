@@ -7,13 +7,13 @@ use lib.ListN.{length, take, drop, length-append, length-drop}
 use lib.Seq.{length-sets, drop-drop}
 use Rattle.laws.specs.Lists.{all}
 use Rattle.laws.proofs.Tests.{and-left, and-right}
+use Rattle.laws.proofs.Elements.{rest-is-drop}
+use Rattle.laws.proofs.Stores.{sets-append}
 use Rattle.netlist.specs.Syntax.{printLines}
 use Rattle.netlist.specs.Reading.{Binding, mentions}
 use Rattle.grammar.proofs.Shorter.{Ending, ending}
 use Rattle.terms.specs.declared.Walked.{Walked}
 use Rattle.terms.specs.Lines.{LineForm, LineAt, LineHere, LineDone, LineRead, LinesAt, LinesHere, LinesDone, LinesRead, LinesOn, linesWords, linesCost}
-use Rattle.terms.proofs.ListFacts.{sets-append}
-use Rattle.names.proofs.Scanning.{rest-part}
 use Rattle.terms.proofs.Closings.{unknown-append, unknown-none}
 
 -- a print is its own bytes and then what follows, and a line's entries have five words each
@@ -111,7 +111,7 @@ module _ {A : Type 0} (F : LineForm A) (lawful : Lawful F) where
             line = x .line;
             rest = x .behind;
             table = p .table;
-            here = rw (rest-part s (length s - left)) (x .here);
+            here = rw (rest-is-drop s (length s - left)) (x .here);
             few = omega (arith, p .few);
             inputs = p .inputs;
             room = omega (arith, p .room, on .same);
@@ -138,7 +138,7 @@ module _ {A : Type 0} (F : LineForm A) (lawful : Lawful F) where
         pub lines-kept : (most : ℕ) → LinesHere F most count s n names words before → i < count
             → (one .left ≤ length s) × (length array′ ≡ length before)
         lines-kept most p l =
-            let d′ = rw (rest-part s (length s - left)) at d in
+            let d′ = rw (rest-is-drop s (length s - left)) at d in
             let w = on .now (p .bindings) (p .lines) (p .rest) 0 (p .table) (p .here) (p .counted) in
             let x = next-line (w .others) (p .rest) (drop (length s - left) s) (w .here) (let c = w .counted in omega arith) in
             let e = d′ .done (p .bindings) (x .line) (x .behind) 0 (p .table) (x .here) in
@@ -149,7 +149,7 @@ module _ {A : Type 0} (F : LineForm A) (lawful : Lawful F) where
             → LinesOn F count s n names words seen before (i + 1) (one .left) (one .number) (one .unknown) array′
         unfolding linesCost
         lines-step kept l =
-            let d′ = rw (rest-part s (length s - left)) at d in
+            let d′ = rw (rest-is-drop s (length s - left)) at d in
             record {
               within = kept .0;
               same = kept .1;

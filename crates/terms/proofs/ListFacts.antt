@@ -1,28 +1,13 @@
 -- Facts on lists that are nobody's in particular. Assumes nothing.
 use mathlib.Core.Path.{_≡_, refl}
-use mathlib.Core.List.{List, [], _∷_, _++_, map}
-use Prim.Native.Nat.{ℕ, suc, _+_, _≤_, _<_}
-use native.Mathlib.Nat.{zero-add}
+use mathlib.Core.List.{List, [], _∷_, map}
+use Prim.Native.Nat.{ℕ, suc, _+_}
 use native.Mathlib.Omega.{arith}
 use lib.ListN.{length, getD, set}
-use lib.Seq.{sets, sets-eq}
-use Rattle.laws.specs.Lists.{placed, sum}
-
--- a byte that is not 0 is there
-pub byte-there : (s : List ℕ) (c : ℕ) → getD s 0 0 ≡ c → 0 < c → 0 < length s
-byte-there [] c e h = omega arith
-byte-there (x ∷ s) c e h = omega arith
+use lib.Seq.{sets}
+use Rattle.laws.specs.Lists.{sum}
 
 module _ {A : Type 0} where
-  -- two runs of stores, one behind the other, are one
-  pub sets-append : (xs d : List A) (i j : ℕ) (ys : List A) → j ≡ i + length xs → sets (sets d i xs) j ys ≡ sets d i (xs ++ ys)
-  sets-append [] d i j ys e = let f : j ≡ i = omega arith in rw f
-  sets-append (x ∷ xs) d i j ys e = sets-append xs _ (suc i) j ys (omega arith)
-
-  -- stores from the front on
-  pub sets-placed : (xs d : List A) → length xs ≤ length d → sets d 0 xs ≡ placed xs d
-  sets-placed xs d h = rw (zero-add (length xs)) at (sets-eq xs d 0 (omega arith))
-
   pub sum-ones : (xs : List A) → sum (map (λ x. 1) xs) ≡ length xs
   sum-ones [] = refl
   sum-ones (x ∷ xs) = let h = sum-ones xs in omega arith

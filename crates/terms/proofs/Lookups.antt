@@ -2,7 +2,7 @@
 use mathlib.Core.Path.{_≡_, refl, sym}
 use mathlib.Core.Bool.{Bool, true, false, cond, _||_, false≢true}
 use mathlib.Core.Logic.{⊎-elim}
-use mathlib.Core.List.{List, [], _∷_, _++_, map}
+use mathlib.Core.List.{List, [], _∷_, _++_, map, map-map}
 use Prim.Native.Nat.{ℕ}
 use lib.ListN.{length, getD, length-map}
 use lib.Dec.{ltb}
@@ -13,7 +13,6 @@ use Rattle.netlist.specs.StoredBlock.{nameByte, nameStart, legalName, nodeName,
 use Rattle.netlist.specs.Reading.{Binding, lookup}
 use Rattle.names.specs.Packed.{packed, nameFront}
 use Rattle.names.specs.Search.{indexOf}
-use Rattle.names.proofs.ListFacts.{map-map}
 use Rattle.names.proofs.TreeLines.{name-bytes}
 use Rattle.names.proofs.TreeWalk.{front-legal}
 use Rattle.names.proofs.Lookup.{Bytes, index-member, index-lookup}
@@ -59,7 +58,7 @@ unfolding declaredNames nodeName nodeWord
 looked n bs x h a = record { word = ⊎-elim declared undeclared (bool-cases (memberList x (declaredNames bs))); known = known }
   where
     numbers : numbersOf bs ≡ map packed (declaredNames bs)
-    numbers = map-map packed (λ (b : Binding). b .name) bs
+    numbers = sym (map-map packed (λ (b : Binding). b .name) bs)
 
     bytes : all nameByte x ≡ true
     bytes = name-bytes nameStart x h

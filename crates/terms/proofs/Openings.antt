@@ -10,18 +10,18 @@ use lib.Dec.{leb}
 use borrow.Author.Tests.{leb-true}
 use Rattle.laws.specs.Lists.{ascii, all}
 use Rattle.laws.proofs.Tests.{and-left, not-both}
-use Rattle.netlist.specs.Kinds.{isKind, arityFits, keyword, mostOperands, isNot, rowOf, rows, row}
+use Rattle.laws.proofs.Elements.{rest-is-drop}
+use Rattle.encoding.proofs.Gates.{most-four}
+use Rattle.netlist.specs.Kinds.{isKind, arityFits, keyword}
 use Rattle.netlist.specs.Limits.{maxName}
 use Rattle.netlist.specs.StoredBlock.{letter, digit, underscore, nameByte, nameStart, legalName, nodeName}
 use Rattle.netlist.specs.Syntax.{Term, Terms, name, literal, apply, nil, cons, printTerm, printTerms, termCount, legalTerm, legalTerms}
 use Rattle.grammar.proofs.ListFacts.{and3}
-use Rattle.grammar.proofs.SoundTerms.{by-kind}
 use Rattle.grammar.proofs.CompleteTerms.{arity-bounds}
 use Rattle.grammar.proofs.Shorter.{printTerm-append, ending}
 use Rattle.grammar.proofs.Places.{term-measure}
 use Rattle.terms.specs.Leaves.{kindHere, wordLength}
 use Rattle.terms.specs.Walk.{Ends, TermAt, TermsAt}
-use Rattle.names.proofs.Scanning.{rest-part}
 use Rattle.terms.proofs.Fronts.{kind-back, word-back}
 
 -- ---- a term
@@ -38,10 +38,6 @@ pub record Opened (o : Term) (depth : ℕ) (rest s : List ℕ) : Type 0 where
   pub wordRead : wordLength kind ≡ length (keyword kind)
   pub measured : length s ≡ 1 + length (keyword kind) + length (drop (1 + wordLength kind) s)
   pub inner : TermsAt terms (depth - 1) rest (drop (1 + wordLength kind) s)
-
-most-four : (k : ℕ) → isKind k ≡ true → mostOperands k ≤ 4
-unfolding mostOperands isNot rowOf rows row
-most-four = by-kind (λ k. mostOperands k ≤ 4) (omega arith) (omega arith) (omega arith) (omega arith) (omega arith)
 
 no-start : (c : ℕ) (rest x : List ℕ) → 0 < length x → nameStart (getD x 0 0) ≡ true → nameStart c ≡ false → getD (x ++ rest) 0 0 ≡ c → ⊥
 no-start c rest [] l h f e = omega arith
@@ -62,7 +58,7 @@ opened-at (literal false) depth rest h e = absurd (omega arith)
 opened-at (apply k ts) zero rest h e = absurd (false≢true h)
 opened-at (apply k ts) (suc depth) rest h e =
     let f = and3 (isKind k) (arityFits k (termCount ts)) (legalTerms ts depth) h in
-    let m = most-four k (f .0) in
+    let m = most-four k in
     let a = arity-bounds k (termCount ts) (f .1) .1 in
     let inside = printTerms ts (ascii ")" ++ rest) in
     let d : drop (1 + wordLength k) (40 ∷ (keyword k ++ inside)) ≡ inside = drop-at (40 ∷ keyword k) inside (1 + wordLength k) (omega (arith, word-back k (f .0))) in
@@ -99,7 +95,7 @@ pub inside : (o : Term) (depth : ℕ) (rest s : List ℕ) (k wide : ℕ) → Ter
     → Inside o depth rest s k wide
 inside o depth rest s k wide w e f g =
     let z = opened o depth rest s w e in
-    let h : k ≡ z .kind = f ∙ ap kindHere (rest-part s 1) ∙ z .kindRead in
+    let h : k ≡ z .kind = f ∙ ap kindHere (rest-is-drop s 1) ∙ z .kindRead in
     rw (g, h) (record {
       terms = z .terms;
       term = z .term;

@@ -6,6 +6,8 @@ use Prim.Native.Nat.{ℕ, suc, _+_, _-_, _*_, _≤_, _<_}
 use native.Mathlib.Omega.{arith}
 use lib.ListN.{length, getD, set, take, drop, length-drop, length-set, length-map}
 use lib.Seq.{sets, length-sets}
+use Rattle.laws.proofs.Elements.{rest-is-drop}
+use Rattle.encoding.proofs.Gates.{kind-small}
 use Rattle.netlist.specs.Limits.{maxInputs, maxGates}
 use Rattle.netlist.specs.Kinds.{keyword}
 use Rattle.netlist.specs.Syntax.{Term, apply, cons, printTerm, termCount}
@@ -15,8 +17,6 @@ use Rattle.terms.specs.declared.Found.{Found}
 use Rattle.terms.specs.declared.Listed.{Listed}
 use Rattle.terms.specs.Leaves.{leafHere}
 use Rattle.terms.specs.Walk.{Table, TermAt, TermHere, TermsHere, TermDone, TermRead, TermsRead}
-use Rattle.names.proofs.Scanning.{rest-part}
-use Rattle.terms.proofs.Fronts.{kind-below}
 use Rattle.terms.proofs.Openings.{Inside, closed, More, more}
 use Rattle.terms.proofs.Closings.{noWords, nil-done, cons-done, apply-done, leaf-done}
 
@@ -26,7 +26,7 @@ table-lengths n bs names words t =
 
 -- the rest of a text is shorter by what was left out
 pub rest-length : (s : List ℕ) (k : ℕ) → length (take (length s - k) (drop k s)) ≡ length s - k
-rest-length s k = rw (rest-part s k) (length-drop k s)
+rest-length s k = rw (rest-is-drop s k) (length-drop k s)
 
 -- ---- an operand
 
@@ -51,7 +51,7 @@ module _ (s : List ℕ) (depth n : ℕ) (names words : List ℕ) (first : ℕ) (
           terms = i .terms;
           rest = p .rest;
           table = p .table;
-          here = rw (rest-part s (1 + wide)) (i .inner);
+          here = rw (rest-is-drop s (1 + wide)) (i .inner);
           few = omega arith;
           count = let c = i .count in omega arith;
           inputs = p .inputs;
@@ -79,12 +79,12 @@ module _ (s : List ℕ) (depth n : ℕ) (names words : List ℕ) (first : ℕ) (
     unfolding gatesIn
     bounded seen g₁ filled l p i r =
         let few : first + gatesIn (apply k (i .terms)) ≤ maxGates = rw (i .term) at (p .few) in
-        let d = r .done (p .bindings) (i .terms) (p .rest) 0 (p .table) (rw (rest-part s (1 + wide)) (i .inner)) in
+        let d = r .done (p .bindings) (i .terms) (p .rest) 0 (p .table) (rw (rest-is-drop s (1 + wide)) (i .inner)) in
         record {
           number = omega (arith, d .gates);
           behind = omega (arith, d .gates);
           count = omega (arith, d .count, i .count);
-          kind = kind-below k (i .legal);
+          kind = kind-small k (i .legal);
           room = rw (d .words, length-sets gates (5 * first) _) (p .room);
           inputs = p .inputs;
         }
@@ -99,7 +99,7 @@ module _ (s : List ℕ) (depth n : ℕ) (names words : List ℕ) (first : ℕ) (
         record {
           done = λ bs o rest at t w.
               let i = inside o rest w in
-              let r′ = rw (rest-part s (1 + wide)) at r in
+              let r′ = rw (rest-is-drop s (1 + wide)) at r in
               rw (i .term)
               (apply-done n bs k (i .terms) at first seen s (drop (1 + wide) s) rest gates g₁ g₂ filled l (i .count) (i .measured)
               (r′ .done bs (i .terms) rest (at + 1 + length (keyword k)) t (i .inner)) e);
@@ -139,7 +139,7 @@ module _ (s : List ℕ) (depth n : ℕ) (names words : List ℕ) (first i : ℕ)
           term = one-more .term;
           rest = one-more .behind;
           table = p .table;
-          here = rw (rest-part s 1) (one-more .here);
+          here = rw (rest-is-drop s 1) (one-more .here);
           few = omega arith;
           inputs = p .inputs;
           room = p .room;
@@ -147,7 +147,7 @@ module _ (s : List ℕ) (depth n : ℕ) (names words : List ℕ) (first i : ℕ)
 
     module _ (seen : ℕ) (g₁ : List ℕ) (one : Found) (r : TermRead (take (length s - 1) (drop 1 s)) depth n names words first seen gates g₁ one) where
       first-done : TermDone n (p .bindings) (one-more .term) 0 (take (length s - 1) (drop 1 s)) (one-more .behind) first seen gates g₁ one
-      first-done = r .done (p .bindings) (one-more .term) (one-more .behind) 0 (p .table) (rw (rest-part s 1) (one-more .here))
+      first-done = r .done (p .bindings) (one-more .term) (one-more .behind) 0 (p .table) (rw (rest-is-drop s 1) (one-more .here))
 
       pub left-shorter : one .left < length s
       left-shorter = omega (arith, first-done .left, one-more .shorter)
@@ -164,7 +164,7 @@ module _ (s : List ℕ) (depth n : ℕ) (names words : List ℕ) (first i : ℕ)
             terms = one-more .others;
             rest = p .rest;
             table = p .table;
-            here = rw (rest-part s (length s - one .left), first-done .left, one-more .ends) (one-more .next);
+            here = rw (rest-is-drop s (length s - one .left), first-done .left, one-more .ends) (one-more .next);
             few = omega (arith, first-done .gates);
             count = rw (length-set slots i (one .word)) (omega arith);
             inputs = p .inputs;
@@ -180,9 +180,9 @@ module _ (s : List ℕ) (depth n : ℕ) (names words : List ℕ) (first i : ℕ)
       record {
         done = λ bs os rest at t w.
             let m = more os depth rest s w ne in
-            let h′ = rw (rest-part s 1) at h in
+            let h′ = rw (rest-is-drop s 1) at h in
             let d = h′ .done bs (m .term) (m .behind) (at + 1) t (m .here) in
-            let g′ = rw (rest-part s (length s - one .left), d .left, m .ends) at g in
+            let g′ = rw (rest-is-drop s (length s - one .left), d .left, m .ends) at g in
             let e = g′ .done bs (m .others) rest (at + 1 + length (printTerm (m .term) [])) t (m .next) in
             rw (m .terms)
             (cons-done n bs (m .term) (m .others) at first seen i s (m .behind) rest gates g₁ g₂ slots filled one r (m .here .printed) (m .there) d e);

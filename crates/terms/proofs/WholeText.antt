@@ -1,20 +1,20 @@
 -- A whole text: where the readers of its inputs, gates and outputs start, the table that they are lent, and what they have done together.
 -- Assumes nothing.
 use mathlib.Core.Path.{_≡_, refl, sym, ap, _∙_}
-use mathlib.Core.Bool.{true, _&&_}
-use mathlib.Core.List.{List, [], _∷_, _++_, map, append-assoc}
+use mathlib.Core.Bool.{true}
+use mathlib.Core.List.{List, [], _∷_, _++_, map, append-assoc, map-append, map-map}
 use Prim.Native.Nat.{ℕ, suc, _+_, _-_, _*_, _≤_}
 use native.Mathlib.Omega.{arith}
-use lib.Dec.{leb}
-use lib.ListN.{length, getD, take, drop, length-map, length-append}
+use lib.ListN.{length, take, drop, length-map, length-append}
 use lib.Seq.{take-take, take-at}
 use Rattle.laws.specs.Lists.{all}
-use Rattle.laws.proofs.Tests.{and-left, and-right, and-intro, or-left}
+use Rattle.laws.proofs.Tests.{and-left, and-right, and-intro}
 use Rattle.laws.proofs.Quantifiers.{all-append}
-use Rattle.netlist.specs.Limits.{maxInputs, maxGates, maxOutputs, maxDepth, maxName}
-use Rattle.grammar.proofs.ListFacts.{and3}
+use Rattle.laws.proofs.Elements.{rest-is-drop}
+use Rattle.grammar.proofs.WritingTree.{plain-node}
+use Rattle.netlist.specs.Limits.{maxInputs, maxGates, maxOutputs, maxDepth}
 use Rattle.netlist.specs.Netlist.{Name}
-use Rattle.netlist.specs.StoredBlock.{letter, underscore, nameStart, nameByte, legalName, plainName, nodeName, nodeWord}
+use Rattle.netlist.specs.StoredBlock.{plainName, nodeName, nodeWord}
 use Rattle.netlist.specs.Syntax.{GateLine, Tree, apply, printInput, printGate, printOutput, printLines, print, legalTerm, legalGate, legalTree}
 use Rattle.netlist.specs.Reading.{Mention, Binding, lineGates, inputBindings, gateBindings, bindings, declaredNodes, declaredPorts, gateLinesAt, outputLinesAt}
 use Rattle.grammar.proofs.Shorter.{Ending, ending}
@@ -22,7 +22,6 @@ use Rattle.grammar.proofs.Places.{printInput-split, printGate-split, lines-spli
 use Rattle.names.specs.Packed.{packed}
 use Rattle.names.specs.declared.Counts.{Counts}
 use Rattle.names.specs.Results.{treeCounts, declared, packedNames, nodeWords}
-use Rattle.names.proofs.ListFacts.{map-append, map-map}
 use Rattle.names.proofs.TreeLines.{legal-parts}
 use Rattle.names.proofs.TreeCounts.{WithinLimits, limits-within, sum-none, named-le}
 use Rattle.names.proofs.TreeTable.{bindings-length}
@@ -31,18 +30,9 @@ use Rattle.terms.specs.Walk.{Table, declaredNames}
 use Rattle.terms.specs.Lines.{inputForm, gateForm, outputForm, linesCost, LinesAt, LinesHere, LinesDone, LinesRead}
 use Rattle.terms.specs.declared.Walked.{Walked}
 use Rattle.terms.proofs.ListFacts.{sum-ones}
-use Rattle.names.proofs.Scanning.{rest-part}
 use Rattle.terms.specs.Resolution.{TreeAt}
 
 -- ---- the table
-
-plain-node : (x : Name) → plainName x ≡ true → nodeName x ≡ true
-unfolding plainName nodeName legalName nameStart
-plain-node x h =
-    let size = leb 1 (length x) && leb (length x) maxName in
-    let a = and3 size (letter (getD x 0 0)) (all nameByte x) h in
-    and-intro (size && nameStart (getD x 0 0)) (all nameByte x)
-    (and-intro size (nameStart (getD x 0 0)) (a .0) (or-left (letter (getD x 0 0)) (underscore (getD x 0 0)) (a .1))) (a .2)
 
 inputs-named : (ss : List Name) (k : ℕ) → all plainName ss ≡ true → all nodeName (declaredNames (inputBindings ss k)) ≡ true
 unfolding declaredNames inputBindings
@@ -96,7 +86,7 @@ module _ (t : Tree) (text : List ℕ) (c : Counts) (names words : List ℕ) (w :
       rw node-count
       (sym (take-take (length (declaredNodes t)) (length (declared t)) names h) ∙ ap (take (length (declaredNodes t))) (w .numbersAre ∙ map-append f (declaredNodes t) (declaredPorts t))
       ∙ take-at (map f (declaredNodes t)) (map f (declaredPorts t)) (length (declaredNodes t)) (length-map (declaredNodes t) f)
-      ∙ map-map packed (λ (d : Mention). d .name) (declaredNodes t) ∙ ap (map packed) (sym (bound-names t)) ∙ sym (map-map packed (λ (b : Binding). b .name) (bindings t)))
+      ∙ sym (map-map packed (λ (d : Mention). d .name) (declaredNodes t)) ∙ ap (map packed) (sym (bound-names t)) ∙ map-map packed (λ (b : Binding). b .name) (bindings t))
 
   node-values : take (c .inputs + c .named) words ≡ map (λ (b : Binding). nodeWord (length (t .inputs)) (b .node)) (bindings t)
   unfolding nodeWords
@@ -187,7 +177,7 @@ module _ (t : Tree) (text : List ℕ) (c : Counts) (names words : List ℕ) (w :
   rest left = take (length text - (length text - left)) (drop (length text - left) text)
 
   rest-is : (left : ℕ) (u : List ℕ) → left ≡ length u → Ending u text → rest left ≡ u
-  rest-is left u e h = rest-part text (length text - left) ∙ rw e (h .dropped)
+  rest-is left u e h = rest-is-drop text (length text - left) ∙ rw e (h .dropped)
 
   abbrev pub nodes : ℕ
   nodes = c .inputs + c .named

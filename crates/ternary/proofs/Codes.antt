@@ -25,13 +25,6 @@ high-undefined zero h = absurd (omega arith)
 high-undefined (suc zero) h = absurd (omega arith)
 high-undefined (suc (suc v)) h = refl
 
--- a value is the value of its code
-pub value-code : (v : Value) → valueOf (code v) ≡ v
-unfolding code valueOf
-value-code undefined = refl
-value-code (val true) = refl
-value-code (val false) = refl
-
 -- only undefined has code 2
 pub defined-code : (v : Value) → (code v ≡ 2 → ⊥) → defined v ≡ true
 unfolding code defined

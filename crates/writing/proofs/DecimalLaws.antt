@@ -1,13 +1,16 @@
--- The decimal digits of a number: one, or those of a tenth and one more. Cited by `pieces::put_decimal`. Assumes nothing.
+-- The decimal digits of a number: one, or those of a tenth and one more. A smaller number has no more of them. Cited by
+-- `pieces::put_decimal` and `pieces::put_gate_name`. Assumes nothing.
 use Prim.Native.Nat.{ℕ, zero, suc, _+_, _/_, _%_, _≤_, _<_}
 use mathlib.Core.Path.{_≡_, refl, ap}
 use mathlib.Core.Logic.{⊎-elim}
 use mathlib.Core.List.{List, [], _∷_, _++_}
 use native.Mathlib.Nat.{not-suc-le-zero}
 use native.Mathlib.Omega.{arith}
+use lib.ListN.{length, length-append}
 use borrow.Author.Tests.{lt-ltb, le-ltb}
 use Rattle.laws.proofs.Tests.{lt-or-le}
 use Rattle.netlist.specs.Writing.{digits, decimal}
+use Rattle.writing.specs.Pieces.{Short}
 
 -- how many digits are allowed plays no part
 digits-enough : (most more v : ℕ) → v < most → v < more → digits most v ≡ digits more v
@@ -29,3 +32,22 @@ unfolding decimal digits
 decimal-more v l =
     rw (le-ltb v 10 l)
     (ap (λ (r : List ℕ). r ++ ((48 + v % 10) ∷ [])) (digits-enough v (suc (v / 10)) (v / 10) (omega arith) (omega arith)))
+
+decimal-length : (v : ℕ) → 10 ≤ v → length (decimal v) ≡ length (decimal (v / 10)) + 1
+decimal-length v l = rw (decimal-more v l) (length-append (decimal (v / 10)) ((48 + v % 10) ∷ []))
+
+digits-grow : (most v w : ℕ) → w < most → v ≤ w → length (decimal v) ≤ length (decimal w)
+digits-grow zero v w l h = absurd (not-suc-le-zero l)
+digits-grow (suc most) v w l h = ⊎-elim one (λ u. more u (digits-grow most (v / 10) (w / 10) (omega arith) (omega arith))) (lt-or-le v 10)
+  where
+    few : w < 10 → 1 ≤ length (decimal w)
+    few u = rw (decimal-one w u) (omega arith)
+
+    one : v < 10 → length (decimal v) ≤ length (decimal w)
+    one u = rw (decimal-one v u) (⊎-elim few (λ many. omega (arith, decimal-length w many)) (lt-or-le w 10))
+
+    more : 10 ≤ v → length (decimal (v / 10)) ≤ length (decimal (w / 10)) → length (decimal v) ≤ length (decimal w)
+    more u ih = omega (arith, ih, decimal-length v u, decimal-length w (omega arith))
+
+pub short-smaller : {v w at : ℕ} → v ≤ w → Short (decimal w) at → Short (decimal v) at
+short-smaller {v} {w} l h = record { small = omega (arith, digits-grow (suc w) v w (omega arith) l, h .small) }

@@ -5,9 +5,7 @@ use mathlib.Core.Bool.{true, false}
 use mathlib.Core.List.{List, _++_}
 use native.Mathlib.Omega.{arith}
 use lib.ListN.{length, getD}
-use lib.Seq.{sets, sets-eq}
 use borrow.Author.Tests.{lt-ltb, le-ltb}
-use Rattle.laws.specs.Lists.{placed}
 use Rattle.netlist.specs.StoredBlock.{gatesAt, outputsAt, decode, torn}
 use Rattle.netlist.specs.Answers.{done, refused, refuseIf, inRoom}
 use Rattle.netlist.specs.declared.Refusal.the-variants.{MalformedBlock, NoRoom}
@@ -40,7 +38,3 @@ module _ (ws : List ℕ) (room : ℕ) (whole : torn ws ≡ false) where
   pub outcome-done : length (blockText ws) ≤ room → write ws room ≡ done (blockText ws) (length (blockText ws)) 0
   unfolding write written counted refuseIf inRoom
   outcome-done l = rw (whole, written-pieces ws whole, le-ltb room (length (blockText ws)) l) refl
-
--- a piece at the start, and what stood behind it
-pub sets-placed : (xs l : List ℕ) → length xs ≤ length l → sets l 0 xs ≡ placed xs l
-sets-placed xs l h = let e : 0 + length xs ≡ length xs = omega arith in rw e at (sets-eq xs l 0 (omega arith))

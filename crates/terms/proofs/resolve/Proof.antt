@@ -110,7 +110,7 @@ sub-t15 : tie.Need-sub-t15
 sub-t15 c = let o = c .before .before .before .before .before in
     let s = o .before .before .before .before .before .before .before .before .before .before .before .before .before .before .before .before .before .before .before .before in
     let a = s .args in
-    let t = s .pre .tree in let w = s .pre .here in unknown-short t (a .text .now) (a .c) (a .names .now) (a .words .now) w (a .gates .now) (o .before .before .before .before .before .before .before .before .gate-lines .last .1 .1 .1 .1 .1 .0) (a .outputs .now) (o .output-lines .last .1 .1 .1 .1 .1 .0) (o .before .before .before .before .before .before .before .before .gate-lines .result) (o .output-lines .result) (gates-walked o t w) (outputs-walked o t w)
+    let t = s .pre .tree in let w = s .pre .here in omega (arith, unknown-short t (a .text .now) (a .c) (a .names .now) (a .words .now) w (a .gates .now) (o .before .before .before .before .before .before .before .before .gate-lines .last .1 .1 .1 .1 .1 .0) (a .outputs .now) (o .output-lines .last .1 .1 .1 .1 .1 .0) (o .before .before .before .before .before .before .before .before .gate-lines .result) (o .output-lines .result) (gates-walked o t w) (outputs-walked o t w))
 
 same-length-3 : tie.Need-same-length-3
 same-length-3 c = search needs

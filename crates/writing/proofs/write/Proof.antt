@@ -6,12 +6,13 @@ use mathlib.Core.Path.{_≡_, refl, ap, _∙_}
 use native.Mathlib.Omega.{arith}
 use lib.ListN.{length}
 use borrow.Author.Needs.{needs}
+use Rattle.laws.proofs.Slices.{sets-placed}
 use Rattle.netlist.specs.StoredBlock.{torn}
 use Rattle.netlist.specs.declared.Answer.the-variants.{Done}
 use Rattle.netlist.specs.Answers.{answerOf, leftIn}
 use Rattle.block.proofs.Answered.{told-whole, told-torn}
 use Rattle.writing.specs.Pieces.{blockText}
-use Rattle.writing.proofs.Outcomes.{block-short, outcome-torn, outcome-short, outcome-done, sets-placed}
+use Rattle.writing.proofs.Outcomes.{block-short, outcome-torn, outcome-short, outcome-done}
 use Rattle.writing.proofs.write.Statement.{statement}
 use Rattle.writing.proofs.write.Tie as tie
 

@@ -6,10 +6,10 @@ use mathlib.Core.Bool.{true}
 use native.Mathlib.Omega.{arith}
 use borrow.Author.Needs.{needs}
 use Rattle.laws.specs.Lists.{all, upTo}
+use Rattle.laws.proofs.Quantifiers.{all-next}
 use Rattle.netlist.specs.Limits.{maxInputs}
 use Rattle.assignments.specs.Over.{masks}
 use Rattle.assignments.specs.Entries.{neededBy, minimalBy}
-use Rattle.assignments.proofs.ListFacts.{all-next}
 use Rattle.assignments.proofs.Bounds.{power-next}
 use Rattle.assignments.proofs.Entry.{power-small, needed-free, needed-fixed, not-minimal, InTable, dropped-in}
 use Rattle.assignments.proofs.entries.is_minimal.Statement.{statement}

@@ -1,11 +1,12 @@
 -- `block::names::is_same` meets its contract: the words passed are the same. Assumes nothing.
-use mathlib.Core.Path.{_≡_, refl}
+use mathlib.Core.Path.{_≡_, refl, sym}
 use mathlib.Core.Bool.{true, false}
 use Prim.Native.Nat.{_≤_, _-_}
 use borrow.Author.Needs.{needs}
 use Rattle.laws.specs.Lists.{all, upTo}
+use Rattle.laws.proofs.Quantifiers.{all-next, all-not}
 use borrow.Author.Tests.{eq-eqb, ne-eqb}
-use Rattle.block.proofs.TestLaws.{passes-one, fails-one, passed}
+use Rattle.block.proofs.TestLaws.{passed}
 use Rattle.block.specs.Steps.{sameWord}
 use Rattle.encoding.specs.Rules.{sameName}
 use Rattle.block.proofs.names.is_same.Statement.{statement}
@@ -38,7 +39,7 @@ returns c =
     let a = c .before .before .before .before .before .before .args in
     let l = c .before .before .before .before .loop in
     let e : sameWord (a .words .now) (a .at) (a .other) (l .i) ≡ false = rw (← c .before .before .word-at .ensures, ← c .before .word-at2 .ensures) (ne-eqb _ _ (c .if1 .taken)) in
-    fails-one (sameWord (a .words .now) (a .at) (a .other)) 4 (l .i) (c .before .before .before .loop-test .taken) e
+    sym (all-not (sameWord (a .words .now) (a .at) (a .other)) 4 (l .i) (c .before .before .before .loop-test .taken) e)
 
 add-i : tie.Need-add-i Inv-loop μ-loop
 add-i c = search needs
@@ -51,7 +52,7 @@ loop-again c =
     let a = c .before .before .before .before .before .before .args in
     let l = c .before .before .before .before .loop in
     let e : sameWord (a .words .now) (a .at) (a .other) (l .i) ≡ true = rw (← c .before .before .word-at .ensures, ← c .before .word-at2 .ensures) (eq-eqb _ _ (c .if1 .left)) in
-    (search needs, passes-one (sameWord (a .words .now) (a .at) (a .other)) (l .i) (l .inv .1) e)
+    (search needs, all-next (sameWord (a .words .now) (a .at) (a .other)) (l .i) (l .inv .1) e)
 
 returns-2 : tie.Need-returns-2 Inv-loop μ-loop
 unfolding sameName

@@ -1,9 +1,17 @@
 -- `convert::refusal::tell` meets its contract: its five pieces, one after the other. Assumes nothing.
+use Prim.Native.Nat.{_≤_}
+use native.Mathlib.Omega.{arith}
+use lib.ListN.{length}
 use borrow.Author.Needs.{needs}
+use Rattle.netlist.specs.Writing.{decimal}
 use Rattle.convert.proofs.refusal.tell.Statement.{statement}
 use Rattle.convert.proofs.refusal.tell.Tie as tie
-use Rattle.writing.proofs.Appending.{appended-then, short-first, short-rest}
-use Rattle.convert.proofs.Lines.{toldLine, told-short, line-told}
+use Rattle.writing.proofs.Appending.{appended-then}
+use Rattle.convert.proofs.Lines.{toldLine, number-short, line-told}
+
+-- neither number has more than 20 digits, so every end is a small number
+digits : (c : tie.After-detail-of) → (length (decimal (c .before .number-of .result)) ≤ 20) × (length (decimal (c .detail-of .result)) ≤ 20)
+digits c = (number-short (c .before .number-of .result) (c .before .number-of .ok), number-short (c .detail-of .result) (c .detail-of .ok))
 
 number-of-requires : tie.Need-number-of-requires
 number-of-requires c κs = search needs
@@ -18,26 +26,30 @@ put-all-requires : tie.Need-put-all-requires
 put-all-requires c κs = search needs
 
 put-decimal-requires : tie.Need-put-decimal-requires
-unfolding toldLine
-put-decimal-requires c κs = short-first _ (short-rest _ (told-short (c .before .before .before .before .before .before .before .number-of .ok) (c .before .before .before .before .before .before .detail-of .ok)) (c .before .before .before .put-all .ensures))
+put-decimal-requires c κs =
+    let few = digits (c .before .before .before .before .before .before) in
+    record { small = omega (arith, few .0, few .1, c .before .before .before .put-all .ensures .endIs) }
 
 slice-aggregate-put-all-2 : tie.Need-slice-aggregate-put-all-2
 slice-aggregate-put-all-2 c = search needs
 
 put-all-requires-2 : tie.Need-put-all-requires-2
-unfolding toldLine
-put-all-requires-2 c κs = short-first _ (short-rest _ (short-rest _ (told-short (c .before .before .before .before .before .before .before .before .before .before .before .before .number-of .ok) (c .before .before .before .before .before .before .before .before .before .before .before .detail-of .ok)) (c .before .before .before .before .before .before .before .before .put-all .ensures)) (c .before .before .before .before .put-decimal .ensures))
+put-all-requires-2 c κs =
+    let few = digits (c .before .before .before .before .before .before .before .before .before .before .before) in
+    record { small = omega (arith, few .0, few .1, c .before .before .before .before .before .before .before .before .put-all .ensures .endIs, c .before .before .before .before .put-decimal .ensures .endIs) }
 
 put-decimal-requires-2 : tie.Need-put-decimal-requires-2
-unfolding toldLine
-put-decimal-requires-2 c κs = short-first _ (short-rest _ (short-rest _ (short-rest _ (told-short (c .before .before .before .before .before .before .before .before .before .before .before .before .before .before .before .before .number-of .ok) (c .before .before .before .before .before .before .before .before .before .before .before .before .before .before .before .detail-of .ok)) (c .before .before .before .before .before .before .before .before .before .before .before .before .put-all .ensures)) (c .before .before .before .before .before .before .before .before .put-decimal .ensures)) (c .before .before .before .put-all2 .ensures))
+put-decimal-requires-2 c κs =
+    let few = digits (c .before .before .before .before .before .before .before .before .before .before .before .before .before .before .before) in
+    record { small = omega (arith, few .0, few .1, c .before .before .before .before .before .before .before .before .before .before .before .before .put-all .ensures .endIs, c .before .before .before .before .before .before .before .before .put-decimal .ensures .endIs, c .before .before .before .put-all2 .ensures .endIs) }
 
 slice-aggregate-put-all-3 : tie.Need-slice-aggregate-put-all-3
 slice-aggregate-put-all-3 c = search needs
 
 put-all-requires-3 : tie.Need-put-all-requires-3
-unfolding toldLine
-put-all-requires-3 c κs = short-rest _ (short-rest _ (short-rest _ (short-rest _ (told-short (c .before .before .before .before .before .before .before .before .before .before .before .before .before .before .before .before .before .before .before .before .before .number-of .ok) (c .before .before .before .before .before .before .before .before .before .before .before .before .before .before .before .before .before .before .before .before .detail-of .ok)) (c .before .before .before .before .before .before .before .before .before .before .before .before .before .before .before .before .before .put-all .ensures)) (c .before .before .before .before .before .before .before .before .before .before .before .before .before .put-decimal .ensures)) (c .before .before .before .before .before .before .before .before .put-all2 .ensures)) (c .before .before .before .before .put-decimal2 .ensures)
+put-all-requires-3 c κs =
+    let few = digits (c .before .before .before .before .before .before .before .before .before .before .before .before .before .before .before .before .before .before .before .before) in
+    record { small = omega (arith, few .0, few .1, c .before .before .before .before .before .before .before .before .before .before .before .before .before .before .before .before .before .put-all .ensures .endIs, c .before .before .before .before .before .before .before .before .before .before .before .before .before .put-decimal .ensures .endIs, c .before .before .before .before .before .before .before .before .put-all2 .ensures .endIs, c .before .before .before .before .put-decimal2 .ensures .endIs) }
 
 same-length : tie.Need-same-length
 same-length c = search needs

@@ -5,8 +5,8 @@ use native.Mathlib.Omega.{arith}
 use lib.ListN.{length, length-set}
 use lib.Seq.{sets}
 use Rattle.laws.specs.Lists.{tab}
+use Rattle.laws.proofs.Stores.{sets-next}
 use Rattle.copying.specs.Words.{entryWord, entryWords}
-use Rattle.copying.proofs.ListFacts.{sets-next}
 use Rattle.copying.proofs.entry.copy_entry.Statement.{statement}
 use Rattle.copying.proofs.entry.copy_entry.Tie as tie
 
@@ -42,7 +42,7 @@ loop-again c =
     let a = c .before .before .before .before .before .before .args in
     let l = c .before .before .loop in (
       omega arith,
-      sets-next (a .out .now) (l .out) (a .to) (entryWord (a .words .now) (a .from) (a .n) (a .m) (a .first) (a .last) (a .newest .now))
+      sets-next (entryWord (a .words .now) (a .from) (a .n) (a .m) (a .first) (a .last) (a .newest .now)) (a .out .now) (l .out) (a .to)
           (l .i) (c .entry-word .result) (l .inv .1) (c .entry-word .ensures),
       length-set (l .out) (a .to + l .i) (c .entry-word .result) ∙ l .inv .2,
     )

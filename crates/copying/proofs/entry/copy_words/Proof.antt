@@ -5,8 +5,8 @@ use native.Mathlib.Omega.{arith}
 use lib.ListN.{length, getD, length-set}
 use lib.Seq.{sets}
 use Rattle.laws.specs.Lists.{tab}
+use Rattle.laws.proofs.Stores.{sets-next}
 use Rattle.copying.specs.Words.{wordFrom}
-use Rattle.copying.proofs.ListFacts.{sets-next}
 use Rattle.copying.proofs.entry.copy_words.Statement.{statement}
 use Rattle.copying.proofs.entry.copy_words.Tie as tie
 
@@ -49,7 +49,7 @@ loop-again c =
     let a = c .before .before .before .args in
     let l = c .before .before .loop in (
       omega arith,
-      sets-next (a .out .now) (l .out) (a .at) (wordFrom (a .words .now) (a .at)) (l .i) (getD (a .words .now) (a .at + l .i) 0) (l .inv .1) refl,
+      sets-next (wordFrom (a .words .now) (a .at)) (a .out .now) (l .out) (a .at) (l .i) (getD (a .words .now) (a .at + l .i) 0) (l .inv .1) refl,
       length-set (l .out) (a .at + l .i) (getD (a .words .now) (a .at + l .i) 0) ∙ l .inv .2,
     )
 

@@ -3,8 +3,8 @@ use mathlib.Core.Path.{_≡_}
 use native.Mathlib.Omega.{arith}
 use lib.ListN.{drop}
 use borrow.Author.Needs.{needs}
+use Rattle.laws.proofs.Elements.{rest-is-drop}
 use Rattle.names.specs.Lines.{lineOpens}
-use Rattle.names.proofs.Scanning.{rest-part}
 use Rattle.names.proofs.lines.line_gates.Statement.{statement}
 use Rattle.names.proofs.lines.line_gates.Tie as tie
 
@@ -26,13 +26,13 @@ sub-result c = search needs
 returns : tie.Need-returns
 returns c =
     let a = c .before .before .before .before .args in
-    let e : c .before .opens .result ≡ lineOpens (drop (a .at) (a .text .now)) = rw (rest-part (a .text .now) (a .at)) at (c .before .opens .ensures) in
+    let e : c .before .opens .result ≡ lineOpens (drop (a .at) (a .text .now)) = rw (rest-is-drop (a .text .now) (a .at)) at (c .before .opens .ensures) in
     omega arith
 
 returns-2 : tie.Need-returns-2
 returns-2 c =
     let a = c .before .before .before .before .args in
-    let e : c .before .opens .result ≡ lineOpens (drop (a .at) (a .text .now)) = rw (rest-part (a .text .now) (a .at)) at (c .before .opens .ensures) in
+    let e : c .before .opens .result ≡ lineOpens (drop (a .at) (a .text .now)) = rw (rest-is-drop (a .text .now) (a .at)) at (c .before .opens .ensures) in
     omega arith
 
 pub line-gates-spec : {M : Type 1} → statement M

@@ -1,8 +1,8 @@
 -- `names::pack::pack_at` meets its contract: past the end there is no name. Assumes nothing.
 use lib.ListN.{drop-of-length-le}
 use borrow.Author.Needs.{needs}
+use Rattle.laws.proofs.Elements.{rest-is-drop}
 use Rattle.names.specs.Packed.{nameFront, nameAt, packedAt}
-use Rattle.names.proofs.Scanning.{rest-part}
 use Rattle.names.proofs.pack.pack_at.Statement.{statement}
 use Rattle.names.proofs.pack.pack_at.Tie as tie
 
@@ -20,7 +20,7 @@ pack-requires c κs = search needs
 
 returns : tie.Need-returns
 unfolding nameFront nameAt packedAt
-returns c = let a = c .before .before .before .before .args in rw (rest-part (a .text .now) (a .at)) at (c .pack .ensures)
+returns c = let a = c .before .before .before .before .args in rw (rest-is-drop (a .text .now) (a .at)) at (c .pack .ensures)
 
 returns-2 : tie.Need-returns-2
 unfolding nameFront nameAt packedAt

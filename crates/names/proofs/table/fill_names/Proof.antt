@@ -5,8 +5,8 @@ use native.Mathlib.Omega.{arith}
 use lib.ListN.{length, length-set}
 use borrow.Author.Needs.{needs}
 use Rattle.laws.specs.Lists.{tab, placed}
+use Rattle.laws.proofs.Tab.{fill-next}
 use Rattle.names.specs.Packed.{packedThrough}
-use Rattle.names.proofs.Filling.{filled-more}
 use Rattle.names.proofs.table.fill_names.Statement.{statement}
 use Rattle.names.proofs.table.fill_names.Tie as tie
 
@@ -46,7 +46,7 @@ loop-again c =
     let a = c .before .before .before .before .before .before .before .args in
     let l = c .before .before .before .loop in (
       omega arith,
-      filled-more (packedThrough (a .text .now) (a .places .now)) (l .i) (c .pack-at .result) (a .names .now) (l .names) (omega arith) (l .inv .1) (c .pack-at .ensures),
+      fill-next (packedThrough (a .text .now) (a .places .now)) (l .i) (a .names .now) (l .names) (c .pack-at .result) (l .inv .1) (omega arith) (c .pack-at .ensures),
       length-set (l .names) (l .i) (c .pack-at .result) ∙ l .inv .2,
     )
 

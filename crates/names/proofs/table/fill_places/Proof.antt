@@ -4,9 +4,9 @@ use mathlib.Core.Path.{_≡_, refl, ap, _∙_}
 use native.Mathlib.Omega.{arith}
 use lib.ListN.{length, length-set}
 use Rattle.laws.specs.Lists.{tab, placed}
+use Rattle.laws.proofs.Tab.{fill-next}
 use Rattle.names.specs.Lines.{lineStart, declaredPlace, placeAt}
 use Rattle.names.proofs.Starts.{start-le, start-more}
-use Rattle.names.proofs.Filling.{filled-more}
 use Rattle.names.proofs.table.fill_places.Statement.{statement}
 use Rattle.names.proofs.table.fill_places.Tie as tie
 
@@ -45,7 +45,7 @@ loop-again c =
     let l = c .before .before .before .loop in (
       omega arith,
       c .next-line .ensures ∙ start-more (a .text .now) (l .i) (l .at) (l .inv .1),
-      filled-more (placeAt (a .text .now)) (l .i) (c .before .declared-at .result) (a .places .now) (l .places) (omega arith) (l .inv .2) (c .before .declared-at .ensures ∙ ap (declaredPlace (a .text .now)) (l .inv .1)),
+      fill-next (placeAt (a .text .now)) (l .i) (a .places .now) (l .places) (c .before .declared-at .result) (l .inv .2) (omega arith) (c .before .declared-at .ensures ∙ ap (declaredPlace (a .text .now)) (l .inv .1)),
       length-set (l .places) (l .i) (c .before .declared-at .result) ∙ l .inv .3,
     )
 

@@ -5,9 +5,9 @@ use native.Mathlib.Numerals.{add-one}
 use native.Mathlib.Omega.{arith}
 use lib.ListN.{length, length-set}
 use Rattle.laws.specs.Lists.{tab, placed}
+use Rattle.laws.proofs.Tab.{fill-next}
 use Rattle.names.specs.Lines.{lineStart, gatesTo, lineWord, wordAt}
 use Rattle.names.proofs.Starts.{start-le, start-more, gates-more, gates-within, lineWord-le}
-use Rattle.names.proofs.Filling.{filled-more}
 use Rattle.names.proofs.table.fill_words.Statement.{statement}
 use Rattle.names.proofs.table.fill_words.Tie as tie
 
@@ -69,7 +69,7 @@ loop-again c =
       omega arith,
       c .next-line .ensures ∙ start-more (a .text .now) (l .i) (l .at) (l .inv .1),
       g,
-      filled-more (wordAt (a .text .now) (a .n)) (l .i) (c .before .line-word .result) (a .words .now) (l .words) (omega arith) (l .inv .3) (c .before .line-word .ensures ∙ ap (lineWord (a .n) (l .i)) (rw (add-one (l .i)) at g)),
+      fill-next (wordAt (a .text .now) (a .n)) (l .i) (a .words .now) (l .words) (c .before .line-word .result) (l .inv .3) (omega arith) (c .before .line-word .ensures ∙ ap (lineWord (a .n) (l .i)) (rw (add-one (l .i)) at g)),
       length-set (l .words) (l .i) (c .before .line-word .result) ∙ l .inv .4,
     )
 

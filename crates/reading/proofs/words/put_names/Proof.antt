@@ -7,9 +7,9 @@ use Prim.Native.Nat.{_-_, _≤_}
 use lib.ListN.{length}
 use lib.Seq.{sets}
 use Rattle.laws.specs.Lists.{tab, joined}
+use Rattle.laws.proofs.Stores.{sets-joined-next}
 use Rattle.reading.specs.Words.{nameOf}
 use Rattle.reading.proofs.BlockWords.{name-size}
-use Rattle.reading.proofs.ListFacts.{stored-joined}
 
 abbrev Inv-loop : tie.InvT-loop
 Inv-loop names n block₀ i₀ block i = (i ≤ n) × (block ≡ sets block₀ 3 (joined (tab (nameOf names) i))) × (length block ≡ length block₀)
@@ -46,7 +46,7 @@ unfolding nameOf
 loop-again c = let a = c .before .before .before .before .before .before .before .before .before .args in
     let l = c .before .before .before .before .before .before .loop in (
       omega arith,
-      stored-joined (nameOf (a .names .now)) 4 (name-size (a .names .now)) (a .block .now) (l .block) _ 3 (l .i) (l .inv .1) (c .before .before .put-name .ensures),
+      sets-joined-next (nameOf (a .names .now)) 4 (name-size (a .names .now)) (a .block .now) (l .block) _ 3 (l .i) (l .inv .1) (c .before .before .put-name .ensures),
       c .before .before .put-name .kept .0 ∙ l .inv .2,
     )
 

@@ -7,8 +7,8 @@ use Prim.Native.Nat.{_+_, _-_, _≤_}
 use lib.ListN.{length, getD, length-set}
 use lib.Seq.{sets}
 use Rattle.laws.specs.Lists.{tab}
+use Rattle.laws.proofs.Stores.{sets-next}
 use Rattle.reading.specs.Words.{wordOf}
-use Rattle.reading.proofs.ListFacts.{stored-next}
 
 abbrev Inv-loop : tie.InvT-loop
 Inv-loop words count block₀ at i₀ block i = (i ≤ count) × (block ≡ sets block₀ at (tab (wordOf words) i)) × (length block ≡ length block₀)
@@ -45,7 +45,7 @@ unfolding wordOf
 loop-again c = let a = c .before .before .before .args in
     let l = c .before .before .loop in (
       omega arith,
-      stored-next (wordOf (a .words .now)) (a .block .now) (l .block) (a .at) (l .i) (getD (a .words .now) (l .i) 0) (l .inv .1) refl,
+      sets-next (wordOf (a .words .now)) (a .block .now) (l .block) (a .at) (l .i) (getD (a .words .now) (l .i) 0) (l .inv .1) refl,
       length-set (l .block) (a .at + l .i) (getD (a .words .now) (l .i) 0) ∙ l .inv .2,
     )
 

@@ -23,7 +23,7 @@ slice-reshare-prefix-value-of-gate : tie.Need-slice-reshare-prefix-value-of-gate
 slice-reshare-prefix-value-of-gate c = omega arith
 
 slice-aggregate-value-of-gate : tie.Need-slice-aggregate-value-of-gate Inv-loop μ-loop
-slice-aggregate-value-of-gate c = sym (length-take-le (c .before .before .loop .j) (c .before .before .loop .values) (omega arith))
+slice-aggregate-value-of-gate c = sym (length-take-le _ (c .before .before .loop .values) (omega arith))
 
 value-of-gate-requires : tie.Need-value-of-gate-requires Inv-loop μ-loop
 value-of-gate-requires c κs =

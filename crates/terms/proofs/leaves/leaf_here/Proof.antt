@@ -3,8 +3,8 @@ use mathlib.Core.Path.{sym, _∙_}
 use native.Mathlib.Omega.{arith}
 use Rattle.terms.proofs.Fronts.{leaf-0, leaf-1, leaf-name}
 use Rattle.terms.specs.Leaves.{constantHere}
-use Rattle.terms.proofs.ListFacts.{byte-there}
 use borrow.Author.Needs.{needs}
+use Rattle.laws.proofs.Elements.{byte-there}
 use Rattle.terms.proofs.leaves.leaf_here.Statement.{statement}
 use Rattle.terms.proofs.leaves.leaf_here.Tie as tie
 
@@ -12,14 +12,14 @@ byte-at-requires : tie.Need-byte-at-requires
 byte-at-requires c κs = search needs
 
 sub-t8 : tie.Need-sub-t8
-sub-t8 c = byte-there (c .before .before .before .before .before .args .s .now) 48 (sym (c .before .byte-at .ensures) ∙ c .if1 .taken) (omega arith)
+sub-t8 c = byte-there (c .before .before .before .before .before .args .s .now) (c .before .byte-at .ensures) (c .if1 .taken) (omega arith)
 
 returns : tie.Need-returns
 unfolding constantHere
 returns c = let a = c .before .before .before .before .before .args in leaf-0 (a .s .now) (a .names .now) (a .words .now) (a .unknown) (sym (c .before .byte-at .ensures) ∙ c .if1 .taken)
 
 sub-t9 : tie.Need-sub-t9
-sub-t9 c = byte-there (c .before .before .before .before .before .before .args .s .now) 49 (sym (c .before .before .byte-at .ensures) ∙ c .if2 .taken) (omega arith)
+sub-t9 c = byte-there (c .before .before .before .before .before .before .args .s .now) (c .before .before .byte-at .ensures) (c .if2 .taken) (omega arith)
 
 returns-2 : tie.Need-returns-2
 unfolding constantHere

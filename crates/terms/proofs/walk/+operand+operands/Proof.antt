@@ -2,11 +2,10 @@
 -- each call. Assumes nothing.
 use borrow.Author.Needs.{needs}
 use native.Mathlib.Omega.{arith}
-use mathlib.Core.Path.{_≡_, sym, _∙_}
+use mathlib.Core.Path.{_≡_, sym, _∙_, refl}
 use Prim.Native.Nat.{_+_, _-_}
 use lib.ListN.{length, getD, length-set}
 use Rattle.terms.specs.Walk.{TermAt}
-use Rattle.terms.proofs.ListFacts.{byte-there}
 use mathlib.Core.List.{List}
 use Rattle.netlist.specs.Syntax.{Term}
 use Rattle.terms.proofs.Openings.{Inside, inside}
@@ -14,6 +13,7 @@ use Rattle.terms.proofs.Walking.{table-lengths, rest-length, leaf-read,
 use Prim.Native.Nat.{ℕ, _<_}
 use borrow.Fn.Kinds.{In}
 use borrow.Fn.PlainCycle.{Measures, is, falls, and}
+use Rattle.laws.proofs.Elements.{byte-there}
 use Rattle.terms.proofs.walk.operand.Reads as operand
 use Rattle.terms.proofs.walk.operand.Kinds as operand-kinds
 use Rattle.terms.proofs.walk.+operand+operands.Lts-operand as operand-lts
@@ -58,7 +58,7 @@ operand-byte : (t : ℕ) (c : operand-lts.Else1 (operand-claims t) (operand-at t
 operand-byte t c = sym (c .before .byte-at .ensures) ∙ c .if1 .left
 
 operand-there : (t : ℕ) (c : operand-lts.Else1 (operand-claims t) (operand-at t) operand.Post) → 0 < length (c .before .before .before .before .before .before .args .s .now)
-operand-there t c = byte-there (c .before .before .before .before .before .before .args .s .now) 40 (operand-byte t c) (omega arith)
+operand-there t c = byte-there (c .before .before .before .before .before .before .args .s .now) refl (operand-byte t c) (omega arith)
 
 operand-inside : (t : ℕ) (c : operand-lts.After-word-length (operand-claims t) (operand-at t) operand.Post) (o : Term) (rest : List ℕ)
     → TermAt o (c .before .before .before .before .before .before .before .before .before .args .depth) rest (c .before .before .before .before .before .before .before .before .before .args .s .now)
@@ -171,7 +171,7 @@ operands-byte-at-requires : (t : ℕ) → operands-lts.Need-byte-at-requires (op
 operands-byte-at-requires t c κs = search needs
 
 operands-sub-t16 : (t : ℕ) → operands-lts.Need-sub-t16 (operands-claims t) (operands-at t) operands.Post
-operands-sub-t16 t c = byte-there (c .before .before .before .before .before .before .before .args .s .now) 41 (sym (c .before .byte-at .ensures) ∙ c .if1 .taken) (omega arith)
+operands-sub-t16 t c = byte-there (c .before .before .before .before .before .before .before .args .s .now) (c .before .byte-at .ensures) (c .if1 .taken) (omega arith)
 
 operands-returns : (t : ℕ) → operands-lts.Need-returns (operands-claims t) (operands-at t) operands.Post
 operands-returns t c = let a = c .before .before .before .before .before .before .before .args in nil-read (a .s .now) (a .depth) (a .n) (a .names .now) (a .words .now) (a .first) (a .i) (a .gates .now) (a .slots .now) (a .unknown) (sym (c .before .byte-at .ensures) ∙ c .if1 .taken)

@@ -3,9 +3,9 @@
 use mathlib.Core.Path.{sym, ap, _∙_}
 use denote.Ref.{now}
 use borrow.Author.Needs.{needs}
+use Rattle.rounds.proofs.Values.{valueOf-code}
 use native.Mathlib.Omega.{arith}
 use Rattle.netlist.specs.Values.{code}
-use Rattle.ternary.proofs.Codes.{value-code}
 use Rattle.ternary.proofs.Ruled.{forced-low}
 use Rattle.ternary.proofs.Heads.{Head, headOf, evaluated-not, evaluated-row}
 use Rattle.ternary.proofs.gate.gate_value.Statement.{statement}
@@ -46,7 +46,7 @@ returns c =
     let w = c .before .before .before .before .before in
     let a = w .before .before .before .before .args in
     c .invert-value .ensures
-    ∙ rw (c .before .operand-value .ensures, value-code)
+    ∙ rw (c .before .operand-value .ensures, valueOf-code)
     (ap code
     (sym
     (evaluated-not (a .n) (now (a .words)) (a .at) (now (a .inputs)) (now (a .gates)) (w .word-at .result) (c .before .before .word-at2 .result)

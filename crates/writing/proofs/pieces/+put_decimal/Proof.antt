@@ -4,8 +4,8 @@ use native.Mathlib.Omega.{arith}
 use borrow.Author.Needs.{needs}
 use borrow.Fn.Kinds.{In}
 use borrow.Fn.PlainCycle.{Measures, is, falls, and}
-use Rattle.writing.proofs.DecimalLaws.{decimal-one, decimal-more}
-use Rattle.writing.proofs.Appending.{appended-then, short-first, short-rest}
+use Rattle.writing.proofs.DecimalLaws.{decimal-one, decimal-more, short-smaller}
+use Rattle.writing.proofs.Appending.{appended-then, short-rest}
 use Rattle.writing.proofs.pieces.put_decimal.Reads as put-decimal
 use Rattle.writing.proofs.pieces.put_decimal.Kinds as put-decimal-kinds
 use Rattle.writing.proofs.pieces.+put_decimal.Lts-put_decimal as put-decimal-lts
@@ -74,9 +74,7 @@ put-decimal-put-decimal-requires : (t : ℕ) → put-decimal-lts.Need-put-decima
   put-decimal-below t,
   put-decimal.Post,
 ) (put-decimal-at t) put-decimal.Post
-put-decimal-put-decimal-requires t c κs =
-    let start = c .before .before .before in
-    (omega arith, short-first _ (rw (decimal-more (start .args .v) (c .before .if1 .left)) at (start .pre .1)))
+put-decimal-put-decimal-requires t c κs = (omega arith, short-smaller (omega arith) (c .before .before .before .pre .1))
 
 put-decimal-add-put-2 : (t : ℕ) → put-decimal-lts.Need-add-put-2 (
   put-reads.Asked,

@@ -1,7 +1,9 @@
 -- `writing::pieces::put_gate_name` meets its contract: `_`, and then the number. Assumes nothing.
+use native.Mathlib.Omega.{arith}
 use borrow.Author.Needs.{needs}
 use Rattle.laws.specs.Lists.{ascii}
 use Rattle.netlist.specs.Writing.{gateName, decimal}
+use Rattle.writing.proofs.DecimalLaws.{short-smaller}
 use Rattle.writing.proofs.Appending.{appended-then, short-first, short-rest}
 use Rattle.writing.proofs.pieces.put_gate_name.Statement.{statement}
 use Rattle.writing.proofs.pieces.put_gate_name.Tie as tie
@@ -14,7 +16,7 @@ put-decimal-requires : tie.Need-put-decimal-requires
 unfolding gateName
 put-decimal-requires c κs =
     let opened = c .before .before .before in
-    short-rest (decimal (opened .before .before .before .args .j)) (opened .before .before .before .pre) (opened .put .ensures)
+    short-smaller (omega arith) (short-rest (decimal (opened .before .before .before .args .j)) (opened .before .before .before .pre) (opened .put .ensures))
 
 same-length : tie.Need-same-length
 same-length c = search needs

@@ -42,14 +42,16 @@ put-requires c κs =
     let a = c .before .before .before .before .before .before .before .args in
     let w = c .before .before .before .word-at in
     let l : getD (a .words .now) 0 0 ≤ w .result = omega arith in
-    rw (operand-zero (a .words .now) (a .from) (w .result) (w .ensures) l (c .before .match .keys1)) at (c .before .before .before .before .before .before .before .pre)
+    let short = rw (operand-zero (a .words .now) (a .from) (w .result) (w .ensures) l (c .before .match .keys1)) at (c .before .before .before .before .before .before .before .pre) in
+    record { small = short .small }
 
 put-requires-2 : tie.Need-put-requires-2
 put-requires-2 c κs =
     let a = c .before .before .before .before .before .before .before .args in
     let w = c .before .before .before .word-at in
     let l : getD (a .words .now) 0 0 ≤ w .result = omega arith in
-    rw (operand-one (a .words .now) (a .from) (w .result) (w .ensures) l (c .before .match .keys2)) at (c .before .before .before .before .before .before .before .pre)
+    let short = rw (operand-one (a .words .now) (a .from) (w .result) (w .ensures) l (c .before .match .keys2)) at (c .before .before .before .before .before .before .before .pre) in
+    record { small = short .small }
 
 put-gate-name-requires : tie.Need-put-gate-name-requires
 put-gate-name-requires c κs =
