@@ -1,25 +1,25 @@
 -- When no queued gate joins any more, exactly the leader's group has joined. Cited by `lead_group` and `lead`. Assumes nothing.
-use mathlib.Core.Path.{_≡_, refl, sym, _∙_, subst}
+use mathlib.Core.Path.{_≡_, refl, sym, ap, _∙_, subst}
 use mathlib.Core.Logic.{_⊎_, inl, inr, ⊎-elim}
-use mathlib.Core.Bool.{true, false, cond}
-use mathlib.Core.List.{List}
-use Prim.Native.Nat.{ℕ, _-_, _≤_, _<_}
+use mathlib.Core.Bool.{Bool, true, false, cond, not, _&&_}
+use mathlib.Core.List.{List, _++_}
+use Prim.Native.Nat.{ℕ, zero, suc, _+_, _-_, _≤_, _<_}
 use native.Mathlib.Omega.{arith}
-use lib.ListN.{length, getD, set, length-set}
-use lib.Seq.{getD-set-same, getD-set-other}
-use lib.Dec.{eqb}
-use borrow.Author.Tests.{eqb-true, eq-eqb, ne-eqb}
-use Rattle.laws.specs.Lists.{any}
-use Rattle.laws.proofs.Tests.{bool-cases, not-both, and-left, and-right, and-intro, eq-or-ne}
+use lib.ListN.{length, getD, set, drop, replicate, length-set, length-append, length-drop, length-replicate, getD-replicate, List·getD-append}
+use lib.Seq.{getD-set-same, getD-set-other, getD-append-add, getD-drop, ext-getD}
+use lib.Dec.{eqb, ltb}
+use borrow.Author.Tests.{eqb-true, eq-eqb, ne-eqb, lt-ltb, le-ltb}
+use Rattle.laws.specs.Lists.{any, member, tab, placed}
+use Rattle.laws.proofs.Tests.{bool-cases, not-both, and-left, and-right, and-intro, eq-or-ne, lt-or-le}
 use Rattle.laws.proofs.Quantifiers.{any-at, any-from, member-at, member-from}
+use Rattle.laws.proofs.Tab.{placed-tab, length-tab}
 use Rattle.netlist.specs.Netlist.{Block, gateCount}
 use Rattle.netlist.specs.StoredBlock.{decode}
 use Rattle.netlist.specs.Groups.{Path, stay, step, reads, readBy, reaches, sameGroup}
-use Rattle.reach.proofs.Reach.{path-reaches, reaches-path, reaches-trans}
-use Rattle.reach.proofs.SameGroup.{sameGroup-refl, sameGroup-below}
-use Rattle.search.specs.Search.{gateReads, GatesReady, Queued, Reached}
+use Rattle.reach.proofs.Reach.{path-reaches, reaches-path, reaches-below, reaches-trans, reaches-refl}
+use Rattle.reach.proofs.SameGroup.{sameGroup-refl, sameGroup-sym, sameGroup-trans, sameGroup-below}
+use Rattle.search.specs.Search.{gateReads, GatesReady, SearchReady, StartReady, Queued, Reached}
 use Rattle.components.specs.Leaders.{noLeader, barredBy, ledBy, joins, Joined, none, more, Quiet, Spread, QueueReady, LeadReady, givenBy, GroupLed}
-use Rattle.components.proofs.Barring.{group-queued}
 use Rattle.components.proofs.Joining.{joins-free, joined-length}
 
 module _ (ws : List ℕ) (n m gates l : ℕ) (whole : GatesReady ws n m gates) (gatesAre : m ≡ gateCount (decode ws)) (entry : List ℕ) (ready : LeadReady ws m l entry) (free : getD entry l 0 ≡ noLeader) where
@@ -52,9 +52,29 @@ module _ (ws : List ℕ) (n m gates l : ℕ) (whole : GatesReady ws n m gates) (
   at-l : getD entry₁ l 0 ≡ l
   at-l = getD-set-same entry l l 0 (omega (arith, ready .below, ready .room))
 
-  module _ (queue : List ℕ) (count : ℕ) (barred : List ℕ) (are : (k : ℕ) → k < m → getD barred k 0 ≡ barredBy entry noLeader k) (r : Reached b m l barred queue count) where
-    queued : (k : ℕ) → sameGroup b l k ≡ true → Queued queue count k
-    queued k g = group-queued b m l gatesAre (whole .inside) (ready .below) entry noLeader group-free barred queue count are r k g
+  module _ (queue : List ℕ) (count : ℕ) (barred : List ℕ) (are : (k : ℕ) → k < m → getD barred k 0 ≡ barredBy entry k) (r : Reached b m l barred queue count) where
+    -- ---- the queue holds the group
+
+    not-barred : (k : ℕ) → sameGroup b l k ≡ true → getD barred k 0 ≡ 1 → ⊥
+    unfolding barredBy
+    not-barred k h e =
+        let z : barredBy entry k ≡ 0 = rw (eq-eqb (getD entry k 0) noLeader (group-free k h)) refl in
+        let c : _≡_ {A = ℕ} 0 1 = sym z ∙ sym (are k (above (sameGroup-below b l k h))) ∙ e in
+        omega arith
+
+    from : (i k : ℕ) → k < gateCount b → sameGroup b l i ≡ true → Queued queue count i → Path b i k → reaches b k l ≡ true → Queued queue count k
+    unfolding sameGroup
+    from i k kl g q stay back = q
+    from i k kl g q (step {j = j} d p) back =
+        let jl : j < m = whole .inside i j (above (sameGroup-below b l i g)) d in
+        let lj : reaches b l j ≡ true = reaches-trans b l i j (and-left (reaches b l i) (reaches b i l) g) (path-reaches b i j (below jl) (step d stay)) in
+        let back′ : reaches b j l ≡ true = reaches-trans b j k l (path-reaches b j k kl p) back in
+        let gj : sameGroup b l j ≡ true = and-intro (reaches b l j) (reaches b j l) lj back′ in
+        from j k kl gj (⊎-elim (λ x. absurd (not-barred j gj x)) (λ x. x) (r .closed (q .0) (q .1) j (rw (q .2) d))) p back
+
+    group-queued : (k : ℕ) → sameGroup b l k ≡ true → Queued queue count k
+    unfolding sameGroup
+    group-queued k g = from l k (sameGroup-below b l k g) (sameGroup-refl b l (below (ready .below))) (r .started) (reaches-path b l k (and-left (reaches b l k) (reaches b k l) g)) (and-right (reaches b l k) (reaches b k l) g)
 
     -- ---- what joins is of the group
 
@@ -128,7 +148,7 @@ module _ (ws : List ℕ) (n m gates l : ℕ) (whole : GatesReady ws n m gates) (
 
         still : (sameGroup b l j ≡ true → getD leaders j 0 ≡ l) → getD leaders k 0 ≡ getD entry k 0 → ⊥
         still ih e =
-            let q = queued k g in
+            let q = group-queued k g in
             let no : joins ws n m gates l leaders k ≡ false = rw (q .2) at (quiet (q .0) (q .1)) in
             not-both (reads-joins leaders k j kl (e ∙ group-free k g) d (ih gj)) no
 
@@ -161,6 +181,28 @@ pub group-had : (b : Block) (m l : ℕ) (leaders : List ℕ) → (getD leaders l
 unfolding givenBy
 group-had b m l leaders had = record { sameLength = refl; first = λ k kl. rw (ne-eqb (getD leaders l 0) noLeader had) refl; rest = λ k h. refl }
 
--- what `lead_queued` needs
+-- ---- what the search needs
+
+-- the flags that `bar` leaves
+pub barred-at : (leaders flags entry : List ℕ) (m : ℕ) → flags ≡ placed (tab (barredBy leaders) m) entry → (k : ℕ) → k < m → getD flags k 0 ≡ barredBy leaders k
+barred-at leaders flags entry m e k l = rw e (placed-tab (barredBy leaders) m entry k 0 l)
+
+pub start-ready : (leaders flags entry : List ℕ) (m l : ℕ) → flags ≡ placed (tab (barredBy leaders) m) entry → l < m → getD leaders l 0 ≡ noLeader → StartReady m l flags
+unfolding barredBy
+start-ready leaders flags entry m l e lt free =
+    record {
+      below = lt;
+      free = barred-at leaders flags entry m e l lt ∙ rw (eq-eqb (getD leaders l 0) noLeader free) refl;
+      bits = λ k kl. rw (barred-at leaders flags entry m e k kl) (bit (eqb (getD leaders k 0) noLeader));
+    }
+  where
+    bit : (t : Bool) → (_≡_ {A = ℕ} (cond t 0 1) 0) ⊎ (_≡_ {A = ℕ} (cond t 0 1) 1)
+    bit true = inl refl
+    bit false = inr refl
+
+-- a search needs only the lengths of its flags and its queue
+pub still-room : {ws : List ℕ} {n m gates : ℕ} {flags queue flags′ queue′ : List ℕ} → SearchReady ws n m gates flags queue → length flags′ ≡ length flags → length queue′ ≡ length queue → SearchReady ws n m gates flags′ queue′
+still-room s e f = record { whole = s .whole; flagRoom = rw e (s .flagRoom); queueRoom = rw f (s .queueRoom) }
+
 pub queue-ready : {ws : List ℕ} {n m gates l count : ℕ} {leaders barred queue : List ℕ} → GatesReady ws n m gates → LeadReady ws m l leaders → Reached (decode ws) m l barred queue count → QueueReady ws n m gates l queue count (set leaders l l)
 queue-ready w a r = record { whole = w; below = a .below; room = rw length-set (a .room); queued = λ q lt. r .sound q lt .0 }

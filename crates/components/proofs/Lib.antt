@@ -1,6 +1,5 @@
 -- Mathematics of components; no function of src/ is named.
 pub mod Leader
-pub mod Barring
 pub mod Joining
 pub mod Found
 pub mod Lowest

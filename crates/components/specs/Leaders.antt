@@ -19,9 +19,9 @@ noLeader = 65535
 unfoldable pub leaderOf : Block → ℕ → ℕ
 leaderOf b j = least (sameGroup b j) (gateCount b)
 
--- a flag for each gate whose word is another than `own`; with `noLeader`, for each gate that has a leader
-unfoldable pub barredBy : List ℕ → ℕ → ℕ → ℕ
-barredBy table own k = cond (eqb (getD table k 0) own) 0 1
+-- a flag for each gate that has a leader
+unfoldable pub barredBy : List ℕ → ℕ → ℕ
+barredBy leaders k = cond (eqb (getD leaders k 0) noLeader) 0 1
 
 unfoldable pub ledBy : List ℕ → ℕ → ℕ → Bool
 ledBy leaders leader k = eqb (getD leaders k 0) leader

@@ -25,14 +25,14 @@ pub fn forget(m: usize, leaders: &mut [u16])
     }
 }
 
-// Marks the gates whose word in `table` is another than `own`: a search then keeps to the others.
-pub fn bar_others(m: usize, table: &[u16], own: usize, flags: &mut [u8])
+// Marks the gates that have a leader.
+fn bar(m: usize, leaders: &[u16], flags: &mut [u8])
     requires { ⌜ (m ≤ length (now flags)) × (m ≤ 1024) ⌝ }
-    ensures { λ r. ⌜ now (flags .exit) ≡ placed (tab (barredBy (now (table .entry)) own) m) (now (flags .entry)) ⌝ }
+    ensures { λ r. ⌜ now (flags .exit) ≡ placed (tab (barredBy (now (leaders .entry))) m) (now (flags .entry)) ⌝ }
 {
     let mut i = 0;
     while i < m {
-        flags[i] = (word_at(table, i) != own) as u8;
+        flags[i] = (word_at(leaders, i) != NO_LEADER) as u8;
         i += 1;
     }
 }
@@ -152,7 +152,7 @@ fn lead_group(
     if word_at(leaders, leader) != NO_LEADER {
         return;
     }
-    bar_others(m, leaders, NO_LEADER, flags);
+    bar(m, leaders, flags);
     let count = queue_reach(words, n, m, gates, leader, flags, queue);
     leaders[leader] = leader as u16;
     lead_queued(words, n, m, gates, leader, queue, count, leaders);

@@ -41,9 +41,8 @@ pub record LowestReady (ws order inputs values : List ℕ) : Type 0 where
   pub valueRoom : getD ws 1 0 ≤ length values
 
 -- what the search for an unsettled setting asks
-pub record SearchReady (ws numbers : List ℕ) (count : ℕ) (order inputs values : List ℕ) : Type 0 where
+pub record SearchReady (ws order inputs values : List ℕ) : Type 0 where
   pub whole : torn ws ≡ false
-  pub numbersAre : Numbers (decode ws) (getD ws 1 0) count numbers
   pub orderRoom : getD ws 1 0 ≤ length order
   pub inputRoom : getD ws 0 0 ≤ length inputs
   pub valueRoom : getD ws 1 0 ≤ length values

@@ -19,7 +19,7 @@ use schedule::count_copies;
 use schedule::fill_schedule;
 use verdict::settings::lowest_unsettled;
 use verdict::settings::setting_count;
-use visiting::order_groups;
+use visiting::order_gates;
 
 // Numbers the groups and counts the copies.
 fn plan(words: &[u16], numbers: &mut [u16]) -> Plan
@@ -54,16 +54,14 @@ fn lowest_along(words: &[u16], order: &[u16], inputs: &mut [u8], values: &mut [u
 // Looks for a setting that is not settled.
 fn find_unsettled(
     words: &[u16],
-    numbers: &[u16],
-    count: usize,
     order: &mut [u16],
     inputs: &mut [u8],
     values: &mut [u8],
 ) -> Settings
-    requires { ⌜ SearchReady (now words) (now numbers) count (now order) (now inputs) (now values) ⌝ }
+    requires { ⌜ SearchReady (now words) (now order) (now inputs) (now values) ⌝ }
     ensures { λ r. ⌜ r ≡ settingsOf (sound (decode (now (words .entry)))) (lowestUnsettled (decode (now (words .entry)))) ⌝ }
 {
-    order_groups(words, numbers, count, order);
+    order_gates(words, order);
     let lowest = lowest_along(words, order, inputs, values);
     if lowest < setting_count(header::inputs_of(words)) {
         return Settings::Unsettled(lowest);
@@ -115,7 +113,7 @@ pub fn render_with(
     let Plan::Fit { count, total } = plan(words, numbers) else {
         return Answer::Refused(Refusal::TooManyCopies);
     };
-    let settings = find_unsettled(words, numbers, count, order, inputs, values);
+    let settings = find_unsettled(words, order, inputs, values);
     if let Settings::Unsettled(lowest) = settings {
         return Answer::Refused(Refusal::NotSettled(lowest));
     }

@@ -1,3 +1,2 @@
--- Mathematics of the order in which gates are visited; no function of src/ is named.
-pub mod GroupOrder
-pub mod Turned
+-- Mathematics of a depth-first search; no function of src/ is named.
+pub mod Walked

@@ -1,21 +1,48 @@
--- `visiting::order_gates` meets its contract: there is room for the 1,024 gates that a block may have. Assumes nothing.
+-- `visiting::order_gates` meets its contract: there is room for the 1,024 gates that a block may have, and none is marked yet. Assumes nothing.
+use Prim.Native.Nat.{_≤_}
+use native.Mathlib.Omega.{arith}
 use Rattle.encoding.proofs.Readers.{whole-parts}
+use Rattle.visiting.proofs.Walked.{blank, whole-room}
 use borrow.Author.Needs.{needs}
 use Rattle.visiting.proofs.order_gates.Statement.{statement}
 use Rattle.visiting.proofs.order_gates.Tie as tie
 
-slice-aggregate-order-with : tie.Need-slice-aggregate-order-with
-slice-aggregate-order-with c = search needs
+inputs-of-requires : tie.Need-inputs-of-requires
+inputs-of-requires c κs = search needs
 
-order-with-requires : tie.Need-order-with-requires
-order-with-requires c κs = let s = c .before .before .before .before in (s .pre .0, whole-parts (s .args .words .now) (s .pre .0) .fewGates, s .pre .1)
+gates-of-requires : tie.Need-gates-of-requires
+gates-of-requires c κs = search needs
+
+gates-at-requires : tie.Need-gates-at-requires
+gates-at-requires c κs = omega (arith, c .before .inputs-of .ensures, whole-parts (c .before .before .before .before .args .words .now) (c .before .before .before .before .pre .0) .fewInputs)
+
+slice-aggregate-write-postorder : tie.Need-slice-aggregate-write-postorder
+slice-aggregate-write-postorder c = search needs
+
+slice-aggregate-write-postorder-2 : tie.Need-slice-aggregate-write-postorder-2
+slice-aggregate-write-postorder-2 c = search needs
+
+write-postorder-requires : tie.Need-write-postorder-requires
+write-postorder-requires c κs =
+    let s = c .before .before .before .before .before .before .before .before in
+    let few : c .before .before .before .before .gates-of .result ≤ 1024 = omega (arith, c .before .before .before .before .gates-of .ensures, whole-parts (s .args .words .now) (s .pre .0) .fewGates) in
+    (whole-room (s .args .words .now) (s .pre .0) (c .before .before .before .before .before .inputs-of .ensures) (c .before .before .before .before .gates-of .ensures) (c .before .before .before .gates-at .ensures) (omega arith) (omega arith) (s .pre .1), blank (c .before .before .before .before .gates-of .result) 1024 few)
 
 same-length : tie.Need-same-length
 same-length c = search needs
 
 returns : tie.Need-returns
-returns c = search needs
+returns c = rw (c .before .before .before .before .before .before .before .before .before .gates-of .ensures) at (c .before .before .before .before .write-postorder .ensures)
 
 pub order-gates-spec : {M : Type 1} → statement M
 order-gates-spec =
-    tie.close (tie.spec slice-aggregate-order-with order-with-requires same-length returns)
+    tie.close
+    (tie.spec
+    inputs-of-requires
+    gates-of-requires
+    gates-at-requires
+    slice-aggregate-write-postorder
+    slice-aggregate-write-postorder-2
+    write-postorder-requires
+    same-length
+    returns)

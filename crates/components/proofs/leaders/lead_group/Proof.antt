@@ -1,12 +1,11 @@
 -- `components::leaders::lead_group` meets its contract: what `leader` reaches past no gate that has a leader is queued, and of that its
 -- group gets it. Assumes nothing.
-use mathlib.Core.Path.{refl, sym, _∙_}
+use mathlib.Core.Path.{_≡_, refl, sym, _∙_}
+use native.Mathlib.Omega.{arith}
 use borrow.Author.Needs.{needs}
 use lib.ListN.{length-set}
 use Rattle.netlist.specs.StoredBlock.{decode}
-use Rattle.components.specs.Leaders.{noLeader}
-use Rattle.components.proofs.Barring.{barred-at, start-ready, still-room}
-use Rattle.components.proofs.Found.{group-found, group-had, queue-ready}
+use Rattle.components.proofs.Found.{group-found, group-had, barred-at, start-ready, still-room, queue-ready}
 use Rattle.components.proofs.leaders.lead_group.Statement.{statement}
 use Rattle.components.proofs.leaders.lead_group.Tie as tie
 
@@ -19,14 +18,14 @@ same-length c = search needs
 returns : tie.Need-returns
 returns c = let s = c .before .before .before .before .before .before .before in group-had (decode (s .args .words .now)) (s .args .m) (s .args .leader) (s .args .leaders .now) (λ e. c .if1 .taken (c .before .word-at .ensures ∙ e))
 
-bar-others-requires : tie.Need-bar-others-requires
-bar-others-requires c κs = search needs
+bar-requires : tie.Need-bar-requires
+bar-requires c κs = search needs
 
 queue-reach-requires : tie.Need-queue-reach-requires
 queue-reach-requires c κs =
     let s = c .before .before .before .before .before .before .before .before .before .before .before .before .before .before in (
-      start-ready (s .args .leaders .now) noLeader (c .before .before .before .before .bar-others .last .1 .1 .1 .0) (s .args .flags .now) (s .args .m) (c .before .before .before .before .bar-others .ensures) (s .args .leader) (s .pre .0 .below) (sym (c .before .before .before .before .before .before .before .before .word-at .ensures) ∙ c .before .before .before .before .before .before .before .if1 .left),
-      still-room (s .pre .1 .search) (c .before .before .before .before .bar-others .kept .1 .1 .1 .0) refl,
+      start-ready (s .args .leaders .now) (c .before .before .before .before .bar .last .1 .1 .0) (s .args .flags .now) (s .args .m) (s .args .leader) (c .before .before .before .before .bar .ensures) (s .pre .0 .below) (sym (c .before .before .before .before .before .before .before .before .word-at .ensures) ∙ c .before .before .before .before .before .before .before .if1 .left),
+      still-room (s .pre .1 .search) (c .before .before .before .before .bar .kept .1 .1 .0) refl,
     )
 
 cast-leaders : tie.Need-cast-leaders
@@ -53,8 +52,8 @@ same-length-4 c = search needs
 returns-2 : tie.Need-returns-2
 returns-2 c =
     let s = c .before .before .before .before .before .before .before .before .before .before .before .before .before .before .before .before .before .before .before .before .before .before .before .before in
-    group-found (s .args .words .now) (s .args .n) (s .args .m) (s .args .gates) (s .args .leader) (s .pre .1 .search .whole) (s .pre .1 .gatesAre) (s .args .leaders .now) (s .pre .0) (sym (c .before .before .before .before .before .before .before .before .before .before .before .before .before .before .before .before .before .before .word-at .ensures) ∙ c .before .before .before .before .before .before .before .before .before .before .before .before .before .before .before .before .before .if1 .left) (c .before .before .before .before .before .before .before .before .before .queue-reach .last .1 .1 .1 .1 .1 .1 .0) (c .before .before .before .before .before .before .before .before .before .queue-reach .result) (c .before .before .before .before .before .before .before .before .before .before .before .before .before .before .bar-others .last .1 .1 .1 .0)
-    (barred-at (s .args .leaders .now) noLeader (c .before .before .before .before .before .before .before .before .before .before .before .before .before .before .bar-others .last .1 .1 .1 .0) (s .args .flags .now) (s .args .m) (c .before .before .before .before .before .before .before .before .before .before .before .before .before .before .bar-others .ensures)) (c .before .before .before .before .before .before .before .before .before .queue-reach .ensures) (c .before .before .lead-queued .ensures)
+    group-found (s .args .words .now) (s .args .n) (s .args .m) (s .args .gates) (s .args .leader) (s .pre .1 .search .whole) (s .pre .1 .gatesAre) (s .args .leaders .now) (s .pre .0) (sym (c .before .before .before .before .before .before .before .before .before .before .before .before .before .before .before .before .before .before .word-at .ensures) ∙ c .before .before .before .before .before .before .before .before .before .before .before .before .before .before .before .before .before .if1 .left) (c .before .before .before .before .before .before .before .before .before .queue-reach .last .1 .1 .1 .1 .1 .1 .0) (c .before .before .before .before .before .before .before .before .before .queue-reach .result) (c .before .before .before .before .before .before .before .before .before .before .before .before .before .before .bar .last .1 .1 .0)
+    (barred-at (s .args .leaders .now) (c .before .before .before .before .before .before .before .before .before .before .before .before .before .before .bar .last .1 .1 .0) (s .args .flags .now) (s .args .m) (c .before .before .before .before .before .before .before .before .before .before .before .before .before .before .bar .ensures)) (c .before .before .before .before .before .before .before .before .before .queue-reach .ensures) (c .before .before .lead-queued .ensures)
 
 pub lead-group-spec : {M : Type 1} → statement M
 lead-group-spec =
@@ -63,7 +62,7 @@ lead-group-spec =
     word-at-requires
     same-length
     returns
-    bar-others-requires
+    bar-requires
     queue-reach-requires
     cast-leaders
     mul-leaders

@@ -6,7 +6,7 @@ use borrow.Author.Count.{falls}
 use lib.ListN.{length}
 use Rattle.netlist.specs.Netlist.{gateCount}
 use Rattle.netlist.specs.StoredBlock.{decode}
-use Rattle.components.proofs.Barring.{still-room}
+use Rattle.components.proofs.Found.{still-room}
 use Rattle.components.proofs.Lowest.{Turns, grouped-none, taken-below, turns-start, turns-next, turns-end}
 use Rattle.components.proofs.leaders.lead_groups.Statement.{statement}
 use Rattle.components.proofs.leaders.lead_groups.Tie as tie

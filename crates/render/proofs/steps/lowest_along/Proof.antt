@@ -1,7 +1,6 @@
 -- `render::steps::lowest_along` meets its contract: parts of n and m elements are what the search asks. Assumes nothing.
 use mathlib.Core.Path.{sym}
 use native.Mathlib.Omega.{arith}
-use lib.ListN.{length}
 use lib.Seq.{length-take-le}
 use Rattle.encoding.proofs.Readers.{whole-parts}
 use Rattle.decide.proofs.Legible.{whole-ready}

@@ -1,8 +1,6 @@
 -- `render::steps::plan` meets its contract: the squares of the numbers' groups are the copies. Assumes nothing.
 use mathlib.Core.Path.{ap, _∙_}
-use lib.ListN.{length}
 use Rattle.netlist.specs.StoredBlock.{decode}
-use Rattle.netlist.specs.Groups.{groups}
 use Rattle.schedule.specs.Listing.{copiesOf}
 use Rattle.schedule.proofs.Blocks.{assigned-numbers, count-few, squares-copies}
 use Rattle.render.proofs.Told.{plan-many, plan-fit, planned-numbers}

@@ -33,13 +33,10 @@ returns c =
 
 find-unsettled-requires : tie.Need-find-unsettled-requires
 find-unsettled-requires c κs =
-    let s = c .before .before .before .before .before .before .before .before .before .before .before .before .before .before .before .before .before .before in
-    let ws = s .args .words .now in
-    let f = told-fit (decode ws) (c .before .before .before .before .before .before .before .before .before .plan .result) (c .before .before .before .before .before .count .given .0 .0) (c .before .before .before .before .before .count .given .0 .1 .0) (c .before .before .before .before .before .before .before .before .before .plan .ensures .planIs) (c .before .before .before .before .before .count .given .1) in
+    let s = c .before .before .before .before .before .before .before .before .before .before .before .before .before .before .before .before .before in
     record {
       whole = s .pre .whole;
-      numbersAre = counted-numbers ws (f .1) (c .before .before .before .before .before .before .before .before .before .plan .ensures .numbersAre);
-      orderRoom = few-gates ws (s .pre .whole) (s .pre .orderRoom);
+      orderRoom = few-gates (s .args .words .now) (s .pre .whole) (s .pre .orderRoom);
       inputRoom = s .pre .inputRoom;
       valueRoom = s .pre .valueRoom;
     }
@@ -62,9 +59,9 @@ same-length-5 c = search needs
 returns-2 : tie.Need-returns-2
 unfolding answerOf leftIn
 returns-2 c =
-    let s = c .before .before .before .before .before .before .before .before .before .before .before .before .before .before .before .before .before .before .before .before .before .before .before .before .before .before .before .before in
+    let s = c .before .before .before .before .before .before .before .before .before .before .before .before .before .before .before .before .before .before .before .before .before .before .before .before .before .before .before in
     let ws = s .args .words .now in
-    let f = told-fit (decode ws) (c .before .before .before .before .before .before .before .before .before .before .before .before .before .before .before .before .before .before .before .plan .result) (c .before .before .before .before .before .before .before .before .before .before .before .before .before .before .before .count .given .0 .0) (c .before .before .before .before .before .before .before .before .before .before .before .before .before .before .before .count .given .0 .1 .0) (c .before .before .before .before .before .before .before .before .before .before .before .before .before .before .before .before .before .before .before .plan .ensures .planIs) (c .before .before .before .before .before .before .before .before .before .before .before .before .before .before .before .count .given .1) in
+    let f = told-fit (decode ws) (c .before .before .before .before .before .before .before .before .before .before .before .before .before .before .before .before .before .before .plan .result) (c .before .before .before .before .before .before .before .before .before .before .before .before .before .before .count .given .0 .0) (c .before .before .before .before .before .before .before .before .before .before .before .before .before .before .count .given .0 .1 .0) (c .before .before .before .before .before .before .before .before .before .before .before .before .before .before .before .before .before .before .plan .ensures .planIs) (c .before .before .before .before .before .before .before .before .before .before .before .before .before .before .count .given .1) in
     let u = told-unsettled (decode ws) (c .before .before .before .before .before .before .before .before .before .find-unsettled .result) (c .before .settings .given .0 .0) (c .before .before .before .before .before .before .before .before .before .find-unsettled .ensures) (c .before .settings .given .1) in
     let is = render-undecided ws (length (s .args .rendered .now)) (s .pre .whole) (f .0) (u .0) in
     record { answers = ap (λ v. Refused (NotSettled v)) (u .1) ∙ rw is refl; leaves = rw is refl }
@@ -74,16 +71,16 @@ enum-told-2 c = search needs
 
 finish-requires : tie.Need-finish-requires
 finish-requires c κs =
-    let s = c .before .before .before .before .before .before .before .before .before .before .before .before .before .before .before .before .before .before .before .before .before .before .before .before .before .before .before .before .before .before .before in
+    let s = c .before .before .before .before .before .before .before .before .before .before .before .before .before .before .before .before .before .before .before .before .before .before .before .before .before .before .before .before .before .before in
     let ws = s .args .words .now in
-    let f = told-fit (decode ws) (c .before .before .before .before .before .before .before .before .before .before .before .before .before .before .before .before .before .before .before .before .before .before .plan .result) (c .before .before .before .before .before .before .before .before .before .before .before .before .before .before .before .before .before .before .count .given .0 .0) (c .before .before .before .before .before .before .before .before .before .before .before .before .before .before .before .before .before .before .count .given .0 .1 .0) (c .before .before .before .before .before .before .before .before .before .before .before .before .before .before .before .before .before .before .before .before .before .before .plan .ensures .planIs) (c .before .before .before .before .before .before .before .before .before .before .before .before .before .before .before .before .before .before .count .given .1) in
+    let f = told-fit (decode ws) (c .before .before .before .before .before .before .before .before .before .before .before .before .before .before .before .before .before .before .before .before .before .plan .result) (c .before .before .before .before .before .before .before .before .before .before .before .before .before .before .before .before .before .count .given .0 .0) (c .before .before .before .before .before .before .before .before .before .before .before .before .before .before .before .before .before .count .given .0 .1 .0) (c .before .before .before .before .before .before .before .before .before .before .before .before .before .before .before .before .before .before .before .before .before .plan .ensures .planIs) (c .before .before .before .before .before .before .before .before .before .before .before .before .before .before .before .before .before .count .given .1) in
     record {
       whole = s .pre .whole;
-      numbersAre = counted-numbers ws (f .1) (c .before .before .before .before .before .before .before .before .before .before .before .before .before .before .before .before .before .before .before .before .before .before .plan .ensures .numbersAre);
+      numbersAre = counted-numbers ws (f .1) (c .before .before .before .before .before .before .before .before .before .before .before .before .before .before .before .before .before .before .before .before .before .plan .ensures .numbersAre);
       totalIs = f .2;
       fits = rw (f .2) (f .0);
       settled = told-settled (decode ws) (c .before .before .before .before .before .before .before .before .before .before .before .before .find-unsettled .result) (c .before .before .before .before .before .before .before .before .before .before .before .before .find-unsettled .ensures) (c .before .before .before .before .enum-told2 .given .1);
-      orderRoom = rw (c .before .before .before .before .before .before .before .before .before .before .before .before .find-unsettled .kept .1 .1 .1 .0) (s .pre .orderRoom);
+      orderRoom = rw (c .before .before .before .before .before .before .before .before .before .before .before .before .find-unsettled .kept .1 .0) (s .pre .orderRoom);
       tableRoom = s .pre .tableRoom;
     }
 

@@ -1,5 +1,5 @@
--- `components::leaders::bar_others` meets its contract: after i turns the first i flags tell which gates have another word. Assumes nothing.
-use Prim.Native.Nat.{_-_, _≤_, _<_}
+-- `components::leaders::bar` meets its contract: after i turns the first i flags tell which gates have a leader. Assumes nothing.
+use Prim.Native.Nat.{_+_, _-_, _≤_, _<_}
 use mathlib.Core.Path.{_≡_, refl, _∙_}
 use borrow.Author.Needs.{needs}
 use native.Mathlib.Omega.{arith}
@@ -7,15 +7,15 @@ use lib.ListN.{length, length-set}
 use Rattle.laws.specs.Lists.{tab, placed}
 use Rattle.laws.proofs.Tab.{fill-next}
 use Rattle.components.specs.Leaders.{barredBy}
-use Rattle.components.proofs.Barring.{barred-flag}
-use Rattle.components.proofs.leaders.bar_others.Statement.{statement}
-use Rattle.components.proofs.leaders.bar_others.Tie as tie
+use Rattle.components.proofs.Joining.{barred-flag}
+use Rattle.components.proofs.leaders.bar.Statement.{statement}
+use Rattle.components.proofs.leaders.bar.Tie as tie
 
 abbrev Inv-loop : tie.InvT-loop
-Inv-loop m table own flags₀ i₀ flags i = (i ≤ m) × (flags ≡ placed (tab (barredBy table own) i) flags₀) × (length flags ≡ length flags₀)
+Inv-loop m leaders flags₀ i₀ flags i = (i ≤ m) × (flags ≡ placed (tab (barredBy leaders) i) flags₀) × (length flags ≡ length flags₀)
 
 abbrev μ-loop : tie.MeasureT-loop
-μ-loop m table own flags₀ i₀ flags i = m - i
+μ-loop m leaders flags₀ i₀ flags i = m - i
 
 loop-holds : tie.Need-loop-holds Inv-loop μ-loop
 loop-holds c = (omega arith, refl, refl)
@@ -41,7 +41,7 @@ loop-again c =
     let l = c .before .before .loop in
     let lt : l .i < length (s .args .flags .now) = omega (arith, s .pre .0, c .before .loop-test .taken) in (
       omega arith,
-      fill-next (barredBy (s .args .table .now) (s .args .own)) (l .i) (s .args .flags .now) (l .flags) _ (l .inv .1) lt (barred-flag (s .args .table .now) (s .args .own) (l .i) (c .word-at .result) (c .word-at .ensures)),
+      fill-next (barredBy (s .args .leaders .now)) (l .i) (s .args .flags .now) (l .flags) _ (l .inv .1) lt (barred-flag (s .args .leaders .now) (l .i) (c .word-at .result) (c .word-at .ensures)),
       length-set (l .flags) (l .i) _ ∙ l .inv .2,
     )
 
@@ -51,8 +51,8 @@ same-length c = c .before .loop .inv .2
 returns : tie.Need-returns Inv-loop μ-loop
 returns c = let all : c .before .loop .i ≡ c .before .before .before .before .args .m = omega arith in rw (← all) (c .before .loop .inv .1)
 
-pub bar-others-spec : {M : Type 1} → statement M
-bar-others-spec =
+pub bar-spec : {M : Type 1} → statement M
+bar-spec =
     tie.close
     (tie.spec
     Inv-loop

@@ -1,0 +1,97 @@
+// Depth-first search along operands. A gate is marked when it is pushed, and written when all gates that it reads are marked.
+ghost use mathlib.Core.Path.{_≡_};
+ghost use mathlib.Core.Bool.{true};
+ghost use Prim.Native.Nat.{_≤_, _<_};
+ghost use lib.ListN.{length, getD, take};
+ghost use Rattle.decide.specs.InPlace.{Visits};
+ghost use Rattle.visiting.specs.Postorder.{Unmarked, Room, Written, Grown, Blank};
+use ternary::read::word_at;
+
+// The operand word names a gate that is not marked.
+fn is_unmarked(w: usize, n: usize, m: usize, flags: &[u8]) -> bool
+    requires { ⌜ (n ≤ 65535) × (m ≤ 1024) × (m ≤ length (now flags)) ⌝ }
+    ensures { λ r. ⌜ (r ≡ true → Unmarked n m (now (flags .entry)) w) ⌝ }
+{
+    if w < n {
+        return false;
+    }
+    if n + m <= w {
+        return false;
+    }
+    flags[w - n] == 0
+}
+
+// The first such gate that the gate at `at` reads, or m.
+fn unmarked_operand(words: &[u16], n: usize, m: usize, at: usize, flags: &[u8]) -> usize
+    requires { ⌜ (at ≤ 65535) × (n ≤ 65535) × (m ≤ 1024) × (m ≤ length (now flags)) ⌝ }
+    ensures { λ r. ⌜ (r < m → getD (now (flags .entry)) r 0 ≡ 0) ⌝ }
+{
+    let count = word_at(words, at) / 8;
+    let mut i = 0;
+    while i < count {
+        let w = word_at(words, at + 1 + i);
+        if is_unmarked(w, n, m, flags) {
+            return w - n;
+        }
+        i += 1;
+    }
+    m
+}
+
+// Searches from gate `root`, which is not marked, and writes from `tail` on the gates that are marked meanwhile; the new end.
+fn write_from(
+    words: &[u16],
+    n: usize,
+    m: usize,
+    gates: usize,
+    root: usize,
+    flags: &mut [u8],
+    stack: &mut [u16],
+    order: &mut [u16],
+    tail: usize,
+) -> usize
+    requires { ⌜ Room n m gates (now flags) (now stack) (now order) × Written m (now flags) (now order) tail × (root < m) × (getD (now flags) root 0 ≡ 0) ⌝ }
+    ensures { λ r. ⌜ Grown m root (now (flags .entry)) (now (flags .exit)) (now (order .exit)) r ⌝ }
+{
+    flags[root] = 1;
+    stack[0] = root as u16;
+    let mut depth = 1;
+    let mut end = tail;
+    while 0 < depth {
+        let k = word_at(stack, depth - 1);
+        let next = unmarked_operand(words, n, m, gates + 5 * k, flags);
+        if next < m {
+            flags[next] = 1;
+            stack[depth] = next as u16;
+            depth += 1;
+        } else {
+            order[end] = k as u16;
+            end += 1;
+            depth -= 1;
+        }
+    }
+    end
+}
+
+// Writes every gate. The last gate is searched from first: a ring in ascending order then stays in it.
+pub fn write_postorder(
+    words: &[u16],
+    n: usize,
+    m: usize,
+    gates: usize,
+    flags: &mut [u8],
+    stack: &mut [u16],
+    order: &mut [u16],
+)
+    requires { ⌜ Room n m gates (now flags) (now stack) (now order) × Blank m (now flags) ⌝ }
+    ensures { λ r. ⌜ Visits m (take m (now (order .exit))) ⌝ }
+{
+    let mut tail = 0;
+    let mut left = m;
+    while 0 < left {
+        left -= 1;
+        if flags[left] == 0 {
+            tail = write_from(words, n, m, gates, left, flags, stack, order, tail);
+        }
+    }
+}
