@@ -38,7 +38,7 @@ fn main() -> ExitCode {
 fn print_row(line: &Line) {
     let [library, plain] = [line.library, line.plain].map(|seconds| 1_000.0 * seconds);
     let (name, ratio) = (&line.name, line.ratio());
-    println!("{name:34} {library:12.4} {plain:12.4} {ratio:8.2}");
+    println!("{name:34} {library:12.4} {plain:12.4} {ratio:8.3}");
 }
 
 fn print_line(line: &Line) {
