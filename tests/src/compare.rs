@@ -33,27 +33,15 @@ fn lent<T: Copy + PartialEq + Debug>(
 fn compare<T: Copy + PartialEq + Debug>(
     operation: &str,
     filler: T,
-    expected: (Answer, Vec<T>),
-    run: impl Fn(&mut [T]) -> Reply,
-) {
-    let exact = expected.1.len();
-    let mut rooms = vec![exact, exact + 13];
-    if exact > 0 {
-        rooms.extend([exact - 1, 0]);
-    }
-    compare_in(&rooms, operation, filler, expected, run);
-}
-
-/// Compares one operation in slices of these lengths.
-fn compare_in<T: Copy + PartialEq + Debug>(
-    rooms: &[usize],
-    operation: &str,
-    filler: T,
     (told, result): (Answer, Vec<T>),
     run: impl Fn(&mut [T]) -> Reply,
 ) {
     let exact = result.len();
-    for &room in rooms {
+    let mut rooms = vec![exact, exact + 13];
+    if exact > 0 {
+        rooms.extend([exact - 1, 0]);
+    }
+    for room in rooms {
         let mut expected = (told, vec![filler; room]);
         if told.number == 0 && room < exact {
             expected.0 = Answer::refusal(crate::answer::NO_ROOM, 0);
@@ -79,7 +67,7 @@ pub fn compare_values(words: &[u16], setting: &[u8]) {
     });
 }
 
-/// Compares every operation on a block but Settle, Pass and Cover.
+/// Compares every operation on a block but Settle and Pass.
 fn compare_words(words: &[u16]) {
     let all = usize::MAX;
     count(|tally| tally.words += 1);
@@ -93,6 +81,9 @@ fn compare_words(words: &[u16]) {
     });
     compare("render", 9_999, crate::render(words, all), |rendered| {
         unloop::render(words, rendered)
+    });
+    compare("cover", 9_999, crate::cover(words, all), |entries| {
+        unloop::cover(words, entries)
     });
 }
 
@@ -110,26 +101,15 @@ fn setting(random: &mut Random, n: usize) -> Vec<u8> {
 /// Compares every operation on a block, Settle and Pass from four settings.
 pub fn compare_block(random: &mut Random, words: &[u16]) {
     compare_words(words);
-    let cover = crate::cover(words, usize::MAX);
-    compare("cover", 9_999, cover, |entries| {
-        unloop::cover(words, entries)
-    });
     let n = words.first().map_or(0, |&n| usize::from(n).min(INPUTS));
     for _ in 0..4 {
         compare_values(words, &setting(random, n));
     }
 }
 
-/// Compares every operation on one of the largest blocks, Cover in two slices only: it may take seconds.
+/// Compares every operation on one of the largest blocks, Settle and Pass with all inputs at one value.
 pub fn compare_largest(words: &[u16]) {
     compare_words(words);
-    let cover = crate::cover(words, usize::MAX);
-    let exact = cover.1.len();
-    let rooms = [Some(exact), exact.checked_sub(1)];
-    let rooms: Vec<usize> = rooms.into_iter().flatten().collect();
-    compare_in(&rooms, "cover", 9_999, cover, |entries| {
-        unloop::cover(words, entries)
-    });
     for value in 0..3 {
         compare_values(words, &[value; INPUTS]);
     }

@@ -18,11 +18,7 @@ fn with_stack(bytes: usize, run: impl FnOnce() + Send) {
 
 #[test]
 fn blocks() {
-    for (name, block) in large() {
-        // These take seconds in Verdict, and need no more stack than the other rings.
-        if name.contains("reversed-ring-of-1024") || name.contains("shuffled-ring") {
-            continue;
-        }
+    for (_, block) in large() {
         let words = block.to_words();
         let setting = vec![1; block.inputs.len()];
         let mut values = vec![0; GATES];
