@@ -1,23 +1,23 @@
 -- When no queued gate joins any more, exactly the leader's group has joined. Cited by `lead_group` and `lead`. Assumes nothing.
-use mathlib.Core.Path.{_≡_, refl, sym, ap, _∙_, subst}
+use mathlib.Core.Path.{_≡_, refl, sym, _∙_, subst}
 use mathlib.Core.Logic.{_⊎_, inl, inr, ⊎-elim}
-use mathlib.Core.Bool.{Bool, true, false, cond, not, _&&_}
-use mathlib.Core.List.{List, _++_}
-use Prim.Native.Nat.{ℕ, zero, suc, _+_, _-_, _≤_, _<_}
+use mathlib.Core.Bool.{Bool, true, false, cond}
+use mathlib.Core.List.{List}
+use Prim.Native.Nat.{ℕ, _≤_, _<_}
 use native.Mathlib.Omega.{arith}
-use lib.ListN.{length, getD, set, drop, replicate, length-set, length-append, length-drop, length-replicate, getD-replicate, List·getD-append}
-use lib.Seq.{getD-set-same, getD-set-other, getD-append-add, getD-drop, ext-getD}
-use lib.Dec.{eqb, ltb}
-use borrow.Author.Tests.{eqb-true, eq-eqb, ne-eqb, lt-ltb, le-ltb}
-use Rattle.laws.specs.Lists.{any, member, tab, placed}
-use Rattle.laws.proofs.Tests.{bool-cases, not-both, and-left, and-right, and-intro, eq-or-ne, lt-or-le}
+use lib.ListN.{length, getD, set, length-set}
+use lib.Seq.{getD-set-same, getD-set-other}
+use lib.Dec.{eqb}
+use borrow.Author.Tests.{eqb-true, eq-eqb, ne-eqb}
+use Rattle.laws.specs.Lists.{any, tab, placed}
+use Rattle.laws.proofs.Tests.{bool-cases, not-both, and-left, and-right, and-intro, eq-or-ne}
 use Rattle.laws.proofs.Quantifiers.{any-at, any-from, member-at, member-from}
-use Rattle.laws.proofs.Tab.{placed-tab, length-tab}
+use Rattle.laws.proofs.Tab.{placed-tab}
 use Rattle.netlist.specs.Netlist.{Block, gateCount}
 use Rattle.netlist.specs.StoredBlock.{decode}
 use Rattle.netlist.specs.Groups.{Path, stay, step, reads, readBy, reaches, sameGroup}
-use Rattle.reach.proofs.Reach.{path-reaches, reaches-path, reaches-below, reaches-trans, reaches-refl}
-use Rattle.reach.proofs.SameGroup.{sameGroup-refl, sameGroup-sym, sameGroup-trans, sameGroup-below}
+use Rattle.reach.proofs.Reach.{path-reaches, reaches-path, reaches-trans}
+use Rattle.reach.proofs.SameGroup.{sameGroup-refl, sameGroup-below}
 use Rattle.search.specs.Search.{gateReads, GatesReady, SearchReady, StartReady, Queued, Reached}
 use Rattle.components.specs.Leaders.{noLeader, barredBy, ledBy, joins, Joined, none, more, Quiet, Spread, QueueReady, LeadReady, givenBy, GroupLed}
 use Rattle.components.proofs.Joining.{joins-free, joined-length}

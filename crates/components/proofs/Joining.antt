@@ -1,10 +1,10 @@
 -- Queued gates join a leader one by one: what a sweep over the queue keeps, and that sweeps end. Cited by `lead_gate`, `lead_once`
 -- and `lead_queued`. Assumes nothing.
-use mathlib.Core.Path.{_≡_, refl, sym, ap, _∙_}
-use mathlib.Core.Logic.{_⊎_, inl, inr, ⊎-elim}
-use mathlib.Core.Bool.{Bool, true, false, cond, not, _&&_, and-false}
+use mathlib.Core.Path.{_≡_, refl, sym, _∙_}
+use mathlib.Core.Logic.{⊎-elim}
+use mathlib.Core.Bool.{Bool, true, false, cond, not, and-false}
 use mathlib.Core.List.{List}
-use Prim.Native.Nat.{ℕ, zero, suc, _+_, _-_, _*_, _/_, _≤_, _<_}
+use Prim.Native.Nat.{ℕ, suc, _+_, _-_, _*_, _/_, _≤_, _<_}
 use native.Mathlib.Omega.{arith}
 use lib.ListN.{length, getD, set, length-set}
 use lib.Seq.{getD-set-same, getD-set-other}
@@ -15,7 +15,7 @@ use Rattle.laws.specs.Lists.{any, countBelow}
 use Rattle.laws.proofs.Tests.{bool-cases, not-both, and-left, eq-or-ne}
 use Rattle.laws.proofs.Counting.{countBelow-one}
 use Rattle.search.specs.Search.{wordGates, gateReads}
-use Rattle.components.specs.Leaders.{noLeader, barredBy, ledBy, joins, LedOne, Joined, none, more, unled, Quiet, Swept, Spread, QueueReady}
+use Rattle.components.specs.Leaders.{noLeader, barredBy, ledBy, joins, LedOne, Joined, none, more, unled, Quiet, Swept, QueueReady}
 
 -- the flag that `bar` stores
 pub barred-flag : (leaders : List ℕ) (k leader : ℕ) → leader ≡ getD leaders k 0 → boolByte (not (eqb leader noLeader)) ≡ barredBy leaders k

@@ -3,7 +3,7 @@ use mathlib.Core.Path.{_≡_, refl, sym, _∙_, subst}
 use mathlib.Core.Logic.{_⊎_, inl, inr, ⊎-elim}
 use mathlib.Core.Bool.{Bool, true, false, cond, _&&_}
 use mathlib.Core.List.{List, _++_}
-use Prim.Native.Nat.{ℕ, _+_, _-_, _≤_, _<_}
+use Prim.Native.Nat.{ℕ, _+_, _≤_, _<_}
 use native.Mathlib.Nat.{not-suc-le-zero}
 use native.Mathlib.Omega.{arith}
 use lib.ListN.{length, getD, set, drop, replicate, length-append, length-drop, length-replicate, getD-replicate, List·getD-append}
@@ -32,15 +32,16 @@ placed-is f m entry slice room len first rest = ext-getD 0 slice (placed (tab f 
     behind : (k : ℕ) → m ≤ k → getD (placed (tab f m) entry) k 0 ≡ getD entry k 0
     behind k h = rw (length-tab f m) (getD-past (tab f m) entry m k 0 (length-tab f m) h)
 
+-- what `forget` stores
+forgotten : (m : ℕ) (entry : List ℕ) (k : ℕ) → k < m → getD (replicate m noLeader ++ drop m entry) k 0 ≡ noLeader
+forgotten m entry k l = List·getD-append (replicate m noLeader) (drop m entry) 0 k (rw (length-replicate {A = ℕ} m noLeader) l) ∙ getD-replicate m k noLeader 0 l
+
 -- ---- turns
 
 module _ (b : Block) (m : ℕ) (gatesAre : m ≡ gateCount b) (few : m ≤ 1024) where
   -- at first no gate has a leader
   pub grouped-none : (entry : List ℕ) → Grouped b m (replicate m noLeader ++ drop m entry)
-  grouped-none entry = record { alike = λ i j il jl g. at i il ∙ sym (at j jl); own = λ j jl. inl (at j jl) }
-    where
-      at : (k : ℕ) → k < m → getD (replicate m noLeader ++ drop m entry) k 0 ≡ noLeader
-      at k l = List·getD-append (replicate m noLeader) (drop m entry) 0 k (rw (length-replicate {A = ℕ} m noLeader) l) ∙ getD-replicate m k noLeader 0 l
+  grouped-none entry = record { alike = λ i j il jl g. forgotten m entry i il ∙ sym (forgotten m entry j jl); own = λ j jl. inl (forgotten m entry j jl) }
 
   module _ {l : ℕ} (lt : l < m) {entry leaders : List ℕ} (g : Grouped b m entry) (t : GroupLed b m l entry leaders) where
     -- what is given: gate l, or what stood there
@@ -128,7 +129,7 @@ pub record Firsts (leaders : List ℕ) (m k : ℕ) (firsts : List ℕ) : Type 0 
 
 pub firsts-none : (leaders : List ℕ) (m : ℕ) (entry : List ℕ) → Firsts leaders m 0 (replicate m noLeader ++ drop m entry)
 firsts-none leaders m entry =
-    record { known = λ r l. inl (List·getD-append (replicate m noLeader) (drop m entry) 0 r (rw (length-replicate {A = ℕ} m noLeader) l) ∙ getD-replicate m r noLeader 0 l, λ j h. absurd (not-suc-le-zero h)) }
+    record { known = λ r l. inl (forgotten m entry r l, λ j h. absurd (not-suc-le-zero h)) }
 
 module _ {leaders : List ℕ} {m k : ℕ} {firsts : List ℕ} (f : Firsts leaders m k firsts) (kl : k < m) (few : m ≤ 1024) (leader : ℕ) (is : leader ≡ getD leaders k 0) (small : leader < m) {firsts′ : List ℕ} {first : ℕ} (o : FirstLed leader k firsts firsts′ first) where
   pub first-is : first ≡ firstLike leaders k

@@ -1,16 +1,15 @@
 -- What Groups answers, by cases, and what its inner functions need. Cited by `assign` and `groups`. Assumes nothing.
-use mathlib.Core.Path.{_≡_, refl, sym, ap, _∙_}
+use mathlib.Core.Path.{_≡_, refl, _∙_}
 use mathlib.Core.Bool.{true, false}
 use mathlib.Core.List.{List}
 use Prim.Native.Nat.{ℕ, _≤_, _<_}
-use native.Mathlib.Omega.{arith}
 use lib.ListN.{length, getD}
 use borrow.Author.Tests.{lt-ltb, le-ltb}
 use Rattle.laws.specs.Lists.{tab, placed}
 use Rattle.laws.proofs.Tab.{length-tab, placed-tab}
 use Rattle.netlist.specs.declared.Refusal.the-variants.{MalformedBlock, NoRoom}
 use Rattle.netlist.specs.Netlist.{gateCount}
-use Rattle.netlist.specs.StoredBlock.{decode, torn, gatesAt}
+use Rattle.netlist.specs.StoredBlock.{decode, torn}
 use Rattle.netlist.specs.Groups.{groups, groupNumber, groupNumbers}
 use Rattle.netlist.specs.Answers.{done, refused, refuseIf, inRoom}
 use Rattle.netlist.specs.Operations.{grouping, groupsOf}

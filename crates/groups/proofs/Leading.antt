@@ -10,15 +10,13 @@ use lib.Dec.{eqb}
 use borrow.Author.Tests.{eqb-true, eq-eqb, not-true, not-false}
 use Rattle.laws.specs.Lists.{any, upTo, member}
 use Rattle.laws.proofs.Tests.{bool-cases, same-test, and-left, and-right, and-intro, not-both, not-true-false}
-use Rattle.laws.proofs.Least.{least-at}
 use Rattle.laws.proofs.Quantifiers.{member-at, any-from}
-use Rattle.netlist.specs.Netlist.{Block, gateCount}
+use Rattle.netlist.specs.Netlist.{gateCount}
 use Rattle.netlist.specs.StoredBlock.{decode}
 use Rattle.netlist.specs.Groups.{readBy, reads, sameGroup, groupOf, mayBeNext}
-use Rattle.reach.proofs.ListFacts.{member-keep, member-upTo, upTo-below, least-at-most}
-use Rattle.reach.proofs.SameGroup.{sameGroup-refl, groupOf-member, groupOf-same, groupOf-below}
+use Rattle.reach.proofs.ListFacts.{member-keep, member-upTo, upTo-below}
+use Rattle.reach.proofs.SameGroup.{groupOf-member, groupOf-same, groupOf-below}
 use Rattle.reach.proofs.Next.{ready-reads, ready-intro, mayBeNext-intro, mayBeNext-ready}
-use Rattle.components.specs.Leaders.{leaderOf}
 use Rattle.components.proofs.Leader.{leaders-same, leader-le, leader-same}
 use Rattle.groups.specs.Numbering.{unnumbered, obstacle, groupReads, outside, numberedGates, Lowest, NumberReady}
 use Rattle.groups.proofs.Obstacles.{read-by, reads-of}

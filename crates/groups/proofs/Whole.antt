@@ -1,21 +1,20 @@
 -- Whole words meet what the search and the numbering need. Cited by `assign`. Assumes nothing.
 use mathlib.Core.Path.{_≡_, refl, sym, ap, _∙_}
-use mathlib.Core.Logic.{_⊎_, inl, inr, ⊎-elim}
-use mathlib.Core.Bool.{Bool, true, false}
-use mathlib.Core.List.{List, [], _∷_, map}
-use Prim.Native.Nat.{ℕ, _+_, _-_, _*_, _/_, _≤_, _<_}
+use mathlib.Core.Logic.{inl, inr, ⊎-elim}
+use mathlib.Core.Bool.{false}
+use mathlib.Core.List.{List}
+use Prim.Native.Nat.{ℕ, _+_, _*_, _/_, _≤_, _<_}
 use native.Mathlib.Omega.{arith}
 use lib.ListN.{length, getD}
-use Rattle.laws.specs.Lists.{tab, joined}
+use Rattle.laws.specs.Lists.{joined}
 use Rattle.laws.proofs.Tests.{lt-or-le}
 use Rattle.laws.proofs.Tab.{map-tab, tab-ext}
-use Rattle.netlist.specs.Netlist.{Block, Gate, gateCount, gateOf}
 use Rattle.netlist.specs.StoredBlock.{gatesAt, gateSize, operandOf, gateAt, decode, torn}
 use Rattle.netlist.specs.Groups.{gateOperand, readBy}
 use Rattle.encoding.proofs.Nodes.{operandOf-input, operandOf-zero, operandOf-one, operandOf-gate}
 use Rattle.encoding.proofs.Readers.{OperandWord, whole-parts, whole-gate, whole-reads}
 use Rattle.encoding.proofs.Decoded.{decode-gate, decode-gateCount}
-use Rattle.search.specs.Search.{wordGate, wordGates, SearchReady, gateReads, GatesReady}
+use Rattle.search.specs.Search.{wordGate, wordGates, gateReads, GatesReady}
 use Rattle.search.proofs.Marking.{word-gate, word-none}
 use Rattle.components.specs.Leaders.{leaderOf, Ready}
 use Rattle.groups.specs.Numbering.{NumberReady}

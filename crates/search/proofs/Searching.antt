@@ -1,19 +1,18 @@
--- A breadth-first search keeps its invariant, and at its end the marked gates are those that are reached. Cited by `mark_reach`.
--- Assumes nothing.
-use mathlib.Core.Path.{_≡_, refl, sym, ap, _∙_, subst}
+-- A breadth-first search keeps its invariant, and at its end what is queued is closed under operands but for barred gates. Cited by
+-- `queue_reach`. Assumes nothing.
+use mathlib.Core.Path.{_≡_, refl, sym, _∙_}
 use mathlib.Core.Logic.{_⊎_, inl, inr, ⊎-elim}
-use mathlib.Core.Bool.{Bool, true, false, cond, not, _&&_, _||_, false≢true}
-use mathlib.Core.List.{List, [], _∷_, _++_}
+use mathlib.Core.Bool.{Bool, true, false, cond, not, false≢true}
+use mathlib.Core.List.{List, [], _∷_}
 use Prim.Native.Nat.{ℕ, zero, suc, _+_, _-_, _*_, _/_, _≤_, _<_}
 use native.Mathlib.Nat.{add-zero, not-suc-le-zero, le-of-suc-le-suc}
-use native.Mathlib.Numerals.{add-one}
 use native.Mathlib.Omega.{arith}
-use lib.ListN.{length, getD, set, drop, replicate, length-append, length-set, length-replicate, length-drop, getD-replicate, List·getD-append}
+use lib.ListN.{length, getD, set, length-set}
 use lib.Seq.{getD-set-same, getD-set-other, sets, set-out}
-use lib.Dec.{eqb, leb, ltb}
-use borrow.Author.Tests.{eqb-true, eqb-false, eq-eqb, ne-eqb, ltb-true}
-use Rattle.laws.specs.Lists.{all, any, member}
-use Rattle.laws.proofs.Tests.{eq-or-ne, lt-or-le, and-left, and-right, or-cases, or-left, or-right}
+use lib.Dec.{eqb, ltb}
+use borrow.Author.Tests.{eqb-true, eq-eqb, ltb-true}
+use Rattle.laws.specs.Lists.{all, member}
+use Rattle.laws.proofs.Tests.{eq-or-ne, lt-or-le, or-cases, or-left, or-right}
 use Rattle.laws.proofs.Quantifiers.{member-at, member-from, all-at}
 use Rattle.laws.proofs.Counting.{countBelow-le}
 use Rattle.netlist.specs.Netlist.{Block}

@@ -1,6 +1,5 @@
 -- `components::leaders::lead_gate` meets its contract, by the ways through its tests. Assumes nothing.
 use mathlib.Core.Path.{_∙_, sym}
-use native.Mathlib.Omega.{arith}
 use borrow.Author.Needs.{needs}
 use borrow.Author.Tests.{not-true, not-false}
 use Rattle.components.proofs.Joining.{led-before, reads-none, led-now}

@@ -1,7 +1,6 @@
 -- `components::leaders::lead_group` meets its contract: what `leader` reaches past no gate that has a leader is queued, and of that its
 -- group gets it. Assumes nothing.
-use mathlib.Core.Path.{_≡_, refl, sym, _∙_}
-use native.Mathlib.Omega.{arith}
+use mathlib.Core.Path.{refl, sym, _∙_}
 use borrow.Author.Needs.{needs}
 use lib.ListN.{length-set}
 use Rattle.netlist.specs.StoredBlock.{decode}

@@ -1,6 +1,5 @@
 -- `components::leaders::lead_once` meets its contract: `Sweeping` holds of the queued gates that are passed. Assumes nothing.
 use Prim.Native.Nat.{_-_}
-use mathlib.Core.Path.{_≡_, _∙_}
 use native.Mathlib.Omega.{arith}
 use borrow.Author.Needs.{needs}
 use Rattle.components.proofs.Joining.{Sweeping, sweep-start, sweep-join, sweep-stay, sweep-end, joined-length}

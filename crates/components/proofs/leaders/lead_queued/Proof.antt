@@ -1,7 +1,7 @@
 -- `components::leaders::lead_queued` meets its contract: each sweep but the last leaves fewer gates without a leader. Assumes nothing.
 use Prim.Native.Nat.{_+_}
-use mathlib.Core.Path.{_≡_, refl, _∙_}
-use mathlib.Core.Bool.{true, false, cond}
+use mathlib.Core.Path.{_≡_, refl}
+use mathlib.Core.Bool.{false, cond}
 use Rattle.laws.proofs.Tests.{not-both}
 use Rattle.components.specs.Leaders.{Joined, none, unled, Quiet}
 use Rattle.components.proofs.Joining.{joined-length, joined-then, sweeps-less, sweep-quiet, still-ready}

@@ -1,11 +1,11 @@
 -- `components::leaders::lower` meets its contract: after k turns the first k gates have the first gate with their leader. Assumes nothing.
 use Prim.Native.Nat.{_-_, _≤_, _<_}
-use mathlib.Core.Path.{_≡_, refl, sym, _∙_}
+use mathlib.Core.Path.{_≡_, refl, _∙_}
 use borrow.Author.Needs.{needs}
 use native.Mathlib.Omega.{arith}
 use lib.ListN.{length, getD, length-set}
 use Rattle.laws.specs.Lists.{tab, placed}
-use Rattle.laws.proofs.Tab.{fill-next, length-tab}
+use Rattle.laws.proofs.Tab.{fill-next}
 use Rattle.components.specs.Leaders.{firstLike}
 use Rattle.components.proofs.Lowest.{Firsts, firsts-none, first-is, first-le, firsts-next, still-there}
 use Rattle.components.proofs.leaders.lower.Statement.{statement}
