@@ -11,11 +11,11 @@ use lib.Seq.{take-suc, take-length}
 use Rattle.laws.specs.Lists.{joined}
 use Rattle.laws.proofs.Quantifiers.{all-at}
 use Rattle.laws.proofs.Lists.{joined-snoc, member-cases, member-right}
-use Rattle.netlist.specs.Values.{Value, undefined, val, defined}
+use Rattle.netlist.specs.Values.{Value, undefined, val, isDefined}
 use Rattle.netlist.specs.Netlist.{Operand, input, gate, constant, Output, Block, inputCount, gateCount, outputCount}
-use Rattle.netlist.specs.StoredBlock.{isNode, wellFormed}
-use Rattle.netlist.specs.Rounds.{operandValue, outputValue, settled, settingOf, settingCount, settledUnder, settledAt}
-use Rattle.netlist.specs.Cover.{sound}
+use Rattle.netlist.specs.StoredBlock.{isNode, isWellFormed}
+use Rattle.netlist.specs.Rounds.{operandValue, outputValue, settled, settingOf, settingCount, settledUnder, isSettled}
+use Rattle.netlist.specs.Cover.{isSound}
 use Rattle.netlist.specs.Groups.{groups}
 use Rattle.netlist.specs.Rendering.{passes, schedule, copiedOperand, lastCopies, rendering, sweep}
 use Rattle.encoding.proofs.WellFormed.{wellFormed-parts}
@@ -77,23 +77,23 @@ module _ (b : Block) where
       below-trans (schedule-above x (replicate (gateCount b) (val false)) (length-replicate (gateCount b) (val false)) inside j l)
       (below-of-eq (sym (lastCopy-value b x inside j l)))
 
-  module _ (w : wellFormed b ≡ true) (s : ℕ) (h : settledAt b s ≡ true) where
+  module _ (w : isWellFormed b ≡ true) (s : ℕ) (h : isSettled b s ≡ true) where
     x : List Value
     x = settingOf (inputCount b) s
 
     node-agrees : (o : Operand) → isNode b o ≡ true
         → operandValue x (sweep (rendering b) x) (copiedOperand (lastCopies b) o) ≡ operandValue x (settled b x) o
-    unfolding operandValue copiedOperand isNode settledAt settledUnder x
+    unfolding operandValue copiedOperand isNode isSettled settledUnder x
     node-agrees (input i) k = refl
     node-agrees (constant c) k = refl
     node-agrees (gate j) k =
         let l : j < gateCount b = ltb-true j (gateCount b) k in
         sym
         (below-defined (getD (settled b x) j undefined) (operandValue x (sweep (rendering b) x) (getD (lastCopies b) j (constant false)))
-        (agreement (wellFormed-inside b w) x j l) (all-at defined (settled b x) j undefined h (rw (length-settled b x) l)))
+        (agreement (wellFormed-inside b w) x j l) (all-at isDefined (settled b x) j undefined h (rw (length-settled b x) l)))
 
   -- Under a settled setting each output has, read from a sweep of the rendering, the value of the original's output of the same number.
-  pub outputs-agree : wellFormed b ≡ true → (s : ℕ) → settledAt b s ≡ true → (o : ℕ) (d e : Output) → o < outputCount b
+  pub outputs-agree : isWellFormed b ≡ true → (s : ℕ) → isSettled b s ≡ true → (o : ℕ) (d e : Output) → o < outputCount b
       → outputValue (settingOf (inputCount b) s) (sweep (rendering b) (settingOf (inputCount b) s)) (getD (rendering b .outputs) o d)
       ≡ outputValue (settingOf (inputCount b) s) (settled b (settingOf (inputCount b) s)) (getD (b .outputs) o e)
   unfolding outputValue x
@@ -103,7 +103,7 @@ module _ (b : Block) where
       (all-at (λ o. isNode b (o .node)) (b .outputs) o e (wellFormed-parts b w .nodesThere) l))
 
   -- Demand 3: in a sound block the outputs agree under every setting.
-  pub sound-outputs-agree : wellFormed b ≡ true → sound b ≡ true → (s : ℕ) → s < settingCount b → (o : ℕ) (d e : Output) → o < outputCount b
+  pub sound-outputs-agree : isWellFormed b ≡ true → isSound b ≡ true → (s : ℕ) → s < settingCount b → (o : ℕ) (d e : Output) → o < outputCount b
       → outputValue (settingOf (inputCount b) s) (sweep (rendering b) (settingOf (inputCount b) s)) (getD (rendering b .outputs) o d)
       ≡ outputValue (settingOf (inputCount b) s) (settledUnder b s) (getD (b .outputs) o e)
   unfolding settledUnder

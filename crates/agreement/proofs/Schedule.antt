@@ -12,7 +12,7 @@ use Rattle.laws.proofs.Quantifiers.{member-from}
 use Rattle.laws.proofs.Lists.{joined-append, joined-snoc, member-cases, member-left, member-right}
 use Rattle.netlist.specs.Netlist.{Block, gateCount}
 use Rattle.netlist.specs.Groups.{groups, copyCount}
-use Rattle.netlist.specs.Rendering.{straight, passes, schedule}
+use Rattle.netlist.specs.Rendering.{isStraight, passes, schedule}
 use Rattle.rounds.proofs.ListFacts.{member-repeated as repeated-member}
 use Rattle.reach.specs.Inside.{Inside}
 use Rattle.reach.proofs.Order.{groups-all, groups-all-numbered}
@@ -120,5 +120,5 @@ module _ (b : Block) where
       (member-from (getD (schedule b) i 0) (schedule b) i l refl))
 
   -- A straight block's schedule is 0, 1, 2, ..
-  pub schedule-straight : straight b ≡ true → schedule b ≡ upTo (gateCount b)
+  pub schedule-straight : isStraight b ≡ true → schedule b ≡ upTo (gateCount b)
   schedule-straight s = schedule-is ∙ ap scheduleOf (straight-groups b s) ∙ scheduleOf-ones (gateCount b)

@@ -1,8 +1,10 @@
 // The gates of a block: kinds, operand counts and operands; and whether each gate reads only lower ones.
-use crate::header::GATE_SIZE;
-use crate::header::OPERAND_WORDS;
-use crate::header::gates_at;
-use ternary::read::word_at;
+use layout::nodes::CONSTANT_0;
+use layout::nodes::CONSTANT_1;
+use layout::offsets::GATE_SIZE;
+use layout::offsets::OPERAND_WORDS;
+use layout::offsets::gates_at;
+use layout::read::word_at;
 ghost use mathlib.Core.Path.{_≡_};
 ghost use mathlib.Core.Bool.{_&&_};
 ghost use Prim.Native.Nat.{_≤_, _<_, _+_, _*_};
@@ -35,11 +37,6 @@ pub fn is_node(nodes: usize, word: usize) -> bool
 {
     word < nodes
 }
-
-// "65534 for constant 0, 65535 for constant 1"
-pub const CONSTANT_0: usize = 65534;
-
-pub const CONSTANT_1: usize = 65535;
 
 // An operand word: a node number or a constant.
 fn is_operand(nodes: usize, word: usize) -> bool

@@ -1,12 +1,12 @@
 // The names of inputs and the ports: each legal, none twice.
-use crate::header::NAME_SIZE;
-use ternary::read::word_at;
+use layout::offsets::NAME_SIZE;
+use layout::read::word_at;
 ghost use mathlib.Core.Path.{_≡_};
 ghost use mathlib.Core.Bool.{_&&_};
 ghost use Prim.Native.Nat.{_≤_, _<_, _+_, _*_};
 ghost use lib.ListN.{getD};
 ghost use lib.Dec.{leb};
-ghost use Rattle.netlist.specs.StoredBlock.{letter, digit, nameByte, bytesAt};
+ghost use Rattle.netlist.specs.StoredBlock.{isLetter, isDigit, isNameByte, bytesAt};
 ghost use Rattle.encoding.specs.Rules.{padded, nameRule, sameName, namesRule};
 ghost use Rattle.block.specs.Steps.{zerosFrom, otherName, othersBefore, newName};
 
@@ -18,21 +18,21 @@ fn is_between(low: usize, high: usize, c: usize) -> bool
 
 // "a-z"
 fn is_letter(c: usize) -> bool
-    ensures { λ r. ⌜ r ≡ letter c ⌝ }
+    ensures { λ r. ⌜ r ≡ isLetter c ⌝ }
 {
     is_between(97, 122, c)
 }
 
 // "0-9"
 fn is_digit(c: usize) -> bool
-    ensures { λ r. ⌜ r ≡ digit c ⌝ }
+    ensures { λ r. ⌜ r ≡ isDigit c ⌝ }
 {
     is_between(48, 57, c)
 }
 
 // "a-z, 0-9 and `_`"
 fn is_name_byte(c: usize) -> bool
-    ensures { λ r. ⌜ r ≡ nameByte c ⌝ }
+    ensures { λ r. ⌜ r ≡ isNameByte c ⌝ }
 {
     if is_letter(c) {
         return true;

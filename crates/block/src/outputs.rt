@@ -1,8 +1,8 @@
 // What the outputs show: inputs and gates that are there, and no constants.
 use crate::gates::is_node;
-use crate::header::NAME_SIZE;
-use crate::header::OUTPUT_SIZE;
-use ternary::read::word_at;
+use layout::offsets::NAME_SIZE;
+use layout::offsets::OUTPUT_SIZE;
+use layout::read::word_at;
 ghost use mathlib.Core.Path.{_≡_};
 ghost use Prim.Native.Nat.{_≤_};
 ghost use Rattle.netlist.specs.Limits.{maxOutputs};

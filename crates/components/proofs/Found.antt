@@ -15,7 +15,7 @@ use Rattle.laws.proofs.Quantifiers.{any-at, any-from, member-at, member-from}
 use Rattle.laws.proofs.Tab.{placed-tab}
 use Rattle.netlist.specs.Netlist.{Block, gateCount}
 use Rattle.netlist.specs.StoredBlock.{decode}
-use Rattle.netlist.specs.Groups.{Path, stay, step, reads, readBy, reaches, sameGroup}
+use Rattle.netlist.specs.Groups.{OperandPath, stay, step, reads, readBy, reaches, sameGroup}
 use Rattle.reach.proofs.Reach.{path-reaches, reaches-path, reaches-trans}
 use Rattle.reach.proofs.SameGroup.{sameGroup-refl, sameGroup-below}
 use Rattle.search.specs.Search.{gateReads, GatesReady, SearchReady, StartReady, Queued, Reached}
@@ -62,7 +62,7 @@ module _ (ws : List ℕ) (n m gates l : ℕ) (whole : GatesReady ws n m gates) (
         let c : _≡_ {A = ℕ} 0 1 = sym z ∙ sym (are k (above (sameGroup-below b l k h))) ∙ e in
         omega arith
 
-    from : (i k : ℕ) → k < gateCount b → sameGroup b l i ≡ true → Queued queue count i → Path b i k → reaches b k l ≡ true → Queued queue count k
+    from : (i k : ℕ) → k < gateCount b → sameGroup b l i ≡ true → Queued queue count i → OperandPath b i k → reaches b k l ≡ true → Queued queue count k
     unfolding sameGroup
     from i k kl g q stay back = q
     from i k kl g q (step {j = j} d p) back =
@@ -110,7 +110,7 @@ module _ (ws : List ℕ) (n m gates l : ℕ) (whole : GatesReady ws n m gates) (
         ⊎-elim (λ e. inr (rw e (at-l, sameGroup-refl b l (below (ready .below))))) (λ ne. inl (getD-set-other entry l k l 0 ne)) (eq-or-ne k l)
     joined-sound (more {leaders = before} s q lt h) k kl = ⊎-elim (here (λ j jl. joined-sound s j jl)) (λ ne. rw (getD-set-other before (getD queue q 0) k l 0 ne) (joined-sound s k kl)) (eq-or-ne k (getD queue q 0))
       where
-        at : (getD queue q 0 < m) × Path b l (getD queue q 0)
+        at : (getD queue q 0 < m) × OperandPath b l (getD queue q 0)
         at = r .sound q lt
 
         group : ((j : ℕ) → j < m → (getD before j 0 ≡ getD entry j 0) ⊎ ((getD before j 0 ≡ l) × (sameGroup b l j ≡ true))) → sameGroup b l (getD queue q 0) ≡ true
@@ -129,7 +129,7 @@ module _ (ws : List ℕ) (n m gates l : ℕ) (whole : GatesReady ws n m gates) (
 
     -- ---- and at last all of it has joined
 
-    joined-complete : {leaders : List ℕ} → Joined ws n m gates l queue count entry₁ leaders → Quiet ws n m gates l queue count leaders → (k : ℕ) → sameGroup b l k ≡ true → Path b k l → getD leaders k 0 ≡ l
+    joined-complete : {leaders : List ℕ} → Joined ws n m gates l queue count entry₁ leaders → Quiet ws n m gates l queue count leaders → (k : ℕ) → sameGroup b l k ≡ true → OperandPath b k l → getD leaders k 0 ≡ l
     unfolding sameGroup
     joined-complete s quiet k g stay = joined-start s
     joined-complete {leaders} s quiet k g (step {j = j} d p) = ⊎-elim (λ e. absurd (still (λ gj. joined-complete s quiet j gj p) e)) (λ e. e .0) (joined-sound s k kl)

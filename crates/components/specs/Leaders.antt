@@ -67,7 +67,7 @@ pub record QueueReady (ws : List ℕ) (n m gates leader : ℕ) (queue : List ℕ
   pub queued : (q : ℕ) → q < count → getD queue q 0 < m
 
 -- a whole block's words, n and m, and room for a search
-pub record Ready (ws : List ℕ) (n m gates : ℕ) (flags queue : List ℕ) : Type 0 where
+pub record LeadReady (ws : List ℕ) (n m gates : ℕ) (flags queue : List ℕ) : Type 0 where
   pub search : SearchReady ws n m gates flags queue
   pub gatesAre : m ≡ gateCount (decode ws)
 

@@ -7,9 +7,9 @@ ghost use lib.ListN.{length, getD, drop, replicate};
 ghost use Rattle.laws.specs.Lists.{any, tab, placed};
 ghost use Rattle.netlist.specs.StoredBlock.{decode};
 ghost use Rattle.search.specs.Search.{wordGate, wordGates, GatesReady};
-ghost use Rattle.components.specs.Leaders.{leaderOf, noLeader, barredBy, ledBy, LedOne, Swept, Spread, QueueReady, Ready, LeadReady, GroupLed, AllLed, takenAt, FirstLed, LowerReady, firstLike};
+ghost use Rattle.components.specs.Leaders.{leaderOf, noLeader, barredBy, ledBy, LedOne, Swept, Spread, QueueReady, LeadReady, LeadReady, GroupLed, AllLed, takenAt, FirstLed, LowerReady, firstLike};
+use layout::read::word_at;
 use search::walk::queue_reach;
-use ternary::read::word_at;
 
 pub const NO_LEADER: usize = 65535;
 
@@ -146,7 +146,7 @@ fn lead_group(
     flags: &mut [u8],
     queue: &mut [u16],
 )
-    requires { ⌜ LeadReady (now words) m leader (now leaders) × Ready (now words) n m gates (now flags) (now queue) ⌝ }
+    requires { ⌜ LeadReady (now words) m leader (now leaders) × LeadReady (now words) n m gates (now flags) (now queue) ⌝ }
     ensures { λ r. ⌜ GroupLed (decode (now (words .entry))) m leader (now (leaders .entry)) (now (leaders .exit)) ⌝ }
 {
     if word_at(leaders, leader) != NO_LEADER {
@@ -198,7 +198,7 @@ fn lead_groups(
     flags: &mut [u8],
     queue: &mut [u16],
 )
-    requires { ⌜ (m ≤ length (now leaders)) × Ready (now words) n m gates (now flags) (now queue) ⌝ }
+    requires { ⌜ (m ≤ length (now leaders)) × LeadReady (now words) n m gates (now flags) (now queue) ⌝ }
     ensures { λ r. ⌜ AllLed (decode (now (words .entry))) m (now (leaders .entry)) (now (leaders .exit)) ⌝ }
 {
     forget(m, leaders);
@@ -256,7 +256,7 @@ pub fn lead(
     flags: &mut [u8],
     queue: &mut [u16],
 )
-    requires { ⌜ (m ≤ length (now leaders)) × Ready (now words) n m gates (now flags) (now queue) ⌝ }
+    requires { ⌜ (m ≤ length (now leaders)) × LeadReady (now words) n m gates (now flags) (now queue) ⌝ }
     ensures { λ r. ⌜ now (leaders .exit) ≡ placed (tab (leaderOf (decode (now (words .entry)))) m) (now (leaders .entry)) ⌝ }
 {
     lead_groups(words, n, m, gates, leaders, flags, queue);

@@ -11,7 +11,7 @@ use Rattle.netlist.specs.declared.Refusal.{Refusal}
 use Rattle.netlist.specs.declared.Answer.{Answer}
 use Rattle.netlist.specs.declared.Answer.the-variants.{Done, Refused}
 use Rattle.netlist.specs.Answers.{Outcome, done, refused, refuseIf, inRoom, answerOf, leftIn}
-use Rattle.netlist.specs.Operations.{reading, rendered, written}
+use Rattle.netlist.specs.Operations.{readText, renderWords, writeWords}
 use Rattle.netlist.specs.Program.{chained, shown, unloop}
 use Rattle.convert.specs.Shown.{Shown, Converted}
 
@@ -98,20 +98,20 @@ shown-is e s = rw e s
 pub gave-within : {o : Outcome} {entry exit : List ℕ} {count detail : ℕ} → Gave o entry exit count detail → count ≤ length exit
 gave-within {o} {entry} g = rw (g .left) (placed-room (g .result) entry (sym (g .counts)))
 
-shown-converted : (text : List ℕ) {entry exit : List ℕ} {n : ℕ} → Shown (chained (chained (reading text) rendered) written) entry exit n → Converted text entry exit n
+shown-converted : (text : List ℕ) {entry exit : List ℕ} {n : ℕ} → Shown (chained (chained (readText text) renderWords) writeWords) entry exit n → Converted text entry exit n
 unfolding unloop
 shown-converted text {entry} s =
     record {
       textIs = s .textIs;
       countIs = s .countIs;
-      within = rw (s .textIs) (placed-room (shown (chained (chained (reading text) rendered) written)) entry (sym (s .countIs)));
+      within = rw (s .textIs) (placed-room (shown (chained (chained (readText text) renderWords) writeWords)) entry (sym (s .countIs)));
     }
 
-pub unloop-refused : (text : List ℕ) (r : Refusal) {entry exit : List ℕ} {n : ℕ} → reading text ≡ refused r → Shown (refused r) entry exit n → Converted text entry exit n
+pub unloop-refused : (text : List ℕ) (r : Refusal) {entry exit : List ℕ} {n : ℕ} → readText text ≡ refused r → Shown (refused r) entry exit n → Converted text entry exit n
 unloop-refused text r e s =
     shown-converted text
-    (shown-is (chained-refused (chained (reading text) rendered) written r (chained-refused (reading text) rendered r e)) s)
+    (shown-is (chained-refused (chained (readText text) renderWords) writeWords r (chained-refused (readText text) renderWords r e)) s)
 
-pub unloop-gave : (text : List ℕ) {before block : List ℕ} {count detail : ℕ} {entry exit : List ℕ} {n : ℕ} → Gave (reading text) before block count detail
-    → Shown (chained (rendered (take count block)) written) entry exit n → Converted text entry exit n
-unloop-gave text g s = shown-converted text (shown-is (ap (λ (o : Outcome). chained o written) (chained-gave (reading text) rendered g)) s)
+pub unloop-gave : (text : List ℕ) {before block : List ℕ} {count detail : ℕ} {entry exit : List ℕ} {n : ℕ} → Gave (readText text) before block count detail
+    → Shown (chained (renderWords (take count block)) writeWords) entry exit n → Converted text entry exit n
+unloop-gave text g s = shown-converted text (shown-is (ap (λ (o : Outcome). chained o writeWords) (chained-gave (readText text) renderWords g)) s)

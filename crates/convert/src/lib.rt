@@ -7,7 +7,7 @@ use writing::write;
 ghost use mathlib.Core.Path.{_≡_};
 ghost use Prim.Native.Nat.{_≤_};
 ghost use lib.ListN.{length};
-ghost use Rattle.netlist.specs.Operations.{reading, rendered, written};
+ghost use Rattle.netlist.specs.Operations.{readText, renderWords, writeWords};
 ghost use Rattle.netlist.specs.Program.{chained, unloop};
 ghost use Rattle.convert.specs.Shown.{maxWords, maxWritten, Shown, Converted};
 
@@ -16,7 +16,7 @@ mod refusal;
 // Write, or its refusal.
 fn convert_rendered(words: &[u16], out: &mut [u8]) -> usize
     requires { ⌜ maxWritten ≤ length (now out) ⌝ }
-    ensures { λ r. ⌜ Shown (written (now (words .entry))) (now (out .entry)) (now (out .exit)) r ⌝ }
+    ensures { λ r. ⌜ Shown (writeWords (now (words .entry))) (now (out .entry)) (now (out .exit)) r ⌝ }
 {
     match write(words, out) {
         Answer::Refused(why) => tell(why, out),
@@ -27,7 +27,7 @@ fn convert_rendered(words: &[u16], out: &mut [u8]) -> usize
 // Render and what follows, or the refusal.
 fn convert_block(words: &[u16], copies: &mut [u16], out: &mut [u8]) -> usize
     requires { ⌜ (maxWords ≤ length (now copies)) × (maxWritten ≤ length (now out)) ⌝ }
-    ensures { λ r. ⌜ Shown (chained (rendered (now (words .entry))) written) (now (out .entry)) (now (out .exit)) r ⌝ }
+    ensures { λ r. ⌜ Shown (chained (renderWords (now (words .entry))) writeWords) (now (out .entry)) (now (out .exit)) r ⌝ }
 {
     match render(words, copies) {
         Answer::Refused(why) => tell(why, out),

@@ -7,7 +7,7 @@ use mathlib.Core.List.{List}
 use lib.ListN.{length, getD, set, take}
 use lib.Dec.{leb, ltb}
 use Rattle.laws.specs.Lists.{tab}
-use Rattle.netlist.specs.StoredBlock.{decode, encode, torn}
+use Rattle.netlist.specs.StoredBlock.{decode, encode, isTorn}
 use Rattle.netlist.specs.Rendering.{schedule, rendering}
 
 -- a gate's word gives its entry in the table, any other word itself
@@ -64,8 +64,8 @@ pub record Order (m total : ℕ) (order : List ℕ) : Type 0 where
   pub inside : (t : ℕ) → t < total → getD order t 0 < m
 
 -- what writing the rendering asks: whole words, their header, the schedule, and room for the table and the result
-pub record Ready (ws : List ℕ) (n m k : ℕ) (order : List ℕ) (total : ℕ) (newest out : List ℕ) : Type 0 where
-  pub whole : torn ws ≡ false
+pub record CopyReady (ws : List ℕ) (n m k : ℕ) (order : List ℕ) (total : ℕ) (newest out : List ℕ) : Type 0 where
+  pub whole : isTorn ws ≡ false
   pub inputsAre : n ≡ getD ws 0 0
   pub gatesAre : m ≡ getD ws 1 0
   pub outputsAre : k ≡ getD ws 2 0

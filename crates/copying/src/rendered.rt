@@ -7,7 +7,7 @@ ghost use lib.Seq.{sets};
 ghost use Rattle.laws.specs.Lists.{tab, joined, placed};
 ghost use Rattle.netlist.specs.StoredBlock.{decode, encode};
 ghost use Rattle.netlist.specs.Rendering.{rendering};
-ghost use Rattle.copying.specs.Words.{tableAfter, copyWords, copyAt, shownAt, EntryRoom, GateRoom, Order, Ready};
+ghost use Rattle.copying.specs.Words.{tableAfter, copyWords, copyAt, shownAt, EntryRoom, GateRoom, Order, CopyReady};
 use crate::entry::clear;
 use crate::entry::copy_entry;
 use crate::entry::copy_words;
@@ -97,7 +97,7 @@ pub fn write_rendering(
     newest: &mut [u16],
     out: &mut [u16],
 )
-    requires { ⌜ Ready (now words) n m k (now order) total (now newest) (now out) ⌝ }
+    requires { ⌜ CopyReady (now words) n m k (now order) total (now newest) (now out) ⌝ }
     ensures { λ r. ⌜ now (out .exit) ≡ placed (encode (rendering (decode (now (words .entry))))) (now (out .entry)) ⌝ }
 {
     let gates = 3 + 4 * n;

@@ -8,10 +8,10 @@ use borrow.Author.Tests.{lt-ltb, le-ltb, le-leb, lt-leb}
 use Rattle.laws.specs.Lists.{placed}
 use Rattle.netlist.specs.declared.Refusal.the-variants.{MalformedBlock, NoRoom}
 use Rattle.netlist.specs.Netlist.{Block, inputCount}
-use Rattle.netlist.specs.StoredBlock.{decode, torn}
-use Rattle.netlist.specs.Cover.{cover, coverWords}
+use Rattle.netlist.specs.StoredBlock.{decode, isTorn}
+use Rattle.netlist.specs.Cover.{cover, coverEntries}
 use Rattle.netlist.specs.Answers.{done, refused, refuseIf, inRoom}
-use Rattle.netlist.specs.Operations.{covering, coverOf}
+use Rattle.netlist.specs.Operations.{coverBlock, coverOf}
 use Rattle.assignments.specs.Over.{coverOver}
 use Rattle.assignments.specs.Tables.{settledBy}
 use Rattle.assignments.specs.Entries.{EntriesWritten}
@@ -20,24 +20,24 @@ use Rattle.assignments.proofs.Listing.{length-words}
 use Rattle.cover.specs.Table.{Tabulated}
 
 -- two words an entry
-words-length : (b : Block) → length (coverWords b) ≡ 2 * length (cover b)
+words-length : (b : Block) → length (coverEntries b) ≡ 2 * length (cover b)
 words-length b = ap length (coverWords-words b) ∙ length-words (cover b)
 
 module _ (ws : List ℕ) (room : ℕ) where
   -- 6: the words are torn
-  pub cover-torn : torn ws ≡ true → coverOf ws room ≡ refused MalformedBlock
+  pub cover-torn : isTorn ws ≡ true → coverOf ws room ≡ refused MalformedBlock
   unfolding coverOf inRoom refuseIf
   cover-torn t = rw t refl
 
   -- 11: the slice has fewer words than twice the entries
-  pub cover-short : torn ws ≡ false → room < 2 * length (cover (decode ws)) → coverOf ws room ≡ refused NoRoom
-  unfolding coverOf inRoom refuseIf covering
+  pub cover-short : isTorn ws ≡ false → room < 2 * length (cover (decode ws)) → coverOf ws room ≡ refused NoRoom
+  unfolding coverOf inRoom refuseIf coverBlock
   cover-short t h = rw (t, words-length (decode ws), lt-ltb room (2 * length (cover (decode ws))) h) refl
 
   -- neither
-  pub cover-done : torn ws ≡ false → 2 * length (cover (decode ws)) ≤ room
-      → coverOf ws room ≡ done (coverWords (decode ws)) (length (cover (decode ws))) 0
-  unfolding coverOf inRoom refuseIf covering
+  pub cover-done : isTorn ws ≡ false → 2 * length (cover (decode ws)) ≤ room
+      → coverOf ws room ≡ done (coverEntries (decode ws)) (length (cover (decode ws))) 0
+  unfolding coverOf inRoom refuseIf coverBlock
   cover-done t h = rw (t, words-length (decode ws), le-ltb room (2 * length (cover (decode ws))) h) refl
 
 -- What `cover_entries` leaves, given a table of the settled settings.
@@ -56,5 +56,5 @@ module _ {b : Block} {table entry exit : List ℕ} {n count : ℕ} (t : Tabulate
   kept-short h = w .written ∙ rw (of-block, lt-leb (2 * length (cover b)) (length entry) h) refl
 
   -- their words where they do
-  pub placed-all : 2 * length (cover b) ≤ length entry → exit ≡ placed (coverWords b) entry
+  pub placed-all : 2 * length (cover b) ≤ length entry → exit ≡ placed (coverEntries b) entry
   placed-all h = w .written ∙ rw (of-block, le-leb (2 * length (cover b)) (length entry) h, coverWords-words b) refl

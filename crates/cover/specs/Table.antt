@@ -4,7 +4,7 @@ use mathlib.Core.List.{List}
 use Prim.Native.Nat.{ℕ, _≤_, _<_}
 use lib.ListN.{length}
 use Rattle.netlist.specs.Netlist.{Block}
-use Rattle.netlist.specs.Rounds.{settingCount, settledAt}
+use Rattle.netlist.specs.Rounds.{settingCount, isSettled}
 use Rattle.assignments.specs.Tables.{settledBy}
 
 -- room for the gates' order and values, the inputs' values, and a byte for each setting of ten inputs
@@ -17,4 +17,4 @@ pub record CoverRoom (order inputs values settled : List ℕ) : Type 0 where
 -- the table has a byte for each setting, 1 exactly where it is settled
 pub record Tabulated (b : Block) (table : List ℕ) : Type 0 where
   pub long : settingCount b ≤ length table
-  pub right : (s : ℕ) → s < settingCount b → settledBy table s ≡ settledAt b s
+  pub right : (s : ℕ) → s < settingCount b → settledBy table s ≡ isSettled b s

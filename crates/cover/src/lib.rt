@@ -3,13 +3,13 @@ ghost use mathlib.Core.Path.{_≡_};
 ghost use mathlib.Core.Bool.{false};
 ghost use lib.ListN.{length};
 ghost use Rattle.netlist.specs.Answers.{answerOf, leftIn};
-ghost use Rattle.netlist.specs.StoredBlock.{torn};
+ghost use Rattle.netlist.specs.StoredBlock.{isTorn};
 ghost use Rattle.netlist.specs.Operations.{coverOf};
 ghost use Rattle.cover.specs.Table.{CoverRoom};
 use assignments::cover_entries;
 use block::Check;
 use block::check_words;
-use block::header;
+use layout::offsets;
 use netlist::Answer;
 use netlist::Refusal;
 use table::tabulate;
@@ -26,13 +26,13 @@ fn whole_cover(
     settled: &mut [u8],
     entries: &mut [u16],
 ) -> Answer
-    requires { ⌜ torn (now words) ≡ false ⌝ }
+    requires { ⌜ isTorn (now words) ≡ false ⌝ }
     requires { ⌜ CoverRoom (now order) (now inputs) (now values) (now settled) ⌝ }
     ensures answers { λ r. ⌜ r ≡ answerOf (coverOf (now (words .entry)) (length (now (entries .entry)))) ⌝ }
     ensures leaves { λ r. ⌜ now (entries .exit) ≡ leftIn (coverOf (now (words .entry)) (length (now (entries .entry)))) (now (entries .entry)) ⌝ }
 {
     tabulate(words, order, inputs, values, settled);
-    let n = header::inputs_of(words);
+    let n = offsets::inputs_of(words);
     let count = cover_entries(settled, n, entries);
     if entries.len() / 2 < count {
         return Answer::Refused(Refusal::NoRoom);

@@ -40,7 +40,7 @@ pub record Swept (b : Block) (x : List Value) (js bytes after : List ℕ) (chang
   pub tells : changed ≡ not (same after bytes)
 
 -- what deciding a setting asks: legible words, an order over all gates, and a byte for each input and each gate
-pub record Ready (ws : List ℕ) (n gates : ℕ) (order inputs values : List ℕ) : Type 0 where
+pub record DecideReady (ws : List ℕ) (n gates : ℕ) (order inputs values : List ℕ) : Type 0 where
   pub legible : Legible ws n gates
   pub visits : Visits (gateCount (decode ws)) order
   pub fewInputs : n ≤ 10

@@ -8,9 +8,9 @@ ghost use Rattle.netlist.specs.Values.{code, valueOf};
 ghost use Rattle.netlist.specs.Netlist.{gateCount};
 ghost use Rattle.netlist.specs.StoredBlock.{decode};
 ghost use Rattle.netlist.specs.Rounds.{settled, settingOf, settledUnder};
-ghost use Rattle.decide.specs.InPlace.{Legible, Visits, Underway, Swept, Ready};
+ghost use Rattle.decide.specs.InPlace.{Legible, Visits, Underway, Swept, DecideReady};
+use layout::read::word_at;
 use ternary::gate::gate_value;
-use ternary::read::word_at;
 
 // The bits of setting number `s`, the lowest first.
 pub fn set_inputs(s: usize, inputs: &mut [u8])
@@ -93,7 +93,7 @@ pub fn settle_setting(
     inputs: &mut [u8],
     values: &mut [u8],
 )
-    requires { ⌜ Ready (now words) n gates (now order) (now inputs) (now values) ⌝ }
+    requires { ⌜ DecideReady (now words) n gates (now order) (now inputs) (now values) ⌝ }
     ensures { λ r. ⌜ now (values .exit) ≡ map code (settledUnder (decode (now (words .entry))) s) ⌝ }
 {
     set_inputs(s, inputs);

@@ -13,7 +13,7 @@ use Rattle.laws.proofs.Tab.{length-tab, tab-ext, tab-getD, map-tab, tab-add}
 use Rattle.laws.proofs.Same.{same-eq, eq-same}
 use Rattle.laws.proofs.Quantifiers.{all-at}
 use Rattle.netlist.specs.Netlist.{Name, Gate, Output, Block, inputCount, gateCount, outputCount, gateOf}
-use Rattle.netlist.specs.StoredBlock.{nameSize, gateSize, outputSize, inputsAt, gatesAt, outputsAt, plainName, nameWords, nameAt, gateWords, gateAt, outputWords, outputAt, gateFits, isNode, encode, decode, wellFormed, torn}
+use Rattle.netlist.specs.StoredBlock.{nameSize, gateSize, outputSize, inputsAt, gatesAt, outputsAt, isPlainName, nameWords, nameAt, gateWords, gateAt, outputWords, outputAt, gateFits, isNode, encode, decode, isWellFormed, isTorn}
 use Rattle.encoding.proofs.ListFacts.{tab-is, joined-tab}
 use Rattle.encoding.proofs.Names.{nameWords-nameAt, nameAt-nameWords}
 use Rattle.encoding.proofs.Gates.{gateWords-gateAt, gateAt-gateWords, Unused}
@@ -72,7 +72,7 @@ encode-decode ws n m k en em ek size unused =
 -- ---- a well-formed block, its words, and the block again
 
 -- the words of a well-formed block hold that block
-pub decode-encode : (b : Block) → wellFormed b ≡ true → decode (encode b) ≡ b
+pub decode-encode : (b : Block) → isWellFormed b ≡ true → decode (encode b) ≡ b
 unfolding encode decode
 decode-encode b h = λ i. record { inputs = inputs-are i; gates = gates-are i; outputs = outputs-are i }
   where
@@ -91,7 +91,7 @@ decode-encode b h = λ i. record { inputs = inputs-are i; gates = gates-are i; o
     inputs-are : tab (λ i. nameAt (encode b) (inputsAt + nameSize * i)) n ≡ b .inputs
     inputs-are =
         tab-is (λ i. nameAt (encode b) (inputsAt + nameSize * i)) (b .inputs) []
-        (λ i l. nameAt-nameWords (encode b) (inputsAt + nameSize * i) (getD (b .inputs) i []) (all-at plainName (b .inputs) i [] (w .inputNames) l) (encode-input b i [] l))
+        (λ i l. nameAt-nameWords (encode b) (inputsAt + nameSize * i) (getD (b .inputs) i []) (all-at isPlainName (b .inputs) i [] (w .inputNames) l) (encode-input b i [] l))
 
     gates-are : tab (λ j. gateAt n (encode b) (gatesAt n + gateSize * j)) m ≡ b .gates
     gates-are =
@@ -102,23 +102,23 @@ decode-encode b h = λ i. record { inputs = inputs-are i; gates = gates-are i; o
     outputs-are =
         tab-is (λ o. outputAt n (encode b) (outputsAt n m + outputSize * o)) (b .outputs) noOutput
         (λ o l. outputAt-outputWords b (encode b) (outputsAt n m + outputSize * o) (getD (b .outputs) o noOutput) (few-nodes b w)
-        (all-at (λ o. plainName (o .port)) (b .outputs) o noOutput (w .portNames) l)
+        (all-at (λ o. isPlainName (o .port)) (b .outputs) o noOutput (w .portNames) l)
         (all-at (λ o. isNode b (o .node)) (b .outputs) o noOutput (w .nodesThere) l)
         (encode-output b o noOutput l))
 
 -- ---- torn
 
 -- words that are not torn are the words of the block that they hold
-pub whole-encode : (ws : List ℕ) → torn ws ≡ false → encode (decode ws) ≡ ws
-unfolding torn
-whole-encode ws h = same-eq (encode (decode ws)) ws (and-right (wellFormed (decode ws)) (same (encode (decode ws)) ws) (not-false (wellFormed (decode ws) && same (encode (decode ws)) ws) h))
+pub whole-encode : (ws : List ℕ) → isTorn ws ≡ false → encode (decode ws) ≡ ws
+unfolding isTorn
+whole-encode ws h = same-eq (encode (decode ws)) ws (and-right (isWellFormed (decode ws)) (same (encode (decode ws)) ws) (not-false (isWellFormed (decode ws) && same (encode (decode ws)) ws) h))
 
 -- and that block is well-formed
-pub whole-wellFormed : (ws : List ℕ) → torn ws ≡ false → wellFormed (decode ws) ≡ true
-unfolding torn
-whole-wellFormed ws h = and-left (wellFormed (decode ws)) (same (encode (decode ws)) ws) (not-false (wellFormed (decode ws) && same (encode (decode ws)) ws) h)
+pub whole-wellFormed : (ws : List ℕ) → isTorn ws ≡ false → isWellFormed (decode ws) ≡ true
+unfolding isTorn
+whole-wellFormed ws h = and-left (isWellFormed (decode ws)) (same (encode (decode ws)) ws) (not-false (isWellFormed (decode ws) && same (encode (decode ws)) ws) h)
 
 -- the words of a well-formed block are not torn
-pub encode-whole : (b : Block) → wellFormed b ≡ true → torn (encode b) ≡ false
-unfolding torn
+pub encode-whole : (b : Block) → isWellFormed b ≡ true → isTorn (encode b) ≡ false
+unfolding isTorn
 encode-whole b h = rw (decode-encode b h, h, eq-same (encode b) (encode b) refl)

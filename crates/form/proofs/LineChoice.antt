@@ -15,7 +15,7 @@ use Rattle.netlist.specs.Limits.{maxDepth}
 use Rattle.netlist.specs.Syntax.{apply}
 use Rattle.netlist.specs.Parse.{stuck, stop, expect}
 use Rattle.form.specs.declared.Scan.the-variants.{Next, Bad}
-use Rattle.form.specs.Scan.{scanOf, firstByte, inputName, inputReader, gateExpression, gateBracket, gateName, gateReader, outputShown, outputSpace, outputPort, outputReader, lineBehind, lineReader}
+use Rattle.form.specs.Scan.{scanOf, firstByte, inputName, inputReader, gateExpression, gateBracket, gateNaming, gateReader, outputShown, outputSpace, outputPort, outputReader, lineBehind, lineReader}
 use Rattle.form.proofs.First.{byte-taken, byte-left}
 use Rattle.form.proofs.Shortens.{Leaves, Shortens, shortens-expect, shortens-bind, shortens-name, shortens-expr, shortens-term}
 use Rattle.form.proofs.Continues.{left-short}
@@ -69,7 +69,7 @@ unfolding inputReader inputName
 shortens-input-line = shortens-expect (ascii "in ") (shortens-bind (shortens-name (firstByte false)) (λ _. shortens-word (ascii ")\n")))
 
 shortens-gate-line : Shortens gateReader
-unfolding gateReader gateName gateBracket gateExpression
+unfolding gateReader gateNaming gateBracket gateExpression
 shortens-gate-line =
     shortens-expect (ascii "gate ")
     (shortens-bind (shortens-name (firstByte true)) (λ _. shortens-expect (ascii " (")

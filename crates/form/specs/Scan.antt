@@ -6,7 +6,7 @@ use mathlib.Core.List.{List}
 use lib.ListN.{length, getD}
 use lib.Dec.{eqb, leb}
 use Rattle.laws.specs.Lists.{ascii, is}
-use Rattle.netlist.specs.StoredBlock.{letter, nameStart}
+use Rattle.netlist.specs.StoredBlock.{isLetter, isNameStart}
 use Rattle.netlist.specs.Limits.{maxDepth}
 use Rattle.netlist.specs.Syntax.{Tree, apply}
 use Rattle.netlist.specs.Parse.{Parsed, got, stuck, Reader, pure, stop, ifNext, expect, bind, nameReader, exprReader, termReader, parse}
@@ -43,8 +43,8 @@ wordReader w = expect w (pure 0)
 
 -- the first byte of a name, where `_` may stand or not
 unfoldable pub firstByte : Bool → ℕ → Bool
-firstByte true = nameStart
-firstByte false = letter
+firstByte true = isNameStart
+firstByte false = isLetter
 
 -- a kind behind the rest of its word
 unfoldable pub kindWord : List ℕ → ℕ → Reader ℕ
@@ -58,29 +58,29 @@ unfoldable pub kindN : Reader ℕ
 kindN = ifNext (is "a") (λ _. kindWord (ascii "nd") 3) (ifNext (is "o") (λ _. kindNo) stop)
 
 -- one line behind its opening bracket, without its tree, and what follows each of its parts
-abbrev pub lineEnd : Reader ℕ
-lineEnd = wordReader (ascii ")\n")
+abbrev pub closing : Reader ℕ
+closing = wordReader (ascii ")\n")
 
 unfoldable pub inputName : Reader ℕ
-inputName = bind (nameReader (firstByte false)) (λ _. lineEnd)
+inputName = bind (nameReader (firstByte false)) (λ _. closing)
 
 unfoldable pub inputReader : Reader ℕ
 inputReader = expect (ascii "in ") inputName
 
 unfoldable pub gateExpression : Reader ℕ
-gateExpression = bind (exprReader (termReader (maxDepth - 1)) apply) (λ _. lineEnd)
+gateExpression = bind (exprReader (termReader (maxDepth - 1)) apply) (λ _. closing)
 
 unfoldable pub gateBracket : Reader ℕ
 gateBracket = expect (ascii " (") gateExpression
 
-unfoldable pub gateName : Reader ℕ
-gateName = bind (nameReader (firstByte true)) (λ _. gateBracket)
+unfoldable pub gateNaming : Reader ℕ
+gateNaming = bind (nameReader (firstByte true)) (λ _. gateBracket)
 
 unfoldable pub gateReader : Reader ℕ
-gateReader = expect (ascii "gate ") gateName
+gateReader = expect (ascii "gate ") gateNaming
 
 unfoldable pub outputShown : Reader ℕ
-outputShown = bind (nameReader (firstByte true)) (λ _. lineEnd)
+outputShown = bind (nameReader (firstByte true)) (λ _. closing)
 
 unfoldable pub outputSpace : Reader ℕ
 outputSpace = expect (ascii " ") outputShown

@@ -11,7 +11,7 @@ use Rattle.laws.proofs.Quantifiers.{all-below}
 use Rattle.grammar.proofs.CompleteTerms.{name-facts}
 use Rattle.netlist.specs.Limits.{maxGates}
 use Rattle.netlist.specs.Netlist.{Name}
-use Rattle.netlist.specs.StoredBlock.{letter, digit, underscore, nameByte, nameStart, legalName, plainName, nodeName}
+use Rattle.netlist.specs.StoredBlock.{isLetter, isDigit, isUnderscore, isNameByte, isNameStart, isLegalName, isPlainName, isNodeName}
 use Rattle.netlist.specs.Writing.{digits, decimal, gateName}
 
 -- the number that decimal digits stand for, behind a number already read
@@ -23,8 +23,8 @@ numberOf : Name → ℕ
 numberOf [] = 0
 numberOf (c ∷ cs) = numberFrom 0 cs
 
-names-legal : all (λ j. nodeName (gateName j)) (upTo maxGates) ≡ true
-unfolding digits decimal gateName letter digit underscore nameByte nameStart legalName nodeName
+names-legal : all (λ j. isNodeName (gateName j)) (upTo maxGates) ≡ true
+unfolding digits decimal gateName isLetter isDigit isUnderscore isNameByte isNameStart isLegalName isNodeName
 names-legal = refl
 
 names-read : all (λ j. eqb (numberOf (gateName j)) j) (upTo maxGates) ≡ true
@@ -32,8 +32,8 @@ unfolding digits decimal gateName numberOf numberFrom
 names-read = refl
 
 -- A written gate's name is legal.
-pub gateName-legal : (j : ℕ) → j < maxGates → nodeName (gateName j) ≡ true
-gateName-legal j h = all-below (λ j. nodeName (gateName j)) maxGates j names-legal h
+pub gateName-legal : (j : ℕ) → j < maxGates → isNodeName (gateName j) ≡ true
+gateName-legal j h = all-below (λ j. isNodeName (gateName j)) maxGates j names-legal h
 
 -- Two written gates have two names.
 pub gateName-injective : (i j : ℕ) → i < maxGates → j < maxGates → gateName i ≡ gateName j → i ≡ j
@@ -44,6 +44,6 @@ gateName-injective i j h g e =
     cc
 
 -- An input's name is no gate's.
-pub gateName-no-input : (j : ℕ) (x : Name) → plainName x ≡ true → x ≡ gateName j → ⊥
-unfolding gateName plainName letter
-gateName-no-input j x h e = let p = name-facts letter 95 (decimal j) (rw e at h) in false≢true (p .passes)
+pub gateName-no-input : (j : ℕ) (x : Name) → isPlainName x ≡ true → x ≡ gateName j → ⊥
+unfolding gateName isPlainName isLetter
+gateName-no-input j x h e = let p = name-facts isLetter 95 (decimal j) (rw e at h) in false≢true (p .passes)

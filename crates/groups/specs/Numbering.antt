@@ -7,7 +7,7 @@ use lib.ListN.{length, getD}
 use lib.Dec.{eqb, ltb}
 use Rattle.laws.specs.Lists.{any, keep, tab, placed, joined, upTo, member}
 use Rattle.netlist.specs.Netlist.{Block, gateCount}
-use Rattle.netlist.specs.StoredBlock.{decode, torn, gatesAt}
+use Rattle.netlist.specs.StoredBlock.{decode, isTorn, gatesAt}
 use Rattle.netlist.specs.Groups.{mayBeNext, groups, groupNumber, groupNumbers}
 use Rattle.reach.specs.Inside.{Inside}
 use Rattle.search.specs.Search.{gateReads, GatesReady}
@@ -81,7 +81,7 @@ pub record GroupsNumbered (b : Block) (entry exit : List ℕ) (count : ℕ) : Ty
 
 -- a whole block's words and header, and room for every gate in each array
 pub record AssignReady (ws : List ℕ) (n m gates : ℕ) (numbers leaders queue flags : List ℕ) : Type 0 where
-  pub whole : torn ws ≡ false
+  pub whole : isTorn ws ≡ false
   pub inputsAre : n ≡ getD ws 0 0
   pub gatesAre : m ≡ getD ws 1 0
   pub firstIs : gates ≡ gatesAt n

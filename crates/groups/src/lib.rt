@@ -19,7 +19,7 @@ pub fn groups(words: &[u16], numbers: &mut [u16]) -> Answer
     let Check::Whole = block::check_words(words) else {
         return Answer::Refused(Refusal::MalformedBlock);
     };
-    if numbers.len() < block::header::gates_of(words) {
+    if numbers.len() < layout::offsets::gates_of(words) {
         return Answer::Refused(Refusal::NoRoom);
     }
     let count = assign::assign(words, numbers);

@@ -8,7 +8,7 @@ ghost use Rattle.groups.specs.Numbering.{passed, leadsNext, renumbered, 
 use crate::obstacle::NO_NUMBER;
 use crate::obstacle::obstacle_of_group;
 use components::leaders::forget;
-use ternary::read::word_at;
+use layout::read::word_at;
 
 // Gate j's group needs no look: it has a number, a lower gate leads it, or the obstacle last found has no number yet.
 fn is_passed(m: usize, j: usize, numbers: &[u16], leaders: &[u16], witnesses: &[u16]) -> bool

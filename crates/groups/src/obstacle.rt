@@ -5,7 +5,7 @@ ghost use lib.ListN.{getD};
 ghost use Rattle.laws.specs.Lists.{any};
 ghost use Rattle.search.specs.Search.{wordGate, wordGates};
 ghost use Rattle.groups.specs.Numbering.{obstacle, groupReads, Sought, NumberReady};
-use ternary::read::word_at;
+use layout::read::word_at;
 
 pub const NO_NUMBER: usize = 65535;
 

@@ -11,7 +11,7 @@ use Rattle.laws.specs.Lists.{all, same, memberList, least}
 use Rattle.laws.proofs.Quantifiers.{all-at, any-append}
 use Rattle.laws.proofs.Least.{least-le, least-below, least-at}
 use Rattle.netlist.specs.Netlist.{Name}
-use Rattle.netlist.specs.StoredBlock.{nameByte}
+use Rattle.netlist.specs.StoredBlock.{isNameByte}
 use Rattle.netlist.specs.Reading.{Mention, firstRepeat}
 use Rattle.names.specs.Packed.{packed}
 use Rattle.names.specs.Search.{indexOf, repeatsAt}
@@ -49,8 +49,8 @@ module _ (ds : List Mention) (bytes : Bytes (map nameOf ds)) where
       let before : take i (map keyOf ds) ≡ map packed names = ap (take i) (sym (map-map packed nameOf ds)) ∙ take-map packed i (map nameOf ds) in
       let cut : indexOf (map keyOf ds) i (packed (getD ds i nobody .name)) ≡ indexOf (map packed names) i (packed (getD ds i nobody .name)) =
       index-same (map keyOf ds) (map packed names) i (packed (getD ds i nobody .name)) (λ j h. sym (rw (← before) (getD-take i (map keyOf ds) j 0 h))) in
-      let one : all nameByte (getD ds i nobody .name) ≡ true = rw (List·getD-map nameOf ds i nobody) at (all-at (all nameByte) (map nameOf ds) i [] bytes (rw (length-map ds nameOf) l)) in
-      let found = index-member (getD ds i nobody .name) names one (all-take (all nameByte) i (map nameOf ds) bytes) in
+      let one : all isNameByte (getD ds i nobody .name) ≡ true = rw (List·getD-map nameOf ds i nobody) at (all-at (all isNameByte) (map nameOf ds) i [] bytes (rw (length-map ds nameOf) l)) in
+      let found = index-member (getD ds i nobody .name) names one (all-take (all isNameByte) i (map nameOf ds) bytes) in
       rw (here′, cut, member-to (getD ds i nobody .name) ds i (omega arith)) (rw size at found)
 
   -- past declarations that repeat none

@@ -13,10 +13,10 @@ use Rattle.laws.proofs.Tests.{and-left, and-right}
 use Rattle.laws.proofs.Tab.{tab-ext}
 use Rattle.laws.proofs.Lists.{sum-append}
 use Rattle.netlist.specs.Limits.{maxText, maxInputs, maxGates, maxOutputs}
-use Rattle.netlist.specs.StoredBlock.{plainName}
-use Rattle.netlist.specs.Syntax.{Legal, GateLine, Tree, legalGate, legalOutput}
-use Rattle.netlist.specs.Reading.{lineGates, overLimit}
-use Rattle.names.specs.Lines.{times, lineStart, letterAt, linesWith}
+use Rattle.netlist.specs.StoredBlock.{isPlainName}
+use Rattle.netlist.specs.Syntax.{Legal, GateLine, Tree, isLegalGate, isLegalOutput}
+use Rattle.netlist.specs.Reading.{lineGates, isOverLimit}
+use Rattle.names.specs.Lines.{times, lineOffset, letterAt, linesWith}
 use Rattle.names.specs.Trees.{inputText, gateText, outputText, treeLines}
 use Rattle.names.specs.Results.{Prints, countsOf, treeCounts, limitsFor, limitsOf, TableRoom}
 use Rattle.names.specs.declared.Counts.{Counts}
@@ -56,7 +56,7 @@ module _ {t : Tree} {text : List ℕ} (p : Prints t text) where
   unfolding letterAt
   letters =
       rw (text-is p, line-count (treeLines t) (tree-lines t (p .legal)))
-      (tab-ext _ _ (length (treeLines t)) (λ i l. sym (getD-drop (lineStart (joined (treeLines t)) i) (joined (treeLines t)) 1 0)) ∙ letters-walk t (p .legal))
+      (tab-ext _ _ (length (treeLines t)) (λ i l. sym (getD-drop (lineOffset (joined (treeLines t)) i) (joined (treeLines t)) 1 0)) ∙ letters-walk t (p .legal))
 
   split : (b : ℕ) → linesWith b text (times 10 text) ≡ times b (replicate (length (t .inputs)) 105) + (times b (replicate (length (t .gates)) 103) + times b (replicate (length (t .outputs)) 111))
   unfolding linesWith
@@ -102,9 +102,9 @@ module _ {t : Tree} {text : List ℕ} (p : Prints t text) where
   unfolding treeLines
   all-opens =
       let q = legal-parts t (p .legal) in
-      let a = opens-are plainName inputText (λ x. 0) input-line (t .inputs) (q .inputs) in
-      let b = opens-are legalGate gateText lineGates gate-line (t .gates) (q .gates) in
-      let c = opens-are legalOutput outputText (λ x. 0) output-line (t .outputs) (q .outputs) in
+      let a = opens-are isPlainName inputText (λ x. 0) input-line (t .inputs) (q .inputs) in
+      let b = opens-are isLegalGate gateText lineGates gate-line (t .gates) (q .gates) in
+      let c = opens-are isLegalOutput outputText (λ x. 0) output-line (t .outputs) (q .outputs) in
       let d = sum-none (t .inputs) in
       let e = sum-none (t .outputs) in
       rw (text-is p, times-joined 40 (treeLines t), map-append (times 40) (map inputText (t .inputs)), map-append (times 40) (map gateText (t .gates)), sum-append, sum-append) (omega arith)
@@ -119,7 +119,7 @@ module _ {t : Tree} {text : List ℕ} (p : Prints t text) where
 
   -- 3: the limits, from the counts
   pub limits-are : limitsFor (countsOf text) ≡ limitsOf t
-  unfolding limitsFor treeCounts limitsOf overLimit
+  unfolding limitsFor treeCounts limitsOf isOverLimit
   limits-are = rw counts-are (go (leb (length (t .inputs)) maxInputs && leb (sum (map lineGates (t .gates))) maxGates && leb (length (t .outputs)) maxOutputs))
     where
       go : (b : Bool) → cond b Within Over ≡ cond (not b) Over Within
@@ -134,7 +134,7 @@ pub record WithinLimits (t : Tree) : Type 0 where
   pub outputs : length (t .outputs) ≤ maxOutputs
 
 pub limits-within : (t : Tree) → limitsOf t ≡ Within → WithinLimits t
-unfolding limitsOf overLimit
+unfolding limitsOf isOverLimit
 limits-within t h = go (leb (length (t .inputs)) maxInputs) (leb (sum (map lineGates (t .gates))) maxGates) (leb (length (t .outputs)) maxOutputs) refl refl refl h
   where
     never : {A : Type 0} → Over ≡ Within → A

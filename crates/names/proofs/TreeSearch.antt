@@ -13,8 +13,8 @@ use Rattle.laws.specs.Lists.{all, memberList, least}
 use Rattle.laws.proofs.Tests.{and-left, and-right, and-intro}
 use Rattle.laws.proofs.Quantifiers.{all-append}
 use Rattle.netlist.specs.Netlist.{Name}
-use Rattle.netlist.specs.StoredBlock.{nameByte, plainName, nodeName, nodeWord}
-use Rattle.netlist.specs.Syntax.{GateLine, OutputLine, Tree, apply, printInput, printGate, printOutput, legalTerm, legalGate, legalOutput, legalTree, print}
+use Rattle.netlist.specs.StoredBlock.{isNameByte, isPlainName, isNodeName, nodeWord}
+use Rattle.netlist.specs.Syntax.{GateLine, OutputLine, Tree, apply, printInput, printGate, printOutput, isLegalTerm, isLegalGate, isLegalOutput, isLegalTree, print}
 use Rattle.netlist.specs.Reading.{Mention, mentions, inputMention, gateMention, portMention, gateLinesAt, outputLinesAt, declaredNodes, declaredPorts, firstRepeat, orElse, firstDuplicate, Binding, inputBindings, gateBindings, bindings, lookup}
 use Rattle.names.specs.Packed.{packed}
 use Rattle.names.specs.Search.{indexOf, repeatsAt}
@@ -68,31 +68,31 @@ module _ (t : Tree) where
       map-append (λ (b : Binding). b .name) (inputBindings (t .inputs) 0) (gateBindings (t .gates) 0)
       ∙ ap₂ _++_ (bound-inputs (t .inputs) 0) (bound-gates (t .gates) 0) ∙ sym node-names
 
-bytes-of : {A : Type 0} (legal : A → Bool) (named : A → Name) → ((x : A) → legal x ≡ true → all nameByte (named x) ≡ true) → (xs : List A) → all legal xs ≡ true → Bytes (map named xs)
+bytes-of : {A : Type 0} (legal : A → Bool) (named : A → Name) → ((x : A) → legal x ≡ true → all isNameByte (named x) ≡ true) → (xs : List A) → all legal xs ≡ true → Bytes (map named xs)
 bytes-of legal named f [] h = refl
 bytes-of legal named f (x ∷ xs) h =
-    and-intro (all nameByte (named x)) (all (all nameByte) (map named xs)) (f x (and-left (legal x) (all legal xs) h)) (bytes-of legal named f xs (and-right (legal x) (all legal xs) h))
+    and-intro (all isNameByte (named x)) (all (all isNameByte) (map named xs)) (f x (and-left (legal x) (all legal xs) h)) (bytes-of legal named f xs (and-right (legal x) (all legal xs) h))
 
-module _ (t : Tree) (legal : legalTree t ≡ true) where
+module _ (t : Tree) (legal : isLegalTree t ≡ true) where
   node-bytes : Bytes (mentioned (declaredNodes t))
-  unfolding plainName legalGate nodeName
+  unfolding isPlainName isLegalGate isNodeName
   node-bytes =
       let p = legal-parts t legal in
       rw (node-names t)
-      (all-append (all nameByte) (map (λ s. s) (t .inputs)) (map (λ (g : GateLine). g .name) (t .gates))
-      ∙ and-intro (all (all nameByte) (map (λ s. s) (t .inputs))) (all (all nameByte) (map (λ (g : GateLine). g .name) (t .gates)))
-      (bytes-of plainName (λ s. s) (λ x h. name-bytes _ x h) (t .inputs) (p .inputs))
-      (bytes-of legalGate (λ (g : GateLine). g .name) (λ g h. name-bytes _ (g .name) (and-left (nodeName (g .name)) (legalTerm (apply (g .kind) (g .terms)) 8) h)) (t .gates) (p .gates)))
+      (all-append (all isNameByte) (map (λ s. s) (t .inputs)) (map (λ (g : GateLine). g .name) (t .gates))
+      ∙ and-intro (all (all isNameByte) (map (λ s. s) (t .inputs))) (all (all isNameByte) (map (λ (g : GateLine). g .name) (t .gates)))
+      (bytes-of isPlainName (λ s. s) (λ x h. name-bytes _ x h) (t .inputs) (p .inputs))
+      (bytes-of isLegalGate (λ (g : GateLine). g .name) (λ g h. name-bytes _ (g .name) (and-left (isNodeName (g .name)) (isLegalTerm (apply (g .kind) (g .terms)) 8) h)) (t .gates) (p .gates)))
 
   port-bytes : Bytes (mentioned (declaredPorts t))
-  unfolding legalOutput plainName
+  unfolding isLegalOutput isPlainName
   port-bytes =
       rw (port-names t)
-      (bytes-of legalOutput (λ (o : OutputLine). o .port) (λ o h. name-bytes _ (o .port) (and-left (plainName (o .port)) (nodeName (o .shown)) h)) (t .outputs) (legal-parts t legal .outputs))
+      (bytes-of isLegalOutput (λ (o : OutputLine). o .port) (λ o h. name-bytes _ (o .port) (and-left (isPlainName (o .port)) (isNodeName (o .shown)) h)) (t .outputs) (legal-parts t legal .outputs))
 
 -- ---- the parts of the tables that hold nodes and ports
 
-module _ (t : Tree) (legal : legalTree t ≡ true) where
+module _ (t : Tree) (legal : isLegalTree t ≡ true) where
   prints : Prints t (print t)
   prints = record { legal = legal; printed = refl }
 
@@ -129,7 +129,7 @@ module _ (t : Tree) (f : Mention → ℕ) (xs : List ℕ) (held : take (length (
 
 -- ---- 4: the earliest repeated declaration
 
-module _ (t : Tree) (legal : legalTree t ≡ true) (c : Counts) (counted : c ≡ treeCounts t) (names places : List ℕ) (table : NameTable t names places)
+module _ (t : Tree) (legal : isLegalTree t ≡ true) (c : Counts) (counted : c ≡ treeCounts t) (names places : List ℕ) (table : NameTable t names places)
     (nameRoom : c .inputs + c .named + c .outputs ≤ length names) (placeRoom : c .inputs + c .named + c .outputs ≤ length places) where
   abbrev nodes : ℕ
   nodes = c .inputs + c .named
@@ -204,13 +204,13 @@ module _ (t : Tree) (legal : legalTree t ≡ true) (c : Counts) (counted : c ≡
 
 -- ---- a name and its node
 
-module _ (t : Tree) (legal : legalTree t ≡ true) (names places words : List ℕ) (tables : Declared t names places words)
-    (nameRoom : length (declaredNodes t) ≤ length names) (s : Name) (named : nodeName s ≡ true) where
+module _ (t : Tree) (legal : isLegalTree t ≡ true) (names places words : List ℕ) (tables : Declared t names places words)
+    (nameRoom : length (declaredNodes t) ≤ length names) (s : Name) (named : isNodeName s ≡ true) where
   abbrev pub index : ℕ
   index = indexOf names (length (declaredNodes t)) (packed s)
 
-  name-ok : all nameByte s ≡ true
-  unfolding nodeName
+  name-ok : all isNameByte s ≡ true
+  unfolding isNodeName
   name-ok = name-bytes _ s named
 
   keys-held : (i : ℕ) → i < length (declaredNodes t) → getD names i 0 ≡ getD (map packed (mentioned (declaredNodes t))) i 0

@@ -14,11 +14,11 @@ use Rattle.laws.proofs.Tab.{length-tab, tab-ext, map-tab, tab-add, placed-tab}
 use Rattle.laws.proofs.Lists.{sum-append}
 use Rattle.laws.proofs.Slices.{take-placed}
 use Rattle.netlist.specs.Netlist.{Name}
-use Rattle.netlist.specs.StoredBlock.{plainName, nodeWord}
-use Rattle.netlist.specs.Syntax.{GateLine, Tree, legalGate}
+use Rattle.netlist.specs.StoredBlock.{isPlainName, nodeWord}
+use Rattle.netlist.specs.Syntax.{GateLine, Tree, isLegalGate}
 use Rattle.netlist.specs.Reading.{Mention, Binding, lineGates, inputBindings, gateBindings, bindings}
-use Rattle.names.specs.Lines.{times, lineStart, gatesTo, declaredPlace, placeAt, lineWord, wordAt}
-use Rattle.names.specs.Packed.{packed, nameAt, packedAt, packedThrough}
+use Rattle.names.specs.Lines.{times, lineOffset, gatesTo, declaredPlace, placeAt, lineWord, wordAt}
+use Rattle.names.specs.Packed.{packed, nameHere, packedAt, packedThrough}
 use Rattle.names.specs.Trees.{inputText, gateText, outputText, treeLines}
 use Rattle.names.specs.Results.{Prints, treeCounts, declared, packedNames, namePlaces, nodeWords, Declared}
 use Rattle.names.specs.declared.Counts.{Counts}
@@ -30,16 +30,16 @@ use Rattle.names.proofs.TreeCounts.{text-is, line-total, lines-are, sum
 
 -- the declaration in line i of a text
 abbrev pub mentionIn : List ℕ → ℕ → Mention
-mentionIn text i = mentionAt (lineStart text i) (drop (lineStart text i) text)
+mentionIn text i = mentionAt (lineOffset text i) (drop (lineOffset text i) text)
 
 module _ (text : List ℕ) (i : ℕ) where
   place-in : placeAt text i ≡ mentionIn text i .place
   unfolding placeAt declaredPlace mentionAt
-  place-in = rw (getD-drop (lineStart text i) text 1 0)
+  place-in = rw (getD-drop (lineOffset text i) text 1 0)
 
-  name-in : nameAt text (placeAt text i) ≡ mentionIn text i .name
-  unfolding nameAt placeAt declaredPlace mentionAt
-  name-in = rw (getD-drop (lineStart text i) text 1 0, drop-drop)
+  name-in : nameHere text (placeAt text i) ≡ mentionIn text i .name
+  unfolding nameHere placeAt declaredPlace mentionAt
+  name-in = rw (getD-drop (lineOffset text i) text 1 0, drop-drop)
 
 module _ {t : Tree} {text : List ℕ} (p : Prints t text) where
   pub declared-are : tab (mentionIn text) (times 10 text) ≡ declared t
@@ -106,9 +106,9 @@ module _ {t : Tree} {text : List ℕ} (p : Prints t text) where
       ap (λ k. take k (treeLines t)) one
       ∙ take-append-add (map inputText (t .inputs)) (map gateText (t .gates) ++ map outputText (t .outputs)) (suc j)
       ∙ ap (λ (r : List (List ℕ)). map inputText (t .inputs) ++ r) (take-append-le (suc j) (map gateText (t .gates)) (map outputText (t .outputs)) some) in
-      let a = rw take-length at (inner-of plainName inputText (λ x. 0) input-line (t .inputs) (q .inputs) (length (map inputText (t .inputs)))) in
+      let a = rw take-length at (inner-of isPlainName inputText (λ x. 0) input-line (t .inputs) (q .inputs) (length (map inputText (t .inputs)))) in
       let z = sum-none (take (length (map inputText (t .inputs))) (t .inputs)) in
-      let b = inner-of legalGate gateText lineGates gate-line (t .gates) (q .gates) (suc j) in
+      let b = inner-of isLegalGate gateText lineGates gate-line (t .gates) (q .gates) (suc j) in
       let whole = gates-are (treeLines t) (tree-lines t (p .legal)) (suc (n + j)) few in
       rw (text-is p)
       (whole ∙ rw (front, map-append innerOpens (map inputText (t .inputs)) (take (suc j) (map gateText (t .gates))), sum-append) (omega arith))

@@ -9,8 +9,8 @@ use lib.Dec.{leb}
 use Rattle.laws.specs.Lists.{sum}
 use Rattle.netlist.specs.Limits.{maxText, maxInputs, maxGates, maxOutputs}
 use Rattle.netlist.specs.StoredBlock.{nodeWord}
-use Rattle.netlist.specs.Syntax.{Tree, legalTree, print}
-use Rattle.netlist.specs.Reading.{Mention, Binding, lineGates, overLimit, declaredNodes, declaredPorts, bindings}
+use Rattle.netlist.specs.Syntax.{Tree, isLegalTree, print}
+use Rattle.netlist.specs.Reading.{Mention, Binding, lineGates, isOverLimit, declaredNodes, declaredPorts, bindings}
 use Rattle.names.specs.Packed.{packed}
 use Rattle.names.specs.Lines.{times, linesWith}
 use Rattle.names.specs.declared.Counts.{Counts}
@@ -21,7 +21,7 @@ use Rattle.names.specs.declared.Repeat.the-variants.{None, At}
 
 -- the text is this tree's, which is legal
 pub record Prints (t : Tree) (text : List ℕ) : Type 0 where
-  pub legal : legalTree t ≡ true
+  pub legal : isLegalTree t ≡ true
   pub printed : print t ≡ text
 
 -- the counts as the bytes give them
@@ -50,7 +50,7 @@ unfoldable pub limitsFor : Counts → Limits
 limitsFor c = cond (leb (c .inputs) maxInputs && leb (c .gates) maxGates && leb (c .outputs) maxOutputs) Within Over
 
 unfoldable pub limitsOf : Tree → Limits
-limitsOf t = cond (overLimit t) Over Within
+limitsOf t = cond (isOverLimit t) Over Within
 
 -- 4: the place of the earliest declaration that repeats another
 unfoldable pub repeatOf : Option ℕ → Repeat

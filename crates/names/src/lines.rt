@@ -5,7 +5,7 @@ ghost use Prim.Native.Nat.{_+_, _-_, _≤_};
 ghost use lib.Dec.{eqb};
 ghost use lib.ListN.{length, getD, drop};
 ghost use Rattle.netlist.specs.Limits.{maxText};
-ghost use Rattle.names.specs.Lines.{times, lineLength, lineOpens, linesWith};
+ghost use Rattle.names.specs.Lines.{times, lengthWithLf, lineOpens, linesWith};
 
 // The byte at `i`, or 0.
 pub fn byte_at(s: &[u8], i: usize) -> u8
@@ -36,7 +36,7 @@ pub fn count(s: &[u8], b: u8) -> usize
 
 // The bytes up to the first LF, that LF counted.
 fn line_length(s: &[u8]) -> usize
-    ensures { λ r. ⌜ r ≡ lineLength (now (s .entry)) ⌝ }
+    ensures { λ r. ⌜ r ≡ lengthWithLf (now (s .entry)) ⌝ }
 {
     let mut i = 0;
     while i < s.len() {
@@ -51,7 +51,7 @@ fn line_length(s: &[u8]) -> usize
 // Where the line that starts at `at` ends.
 pub fn next_line(text: &[u8], at: usize) -> usize
     requires { ⌜ at ≤ length (now text) ⌝ }
-    ensures { λ r. ⌜ r ≡ at + lineLength (drop at (now (text .entry))) ⌝ }
+    ensures { λ r. ⌜ r ≡ at + lengthWithLf (drop at (now (text .entry))) ⌝ }
 {
     at + line_length(&text[at..])
 }

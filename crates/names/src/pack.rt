@@ -4,7 +4,7 @@ ghost use mathlib.Core.Bool.{_&&_};
 ghost use lib.Dec.{leb};
 ghost use Prim.Native.Nat.{_+_, _*_, _≤_};
 ghost use lib.ListN.{length, getD, drop};
-ghost use Rattle.netlist.specs.StoredBlock.{nameByte};
+ghost use Rattle.netlist.specs.StoredBlock.{isNameByte};
 ghost use Rattle.names.specs.Packed.{packed, nameFront, packedAt};
 
 fn is_between(low: u8, high: u8, c: u8) -> bool
@@ -15,7 +15,7 @@ fn is_between(low: u8, high: u8, c: u8) -> bool
 
 // "a-z, 0-9 and `_`"
 fn is_name_byte(c: u8) -> bool
-    ensures { λ r. ⌜ r ≡ nameByte c ⌝ }
+    ensures { λ r. ⌜ r ≡ isNameByte c ⌝ }
 {
     if is_between(97, 122, c) {
         return true;

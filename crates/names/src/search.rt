@@ -6,7 +6,7 @@ ghost use mathlib.Core.Bool.{true};
 ghost use Prim.Native.Nat.{_+_, _≤_, _<_};
 ghost use lib.ListN.{length};
 ghost use Rattle.laws.specs.Lists.{least};
-ghost use Rattle.netlist.specs.Syntax.{Tree, legalTree};
+ghost use Rattle.netlist.specs.Syntax.{Tree, isLegalTree};
 ghost use Rattle.netlist.specs.Reading.{firstDuplicate};
 ghost use Rattle.names.specs.Results.{treeCounts, NameTable, repeatOf};
 ghost use Rattle.names.specs.Search.{indexOf, repeatsAt};
@@ -51,7 +51,7 @@ pub fn first_repeat(names: &[u64]) -> usize
 // 4: the place of the earliest declaration that repeats another. "Inputs and gates share one set of names; ports are a set of their own."
 pub fn duplicate(c: Counts, names: &[u64], places: &[usize]) -> Repeat
     requires { ⌜ (c .inputs + c .named + c .outputs ≤ length (now names)) × (c .inputs + c .named + c .outputs ≤ length (now places)) ⌝ }
-    ensures { λ r. ⌜ ((t : Tree) → legalTree t ≡ true → c ≡ treeCounts t → NameTable t (now (names .entry)) (now (places .entry)) → r ≡ repeatOf (firstDuplicate t)) ⌝ }
+    ensures { λ r. ⌜ ((t : Tree) → isLegalTree t ≡ true → c ≡ treeCounts t → NameTable t (now (names .entry)) (now (places .entry)) → r ≡ repeatOf (firstDuplicate t)) ⌝ }
 {
     let nodes = c.inputs + c.named;
     let ports = c.outputs;

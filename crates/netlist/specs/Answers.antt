@@ -1,5 +1,6 @@
 -- Document 01, "Operations and the refusals they give": the numbers of an answer, and what an operation leaves in the lent slice.
 use Prim.Native.Nat.{ℕ}
+use mathlib.Core.Path.{_≡_}
 use mathlib.Core.Bool.{Bool, true, false}
 use mathlib.Core.List.{List}
 use mathlib.Core.Option.{Option, none, some}
@@ -8,6 +9,8 @@ use lib.Dec.{ltb}
 use Rattle.laws.specs.Lists.{placed}
 use Rattle.netlist.specs.declared.Refusal.{Refusal}
 use Rattle.netlist.specs.declared.Refusal.the-variants.{TextTooLong, SyntaxError, OverLimit, DuplicateDeclaration, UndeclaredName, MalformedBlock, BadSetting, TooManyCopies, NotSettled, NotStraight, NoRoom}
+use Rattle.netlist.specs.declared.Test.{Test}
+use Rattle.netlist.specs.declared.Test.the-variants.{Passed, Failed}
 use Rattle.netlist.specs.declared.Answer.{Answer}
 use Rattle.netlist.specs.declared.Answer.the-variants.{Done, Refused}
 
@@ -53,6 +56,23 @@ unfoldable pub detailOf : Answer → ℕ
 detailOf (Done count detail) = detail
 detailOf (Refused r) = refusalDetail r
 
+-- ---- The answer of a condition's test
+
+-- a condition that holds refuses
+unfoldable pub testOf : Bool → Refusal → Test
+testOf true r = Failed r
+testOf false r = Passed
+
+-- a condition that tells a place
+unfoldable pub testAt : Option ℕ → (ℕ → Refusal) → Test
+testAt (some place) r = Failed (r place)
+testAt none r = Passed
+
+-- what an operation answers when a test failed
+unfoldable pub refusalOf : Test → Answer
+refusalOf (Failed r) = Refused r
+refusalOf Passed = Done 0 0
+
 -- ---- An operation's outcome: its result with count and detail, or a refusal.
 
 pub data Outcome : Type 0 where
@@ -83,3 +103,14 @@ answerOf (refused r) = Refused r
 unfoldable pub leftIn : Outcome → List ℕ → List ℕ
 leftIn (done result count detail) entry = placed result entry
 leftIn (refused r) entry = entry
+
+-- ---- What an operation promises, from its outcome: the three numbers of its answer, and what the lent slice holds at exit
+
+pub record Told (o : Outcome) (r : Answer) : Type 0 where
+  pub number : numberOf r ≡ numberOf (answerOf o)
+  pub count : countOf r ≡ countOf (answerOf o)
+  pub detail : detailOf r ≡ detailOf (answerOf o)
+
+pub record Promise (o : Outcome) (entry : List ℕ) (r : Answer) (exit : List ℕ) : Type 0 where
+  pub told : Told o r
+  pub leaves : exit ≡ leftIn o entry

@@ -6,7 +6,7 @@ use lib.ListN.{length}
 use lib.Dec.{eqb, leb}
 use Rattle.laws.specs.Lists.{all, upTo, keep, joined}
 use Rattle.netlist.specs.Netlist.{Block, inputCount}
-use Rattle.netlist.specs.Rounds.{bit, settledAt, settingCount}
+use Rattle.netlist.specs.Rounds.{bit, isSettled, settingCount}
 
 -- "A partial assignment fixes some inputs (mask of fixed ones, mask of those fixed at 1)."
 pub record Assignment : Type 0 where
@@ -21,36 +21,36 @@ unfoldable pub agrees : ℕ → Assignment → ℕ → Bool
 agrees n a s = all (λ i. not (fixes a i) || eqb (bit s i) (bit (a .ones) i)) (upTo n)
 
 -- "It is sound when every setting that agrees with it is settled."
-unfoldable pub soundUnder : Block → Assignment → Bool
-soundUnder b a = all (λ s. not (agrees (inputCount b) a s) || settledAt b s) (upTo (settingCount b))
+unfoldable pub isSoundUnder : Block → Assignment → Bool
+isSoundUnder b a = all (λ s. not (agrees (inputCount b) a s) || isSettled b s) (upTo (settingCount b))
 
 -- "A block is sound when the assignment that fixes no input is."
-unfoldable pub sound : Block → Bool
-sound b = soundUnder b (record { fixed = 0; ones = 0 })
+unfoldable pub isSound : Block → Bool
+isSound b = isSoundUnder b (record { fixed = 0; ones = 0 })
 
 -- with input i no longer fixed
 unfoldable pub without : Assignment → ℕ → Assignment
 without a i = record { fixed = a .fixed - 2 ^ i; ones = a .ones - bit (a .ones) i * 2 ^ i }
 
 -- "no single fixed input can be dropped with the rest still sound"
-unfoldable pub minimal : Block → Assignment → Bool
-minimal b a = all (λ i. not (fixes a i) || not (soundUnder b (without a i))) (upTo (inputCount b))
+unfoldable pub isMinimal : Block → Assignment → Bool
+isMinimal b a = all (λ i. not (fixes a i) || not (isSoundUnder b (without a i))) (upTo (inputCount b))
 
 -- an input at 1 is a fixed one
-unfoldable pub within : ℕ → ℕ → ℕ → Bool
-within n f o = all (λ i. leb (bit o i) (bit f i)) (upTo n)
+unfoldable pub isWithin : ℕ → ℕ → ℕ → Bool
+isWithin n f o = all (λ i. leb (bit o i) (bit f i)) (upTo n)
 
 -- all assignments of n inputs, "by ascending first mask, then second"
 unfoldable pub assignmentsAt : ℕ → ℕ → List Assignment
-assignmentsAt n f = map (λ o. record { fixed = f; ones = o }) (keep (within n f) (upTo (2 ^ n)))
+assignmentsAt n f = map (λ o. record { fixed = f; ones = o }) (keep (isWithin n f) (upTo (2 ^ n)))
 
 unfoldable pub assignments : ℕ → List Assignment
 assignments n = joined (map (assignmentsAt n) (upTo (2 ^ n)))
 
 -- "The cover is all sound assignments from which no single fixed input can be dropped with the rest still sound"
 unfoldable pub cover : Block → List Assignment
-cover b = keep (λ a. soundUnder b a && minimal b a) (assignments (inputCount b))
+cover b = keep (λ a. isSoundUnder b a && isMinimal b a) (assignments (inputCount b))
 
 -- "two words an entry"
-unfoldable pub coverWords : Block → List ℕ
-coverWords b = joined (map (λ (a : Assignment). a .fixed ∷ a .ones ∷ []) (cover b))
+unfoldable pub coverEntries : Block → List ℕ
+coverEntries b = joined (map (λ (a : Assignment). a .fixed ∷ a .ones ∷ []) (cover b))

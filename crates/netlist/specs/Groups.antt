@@ -21,9 +21,9 @@ unfoldable pub reads : Block → ℕ → ℕ → Bool
 reads b i j = member j (readBy b i)
 
 -- gate i "reaches" gate j "through operands", or is the same
-pub data Path (b : Block) : ℕ → ℕ → Type 0 where
-  stay : {i : ℕ} → Path b i i
-  step : {i j k : ℕ} → reads b i j ≡ true → Path b j k → Path b i k
+pub data OperandPath (b : Block) : ℕ → ℕ → Type 0 where
+  stay : {i : ℕ} → OperandPath b i i
+  step : {i j k : ℕ} → reads b i j ≡ true → OperandPath b j k → OperandPath b i k
 
 -- The same, computed. A set of gates is a Boolean for each; it grows by what its gates read, m times over.
 unfoldable pub has : List Bool → ℕ → Bool
@@ -51,12 +51,12 @@ unfoldable pub groupOf : Block → ℕ → List ℕ
 groupOf b j = keep (sameGroup b j) (upTo (gateCount b))
 
 -- the group reads, "outside" itself, "no gate of a group not yet numbered"; `done` are the gates of the numbered groups
-unfoldable pub ready : Block → List ℕ → List ℕ → Bool
-ready b done group = all (λ i. all (λ k. member k group || member k done) (readBy b i)) group
+unfoldable pub isReady : Block → List ℕ → List ℕ → Bool
+isReady b done group = all (λ i. all (λ k. member k group || member k done) (readBy b i)) group
 
 -- gate j's group can be numbered next
 unfoldable pub mayBeNext : Block → List ℕ → ℕ → Bool
-mayBeNext b done j = not (member j done) && ready b done (groupOf b j)
+mayBeNext b done j = not (member j done) && isReady b done (groupOf b j)
 
 -- "the one holding the lowest gate number is next": the groups from here on, when those of `done` are numbered
 unfoldable pub groupsAfter : Block → ℕ → List ℕ → List (List ℕ)

@@ -8,7 +8,7 @@ use lib.ListN.{length, getD}
 use lib.Dec.{eqb, leb}
 use Rattle.laws.specs.Lists.{ascii, all, any, trimmed}
 use Rattle.netlist.specs.declared.Row.{Row}
-use Rattle.netlist.specs.Values.{Value, undefined, code, valueOf, invert, defined}
+use Rattle.netlist.specs.Values.{Value, undefined, code, valueOf, invert, isDefined}
 
 -- "`and`, `or`, `nand`, `nor` with two to four" operands
 unfoldable pub row : ℕ → ℕ → String → Row
@@ -49,7 +49,7 @@ keyword k = cond (isNot k) (ascii "not") (trimmed (rowOf k .keyword))
 unfoldable pub ruled : Row → List Value → Value
 ruled r vs =
     cond (any (λ v. eqb (code v) (r .controlling)) vs) (valueOf (r .forced))
-    (cond (all defined vs) (invert (valueOf (r .forced))) undefined)
+    (cond (all isDefined vs) (invert (valueOf (r .forced))) undefined)
 
 -- the value of a gate of kind k whose operands have the values vs
 unfoldable pub gateValue : ℕ → List Value → Value

@@ -12,14 +12,14 @@ use Rattle.netlist.specs.declared.Refusal.the-variants.{TextTooLong, Syn
 use Rattle.netlist.specs.Limits.{maxText, maxCopies}
 use Rattle.netlist.specs.Values.{Value, code, valueOf}
 use Rattle.netlist.specs.Netlist.{Block, inputCount, gateCount}
-use Rattle.netlist.specs.StoredBlock.{encode, decode, torn}
+use Rattle.netlist.specs.StoredBlock.{encode, decode, isTorn}
 use Rattle.netlist.specs.Rounds.{rounds, settled, settledSettings, lowestUnsettled}
-use Rattle.netlist.specs.Cover.{sound, cover, coverWords}
+use Rattle.netlist.specs.Cover.{isSound, cover, coverEntries}
 use Rattle.netlist.specs.Groups.{groups, groupNumbers, copyCount}
-use Rattle.netlist.specs.Rendering.{rendering, straight, sweep}
+use Rattle.netlist.specs.Rendering.{rendering, isStraight, sweep}
 use Rattle.netlist.specs.Syntax.{Tree}
 use Rattle.netlist.specs.Parse.{Parsed, got, stuck, parse}
-use Rattle.netlist.specs.Reading.{overLimit, firstDuplicate, firstUndeclared, blockOf}
+use Rattle.netlist.specs.Reading.{isOverLimit, firstDuplicate, firstUndeclared, blockOf}
 use Rattle.netlist.specs.Writing.{writtenText}
 use Rattle.netlist.specs.Answers.{Outcome, done, refused, refuseIf, refuseAt, inRoom}
 
@@ -31,7 +31,7 @@ counted ws = done ws (length ws) 0
 
 unfoldable pub readTree : Tree → Outcome
 readTree t =
-    refuseIf (overLimit t) OverLimit
+    refuseIf (isOverLimit t) OverLimit
     (refuseAt (firstDuplicate t) DuplicateDeclaration
     (refuseAt (firstUndeclared t) UndeclaredName
     (counted (encode (blockOf t)))))
@@ -41,58 +41,58 @@ unfoldable pub readParsed : List ℕ → Parsed Tree → Outcome
 readParsed text (stuck left) = refused (SyntaxError (length text - left))
 readParsed text (got t rest) = readTree t
 
-unfoldable pub reading : List ℕ → Outcome
-reading text =
+unfoldable pub readText : List ℕ → Outcome
+readText text =
     refuseIf (ltb maxText (length text)) TextTooLong
     (readParsed text (parse text))
 
 unfoldable pub read : List ℕ → ℕ → Outcome
-read text room = inRoom room (reading text)
+read text room = inRoom room (readText text)
 
 -- ---- Settle (6, 7, 11): "settled value of each gate, a byte each, from one byte an input, 0, 1 or 2; count: rounds"
 
 -- 7: "not exactly n bytes, or a byte above 2"
-unfoldable pub badSetting : Block → List ℕ → Bool
-badSetting b setting = not (eqb (length setting) (inputCount b)) || not (all (λ v. leb v 2) setting)
+unfoldable pub isBadSetting : Block → List ℕ → Bool
+isBadSetting b setting = not (eqb (length setting) (inputCount b)) || not (all (λ v. leb v 2) setting)
 
-unfoldable pub settling : Block → List Value → Outcome
-settling b x = done (map code (settled b x)) (rounds b x) 0
+unfoldable pub settleBlock : Block → List Value → Outcome
+settleBlock b x = done (map code (settled b x)) (rounds b x) 0
 
 unfoldable pub settle : List ℕ → List ℕ → ℕ → Outcome
 settle ws setting room =
     inRoom room
-    (refuseIf (torn ws) MalformedBlock
-    (refuseIf (badSetting (decode ws) setting) BadSetting
-    (settling (decode ws) (map valueOf setting))))
+    (refuseIf (isTorn ws) MalformedBlock
+    (refuseIf (isBadSetting (decode ws) setting) BadSetting
+    (settleBlock (decode ws) (map valueOf setting))))
 
 -- ---- Verdict (6): "count: settled settings; detail: the lowest other, or 2^n if none"
 
 unfoldable pub verdict : List ℕ → Outcome
 verdict ws =
-    refuseIf (torn ws) MalformedBlock
+    refuseIf (isTorn ws) MalformedBlock
     (done [] (settledSettings (decode ws)) (lowestUnsettled (decode ws)))
 
 -- ---- Cover (6, 11): "two words an entry; count: entries"
 
-unfoldable pub covering : Block → Outcome
-covering b = done (coverWords b) (length (cover b)) 0
+unfoldable pub coverBlock : Block → Outcome
+coverBlock b = done (coverEntries b) (length (cover b)) 0
 
 unfoldable pub coverOf : List ℕ → ℕ → Outcome
 coverOf ws room =
     inRoom room
-    (refuseIf (torn ws) MalformedBlock
-    (covering (decode ws)))
+    (refuseIf (isTorn ws) MalformedBlock
+    (coverBlock (decode ws)))
 
 -- ---- Groups (6, 11): "each gate's group number, a word each; count: groups"
 
-unfoldable pub grouping : Block → Outcome
-grouping b = done (groupNumbers b) (length (groups b)) 0
+unfoldable pub groupsBlock : Block → Outcome
+groupsBlock b = done (groupNumbers b) (length (groups b)) 0
 
 unfoldable pub groupsOf : List ℕ → ℕ → Outcome
 groupsOf ws room =
     inRoom room
-    (refuseIf (torn ws) MalformedBlock
-    (grouping (decode ws)))
+    (refuseIf (isTorn ws) MalformedBlock
+    (groupsBlock (decode ws)))
 
 -- ---- Render (6, 8, 9, 11): "count: words"
 
@@ -101,36 +101,36 @@ groupsOf ws room =
 unfoldable pub renderBlock : Block → Outcome
 renderBlock b =
     refuseIf (ltb maxCopies (copyCount b)) TooManyCopies
-    (refuseIf (not (sound b)) (NotSettled (lowestUnsettled b))
+    (refuseIf (not (isSound b)) (NotSettled (lowestUnsettled b))
     (counted (encode (rendering b))))
 
-unfoldable pub rendered : List ℕ → Outcome
-rendered ws =
-    refuseIf (torn ws) MalformedBlock
+unfoldable pub renderWords : List ℕ → Outcome
+renderWords ws =
+    refuseIf (isTorn ws) MalformedBlock
     (renderBlock (decode ws))
 
 unfoldable pub render : List ℕ → ℕ → Outcome
-render ws room = inRoom room (rendered ws)
+render ws room = inRoom room (renderWords ws)
 
 -- ---- Pass (6, 10, 7, 11): "values of a straight block in one sweep, equal to Settle's; count: m"
 
-unfoldable pub sweeping : Block → List Value → Outcome
-sweeping b x = done (map code (sweep b x)) (gateCount b) 0
+unfoldable pub passBlock : Block → List Value → Outcome
+passBlock b x = done (map code (sweep b x)) (gateCount b) 0
 
 unfoldable pub pass : List ℕ → List ℕ → ℕ → Outcome
 pass ws setting room =
     inRoom room
-    (refuseIf (torn ws) MalformedBlock
-    (refuseIf (not (straight (decode ws))) NotStraight
-    (refuseIf (badSetting (decode ws) setting) BadSetting
-    (sweeping (decode ws) (map valueOf setting)))))
+    (refuseIf (isTorn ws) MalformedBlock
+    (refuseIf (not (isStraight (decode ws))) NotStraight
+    (refuseIf (isBadSetting (decode ws) setting) BadSetting
+    (passBlock (decode ws) (map valueOf setting)))))
 
 -- ---- Write (6, 11): "block to text; count: bytes"
 
-unfoldable pub written : List ℕ → Outcome
-written ws =
-    refuseIf (torn ws) MalformedBlock
+unfoldable pub writeWords : List ℕ → Outcome
+writeWords ws =
+    refuseIf (isTorn ws) MalformedBlock
     (counted (writtenText (decode ws)))
 
 unfoldable pub write : List ℕ → ℕ → Outcome
-write ws room = inRoom room (written ws)
+write ws room = inRoom room (writeWords ws)

@@ -9,7 +9,7 @@ use Rattle.laws.specs.Lists.{ascii, is}
 use Rattle.netlist.specs.Limits.{maxName, maxDepth}
 use Rattle.netlist.specs.Kinds.{fewestOperands, mostOperands}
 use Rattle.netlist.specs.Netlist.{Name}
-use Rattle.netlist.specs.StoredBlock.{letter, nameByte, nameStart}
+use Rattle.netlist.specs.StoredBlock.{isLetter, isNameByte, isNameStart}
 use Rattle.netlist.specs.Syntax.{Term, Terms, name, literal, apply, nil, cons, GateLine, OutputLine, Tree}
 
 pub data Parsed (A : Type 0) : Type 0 where
@@ -58,7 +58,7 @@ module _ {A B : Type 0} where
 -- at most this many name bytes
 unfoldable pub nameBytes : ℕ → Reader Name
 nameBytes zero = pure []
-nameBytes (suc most) = ifNext nameByte (λ c. bind (nameBytes most) (λ cs. pure (c ∷ cs))) (pure [])
+nameBytes (suc most) = ifNext isNameByte (λ c. bind (nameBytes most) (λ cs. pure (c ∷ cs))) (pure [])
 
 unfoldable pub nameAfter : ℕ → Reader Name
 nameAfter c = bind (nameBytes (maxName - 1)) (λ cs. pure (c ∷ cs))
@@ -97,7 +97,7 @@ exprReader term make =
 -- an operand that is a name or a constant, or else `inner`
 unfoldable pub leafOr : Reader Term → Reader Term
 leafOr inner =
-    ifNext nameStart (λ c. bind (nameAfter c) (λ s. pure (name s)))
+    ifNext isNameStart (λ c. bind (nameAfter c) (λ s. pure (name s)))
     (ifNext (is "0") (λ _. pure (literal false))
     (ifNext (is "1") (λ _. pure (literal true)) inner))
 
@@ -120,14 +120,14 @@ addOutput o t = record { inputs = t .inputs; gates = t .gates; outputs = o ∷ t
 unfoldable pub inputLine : Reader Tree → Reader Tree → Reader Tree
 inputLine others otherwise =
     ifNext (is "i") (λ _. expect (ascii "n ")
-    (bind (nameReader letter) (λ s. expect (ascii ")\n")
+    (bind (nameReader isLetter) (λ s. expect (ascii ")\n")
     (bind others (λ t. pure (addInput s t))))))
     otherwise
 
 unfoldable pub gateLine : Reader Tree → Reader Tree → Reader Tree
 gateLine others otherwise =
     ifNext (is "g") (λ _. expect (ascii "ate ")
-    (bind (nameReader nameStart) (λ s. expect (ascii " (")
+    (bind (nameReader isNameStart) (λ s. expect (ascii " (")
     (bind (exprReader (termReader (maxDepth - 1)) (λ k ts. record { name = s; kind = k; terms = ts })) (λ g. expect (ascii ")\n")
     (bind others (λ t. pure (addGate g t))))))))
     otherwise
@@ -135,8 +135,8 @@ gateLine others otherwise =
 unfoldable pub outputLine : Reader Tree → Reader Tree → Reader Tree
 outputLine others otherwise =
     ifNext (is "o") (λ _. expect (ascii "ut ")
-    (bind (nameReader letter) (λ p. expect (ascii " ")
-    (bind (nameReader nameStart) (λ s. expect (ascii ")\n")
+    (bind (nameReader isLetter) (λ p. expect (ascii " ")
+    (bind (nameReader isNameStart) (λ s. expect (ascii ")\n")
     (bind others (λ t. pure (addOutput (record { port = p; shown = s }) t))))))))
     otherwise
 

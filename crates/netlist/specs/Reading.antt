@@ -27,8 +27,8 @@ unfoldable mutual
 unfoldable pub lineGates : GateLine → ℕ
 lineGates g = suc (gatesInside (g .terms))
 
-unfoldable pub overLimit : Tree → Bool
-overLimit t =
+unfoldable pub isOverLimit : Tree → Bool
+isOverLimit t =
     not (leb (length (t .inputs)) maxInputs && leb (sum (map lineGates (t .gates))) maxGates && leb (length (t .outputs)) maxOutputs)
 
 -- ---- names with their places: "A place is a byte offset from 0, a name's that of its first byte."

@@ -55,8 +55,8 @@ rendering b =
     }
 
 -- "A block is straight when each gate reads only inputs, constants and lower gates"
-unfoldable pub straight : Block → Bool
-straight b = all (λ j. all (λ i. ltb i j) (readBy b j)) (upTo (gateCount b))
+unfoldable pub isStraight : Block → Bool
+isStraight b = all (λ j. all (λ i. ltb i j) (readBy b j)) (upTo (gateCount b))
 
 -- "A sweep of a straight block evaluates each gate once, ascending, from inputs, constants and the values just found."
 unfoldable pub sweepFrom : List Value → List Value → List Gate → List Value

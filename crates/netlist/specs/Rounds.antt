@@ -5,7 +5,7 @@ use mathlib.Core.List.{List, [], _∷_, map}
 use lib.ListN.{length, getD, replicate}
 use lib.Dec.{eqb}
 use Rattle.laws.specs.Lists.{same, all, tab, countBelow, least}
-use Rattle.netlist.specs.Values.{Value, undefined, val, code, defined}
+use Rattle.netlist.specs.Values.{Value, undefined, val, code, isDefined}
 use Rattle.netlist.specs.Kinds.{gateValue}
 use Rattle.netlist.specs.Netlist.{Operand, input, gate, constant, Gate, Output, Block, inputCount, gateCount}
 
@@ -28,12 +28,12 @@ afterRounds b x zero = replicate (gateCount b) undefined
 afterRounds b x (suc r) = round b x (afterRounds b x r)
 
 -- a further round changes nothing
-unfoldable pub stable : Block → List Value → ℕ → Bool
-stable b x r = same (map code (afterRounds b x (suc r))) (map code (afterRounds b x r))
+unfoldable pub isStable : Block → List Value → ℕ → Bool
+isStable b x r = same (map code (afterRounds b x (suc r))) (map code (afterRounds b x r))
 
 -- "The rounds reported are those that changed something, at most m."
 unfoldable pub rounds : Block → List Value → ℕ
-rounds b x = least (stable b x) (gateCount b)
+rounds b x = least (isStable b x) (gateCount b)
 
 -- "The settled values are the first so reached from which a further round changes nothing."
 unfoldable pub settled : Block → List Value → List Value
@@ -55,15 +55,15 @@ unfoldable pub settledUnder : Block → ℕ → List Value
 settledUnder b s = settled b (settingOf (inputCount b) s)
 
 -- "A setting is settled when no gate's settled value is 2."
-unfoldable pub settledAt : Block → ℕ → Bool
-settledAt b s = all defined (settledUnder b s)
+unfoldable pub isSettled : Block → ℕ → Bool
+isSettled b s = all isDefined (settledUnder b s)
 
 -- Verdict: "settled settings; detail: the lowest other, or 2^n if none"
 unfoldable pub settledSettings : Block → ℕ
-settledSettings b = countBelow (settledAt b) (settingCount b)
+settledSettings b = countBelow (isSettled b) (settingCount b)
 
 unfoldable pub lowestUnsettled : Block → ℕ
-lowestUnsettled b = least (λ s. not (settledAt b s)) (settingCount b)
+lowestUnsettled b = least (λ s. not (isSettled b s)) (settingCount b)
 
 -- "An output's value under a setting is that of the input, or the settled value of the gate, that the output names": here from any
 -- state of the gates

@@ -8,20 +8,20 @@ use mathlib.Core.List.{List, [], _∷_, _++_}
 use lib.ListN.{replicate}
 use Rattle.laws.specs.Lists.{ascii, same, all, repeated, tab, joined}
 use Rattle.netlist.specs.Limits.{maxText}
-use Rattle.netlist.specs.Values.{code, valueOf, invert, defined}
+use Rattle.netlist.specs.Values.{code, valueOf, invert, isDefined}
 use Rattle.netlist.specs.Kinds.{row, rows, rowOf, isNot, isKind, fewestOperands, mostOperands, arityFits, keyword, ruled, gateValue}
-use Rattle.netlist.specs.StoredBlock.{gatesAt, outputsAt, letter, digit, underscore, nameByte, nameStart, legalName, plainName, nodeName, nameWords, bytesAt, nameAt, nodeWord, operandOf, gateWords, gateAt, outputWords, outputAt, encode, decode, isNode, isOperand, gateFits, wellFormed, torn}
-use Rattle.netlist.specs.Rounds.{operandValue, evaluated, round, afterRounds, stable, rounds, settled, bit, settingOf, settingCount, settledUnder, settledAt, settledSettings, lowestUnsettled}
-use Rattle.netlist.specs.Cover.{fixes, agrees, soundUnder, sound, without, minimal, within, assignmentsAt, assignments, cover, coverWords}
-use Rattle.netlist.specs.Groups.{gateOperand, readBy, reads, has, grown, grownTimes, reach, reaches, sameGroup, groupOf, ready, mayBeNext, groupsAfter, groups, groupNumber, groupNumbers, copyCount}
-use Rattle.netlist.specs.Rendering.{passes, schedule, noCopies, copiedOperand, copied, copies, newestAfter, lastCopies, rendering, straight, sweepFrom, sweep}
+use Rattle.netlist.specs.StoredBlock.{gatesAt, outputsAt, isLetter, isDigit, isUnderscore, isNameByte, isNameStart, isLegalName, isPlainName, isNodeName, nameWords, bytesAt, nameAt, nodeWord, operandOf, gateWords, gateAt, outputWords, outputAt, encode, decode, isNode, isOperand, gateFits, isWellFormed, isTorn}
+use Rattle.netlist.specs.Rounds.{operandValue, evaluated, round, afterRounds, isStable, rounds, settled, bit, settingOf, settingCount, settledUnder, isSettled, settledSettings, lowestUnsettled}
+use Rattle.netlist.specs.Cover.{fixes, agrees, isSoundUnder, isSound, without, isMinimal, isWithin, assignmentsAt, assignments, cover, coverEntries}
+use Rattle.netlist.specs.Groups.{gateOperand, readBy, reads, has, grown, grownTimes, reach, reaches, sameGroup, groupOf, isReady, mayBeNext, groupsAfter, groups, groupNumber, groupNumbers, copyCount}
+use Rattle.netlist.specs.Rendering.{passes, schedule, noCopies, copiedOperand, copied, copies, newestAfter, lastCopies, rendering, isStraight, sweepFrom, sweep}
 use Rattle.netlist.specs.Syntax.{printTerm, printInput, printGate, printOutput, printLines, print}
 use Rattle.netlist.specs.Parse.{pure, stop, onTest, ifNext, expect, onParsed, bind, nameBytes, nameAfter, nameReader, kindReader, spaced, termsReader, exprReader, leafOr, termReader, addInput, addGate, addOutput, inputLine, gateLine, outputLine, atEnd, line, outputsReader, gatesReader, textReader, parse}
-use Rattle.netlist.specs.Reading.{gatesIn, lineGates, overLimit, mentions, linesLength, gateLinesAt, outputLinesAt, inputMention, gateMention, portMention, shownMention, termMentions, operandMentions, declaredNodes, declaredPorts, usedNames, firstRepeat, orElse, firstDuplicate, firstOutside, firstUndeclared, inputBindings, gateBindings, bindings, lookup, termNode, termsNodes, termGates, linesGates, blockOf}
+use Rattle.netlist.specs.Reading.{gatesIn, lineGates, isOverLimit, mentions, linesLength, gateLinesAt, outputLinesAt, inputMention, gateMention, portMention, shownMention, termMentions, operandMentions, declaredNodes, declaredPorts, usedNames, firstRepeat, orElse, firstDuplicate, firstOutside, firstUndeclared, inputBindings, gateBindings, bindings, lookup, termNode, termsNodes, termGates, linesGates, blockOf}
 use Rattle.netlist.specs.Writing.{digits, decimal, gateName, nodeNameOf, termOf, termsOf, flatLine, flatTree, writtenText}
 use Rattle.netlist.specs.Line.{clamped, startBefore, untilLf, lineStart, lineEnd, lineLength, lineAt}
 use Rattle.netlist.specs.Answers.{Outcome, refusalNumber, refusalDetail, numberOf, countOf, detailOf, refuseIf, refuseAt, inRoom, answerOf, leftIn}
-use Rattle.netlist.specs.Operations.{counted, readTree, readParsed, reading, read, badSetting, settling, settle, verdict, covering, coverOf, grouping, groupsOf, renderBlock, rendered, render, sweeping, pass, written, write}
+use Rattle.netlist.specs.Operations.{counted, readTree, readParsed, readText, read, isBadSetting, settleBlock, settle, verdict, coverBlock, coverOf, groupsBlock, groupsOf, renderBlock, renderWords, render, passBlock, pass, writeWords, write}
 use Rattle.netlist.specs.Program.{chained, refusalLine, shown, unloop}
 
 -- What is asked. Where an operation takes a block, the question gives the block's text or its words; `room` is the slice's length.
@@ -58,8 +58,8 @@ unfoldable pub right : Specimen → Bool
 right s = same (answered (s .asked)) (s .answer)
 
 -- the words of a text that is read
-unfoldable pub wordsOf : String → List ℕ
-wordsOf text = leftIn (reading (ascii text)) []
+unfoldable pub blockWords : String → List ℕ
+blockWords text = leftIn (readText (ascii text)) []
 
 infixl 5 _⇒_
 unfoldable pub _⇒_ : Question → List ℕ → Specimen
@@ -94,9 +94,9 @@ unfoldable pub specimens : List Specimen
 specimens =
     -- 1
     (toRead (ascii "") 3 ⇒ 0 ∷ 3 ∷ 0 ∷ 0 ∷ 0 ∷ 0 ∷ [])
-    ∷ (toJudge (wordsOf "") ⇒ 0 ∷ 1 ∷ 1 ∷ [])
-    ∷ (toCover (wordsOf "") 2 ⇒ 0 ∷ 1 ∷ 0 ∷ 0 ∷ 0 ∷ [])
-    ∷ (toRender (wordsOf "") 3 ⇒ 0 ∷ 3 ∷ 0 ∷ 0 ∷ 0 ∷ 0 ∷ [])
+    ∷ (toJudge (blockWords "") ⇒ 0 ∷ 1 ∷ 1 ∷ [])
+    ∷ (toCover (blockWords "") 2 ⇒ 0 ∷ 1 ∷ 0 ∷ 0 ∷ 0 ∷ [])
+    ∷ (toRender (blockWords "") 3 ⇒ 0 ∷ 3 ∷ 0 ∷ 0 ∷ 0 ∷ 0 ∷ [])
     -- 2
     ∷ (toRead (ascii "(in a)") 99 ⇒ with 2 6)
     ∷ (toRead (ascii "(in _a)\n") 99 ⇒ with 2 4)
@@ -104,15 +104,15 @@ specimens =
     ∷ (toRead (ascii "(in a)\n(in a)\n") 99 ⇒ with 4 11)
     ∷ (toRead (ascii "(in a)\n(gate p (not r))\n") 99 ⇒ with 5 20)
     -- 4
-    ∷ (toJudge (wordsOf specimen4) ⇒ 0 ∷ 3 ∷ 1 ∷ [])
-    ∷ (toCover (wordsOf specimen4) 4 ⇒ 0 ∷ 2 ∷ 0 ∷ 1 ∷ 0 ∷ 2 ∷ 2 ∷ [])
-    ∷ (toRender (wordsOf specimen4) 99 ⇒ with 9 1)
+    ∷ (toJudge (blockWords specimen4) ⇒ 0 ∷ 3 ∷ 1 ∷ [])
+    ∷ (toCover (blockWords specimen4) 4 ⇒ 0 ∷ 2 ∷ 0 ∷ 1 ∷ 0 ∷ 2 ∷ 2 ∷ [])
+    ∷ (toRender (blockWords specimen4) 99 ⇒ with 9 1)
     -- 5
-    ∷ (toRender (wordsOf "(gate p (or p (not p)))\n") 99 ⇒ with 9 0)
+    ∷ (toRender (blockWords "(gate p (or p (not p)))\n") 99 ⇒ with 9 0)
     ∷ (toUnloop (ascii "(gate p (or p 1))\n") ⇒ ascii "(gate _0 (or 0 1))\n")
     -- 6
-    ∷ (toJudge (wordsOf specimen6) ⇒ 0 ∷ 32 ∷ 32 ∷ [])
-    ∷ (toSettle (wordsOf specimen6) (0 ∷ 1 ∷ 1 ∷ 0 ∷ 0 ∷ []) 6 ⇒ 0 ∷ 6 ∷ 0 ∷ 0 ∷ 0 ∷ 0 ∷ 0 ∷ 0 ∷ 0 ∷ [])
+    ∷ (toJudge (blockWords specimen6) ⇒ 0 ∷ 32 ∷ 32 ∷ [])
+    ∷ (toSettle (blockWords specimen6) (0 ∷ 1 ∷ 1 ∷ 0 ∷ 0 ∷ []) 6 ⇒ 0 ∷ 6 ∷ 0 ∷ 0 ∷ 0 ∷ 0 ∷ 0 ∷ 0 ∷ 0 ∷ [])
     ∷ (toUnloop (ascii specimen6) ⇒ ascii rendered6)
     -- 9
     ∷ (toUnloop (ascii "(in s)\n(gate p (and s q))\n(gate q (or s p))\n(out y q)\n")
@@ -151,24 +151,24 @@ specimens =
     ∷ 8 ∷ 0 ∷ 0 ∷ 0 ∷ 0 ∷ 26 ∷ 3 ∷ 4 ∷ 65535 ∷ 0 ∷ 17 ∷ 1 ∷ 2 ∷ 0 ∷ 0 ∷ 8 ∷ 0 ∷ 0 ∷ 0 ∷ 0
     ∷ 28265 ∷ 0 ∷ 0 ∷ 0 ∷ 3 ∷ [])
     -- the table of kinds, at 2, 1 and 0; Pass gives Settle's values
-    ∷ (toSettle (wordsOf kinds) (2 ∷ []) 7 ⇒ 0 ∷ 1 ∷ 0 ∷ 0 ∷ 1 ∷ 1 ∷ 0 ∷ 2 ∷ 2 ∷ 2 ∷ [])
-    ∷ (toSettle (wordsOf kinds) (1 ∷ []) 7 ⇒ 0 ∷ 1 ∷ 0 ∷ 0 ∷ 1 ∷ 1 ∷ 0 ∷ 0 ∷ 0 ∷ 0 ∷ [])
-    ∷ (toSettle (wordsOf kinds) (0 ∷ []) 7 ⇒ 0 ∷ 1 ∷ 0 ∷ 0 ∷ 1 ∷ 1 ∷ 0 ∷ 1 ∷ 1 ∷ 1 ∷ [])
-    ∷ (toPass (wordsOf kinds) (2 ∷ []) 7 ⇒ 0 ∷ 7 ∷ 0 ∷ 0 ∷ 1 ∷ 1 ∷ 0 ∷ 2 ∷ 2 ∷ 2 ∷ [])
+    ∷ (toSettle (blockWords kinds) (2 ∷ []) 7 ⇒ 0 ∷ 1 ∷ 0 ∷ 0 ∷ 1 ∷ 1 ∷ 0 ∷ 2 ∷ 2 ∷ 2 ∷ [])
+    ∷ (toSettle (blockWords kinds) (1 ∷ []) 7 ⇒ 0 ∷ 1 ∷ 0 ∷ 0 ∷ 1 ∷ 1 ∷ 0 ∷ 0 ∷ 0 ∷ 0 ∷ [])
+    ∷ (toSettle (blockWords kinds) (0 ∷ []) 7 ⇒ 0 ∷ 1 ∷ 0 ∷ 0 ∷ 1 ∷ 1 ∷ 0 ∷ 1 ∷ 1 ∷ 1 ∷ [])
+    ∷ (toPass (blockWords kinds) (2 ∷ []) 7 ⇒ 0 ∷ 7 ∷ 0 ∷ 0 ∷ 1 ∷ 1 ∷ 0 ∷ 2 ∷ 2 ∷ 2 ∷ [])
     -- the order of conditions: 6 before 7 before 11, 10 before 7, 8 before 9 before 11
     ∷ (toSettle [] (3 ∷ []) 0 ⇒ with 6 0)
-    ∷ (toSettle (wordsOf kinds) (3 ∷ []) 0 ⇒ with 7 0)
-    ∷ (toSettle (wordsOf kinds) [] 0 ⇒ with 7 0)
-    ∷ (toSettle (wordsOf kinds) (2 ∷ []) 6 ⇒ with 11 0)
-    ∷ (toPass (wordsOf specimen4) [] 0 ⇒ with 10 0)
-    ∷ (toPass (wordsOf kinds) [] 0 ⇒ with 7 0)
+    ∷ (toSettle (blockWords kinds) (3 ∷ []) 0 ⇒ with 7 0)
+    ∷ (toSettle (blockWords kinds) [] 0 ⇒ with 7 0)
+    ∷ (toSettle (blockWords kinds) (2 ∷ []) 6 ⇒ with 11 0)
+    ∷ (toPass (blockWords specimen4) [] 0 ⇒ with 10 0)
+    ∷ (toPass (blockWords kinds) [] 0 ⇒ with 7 0)
     ∷ (toUnloop (ring 33) ⇒ ascii "(refused 8 0)\n")
-    ∷ (toRender (wordsOf specimen4) 0 ⇒ with 9 1)
-    ∷ (toRender (wordsOf kinds) 41 ⇒ with 11 0)
+    ∷ (toRender (blockWords specimen4) 0 ⇒ with 9 1)
+    ∷ (toRender (blockWords kinds) 41 ⇒ with 11 0)
     -- the next group is the one with the lowest gate among those ready
-    ∷ (toGroup (wordsOf "(gate a (not d))\n(gate b (not 0))\n(gate c (and a 1))\n(gate d (not 1))\n") 4
+    ∷ (toGroup (blockWords "(gate a (not d))\n(gate b (not 0))\n(gate c (and a 1))\n(gate d (not 1))\n") 4
     ⇒ 0 ∷ 4 ∷ 0 ∷ 2 ∷ 0 ∷ 3 ∷ 1 ∷ [])
-    ∷ (toGroup (wordsOf specimen4) 2 ⇒ 0 ∷ 1 ∷ 0 ∷ 0 ∷ 0 ∷ [])
+    ∷ (toGroup (blockWords specimen4) 2 ⇒ 0 ∷ 1 ∷ 0 ∷ 0 ∷ 0 ∷ [])
     -- forward references without a loop; a straight block renders to itself; depth 8
     ∷ (toUnloop (ascii "(in a)\n(gate p (not q))\n(gate q (not 1))\n(out y p)\n(out z a)\n")
     ⇒ ascii "(in a)\n(gate _0 (not 1))\n(gate _1 (not _0))\n(out y _1)\n(out z a)\n")
@@ -199,5 +199,5 @@ specimens =
 
 -- All of them come out as stated.
 pub specimens-hold : all right specimens ≡ true
-unfolding code valueOf invert defined row rows rowOf isNot isKind fewestOperands mostOperands arityFits keyword ruled gateValue gatesAt outputsAt letter digit underscore nameByte nameStart legalName plainName nodeName nameWords bytesAt nameAt nodeWord operandOf gateWords gateAt outputWords outputAt encode decode isNode isOperand gateFits wellFormed torn operandValue evaluated round afterRounds stable rounds settled bit settingOf settingCount settledUnder settledAt settledSettings lowestUnsettled fixes agrees soundUnder sound without minimal within assignmentsAt assignments cover coverWords gateOperand readBy reads has grown grownTimes reach reaches sameGroup groupOf ready mayBeNext groupsAfter groups groupNumber groupNumbers copyCount passes schedule noCopies copiedOperand copied copies newestAfter lastCopies rendering straight sweepFrom sweep printTerm printInput printGate printOutput printLines print pure stop onTest ifNext expect onParsed bind nameBytes nameAfter nameReader kindReader spaced termsReader exprReader leafOr termReader addInput addGate addOutput inputLine gateLine outputLine atEnd line outputsReader gatesReader textReader parse gatesIn lineGates overLimit mentions linesLength gateLinesAt outputLinesAt inputMention gateMention portMention shownMention termMentions operandMentions declaredNodes declaredPorts usedNames firstRepeat orElse firstDuplicate firstOutside firstUndeclared inputBindings gateBindings bindings lookup termNode termsNodes termGates linesGates blockOf digits decimal gateName nodeNameOf termOf termsOf flatLine flatTree writtenText clamped startBefore untilLf lineStart lineEnd lineLength lineAt refusalNumber refusalDetail numberOf countOf detailOf refuseIf refuseAt inRoom answerOf leftIn counted readTree readParsed reading read badSetting settling settle verdict covering coverOf grouping groupsOf renderBlock rendered render sweeping pass written write chained refusalLine shown unloop report answered right wordsOf _⇒_ with specimen4 specimen6 rendered6 kinds eleven ring specimens
+unfolding code valueOf invert isDefined row rows rowOf isNot isKind fewestOperands mostOperands arityFits keyword ruled gateValue gatesAt outputsAt isLetter isDigit isUnderscore isNameByte isNameStart isLegalName isPlainName isNodeName nameWords bytesAt nameAt nodeWord operandOf gateWords gateAt outputWords outputAt encode decode isNode isOperand gateFits isWellFormed isTorn operandValue evaluated round afterRounds isStable rounds settled bit settingOf settingCount settledUnder isSettled settledSettings lowestUnsettled fixes agrees isSoundUnder isSound without isMinimal isWithin assignmentsAt assignments cover coverEntries gateOperand readBy reads has grown grownTimes reach reaches sameGroup groupOf isReady mayBeNext groupsAfter groups groupNumber groupNumbers copyCount passes schedule noCopies copiedOperand copied copies newestAfter lastCopies rendering isStraight sweepFrom sweep printTerm printInput printGate printOutput printLines print pure stop onTest ifNext expect onParsed bind nameBytes nameAfter nameReader kindReader spaced termsReader exprReader leafOr termReader addInput addGate addOutput inputLine gateLine outputLine atEnd line outputsReader gatesReader textReader parse gatesIn lineGates isOverLimit mentions linesLength gateLinesAt outputLinesAt inputMention gateMention portMention shownMention termMentions operandMentions declaredNodes declaredPorts usedNames firstRepeat orElse firstDuplicate firstOutside firstUndeclared inputBindings gateBindings bindings lookup termNode termsNodes termGates linesGates blockOf digits decimal gateName nodeNameOf termOf termsOf flatLine flatTree writtenText clamped startBefore untilLf lineStart lineEnd lineLength lineAt refusalNumber refusalDetail numberOf countOf detailOf refuseIf refuseAt inRoom answerOf leftIn counted readTree readParsed readText read isBadSetting settleBlock settle verdict coverBlock coverOf groupsBlock groupsOf renderBlock renderWords render passBlock pass writeWords write chained refusalLine shown unloop report answered right blockWords _⇒_ with specimen4 specimen6 rendered6 kinds eleven ring specimens
 specimens-hold = refl

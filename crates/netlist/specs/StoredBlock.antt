@@ -35,32 +35,32 @@ outputsAt n m = gatesAt n + gateSize * m
 
 -- ---- names: "1 to 8 bytes of a-z, 0-9 and `_`, and no digit first. An input's name and a PORT don't start with `_`."
 
-unfoldable pub letter : ℕ → Bool
-letter c = leb 97 c && leb c 122
+unfoldable pub isLetter : ℕ → Bool
+isLetter c = leb 97 c && leb c 122
 
-unfoldable pub digit : ℕ → Bool
-digit c = leb 48 c && leb c 57
+unfoldable pub isDigit : ℕ → Bool
+isDigit c = leb 48 c && leb c 57
 
-unfoldable pub underscore : ℕ → Bool
-underscore c = eqb c 95
+unfoldable pub isUnderscore : ℕ → Bool
+isUnderscore c = eqb c 95
 
-unfoldable pub nameByte : ℕ → Bool
-nameByte c = letter c || digit c || underscore c
+unfoldable pub isNameByte : ℕ → Bool
+isNameByte c = isLetter c || isDigit c || isUnderscore c
 
-unfoldable pub nameStart : ℕ → Bool
-nameStart c = letter c || underscore c
+unfoldable pub isNameStart : ℕ → Bool
+isNameStart c = isLetter c || isUnderscore c
 
 -- a name whose first byte passes the test `start`
-unfoldable pub legalName : (ℕ → Bool) → Name → Bool
-legalName start s = leb 1 (length s) && leb (length s) maxName && start (getD s 0 0) && all nameByte s
+unfoldable pub isLegalName : (ℕ → Bool) → Name → Bool
+isLegalName start s = leb 1 (length s) && leb (length s) maxName && start (getD s 0 0) && all isNameByte s
 
 -- the name of an input, and a port
-unfoldable pub plainName : Name → Bool
-plainName = legalName letter
+unfoldable pub isPlainName : Name → Bool
+isPlainName = isLegalName isLetter
 
 -- the name of a gate, and any name that is used
-unfoldable pub nodeName : Name → Bool
-nodeName = legalName nameStart
+unfoldable pub isNodeName : Name → Bool
+isNodeName = isLegalName isNameStart
 
 -- "A name word is first byte + 256 × second, unused bytes zero at the end."
 unfoldable pub nameWords : Name → List ℕ
@@ -139,14 +139,14 @@ isOperand b (constant c) = true
 unfoldable pub gateFits : Block → Gate → Bool
 gateFits b g = isKind (g .kind) && arityFits (g .kind) (length (g .operands)) && all (isOperand b) (g .operands)
 
-unfoldable pub wellFormed : Block → Bool
-wellFormed b =
+unfoldable pub isWellFormed : Block → Bool
+isWellFormed b =
     leb (inputCount b) maxInputs && leb (gateCount b) maxGates && leb (outputCount b) maxOutputs
-    && all plainName (b .inputs) && distinct (b .inputs)
+    && all isPlainName (b .inputs) && distinct (b .inputs)
     && all (gateFits b) (b .gates)
-    && all (λ o. plainName (o .port)) (b .outputs) && distinct (map (λ (o : Output). o .port) (b .outputs))
+    && all (λ o. isPlainName (o .port)) (b .outputs) && distinct (map (λ (o : Output). o .port) (b .outputs))
     && all (λ o. isNode b (o .node)) (b .outputs)
 
 -- "words break any rule of the stored block": they are not the encoding of a well-formed block
-unfoldable pub torn : List ℕ → Bool
-torn ws = not (wellFormed (decode ws) && same (encode (decode ws)) ws)
+unfoldable pub isTorn : List ℕ → Bool
+isTorn ws = not (isWellFormed (decode ws) && same (encode (decode ws)) ws)

@@ -9,7 +9,7 @@ use Rattle.laws.specs.Lists.{ascii, all}
 use Rattle.netlist.specs.Limits.{maxDepth}
 use Rattle.netlist.specs.Kinds.{isKind, arityFits, keyword}
 use Rattle.netlist.specs.Netlist.{Name}
-use Rattle.netlist.specs.StoredBlock.{plainName, nodeName}
+use Rattle.netlist.specs.StoredBlock.{isPlainName, isNodeName}
 
 -- "An OPERAND is a NAME, the constant `0` or `1`, or another EXPR"; EXPR is a kind and its operands.
 mutual
@@ -77,31 +77,31 @@ termCount (cons t ts) = suc (termCount ts)
 
 -- with `depth` levels of EXPR left
 unfoldable mutual
-  pub legalTerm : Term → ℕ → Bool
-  legalTerm (name s) depth = nodeName s
-  legalTerm (literal b) depth = true
-  legalTerm (apply k ts) zero = false
-  legalTerm (apply k ts) (suc depth) = isKind k && arityFits k (termCount ts) && legalTerms ts depth
+  pub isLegalTerm : Term → ℕ → Bool
+  isLegalTerm (name s) depth = isNodeName s
+  isLegalTerm (literal b) depth = true
+  isLegalTerm (apply k ts) zero = false
+  isLegalTerm (apply k ts) (suc depth) = isKind k && arityFits k (termCount ts) && isLegalTerms ts depth
 
-  pub legalTerms : Terms → ℕ → Bool
-  legalTerms nil depth = true
-  legalTerms (cons t ts) depth = legalTerm t depth && legalTerms ts depth
+  pub isLegalTerms : Terms → ℕ → Bool
+  isLegalTerms nil depth = true
+  isLegalTerms (cons t ts) depth = isLegalTerm t depth && isLegalTerms ts depth
 
 -- "The outermost EXPR has depth 1; depth 8 is the greatest."
-unfoldable pub legalGate : GateLine → Bool
-legalGate g = nodeName (g .name) && legalTerm (apply (g .kind) (g .terms)) maxDepth
+unfoldable pub isLegalGate : GateLine → Bool
+isLegalGate g = isNodeName (g .name) && isLegalTerm (apply (g .kind) (g .terms)) maxDepth
 
-unfoldable pub legalOutput : OutputLine → Bool
-legalOutput o = plainName (o .port) && nodeName (o .shown)
+unfoldable pub isLegalOutput : OutputLine → Bool
+isLegalOutput o = isPlainName (o .port) && isNodeName (o .shown)
 
-unfoldable pub legalTree : Tree → Bool
-legalTree t = all plainName (t .inputs) && all legalGate (t .gates) && all legalOutput (t .outputs)
+unfoldable pub isLegalTree : Tree → Bool
+isLegalTree t = all isPlainName (t .inputs) && all isLegalGate (t .gates) && all isLegalOutput (t .outputs)
 
 -- ---- which texts are legal
 
 pub record Legal (text : List ℕ) : Type 0 where
   pub tree : Tree
-  pub legal : legalTree tree ≡ true
+  pub legal : isLegalTree tree ≡ true
   pub printed : print tree ≡ text
 
 -- some legal text begins so

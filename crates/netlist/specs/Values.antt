@@ -24,6 +24,6 @@ unfoldable pub invert : Value → Value
 invert undefined = undefined
 invert (val b) = val (not b)
 
-unfoldable pub defined : Value → Bool
-defined undefined = false
-defined (val b) = true
+unfoldable pub isDefined : Value → Bool
+isDefined undefined = false
+isDefined (val b) = true

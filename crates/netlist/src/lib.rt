@@ -26,6 +26,12 @@ pub enum Refusal {
     NoRoom,
 }
 
+// What a condition of an operation answers: the input passes, or the operation refuses.
+pub enum Test {
+    Passed,
+    Failed(Refusal),
+}
+
 // What an operation answers.
 pub enum Answer {
     Done { count: usize, detail: usize },

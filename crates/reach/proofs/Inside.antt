@@ -13,7 +13,7 @@ use Rattle.laws.proofs.Lists.{member-cases, member-one}
 use Rattle.netlist.specs.Limits.{maxInputs, maxGates, maxOutputs}
 use Rattle.netlist.specs.Netlist.{Operand, input, gate, constant, Gate, Output, Block, inputCount, gateCount, outputCount}
 use Rattle.netlist.specs.Kinds.{isKind, arityFits}
-use Rattle.netlist.specs.StoredBlock.{plainName, isNode, isOperand, gateFits, wellFormed}
+use Rattle.netlist.specs.StoredBlock.{isPlainName, isNode, isOperand, gateFits, isWellFormed}
 use Rattle.netlist.specs.Groups.{gateOperand, readBy, reads}
 use Rattle.reach.specs.Inside.{Inside}
 
@@ -49,14 +49,14 @@ second : (a b c d e : Bool) → (a && b && c && d && e) ≡ true → b ≡ true
 second a b c d e h = and-right a b (and-left (a && b) c (and-left (a && b && c) d (and-left (a && b && c && d) e h)))
 
 -- and so in a well-formed block
-pub wellFormed-inside : (b : Block) → wellFormed b ≡ true → Inside b
-unfolding wellFormed
+pub wellFormed-inside : (b : Block) → isWellFormed b ≡ true → Inside b
+unfolding isWellFormed
 wellFormed-inside b h =
     fits-inside b
     (second
-    (leb (inputCount b) maxInputs && leb (gateCount b) maxGates && leb (outputCount b) maxOutputs && all plainName (b .inputs) && distinct (b .inputs))
+    (leb (inputCount b) maxInputs && leb (gateCount b) maxGates && leb (outputCount b) maxOutputs && all isPlainName (b .inputs) && distinct (b .inputs))
     (all (gateFits b) (b .gates))
-    (all (λ o. plainName (o .port)) (b .outputs))
+    (all (λ o. isPlainName (o .port)) (b .outputs))
     (distinct (map (λ (o : Output). o .port) (b .outputs)))
     (all (λ o. isNode b (o .node)) (b .outputs))
     h)

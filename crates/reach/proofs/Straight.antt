@@ -13,8 +13,8 @@ use Rattle.laws.proofs.Tests.{not-both, and-left, and-right, not-true-false}
 use Rattle.laws.proofs.Least.{least-is}
 use Rattle.laws.proofs.Lists.{joined-snoc, member-one}
 use Rattle.netlist.specs.Netlist.{Block, gateCount}
-use Rattle.netlist.specs.Groups.{readBy, reads, Path, stay, step, reaches, sameGroup, groupOf, mayBeNext, groups}
-use Rattle.netlist.specs.Rendering.{straight}
+use Rattle.netlist.specs.Groups.{readBy, reads, OperandPath, stay, step, reaches, sameGroup, groupOf, mayBeNext, groups}
+use Rattle.netlist.specs.Rendering.{isStraight}
 use Rattle.reach.specs.Inside.{Inside, Loopless}
 use Rattle.reach.specs.Numbering.{nextGate, Built, none, next}
 use Rattle.reach.proofs.ListFacts.{all-member, member-upTo, upTo-below, keep-one}
@@ -39,10 +39,10 @@ joined-ones : (t : ℕ) → joined (tab (λ j. j ∷ []) t) ≡ upTo t
 joined-ones zero = refl
 joined-ones (suc t) = joined-snoc (tab (λ j. j ∷ []) t) (t ∷ []) ∙ ap (λ (l : List ℕ). l ++ (t ∷ [])) (joined-ones t)
 
-module _ (b : Block) (s : straight b ≡ true) where
+module _ (b : Block) (s : isStraight b ≡ true) where
   -- a gate reads lower gates only,
   pub straight-reads : (i k : ℕ) → reads b i k ≡ true → k < i
-  unfolding straight reads
+  unfolding isStraight reads
   straight-reads i k r =
       ltb-true k i (all-member (λ k. ltb k i) (readBy b i) (all-member _ (upTo (gateCount b)) s i (member-upTo i _ (reads-below b i k r))) k r)
 
@@ -51,7 +51,7 @@ module _ (b : Block) (s : straight b ≡ true) where
   straight-inside i k r = let l = straight-reads i k r in let m = reads-below b i k r in omega arith
 
   -- reaches lower ones and itself only,
-  pub straight-path : {i j : ℕ} → Path b i j → j ≤ i
+  pub straight-path : {i j : ℕ} → OperandPath b i j → j ≤ i
   straight-path stay = omega arith
   straight-path (step {i} {j} r p) = let l = straight-reads i j r in let m = straight-path p in omega arith
 

@@ -11,8 +11,8 @@ use Rattle.laws.proofs.Tests.{and-left, and-right}
 use Rattle.laws.proofs.Tab.{length-tab, tab-ext, tab-getD, map-tab}
 use Rattle.laws.proofs.Stores.{sets-append, length-joined-tab}
 use Rattle.netlist.specs.Netlist.{Name, gateCount, outputCount}
-use Rattle.netlist.specs.StoredBlock.{plainName, nameWords, gateWords, outputWords, gatesAt, outputsAt, encode}
-use Rattle.netlist.specs.Syntax.{name, apply, GateLine, Tree, legalTree, print, printInput, printGate}
+use Rattle.netlist.specs.StoredBlock.{isPlainName, nameWords, gateWords, outputWords, gatesAt, outputsAt, encode}
+use Rattle.netlist.specs.Syntax.{name, apply, GateLine, Tree, isLegalTree, print, printInput, printGate}
 use Rattle.netlist.specs.Reading.{Mention, mentions, inputMention, gateMention, gateLinesAt, declaredNodes, declaredPorts, gatesIn, lineGates, Binding, bindings, termGates, linesGates, blockOf}
 use Rattle.encoding.proofs.Encoded.{length-encode}
 use Rattle.encoding.proofs.ListFacts.{length-joined}
@@ -63,14 +63,14 @@ unfolding mentions inputMention
 input-numbers [] at = refl
 input-numbers (s ∷ ss) at = ap {B = List ℕ} (λ r. packed s ∷ r) (input-numbers ss _)
 
-names-words : (ss : List Name) → all plainName ss ≡ true → map (λ (s : Name). portWords (packed s)) ss ≡ map nameWords ss
-unfolding plainName
+names-words : (ss : List Name) → all isPlainName ss ≡ true → map (λ (s : Name). portWords (packed s)) ss ≡ map nameWords ss
+unfolding isPlainName
 names-words [] h = refl
 names-words (s ∷ ss) h =
-    ap₂ (λ (a : List ℕ) (r : List (List ℕ)). a ∷ r) (port-words s (name-bytes _ s (and-left (plainName s) (all plainName ss) h)))
-    (names-words ss (and-right (plainName s) (all plainName ss) h))
+    ap₂ (λ (a : List ℕ) (r : List (List ℕ)). a ∷ r) (port-words s (name-bytes _ s (and-left (isPlainName s) (all isPlainName ss) h)))
+    (names-words ss (and-right (isPlainName s) (all isPlainName ss) h))
 
-module _ (t : Tree) (legal : legalTree t ≡ true) (names : List ℕ) (is : take (length (declared t)) names ≡ packedNames t) where
+module _ (t : Tree) (legal : isLegalTree t ≡ true) (names : List ℕ) (is : take (length (declared t)) names ≡ packedNames t) where
   prints : Prints t (print t)
   prints = record { legal = legal; printed = refl }
 

@@ -12,9 +12,9 @@ use Rattle.netlist.specs.Limits.{maxText}
 use Rattle.netlist.specs.StoredBlock.{encode}
 use Rattle.netlist.specs.Syntax.{Tree, Legal}
 use Rattle.netlist.specs.Parse.{Parsed, got, stuck, parse}
-use Rattle.netlist.specs.Reading.{overLimit, firstDuplicate, firstUndeclared, blockOf}
+use Rattle.netlist.specs.Reading.{isOverLimit, firstDuplicate, firstUndeclared, blockOf}
 use Rattle.netlist.specs.Answers.{Outcome, done, refused, refuseIf, refuseAt, inRoom}
-use Rattle.netlist.specs.Operations.{counted, readTree, readParsed, reading, read}
+use Rattle.netlist.specs.Operations.{counted, readTree, readParsed, readText, read}
 use Rattle.grammar.proofs.Adequacy.{legal-parses, parsed-legal}
 use Rattle.form.specs.declared.TextForm.{TextForm}
 use Rattle.form.specs.declared.TextForm.the-variants.{Legal as Formed, Bad}
@@ -33,11 +33,11 @@ use Rattle.reading.specs.Steps.{InForm, Limited}
 -- ---- 1 and 2
 
 pub read-long : (text : List ℕ) (room : ℕ) → maxText < length text → read text room ≡ refused TextTooLong
-unfolding read reading refuseIf inRoom
+unfolding read readText refuseIf inRoom
 read-long text room l = rw (lt-ltb maxText (length text) l) refl
 
 pub read-bad : (text : List ℕ) (room place : ℕ) (r : TextForm) → length text ≤ maxText → r ≡ formOf text → r ≡ Bad place → read text room ≡ refused (SyntaxError place)
-unfolding read reading formOf refuseIf readParsed inRoom
+unfolding read readText formOf refuseIf readParsed inRoom
 read-bad text room place r s e f = rw (le-ltb maxText (length text) s) (go (parse text) (sym f ∙ e))
   where
     go : (p : Parsed Tree) → Bad place ≡ formAt text p → inRoom room (readParsed text p) ≡ refused (SyntaxError place)
@@ -56,14 +56,14 @@ in-form text r s e f = go (parse text) refl (sym f ∙ e)
 
 module _ (t : Tree) (text : List ℕ) (room : ℕ) where
   read-tree : Prints t text → length text ≤ maxText → read text room ≡ inRoom room (readTree t)
-  unfolding read reading readParsed refuseIf
+  unfolding read readText readParsed refuseIf
   read-tree p s =
       let l : Legal text = record { tree = t; legal = p .legal; printed = p .printed } in
       rw (le-ltb maxText (length text) s, legal-parses text l) refl
 
   pub read-over : Prints t text → length text ≤ maxText → (r : Limits) → r ≡ limitsOf t → r ≡ Over → read text room ≡ refused OverLimit
   unfolding readTree limitsOf refuseIf inRoom
-  read-over p s r e f = read-tree p s ∙ go (overLimit t) _ (sym f ∙ e)
+  read-over p s r e f = read-tree p s ∙ go (isOverLimit t) _ (sym f ∙ e)
     where
       go : (b : Bool) (o : Outcome) → Over ≡ cond b Over Within → inRoom room (refuseIf b OverLimit o) ≡ refused OverLimit
       go true o h = refl
@@ -72,7 +72,7 @@ module _ (t : Tree) (text : List ℕ) (room : ℕ) where
   module _ (l : Limited t text) where
     read-within : read text room ≡ inRoom room (refuseAt (firstDuplicate t) DuplicateDeclaration (refuseAt (firstUndeclared t) UndeclaredName (counted (encode (blockOf t)))))
     unfolding readTree limitsOf refuseIf
-    read-within = read-tree (l .prints) (l .short) ∙ go (overLimit t) _ (l .within)
+    read-within = read-tree (l .prints) (l .short) ∙ go (isOverLimit t) _ (l .within)
       where
         go : (b : Bool) (o : Outcome) → cond b Over Within ≡ Within → inRoom room (refuseIf b OverLimit o) ≡ inRoom room o
         go true o h = let z : _≡_ {A = ℕ} 0 1 = cc in absurd (omega arith)

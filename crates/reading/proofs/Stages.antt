@@ -12,7 +12,7 @@ use Rattle.laws.proofs.Slices.{sets-placed, placed-room}
 use Rattle.netlist.specs.declared.Answer.the-variants.{Done, Refused}
 use Rattle.netlist.specs.declared.Refusal.the-variants.{DuplicateDeclaration, UndeclaredName, NoRoom}
 use Rattle.netlist.specs.StoredBlock.{gateWords, outputWords, encode}
-use Rattle.netlist.specs.Syntax.{Tree, legalTree}
+use Rattle.netlist.specs.Syntax.{Tree, isLegalTree}
 use Rattle.netlist.specs.Reading.{firstDuplicate, firstUndeclared, blockOf}
 use Rattle.netlist.specs.Answers.{refused, answerOf, leftIn}
 use Rattle.netlist.specs.declared.Refusal.{Refusal}
@@ -28,7 +28,7 @@ use Rattle.terms.specs.declared.Uses.the-variants.{Known, Undeclared}
 use Rattle.terms.specs.Resolution.{Resolved}
 use Rattle.terms.specs.Resolution as resolution
 use Rattle.reading.specs.Words.{blockWords, wordCount, PutReady}
-use Rattle.reading.specs.Steps.{Answered, Ready, TablesReady, Tabled, Resolving, WriteReady}
+use Rattle.reading.specs.Steps.{Answered, ReadReady, TablesReady, Tabled, Resolving, WriteReady}
 use Rattle.reading.proofs.Outcomes.{read-twice, read-unknown, read-short, read-done, told-single, told-twice, told-known, told-undeclared}
 use Rattle.reading.proofs.BlockWords.{block-length, gates-length, outputs-length, words-are}
 
@@ -45,7 +45,7 @@ room-for {text} {c} {names} {places} {nodes} a =
 
 pub tabled : (text : List ℕ) (c : Counts) (names places nodes : List ℕ) (r : Repeat)
     → ((t : Tree) → Prints t text → c ≡ treeCounts t → Declared t names places nodes)
-    → ((t : Tree) → legalTree t ≡ true → c ≡ treeCounts t → NameTable t names places → r ≡ repeatOf (firstDuplicate t))
+    → ((t : Tree) → isLegalTree t ≡ true → c ≡ treeCounts t → NameTable t names places → r ≡ repeatOf (firstDuplicate t))
     → Tabled text c names nodes r
 tabled text c names places nodes r d u =
     record {
@@ -57,7 +57,7 @@ tabled text c names places nodes r d u =
           );
     }
 
-module _ {text names places nodes gates outputs : List ℕ} (a : Ready text names places nodes gates outputs) (c : Counts)
+module _ {text names places nodes gates outputs : List ℕ} (a : ReadReady text names places nodes gates outputs) (c : Counts)
     (counts : (t : Tree) → Prints t text → c ≡ treeCounts t) where
   pub tables-ready : TablesReady text c names places nodes
   tables-ready =

@@ -35,7 +35,7 @@ pub record Limited (t : Tree) (text : List ℕ) : Type 0 where
   pub short : length text ≤ maxText
   pub within : limitsOf t ≡ Within
 
-pub record Ready (text names places nodes gates outputs : List ℕ) : Type 0 where
+pub record ReadReady (text names places nodes gates outputs : List ℕ) : Type 0 where
   pub tree : Tree
   pub limited : Limited tree text
   pub nameRoom : maxInputs + maxGates + maxOutputs ≤ length names

@@ -9,7 +9,7 @@ use netlist::Answer;
 use netlist::Refusal;
 use terms::Uses;
 use terms::resolve;
-ghost use Rattle.reading.specs.Steps.{Ready, Tabled, TablesReady, Resolving, WriteReady, Answered};
+ghost use Rattle.reading.specs.Steps.{ReadReady, Tabled, TablesReady, Resolving, WriteReady, Answered};
 
 // The tables of the declared names, and 4.
 fn tables(
@@ -76,7 +76,7 @@ pub fn read_with(
     outputs: &mut [u16],
     block: &mut [u16],
 ) -> Answer
-    requires { ⌜ Ready (now text) (now names) (now places) (now nodes) (now gates) (now outputs) ⌝ }
+    requires { ⌜ ReadReady (now text) (now names) (now places) (now nodes) (now gates) (now outputs) ⌝ }
     ensures { λ r. ⌜ Answered (now (text .entry)) (now (block .entry)) r (now (block .exit)) ⌝ }
 {
     let c = counts(text);

@@ -9,13 +9,13 @@ use borrow.Author.Tests.{lt-ltb, le-ltb}
 use Rattle.netlist.specs.declared.Refusal.the-variants.{MalformedBlock, TooManyCopies, NotSettled, NoRoom}
 use Rattle.netlist.specs.Limits.{maxCopies}
 use Rattle.netlist.specs.Netlist.{Block}
-use Rattle.netlist.specs.StoredBlock.{encode, decode, torn}
+use Rattle.netlist.specs.StoredBlock.{encode, decode, isTorn}
 use Rattle.netlist.specs.Rounds.{lowestUnsettled}
-use Rattle.netlist.specs.Cover.{sound}
+use Rattle.netlist.specs.Cover.{isSound}
 use Rattle.netlist.specs.Groups.{copyCount}
 use Rattle.netlist.specs.Rendering.{rendering}
 use Rattle.netlist.specs.Answers.{Outcome, done, refused, refuseIf, inRoom}
-use Rattle.netlist.specs.Operations.{counted, renderBlock, rendered, render}
+use Rattle.netlist.specs.Operations.{counted, renderBlock, renderWords, render}
 
 -- the outcome, by the four tests
 unfoldable pub renderBy : List ℕ → Bool → Bool → Bool → Bool → Outcome
@@ -25,9 +25,9 @@ renderBy ws false false false short = refused (NotSettled (lowestUnsettled (deco
 renderBy ws false false true true = refused NoRoom
 renderBy ws false false true false = done (encode (rendering (decode ws))) (length (encode (rendering (decode ws)))) 0
 
-pub render-by : (ws : List ℕ) (room : ℕ) → render ws room ≡ renderBy ws (torn ws) (ltb maxCopies (copyCount (decode ws))) (sound (decode ws)) (ltb room (length (encode (rendering (decode ws)))))
-unfolding render rendered renderBlock counted inRoom refuseIf renderBy
-render-by ws room = go (torn ws) (ltb maxCopies (copyCount (decode ws))) (sound (decode ws)) (ltb room (length (encode (rendering (decode ws))))) refl
+pub render-by : (ws : List ℕ) (room : ℕ) → render ws room ≡ renderBy ws (isTorn ws) (ltb maxCopies (copyCount (decode ws))) (isSound (decode ws)) (ltb room (length (encode (rendering (decode ws)))))
+unfolding render renderWords renderBlock counted inRoom refuseIf renderBy
+render-by ws room = go (isTorn ws) (ltb maxCopies (copyCount (decode ws))) (isSound (decode ws)) (ltb room (length (encode (rendering (decode ws))))) refl
   where
     go : (t m s r : Bool) → ltb room (length (encode (rendering (decode ws)))) ≡ r → inRoom room (refuseIf t MalformedBlock (refuseIf m TooManyCopies (refuseIf (not s) (NotSettled (lowestUnsettled (decode ws))) (counted (encode (rendering (decode ws))))))) ≡ renderBy ws t m s r
     go true m s r e = refl
@@ -37,22 +37,22 @@ render-by ws room = go (torn ws) (ltb maxCopies (copyCount (decode ws))) (sound 
     go false false true false e = rw e refl
 
 module _ (ws : List ℕ) (room : ℕ) where
-  pub render-torn : torn ws ≡ true → render ws room ≡ refused MalformedBlock
+  pub render-torn : isTorn ws ≡ true → render ws room ≡ refused MalformedBlock
   unfolding renderBy
   render-torn t = render-by ws room ∙ rw t refl
 
-  pub render-swollen : torn ws ≡ false → maxCopies < copyCount (decode ws) → render ws room ≡ refused TooManyCopies
+  pub render-swollen : isTorn ws ≡ false → maxCopies < copyCount (decode ws) → render ws room ≡ refused TooManyCopies
   unfolding renderBy
   render-swollen t m = render-by ws room ∙ rw (t, lt-ltb maxCopies (copyCount (decode ws)) m) refl
 
-  pub render-undecided : torn ws ≡ false → copyCount (decode ws) ≤ maxCopies → sound (decode ws) ≡ false → render ws room ≡ refused (NotSettled (lowestUnsettled (decode ws)))
+  pub render-undecided : isTorn ws ≡ false → copyCount (decode ws) ≤ maxCopies → isSound (decode ws) ≡ false → render ws room ≡ refused (NotSettled (lowestUnsettled (decode ws)))
   unfolding renderBy
   render-undecided t m s = render-by ws room ∙ rw (t, le-ltb maxCopies (copyCount (decode ws)) m, s) refl
 
-  pub render-short : torn ws ≡ false → copyCount (decode ws) ≤ maxCopies → sound (decode ws) ≡ true → room < length (encode (rendering (decode ws))) → render ws room ≡ refused NoRoom
+  pub render-short : isTorn ws ≡ false → copyCount (decode ws) ≤ maxCopies → isSound (decode ws) ≡ true → room < length (encode (rendering (decode ws))) → render ws room ≡ refused NoRoom
   unfolding renderBy
   render-short t m s l = render-by ws room ∙ rw (t, le-ltb maxCopies (copyCount (decode ws)) m, s, lt-ltb room (length (encode (rendering (decode ws)))) l) refl
 
-  pub render-done : torn ws ≡ false → copyCount (decode ws) ≤ maxCopies → sound (decode ws) ≡ true → length (encode (rendering (decode ws))) ≤ room → render ws room ≡ done (encode (rendering (decode ws))) (length (encode (rendering (decode ws)))) 0
+  pub render-done : isTorn ws ≡ false → copyCount (decode ws) ≤ maxCopies → isSound (decode ws) ≡ true → length (encode (rendering (decode ws))) ≤ room → render ws room ≡ done (encode (rendering (decode ws))) (length (encode (rendering (decode ws)))) 0
   unfolding renderBy
   render-done t m s l = render-by ws room ∙ rw (t, le-ltb maxCopies (copyCount (decode ws)) m, s, le-ltb room (length (encode (rendering (decode ws)))) l) refl

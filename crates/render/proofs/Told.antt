@@ -16,9 +16,9 @@ use Rattle.laws.proofs.Least.{least-le}
 use Rattle.netlist.specs.declared.Answer.{Answer}
 use Rattle.netlist.specs.Limits.{maxCopies}
 use Rattle.netlist.specs.Netlist.{Block, inputCount, gateCount, outputCount}
-use Rattle.netlist.specs.StoredBlock.{gatesAt, outputsAt, outputSize, encode, decode, torn}
-use Rattle.netlist.specs.Rounds.{settingCount, settledAt, lowestUnsettled}
-use Rattle.netlist.specs.Cover.{sound}
+use Rattle.netlist.specs.StoredBlock.{gatesAt, outputsAt, outputSize, encode, decode, isTorn}
+use Rattle.netlist.specs.Rounds.{settingCount, isSettled, lowestUnsettled}
+use Rattle.netlist.specs.Cover.{isSound}
 use Rattle.netlist.specs.Groups.{groups, copyCount}
 use Rattle.netlist.specs.Rendering.{rendering, schedule}
 use Rattle.netlist.specs.Answers.{answerOf, leftIn}
@@ -32,7 +32,7 @@ use Rattle.schedule.specs.declared.Copies.{Copies}
 use Rattle.schedule.specs.declared.Copies.the-variants.{Fit as CopiesFit, TooMany as CopiesTooMany}
 use Rattle.schedule.specs.Listing.{copiesOf, Numbers, Appended, planOf}
 use Rattle.schedule.proofs.Blocks.{plan-schedule, front}
-use Rattle.copying.specs.Words.{Ready}
+use Rattle.copying.specs.Words.{CopyReady}
 use Rattle.render.specs.declared.Settings.{Settings}
 use Rattle.render.specs.declared.Settings.the-variants.{AllSettled, Unsettled}
 use Rattle.render.specs.declared.Plan.{Plan}
@@ -81,37 +81,37 @@ settings-count : (ws : List ℕ) (n : ℕ) → n ≡ getD ws 0 0 → settingCoun
 unfolding settingCount
 settings-count ws n e = rw (decode-inputCount ws, e) refl
 
-pub found-unsettled : (ws : List ℕ) (n lowest count : ℕ) → n ≡ getD ws 0 0 → lowest ≡ lowestUnsettled (decode ws) → count ≡ 2 ^ n → lowest < count → Unsettled lowest ≡ settingsOf (sound (decode ws)) (lowestUnsettled (decode ws))
+pub found-unsettled : (ws : List ℕ) (n lowest count : ℕ) → n ≡ getD ws 0 0 → lowest ≡ lowestUnsettled (decode ws) → count ≡ 2 ^ n → lowest < count → Unsettled lowest ≡ settingsOf (isSound (decode ws)) (lowestUnsettled (decode ws))
 unfolding settingsOf
-found-unsettled ws n lowest count e is c l = go (sound (decode ws)) refl
+found-unsettled ws n lowest count e is c l = go (isSound (decode ws)) refl
   where
-    go : (t : Bool) → sound (decode ws) ≡ t → Unsettled lowest ≡ settingsOf t (lowestUnsettled (decode ws))
+    go : (t : Bool) → isSound (decode ws) ≡ t → Unsettled lowest ≡ settingsOf t (lowestUnsettled (decode ws))
     go true s = let all : lowestUnsettled (decode ws) ≡ settingCount (decode ws) = sound-lowest (decode ws) s in absurd (omega (arith, settings-count ws n e))
     go false s = ap Unsettled is
 
 lowest-within : (b : Block) → lowestUnsettled b ≤ settingCount b
 unfolding lowestUnsettled
-lowest-within b = least-le (λ s. not (settledAt b s)) (settingCount b)
+lowest-within b = least-le (λ s. not (isSettled b s)) (settingCount b)
 
-pub found-none : (ws : List ℕ) (n lowest count : ℕ) → n ≡ getD ws 0 0 → lowest ≡ lowestUnsettled (decode ws) → count ≡ 2 ^ n → count ≤ lowest → AllSettled ≡ settingsOf (sound (decode ws)) (lowestUnsettled (decode ws))
+pub found-none : (ws : List ℕ) (n lowest count : ℕ) → n ≡ getD ws 0 0 → lowest ≡ lowestUnsettled (decode ws) → count ≡ 2 ^ n → count ≤ lowest → AllSettled ≡ settingsOf (isSound (decode ws)) (lowestUnsettled (decode ws))
 unfolding settingsOf
 found-none ws n lowest count e is c l =
-    let s : sound (decode ws) ≡ true = lowest-sound (decode ws) (le-antisymm (lowest-within (decode ws)) (omega (arith, settings-count ws n e))) in
+    let s : isSound (decode ws) ≡ true = lowest-sound (decode ws) (le-antisymm (lowest-within (decode ws)) (omega (arith, settings-count ws n e))) in
     rw s refl
 
-pub told-unsettled : (b : Block) (r : Settings) (v : ℕ) → r ≡ settingsOf (sound b) (lowestUnsettled b) → r ≡ Unsettled v → (sound b ≡ false) × (v ≡ lowestUnsettled b)
+pub told-unsettled : (b : Block) (r : Settings) (v : ℕ) → r ≡ settingsOf (isSound b) (lowestUnsettled b) → r ≡ Unsettled v → (isSound b ≡ false) × (v ≡ lowestUnsettled b)
 unfolding settingsOf
-told-unsettled b r v e f = go (sound b) refl (sym f ∙ e)
+told-unsettled b r v e f = go (isSound b) refl (sym f ∙ e)
   where
-    go : (t : Bool) → sound b ≡ t → Unsettled v ≡ settingsOf t (lowestUnsettled b) → (sound b ≡ false) × (v ≡ lowestUnsettled b)
+    go : (t : Bool) → isSound b ≡ t → Unsettled v ≡ settingsOf t (lowestUnsettled b) → (isSound b ≡ false) × (v ≡ lowestUnsettled b)
     go true s h = let z : _≡_ {A = ℕ} 0 1 = cc in absurd (omega arith)
     go false s h = (s, (cc))
 
-pub told-settled : (b : Block) (r : Settings) → r ≡ settingsOf (sound b) (lowestUnsettled b) → r ≡ AllSettled → sound b ≡ true
+pub told-settled : (b : Block) (r : Settings) → r ≡ settingsOf (isSound b) (lowestUnsettled b) → r ≡ AllSettled → isSound b ≡ true
 unfolding settingsOf
-told-settled b r e f = go (sound b) refl (sym f ∙ e)
+told-settled b r e f = go (isSound b) refl (sym f ∙ e)
   where
-    go : (t : Bool) → sound b ≡ t → AllSettled ≡ settingsOf t (lowestUnsettled b) → sound b ≡ true
+    go : (t : Bool) → isSound b ≡ t → AllSettled ≡ settingsOf t (lowestUnsettled b) → isSound b ≡ true
     go true s h = s
     go false s h = let z : _≡_ {A = ℕ} 0 1 = cc in absurd (omega arith)
 
@@ -151,5 +151,5 @@ pub counted-numbers : (ws : List ℕ) {count : ℕ} {numbers : List ℕ} → cou
 counted-numbers ws e a = rw e a
 
 -- an array of 1,024 elements has room for every gate
-pub few-gates : (ws : List ℕ) {n : ℕ} → torn ws ≡ false → 1024 ≤ n → getD ws 1 0 ≤ n
+pub few-gates : (ws : List ℕ) {n : ℕ} → isTorn ws ≡ false → 1024 ≤ n → getD ws 1 0 ≤ n
 few-gates ws whole l = omega (arith, whole-parts ws whole .fewGates)

@@ -9,11 +9,11 @@ use lib.Dec.{eqb, ltb}
 use Rattle.netlist.specs.declared.Answer.{Answer}
 use Rattle.netlist.specs.Limits.{maxCopies}
 use Rattle.netlist.specs.Netlist.{Name, Output, Block, inputCount, gateCount, outputCount}
-use Rattle.netlist.specs.StoredBlock.{encode, decode, torn}
-use Rattle.netlist.specs.Rounds.{settingOf, settingCount, settledUnder, settledAt, lowestUnsettled, outputValue}
-use Rattle.netlist.specs.Cover.{sound}
+use Rattle.netlist.specs.StoredBlock.{encode, decode, isTorn}
+use Rattle.netlist.specs.Rounds.{settingOf, settingCount, settledUnder, isSettled, lowestUnsettled, outputValue}
+use Rattle.netlist.specs.Cover.{isSound}
 use Rattle.netlist.specs.Groups.{copyCount}
-use Rattle.netlist.specs.Rendering.{rendering, straight, sweep}
+use Rattle.netlist.specs.Rendering.{rendering, isStraight, sweep}
 use Rattle.netlist.specs.Answers.{numberOf, countOf, detailOf, answerOf, leftIn}
 use Rattle.netlist.specs.Operations.{render}
 
@@ -25,8 +25,8 @@ portOf o = o .port
 -- the rendered block, is equal to the value of the original's output of the same number."
 pub record Renders (ws out : List ℕ) : Type 0 where
   pub wordForWord : out ≡ encode (rendering (decode ws))
-  pub notTorn : torn out ≡ false
-  pub isStraight : straight (decode out) ≡ true
+  pub notTorn : isTorn out ≡ false
+  pub straightened : isStraight (decode out) ≡ true
   pub gatesAreTheSum : gateCount (decode out) ≡ copyCount (decode ws)
   pub sameInputs : decode out .inputs ≡ decode ws .inputs
   pub samePorts : map portOf (decode out .outputs) ≡ map portOf (decode ws .outputs)
@@ -39,10 +39,10 @@ pub record RenderPromise (ws entry : List ℕ) (r : Answer) (exit : List ℕ) : 
   pub leaves : exit ≡ leftIn (render ws (length entry)) entry
   -- "8 exactly when the sum is above 1,024; 9 exactly when the sum is at most 1,024 and the block isn't sound; else 0, or 11 where the slice is
   -- too small"; torn words are 6
-  pub number : numberOf r ≡ cond (torn ws) 6 (cond (ltb maxCopies (copyCount (decode ws))) 8 (cond (not (sound (decode ws))) 9 (cond (ltb (length entry) (length (encode (rendering (decode ws))))) 11 0)))
+  pub number : numberOf r ≡ cond (isTorn ws) 6 (cond (ltb maxCopies (copyCount (decode ws))) 8 (cond (not (isSound (decode ws))) 9 (cond (ltb (length entry) (length (encode (rendering (decode ws))))) 11 0)))
   -- 9 "with the number of the lowest setting that isn't settled"
   pub detail : detailOf r ≡ cond (eqb (numberOf r) 9) (lowestUnsettled (decode ws)) 0
-  pub lowest : sound (decode ws) ≡ false → (lowestUnsettled (decode ws) < settingCount (decode ws)) × (settledAt (decode ws) (lowestUnsettled (decode ws)) ≡ false) × ((s : ℕ) → s < lowestUnsettled (decode ws) → settledAt (decode ws) s ≡ true)
+  pub lowest : isSound (decode ws) ≡ false → (lowestUnsettled (decode ws) < settingCount (decode ws)) × (isSettled (decode ws) (lowestUnsettled (decode ws)) ≡ false) × ((s : ℕ) → s < lowestUnsettled (decode ws) → isSettled (decode ws) s ≡ true)
   -- "count: words", 0 where it is refused
   pub count : countOf r ≡ cond (eqb (numberOf r) 0) (length (encode (rendering (decode ws)))) 0
   -- "a sound block whose sum fits is rendered"

@@ -8,8 +8,8 @@ use lib.Dec.{ltb}
 use Rattle.netlist.specs.declared.Answer.{Answer}
 use Rattle.netlist.specs.Limits.{maxCopies}
 use Rattle.netlist.specs.Netlist.{Block}
-use Rattle.netlist.specs.StoredBlock.{decode, torn}
-use Rattle.netlist.specs.Cover.{sound}
+use Rattle.netlist.specs.StoredBlock.{decode, isTorn}
+use Rattle.netlist.specs.Cover.{isSound}
 use Rattle.netlist.specs.Groups.{groups, copyCount}
 use Rattle.netlist.specs.Answers.{answerOf, leftIn}
 use Rattle.netlist.specs.Operations.{render}
@@ -34,7 +34,7 @@ pub record Planned (ws numbers : List ℕ) (r : Plan) : Type 0 where
 
 -- what the search for the lowest setting asks
 pub record LowestReady (ws order inputs values : List ℕ) : Type 0 where
-  pub whole : torn ws ≡ false
+  pub whole : isTorn ws ≡ false
   pub visits : Visits (getD ws 1 0) (take (getD ws 1 0) order)
   pub orderRoom : getD ws 1 0 ≤ length order
   pub inputRoom : getD ws 0 0 ≤ length inputs
@@ -42,24 +42,24 @@ pub record LowestReady (ws order inputs values : List ℕ) : Type 0 where
 
 -- what the search for an unsettled setting asks
 pub record SearchReady (ws order inputs values : List ℕ) : Type 0 where
-  pub whole : torn ws ≡ false
+  pub whole : isTorn ws ≡ false
   pub orderRoom : getD ws 1 0 ≤ length order
   pub inputRoom : getD ws 0 0 ≤ length inputs
   pub valueRoom : getD ws 1 0 ≤ length values
 
 -- nothing can refuse any more but the room
 pub record WriteReady (ws numbers : List ℕ) (count total : ℕ) (order newest : List ℕ) : Type 0 where
-  pub whole : torn ws ≡ false
+  pub whole : isTorn ws ≡ false
   pub numbersAre : Numbers (decode ws) (getD ws 1 0) count numbers
   pub totalIs : total ≡ copyCount (decode ws)
   pub fits : total ≤ 1024
-  pub settled : sound (decode ws) ≡ true
+  pub settled : isSound (decode ws) ≡ true
   pub orderRoom : 1024 ≤ length order
   pub tableRoom : getD ws 1 0 ≤ length newest
 
 -- arrays with room for every gate, input and copy
 pub record ArrayRoom (ws numbers order newest inputs values : List ℕ) : Type 0 where
-  pub whole : torn ws ≡ false
+  pub whole : isTorn ws ≡ false
   pub numberRoom : getD ws 1 0 ≤ length numbers
   pub orderRoom : 1024 ≤ length order
   pub tableRoom : getD ws 1 0 ≤ length newest

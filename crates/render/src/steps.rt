@@ -3,15 +3,15 @@ ghost use mathlib.Core.Path.{_≡_};
 ghost use mathlib.Core.Bool.{false};
 ghost use Prim.Native.Nat.{_≤_};
 ghost use lib.ListN.{length, getD};
-ghost use Rattle.netlist.specs.StoredBlock.{decode, torn};
+ghost use Rattle.netlist.specs.StoredBlock.{decode, isTorn};
 ghost use Rattle.netlist.specs.Rounds.{lowestUnsettled};
-ghost use Rattle.netlist.specs.Cover.{sound};
+ghost use Rattle.netlist.specs.Cover.{isSound};
 ghost use Rattle.render.specs.Tests.{settingsOf, Planned, LowestReady, SearchReady, WriteReady, ArrayRoom, Answered};
 use crate::Plan;
 use crate::Settings;
-use block::header;
 use copying::rendered::write_rendering;
 use groups::assign::assign;
+use layout::offsets;
 use netlist::Answer;
 use netlist::Refusal;
 use schedule::Copies;
@@ -23,11 +23,11 @@ use visiting::order_gates;
 
 // Numbers the groups and counts the copies.
 fn plan(words: &[u16], numbers: &mut [u16]) -> Plan
-    requires { ⌜ (torn (now words) ≡ false) × (getD (now words) 1 0 ≤ length (now numbers)) ⌝ }
+    requires { ⌜ (isTorn (now words) ≡ false) × (getD (now words) 1 0 ≤ length (now numbers)) ⌝ }
     ensures { λ r. ⌜ Planned (now (words .entry)) (now (numbers .exit)) r ⌝ }
 {
     let count = assign(words, numbers);
-    let Copies::Fit(total) = count_copies(header::gates_of(words), numbers, count) else {
+    let Copies::Fit(total) = count_copies(offsets::gates_of(words), numbers, count) else {
         return Plan::TooMany;
     };
     Plan::Fit { count, total }
@@ -38,9 +38,9 @@ fn lowest_along(words: &[u16], order: &[u16], inputs: &mut [u8], values: &mut [u
     requires { ⌜ LowestReady (now words) (now order) (now inputs) (now values) ⌝ }
     ensures { λ r. ⌜ r ≡ lowestUnsettled (decode (now (words .entry))) ⌝ }
 {
-    let n = header::inputs_of(words);
-    let m = header::gates_of(words);
-    let gates = header::gates_at(n);
+    let n = offsets::inputs_of(words);
+    let m = offsets::gates_of(words);
+    let gates = offsets::gates_at(n);
     lowest_unsettled(
         words,
         n,
@@ -59,11 +59,11 @@ fn find_unsettled(
     values: &mut [u8],
 ) -> Settings
     requires { ⌜ SearchReady (now words) (now order) (now inputs) (now values) ⌝ }
-    ensures { λ r. ⌜ r ≡ settingsOf (sound (decode (now (words .entry)))) (lowestUnsettled (decode (now (words .entry)))) ⌝ }
+    ensures { λ r. ⌜ r ≡ settingsOf (isSound (decode (now (words .entry)))) (lowestUnsettled (decode (now (words .entry)))) ⌝ }
 {
     order_gates(words, order);
     let lowest = lowest_along(words, order, inputs, values);
-    if lowest < setting_count(header::inputs_of(words)) {
+    if lowest < setting_count(offsets::inputs_of(words)) {
         return Settings::Unsettled(lowest);
     }
     Settings::AllSettled
@@ -82,10 +82,10 @@ fn finish(
     requires { ⌜ WriteReady (now words) (now numbers) count total (now order) (now newest) ⌝ }
     ensures { λ r. ⌜ Answered (now (words .entry)) (now (rendered .entry)) r (now (rendered .exit)) ⌝ }
 {
-    let n = header::inputs_of(words);
-    let m = header::gates_of(words);
-    let k = header::outputs_of(words);
-    let size = header::outputs_at(n, total) + 5 * k;
+    let n = offsets::inputs_of(words);
+    let m = offsets::gates_of(words);
+    let k = offsets::outputs_of(words);
+    let size = offsets::outputs_at(n, total) + 5 * k;
     if rendered.len() < size {
         return Answer::Refused(Refusal::NoRoom);
     }

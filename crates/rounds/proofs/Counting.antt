@@ -13,25 +13,25 @@ use lib.Seq.{ext-getD}
 use Rattle.laws.specs.Lists.{upTo}
 use Rattle.laws.proofs.Quantifiers.{below-any}
 use Rattle.laws.proofs.Lists.{member-head, member-rest, member-first}
-use Rattle.netlist.specs.Values.{Value, undefined, val, defined}
+use Rattle.netlist.specs.Values.{Value, undefined, val, isDefined}
 use Rattle.rounds.specs.Order.{Below, BelowOn, BelowAll, Listed, definedAmong}
 
 -- one value counts 1 where it is 0 or 1
 one : Value → ℕ
-one v = cond (defined v) 1 0
+one v = cond (isDefined v) 1 0
 
 one-le : (v : Value) → one v ≤ 1
-unfolding one defined
+unfolding one isDefined
 one-le undefined = omega arith
 one-le (val b) = omega arith
 
 one-mono : (v w : Value) → Below v w → one v ≤ one w
-unfolding one defined
+unfolding one isDefined
 one-mono undefined w h = omega arith
 one-mono (val b) w h = rw (h b refl) (omega arith)
 
 one-same : (v w : Value) → Below v w → one w ≤ one v → v ≡ w
-unfolding one defined
+unfolding one isDefined
 one-same undefined undefined h l = refl
 one-same undefined (val b) h l = absurd (omega arith)
 one-same (val b) w h l = sym (h b refl)

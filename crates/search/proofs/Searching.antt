@@ -17,7 +17,7 @@ use Rattle.laws.proofs.Quantifiers.{member-at, member-from, all-at}
 use Rattle.laws.proofs.Counting.{countBelow-le}
 use Rattle.netlist.specs.Netlist.{Block}
 use Rattle.netlist.specs.StoredBlock.{decode}
-use Rattle.netlist.specs.Groups.{Path, stay, step, reads, readBy}
+use Rattle.netlist.specs.Groups.{OperandPath, stay, step, reads, readBy}
 use Rattle.search.specs.Search.{marked, fresh, setFlags, Room, Extended, Queued, Searching, GatesReady, StartReady, Reached, wordGates, gateReads}
 use Rattle.search.proofs.Marking.{room-kept, set-new}
 
@@ -105,7 +105,7 @@ one-of : {a : ℕ} → a ≡ 0 → a ≡ 1 → ⊥
 one-of z o = let e : _≡_ {A = ℕ} 0 1 = sym z ∙ o in omega arith
 
 -- a path and one operand more
-pub path-more : {b : Block} {i j k : ℕ} → Path b i j → reads b j k ≡ true → Path b i k
+pub path-more : {b : Block} {i j k : ℕ} → OperandPath b i j → reads b j k ≡ true → OperandPath b i k
 path-more stay r = step r stay
 path-more (step s p) r = step s (path-more p r)
 
@@ -157,10 +157,10 @@ module _ {b : Block} {m start : ℕ} {barred flags queue : List ℕ} {head tail 
   still-queued k r = let lt : r .0 < tail = r .1 in (r .0, omega (arith, longer), old-queue (r .0) (r .1) ∙ r .2)
 
   -- what stands in the queue
-  queued′ : (q : ℕ) → q < tail′ → (getD queue′ q 0 < m) × Path b start (getD queue′ q 0)
+  queued′ : (q : ℕ) → q < tail′ → (getD queue′ q 0 < m) × OperandPath b start (getD queue′ q 0)
   queued′ q l = ⊎-elim (λ h. rw (old-queue q h) (s .queued q h)) new (lt-or-le q tail)
     where
-      new : tail ≤ q → (getD queue′ q 0 < m) × Path b start (getD queue′ q 0)
+      new : tail ≤ q → (getD queue′ q 0 < m) × OperandPath b start (getD queue′ q 0)
       new h =
           let t : tail′ ≡ tail + length (fresh flags ks) = e .tailIs in
           let p : q - tail < length (fresh flags ks) = omega arith in

@@ -9,7 +9,7 @@ use lib.Seq.{sets}
 use lib.Dec.{eqb, leb, ltb}
 use Rattle.laws.specs.Lists.{tab, joined, countBelow}
 use Rattle.netlist.specs.Netlist.{Block}
-use Rattle.netlist.specs.Groups.{Path, reads, readBy}
+use Rattle.netlist.specs.Groups.{OperandPath, reads, readBy}
 use Rattle.netlist.specs.StoredBlock.{decode}
 
 -- the gate that an operand word of a block of n inputs and m gates names, if it names one
@@ -62,7 +62,7 @@ pub record Searching (b : Block) (m start : ℕ) (barred flags queue : List ℕ)
   pub behind : head ≤ tail
   pub bits : (k : ℕ) → k < m → (getD flags k 0 ≡ 0) ⊎ (getD flags k 0 ≡ 1)
   pub started : Queued queue tail start
-  pub queued : (q : ℕ) → q < tail → (getD queue q 0 < m) × Path b start (getD queue q 0)
+  pub queued : (q : ℕ) → q < tail → (getD queue q 0 < m) × OperandPath b start (getD queue q 0)
   pub visited : (q : ℕ) → q < head → (k : ℕ) → reads b (getD queue q 0) k ≡ true → getD flags k 0 ≡ 1
   pub found : (k : ℕ) → k < m → getD flags k 0 ≡ 1 → (getD barred k 0 ≡ 1) ⊎ Queued queue tail k
 
@@ -90,5 +90,5 @@ pub record StartReady (m start : ℕ) (flags : List ℕ) : Type 0 where
 pub record Reached (b : Block) (m start : ℕ) (barred queue : List ℕ) (count : ℕ) : Type 0 where
   pub few : count ≤ m
   pub started : Queued queue count start
-  pub sound : (q : ℕ) → q < count → (getD queue q 0 < m) × Path b start (getD queue q 0)
+  pub sound : (q : ℕ) → q < count → (getD queue q 0 < m) × OperandPath b start (getD queue q 0)
   pub closed : (q : ℕ) → q < count → (k : ℕ) → reads b (getD queue q 0) k ≡ true → (getD barred k 0 ≡ 1) ⊎ Queued queue count k

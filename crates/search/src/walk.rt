@@ -4,7 +4,7 @@ ghost use Prim.Native.Nat.{_/_, _≤_, _<_};
 ghost use lib.ListN.{getD};
 ghost use Rattle.search.specs.Search.{wordGate, wordGates, Room, Extended, StartReady, SearchReady, Reached};
 ghost use Rattle.netlist.specs.StoredBlock.{decode};
-use ternary::read::word_at;
+use layout::read::word_at;
 
 // Marks gate `k`, and queues it if it was not marked; the queue's new end.
 fn mark(k: usize, m: usize, flags: &mut [u8], queue: &mut [u16], tail: usize) -> usize

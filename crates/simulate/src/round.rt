@@ -1,15 +1,15 @@
 // Rounds of a block that is not torn, all gates at once: into a spare slice, and then over the values of the round before.
-use block::header::GATE_SIZE;
-use block::header::gates_at;
-use block::header::gates_of;
-use block::header::inputs_of;
+use layout::offsets::GATE_SIZE;
+use layout::offsets::gates_at;
+use layout::offsets::gates_of;
+use layout::offsets::inputs_of;
 use ternary::gate::gate_value;
 ghost use mathlib.Core.Path.{_≡_};
 ghost use mathlib.Core.Bool.{false, not};
 ghost use Prim.Native.Nat.{_≤_, _<_};
 ghost use lib.ListN.{length, getD, take, replicate};
 ghost use Rattle.laws.specs.Lists.{same, placed};
-ghost use Rattle.netlist.specs.StoredBlock.{torn};
+ghost use Rattle.netlist.specs.StoredBlock.{isTorn};
 ghost use Rattle.simulate.specs.Rounded.{InBlock, ForRounds, gateCode, roundCodes, Rounded, Settled};
 
 // The value of gate j, from the setting and the gates' values.
@@ -104,7 +104,7 @@ fn settle_with(
 
 // The settled values into the first bytes of `values`; how many rounds changed something.
 pub fn settle_into(words: &[u16], setting: &[u8], values: &mut [u8]) -> usize
-    requires { ⌜ torn (now words) ≡ false ⌝ }
+    requires { ⌜ isTorn (now words) ≡ false ⌝ }
     requires { ⌜ getD (now words) 1 0 ≤ length (now values) ⌝ }
     ensures { λ r. ⌜ Settled (now (words .entry)) (now (setting .entry)) (now (values .entry)) (now (values .exit)) r ⌝ }
 {

@@ -20,7 +20,7 @@ use Rattle.names.proofs.TreeSearch.{bound-names}
 use Rattle.terms.specs.declared.Walked.{Walked}
 use Rattle.terms.specs.declared.Uses.the-variants.{Known, Undeclared}
 use Rattle.terms.specs.Leaves.{earlier}
-use Rattle.terms.specs.Walk.{leftOf, declaredNames, unknownAfter, wordsOf}
+use Rattle.terms.specs.Walk.{leftOf, declaredNames, unknownAfter, gatesWords}
 use Rattle.terms.specs.Lines.{LineForm, gateForm, outputForm, outputOf, linesWords, linesCost, LinesDone}
 use Rattle.terms.specs.Resolution.{TreeAt, TreeDone}
 use Rattle.terms.proofs.ListFacts.{sum-ones}
@@ -39,12 +39,12 @@ lines-sized F lawful n bs [] first = refl
 lines-sized F lawful n bs (x ∷ xs) first =
     omega (arith, length-append (F .words n bs x first) (linesWords F n bs xs (first + F .cost x)), lawful .sized n bs x first, lines-sized F lawful n bs xs (first + F .cost x))
 
-gate-words : (n : ℕ) (bs : List Binding) (gs : List GateLine) (first : ℕ) → linesWords gateForm n bs gs first ≡ wordsOf n (linesGates gs bs first)
-unfolding linesWords linesGates gateForm wordsOf
+gate-words : (n : ℕ) (bs : List Binding) (gs : List GateLine) (first : ℕ) → linesWords gateForm n bs gs first ≡ gatesWords n (linesGates gs bs first)
+unfolding linesWords linesGates gateForm gatesWords
 gate-words n bs [] first = refl
 gate-words n bs (g ∷ gs) first =
     let a = termGates (apply (g .kind) (g .terms)) bs first in
-    ap (λ (r : List ℕ). wordsOf n a ++ r) (gate-words n bs gs (first + lineGates g)) ∙ sym (words-append n a (linesGates gs bs (first + lineGates g)))
+    ap (λ (r : List ℕ). gatesWords n a ++ r) (gate-words n bs gs (first + lineGates g)) ∙ sym (words-append n a (linesGates gs bs (first + lineGates g)))
 
 output-words : (n : ℕ) (bs : List Binding) (os : List OutputLine) (first : ℕ)
     → linesWords outputForm n bs os first ≡ joined (map (outputWords n) (map (λ (o : OutputLine). record { port = o .port; node = lookup bs (o .shown) }) os))
@@ -57,13 +57,13 @@ module _ (t : Tree) (text : List ℕ) (c : Counts) (names words : List ℕ) (w :
     (d : LinesDone gateForm (c .inputs) (bindings t) (t .gates) (gateLinesAt t) (gatesText t text c names words w) (outputsText t text c names words w) 0 0 gates gates′ walked)
     (e : LinesDone outputForm (c .inputs) (bindings t) (t .outputs) (outputLinesAt t) (outputsText t text c names words w) [] 0 (walked .unknown) outputs outputs′ last) where
   gates-written : 5 * maxGates ≤ length gates → gates′ ≡ placed (joined (map (gateWords (length (t .inputs))) (blockOf t .gates))) gates
-  unfolding blockOf wordsOf linesCost gateForm
+  unfolding blockOf gatesWords linesCost gateForm
   gates-written r =
       let n = input-count t text c names words w in
       let size = lines-sized gateForm gate-lawful (c .inputs) (bindings t) (t .gates) 0 in
       let l = limits t text c names words w .gates in
       d .words ∙ sets-placed (linesWords gateForm (c .inputs) (bindings t) (t .gates) 0) gates (omega arith)
-      ∙ ap (λ (xs : List ℕ). placed xs gates) (gate-words (c .inputs) (bindings t) (t .gates) 0 ∙ ap (λ k. wordsOf k (linesGates (t .gates) (bindings t) 0)) n)
+      ∙ ap (λ (xs : List ℕ). placed xs gates) (gate-words (c .inputs) (bindings t) (t .gates) 0 ∙ ap (λ k. gatesWords k (linesGates (t .gates) (bindings t) 0)) n)
 
   outputs-written : 5 * maxOutputs ≤ length outputs → outputs′ ≡ placed (joined (map (outputWords (length (t .inputs))) (blockOf t .outputs))) outputs
   unfolding blockOf linesCost outputForm

@@ -29,7 +29,7 @@ pub record TreeAt (t : Tree) (text : List ℕ) (c : Counts) (names words : List 
   pub numbersAre : take (length (declared t)) names ≡ packedNames t
   pub nodesAre : take (length (bindings t)) words ≡ nodeWords t
 
-pub record Ready (text : List ℕ) (c : Counts) (names words gates outputs : List ℕ) : Type 0 where
+pub record ResolveReady (text : List ℕ) (c : Counts) (names words gates outputs : List ℕ) : Type 0 where
   pub tree : Tree
   pub here : TreeAt tree text c names words
   pub gateRoom : 5 * maxGates ≤ length gates

@@ -4,7 +4,7 @@ use lines::input_lines;
 use lines::output_lines;
 use names::Counts;
 ghost use mathlib.Core.Path.{_≡_};
-ghost use Rattle.terms.specs.Resolution.{Ready, Resolved};
+ghost use Rattle.terms.specs.Resolution.{ResolveReady, Resolved};
 
 mod leaves;
 mod lines;
@@ -56,7 +56,7 @@ pub fn resolve(
     gates: &mut [u16],
     outputs: &mut [u16],
 ) -> Uses
-    requires { ⌜ Ready (now text) c (now names) (now words) (now gates) (now outputs) ⌝ }
+    requires { ⌜ ResolveReady (now text) c (now names) (now words) (now gates) (now outputs) ⌝ }
     ensures { λ r. ⌜ Resolved (now (text .entry)) c (now (names .entry)) (now (words .entry)) (now (gates .entry)) (now (gates .exit)) (now (outputs .entry)) (now (outputs .exit)) r ⌝ }
 {
     let length = text.len();

@@ -1,7 +1,7 @@
 // One gate's value from its words and the values of the inputs and gates. It is found once for each gate, round and setting.
-use crate::read::value_at;
-use crate::read::word_at;
 use crate::table::row_of;
+use layout::read::value_at;
+use layout::read::word_at;
 use netlist::Row;
 ghost use mathlib.Core.Path.{_≡_};
 ghost use mathlib.Core.List.{map};

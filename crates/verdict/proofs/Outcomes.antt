@@ -6,15 +6,15 @@ use Prim.Native.Nat.{ℕ}
 use Rattle.netlist.specs.declared.Refusal.the-variants.{MalformedBlock}
 use Rattle.netlist.specs.declared.Answer.the-variants.{Done, Refused}
 use Rattle.netlist.specs.Answers.{refuseIf, answerOf}
-use Rattle.netlist.specs.StoredBlock.{decode, torn}
+use Rattle.netlist.specs.StoredBlock.{decode, isTorn}
 use Rattle.netlist.specs.Rounds.{settledSettings, lowestUnsettled}
 use Rattle.netlist.specs.Operations.{verdict}
 
 module _ (ws : List ℕ) where
-  pub answer-whole : torn ws ≡ false → Done (settledSettings (decode ws)) (lowestUnsettled (decode ws)) ≡ answerOf (verdict ws)
+  pub answer-whole : isTorn ws ≡ false → Done (settledSettings (decode ws)) (lowestUnsettled (decode ws)) ≡ answerOf (verdict ws)
   unfolding verdict refuseIf answerOf
   answer-whole h = rw h refl
 
-  pub answer-torn : torn ws ≡ true → Refused MalformedBlock ≡ answerOf (verdict ws)
+  pub answer-torn : isTorn ws ≡ true → Refused MalformedBlock ≡ answerOf (verdict ws)
   unfolding verdict refuseIf answerOf
   answer-torn h = rw h refl

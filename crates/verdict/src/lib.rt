@@ -3,11 +3,11 @@ ghost use mathlib.Core.Path.{_≡_};
 ghost use mathlib.Core.Bool.{false};
 ghost use lib.ListN.{length};
 ghost use Rattle.netlist.specs.Answers.{answerOf};
-ghost use Rattle.netlist.specs.StoredBlock.{torn};
+ghost use Rattle.netlist.specs.StoredBlock.{isTorn};
 ghost use Rattle.netlist.specs.Operations.{verdict as verdictOf};
 use block::Check;
 use block::check_words;
-use block::header;
+use layout::offsets;
 use netlist::Answer;
 use netlist::Refusal;
 use visiting::order_gates;
@@ -16,15 +16,15 @@ pub mod settings;
 
 // Verdict of a block that is not torn, with room for an order, the inputs' values and the gates'.
 fn whole_verdict(words: &[u16], order: &mut [u16], inputs: &mut [u8], values: &mut [u8]) -> Answer
-    requires { ⌜ torn (now words) ≡ false ⌝ }
+    requires { ⌜ isTorn (now words) ≡ false ⌝ }
     requires { ⌜ length (now order) ≡ 1024 ⌝ }
     requires { ⌜ length (now inputs) ≡ 10 ⌝ }
     requires { ⌜ length (now values) ≡ 1024 ⌝ }
     ensures { λ r. ⌜ r ≡ answerOf (verdictOf (now (words .entry))) ⌝ }
 {
-    let n = header::inputs_of(words);
-    let m = header::gates_of(words);
-    let gates = header::gates_at(n);
+    let n = offsets::inputs_of(words);
+    let m = offsets::gates_of(words);
+    let gates = offsets::gates_at(n);
     order_gates(words, order);
     settings::search_settings(
         words,

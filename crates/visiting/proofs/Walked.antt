@@ -13,7 +13,7 @@ use Rattle.laws.specs.Lists.{countBelow, member}
 use Rattle.laws.proofs.Tests.{eq-or-ne}
 use Rattle.laws.proofs.Quantifiers.{member-from}
 use Rattle.laws.proofs.Counting.{countBelow-le, countBelow-all}
-use Rattle.netlist.specs.StoredBlock.{torn, gatesAt}
+use Rattle.netlist.specs.StoredBlock.{isTorn, gatesAt}
 use Rattle.encoding.proofs.Readers.{whole-parts}
 use Rattle.search.specs.Search.{Queued, setFlags}
 use Rattle.search.proofs.Marking.{set-new}
@@ -165,7 +165,7 @@ pub blank : (m n : ℕ) → m ≤ n → Blank m (replicate n 0)
 blank m n most k l = getD-replicate n k 0 0 (omega arith)
 
 -- arrays of 1,024 elements have room for a whole block's gates
-pub whole-room : (ws : List ℕ) {n m gates : ℕ} {flags stack order : List ℕ} → torn ws ≡ false → n ≡ getD ws 0 0 → m ≡ getD ws 1 0 → gates ≡ gatesAt n → 1024 ≤ length flags → 1024 ≤ length stack → getD ws 1 0 ≤ length order → Room n m gates flags stack order
+pub whole-room : (ws : List ℕ) {n m gates : ℕ} {flags stack order : List ℕ} → isTorn ws ≡ false → n ≡ getD ws 0 0 → m ≡ getD ws 1 0 → gates ≡ gatesAt n → 1024 ≤ length flags → 1024 ≤ length stack → getD ws 1 0 ≤ length order → Room n m gates flags stack order
 unfolding gatesAt
 whole-room ws whole inputs gates first f s o =
     let parts = whole-parts ws whole in

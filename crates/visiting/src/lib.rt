@@ -4,20 +4,20 @@ ghost use mathlib.Core.Path.{_≡_};
 ghost use mathlib.Core.Bool.{false};
 ghost use Prim.Native.Nat.{_≤_};
 ghost use lib.ListN.{length, getD, take};
-ghost use Rattle.netlist.specs.StoredBlock.{torn};
+ghost use Rattle.netlist.specs.StoredBlock.{isTorn};
 ghost use Rattle.decide.specs.InPlace.{Visits};
-use block::header;
+use layout::offsets;
 
 pub mod postorder;
 
 // Writes the gates of a whole block in that order.
 pub fn order_gates(words: &[u16], order: &mut [u16])
-    requires { ⌜ (torn (now words) ≡ false) × (getD (now words) 1 0 ≤ length (now order)) ⌝ }
+    requires { ⌜ (isTorn (now words) ≡ false) × (getD (now words) 1 0 ≤ length (now order)) ⌝ }
     ensures { λ r. ⌜ Visits (getD (now (words .entry)) 1 0) (take (getD (now (words .entry)) 1 0) (now (order .exit))) ⌝ }
 {
-    let n = header::inputs_of(words);
-    let m = header::gates_of(words);
-    let gates = header::gates_at(n);
+    let n = offsets::inputs_of(words);
+    let m = offsets::gates_of(words);
+    let gates = offsets::gates_at(n);
     let mut flags = [0u8; 1024];
     let mut stack = [0u16; 1024];
     postorder::write_postorder(words, n, m, gates, &mut flags, &mut stack, order);

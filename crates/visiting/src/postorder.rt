@@ -5,7 +5,7 @@ ghost use Prim.Native.Nat.{_≤_, _<_};
 ghost use lib.ListN.{length, getD, take};
 ghost use Rattle.decide.specs.InPlace.{Visits};
 ghost use Rattle.visiting.specs.Postorder.{Unmarked, Room, Written, Grown, Blank};
-use ternary::read::word_at;
+use layout::read::word_at;
 
 // The operand word names a gate that is not marked.
 fn is_unmarked(w: usize, n: usize, m: usize, flags: &[u8]) -> bool

@@ -1,9 +1,9 @@
 // Bytes, names, numbers and operands, each appended to a text at `at`. Each function answers the new end. What does not fit into the
 // text is left out, and counted all the same.
-use block::header::INPUTS_AT;
-use block::header::NAME_SIZE;
-use block::header::inputs_of;
-use ternary::read::word_at;
+use layout::offsets::INPUTS_AT;
+use layout::offsets::NAME_SIZE;
+use layout::offsets::inputs_of;
+use layout::read::word_at;
 use ternary::table::row_of;
 ghost use mathlib.Core.Path.{_≡_};
 ghost use mathlib.Core.List.{[], _∷_};

@@ -4,7 +4,7 @@ use borrow.Author.Needs.{needs}
 use Rattle.convert.proofs.convert_block.Statement.{statement}
 use Rattle.convert.proofs.convert_block.Tie as tie
 use lib.ListN.{length}
-use Rattle.netlist.specs.Operations.{render, rendered, written}
+use Rattle.netlist.specs.Operations.{render, renderWords, writeWords}
 use Rattle.convert.proofs.Telling.{told-refused, told-done, gave-within, chained-refused, chained-gave, shown-is}
 use Rattle.convert.proofs.Sizes.{render-fits}
 use lib.Seq.{length-take-le}
@@ -23,11 +23,11 @@ enum-known-count c = search needs
 
 slice-reshare-prefix-convert-rendered : tie.Need-slice-reshare-prefix-convert-rendered
 unfolding render
-slice-reshare-prefix-convert-rendered c = gave-within (told-done (rendered (c .before .before .before .before .before .before .before .before .before .before .args .words .now)) _ (c .before .before .before .before .before .before .before .before .before .before .args .copies .now) _ (render-fits (length (c .before .before .before .before .before .before .before .before .before .before .args .copies .now)) (c .before .before .before .before .before .before .before .before .before .before .pre .0) (c .before .before .before .before .before .before .before .before .before .before .args .words .now)) (c .before .before .before .before .before .render .ensures .answers) (c .before .before .before .before .before .render .ensures .leaves) (c .before .count .given .0 .0) (c .before .count .given .0 .1 .0) (c .before .count .given .1))
+slice-reshare-prefix-convert-rendered c = gave-within (told-done (renderWords (c .before .before .before .before .before .before .before .before .before .before .args .words .now)) _ (c .before .before .before .before .before .before .before .before .before .before .args .copies .now) _ (render-fits (length (c .before .before .before .before .before .before .before .before .before .before .args .copies .now)) (c .before .before .before .before .before .before .before .before .before .before .pre .0) (c .before .before .before .before .before .before .before .before .before .before .args .words .now)) (c .before .before .before .before .before .render .ensures .answers) (c .before .before .before .before .before .render .ensures .leaves) (c .before .count .given .0 .0) (c .before .count .given .0 .1 .0) (c .before .count .given .1))
 
 slice-aggregate-convert-rendered : tie.Need-slice-aggregate-convert-rendered
 unfolding render
-slice-aggregate-convert-rendered c = sym (length-take-le _ _ (gave-within (told-done (rendered (c .before .before .before .before .before .before .before .before .before .before .before .args .words .now)) _ (c .before .before .before .before .before .before .before .before .before .before .before .args .copies .now) _ (render-fits (length (c .before .before .before .before .before .before .before .before .before .before .before .args .copies .now)) (c .before .before .before .before .before .before .before .before .before .before .before .pre .0) (c .before .before .before .before .before .before .before .before .before .before .before .args .words .now)) (c .before .before .before .before .before .before .render .ensures .answers) (c .before .before .before .before .before .before .render .ensures .leaves) (c .before .before .count .given .0 .0) (c .before .before .count .given .0 .1 .0) (c .before .before .count .given .1))))
+slice-aggregate-convert-rendered c = sym (length-take-le _ _ (gave-within (told-done (renderWords (c .before .before .before .before .before .before .before .before .before .before .before .args .words .now)) _ (c .before .before .before .before .before .before .before .before .before .before .before .args .copies .now) _ (render-fits (length (c .before .before .before .before .before .before .before .before .before .before .before .args .copies .now)) (c .before .before .before .before .before .before .before .before .before .before .before .pre .0) (c .before .before .before .before .before .before .before .before .before .before .before .args .words .now)) (c .before .before .before .before .before .before .render .ensures .answers) (c .before .before .before .before .before .before .render .ensures .leaves) (c .before .before .count .given .0 .0) (c .before .before .count .given .0 .1 .0) (c .before .before .count .given .1))))
 
 convert-rendered-requires : tie.Need-convert-rendered-requires
 convert-rendered-requires c κs = search needs
@@ -41,9 +41,9 @@ same-length-2 c = search needs
 returns : tie.Need-returns
 unfolding render
 returns c = let a = c .before .before .before .before .before .before .before .before .before .before .before .before .before .before .args in
-    let o = rendered (a .words .now) in
+    let o = renderWords (a .words .now) in
     let f = render-fits (length (a .copies .now)) (c .before .before .before .before .before .before .before .before .before .before .before .before .before .before .pre .0) (a .words .now) in
-    shown-is (chained-refused o written (c .before .before .before .before .before .why .given .0 .0) (told-refused o _ (a .copies .now) _ f (c .before .before .before .before .before .before .before .before .before .render .ensures .answers) (c .before .before .before .before .before .before .before .before .before .render .ensures .leaves) (c .before .before .before .before .before .why .given .0 .0) (c .before .before .before .before .before .why .given .1))) (c .before .before .tell .ensures)
+    shown-is (chained-refused o writeWords (c .before .before .before .before .before .why .given .0 .0) (told-refused o _ (a .copies .now) _ f (c .before .before .before .before .before .before .before .before .before .render .ensures .answers) (c .before .before .before .before .before .before .before .before .before .render .ensures .leaves) (c .before .before .before .before .before .why .given .0 .0) (c .before .before .before .before .before .why .given .1))) (c .before .before .tell .ensures)
 
 same-length-3 : tie.Need-same-length-3
 same-length-3 c = search needs
@@ -53,8 +53,8 @@ same-length-4 c = search needs
 
 returns-2 : tie.Need-returns-2
 unfolding render
-returns-2 c = let g = told-done (rendered (c .before .before .before .before .before .before .before .before .before .before .before .before .before .before .before .args .words .now)) _ (c .before .before .before .before .before .before .before .before .before .before .before .before .before .before .before .args .copies .now) _ (render-fits (length (c .before .before .before .before .before .before .before .before .before .before .before .before .before .before .before .args .copies .now)) (c .before .before .before .before .before .before .before .before .before .before .before .before .before .before .before .pre .0) (c .before .before .before .before .before .before .before .before .before .before .before .before .before .before .before .args .words .now)) (c .before .before .before .before .before .before .before .before .before .before .render .ensures .answers) (c .before .before .before .before .before .before .before .before .before .before .render .ensures .leaves) (c .before .before .before .before .before .before .count .given .0 .0) (c .before .before .before .before .before .before .count .given .0 .1 .0) (c .before .before .before .before .before .before .count .given .1) in
-    shown-is (chained-gave (rendered (c .before .before .before .before .before .before .before .before .before .before .before .before .before .before .before .args .words .now)) written g) (c .before .before .convert-rendered .ensures)
+returns-2 c = let g = told-done (renderWords (c .before .before .before .before .before .before .before .before .before .before .before .before .before .before .before .args .words .now)) _ (c .before .before .before .before .before .before .before .before .before .before .before .before .before .before .before .args .copies .now) _ (render-fits (length (c .before .before .before .before .before .before .before .before .before .before .before .before .before .before .before .args .copies .now)) (c .before .before .before .before .before .before .before .before .before .before .before .before .before .before .before .pre .0) (c .before .before .before .before .before .before .before .before .before .before .before .before .before .before .before .args .words .now)) (c .before .before .before .before .before .before .before .before .before .before .render .ensures .answers) (c .before .before .before .before .before .before .before .before .before .before .render .ensures .leaves) (c .before .before .before .before .before .before .count .given .0 .0) (c .before .before .before .before .before .before .count .given .0 .1 .0) (c .before .before .before .before .before .before .count .given .1) in
+    shown-is (chained-gave (renderWords (c .before .before .before .before .before .before .before .before .before .before .before .before .before .before .before .args .words .now)) writeWords g) (c .before .before .convert-rendered .ensures)
 
 pub convert-block-spec : {M : Type 1} → statement M
 convert-block-spec =

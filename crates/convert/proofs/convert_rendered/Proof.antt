@@ -3,7 +3,7 @@ use borrow.Author.Needs.{needs}
 use Rattle.convert.proofs.convert_rendered.Statement.{statement}
 use Rattle.convert.proofs.convert_rendered.Tie as tie
 use lib.ListN.{length}
-use Rattle.netlist.specs.Operations.{write, written}
+use Rattle.netlist.specs.Operations.{write, writeWords}
 use Rattle.convert.proofs.Telling.{told-refused, kept-refused, told-done, shown-refused, shown-gave}
 use Rattle.convert.proofs.Sizes.{write-fits}
 
@@ -25,7 +25,7 @@ same-length c = search needs
 returns : tie.Need-returns
 unfolding write
 returns c = let a = c .before .before .before .before .before .before .before .before .before .before .before .before .before .args in
-    let o = written (a .words .now) in
+    let o = writeWords (a .words .now) in
     let f = write-fits (length (a .out .now)) (c .before .before .before .before .before .before .before .before .before .before .before .before .before .pre) (a .words .now) in
     let e = c .before .before .before .before .before .before .before .before .before .write .ensures in
     shown-refused o (c .before .before .before .before .before .why .given .0 .0) (a .out .now) _ _ _
@@ -38,7 +38,7 @@ same-length-2 c = search needs
 returns-2 : tie.Need-returns-2
 unfolding write
 returns-2 c = let a = c .before .before .before .before .before .before .before .before .before .args in
-    let o = written (a .words .now) in
+    let o = writeWords (a .words .now) in
     let f = write-fits (length (a .out .now)) (c .before .before .before .before .before .before .before .before .before .pre) (a .words .now) in
     let e = c .before .before .before .before .before .write .ensures in
     shown-gave (told-done o _ (a .out .now) _ f (e .0) (e .1) (c .before .count .given .0 .0) (c .before .count .given .0 .1 .0) (c .before .count .given .1))

@@ -4,7 +4,7 @@ use borrow.Author.Needs.{needs}
 use Rattle.convert.proofs.convert_with.Statement.{statement}
 use Rattle.convert.proofs.convert_with.Tie as tie
 use lib.ListN.{length}
-use Rattle.netlist.specs.Operations.{read, reading}
+use Rattle.netlist.specs.Operations.{read, readText}
 use Rattle.convert.proofs.Telling.{told-refused, told-done, gave-within, unloop-refused, unloop-gave}
 use Rattle.convert.proofs.Sizes.{read-fits}
 use lib.Seq.{length-take-le}
@@ -23,11 +23,11 @@ enum-known-count c = search needs
 
 slice-reshare-prefix-convert-block : tie.Need-slice-reshare-prefix-convert-block
 unfolding read
-slice-reshare-prefix-convert-block c = gave-within (told-done (reading (c .before .before .before .before .before .before .before .before .before .before .before .args .text .now)) _ (c .before .before .before .before .before .before .before .before .before .before .before .args .block .now) _ (read-fits (length (c .before .before .before .before .before .before .before .before .before .before .before .args .block .now)) (c .before .before .before .before .before .before .before .before .before .before .before .pre .0) (c .before .before .before .before .before .before .before .before .before .before .before .args .text .now)) (c .before .before .before .before .before .read .ensures .0) (c .before .before .before .before .before .read .ensures .1) (c .before .count .given .0 .0) (c .before .count .given .0 .1 .0) (c .before .count .given .1))
+slice-reshare-prefix-convert-block c = gave-within (told-done (readText (c .before .before .before .before .before .before .before .before .before .before .before .args .text .now)) _ (c .before .before .before .before .before .before .before .before .before .before .before .args .block .now) _ (read-fits (length (c .before .before .before .before .before .before .before .before .before .before .before .args .block .now)) (c .before .before .before .before .before .before .before .before .before .before .before .pre .0) (c .before .before .before .before .before .before .before .before .before .before .before .args .text .now)) (c .before .before .before .before .before .read .ensures .0) (c .before .before .before .before .before .read .ensures .1) (c .before .count .given .0 .0) (c .before .count .given .0 .1 .0) (c .before .count .given .1))
 
 slice-aggregate-convert-block : tie.Need-slice-aggregate-convert-block
 unfolding read
-slice-aggregate-convert-block c = sym (length-take-le _ _ (gave-within (told-done (reading (c .before .before .before .before .before .before .before .before .before .before .before .before .args .text .now)) _ (c .before .before .before .before .before .before .before .before .before .before .before .before .args .block .now) _ (read-fits (length (c .before .before .before .before .before .before .before .before .before .before .before .before .args .block .now)) (c .before .before .before .before .before .before .before .before .before .before .before .before .pre .0) (c .before .before .before .before .before .before .before .before .before .before .before .before .args .text .now)) (c .before .before .before .before .before .before .read .ensures .0) (c .before .before .before .before .before .before .read .ensures .1) (c .before .before .count .given .0 .0) (c .before .before .count .given .0 .1 .0) (c .before .before .count .given .1))))
+slice-aggregate-convert-block c = sym (length-take-le _ _ (gave-within (told-done (readText (c .before .before .before .before .before .before .before .before .before .before .before .before .args .text .now)) _ (c .before .before .before .before .before .before .before .before .before .before .before .before .args .block .now) _ (read-fits (length (c .before .before .before .before .before .before .before .before .before .before .before .before .args .block .now)) (c .before .before .before .before .before .before .before .before .before .before .before .before .pre .0) (c .before .before .before .before .before .before .before .before .before .before .before .before .args .text .now)) (c .before .before .before .before .before .before .read .ensures .0) (c .before .before .before .before .before .before .read .ensures .1) (c .before .before .count .given .0 .0) (c .before .before .count .given .0 .1 .0) (c .before .before .count .given .1))))
 
 convert-block-requires : tie.Need-convert-block-requires
 convert-block-requires c κs = search needs
@@ -41,7 +41,7 @@ same-length-2 c = search needs
 returns : tie.Need-returns
 unfolding read
 returns c = let a = c .before .before .before .before .before .before .before .before .before .before .before .before .before .before .before .args in
-    let o = reading (a .text .now) in
+    let o = readText (a .text .now) in
     let f = read-fits (length (a .block .now)) (c .before .before .before .before .before .before .before .before .before .before .before .before .before .before .before .pre .0) (a .text .now) in
     unloop-refused (a .text .now) (c .before .before .before .before .before .why .given .0 .0) (told-refused o _ (a .block .now) _ f (c .before .before .before .before .before .before .before .before .before .read .ensures .0) (c .before .before .before .before .before .before .before .before .before .read .ensures .1) (c .before .before .before .before .before .why .given .0 .0) (c .before .before .before .before .before .why .given .1)) (c .before .before .tell .ensures)
 
@@ -56,7 +56,7 @@ same-length-5 c = search needs
 
 returns-2 : tie.Need-returns-2
 unfolding read
-returns-2 c = let g = told-done (reading (c .before .before .before .before .before .before .before .before .before .before .before .before .before .before .before .before .before .before .before .args .text .now)) _ (c .before .before .before .before .before .before .before .before .before .before .before .before .before .before .before .before .before .before .before .args .block .now) _ (read-fits (length (c .before .before .before .before .before .before .before .before .before .before .before .before .before .before .before .before .before .before .before .args .block .now)) (c .before .before .before .before .before .before .before .before .before .before .before .before .before .before .before .before .before .before .before .pre .0) (c .before .before .before .before .before .before .before .before .before .before .before .before .before .before .before .before .before .before .before .args .text .now)) (c .before .before .before .before .before .before .before .before .before .before .before .before .before .read .ensures .0) (c .before .before .before .before .before .before .before .before .before .before .before .before .before .read .ensures .1) (c .before .before .before .before .before .before .before .before .before .count .given .0 .0) (c .before .before .before .before .before .before .before .before .before .count .given .0 .1 .0) (c .before .before .before .before .before .before .before .before .before .count .given .1) in
+returns-2 c = let g = told-done (readText (c .before .before .before .before .before .before .before .before .before .before .before .before .before .before .before .before .before .before .before .args .text .now)) _ (c .before .before .before .before .before .before .before .before .before .before .before .before .before .before .before .before .before .before .before .args .block .now) _ (read-fits (length (c .before .before .before .before .before .before .before .before .before .before .before .before .before .before .before .before .before .before .before .args .block .now)) (c .before .before .before .before .before .before .before .before .before .before .before .before .before .before .before .before .before .before .before .pre .0) (c .before .before .before .before .before .before .before .before .before .before .before .before .before .before .before .before .before .before .before .args .text .now)) (c .before .before .before .before .before .before .before .before .before .before .before .before .before .read .ensures .0) (c .before .before .before .before .before .before .before .before .before .before .before .before .before .read .ensures .1) (c .before .before .before .before .before .before .before .before .before .count .given .0 .0) (c .before .before .before .before .before .before .before .before .before .count .given .0 .1 .0) (c .before .before .before .before .before .before .before .before .before .count .given .1) in
     unloop-gave (c .before .before .before .before .before .before .before .before .before .before .before .before .before .before .before .before .before .before .before .args .text .now) g (c .before .before .before .before .convert-block .ensures)
 
 pub convert-with-spec : {M : Type 1} → statement M

@@ -7,7 +7,7 @@ use native.Mathlib.Omega.{arith}
 use lib.ListN.{length}
 use borrow.Author.Needs.{needs}
 use Rattle.laws.proofs.Slices.{sets-placed}
-use Rattle.netlist.specs.StoredBlock.{torn}
+use Rattle.netlist.specs.StoredBlock.{isTorn}
 use Rattle.netlist.specs.declared.Answer.the-variants.{Done}
 use Rattle.netlist.specs.Answers.{answerOf, leftIn}
 use Rattle.block.proofs.Answered.{told-whole, told-torn}
@@ -29,13 +29,13 @@ returns : tie.Need-returns
 unfolding answerOf leftIn
 returns c =
     let a = c .before .before .before .before .before .args in
-    let torn = told-torn (a .words .now) (c .before .before .check-words .ensures) (c .enum-told2 .given .1) in
-    rw (outcome-torn (a .words .now) (length (a .text .now)) torn) (refl, refl)
+    let isTorn = told-torn (a .words .now) (c .before .before .check-words .ensures) (c .enum-told2 .given .1) in
+    rw (outcome-torn (a .words .now) (length (a .text .now)) isTorn) (refl, refl)
 
 slice-aggregate-put-block : tie.Need-slice-aggregate-put-block
 slice-aggregate-put-block c = search needs
 
-whole : (c : tie.After-enum-told) → torn (c .before .before .before .before .before .args .words .now) ≡ false
+whole : (c : tie.After-enum-told) → isTorn (c .before .before .before .before .before .args .words .now) ≡ false
 whole c = told-whole (c .before .before .before .before .before .args .words .now) (c .before .before .check-words .ensures) (c .enum-told .given .1)
 
 put-block-requires : tie.Need-put-block-requires

@@ -1,6 +1,6 @@
 -- `block::names::is_digit` meets its contract. Assumes nothing.
 use borrow.Author.Needs.{needs}
-use Rattle.netlist.specs.StoredBlock.{digit}
+use Rattle.netlist.specs.StoredBlock.{isDigit}
 use Rattle.block.proofs.names.is_digit.Statement.{statement}
 use Rattle.block.proofs.names.is_digit.Tie as tie
 
@@ -8,7 +8,7 @@ is-between-requires : tie.Need-is-between-requires
 is-between-requires c κs = search needs
 
 returns : tie.Need-returns
-unfolding digit
+unfolding isDigit
 returns c = c .is-between .ensures
 
 pub is-digit-spec : {M : Type 1} → statement M

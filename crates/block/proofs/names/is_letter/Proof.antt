@@ -1,6 +1,6 @@
 -- `block::names::is_letter` meets its contract. Assumes nothing.
 use borrow.Author.Needs.{needs}
-use Rattle.netlist.specs.StoredBlock.{letter}
+use Rattle.netlist.specs.StoredBlock.{isLetter}
 use Rattle.block.proofs.names.is_letter.Statement.{statement}
 use Rattle.block.proofs.names.is_letter.Tie as tie
 
@@ -8,7 +8,7 @@ is-between-requires : tie.Need-is-between-requires
 is-between-requires c κs = search needs
 
 returns : tie.Need-returns
-unfolding letter
+unfolding isLetter
 returns c = c .is-between .ensures
 
 pub is-letter-spec : {M : Type 1} → statement M

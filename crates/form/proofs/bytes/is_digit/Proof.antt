@@ -3,14 +3,14 @@
 use Rattle.form.proofs.bytes.is_digit.Statement.{statement}
 use Rattle.form.proofs.bytes.is_digit.Tie as tie
 use borrow.Author.Tests.{le-leb, lt-leb}
-use Rattle.netlist.specs.StoredBlock.{digit}
+use Rattle.netlist.specs.StoredBlock.{isDigit}
 
 returns : tie.Need-returns
-unfolding digit
+unfolding isDigit
 returns c = rw (le-leb 48 (c .before .args .c) (c .if1 .taken))
 
 returns-2 : tie.Need-returns-2
-unfolding digit
+unfolding isDigit
 returns-2 c = rw (lt-leb 48 (c .before .args .c) (c .if1 .left))
 
 pub is-digit-spec : {M : Type 1} → statement M

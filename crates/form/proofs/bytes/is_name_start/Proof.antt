@@ -4,17 +4,17 @@ use borrow.Author.Needs.{needs}
 use Rattle.form.proofs.bytes.is_name_start.Statement.{statement}
 use Rattle.form.proofs.bytes.is_name_start.Tie as tie
 use mathlib.Core.Path.{sym, _∙_}
-use Rattle.netlist.specs.StoredBlock.{nameStart, underscore}
+use Rattle.netlist.specs.StoredBlock.{isNameStart, isUnderscore}
 
 is-letter-requires : tie.Need-is-letter-requires
 is-letter-requires c κs = search needs
 
 returns : tie.Need-returns
-unfolding nameStart
+unfolding isNameStart
 returns c = rw (sym (c .before .is-letter .ensures) ∙ c .if1 .taken)
 
 returns-2 : tie.Need-returns-2
-unfolding nameStart underscore
+unfolding isNameStart isUnderscore
 returns-2 c = rw (sym (c .before .is-letter .ensures) ∙ c .if1 .left)
 
 pub is-name-start-spec : {M : Type 1} → statement M

@@ -8,14 +8,14 @@ use Prim.Native.Nat.{_-_}
 use Rattle.laws.specs.Lists.{ascii}
 use Rattle.netlist.specs.Limits.{maxDepth}
 use Rattle.netlist.specs.Syntax.{apply}
-use Rattle.form.specs.Scan.{scanOf, firstByte, gateReader, gateName, gateBracket, gateExpression, lineEnd}
+use Rattle.form.specs.Scan.{scanOf, firstByte, gateReader, gateNaming, gateBracket, gateExpression, closing}
 use Rattle.form.proofs.Shortens.{shortens-name, shortens-term, shortens-expr}
 use Rattle.form.proofs.Chain.{At, lent-last, first-bad, first-next, then-bad, then-next, then-last}
 use Rattle.form.proofs.LineSteps.{shortens-word, gate-word, gate-name, gate-bracket, gate-expression}
 
 -- behind part 1 of the line
 left-1 : (c : tie.After-known-told)
-    → At (scanOf (gateReader (c .before .before .before .before .before .before .args .s .now))) (c .before .before .before .before .before .before .args .s .now) (c .before .found .given .0 .0) (λ t. scanOf (gateName t))
+    → At (scanOf (gateReader (c .before .before .before .before .before .before .args .s .now))) (c .before .before .before .before .before .before .args .s .now) (c .before .found .given .0 .0) (λ t. scanOf (gateNaming t))
 left-1 c = first-next gate-word (shortens-word (ascii "gate ")) (c .before .before .before .before .before .before .args .s .now) (c .before .before .before .word .ensures) (c .before .found .given .1)
 
 -- behind part 2 of the line
@@ -36,7 +36,7 @@ left-3 c =
 
 -- behind part 4 of the line
 left-4 : (c : tie.After-known-told4)
-    → At (scanOf (gateReader (c .before .before .before .before .before .before .before .before .before .before .before .before .before .before .before .before .before .before .before .before .before .before .args .s .now))) (c .before .before .before .before .before .before .before .before .before .before .before .before .before .before .before .before .before .before .before .before .before .before .args .s .now) (c .before .found4 .given .0 .0) (λ t. scanOf (lineEnd t))
+    → At (scanOf (gateReader (c .before .before .before .before .before .before .before .before .before .before .before .before .before .before .before .before .before .before .before .before .before .before .args .s .now))) (c .before .before .before .before .before .before .before .before .before .before .before .before .before .before .before .before .before .before .before .before .before .before .args .s .now) (c .before .found4 .given .0 .0) (λ t. scanOf (closing t))
 left-4 c =
     let b = c .before .before .before .before .before in
     then-next gate-expression (shortens-expr apply (shortens-term (maxDepth - 1))) (left-3 b) (lent-last (b .before .found3 .given .0 .0) (b .before .before .before .before .before .before .before .before .before .before .before .before .before .before .before .before .before .args .s .now))
@@ -155,7 +155,7 @@ word-requires-3 c κs = search needs
 
 returns-5 : tie.Need-returns-5
 returns-5 c = let b = c .before .before .before in
-    then-last lineEnd (left-4 b) (lent-last (b .before .found4 .given .0 .0) (b .before .before .before .before .before .before .before .before .before .before .before .before .before .before .before .before .before .before .before .before .before .before .args .s .now)) (c .word3 .ensures)
+    then-last closing (left-4 b) (lent-last (b .before .found4 .given .0 .0) (b .before .before .before .before .before .before .before .before .before .before .before .before .before .before .before .before .before .before .before .before .before .before .args .s .now)) (c .word3 .ensures)
 
 pub gate-line-spec : {M : Type 1} → statement M
 gate-line-spec =

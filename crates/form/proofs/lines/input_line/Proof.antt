@@ -6,7 +6,7 @@ use Rattle.form.proofs.lines.input_line.Tie as tie
 use mathlib.Core.Bool.{false}
 use Prim.Native.Nat.{_-_}
 use Rattle.laws.specs.Lists.{ascii}
-use Rattle.form.specs.Scan.{scanOf, firstByte, inputReader, inputName, lineEnd}
+use Rattle.form.specs.Scan.{scanOf, firstByte, inputReader, inputName, closing}
 use Rattle.form.proofs.Shortens.{shortens-name}
 use Rattle.form.proofs.Chain.{At, lent-last, first-bad, first-next, then-bad, then-next, then-last}
 use Rattle.form.proofs.LineSteps.{shortens-word, input-word, input-name}
@@ -18,7 +18,7 @@ left-1 c = first-next input-word (shortens-word (ascii "in ")) (c .before .befor
 
 -- behind part 2 of the line
 left-2 : (c : tie.After-known-told2)
-    → At (scanOf (inputReader (c .before .before .before .before .before .before .before .before .before .before .before .args .s .now))) (c .before .before .before .before .before .before .before .before .before .before .before .args .s .now) (c .before .found2 .given .0 .0) (λ t. scanOf (lineEnd t))
+    → At (scanOf (inputReader (c .before .before .before .before .before .before .before .before .before .before .before .args .s .now))) (c .before .before .before .before .before .before .before .before .before .before .before .args .s .now) (c .before .found2 .given .0 .0) (λ t. scanOf (closing t))
 left-2 c =
     let b = c .before .before .before .before .before in
     then-next input-name (shortens-name (firstByte false)) (left-1 b) (lent-last (b .before .found .given .0 .0) (b .before .before .before .before .before .before .args .s .now))
@@ -84,7 +84,7 @@ word-requires-2 c κs = search needs
 
 returns-3 : tie.Need-returns-3
 returns-3 c = let b = c .before .before .before in
-    then-last lineEnd (left-2 b) (lent-last (b .before .found2 .given .0 .0) (b .before .before .before .before .before .before .before .before .before .before .before .args .s .now)) (c .word2 .ensures)
+    then-last closing (left-2 b) (lent-last (b .before .found2 .given .0 .0) (b .before .before .before .before .before .before .before .before .before .before .before .args .s .now)) (c .word2 .ensures)
 
 pub input-line-spec : {M : Type 1} → statement M
 input-line-spec =

@@ -6,7 +6,7 @@ use Rattle.form.proofs.lines.output_line.Tie as tie
 use mathlib.Core.Bool.{true, false}
 use Prim.Native.Nat.{_-_}
 use Rattle.laws.specs.Lists.{ascii}
-use Rattle.form.specs.Scan.{scanOf, firstByte, outputReader, outputPort, outputSpace, outputShown, lineEnd}
+use Rattle.form.specs.Scan.{scanOf, firstByte, outputReader, outputPort, outputSpace, outputShown, closing}
 use Rattle.form.proofs.Shortens.{shortens-name}
 use Rattle.form.proofs.Chain.{At, lent-last, first-bad, first-next, then-bad, then-next, then-last}
 use Rattle.form.proofs.LineSteps.{shortens-word, output-word, output-port, output-space, output-shown}
@@ -34,7 +34,7 @@ left-3 c =
 
 -- behind part 4 of the line
 left-4 : (c : tie.After-known-told4)
-    → At (scanOf (outputReader (c .before .before .before .before .before .before .before .before .before .before .before .before .before .before .before .before .before .before .before .before .before .before .args .s .now))) (c .before .before .before .before .before .before .before .before .before .before .before .before .before .before .before .before .before .before .before .before .before .before .args .s .now) (c .before .found4 .given .0 .0) (λ t. scanOf (lineEnd t))
+    → At (scanOf (outputReader (c .before .before .before .before .before .before .before .before .before .before .before .before .before .before .before .before .before .before .before .before .before .before .args .s .now))) (c .before .before .before .before .before .before .before .before .before .before .before .before .before .before .before .before .before .before .before .before .before .before .args .s .now) (c .before .found4 .given .0 .0) (λ t. scanOf (closing t))
 left-4 c =
     let b = c .before .before .before .before .before in
     then-next output-shown (shortens-name (firstByte true)) (left-3 b) (lent-last (b .before .found3 .given .0 .0) (b .before .before .before .before .before .before .before .before .before .before .before .before .before .before .before .before .before .args .s .now))
@@ -153,7 +153,7 @@ word-requires-3 c κs = search needs
 
 returns-5 : tie.Need-returns-5
 returns-5 c = let b = c .before .before .before in
-    then-last lineEnd (left-4 b) (lent-last (b .before .found4 .given .0 .0) (b .before .before .before .before .before .before .before .before .before .before .before .before .before .before .before .before .before .before .before .before .before .before .args .s .now)) (c .word3 .ensures)
+    then-last closing (left-4 b) (lent-last (b .before .found4 .given .0 .0) (b .before .before .before .before .before .before .before .before .before .before .before .before .before .before .before .before .before .before .before .before .before .before .args .s .now)) (c .word3 .ensures)
 
 pub output-line-spec : {M : Type 1} → statement M
 output-line-spec =

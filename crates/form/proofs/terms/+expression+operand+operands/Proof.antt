@@ -30,7 +30,7 @@ use Prim.Native.Nat.{suc, _-_, _*_, _≤_}
 use native.Mathlib.Omega.{arith}
 use lib.ListN.{length, getD}
 use Rattle.laws.proofs.Elements.{rest-is-drop, byte-there}
-use Rattle.netlist.specs.StoredBlock.{nameStart}
+use Rattle.netlist.specs.StoredBlock.{isNameStart}
 use Rattle.netlist.specs.Kinds.{mostOperands, fewestOperands}
 use Rattle.netlist.specs.Syntax.{Term, apply}
 use Rattle.netlist.specs.Parse.{nameBytes, termReader, termsReader, exprReader}
@@ -137,10 +137,10 @@ expression-returns-2 t c = let a = c .before .before .before .before .before .ar
 
 -- what the tests of an operand's first byte tell
 start-is : (t : ℕ) (c : operand-lts.After-is-name-start (operand-claims t) (operand-at t) operand.Post)
-    → c .is-name-start .result ≡ nameStart (getD (c .before .before .before .args .s .now) 0 0)
-start-is t c = c .is-name-start .ensures ∙ ap nameStart (c .before .byte-at .ensures)
+    → c .is-name-start .result ≡ isNameStart (getD (c .before .before .before .args .s .now) 0 0)
+start-is t c = c .is-name-start .ensures ∙ ap isNameStart (c .before .byte-at .ensures)
 
-no-start : (t : ℕ) (c : operand-lts.Else1 (operand-claims t) (operand-at t) operand.Post) → nameStart (getD (c .before .before .before .before .args .s .now) 0 0) ≡ false
+no-start : (t : ℕ) (c : operand-lts.Else1 (operand-claims t) (operand-at t) operand.Post) → isNameStart (getD (c .before .before .before .before .args .s .now) 0 0) ≡ false
 no-start t c = sym (start-is t (c .before)) ∙ c .if1 .left
 
 no-leaf : (t : ℕ) (c : operand-lts.Else3 (operand-claims t) (operand-at t) operand.Post)

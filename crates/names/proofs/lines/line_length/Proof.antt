@@ -3,13 +3,13 @@ use Prim.Native.Nat.{_+_, _-_, _≤_}
 use mathlib.Core.Path.{_≡_}
 use native.Mathlib.Omega.{arith}
 use lib.ListN.{length, drop}
-use Rattle.names.specs.Lines.{lineLength}
+use Rattle.names.specs.Lines.{lengthWithLf}
 use Rattle.names.proofs.Scanning.{length-more, length-last, length-end}
 use Rattle.names.proofs.lines.line_length.Statement.{statement}
 use Rattle.names.proofs.lines.line_length.Tie as tie
 
 abbrev Inv-loop : tie.InvT-loop
-Inv-loop s i₀ i = (i ≤ length s) × (i + lineLength (drop i s) ≡ lineLength s)
+Inv-loop s i₀ i = (i ≤ length s) × (i + lengthWithLf (drop i s) ≡ lengthWithLf s)
 
 abbrev μ-loop : tie.MeasureT-loop
 μ-loop s i₀ i = length s - i

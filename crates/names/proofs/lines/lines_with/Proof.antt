@@ -5,20 +5,20 @@ use native.Mathlib.Omega.{arith}
 use lib.Dec.{eqb}
 use lib.ListN.{length}
 use borrow.Author.Needs.{needs}
-use Rattle.names.specs.Lines.{lineStart, linesWith}
+use Rattle.names.specs.Lines.{lineOffset, linesWith}
 use Rattle.names.proofs.Starts.{start-le, start-more, with-more, with-le}
 use Rattle.names.proofs.Scanning.{one-le}
 use Rattle.names.proofs.lines.lines_with.Statement.{statement}
 use Rattle.names.proofs.lines.lines_with.Tie as tie
 
 abbrev Inv-loop : tie.InvT-loop
-Inv-loop letter text lines n₀ at₀ i₀ n at i = (i ≤ lines) × (at ≡ lineStart text i) × (n ≡ linesWith letter text i)
+Inv-loop letter text lines n₀ at₀ i₀ n at i = (i ≤ lines) × (at ≡ lineOffset text i) × (n ≡ linesWith letter text i)
 
 abbrev μ-loop : tie.MeasureT-loop
 μ-loop letter text lines n₀ at₀ i₀ n at i = lines - i
 
 loop-holds : tie.Need-loop-holds Inv-loop μ-loop
-unfolding lineStart linesWith
+unfolding lineOffset linesWith
 loop-holds c = (omega arith, refl, refl)
 
 add-byte-at : tie.Need-add-byte-at Inv-loop μ-loop

@@ -5,19 +5,19 @@ use native.Mathlib.Omega.{arith}
 use lib.ListN.{length, length-set}
 use Rattle.laws.specs.Lists.{tab, placed}
 use Rattle.laws.proofs.Tab.{fill-next}
-use Rattle.names.specs.Lines.{lineStart, declaredPlace, placeAt}
+use Rattle.names.specs.Lines.{lineOffset, declaredPlace, placeAt}
 use Rattle.names.proofs.Starts.{start-le, start-more}
 use Rattle.names.proofs.table.fill_places.Statement.{statement}
 use Rattle.names.proofs.table.fill_places.Tie as tie
 
 abbrev Inv-loop : tie.InvT-loop
-Inv-loop text lines places₀ at₀ i₀ places at i = (i ≤ lines) × (at ≡ lineStart text i) × (places ≡ placed (tab (placeAt text) i) places₀) × (length places ≡ length places₀)
+Inv-loop text lines places₀ at₀ i₀ places at i = (i ≤ lines) × (at ≡ lineOffset text i) × (places ≡ placed (tab (placeAt text) i) places₀) × (length places ≡ length places₀)
 
 abbrev μ-loop : tie.MeasureT-loop
 μ-loop text lines places₀ at₀ i₀ places at i = lines - i
 
 loop-holds : tie.Need-loop-holds Inv-loop μ-loop
-unfolding lineStart
+unfolding lineOffset
 loop-holds c = (omega arith, refl, refl, refl)
 
 declared-at-requires : tie.Need-declared-at-requires Inv-loop μ-loop

@@ -6,19 +6,19 @@ use native.Mathlib.Omega.{arith}
 use lib.ListN.{length, length-set}
 use Rattle.laws.specs.Lists.{tab, placed}
 use Rattle.laws.proofs.Tab.{fill-next}
-use Rattle.names.specs.Lines.{lineStart, gatesTo, lineWord, wordAt}
+use Rattle.names.specs.Lines.{lineOffset, gatesTo, lineWord, wordAt}
 use Rattle.names.proofs.Starts.{start-le, start-more, gates-more, gates-within, lineWord-le}
 use Rattle.names.proofs.table.fill_words.Statement.{statement}
 use Rattle.names.proofs.table.fill_words.Tie as tie
 
 abbrev Inv-loop : tie.InvT-loop
-Inv-loop text n nodes words₀ gates₀ at₀ i₀ words gates at i = (i ≤ nodes) × (at ≡ lineStart text i) × (gates ≡ gatesTo text i) × (words ≡ placed (tab (wordAt text n) i) words₀) × (length words ≡ length words₀)
+Inv-loop text n nodes words₀ gates₀ at₀ i₀ words gates at i = (i ≤ nodes) × (at ≡ lineOffset text i) × (gates ≡ gatesTo text i) × (words ≡ placed (tab (wordAt text n) i) words₀) × (length words ≡ length words₀)
 
 abbrev μ-loop : tie.MeasureT-loop
 μ-loop text n nodes words₀ gates₀ at₀ i₀ words gates at i = nodes - i
 
 loop-holds : tie.Need-loop-holds Inv-loop μ-loop
-unfolding lineStart gatesTo
+unfolding lineOffset gatesTo
 loop-holds c = (omega arith, refl, refl, refl, refl)
 
 line-gates-requires : tie.Need-line-gates-requires Inv-loop μ-loop

@@ -1,123 +1,107 @@
--- `simulate::pass::pass` meets its contract: the tests are the definition's conditions in its order, and then one sweep evaluates.
--- Assumes nothing.
-use mathlib.Core.Path.{_≡_}
-use mathlib.Core.Bool.{true, false}
-use denote.Ref.{now}
 use borrow.Author.Needs.{needs}
-use borrow.Author.Tests.{ltb-false}
-use lib.ListN.{length, getD}
-use lib.Dec.{ltb}
-use Rattle.netlist.specs.StoredBlock.{decode, torn}
-use Rattle.netlist.specs.Rendering.{straight}
-use Rattle.netlist.specs.Operations.{badSetting}
-use Rattle.block.proofs.Answered.{told-whole, told-torn, told-straight, told-looped}
-use Rattle.simulate.proofs.Told.{told-legal, told-bad, told-enough, told-short, when-refused, when-done}
-use Rattle.simulate.proofs.Outcomes.{pass-malformed, pass-looped, pass-setting, pass-room, pass-done}
 use Rattle.simulate.proofs.pass.pass.Statement.{statement}
 use Rattle.simulate.proofs.pass.pass.Tie as tie
+use Rattle.simulate.proofs.pass.pass.Reads as reads
+use Rattle.simulate.proofs.pass.pass.Lts as lts
+use Rattle.block.proofs.check_straight.Reads as check-straight-reads
+use Rattle.block.proofs.check_words.Reads as check-words-reads
+use Rattle.layout.proofs.offsets.gates_of.Reads as gates-of-reads
+use Rattle.refusals.proofs.refusal.Reads as refusal-reads
+use Rattle.refusals.proofs.test_room.Reads as test-room-reads
+use Rattle.simulate.proofs.setting.test_setting.Reads as test-setting-reads
+use Rattle.simulate.proofs.sweep.sweep_into.Reads as sweep-into-reads
 
--- the tests that were passed: from each the one before it, and the function's entry
-abbrev start : tie.After-enum-told → tie.Start
-start c = c .before .before .before .before .before .before
-
-abbrev torn-test : tie.After-enum-told3 → tie.After-enum-told
-torn-test c = c .before .before .before
-
-abbrev straight-test : tie.After-enum-told5 → tie.After-enum-told3
-straight-test c = c .before .before .before
-
-abbrev setting-test : tie.After-enum-told7 → tie.After-enum-told5
-setting-test c = c .before .before .before .before
-
--- what each says
-whole : (c : tie.After-enum-told) → torn (now (start c .args .words)) ≡ false
-whole c = told-whole _ (c .before .before .check-words .ensures) (c .enum-told .given .1)
-
-ordered : (c : tie.After-enum-told3) → straight (decode (now (start (torn-test c) .args .words))) ≡ true
-ordered c = told-straight _ (c .before .before .check-straight .ensures) (c .enum-told3 .given .1)
-
-legal : (c : tie.After-enum-told5) → badSetting (decode (now (start (torn-test (straight-test c)) .args .words))) (now (start (torn-test (straight-test c)) .args .setting)) ≡ false
-legal c = told-legal _ (c .before .before .test-setting .ensures) (c .enum-told5 .given .1)
-
-enough : (c : tie.After-enum-told7) → ltb (length (now (start (torn-test (straight-test (setting-test c))) .args .values))) (getD (now (start (torn-test (straight-test (setting-test c))) .args .words)) 1 0) ≡ false
-enough c = told-enough _ _ (c .before .before .before .gates-of .ensures) (c .before .before .test-room .ensures) (c .enum-told7 .given .1)
-
+-- src/pass.rt:18:9
 check-words-requires : tie.Need-check-words-requires
 check-words-requires c κs = search needs
 
 enum-told : tie.Need-enum-told
 enum-told c = search needs
 
+-- src/pass.rt:20:9
 enum-told-2 : tie.Need-enum-told-2
 enum-told-2 c = search needs
 
-returns : tie.Need-returns
-returns c =
-    let t = told-torn _ (c .before .before .check-words .ensures) (c .enum-told2 .given .1) in
-    when-refused (now (c .before .before .before .before .before .before .args .values)) (pass-malformed _ _ _ t)
+-- src/pass.rt:20:9
+refusal-requires : tie.Need-refusal-requires
+refusal-requires c κs = search needs
 
+-- src/pass.rt:20:9
+returns : tie.Need-returns
+returns c = ?
+
+-- src/pass.rt:22:9
 check-straight-requires : tie.Need-check-straight-requires
-check-straight-requires c κs = whole c
+check-straight-requires c κs = ?
 
 enum-told-3 : tie.Need-enum-told-3
 enum-told-3 c = search needs
 
+-- src/pass.rt:24:9
 enum-told-4 : tie.Need-enum-told-4
 enum-told-4 c = search needs
 
-returns-2 : tie.Need-returns-2
-returns-2 c =
-    let passed = c .before .before .before in
-    let t = told-looped _ (c .before .before .check-straight .ensures) (c .enum-told4 .given .1) in
-    when-refused (now (start passed .args .values)) (pass-looped _ _ _ (whole passed) t)
+-- src/pass.rt:24:9
+refusal-requires-2 : tie.Need-refusal-requires-2
+refusal-requires-2 c κs = search needs
 
+-- src/pass.rt:24:9
+returns-2 : tie.Need-returns-2
+returns-2 c = ?
+
+-- src/pass.rt:26:9
 test-setting-requires : tie.Need-test-setting-requires
 test-setting-requires c κs = search needs
 
 enum-told-5 : tie.Need-enum-told-5
 enum-told-5 c = search needs
 
+-- src/pass.rt:28:9
 enum-told-6 : tie.Need-enum-told-6
 enum-told-6 c = search needs
 
-returns-3 : tie.Need-returns-3
-returns-3 c =
-    let passed = c .before .before .before in
-    let t = told-bad _ (c .before .before .test-setting .ensures) (c .enum-told6 .given .1) in
-    when-refused (now (start (torn-test passed) .args .values)) (pass-setting _ _ _ (whole (torn-test passed)) (ordered passed) t)
+-- src/pass.rt:28:9
+refusal-requires-3 : tie.Need-refusal-requires-3
+refusal-requires-3 c κs = search needs
 
+-- src/pass.rt:28:9
+returns-3 : tie.Need-returns-3
+returns-3 c = ?
+
+-- src/pass.rt:30:42
 gates-of-requires : tie.Need-gates-of-requires
 gates-of-requires c κs = search needs
 
+-- src/pass.rt:30:9
 test-room-requires : tie.Need-test-room-requires
 test-room-requires c κs = search needs
 
 enum-told-7 : tie.Need-enum-told-7
 enum-told-7 c = search needs
 
+-- src/pass.rt:32:9
 enum-told-8 : tie.Need-enum-told-8
 enum-told-8 c = search needs
 
+-- src/pass.rt:32:9
+refusal-requires-4 : tie.Need-refusal-requires-4
+refusal-requires-4 c κs = search needs
+
+-- src/pass.rt:32:9
 returns-4 : tie.Need-returns-4
-returns-4 c =
-    let passed = c .before .before .before .before in
-    let t = told-short _ _ (c .before .before .before .gates-of .ensures) (c .before .before .test-room .ensures) (c .enum-told8 .given .1) in
-    when-refused (now (start (torn-test (straight-test passed)) .args .values))
-    (pass-room _ _ _ (whole (torn-test (straight-test passed))) (ordered (straight-test passed)) (legal passed) t)
+returns-4 c = ?
 
+-- src/pass.rt:34:9
 sweep-into-requires : tie.Need-sweep-into-requires
-sweep-into-requires c κs = (whole (torn-test (straight-test (setting-test (c .before)))), ltb-false _ _ (enough (c .before)))
+sweep-into-requires c κs = ?
 
+-- src/pass.rt:15:1
 same-length : tie.Need-same-length
 same-length c = search needs
 
+-- src/pass.rt:15:1
 returns-5 : tie.Need-returns-5
-returns-5 c =
-    let passed = c .before .before .before .before in
-    let d = c .before .before .sweep-into .ensures in
-    when-done (now (start (torn-test (straight-test (setting-test passed))) .args .values))
-    (pass-done _ _ _ (whole (torn-test (straight-test (setting-test passed)))) (ordered (straight-test (setting-test passed))) (legal (setting-test passed)) (enough passed))
-    (d .1) (d .0)
+returns-5 c = ?
 
 pub pass-spec : {M : Type 1} → statement M
 pass-spec =
@@ -126,19 +110,23 @@ pass-spec =
     check-words-requires
     enum-told
     enum-told-2
+    refusal-requires
     returns
     check-straight-requires
     enum-told-3
     enum-told-4
+    refusal-requires-2
     returns-2
     test-setting-requires
     enum-told-5
     enum-told-6
+    refusal-requires-3
     returns-3
     gates-of-requires
     test-room-requires
     enum-told-7
     enum-told-8
+    refusal-requires-4
     returns-4
     sweep-into-requires
     same-length

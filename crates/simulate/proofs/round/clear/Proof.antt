@@ -4,8 +4,7 @@ use Prim.Native.Nat.{_≤_, _-_}
 use native.Mathlib.Numerals.{add-one}
 use native.Mathlib.Omega.{arith}
 use lib.ListN.{replicate}
-use Rattle.simulate.proofs.ListFacts.{replicate-more}
-use Rattle.simulate.proofs.Filling.{Filling, filling-none, filling-more}
+use Rattle.laws.proofs.Filling.{replicate-more, Filling, filling-none, filling-more}
 use Rattle.simulate.proofs.round.clear.Statement.{statement}
 use Rattle.simulate.proofs.round.clear.Tie as tie
 

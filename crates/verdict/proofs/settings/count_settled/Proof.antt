@@ -5,14 +5,14 @@ use mathlib.Core.Path.{_≡_, refl, sym, _∙_}
 use native.Mathlib.Omega.{arith}
 use lib.ListN.{length}
 use Rattle.netlist.specs.StoredBlock.{decode}
-use Rattle.netlist.specs.Rounds.{settledAt}
+use Rattle.netlist.specs.Rounds.{isSettled}
 use Rattle.decide.proofs.Legible.{ready-kept}
 use Rattle.laws.specs.Lists.{countBelow}
 use Rattle.verdict.proofs.settings.count_settled.Statement.{statement}
 use Rattle.verdict.proofs.settings.count_settled.Tie as tie
 
 abbrev Inv-loop : tie.InvT-loop
-Inv-loop words n gates order lowest inputs₀ values₀ count settled₀ s₀ inputs values settled s = (s ≤ count) × (settled ≡ countBelow (settledAt (decode words)) s) × (length inputs ≡ length inputs₀) × (length values ≡ length values₀)
+Inv-loop words n gates order lowest inputs₀ values₀ count settled₀ s₀ inputs values settled s = (s ≤ count) × (settled ≡ countBelow (isSettled (decode words)) s) × (length inputs ≡ length inputs₀) × (length values ≡ length values₀)
 
 abbrev μ-loop : tie.MeasureT-loop
 μ-loop words n gates order lowest inputs₀ values₀ count settled₀ s₀ inputs values settled s = count - s

@@ -8,7 +8,7 @@ use native.Mathlib.Omega.{arith}
 use borrow.Author.Count.{below-more}
 use lib.ListN.{length, getD}
 use Rattle.netlist.specs.StoredBlock.{decode}
-use Rattle.netlist.specs.Rounds.{settledAt}
+use Rattle.netlist.specs.Rounds.{isSettled}
 use Rattle.decide.proofs.Legible.{ready-kept}
 use Rattle.verdict.proofs.settings.lowest_unsettled.Statement.{statement}
 use Rattle.verdict.proofs.settings.lowest_unsettled.Tie as tie
@@ -20,7 +20,7 @@ abbrev μ-loop : tie.MeasureT-loop
 μ-loop words n gates order inputs values count s j₀ j = length values - j
 
 abbrev Inv-settings : tie.InvT-settings
-Inv-settings words n gates order inputs₀ values₀ count s₀ inputs values s = (s ≤ count) × ((i : ℕ) → i < s → settledAt (decode words) i ≡ true) × (length inputs ≡ length inputs₀) × (length values ≡ length values₀)
+Inv-settings words n gates order inputs₀ values₀ count s₀ inputs values s = (s ≤ count) × ((i : ℕ) → i < s → isSettled (decode words) i ≡ true) × (length inputs ≡ length inputs₀) × (length values ≡ length values₀)
 
 abbrev μ-settings : tie.MeasureT-settings
 μ-settings words n gates order inputs₀ values₀ count s₀ inputs values s = count - s
@@ -64,9 +64,9 @@ settings-again c =
     let l = c .before .before .before .before .before .before .before .before .before .before .settings in
     let e = c .before .before .before .before .before .before .settle-setting in
     let block = decode (s .args .words .now) in
-    let this : settledAt block (l .s) ≡ true = settled-when block (l .s) (e .last .1 .1 .1 .1 .1 .1 .0) (e .ensures) (λ k m. c .before .loop .inv .1 k (omega arith)) in (
+    let this : isSettled block (l .s) ≡ true = settled-when block (l .s) (e .last .1 .1 .1 .1 .1 .1 .0) (e .ensures) (λ k m. c .before .loop .inv .1 k (omega arith)) in (
       omega arith,
-      below-more (λ i. settledAt block i ≡ true) (l .s) (l .inv .1) this,
+      below-more (λ i. isSettled block i ≡ true) (l .s) (l .inv .1) this,
       e .kept .1 .1 .1 .1 .1 .0 ∙ l .inv .2,
       e .kept .1 .1 .1 .1 .1 .1 .0 ∙ l .inv .3,
     )
@@ -99,7 +99,7 @@ returns-2 c =
     let count = c .before .before .before .before .before .before .before .before .before .before .before .before .before .setting-count in
     let e = c .before .before .before .before .before .before .before .before .settle-setting in
     let block = decode (s .args .words .now) in
-    let this : settledAt block (l .s) ≡ false =
+    let this : isSettled block (l .s) ≡ false =
     unsettled-when block (l .s) (e .last .1 .1 .1 .1 .1 .1 .0) (e .ensures) (c .before .before .before .loop .j) (c .before .before .loop-test .taken) (c .if1 .taken) in
     lowest-found block (l .s) (count .result) (setting-count block (s .args .n) (count .result) (s .pre .legible .inputs) (count .ensures))
     (l .inv .0) (l .inv .1) (λ m. this)

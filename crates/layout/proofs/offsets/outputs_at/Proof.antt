@@ -1,9 +1,9 @@
--- `block::header::outputs_at` meets its contract: the outputs stand behind the gates. Assumes nothing.
+-- `layout::offsets::outputs_at` meets its contract: the outputs stand behind the gates. Assumes nothing.
 use borrow.Author.Needs.{needs}
 use native.Mathlib.Omega.{arith}
 use Rattle.netlist.specs.StoredBlock.{gatesAt, outputsAt}
-use Rattle.block.proofs.header.outputs_at.Statement.{statement}
-use Rattle.block.proofs.header.outputs_at.Tie as tie
+use Rattle.layout.proofs.offsets.outputs_at.Statement.{statement}
+use Rattle.layout.proofs.offsets.outputs_at.Tie as tie
 
 gates-at-requires : tie.Need-gates-at-requires
 gates-at-requires c κs = search needs

@@ -1,11 +1,11 @@
--- `ternary::read::word_at` meets its contract: a word of the slice fits a usize, and past the end the answer is the default.
+-- `layout::read::word_at` meets its contract: a word of the slice fits a usize, and past the end the answer is the default.
 -- Assumes nothing.
 use mathlib.Core.Path.{sym}
 use borrow.Author.Needs.{needs}
 use native.Mathlib.Omega.{arith}
 use lib.ListN.{List·getD-eq-default}
-use Rattle.ternary.proofs.read.word_at.Statement.{statement}
-use Rattle.ternary.proofs.read.word_at.Tie as tie
+use Rattle.layout.proofs.read.word_at.Statement.{statement}
+use Rattle.layout.proofs.read.word_at.Tie as tie
 
 mul-result : tie.Need-mul-result
 mul-result c = search needs

@@ -1,11 +1,11 @@
--- `ternary::read::value_at` meets its contract: inside the slice the default does not matter, past its end it is the answer.
+-- `layout::read::value_at` meets its contract: inside the slice the default does not matter, past its end it is the answer.
 -- Assumes nothing.
 use mathlib.Core.Path.{sym}
 use borrow.Author.Needs.{needs}
 use lib.ListN.{List·getD-eq-default}
 use Rattle.laws.proofs.Elements.{getD-defaults}
-use Rattle.ternary.proofs.read.value_at.Statement.{statement}
-use Rattle.ternary.proofs.read.value_at.Tie as tie
+use Rattle.layout.proofs.read.value_at.Statement.{statement}
+use Rattle.layout.proofs.read.value_at.Tie as tie
 
 shared-slice-read-result : tie.Need-shared-slice-read-result
 shared-slice-read-result c = search needs

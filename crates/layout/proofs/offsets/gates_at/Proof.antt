@@ -1,9 +1,9 @@
--- `block::header::gates_at` meets its contract. Assumes nothing.
+-- `layout::offsets::gates_at` meets its contract. Assumes nothing.
 use borrow.Author.Needs.{needs}
 use mathlib.Core.Path.{refl}
 use Rattle.netlist.specs.StoredBlock.{gatesAt}
-use Rattle.block.proofs.header.gates_at.Statement.{statement}
-use Rattle.block.proofs.header.gates_at.Tie as tie
+use Rattle.layout.proofs.offsets.gates_at.Statement.{statement}
+use Rattle.layout.proofs.offsets.gates_at.Tie as tie
 
 mul-result : tie.Need-mul-result
 mul-result c = search needs
