@@ -1,4 +1,4 @@
--- Document 01, "Three-valued meaning": the kinds, the table of controlling values, and one gate's value from its operands' values.
+-- SPECIFICATION 3.2: the kinds, the table of controlling values, and one gate's value from its operands' values.
 -- Kinds are numbers: 0 not, 1 and, 2 or, 3 nand, 4 nor.
 use Prim.Native.Nat.{ℕ, _-_, _≤_}
 use mathlib.Core.Bool.{Bool, true, false, cond, _&&_}
@@ -10,12 +10,12 @@ use Rattle.laws.specs.Lists.{ascii, all, any, trimmed}
 use Rattle.netlist.specs.declared.Row.{Row}
 use Rattle.netlist.specs.Values.{Value, undefined, code, valueOf, invert, isDefined}
 
--- "`and`, `or`, `nand`, `nor` with two to four" operands
+-- every kind of the table has two to four operands
 unfoldable pub row : ℕ → ℕ → String → Row
 row controlling forced word =
     record { fewest = 2; most = 4; controlling = controlling; forced = forced; keyword = ascii word }
 
--- "and 0 forces 0, or 1 forces 1, nand 0 forces 1, nor 1 forces 0"
+-- `and`, `or`, `nand`, `nor`: the controlling value, and what it forces
 unfoldable pub rows : List Row
 rows = row 0 0 "and\0" ∷ row 1 1 "or\0\0" ∷ row 0 1 "nand" ∷ row 1 0 "nor\0" ∷ []
 
@@ -27,11 +27,11 @@ rowOf k = getD rows (k - 1) (record { fewest = 0; most = 0; controlling = 0; for
 unfoldable pub isNot : ℕ → Bool
 isNot k = eqb k 0
 
--- "kinds 0 not, 1 and, 2 or, 3 nand, 4 nor"
+-- `not` and the rows behind it
 unfoldable pub isKind : ℕ → Bool
 isKind k = leb k (length rows)
 
--- "`not` with one operand, or `and`, `or`, `nand`, `nor` with two to four"
+-- one operand for `not`, else by the row
 unfoldable pub fewestOperands : ℕ → ℕ
 fewestOperands k = cond (isNot k) 1 (rowOf k .fewest)
 
@@ -44,8 +44,8 @@ arityFits k count = leb (fewestOperands k) count && leb count (mostOperands k)
 unfoldable pub keyword : ℕ → List ℕ
 keyword k = cond (isNot k) (ascii "not") (trimmed (rowOf k .keyword))
 
--- "`and` is 0 if some operand is 0, 1 if all are 1, else undefined", and so for each row: what is forced if some operand is the
--- controlling value, the opposite if all are the other value, else undefined
+-- one rule for all rows: what is forced if some operand is the controlling value, its opposite if all are the other value, else
+-- undefined
 unfoldable pub ruled : Row → List Value → Value
 ruled r vs =
     cond (any (λ v. eqb (code v) (r .controlling)) vs) (valueOf (r .forced))

@@ -1,11 +1,11 @@
--- Every limit of document 01, once.
+-- SPECIFICATION 1.5: every limit, once.
 use Prim.Native.Nat.{ℕ}
 
--- "text above 61,440 bytes"
+-- bytes of a text
 abbrev pub maxText : ℕ
 maxText = 61440
 
--- "above 10 inputs, 1,024 gates (inner ones counted) or 16 outputs"
+-- inputs, gates (inner ones too) and outputs of a block
 abbrev pub maxInputs : ℕ
 maxInputs = 10
 
@@ -15,14 +15,14 @@ maxGates = 1024
 abbrev pub maxOutputs : ℕ
 maxOutputs = 16
 
--- "copies above 1,024": a rendered block is a block
+-- gates of a rendering, which is a block
 abbrev pub maxCopies : ℕ
 maxCopies = maxGates
 
--- "1 to 8 bytes"
+-- bytes of a name or a port
 abbrev pub maxName : ℕ
 maxName = 8
 
--- "depth 8 is the greatest"
+-- expressions inside each other
 abbrev pub maxDepth : ℕ
 maxDepth = 8

@@ -1,6 +1,6 @@
--- Document 01, "Operations and the refusals they give": one definition for each operation, its conditions in the order given there.
--- "Each condition is over the whole input, tested in the order given for the operation, and the first that holds is answered." Where an
--- operation has a slice for its result, `room` is the slice's length, and 11 is the last condition.
+-- SPECIFICATION 7.3 and 7.5 to 7.11: one definition for each operation. Its conditions stand in the order in which they are tested, each is
+-- over the whole input, and the first that holds is answered. Where an operation has a slice for its result, `room` is the slice's length,
+-- and 11 is the last condition.
 use Prim.Native.Nat.{ℕ, _-_}
 use mathlib.Core.Bool.{Bool, not, _||_}
 use mathlib.Core.List.{List, [], map}
@@ -23,7 +23,7 @@ use Rattle.netlist.specs.Reading.{isOverLimit, firstDuplicate, firstUnde
 use Rattle.netlist.specs.Writing.{writtenText}
 use Rattle.netlist.specs.Answers.{Outcome, done, refused, refuseIf, refuseAt, inRoom}
 
--- ---- Read (1, 2, 3, 4, 5, 11): "text to block; count: words"
+-- ---- 7.3 Read (1, 2, 3, 4, 5, 11): the block of a text; count: words
 
 -- words with their number as the count
 unfoldable pub counted : List ℕ → Outcome
@@ -49,9 +49,9 @@ readText text =
 unfoldable pub read : List ℕ → ℕ → Outcome
 read text room = inRoom room (readText text)
 
--- ---- Settle (6, 7, 11): "settled value of each gate, a byte each, from one byte an input, 0, 1 or 2; count: rounds"
+-- ---- 7.5 Settle (6, 7, 11): the codes of the settled values; count: rounds
 
--- 7: "not exactly n bytes, or a byte above 2"
+-- 7: another length than n, or a byte that is no code
 unfoldable pub isBadSetting : Block → List ℕ → Bool
 isBadSetting b setting = not (eqb (length setting) (inputCount b)) || not (all (λ v. leb v 2) setting)
 
@@ -65,14 +65,14 @@ settle ws setting room =
     (refuseIf (isBadSetting (decode ws) setting) BadSetting
     (settleBlock (decode ws) (map valueOf setting))))
 
--- ---- Verdict (6): "count: settled settings; detail: the lowest other, or 2^n if none"
+-- ---- 7.6 Verdict (6): nothing is written; count: settled settings; detail: the lowest other
 
 unfoldable pub verdict : List ℕ → Outcome
 verdict ws =
     refuseIf (isTorn ws) MalformedBlock
     (done [] (settledSettings (decode ws)) (lowestUnsettled (decode ws)))
 
--- ---- Cover (6, 11): "two words an entry; count: entries"
+-- ---- 7.7 Cover (6, 11): the cover's masks; count: entries
 
 unfoldable pub coverBlock : Block → Outcome
 coverBlock b = done (coverEntries b) (length (cover b)) 0
@@ -83,7 +83,7 @@ coverOf ws room =
     (refuseIf (isTorn ws) MalformedBlock
     (coverBlock (decode ws)))
 
--- ---- Groups (6, 11): "each gate's group number, a word each; count: groups"
+-- ---- 7.8 Groups (6, 11): the number of each gate's group; count: groups
 
 unfoldable pub groupsBlock : Block → Outcome
 groupsBlock b = done (groupNumbers b) (length (groups b)) 0
@@ -94,10 +94,9 @@ groupsOf ws room =
     (refuseIf (isTorn ws) MalformedBlock
     (groupsBlock (decode ws)))
 
--- ---- Render (6, 8, 9, 11): "count: words"
+-- ---- 7.9 Render (6, 8, 9, 11): the rendered block; count: words
 
--- "8 exactly when the sum is above 1,024; 9 exactly when the sum is at most 1,024 and the block isn't sound, with the number of the
--- lowest setting that isn't settled"
+-- 8 where there are too many copies, else 9 where some setting is not settled, with the lowest such
 unfoldable pub renderBlock : Block → Outcome
 renderBlock b =
     refuseIf (ltb maxCopies (copyCount b)) TooManyCopies
@@ -112,7 +111,7 @@ renderWords ws =
 unfoldable pub render : List ℕ → ℕ → Outcome
 render ws room = inRoom room (renderWords ws)
 
--- ---- Pass (6, 10, 7, 11): "values of a straight block in one sweep, equal to Settle's; count: m"
+-- ---- 7.10 Pass (6, 10, 7, 11): the codes of a sweep's values, which are Settle's; count: gates
 
 unfoldable pub passBlock : Block → List Value → Outcome
 passBlock b x = done (map code (sweep b x)) (gateCount b) 0
@@ -125,7 +124,7 @@ pass ws setting room =
     (refuseIf (isBadSetting (decode ws) setting) BadSetting
     (passBlock (decode ws) (map valueOf setting)))))
 
--- ---- Write (6, 11): "block to text; count: bytes"
+-- ---- 7.11 Write (6, 11): the text of a block; count: bytes
 
 unfoldable pub writeWords : List ℕ → Outcome
 writeWords ws =

@@ -1,4 +1,4 @@
--- Document 01, "The netlist text": the tree of a text, or where its form breaks. A reader takes what it can from the front of a text and
+-- SPECIFICATION 1, 7.2 (refusal 2): the tree of a text, or where its form breaks. A reader takes what it can from the front of a text and
 -- answers a value with the rest, or the number of bytes left from the bad one on; so a place needs no arithmetic until the very end.
 use Prim.Native.Nat.{ℕ, zero, suc, _-_}
 use mathlib.Core.Bool.{Bool, true, false}
@@ -89,7 +89,7 @@ termsReader term zero needed = expect (ascii ")") (pure nil)
 termsReader term (suc most) zero = ifNext (is ")") (λ _. pure nil) (spaced term (termsReader term most zero))
 termsReader term (suc most) (suc needed) = spaced term (termsReader term most needed)
 
--- an EXPR behind its opening bracket
+-- an expression behind its opening bracket
 unfoldable pub exprReader : {A : Type 0} → Reader Term → (ℕ → Terms → A) → Reader A
 exprReader term make =
     bind kindReader (λ k. bind (termsReader term (mostOperands k) (fewestOperands k)) (λ ts. pure (make k ts)))
@@ -101,7 +101,7 @@ leafOr inner =
     (ifNext (is "0") (λ _. pure (literal false))
     (ifNext (is "1") (λ _. pure (literal true)) inner))
 
--- an operand, with `depth` levels of EXPR left
+-- an operand, with `depth` levels of expressions left
 unfoldable pub termReader : ℕ → Reader Term
 termReader zero = leafOr stop
 termReader (suc depth) = leafOr (expect (ascii "(") (exprReader (termReader depth) apply))
@@ -148,7 +148,7 @@ atEnd (c ∷ s) = stuck (length (c ∷ s))
 unfoldable pub line : Reader Tree → Reader Tree
 line behind = ifNext (is "(") (λ _. behind) atEnd
 
--- "Lines stand in this order: all inputs, all gates, all outputs." The number bounds the lines.
+-- Behind an output only outputs go on, behind a gate no input. The number bounds the lines.
 unfoldable pub outputsReader : ℕ → Reader Tree
 outputsReader zero s = atEnd s
 outputsReader (suc more) s = line (outputLine (λ r. outputsReader more r) stop) s

@@ -1,5 +1,4 @@
--- Document 01: "The program `unloop` reads a text on standard input and writes the rendered text, or the line `(refused NUMBER DETAIL)`,
--- both decimal."
+-- SPECIFICATION 8: what the program `unloop` writes, the text of the rendering or the line of the first refusal.
 use Prim.Native.Nat.{ℕ}
 use mathlib.Core.List.{List, [], _++_}
 use Rattle.laws.specs.Lists.{ascii}

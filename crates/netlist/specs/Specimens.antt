@@ -1,5 +1,5 @@
--- Document 01, "Specimens": the starred ones, whole, and the worked examples that tell the definitions from their near misses, as one claim
--- over one list, computed from the definitions.
+-- SPECIFICATION 9.1 to 9.8: the worked examples, among them those that tell the definitions from their near misses, as one claim over one
+-- list, computed from the definitions.
 use Prim.Native.Nat.{ℕ, suc, _+_, _-_, _%_}
 use Prim.Native.String.{String}
 use mathlib.Core.Path.{_≡_, refl}
@@ -92,32 +92,32 @@ ring n =
 
 unfoldable pub specimens : List Specimen
 specimens =
-    -- 1
+    -- 9.1
     (toRead (ascii "") 3 ⇒ 0 ∷ 3 ∷ 0 ∷ 0 ∷ 0 ∷ 0 ∷ [])
     ∷ (toJudge (blockWords "") ⇒ 0 ∷ 1 ∷ 1 ∷ [])
     ∷ (toCover (blockWords "") 2 ⇒ 0 ∷ 1 ∷ 0 ∷ 0 ∷ 0 ∷ [])
     ∷ (toRender (blockWords "") 3 ⇒ 0 ∷ 3 ∷ 0 ∷ 0 ∷ 0 ∷ 0 ∷ [])
-    -- 2
+    -- 9.2
     ∷ (toRead (ascii "(in a)") 99 ⇒ with 2 6)
     ∷ (toRead (ascii "(in _a)\n") 99 ⇒ with 2 4)
-    -- 3
+    -- 9.2: a name twice, and one that is not declared
     ∷ (toRead (ascii "(in a)\n(in a)\n") 99 ⇒ with 4 11)
     ∷ (toRead (ascii "(in a)\n(gate p (not r))\n") 99 ⇒ with 5 20)
-    -- 4
+    -- 9.4
     ∷ (toJudge (blockWords specimen4) ⇒ 0 ∷ 3 ∷ 1 ∷ [])
     ∷ (toCover (blockWords specimen4) 4 ⇒ 0 ∷ 2 ∷ 0 ∷ 1 ∷ 0 ∷ 2 ∷ 2 ∷ [])
     ∷ (toRender (blockWords specimen4) 99 ⇒ with 9 1)
-    -- 5
+    -- 9.4: a gate that reads itself
     ∷ (toRender (blockWords "(gate p (or p (not p)))\n") 99 ⇒ with 9 0)
     ∷ (toUnloop (ascii "(gate p (or p 1))\n") ⇒ ascii "(gate _0 (or 0 1))\n")
-    -- 6
+    -- 9.5
     ∷ (toJudge (blockWords specimen6) ⇒ 0 ∷ 32 ∷ 32 ∷ [])
     ∷ (toSettle (blockWords specimen6) (0 ∷ 1 ∷ 1 ∷ 0 ∷ 0 ∷ []) 6 ⇒ 0 ∷ 6 ∷ 0 ∷ 0 ∷ 0 ∷ 0 ∷ 0 ∷ 0 ∷ 0 ∷ [])
     ∷ (toUnloop (ascii specimen6) ⇒ ascii rendered6)
-    -- 9
+    -- 9.7: the whole of a rendered text
     ∷ (toUnloop (ascii "(in s)\n(gate p (and s q))\n(gate q (or s p))\n(out y q)\n")
     ⇒ ascii "(in s)\n(gate _0 (and s 0))\n(gate _1 (or s _0))\n(gate _2 (and s _1))\n(gate _3 (or s _2))\n(out y _3)\n")
-    -- refusal 2: places
+    -- 9.2: places of refusal 2
     ∷ (toRead (ascii "(") 99 ⇒ with 2 1)
     ∷ (toRead (ascii "(x") 99 ⇒ with 2 1)
     ∷ (toRead (ascii "(in a") 99 ⇒ with 2 5)
@@ -135,7 +135,7 @@ specimens =
     ∷ (toRead (ascii "(out _y a)\n") 99 ⇒ with 2 5)
     ∷ (toRead (ascii "(out y 0)\n") 99 ⇒ with 2 7)
     ∷ (toRead (ascii "(gate p (not 0))\n(in a)\n") 99 ⇒ with 2 18)
-    -- the order of Read's conditions
+    -- 9.2: the order of Read's conditions
     ∷ (toRead (replicate (suc maxText) 0) 0 ⇒ with 1 0)
     ∷ (toRead (replicate maxText 0) 0 ⇒ with 2 0)
     ∷ (toRead (eleven ++ ascii "(in") 0 ⇒ with 2 80)
@@ -145,17 +145,17 @@ specimens =
     ∷ (toRead (ascii "(in a)\n(gate p (and q (not r)))\n(out q p)\n") 0 ⇒ with 5 20)
     ∷ (toRead (ascii "(gate p (not 0))\n(out y _a)\n") 0 ⇒ with 5 24)
     ∷ (toRead (ascii "(in a)\n") 6 ⇒ with 11 0)
-    -- gates are numbered by their closing bracket, and a name may be used before its line; no word is reserved
+    -- 9.3: gates are numbered by their closing bracket, and a name may be used before its line; no word is reserved
     ∷ (toRead (ascii "(in in)\n(gate gate (and (not in) (or gate _ 1)))\n(gate _ (not in))\n(out in gate)\n") 32
     ⇒ 0 ∷ 32 ∷ 0 ∷ 1 ∷ 4 ∷ 1 ∷ 28265 ∷ 0 ∷ 0 ∷ 0
     ∷ 8 ∷ 0 ∷ 0 ∷ 0 ∷ 0 ∷ 26 ∷ 3 ∷ 4 ∷ 65535 ∷ 0 ∷ 17 ∷ 1 ∷ 2 ∷ 0 ∷ 0 ∷ 8 ∷ 0 ∷ 0 ∷ 0 ∷ 0
     ∷ 28265 ∷ 0 ∷ 0 ∷ 0 ∷ 3 ∷ [])
-    -- the table of kinds, at 2, 1 and 0; Pass gives Settle's values
+    -- 9.6: the table of kinds, at 2, 1 and 0; Pass gives Settle's values
     ∷ (toSettle (blockWords kinds) (2 ∷ []) 7 ⇒ 0 ∷ 1 ∷ 0 ∷ 0 ∷ 1 ∷ 1 ∷ 0 ∷ 2 ∷ 2 ∷ 2 ∷ [])
     ∷ (toSettle (blockWords kinds) (1 ∷ []) 7 ⇒ 0 ∷ 1 ∷ 0 ∷ 0 ∷ 1 ∷ 1 ∷ 0 ∷ 0 ∷ 0 ∷ 0 ∷ [])
     ∷ (toSettle (blockWords kinds) (0 ∷ []) 7 ⇒ 0 ∷ 1 ∷ 0 ∷ 0 ∷ 1 ∷ 1 ∷ 0 ∷ 1 ∷ 1 ∷ 1 ∷ [])
     ∷ (toPass (blockWords kinds) (2 ∷ []) 7 ⇒ 0 ∷ 7 ∷ 0 ∷ 0 ∷ 1 ∷ 1 ∷ 0 ∷ 2 ∷ 2 ∷ 2 ∷ [])
-    -- the order of conditions: 6 before 7 before 11, 10 before 7, 8 before 9 before 11
+    -- 9.4, 9.6, 9.7: the order of conditions: 6 before 7 before 11, 10 before 7, 8 before 9 before 11
     ∷ (toSettle [] (3 ∷ []) 0 ⇒ with 6 0)
     ∷ (toSettle (blockWords kinds) (3 ∷ []) 0 ⇒ with 7 0)
     ∷ (toSettle (blockWords kinds) [] 0 ⇒ with 7 0)
@@ -165,11 +165,11 @@ specimens =
     ∷ (toUnloop (ring 33) ⇒ ascii "(refused 8 0)\n")
     ∷ (toRender (blockWords specimen4) 0 ⇒ with 9 1)
     ∷ (toRender (blockWords kinds) 41 ⇒ with 11 0)
-    -- the next group is the one with the lowest gate among those ready
+    -- 9.7: the next group is the one with the lowest gate among those ready
     ∷ (toGroup (blockWords "(gate a (not d))\n(gate b (not 0))\n(gate c (and a 1))\n(gate d (not 1))\n") 4
     ⇒ 0 ∷ 4 ∷ 0 ∷ 2 ∷ 0 ∷ 3 ∷ 1 ∷ [])
     ∷ (toGroup (blockWords specimen4) 2 ⇒ 0 ∷ 1 ∷ 0 ∷ 0 ∷ 0 ∷ [])
-    -- forward references without a loop; a straight block renders to itself; depth 8
+    -- 9.7: forward references without a loop; a straight block renders to itself; depth 8
     ∷ (toUnloop (ascii "(in a)\n(gate p (not q))\n(gate q (not 1))\n(out y p)\n(out z a)\n")
     ⇒ ascii "(in a)\n(gate _0 (not 1))\n(gate _1 (not _0))\n(out y _1)\n(out z a)\n")
     ∷ (toUnloop (ascii "(in a)\n(gate _0 (not a))\n(gate _1 (and _0 a 1))\n(out y _0)\n")
@@ -177,8 +177,8 @@ specimens =
     ∷ (toUnloop (ascii "(gate p (not (not (not (not (not (not (not (not 1)))))))))\n")
     ⇒ ascii "(gate _0 (not 1))\n(gate _1 (not _0))\n(gate _2 (not _1))\n(gate _3 (not _2))\n(gate _4 (not _3))\n(gate _5 (not _4))\n(gate _6 (not _5))\n(gate _7 (not _6))\n")
     ∷ (toUnloop (ascii "(in _a)\n") ⇒ ascii "(refused 2 4)\n")
-    -- torn: fewer than three words; one word too many; a zero byte inside a name; a name twice; an operand that is no node; kind 5; a
-    -- `not` of two; an operand behind the count; an output that shows a constant. The first of each pair is whole
+    -- 9.3, malformed: fewer than three words; one word too many; a zero byte inside a name; a name twice; an operand that is no node;
+    -- kind 5; a `not` of two; an operand behind the count; an output that shows a constant. Two that are whole stand between them
     ∷ (toWrite (0 ∷ 0 ∷ []) 99 ⇒ with 6 0)
     ∷ (toWrite (0 ∷ 0 ∷ 0 ∷ 0 ∷ []) 99 ⇒ with 6 0)
     ∷ (toWrite (1 ∷ 0 ∷ 0 ∷ 97 ∷ 0 ∷ 0 ∷ 0 ∷ []) 7 ⇒ 0 ∷ 7 ∷ 0 ∷ ascii "(in a)\n")
@@ -190,7 +190,7 @@ specimens =
     ∷ (toWrite (0 ∷ 1 ∷ 0 ∷ 16 ∷ 0 ∷ 0 ∷ 0 ∷ 0 ∷ []) 99 ⇒ with 6 0)
     ∷ (toWrite (0 ∷ 1 ∷ 0 ∷ 8 ∷ 0 ∷ 65534 ∷ 0 ∷ 0 ∷ []) 99 ⇒ with 6 0)
     ∷ (toWrite (0 ∷ 0 ∷ 1 ∷ 97 ∷ 0 ∷ 0 ∷ 0 ∷ 65534 ∷ []) 99 ⇒ with 6 0)
-    -- Line: an LF belongs to the line it ends; a place past the end
+    -- 9.8: an LF belongs to the line it ends; a place past the end
     ∷ (toShowLine (ascii "ab\ncd") 2 ⇒ ascii "ab")
     ∷ (toShowLine (ascii "ab\ncd") 3 ⇒ ascii "cd")
     ∷ (toShowLine (ascii "ab\ncd") 99 ⇒ ascii "cd")
