@@ -36,7 +36,7 @@ impl Answer {
     pub fn success(count: usize) -> Answer {
         Answer {
             number: 0,
-            count: count,
+            count,
             detail: 0,
         }
     }
@@ -46,7 +46,7 @@ impl Answer {
         Answer {
             number,
             count: 0,
-            detail: detail,
+            detail,
         }
     }
 }
