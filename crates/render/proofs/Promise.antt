@@ -103,7 +103,7 @@ pub promise-holds : (ws entry : List ℕ) → RenderPromise ws entry (answerOf (
 unfolding renderNumber
 promise-holds ws entry =
     let short = ltb (length entry) (length (encode (rendering (decode ws)))) in
-    let p : Told-by ws entry _ (render ws (length entry)) =
+    let p : Told-by ws entry (renderNumber ws (length entry)) (render ws (length entry)) =
     rw (render-by ws (length entry)) (by-tests ws entry (isTorn ws) (ltb maxCopies (copyCount (decode ws))) (isSound (decode ws)) short refl refl refl) in
     record {
       promise = promise refl refl;

@@ -62,8 +62,17 @@ pub rendered-size : (ws : List ℕ) (n k total size : ℕ) → n ≡ getD ws 0 0
     → size ≡ outputsAt n total → length (encode (rendering (decode ws))) ≡ size + 5 * k
 rendered-size ws n k total size en ek et es =
     length-encode (rendering (decode ws))
-    ∙ rw (ap {B = ℕ} length (rendering-inputs (decode ws)), decode-inputCount ws, rendering-count (decode ws), length-rendering-outputs (decode ws),
-    decode-outputCount ws, es, en, ek, et) refl
+    ∙ rw (
+      ap {B = ℕ} length (rendering-inputs (decode ws)),
+      decode-inputCount ws,
+      rendering-count (decode ws),
+      length-rendering-outputs (decode ws),
+      decode-outputCount ws,
+      es,
+      en,
+      ek,
+      et,
+    ) refl
 
 pub schedule-length : (ws : List ℕ) (total : ℕ) → total ≡ copyCount (decode ws) → length (schedule (decode ws)) ≡ total
 schedule-length ws total et = length-schedule-is (decode ws) ∙ rendering-count (decode ws) ∙ sym et
