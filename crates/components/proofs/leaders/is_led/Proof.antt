@@ -14,7 +14,8 @@ gate-named-requires : tie.Need-gate-named-requires
 gate-named-requires c κs = search needs
 
 returns : tie.Need-returns
-returns c = let a = start (c .before) .args in no-gate (ledBy (a .leaders .now) (a .leader)) (a .n) (a .m) (a .w) (c .before .gate-named .ensures) (c .if1 .taken)
+returns c =
+    let a = start (c .before) .args in no-gate (ledBy (a .leaders .now) (a .leader)) (a .n) (a .m) (a .w) (c .before .gate-named .ensures) (c .if1 .taken)
 
 word-at-requires : tie.Need-word-at-requires
 word-at-requires c κs = search needs

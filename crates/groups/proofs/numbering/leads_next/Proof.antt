@@ -11,7 +11,9 @@ same-length : tie.Need-same-length
 same-length c = search needs
 
 returns : tie.Need-returns
-returns c = let s = c .before .before .before .before .before .before .before in look-passed (s .pre .1) (s .args .numbers .now) (s .args .j) (s .pre .0) (c .before .is-passed .ensures) (c .if1 .taken)
+returns c =
+    let at-start = c .before .before .before .before .before .before .before in
+    let s = at-start in look-passed (s .pre .1) (s .args .numbers .now) (s .args .j) (s .pre .0) (c .before .is-passed .ensures) (c .if1 .taken)
 
 obstacle-of-group-requires : tie.Need-obstacle-of-group-requires
 obstacle-of-group-requires c κs = search needs
@@ -21,8 +23,10 @@ same-length-2 c = search needs
 
 returns-2 : tie.Need-returns-2
 returns-2 c =
-    let s = c .before .before .before .before .before .before .before .before .before in
-    look-free (s .pre .1) (s .args .numbers .now) (s .args .j) (s .pre .0) (c .before .before .before .is-passed .ensures) (c .before .before .if1 .left) (c .before .obstacle-of-group .result) (c .before .obstacle-of-group .ensures) (c .if2 .taken)
+    let after-shared-slice-known3 = c .before .before .before .before .before .before in
+    let s = after-shared-slice-known3 .before .before .before in
+    look-free (s .pre .1) (s .args .numbers .now) (s .args .j) (s .pre .0) (c .before .before .before .is-passed .ensures) (c .before .before .if1 .left)
+    (c .before .obstacle-of-group .result) (c .before .obstacle-of-group .ensures) (c .if2 .taken)
 
 cast-obstacles : tie.Need-cast-obstacles
 cast-obstacles c = search needs
@@ -38,8 +42,10 @@ same-length-3 c = search needs
 
 returns-3 : tie.Need-returns-3
 returns-3 c =
-    let s = c .before .before .before .before .before .before .before .before .before in
-    look-found (s .pre .1) (s .args .numbers .now) (s .args .j) (s .pre .0) (c .before .before .before .is-passed .ensures) (c .before .before .if1 .left) (c .before .obstacle-of-group .result) (c .before .obstacle-of-group .ensures) (c .if2 .left)
+    let after-shared-slice-known3 = c .before .before .before .before .before .before in
+    let s = after-shared-slice-known3 .before .before .before in
+    look-found (s .pre .1) (s .args .numbers .now) (s .args .j) (s .pre .0) (c .before .before .before .is-passed .ensures) (c .before .before .if1 .left)
+    (c .before .obstacle-of-group .result) (c .before .obstacle-of-group .ensures) (c .if2 .left)
 
 pub leads-next-spec : {M : Type 1} → statement M
 leads-next-spec =
