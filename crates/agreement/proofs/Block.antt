@@ -1,5 +1,10 @@
 -- The rendering as a block: it is straight, has as many gates as there are copies, the original's inputs and ports, and is well-formed where
--- the original is and there is room. Render's code cites it. Assumes nothing.
+-- the original is and there is room. Render's code cites it.
+--   rendering-count, rendering-inputs, rendering-ports   gates are copies; names are kept
+--   rendering-straight             it is straight
+--   lastCopies-*, rendering-node   what stands for each gate in the end, and what outputs show
+--   rendering-wellFormed           it is well-formed
+-- Assumes nothing.
 use Prim.Native.Nat.{ℕ, _+_, _≤_, _<_}
 use mathlib.Core.Path.{_≡_, refl, sym, ap, _∙_}
 use mathlib.Core.Bool.{true, false, false≢true, _&&_}

@@ -1,4 +1,4 @@
--- The numbering loop follows document 01's rule. Cited by `number_groups`. Assumes nothing.
+-- The numbering loop follows the definition's rule (SPECIFICATION 5). Cited by `number_groups`. Assumes nothing.
 use mathlib.Core.Path.{_≡_, refl, sym, ap, _∙_}
 use mathlib.Core.Logic.{⊎-elim}
 use mathlib.Core.Bool.{Bool, true, false, cond, not, and-false, Bool·not-not}
@@ -100,7 +100,7 @@ module _ {ws : List ℕ} {n m gates g : ℕ} {leaders numbers : List ℕ} (s : S
           let also : mayBeNext b done (getD leaders j 0) ≡ true = mayBeNext-intro b done (getD leaders j 0) new (rw (← groupOf-equal b j (getD leaders j 0) group) (mayBeNext-ready b done j may)) in
           not-both also (least-below (mayBeNext b done) (gateCount b) (getD leaders j 0) (rw (← e) lt))
 
-  -- the loop's search finds document 01's next gate
+  -- the loop's search finds the definition's next gate
   pub next-found : least (leadsNext b m numbers leaders) m ≡ nextGate b done
   unfolding leadsNext
   next-found =

@@ -1,4 +1,8 @@
--- How many of 0 .. n - 1 pass a test: by comparison of two tests, and as the length of what is kept. Assumes nothing.
+-- How many of 0 .. n - 1 pass a test: by comparison of two tests, and as the length of what is kept.
+--   countBelow-ext, -mono, -less       two tests compared
+--   countBelow-all, -le, -full, -one   all pass; at most n; n pass, so all do; one passes more
+--   length-keep                        the length of what is kept
+-- Assumes nothing.
 use Prim.Native.Nat.{ℕ, zero, suc, _+_, _≤_, _<_}
 use mathlib.Core.Path.{_≡_, refl, sym, ap, _∙_}
 use mathlib.Core.Logic.{_⊎_, inl, inr, ⊎-elim}

@@ -1,4 +1,10 @@
--- Lists one after the other: joined, written behind each other, mapped, summed, tested and searched. Assumes nothing.
+-- Lists one after the other: joined, written behind each other, mapped, summed, tested and searched.
+--   joined-*, length-joined   lists one after the other
+--   keep-append, all-joined   tests over them
+--   sets-sets                 two stores behind each other
+--   sum-*, map-*              sums and maps
+--   member-*                  members of lists put together
+-- Assumes nothing.
 use mathlib.Core.Path.{_≡_, refl, sym, ap, _∙_}
 use mathlib.Core.Logic.{_⊎_, inl, inr, ⊎-elim}
 use mathlib.Core.Bool.{Bool, true, false, cond, _&&_, _||_, false≢true}

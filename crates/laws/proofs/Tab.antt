@@ -1,4 +1,8 @@
--- The list of a function's first values: its length, its elements, when two are equal, and how a loop fills a slice with it. Assumes nothing.
+-- The list of a function's first values: its length, its elements, when two are equal, and how a loop fills a slice with it.
+--   length-tab, getD-tab, tab-getD   its length and elements
+--   tab-add, tab-ext, map-tab        in two parts, two that are equal, mapped
+--   fill-next, keep-next, placed-tab, placed-all   a slice that is being filled with it
+-- Assumes nothing.
 use mathlib.Core.Path.{_≡_, refl, sym, ap, _∙_}
 use mathlib.Core.Logic.{_⊎_, ⊎-elim}
 use mathlib.Core.List.{List, [], _∷_, _++_, map, append-assoc, append-nil}

@@ -1,5 +1,10 @@
 -- A list of groups built one by one, each time the group of the lowest gate that may be next, is the first part of `groups`,
--- and is `groups` once every gate is in it. The code of Groups cites it. Assumes nothing.
+-- and is `groups` once every gate is in it. The code of Groups cites it.
+--   built-numbered, built-count   what is built is a numbered list, and no longer than its gates
+--   built-groups                  once it holds every gate it is `groups`
+--   groups-built, groups-at       each first part of `groups` is so built, and entry t is the next gate's group
+--   built-groupNumber             a built list gives the numbers that `groups` gives
+-- Assumes nothing.
 use Prim.Native.Nat.{ℕ, zero, suc, _-_, _≤_, _<_}
 use mathlib.Core.Path.{_≡_, refl, sym, ap, _∙_}
 use mathlib.Core.Logic.{_⊎_, inl, inr}

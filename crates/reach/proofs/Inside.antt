@@ -1,4 +1,6 @@
--- In a well-formed block every gate reads gates that are there. Assumes nothing.
+-- In a well-formed block every gate reads gates that are there.
+--   wellFormed-inside   a well-formed block is `Inside`
+-- Assumes nothing.
 use Prim.Native.Nat.{ℕ, zero, suc, _<_}
 use mathlib.Core.Path.{_≡_}
 use mathlib.Core.Logic.{⊎-elim}

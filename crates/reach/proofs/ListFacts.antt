@@ -1,5 +1,10 @@
 -- Facts on numbers in lists, on what passes a test, and on lists one after the other, that are nobody's in particular.
--- Cited by every file of this crate. Assumes nothing.
+-- Cited by every file of this crate.
+--   all-*, member-*, keep-*      tests, members and what is kept
+--   ascending-*, once-*          ascending lists, and lists without repeats
+--   joined-member, entry-below   lists one after the other
+--   sum-at, sum-mono             sums
+-- Assumes nothing.
 use Prim.Native.Nat.{ℕ, zero, suc, _≤_, _<_}
 use mathlib.Core.Path.{_≡_, refl, sym, ap, _∙_}
 use mathlib.Core.Logic.{_⊎_, inl, inr, ⊎-elim}

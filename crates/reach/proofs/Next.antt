@@ -1,5 +1,10 @@
 -- Which group may be numbered next, that there is one while a gate is left, and that numbering it keeps what is numbered closed.
--- The order of the groups and the code of Groups cite it. Assumes nothing.
+-- The order of the groups and the code of Groups cite it.
+--   ready-reads, ready-intro     a gate is ready: all that its group reads has a number or is in it
+--   mayBeNext-*                  what may be next, taken apart and put together
+--   some-next, none-left         while a gate has no number some gate may be next
+--   numbered-next, next-counts   numbering its group keeps the list closed, and longer
+-- Assumes nothing.
 use Prim.Native.Nat.{ℕ, zero, suc, _≤_, _<_}
 use mathlib.Core.Path.{_≡_, ap, fun-ext}
 use mathlib.Core.Logic.{_⊎_, inl, inr, ⊎-elim}

@@ -1,5 +1,11 @@
 -- The list of groups: one step of it, its entries, each gate once, and a group reads only itself and earlier ones.
--- Groups, Render's schedule and the agreement cite it. Assumes nothing.
+-- Groups, Render's schedule and the agreement cite it.
+--   groupsAfter-found, groupsAfter-none   one step of the list
+--   groups-all, groups-one, groups-once   each gate is in one group, once
+--   groups-entry, groups-group            an entry is the group of a gate, and of each of its gates
+--   groups-closed, groups-read-back       a group reads only itself and earlier groups
+--   length-groups                         no more groups than gates
+-- Assumes nothing.
 use Prim.Native.Nat.{ℕ, zero, suc, _+_, _≤_, _<_}
 use mathlib.Core.Path.{_≡_, refl, sym, ap, _∙_}
 use mathlib.Core.Logic.{_⊎_, inl, inr}

@@ -1,5 +1,10 @@
 -- What `reach` computes: gate i reaches gate j exactly when there is a path. Growing m times is enough, by counting.
--- The other files of this crate cite it. Assumes nothing.
+-- The other files of this crate cite it.
+--   grown-*, grownTimes-*         a step, and many: nothing is lost, and what is read is added
+--   path-reaches, reaches-path    `reaches` tells whether there is a path
+--   reaches-refl, reaches-trans   it is reflexive and transitive
+--   reach-least, reach-is         the reach is the least closed set with the gate
+-- Assumes nothing.
 use Prim.Native.Nat.{ℕ, zero, suc, _≤_, _<_}
 use mathlib.Core.Path.{_≡_, refl, sym, _∙_}
 use mathlib.Core.Logic.{_⊎_, inl, inr, ⊎-elim}
@@ -64,7 +69,7 @@ module _ (b : Block) where
   unfolding grown has
   has-grown set j h = getD-tab _ (gateCount b) j false h
 
-  -- "grown" only adds
+  -- `grown` only adds
   pub grown-keeps : (set : List Bool) (j : ℕ) → j < gateCount b → has set j ≡ true → has (grown b set) j ≡ true
   grown-keeps set j h e = has-grown set j h ∙ or-left _ _ e
 
