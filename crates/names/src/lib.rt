@@ -12,15 +12,3 @@ pub struct Counts {
     pub outputs: usize,
     pub gates: usize,
 }
-
-// 3: above 10 inputs, 1,024 gates or 16 outputs, or not.
-pub enum Limits {
-    Within,
-    Over,
-}
-
-// 4: no declaration repeats another, or the place of the earliest that does.
-pub enum Repeat {
-    None,
-    At(usize),
-}

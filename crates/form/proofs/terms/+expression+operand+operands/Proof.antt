@@ -13,8 +13,8 @@ use Rattle.form.proofs.terms.+expression+operand+operands.Lts-operand a
 use Rattle.form.proofs.terms.operands.Reads as operands
 use Rattle.form.proofs.terms.operands.Kinds as operands-kinds
 use Rattle.form.proofs.terms.+expression+operand+operands.Lts-operands as operands-lts
-use Rattle.form.proofs.bytes.byte_at.Reads as byte-at-reads
-use Rattle.form.proofs.bytes.is_name_start.Reads as is-name-start-reads
+use Rattle.layout.proofs.bytes.byte_at.Reads as byte-at-reads
+use Rattle.layout.proofs.bytes.is_name_start.Reads as is-name-start-reads
 use Rattle.form.proofs.bytes.word.Reads as word-reads
 use Rattle.form.proofs.names.name_bytes.Reads as name-bytes-reads
 use Rattle.form.proofs.terms.fewest_operands.Reads as fewest-operands-reads

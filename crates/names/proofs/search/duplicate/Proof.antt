@@ -17,11 +17,11 @@ slice-aggregate-first-repeat c = let s = c .before .before .before .before in sy
 first-repeat-requires : tie.Need-first-repeat-requires
 first-repeat-requires c κs = search needs
 
-mul-t11 : tie.Need-mul-t11
-mul-t11 c = search needs
+mul-place : tie.Need-mul-place
+mul-place c = search needs
 
-shared-slice-read-t13 : tie.Need-shared-slice-read-t13
-shared-slice-read-t13 c = search needs
+shared-slice-read-place : tie.Need-shared-slice-read-place
+shared-slice-read-place c = search needs
 
 returns : tie.Need-returns
 returns c =
@@ -47,14 +47,14 @@ part-first-repeat-end c = search needs
 first-repeat-requires-2 : tie.Need-first-repeat-requires-2
 first-repeat-requires-2 c κs = search needs
 
-add-t20 : tie.Need-add-t20
-add-t20 c = search needs
+add-place : tie.Need-add-place
+add-place c = search needs
 
-mul-t21 : tie.Need-mul-t21
-mul-t21 c = search needs
+mul-place-2 : tie.Need-mul-place-2
+mul-place-2 c = search needs
 
-shared-slice-read-t23 : tie.Need-shared-slice-read-t23
-shared-slice-read-t23 c = search needs
+shared-slice-read-place-2 : tie.Need-shared-slice-read-place-2
+shared-slice-read-place-2 c = search needs
 
 returns-2 : tie.Need-returns-2
 returns-2 c =
@@ -75,8 +75,8 @@ duplicate-spec =
     add-nodes
     slice-aggregate-first-repeat
     first-repeat-requires
-    mul-t11
-    shared-slice-read-t13
+    mul-place
+    shared-slice-read-place
     returns
     add-first-repeat
     mul-first-repeat
@@ -84,8 +84,8 @@ duplicate-spec =
     part-first-repeat-start
     part-first-repeat-end
     first-repeat-requires-2
-    add-t20
-    mul-t21
-    shared-slice-read-t23
+    add-place
+    mul-place-2
+    shared-slice-read-place-2
     returns-2
     returns-3)

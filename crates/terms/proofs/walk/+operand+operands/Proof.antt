@@ -20,7 +20,7 @@ use Rattle.terms.proofs.walk.+operand+operands.Lts-operand as operand-l
 use Rattle.terms.proofs.walk.operands.Reads as operands
 use Rattle.terms.proofs.walk.operands.Kinds as operands-kinds
 use Rattle.terms.proofs.walk.+operand+operands.Lts-operands as operands-lts
-use Rattle.names.proofs.lines.byte_at.Reads as byte-at-reads
+use Rattle.layout.proofs.bytes.byte_at.Reads as byte-at-reads
 use Rattle.terms.proofs.leaves.kind_here.Reads as kind-here-reads
 use Rattle.terms.proofs.leaves.leaf_here.Reads as leaf-here-reads
 use Rattle.terms.proofs.leaves.word_length.Reads as word-length-reads
