@@ -4,7 +4,7 @@ use mathlib.Core.List.{List, [], _∷_, _++_}
 use lib.ListN.{length, getD}
 use Rattle.laws.specs.Lists.{tab, joined}
 use Rattle.netlist.specs.Limits.{maxInputs, maxGates, maxOutputs}
-use Rattle.netlist.specs.StoredBlock.{gateSize, outputSize, outputsAt}
+use Rattle.netlist.specs.StoredBlock.{nameSize, gateSize, outputSize, inputsAt}
 use Rattle.names.specs.declared.Counts.{Counts}
 use Rattle.terms.specs.Ports.{portWords}
 
@@ -24,7 +24,7 @@ blockWords c names gates outputs =
 
 -- the length of a block with these counts (SPECIFICATION 2.1)
 unfoldable pub wordCount : Counts → ℕ
-wordCount c = outputsAt (c .inputs) (c .gates) + outputSize * c .outputs
+wordCount c = inputsAt + nameSize * c .inputs + gateSize * c .gates + outputSize * c .outputs
 
 pub record PutReady (c : Counts) (names gates outputs block : List ℕ) : Type 0 where
   pub fewInputs : c .inputs ≤ maxInputs
@@ -33,4 +33,4 @@ pub record PutReady (c : Counts) (names gates outputs block : List ℕ) : Type 0
   pub named : c .inputs ≤ length names
   pub gateRoom : gateSize * c .gates ≤ length gates
   pub outputRoom : outputSize * c .outputs ≤ length outputs
-  pub room : wordCount c ≤ length block
+  pub room : inputsAt + nameSize * c .inputs + gateSize * c .gates + outputSize * c .outputs ≤ length block

@@ -1,7 +1,9 @@
 // The steps of Read on a text that is a legal tree's and within the limits: declare, look for repeats, resolve, write.
 use crate::words::put_block;
+use layout::offsets::GATE_SIZE;
+use layout::offsets::INPUTS_AT;
+use layout::offsets::NAME_SIZE;
 use layout::offsets::OUTPUT_SIZE;
-use layout::offsets::outputs_at;
 use names::Counts;
 use names::search::duplicate;
 use names::table::declare;
@@ -43,7 +45,7 @@ fn finish(
     requires { ⌜ WriteReady (now text) c (now names) (now gates) (now outputs) ⌝ }
     ensures { λ r. ⌜ Promise (read (now (text .entry)) (length (now (block .entry)))) (now (block .entry)) r (now (block .exit)) ⌝ }
 {
-    let count = outputs_at(c.inputs, c.gates) + OUTPUT_SIZE * c.outputs;
+    let count = INPUTS_AT + NAME_SIZE * c.inputs + GATE_SIZE * c.gates + OUTPUT_SIZE * c.outputs;
     let tested = test_room(block.len(), count);
     let Test::Passed = tested else {
         return refusal(tested);

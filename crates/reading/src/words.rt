@@ -3,17 +3,15 @@ use layout::offsets::GATE_SIZE;
 use layout::offsets::INPUTS_AT;
 use layout::offsets::NAME_SIZE;
 use layout::offsets::OUTPUT_SIZE;
-use layout::offsets::gates_at;
-use layout::offsets::outputs_at;
 use names::Counts;
 ghost use mathlib.Core.Path.{_≡_};
 ghost use mathlib.Core.List.{[], _∷_};
-ghost use Prim.Native.Nat.{_+_, _≤_};
+ghost use Prim.Native.Nat.{_+_, _*_, _≤_};
 ghost use lib.ListN.{length};
 ghost use lib.Seq.{sets};
 ghost use Rattle.laws.specs.Lists.{tab, joined};
 ghost use Rattle.netlist.specs.Limits.{maxInputs, maxGates, maxOutputs};
-ghost use Rattle.netlist.specs.StoredBlock.{nameSize, inputsAt, gatesAt};
+ghost use Rattle.netlist.specs.StoredBlock.{nameSize, inputsAt};
 ghost use Rattle.terms.specs.Ports.{portWords};
 ghost use Rattle.reading.specs.Words.{nameOf, wordOf, blockWords, PutReady};
 
@@ -40,7 +38,7 @@ fn put_name(block: &mut [u16], at: usize, name: u64)
 
 // Writes the first n names.
 fn put_names(names: &[u64], n: usize, block: &mut [u16])
-    requires { ⌜ (n ≤ length (now names)) × (gatesAt n ≤ length (now block)) ⌝ }
+    requires { ⌜ (n ≤ length (now names)) × (inputsAt + nameSize * n ≤ length (now block)) ⌝ }
     ensures { λ r. ⌜ now (block .exit) ≡ sets (now (block .entry)) inputsAt (joined (tab (nameOf (now (names .entry))) n)) ⌝ }
 {
     let mut i = 0;
@@ -67,8 +65,8 @@ pub fn put_block(c: Counts, names: &[u64], gates: &[u16], outputs: &[u16], block
     requires { ⌜ PutReady c (now names) (now gates) (now outputs) (now block) ⌝ }
     ensures { λ r. ⌜ now (block .exit) ≡ sets (now (block .entry)) 0 (blockWords c (now (names .entry)) (now (gates .entry)) (now (outputs .entry))) ⌝ }
 {
-    let first = gates_at(c.inputs);
-    let last = outputs_at(c.inputs, c.gates);
+    let first = INPUTS_AT + NAME_SIZE * c.inputs;
+    let last = first + GATE_SIZE * c.gates;
     put_counts(c, block);
     put_names(names, c.inputs, block);
     put_words(gates, GATE_SIZE * c.gates, block, first);
