@@ -34,7 +34,7 @@ unfolding read readText
 read-start text room = refl
 
 -- what follows 2
-afterForm : Parsed Tree → Outcome
+unfoldable pub afterForm : Parsed Tree → Outcome
 afterForm (got t rest) = readTree t
 afterForm (stuck left) = refused TextTooLong
 
@@ -43,10 +43,10 @@ unfolding readParsed refuseAt afterForm
 read-parsed text (got t rest) = refl
 read-parsed text (stuck left) = refl
 
-pub read-form : {text : List ℕ} {room : ℕ} → read text room ≡ inRoom room (readParsed text (parse text))
+pub read-form : (text : List ℕ) (room : ℕ) → read text room ≡ inRoom room (readParsed text (parse text))
     → read text room ≡ inRoom room (refuseAt (firstBad text) SyntaxError (afterForm (parse text)))
 unfolding firstBad
-read-form {text} {room} e = e ∙ rw (read-parsed text (parse text)) refl
+read-form text room e = e ∙ rw (read-parsed text (parse text)) refl
 
 pub in-form : (text : List ℕ) → length text ≤ maxText → firstBad text ≡ none → InForm text
 unfolding firstBad

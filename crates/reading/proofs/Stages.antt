@@ -157,7 +157,9 @@ module _ {text : List ℕ} {c : Counts} {names gates outputs : List ℕ} (w : Wr
   -- 11's condition, on the number of words
   module _ (entry : List ℕ) {r : Test} (tested : r ≡ testOf (ltb (length entry) (wordCount c)) NoRoom) where
     chain : read text (length entry) ≡ refuseIf (ltb (length entry) (wordCount c)) NoRoom (done (encode (blockOf (w .tree))) (wordCount c) 0)
-    chain = rw size at read-known (w .tree) text (length entry) (w .limited) (w .single) (w .known)
+    chain =
+        read-known (w .tree) text (length entry) (w .limited) (w .single) (w .known)
+        ∙ ap (λ (n : ℕ). refuseIf (ltb (length entry) n) NoRoom (done (encode (blockOf (w .tree))) n 0)) size
 
     pub no-room : IsFailed r → {answer : Answer} → answer ≡ refusalOf r → Promise (read text (length entry)) entry answer entry
     no-room k e = failed bare keeps-bare _ _ NoRoom chain tested entry k e
