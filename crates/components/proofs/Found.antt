@@ -19,10 +19,10 @@ use Rattle.netlist.specs.Groups.{OperandPath, stay, step, reads, readBy, reache
 use Rattle.reach.proofs.Reach.{path-reaches, reaches-path, reaches-trans}
 use Rattle.reach.proofs.SameGroup.{sameGroup-refl, sameGroup-below}
 use Rattle.search.specs.Search.{gateReads, GatesReady, SearchReady, StartReady, Queued, Reached}
-use Rattle.components.specs.Leaders.{noLeader, barredBy, ledBy, joins, Joined, none, more, Quiet, Spread, QueueReady, LeadReady, givenBy, GroupLed}
+use Rattle.components.specs.Leaders.{noLeader, barredBy, ledBy, joins, Joined, none, more, Quiet, Spread, QueueReady, TurnReady, givenBy, GroupLed}
 use Rattle.components.proofs.Joining.{joins-free, joined-length}
 
-module _ (ws : List ℕ) (n m gates l : ℕ) (whole : GatesReady ws n m gates) (gatesAre : m ≡ gateCount (decode ws)) (entry : List ℕ) (ready : LeadReady ws m l entry) (free : getD entry l 0 ≡ noLeader) where
+module _ (ws : List ℕ) (n m gates l : ℕ) (whole : GatesReady ws n m gates) (gatesAre : m ≡ gateCount (decode ws)) (entry : List ℕ) (ready : TurnReady ws m l entry) (free : getD entry l 0 ≡ noLeader) where
   abbrev b : Block
   b = decode ws
 
@@ -204,5 +204,5 @@ start-ready leaders flags entry m l e lt free =
 pub still-room : {ws : List ℕ} {n m gates : ℕ} {flags queue flags′ queue′ : List ℕ} → SearchReady ws n m gates flags queue → length flags′ ≡ length flags → length queue′ ≡ length queue → SearchReady ws n m gates flags′ queue′
 still-room s e f = record { whole = s .whole; flagRoom = rw e (s .flagRoom); queueRoom = rw f (s .queueRoom) }
 
-pub queue-ready : {ws : List ℕ} {n m gates l count : ℕ} {leaders barred queue : List ℕ} → GatesReady ws n m gates → LeadReady ws m l leaders → Reached (decode ws) m l barred queue count → QueueReady ws n m gates l queue count (set leaders l l)
+pub queue-ready : {ws : List ℕ} {n m gates l count : ℕ} {leaders barred queue : List ℕ} → GatesReady ws n m gates → TurnReady ws m l leaders → Reached (decode ws) m l barred queue count → QueueReady ws n m gates l queue count (set leaders l l)
 queue-ready w a r = record { whole = w; below = a .below; room = rw length-set (a .room); queued = λ q lt. r .sound q lt .0 }

@@ -1,4 +1,4 @@
--- The leader of a strongly connected group is its lowest gate; and how leaders are found, on arrays: a gate's leader or 65535.
+-- The leader of a strongly connected group is its lowest gate; and how leaders are found, on arrays: a gate's leader, or the mark of none.
 use Prim.Native.Nat.{ℕ, _-_, _≤_, _<_}
 use mathlib.Core.Path.{_≡_}
 use mathlib.Core.Logic.{_⊎_}
@@ -7,11 +7,13 @@ use mathlib.Core.List.{List}
 use lib.ListN.{length, getD, set}
 use lib.Dec.{eqb}
 use Rattle.laws.specs.Lists.{any, countBelow, least}
+use Rattle.netlist.specs.Limits.{maxGates}
 use Rattle.netlist.specs.Netlist.{Block, gateCount}
 use Rattle.netlist.specs.StoredBlock.{decode}
 use Rattle.netlist.specs.Groups.{sameGroup}
 use Rattle.search.specs.Search.{gateReads, GatesReady, SearchReady}
 
+-- the code's layout::nodes::NONE, which is no gate
 abbrev pub noLeader : ℕ
 noLeader = 65535
 
@@ -77,7 +79,7 @@ pub record Grouped (b : Block) (m : ℕ) (leaders : List ℕ) : Type 0 where
   pub own : (j : ℕ) → j < m → (getD leaders j 0 ≡ noLeader) ⊎ (sameGroup b (getD leaders j 0) j ≡ true)
 
 -- it is `leader`'s turn
-pub record LeadReady (ws : List ℕ) (m leader : ℕ) (leaders : List ℕ) : Type 0 where
+pub record TurnReady (ws : List ℕ) (m leader : ℕ) (leaders : List ℕ) : Type 0 where
   pub below : leader < m
   pub room : m ≤ length leaders
   pub grouped : Grouped (decode ws) m leaders
@@ -114,7 +116,7 @@ pub record FirstLed (leader k : ℕ) (firsts firsts′ : List ℕ) (first : ℕ)
 
 -- what `lower` needs
 pub record LowerReady (m : ℕ) (leaders firsts : List ℕ) : Type 0 where
-  pub few : m ≤ 1024
+  pub few : m ≤ maxGates
   pub room : m ≤ length leaders
   pub firstRoom : m ≤ length firsts
   pub below : (j : ℕ) → j < m → getD leaders j 0 < m

@@ -47,19 +47,19 @@ numbers-none b m entry =
     let e : tab (numberUpTo b 0) m ≡ replicate m noNumber = tab-constant (numberUpTo b 0) noNumber m (λ j l. none-number b j) in
     rw (e, length-replicate {A = ℕ} m noNumber, drop-at (replicate m noNumber) (drop m entry) m (length-replicate {A = ℕ} m noNumber)) refl
 
--- and no witness is known
-pub watching-none : {ws : List ℕ} {n m gates : ℕ} {leaders witnesses : List ℕ} (entry : List ℕ) → NumberReady ws n m gates leaders → m ≤ length witnesses → witnesses ≡ replicate m noNumber ++ drop m entry → Watching ws n m gates leaders witnesses
-watching-none {m = m} {witnesses = witnesses} entry r room is =
+-- and no obstacle is known
+pub watching-none : {ws : List ℕ} {n m gates : ℕ} {leaders obstacles : List ℕ} (entry : List ℕ) → NumberReady ws n m gates leaders → m ≤ length obstacles → obstacles ≡ replicate m noNumber ++ drop m entry → Watching ws n m gates leaders obstacles
+watching-none {m = m} {obstacles = obstacles} entry r room is =
     record {
       prepared = r;
       room = room;
-      witnessed = λ l il below. absurd (omega (arith, unknown l il, r .whole .fewGates));
+      outsideOf = λ l il below. absurd (omega (arith, unknown l il, r .whole .fewGates));
     }
   where
-    same : witnesses ≡ placed (tab (λ j. noNumber) m) entry
+    same : obstacles ≡ placed (tab (λ j. noNumber) m) entry
     same = is ∙ rw (tab-constant (λ j. noNumber) noNumber m (λ j l. refl), length-replicate {A = ℕ} m noNumber) refl
 
-    unknown : (l : ℕ) → l < m → getD witnesses l 0 ≡ noNumber
+    unknown : (l : ℕ) → l < m → getD obstacles l 0 ≡ noNumber
     unknown l il = rw same (placed-tab (λ j. noNumber) m entry l 0 il)
 
 module _ (b : Block) (inside : Inside b) where

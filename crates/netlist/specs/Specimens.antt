@@ -31,7 +31,7 @@ pub data Question : Type 0 where
   toJudge : List ℕ → Question
   toCover toGroup toRender toWrite : List ℕ → (room : ℕ) → Question
   toShowLine : List ℕ → (place : ℕ) → Question
-  toUnloop : List ℕ → Question
+  toCountCopies toUnloop : List ℕ → Question
 
 -- number, count and detail, and then the result
 unfoldable pub report : Outcome → List ℕ
@@ -48,6 +48,7 @@ answered (toGroup ws room) = report (groupsOf ws room)
 answered (toRender ws room) = report (render ws room)
 answered (toWrite ws room) = report (write ws room)
 answered (toShowLine text place) = lineAt text place
+answered (toCountCopies ws) = copyCount (decode ws) ∷ []
 answered (toUnloop text) = unloop text
 
 pub record Specimen : Type 0 where
@@ -113,6 +114,7 @@ specimens =
     -- 9.5
     ∷ (toJudge (blockWords specimen6) ⇒ 0 ∷ 32 ∷ 32 ∷ [])
     ∷ (toSettle (blockWords specimen6) (0 ∷ 1 ∷ 1 ∷ 0 ∷ 0 ∷ []) 6 ⇒ 0 ∷ 6 ∷ 0 ∷ 0 ∷ 0 ∷ 0 ∷ 0 ∷ 0 ∷ 0 ∷ [])
+    ∷ (toCountCopies (blockWords specimen6) ⇒ 36 ∷ [])
     ∷ (toUnloop (ascii specimen6) ⇒ ascii rendered6)
     -- 9.7: the whole of a rendered text
     ∷ (toUnloop (ascii "(in s)\n(gate p (and s q))\n(gate q (or s p))\n(out y q)\n")

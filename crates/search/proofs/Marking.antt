@@ -16,6 +16,7 @@ use Rattle.laws.proofs.Tests.{eq-or-ne, lt-or-le, and-left, and-right}
 use Rattle.laws.proofs.Quantifiers.{all-append}
 use Rattle.laws.proofs.Lists.{joined-append, sets-sets}
 use Rattle.laws.proofs.Counting.{countBelow-ext, countBelow-le, countBelow-one}
+use Rattle.layout.specs.Nodes.{gateNamed}
 use Rattle.search.specs.Search.{wordGate, wordGates, marked, fresh, setFlags, Room, Extended}
 
 -- ---- lists put together
@@ -147,31 +148,35 @@ room-kept {m} {ks} {flags} {queue} {tail} r inside e =
 
 -- ---- operand words
 
+-- the gate k that `gate_named` answered
+module _ (n m w : ℕ) {k : ℕ} (is : k ≡ gateNamed n m w) where
+  pub named-gate : k < m → wordGate n m w ≡ k ∷ []
+  unfolding wordGate
+  named-gate l = rw (← is, lt-ltb k m l) refl
+
+  pub named-none : m ≤ k → wordGate n m w ≡ []
+  unfolding wordGate
+  named-none l = rw (← is, le-ltb k m l) refl
+
 -- the gates that words name are below m
 word-inside : (n m w : ℕ) → all (λ k. ltb k m) (wordGate n m w) ≡ true
-unfolding wordGate
-word-inside n m w = go (leb n w && ltb w (n + m)) refl
-  where
-    go : (b : Bool) → leb n w && ltb w (n + m) ≡ b → all (λ k. ltb k m) (cond b ((w - n) ∷ []) []) ≡ true
-    go false e = refl
-    go true e =
-        let lo : n ≤ w = leb-true n w (and-left (leb n w) (ltb w (n + m)) e) in
-        let hi : w < n + m = ltb-true w (n + m) (and-right (leb n w) (ltb w (n + m)) e) in
-        let i : ltb (w - n) m ≡ true = lt-ltb (w - n) m (omega arith) in
-        rw i refl
+word-inside n m w =
+    ⊎-elim (λ l. rw (named-gate n m w refl l, lt-ltb (gateNamed n m w) m l) refl) (λ l. rw (named-none n m w refl l) refl) (lt-or-le (gateNamed n m w) m)
 
 pub word-gate : (n m w : ℕ) → n ≤ w → w < n + m → wordGate n m w ≡ (w - n) ∷ []
-unfolding wordGate
-word-gate n m w lo hi = rw (le-leb n w lo, lt-ltb w (n + m) hi) refl
+unfolding gateNamed
+word-gate n m w lo hi = named-gate n m w names (omega arith)
+  where
+    names : w - n ≡ gateNamed n m w
+    names = rw (le-ltb w n lo, lt-ltb w (n + m) hi) refl
 
 pub word-none : (n m w : ℕ) → (w < n) ⊎ (n + m ≤ w) → wordGate n m w ≡ []
-unfolding wordGate
-word-none n m w (inl lo) = rw (lt-leb n w lo) refl
-word-none n m w (inr hi) = go (leb n w)
+unfolding gateNamed
+word-none n m w h = named-none n m w (names h) (omega arith)
   where
-    go : (b : Bool) → cond (b && ltb w (n + m)) ((w - n) ∷ []) [] ≡ []
-    go true = rw (le-ltb w (n + m) hi) refl
-    go false = refl
+    names : (w < n) ⊎ (n + m ≤ w) → m ≡ gateNamed n m w
+    names (inl lo) = rw (lt-ltb w n lo) refl
+    names (inr hi) = rw (le-ltb w n (omega arith), le-ltb w (n + m) hi) refl
 
 -- one operand word more
 pub words-more : (ws : List ℕ) (n m at i : ℕ) → wordGates ws n m at (suc i) ≡ wordGates ws n m at i ++ wordGate n m (getD ws (at + 1 + i) 0)

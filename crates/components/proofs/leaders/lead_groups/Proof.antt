@@ -19,7 +19,7 @@ abbrev μ-loop : tie.MeasureT-loop
 μ-loop words n m gates leaders₀ flags₀ queue₀ downward t₀ leaders flags queue t = m - t
 
 forget-requires : tie.Need-forget-requires Inv-loop μ-loop
-forget-requires c κs = (c .before .before .before .before .before .pre .0, c .before .before .before .before .before .pre .1 .search .whole .fewGates)
+forget-requires c κs = c .before .before .before .before .before .pre .0
 
 reads-upward-requires : tie.Need-reads-upward-requires Inv-loop μ-loop
 reads-upward-requires c κs = let g = c .before .before .before .before .before .before .before .before .pre .1 .search .whole in (g .fewInputs, g .fewGates, g .near)

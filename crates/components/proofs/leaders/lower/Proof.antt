@@ -19,7 +19,7 @@ abbrev μ-loop : tie.MeasureT-loop
 μ-loop m leaders₀ firsts₀ k₀ leaders firsts k = m - k
 
 forget-requires : tie.Need-forget-requires Inv-loop μ-loop
-forget-requires c κs = (c .before .before .before .pre .firstRoom, c .before .before .before .pre .few)
+forget-requires c κs = c .before .before .before .pre .firstRoom
 
 loop-holds : tie.Need-loop-holds Inv-loop μ-loop
 loop-holds c = let s = c .before .before .before .before .before .before in (omega arith, refl, rw (c .before .before .forget .ensures) (firsts-none (s .args .leaders .now) (s .args .m) (s .args .firsts .now)), refl, refl)

@@ -24,14 +24,14 @@ returns-2 c =
     let s = c .before .before .before .before .before .before .before .before .before in
     look-free (s .pre .1) (s .args .numbers .now) (s .args .j) (s .pre .0) (c .before .before .before .is-passed .ensures) (c .before .before .if1 .left) (c .before .obstacle-of-group .result) (c .before .obstacle-of-group .ensures) (c .if2 .taken)
 
-cast-witnesses : tie.Need-cast-witnesses
-cast-witnesses c = search needs
+cast-obstacles : tie.Need-cast-obstacles
+cast-obstacles c = search needs
 
-mul-witnesses : tie.Need-mul-witnesses
-mul-witnesses c = search needs
+mul-obstacles : tie.Need-mul-obstacles
+mul-obstacles c = search needs
 
-slice-write-witnesses : tie.Need-slice-write-witnesses
-slice-write-witnesses c = search needs
+slice-write-obstacles : tie.Need-slice-write-obstacles
+slice-write-obstacles c = search needs
 
 same-length-3 : tie.Need-same-length-3
 same-length-3 c = search needs
@@ -51,8 +51,8 @@ leads-next-spec =
     obstacle-of-group-requires
     same-length-2
     returns-2
-    cast-witnesses
-    mul-witnesses
-    slice-write-witnesses
+    cast-obstacles
+    mul-obstacles
+    slice-write-obstacles
     same-length-3
     returns-3)

@@ -12,11 +12,11 @@ use Rattle.groups.proofs.numbering.next_group.Statement.{statement}
 use Rattle.groups.proofs.numbering.next_group.Tie as tie
 
 abbrev Inv-loop : tie.InvT-loop
-Inv-loop words n m gates numbers leaders witnesses₀ j₀ witnesses j =
-    (j ≤ m) × ((i : ℕ) → i < j → leadsNext (decode words) m numbers leaders i ≡ false) × Watching words n m gates leaders witnesses × (length witnesses ≡ length witnesses₀)
+Inv-loop words n m gates numbers leaders obstacles₀ j₀ obstacles j =
+    (j ≤ m) × ((i : ℕ) → i < j → leadsNext (decode words) m numbers leaders i ≡ false) × Watching words n m gates leaders obstacles × (length obstacles ≡ length obstacles₀)
 
 abbrev μ-loop : tie.MeasureT-loop
-μ-loop words n m gates numbers leaders witnesses₀ j₀ witnesses j = m - j
+μ-loop words n m gates numbers leaders obstacles₀ j₀ obstacles j = m - j
 
 loop-holds : tie.Need-loop-holds Inv-loop μ-loop
 loop-holds c =

@@ -1,4 +1,4 @@
--- `groups::numbering::number_groups` meets its contract: each turn gives the next group of document 01's order its number. Assumes nothing.
+-- `groups::numbering::number_groups` meets its contract: each turn gives the next group its number. Assumes nothing.
 use Prim.Native.Nat.{_-_, _≤_}
 use mathlib.Core.Path.{_≡_, refl, _∙_}
 use borrow.Author.Count.{falls}
@@ -14,17 +14,17 @@ use Rattle.groups.proofs.numbering.number_groups.Statement.{statement}
 use Rattle.groups.proofs.numbering.number_groups.Tie as tie
 
 abbrev Inv-loop : tie.InvT-loop
-Inv-loop words n m gates leaders numbers₀ witnesses₀ g₀ numbers witnesses g =
-    (g ≤ length (groups (decode words))) × (numbers ≡ placed (tab (numberUpTo (decode words) g) m) numbers₀) × (length numbers ≡ length numbers₀) × Watching words n m gates leaders witnesses × (length witnesses ≡ length witnesses₀)
+Inv-loop words n m gates leaders numbers₀ obstacles₀ g₀ numbers obstacles g =
+    (g ≤ length (groups (decode words))) × (numbers ≡ placed (tab (numberUpTo (decode words) g) m) numbers₀) × (length numbers ≡ length numbers₀) × Watching words n m gates leaders obstacles × (length obstacles ≡ length obstacles₀)
 
 abbrev μ-loop : tie.MeasureT-loop
-μ-loop words n m gates leaders numbers₀ witnesses₀ g₀ numbers witnesses g = m - g
+μ-loop words n m gates leaders numbers₀ obstacles₀ g₀ numbers obstacles g = m - g
 
 forget-requires : tie.Need-forget-requires Inv-loop μ-loop
-forget-requires c κs = let s = c .before .before .before .before .before in (s .pre .0, s .pre .2 .whole .fewGates)
+forget-requires c κs = let s = c .before .before .before .before .before in s .pre .0
 
 forget-requires-2 : tie.Need-forget-requires-2 Inv-loop μ-loop
-forget-requires-2 c κs = let s = c .before .before .before .before .before .before .before .before .before in (s .pre .1, s .pre .2 .whole .fewGates)
+forget-requires-2 c κs = let s = c .before .before .before .before .before .before .before .before .before in s .pre .1
 
 loop-holds : tie.Need-loop-holds Inv-loop μ-loop
 loop-holds c =
@@ -33,7 +33,7 @@ loop-holds c =
       omega arith,
       rw (c .before .before .before .before .before .before .forget .ensures) (numbers-none (decode (s .args .words .now)) (s .args .m) (s .args .numbers .now)),
       refl,
-      watching-none (s .args .witnesses .now) (s .pre .2) room (c .before .before .forget2 .ensures),
+      watching-none (s .args .obstacles .now) (s .pre .2) room (c .before .before .forget2 .ensures),
       refl,
     )
 
