@@ -65,7 +65,7 @@ module _ (b : Block) where
   unfolding outputsAt
   length-before-outputs = rw (length-append (header b ++ inputPart b) (gatePart b), length-before-gates, length-gatePart)
 
-  -- "A slice of 16-bit words of exactly this length"
+  -- the length is the one that the counts give
   pub length-encode : length (encode b) ≡ outputsAt (inputCount b) (gateCount b) + outputSize * outputCount b
   length-encode = rw (encode-parts, length-append (header b ++ inputPart b ++ gatePart b) (outputPart b), length-before-outputs, length-outputPart)
 

@@ -21,7 +21,7 @@ noGate = record { kind = 0; operands = [] }
 abbrev pub noOutput : Output
 noOutput = record { port = []; node = constant false }
 
--- "limits, names legal and not twice, kinds, counts, nodes"
+-- the rules of a well-formed block (SPECIFICATION 2.4): limits, names, kinds, counts, nodes
 pub record WellFormed (b : Block) : Type 0 where
   pub fewInputs : inputCount b ≤ maxInputs
   pub fewGates : gateCount b ≤ maxGates
