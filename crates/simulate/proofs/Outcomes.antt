@@ -39,7 +39,8 @@ module _ (ws setting : List ℕ) (room : ℕ) where
 
   -- Pass's
   pub pass-chain : pass ws setting room
-      ≡ inRoom room (refuseIf (isTorn ws) MalformedBlock (refuseIf (not (isStraight b)) NotStraight (refuseIf (isBadSetting b setting) BadSetting (passBlock b x))))
+      ≡ inRoom room
+      (refuseIf (isTorn ws) MalformedBlock (refuseIf (not (isStraight b)) NotStraight (refuseIf (isBadSetting b setting) BadSetting (passBlock b x))))
   unfolding pass
   pass-chain = refl
 

@@ -53,11 +53,13 @@ behind-straight : (c : tie.After-enum-told3) → let a = start (words-test (stra
     ≡ inRoom (length (now (a .values)))
     (refuseIf (isBadSetting (decode (now (a .words))) (now (a .setting))) BadSetting (passBlock (decode (now (a .words))) (map valueOf (now (a .setting)))))
 behind-straight c =
-    passed (inRoom _) (keeps-room _) _ _ NotStraight (behind-words (straight-test c .before)) (straight-test c .check-straight .ensures) (c .enum-told3 .given .1)
+    let t = straight-test c in
+    passed (inRoom _) (keeps-room _) _ _ NotStraight (behind-words (t .before)) (t .check-straight .ensures) (c .enum-told3 .given .1)
 
 behind-setting : (c : tie.After-enum-told5) → let a = start (words-test (straight-test (setting-test c .before) .before)) .args in
     pass (now (a .words)) (now (a .setting)) (length (now (a .values)))
-    ≡ refuseIf (ltb (length (now (a .values))) (getD (now (a .words)) 1 0)) NoRoom (done (sweepCodes (now (a .words)) (now (a .setting))) (getD (now (a .words)) 1 0) 0)
+    ≡ refuseIf (ltb (length (now (a .values))) (getD (now (a .words)) 1 0)) NoRoom
+    (done (sweepCodes (now (a .words)) (now (a .setting))) (getD (now (a .words)) 1 0) 0)
 behind-setting c =
     let a = start (words-test (straight-test (setting-test c .before) .before)) .args in
     passed (inRoom _) (keeps-room _) _ _ BadSetting (behind-straight (setting-test c .before)) (setting-test c .test-setting .ensures) (c .enum-told5 .given .1)
@@ -99,7 +101,8 @@ returns-2 : tie.Need-returns-2
 returns-2 c =
     let t = c .before .before .before in
     pass-promise
-    (failed (inRoom _) (keeps-room _) _ _ NotStraight (behind-words (t .before)) (t .check-straight .ensures) (now (start (words-test (t .before)) .args .values))
+    (failed (inRoom _) (keeps-room _) _ _ NotStraight (behind-words (t .before)) (t .check-straight .ensures)
+    (now (start (words-test (t .before)) .args .values))
     (c .before .before .match2 .keys2) (c .refusal2 .ensures))
 
 test-setting-requires : tie.Need-test-setting-requires
@@ -161,8 +164,8 @@ returns-5 c =
     let d = c .before .before .sweep-into .ensures in
     pass-promise
     (finished
-    (passed bare keeps-bare _ _ NoRoom (behind-setting (room-test t .before .before)) (rw (← room-test t .before .gates-of .ensures) (room-test t .test-room .ensures))
-    (t .enum-told7 .given .1))
+    (passed bare keeps-bare _ _ NoRoom (behind-setting (room-test t .before .before))
+    (rw (← room-test t .before .gates-of .ensures) (room-test t .test-room .ensures)) (t .enum-told7 .given .1))
     (d .1) (d .0))
 
 pub pass-spec : {M : Type 1} → statement M
