@@ -101,7 +101,7 @@ module _ (b : Block) where
 
   -- one flag more
   pub flags-more : {flags : List ℕ} {flag : ℕ} (s : ℕ) (entry : List ℕ) → s < length entry → flags ≡ placed (tab (settledFlag b) s) entry
-    → flag ≡ settledFlag b s
+      → flag ≡ settledFlag b s
       → set flags s flag ≡ placed (tab (settledFlag b) (s + 1)) entry
   flags-more s entry l e f = rw (e, f, add-one) (set-placed-tab (settledFlag b) s entry l)
 
