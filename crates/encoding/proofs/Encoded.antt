@@ -1,4 +1,7 @@
 -- The words of a block: their number, and where each part's words stand. Cited by RoundTrip and Readers. Assumes nothing.
+--   length-encode: the number of words
+--   encode-inputCount, encode-gateCount, encode-outputCount: the three counts
+--   encode-input, encode-gate, encode-output: where each part's words stand
 use mathlib.Core.Path.{_≡_, refl, sym, ap, _∙_}
 use mathlib.Core.List.{List, [], _∷_, _++_, map, append-assoc, append-nil}
 use Prim.Native.Nat.{ℕ, _+_, _*_, _<_}

@@ -1,4 +1,6 @@
--- How large a stored block is: at most 5,243 words, each below 65,536. Cited by code that stores blocks. Assumes nothing.
+-- How large a stored block is. Cited by code that stores blocks. Assumes nothing.
+--   encode-longest, whole-longest: at most `maxBlock` words
+--   encode-small, whole-small: each is a 16-bit word
 use mathlib.Core.Path.{_≡_, refl, subst, _∙_}
 use mathlib.Core.Logic.{⊎-elim}
 use mathlib.Core.Bool.{Bool, true, false, _&&_}
