@@ -12,7 +12,9 @@ add-nodes : tie.Need-add-nodes
 add-nodes c = search needs
 
 slice-aggregate-first-repeat : tie.Need-slice-aggregate-first-repeat
-slice-aggregate-first-repeat c = let s = c .before .before .before .before in sym (length-take-le (s .args .c .inputs + s .args .c .named) (s .args .names .now) (omega arith))
+slice-aggregate-first-repeat c =
+    let stage = c .before .before .before .before in
+    let s = stage in sym (length-take-le (s .args .c .inputs + s .args .c .named) (s .args .names .now) (omega arith))
 
 first-repeat-requires : tie.Need-first-repeat-requires
 first-repeat-requires c κs = search needs
@@ -25,8 +27,9 @@ shared-slice-read-place c = search needs
 
 returns : tie.Need-returns
 returns c =
+    let stage = c .before .before .before .before .before .before .before in
     λ t legal counted table.
-    let s = c .before .before .before .before .before .before .before in
+    let s = stage in
     node-repeats t legal (s .args .c) counted (s .args .names .now) (s .args .places .now) table (s .pre .0) (s .pre .1) (c .before .before .first-repeat .result) (c .before .before .first-repeat .ensures) (c .before .if1 .taken)
 
 add-first-repeat : tie.Need-add-first-repeat
@@ -58,15 +61,21 @@ shared-slice-read-place-2 c = search needs
 
 returns-2 : tie.Need-returns-2
 returns-2 c =
+    let at-if1 = c .before .before .before .before in
+    let at-first-repeat = at-if1 .before in
+    let stage = at-first-repeat .before .before .before .before .before in
     λ t legal counted table.
-    let s = c .before .before .before .before .before .before .before .before .before .before in
-    port-repeats t legal (s .args .c) counted (s .args .names .now) (s .args .places .now) table (s .pre .0) (s .pre .1) (c .before .before .before .before .before .first-repeat .result) (c .before .before .before .before .before .first-repeat .ensures) (c .before .before .before .before .if1 .left) (c .before .before .first-repeat2 .result) (c .before .before .first-repeat2 .ensures) (c .before .if2 .taken)
+    let s = stage in
+    port-repeats t legal (s .args .c) counted (s .args .names .now) (s .args .places .now) table (s .pre .0) (s .pre .1) (at-first-repeat .first-repeat .result) (at-first-repeat .first-repeat .ensures) (at-if1 .if1 .left) (c .before .before .first-repeat2 .result) (c .before .before .first-repeat2 .ensures) (c .before .if2 .taken)
 
 returns-3 : tie.Need-returns-3
 returns-3 c =
+    let at-if1 = c .before .before .before in
+    let at-first-repeat = at-if1 .before in
+    let stage = at-first-repeat .before .before .before .before .before in
     λ t legal counted table.
-    let s = c .before .before .before .before .before .before .before .before .before in
-    none-repeats t legal (s .args .c) counted (s .args .names .now) (s .args .places .now) table (s .pre .0) (s .pre .1) (c .before .before .before .before .first-repeat .result) (c .before .before .before .before .first-repeat .ensures) (c .before .before .before .if1 .left) (c .before .first-repeat2 .result) (c .before .first-repeat2 .ensures) (c .if2 .left)
+    let s = stage in
+    none-repeats t legal (s .args .c) counted (s .args .names .now) (s .args .places .now) table (s .pre .0) (s .pre .1) (at-first-repeat .first-repeat .result) (at-first-repeat .first-repeat .ensures) (at-if1 .if1 .left) (c .before .first-repeat2 .result) (c .before .first-repeat2 .ensures) (c .if2 .left)
 
 pub duplicate-spec : {M : Type 1} → statement M
 duplicate-spec =
