@@ -1,4 +1,9 @@
 -- The rules of the stored block, word by word, together say "not torn". Cited by the proof of the code that tests the rules. Assumes nothing.
+--   Intact: the rules on the words, each as a fact
+--   intact-parts, intact-from: the test and the facts
+--   intact-wellFormed, intact-encode: words that meet the rules hold a well-formed block and are its words
+--   encoded-intact: the other way round
+--   intact-torn: the main law: the rules are "not torn"
 use mathlib.Core.Path.{_≡_, refl, sym, ap, _∙_}
 use mathlib.Core.Bool.{Bool, true, not, _&&_}
 use mathlib.Core.List.{List}

@@ -1,5 +1,9 @@
 -- Names in the stored block: the rule on the words is "a legal name", a name and its four words are each other's, and two names are the same when
 -- their words are. Cited by RoundTrip and Intact. Assumes nothing.
+--   plain-nameAt: the rule on the words is the rule on the name
+--   nameWords-nameAt, nameAt-nameWords: a name and its four words are each other's
+--   sameName-same: two names are the same when their words are
+--   namesRule-names: a run of names: all legal, none twice
 use mathlib.Core.Path.{_≡_, refl, sym, ap, _∙_}
 use mathlib.Core.Logic.{⊎-elim}
 use mathlib.Core.Bool.{Bool, true, false, cond, not, _&&_, _||_, and-false}

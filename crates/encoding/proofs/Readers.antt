@@ -1,5 +1,10 @@
 -- What holds of a block that is not torn: of its words at a gate and at an output, and of the gates that its gates read. The parts themselves, for
 -- every list of words, are in Decoded. Cited by the crates that work on stored blocks. Assumes nothing.
+--   GateWhole, OperandWord: what is known of a gate's and an operand's words
+--   whole-parts: the limits, the length and the rules of words that are not torn
+--   whole-gate, whole-node: a gate's and an output's words
+--   wellFormed-gate, wellFormed-operand, wellFormed-output: the same of the block
+--   whole-reads: a gate that is read is there
 use mathlib.Core.Path.{_≡_, sym, _∙_}
 use mathlib.Core.Logic.{_⊎_, inl, inr, ⊎-elim}
 use mathlib.Core.Bool.{true, false, _||_}

@@ -1,5 +1,8 @@
 -- Encode and decode undo each other: on words of the right length whose unused operand words are 0, and on well-formed blocks.
 -- Cited by Intact and by whoever writes or reads blocks. Assumes nothing.
+--   encode-decode: on words of the right length whose unused operand words are 0
+--   decode-encode, encode-whole: on well-formed blocks, whose words are not torn
+--   whole-encode, whole-wellFormed: on words that are not torn, whose block is well-formed
 use mathlib.Core.Path.{_≡_, refl, sym, ap, _∙_}
 use mathlib.Core.Bool.{true, false, _&&_}
 use mathlib.Core.List.{List, [], _∷_, _++_, map}

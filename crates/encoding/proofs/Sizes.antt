@@ -1,4 +1,6 @@
--- How large a stored block is: at most 5,243 words, each below 65,536. Cited by code that stores blocks. Assumes nothing.
+-- How large a stored block is. Cited by code that stores blocks. Assumes nothing.
+--   encode-longest, whole-longest: at most `maxBlock` words
+--   encode-small, whole-small: each is a 16-bit word
 use mathlib.Core.Path.{_≡_, refl, subst, _∙_}
 use mathlib.Core.Logic.{⊎-elim}
 use mathlib.Core.Bool.{Bool, true, false, _&&_}
@@ -12,6 +14,7 @@ use Rattle.laws.specs.Lists.{all, tab, joined}
 use Rattle.laws.proofs.Tests.{and-intro, lt-or-le}
 use Rattle.laws.proofs.Quantifiers.{all-at, all-from, all-append, all-tab-from}
 use Rattle.laws.proofs.Lists.{all-joined}
+use Rattle.netlist.specs.Limits.{maxBlock}
 use Rattle.netlist.specs.Netlist.{Name, constant, Gate, Output, Block, inputCount, gateCount, outputCount}
 use Rattle.netlist.specs.StoredBlock.{operandWords, gatesAt, outputsAt, isLetter, isPlainName, nameWords, nodeWord, gateWords, outputWords, isNode, isOperand, gateFits, encode, decode, isWellFormed, isTorn}
 use Rattle.encoding.proofs.ListFacts.{all-map, getD-map}
@@ -22,8 +25,8 @@ use Rattle.encoding.proofs.WellFormed.{noGate, noOutput, WellFormed, we
 use Rattle.encoding.proofs.Encoded.{length-encode}
 use Rattle.encoding.proofs.RoundTrip.{whole-encode, whole-wellFormed}
 
--- the longest block has 10 inputs, 1,024 gates and 16 outputs
-pub encode-longest : (b : Block) → isWellFormed b ≡ true → length (encode b) ≤ 5243
+-- the longest block has as many of everything as the limits allow
+pub encode-longest : (b : Block) → isWellFormed b ≡ true → length (encode b) ≤ maxBlock
 unfolding outputsAt gatesAt
 encode-longest b h = let w = wellFormed-parts b h in rw (length-encode b) (omega (arith, w .fewInputs, w .fewGates, w .fewOutputs))
 
@@ -117,5 +120,5 @@ encode-small b h p =
 pub whole-small : (ws : List ℕ) → isTorn ws ≡ false → (p : ℕ) → getD ws p 0 < 65536
 whole-small ws h p = subst (λ (v : List ℕ). getD v p 0 < 65536) (whole-encode ws h) (encode-small (decode ws) (whole-wellFormed ws h) p)
 
-pub whole-longest : (ws : List ℕ) → isTorn ws ≡ false → length ws ≤ 5243
-whole-longest ws h = subst (λ (v : List ℕ). length v ≤ 5243) (whole-encode ws h) (encode-longest (decode ws) (whole-wellFormed ws h))
+pub whole-longest : (ws : List ℕ) → isTorn ws ≡ false → length ws ≤ maxBlock
+whole-longest ws h = subst (λ (v : List ℕ). length v ≤ maxBlock) (whole-encode ws h) (encode-longest (decode ws) (whole-wellFormed ws h))

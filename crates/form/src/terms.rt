@@ -3,6 +3,8 @@ use crate::Kind;
 use crate::Scan;
 use crate::bytes;
 use crate::names;
+use layout::bytes::byte_at;
+use layout::bytes::is_name_start;
 ghost use mathlib.Core.Path.{_≡_};
 ghost use Prim.Native.Nat.{_-_};
 ghost use Rattle.netlist.specs.Kinds.{fewestOperands, mostOperands};
@@ -24,7 +26,7 @@ fn kind_word(s: &[u8], bytes: &[u8], kind: usize) -> Kind
 fn kind_no(s: &[u8]) -> Kind
     ensures { λ r. ⌜ r ≡ kindOf (kindNo (now (s .entry))) ⌝ }
 {
-    let c = bytes::byte_at(s, 0);
+    let c = byte_at(s, 0);
     if c == b't' {
         return Kind::Is {
             kind: 0,
@@ -44,7 +46,7 @@ fn kind_no(s: &[u8]) -> Kind
 fn kind_n(s: &[u8]) -> Kind
     ensures { λ r. ⌜ r ≡ kindOf (kindN (now (s .entry))) ⌝ }
 {
-    let c = bytes::byte_at(s, 0);
+    let c = byte_at(s, 0);
     if c == b'a' {
         return kind_word(&s[1..], b"nd", 3);
     }
@@ -58,7 +60,7 @@ fn kind_n(s: &[u8]) -> Kind
 fn kind(s: &[u8]) -> Kind
     ensures { λ r. ⌜ r ≡ kindOf (kindReader (now (s .entry))) ⌝ }
 {
-    let c = bytes::byte_at(s, 0);
+    let c = byte_at(s, 0);
     if c == b'a' {
         return kind_word(&s[1..], b"nd", 1);
     }
@@ -121,7 +123,7 @@ fn operands(s: &[u8], depth: usize, most: usize, needed: usize) -> Scan
     if most == 0 {
         return bytes::word(s, b")");
     }
-    let c = bytes::byte_at(s, 0);
+    let c = byte_at(s, 0);
     if c == b')' {
         if needed == 0 {
             return Scan::Next(s.len() - 1);
@@ -144,8 +146,8 @@ fn operands(s: &[u8], depth: usize, most: usize, needed: usize) -> Scan
 fn operand(s: &[u8], depth: usize) -> Scan
     ensures { λ r. ⌜ r ≡ scanOf (termReader depth (now (s .entry))) ⌝ }
 {
-    let c = bytes::byte_at(s, 0);
-    if bytes::is_name_start(c) {
+    let c = byte_at(s, 0);
+    if is_name_start(c) {
         return Scan::Next(names::name_bytes(&s[1..], 7));
     }
     if c == b'0' {

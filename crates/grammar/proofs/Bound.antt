@@ -1,4 +1,5 @@
 -- The result of reading a text does not depend on the bound on lines, once it is at least the length. Assumes nothing.
+--   textReader-bound: every bound that is at least the length gives one result
 use Prim.Native.Nat.{ℕ, zero, suc, _-_, _≤_}
 use mathlib.Core.Path.{_≡_, refl, sym, _∙_}
 use mathlib.Core.Bool.{Bool, true, false}

@@ -1,4 +1,6 @@
 -- The print of a legal tree is read back, line by line, with any bound that is at least the number of lines. Assumes nothing.
+--   parse-complete: the print of a legal tree parses to that tree
+--   print-injective: two legal trees with one print are one
 use Prim.Native.Nat.{ℕ, zero, suc, _+_, _-_, _≤_}
 use mathlib.Core.Path.{_≡_, refl, _∙_}
 use mathlib.Core.Bool.{true, false, and-eq-true-iff}

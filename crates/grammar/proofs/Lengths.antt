@@ -1,5 +1,7 @@
 -- Prints are longer than what follows them: by what expressions and lines add. Cited for the bound on lines and for the laws that a
 -- reader's rest is shorter. Assumes nothing.
+--   term-length, terms-length, input-length, gate-length, output-length: what each print adds
+--   lineCount-length: no text has more lines than bytes
 use Prim.Native.Nat.{ℕ, _+_, _≤_, _<_}
 use mathlib.Core.Bool.{true, false}
 use mathlib.Core.List.{List, [], _∷_, _++_}

@@ -1,4 +1,5 @@
 -- Every reader of the grammar is good: it refuses at the first byte that no accepted text has there. Assumes nothing.
+--   textReader-good: the reader of a whole text is good, with every bound on the lines
 use Prim.Native.Nat.{ℕ, zero, suc, _-_}
 use mathlib.Core.Path.{_≡_, refl}
 use mathlib.Core.Logic.{inl}

@@ -1,4 +1,6 @@
 -- What is read is legal and printed back, for lines and the whole text: printed before the rest, it is the text. Assumes nothing.
+--   TreeRead: what is read of a text: all of it, a legal tree, printed back
+--   parse-sound: the main law, of every text
 use Prim.Native.Nat.{ℕ, zero, suc, _-_}
 use mathlib.Core.Path.{_≡_, refl}
 use mathlib.Core.Bool.{true}

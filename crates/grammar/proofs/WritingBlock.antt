@@ -1,4 +1,5 @@
 -- The netlist of what Write prints is the block it was given. Assumes nothing.
+--   blockOf-flatTree: the block of the written tree is the block
 use Prim.Native.Nat.{ℕ, zero, suc, _+_, _<_, _≤_}
 use mathlib.Core.Path.{_≡_, refl, sym, ap, ap₂, _∙_}
 use mathlib.Core.Bool.{true, and-eq-true-iff, false≢true}

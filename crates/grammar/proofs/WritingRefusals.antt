@@ -1,4 +1,7 @@
 -- What Write prints is refused for no limit, no repeated and no undeclared name. Assumes nothing.
+--   flatTree-within: within the limits
+--   flatTree-unrepeated: nothing declared twice
+--   flatTree-declared: nothing used that is not declared
 use Prim.Native.Nat.{ℕ, suc, _+_, _<_}
 use mathlib.Core.Path.{_≡_, refl, sym, ap₂, _∙_}
 use mathlib.Core.Bool.{Bool, true, false, and-eq-true-iff, false≢true}

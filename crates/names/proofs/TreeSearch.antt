@@ -18,9 +18,11 @@ use Rattle.netlist.specs.Syntax.{GateLine, OutputLine, Tree, apply, printInput,
 use Rattle.netlist.specs.Reading.{Mention, mentions, inputMention, gateMention, portMention, gateLinesAt, outputLinesAt, declaredNodes, declaredPorts, firstRepeat, orElse, firstDuplicate, Binding, inputBindings, gateBindings, bindings, lookup}
 use Rattle.names.specs.Packed.{packed}
 use Rattle.names.specs.Search.{indexOf, repeatsAt}
-use Rattle.names.specs.Results.{Prints, treeCounts, declared, packedNames, namePlaces, nodeWords, repeatOf, NameTable, Declared}
+use Rattle.names.specs.Results.{Prints, treeCounts, declared, packedNames, namePlaces, nodeWords, NameTable, Declared}
 use Rattle.names.specs.declared.Counts.{Counts}
-use Rattle.names.specs.declared.Repeat.the-variants.{None, At}
+use Rattle.netlist.specs.declared.Refusal.the-variants.{DuplicateDeclaration}
+use Rattle.netlist.specs.declared.Test.the-variants.{Passed, Failed}
+use Rattle.netlist.specs.Answers.{testAt}
 use Rattle.names.proofs.TreeLines.{legal-parts, name-bytes}
 use Rattle.names.proofs.TreeTable.{declared-length, bindings-length}
 use Rattle.names.proofs.Lookup.{Bytes, index-same, index-member, index-lookup}
@@ -179,8 +181,8 @@ module _ (t : Tree) (legal : isLegalTree t ≡ true) (c : Counts) (counted : c �
     at-node : i ≡ least (repeatsAt (map (λ (d : Mention). packed (d .name)) (declaredNodes t))) (length (declaredNodes t))
     at-node = among (declaredNodes t) (take nodes names) i node-keys found
 
-    pub node-repeats : i < nodes → At (getD places i 0) ≡ repeatOf (firstDuplicate t)
-    unfolding firstDuplicate orElse repeatOf
+    pub node-repeats : i < nodes → Failed (DuplicateDeclaration (getD places i 0)) ≡ testAt (firstDuplicate t) DuplicateDeclaration
+    unfolding firstDuplicate orElse testAt
     node-repeats l =
         let r = repeat-found (declaredNodes t) (node-bytes t legal) (rw (← at-node, ← node-count) l) in
         rw (node-places i l, r, ← at-node)
@@ -192,14 +194,14 @@ module _ (t : Tree) (legal : isLegalTree t ≡ true) (c : Counts) (counted : c �
       at-port : j ≡ least (repeatsAt (map (λ (d : Mention). packed (d .name)) (declaredPorts t))) (length (declaredPorts t))
       at-port = among (declaredPorts t) (take (nodes + ports - nodes) (drop nodes names)) j port-keys found-port
 
-      pub port-repeats : j < ports → At (getD places (nodes + j) 0) ≡ repeatOf (firstDuplicate t)
-      unfolding firstDuplicate orElse repeatOf
+      pub port-repeats : j < ports → Failed (DuplicateDeclaration (getD places (nodes + j) 0)) ≡ testAt (firstDuplicate t) DuplicateDeclaration
+      unfolding firstDuplicate orElse testAt
       port-repeats l =
           let r = repeat-found (declaredPorts t) (port-bytes t legal) (rw (← at-port, ← port-count) l) in
           rw (port-places j l, no-node, r, ← at-port)
 
-      pub none-repeats : ports ≤ j → None ≡ repeatOf (firstDuplicate t)
-      unfolding firstDuplicate orElse repeatOf
+      pub none-repeats : ports ≤ j → Passed ≡ testAt (firstDuplicate t) DuplicateDeclaration
+      unfolding firstDuplicate orElse testAt
       none-repeats l = rw (no-node, repeat-none (declaredPorts t) (port-bytes t legal) (rw (← at-port, ← port-count) l))
 
 -- ---- a name and its node

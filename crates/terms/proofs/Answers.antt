@@ -18,7 +18,8 @@ use Rattle.grammar.proofs.Places.{printGate-split, printOutput-split, lines-mea
 use Rattle.names.specs.declared.Counts.{Counts}
 use Rattle.names.proofs.TreeSearch.{bound-names}
 use Rattle.terms.specs.declared.Walked.{Walked}
-use Rattle.terms.specs.declared.Uses.the-variants.{Known, Undeclared}
+use Rattle.netlist.specs.declared.Refusal.the-variants.{UndeclaredName}
+use Rattle.netlist.specs.declared.Test.the-variants.{Passed, Failed}
 use Rattle.terms.specs.Leaves.{earlier}
 use Rattle.terms.specs.Walk.{leftOf, declaredNames, unknownAfter, gatesWords}
 use Rattle.terms.specs.Lines.{LineForm, gateForm, outputForm, outputOf, linesWords, linesCost, LinesDone}
@@ -96,7 +97,7 @@ module _ (t : Tree) (text : List ℕ) (c : Counts) (names words : List ℕ) (w :
   placed-inside = rw (w .prints .printed) at (used-inside t)
 
   -- every used name is declared
-  pub known-done : last .unknown ≡ 0 → 5 * maxGates ≤ length gates → 5 * maxOutputs ≤ length outputs → TreeDone t gates gates′ outputs outputs′ Known
+  pub known-done : last .unknown ≡ 0 → 5 * maxGates ≤ length gates → 5 * maxOutputs ≤ length outputs → TreeDone t gates gates′ outputs outputs′ Passed
   unfolding firstUndeclared
   known-done z r s =
       record {
@@ -107,7 +108,7 @@ module _ (t : Tree) (text : List ℕ) (c : Counts) (names words : List ℕ) (w :
 
   -- one is not
   pub undeclared-done : (last .unknown ≡ 0 → ⊥) → 5 * maxGates ≤ length gates → 5 * maxOutputs ≤ length outputs
-      → TreeDone t gates gates′ outputs outputs′ (Undeclared (length text + 1 - last .unknown))
+      → TreeDone t gates gates′ outputs outputs′ (Failed (UndeclaredName (length text + 1 - last .unknown)))
   unfolding firstUndeclared
   undeclared-done z r s =
       record {

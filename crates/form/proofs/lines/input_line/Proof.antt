@@ -14,15 +14,22 @@ use Rattle.form.proofs.LineSteps.{shortens-word, input-word, input-name
 -- behind part 1 of the line
 left-1 : (c : tie.After-known-told)
     → At (scanOf (inputReader (c .before .before .before .before .before .before .args .s .now))) (c .before .before .before .before .before .before .args .s .now) (c .before .found .given .0 .0) (λ t. scanOf (inputName t))
-left-1 c = first-next input-word (shortens-word (ascii "in ")) (c .before .before .before .before .before .before .args .s .now) (c .before .before .before .word .ensures) (c .before .found .given .1)
+left-1 c =
+    let at-word = c .before .before .before in
+    let start = at-word .before .before .before in
+    first-next input-word (shortens-word (ascii "in ")) (start .args .s .now) (at-word .word .ensures) (c .before .found .given .1)
 
 -- behind part 2 of the line
-left-2 : (c : tie.After-known-told2)
-    → At (scanOf (inputReader (c .before .before .before .before .before .before .before .before .before .before .before .args .s .now))) (c .before .before .before .before .before .before .before .before .before .before .before .args .s .now) (c .before .found2 .given .0 .0) (λ t. scanOf (closing t))
+left-2 : (c : tie.After-known-told2) →
+    let earlier = c .before .before .before .before .before .before .before in
+    let start = earlier .before .before .before .before in
+    At (scanOf (inputReader (start .args .s .now))) (start .args .s .now) (c .before .found2 .given .0 .0) (λ t. scanOf (closing t))
 left-2 c =
-    let b = c .before .before .before .before .before in
+    let at-name = c .before .before .before in
+    let stage = at-name .before .before in
+    let b = stage in
     then-next input-name (shortens-name (firstByte false)) (left-1 b) (lent-last (b .before .found .given .0 .0) (b .before .before .before .before .before .before .args .s .now))
-    (c .before .before .before .name .ensures) (c .before .found2 .given .1)
+    (at-name .name .ensures) (c .before .found2 .given .1)
 
 slice-aggregate-word : tie.Need-slice-aggregate-word
 slice-aggregate-word c = search needs
@@ -61,7 +68,10 @@ enum-told-2 : tie.Need-enum-told-2
 enum-told-2 c = search needs
 
 returns-2 : tie.Need-returns-2
-returns-2 c = let b = c .before .before .before .before in
+returns-2 c =
+    let stage-2 = c .before .before .before .before in
+    let stage = stage-2 in
+    let b = stage in
     then-bad input-name (left-1 b) (lent-last (b .before .found .given .0 .0) (b .before .before .before .before .before .before .args .s .now)) (c .before .before .name .ensures) (c .enum-told2 .given .1)
 
 sub-at-2 : tie.Need-sub-at-2

@@ -13,8 +13,8 @@ use Rattle.form.proofs.terms.+expression+operand+operands.Lts-operand a
 use Rattle.form.proofs.terms.operands.Reads as operands
 use Rattle.form.proofs.terms.operands.Kinds as operands-kinds
 use Rattle.form.proofs.terms.+expression+operand+operands.Lts-operands as operands-lts
-use Rattle.form.proofs.bytes.byte_at.Reads as byte-at-reads
-use Rattle.form.proofs.bytes.is_name_start.Reads as is-name-start-reads
+use Rattle.layout.proofs.bytes.byte_at.Reads as byte-at-reads
+use Rattle.layout.proofs.bytes.is_name_start.Reads as is-name-start-reads
 use Rattle.form.proofs.bytes.word.Reads as word-reads
 use Rattle.form.proofs.names.name_bytes.Reads as name-bytes-reads
 use Rattle.form.proofs.terms.fewest_operands.Reads as fewest-operands-reads
@@ -125,9 +125,12 @@ expression-enum-known-left : (t : ℕ) → expression-lts.Need-enum-known-left (
 expression-enum-known-left t c = search needs
 
 expression-returns : (t : ℕ) → expression-lts.Need-returns (expression-claims t) (expression-at t) expression.Post
-expression-returns t c = let b = c .before .before .before .before in
+expression-returns t c =
+    let at-most-operands = c .before .before .before in
+    let stage = at-most-operands .before in
+    let b = stage in
     let s = b .before .before .before .before .before .args .s .now in
-    let e = rw (c .before .before .before .most-operands .ensures, c .before .before .fewest-operands .ensures) at (c .operands .ensures) in
+    let e = rw (at-most-operands .most-operands .ensures, c .before .before .fewest-operands .ensures) at (c .operands .ensures) in
     then-last (termsReader (termReader (b .before .before .before .before .before .args .depth)) (mostOperands (b .before .kind2 .given .0 .0)) (fewestOperands (b .before .kind2 .given .0 .0)))
     (expression-chain t b) (lent-last (b .before .kind2 .given .0 .1 .0) s) e
 
@@ -147,8 +150,10 @@ no-leaf : (t : ℕ) (c : operand-lts.Else3 (operand-claims t) (operand-at t) ope
     → scanOf (termReader (c .before .before .before .before .before .before .args .depth) (c .before .before .before .before .before .before .args .s .now))
     ≡ scanOf (inner (c .before .before .before .before .before .before .args .depth) (c .before .before .before .before .before .before .args .s .now))
 no-leaf t c =
-    let a = c .before .before .before .before .before .before .args in
-    operand-inner (a .depth) (a .s .now) (no-start t (c .before .before)) (c .before .before .before .before .byte-at .ensures) (c .before .if2 .left) (c .if3 .left)
+    let at-byte-at = c .before .before .before .before in
+    let start = at-byte-at .before .before in
+    let a = start .args in
+    operand-inner (a .depth) (a .s .now) (no-start t (c .before .before)) (at-byte-at .byte-at .ensures) (c .before .if2 .left) (c .if3 .left)
 
 operand-byte-at-requires : (t : ℕ) → operand-lts.Need-byte-at-requires (operand-claims t) (operand-at t) operand.Post
 operand-byte-at-requires t c κs = search needs
@@ -175,32 +180,50 @@ operand-returns t c = let b = c .before .before in
     ∙ sym (operand-name (a .depth) (a .s .now) (sym (start-is t (b .before)) ∙ b .if1 .taken))
 
 operand-sub-t12 : (t : ℕ) → operand-lts.Need-sub-t12 (operand-claims t) (operand-at t) operand.Post
-operand-sub-t12 t c = byte-there (c .before .before .before .before .before .args .s .now) (c .before .before .before .byte-at .ensures) (c .if2 .taken) (omega arith)
+operand-sub-t12 t c =
+    let at-byte-at = c .before .before .before in
+    let start = at-byte-at .before .before in
+    byte-there (start .args .s .now) (at-byte-at .byte-at .ensures) (c .if2 .taken) (omega arith)
 
 operand-returns-2 : (t : ℕ) → operand-lts.Need-returns-2 (operand-claims t) (operand-at t) operand.Post
 operand-returns-2 t c = let a = c .before .before .before .before .before .args in
     sym (operand-0 (a .depth) (a .s .now) (no-start t (c .before)) (c .before .before .before .byte-at .ensures) (c .if2 .taken))
 
 operand-sub-t14 : (t : ℕ) → operand-lts.Need-sub-t14 (operand-claims t) (operand-at t) operand.Post
-operand-sub-t14 t c = byte-there (c .before .before .before .before .before .before .args .s .now) (c .before .before .before .before .byte-at .ensures) (c .if3 .taken) (omega arith)
+operand-sub-t14 t c =
+    let at-byte-at = c .before .before .before .before in
+    let start = at-byte-at .before .before in
+    byte-there (start .args .s .now) (at-byte-at .byte-at .ensures) (c .if3 .taken) (omega arith)
 
 operand-returns-3 : (t : ℕ) → operand-lts.Need-returns-3 (operand-claims t) (operand-at t) operand.Post
-operand-returns-3 t c = let a = c .before .before .before .before .before .before .args in
-    sym (operand-1 (a .depth) (a .s .now) (no-start t (c .before .before)) (c .before .before .before .before .byte-at .ensures) (c .before .if2 .left) (c .if3 .taken))
+operand-returns-3 t c =
+    let at-byte-at = c .before .before .before .before in
+    let start = at-byte-at .before .before in
+    let a = start .args in
+    sym (operand-1 (a .depth) (a .s .now) (no-start t (c .before .before)) (at-byte-at .byte-at .ensures) (c .before .if2 .left) (c .if3 .taken))
 
 operand-returns-4 : (t : ℕ) → operand-lts.Need-returns-4 (operand-claims t) (operand-at t) operand.Post
 operand-returns-4 t c = let a = c .before .before .before .before .before .before .before .args in
     sym (no-leaf t (c .before) ∙ inner-deepest (a .depth) (a .s .now) (c .if4 .taken))
 
 operand-returns-5 : (t : ℕ) → operand-lts.Need-returns-5 (operand-claims t) (operand-at t) operand.Post
-operand-returns-5 t c = let a = c .before .before .before .before .before .before .before .before .args in
-    sym (no-leaf t (c .before .before) ∙ inner-other (a .depth) (a .s .now) (c .before .if4 .left) (c .before .before .before .before .before .before .byte-at .ensures) (c .if5 .taken))
+operand-returns-5 t c =
+    let at-byte-at = c .before .before .before .before .before .before in
+    let start = at-byte-at .before .before in
+    let a = start .args in
+    sym (no-leaf t (c .before .before) ∙ inner-other (a .depth) (a .s .now) (c .before .if4 .left) (at-byte-at .byte-at .ensures) (c .if5 .taken))
 
 operand-sub-expression : (t : ℕ) → operand-lts.Need-sub-expression (operand-claims t) (operand-at t) operand.Post
-operand-sub-expression t c = byte-there (c .before .before .before .before .before .before .before .before .args .s .now) (c .before .before .before .before .before .before .byte-at .ensures) (c .if5 .left) (omega arith)
+operand-sub-expression t c =
+    let at-byte-at = c .before .before .before .before .before .before in
+    let start = at-byte-at .before .before in
+    byte-there (start .args .s .now) (at-byte-at .byte-at .ensures) (c .if5 .left) (omega arith)
 
 operand-part-expression-start : (t : ℕ) → operand-lts.Need-part-expression-start (operand-claims t) (operand-at t) operand.Post
-operand-part-expression-start t c = byte-there (c .before .before .before .before .before .before .before .before .args .s .now) (c .before .before .before .before .before .before .byte-at .ensures) (c .if5 .left) (omega arith)
+operand-part-expression-start t c =
+    let at-byte-at = c .before .before .before .before .before .before in
+    let start = at-byte-at .before .before in
+    byte-there (start .args .s .now) (at-byte-at .byte-at .ensures) (c .if5 .left) (omega arith)
 
 operand-part-expression-end : (t : ℕ) → operand-lts.Need-part-expression-end (operand-claims t) (operand-at t) operand.Post
 operand-part-expression-end t c = search needs
@@ -229,9 +252,11 @@ operands-chain : (t : ℕ) (c : operands-lts.Else4 (operands-claims t) (operands
     At (scanOf (termsReader (termReader (a .depth)) (a .most) (a .needed) (a .s .now))) (a .s .now) (length (a .s .now) - 1)
     (λ u. scanOf (operandThen (termReader (a .depth)) (termsReader (termReader (a .depth)) (a .most - 1) (a .needed - 1)) u))
 operands-chain t c =
-    let a = c .before .before .before .before .before .args in
+    let at-if1 = c .before .before .before in
+    let start = at-if1 .before .before in
+    let a = start .args in
     behind-first (a .s .now) (space-there t c)
-    (list-more (termReader (a .depth)) (a .most) (a .needed) (a .s .now) (c .before .before .before .if1 .left) (c .before .before .byte-at .ensures) (c .before .if2 .left) (c .if4 .left))
+    (list-more (termReader (a .depth)) (a .most) (a .needed) (a .s .now) (at-if1 .if1 .left) (c .before .before .byte-at .ensures) (c .before .if2 .left) (c .if4 .left))
 
 operands-chain-2 : (t : ℕ) (c : operands-lts.After-known-told (operands-claims t) (operands-at t) operands.Post)
     → let a = c .before .before .before .before .before .before .before .before .before .before .args in
@@ -257,19 +282,30 @@ operands-byte-at-requires : (t : ℕ) → operands-lts.Need-byte-at-requires (op
 operands-byte-at-requires t c κs = search needs
 
 operands-sub-t16 : (t : ℕ) → operands-lts.Need-sub-t16 (operands-claims t) (operands-at t) operands.Post
-operands-sub-t16 t c = byte-there (c .before .before .before .before .before .args .s .now) (c .before .before .byte-at .ensures) (c .before .if2 .taken) (omega arith)
+operands-sub-t16 t c =
+    let start = c .before .before .before .before .before in
+    byte-there (start .args .s .now) (c .before .before .byte-at .ensures) (c .before .if2 .taken) (omega arith)
 
 operands-returns-2 : (t : ℕ) → operands-lts.Need-returns-2 (operands-claims t) (operands-at t) operands.Post
-operands-returns-2 t c = let a = c .before .before .before .before .before .args in
-    sym (list-closed (termReader (a .depth)) (a .most) (a .needed) (a .s .now) (c .before .before .before .if1 .left) (c .before .before .byte-at .ensures) (c .before .if2 .taken) (c .if3 .taken))
+operands-returns-2 t c =
+    let at-if1 = c .before .before .before in
+    let start = at-if1 .before .before in
+    let a = start .args in
+    sym (list-closed (termReader (a .depth)) (a .most) (a .needed) (a .s .now) (at-if1 .if1 .left) (c .before .before .byte-at .ensures) (c .before .if2 .taken) (c .if3 .taken))
 
 operands-returns-3 : (t : ℕ) → operands-lts.Need-returns-3 (operands-claims t) (operands-at t) operands.Post
-operands-returns-3 t c = let a = c .before .before .before .before .before .args in
-    sym (list-needed (termReader (a .depth)) (a .most) (a .needed) (a .s .now) (c .before .before .before .if1 .left) (c .before .before .byte-at .ensures) (c .before .if2 .taken) (c .if3 .left))
+operands-returns-3 t c =
+    let at-if1 = c .before .before .before in
+    let start = at-if1 .before .before in
+    let a = start .args in
+    sym (list-needed (termReader (a .depth)) (a .most) (a .needed) (a .s .now) (at-if1 .if1 .left) (c .before .before .byte-at .ensures) (c .before .if2 .taken) (c .if3 .left))
 
 operands-returns-4 : (t : ℕ) → operands-lts.Need-returns-4 (operands-claims t) (operands-at t) operands.Post
-operands-returns-4 t c = let a = c .before .before .before .before .before .args in
-    sym (list-other (termReader (a .depth)) (a .most) (a .needed) (a .s .now) (c .before .before .before .if1 .left) (c .before .before .byte-at .ensures) (c .before .if2 .left) (c .if4 .taken))
+operands-returns-4 t c =
+    let at-if1 = c .before .before .before in
+    let start = at-if1 .before .before in
+    let a = start .args in
+    sym (list-other (termReader (a .depth)) (a .most) (a .needed) (a .s .now) (at-if1 .if1 .left) (c .before .before .byte-at .ensures) (c .before .if2 .left) (c .if4 .taken))
 
 operands-sub-operand : (t : ℕ) → operands-lts.Need-sub-operand (operands-claims t) (operands-at t) operands.Post
 operands-sub-operand t c = space-there t c
@@ -312,7 +348,10 @@ operands-part-operands-end : (t : ℕ) → operands-lts.Need-part-operands-end (
 operands-part-operands-end t c = search needs
 
 operands-sub-operands-2 : (t : ℕ) → operands-lts.Need-sub-operands-2 (operands-claims t) (operands-at t) operands.Post
-operands-sub-operands-2 t c = omega (arith, c .before .before .before .before .before .before .before .before .before .before .if1 .left)
+operands-sub-operands-2 t c =
+    let earlier = c .before .before .before .before .before .before .before in
+    let at-if1 = earlier .before .before .before in
+    omega (arith, at-if1 .if1 .left)
 
 operands-operands-requires : (t : ℕ) → operands-lts.Need-operands-requires (operands-claims t) (operands-at t) operands.Post
 operands-operands-requires t c κs = let b = c .before .before in

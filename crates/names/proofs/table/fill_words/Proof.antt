@@ -52,7 +52,10 @@ slice-write-words : tie.Need-slice-write-words Inv-loop μ-loop
 slice-write-words c = omega arith
 
 next-line-requires : tie.Need-next-line-requires Inv-loop μ-loop
-next-line-requires c κs = let l = c .before .before .before .loop in omega (arith, start-le (c .before .before .before .before .before .before .args .text .now) (l .i))
+next-line-requires c κs =
+    let at-loop = c .before .before .before in
+    let start = at-loop .before .before .before in
+    let l = at-loop .loop in omega (arith, start-le (start .args .text .now) (l .i))
 
 add-i : tie.Need-add-i Inv-loop μ-loop
 add-i c = omega arith
@@ -63,8 +66,10 @@ loop-less c = omega arith
 loop-again : tie.Need-loop-again Inv-loop μ-loop
 unfolding wordAt
 loop-again c =
-    let a = c .before .before .before .before .before .before .before .args in
-    let l = c .before .before .before .before .loop in
+    let at-loop = c .before .before .before .before in
+    let start = at-loop .before .before .before in
+    let a = start .args in
+    let l = at-loop .loop in
     let g : l .gates + c .before .before .line-gates .result ≡ gatesTo (a .text .now) (l .i + 1) = rw (c .before .before .line-gates .ensures) (gates-more (a .text .now) (l .i) (l .at) (l .inv .1) (l .gates) (l .inv .2)) in (
       omega arith,
       c .next-line .ensures ∙ start-more (a .text .now) (l .i) (l .at) (l .inv .1),

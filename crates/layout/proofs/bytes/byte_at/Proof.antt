@@ -1,8 +1,8 @@
--- `form::bytes::byte_at` meets its contract: past the end the answer is the default.
+-- `layout::bytes::byte_at` meets its contract: past the end the answer is the default.
 -- Assumes nothing.
 use borrow.Author.Needs.{needs}
-use Rattle.form.proofs.bytes.byte_at.Statement.{statement}
-use Rattle.form.proofs.bytes.byte_at.Tie as tie
+use Rattle.layout.proofs.bytes.byte_at.Statement.{statement}
+use Rattle.layout.proofs.bytes.byte_at.Tie as tie
 use mathlib.Core.Path.{sym}
 use lib.ListN.{List·getD-eq-default}
 

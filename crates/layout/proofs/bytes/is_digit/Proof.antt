@@ -1,7 +1,7 @@
--- `form::bytes::is_digit` meets its contract: the two tests are the definition's.
+-- `layout::bytes::is_digit` meets its contract: the two tests are the definition's.
 -- Assumes nothing.
-use Rattle.form.proofs.bytes.is_digit.Statement.{statement}
-use Rattle.form.proofs.bytes.is_digit.Tie as tie
+use Rattle.layout.proofs.bytes.is_digit.Statement.{statement}
+use Rattle.layout.proofs.bytes.is_digit.Tie as tie
 use borrow.Author.Tests.{le-leb, lt-leb}
 use Rattle.netlist.specs.StoredBlock.{isDigit}
 

@@ -1,11 +1,20 @@
--- `form::bytes::is_name_byte` meets its contract: a digit, or else what a name may start with.
+-- `layout::bytes::is_name_byte` meets its contract: a digit, or else what a name may start with.
 -- Assumes nothing.
 use borrow.Author.Needs.{needs}
-use Rattle.form.proofs.bytes.is_name_byte.Statement.{statement}
-use Rattle.form.proofs.bytes.is_name_byte.Tie as tie
-use mathlib.Core.Path.{sym, _∙_}
+use Rattle.layout.proofs.bytes.is_name_byte.Statement.{statement}
+use Rattle.layout.proofs.bytes.is_name_byte.Tie as tie
+use mathlib.Core.Path.{_≡_, refl, sym, _∙_}
+use mathlib.Core.Bool.{Bool, true, false, _||_}
 use Rattle.netlist.specs.StoredBlock.{isNameByte, isNameStart, isLetter, isDigit, isUnderscore}
-use Rattle.form.proofs.ListFacts.{or-middle, or-without}
+
+-- the middle one of three alternatives holds, or does not
+or-middle : (a b c : Bool) → b ≡ true → a || b || c ≡ true
+or-middle true b c h = refl
+or-middle false b c h = rw h
+
+or-without : (a b c : Bool) → b ≡ false → a || b || c ≡ a || c
+or-without true b c h = refl
+or-without false b c h = rw h
 
 is-digit-requires : tie.Need-is-digit-requires
 is-digit-requires c κs = search needs
@@ -15,7 +24,8 @@ is-name-start-requires c κs = search needs
 
 returns : tie.Need-returns
 unfolding isNameByte
-returns c = sym (or-middle (isLetter (c .before .before .args .c)) (isDigit (c .before .before .args .c)) (isUnderscore (c .before .before .args .c)) (sym (c .before .is-digit .ensures) ∙ c .if1 .taken))
+returns c = let x = c .before .before .args .c in
+    sym (or-middle (isLetter x) (isDigit x) (isUnderscore x) (sym (c .before .is-digit .ensures) ∙ c .if1 .taken))
 
 returns-2 : tie.Need-returns-2
 unfolding isNameByte isNameStart

@@ -1,8 +1,8 @@
--- `form::bytes::is_name_start` meets its contract: a letter, or else `_`.
+-- `layout::bytes::is_name_start` meets its contract: a letter, or else `_`.
 -- Assumes nothing.
 use borrow.Author.Needs.{needs}
-use Rattle.form.proofs.bytes.is_name_start.Statement.{statement}
-use Rattle.form.proofs.bytes.is_name_start.Tie as tie
+use Rattle.layout.proofs.bytes.is_name_start.Statement.{statement}
+use Rattle.layout.proofs.bytes.is_name_start.Tie as tie
 use mathlib.Core.Path.{sym, _∙_}
 use Rattle.netlist.specs.StoredBlock.{isNameStart, isUnderscore}
 
