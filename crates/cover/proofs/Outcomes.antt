@@ -22,13 +22,13 @@ use Rattle.refusals.proofs.Promised.{IsFailed, passed, passed-false, failed, fa
 use Rattle.assignments.specs.Over.{coverOver}
 use Rattle.assignments.specs.Tables.{settledBy}
 use Rattle.assignments.specs.Entries.{EntriesWritten}
-use Rattle.assignments.proofs.Blocks.{coverWords-words, cover-from}
+use Rattle.assignments.proofs.Blocks.{coverEntries-words, cover-from}
 use Rattle.assignments.proofs.Listing.{length-words}
 use Rattle.cover.specs.Table.{Tabulated}
 
 -- two words an entry
 words-length : (b : Block) → length (coverEntries b) ≡ 2 * length (cover b)
-words-length b = ap length (coverWords-words b) ∙ length-words (cover b)
+words-length b = ap length (coverEntries-words b) ∙ length-words (cover b)
 
 -- so half of the slice is compared with the entries
 half-room : (room count : ℕ) → ltb (room / 2) count ≡ ltb room (2 * count)
@@ -67,7 +67,7 @@ module _ {b : Block} {table entry exit : List ℕ} {n count : ℕ} (t : Tabulate
 
   -- their words where they do
   placed-all : 2 * length (cover b) ≤ length entry → exit ≡ placed (coverEntries b) entry
-  placed-all h = w .written ∙ rw (of-block, le-leb (2 * length (cover b)) (length entry) h, coverWords-words b) refl
+  placed-all h = w .written ∙ rw (of-block, le-leb (2 * length (cover b)) (length entry) h, coverEntries-words b) refl
 
 -- ---- the two answers behind the table, from the test of the room
 
