@@ -42,7 +42,7 @@ loop-again c =
     let lt : l .i < length (s .args .flags .now) = omega (arith, s .pre .0, c .before .loop-test .taken) in (
       omega arith,
       fill-next (barredBy (s .args .leaders .now)) (l .i) (s .args .flags .now) (l .flags) _ (l .inv .1) lt
-      (barred-flag (s .args .leaders .now) (l .i) (c .word-at .result) (c .word-at .ensures)),
+          (barred-flag (s .args .leaders .now) (l .i) (c .word-at .result) (c .word-at .ensures)),
       length-set (l .flags) (l .i) _ ∙ l .inv .2,
     )
 

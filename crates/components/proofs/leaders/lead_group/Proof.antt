@@ -31,7 +31,7 @@ queue-reach-requires c κs =
     let at-start = after-word-at .before .before .before .before .before .before in
     let s = at-start in (
       start-ready (s .args .leaders .now) (after-bar .bar .last .1 .1 .0) (s .args .flags .now) (s .args .m) (s .args .leader) (after-bar .bar .ensures)
-      (s .pre .0 .below) (sym (after-word-at .word-at .ensures) ∙ at-else1 .if1 .left),
+          (s .pre .0 .below) (sym (after-word-at .word-at .ensures) ∙ at-else1 .if1 .left),
       still-room (s .pre .1 .search) (after-bar .bar .kept .1 .1 .0) refl,
     )
 

@@ -31,9 +31,12 @@ loop-holds : tie.Need-loop-holds Inv-loop μ-loop
 loop-holds c =
     let after-slice-known2 = c .before .before .before .before .before .before in
     let s = after-slice-known2 .before .before .before in
-    let b = decode (s .args .words .now) in
-    (λ g few. rw (c .before .before .before .forget .ensures)
-    (turns-start b (s .args .m) g few (c .reads-upward .result) _ (grouped-none b (s .args .m) g few (s .args .leaders .now))), refl, refl)
+    let b = decode (s .args .words .now) in (
+      λ g few. rw (c .before .before .before .forget .ensures)
+          (turns-start b (s .args .m) g few (c .reads-upward .result) _ (grouped-none b (s .args .m) g few (s .args .leaders .now))),
+      refl,
+      refl,
+    )
 
 taken-requires : tie.Need-taken-requires Inv-loop μ-loop
 taken-requires c κs = c .loop-test .taken
@@ -51,7 +54,7 @@ lead-group-requires c κs =
     let t = l .inv .0 g few in (
       record {
         below = rw (c .before .before .before .taken .ensures)
-        (taken-below (decode (s .args .words .now)) (s .args .m) g few (after-reads-upward .reads-upward .result) (l .t) (in-loop .loop-test .taken));
+            (taken-below (decode (s .args .words .now)) (s .args .m) g few (after-reads-upward .reads-upward .result) (l .t) (in-loop .loop-test .taken));
         room = rw (t .sameLength, after-forget .forget .kept .1 .0) (s .pre .0);
         grouped = t .grouped;
       },
@@ -86,7 +89,7 @@ loop-again c =
     let l = at-loop .loop in
     let r = after-lead-group .lead-group in (
       λ g few. turns-next (decode (s .args .words .now)) (s .args .m) g few (l .inv .0 g few) (in-loop .loop-test .taken) (after-taken .taken .result)
-      (after-taken .taken .ensures) (r .ensures),
+          (after-taken .taken .ensures) (r .ensures),
       r .kept .1 .1 .1 .1 .1 .1 .0 ∙ l .inv .1,
       r .kept .1 .1 .1 .1 .1 .1 .1 .0 ∙ l .inv .2,
     )

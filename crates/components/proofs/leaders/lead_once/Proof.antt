@@ -26,10 +26,14 @@ lead-gate-requires : tie.Need-lead-gate-requires Inv-loop μ-loop
 lead-gate-requires c κs =
     let s = c .before .before .before .before .before .before .before in
     let l = c .before .before .before .loop in
-    let here = l .inv .within in
-    (rw (c .before .word-at .ensures) (s .pre .queued (l .left - 1) (omega (arith, c .before .before .loop-test .taken, here))), s .pre .below, rw
-    (joined-length (s .args .words .now) (s .args .n) (s .args .m) (s .args .gates) (s .args .leader) (s .args .queue .now) (s .args .count)
-    (l .inv .steps)) (s .pre .room), s .pre .whole)
+    let here = l .inv .within in (
+      rw (c .before .word-at .ensures) (s .pre .queued (l .left - 1) (omega (arith, c .before .before .loop-test .taken, here))),
+      s .pre .below,
+      rw
+          (joined-length (s .args .words .now) (s .args .n) (s .args .m) (s .args .gates) (s .args .leader) (s .args .queue .now) (s .args .count)
+          (l .inv .steps)) (s .pre .room),
+      s .pre .whole,
+    )
 
 loop-less : tie.Need-loop-less Inv-loop μ-loop
 loop-less c = omega arith

@@ -36,9 +36,11 @@ loop-again c =
     let at-loop = c .before .before .before .before .before in
     let at-start = at-loop .before .before .before .before in
     let a = at-start .args in
-    let e = c .before .before .lead-once .ensures in
-    (joined-then (a .words .now) (a .n) (a .m) (a .gates) (a .leader) (a .queue .now) (a .count) (at-loop .loop .inv .0) (e .steps), sweep-quiet
-    (a .words .now) (a .n) (a .m) (a .gates) (a .leader) (a .queue .now) (a .count) e)
+    let e = c .before .before .lead-once .ensures in (
+      joined-then (a .words .now) (a .n) (a .m) (a .gates) (a .leader) (a .queue .now) (a .count) (at-loop .loop .inv .0) (e .steps),
+      sweep-quiet
+          (a .words .now) (a .n) (a .m) (a .gates) (a .leader) (a .queue .now) (a .count) e,
+    )
 
 same-length : tie.Need-same-length Inv-loop μ-loop
 same-length c =

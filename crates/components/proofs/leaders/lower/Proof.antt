@@ -24,8 +24,14 @@ forget-requires c κs = c .before .before .before .pre .firstRoom
 loop-holds : tie.Need-loop-holds Inv-loop μ-loop
 loop-holds c =
     let at-start = c .before .before .before .before .before .before in
-    let s = at-start in (omega arith, refl, rw (c .before .before .forget .ensures)
-    (firsts-none (s .args .leaders .now) (s .args .m) (s .args .firsts .now)), refl, refl)
+    let s = at-start in (
+      omega arith,
+      refl,
+      rw (c .before .before .forget .ensures)
+          (firsts-none (s .args .leaders .now) (s .args .m) (s .args .firsts .now)),
+      refl,
+      refl,
+    )
 
 word-at-requires : tie.Need-word-at-requires Inv-loop μ-loop
 word-at-requires c κs = search needs
@@ -99,7 +105,7 @@ loop-again c =
       omega (arith, in-loop .loop-test .taken),
       fill-next (firstLike (s .args .leaders .now)) (l .k) (s .args .leaders .now) (l .leaders) (c .before .before .first-led .result) (l .inv .1) lt found,
       firsts-next (l .inv .2) (in-loop .loop-test .taken) (s .pre .few) (w .result) is small (c .before .before .first-led .ensures)
-      (rw (l .inv .4, after-forget .forget .kept .1 .0) (s .pre .firstRoom)),
+          (rw (l .inv .4, after-forget .forget .kept .1 .0) (s .pre .firstRoom)),
       length-set (l .leaders) (l .k) (c .before .before .first-led .result) ∙ l .inv .3,
       c .before .before .first-led .kept .1 .1 .0 ∙ l .inv .4,
     )

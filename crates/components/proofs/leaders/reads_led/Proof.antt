@@ -59,7 +59,7 @@ loop-again c =
     let l = at-loop .loop in (
       omega arith,
       none-yet (ledBy (a .leaders .now) (a .leader)) (a .n) (a .m) (a .words .now) (a .at) (l .i) (l .inv .1)
-      (rw (← c .before .before .word-at2 .ensures) (sym (c .before .is-led .ensures) ∙ c .if1 .left)),
+          (rw (← c .before .before .word-at2 .ensures) (sym (c .before .is-led .ensures) ∙ c .if1 .left)),
     )
 
 returns-2 : tie.Need-returns-2 Inv-loop μ-loop

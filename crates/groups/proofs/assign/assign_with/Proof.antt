@@ -17,9 +17,12 @@ number-groups-requires c κs =
     let after-lead = after-flags .before .before .before in
     let after-slice-known2 = after-lead .before .before .before .before .before .before in
     let s = after-slice-known2 .before .before .before in
-    let l = after-lead .lead in
-    (s .pre .numberRoom, rw (l .kept .1 .1 .1 .1 .1 .1 .0) (s .pre .queueRoom), number-for (s .pre) (l .last .1 .1 .1 .1 .0) (s .args .leaders .now)
-    (l .ensures))
+    let l = after-lead .lead in (
+      s .pre .numberRoom,
+      rw (l .kept .1 .1 .1 .1 .1 .1 .0) (s .pre .queueRoom),
+      number-for (s .pre) (l .last .1 .1 .1 .1 .0) (s .args .leaders .now)
+          (l .ensures),
+    )
 
 same-length : tie.Need-same-length
 same-length c = search needs

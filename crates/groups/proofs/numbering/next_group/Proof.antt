@@ -20,9 +20,13 @@ abbrev μ-loop : tie.MeasureT-loop
 
 loop-holds : tie.Need-loop-holds Inv-loop μ-loop
 loop-holds c =
-    let s = c .before .before .before .before in
-    (omega arith, below-none
-    (λ (i : ℕ). (leadsNext (decode (s .args .words .now)) (s .args .m) (s .args .numbers .now) (s .args .leaders .now)) i ≡ false), s .pre, refl)
+    let s = c .before .before .before .before in (
+      omega arith,
+      below-none
+          (λ (i : ℕ). (leadsNext (decode (s .args .words .now)) (s .args .m) (s .args .numbers .now) (s .args .leaders .now)) i ≡ false),
+      s .pre,
+      refl,
+    )
 
 leads-next-requires : tie.Need-leads-next-requires Inv-loop μ-loop
 leads-next-requires c κs = (c .before .loop-test .taken, c .before .before .loop .inv .2)
@@ -34,9 +38,11 @@ returns : tie.Need-returns Inv-loop μ-loop
 returns c =
     let at-loop = c .before .before .before .before .before .before in
     let s = at-loop .before .before .before .before .before in
-    let l = at-loop .loop in
-    (search-found (leadsNext (decode (s .args .words .now)) (s .args .m) (s .args .numbers .now) (s .args .leaders .now)) (s .args .m) (l .j) (l .inv .1)
-    (l .inv .0) (c .before .before .before .leads-next .ensures .0) (c .if1 .taken), c .before .before .before .leads-next .ensures .1)
+    let l = at-loop .loop in (
+      search-found (leadsNext (decode (s .args .words .now)) (s .args .m) (s .args .numbers .now) (s .args .leaders .now)) (s .args .m) (l .j) (l .inv .1)
+          (l .inv .0) (c .before .before .before .leads-next .ensures .0) (c .if1 .taken),
+      c .before .before .before .leads-next .ensures .1,
+    )
 
 add-j : tie.Need-add-j Inv-loop μ-loop
 add-j c = omega arith
@@ -52,7 +58,7 @@ loop-again c =
     let l = at-loop .loop in (
       omega (arith, in-loop .loop-test .taken),
       search-more (leadsNext (decode (s .args .words .now)) (s .args .m) (s .args .numbers .now) (s .args .leaders .now)) (s .args .m) (l .j) (l .inv .1)
-      (c .before .before .before .leads-next .ensures .0) (c .if1 .left),
+          (c .before .before .before .leads-next .ensures .0) (c .if1 .left),
       c .before .before .before .leads-next .ensures .1,
       c .before .before .before .leads-next .kept .1 .1 .1 .1 .1 .1 .1 .0 ∙ l .inv .3,
     )
@@ -63,9 +69,11 @@ same-length-2 c = c .before .loop .inv .3
 returns-2 : tie.Need-returns-2 Inv-loop μ-loop
 returns-2 c =
     let s = c .before .before .before .before .before .before in
-    let l = c .before .loop in
-    (search-none (leadsNext (decode (s .args .words .now)) (s .args .m) (s .args .numbers .now) (s .args .leaders .now)) (s .args .m) (l .j) (l .inv .1)
-    (c .loop-test .left), l .inv .2)
+    let l = c .before .loop in (
+      search-none (leadsNext (decode (s .args .words .now)) (s .args .m) (s .args .numbers .now) (s .args .leaders .now)) (s .args .m) (l .j) (l .inv .1)
+          (c .loop-test .left),
+      l .inv .2,
+    )
 
 pub next-group-spec : {M : Type 1} → statement M
 next-group-spec =

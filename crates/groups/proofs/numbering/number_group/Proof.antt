@@ -19,9 +19,12 @@ abbrev μ-loop : tie.MeasureT-loop
 
 loop-holds : tie.Need-loop-holds Inv-loop μ-loop
 loop-holds c =
-    let s = c .before .before in
-    (s .pre .3, kept-below (s .args .leaders .now) (s .args .leader) (s .args .g) (s .args .numbers .now) (s .pre .4) (s .args .leader) (omega arith)
-    (omega arith), refl)
+    let s = c .before .before in (
+      s .pre .3,
+      kept-below (s .args .leaders .now) (s .args .leader) (s .args .g) (s .args .numbers .now) (s .pre .4) (s .args .leader) (omega arith)
+          (omega arith),
+      refl,
+    )
 
 word-at-requires : tie.Need-word-at-requires Inv-loop μ-loop
 word-at-requires c κs = search needs

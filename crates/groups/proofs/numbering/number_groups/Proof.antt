@@ -114,7 +114,7 @@ loop-again c =
     let n = after-next-group .next-group in (
       turn-within (s .pre .2) (l .g) (f .last .1 .0) (l .numbers) (l .inv .1) (n .result) (n .ensures .0) (at-else1 .if1 .left),
       turn-numbers (s .pre .2) (l .g) (f .last .1 .0) (l .numbers) (l .inv .1) (n .result) (n .ensures .0) (at-else1 .if1 .left)
-      (c .before .before .number-group .last .1 .1 .1 .1 .0) (c .before .before .number-group .ensures),
+          (c .before .before .number-group .last .1 .1 .1 .1 .0) (c .before .before .number-group .ensures),
       c .before .before .number-group .kept .1 .1 .1 .1 .0 ∙ l .inv .2,
       n .ensures .1,
       n .kept .1 .1 .1 .1 .1 .1 .0 ∙ l .inv .4,

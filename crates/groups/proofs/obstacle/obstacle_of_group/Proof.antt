@@ -20,10 +20,12 @@ abbrev μ-loop : tie.MeasureT-loop
 
 loop-holds : tie.Need-loop-holds Inv-loop μ-loop
 loop-holds c =
-    let s = c .before .before .before in
-    (omega arith, gates-below (s .args .words .now) (s .args .n) (s .args .m) (s .args .gates) (s .args .leaders .now) (s .args .leader)
-    (obstacle (s .args .numbers .now) (s .args .leaders .now) (s .args .leader)) (lowest (s .pre .1) (s .args .leader) (s .pre .0)) (s .args .leader)
-    (omega arith))
+    let s = c .before .before .before in (
+      omega arith,
+      gates-below (s .args .words .now) (s .args .n) (s .args .m) (s .args .gates) (s .args .leaders .now) (s .args .leader)
+          (obstacle (s .args .numbers .now) (s .args .leaders .now) (s .args .leader)) (lowest (s .pre .1) (s .args .leader) (s .pre .0)) (s .args .leader)
+          (omega arith),
+    )
 
 word-at-requires : tie.Need-word-at-requires Inv-loop μ-loop
 word-at-requires c κs = search needs

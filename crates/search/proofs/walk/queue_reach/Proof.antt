@@ -34,7 +34,7 @@ loop-holds : tie.Need-loop-holds Inv-loop μ-loop
 loop-holds c =
     let s = c .before .before .before in (
       search-start (decode (s .args .words .now)) (s .args .m) (s .args .start) (s .args .flags .now) (s .args .queue .now) (s .pre .0)
-      (s .pre .1 .flagRoom) (s .pre .1 .queueRoom) (s .pre .1 .whole .fewGates),
+          (s .pre .1 .flagRoom) (s .pre .1 .queueRoom) (s .pre .1 .whole .fewGates),
       refl,
       refl,
     )

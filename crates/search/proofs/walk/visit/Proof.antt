@@ -50,9 +50,11 @@ loop-again c =
     let at-loop = after-word-at2 .before .before in
     let at-start = at-loop .before .before .before .before .before in
     let a = at-start .args in
-    let l = at-loop .loop in
-    (omega arith, word-turn (a .words .now) (a .n) (a .m) (a .at) (l .i) (after-word-at2 .word-at2 .result) (after-word-at2 .word-at2 .ensures) (l .inv .1)
-    (after-mark-word .mark-word .ensures))
+    let l = at-loop .loop in (
+      omega arith,
+      word-turn (a .words .now) (a .n) (a .m) (a .at) (l .i) (after-word-at2 .word-at2 .result) (after-word-at2 .word-at2 .ensures) (l .inv .1)
+          (after-mark-word .mark-word .ensures),
+    )
 
 same-length : tie.Need-same-length Inv-loop μ-loop
 same-length c = flags-length (c .before .loop .inv .1)
