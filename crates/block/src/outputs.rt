@@ -17,7 +17,7 @@ fn fits(words: &[u16], nodes: usize, at: usize, o: usize) -> bool
     is_node(nodes, word_at(words, at + OUTPUT_SIZE * o + NAME_SIZE))
 }
 
-// "The NAME is an input or a gate, not a constant.", of all k outputs.
+// All k outputs.
 pub fn fit(words: &[u16], nodes: usize, at: usize, k: usize) -> bool
     requires { ⌜ at ≤ 8192 ⌝ }
     requires { ⌜ k ≤ maxOutputs ⌝ }

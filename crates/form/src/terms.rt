@@ -5,9 +5,10 @@ use crate::bytes;
 use crate::names;
 use layout::bytes::byte_at;
 use layout::bytes::is_name_start;
+use layout::kinds::fewest_operands;
+use layout::kinds::most_operands;
 ghost use mathlib.Core.Path.{_≡_};
 ghost use Prim.Native.Nat.{_-_};
-ghost use Rattle.netlist.specs.Kinds.{fewestOperands, mostOperands};
 ghost use Rattle.netlist.specs.Syntax.{Term, apply};
 ghost use Rattle.netlist.specs.Parse.{kindReader, termReader, termsReader, exprReader};
 ghost use Rattle.form.specs.Scan.{scanOf, kindOf, kindWord, kindN, kindNo};
@@ -71,27 +72,6 @@ fn kind(s: &[u8]) -> Kind
         return kind_n(&s[1..]);
     }
     Kind::Bad(s.len())
-}
-
-// The operand counts of a kind.
-fn fewest_operands(kind: usize) -> usize
-    ensures { λ r. ⌜ r ≡ fewestOperands kind ⌝ }
-{
-    match kind {
-        0 => 1,
-        1 | 2 | 3 | 4 => 2,
-        _ => 0,
-    }
-}
-
-fn most_operands(kind: usize) -> usize
-    ensures { λ r. ⌜ r ≡ mostOperands kind ⌝ }
-{
-    match kind {
-        0 => 1,
-        1 | 2 | 3 | 4 => 4,
-        _ => 0,
-    }
 }
 
 // An expression behind its opening bracket, whose operands have `depth` levels left.

@@ -9,14 +9,14 @@ use lib.Dec.{leb}
 use borrow.Author.Tests.{leb-true}
 use Rattle.laws.specs.Lists.{ascii, all}
 use Rattle.netlist.specs.Limits.{maxName}
-use Rattle.netlist.specs.Kinds.{isKind, fewestOperands, mostOperands, arityFits, keyword, isNot, rowOf, rows, row}
+use Rattle.netlist.specs.Kinds.{isKind, fewestOperands, mostOperands, arityFits, keyword, signatureOf}
 use Rattle.netlist.specs.Netlist.{Name}
 use Rattle.netlist.specs.StoredBlock.{isLetter, isDigit, isUnderscore, isNameByte, isNameStart, isLegalName, isNodeName}
 use Rattle.netlist.specs.Syntax.{Term, Terms, name, literal, apply, nil, cons, printTerm, printTerms, termCount, isLegalTerm, isLegalTerms}
 use Rattle.netlist.specs.Parse.{got, Reader, pure, onTest, ifNext, expect, nameBytes, nameAfter, nameReader, kindReader, spaced, termsReader, exprReader, leafOr, termReader}
 use Rattle.grammar.proofs.Equations.{ifNext-true, ifNext-false, expect-back, bind-got}
 use Rattle.grammar.proofs.ListFacts.{and3}
-use Rattle.grammar.proofs.SoundTerms.{by-kind}
+use Rattle.encoding.proofs.Gates.{by-kind}
 
 -- ---- names
 
@@ -72,7 +72,7 @@ nameReader-back start (c ∷ cs) rest h e =
 -- ---- expressions
 
 kindReader-back : (rest : List ℕ) (k : ℕ) → isKind k ≡ true → kindReader (keyword k ++ rest) ≡ got k rest
-unfolding kindReader keyword isNot rowOf rows row ifNext onTest expect pure
+unfolding kindReader keyword ifNext onTest expect pure signatureOf
 kindReader-back rest = by-kind (λ k. kindReader (keyword k ++ rest) ≡ got k rest) refl refl refl refl refl
 
 module _ (inner : Reader Term) (rest : List ℕ) where

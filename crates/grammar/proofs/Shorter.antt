@@ -8,13 +8,14 @@ use native.Mathlib.Omega.{arith}
 use lib.ListN.{length, drop, length-append}
 use lib.Seq.{drop-at}
 use Rattle.laws.specs.Lists.{ascii}
-use Rattle.netlist.specs.Kinds.{isKind, keyword, isNot, rowOf, rows, row}
+use Rattle.netlist.specs.Kinds.{isKind, keyword, signatureOf}
 use Rattle.netlist.specs.Netlist.{Name}
 use Rattle.netlist.specs.StoredBlock.{isNameByte, isLegalName, isNodeName}
 use Rattle.netlist.specs.Syntax.{Term, Terms, name, literal, apply, nil, cons, printTerm, printTerms, isLegalTerm}
 use Rattle.netlist.specs.Parse.{got, nameBytes, nameReader, kindReader, termsReader, exprReader, termReader}
 use Rattle.grammar.proofs.Readings.{Gives}
-use Rattle.grammar.proofs.SoundTerms.{ExprRead, by-kind, nameBytes-sound, nameReader-sound, kindReader-sound, termsReader-sound, exprReader-sound, termReader-sound}
+use Rattle.encoding.proofs.Gates.{by-kind}
+use Rattle.grammar.proofs.SoundTerms.{ExprRead, nameBytes-sound, nameReader-sound, kindReader-sound, termsReader-sound, exprReader-sound, termReader-sound}
 use Rattle.grammar.proofs.Lengths.{terms-length}
 
 -- A print is its own bytes, and then what follows: `a` may be empty.
@@ -113,7 +114,7 @@ exprReader-shorter depth make s =
     exprReader-sound (termReader depth) depth (termReader-sound depth) make s (λ k ts rest. expr-shorter depth s k ts rest) .holds
 
 keyword-longer : (k : ℕ) → isKind k ≡ true → 0 < length (keyword k)
-unfolding keyword rowOf rows row isNot
+unfolding keyword signatureOf
 keyword-longer = by-kind (λ k. 0 < length (keyword k)) (omega arith) (omega arith) (omega arith) (omega arith) (omega arith)
 
 pub kindReader-shorter : (s : List ℕ) (k : ℕ) (rest : List ℕ) → kindReader s ≡ got k rest → length rest < length s

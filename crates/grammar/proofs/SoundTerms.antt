@@ -5,14 +5,15 @@ use mathlib.Core.Bool.{Bool, true, false, _||_}
 use mathlib.Core.List.{List, [], _∷_, _++_}
 use native.Mathlib.Omega.{arith}
 use lib.ListN.{length}
-use borrow.Author.Tests.{le-leb, leb-true}
+use borrow.Author.Tests.{le-leb}
 use Rattle.laws.specs.Lists.{ascii, all}
 use Rattle.netlist.specs.Limits.{maxName}
-use Rattle.netlist.specs.Kinds.{isKind, fewestOperands, mostOperands, arityFits, keyword, isNot, rowOf, rows, row}
+use Rattle.netlist.specs.Kinds.{isKind, fewestOperands, mostOperands, arityFits, keyword, signatureOf}
 use Rattle.netlist.specs.Netlist.{Name}
 use Rattle.netlist.specs.StoredBlock.{isLetter, isDigit, isUnderscore, isNameByte, isNameStart, isLegalName, isNodeName}
 use Rattle.netlist.specs.Syntax.{Term, Terms, name, literal, apply, nil, cons, printTerm, printTerms, termCount, isLegalTerm, isLegalTerms}
 use Rattle.netlist.specs.Parse.{Reader, stop, nameBytes, nameAfter, nameReader, kindReader, spaced, termsReader, exprReader, leafOr, termReader}
+use Rattle.encoding.proofs.Gates.{by-kind}
 use Rattle.grammar.proofs.Readings.{Gives, gives-pure, gives-stop, gives-ifNext, gives-is, gives-expect, gives-bind}
 
 -- ---- names
@@ -74,7 +75,7 @@ pub record KindRead (s : List ℕ) (k : ℕ) (rest : List ℕ) : Type 0 where
   pub legal : isKind k ≡ true
 
 pub kindReader-sound : (s : List ℕ) → Gives (KindRead s) (kindReader s)
-unfolding kindReader keyword isKind isNot rowOf rows row
+unfolding kindReader keyword isKind signatureOf
 kindReader-sound s =
     gives-is _ _ _ s (λ t e. gives-expect (ascii "nd") _ t λ u f. gives-pure 1 u (record { printed = cc; legal = refl }))
     (gives-is _ _ _ s (λ t e. gives-expect (ascii "r") _ t λ u f. gives-pure 2 u (record { printed = cc; legal = refl }))
@@ -101,18 +102,8 @@ pub record ExprRead (depth : ℕ) (s : List ℕ) (k : ℕ) (ts : Terms) (rest : 
   pub printed : keyword k ++ printTerms ts (ascii ")" ++ rest) ≡ s
   pub legal : isLegalTerm (apply k ts) (suc depth) ≡ true
 
--- there are five kinds
-pub by-kind : (P : ℕ → Type 0) → P 0 → P 1 → P 2 → P 3 → P 4 → (k : ℕ) → isKind k ≡ true → P k
-unfolding isKind rows row
-by-kind P not and or nand nor zero h = not
-by-kind P not and or nand nor (suc zero) h = and
-by-kind P not and or nand nor (suc (suc zero)) h = or
-by-kind P not and or nand nor (suc (suc (suc zero))) h = nand
-by-kind P not and or nand nor (suc (suc (suc (suc zero)))) h = nor
-by-kind P not and or nand nor (suc (suc (suc (suc (suc k))))) h = absurd (omega (arith, leb-true (suc (suc (suc (suc (suc k))))) 4 h))
-
 pub fewest-most : (k : ℕ) → isKind k ≡ true → fewestOperands k ≤ mostOperands k
-unfolding fewestOperands mostOperands rowOf rows row isNot
+unfolding fewestOperands mostOperands signatureOf
 fewest-most = by-kind (λ k. fewestOperands k ≤ mostOperands k) (omega arith) (omega arith) (omega arith) (omega arith) (omega arith)
 
 module _ (term : Reader Term) (depth : ℕ) (reads : (s : List ℕ) → Gives (TermRead depth s) (term s)) where

@@ -13,13 +13,13 @@ use Rattle.laws.proofs.Tab.{length-tab}
 use Rattle.laws.proofs.Lists.{sum-map-append}
 use Rattle.encoding.proofs.Gates.{most-four}
 use Rattle.netlist.specs.Limits.{maxName, maxGates, maxWritten}
-use Rattle.netlist.specs.Kinds.{isKind, keyword, isNot, rowOf, rows, row}
+use Rattle.netlist.specs.Kinds.{isKind, keyword, signatureOf}
 use Rattle.netlist.specs.Netlist.{Name, Operand, input, gate, constant, Output, Block, gateCount, gateOf}
 use Rattle.netlist.specs.StoredBlock.{isNameByte, isLegalName, isPlainName, isNodeName, isNode, isOperand, isWellFormed}
 use Rattle.netlist.specs.Syntax.{printTerm, printTerms, printInput, printGate, printOutput, printLines, print}
 use Rattle.netlist.specs.Writing.{digits, decimal, gateName, nodeNameOf, termOf, termsOf, flatLine, flatTree, writtenText}
 use Rattle.grammar.proofs.ListFacts.{and3, tab-map}
-use Rattle.grammar.proofs.SoundTerms.{by-kind}
+use Rattle.encoding.proofs.Gates.{by-kind}
 use Rattle.encoding.proofs.WellFormed.{WellFormed, wellFormed-parts}
 use Rattle.grammar.proofs.WellFormed.{gate-facts}
 use Rattle.grammar.proofs.WritingTree.{node-legal}
@@ -54,7 +54,7 @@ names-few m le =
 -- ---- the lines
 
 keyword-short : (k : ℕ) → isKind k ≡ true → length (keyword k) ≤ 4
-unfolding keyword rowOf rows row isNot
+unfolding keyword signatureOf
 keyword-short = by-kind (λ k. length (keyword k) ≤ 4) (omega arith) (omega arith) (omega arith) (omega arith) (omega arith)
 
 inputs-length : (xs : List Name) (rest : List ℕ) → all isPlainName xs ≡ true

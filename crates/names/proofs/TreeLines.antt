@@ -13,12 +13,12 @@ use Rattle.laws.specs.Lists.{ascii, all, joined}
 use Rattle.laws.proofs.Quantifiers.{all-append}
 use Rattle.laws.proofs.Tests.{and-left, and-right, and-intro}
 use Rattle.laws.proofs.Lists.{joined-append}
-use Rattle.netlist.specs.Kinds.{isKind, arityFits, keyword, isNot, rowOf, rows, row}
+use Rattle.netlist.specs.Kinds.{isKind, arityFits, keyword, signatureOf}
 use Rattle.netlist.specs.Netlist.{Name}
 use Rattle.netlist.specs.StoredBlock.{isLegalName, isLetter, isDigit, isUnderscore, isNameByte, isPlainName, isNodeName}
 use Rattle.netlist.specs.Syntax.{Term, Terms, name, literal, apply, nil, cons, GateLine, OutputLine, Tree, printTerm, printTerms, printInput, printGate, printOutput, printLines, print, termCount, isLegalTerm, isLegalTerms, isLegalGate, isLegalOutput, isLegalTree}
 use Rattle.netlist.specs.Reading.{gatesIn, gatesInside, lineGates}
-use Rattle.grammar.proofs.SoundTerms.{by-kind}
+use Rattle.encoding.proofs.Gates.{by-kind}
 use Rattle.grammar.proofs.Shorter.{printTerm-append}
 use Rattle.grammar.proofs.Places.{printInput-split, printGate-split, printOutput-split}
 use Rattle.names.specs.Lines.{times}
@@ -45,7 +45,7 @@ pub times-name : (b : ℕ) → b ≤ 47 → (start : ℕ → Bool) (s : Name) �
 times-name b l start s h = times-name-bytes b l s (name-bytes start s h)
 
 keyword-bytes : (k : ℕ) → isKind k ≡ true → all isNameByte (keyword k) ≡ true
-unfolding keyword isNot rowOf rows row isNameByte isLetter isDigit isUnderscore
+unfolding keyword isNameByte isLetter isDigit isUnderscore signatureOf
 keyword-bytes = by-kind (λ k. all isNameByte (keyword k) ≡ true) refl refl refl refl refl
 
 -- ---- brackets and LFs of a term

@@ -2,12 +2,13 @@
 -- Kinds are numbers: 0 not, 1 and, 2 or, 3 nand, 4 nor.
 use Prim.Native.Nat.{ℕ, _-_, _≤_}
 use mathlib.Core.Bool.{Bool, true, false, cond, _&&_}
-use mathlib.Core.List.{List, [], _∷_}
+use mathlib.Core.List.{List, [], _∷_, map}
 use Prim.Native.String.{String}
-use lib.ListN.{length, getD}
+use lib.ListN.{getD}
 use lib.Dec.{eqb, leb}
 use Rattle.laws.specs.Lists.{ascii, all, any, trimmed}
 use Rattle.netlist.specs.declared.Row.{Row}
+use Rattle.netlist.specs.declared.Signature.{Signature}
 use Rattle.netlist.specs.Values.{Value, undefined, code, valueOf, invert, isDefined}
 
 -- every kind of the table has two to four operands
@@ -27,22 +28,35 @@ rowOf k = getD rows (k - 1) (record { fewest = 0; most = 0; controlling = 0; for
 unfoldable pub isNot : ℕ → Bool
 isNot k = eqb k 0
 
--- `not` and the rows behind it
 unfoldable pub isKind : ℕ → Bool
-isKind k = leb k (length rows)
+isKind k = leb k 4
 
--- one operand for `not`, else by the row
+-- operand counts and keyword, of a row and of the kinds that have none
+unfoldable pub signatureIn : Row → Signature
+signatureIn r = record { fewest = r .fewest; most = r .most; keyword = r .keyword }
+
+unfoldable pub signature : ℕ → ℕ → String → Signature
+signature fewest most word = record { fewest = fewest; most = most; keyword = ascii word }
+
+-- by the kind's number
+unfoldable pub signatures : List Signature
+signatures = signature 1 1 "not\0" ∷ map signatureIn rows
+
+unfoldable pub signatureOf : ℕ → Signature
+unfolding signatures signatureIn signature rows row
+signatureOf k = getD signatures k (signature 0 0 "\0\0\0\0")
+
 unfoldable pub fewestOperands : ℕ → ℕ
-fewestOperands k = cond (isNot k) 1 (rowOf k .fewest)
+fewestOperands k = signatureOf k .fewest
 
 unfoldable pub mostOperands : ℕ → ℕ
-mostOperands k = cond (isNot k) 1 (rowOf k .most)
+mostOperands k = signatureOf k .most
 
 unfoldable pub arityFits : ℕ → ℕ → Bool
 arityFits k count = leb (fewestOperands k) count && leb count (mostOperands k)
 
 unfoldable pub keyword : ℕ → List ℕ
-keyword k = cond (isNot k) (ascii "not") (trimmed (rowOf k .keyword))
+keyword k = trimmed (signatureOf k .keyword)
 
 -- one rule for all rows: what is forced if some operand is the controlling value, its opposite if all are the other value, else
 -- undefined

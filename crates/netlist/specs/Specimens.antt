@@ -9,7 +9,7 @@ use lib.ListN.{replicate}
 use Rattle.laws.specs.Lists.{ascii, same, all, repeated, tab, joined}
 use Rattle.netlist.specs.Limits.{maxText}
 use Rattle.netlist.specs.Values.{code, valueOf, invert, isDefined}
-use Rattle.netlist.specs.Kinds.{row, rows, rowOf, isNot, isKind, fewestOperands, mostOperands, arityFits, keyword, ruled, gateValue}
+use Rattle.netlist.specs.Kinds.{row, rows, rowOf, isNot, isKind, signatureOf, fewestOperands, mostOperands, arityFits, keyword, ruled, gateValue}
 use Rattle.netlist.specs.StoredBlock.{gatesAt, outputsAt, isLetter, isDigit, isUnderscore, isNameByte, isNameStart, isLegalName, isPlainName, isNodeName, nameWords, bytesAt, nameAt, nodeWord, operandOf, gateWords, gateAt, outputWords, outputAt, encode, decode, isNode, isOperand, gateFits, isWellFormed, isTorn}
 use Rattle.netlist.specs.Rounds.{operandValue, evaluated, round, afterRounds, isStable, rounds, settled, bit, settingOf, settingCount, settledUnder, isSettled, settledSettings, lowestUnsettled}
 use Rattle.netlist.specs.Cover.{fixes, agrees, isSoundUnder, isSound, without, isMinimal, isWithin, assignmentsAt, assignments, cover, coverEntries}
@@ -201,5 +201,5 @@ specimens =
 
 -- All of them come out as stated.
 pub specimens-hold : all right specimens ≡ true
-unfolding code valueOf invert isDefined row rows rowOf isNot isKind fewestOperands mostOperands arityFits keyword ruled gateValue gatesAt outputsAt isLetter isDigit isUnderscore isNameByte isNameStart isLegalName isPlainName isNodeName nameWords bytesAt nameAt nodeWord operandOf gateWords gateAt outputWords outputAt encode decode isNode isOperand gateFits isWellFormed isTorn operandValue evaluated round afterRounds isStable rounds settled bit settingOf settingCount settledUnder isSettled settledSettings lowestUnsettled fixes agrees isSoundUnder isSound without isMinimal isWithin assignmentsAt assignments cover coverEntries gateOperand readBy reads has grown grownTimes reach reaches sameGroup groupOf isReady mayBeNext groupsAfter groups groupNumber groupNumbers copyCount passes schedule noCopies copiedOperand copied copies newestAfter lastCopies rendering isStraight sweepFrom sweep printTerm printInput printGate printOutput printLines print pure stop onTest ifNext expect onParsed bind nameBytes nameAfter nameReader kindReader spaced termsReader exprReader leafOr termReader addInput addGate addOutput inputLine gateLine outputLine atEnd line outputsReader gatesReader textReader parse gatesIn lineGates isOverLimit mentions linesLength gateLinesAt outputLinesAt inputMention gateMention portMention shownMention termMentions operandMentions declaredNodes declaredPorts usedNames firstRepeat orElse firstDuplicate firstOutside firstUndeclared inputBindings gateBindings bindings lookup termNode termsNodes termGates linesGates blockOf digits decimal gateName nodeNameOf termOf termsOf flatLine flatTree writtenText clamped startBefore untilLf lineStart lineEnd lineLength lineAt refusalNumber refusalDetail numberOf countOf detailOf refuseIf refuseAt inRoom answerOf leftIn counted readTree readParsed readText read isBadSetting settleBlock settle verdict coverBlock coverOf groupsBlock groupsOf renderBlock renderWords render passBlock pass writeWords write chained refusalLine shown unloop report answered right blockWords _⇒_ with specimen4 specimen6 rendered6 kinds eleven ring specimens
+unfolding code valueOf invert isDefined row rows rowOf isNot isKind signatureOf fewestOperands mostOperands arityFits keyword ruled gateValue gatesAt outputsAt isLetter isDigit isUnderscore isNameByte isNameStart isLegalName isPlainName isNodeName nameWords bytesAt nameAt nodeWord operandOf gateWords gateAt outputWords outputAt encode decode isNode isOperand gateFits isWellFormed isTorn operandValue evaluated round afterRounds isStable rounds settled bit settingOf settingCount settledUnder isSettled settledSettings lowestUnsettled fixes agrees isSoundUnder isSound without isMinimal isWithin assignmentsAt assignments cover coverEntries gateOperand readBy reads has grown grownTimes reach reaches sameGroup groupOf isReady mayBeNext groupsAfter groups groupNumber groupNumbers copyCount passes schedule noCopies copiedOperand copied copies newestAfter lastCopies rendering isStraight sweepFrom sweep printTerm printInput printGate printOutput printLines print pure stop onTest ifNext expect onParsed bind nameBytes nameAfter nameReader kindReader spaced termsReader exprReader leafOr termReader addInput addGate addOutput inputLine gateLine outputLine atEnd line outputsReader gatesReader textReader parse gatesIn lineGates isOverLimit mentions linesLength gateLinesAt outputLinesAt inputMention gateMention portMention shownMention termMentions operandMentions declaredNodes declaredPorts usedNames firstRepeat orElse firstDuplicate firstOutside firstUndeclared inputBindings gateBindings bindings lookup termNode termsNodes termGates linesGates blockOf digits decimal gateName nodeNameOf termOf termsOf flatLine flatTree writtenText clamped startBefore untilLf lineStart lineEnd lineLength lineAt refusalNumber refusalDetail numberOf countOf detailOf refuseIf refuseAt inRoom answerOf leftIn counted readTree readParsed readText read isBadSetting settleBlock settle verdict coverBlock coverOf groupsBlock groupsOf renderBlock renderWords render passBlock pass writeWords write chained refusalLine shown unloop report answered right blockWords _⇒_ with specimen4 specimen6 rendered6 kinds eleven ring specimens
 specimens-hold = refl

@@ -47,3 +47,10 @@ pub struct Row {
     pub forced: u8,
     pub keyword: [u8; 4],
 }
+
+// How an expression of a kind looks: the least and the greatest operand count, and the keyword's bytes, zero behind its end.
+pub struct Signature {
+    pub fewest: usize,
+    pub most: usize,
+    pub keyword: [u8; 4],
+}

@@ -61,7 +61,7 @@ opened-at (apply k ts) (suc depth) rest h e =
     let m = most-four k in
     let a = arity-bounds k (termCount ts) (f .1) .1 in
     let inside = printTerms ts (ascii ")" ++ rest) in
-    let d : drop (1 + wordLength k) (40 ∷ (keyword k ++ inside)) ≡ inside = drop-at (40 ∷ keyword k) inside (1 + wordLength k) (omega (arith, word-back k (f .0))) in
+    let d : drop (1 + wordLength k) (40 ∷ (keyword k ++ inside)) ≡ inside = drop-at (40 ∷ keyword k) inside (1 + wordLength k) (omega (arith, word-back k)) in
     let z : suc depth - 1 ≡ depth = omega arith in
     record {
       kind = k;
@@ -71,7 +71,7 @@ opened-at (apply k ts) (suc depth) rest h e =
       count = omega arith;
       deep = omega arith;
       kindRead = kind-back inside k (f .0);
-      wordRead = word-back k (f .0);
+      wordRead = word-back k;
       measured = rw d (omega (arith, length-append (keyword k) inside));
       inner = rw (d, z) (record { legal = f .2; printed = refl });
     }

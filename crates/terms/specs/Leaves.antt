@@ -5,6 +5,7 @@ use mathlib.Core.Bool.{cond}
 use mathlib.Core.List.{List}
 use lib.ListN.{length, getD}
 use lib.Dec.{eqb, ltb}
+use Rattle.netlist.specs.Kinds.{keyword}
 use Rattle.names.specs.Packed.{packed, nameFront}
 use Rattle.names.specs.Search.{indexOf}
 use Rattle.terms.specs.declared.Leaf.{Leaf}
@@ -19,7 +20,7 @@ kindHere s =
 
 -- the bytes of a kind's word
 unfoldable pub wordLength : ℕ → ℕ
-wordLength k = cond (eqb k 2) 2 (cond (eqb k 3) 4 3)
+wordLength k = length (keyword k)
 
 -- the bytes of the name at the front
 unfoldable pub nameLength : List ℕ → ℕ

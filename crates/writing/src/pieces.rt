@@ -1,5 +1,6 @@
 // Bytes, names, numbers and operands, each appended to a text at `at`. Each function answers the new end. What does not fit into the
 // text is left out, and counted all the same.
+use layout::kinds::signature_of;
 use layout::limits::MAX_NAME;
 use layout::nodes::CONSTANT_0;
 use layout::nodes::CONSTANT_1;
@@ -7,11 +8,10 @@ use layout::offsets::INPUTS_AT;
 use layout::offsets::NAME_SIZE;
 use layout::offsets::inputs_of;
 use layout::read::word_at;
-use ternary::table::row_of;
+use layout::trim::trimmed_length;
 ghost use mathlib.Core.Path.{_≡_};
 ghost use mathlib.Core.List.{[], _∷_};
 ghost use Prim.Native.Nat.{_≤_};
-ghost use lib.ListN.{length, take};
 ghost use Rattle.laws.specs.Lists.{trimmed};
 ghost use Rattle.netlist.specs.Kinds.{keyword};
 ghost use Rattle.netlist.specs.StoredBlock.{bytesAt, nameAt};
@@ -42,20 +42,6 @@ pub fn put_all(text: &mut [u8], at: usize, bytes: &[u8]) -> usize
         i += 1;
     }
     end
-}
-
-// How many bytes are left without the zeros at the end.
-fn trimmed_length(bytes: &[u8]) -> usize
-    ensures { λ r. ⌜ (r ≤ length (now (bytes .entry))) × (take r (now (bytes .entry)) ≡ trimmed (now (bytes .entry))) ⌝ }
-{
-    let mut count = bytes.len();
-    while 0 < count {
-        if bytes[count - 1] != 0 {
-            return count;
-        }
-        count -= 1;
-    }
-    0
 }
 
 // The bytes without the zeros at the end.
@@ -119,16 +105,13 @@ pub fn put_gate_name(text: &mut [u8], at: usize, j: usize) -> usize
     put_decimal(text, end, j)
 }
 
-// The keyword of a kind: `not`, or that of the kind's row.
+// The keyword of a kind.
 pub fn put_keyword(text: &mut [u8], at: usize, kind: usize) -> usize
     requires { ⌜ Short (keyword kind) at ⌝ }
     ensures { λ r. ⌜ Appended (keyword kind) (now (text .entry)) at (now (text .exit)) r ⌝ }
 {
-    if kind == 0 {
-        return put_all(text, at, b"not");
-    }
-    let row = row_of(kind);
-    let bytes = row.keyword;
+    let signature = signature_of(kind);
+    let bytes = signature.keyword;
     put_trimmed(text, at, &bytes)
 }
 

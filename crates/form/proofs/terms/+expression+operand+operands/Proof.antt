@@ -17,9 +17,9 @@ use Rattle.layout.proofs.bytes.byte_at.Reads as byte-at-reads
 use Rattle.layout.proofs.bytes.is_name_start.Reads as is-name-start-reads
 use Rattle.form.proofs.bytes.word.Reads as word-reads
 use Rattle.form.proofs.names.name_bytes.Reads as name-bytes-reads
-use Rattle.form.proofs.terms.fewest_operands.Reads as fewest-operands-reads
+use Rattle.layout.proofs.kinds.fewest_operands.Reads as fewest-operands-reads
 use Rattle.form.proofs.terms.kind.Reads as kind-reads
-use Rattle.form.proofs.terms.most_operands.Reads as most-operands-reads
+use Rattle.layout.proofs.kinds.most_operands.Reads as most-operands-reads
 use Rattle.form.proofs.terms.one_less.Reads as one-less-reads
 use Rattle.form.proofs.terms.+expression+operand+operands.{statement}
 use Rattle.form.proofs.terms.+expression+operand+operands.Tie.{close}

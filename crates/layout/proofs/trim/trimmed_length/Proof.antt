@@ -1,13 +1,13 @@
--- `writing::pieces::trimmed_length` meets its contract: what was passed over, from the end, is zero. Assumes nothing.
+-- `layout::trim::trimmed_length` meets its contract: what was passed over, from the end, is zero. Assumes nothing.
 use Prim.Native.Nat.{_≤_}
 use mathlib.Core.Path.{_≡_, refl, sym, _∙_}
 use native.Mathlib.Omega.{arith}
 use lib.Seq.{take-length}
 use lib.ListN.{length, take}
 use Rattle.laws.specs.Lists.{trimmed}
-use Rattle.writing.proofs.TrimmedLaws.{trimmed-shorter, trimmed-here}
-use Rattle.writing.proofs.pieces.trimmed_length.Statement.{statement}
-use Rattle.writing.proofs.pieces.trimmed_length.Tie as tie
+use Rattle.layout.proofs.TrimmedLaws.{trimmed-shorter, trimmed-here}
+use Rattle.layout.proofs.trim.trimmed_length.Statement.{statement}
+use Rattle.layout.proofs.trim.trimmed_length.Tie as tie
 
 abbrev Inv-loop : tie.InvT-loop
 Inv-loop bytes count₀ count = (count ≤ length bytes) × (trimmed (take count bytes) ≡ trimmed bytes)

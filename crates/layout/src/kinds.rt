@@ -1,8 +1,9 @@
-// Document 01: "The controlling values and what they force are a fixed table by kind."
+// The kinds (SPECIFICATION 3.2): the table of controlling values, and every kind's operand counts and keyword. Code reads them here.
 use netlist::Row;
+use netlist::Signature;
 ghost use mathlib.Core.Path.{_≡_};
 ghost use Prim.Native.Nat.{_≤_};
-ghost use Rattle.netlist.specs.Kinds.{rowOf};
+ghost use Rattle.netlist.specs.Kinds.{rowOf, signatureOf, fewestOperands, mostOperands};
 
 // The rows of and, or, nand, nor.
 pub const ROWS: [Row; 4] = [
@@ -36,6 +37,13 @@ pub const ROWS: [Row; 4] = [
     },
 ];
 
+// `not` has no controlling value.
+pub const NOT: Signature = Signature {
+    fewest: 1,
+    most: 1,
+    keyword: [b'n', b'o', b't', 0],
+};
+
 // The row of a kind other than `not`; all zero where it has none.
 pub fn row_of(kind: usize) -> Row
     ensures { λ r. ⌜ (1 ≤ kind → r ≡ rowOf kind) ⌝ }
@@ -50,4 +58,32 @@ pub fn row_of(kind: usize) -> Row
             keyword: [0, 0, 0, 0],
         },
     }
+}
+
+// The operand counts and the keyword of a kind; all zero where there is none of that number.
+pub fn signature_of(kind: usize) -> Signature
+    ensures { λ r. ⌜ r ≡ signatureOf kind ⌝ }
+{
+    if kind == 0 {
+        return NOT;
+    }
+    let row = row_of(kind);
+    let keyword = row.keyword;
+    Signature {
+        fewest: row.fewest,
+        most: row.most,
+        keyword,
+    }
+}
+
+pub fn fewest_operands(kind: usize) -> usize
+    ensures { λ r. ⌜ r ≡ fewestOperands kind ⌝ }
+{
+    signature_of(kind).fewest
+}
+
+pub fn most_operands(kind: usize) -> usize
+    ensures { λ r. ⌜ r ≡ mostOperands kind ⌝ }
+{
+    signature_of(kind).most
 }

@@ -1,4 +1,4 @@
--- `ternary::table::row_of` meets its contract: the array is the definitions' table, row by row. Assumes nothing.
+-- `layout::kinds::row_of` meets its contract: the array is the definitions' table, row by row. Assumes nothing.
 use mathlib.Core.Path.{sym}
 use Prim.Native.Nat.{_-_}
 use borrow.Author.Needs.{needs}
@@ -6,8 +6,8 @@ use native.Mathlib.Omega.{arith}
 use lib.ListN.{List·getD-eq-default}
 use Rattle.laws.proofs.Elements.{getD-defaults}
 use Rattle.netlist.specs.Kinds.{row, rows, rowOf}
-use Rattle.ternary.proofs.table.row_of.Statement.{statement}
-use Rattle.ternary.proofs.table.row_of.Tie as tie
+use Rattle.layout.proofs.kinds.row_of.Statement.{statement}
+use Rattle.layout.proofs.kinds.row_of.Tie as tie
 
 mul-result : tie.Need-mul-result
 mul-result c = search needs

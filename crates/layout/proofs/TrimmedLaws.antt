@@ -1,4 +1,4 @@
--- Bytes without the zeros at their end, found from the end. Cited by `pieces::trimmed_length`. Assumes nothing.
+-- Bytes without the zeros at their end, found from the end. Cited by `trim::trimmed_length`. Assumes nothing.
 use Prim.Native.Nat.{ℕ, suc, _-_, _≤_, _<_}
 use mathlib.Core.Path.{_≡_, refl, ap, _∙_}
 use mathlib.Core.List.{List, [], _∷_, _++_}
