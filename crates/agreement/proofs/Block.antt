@@ -30,7 +30,8 @@ use Rattle.reach.specs.Inside.{Inside}
 use Rattle.reach.proofs.Inside.{wellFormed-inside}
 use Rattle.reach.proofs.ListFacts.{all-intro}
 use Rattle.agreement.specs.Copies.{IsCopy, AreCopies, newestAt}
-use Rattle.agreement.proofs.Copies.{noCopies-areCopies, length-noCopies, length-newestAfter, newestAfter-areCopies, newestAfter-copied, length-copies, getD-copies, copied-reads}
+use Rattle.agreement.proofs.Copies.{noCopies-areCopies, length-noCopies, length-newestAfter, newestAfter-areCopies, newestAfter-copied}
+use Rattle.agreement.proofs.Copies.{length-copies, getD-copies, copied-reads}
 use Rattle.agreement.proofs.Schedule.{length-schedule, member-schedule, schedule-below}
 
 module _ (b : Block) where

@@ -40,7 +40,8 @@ pub record LedOne (ws : List ℕ) (n m gates leader k : ℕ) (leaders leaders′
 -- queued gates that join `leader`, one after the other, in any order
 pub data Joined (ws : List ℕ) (n m gates leader : ℕ) (queue : List ℕ) (count : ℕ) (entry : List ℕ) : List ℕ → Type 0 where
   none : Joined ws n m gates leader queue count entry entry
-  more : {leaders : List ℕ} → Joined ws n m gates leader queue count entry leaders → (q : ℕ) → q < count → joins ws n m gates leader leaders (getD queue q 0) ≡ true → Joined ws n m gates leader queue count entry (set leaders (getD queue q 0) leader)
+  more : {leaders : List ℕ} → Joined ws n m gates leader queue count entry leaders → (q : ℕ) → q < count
+      → joins ws n m gates leader leaders (getD queue q 0) ≡ true → Joined ws n m gates leader queue count entry (set leaders (getD queue q 0) leader)
 
 -- how many gates have no leader
 unfoldable pub unled : List ℕ → ℕ → ℕ

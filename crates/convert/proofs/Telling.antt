@@ -77,7 +77,8 @@ module _ (o : Outcome) (a : Answer) (entry exit : List ℕ) (f : Fits (length en
 
 -- ---- one operation after another
 
-pub shown-refused : (o : Outcome) (r : Refusal) (entry mid exit : List ℕ) (n : ℕ) → o ≡ refused r → mid ≡ entry → Shown (refused r) mid exit n → Shown o entry exit n
+pub shown-refused : (o : Outcome) (r : Refusal) (entry mid exit : List ℕ) (n : ℕ) → o ≡ refused r → mid ≡ entry → Shown (refused r) mid exit n
+    → Shown o entry exit n
 shown-refused o r entry mid exit n e k s = rw (e, ← k) s
 
 pub chained-refused : (o : Outcome) (next : List ℕ → Outcome) (r : Refusal) → o ≡ refused r → chained o next ≡ refused r
@@ -99,7 +100,8 @@ shown-is e s = rw e s
 pub gave-within : {o : Outcome} {entry exit : List ℕ} {count detail : ℕ} → Gave o entry exit count detail → count ≤ length exit
 gave-within {o} {entry} g = rw (g .left) (placed-room (g .result) entry (sym (g .counts)))
 
-shown-converted : (text : List ℕ) {entry exit : List ℕ} {n : ℕ} → Shown (chained (chained (readText text) renderWords) writeWords) entry exit n → Converted text entry exit n
+shown-converted : (text : List ℕ) {entry exit : List ℕ} {n : ℕ} → Shown (chained (chained (readText text) renderWords) writeWords) entry exit n
+    → Converted text entry exit n
 unfolding unloop
 shown-converted text {entry} s =
     record {
@@ -108,7 +110,8 @@ shown-converted text {entry} s =
       within = rw (s .textIs) (placed-room (shown (chained (chained (readText text) renderWords) writeWords)) entry (sym (s .countIs)));
     }
 
-pub unloop-refused : (text : List ℕ) (r : Refusal) {entry exit : List ℕ} {n : ℕ} → readText text ≡ refused r → Shown (refused r) entry exit n → Converted text entry exit n
+pub unloop-refused : (text : List ℕ) (r : Refusal) {entry exit : List ℕ} {n : ℕ} → readText text ≡ refused r → Shown (refused r) entry exit n
+    → Converted text entry exit n
 unloop-refused text r e s =
     shown-converted text
     (shown-is (chained-refused (chained (readText text) renderWords) writeWords r (chained-refused (readText text) renderWords r e)) s)

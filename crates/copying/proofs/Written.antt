@@ -13,7 +13,8 @@ use Rattle.laws.proofs.Lists.{joined-snoc}
 use Rattle.laws.proofs.Stores.{sets-append, length-joined-tab}
 use Rattle.laws.proofs.Slices.{sets-placed}
 use Rattle.netlist.specs.Netlist.{Operand, gate, constant, Gate, Output, Block, inputCount, gateCount, outputCount, gateOf}
-use Rattle.netlist.specs.StoredBlock.{gateSize, outputSize, gatesAt, outputsAt, nameWords, nameAt, nodeWord, gateWords, gateAt, outputWords, outputAt, encode, decode, isTorn}
+use Rattle.netlist.specs.StoredBlock.{gateSize, outputSize, gatesAt, outputsAt, nameWords, nameAt, nodeWord, gateWords, gateAt, outputWords, outputAt}
+use Rattle.netlist.specs.StoredBlock.{encode, decode, isTorn}
 use Rattle.netlist.specs.Rendering.{schedule, noCopies, copiedOperand, copied, copies, newestAfter, lastCopies, rendering}
 use Rattle.encoding.proofs.ListFacts.{joined-tab}
 use Rattle.encoding.proofs.Names.{nameWords-nameAt}
@@ -232,7 +233,8 @@ module _ (ws : List ℕ) (n m k : ℕ) (order : List ℕ) (total : ℕ) (newest 
       outputs = joined (tab (shownAt ws (3 + 4 * n + 5 * m) n m last) k)
 
       long : m ≤ length table
-      long = rw (et, length-append (replicate {A = ℕ} m 65534) (drop (length (replicate {A = ℕ} m 65534)) newest), length-replicate {A = ℕ} m 65534) (omega arith)
+      long =
+          rw (et, length-append (replicate {A = ℕ} m 65534) (drop (length (replicate {A = ℕ} m 65534)) newest), length-replicate {A = ℕ} m 65534) (omega arith)
 
       none : Stands n m table (noCopies (decode ws))
       none = rw et (stands-none n m newest (gateCount (decode ws)) (decode-gateCount ws ∙ sym (r .gatesAre)))

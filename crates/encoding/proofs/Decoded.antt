@@ -45,7 +45,8 @@ module _ (ws : List ℕ) where
   decode-output o d l = getD-tab (λ o. outputAt (getD ws 0 0) ws (outputsAt (getD ws 0 0) (getD ws 1 0) + outputSize * o)) (getD ws 2 0) o d l
 
   -- the ports
-  pub decode-ports : map (λ (o : Output). o .port) (decode ws .outputs) ≡ tab (λ o. nameAt ws (outputsAt (getD ws 0 0) (getD ws 1 0) + outputSize * o)) (getD ws 2 0)
+  pub decode-ports : map (λ (o : Output). o .port) (decode ws .outputs) ≡ tab (λ o. nameAt ws (outputsAt (getD ws 0 0) (getD ws 1 0) + outputSize * o))
+      (getD ws 2 0)
   unfolding decode outputAt
   decode-ports = map-tab (λ (o : Output). o .port) (λ o. outputAt (getD ws 0 0) ws (outputsAt (getD ws 0 0) (getD ws 1 0) + outputSize * o)) (getD ws 2 0)
 

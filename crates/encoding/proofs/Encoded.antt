@@ -98,7 +98,9 @@ module _ (b : Block) where
   unfolding outputPart
   encode-output o d h i l =
       ap (λ (p : ℕ). getD (encode b) p 0) (add-assoc (outputsAt (inputCount b) (gateCount b)) (outputSize * o) i)
-      ∙ ap (λ (ws : List ℕ). getD ws (outputsAt (inputCount b) (gateCount b) + (outputSize * o + i)) 0) (encode-parts ∙ sym (append-nil (header b ++ inputPart b ++ gatePart b ++ outputPart b)))
-      ∙ getD-middle (header b ++ inputPart b ++ gatePart b) (outputPart b) [] (outputsAt (inputCount b) (gateCount b)) (outputSize * o + i) 0 length-before-outputs
+      ∙ ap (λ (ws : List ℕ). getD ws (outputsAt (inputCount b) (gateCount b) + (outputSize * o + i)) 0)
+      (encode-parts ∙ sym (append-nil (header b ++ inputPart b ++ gatePart b ++ outputPart b)))
+      ∙ getD-middle (header b ++ inputPart b ++ gatePart b) (outputPart b) [] (outputsAt (inputCount b) (gateCount b)) (outputSize * o + i) 0
+      length-before-outputs
       (rw length-outputPart (omega arith))
       ∙ getD-joined (outputWords (inputCount b)) outputSize (length-outputWords (inputCount b)) (b .outputs) o i d 0 h l

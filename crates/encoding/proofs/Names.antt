@@ -151,7 +151,8 @@ module _ (start : ℕ → Bool) (s : Name) (legal : isLegalName start s ≡ true
       pair : (i : ℕ) → i < nameSize
           → getD ws (at + i) 0 % 256 ∷ getD ws (at + i) 0 / 256 ∷ [] ≡ tab (λ k. getD s (2 * i + k) 0) 2
       pair i l =
-          let w : getD ws (at + i) 0 ≡ getD s (2 * i) 0 + 256 * getD s (2 * i + 1) 0 = stands i l ∙ getD-tab (λ i. getD s (2 * i) 0 + 256 * getD s (2 * i + 1) 0) nameSize i 0 l in
+          let w : getD ws (at + i) 0 ≡ getD s (2 * i) 0 + 256 * getD s (2 * i + 1) 0 = stands i l
+          ∙ getD-tab (λ i. getD s (2 * i) 0 + 256 * getD s (2 * i + 1) 0) nameSize i 0 l in
           let b : getD s (2 * i) 0 < 256 = legal-byte (2 * i) in
           let low : getD ws (at + i) 0 % 256 ≡ getD s (2 * i) 0 = omega arith in
           let high : getD ws (at + i) 0 / 256 ≡ getD s (2 * i + 1) 0 = omega arith in

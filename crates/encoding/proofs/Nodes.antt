@@ -62,7 +62,8 @@ nodeWord-operandOf n w = go (operandOf n w) (stands n w)
     go (gate j) (a-gate l p q) = omega arith
 
 -- an operand that is there is what its word stands for
-pub operandOf-nodeWord : (b : Block) (o : Operand) → inputCount b + gateCount b ≤ 65534 → isOperand b o ≡ true → operandOf (inputCount b) (nodeWord (inputCount b) o) ≡ o
+pub operandOf-nodeWord : (b : Block) (o : Operand) → inputCount b + gateCount b ≤ 65534 → isOperand b o ≡ true
+    → operandOf (inputCount b) (nodeWord (inputCount b) o) ≡ o
 unfolding nodeWord isOperand isNode
 operandOf-nodeWord b (input i) h e = operandOf-input (inputCount b) i (ltb-true i (inputCount b) e)
 operandOf-nodeWord b (gate j) h e =

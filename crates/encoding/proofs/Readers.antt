@@ -19,9 +19,11 @@ use Rattle.reach.proofs.Inside.{wellFormed-inside}
 use Rattle.netlist.specs.Kinds.{isKind, arityFits}
 use Rattle.netlist.specs.Netlist.{Operand, Output, Block, gateCount, outputCount, gateOf}
 use Rattle.netlist.specs.Groups.{reads}
-use Rattle.netlist.specs.StoredBlock.{nameSize, gateSize, outputSize, operandWords, gatesAt, outputsAt, isNode, isOperand, gateFits, decode, isWellFormed, isTorn}
+use Rattle.netlist.specs.StoredBlock.{nameSize, gateSize, outputSize, operandWords, gatesAt, outputsAt, isNode, isOperand, gateFits, decode, isWellFormed}
+use Rattle.netlist.specs.StoredBlock.{isTorn}
 use Rattle.encoding.specs.Rules.{nodeRule, operandRule, gateRule, intact}
-use Rattle.encoding.proofs.Gates.{Unused, kind-small, arity-four, arity-not, arity-others, gateRule-kind, gateRule-arity, gateRule-operand, gateRule-unused, fits-operands}
+use Rattle.encoding.proofs.Gates.{Unused, kind-small, arity-four, arity-not, arity-others, gateRule-kind, gateRule-arity, gateRule-operand}
+use Rattle.encoding.proofs.Gates.{gateRule-unused, fits-operands}
 use Rattle.encoding.proofs.WellFormed.{noGate, wellFormed-parts}
 use Rattle.encoding.proofs.Intact.{Intact, intact-parts, intact-torn}
 use Rattle.encoding.proofs.RoundTrip.{whole-wellFormed}

@@ -16,7 +16,8 @@ use Rattle.laws.proofs.Quantifiers.{all-at, all-from, all-append, all-tab-from}
 use Rattle.laws.proofs.Lists.{all-joined}
 use Rattle.netlist.specs.Limits.{maxBlock}
 use Rattle.netlist.specs.Netlist.{Name, constant, Gate, Output, Block, inputCount, gateCount, outputCount}
-use Rattle.netlist.specs.StoredBlock.{operandWords, gatesAt, outputsAt, isLetter, isPlainName, nameWords, nodeWord, gateWords, outputWords, isNode, isOperand, gateFits, encode, decode, isWellFormed, isTorn}
+use Rattle.netlist.specs.StoredBlock.{operandWords, gatesAt, outputsAt, isLetter, isPlainName, nameWords, nodeWord, gateWords, outputWords, isNode}
+use Rattle.netlist.specs.StoredBlock.{isOperand, gateFits, encode, decode, isWellFormed, isTorn}
 use Rattle.encoding.proofs.ListFacts.{all-map, getD-map}
 use Rattle.encoding.proofs.Names.{length-nameWords, legal-words}
 use Rattle.encoding.proofs.Nodes.{nodeWord-small, isNode-isOperand}
@@ -63,10 +64,12 @@ unfolding outputWords small
 output-small b o few plain node =
     all-append small (nameWords (o .port)) (nodeWord (inputCount b) (o .node) ∷ [])
     ∙ and-intro (all small (nameWords (o .port))) (small (nodeWord (inputCount b) (o .node)) && true) (name-small (o .port) plain)
-    (and-intro (small (nodeWord (inputCount b) (o .node))) true (lt-ltb (nodeWord (inputCount b) (o .node)) 65536 (nodeWord-small b (o .node) few (isNode-isOperand b (o .node) node))) refl)
+    (and-intro (small (nodeWord (inputCount b) (o .node))) true
+    (lt-ltb (nodeWord (inputCount b) (o .node)) 65536 (nodeWord-small b (o .node) few (isNode-isOperand b (o .node) node))) refl)
 
 -- parts whose words are small
-parts-small : {A : Type 0} (g : A → List ℕ) (xs : List A) (d : A) → ((i : ℕ) → i < length xs → all small (g (getD xs i d)) ≡ true) → all small (joined (map g xs)) ≡ true
+parts-small : {A : Type 0} (g : A → List ℕ) (xs : List A) (d : A) → ((i : ℕ) → i < length xs → all small (g (getD xs i d)) ≡ true)
+    → all small (joined (map g xs)) ≡ true
 parts-small g xs d h = all-joined small (map g xs) ∙ all-map (all small) g xs ∙ all-from (λ x. all small (g x)) xs d h
 
 all-small : (b : Block) → isWellFormed b ≡ true → all small (encode b) ≡ true

@@ -17,7 +17,8 @@ pub shows-same : {a b : Answer} {r : Reply} → a ≡ b → Shows a r → Shows 
 shows-same e s = rw (← e) s
 
 -- A refusal is shown by its number and its detail.
-pub shows-refusal : (a : Refusal) {number detail : ℕ} → number ≡ refusalNumber a → detail ≡ refusalDetail a → Shows (Refused a) record { number = number; count = 0; detail = detail }
+pub shows-refusal : (a : Refusal) {number detail : ℕ} → number ≡ refusalNumber a → detail ≡ refusalDetail a
+    → Shows (Refused a) record { number = number; count = 0; detail = detail }
 unfolding numberOf countOf detailOf
 shows-refusal a p q = record { number = p; count = refl; detail = q }
 

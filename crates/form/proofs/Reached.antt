@@ -84,9 +84,16 @@ module _ (text : List ℕ) (phase at : ℕ) (r : Reached text phase at) (open-en
     reached-next {n} g =
         let l : n < length text - at = line-left g in
         let w : length text - at ≤ r .more = r .enough in
-        record { within = omega arith; more = r .more - 1; enough = omega arith; is-rest = rest-after l (then-line ∙ then-read _ (shortens-line phase) (restOf text at) (sym g ∙ e)) }
+        record {
+          within = omega arith;
+          more = r .more - 1;
+          enough = omega arith;
+          is-rest = rest-after l
+              (then-line ∙ then-read _ (shortens-line phase) (restOf text at) (sym g ∙ e));
+        }
       where
-        rest-after : n < length text - at → scanOf (parse text) ≡ scanOf (linesReader (phaseOf (getD (restOf text at) 1 0)) (r .more - 1) (lastOnes n (restOf text at)))
+        rest-after : n < length text - at → scanOf (parse text) ≡ scanOf
+            (linesReader (phaseOf (getD (restOf text at) 1 0)) (r .more - 1) (lastOnes n (restOf text at)))
             → scanOf (parse text) ≡ scanOf (linesReader (phaseOf (getD (restOf text at) 1 0)) (r .more - 1) (drop (length text - n) text))
         rest-after l q =
             let a : length text - (length text - at) ≡ at = omega arith in

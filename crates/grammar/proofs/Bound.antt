@@ -11,7 +11,8 @@ use Rattle.laws.specs.Lists.{ascii}
 use Rattle.netlist.specs.Limits.{maxDepth}
 use Rattle.netlist.specs.StoredBlock.{isLetter, isNameByte, isNameStart}
 use Rattle.netlist.specs.Syntax.{Terms, Tree}
-use Rattle.netlist.specs.Parse.{Parsed, Reader, got, stuck, stop, onTest, ifNext, expect, onParsed, bind, nameReader, exprReader, termReader, inputLine, gateLine, outputLine, atEnd, line, outputsReader, gatesReader, textReader}
+use Rattle.netlist.specs.Parse.{Parsed, Reader, got, stuck, stop, onTest, ifNext, expect, onParsed, bind, nameReader, exprReader, termReader, inputLine}
+use Rattle.netlist.specs.Parse.{gateLine, outputLine, atEnd, line, outputsReader, gatesReader, textReader}
 use Rattle.grammar.proofs.SoundTerms.{letter-nameByte, nameStart-nameByte}
 use Rattle.grammar.proofs.Shorter.{nameReader-shorter, exprReader-shorter}
 

@@ -10,7 +10,8 @@ use lib.ListN.{length, length-append}
 use Rattle.laws.specs.Lists.{ascii}
 use Rattle.netlist.specs.Netlist.{Name}
 use Rattle.netlist.specs.Kinds.{keyword}
-use Rattle.netlist.specs.Syntax.{Term, Terms, name, literal, apply, nil, cons, GateLine, OutputLine, Tree, printTerm, printTerms, printInput, printGate, printOutput, printLines, print}
+use Rattle.netlist.specs.Syntax.{Term, Terms, name, literal, apply, nil, cons, GateLine, OutputLine, Tree, printTerm, printTerms, printInput, printGate}
+use Rattle.netlist.specs.Syntax.{printOutput, printLines, print}
 
 mutual
   unfolding printTerm printTerms

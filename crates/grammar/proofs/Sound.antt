@@ -10,8 +10,10 @@ use Rattle.laws.specs.Lists.{ascii}
 use Rattle.netlist.specs.Limits.{maxDepth}
 use Rattle.netlist.specs.Netlist.{Name}
 use Rattle.netlist.specs.StoredBlock.{isLetter, isNameStart, isPlainName, isNodeName}
-use Rattle.netlist.specs.Syntax.{GateLine, OutputLine, Tree, printTerm, printInput, printGate, printOutput, printLines, print, isLegalGate, isLegalOutput, isLegalTree}
-use Rattle.netlist.specs.Parse.{Reader, got, nameReader, exprReader, termReader, addInput, addGate, addOutput, inputLine, gateLine, outputLine, atEnd, line, outputsReader, gatesReader, textReader, parse}
+use Rattle.netlist.specs.Syntax.{GateLine, OutputLine, Tree, printTerm, printInput, printGate, printOutput, printLines, print, isLegalGate, isLegalOutput}
+use Rattle.netlist.specs.Syntax.{isLegalTree}
+use Rattle.netlist.specs.Parse.{Reader, got, nameReader, exprReader, termReader, addInput, addGate, addOutput, inputLine, gateLine, outputLine, atEnd}
+use Rattle.netlist.specs.Parse.{line, outputsReader, gatesReader, textReader, parse}
 use Rattle.grammar.proofs.Readings.{Gives, gives-got, gives-stuck, gives-pure, gives-stop, gives-is, gives-expect, gives-bind}
 use Rattle.grammar.proofs.SoundTerms.{nameReader-sound, letter-nameByte, nameStart-nameByte, exprReader-sound, termReader-sound, ExprRead}
 

@@ -15,7 +15,8 @@ use Rattle.netlist.specs.Limits.{maxGates}
 use Rattle.netlist.specs.Netlist.{Name, Operand, input, gate, constant, Output, Block, inputCount, gateCount, gateOf}
 use Rattle.netlist.specs.StoredBlock.{isPlainName, isNode, isOperand, isWellFormed}
 use Rattle.netlist.specs.Syntax.{OutputLine}
-use Rattle.netlist.specs.Reading.{gatesIn, gatesInside, lineGates, Binding, inputBindings, gateBindings, bindings, lookup, termNode, termsNodes, termGates, termsGates, linesGates, blockOf}
+use Rattle.netlist.specs.Reading.{gatesIn, gatesInside, lineGates, Binding, inputBindings, gateBindings, bindings, lookup, termNode, termsNodes, termGates}
+use Rattle.netlist.specs.Reading.{termsGates, linesGates, blockOf}
 use Rattle.netlist.specs.Writing.{gateName, nodeNameOf, termOf, termsOf, flatLine, flatTree}
 use Rattle.grammar.proofs.ListFacts.{ne-same, distinct-apart, distinct-parts, tab-map}
 use Rattle.encoding.proofs.WellFormed.{WellFormed, wellFormed-parts}

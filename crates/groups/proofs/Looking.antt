@@ -48,7 +48,8 @@ module _ (m : ℕ) (numbers leaders obstacles : List ℕ) (j : ℕ) where
     unfolding passed unnumbered
     no-obstacle e h = rw (eq-eqb (getD numbers j 0) noNumber u, eq-eqb (getD leaders j 0) j e, le-ltb (getD obstacles j 0) m h) refl
 
-    pub obstacle-tells : (k : ℕ) → k ≡ getD obstacles j 0 → getD leaders j 0 ≡ j → k < m → eqb (getD numbers k 0) noNumber ≡ passed m numbers leaders obstacles j
+    pub obstacle-tells : (k : ℕ) → k ≡ getD obstacles j 0 → getD leaders j 0 ≡ j → k < m
+        → eqb (getD numbers k 0) noNumber ≡ passed m numbers leaders obstacles j
     unfolding passed unnumbered
     obstacle-tells k is e h = rw (eq-eqb (getD numbers j 0) noNumber u, eq-eqb (getD leaders j 0) j e, ← is, lt-ltb k m h) refl
 
@@ -70,7 +71,8 @@ module _ {ws : List ℕ} {n m gates : ℕ} {leaders obstacles : List ℕ} (w : W
 
   has-obstacle : ltb (getD obstacles j 0) m && unnumbered numbers (getD obstacles j 0) ≡ true → leadsNext (decode ws) m numbers leaders j ≡ false
   has-obstacle h =
-      let below : getD obstacles j 0 < m = ltb-true (getD obstacles j 0) m (and-left (ltb (getD obstacles j 0) m) (unnumbered numbers (getD obstacles j 0)) h) in
+      let below : getD obstacles j 0 < m = ltb-true (getD obstacles j 0) m
+      (and-left (ltb (getD obstacles j 0) m) (unnumbered numbers (getD obstacles j 0)) h) in
       let u : unnumbered numbers (getD obstacles j 0) ≡ true = and-right (ltb (getD obstacles j 0) m) (unnumbered numbers (getD obstacles j 0)) h in
       ⊎-elim
       (λ e. leads-free (waits (w .prepared) numbers j l (eqb-true (getD leaders j 0) j e) (getD obstacles j 0) (w .outsideOf j l below) u))
@@ -78,30 +80,41 @@ module _ {ws : List ℕ} {n m gates : ℕ} {leaders obstacles : List ℕ} (w : W
       (bool-cases (eqb (getD leaders j 0) j))
 
   -- a gate that needs no look does not lead the next group
-  pub look-passed : {t : Bool} → t ≡ passed m numbers leaders obstacles j → t ≡ true → (false ≡ leadsNext (decode ws) m numbers leaders j) × Watching ws n m gates leaders obstacles
+  pub look-passed : {t : Bool} → t ≡ passed m numbers leaders obstacles j → t ≡ true
+      → (false ≡ leadsNext (decode ws) m numbers leaders j) × Watching ws n m gates leaders obstacles
   unfolding passed
-  look-passed is t =
-      (sym (⊎-elim has-number (λ q. ⊎-elim (λ h. leads-other (not-true (eqb (getD leaders j 0) j) h)) has-obstacle (or-cases _ _ q)) (or-cases _ _ (sym is ∙ t))), w)
+  look-passed is t = (
+    sym (⊎-elim has-number (λ q. ⊎-elim (λ h. leads-other (not-true (eqb (getD leaders j 0) j) h)) has-obstacle (or-cases _ _ q))
+        (or-cases _ _ (sym is ∙ t))),
+    w,
+  )
 
   module _ {t : Bool} (is : t ≡ passed m numbers leaders obstacles j) (looked : t ≡ false) where
     not-passed : (unnumbered numbers j ≡ true) × (getD leaders j 0 ≡ j)
     unfolding passed
     not-passed =
-        let q = or-neither (not (unnumbered numbers j)) _ (sym is ∙ looked) in
-        (not-false (unnumbered numbers j) (q .0), eqb-true (getD leaders j 0) j (not-false (eqb (getD leaders j 0) j) (or-neither (not (eqb (getD leaders j 0) j)) _ (q .1) .0)))
+        let q = or-neither (not (unnumbered numbers j)) _ (sym is ∙ looked) in (
+          not-false (unnumbered numbers j) (q .0),
+          eqb-true (getD leaders j 0) j
+              (not-false (eqb (getD leaders j 0) j) (or-neither (not (eqb (getD leaders j 0) j)) _ (q .1) .0)),
+        )
 
     module _ (k : ℕ) (s : Sought (obstacle numbers leaders j) (groupReads ws n m gates leaders j m) m k) where
       pub look-free : m ≤ k → (true ≡ leadsNext (decode ws) m numbers leaders j) × Watching ws n m gates leaders obstacles
       unfolding leadsNext
       look-free ge =
-          let led : getD leaders j 0 ≡ j = not-passed .1 in
-          (sym (and-intro (eqb (getD leaders j 0) j) (mayBeNext (decode ws) (numberedGates m numbers) j) (eq-eqb (getD leaders j 0) j led) (free (w .prepared) numbers j l led (not-passed .0) (s .none ge))), w)
+          let led : getD leaders j 0 ≡ j = not-passed .1 in (
+            sym (and-intro (eqb (getD leaders j 0) j) (mayBeNext (decode ws) (numberedGates m numbers) j) (eq-eqb (getD leaders j 0) j led)
+                (free (w .prepared) numbers j l led (not-passed .0) (s .none ge))),
+            w,
+          )
 
       seen : k < m → (outside ws n m gates leaders j k ≡ true) × (unnumbered numbers k ≡ true)
       unfolding outside obstacle
       seen lt =
           let f = s .found lt in (
-            and-intro (member k (groupReads ws n m gates leaders j m)) (not (eqb (getD leaders k 0) j)) (f .0) (and-right (unnumbered numbers k) (not (eqb (getD leaders k 0) j)) (f .1)),
+            and-intro (member k (groupReads ws n m gates leaders j m)) (not (eqb (getD leaders k 0) j)) (f .0)
+                (and-right (unnumbered numbers k) (not (eqb (getD leaders k 0) j)) (f .1)),
             and-left (unnumbered numbers k) (not (eqb (getD leaders k 0) j)) (f .1),
           )
 

@@ -73,7 +73,8 @@ module _ (ws : List ℕ) (n m gates : ℕ) (leaders : List ℕ) (leader : ℕ) w
   reading-other i h = rw (ne-eqb (getD leaders i 0) leader h) refl
 
   -- what the group reads is read by a gate that the leader leads
-  pub read-by : (k : ℕ) → member k (groupReads ws n m gates leaders leader m) ≡ true → (i : ℕ) × (i < m) × (getD leaders i 0 ≡ leader) × (member k (gateReads ws n m gates i) ≡ true)
+  pub read-by : (k : ℕ) → member k (groupReads ws n m gates leaders leader m) ≡ true
+      → (i : ℕ) × (i < m) × (getD leaders i 0 ≡ leader) × (member k (gateReads ws n m gates i) ≡ true)
   unfolding groupReads reading
   read-by k h =
       let r : (i : ℕ) × (i < m) × (member k (reading i) ≡ true) = tab-member reading m k h in
@@ -82,7 +83,8 @@ module _ (ws : List ℕ) (n m gates : ℕ) (leaders : List ℕ) (leader : ℕ) w
       (λ ne. not-both (r .2) (rw (reading-other (r .0) ne) refl))
       (eq-or-ne (getD leaders (r .0) 0) leader)
 
-  pub reads-of : (i k : ℕ) → i < m → getD leaders i 0 ≡ leader → member k (gateReads ws n m gates i) ≡ true → member k (groupReads ws n m gates leaders leader m) ≡ true
+  pub reads-of : (i k : ℕ) → i < m → getD leaders i 0 ≡ leader → member k (gateReads ws n m gates i) ≡ true
+      → member k (groupReads ws n m gates leaders leader m) ≡ true
   unfolding groupReads reading
   reads-of i k l e h = member-tab reading m i k l (rw (reading-led i e) h)
 
@@ -91,18 +93,22 @@ module _ (ws : List ℕ) (n m gates : ℕ) (leaders : List ℕ) (leader : ℕ) w
     unfolding groupReads
     group-none = refl
 
-    group-more : (i : ℕ) → any test (groupReads ws n m gates leaders leader i) ≡ false → any test (reading i) ≡ false → any test (groupReads ws n m gates leaders leader (i + 1)) ≡ false
+    group-more : (i : ℕ) → any test (groupReads ws n m gates leaders leader i) ≡ false → any test (reading i) ≡ false
+        → any test (groupReads ws n m gates leaders leader (i + 1)) ≡ false
     unfolding groupReads reading
     group-more i h k = rw (add-one, joined-snoc (tab reading i) (reading i), any-append test (joined (tab reading i)) (reading i), h, k) refl
 
-    pub gate-other : (i : ℕ) → (getD leaders i 0 ≡ leader → ⊥) → any test (groupReads ws n m gates leaders leader i) ≡ false → any test (groupReads ws n m gates leaders leader (i + 1)) ≡ false
+    pub gate-other : (i : ℕ) → (getD leaders i 0 ≡ leader → ⊥) → any test (groupReads ws n m gates leaders leader i) ≡ false
+        → any test (groupReads ws n m gates leaders leader (i + 1)) ≡ false
     gate-other i ne h = group-more i h (rw (reading-other i ne) refl)
 
-    pub gate-passed : (i k : ℕ) → getD leaders i 0 ≡ leader → m ≤ k → Sought test (wordGates ws n m (gates + 5 * i) (getD ws (gates + 5 * i) 0 / 8)) m k → any test (groupReads ws n m gates leaders leader i) ≡ false → any test (groupReads ws n m gates leaders leader (i + 1)) ≡ false
+    pub gate-passed : (i k : ℕ) → getD leaders i 0 ≡ leader → m ≤ k → Sought test (wordGates ws n m (gates + 5 * i) (getD ws (gates + 5 * i) 0 / 8)) m k
+        → any test (groupReads ws n m gates leaders leader i) ≡ false → any test (groupReads ws n m gates leaders leader (i + 1)) ≡ false
     unfolding gateReads
     gate-passed i k e l s h = group-more i h (rw (reading-led i e) (s .none l))
 
-    pub gate-found : (i k : ℕ) → i < m → getD leaders i 0 ≡ leader → k < m → Sought test (wordGates ws n m (gates + 5 * i) (getD ws (gates + 5 * i) 0 / 8)) m k → Sought test (groupReads ws n m gates leaders leader m) m k
+    pub gate-found : (i k : ℕ) → i < m → getD leaders i 0 ≡ leader → k < m
+        → Sought test (wordGates ws n m (gates + 5 * i) (getD ws (gates + 5 * i) 0 / 8)) m k → Sought test (groupReads ws n m gates leaders leader m) m k
     unfolding gateReads
     gate-found i k il e l s =
         record {
@@ -115,5 +121,7 @@ module _ (ws : List ℕ) (n m gates : ℕ) (leaders : List ℕ) (leader : ℕ) w
     gates-below lowest zero l = group-none
     gates-below lowest (suc i) l = rw (← add-one i) (gate-other i (lowest i (omega arith)) (gates-below lowest i (omega arith)))
 
-    pub gates-passed : (i : ℕ) → i ≡ m → any test (groupReads ws n m gates leaders leader i) ≡ false → Sought test (groupReads ws n m gates leaders leader m) m m
-    gates-passed i e h = record { found = λ l. absurd (omega arith); none = λ l. subst (λ (i : ℕ). any test (groupReads ws n m gates leaders leader i) ≡ false) e h }
+    pub gates-passed : (i : ℕ) → i ≡ m → any test (groupReads ws n m gates leaders leader i) ≡ false
+        → Sought test (groupReads ws n m gates leaders leader m) m m
+    gates-passed i e h =
+        record { found = λ l. absurd (omega arith); none = λ l. subst (λ (i : ℕ). any test (groupReads ws n m gates leaders leader i) ≡ false) e h }

@@ -35,7 +35,8 @@ countBelow-mono p q (suc n) f =
     omega arith
 
 -- and fewer, where one passes only the other
-pub countBelow-less : (p q : ℕ → Bool) (n : ℕ) → ((k : ℕ) → k < n → p k ≡ true → q k ≡ true) → (k : ℕ) → k < n → p k ≡ false → q k ≡ true → countBelow p n < countBelow q n
+pub countBelow-less : (p q : ℕ → Bool) (n : ℕ) → ((k : ℕ) → k < n → p k ≡ true → q k ≡ true) → (k : ℕ) → k < n → p k ≡ false → q k ≡ true
+    → countBelow p n < countBelow q n
 countBelow-less p q zero f k h e g = absurd (omega arith)
 countBelow-less p q (suc n) f k h e g =
     go (lt-or-le k n) (countBelow-less p q n (λ i l. f i (omega arith)) k)

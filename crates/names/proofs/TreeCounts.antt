@@ -51,13 +51,15 @@ module _ {t : Tree} {text : List ℕ} (p : Prints t text) where
   pub lines-are : times 10 text ≡ length (t .inputs) + (length (t .gates) + length (t .outputs))
   lines-are = rw (text-is p) (line-count (treeLines t) (tree-lines t (p .legal)) ∙ line-total t)
 
-  letters : tab (letterAt text) (times 10 text) ≡ replicate (length (t .inputs)) 105 ++ (replicate (length (t .gates)) 103 ++ replicate (length (t .outputs)) 111)
+  letters : tab (letterAt text) (times 10 text) ≡ replicate (length (t .inputs)) 105
+      ++ (replicate (length (t .gates)) 103 ++ replicate (length (t .outputs)) 111)
   unfolding letterAt
   letters =
       rw (text-is p, line-count (treeLines t) (tree-lines t (p .legal)))
       (tab-ext _ _ (length (treeLines t)) (λ i l. sym (getD-drop (lineOffset (joined (treeLines t)) i) (joined (treeLines t)) 1 0)) ∙ letters-walk t (p .legal))
 
-  split : (b : ℕ) → linesWith b text (times 10 text) ≡ times b (replicate (length (t .inputs)) 105) + (times b (replicate (length (t .gates)) 103) + times b (replicate (length (t .outputs)) 111))
+  split : (b : ℕ) → linesWith b text (times 10 text) ≡ times b (replicate (length (t .inputs)) 105)
+      + (times b (replicate (length (t .gates)) 103) + times b (replicate (length (t .outputs)) 111))
   unfolding linesWith
   split b = rw (letters, times-append b (replicate (length (t .inputs)) 105), times-append b (replicate (length (t .gates)) 103))
 
@@ -84,7 +86,8 @@ module _ {t : Tree} {text : List ℕ} (p : Prints t text) where
 
 -- ---- gates: each line has one bracket of its own, each gate one more
 
-opens-are : {A : Type 0} (legal : A → Bool) (line : A → List ℕ) (gates : A → ℕ) → ((x : A) → legal x ≡ true → TreeLine (line x) (gates x)) → (xs : List A) → all legal xs ≡ true
+opens-are : {A : Type 0} (legal : A → Bool) (line : A → List ℕ) (gates : A → ℕ) → ((x : A) → legal x ≡ true → TreeLine (line x) (gates x)) → (xs : List A)
+    → all legal xs ≡ true
     → sum (map (times 40) (map line xs)) ≡ length xs + sum (map gates xs)
 opens-are legal line gates f [] h = refl
 opens-are legal line gates f (x ∷ xs) h =
@@ -106,7 +109,14 @@ module _ {t : Tree} {text : List ℕ} (p : Prints t text) where
       let c = opens-are isLegalOutput outputText (λ x. 0) output-line (t .outputs) (q .outputs) in
       let d = sum-none (t .inputs) in
       let e = sum-none (t .outputs) in
-      rw (text-is p, times-joined 40 (treeLines t), map-append (times 40) (map inputText (t .inputs)), map-append (times 40) (map gateText (t .gates)), sum-append, sum-append) (omega arith)
+      rw (
+        text-is p,
+        times-joined 40 (treeLines t),
+        map-append (times 40) (map inputText (t .inputs)),
+        map-append (times 40) (map gateText (t .gates)),
+        sum-append,
+        sum-append,
+      ) (omega arith)
 
   pub gates-are : times 40 text - times 10 text ≡ sum (map lineGates (t .gates))
   gates-are = omega (arith, all-opens, lines-are p)
@@ -130,7 +140,8 @@ pub record WithinLimits (t : Tree) : Type 0 where
 
 pub limits-within : (t : Tree) → isOverLimit t ≡ false → WithinLimits t
 unfolding isOverLimit
-limits-within t h = go (leb (length (t .inputs)) maxInputs) (leb (sum (map lineGates (t .gates))) maxGates) (leb (length (t .outputs)) maxOutputs) refl refl refl h
+limits-within t h =
+    go (leb (length (t .inputs)) maxInputs) (leb (sum (map lineGates (t .gates))) maxGates) (leb (length (t .outputs)) maxOutputs) refl refl refl h
   where
     go : (a b c : Bool) → leb (length (t .inputs)) maxInputs ≡ a → leb (sum (map lineGates (t .gates))) maxGates ≡ b → leb (length (t .outputs)) maxOutputs ≡ c
         → not (a && b && c) ≡ false → WithinLimits t
@@ -147,7 +158,8 @@ named-le (g ∷ gs) = let h = named-le gs in omega arith
 
 -- Within the limits, tables of these lengths have room.
 pub table-room : {t : Tree} {text : List ℕ} → Prints t text → isOverLimit t ≡ false → (c : Counts) → c ≡ treeCounts t → (names places words : List ℕ)
-    → length text ≤ maxText → maxInputs + maxGates + maxOutputs ≤ length names → maxInputs + maxGates + maxOutputs ≤ length places → maxInputs + maxGates ≤ length words
+    → length text ≤ maxText → maxInputs + maxGates + maxOutputs ≤ length names → maxInputs + maxGates + maxOutputs ≤ length places
+    → maxInputs + maxGates ≤ length words
     → TableRoom c text names places words
 unfolding treeCounts
 table-room {t} p h c e names places words short a b d =

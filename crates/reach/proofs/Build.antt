@@ -28,7 +28,8 @@ use Rattle.reach.proofs.GroupNumber.{groupNumber-is}
 
 module _ (b : Block) where
   -- the next gate is the lowest of its group
-  pub nextGate-lowest : (done : List ℕ) → Numbered b done → nextGate b done < gateCount b → (k : ℕ) → member k (groupOf b (nextGate b done)) ≡ true → nextGate b done ≤ k
+  pub nextGate-lowest : (done : List ℕ) → Numbered b done → nextGate b done < gateCount b → (k : ℕ) → member k (groupOf b (nextGate b done)) ≡ true
+      → nextGate b done ≤ k
   nextGate-lowest done n h k m =
       let p = nextGate-passes b done h in
       let e = groupOf-equal b (nextGate b done) k (groupOf-same b (nextGate b done) k m) in
@@ -108,7 +109,10 @@ module _ (b : Block) where
       (λ more done l f t gs e r. go more done l f t gs e r)
       (λ more done l t gs e r. rw (take-nil {A = List ℕ} t, append-nil gs) r)
     where
-      go : (more : ℕ) (done : List ℕ) → nextGate b done < gateCount b → ((t : ℕ) (gs : List (List ℕ)) → joined gs ≡ done ++ groupOf b (nextGate b done) → Built b gs → Built b (gs ++ take t (groupsAfter b more (done ++ groupOf b (nextGate b done))))) → (t : ℕ) (gs : List (List ℕ)) → joined gs ≡ done → Built b gs → Built b (gs ++ take t (groupOf b (nextGate b done) ∷ groupsAfter b more (done ++ groupOf b (nextGate b done))))
+      go : (more : ℕ) (done : List ℕ) → nextGate b done < gateCount b
+          → ((t : ℕ) (gs : List (List ℕ)) → joined gs ≡ done ++ groupOf b (nextGate b done) → Built b gs
+          → Built b (gs ++ take t (groupsAfter b more (done ++ groupOf b (nextGate b done))))) → (t : ℕ) (gs : List (List ℕ)) → joined gs ≡ done
+          → Built b gs → Built b (gs ++ take t (groupOf b (nextGate b done) ∷ groupsAfter b more (done ++ groupOf b (nextGate b done))))
       go more done l f zero gs e r = rw (append-nil gs) r
       go more done l f (suc t) gs e r =
           let g = groupOf b (nextGate b done) in
@@ -122,10 +126,12 @@ module _ (b : Block) where
   groups-built t = after-built (gateCount b) [] t [] refl none
 
   -- group t is that of the lowest gate that may be next when the first t are numbered
-  pub groups-at : (t : ℕ) → t < length (groups b) → (nextGate b (joined (take t (groups b))) < gateCount b) × (getD (groups b) t [] ≡ groupOf b (nextGate b (joined (take t (groups b)))))
+  pub groups-at : (t : ℕ) → t < length (groups b) → (nextGate b (joined (take t (groups b))) < gateCount b)
+      × (getD (groups b) t [] ≡ groupOf b (nextGate b (joined (take t (groups b)))))
   groups-at t h = go (lt-or-le (nextGate b (joined (take t (groups b)))) (gateCount b))
     where
-      go : (nextGate b (joined (take t (groups b))) < gateCount b) ⊎ (gateCount b ≤ nextGate b (joined (take t (groups b)))) → (nextGate b (joined (take t (groups b))) < gateCount b) × (getD (groups b) t [] ≡ groupOf b (nextGate b (joined (take t (groups b)))))
+      go : (nextGate b (joined (take t (groups b))) < gateCount b) ⊎ (gateCount b ≤ nextGate b (joined (take t (groups b))))
+          → (nextGate b (joined (take t (groups b))) < gateCount b) × (getD (groups b) t [] ≡ groupOf b (nextGate b (joined (take t (groups b)))))
       go (inl l) =
           let gs = take t (groups b) in
           let g = groupOf b (nextGate b (joined gs)) in

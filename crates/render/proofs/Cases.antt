@@ -27,7 +27,8 @@ renderBy ws false false true true = refused NoRoom
 renderBy ws false false true false = done (encode (rendering (decode ws))) (length (encode (rendering (decode ws)))) 0
 
 pub render-by : (ws : List ℕ) (room : ℕ)
-    → render ws room ≡ renderBy ws (isTorn ws) (ltb maxCopies (copyCount (decode ws))) (isSound (decode ws)) (ltb room (length (encode (rendering (decode ws)))))
+    → render ws room ≡ renderBy ws (isTorn ws) (ltb maxCopies (copyCount (decode ws))) (isSound (decode ws))
+    (ltb room (length (encode (rendering (decode ws)))))
 unfolding render renderWords renderBlock counted inRoom refuseIf renderBy
 render-by ws room = go (isTorn ws) (ltb maxCopies (copyCount (decode ws))) (isSound (decode ws)) (ltb room (length (encode (rendering (decode ws))))) refl
   where

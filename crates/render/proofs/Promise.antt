@@ -58,7 +58,8 @@ module _ (b : Block) where
   lowest-so : isSound b ≡ false → LowestOf b (lowestUnsettled b)
   unfolding lowestUnsettled unsettled
   lowest-so h =
-      let all : settingCount b ≤ least unsettled (settingCount b) → isSound b ≡ true = λ ge. lowest-sound b (le-antisymm (least-le unsettled (settingCount b)) ge) in
+      let all : settingCount b ≤ least unsettled (settingCount b)
+      → isSound b ≡ true = λ ge. lowest-sound b (le-antisymm (least-le unsettled (settingCount b)) ge) in
       let lt : least unsettled (settingCount b) < settingCount b =
       ⊎-elim (λ l. l) (λ ge. not-both (all ge) h) (lt-or-le (least unsettled (settingCount b)) (settingCount b)) in
       record {

@@ -38,7 +38,9 @@ fresh-append flags (k ∷ ks) js =
     ∙ sym (cond-append (eqb (getD flags k 0) 0) k (fresh (set flags k 1) ks) (fresh (marked (set flags k 1) ks) js))
 
 -- marking one list and then another is marking both
-pub extended-then : {ks js flags queue : List ℕ} {tail : ℕ} {flags₁ queue₁ : List ℕ} {tail₁ : ℕ} {flags₂ queue₂ : List ℕ} {tail₂ : ℕ} → Extended ks flags queue tail flags₁ queue₁ tail₁ → Extended js flags₁ queue₁ tail₁ flags₂ queue₂ tail₂ → Extended (ks ++ js) flags queue tail flags₂ queue₂ tail₂
+pub extended-then : {ks js flags queue : List ℕ} {tail : ℕ} {flags₁ queue₁ : List ℕ} {tail₁ : ℕ} {flags₂ queue₂ : List ℕ} {tail₂ : ℕ}
+    → Extended ks flags queue tail flags₁ queue₁ tail₁ → Extended js flags₁ queue₁ tail₁ flags₂ queue₂ tail₂
+    → Extended (ks ++ js) flags queue tail flags₂ queue₂ tail₂
 extended-then {ks} {js} {flags} {queue} {tail} e f =
     record {
       flagsAre = f .flagsAre ∙ ap (λ (l : List ℕ). marked l js) (e .flagsAre) ∙ sym (marked-append flags ks js);
@@ -63,7 +65,8 @@ extended-old k flags queue tail h =
     let e : eqb (getD flags k 0) 0 ≡ false = ne-eqb (getD flags k 0) 0 h in
     record { flagsAre = refl; queueIs = rw e refl; tailIs = rw e (sym (add-zero tail)) }
 
-pub extended-new : (k : ℕ) (flags queue : List ℕ) (tail : ℕ) → getD flags k 0 ≡ 0 → Extended (k ∷ []) flags queue tail (set flags k 1) (set queue tail k) (tail + 1)
+pub extended-new : (k : ℕ) (flags queue : List ℕ) (tail : ℕ) → getD flags k 0 ≡ 0
+    → Extended (k ∷ []) flags queue tail (set flags k 1) (set queue tail k) (tail + 1)
 unfolding marked fresh
 extended-new k flags queue tail h =
     let e : eqb (getD flags k 0) 0 ≡ true = eq-eqb (getD flags k 0) 0 h in
@@ -118,15 +121,18 @@ length-marked flags [] = refl
 length-marked flags (k ∷ ks) = length-marked (set flags k 1) ks ∙ length-set flags k 1
 
 -- marking adds as many flags as are fresh
-marked-count : (flags ks : List ℕ) (m : ℕ) → m ≤ length flags → all (λ k. ltb k m) ks ≡ true → setFlags (marked flags ks) m ≡ setFlags flags m + length (fresh flags ks)
+marked-count : (flags ks : List ℕ) (m : ℕ) → m ≤ length flags → all (λ k. ltb k m) ks ≡ true
+    → setFlags (marked flags ks) m ≡ setFlags flags m + length (fresh flags ks)
 unfolding marked fresh
 marked-count flags [] m fits inside = sym (add-zero (setFlags flags m))
-marked-count flags (k ∷ ks) m fits inside = go (eqb (getD flags k 0) 0) refl (marked-count (set flags k 1) ks m (rw (length-set) fits) (and-right (ltb k m) (all (λ j. ltb j m) ks) inside))
+marked-count flags (k ∷ ks) m fits inside =
+    go (eqb (getD flags k 0) 0) refl (marked-count (set flags k 1) ks m (rw (length-set) fits) (and-right (ltb k m) (all (λ j. ltb j m) ks) inside))
   where
     l : k < m
     l = ltb-true k m (and-left (ltb k m) (all (λ j. ltb j m) ks) inside)
 
-    go : (b : Bool) → eqb (getD flags k 0) 0 ≡ b → setFlags (marked (set flags k 1) ks) m ≡ setFlags (set flags k 1) m + length (fresh (set flags k 1) ks) → setFlags (marked (set flags k 1) ks) m ≡ setFlags flags m + length (cond b (k ∷ fresh (set flags k 1) ks) (fresh (set flags k 1) ks))
+    go : (b : Bool) → eqb (getD flags k 0) 0 ≡ b → setFlags (marked (set flags k 1) ks) m ≡ setFlags (set flags k 1) m + length (fresh (set flags k 1) ks)
+        → setFlags (marked (set flags k 1) ks) m ≡ setFlags flags m + length (cond b (k ∷ fresh (set flags k 1) ks) (fresh (set flags k 1) ks))
     go true e ih =
         let one : setFlags (set flags k 1) m ≡ suc (setFlags flags m) = set-new flags k m l fits (eqb-true (getD flags k 0) 0 e) in
         omega arith
@@ -135,7 +141,8 @@ marked-count flags (k ∷ ks) m fits inside = go (eqb (getD flags k 0) 0) refl (
         omega arith
 
 -- the queue's room stays
-pub room-kept : {m : ℕ} {ks flags queue : List ℕ} {tail : ℕ} {flags′ queue′ : List ℕ} {tail′ : ℕ} → Room m flags queue tail → all (λ k. ltb k m) ks ≡ true → Extended ks flags queue tail flags′ queue′ tail′ → Room m flags′ queue′ tail′
+pub room-kept : {m : ℕ} {ks flags queue : List ℕ} {tail : ℕ} {flags′ queue′ : List ℕ} {tail′ : ℕ} → Room m flags queue tail → all (λ k. ltb k m) ks ≡ true
+    → Extended ks flags queue tail flags′ queue′ tail′ → Room m flags′ queue′ tail′
 room-kept {m} {ks} {flags} {queue} {tail} r inside e =
     record {
       flagRoom = rw (e .flagsAre, length-marked) (r .flagRoom);
@@ -181,19 +188,24 @@ word-none n m w h = named-none n m w (names h) (omega arith)
 -- one operand word more
 pub words-more : (ws : List ℕ) (n m at i : ℕ) → wordGates ws n m at (suc i) ≡ wordGates ws n m at i ++ wordGate n m (getD ws (at + 1 + i) 0)
 unfolding wordGates
-words-more ws n m at i = joined-append (tab (λ j. wordGate n m (getD ws (at + 1 + j) 0)) i) (wordGate n m (getD ws (at + 1 + i) 0) ∷ []) ∙ ap (λ (r : List ℕ). joined (tab (λ j. wordGate n m (getD ws (at + 1 + j) 0)) i) ++ r) (append-nil (wordGate n m (getD ws (at + 1 + i) 0)))
+words-more ws n m at i =
+    joined-append (tab (λ j. wordGate n m (getD ws (at + 1 + j) 0)) i) (wordGate n m (getD ws (at + 1 + i) 0) ∷ [])
+    ∙ ap (λ (r : List ℕ). joined (tab (λ j. wordGate n m (getD ws (at + 1 + j) 0)) i) ++ r) (append-nil (wordGate n m (getD ws (at + 1 + i) 0)))
 
 pub words-inside : (ws : List ℕ) (n m at count : ℕ) → all (λ k. ltb k m) (wordGates ws n m at count) ≡ true
 unfolding wordGates
 words-inside ws n m at zero = refl
 words-inside ws n m at (suc i) =
-    rw (words-more ws n m at i, all-append (λ k. ltb k m) (wordGates ws n m at i) (wordGate n m (getD ws (at + 1 + i) 0)), words-inside ws n m at i) (word-inside n m (getD ws (at + 1 + i) 0))
+    rw (words-more ws n m at i, all-append (λ k. ltb k m) (wordGates ws n m at i) (wordGate n m (getD ws (at + 1 + i) 0)), words-inside ws n m at i)
+    (word-inside n m (getD ws (at + 1 + i) 0))
 
 -- no slice changes its length
-pub flags-length : {ks flags queue : List ℕ} {tail : ℕ} {flags′ queue′ : List ℕ} {tail′ : ℕ} → Extended ks flags queue tail flags′ queue′ tail′ → length flags′ ≡ length flags
+pub flags-length : {ks flags queue : List ℕ} {tail : ℕ} {flags′ queue′ : List ℕ} {tail′ : ℕ} → Extended ks flags queue tail flags′ queue′ tail′
+    → length flags′ ≡ length flags
 flags-length {ks} {flags} e = rw (e .flagsAre) (length-marked flags ks)
 
-pub queue-length : {ks flags queue : List ℕ} {tail : ℕ} {flags′ queue′ : List ℕ} {tail′ : ℕ} → Extended ks flags queue tail flags′ queue′ tail′ → length queue′ ≡ length queue
+pub queue-length : {ks flags queue : List ℕ} {tail : ℕ} {flags′ queue′ : List ℕ} {tail′ : ℕ} → Extended ks flags queue tail flags′ queue′ tail′
+    → length queue′ ≡ length queue
 queue-length {ks} {flags} {queue} {tail} e = rw (e .queueIs) (length-sets queue tail (fresh flags ks))
 
 pub words-none : (ws : List ℕ) (n m at : ℕ) → wordGates ws n m at 0 ≡ []
@@ -201,5 +213,7 @@ unfolding wordGates
 words-none ws n m at = refl
 
 -- the turn of a loop over operand words
-pub word-turn : (ws : List ℕ) (n m at i : ℕ) {flags queue : List ℕ} {tail : ℕ} {flags₁ queue₁ : List ℕ} {tail₁ : ℕ} {flags₂ queue₂ : List ℕ} {tail₂ : ℕ} (w : ℕ) → w ≡ getD ws (at + 1 + i) 0 → Extended (wordGates ws n m at i) flags queue tail flags₁ queue₁ tail₁ → Extended (wordGate n m w) flags₁ queue₁ tail₁ flags₂ queue₂ tail₂ → Extended (wordGates ws n m at (i + 1)) flags queue tail flags₂ queue₂ tail₂
+pub word-turn : (ws : List ℕ) (n m at i : ℕ) {flags queue : List ℕ} {tail : ℕ} {flags₁ queue₁ : List ℕ} {tail₁ : ℕ} {flags₂ queue₂ : List ℕ} {tail₂ : ℕ}
+    (w : ℕ) → w ≡ getD ws (at + 1 + i) 0 → Extended (wordGates ws n m at i) flags queue tail flags₁ queue₁ tail₁
+    → Extended (wordGate n m w) flags₁ queue₁ tail₁ flags₂ queue₂ tail₂ → Extended (wordGates ws n m at (i + 1)) flags queue tail flags₂ queue₂ tail₂
 word-turn ws n m at i w is e f = rw (add-one, words-more ws n m at i, ← is) (extended-then e f)

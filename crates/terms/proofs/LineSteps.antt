@@ -43,7 +43,8 @@ module _ {A : Type 0} (F : LineForm A) (lawful : Lawful F) where
         unknown = e .unknown ∙ rw (d .unknown, total)
             (unknown-append seen bs (F .uses x at) (mentions (F .printed) (F .uses) xs (at + length (F .printed x []))) (at + length s));
         words = e .words ∙ rw (d .words, d .number)
-            (sets-append (F .words n bs x first) a₀ (5 * first) (5 * (first + F .cost x)) (linesWords F n bs xs (first + F .cost x)) (omega (arith, lawful .sized n bs x first)));
+            (sets-append (F .words n bs x first) a₀ (5 * first) (5 * (first + F .cost x)) (linesWords F n bs xs (first + F .cost x))
+            (omega (arith, lawful .sized n bs x first)));
       }
 
   -- the first of some lines
@@ -165,7 +166,11 @@ module _ {A : Type 0} (F : LineForm A) (lawful : Lawful F) where
                     here = rw z (x .next);
                     counted = omega arith;
                     costs = omega (arith, e .number);
-                    onward = λ after r f. w .onward after r (rw (x .lines) (one-done n bs (x .line) (x .others) (at + (length s - left)) (drop (length s - left) s) (x .behind) rest first unknown array array′ after one r
+                    onward =
+                        λ after r f. w .onward after r
+                        (rw (x .lines)
+                        (one-done n bs (x .line) (x .others) (at + (length s - left)) (drop (length s - left) s) (x .behind) rest first unknown array array′
+                        after one r
                         (x .here .printed) e (rw (z, position at (one .left) (x .line) (x .behind) (e .left) (x .here)) at f)));
                   };
             }

@@ -14,7 +14,8 @@ use Rattle.laws.proofs.Quantifiers.{all-append}
 use Rattle.netlist.specs.Kinds.{keyword}
 use Rattle.netlist.specs.Netlist.{Name}
 use Rattle.netlist.specs.Syntax.{Term, Terms, name, literal, apply, nil, cons, GateLine, OutputLine, Tree, printTerm, printTerms, printGate, printOutput, print}
-use Rattle.netlist.specs.Reading.{Mention, mentions, linesLength, gateLinesAt, outputLinesAt, termMentions, termsMentions, operandMentions, shownMention, usedNames, firstOutside}
+use Rattle.netlist.specs.Reading.{Mention, mentions, linesLength, gateLinesAt, outputLinesAt, termMentions, termsMentions, operandMentions, shownMention}
+use Rattle.netlist.specs.Reading.{usedNames, firstOutside}
 use Rattle.grammar.proofs.Shorter.{printTerms-append}
 use Rattle.grammar.proofs.Places.{term-measure, print-measure}
 use Rattle.netlist.specs.declared.Refusal.the-variants.{UndeclaredName}

@@ -52,7 +52,8 @@ less c =
     let at-line = at-found .before .before in
     let stage = at-line .before .before in
     let i = stage in
-    line-left (i .before .before .before .args .text .now) (i .before .loop .phase) (i .before .loop .at) (i .before .loop .inv) (i .loop-test .taken) (at-line .line .ensures) (at-found .found .given .1)
+    line-left (i .before .before .before .args .text .now) (i .before .loop .phase) (i .before .loop .at) (i .before .loop .inv) (i .loop-test .taken)
+    (at-line .line .ensures) (at-found .found .given .1)
 
 sub-at : tie.Need-sub-at Inv-loop μ-loop
 sub-at c = let l = less c in omega arith
@@ -67,7 +68,8 @@ loop-again c =
     let stage = at-line .before .before in
     let i = stage in
     rw (c .phase-of .ensures ∙ ap phaseOf (c .before .byte-at .ensures))
-    (reached-next (i .before .before .before .args .text .now) (i .before .loop .phase) (i .before .loop .at) (i .before .loop .inv) (i .loop-test .taken) (at-line .line .ensures) (at-found .found .given .1))
+    (reached-next (i .before .before .before .args .text .now) (i .before .loop .phase) (i .before .loop .at) (i .before .loop .inv) (i .loop-test .taken)
+    (at-line .line .ensures) (at-found .found .given .1))
 
 enum-known-found-2 : tie.Need-enum-known-found-2 Inv-loop μ-loop
 enum-known-found-2 c = search needs
@@ -77,17 +79,20 @@ sub-t15 c =
     let at-line = c .before .before .before in
     let stage = at-line .before .before in
     let i = stage in
-    line-stuck (i .before .before .before .args .text .now) (i .before .loop .phase) (i .before .loop .at) (i .before .loop .inv) (i .loop-test .taken) (at-line .line .ensures) (c .before .found2 .given .1)
+    line-stuck (i .before .before .before .args .text .now) (i .before .loop .phase) (i .before .loop .at) (i .before .loop .inv) (i .loop-test .taken)
+    (at-line .line .ensures) (c .before .found2 .given .1)
 
 returns : tie.Need-returns Inv-loop μ-loop
 returns c =
     let at-line = c .before .before .before in
     let stage = at-line .before .before in
     let i = stage in
-    sym (reached-stuck (i .before .before .before .args .text .now) (i .before .loop .phase) (i .before .loop .at) (i .before .loop .inv) (i .loop-test .taken) (at-line .line .ensures) (c .before .found2 .given .1))
+    sym (reached-stuck (i .before .before .before .args .text .now) (i .before .loop .phase) (i .before .loop .at) (i .before .loop .inv)
+    (i .loop-test .taken) (at-line .line .ensures) (c .before .found2 .given .1))
 
 returns-2 : tie.Need-returns-2 Inv-loop μ-loop
-returns-2 c = sym (reached-end (c .before .before .before .args .text .now) (c .before .loop .phase) (c .before .loop .at) (c .before .loop .inv) (c .loop-test .left))
+returns-2 c =
+    sym (reached-end (c .before .before .before .args .text .now) (c .before .loop .phase) (c .before .loop .at) (c .before .loop .inv) (c .loop-test .left))
 
 pub form-spec : {M : Type 1} → statement M
 form-spec =

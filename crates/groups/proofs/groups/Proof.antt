@@ -94,7 +94,8 @@ returns-3 c =
     let t = room-test p in
     let d = assigned .assign .ensures in
     finished
-    (passed bare keeps-bare _ _ NoRoom (behind-words (t .before .before)) (rw (← t .before .gates-of .ensures) (t .test-room .ensures)) (p .enum-told3 .given .1))
+    (passed bare keeps-bare _ _ NoRoom (behind-words (t .before .before)) (rw (← t .before .gates-of .ensures) (t .test-room .ensures))
+    (p .enum-told3 .given .1))
     (d .countIs) (d .numbersAre)
 
 pub groups-spec : {M : Type 1} → statement M

@@ -8,7 +8,8 @@ use Rattle.netlist.specs.Syntax.{Tree}
 use Rattle.netlist.specs.Reading.{bindings, gateLinesAt, outputLinesAt}
 use Rattle.terms.specs.Lines.{gateForm, outputForm, LinesDone}
 use Rattle.terms.specs.Resolution.{TreeAt}
-use Rattle.terms.proofs.WholeText.{nodes-few, numbers-length, values-length, outputsText, gatesText, gates-end, outputs-end, inputs-here, gates-here, outputs-here, inputs-left, gates-done, outputs-done}
+use Rattle.terms.proofs.WholeText.{nodes-few, numbers-length, values-length, outputsText, gatesText, gates-end, outputs-end, inputs-here}
+use Rattle.terms.proofs.WholeText.{gates-here, outputs-here, inputs-left, gates-done, outputs-done}
 use Rattle.terms.proofs.Answers.{known-done, undeclared-done, unknown-short}
 use borrow.Author.Needs.{needs}
 use Rattle.terms.proofs.resolve.Statement.{statement}
@@ -17,21 +18,26 @@ use Rattle.terms.proofs.resolve.Tie as tie
 -- where the gate lines and the output lines begin
 gates-left : (c : tie.After-input-lines) →
     let start = c .before .before .before .before .before .before .before in
-    c .input-lines .result ≡ length (gatesText (start .pre .tree) (start .args .text .now) (start .args .c) (start .args .names .now) (start .args .words .now) (start .pre .here))
+    c .input-lines .result ≡ length
+    (gatesText (start .pre .tree) (start .args .text .now) (start .args .c) (start .args .names .now) (start .args .words .now) (start .pre .here))
 gates-left c =
     let stage = c .before .before .before .before .before .before .before in
     let start = stage in
-    inputs-left (start .pre .tree) (start .args .text .now) (start .args .c) (start .args .names .now) (start .args .words .now) (start .pre .here) (c .input-lines .result) (c .input-lines .ensures)
+    inputs-left (start .pre .tree) (start .args .text .now) (start .args .c) (start .args .names .now) (start .args .words .now) (start .pre .here)
+    (c .input-lines .result) (c .input-lines .ensures)
 
 outputs-left : (c : tie.After-gate-lines) →
     let earlier = c .before .before .before .before .before .before .before in
     let start = earlier .before .before .before .before .before in
-    c .gate-lines .result .left ≡ length (outputsText (start .pre .tree) (start .args .text .now) (start .args .c) (start .args .names .now) (start .args .words .now) (start .pre .here))
+    c .gate-lines .result .left ≡ length
+    (outputsText (start .pre .tree) (start .args .text .now) (start .args .c) (start .args .names .now) (start .args .words .now) (start .pre .here))
 outputs-left c =
     let stage = c .before .before .before .before .before in
     let at-input-lines = stage in
     let start = at-input-lines .before .before .before .before .before .before .before in
-    gates-done (start .pre .tree) (start .args .text .now) (start .args .c) (start .args .names .now) (start .args .words .now) (start .pre .here) (at-input-lines .input-lines .result) (start .args .gates .now) (c .gate-lines .last .1 .1 .1 .1 .1 .0) (c .gate-lines .result) (gates-left (at-input-lines)) (c .gate-lines .ensures) .left
+    gates-done (start .pre .tree) (start .args .text .now) (start .args .c) (start .args .names .now) (start .args .words .now) (start .pre .here)
+    (at-input-lines .input-lines .result) (start .args .gates .now) (c .gate-lines .last .1 .1 .1 .1 .1 .0) (c .gate-lines .result)
+    (gates-left (at-input-lines)) (c .gate-lines .ensures) .left
 
 -- what the two walks have done, of whatever tree
 gates-walked : (c : tie.After-output-lines) →
@@ -40,8 +46,10 @@ gates-walked : (c : tie.After-output-lines) →
     let earlier-2 = at-gate-lines .before .before .before .before .before .before .before in
     let start = earlier-2 .before .before .before .before .before in
     (t : Tree) (w : TreeAt t (start .args .text .now) (start .args .c) (start .args .names .now) (start .args .words .now))
-    → LinesDone gateForm (start .args .c .inputs) (bindings t) (t .gates) (gateLinesAt t) (gatesText t (start .args .text .now) (start .args .c) (start .args .names .now) (start .args .words .now) w)
-    (outputsText t (start .args .text .now) (start .args .c) (start .args .names .now) (start .args .words .now) w) 0 0 (start .args .gates .now) (at-gate-lines .gate-lines .last .1 .1 .1 .1 .1 .0) (at-gate-lines .gate-lines .result)
+    → LinesDone gateForm (start .args .c .inputs) (bindings t) (t .gates) (gateLinesAt t)
+    (gatesText t (start .args .text .now) (start .args .c) (start .args .names .now) (start .args .words .now) w)
+    (outputsText t (start .args .text .now) (start .args .c) (start .args .names .now) (start .args .words .now) w) 0 0 (start .args .gates .now)
+    (at-gate-lines .gate-lines .last .1 .1 .1 .1 .1 .0) (at-gate-lines .gate-lines .result)
 gates-walked c t w =
     let earlier = c .before .before .before .before .before .before .before in
     let at-gate-lines = earlier .before in
@@ -59,7 +67,8 @@ outputs-walked : (c : tie.After-output-lines) →
     let earlier-2 = at-gate-lines .before .before .before .before .before .before .before in
     let start = earlier-2 .before .before .before .before .before in
     (t : Tree) (w : TreeAt t (start .args .text .now) (start .args .c) (start .args .names .now) (start .args .words .now))
-    → LinesDone outputForm (start .args .c .inputs) (bindings t) (t .outputs) (outputLinesAt t) (outputsText t (start .args .text .now) (start .args .c) (start .args .names .now) (start .args .words .now) w) []
+    → LinesDone outputForm (start .args .c .inputs) (bindings t) (t .outputs) (outputLinesAt t)
+    (outputsText t (start .args .text .now) (start .args .c) (start .args .names .now) (start .args .words .now) w) []
     0 (at-gate-lines .gate-lines .result .unknown) (start .args .outputs .now) (c .output-lines .last .1 .1 .1 .1 .1 .0) (c .output-lines .result)
 outputs-walked c t w =
     let earlier = c .before .before .before .before .before .before .before in
@@ -69,7 +78,8 @@ outputs-walked c t w =
     let a = start .args in
     let g = at-gate-lines .gate-lines in
     let o = c .output-lines in
-    outputs-done t (a .text .now) (a .c) (a .names .now) (a .words .now) w (g .result .left) (g .result .unknown) (a .outputs .now) (o .last .1 .1 .1 .1 .1 .0) (o .result)
+    outputs-done t (a .text .now) (a .c) (a .names .now) (a .words .now) w (g .result .left) (g .result .unknown) (a .outputs .now)
+    (o .last .1 .1 .1 .1 .1 .0) (o .result)
     (gates-walked c t w .left) (o .ensures (a .c .inputs))
 
 add-nodes : tie.Need-add-nodes
@@ -86,7 +96,12 @@ sub-gate-lines : tie.Need-sub-gate-lines
 sub-gate-lines c =
     let stage = c .before .before .before .before .before .before .before in
     let start = stage in
-    omega (arith, gates-left c, gates-end (start .pre .tree) (start .args .text .now) (start .args .c) (start .args .names .now) (start .args .words .now) (start .pre .here) .within)
+    omega (
+      arith,
+      gates-left c,
+      gates-end (start .pre .tree) (start .args .text .now) (start .args .c) (start .args .names .now) (start .args .words .now)
+          (start .pre .here) .within,
+    )
 
 sub-gate-lines-2 : tie.Need-sub-gate-lines-2
 sub-gate-lines-2 c = search needs
@@ -114,14 +129,20 @@ gate-lines-requires c κs =
     let stage = c .before .before .before .before in
     let at-input-lines = stage in
     let start = at-input-lines .before .before .before .before .before .before .before in
-    gates-here (start .pre .tree) (start .args .text .now) (start .args .c) (start .args .names .now) (start .args .words .now) (start .pre .here) (at-input-lines .input-lines .result) (start .args .gates .now) (gates-left (at-input-lines)) (start .pre .gateRoom)
+    gates-here (start .pre .tree) (start .args .text .now) (start .args .c) (start .args .names .now) (start .args .words .now) (start .pre .here)
+    (at-input-lines .input-lines .result) (start .args .gates .now) (gates-left (at-input-lines)) (start .pre .gateRoom)
 
 sub-output-lines : tie.Need-sub-output-lines
 sub-output-lines c =
     let stage = c .before .before .before in
     let earlier-10 = stage .before .before .before .before .before .before .before in
     let start = earlier-10 .before .before .before .before .before in
-    omega (arith, outputs-left (stage), outputs-end (start .pre .tree) (start .args .text .now) (start .args .c) (start .args .names .now) (start .args .words .now) (start .pre .here) .within)
+    omega (
+      arith,
+      outputs-left (stage),
+      outputs-end (start .pre .tree) (start .args .text .now) (start .args .c) (start .args .names .now)
+          (start .args .words .now) (start .pre .here) .within,
+    )
 
 sub-output-lines-2 : tie.Need-sub-output-lines-2
 sub-output-lines-2 c = search needs
@@ -151,8 +172,11 @@ output-lines-requires c κs =
     let stage = c .before .before .before .before .before .before .before in
     let at-gate-lines = stage in
     let earlier-2 = at-gate-lines .before .before .before .before .before .before .before in
-    let start = earlier-2 .before .before .before .before .before in
-    (start .args .c .inputs, outputs-here (start .pre .tree) (start .args .text .now) (start .args .c) (start .args .names .now) (start .args .words .now) (start .pre .here) (at-gate-lines .gate-lines .result .left) (start .args .outputs .now) (outputs-left (at-gate-lines)) (start .pre .outputRoom))
+    let start = earlier-2 .before .before .before .before .before in (
+      start .args .c .inputs,
+      outputs-here (start .pre .tree) (start .args .text .now) (start .args .c) (start .args .names .now) (start .args .words .now)
+          (start .pre .here) (at-gate-lines .gate-lines .result .left) (start .args .outputs .now) (outputs-left (at-gate-lines)) (start .pre .outputRoom),
+    )
 
 same-length : tie.Need-same-length
 same-length c = search needs
@@ -165,9 +189,15 @@ returns c =
     let stage-2 = c .before .before .before .before in
     let stage = stage-2 in
     let o = stage in
-    let s = o .before .before .before .before .before .before .before .before .before .before .before .before .before .before .before .before .before .before .before .before in
+    let s = o .before .before .before .before .before .before .before .before .before .before .before .before .before .before .before .before .before
+    .before .before .before in
     let a = s .args in
-    record { done = λ t w. known-done t (a .text .now) (a .c) (a .names .now) (a .words .now) w (a .gates .now) (o .before .before .before .before .before .before .before .before .gate-lines .last .1 .1 .1 .1 .1 .0) (a .outputs .now) (o .output-lines .last .1 .1 .1 .1 .1 .0) (o .before .before .before .before .before .before .before .before .gate-lines .result) (o .output-lines .result) (gates-walked o t w) (outputs-walked o t w) (c .if1 .taken) (s .pre .gateRoom) (s .pre .outputRoom) }
+    record {
+      done = λ t w. known-done t (a .text .now) (a .c) (a .names .now) (a .words .now) w (a .gates .now)
+          (o .before .before .before .before .before .before .before .before .gate-lines .last .1 .1 .1 .1 .1 .0) (a .outputs .now)
+          (o .output-lines .last .1 .1 .1 .1 .1 .0) (o .before .before .before .before .before .before .before .before .gate-lines .result)
+          (o .output-lines .result) (gates-walked o t w) (outputs-walked o t w) (c .if1 .taken) (s .pre .gateRoom) (s .pre .outputRoom);
+    }
 
 add-t13 : tie.Need-add-t13
 add-t13 c =
@@ -182,9 +212,16 @@ sub-t15 c =
     let stage-2 = c .before .before .before .before .before in
     let stage = stage-2 in
     let o = stage in
-    let s = o .before .before .before .before .before .before .before .before .before .before .before .before .before .before .before .before .before .before .before .before in
+    let s = o .before .before .before .before .before .before .before .before .before .before .before .before .before .before .before .before .before
+    .before .before .before in
     let a = s .args in
-    let t = s .pre .tree in let w = s .pre .here in omega (arith, unknown-short t (a .text .now) (a .c) (a .names .now) (a .words .now) w (a .gates .now) (o .before .before .before .before .before .before .before .before .gate-lines .last .1 .1 .1 .1 .1 .0) (a .outputs .now) (o .output-lines .last .1 .1 .1 .1 .1 .0) (o .before .before .before .before .before .before .before .before .gate-lines .result) (o .output-lines .result) (gates-walked o t w) (outputs-walked o t w))
+    let t = s .pre .tree in let w = s .pre .here in omega (
+      arith,
+      unknown-short t (a .text .now) (a .c) (a .names .now) (a .words .now) w (a .gates .now)
+          (o .before .before .before .before .before .before .before .before .gate-lines .last .1 .1 .1 .1 .1 .0) (a .outputs .now)
+          (o .output-lines .last .1 .1 .1 .1 .1 .0) (o .before .before .before .before .before .before .before .before .gate-lines .result)
+          (o .output-lines .result) (gates-walked o t w) (outputs-walked o t w),
+    )
 
 same-length-3 : tie.Need-same-length-3
 same-length-3 c = search needs
@@ -197,9 +234,15 @@ returns-2 c =
     let stage-2 = c .before .before .before .before .before in
     let stage = stage-2 in
     let o = stage in
-    let s = o .before .before .before .before .before .before .before .before .before .before .before .before .before .before .before .before .before .before .before .before in
+    let s = o .before .before .before .before .before .before .before .before .before .before .before .before .before .before .before .before .before
+    .before .before .before in
     let a = s .args in
-    record { done = λ t w. undeclared-done t (a .text .now) (a .c) (a .names .now) (a .words .now) w (a .gates .now) (o .before .before .before .before .before .before .before .before .gate-lines .last .1 .1 .1 .1 .1 .0) (a .outputs .now) (o .output-lines .last .1 .1 .1 .1 .1 .0) (o .before .before .before .before .before .before .before .before .gate-lines .result) (o .output-lines .result) (gates-walked o t w) (outputs-walked o t w) (c .before .if1 .left) (s .pre .gateRoom) (s .pre .outputRoom) }
+    record {
+      done = λ t w. undeclared-done t (a .text .now) (a .c) (a .names .now) (a .words .now) w (a .gates .now)
+          (o .before .before .before .before .before .before .before .before .gate-lines .last .1 .1 .1 .1 .1 .0) (a .outputs .now)
+          (o .output-lines .last .1 .1 .1 .1 .1 .0) (o .before .before .before .before .before .before .before .before .gate-lines .result)
+          (o .output-lines .result) (gates-walked o t w) (outputs-walked o t w) (c .before .if1 .left) (s .pre .gateRoom) (s .pre .outputRoom);
+    }
 
 pub resolve-spec : {M : Type 1} → statement M
 resolve-spec =

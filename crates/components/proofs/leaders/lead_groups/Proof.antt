@@ -13,7 +13,8 @@ use Rattle.components.proofs.leaders.lead_groups.Tie as tie
 
 abbrev Inv-loop : tie.InvT-loop
 Inv-loop words n m gates leaders₀ flags₀ queue₀ downward t₀ leaders flags queue t =
-    ((gatesAre : m ≡ gateCount (decode words)) → (few : m ≤ 1024) → Turns (decode words) m gatesAre few downward t leaders₀ leaders) × (length flags ≡ length flags₀) × (length queue ≡ length queue₀)
+    ((gatesAre : m ≡ gateCount (decode words)) → (few : m ≤ 1024) → Turns (decode words) m gatesAre few downward t leaders₀ leaders)
+    × (length flags ≡ length flags₀) × (length queue ≡ length queue₀)
 
 abbrev μ-loop : tie.MeasureT-loop
 μ-loop words n m gates leaders₀ flags₀ queue₀ downward t₀ leaders flags queue t = m - t

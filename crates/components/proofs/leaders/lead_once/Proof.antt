@@ -7,7 +7,8 @@ use Rattle.components.proofs.leaders.lead_once.Statement.{statement}
 use Rattle.components.proofs.leaders.lead_once.Tie as tie
 
 abbrev Inv-loop : tie.InvT-loop
-Inv-loop words n m gates leader queue count leaders₀ changed₀ left₀ leaders changed left = Sweeping words n m gates leader queue count leaders₀ leaders changed left
+Inv-loop words n m gates leader queue count leaders₀ changed₀ left₀ leaders changed left =
+    Sweeping words n m gates leader queue count leaders₀ leaders changed left
 
 abbrev μ-loop : tie.MeasureT-loop
 μ-loop words n m gates leader queue count leaders₀ changed₀ left₀ leaders changed left = left

@@ -13,7 +13,8 @@ use Rattle.components.proofs.leaders.lower.Tie as tie
 
 abbrev Inv-loop : tie.InvT-loop
 Inv-loop m leaders₀ firsts₀ k₀ leaders firsts k =
-    (k ≤ m) × (leaders ≡ placed (tab (firstLike leaders₀) k) leaders₀) × Firsts leaders₀ m k firsts × (length leaders ≡ length leaders₀) × (length firsts ≡ length firsts₀)
+    (k ≤ m) × (leaders ≡ placed (tab (firstLike leaders₀) k) leaders₀) × Firsts leaders₀ m k firsts × (length leaders ≡ length leaders₀)
+    × (length firsts ≡ length firsts₀)
 
 abbrev μ-loop : tie.MeasureT-loop
 μ-loop m leaders₀ firsts₀ k₀ leaders firsts k = m - k

@@ -42,7 +42,8 @@ returns c =
     let at-start = after-word-at .before .before .before in
     let a = at-start .args in
     rw (← after-word-at .word-at .ensures)
-    (sym (found-one (ledBy (a .leaders .now) (a .leader)) (a .n) (a .m) (a .words .now) (a .at) (at-loop .loop .i) (after-word-at .word-at .result / 8) (c .before .before .before .loop-test .taken)
+    (sym (found-one (ledBy (a .leaders .now) (a .leader)) (a .n) (a .m) (a .words .now) (a .at) (at-loop .loop .i) (after-word-at .word-at .result / 8)
+    (c .before .before .before .loop-test .taken)
     (rw (← c .before .before .word-at2 .ensures) (sym (c .before .is-led .ensures) ∙ c .if1 .taken))))
 
 add-i : tie.Need-add-i Inv-loop μ-loop

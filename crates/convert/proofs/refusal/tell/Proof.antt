@@ -48,7 +48,10 @@ put-decimal-requires-2 c κs =
     let at-put-all = at-put-decimal .before .before .before .before in
     let stage = at-put-all .before .before .before in
     let few = digits (stage) in
-    record { small = omega (arith, few .0, few .1, at-put-all .put-all .ensures .endIs, at-put-decimal .put-decimal .ensures .endIs, at-put-all2 .put-all2 .ensures .endIs) }
+    record {
+      small = omega
+          (arith, few .0, few .1, at-put-all .put-all .ensures .endIs, at-put-decimal .put-decimal .ensures .endIs, at-put-all2 .put-all2 .ensures .endIs);
+    }
 
 slice-aggregate-put-all-3 : tie.Need-slice-aggregate-put-all-3
 slice-aggregate-put-all-3 c = search needs
@@ -61,7 +64,17 @@ put-all-requires-3 c κs =
     let at-put-all = at-put-decimal .before .before .before .before in
     let stage = at-put-all .before .before .before in
     let few = digits (stage) in
-    record { small = omega (arith, few .0, few .1, at-put-all .put-all .ensures .endIs, at-put-decimal .put-decimal .ensures .endIs, at-put-all2 .put-all2 .ensures .endIs, at-put-decimal2 .put-decimal2 .ensures .endIs) }
+    record {
+      small = omega (
+        arith,
+        few .0,
+        few .1,
+        at-put-all .put-all .ensures .endIs,
+        at-put-decimal .put-decimal .ensures .endIs,
+        at-put-all2 .put-all2 .ensures .endIs,
+        at-put-decimal2 .put-decimal2 .ensures .endIs,
+      );
+    }
 
 same-length : tie.Need-same-length
 same-length c = search needs
@@ -77,8 +90,11 @@ returns c =
     let at-number-of = at-detail-of .before in
     let start = at-number-of .before .before in
     let a = start .args in
-    line-told (a .why) (a .out .now) _ _ (start .pre) (at-number-of .number-of .ensures) (at-detail-of .detail-of .ensures) (at-number-of .number-of .ok) (at-detail-of .detail-of .ok)
-    (appended-then (at-put-all .put-all .ensures) (appended-then (at-put-decimal .put-decimal .ensures) (appended-then (at-put-all2 .put-all2 .ensures) (appended-then (at-put-decimal2 .put-decimal2 .ensures) (c .before .before .put-all3 .ensures)))))
+    line-told (a .why) (a .out .now) _ _ (start .pre) (at-number-of .number-of .ensures) (at-detail-of .detail-of .ensures) (at-number-of .number-of .ok)
+    (at-detail-of .detail-of .ok)
+    (appended-then (at-put-all .put-all .ensures)
+    (appended-then (at-put-decimal .put-decimal .ensures)
+    (appended-then (at-put-all2 .put-all2 .ensures) (appended-then (at-put-decimal2 .put-decimal2 .ensures) (c .before .before .put-all3 .ensures)))))
 
 pub tell-spec : {M : Type 1} → statement M
 tell-spec =

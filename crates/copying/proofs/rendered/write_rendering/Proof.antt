@@ -53,7 +53,15 @@ copy-gates-requires c κs =
     let s = start (heading w) in (
       ordered (s .args .words .now) (s .args .n) (s .args .m) (s .args .k) (s .args .order .now) (s .args .total) (s .args .newest .now)
           (s .args .out .now) (s .pre),
-      omega (arith, known s, s .pre .fewCopies, s .pre .table, z .fill-words .kept .0, w .copy-words .kept .1 .1 .1 .0, heading w .write-header .kept .1 .1 .1 .0),
+      omega (
+        arith,
+        known s,
+        s .pre .fewCopies,
+        s .pre .table,
+        z .fill-words .kept .0,
+        w .copy-words .kept .1 .1 .1 .0,
+        heading w .write-header .kept .1 .1 .1 .0,
+      ),
     )
 
 mul-copy-outputs : tie.Need-mul-copy-outputs

@@ -22,7 +22,9 @@ sub-t7 : tie.Need-sub-t7 Inv-loop μ-loop
 sub-t7 c = c .before .before .loop .inv .1
 
 returns : tie.Need-returns Inv-loop μ-loop
-returns c = sym (c .before .before .loop .inv .2 ∙ word-short (c .before .before .before .args .bytes .now) (c .before .before .before .args .s .now) (c .before .before .loop .i) (c .before .loop-test .taken) (c .if1 .taken))
+returns c =
+    sym (c .before .before .loop .inv .2 ∙ word-short (c .before .before .before .args .bytes .now) (c .before .before .before .args .s .now)
+    (c .before .before .loop .i) (c .before .loop-test .taken) (c .if1 .taken))
 
 shared-slice-read-if2 : tie.Need-shared-slice-read-if2 Inv-loop μ-loop
 shared-slice-read-if2 c = omega arith

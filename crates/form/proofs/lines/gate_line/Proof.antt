@@ -15,7 +15,8 @@ use Rattle.form.proofs.LineSteps.{shortens-word, gate-word, gate-name, 
 
 -- behind part 1 of the line
 left-1 : (c : tie.After-known-told)
-    → At (scanOf (gateReader (c .before .before .before .before .before .before .args .s .now))) (c .before .before .before .before .before .before .args .s .now) (c .before .found .given .0 .0) (λ t. scanOf (gateNaming t))
+    → At (scanOf (gateReader (c .before .before .before .before .before .before .args .s .now)))
+    (c .before .before .before .before .before .before .args .s .now) (c .before .found .given .0 .0) (λ t. scanOf (gateNaming t))
 left-1 c =
     let at-word = c .before .before .before in
     let start = at-word .before .before .before in
@@ -30,7 +31,8 @@ left-2 c =
     let at-name = c .before .before .before in
     let stage = at-name .before .before in
     let b = stage in
-    then-next gate-name (shortens-name (firstByte true)) (left-1 b) (lent-last (b .before .found .given .0 .0) (b .before .before .before .before .before .before .args .s .now))
+    then-next gate-name (shortens-name (firstByte true)) (left-1 b)
+    (lent-last (b .before .found .given .0 .0) (b .before .before .before .before .before .before .args .s .now))
     (at-name .name .ensures) (c .before .found2 .given .1)
 
 -- behind part 3 of the line
@@ -43,7 +45,8 @@ left-3 c =
     let at-word2 = c .before .before .before in
     let stage = at-word2 .before .before .before in
     let b = stage in
-    then-next gate-bracket (shortens-word (ascii " (")) (left-2 b) (lent-last (b .before .found2 .given .0 .0) (b .before .before .before .before .before .before .before .before .before .before .before .args .s .now))
+    then-next gate-bracket (shortens-word (ascii " (")) (left-2 b)
+    (lent-last (b .before .found2 .given .0 .0) (b .before .before .before .before .before .before .before .before .before .before .before .args .s .now))
     (at-word2 .word2 .ensures) (c .before .found3 .given .1)
 
 -- behind part 4 of the line
@@ -57,7 +60,10 @@ left-4 c =
     let at-expression = c .before .before .before in
     let stage = at-expression .before .before in
     let b = stage in
-    then-next gate-expression (shortens-expr apply (shortens-term (maxDepth - 1))) (left-3 b) (lent-last (b .before .found3 .given .0 .0) (b .before .before .before .before .before .before .before .before .before .before .before .before .before .before .before .before .before .args .s .now))
+    then-next gate-expression (shortens-expr apply (shortens-term (maxDepth - 1))) (left-3 b)
+    (lent-last (b .before .found3 .given .0 .0)
+    (b .before .before .before .before .before .before .before .before .before .before .before .before .before .before .before .before .before .args .s
+    .now))
     (at-expression .expression .ensures) (c .before .found4 .given .1)
 
 slice-aggregate-word : tie.Need-slice-aggregate-word
@@ -101,7 +107,8 @@ returns-2 c =
     let stage-2 = c .before .before .before .before in
     let stage = stage-2 in
     let b = stage in
-    then-bad gate-name (left-1 b) (lent-last (b .before .found .given .0 .0) (b .before .before .before .before .before .before .args .s .now)) (c .before .before .name .ensures) (c .enum-told2 .given .1)
+    then-bad gate-name (left-1 b) (lent-last (b .before .found .given .0 .0) (b .before .before .before .before .before .before .args .s .now))
+    (c .before .before .name .ensures) (c .enum-told2 .given .1)
 
 sub-at-2 : tie.Need-sub-at-2
 sub-at-2 c = left-2 c .within
@@ -132,7 +139,10 @@ returns-3 c =
     let stage-2 = c .before .before .before .before .before in
     let stage = stage-2 in
     let b = stage in
-    then-bad gate-bracket (left-2 b) (lent-last (b .before .found2 .given .0 .0) (b .before .before .before .before .before .before .before .before .before .before .before .args .s .now)) (c .before .before .word2 .ensures) (c .enum-told3 .given .1)
+    then-bad gate-bracket (left-2 b)
+    (lent-last (b .before .found2 .given .0 .0)
+    (b .before .before .before .before .before .before .before .before .before .before .before .args .s .now)) (c .before .before .word2 .ensures) (c
+    .enum-told3 .given .1)
 
 sub-at-3 : tie.Need-sub-at-3
 sub-at-3 c = left-3 c .within
@@ -160,7 +170,10 @@ returns-4 c =
     let stage-2 = c .before .before .before .before in
     let stage = stage-2 in
     let b = stage in
-    then-bad gate-expression (left-3 b) (lent-last (b .before .found3 .given .0 .0) (b .before .before .before .before .before .before .before .before .before .before .before .before .before .before .before .before .before .args .s .now)) (c .before .before .expression .ensures) (c .enum-told4 .given .1)
+    then-bad gate-expression (left-3 b)
+    (lent-last (b .before .found3 .given .0 .0)
+    (b .before .before .before .before .before .before .before .before .before .before .before .before .before .before .before .before .before .args .s
+    .now)) (c .before .before .expression .ensures) (c .enum-told4 .given .1)
 
 sub-at-4 : tie.Need-sub-at-4
 sub-at-4 c = left-4 c .within
@@ -182,7 +195,10 @@ word-requires-3 c κs = search needs
 
 returns-5 : tie.Need-returns-5
 returns-5 c = let b = c .before .before .before in
-    then-last closing (left-4 b) (lent-last (b .before .found4 .given .0 .0) (b .before .before .before .before .before .before .before .before .before .before .before .before .before .before .before .before .before .before .before .before .before .before .args .s .now)) (c .word3 .ensures)
+    then-last closing (left-4 b)
+    (lent-last (b .before .found4 .given .0 .0)
+    (b .before .before .before .before .before .before .before .before .before .before .before .before .before .before .before .before .before .before
+    .before .before .before .before .args .s .now)) (c .word3 .ensures)
 
 pub gate-line-spec : {M : Type 1} → statement M
 gate-line-spec =

@@ -13,7 +13,8 @@ use Rattle.form.proofs.LineSteps.{shortens-word, output-word, output-po
 
 -- behind part 1 of the line
 left-1 : (c : tie.After-known-told)
-    → At (scanOf (outputReader (c .before .before .before .before .before .before .args .s .now))) (c .before .before .before .before .before .before .args .s .now) (c .before .found .given .0 .0) (λ t. scanOf (outputPort t))
+    → At (scanOf (outputReader (c .before .before .before .before .before .before .args .s .now)))
+    (c .before .before .before .before .before .before .args .s .now) (c .before .found .given .0 .0) (λ t. scanOf (outputPort t))
 left-1 c =
     let at-word = c .before .before .before in
     let start = at-word .before .before .before in
@@ -28,7 +29,8 @@ left-2 c =
     let at-name = c .before .before .before in
     let stage = at-name .before .before in
     let b = stage in
-    then-next output-port (shortens-name (firstByte false)) (left-1 b) (lent-last (b .before .found .given .0 .0) (b .before .before .before .before .before .before .args .s .now))
+    then-next output-port (shortens-name (firstByte false)) (left-1 b)
+    (lent-last (b .before .found .given .0 .0) (b .before .before .before .before .before .before .args .s .now))
     (at-name .name .ensures) (c .before .found2 .given .1)
 
 -- behind part 3 of the line
@@ -41,7 +43,8 @@ left-3 c =
     let at-word2 = c .before .before .before in
     let stage = at-word2 .before .before .before in
     let b = stage in
-    then-next output-space (shortens-word (ascii " ")) (left-2 b) (lent-last (b .before .found2 .given .0 .0) (b .before .before .before .before .before .before .before .before .before .before .before .args .s .now))
+    then-next output-space (shortens-word (ascii " ")) (left-2 b)
+    (lent-last (b .before .found2 .given .0 .0) (b .before .before .before .before .before .before .before .before .before .before .before .args .s .now))
     (at-word2 .word2 .ensures) (c .before .found3 .given .1)
 
 -- behind part 4 of the line
@@ -55,7 +58,10 @@ left-4 c =
     let at-name2 = c .before .before .before in
     let stage = at-name2 .before .before in
     let b = stage in
-    then-next output-shown (shortens-name (firstByte true)) (left-3 b) (lent-last (b .before .found3 .given .0 .0) (b .before .before .before .before .before .before .before .before .before .before .before .before .before .before .before .before .before .args .s .now))
+    then-next output-shown (shortens-name (firstByte true)) (left-3 b)
+    (lent-last (b .before .found3 .given .0 .0)
+    (b .before .before .before .before .before .before .before .before .before .before .before .before .before .before .before .before .before .args .s
+    .now))
     (at-name2 .name2 .ensures) (c .before .found4 .given .1)
 
 slice-aggregate-word : tie.Need-slice-aggregate-word
@@ -99,7 +105,8 @@ returns-2 c =
     let stage-2 = c .before .before .before .before in
     let stage = stage-2 in
     let b = stage in
-    then-bad output-port (left-1 b) (lent-last (b .before .found .given .0 .0) (b .before .before .before .before .before .before .args .s .now)) (c .before .before .name .ensures) (c .enum-told2 .given .1)
+    then-bad output-port (left-1 b) (lent-last (b .before .found .given .0 .0) (b .before .before .before .before .before .before .args .s .now))
+    (c .before .before .name .ensures) (c .enum-told2 .given .1)
 
 sub-at-2 : tie.Need-sub-at-2
 sub-at-2 c = left-2 c .within
@@ -130,7 +137,10 @@ returns-3 c =
     let stage-2 = c .before .before .before .before .before in
     let stage = stage-2 in
     let b = stage in
-    then-bad output-space (left-2 b) (lent-last (b .before .found2 .given .0 .0) (b .before .before .before .before .before .before .before .before .before .before .before .args .s .now)) (c .before .before .word2 .ensures) (c .enum-told3 .given .1)
+    then-bad output-space (left-2 b)
+    (lent-last (b .before .found2 .given .0 .0)
+    (b .before .before .before .before .before .before .before .before .before .before .before .args .s .now)) (c .before .before .word2 .ensures) (c
+    .enum-told3 .given .1)
 
 sub-at-3 : tie.Need-sub-at-3
 sub-at-3 c = left-3 c .within
@@ -158,7 +168,10 @@ returns-4 c =
     let stage-2 = c .before .before .before .before in
     let stage = stage-2 in
     let b = stage in
-    then-bad output-shown (left-3 b) (lent-last (b .before .found3 .given .0 .0) (b .before .before .before .before .before .before .before .before .before .before .before .before .before .before .before .before .before .args .s .now)) (c .before .before .name2 .ensures) (c .enum-told4 .given .1)
+    then-bad output-shown (left-3 b)
+    (lent-last (b .before .found3 .given .0 .0)
+    (b .before .before .before .before .before .before .before .before .before .before .before .before .before .before .before .before .before .args .s
+    .now)) (c .before .before .name2 .ensures) (c .enum-told4 .given .1)
 
 sub-at-4 : tie.Need-sub-at-4
 sub-at-4 c = left-4 c .within
@@ -180,7 +193,10 @@ word-requires-3 c κs = search needs
 
 returns-5 : tie.Need-returns-5
 returns-5 c = let b = c .before .before .before in
-    then-last closing (left-4 b) (lent-last (b .before .found4 .given .0 .0) (b .before .before .before .before .before .before .before .before .before .before .before .before .before .before .before .before .before .before .before .before .before .before .args .s .now)) (c .word3 .ensures)
+    then-last closing (left-4 b)
+    (lent-last (b .before .found4 .given .0 .0)
+    (b .before .before .before .before .before .before .before .before .before .before .before .before .before .before .before .before .before .before
+    .before .before .before .before .args .s .now)) (c .word3 .ensures)
 
 pub output-line-spec : {M : Type 1} → statement M
 output-line-spec =

@@ -41,7 +41,8 @@ returns c =
     let b = stage in
     let a = b .before .before .args in
     let h : isNameByte (getD (a .s .now) (b .loop .i) 0) ≡ false =
-    ap isNameByte (sym (c .before .before .byte-at .ensures)) ∙ sym (c .before .is-name-byte .ensures) ∙ not-true (c .before .is-name-byte .result) (c .if1 .taken)
+    ap isNameByte (sym (c .before .before .byte-at .ensures)) ∙ sym (c .before .is-name-byte .ensures)
+    ∙ not-true (c .before .is-name-byte .result) (c .if1 .taken)
     in
     sym (b .loop .inv .1 ∙ name-other (a .most) (a .s .now) (b .loop .i) (at-loop-test .loop-test .taken) h)
 
@@ -58,7 +59,8 @@ loop-again c =
     let b = stage in
     let a = b .before .before .args in
     let h : isNameByte (getD (a .s .now) (b .loop .i) 0) ≡ true =
-    ap isNameByte (sym (c .before .before .byte-at .ensures)) ∙ sym (c .before .is-name-byte .ensures) ∙ not-false (c .before .is-name-byte .result) (c .if1 .left)
+    ap isNameByte (sym (c .before .before .byte-at .ensures)) ∙ sym (c .before .is-name-byte .ensures)
+    ∙ not-false (c .before .is-name-byte .result) (c .if1 .left)
     in
     let l : b .loop .i < length (a .s .now) = name-byte-there (a .most) (a .s .now) (b .loop .i) h in
     let e = b .loop .inv .1 ∙ name-more (a .most) (a .s .now) (b .loop .i) (at-loop-test .loop-test .taken) h in

@@ -39,7 +39,8 @@ use Rattle.form.proofs.Shortens.{shortens-term}
 use Rattle.form.proofs.Continues.{left-short}
 use Rattle.form.proofs.Chain.{At, lent-last, lent-rest, lent-last-length, lent-rest-length, then-bad, then-next, then-last, behind-first}
 use Rattle.form.proofs.Operands.{inner, start-there, operand-name, operand-0, operand-1, operand-inner, inner-deepest, inner-other, inner-expression}
-use Rattle.form.proofs.OperandLists.{operandThen, continues-operand, list-full, list-closed, list-needed, list-other, list-more, expression-kind, expression-none}
+use Rattle.form.proofs.OperandLists.{operandThen, continues-operand, list-full, list-closed, list-needed, list-other, list-more, expression-kind}
+use Rattle.form.proofs.OperandLists.{expression-none}
 
 abbrev μ-expression : Measures 1 expression-kinds.ps ℕ
 μ-expression κs a = suc (2 * length (a .0 .now))
@@ -72,20 +73,53 @@ operands-below t =
     and 1 operands-kinds.ps (falls 1 operands-kinds.ps _<_ μ-operands t) operands.Pre
 
 abbrev expression-claims : ℕ → expression-lts.Claims
-expression-claims t = (kind-reads.Asked, kind-reads.Learnt, most-operands-reads.Asked, most-operands-reads.Learnt, fewest-operands-reads.Asked, fewest-operands-reads.Learnt, operands-below t, operands.Post)
+expression-claims t = (
+  kind-reads.Asked,
+  kind-reads.Learnt,
+  most-operands-reads.Asked,
+  most-operands-reads.Learnt,
+  fewest-operands-reads.Asked,
+  fewest-operands-reads.Learnt,
+  operands-below t,
+  operands.Post,
+)
 
 abbrev operand-claims : ℕ → operand-lts.Claims
-operand-claims t = (byte-at-reads.Asked, byte-at-reads.Learnt, is-name-start-reads.Asked, is-name-start-reads.Learnt, name-bytes-reads.Asked, name-bytes-reads.Learnt, expression-below t, expression.Post)
+operand-claims t = (
+  byte-at-reads.Asked,
+  byte-at-reads.Learnt,
+  is-name-start-reads.Asked,
+  is-name-start-reads.Learnt,
+  name-bytes-reads.Asked,
+  name-bytes-reads.Learnt,
+  expression-below t,
+  expression.Post,
+)
 
 abbrev operands-claims : ℕ → operands-lts.Claims
-operands-claims t = (word-reads.Asked, word-reads.Learnt, byte-at-reads.Asked, byte-at-reads.Learnt, operand-below t, operand.Post, one-less-reads.Asked, one-less-reads.Learnt, operands-below t, operands.Post)
+operands-claims t = (
+  word-reads.Asked,
+  word-reads.Learnt,
+  byte-at-reads.Asked,
+  byte-at-reads.Learnt,
+  operand-below t,
+  operand.Post,
+  one-less-reads.Asked,
+  one-less-reads.Learnt,
+  operands-below t,
+  operands.Post,
+)
 
 -- behind the kind: the operands are left
 expression-chain : (t : ℕ) (c : expression-lts.After-known-told (expression-claims t) (expression-at t) expression.Post)
-    → At (scanOf (exprReader {A = Term} (termReader (c .before .before .before .before .before .args .depth)) apply (c .before .before .before .before .before .args .s .now)))
+    → At (scanOf
+    (exprReader {A = Term} (termReader (c .before .before .before .before .before .args .depth)) apply
+    (c .before .before .before .before .before .args .s .now)))
     (c .before .before .before .before .before .args .s .now)
     (c .before .kind2 .given .0 .1 .0)
-    (λ u. scanOf (termsReader (termReader (c .before .before .before .before .before .args .depth)) (mostOperands (c .before .kind2 .given .0 .0)) (fewestOperands (c .before .kind2 .given .0 .0)) u))
+    (λ u. scanOf
+    (termsReader (termReader (c .before .before .before .before .before .args .depth)) (mostOperands (c .before .kind2 .given .0 .0))
+    (fewestOperands (c .before .kind2 .given .0 .0)) u))
 expression-chain t c =
     let a = c .before .before .before .before .before .args in
     expression-kind (termReader (a .depth)) apply (a .s .now) (sym (c .before .kind2 .given .1) ∙ c .before .before .before .kind .ensures)
@@ -131,7 +165,9 @@ expression-returns t c =
     let b = stage in
     let s = b .before .before .before .before .before .args .s .now in
     let e = rw (at-most-operands .most-operands .ensures, c .before .before .fewest-operands .ensures) at (c .operands .ensures) in
-    then-last (termsReader (termReader (b .before .before .before .before .before .args .depth)) (mostOperands (b .before .kind2 .given .0 .0)) (fewestOperands (b .before .kind2 .given .0 .0)))
+    then-last
+    (termsReader (termReader (b .before .before .before .before .before .args .depth)) (mostOperands (b .before .kind2 .given .0 .0))
+    (fewestOperands (b .before .kind2 .given .0 .0)))
     (expression-chain t b) (lent-last (b .before .kind2 .given .0 .1 .0) s) e
 
 expression-returns-2 : (t : ℕ) → expression-lts.Need-returns-2 (expression-claims t) (expression-at t) expression.Post
@@ -143,7 +179,8 @@ start-is : (t : ℕ) (c : operand-lts.After-is-name-start (operand-claims t) (op
     → c .is-name-start .result ≡ isNameStart (getD (c .before .before .before .args .s .now) 0 0)
 start-is t c = c .is-name-start .ensures ∙ ap isNameStart (c .before .byte-at .ensures)
 
-no-start : (t : ℕ) (c : operand-lts.Else1 (operand-claims t) (operand-at t) operand.Post) → isNameStart (getD (c .before .before .before .before .args .s .now) 0 0) ≡ false
+no-start : (t : ℕ) (c : operand-lts.Else1 (operand-claims t) (operand-at t) operand.Post)
+    → isNameStart (getD (c .before .before .before .before .args .s .now) 0 0) ≡ false
 no-start t c = sym (start-is t (c .before)) ∙ c .if1 .left
 
 no-leaf : (t : ℕ) (c : operand-lts.Else3 (operand-claims t) (operand-at t) operand.Post)
@@ -241,10 +278,12 @@ operand-returns-6 : (t : ℕ) → operand-lts.Need-returns-6 (operand-claims t) 
 operand-returns-6 t c = let b = c .before .before in
     let a = b .before .before .before .before .before .before .before .before .args in
     c .expression .ensures ∙ ap (λ u. scanOf (exprReader {A = Term} (termReader (a .depth - 1)) apply u)) (rest-is-drop (a .s .now) 1)
-    ∙ sym (no-leaf t (b .before .before) ∙ inner-expression (a .depth) (a .s .now) (b .before .if4 .left) (b .before .before .before .before .before .before .byte-at .ensures) (b .if5 .left))
+    ∙ sym (no-leaf t (b .before .before) ∙ inner-expression (a .depth) (a .s .now) (b .before .if4 .left)
+    (b .before .before .before .before .before .before .byte-at .ensures) (b .if5 .left))
 
 -- behind a list's space: an operand and the others are left; behind that operand: the others
-space-there : (t : ℕ) (c : operands-lts.Else4 (operands-claims t) (operands-at t) operands.Post) → 0 < length (c .before .before .before .before .before .args .s .now)
+space-there : (t : ℕ) (c : operands-lts.Else4 (operands-claims t) (operands-at t) operands.Post)
+    → 0 < length (c .before .before .before .before .before .args .s .now)
 space-there t c = byte-there (c .before .before .before .before .before .args .s .now) (c .before .before .byte-at .ensures) (c .if4 .left) (omega arith)
 
 operands-chain : (t : ℕ) (c : operands-lts.Else4 (operands-claims t) (operands-at t) operands.Post)
@@ -256,7 +295,8 @@ operands-chain t c =
     let start = at-if1 .before .before in
     let a = start .args in
     behind-first (a .s .now) (space-there t c)
-    (list-more (termReader (a .depth)) (a .most) (a .needed) (a .s .now) (at-if1 .if1 .left) (c .before .before .byte-at .ensures) (c .before .if2 .left) (c .if4 .left))
+    (list-more (termReader (a .depth)) (a .most) (a .needed) (a .s .now) (at-if1 .if1 .left) (c .before .before .byte-at .ensures) (c .before .if2 .left)
+    (c .if4 .left))
 
 operands-chain-2 : (t : ℕ) (c : operands-lts.After-known-told (operands-claims t) (operands-at t) operands.Post)
     → let a = c .before .before .before .before .before .before .before .before .before .before .args in
@@ -291,21 +331,24 @@ operands-returns-2 t c =
     let at-if1 = c .before .before .before in
     let start = at-if1 .before .before in
     let a = start .args in
-    sym (list-closed (termReader (a .depth)) (a .most) (a .needed) (a .s .now) (at-if1 .if1 .left) (c .before .before .byte-at .ensures) (c .before .if2 .taken) (c .if3 .taken))
+    sym (list-closed (termReader (a .depth)) (a .most) (a .needed) (a .s .now) (at-if1 .if1 .left) (c .before .before .byte-at .ensures)
+    (c .before .if2 .taken) (c .if3 .taken))
 
 operands-returns-3 : (t : ℕ) → operands-lts.Need-returns-3 (operands-claims t) (operands-at t) operands.Post
 operands-returns-3 t c =
     let at-if1 = c .before .before .before in
     let start = at-if1 .before .before in
     let a = start .args in
-    sym (list-needed (termReader (a .depth)) (a .most) (a .needed) (a .s .now) (at-if1 .if1 .left) (c .before .before .byte-at .ensures) (c .before .if2 .taken) (c .if3 .left))
+    sym (list-needed (termReader (a .depth)) (a .most) (a .needed) (a .s .now) (at-if1 .if1 .left) (c .before .before .byte-at .ensures)
+    (c .before .if2 .taken) (c .if3 .left))
 
 operands-returns-4 : (t : ℕ) → operands-lts.Need-returns-4 (operands-claims t) (operands-at t) operands.Post
 operands-returns-4 t c =
     let at-if1 = c .before .before .before in
     let start = at-if1 .before .before in
     let a = start .args in
-    sym (list-other (termReader (a .depth)) (a .most) (a .needed) (a .s .now) (at-if1 .if1 .left) (c .before .before .byte-at .ensures) (c .before .if2 .left) (c .if4 .taken))
+    sym (list-other (termReader (a .depth)) (a .most) (a .needed) (a .s .now) (at-if1 .if1 .left) (c .before .before .byte-at .ensures)
+    (c .before .if2 .left) (c .if4 .taken))
 
 operands-sub-operand : (t : ℕ) → operands-lts.Need-sub-operand (operands-claims t) (operands-at t) operands.Post
 operands-sub-operand t c = space-there t c
@@ -317,8 +360,15 @@ operands-part-operand-end : (t : ℕ) → operands-lts.Need-part-operand-end (op
 operands-part-operand-end t c = search needs
 
 operands-operand-requires : (t : ℕ) → operands-lts.Need-operand-requires (operands-claims t) (operands-at t) operands.Post
-operands-operand-requires t c κs = let b = c .before in
-    (omega (arith, lent-rest-length (b .before .before .before .before .before .args .s .now) (space-there t b), space-there t b, b .before .before .before .before .before .pre .0), tt)
+operands-operand-requires t c κs = let b = c .before in (
+  omega (
+    arith,
+    lent-rest-length (b .before .before .before .before .before .args .s .now) (space-there t b),
+    space-there t b,
+    b .before .before .before .before .before .pre .0,
+  ),
+  tt,
+)
 
 operands-enum-known-found : (t : ℕ) → operands-lts.Need-enum-known-found (operands-claims t) (operands-at t) operands.Post
 operands-enum-known-found t c = search needs
@@ -358,14 +408,17 @@ operands-operands-requires t c κs = let b = c .before .before in
     let d = b .before .before .before .before .before in
     let s = d .before .before .before .before .before .args .s .now in
     let n = b .before .found .given .0 .0 in
-    let l : n ≤ length s - 1 = rw (lent-rest-length s (space-there t d)) at (left-short (shortens-term (d .before .before .before .before .before .args .depth)) _ (sym (b .before .found .given .1) ∙ b .before .before .before .operand .ensures)) in
+    let l : n ≤ length s - 1 = rw (lent-rest-length s (space-there t d)) at
+    (left-short (shortens-term (d .before .before .before .before .before .args .depth)) _
+    (sym (b .before .found .given .1) ∙ b .before .before .before .operand .ensures)) in
     (omega (arith, lent-last-length n s (operands-chain-2 t b .within), space-there t d, d .before .before .before .before .before .pre .0), tt)
 
 operands-returns-6 : (t : ℕ) → operands-lts.Need-returns-6 (operands-claims t) (operands-at t) operands.Post
 operands-returns-6 t c = let b = c .before .before .before in
     let a = b .before .before .before .before .before .before .before .before .before .before .args in
     let e = rw (c .before .before .one-less .ensures) at (c .operands .ensures) in
-    then-last (termsReader (termReader (a .depth)) (a .most - 1) (a .needed - 1)) (operands-chain-2 t b) (lent-last (b .before .found .given .0 .0) (a .s .now)) e
+    then-last (termsReader (termReader (a .depth)) (a .most - 1) (a .needed - 1)) (operands-chain-2 t b)
+    (lent-last (b .before .found .given .0 .0) (a .s .now)) e
 
 pub +expression+operand+operands-spec : {M : Type 1} → statement M
 +expression+operand+operands-spec =

@@ -13,7 +13,8 @@ use Rattle.groups.proofs.numbering.next_group.Tie as tie
 
 abbrev Inv-loop : tie.InvT-loop
 Inv-loop words n m gates numbers leaders obstacles₀ j₀ obstacles j =
-    (j ≤ m) × ((i : ℕ) → i < j → leadsNext (decode words) m numbers leaders i ≡ false) × Watching words n m gates leaders obstacles × (length obstacles ≡ length obstacles₀)
+    (j ≤ m) × ((i : ℕ) → i < j → leadsNext (decode words) m numbers leaders i ≡ false) × Watching words n m gates leaders obstacles
+    × (length obstacles ≡ length obstacles₀)
 
 abbrev μ-loop : tie.MeasureT-loop
 μ-loop words n m gates numbers leaders obstacles₀ j₀ obstacles j = m - j

@@ -12,7 +12,8 @@ use Rattle.groups.proofs.numbering.number_group.Statement.{statement}
 use Rattle.groups.proofs.numbering.number_group.Tie as tie
 
 abbrev Inv-loop : tie.InvT-loop
-Inv-loop m leaders leader g numbers₀ i₀ numbers i = (i ≤ m) × (numbers ≡ placed (tab (renumbered leaders leader g numbers₀) i) numbers₀) × (length numbers ≡ length numbers₀)
+Inv-loop m leaders leader g numbers₀ i₀ numbers i =
+    (i ≤ m) × (numbers ≡ placed (tab (renumbered leaders leader g numbers₀) i) numbers₀) × (length numbers ≡ length numbers₀)
 
 abbrev μ-loop : tie.MeasureT-loop
 μ-loop m leaders leader g numbers₀ i₀ numbers i = m - i

@@ -15,7 +15,8 @@ use Rattle.groups.proofs.numbering.number_groups.Tie as tie
 
 abbrev Inv-loop : tie.InvT-loop
 Inv-loop words n m gates leaders numbers₀ obstacles₀ g₀ numbers obstacles g =
-    (g ≤ length (groups (decode words))) × (numbers ≡ placed (tab (numberUpTo (decode words) g) m) numbers₀) × (length numbers ≡ length numbers₀) × Watching words n m gates leaders obstacles × (length obstacles ≡ length obstacles₀)
+    (g ≤ length (groups (decode words))) × (numbers ≡ placed (tab (numberUpTo (decode words) g) m) numbers₀) × (length numbers ≡ length numbers₀) × Watching
+    words n m gates leaders obstacles × (length obstacles ≡ length obstacles₀)
 
 abbrev μ-loop : tie.MeasureT-loop
 μ-loop words n m gates leaders numbers₀ obstacles₀ g₀ numbers obstacles g = m - g

@@ -56,7 +56,8 @@ loop-again c =
     let l = at-loop .loop in (
       omega arith,
       c .next-line .ensures ∙ start-more (a .text .now) (l .i) (l .at) (l .inv .1),
-      with-more (a .text .now) (l .i) (l .at) (l .inv .1) (a .letter) (l .n) (c .before .one-if .result) (c .before .before .byte-at .result) (l .inv .2) (c .before .before .byte-at .ensures) (c .before .one-if .ensures),
+      with-more (a .text .now) (l .i) (l .at) (l .inv .1) (a .letter) (l .n) (c .before .one-if .result) (c .before .before .byte-at .result) (l .inv .2)
+          (c .before .before .byte-at .ensures) (c .before .one-if .ensures),
     )
 
 returns : tie.Need-returns Inv-loop μ-loop

@@ -45,8 +45,12 @@ loop-again : tie.Need-loop-again Inv-loop μ-loop
 loop-again c =
     let at-loop = c .before .before .before .before .before in
     let start = at-loop .before .before in
-    let l = at-loop .loop in
-    (omega arith, omega arith, front-goes (start .args .s .now) 8 (l .i) (omega arith) (omega arith) (sym (c .before .is-name-byte .ensures) ∙ not-false _ (c .if2 .left)) (l .inv .2))
+    let l = at-loop .loop in (
+      omega arith,
+      omega arith,
+      front-goes (start .args .s .now) 8 (l .i) (omega arith) (omega arith)
+          (sym (c .before .is-name-byte .ensures) ∙ not-false _ (c .if2 .left)) (l .inv .2),
+    )
 
 returns-3 : tie.Need-returns-3 Inv-loop μ-loop
 returns-3 c = let l = c .before .loop in front-full (c .before .before .before .args .s .now) 8 (l .i) (omega arith) (l .inv .2)

@@ -30,7 +30,8 @@ returns c =
     let stage = c .before .before .before .before .before .before .before in
     λ t legal counted table.
     let s = stage in
-    node-repeats t legal (s .args .c) counted (s .args .names .now) (s .args .places .now) table (s .pre .0) (s .pre .1) (c .before .before .first-repeat .result) (c .before .before .first-repeat .ensures) (c .before .if1 .taken)
+    node-repeats t legal (s .args .c) counted (s .args .names .now) (s .args .places .now) table (s .pre .0) (s .pre .1)
+    (c .before .before .first-repeat .result) (c .before .before .first-repeat .ensures) (c .before .if1 .taken)
 
 add-first-repeat : tie.Need-add-first-repeat
 add-first-repeat c = search needs
@@ -66,7 +67,9 @@ returns-2 c =
     let stage = at-first-repeat .before .before .before .before .before in
     λ t legal counted table.
     let s = stage in
-    port-repeats t legal (s .args .c) counted (s .args .names .now) (s .args .places .now) table (s .pre .0) (s .pre .1) (at-first-repeat .first-repeat .result) (at-first-repeat .first-repeat .ensures) (at-if1 .if1 .left) (c .before .before .first-repeat2 .result) (c .before .before .first-repeat2 .ensures) (c .before .if2 .taken)
+    port-repeats t legal (s .args .c) counted (s .args .names .now) (s .args .places .now) table (s .pre .0) (s .pre .1)
+    (at-first-repeat .first-repeat .result) (at-first-repeat .first-repeat .ensures) (at-if1 .if1 .left) (c .before .before .first-repeat2 .result)
+    (c .before .before .first-repeat2 .ensures) (c .before .if2 .taken)
 
 returns-3 : tie.Need-returns-3
 returns-3 c =
@@ -75,7 +78,9 @@ returns-3 c =
     let stage = at-first-repeat .before .before .before .before .before in
     λ t legal counted table.
     let s = stage in
-    none-repeats t legal (s .args .c) counted (s .args .names .now) (s .args .places .now) table (s .pre .0) (s .pre .1) (at-first-repeat .first-repeat .result) (at-first-repeat .first-repeat .ensures) (at-if1 .if1 .left) (c .before .first-repeat2 .result) (c .before .first-repeat2 .ensures) (c .if2 .left)
+    none-repeats t legal (s .args .c) counted (s .args .names .now) (s .args .places .now) table (s .pre .0) (s .pre .1)
+    (at-first-repeat .first-repeat .result) (at-first-repeat .first-repeat .ensures) (at-if1 .if1 .left) (c .before .first-repeat2 .result)
+    (c .before .first-repeat2 .ensures) (c .if2 .left)
 
 pub duplicate-spec : {M : Type 1} → statement M
 duplicate-spec =

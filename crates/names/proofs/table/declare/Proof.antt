@@ -36,7 +36,8 @@ returns c =
     let stage = earlier-18 .before in
     λ t p e.
     let s = stage in
-    tables-are p (s .args .c) _ _ _ (s .args .names .now) (s .args .places .now) (s .args .words .now) e (s .pre .placeRoom) (at-fill-places .fill-places .ensures) (at-fill-names .fill-names .ensures) (c .before .before .fill-words .ensures)
+    tables-are p (s .args .c) _ _ _ (s .args .names .now) (s .args .places .now) (s .args .words .now) e (s .pre .placeRoom)
+    (at-fill-places .fill-places .ensures) (at-fill-names .fill-names .ensures) (c .before .before .fill-words .ensures)
 
 pub declare-spec : {M : Type 1} → statement M
 declare-spec =

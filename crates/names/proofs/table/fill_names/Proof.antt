@@ -48,7 +48,8 @@ loop-again c =
     let a = start .args in
     let l = at-loop .loop in (
       omega arith,
-      fill-next (packedThrough (a .text .now) (a .places .now)) (l .i) (a .names .now) (l .names) (c .pack-at .result) (l .inv .1) (omega arith) (c .pack-at .ensures),
+      fill-next (packedThrough (a .text .now) (a .places .now)) (l .i) (a .names .now) (l .names) (c .pack-at .result) (l .inv .1) (omega arith)
+          (c .pack-at .ensures),
       length-set (l .names) (l .i) (c .pack-at .result) ∙ l .inv .2,
     )
 

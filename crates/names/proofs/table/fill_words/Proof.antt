@@ -12,7 +12,8 @@ use Rattle.names.proofs.table.fill_words.Statement.{statement}
 use Rattle.names.proofs.table.fill_words.Tie as tie
 
 abbrev Inv-loop : tie.InvT-loop
-Inv-loop text n nodes words₀ gates₀ at₀ i₀ words gates at i = (i ≤ nodes) × (at ≡ lineOffset text i) × (gates ≡ gatesTo text i) × (words ≡ placed (tab (wordAt text n) i) words₀) × (length words ≡ length words₀)
+Inv-loop text n nodes words₀ gates₀ at₀ i₀ words gates at i =
+    (i ≤ nodes) × (at ≡ lineOffset text i) × (gates ≡ gatesTo text i) × (words ≡ placed (tab (wordAt text n) i) words₀) × (length words ≡ length words₀)
 
 abbrev μ-loop : tie.MeasureT-loop
 μ-loop text n nodes words₀ gates₀ at₀ i₀ words gates at i = nodes - i
@@ -70,11 +71,13 @@ loop-again c =
     let start = at-loop .before .before .before in
     let a = start .args in
     let l = at-loop .loop in
-    let g : l .gates + c .before .before .line-gates .result ≡ gatesTo (a .text .now) (l .i + 1) = rw (c .before .before .line-gates .ensures) (gates-more (a .text .now) (l .i) (l .at) (l .inv .1) (l .gates) (l .inv .2)) in (
+    let g : l .gates + c .before .before .line-gates .result ≡ gatesTo (a .text .now) (l .i + 1) = rw (c .before .before .line-gates .ensures)
+    (gates-more (a .text .now) (l .i) (l .at) (l .inv .1) (l .gates) (l .inv .2)) in (
       omega arith,
       c .next-line .ensures ∙ start-more (a .text .now) (l .i) (l .at) (l .inv .1),
       g,
-      fill-next (wordAt (a .text .now) (a .n)) (l .i) (a .words .now) (l .words) (c .before .line-word .result) (l .inv .3) (omega arith) (c .before .line-word .ensures ∙ ap (lineWord (a .n) (l .i)) (rw (add-one (l .i)) at g)),
+      fill-next (wordAt (a .text .now) (a .n)) (l .i) (a .words .now) (l .words) (c .before .line-word .result) (l .inv .3) (omega arith)
+          (c .before .line-word .ensures ∙ ap (lineWord (a .n) (l .i)) (rw (add-one (l .i)) at g)),
       length-set (l .words) (l .i) (c .before .line-word .result) ∙ l .inv .4,
     )
 

@@ -14,7 +14,8 @@ duplicate-requires c κs =
     let at-declare = earlier .before in
     let earlier-15 = at-declare .before .before .before .before .before .before .before in
     let start = earlier-15 .before in
-    let r = room-for (start .pre) in (omega (arith, r .numberRoom, at-declare .declare .kept .1 .1 .0), omega (arith, r .placeRoom, at-declare .declare .kept .1 .1 .1 .0))
+    let r = room-for (start .pre)
+    in (omega (arith, r .numberRoom, at-declare .declare .kept .1 .1 .0), omega (arith, r .placeRoom, at-declare .declare .kept .1 .1 .1 .0))
 
 same-length : tie.Need-same-length
 same-length c = search needs

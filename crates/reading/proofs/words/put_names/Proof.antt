@@ -49,7 +49,8 @@ loop-again c =
     let a = start .args in
     let l = at-loop .loop in (
       omega arith,
-      sets-joined-next (nameOf (a .names .now)) 4 (name-size (a .names .now)) (a .block .now) (l .block) _ 3 (l .i) (l .inv .1) (c .before .before .put-name .ensures),
+      sets-joined-next (nameOf (a .names .now)) 4 (name-size (a .names .now)) (a .block .now) (l .block) _ 3 (l .i) (l .inv .1)
+          (c .before .before .put-name .ensures),
       c .before .before .put-name .kept .0 ∙ l .inv .2,
     )
 

@@ -43,7 +43,8 @@ total-is : (c : tie.After-count-copies) → c .count-copies .result ≡ copyCoun
 total-is c =
     let a = numbering c in
     let s = start a in
-    c .count-copies .ensures ∙ squares-copies (assigned-numbers (now (s .args .words)) (s .pre .whole) (c .before .before .gates-of .ensures) (a .assign .ensures))
+    c .count-copies .ensures ∙ squares-copies
+    (assigned-numbers (now (s .args .words)) (s .pre .whole) (c .before .before .gates-of .ensures) (a .assign .ensures))
 
 copies-told : (c : tie.After-refuse-if) → c .refuse-if .result ≡ testOf (ltb maxCopies (copyCount (decode (now (entry c .args .words))))) TooManyCopies
 copies-told c = rw (← total-is (c .before)) (c .refuse-if .ensures)
@@ -53,7 +54,8 @@ behind-copies : (c : tie.After-enum-told) → let a = entry (copies-test c) .arg
     render (now (a .words)) (length (now (a .rendered))) ≡ inRoom (length (now (a .rendered))) (copied (now (a .words)) (length (now (a .rendered))))
 behind-copies c =
     let s = entry (copies-test c) in
-    passed (inRoom _) (keeps-room _) _ _ TooManyCopies (render-whole (now (s .args .words)) _ (s .pre .whole)) (copies-told (copies-test c)) (c .enum-told .given .1)
+    passed (inRoom _) (keeps-room _) _ _ TooManyCopies (render-whole (now (s .args .words)) _ (s .pre .whole)) (copies-told (copies-test c))
+    (c .enum-told .given .1)
 
 assign-requires : tie.Need-assign-requires
 assign-requires c κs = search needs

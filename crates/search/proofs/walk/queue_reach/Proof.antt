@@ -59,8 +59,17 @@ visit-requires c κs =
     let in-loop = c .before .before .before .before in
     let at-loop = in-loop .before in
     let s = at-loop .before .before .before .before in
-    let l = at-loop .loop in
-    (omega (arith, l .inv .0 .queued (l .head) (in-loop .loop-test .taken) .0, c .before .before .word-at .ensures, s .pre .1 .whole .fewGates, s .pre .1 .whole .near), s .pre .1 .whole .fewInputs, l .inv .0 .room)
+    let l = at-loop .loop in (
+      omega (
+        arith,
+        l .inv .0 .queued (l .head) (in-loop .loop-test .taken) .0,
+        c .before .before .word-at .ensures,
+        s .pre .1 .whole .fewGates,
+        s .pre .1 .whole .near,
+      ),
+      s .pre .1 .whole .fewInputs,
+      l .inv .0 .room,
+    )
 
 add-head : tie.Need-add-head Inv-loop μ-loop
 add-head c =

@@ -36,7 +36,8 @@ returns-3 : tie.Need-returns-3
 returns-3 c =
     let at-byte-at = c .before .before .before in
     let start = at-byte-at .before .before .before .before in
-    let a = start .args in c .name-here .ensures ∙ leaf-name (a .s .now) (a .names .now) (a .words .now) (a .unknown) (λ e. c .before .before .if1 .left (at-byte-at .byte-at .ensures ∙ e)) (λ e. c .before .if2 .left (at-byte-at .byte-at .ensures ∙ e))
+    let a = start .args in c .name-here .ensures ∙ leaf-name (a .s .now) (a .names .now) (a .words .now) (a .unknown)
+    (λ e. c .before .before .if1 .left (at-byte-at .byte-at .ensures ∙ e)) (λ e. c .before .if2 .left (at-byte-at .byte-at .ensures ∙ e))
 
 pub leaf-here-spec : {M : Type 1} → statement M
 leaf-here-spec =

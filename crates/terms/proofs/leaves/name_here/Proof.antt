@@ -33,7 +33,8 @@ returns c =
     let at-pack = at-find .before in
     let at-name-length = at-pack .before in
     let start = at-name-length .before .before .before .before in
-    let a = start .args in name-found (a .s .now) (a .names .now) (a .words .now) (a .unknown) (at-name-length .name-length .ensures) (at-pack .pack .ensures) (at-find .find .ensures) (c .before .before .if1 .taken) (c .earlier .ensures)
+    let a = start .args in name-found (a .s .now) (a .names .now) (a .words .now) (a .unknown) (at-name-length .name-length .ensures)
+    (at-pack .pack .ensures) (at-find .find .ensures) (c .before .before .if1 .taken) (c .earlier .ensures)
 
 add-earlier : tie.Need-add-earlier
 add-earlier c = search needs
@@ -46,7 +47,8 @@ returns-2 c =
     let at-pack = c .before .before .before in
     let at-name-length = at-pack .before in
     let start = at-name-length .before .before .before .before in
-    let a = start .args in name-unknown (a .s .now) (a .names .now) (a .words .now) (a .unknown) (at-name-length .name-length .ensures) (at-pack .pack .ensures) (c .before .before .find .ensures) (c .before .if1 .left) (c .earlier2 .ensures)
+    let a = start .args in name-unknown (a .s .now) (a .names .now) (a .words .now) (a .unknown) (at-name-length .name-length .ensures)
+    (at-pack .pack .ensures) (c .before .before .find .ensures) (c .before .if1 .left) (c .earlier2 .ensures)
 
 pub name-here-spec : {M : Type 1} → statement M
 name-here-spec =

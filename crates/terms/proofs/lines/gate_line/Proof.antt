@@ -25,7 +25,8 @@ name-length-requires c κs = search needs
 add-at : tie.Need-add-at
 add-at c =
     let start = c .before .before .before .before .before .before in
-    let a = start .args in let p = start .pre in omega (arith, gate-parts (a .s .now) (c .name-length .result) (c .name-length .ensures) (p .line) (p .rest) (p .here) .long, start .good)
+    let a = start .args in let p = start .pre in omega
+    (arith, gate-parts (a .s .now) (c .name-length .result) (c .name-length .ensures) (p .line) (p .rest) (p .here) .long, start .good)
 
 sub-operand : tie.Need-sub-operand
 sub-operand c =
@@ -41,13 +42,19 @@ part-operand-end : tie.Need-part-operand-end
 part-operand-end c = search needs
 
 operand-requires : tie.Need-operand-requires
-operand-requires c κs = let b = c .before .before in let a = b .before .before .before .before .before .before .args in gate-here (a .s .now) (b .name-length .result) (b .name-length .ensures) (a .n) (a .names .now) (a .words .now) (a .first) (a .gates .now) (b .before .before .before .before .before .before .pre)
+operand-requires c κs =
+    let b = c .before .before in let a = b .before .before .before .before .before .before .args in
+    gate-here (a .s .now) (b .name-length .result) (b .name-length .ensures) (a .n) (a .names .now) (a .words .now) (a .first) (a .gates .now)
+    (b .before .before .before .before .before .before .pre)
 
 sub-t12 : tie.Need-sub-t12
 sub-t12 c =
     let at-operand = c .before .before .before in
     let stage = at-operand .before .before .before in
-    let b = stage in let a = b .before .before .before .before .before .before .args in gate-left (a .s .now) (b .name-length .result) (b .name-length .ensures) (a .n) (a .names .now) (a .words .now) (a .first) (a .gates .now) (a .unknown) (at-operand .operand .last .1 .1 .1 .1 .1 .1 .1 .0) (at-operand .operand .result) (at-operand .operand .ensures) (b .before .before .before .before .before .before .pre)
+    let b = stage in let a = b .before .before .before .before .before .before .args in
+    gate-left (a .s .now) (b .name-length .result) (b .name-length .ensures) (a .n) (a .names .now) (a .words .now) (a .first) (a .gates .now)
+    (a .unknown) (at-operand .operand .last .1 .1 .1 .1 .1 .1 .1 .0) (at-operand .operand .result) (at-operand .operand .ensures)
+    (b .before .before .before .before .before .before .pre)
 
 same-length : tie.Need-same-length
 same-length c = search needs
@@ -56,7 +63,9 @@ returns : tie.Need-returns
 returns c =
     let at-operand = c .before .before .before in
     let stage = at-operand .before .before .before in
-    let b = stage in let a = b .before .before .before .before .before .before .args in gate-read (a .s .now) (b .name-length .result) (b .name-length .ensures) (a .n) (a .names .now) (a .words .now) (a .first) (a .gates .now) (a .unknown) (at-operand .operand .last .1 .1 .1 .1 .1 .1 .1 .0) (at-operand .operand .result) (at-operand .operand .ensures)
+    let b = stage in let a = b .before .before .before .before .before .before .args in
+    gate-read (a .s .now) (b .name-length .result) (b .name-length .ensures) (a .n) (a .names .now) (a .words .now) (a .first) (a .gates .now)
+    (a .unknown) (at-operand .operand .last .1 .1 .1 .1 .1 .1 .1 .0) (at-operand .operand .result) (at-operand .operand .ensures)
 
 pub gate-line-spec : {M : Type 1} → statement M
 gate-line-spec =

@@ -27,17 +27,20 @@ name-length-requires c κs = search needs
 add-at : tie.Need-add-at
 add-at c =
     let start = c .before .before .before .before .before .before in
-    let a = start .args in let p = start .pre .1 in omega (arith, output-parts (a .s .now) (c .name-length .result) (c .name-length .ensures) (p .line) (p .rest) (p .here) .long, start .good)
+    let a = start .args in let p = start .pre .1 in omega
+    (arith, output-parts (a .s .now) (c .name-length .result) (c .name-length .ensures) (p .line) (p .rest) (p .here) .long, start .good)
 
 sub-name-here : tie.Need-sub-name-here
 sub-name-here c =
     let start = c .before .before .before .before .before .before in
-    let a = start .args in let p = start .pre .1 in output-parts (a .s .now) (c .name-length .result) (c .name-length .ensures) (p .line) (p .rest) (p .here) .long
+    let a = start .args in let p = start .pre .1 in output-parts (a .s .now) (c .name-length .result) (c .name-length .ensures) (p .line) (p .rest)
+    (p .here) .long
 
 part-name-here-start : tie.Need-part-name-here-start
 part-name-here-start c =
     let start = c .before .before .before .before .before .before in
-    let a = start .args in let p = start .pre .1 in output-parts (a .s .now) (c .name-length .result) (c .name-length .ensures) (p .line) (p .rest) (p .here) .long
+    let a = start .args in let p = start .pre .1 in output-parts (a .s .now) (c .name-length .result) (c .name-length .ensures) (p .line) (p .rest)
+    (p .here) .long
 
 part-name-here-end : tie.Need-part-name-here-end
 part-name-here-end c = search needs
@@ -80,7 +83,9 @@ sub-t9 c =
     let s = b .before .before .before .before .before .before in
     let p = s .pre .1 in
     let l = stage in
-    output-left (s .args .s .now) (b .name-length .result) (b .name-length .ensures) (s .pre .0) (s .args .names .now) (s .args .words .now) (s .args .first) (s .args .unknown) (s .args .outputs .now) (l .name-here .result) (l .name-here .ensures) (p .bindings) (p .line) (p .rest) (p .table) (p .here)
+    output-left (s .args .s .now) (b .name-length .result) (b .name-length .ensures) (s .pre .0) (s .args .names .now) (s .args .words .now)
+    (s .args .first) (s .args .unknown) (s .args .outputs .now) (l .name-here .result) (l .name-here .ensures) (p .bindings) (p .line) (p .rest)
+    (p .table) (p .here)
 
 add-t11 : tie.Need-add-t11
 add-t11 c = search needs
@@ -98,7 +103,9 @@ returns c =
     let b = stage-2 in
     let s = b .before .before .before .before .before .before in
     let l = stage in
-    output-read (s .args .s .now) (b .name-length .result) (b .name-length .ensures) n (s .args .names .now) (s .args .words .now) (s .args .first) (s .args .unknown) (s .args .outputs .now) (l .name-here .result) (l .name-here .ensures) (at-put-output .put-output .last .0) (at-pack .pack .result) (at-pack .pack .ensures) (at-put-output .put-output .ensures)
+    output-read (s .args .s .now) (b .name-length .result) (b .name-length .ensures) n (s .args .names .now) (s .args .words .now) (s .args .first)
+    (s .args .unknown) (s .args .outputs .now) (l .name-here .result) (l .name-here .ensures) (at-put-output .put-output .last .0)
+    (at-pack .pack .result) (at-pack .pack .ensures) (at-put-output .put-output .ensures)
 
 pub output-line-spec : {M : Type 1} → statement M
 output-line-spec =

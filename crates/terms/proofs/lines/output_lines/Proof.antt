@@ -10,7 +10,8 @@ use Rattle.terms.proofs.lines.output_lines.Statement.{statement}
 use Rattle.terms.proofs.lines.output_lines.Tie as tie
 
 abbrev Inv-loop : tie.InvT-loop
-Inv-loop text lines names words seen outputs₀ left₀ first₀ unknown₀ i₀ outputs left first unknown i = (n : ℕ) → LinesOn outputForm lines text n names words seen outputs₀ i left first unknown outputs
+Inv-loop text lines names words seen outputs₀ left₀ first₀ unknown₀ i₀ outputs left first unknown i =
+    (n : ℕ) → LinesOn outputForm lines text n names words seen outputs₀ i left first unknown outputs
 
 abbrev μ-loop : tie.MeasureT-loop
 μ-loop text lines names words seen outputs₀ left₀ first₀ unknown₀ i₀ outputs left first unknown i = lines - i
@@ -36,8 +37,11 @@ output-line-requires : tie.Need-output-line-requires Inv-loop μ-loop
 output-line-requires c κs = let b = c .before .before in
     let a = b .before .before .before .before .before .before .args in
     let n = b .before .before .before .before .before .before .pre .0 in
-    let l = b .before .loop in
-    (n, line-here outputForm output-lawful (a .lines) (a .text .now) n (a .names .now) (a .words .now) (a .seen) (a .outputs .now) (l .i) (l .left) (l .first) (l .unknown) (l .outputs) (l .inv n) maxOutputs (b .before .before .before .before .before .before .pre .1) (b .loop-test .taken))
+    let l = b .before .loop in (
+      n,
+      line-here outputForm output-lawful (a .lines) (a .text .now) n (a .names .now) (a .words .now) (a .seen) (a .outputs .now) (l .i) (l .left)
+          (l .first) (l .unknown) (l .outputs) (l .inv n) maxOutputs (b .before .before .before .before .before .before .pre .1) (b .loop-test .taken),
+    )
 
 add-i : tie.Need-add-i Inv-loop μ-loop
 add-i c =
@@ -57,8 +61,11 @@ loop-again c =
     let l = b .before .loop in
     let g = c .before .before .output-line in
     let m = b .before .before .before .before .before .before .pre .0 in
-    lines-step outputForm output-lawful (a .lines) (a .text .now) n (a .names .now) (a .words .now) (a .seen) (a .outputs .now) (l .i) (l .left) (l .first) (l .unknown) (l .outputs) (l .inv n) (g .last .1 .1 .1 .1 .1 .0) (g .result) (g .ensures n)
-    (lines-kept outputForm output-lawful (a .lines) (a .text .now) m (a .names .now) (a .words .now) (a .seen) (a .outputs .now) (l .i) (l .left) (l .first) (l .unknown) (l .outputs) (l .inv m) (g .last .1 .1 .1 .1 .1 .0) (g .result) (g .ensures m) maxOutputs (b .before .before .before .before .before .before .pre .1) (b .loop-test .taken)) (b .loop-test .taken)
+    lines-step outputForm output-lawful (a .lines) (a .text .now) n (a .names .now) (a .words .now) (a .seen) (a .outputs .now) (l .i) (l .left) (l .first)
+    (l .unknown) (l .outputs) (l .inv n) (g .last .1 .1 .1 .1 .1 .0) (g .result) (g .ensures n)
+    (lines-kept outputForm output-lawful (a .lines) (a .text .now) m (a .names .now) (a .words .now) (a .seen) (a .outputs .now) (l .i) (l .left) (l .first)
+    (l .unknown) (l .outputs) (l .inv m) (g .last .1 .1 .1 .1 .1 .0) (g .result) (g .ensures m) maxOutputs
+    (b .before .before .before .before .before .before .pre .1) (b .loop-test .taken)) (b .loop-test .taken)
 
 same-length : tie.Need-same-length Inv-loop μ-loop
 same-length c = c .before .loop .inv 0 .same
@@ -69,7 +76,8 @@ returns c =
     λ n.
     let a = start .args in
     let l = c .before .loop in
-    lines-end outputForm output-lawful (a .lines) (a .text .now) n (a .names .now) (a .words .now) (a .seen) (a .outputs .now) (l .i) (l .left) (l .first) (l .unknown) (l .outputs) (l .inv n) (c .loop-test .left)
+    lines-end outputForm output-lawful (a .lines) (a .text .now) n (a .names .now) (a .words .now) (a .seen) (a .outputs .now) (l .i) (l .left) (l .first)
+    (l .unknown) (l .outputs) (l .inv n) (c .loop-test .left)
 
 pub output-lines-spec : {M : Type 1} → statement M
 output-lines-spec =

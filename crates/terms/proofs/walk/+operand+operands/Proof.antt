@@ -9,7 +9,8 @@ use Rattle.terms.specs.Walk.{TermAt}
 use mathlib.Core.List.{List}
 use Rattle.netlist.specs.Syntax.{Term}
 use Rattle.terms.proofs.Openings.{Inside, inside}
-use Rattle.terms.proofs.Walking.{table-lengths, rest-length, leaf-read, list-here, inner-shorter, inner-within, Bounded, bounded, expression-read, nil-read, more-there, slot-there, operand-here, left-shorter, others-here, list-read}
+use Rattle.terms.proofs.Walking.{table-lengths, rest-length, leaf-read, list-here, inner-shorter, inner-within, Bounded, bounded, expression-read}
+use Rattle.terms.proofs.Walking.{nil-read, more-there, slot-there, operand-here, left-shorter, others-here, list-read}
 use Prim.Native.Nat.{ℕ, _<_}
 use borrow.Fn.Kinds.{In}
 use borrow.Fn.PlainCycle.{Measures, is, falls, and}
@@ -48,21 +49,38 @@ operands-below t =
     and 5 operands-kinds.ps (falls 5 operands-kinds.ps _<_ μ-operands t) operands.Pre
 
 abbrev operand-claims : ℕ → operand-lts.Claims
-operand-claims t = (byte-at-reads.Asked, byte-at-reads.Learnt, leaf-here-reads.Asked, leaf-here-reads.Learnt, kind-here-reads.Asked, kind-here-reads.Learnt, word-length-reads.Asked, word-length-reads.Learnt, operands-below t, operands.Post, put-gate-reads.Asked, put-gate-reads.Learnt)
+operand-claims t = (
+  byte-at-reads.Asked,
+  byte-at-reads.Learnt,
+  leaf-here-reads.Asked,
+  leaf-here-reads.Learnt,
+  kind-here-reads.Asked,
+  kind-here-reads.Learnt,
+  word-length-reads.Asked,
+  word-length-reads.Learnt,
+  operands-below t,
+  operands.Post,
+  put-gate-reads.Asked,
+  put-gate-reads.Learnt,
+)
 
 abbrev operands-claims : ℕ → operands-lts.Claims
 operands-claims t = (byte-at-reads.Asked, byte-at-reads.Learnt, operand-below t, operand.Post, operands-below t, operands.Post)
 
 -- the first byte, and which expression it opens
-operand-byte : (t : ℕ) (c : operand-lts.Else1 (operand-claims t) (operand-at t) operand.Post) → getD (c .before .before .before .before .before .before .args .s .now) 0 0 ≡ 40
+operand-byte : (t : ℕ) (c : operand-lts.Else1 (operand-claims t) (operand-at t) operand.Post)
+    → getD (c .before .before .before .before .before .before .args .s .now) 0 0 ≡ 40
 operand-byte t c = sym (c .before .byte-at .ensures) ∙ c .if1 .left
 
-operand-there : (t : ℕ) (c : operand-lts.Else1 (operand-claims t) (operand-at t) operand.Post) → 0 < length (c .before .before .before .before .before .before .args .s .now)
+operand-there : (t : ℕ) (c : operand-lts.Else1 (operand-claims t) (operand-at t) operand.Post)
+    → 0 < length (c .before .before .before .before .before .before .args .s .now)
 operand-there t c = byte-there (c .before .before .before .before .before .before .args .s .now) refl (operand-byte t c) (omega arith)
 
 operand-inside : (t : ℕ) (c : operand-lts.After-word-length (operand-claims t) (operand-at t) operand.Post) (o : Term) (rest : List ℕ)
-    → TermAt o (c .before .before .before .before .before .before .before .before .before .args .depth) rest (c .before .before .before .before .before .before .before .before .before .args .s .now)
-    → Inside o (c .before .before .before .before .before .before .before .before .before .args .depth) rest (c .before .before .before .before .before .before .before .before .before .args .s .now) (c .before .kind-here .result) (c .word-length .result)
+    → TermAt o (c .before .before .before .before .before .before .before .before .before .args .depth) rest
+    (c .before .before .before .before .before .before .before .before .before .args .s .now)
+    → Inside o (c .before .before .before .before .before .before .before .before .before .args .depth) rest
+    (c .before .before .before .before .before .before .before .before .before .args .s .now) (c .before .kind-here .result) (c .word-length .result)
 operand-inside t c o rest w =
     let stage = c .before .before .before in
     let start = stage .before .before .before .before .before .before in
@@ -71,7 +89,10 @@ operand-inside t c o rest w =
     (c .before .kind-here .ensures) (c .word-length .ensures)
 
 operand-inside-here : (t : ℕ) (c : operand-lts.After-word-length (operand-claims t) (operand-at t) operand.Post)
-    → Inside (c .before .before .before .before .before .before .before .before .before .pre .1 .term) (c .before .before .before .before .before .before .before .before .before .args .depth) (c .before .before .before .before .before .before .before .before .before .pre .1 .rest) (c .before .before .before .before .before .before .before .before .before .args .s .now) (c .before .kind-here .result) (c .word-length .result)
+    → Inside (c .before .before .before .before .before .before .before .before .before .pre .1 .term)
+    (c .before .before .before .before .before .before .before .before .before .args .depth)
+    (c .before .before .before .before .before .before .before .before .before .pre .1 .rest)
+    (c .before .before .before .before .before .before .before .before .before .args .s .now) (c .before .kind-here .result) (c .word-length .result)
 operand-inside-here t c =
     let earlier = c .before .before .before .before .before .before .before in
     let start = earlier .before .before in
@@ -89,7 +110,8 @@ operand-returns : (t : ℕ) → operand-lts.Need-returns (operand-claims t) (ope
 operand-returns t c =
     let stage = c .before .before .before .before .before .before .before in
     let start = stage in
-    let a = start .args in leaf-read (a .s .now) (a .depth) (a .n) (a .names .now) (a .words .now) (a .first) (a .gates .now) (a .unknown) (c .leaf-here .result) (c .leaf-here .ensures) (λ e. c .before .if1 .taken (c .before .before .byte-at .ensures ∙ e))
+    let a = start .args in leaf-read (a .s .now) (a .depth) (a .n) (a .names .now) (a .words .now) (a .first) (a .gates .now) (a .unknown)
+    (c .leaf-here .result) (c .leaf-here .ensures) (λ e. c .before .if1 .taken (c .before .before .byte-at .ensures ∙ e))
 
 operand-sub-kind-here : (t : ℕ) → operand-lts.Need-sub-kind-here (operand-claims t) (operand-at t) operand.Post
 operand-sub-kind-here t c = operand-there t c
@@ -111,21 +133,28 @@ operand-add-at t c =
     let stage = c .before .before .before .before .before .before .before in
     let earlier = stage in
     let start = earlier .before .before in
-    let a = start .args in let p = start .pre .1 in omega (arith, inner-within (a .s .now) (a .depth) (a .n) (a .names .now) (a .words .now) (a .first) (a .gates .now) (c .before .kind-here .result) (c .word-length .result) (p .term) (p .rest) (operand-inside-here t c), start .good)
+    let a = start .args in let p = start .pre .1 in omega (
+      arith,
+      inner-within (a .s .now) (a .depth) (a .n) (a .names .now) (a .words .now) (a .first) (a .gates .now) (c .before .kind-here .result)
+          (c .word-length .result) (p .term) (p .rest) (operand-inside-here t c),
+      start .good,
+    )
 
 operand-sub-operands : (t : ℕ) → operand-lts.Need-sub-operands (operand-claims t) (operand-at t) operand.Post
 operand-sub-operands t c =
     let stage = c .before .before .before .before .before .before .before in
     let earlier = stage in
     let start = earlier .before .before in
-    let a = start .args in let p = start .pre .1 in inner-within (a .s .now) (a .depth) (a .n) (a .names .now) (a .words .now) (a .first) (a .gates .now) (c .before .kind-here .result) (c .word-length .result) (p .term) (p .rest) (operand-inside-here t c)
+    let a = start .args in let p = start .pre .1 in inner-within (a .s .now) (a .depth) (a .n) (a .names .now) (a .words .now) (a .first) (a .gates .now)
+    (c .before .kind-here .result) (c .word-length .result) (p .term) (p .rest) (operand-inside-here t c)
 
 operand-part-operands-start : (t : ℕ) → operand-lts.Need-part-operands-start (operand-claims t) (operand-at t) operand.Post
 operand-part-operands-start t c =
     let stage = c .before .before .before .before .before .before .before in
     let earlier = stage in
     let start = earlier .before .before in
-    let a = start .args in let p = start .pre .1 in inner-within (a .s .now) (a .depth) (a .n) (a .names .now) (a .words .now) (a .first) (a .gates .now) (c .before .kind-here .result) (c .word-length .result) (p .term) (p .rest) (operand-inside-here t c)
+    let a = start .args in let p = start .pre .1 in inner-within (a .s .now) (a .depth) (a .n) (a .names .now) (a .words .now) (a .first) (a .gates .now)
+    (c .before .kind-here .result) (c .word-length .result) (p .term) (p .rest) (operand-inside-here t c)
 
 operand-part-operands-end : (t : ℕ) → operand-lts.Need-part-operands-end (operand-claims t) (operand-at t) operand.Post
 operand-part-operands-end t c = search needs
@@ -141,13 +170,27 @@ operand-operands-requires t c κs = let b = c .before .before .before in
     let a = b .before .before .before .before .before .before .before .before .before .args in
     let p = b .before .before .before .before .before .before .before .before .before .pre .1 in
     let k = b .before .kind-here .result in
-    let wide = b .word-length .result in
-    (omega (arith, inner-shorter (a .s .now) (a .depth) (a .n) (a .names .now) (a .words .now) (a .first) (a .gates .now) k wide (p .term) (p .rest) (operand-inside-here t b), b .before .before .before .before .before .before .before .before .before .pre .0), list-here (a .s .now) (a .depth) (a .n) (a .names .now) (a .words .now) (a .first) (a .gates .now) k wide p (operand-inside-here t b))
+    let wide = b .word-length .result in (
+      omega (
+        arith,
+        inner-shorter (a .s .now) (a .depth) (a .n) (a .names .now) (a .words .now) (a .first) (a .gates .now) k wide (p .term) (p .rest)
+            (operand-inside-here t b),
+        b .before .before .before .before .before .before .before .before .before .pre .0,
+      ),
+      list-here (a .s .now) (a .depth) (a .n) (a .names .now) (a .words .now) (a .first) (a .gates .now) k wide p (operand-inside-here t b),
+    )
 
 -- what the operand list has left bounds the gate's number and its words
 operand-bounded : (t : ℕ) (c : operand-lts.After-operands (operand-claims t) (operand-at t) operand.Post)
-    → Bounded (c .before .before .before .before .before .before .before .before .before .before .before .before .before .args .s .now) (c .before .before .before .before .before .before .before .before .before .before .before .before .before .args .depth) (c .before .before .before .before .before .before .before .before .before .before .before .before .before .args .n) (c .before .before .before .before .before .before .before .before .before .before .before .before .before .args .names .now) (c .before .before .before .before .before .before .before .before .before .before .before .before .before .args .words .now) (c .before .before .before .before .before .before .before .before .before .before .before .before .before .args .first) (c .before .before .before .before .before .before .before .before .before .before .before .before .before .args .gates .now)
-    (c .before .before .before .before .before .kind-here .result) (c .before .before .before .before .word-length .result) (c .operands .last .1 .1 .1 .1 .1 .1 .1 .1 .0) (c .operands .last .1 .1 .1 .1 .1 .1 .1 .1 .1 .0) (c .operands .result)
+    → Bounded (c .before .before .before .before .before .before .before .before .before .before .before .before .before .args .s .now)
+    (c .before .before .before .before .before .before .before .before .before .before .before .before .before .args .depth)
+    (c .before .before .before .before .before .before .before .before .before .before .before .before .before .args .n)
+    (c .before .before .before .before .before .before .before .before .before .before .before .before .before .args .names .now)
+    (c .before .before .before .before .before .before .before .before .before .before .before .before .before .args .words .now)
+    (c .before .before .before .before .before .before .before .before .before .before .before .before .before .args .first)
+    (c .before .before .before .before .before .before .before .before .before .before .before .before .before .args .gates .now)
+    (c .before .before .before .before .before .kind-here .result) (c .before .before .before .before .word-length .result)
+    (c .operands .last .1 .1 .1 .1 .1 .1 .1 .1 .0) (c .operands .last .1 .1 .1 .1 .1 .1 .1 .1 .1 .0) (c .operands .result)
 operand-bounded t c =
     let stage = c .before .before .before .before in
     let at-word-length = stage in
@@ -155,7 +198,9 @@ operand-bounded t c =
     let earlier = at-kind-here .before .before .before .before .before .before .before in
     let start = earlier .before in
     let a = start .args in
-    bounded (a .s .now) (a .depth) (a .n) (a .names .now) (a .words .now) (a .first) (a .gates .now) (at-kind-here .kind-here .result) (at-word-length .word-length .result) (a .unknown) (c .operands .last .1 .1 .1 .1 .1 .1 .1 .1 .0) (c .operands .last .1 .1 .1 .1 .1 .1 .1 .1 .1 .0) (c .operands .result) (start .pre .1)
+    bounded (a .s .now) (a .depth) (a .n) (a .names .now) (a .words .now) (a .first) (a .gates .now) (at-kind-here .kind-here .result)
+    (at-word-length .word-length .result) (a .unknown) (c .operands .last .1 .1 .1 .1 .1 .1 .1 .1 .0) (c .operands .last .1 .1 .1 .1 .1 .1 .1 .1 .1 .0)
+    (c .operands .result) (start .pre .1)
     (operand-inside-here t (at-word-length)) (c .operands .ensures)
 
 operand-slice-aggregate-put-gate : (t : ℕ) → operand-lts.Need-slice-aggregate-put-gate (operand-claims t) (operand-at t) operand.Post
@@ -165,7 +210,8 @@ operand-put-gate-requires : (t : ℕ) → operand-lts.Need-put-gate-requires (op
 operand-put-gate-requires t c κs =
     let stage = c .before .before .before .before .before in
     let at-operands = stage in
-    let b = operand-bounded t (at-operands) in (omega (arith, b .number, b .behind, b .room), ((b .kind, b .count), at-operands .operands .kept .1 .1 .1 .1 .1 .1 .1 .1 .1 .0))
+    let b = operand-bounded t (at-operands)
+    in (omega (arith, b .number, b .behind, b .room), ((b .kind, b .count), at-operands .operands .kept .1 .1 .1 .1 .1 .1 .1 .1 .1 .0))
 
 operand-add-t17 : (t : ℕ) → operand-lts.Need-add-t17 (operand-claims t) (operand-at t) operand.Post
 operand-add-t17 t c =
@@ -198,25 +244,32 @@ operand-returns-2 t c =
     let stage = at-put-gate .before .before .before .before .before .before in
     let b = stage in
     let a = b .before .before .before .before .before .before .before .before .before .before .before .before .before .args in
-    expression-read (a .s .now) (a .depth) (a .n) (a .names .now) (a .words .now) (a .first) (a .gates .now) (b .before .before .before .before .before .kind-here .result) (b .before .before .before .before .word-length .result) (a .unknown) (b .operands .last .1 .1 .1 .1 .1 .1 .1 .1 .0) (at-put-gate .put-gate .last .0) (b .operands .last .1 .1 .1 .1 .1 .1 .1 .1 .1 .0)
+    expression-read (a .s .now) (a .depth) (a .n) (a .names .now) (a .words .now) (a .first) (a .gates .now)
+    (b .before .before .before .before .before .kind-here .result) (b .before .before .before .before .word-length .result) (a .unknown)
+    (b .operands .last .1 .1 .1 .1 .1 .1 .1 .1 .0) (at-put-gate .put-gate .last .0) (b .operands .last .1 .1 .1 .1 .1 .1 .1 .1 .1 .0)
     (b .operands .result) (operand-inside t (b .before .before .before .before)) (b .operands .ensures) (at-put-gate .put-gate .ensures)
 
 -- another operand stands here
-another : (t : ℕ) (c : operands-lts.Else1 (operands-claims t) (operands-at t) operands.Post) → getD (c .before .before .before .before .before .before .before .args .s .now) 0 0 ≡ 41 → ⊥
+another : (t : ℕ) (c : operands-lts.Else1 (operands-claims t) (operands-at t) operands.Post)
+    → getD (c .before .before .before .before .before .before .before .args .s .now) 0 0 ≡ 41 → ⊥
 another t c e = c .if1 .left (c .before .byte-at .ensures ∙ e)
 
-another-there : (t : ℕ) (c : operands-lts.Else1 (operands-claims t) (operands-at t) operands.Post) → 0 < length (c .before .before .before .before .before .before .before .args .s .now)
+another-there : (t : ℕ) (c : operands-lts.Else1 (operands-claims t) (operands-at t) operands.Post)
+    → 0 < length (c .before .before .before .before .before .before .before .args .s .now)
 another-there t c =
     let stage = c .before .before .before .before .before .before .before in
     let start = stage in
-    let a = start .args in more-there (a .s .now) (a .depth) (a .n) (a .names .now) (a .words .now) (a .first) (a .i) (a .gates .now) (a .slots .now) (start .pre .1) (another t c)
+    let a = start .args in more-there (a .s .now) (a .depth) (a .n) (a .names .now) (a .words .now) (a .first) (a .i) (a .gates .now) (a .slots .now)
+    (start .pre .1) (another t c)
 
-another-left : (t : ℕ) (c : operands-lts.After-operand (operands-claims t) (operands-at t) operands.Post) → c .operand .result .left < length (c .before .before .before .before .before .before .before .before .before .before .args .s .now)
+another-left : (t : ℕ) (c : operands-lts.After-operand (operands-claims t) (operands-at t) operands.Post)
+    → c .operand .result .left < length (c .before .before .before .before .before .before .before .before .before .before .args .s .now)
 another-left t c =
     let stage = c .before .before .before in
     let start = stage .before .before .before .before .before .before .before in
     let a = start .args in
-    left-shorter (a .s .now) (a .depth) (a .n) (a .names .now) (a .words .now) (a .first) (a .i) (a .gates .now) (a .slots .now) (start .pre .1) (another t (stage)) (a .unknown) (c .operand .last .1 .1 .1 .1 .1 .1 .1 .0) (c .operand .result) (c .operand .ensures)
+    left-shorter (a .s .now) (a .depth) (a .n) (a .names .now) (a .words .now) (a .first) (a .i) (a .gates .now) (a .slots .now) (start .pre .1)
+    (another t (stage)) (a .unknown) (c .operand .last .1 .1 .1 .1 .1 .1 .1 .0) (c .operand .result) (c .operand .ensures)
 
 operands-byte-at-requires : (t : ℕ) → operands-lts.Need-byte-at-requires (operands-claims t) (operands-at t) operands.Post
 operands-byte-at-requires t c κs = search needs
@@ -230,7 +283,8 @@ operands-returns : (t : ℕ) → operands-lts.Need-returns (operands-claims t) (
 operands-returns t c =
     let stage = c .before .before .before .before .before .before .before in
     let start = stage in
-    let a = start .args in nil-read (a .s .now) (a .depth) (a .n) (a .names .now) (a .words .now) (a .first) (a .i) (a .gates .now) (a .slots .now) (a .unknown) (sym (c .before .byte-at .ensures) ∙ c .if1 .taken)
+    let a = start .args in nil-read (a .s .now) (a .depth) (a .n) (a .names .now) (a .words .now) (a .first) (a .i) (a .gates .now) (a .slots .now)
+    (a .unknown) (sym (c .before .byte-at .ensures) ∙ c .if1 .taken)
 
 operands-sub-operand : (t : ℕ) → operands-lts.Need-sub-operand (operands-claims t) (operands-at t) operands.Post
 operands-sub-operand t c = another-there t c
@@ -243,20 +297,31 @@ operands-part-operand-end t c = search needs
 
 operands-operand-requires : (t : ℕ) → operands-lts.Need-operand-requires (operands-claims t) (operands-at t) operands.Post
 operands-operand-requires t c κs = let b = c .before .before in
-    let a = b .before .before .before .before .before .before .before .args in
-    (omega (arith, rest-length (a .s .now) 1, another-there t b, b .before .before .before .before .before .before .before .pre .0), operand-here (a .s .now) (a .depth) (a .n) (a .names .now) (a .words .now) (a .first) (a .i) (a .gates .now) (a .slots .now) (b .before .before .before .before .before .before .before .pre .1) (another t b))
+    let a = b .before .before .before .before .before .before .before .args in (
+      omega (arith, rest-length (a .s .now) 1, another-there t b, b .before .before .before .before .before .before .before .pre .0),
+      operand-here (a .s .now) (a .depth) (a .n) (a .names .now) (a .words .now) (a .first) (a .i) (a .gates .now) (a .slots .now)
+          (b .before .before .before .before .before .before .before .pre .1) (another t b),
+    )
 
 operands-mul-slots : (t : ℕ) → operands-lts.Need-mul-slots (operands-claims t) (operands-at t) operands.Post
 operands-mul-slots t c =
     let stage-2 = c .before .before .before .before .before in
     let stage = stage-2 in
-    let b = stage in let a = b .before .before .before .before .before .before .before .args in omega (arith, slot-there (a .s .now) (a .depth) (a .n) (a .names .now) (a .words .now) (a .first) (a .i) (a .gates .now) (a .slots .now) (b .before .before .before .before .before .before .before .pre .1) (another t b), b .before .before .before .before .before .before .before .good)
+    let b = stage in let a = b .before .before .before .before .before .before .before .args in
+    omega (
+      arith,
+      slot-there (a .s .now) (a .depth) (a .n) (a .names .now) (a .words .now) (a .first) (a .i) (a .gates .now) (a .slots .now)
+          (b .before .before .before .before .before .before .before .pre .1) (another t b),
+      b .before .before .before .before .before .before .before .good,
+    )
 
 operands-slice-write-slots : (t : ℕ) → operands-lts.Need-slice-write-slots (operands-claims t) (operands-at t) operands.Post
 operands-slice-write-slots t c =
     let stage-2 = c .before .before .before .before .before in
     let stage = stage-2 in
-    let b = stage in let a = b .before .before .before .before .before .before .before .args in slot-there (a .s .now) (a .depth) (a .n) (a .names .now) (a .words .now) (a .first) (a .i) (a .gates .now) (a .slots .now) (b .before .before .before .before .before .before .before .pre .1) (another t b)
+    let b = stage in let a = b .before .before .before .before .before .before .before .args in
+    slot-there (a .s .now) (a .depth) (a .n) (a .names .now) (a .words .now) (a .first) (a .i) (a .gates .now) (a .slots .now)
+    (b .before .before .before .before .before .before .before .pre .1) (another t b)
 
 operands-sub-at : (t : ℕ) → operands-lts.Need-sub-at (operands-claims t) (operands-at t) operands.Post
 operands-sub-at t c = omega (arith, another-left t (c .before .before .before))
@@ -274,7 +339,13 @@ operands-add-operands : (t : ℕ) → operands-lts.Need-add-operands (operands-c
 operands-add-operands t c =
     let stage-2 = c .before .before .before .before .before .before .before in
     let stage = stage-2 in
-    let b = stage in let a = b .before .before .before .before .before .before .before .args in omega (arith, slot-there (a .s .now) (a .depth) (a .n) (a .names .now) (a .words .now) (a .first) (a .i) (a .gates .now) (a .slots .now) (b .before .before .before .before .before .before .before .pre .1) (another t b), b .before .before .before .before .before .before .before .good)
+    let b = stage in let a = b .before .before .before .before .before .before .before .args in
+    omega (
+      arith,
+      slot-there (a .s .now) (a .depth) (a .n) (a .names .now) (a .words .now) (a .first) (a .i) (a .gates .now) (a .slots .now)
+          (b .before .before .before .before .before .before .before .pre .1) (another t b),
+      b .before .before .before .before .before .before .before .good,
+    )
 
 operands-operands-requires : (t : ℕ) → operands-lts.Need-operands-requires (operands-claims t) (operands-at t) operands.Post
 operands-operands-requires t c κs =
@@ -283,8 +354,15 @@ operands-operands-requires t c κs =
     let b = stage in
     let a = b .before .before .before .before .before .before .before .before .before .before .args in
     let n = b .operand .result .left in (
-      omega (arith, rest-length (a .s .now) (length (a .s .now) - n), another-left t b, b .before .before .before .before .before .before .before .before .before .before .pre .0),
-      others-here (a .s .now) (a .depth) (a .n) (a .names .now) (a .words .now) (a .first) (a .i) (a .gates .now) (a .slots .now) (b .before .before .before .before .before .before .before .before .before .before .pre .1) (another t (b .before .before .before)) (a .unknown) (b .operand .last .1 .1 .1 .1 .1 .1 .1 .0) (b .operand .result) (b .operand .ensures),
+      omega (
+        arith,
+        rest-length (a .s .now) (length (a .s .now) - n),
+        another-left t b,
+        b .before .before .before .before .before .before .before .before .before .before .pre .0,
+      ),
+      others-here (a .s .now) (a .depth) (a .n) (a .names .now) (a .words .now) (a .first) (a .i) (a .gates .now) (a .slots .now)
+          (b .before .before .before .before .before .before .before .before .before .before .pre .1) (another t (b .before .before .before)) (a .unknown)
+          (b .operand .last .1 .1 .1 .1 .1 .1 .1 .0) (b .operand .result) (b .operand .ensures),
     )
 
 operands-same-length : (t : ℕ) → operands-lts.Need-same-length (operands-claims t) (operands-at t) operands.Post
@@ -308,7 +386,10 @@ operands-returns-2 t c =
     let stage = at-operands .before .before .before .before .before .before .before in
     let b = stage in
     let a = b .before .before .before .before .before .before .before .before .before .before .args in
-    list-read (a .s .now) (a .depth) (a .n) (a .names .now) (a .words .now) (a .first) (a .i) (a .gates .now) (a .slots .now) (a .unknown) (b .operand .last .1 .1 .1 .1 .1 .1 .1 .0) (at-operands .operands .last .1 .1 .1 .1 .1 .1 .1 .1 .0) (at-operands .operands .last .1 .1 .1 .1 .1 .1 .1 .1 .1 .0) (b .operand .result) (at-operands .operands .result) (another t (b .before .before .before)) (b .operand .ensures) (at-operands .operands .ensures)
+    list-read (a .s .now) (a .depth) (a .n) (a .names .now) (a .words .now) (a .first) (a .i) (a .gates .now) (a .slots .now) (a .unknown)
+    (b .operand .last .1 .1 .1 .1 .1 .1 .1 .0) (at-operands .operands .last .1 .1 .1 .1 .1 .1 .1 .1 .0)
+    (at-operands .operands .last .1 .1 .1 .1 .1 .1 .1 .1 .1 .0) (b .operand .result) (at-operands .operands .result)
+    (another t (b .before .before .before)) (b .operand .ensures) (at-operands .operands .ensures)
 
 pub +operand+operands-spec : {M : Type 1} → statement M
 +operand+operands-spec = close μ-operand μ-operands (λ t. operand-lts.spec (operand-claims t)

@@ -30,8 +30,10 @@ outputs-at-requires c κs =
 -- the three parts, from the header that was read
 parts : (c : tie.After-outputs-at) → blockText (c .before .before .before .before .before .before .before .args .words .now)
     ≡ pieces (inputText (c .before .before .before .before .before .before .before .args .words .now)) (c .before .before .before .before .inputs-of .result)
-    ++ (pieces (gateText (c .before .before .before .before .before .before .before .args .words .now) (c .before .gates-at .result)) (c .before .before .before .gates-of .result)
-    ++ pieces (outputText (c .before .before .before .before .before .before .before .args .words .now) (c .outputs-at .result)) (c .before .before .outputs-of .result))
+    ++ (pieces (gateText (c .before .before .before .before .before .before .before .args .words .now) (c .before .gates-at .result))
+    (c .before .before .before .gates-of .result)
+    ++ pieces (outputText (c .before .before .before .before .before .before .before .args .words .now) (c .outputs-at .result))
+    (c .before .before .outputs-of .result))
 parts c =
     let at-gates-of = c .before .before .before in
     let at-inputs-of = at-gates-of .before in

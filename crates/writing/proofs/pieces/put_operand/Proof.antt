@@ -26,8 +26,10 @@ put-name-requires c κs =
     let start = stage in
     let a = start .args in
     let w = c .before .before .word-at in
-    let l : w .result < getD (a .words .now) 0 0 = omega arith in
-    (omega (arith, at-shared-slice-known .shared-slice-known .given (a .from)), rw (operand-input (a .words .now) (a .from) (w .result) (w .ensures) l) at (start .pre))
+    let l : w .result < getD (a .words .now) 0 0 = omega arith in (
+      omega (arith, at-shared-slice-known .shared-slice-known .given (a .from)),
+      rw (operand-input (a .words .now) (a .from) (w .result) (w .ensures) l) at (start .pre),
+    )
 
 same-length : tie.Need-same-length
 same-length c = search needs
