@@ -3,6 +3,7 @@
 use simulator::block::Block;
 use simulator::generate::{for_typical_blocks, large, long_texts, longest_written, widest_cover};
 use simulator::limits::{BLOCK_WORDS, WRITTEN_BYTES};
+use unloop::raw;
 
 /// Inputs that are measured together, by name.
 pub type Set<I> = (String, Vec<I>);
@@ -47,8 +48,8 @@ pub fn straight(largest: &[&str]) -> Vec<Set<UnderSetting>> {
 
 fn rendered(words: &[u16]) -> Option<Vec<u16>> {
     let mut rendered = vec![0; BLOCK_WORDS];
-    let told = unloop::render(words, &mut rendered);
-    rendered.truncate(told.count as usize);
+    let told = raw::render(words, &mut rendered);
+    rendered.truncate(told.count);
     (told.number == 0).then_some(rendered)
 }
 
@@ -64,8 +65,8 @@ pub fn texts() -> Vec<Set<Vec<u8>>> {
 
 fn written(words: &[u16]) -> Vec<u8> {
     let mut text = vec![0; WRITTEN_BYTES];
-    let told = unloop::write(words, &mut text);
-    text.truncate(told.count as usize);
+    let told = raw::write(words, &mut text);
+    text.truncate(told.count);
     text
 }
 

@@ -4,10 +4,11 @@
 use perf::inputs::{self, Set, UnderSetting};
 use perf::measure::{Line, Operation};
 use perf::plain;
-use simulator::limits::{BLOCK_WORDS, GATES, WRITTEN_BYTES};
+use simulator::limits::{BLOCK_WORDS, COVER_WORDS, GATES, WRITTEN_BYTES};
 use std::env;
 use std::fmt::Debug;
 use std::process::ExitCode;
+use unloop::raw;
 
 const USAGE: &str = "usage: perf/run [--lines]";
 
@@ -60,7 +61,7 @@ fn measure_texts(print: fn(&Line)) {
         name: "read",
         room: BLOCK_WORDS,
         filler: 9_999,
-        library: |text: &Vec<u8>, block| unloop::read(text, block),
+        library: |text: &Vec<u8>, block| raw::read(text, block),
         plain: |text, block| plain::read(text, block),
     };
     measure(print, read, inputs::texts());
@@ -68,7 +69,7 @@ fn measure_texts(print: fn(&Line)) {
         name: "write",
         room: WRITTEN_BYTES,
         filler: 9,
-        library: |words: &Vec<u16>, text| unloop::write(words, text),
+        library: |words: &Vec<u16>, text| raw::write(words, text),
         plain: |words, text| plain::write(words, text),
     };
     measure(print, write, inputs::blocks(&["longest"]));
@@ -79,12 +80,12 @@ fn measure_values(print: fn(&Line)) {
         name: "settle",
         room: GATES,
         filler: 9,
-        library: |(words, setting): &UnderSetting, values| unloop::settle(words, setting, values),
+        library: |(words, setting): &UnderSetting, values| raw::settle(words, setting, values),
         plain: |(words, setting), values| plain::settle(words, setting, values),
     };
     let pass = Operation {
         name: "pass",
-        library: |(words, setting): &UnderSetting, values| unloop::pass(words, setting, values),
+        library: |(words, setting): &UnderSetting, values| raw::pass(words, setting, values),
         plain: |(words, setting), values| plain::pass(words, setting, values),
         ..settle
     };
@@ -114,7 +115,7 @@ fn measure_searches(print: fn(&Line)) {
         name: "verdict",
         room: 0,
         filler: 0_u16,
-        library: |words: &Vec<u16>, _| unloop::verdict(words),
+        library: |words: &Vec<u16>, _| raw::verdict(words),
         plain: |words, _| plain::verdict(words),
     };
     measure(print, verdict, inputs::blocks(&worst));
@@ -122,7 +123,7 @@ fn measure_searches(print: fn(&Line)) {
         name: "groups",
         room: GATES,
         filler: 9_999,
-        library: |words: &Vec<u16>, numbers| unloop::groups(words, numbers),
+        library: |words: &Vec<u16>, numbers| raw::groups(words, numbers),
         plain: |words, numbers| plain::groups(words, numbers),
     };
     measure(print, groups, inputs::blocks(&worst));
@@ -133,7 +134,7 @@ fn measure_results(print: fn(&Line)) {
         name: "render",
         room: BLOCK_WORDS,
         filler: 9_999,
-        library: |words: &Vec<u16>, rendered| unloop::render(words, rendered),
+        library: |words: &Vec<u16>, rendered| raw::render(words, rendered),
         plain: |words, rendered| plain::render(words, rendered),
     };
     let worst = [
@@ -147,9 +148,9 @@ fn measure_results(print: fn(&Line)) {
     let cover = Operation {
         name: "cover",
         // Two words for each partial assignment of ten inputs.
-        room: 2 * 3_usize.pow(10),
+        room: COVER_WORDS,
         filler: 9_999,
-        library: |words: &Vec<u16>, entries| unloop::cover(words, entries),
+        library: |words: &Vec<u16>, entries| raw::cover(words, entries),
         plain: |words, entries| plain::cover(words, entries),
     };
     let worst = [

@@ -4,7 +4,7 @@ use crate::clock;
 use std::fmt::Debug;
 use std::hint::black_box;
 use std::time::{Duration, Instant};
-use unloop::Reply;
+use unloop::raw::Reply;
 
 /// What was measured under a name: the processor time of one call on each input of a set, in seconds, by either program.
 pub struct Line {

@@ -19,21 +19,21 @@ pub use settle::{pass, settle};
 pub use verdict::verdict;
 pub use write::write;
 
-use unloop::Reply;
+use unloop::raw::Reply;
 
 fn done(count: usize, detail: usize) -> Reply {
     Reply {
         number: 0,
-        count: count as u64,
-        detail: detail as u64,
+        count,
+        detail,
     }
 }
 
-fn refused(number: u64, detail: usize) -> Reply {
+fn refused(number: usize, detail: usize) -> Reply {
     Reply {
         number,
         count: 0,
-        detail: detail as u64,
+        detail,
     }
 }
 

@@ -5,9 +5,9 @@ use simulator::generate::{
     for_blocks, for_texts, for_typical_blocks, large, long_texts, malformed, near_a_limit, spoiled,
     widest_cover, Random, Report, Size,
 };
-use simulator::limits::{BLOCK_WORDS, GATES, WRITTEN_BYTES};
+use simulator::limits::{BLOCK_WORDS, COVER_WORDS, GATES, WRITTEN_BYTES};
 use std::fmt::Debug;
-use unloop::Reply;
+use unloop::raw::{self, Reply};
 
 /// Compares answers and slices where there is room for all, and in slices exactly long enough, one short and empty.
 fn same<T: Copy + PartialEq + Debug>(
@@ -39,14 +39,14 @@ fn same_values(words: &[u16], setting: &[u8]) {
         "settle",
         GATES,
         9,
-        |values| unloop::settle(words, setting, values),
+        |values| raw::settle(words, setting, values),
         |values| plain::settle(words, setting, values),
     );
     same(
         "pass",
         GATES,
         9,
-        |values| unloop::pass(words, setting, values),
+        |values| raw::pass(words, setting, values),
         |values| plain::pass(words, setting, values),
     );
 }
@@ -56,32 +56,32 @@ fn same_results(words: &[u16]) {
         "write",
         WRITTEN_BYTES,
         9,
-        |text| unloop::write(words, text),
+        |text| raw::write(words, text),
         |text| plain::write(words, text),
     );
     same(
         "groups",
         GATES,
         9_999,
-        |numbers| unloop::groups(words, numbers),
+        |numbers| raw::groups(words, numbers),
         |numbers| plain::groups(words, numbers),
     );
     same(
         "render",
         BLOCK_WORDS,
         9_999,
-        |rendered| unloop::render(words, rendered),
+        |rendered| raw::render(words, rendered),
         |rendered| plain::render(words, rendered),
     );
 }
 
 fn same_searches(words: &[u16]) {
-    assert_eq!(unloop::verdict(words), plain::verdict(words), "verdict");
+    assert_eq!(raw::verdict(words), plain::verdict(words), "verdict");
     same(
         "cover",
-        2 * 3_usize.pow(10),
+        COVER_WORDS,
         9_999,
-        |entries| unloop::cover(words, entries),
+        |entries| raw::cover(words, entries),
         |entries| plain::cover(words, entries),
     );
 }
@@ -104,7 +104,7 @@ fn same_text(text: &[u8]) {
         "read",
         BLOCK_WORDS,
         9_999,
-        |block| unloop::read(text, block),
+        |block| raw::read(text, block),
         |block| plain::read(text, block),
     );
 }

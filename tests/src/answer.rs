@@ -1,58 +1,58 @@
-//! The three numbers each operation answers, and document 01's table of refusals.
+//! The three numbers each operation answers, and the table of refusals (SPECIFICATION 7.2).
 
 /// The number (0 on success), the count and the detail of an answer.
 #[derive(Debug, Clone, Copy, PartialEq, Eq)]
 pub struct Answer {
-    pub number: u64,
-    pub count: u64,
-    pub detail: u64,
+    pub number: usize,
+    pub count: usize,
+    pub detail: usize,
 }
 
-/// Document 01's word: overlong.
-pub const TEXT_TOO_LONG: u64 = 1;
-/// Document 01's word: form.
-pub const SYNTAX_ERROR: u64 = 2;
-/// Document 01's word: crowded.
-pub const OVER_A_LIMIT: u64 = 3;
-/// Document 01's word: twice.
-pub const DUPLICATE_DECLARATION: u64 = 4;
-/// Document 01's word: unknown.
-pub const UNDECLARED_NAME: u64 = 5;
-/// Document 01's word: torn.
-pub const MALFORMED_BLOCK: u64 = 6;
-/// Document 01's word: setting.
-pub const BAD_SETTING: u64 = 7;
-/// Document 01's word: swollen.
-pub const TOO_MANY_COPIES: u64 = 8;
-/// Document 01's word: undecided.
-pub const NOT_SETTLED: u64 = 9;
-/// Document 01's word: looped.
-pub const NOT_STRAIGHT: u64 = 10;
-/// Document 01's word: short.
-pub const NO_ROOM: u64 = 11;
+/// The trade's word: overlong.
+pub const TEXT_TOO_LONG: usize = 1;
+/// The trade's word: form.
+pub const SYNTAX_ERROR: usize = 2;
+/// The trade's word: crowded.
+pub const OVER_A_LIMIT: usize = 3;
+/// The trade's word: twice.
+pub const DUPLICATE_DECLARATION: usize = 4;
+/// The trade's word: unknown.
+pub const UNDECLARED_NAME: usize = 5;
+/// The trade's word: torn.
+pub const MALFORMED_BLOCK: usize = 6;
+/// The trade's word: setting.
+pub const BAD_SETTING: usize = 7;
+/// The trade's word: swollen.
+pub const TOO_MANY_COPIES: usize = 8;
+/// The trade's word: undecided.
+pub const NOT_SETTLED: usize = 9;
+/// The trade's word: looped.
+pub const NOT_STRAIGHT: usize = 10;
+/// The trade's word: short.
+pub const NO_ROOM: usize = 11;
 
 impl Answer {
     /// Success, with a count.
     pub fn success(count: usize) -> Answer {
         Answer {
             number: 0,
-            count: count as u64,
+            count,
             detail: 0,
         }
     }
 
-    /// A refusal, with a detail (0 where document 01 states none).
-    pub fn refusal(number: u64, detail: usize) -> Answer {
+    /// A refusal, with a detail (0 where none is stated).
+    pub fn refusal(number: usize, detail: usize) -> Answer {
         Answer {
             number,
             count: 0,
-            detail: detail as u64,
+            detail,
         }
     }
 }
 
-impl From<unloop::Reply> for Answer {
-    fn from(reply: unloop::Reply) -> Answer {
+impl From<unloop::raw::Reply> for Answer {
+    fn from(reply: unloop::raw::Reply) -> Answer {
         Answer {
             number: reply.number,
             count: reply.count,
@@ -65,7 +65,7 @@ impl From<unloop::Reply> for Answer {
 pub(crate) type Outcome<T> = Result<(usize, Vec<T>), Answer>;
 
 /// Refuses with `number` and no detail where `bad` holds.
-pub(crate) fn refuse_if(bad: bool, number: u64) -> Result<(), Answer> {
+pub(crate) fn refuse_if(bad: bool, number: usize) -> Result<(), Answer> {
     match bad {
         true => Err(Answer::refusal(number, 0)),
         false => Ok(()),

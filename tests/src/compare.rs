@@ -9,7 +9,7 @@ use crate::limits::{BLOCK_WORDS, INPUTS, WRITTEN_BYTES};
 use crate::Answer;
 use std::fmt::Debug;
 use tally::count;
-use unloop::Reply;
+use unloop::raw::{self, Reply};
 
 /// Elements on both sides of a lent slice, which no operation may touch.
 const MARGIN: usize = 8;
@@ -50,7 +50,7 @@ fn compare<T: Copy + PartialEq + Debug>(
         }
         let got = lent(room, filler, &run);
         assert_eq!(got, expected, "{operation} in a slice of {room}");
-        count(|tally| tally.answered[got.0.number as usize] += 1);
+        count(|tally| tally.answered[got.0.number] += 1);
     }
 }
 
@@ -60,10 +60,10 @@ pub fn compare_values(words: &[u16], setting: &[u8]) {
     count(|tally| tally.settings += 1);
     let all = usize::MAX;
     compare("settle", 9, crate::settle(words, setting, all), |values| {
-        unloop::settle(words, setting, values)
+        raw::settle(words, setting, values)
     });
     compare("pass", 9, crate::pass(words, setting, all), |values| {
-        unloop::pass(words, setting, values)
+        raw::pass(words, setting, values)
     });
 }
 
@@ -71,19 +71,19 @@ pub fn compare_values(words: &[u16], setting: &[u8]) {
 fn compare_words(words: &[u16]) {
     let all = usize::MAX;
     count(|tally| tally.words += 1);
-    let told = Answer::from(unloop::verdict(words));
+    let told = Answer::from(raw::verdict(words));
     assert_eq!(told, crate::verdict(words), "verdict");
     compare("write", 9, crate::write(words, all), |text| {
-        unloop::write(words, text)
+        raw::write(words, text)
     });
     compare("groups", 9_999, crate::groups(words, all), |numbers| {
-        unloop::groups(words, numbers)
+        raw::groups(words, numbers)
     });
     compare("render", 9_999, crate::render(words, all), |rendered| {
-        unloop::render(words, rendered)
+        raw::render(words, rendered)
     });
     compare("cover", 9_999, crate::cover(words, all), |entries| {
-        unloop::cover(words, entries)
+        raw::cover(words, entries)
     });
 }
 
@@ -119,7 +119,7 @@ pub fn compare_largest(words: &[u16]) {
 fn compare_read(text: &[u8], expected: (Answer, Vec<u16>)) {
     let _report = Report(|| format!("read of {}", text.escape_ascii()));
     count(|tally| tally.texts += 1);
-    let run = |block: &mut [u16]| unloop::read(text, block);
+    let run = |block: &mut [u16]| raw::read(text, block);
     if expected.0.number != 0 {
         let unaltered = vec![9_999; BLOCK_WORDS];
         assert_eq!(lent(BLOCK_WORDS, 9_999, run), (expected.0, unaltered));
@@ -135,9 +135,9 @@ pub fn compare_text(text: &[u8]) {
 /// Read gives back the words that Write was lent.
 pub fn compare_written(words: &[u16]) {
     let mut text = vec![0; WRITTEN_BYTES];
-    let told = unloop::write(words, &mut text);
+    let told = raw::write(words, &mut text);
     assert_eq!(told.number, 0);
-    text.truncate(told.count as usize);
+    text.truncate(told.count);
     compare_read(&text, (Answer::success(words.len()), words.to_vec()));
 }
 
@@ -146,7 +146,7 @@ pub fn compare_lines(text: &[u8]) {
     let _report = Report(|| format!("lines of {}", text.escape_ascii()));
     for place in (0..=text.len() + 2).chain([usize::MAX]) {
         let expected = crate::line(text, place);
-        assert_eq!(unloop::line(text, place), expected, "place {place}");
+        assert_eq!(raw::line(text, place), expected, "place {place}");
         count(|tally| tally.places += 1);
     }
 }

@@ -1,4 +1,4 @@
-//! Every limit of document 01, by name.
+//! Every limit (SPECIFICATION 1.5), by name.
 
 /// The longest text, in bytes.
 pub const TEXT_BYTES: usize = 61_440;
@@ -26,6 +26,8 @@ pub const HEAD_WORDS: usize = 3;
 pub const BLOCK_WORDS: usize = block_words(INPUTS, GATES, OUTPUTS);
 /// The longest text of Write, in bytes.
 pub const WRITTEN_BYTES: usize = 56_758;
+/// Two words for each partial assignment, enough for any cover.
+pub const COVER_WORDS: usize = 2 * 3_usize.pow(INPUTS as u32);
 
 /// The length of a stored block with n inputs, m gates and k outputs.
 pub const fn block_words(n: usize, m: usize, k: usize) -> usize {

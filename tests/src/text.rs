@@ -24,7 +24,7 @@ fn block_of(text: &[u8]) -> Outcome<u16> {
     Ok((words.len(), words))
 }
 
-fn refuse_at(place: Option<usize>, number: u64) -> Result<(), Answer> {
+fn refuse_at(place: Option<usize>, number: usize) -> Result<(), Answer> {
     match place {
         Some(place) => Err(Answer::refusal(number, place)),
         None => Ok(()),

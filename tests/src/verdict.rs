@@ -14,7 +14,7 @@ pub fn verdict(block: &[u16]) -> Answer {
     let lowest = settled.iter().position(|&settled| !settled);
     Answer {
         number: 0,
-        count: settled.iter().filter(|&&settled| settled).count() as u64,
-        detail: lowest.unwrap_or(settled.len()) as u64,
+        count: settled.iter().filter(|&&settled| settled).count(),
+        detail: lowest.unwrap_or(settled.len()),
     }
 }

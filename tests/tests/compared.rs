@@ -130,7 +130,7 @@ fn specimens() {
             compare_values(&words_of(text), &(0..n).map(digit).collect::<Vec<u8>>());
         }
     }
-    let render = |text: &str| Answer::from(unloop::render(&words_of(text), &mut [0; 5_243]));
+    let render = |text: &str| Answer::from(unloop::raw::render(&words_of(text), &mut [0; 5_243]));
     assert_eq!(render(&ring_of_32), answer(0, 3 + 5 * 1_024, 0));
     assert_eq!(render(&lone), answer(8, 0, 0));
     assert_eq!(render(&ring_of_33), answer(8, 0, 0));

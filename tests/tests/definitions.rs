@@ -1,8 +1,8 @@
-//! The simulator's own ways against plain transcriptions of document 01's definitions.
+//! The simulator's own ways against plain transcriptions of the definitions of docs/SPECIFICATION.md.
 
 use simulator::block::{Block, Gate, Kind, Output, Source};
 use simulator::generate::{for_blocks, Random, Size};
-use simulator::limits::{BLOCK_WORDS, GATES};
+use simulator::limits::{BLOCK_WORDS, COVER_WORDS, GATES};
 use simulator::rounds::stated_value;
 use simulator::values::{gate_value, Network};
 use simulator::{cover, groups, line, render};
@@ -52,7 +52,7 @@ fn reach(block: &Block) -> Vec<Vec<bool>> {
 fn groups_as_stated() {
     let check = |_: &mut Random, block: &Block, words: &[u16]| {
         let stated = stated_groups(block);
-        let count = stated.iter().max().map_or(0, |&last| u64::from(last) + 1);
+        let count = stated.iter().max().map_or(0, |&last| usize::from(last) + 1);
         let (told, numbers) = groups(words, GATES);
         assert_eq!((told.count, numbers), (count, stated));
     };
@@ -145,7 +145,7 @@ fn merged_cover(settled: &[bool]) -> Vec<u16> {
 fn covers_are_prime_implicants() {
     let check = |_: &mut Random, block: &Block, words: &[u16]| {
         let settled = Network::new(block).settled_settings();
-        let (told, entries) = cover(words, 2 * 59_049);
+        let (told, entries) = cover(words, COVER_WORDS);
         assert_eq!((told.number, entries), (0, merged_cover(&settled)));
     };
     for_blocks(0..8_000, Size::SMALL, check);

@@ -1,11 +1,11 @@
-//! Document 01's claims on generated blocks.
+//! The claims of docs/SPECIFICATION.md on generated blocks.
 
 mod common;
 
 use common::answer;
 use simulator::block::{Block, Source};
 use simulator::generate::{for_blocks, Random, Size};
-use simulator::limits::{BLOCK_WORDS, GATES, WRITTEN_BYTES};
+use simulator::limits::{BLOCK_WORDS, COVER_WORDS, GATES, WRITTEN_BYTES};
 use simulator::malformed::is_malformed;
 use simulator::rounds::rounds;
 use simulator::settle::sweep;
@@ -20,8 +20,8 @@ fn written_blocks_read_back() {
     let check = |_: &mut Random, _: &Block, words: &[u16]| {
         assert!(!is_malformed(words));
         let (told, text) = write(words, WRITTEN_BYTES);
-        assert_eq!(told, answer(0, text.len() as u64, 0));
-        let told = answer(0, words.len() as u64, 0);
+        assert_eq!(told, answer(0, text.len(), 0));
+        let told = answer(0, words.len(), 0);
         assert_eq!(read(&text, BLOCK_WORDS), (told, words.to_vec()));
     };
     for_blocks(0..20_000, Size::SMALL, check);
@@ -37,7 +37,7 @@ fn events_and_rounds_agree() {
             let (values, count) = rounds(block, &setting);
             assert_eq!(network.settled(&setting), values, "setting {setting:?}");
             assert!(count <= block.gates.len());
-            let told = (answer(0, count as u64, 0), values);
+            let told = (answer(0, count, 0), values);
             assert_eq!(settle(words, &setting, GATES), told);
         }
     };
@@ -58,8 +58,8 @@ fn straight_blocks() {
         straight += 1;
         let (_, settled) = settle(words, &setting, GATES);
         let told = pass(words, &setting, GATES);
-        assert_eq!(told, (answer(0, m as u64, 0), settled));
-        let told = answer(0, words.len() as u64, 0);
+        assert_eq!(told, (answer(0, m, 0), settled));
+        let told = answer(0, words.len(), 0);
         assert_eq!(render(words, BLOCK_WORDS), (told, words.to_vec()));
     };
     for_blocks(0..20_000, Size::SMALL, &mut check);
@@ -119,10 +119,10 @@ fn renderings() {
         let expected = match (sum > GATES, verdict.detail == settings) {
             (true, _) => answer(8, 0, 0),
             (_, false) => answer(9, 0, verdict.detail),
-            _ => answer(0, result.len() as u64, 0),
+            _ => answer(0, result.len(), 0),
         };
         assert_eq!(told, expected);
-        answered[told.number as usize] += 1;
+        answered[told.number] += 1;
         if told.number == 0 {
             check_rendering(block, &result, sum);
             loops_rendered += usize::from(sum > block.gates.len());
@@ -142,8 +142,8 @@ fn renderings() {
 fn covers() {
     for_blocks(0..20_000, Size::SMALL, |_, block, words| {
         let settings = 1 << block.inputs.len();
-        let (told, entries) = cover(words, 2 * 59_049);
-        assert_eq!(told, answer(0, entries.len() as u64 / 2, 0));
+        let (told, entries) = cover(words, COVER_WORDS);
+        assert_eq!(told, answer(0, entries.len() / 2, 0));
         let contained = |setting: u16| entries.chunks(2).any(|e| setting & e[0] == e[1]);
         let settled = Network::new(block).settled_settings();
         for setting in 0..settings {
@@ -152,7 +152,7 @@ fn covers() {
         let count = (0..settings).filter(|&setting| contained(setting)).count();
         let lowest = (0..settings).find(|&setting| !contained(setting));
         let detail = lowest.unwrap_or(settings).into();
-        assert_eq!(verdict(words), answer(0, count as u64, detail));
+        assert_eq!(verdict(words), answer(0, count, detail));
         assert_eq!(entries == [0, 0], lowest.is_none());
     });
 }

@@ -13,7 +13,7 @@ use simulator::{read, Answer};
 fn legal_texts() {
     let check = |_: &mut Random, text: &[u8], block: &simulator::block::Block| {
         let words = block.to_words();
-        let told = answer(0, words.len() as u64, 0);
+        let told = answer(0, words.len(), 0);
         assert_eq!(read(text, words.len()), (told, words.clone()));
         assert_eq!(read(text, words.len() - 1), (answer(11, 0, 0), vec![]));
     };
@@ -88,7 +88,7 @@ fn stated_refusal(text: &[u8]) -> Option<Answer> {
             .any(|(p, n, _)| (p, n) == (is_port, name))
     });
     if let Some((_, &(_, _, place))) = repeated {
-        return Some(answer(4, 0, place as u64));
+        return Some(answer(4, 0, place));
     }
     let known = |name: &[u8]| {
         declared
@@ -96,7 +96,7 @@ fn stated_refusal(text: &[u8]) -> Option<Answer> {
             .any(|(is_port, n, _)| !is_port && *n == name)
     };
     let unknown = used.iter().find(|(name, _)| !known(name));
-    unknown.map(|&(_, place)| answer(5, 0, place as u64))
+    unknown.map(|&(_, place)| answer(5, 0, place))
 }
 
 /// Checks Read on a text against the plain statements; gives its number.
@@ -104,12 +104,12 @@ fn check(text: &[u8]) -> usize {
     let (told, words) = read(text, BLOCK_WORDS);
     assert_eq!(first_error(text).is_none(), parse(text).is_some());
     let expected = match first_error(text) {
-        Some(place) => Some(answer(2, 0, place as u64)),
+        Some(place) => Some(answer(2, 0, place)),
         None => stated_refusal(text),
     };
-    assert_eq!(told, expected.unwrap_or(answer(0, words.len() as u64, 0)));
+    assert_eq!(told, expected.unwrap_or(answer(0, words.len(), 0)));
     assert_eq!(read(text, 0).0, expected.unwrap_or(answer(11, 0, 0)));
-    told.number as usize
+    told.number
 }
 
 #[test]

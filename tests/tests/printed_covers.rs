@@ -5,6 +5,7 @@ mod common;
 
 use common::answer;
 use simulator::cover::entries;
+use simulator::limits::COVER_WORDS;
 use simulator::specimens::{words_of, SIX_GATES, TWO_GATES};
 use simulator::{cover, settle, verdict, Answer};
 
@@ -49,15 +50,15 @@ fn printed(names: &str, printed: &[&str], list: &[u16]) {
 
 /// The simulator's cover, and the library's.
 fn covers(words: &[u16]) -> [(Answer, Vec<u16>); 2] {
-    let mut entries = vec![0; 2 * 59_049];
-    let told = unloop::cover(words, &mut entries);
-    entries.truncate(2 * told.count as usize);
+    let mut entries = vec![0; COVER_WORDS];
+    let told = unloop::raw::cover(words, &mut entries);
+    entries.truncate(2 * told.count);
     [cover(words, usize::MAX), (told.into(), entries)]
 }
 
 /// The circuit's cover is the list of words, in this order, whoever computes it.
 fn listed(circuit: &str, list: &[u16]) {
-    let expected = (answer(0, list.len() as u64 / 2, 0), list.to_vec());
+    let expected = (answer(0, list.len() / 2, 0), list.to_vec());
     for cover in covers(&words_of(circuit)) {
         assert_eq!(cover, expected, "{circuit}");
     }
@@ -87,7 +88,7 @@ fn first_step(circuit: &str, names: &str, gates: &str, rows: &[Row]) {
     }
 }
 
-/// 000, Figure 1: the gates are document 01's specimen 4. Printed: both entries, and "unless a = 1 and b = 0".
+/// 000, Figure 1: the gates are specimen 4's. Printed: both entries, and "unless a = 1 and b = 0".
 #[test]
 fn figure_1_of_000() {
     let list = [1, 0, 2, 2];

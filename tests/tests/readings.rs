@@ -10,7 +10,7 @@ use simulator::specimens::words_of;
 use simulator::{groups, line, pass, read, render, settle, unloop, verdict, write};
 
 /// The number and the detail of Read.
-fn refusal(text: &str) -> (u64, u64) {
+fn refusal(text: &str) -> (usize, usize) {
     let (told, words) = read(text.as_bytes(), BLOCK_WORDS);
     assert_eq!((told.count, words.len()), (0, 0), "{text}");
     (told.number, told.detail)
@@ -137,7 +137,7 @@ fn settings() {
 fn no_gate() {
     let words = words_of("(in a)\n(in b)\n(out y a)\n");
     assert_eq!(verdict(&words), answer(0, 4, 4));
-    let count = words.len() as u64;
+    let count = words.len();
     assert_eq!(render(&words, words.len()), (answer(0, count, 0), words));
 }
 

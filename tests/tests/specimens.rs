@@ -1,4 +1,4 @@
-//! Document 01's specimens 1 to 9, starred or not, whole.
+//! Specimens 1 to 9 (SPECIFICATION 9), starred or not, whole.
 
 mod common;
 
@@ -8,7 +8,7 @@ use simulator::specimens::*;
 use simulator::{cover, groups, pass, read, render, settle, unloop, verdict, write};
 
 /// Read refuses the text so, whatever the room.
-fn refused(text: &str, number: u64, detail: u64) {
+fn refused(text: &str, number: usize, detail: usize) {
     for room in [0, BLOCK_WORDS] {
         let told = read(text.as_bytes(), room);
         assert_eq!(told, (answer(number, 0, detail), vec![]), "{text}");
@@ -18,7 +18,7 @@ fn refused(text: &str, number: u64, detail: u64) {
 /// The text of the rendering, by way of the words.
 fn rendered_text(text: &str) -> String {
     let (told, words) = render(&words_of(text), BLOCK_WORDS);
-    assert_eq!(told, answer(0, words.len() as u64, 0));
+    assert_eq!(told, answer(0, words.len(), 0));
     String::from_utf8(write(&words, WRITTEN_BYTES).1).unwrap()
 }
 

@@ -2,8 +2,9 @@
 //! A stack that is too small ends the whole test program.
 
 use simulator::generate::{large, long_texts};
-use simulator::limits::{BLOCK_WORDS, GATES, WRITTEN_BYTES};
+use simulator::limits::{BLOCK_WORDS, COVER_WORDS, GATES, WRITTEN_BYTES};
 use std::thread::Builder;
+use unloop::raw;
 
 /// An eighth of the MiB that Groups may use; the other operations keep within it too.
 const STACK_BYTES: usize = 128 * 1_024;
@@ -24,16 +25,16 @@ fn blocks() {
         let mut values = vec![0; GATES];
         let mut numbers = vec![0; GATES];
         let mut rendered = vec![0; BLOCK_WORDS];
-        let mut entries = vec![0; 2 * 59_049];
+        let mut entries = vec![0; COVER_WORDS];
         let mut text = vec![0; WRITTEN_BYTES];
         with_stack(STACK_BYTES, || {
-            assert_eq!(unloop::verdict(&words).number, 0);
-            assert_eq!(unloop::groups(&words, &mut numbers).number, 0);
-            assert_eq!(unloop::settle(&words, &setting, &mut values).number, 0);
-            assert_ne!(unloop::pass(&words, &setting, &mut values).number, 6);
-            assert_ne!(unloop::render(&words, &mut rendered).number, 6);
-            assert_eq!(unloop::cover(&words, &mut entries).number, 0);
-            assert_eq!(unloop::write(&words, &mut text).number, 0);
+            assert_eq!(raw::verdict(&words).number, 0);
+            assert_eq!(raw::groups(&words, &mut numbers).number, 0);
+            assert_eq!(raw::settle(&words, &setting, &mut values).number, 0);
+            assert_ne!(raw::pass(&words, &setting, &mut values).number, 6);
+            assert_ne!(raw::render(&words, &mut rendered).number, 6);
+            assert_eq!(raw::cover(&words, &mut entries).number, 0);
+            assert_eq!(raw::write(&words, &mut text).number, 0);
         });
     }
 }
@@ -43,8 +44,8 @@ fn texts() {
     for (_, text) in long_texts() {
         let mut block = vec![0; BLOCK_WORDS];
         with_stack(STACK_BYTES, || {
-            unloop::read(&text, &mut block);
-            unloop::line(&text, text.len());
+            raw::read(&text, &mut block);
+            raw::line(&text, text.len());
         });
     }
 }

@@ -16,7 +16,7 @@ fn typical_blocks_are_as_described() {
         assert!(!is_malformed(words));
         assert!((4..=8).contains(&block.inputs.len()));
         assert!((50..=200).contains(&block.gates.len()));
-        let looped = groups(words, GATES).0.count < block.gates.len() as u64;
+        let looped = groups(words, GATES).0.count < block.gates.len();
         assert_eq!(looped, loops != Loops::None);
         let sound = verdict(words).detail == 1 << block.inputs.len();
         assert_eq!(sound, loops != Loops::Latch);
@@ -44,6 +44,6 @@ fn typical_blocks_in_both_orders() {
 fn widest_cover_has_its_entries() {
     let words = widest_cover().to_words();
     let (told, entries) = cover(&words, usize::MAX);
-    assert_eq!((told.number, told.count), (0, WIDEST_COVER as u64));
+    assert_eq!((told.number, told.count), (0, WIDEST_COVER));
     assert_eq!(entries.len(), 2 * WIDEST_COVER);
 }

@@ -1,5 +1,10 @@
 -- The rendering as a block: it is straight, has as many gates as there are copies, the original's inputs and ports, and is well-formed where
--- the original is and there is room. Render's code cites it. Assumes nothing.
+-- the original is and there is room. Render's code cites it.
+--   rendering-count, rendering-inputs, rendering-ports   gates are copies; names are kept
+--   rendering-straight             it is straight
+--   lastCopies-*, rendering-node   what stands for each gate in the end, and what outputs show
+--   rendering-wellFormed           it is well-formed
+-- Assumes nothing.
 use Prim.Native.Nat.{ℕ, _+_, _≤_, _<_}
 use mathlib.Core.Path.{_≡_, refl, sym, ap, _∙_}
 use mathlib.Core.Bool.{true, false, false≢true, _&&_}
@@ -16,16 +21,17 @@ use Rattle.laws.proofs.Quantifiers.{all-at, below-all}
 use Rattle.netlist.specs.Limits.{maxCopies}
 use Rattle.netlist.specs.Netlist.{Operand, input, gate, constant, Gate, Output, Block, gateCount, outputCount, gateOf}
 use Rattle.netlist.specs.Kinds.{isKind, arityFits}
-use Rattle.netlist.specs.StoredBlock.{isNode, isOperand, gateFits, wellFormed}
+use Rattle.netlist.specs.StoredBlock.{isNode, isOperand, gateFits, isWellFormed}
 use Rattle.netlist.specs.Groups.{readBy, copyCount}
-use Rattle.netlist.specs.Rendering.{straight, schedule, noCopies, copiedOperand, copied, lastCopies, rendering}
+use Rattle.netlist.specs.Rendering.{isStraight, schedule, noCopies, copiedOperand, copied, lastCopies, rendering}
 use Rattle.encoding.proofs.ListFacts.{getD-map}
 use Rattle.encoding.proofs.WellFormed.{wellFormed-parts, wellFormed-interface}
 use Rattle.reach.specs.Inside.{Inside}
 use Rattle.reach.proofs.Inside.{wellFormed-inside}
 use Rattle.reach.proofs.ListFacts.{all-intro}
 use Rattle.agreement.specs.Copies.{IsCopy, AreCopies, newestAt}
-use Rattle.agreement.proofs.Copies.{noCopies-areCopies, length-noCopies, length-newestAfter, newestAfter-areCopies, newestAfter-copied, length-copies, getD-copies, copied-reads}
+use Rattle.agreement.proofs.Copies.{noCopies-areCopies, length-noCopies, length-newestAfter, newestAfter-areCopies, newestAfter-copied}
+use Rattle.agreement.proofs.Copies.{length-copies, getD-copies, copied-reads}
 use Rattle.agreement.proofs.Schedule.{length-schedule, member-schedule, schedule-below}
 
 module _ (b : Block) where
@@ -69,8 +75,8 @@ module _ (b : Block) where
       rw e at (newestAfter-areCopies (noCopies b) 0 (take j (schedule b)) (noCopies-areCopies b))
 
   -- The rendering is straight.
-  pub rendering-straight : straight (rendering b) ≡ true
-  unfolding straight readBy
+  pub rendering-straight : isStraight (rendering b) ≡ true
+  unfolding isStraight readBy
   rendering-straight =
       below-all (λ j. all (λ i. ltb i j) (readBy (rendering b) j)) (gateCount (rendering b))
       (λ j l. all-intro (λ i. ltb i j) (readBy (rendering b) j)
@@ -153,7 +159,7 @@ module _ (b : Block) where
       (getD-map (λ (o : Output). record { port = o .port; node = copiedOperand (lastCopies b) (o .node) }) (b .outputs) i e d l)
 
   -- The rendering of a well-formed block is well-formed, if there are not too many copies.
-  pub rendering-wellFormed : wellFormed b ≡ true → copyCount b ≤ maxCopies → wellFormed (rendering b) ≡ true
+  pub rendering-wellFormed : isWellFormed b ≡ true → copyCount b ≤ maxCopies → isWellFormed (rendering b) ≡ true
   rendering-wellFormed w few =
       wellFormed-interface b (rendering b) w rendering-inputs rendering-ports (rw rendering-count few)
       (λ j l.

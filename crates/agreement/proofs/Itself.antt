@@ -1,4 +1,7 @@
--- "a straight block renders to itself": the record itself, so its words and its text too. Assumes nothing.
+-- A straight block renders to itself: the record itself, so its words and its text too.
+--   rendering-itself         a straight block
+--   rendering-itself-words   its words
+-- Assumes nothing.
 use Prim.Native.Nat.{ℕ, zero, suc, _≤_, _<_}
 use mathlib.Core.Path.{_≡_, refl, sym, ap, _∙_}
 use mathlib.Core.Logic.{⊎-elim}
@@ -14,9 +17,9 @@ use Rattle.laws.proofs.Tests.{and-left, and-right, eq-or-ne}
 use Rattle.laws.proofs.Tab.{length-tab}
 use Rattle.laws.proofs.Lists.{member-head, member-rest}
 use Rattle.netlist.specs.Netlist.{Operand, input, gate, constant, Gate, Output, Block, gateCount, gateOf}
-use Rattle.netlist.specs.StoredBlock.{isNode, wellFormed, encode}
+use Rattle.netlist.specs.StoredBlock.{isNode, isWellFormed, encode}
 use Rattle.netlist.specs.Groups.{gateOperand, readBy, reads}
-use Rattle.netlist.specs.Rendering.{straight, noCopies, copiedOperand, copied, copies, newestAfter, lastCopies, rendering}
+use Rattle.netlist.specs.Rendering.{isStraight, noCopies, copiedOperand, copied, copies, newestAfter, lastCopies, rendering}
 use Rattle.encoding.proofs.WellFormed.{wellFormed-parts}
 use Rattle.reach.proofs.Straight.{straight-reads}
 use Rattle.agreement.proofs.Copies.{length-noCopies, length-newestAfter, newestAfter-snoc, copies-snoc}
@@ -59,7 +62,7 @@ module _ (b : Block) where
       other : (j ≡ t → ⊥) → getD before j (constant false) ≡ gate j → getD (set before t (gate t)) j (constant false) ≡ gate j
       other n e = getD-set-other before t j (gate t) (constant false) n ∙ e
 
-  module _ (s : straight b ≡ true) where
+  module _ (s : isStraight b ≡ true) where
     -- the copies of gates 0 .. t - 1 are those gates
     copies-upTo : (t : ℕ) → t ≤ gateCount b → copies b (noCopies b) 0 (upTo t) ≡ take t (b .gates)
     unfolding copies reads readBy
@@ -99,9 +102,9 @@ module _ (b : Block) where
         ∙ ap (λ (os : List Output). record { inputs = b .inputs; gates = b .gates; outputs = os }) (outputs-kept (b .outputs) h)
 
   -- A straight block renders to itself,
-  pub rendering-itself : wellFormed b ≡ true → straight b ≡ true → rendering b ≡ b
+  pub rendering-itself : isWellFormed b ≡ true → isStraight b ≡ true → rendering b ≡ b
   rendering-itself w s = rendering-itself-of s (wellFormed-parts b w .nodesThere)
 
   -- word for word.
-  pub rendering-itself-words : wellFormed b ≡ true → straight b ≡ true → encode (rendering b) ≡ encode b
+  pub rendering-itself-words : isWellFormed b ≡ true → isStraight b ≡ true → encode (rendering b) ≡ encode b
   rendering-itself-words w s = ap encode (rendering-itself w s)

@@ -1,5 +1,10 @@
 -- The order of copying: over the first groups and one more, its length, and the gates in it. Render's code, the number of copies and the
--- agreement cite it. Assumes nothing.
+-- agreement cite it.
+--   length-passes, member-passes   the passes over one group
+--   scheduleOf-*                   over the first groups, and one more
+--   schedule-is, length-schedule, member-schedule, schedule-below   the whole order
+--   schedule-straight              a straight block's
+-- Assumes nothing.
 use Prim.Native.Nat.{ℕ, zero, suc, _≤_, _<_}
 use mathlib.Core.Path.{_≡_, refl, sym, ap, _∙_}
 use mathlib.Core.Logic.{⊎-elim}
@@ -12,7 +17,7 @@ use Rattle.laws.proofs.Quantifiers.{member-from}
 use Rattle.laws.proofs.Lists.{joined-append, joined-snoc, member-cases, member-left, member-right}
 use Rattle.netlist.specs.Netlist.{Block, gateCount}
 use Rattle.netlist.specs.Groups.{groups, copyCount}
-use Rattle.netlist.specs.Rendering.{straight, passes, schedule}
+use Rattle.netlist.specs.Rendering.{isStraight, passes, schedule}
 use Rattle.rounds.proofs.ListFacts.{member-repeated as repeated-member}
 use Rattle.reach.specs.Inside.{Inside}
 use Rattle.reach.proofs.Order.{groups-all, groups-all-numbered}
@@ -120,5 +125,5 @@ module _ (b : Block) where
       (member-from (getD (schedule b) i 0) (schedule b) i l refl))
 
   -- A straight block's schedule is 0, 1, 2, ..
-  pub schedule-straight : straight b ≡ true → schedule b ≡ upTo (gateCount b)
+  pub schedule-straight : isStraight b ≡ true → schedule b ≡ upTo (gateCount b)
   schedule-straight s = schedule-is ∙ ap scheduleOf (straight-groups b s) ∙ scheduleOf-ones (gateCount b)

@@ -1,4 +1,7 @@
--- In a sound block every setting is settled. Render's code and the agreement cite it. Assumes nothing.
+-- In a sound block every setting is settled. Render's code and the agreement cite it.
+--   sound-settledAt, settledAt-sound   sound exactly when every setting is settled
+--   agrees-nothing                     every setting agrees with the assignment that fixes nothing
+-- Assumes nothing.
 use Prim.Native.Nat.{ℕ, _<_}
 use mathlib.Core.Path.{_≡_, refl}
 use mathlib.Core.Bool.{true, not, _||_}
@@ -7,8 +10,8 @@ use lib.Dec.{eqb}
 use Rattle.laws.proofs.Tests.{or-right}
 use Rattle.laws.proofs.Quantifiers.{all-below, below-all}
 use Rattle.netlist.specs.Netlist.{Block, inputCount}
-use Rattle.netlist.specs.Rounds.{bit, settingCount, settledAt}
-use Rattle.netlist.specs.Cover.{Assignment, fixes, agrees, soundUnder, sound}
+use Rattle.netlist.specs.Rounds.{bit, settingCount, isSettled}
+use Rattle.netlist.specs.Cover.{Assignment, fixes, agrees, isSoundUnder, isSound}
 
 nothing : Assignment
 nothing = record { fixed = 0; ones = 0 }
@@ -24,15 +27,15 @@ agrees-nothing n s = below-all (λ i. not (fixes nothing i) || eqb (bit s i) (bi
 
 module _ (b : Block) where
   -- In a sound block every setting is settled.
-  pub sound-settledAt : sound b ≡ true → (s : ℕ) → s < settingCount b → settledAt b s ≡ true
-  unfolding sound soundUnder nothing
+  pub sound-settledAt : isSound b ≡ true → (s : ℕ) → s < settingCount b → isSettled b s ≡ true
+  unfolding isSound isSoundUnder nothing
   sound-settledAt h s l =
       rw (agrees-nothing (inputCount b) s) at
-      (all-below (λ s. not (agrees (inputCount b) nothing s) || settledAt b s) (settingCount b) s h l)
+      (all-below (λ s. not (agrees (inputCount b) nothing s) || isSettled b s) (settingCount b) s h l)
 
   -- A block in which every setting is settled is sound.
-  pub settledAt-sound : ((s : ℕ) → s < settingCount b → settledAt b s ≡ true) → sound b ≡ true
-  unfolding sound soundUnder nothing
+  pub settledAt-sound : ((s : ℕ) → s < settingCount b → isSettled b s ≡ true) → isSound b ≡ true
+  unfolding isSound isSoundUnder nothing
   settledAt-sound h =
-      below-all (λ s. not (agrees (inputCount b) nothing s) || settledAt b s) (settingCount b)
-      (λ s l. or-right (not (agrees (inputCount b) nothing s)) (settledAt b s) (h s l))
+      below-all (λ s. not (agrees (inputCount b) nothing s) || isSettled b s) (settingCount b)
+      (λ s l. or-right (not (agrees (inputCount b) nothing s)) (isSettled b s) (h s l))

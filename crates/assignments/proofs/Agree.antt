@@ -13,35 +13,35 @@ use borrow.Author.Tests.{eq-eqb, eqb-true, le-leb, leb-true}
 use Rattle.laws.proofs.Tests.{eq-or-ne}
 use Rattle.laws.proofs.Quantifiers.{all-below, below-all}
 use Rattle.netlist.specs.Rounds.{bit}
-use Rattle.netlist.specs.Cover.{Assignment, fixes, agrees, without, within}
-use Rattle.assignments.specs.Digits.{digit}
-use Rattle.assignments.specs.Over.{soundOver, Legal}
+use Rattle.netlist.specs.Cover.{Assignment, fixes, agrees, without, isWithin}
+use Rattle.assignments.specs.Digits.{ternaryDigit}
+use Rattle.assignments.specs.Over.{soundOver, Consistent}
 use Rattle.assignments.proofs.Digits.{numeral-ext, numeral-digit, digit-lt, digit-lowered, digit-kept, lowered-le}
 use Rattle.assignments.proofs.ListFacts.{implies-use, implies-from}
 
 pub bit-lt : (s i : ℕ) → bit s i < 2
-unfolding bit digit
+unfolding bit ternaryDigit
 bit-lt s i = digit-lt 2 (omega arith) s i
 
 -- two masks with the same bits are the same
 pub bits-eq : (n s t : ℕ) → s < 2 ^ n → t < 2 ^ n → ((i : ℕ) → i < n → bit s i ≡ bit t i) → s ≡ t
-unfolding bit digit
+unfolding bit ternaryDigit
 bits-eq n s t l m h =
-    sym (numeral-digit 2 (omega arith) s n l) ∙ numeral-ext 2 (omega arith) (digit 2 s) (digit 2 t) n h ∙ numeral-digit 2 (omega arith) t n m
+    sym (numeral-digit 2 (omega arith) s n l) ∙ numeral-ext 2 (omega arith) (ternaryDigit 2 s) (ternaryDigit 2 t) n h ∙ numeral-digit 2 (omega arith) t n m
 
 -- a mask without its bit i, which is c
 module _ (m n i c : ℕ) (small : m < 2 ^ n) (below : i < n) (is : bit m i ≡ c) where
   pub bit-le : c * 2 ^ i ≤ m
-  unfolding bit digit
-  bit-le = let h : digit 2 m i ≡ c = is in lowered-le 2 (omega arith) m n i c small below (omega arith)
+  unfolding bit ternaryDigit
+  bit-le = let h : ternaryDigit 2 m i ≡ c = is in lowered-le 2 (omega arith) m n i c small below (omega arith)
 
   pub bit-dropped : bit (m - c * 2 ^ i) i ≡ 0
-  unfolding bit digit
-  bit-dropped = let h : digit 2 m i ≡ c = is in digit-lowered 2 (omega arith) m n i c small below (omega arith) ∙ omega arith
+  unfolding bit ternaryDigit
+  bit-dropped = let h : ternaryDigit 2 m i ≡ c = is in digit-lowered 2 (omega arith) m n i c small below (omega arith) ∙ omega arith
 
   pub bit-kept : (j : ℕ) → j < n → (j ≡ i → ⊥) → bit (m - c * 2 ^ i) j ≡ bit m j
-  unfolding bit digit
-  bit-kept = let h : digit 2 m i ≡ c = is in digit-kept 2 (omega arith) m n i c small below (omega arith)
+  unfolding bit ternaryDigit
+  bit-kept = let h : ternaryDigit 2 m i ≡ c = is in digit-kept 2 (omega arith) m n i c small below (omega arith)
 
 module _ (n : ℕ) (a : Assignment) (s : ℕ) where
   -- a setting agrees with an assignment exactly when it has its value at each input that it fixes
@@ -71,16 +71,16 @@ module _ (p : ℕ → Bool) (n : ℕ) (a : Assignment) where
 
 -- an input at 1 is a fixed one
 module _ (n f o : ℕ) where
-  pub within-at : within n f o ≡ true → (i : ℕ) → i < n → bit o i ≤ bit f i
-  unfolding within
+  pub within-at : isWithin n f o ≡ true → (i : ℕ) → i < n → bit o i ≤ bit f i
+  unfolding isWithin
   within-at h i l = leb-true (bit o i) (bit f i) (all-below (λ i. leb (bit o i) (bit f i)) n i h l)
 
-  pub within-from : ((i : ℕ) → i < n → bit o i ≤ bit f i) → within n f o ≡ true
-  unfolding within
+  pub within-from : ((i : ℕ) → i < n → bit o i ≤ bit f i) → isWithin n f o ≡ true
+  unfolding isWithin
   within-from h = below-all (λ i. leb (bit o i) (bit f i)) n (λ i l. le-leb (bit o i) (bit f i) (h i l))
 
 -- without a fixed input i: its bits are 0 in both masks, the others are kept
-module _ (n : ℕ) (a : Assignment) (i : ℕ) (ok : Legal n a) (below : i < n) (fixed-here : bit (a .fixed) i ≡ 1) where
+module _ (n : ℕ) (a : Assignment) (i : ℕ) (ok : Consistent n a) (below : i < n) (fixed-here : bit (a .fixed) i ≡ 1) where
   pub without-fixed : bit (without a i .fixed) i ≡ 0
   unfolding without
   without-fixed = rw (one-mul (2 ^ i)) at (bit-dropped (a .fixed) n i 1 (ok .fixed-lt) below fixed-here)
@@ -105,7 +105,7 @@ module _ (n : ℕ) (a : Assignment) (i : ℕ) (ok : Legal n a) (below : i < n) (
       let z : 0 < 2 ^ i = pow-pos i in
       omega arith
 
-  pub without-legal : Legal n (without a i)
+  pub without-legal : Consistent n (without a i)
   unfolding without
   without-legal = record {
     fixed-lt = let h : a .fixed < 2 ^ n = ok .fixed-lt in omega arith;
@@ -126,10 +126,10 @@ and-bit : (a b i : ℕ) → bit (bitAnd a b) i ≡ min (bit a i) (bit b i)
 unfolding bit
 and-bit a b i = rw (and-shr a b i, and-step (a / 2 ^ i) (b / 2 ^ i)) (omega arith)
 
-pub within-and : (n f o : ℕ) → bitAnd o f ≡ o → within n f o ≡ true
+pub within-and : (n f o : ℕ) → bitAnd o f ≡ o → isWithin n f o ≡ true
 within-and n f o e = within-from n f o (λ i l. let h : bit o i ≡ min (bit o i) (bit f i) = ap (λ (x : ℕ). bit x i) (sym e) ∙ and-bit o f i in omega arith)
 
-pub and-within : (n f o : ℕ) → o < 2 ^ n → within n f o ≡ true → bitAnd o f ≡ o
+pub and-within : (n f o : ℕ) → o < 2 ^ n → isWithin n f o ≡ true → bitAnd o f ≡ o
 and-within n f o l h =
     let le : bitAnd o f ≤ o = and-le-l o f in
     bits-eq n (bitAnd o f) o (omega arith) l (λ i m. and-bit o f i ∙ (let w : bit o i ≤ bit f i = within-at n f o h i m in omega arith))

@@ -17,8 +17,8 @@ use Rattle.laws.proofs.Tests.{lt-or-le, and-left, and-right, and-intro}
 use Rattle.laws.proofs.Quantifiers.{all-below, below-all}
 use Rattle.laws.proofs.Least.{least-at, least-below}
 use Rattle.netlist.specs.Rounds.{bit}
-use Rattle.netlist.specs.Cover.{Assignment, fixes, agrees, without, within}
-use Rattle.assignments.specs.Over.{soundOver, minimalOver, coverOver, Legal, Listed, Before}
+use Rattle.netlist.specs.Cover.{Assignment, fixes, agrees, without, isWithin}
+use Rattle.assignments.specs.Over.{soundOver, minimalOver, coverOver, Consistent, Listed, Before}
 use Rattle.assignments.specs.Entries.{pairAt, isEntry, entryAt}
 use Rattle.assignments.proofs.ListFacts.{implies-use, kept-passes, kept-ascend, kept-has}
 use Rattle.assignments.proofs.Agree.{without-legal, without-less, without-agrees}
@@ -55,7 +55,7 @@ module _ (p : ℕ → Bool) (n : ℕ) where
   abbrev pub Below : ℕ → Type 0
   Below s = (a : Assignment) × Listed p n a × (agrees n a s ≡ true)
 
-  pub descend : (bound s : ℕ) (a : Assignment) → a .fixed < bound → Legal n a → soundOver p n a ≡ true → agrees n a s ≡ true → Below s
+  pub descend : (bound s : ℕ) (a : Assignment) → a .fixed < bound → Consistent n a → soundOver p n a ≡ true → agrees n a s ≡ true → Below s
   descend zero s a l ok h g = absurd (not-suc-le-zero l)
   descend (suc bound) s a l ok h g =
       ⊎-elim (λ m. (a, record { legal = ok; sound = h; minimal = m }, g))
@@ -82,12 +82,12 @@ module _ (p : ℕ → Bool) (n : ℕ) where
   unfolding entryAt isEntry pairAt
   entry-listed q l h =
       let s : soundOver p n (pairAt n q) && minimalOver p n (pairAt n q) ≡ true =
-      and-right (within n (q / 2 ^ n) (q % 2 ^ n)) (soundOver p n (pairAt n q) && minimalOver p n (pairAt n q)) h in
+      and-right (isWithin n (q / 2 ^ n) (q % 2 ^ n)) (soundOver p n (pairAt n q) && minimalOver p n (pairAt n q)) h in
       record {
         legal = record {
           fixed-lt = div-lt-iff-lt-mul (pow-pos n) .1 l;
           ones-lt = mod-lt q (pow-pos n);
-          inside = and-left (within n (q / 2 ^ n) (q % 2 ^ n)) (soundOver p n (pairAt n q) && minimalOver p n (pairAt n q)) h;
+          inside = and-left (isWithin n (q / 2 ^ n) (q % 2 ^ n)) (soundOver p n (pairAt n q) && minimalOver p n (pairAt n q)) h;
         };
         sound = and-left (soundOver p n (pairAt n q)) (minimalOver p n (pairAt n q)) s;
         minimal = and-right (soundOver p n (pairAt n q)) (minimalOver p n (pairAt n q)) s;
@@ -105,7 +105,7 @@ module _ (p : ℕ → Bool) (n : ℕ) where
   pairOf : Assignment → ℕ
   pairOf a = a .fixed * 2 ^ n + a .ones
 
-  pair-is : (a : Assignment) → Legal n a → pairAt n (pairOf a) ≡ a
+  pair-is : (a : Assignment) → Consistent n a → pairAt n (pairOf a) ≡ a
   unfolding pairAt pairOf
   pair-is a ok = rw (digits-div (a .fixed) (ok .ones-lt), digits-mod (a .fixed) (ok .ones-lt))
 
@@ -113,7 +113,7 @@ module _ (p : ℕ → Bool) (n : ℕ) where
   unfolding entryAt isEntry
   listed-entry a h =
       rw (pair-is a (h .legal))
-      (and-intro (within n (a .fixed) (a .ones)) (soundOver p n a && minimalOver p n a) (h .legal .inside)
+      (and-intro (isWithin n (a .fixed) (a .ones)) (soundOver p n a && minimalOver p n a) (h .legal .inside)
       (and-intro (soundOver p n a) (minimalOver p n a) (h .sound) (h .minimal)))
 
   -- every sound and minimal assignment is an entry
@@ -146,4 +146,5 @@ module _ (p : ℕ → Bool) (n : ℕ) where
   unfolding listed
   entries-ascend i j d h l =
       let m : j < length listed = rw length-cover at l in
-      rw (cover-getD i d (omega arith), cover-getD j d m) (pairs-ascend (getD listed i 0) (getD listed j 0) (kept-ascend (entryAt p n) (2 ^ n * 2 ^ n) i j h m))
+      rw (cover-getD i d (omega arith), cover-getD j d m)
+      (pairs-ascend (getD listed i 0) (getD listed j 0) (kept-ascend (entryAt p n) (2 ^ n * 2 ^ n) i j h m))

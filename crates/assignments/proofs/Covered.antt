@@ -17,8 +17,8 @@ use Rattle.laws.proofs.Quantifiers.{any-at, any-from}
 use Rattle.laws.proofs.Least.{least-below, least-is}
 use Rattle.netlist.specs.Rounds.{bit}
 use Rattle.netlist.specs.Cover.{Assignment, agrees, without}
-use Rattle.assignments.specs.Digits.{digit, numeral}
-use Rattle.assignments.specs.Over.{soundOver, coverOver, nothing, Legal, Listed, Before}
+use Rattle.assignments.specs.Digits.{ternaryDigit, numeral}
+use Rattle.assignments.specs.Over.{soundOver, coverOver, nothing, Consistent, Listed, Before}
 use Rattle.assignments.proofs.Digits.{numeral-lt, digit-numeral}
 use Rattle.assignments.proofs.Agree.{bit-lt, bits-eq, sound-at, sound-from, agrees-at, agrees-from, within-at, within-from}
 use Rattle.assignments.proofs.Cover.{minimal-at, Below, descend, entries-listed, listed-entries, entries-ascend}
@@ -36,7 +36,7 @@ unfolding full
 full-lt n = numeral-lt 2 (omega arith) (λ i. 1) n (λ i l. omega arith)
 
 full-bit : (n i : ℕ) → i < n → bit (full n) i ≡ 1
-unfolding full bit digit
+unfolding full bit ternaryDigit
 full-bit n i l = digit-numeral 2 (omega arith) (λ i. 1) n i (λ j m. omega arith) l
 
 module _ (p : ℕ → Bool) (n : ℕ) where
@@ -44,7 +44,7 @@ module _ (p : ℕ → Bool) (n : ℕ) where
   fixed-at : ℕ → Assignment
   fixed-at s = record { fixed = full n; ones = s }
 
-  fixed-legal : (s : ℕ) → s < 2 ^ n → Legal n (fixed-at s)
+  fixed-legal : (s : ℕ) → s < 2 ^ n → Consistent n (fixed-at s)
   unfolding fixed-at
   fixed-legal s l = record {
     fixed-lt = full-lt n;
@@ -72,14 +72,15 @@ module _ (p : ℕ → Bool) (n : ℕ) where
 
       right : any (λ a. agrees n a s) (coverOver p n) ≡ true → p s ≡ true
       right h =
-          let e : (i : ℕ) × (i < length (coverOver p n)) × (agrees n (getD (coverOver p n) i nothing) s ≡ true) = any-at (λ a. agrees n a s) (coverOver p n) nothing h in
+          let e : (i : ℕ) × (i < length (coverOver p n)) × (agrees n (getD (coverOver p n) i nothing) s ≡ true) =
+          any-at (λ a. agrees n a s) (coverOver p n) nothing h in
           sound-at p n (getD (coverOver p n) (e .0) nothing) (entries-listed p n (e .0) nothing (e .1) .sound) s l (e .2)
 
   -- fixing nothing is sound exactly when every setting passes
   nothing-agrees : (s : ℕ) → agrees n nothing s ≡ true
   nothing-agrees s = agrees-from n nothing s (λ i l e. let z : bit 0 i ≡ 0 = bit-zero i in absurd (omega arith))
 
-  nothing-legal : Legal n nothing
+  nothing-legal : Consistent n nothing
   nothing-legal = record { fixed-lt = pow-pos n; ones-lt = pow-pos n; inside = within-from n 0 0 (λ i l. omega arith) }
 
   pub nothing-sound-at : soundOver p n nothing ≡ true → (s : ℕ) → s < 2 ^ n → p s ≡ true

@@ -15,9 +15,9 @@ use Rattle.laws.proofs.Tests.{not-true-false}
 use Rattle.laws.proofs.Quantifiers.{all-not}
 use Rattle.netlist.specs.Limits.{maxInputs}
 use Rattle.netlist.specs.Rounds.{bit}
-use Rattle.netlist.specs.Cover.{Assignment, fixes, without, within}
-use Rattle.assignments.specs.Over.{masks, Legal}
-use Rattle.assignments.specs.Tables.{numberOf}
+use Rattle.netlist.specs.Cover.{Assignment, fixes, without, isWithin}
+use Rattle.assignments.specs.Over.{masks, Consistent}
+use Rattle.assignments.specs.Tables.{ternaryNumber}
 use Rattle.assignments.specs.Entries.{pairAt, soundBy, neededBy, minimalBy, entryBy, Numbered, Weighed}
 use Rattle.assignments.proofs.Agree.{within-at, within-and, and-within}
 use Rattle.assignments.proofs.Numbers.{number-lt, number-weights, number-without, weight-lt}
@@ -25,12 +25,12 @@ use Rattle.assignments.proofs.Bounds.{three-fits}
 
 -- `number_of`: the sums fit, and the difference is the number
 pub record Sums (weights : List ℕ) (n size fixed ones : ℕ) : Type 0 where
-  pub adds-up : numberOf n (masks fixed ones) + 2 * getD weights fixed 0 + 1 ≡ size + getD weights ones 0
+  pub adds-up : ternaryNumber n (masks fixed ones) + 2 * getD weights fixed 0 + 1 ≡ size + getD weights ones 0
   pub fixed-small : getD weights fixed 0 < size
   pub ones-small : getD weights ones 0 < size
   pub fits : size ≤ 3 ^ maxInputs
 
-pub sums : {weights : List ℕ} {n size fixed ones : ℕ} → Weighed weights n size → Legal n (masks fixed ones) → Sums weights n size fixed ones
+pub sums : {weights : List ℕ} {n size fixed ones : ℕ} → Weighed weights n size → Consistent n (masks fixed ones) → Sums weights n size fixed ones
 sums {weights} {n} {size} {fixed} {ones} w ok = record {
   adds-up =
       rw (w .right fixed (ok .fixed-lt), w .right ones (ok .ones-lt), w .size-is)
@@ -61,7 +61,7 @@ module _ {sound : List ℕ} {n fixed ones number : ℕ} (d : Numbered sound n fi
 
   module _ (f : fixed / 2 ^ i % 2 ≡ 1) where
     -- the number with the input dropped
-    dropped : numberOf n (without entry i) ≡ number + (2 - ones / 2 ^ i % 2) * power
+    dropped : ternaryNumber n (without entry i) ≡ number + (2 - ones / 2 ^ i % 2) * power
     unfolding bit
     dropped = rw (p, d .is) (number-without n entry i (d .legal) l f)
 
@@ -100,7 +100,7 @@ module _ {sound : List ℕ} {n q fixed ones : ℕ} (pair : Pair sound n q fixed 
   ones-small : ones < 2 ^ n
   ones-small = rw (pair .ones-is) (mod-lt q (pow-pos n))
 
-  pub pair-legal : bitAnd ones fixed ≡ ones → Legal n (masks fixed ones)
+  pub pair-legal : bitAnd ones fixed ≡ ones → Consistent n (masks fixed ones)
   pair-legal e = record {
     fixed-lt = rw (pair .fixed-is) (div-lt-iff-lt-mul (pow-pos n) .1 (pair .below));
     ones-lt = ones-small;
@@ -109,14 +109,14 @@ module _ {sound : List ℕ} {n q fixed ones : ℕ} (pair : Pair sound n q fixed 
 
   pub not-within : (bitAnd ones fixed ≡ ones → ⊥) → false ≡ entryBy sound n q
   unfolding entryBy
-  not-within ne = sym (rw (pair-is, not-true-false (within n fixed ones) (λ h. ne (and-within n fixed ones ones-small h))))
+  not-within ne = sym (rw (pair-is, not-true-false (isWithin n fixed ones) (λ h. ne (and-within n fixed ones ones-small h))))
 
-  module _ {number : ℕ} (e : number ≡ numberOf n (masks fixed ones)) where
+  module _ {number : ℕ} (e : number ≡ ternaryNumber n (masks fixed ones)) where
     pub not-sound : (getD sound number 0 ≡ 1 → ⊥) → false ≡ entryBy sound n q
     unfolding entryBy soundBy
     not-sound ne =
-        let s : eqb (getD sound (numberOf n (masks fixed ones)) 0) 1 ≡ false = rw (← e) (ne-eqb (getD sound number 0) 1 ne) in
-        sym (rw (pair-is, s) (none (within n fixed ones)))
+        let s : eqb (getD sound (ternaryNumber n (masks fixed ones)) 0) 1 ≡ false = rw (← e) (ne-eqb (getD sound number 0) 1 ne) in
+        sym (rw (pair-is, s) (none (isWithin n fixed ones)))
       where
         none : (b : Bool) → b && false ≡ false
         none true = refl
@@ -126,12 +126,12 @@ module _ {sound : List ℕ} {n q fixed ones : ℕ} (pair : Pair sound n q fixed 
         → r ≡ entryBy sound n q
     unfolding entryBy soundBy
     minimal-entry w h m =
-        let s : eqb (getD sound (numberOf n (masks fixed ones)) 0) 1 ≡ true = rw (← e) (eq-eqb (getD sound number 0) 1 h) in
+        let s : eqb (getD sound (ternaryNumber n (masks fixed ones)) 0) 1 ≡ true = rw (← e) (eq-eqb (getD sound number 0) 1 h) in
         m ∙ sym (rw (pair-is, within-and n fixed ones w, s))
 
     pub number-below : number < length sound
     number-below =
-        let l : numberOf n (masks fixed ones) < 3 ^ n = number-lt n (masks fixed ones) in
+        let l : ternaryNumber n (masks fixed ones) < 3 ^ n = number-lt n (masks fixed ones) in
         let r : 3 ^ n ≤ length sound = pair .room in
         omega arith
 

@@ -9,13 +9,13 @@ use lib.Arith.{digits-div, digits-mod}
 use Rattle.laws.specs.Lists.{keep, tab, upTo, joined}
 use Rattle.laws.proofs.Tab.{tab-ext, map-tab, tab-add}
 use Rattle.laws.proofs.Lists.{joined-append, keep-append}
-use Rattle.netlist.specs.Cover.{Assignment, within, assignments, assignmentsAt}
+use Rattle.netlist.specs.Cover.{Assignment, isWithin, assignments, assignmentsAt}
 use Rattle.assignments.specs.Over.{soundOver, minimalOver, coverOver, masks}
 use Rattle.assignments.specs.Entries.{pairAt, isEntry, entryAt}
 use Rattle.assignments.proofs.ListFacts.{keep-keep, keep-map}
 
 inside : ℕ → Assignment → Bool
-inside n a = within n (a .fixed) (a .ones)
+inside n a = isWithin n (a .fixed) (a .ones)
 
 -- one first mask's assignments are a run of the pairs
 run : (n f : ℕ) → assignmentsAt n f ≡ keep (inside n) (tab (λ j. pairAt n (f * 2 ^ n + j)) (2 ^ n))

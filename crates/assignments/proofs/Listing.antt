@@ -13,7 +13,7 @@ use Rattle.laws.proofs.Lists.{joined-append, keep-append}
 use Rattle.laws.proofs.Slices.{set-placed}
 use Rattle.netlist.specs.Cover.{Assignment}
 use Rattle.assignments.specs.Entries.{pairAt, entryBy, entriesBelow, entriesBy, EntriesWritten}
-use Rattle.assignments.specs.Over.{wordsOf}
+use Rattle.assignments.specs.Over.{assignmentWords}
 use Rattle.assignments.proofs.ListFacts.{keep-le, keep-upTo-suc}
 
 module _ (table : List ℕ) (n q : ℕ) where
@@ -36,7 +36,13 @@ module _ (table : List ℕ) (n q : ℕ) where
   pub count-le : (m : ℕ) → length (entriesBelow table n q) ≤ length (entriesBelow table n (q + m))
   unfolding entriesBelow
   count-le m =
-      rw (tab-add (λ k. k) q m, keep-append (entryBy table n) (upTo q) (tab (λ j. q + j) m), length-map (keep (entryBy table n) (upTo q)) (pairAt n), length-map, length-append) (omega arith)
+      rw (
+        tab-add (λ k. k) q m,
+        keep-append (entryBy table n) (upTo q) (tab (λ j. q + j) m),
+        length-map (keep (entryBy table n) (upTo q)) (pairAt n),
+        length-map,
+        length-append,
+      ) (omega arith)
 
 -- no more entries than pairs
 pub entries-few : (table : List ℕ) (n : ℕ) → length (entriesBy table n) ≤ 2 ^ n * 2 ^ n
@@ -45,16 +51,16 @@ entries-few table n =
     let l : length (keep (entryBy table n) (upTo (2 ^ n * 2 ^ n))) ≤ length (upTo (2 ^ n * 2 ^ n)) = keep-le (entryBy table n) (upTo (2 ^ n * 2 ^ n)) in
     rw (length-map (keep (entryBy table n) (upTo (2 ^ n * 2 ^ n))) (pairAt n)) (rw (length-tab (λ k. k) (2 ^ n * 2 ^ n)) at l)
 
-wordsOf-append : (xs ys : List Assignment) → wordsOf (xs ++ ys) ≡ wordsOf xs ++ wordsOf ys
-unfolding wordsOf
+wordsOf-append : (xs ys : List Assignment) → assignmentWords (xs ++ ys) ≡ assignmentWords xs ++ assignmentWords ys
+unfolding assignmentWords
 wordsOf-append xs ys =
     ap joined (map-append (λ (a : Assignment). a .fixed ∷ a .ones ∷ []) xs ys)
     ∙ joined-append (map (λ (a : Assignment). a .fixed ∷ a .ones ∷ []) xs) (map (λ (a : Assignment). a .fixed ∷ a .ones ∷ []) ys)
 
-pub length-words : (xs : List Assignment) → length (wordsOf xs) ≡ 2 * length xs
-unfolding wordsOf
+pub length-words : (xs : List Assignment) → length (assignmentWords xs) ≡ 2 * length xs
+unfolding assignmentWords
 length-words [] = refl
-length-words (x ∷ xs) = let i : length (wordsOf xs) ≡ 2 * length xs = length-words xs in omega arith
+length-words (x ∷ xs) = let i : length (assignmentWords xs) ≡ 2 * length xs = length-words xs in omega arith
 
 -- the entries among the first q pairs are written
 pub record Written (sound entry out : List ℕ) (n q pairs at : ℕ) : Type 0 where
@@ -62,10 +68,10 @@ pub record Written (sound entry out : List ℕ) (n q pairs at : ℕ) : Type 0 wh
   pub pairs-is : pairs ≡ 2 ^ n * 2 ^ n
   pub same-length : length out ≡ length entry
   pub at-is : at ≡ 2 * length (entriesBelow sound n q)
-  pub words : out ≡ placed (wordsOf (entriesBelow sound n q)) entry
+  pub words : out ≡ placed (assignmentWords (entriesBelow sound n q)) entry
 
 pub written-none : (sound entry : List ℕ) (n pairs : ℕ) → pairs ≡ 2 ^ n * 2 ^ n → Written sound entry entry n 0 pairs 0
-unfolding entriesBelow wordsOf
+unfolding entriesBelow assignmentWords
 written-none sound entry n pairs e = record { within = omega arith; pairs-is = e; same-length = refl; at-is = refl; words = refl }
 
 module _ {sound entry out : List ℕ} {n q pairs at : ℕ} (w : Written sound entry out n q pairs at) (l : q < pairs) where
@@ -99,16 +105,16 @@ module _ {sound entry out : List ℕ} {n q pairs at : ℕ} (w : Written sound en
     at-room = let m : length (entriesBelow sound n q) + 1 ≤ length (entriesBy sound n) = one-more in omega (arith, w .at-is)
 
     so-far : List ℕ
-    so-far = wordsOf (entriesBelow sound n q)
+    so-far = assignmentWords (entriesBelow sound n q)
 
     at-words : length so-far ≡ at
     unfolding so-far
     at-words = length-words (entriesBelow sound n q) ∙ sym (w .at-is)
 
-    next-words : wordsOf (entriesBelow sound n (q + 1)) ≡ so-far ++ (q / 2 ^ n ∷ []) ++ (q % 2 ^ n ∷ [])
-    unfolding so-far wordsOf pairAt
+    next-words : assignmentWords (entriesBelow sound n (q + 1)) ≡ so-far ++ (q / 2 ^ n ∷ []) ++ (q % 2 ^ n ∷ [])
+    unfolding so-far assignmentWords pairAt
     next-words =
-        ap wordsOf (entries-add sound n q e) ∙ wordsOf-append (entriesBelow sound n q) (pairAt n q ∷ [])
+        ap assignmentWords (entries-add sound n q e) ∙ wordsOf-append (entriesBelow sound n q) (pairAt n q ∷ [])
         ∙ sym (append-assoc so-far (q / 2 ^ n ∷ []) (q % 2 ^ n ∷ []))
 
     pub written-add : {ones : ℕ} → ones ≡ q % 2 ^ n → Written sound entry (set (set out at (q / 2 ^ n)) (at + 1) ones) n (q + 1) pairs (at + 2)
@@ -127,21 +133,22 @@ module _ {sound entry out : List ℕ} {n q pairs at : ℕ} (w : Written sound en
           same-length = simp length-set (w .same-length);
           at-is = omega (arith, w .at-is);
           words =
-              rw (first, o, ← here) (set-placed (so-far ++ (q / 2 ^ n ∷ [])) entry (length (so-far ++ (q / 2 ^ n ∷ []))) (q % 2 ^ n) refl (rw here (omega arith)))
+              rw (first, o, ← here)
+              (set-placed (so-far ++ (q / 2 ^ n ∷ [])) entry (length (so-far ++ (q / 2 ^ n ∷ []))) (q % 2 ^ n) refl (rw here (omega arith)))
               ∙ ap (λ (xs : List ℕ). placed xs entry) (sym next-words);
         }
 
 -- after the last pair all entries are written
 pub written-all : {sound entry out : List ℕ} {n q pairs at : ℕ} → Written sound entry out n q pairs at → pairs ≤ q
-    → out ≡ placed (wordsOf (entriesBy sound n)) entry
+    → out ≡ placed (assignmentWords (entriesBy sound n)) entry
 unfolding entriesBy
 written-all {sound} {entry} {out} {n} {q} w l =
     let e : q ≡ 2 ^ n * 2 ^ n = omega arith in
-    w .words ∙ ap (λ (k : ℕ). placed (wordsOf (entriesBelow sound n k)) entry) e
+    w .words ∙ ap (λ (k : ℕ). placed (assignmentWords (entriesBelow sound n k)) entry) e
 
 -- `write_entries`: there is room, or there is not
 pub with-room : {entries : List Assignment} {entry exit : List ℕ} {count : ℕ} → count ≡ length entries → 2 * count ≤ length entry
-    → exit ≡ placed (wordsOf entries) entry
+    → exit ≡ placed (assignmentWords entries) entry
     → EntriesWritten entries entry exit count
 with-room {entries} {entry} c r e = record { counted = c; written = rw (le-leb (2 * length entries) (length entry) (rw (← c) r)) e }
 

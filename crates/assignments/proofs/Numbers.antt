@@ -10,9 +10,9 @@ use borrow.Author.Tests.{eq-eqb, ne-eqb}
 use Rattle.laws.proofs.Tests.{eq-or-ne}
 use Rattle.netlist.specs.Rounds.{bit}
 use Rattle.netlist.specs.Cover.{Assignment, fixes, without}
-use Rattle.assignments.specs.Digits.{digit, numeral}
-use Rattle.assignments.specs.Over.{Legal}
-use Rattle.assignments.specs.Tables.{digitOf, numberOf, weightOf}
+use Rattle.assignments.specs.Digits.{ternaryDigit, numeral}
+use Rattle.assignments.specs.Over.{Consistent}
+use Rattle.assignments.specs.Tables.{digitOf, ternaryNumber, weightOf}
 use Rattle.assignments.proofs.Digits.{numeral-lt, numeral-less, digit-numeral}
 use Rattle.assignments.proofs.Agree.{bit-lt, without-fixed, without-fixed-other, without-ones-other}
 
@@ -30,13 +30,13 @@ digitOf-lt a i =
     ⊎-elim (λ (e : bit (a .fixed) i ≡ 1). rw (digit-fixed a i e) (let b : bit (a .ones) i < 2 = bit-lt (a .ones) i in omega arith))
     (λ (ne : bit (a .fixed) i ≡ 1 → ⊥). rw (digit-free a i ne) (omega arith)) (eq-or-ne (bit (a .fixed) i) 1)
 
-pub number-lt : (n : ℕ) (a : Assignment) → numberOf n a < 3 ^ n
-unfolding numberOf
+pub number-lt : (n : ℕ) (a : Assignment) → ternaryNumber n a < 3 ^ n
+unfolding ternaryNumber
 number-lt n a = numeral-lt 3 (omega arith) (digitOf a) n (λ i l. digitOf-lt a i)
 
 -- the number's digits are the assignment's
-pub number-digit : (n : ℕ) (a : Assignment) (i : ℕ) → i < n → digit 3 (numberOf n a) i ≡ digitOf a i
-unfolding numberOf
+pub number-digit : (n : ℕ) (a : Assignment) (i : ℕ) → i < n → ternaryDigit 3 (ternaryNumber n a) i ≡ digitOf a i
+unfolding ternaryNumber
 number-digit n a i l = digit-numeral 3 (omega arith) (digitOf a) n i (λ j m. digitOf-lt a j) l
 
 digit-sum : (a : Assignment) (i : ℕ) → bit (a .ones) i ≤ bit (a .fixed) i → digitOf a i + 2 * bit (a .fixed) i ≡ 2 + bit (a .ones) i
@@ -51,19 +51,19 @@ scaled d f o w e = rw (← mul-assoc 2 f w, ← add-mul d (2 * f) w, ← add-mul
 
 -- the number from the weights of the two masks
 pub number-weights : (n : ℕ) (a : Assignment) → ((i : ℕ) → i < n → bit (a .ones) i ≤ bit (a .fixed) i)
-    → numberOf n a + 2 * weightOf n (a .fixed) + 1 ≡ 3 ^ n + weightOf n (a .ones)
-unfolding numberOf weightOf numeral
+    → ternaryNumber n a + 2 * weightOf n (a .fixed) + 1 ≡ 3 ^ n + weightOf n (a .ones)
+unfolding ternaryNumber weightOf numeral
 number-weights zero a h = refl
 number-weights (suc n) a h =
-    let i : numberOf n a + 2 * weightOf n (a .fixed) + 1 ≡ 3 ^ n + weightOf n (a .ones) = number-weights n a (λ i l. h i (omega arith)) in
+    let i : ternaryNumber n a + 2 * weightOf n (a .fixed) + 1 ≡ 3 ^ n + weightOf n (a .ones) = number-weights n a (λ i l. h i (omega arith)) in
     let d : digitOf a n * 3 ^ n + 2 * (bit (a .fixed) n * 3 ^ n) ≡ 2 * 3 ^ n + bit (a .ones) n * 3 ^ n =
     scaled (digitOf a n) (bit (a .fixed) n) (bit (a .ones) n) (3 ^ n) (digit-sum a n (h n (omega arith))) in
     rw (pow-suc 3 n) (omega arith)
 
 -- a dropped input counts 2 in place of its value
-pub number-without : (n : ℕ) (a : Assignment) (i : ℕ) → Legal n a → i < n → bit (a .fixed) i ≡ 1
-    → numberOf n (without a i) ≡ numberOf n a + (2 - bit (a .ones) i) * 3 ^ i
-unfolding numberOf
+pub number-without : (n : ℕ) (a : Assignment) (i : ℕ) → Consistent n a → i < n → bit (a .fixed) i ≡ 1
+    → ternaryNumber n (without a i) ≡ ternaryNumber n a + (2 - bit (a .ones) i) * 3 ^ i
+unfolding ternaryNumber
 number-without n a i ok l e =
     sym (numeral-less 3 (omega arith) (digitOf (without a i)) (digitOf a) n i (2 - bit (a .ones) i) l here other)
   where

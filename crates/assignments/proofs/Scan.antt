@@ -12,7 +12,7 @@ use lib.ListN.{length, getD}
 use borrow.Author.Tests.{eq-eqb, ne-eqb}
 use Rattle.laws.proofs.Tests.{eq-or-ne}
 use Rattle.netlist.specs.Limits.{maxInputs}
-use Rattle.assignments.specs.Digits.{digit, numeral}
+use Rattle.assignments.specs.Digits.{ternaryDigit, numeral}
 use Rattle.assignments.specs.Tables.{soundByte, settledBy, byteOf, SoundBelow}
 use Rattle.assignments.proofs.Digits.{numeral-lt, lowered-le}
 use Rattle.assignments.proofs.Numbers.{numeral-one, numeral-zero}
@@ -25,8 +25,8 @@ pub record Scanned (n k setting rest power place i : ℕ) : Type 0 where
   pub power-is : power ≡ 3 ^ i
   pub place-is : place ≡ 2 ^ i
   pub rest-is : rest ≡ k / 3 ^ i
-  pub setting-is : setting ≡ numeral 2 (digit 3 k) i
-  pub fixed : (j : ℕ) → j < i → digit 3 k j < 2
+  pub setting-is : setting ≡ numeral 2 (ternaryDigit 3 k) i
+  pub fixed : (j : ℕ) → j < i → ternaryDigit 3 k j < 2
 
 pub scan-start : (n k : ℕ) → Scanned n k 0 k 1 1 0
 unfolding numeral
@@ -41,42 +41,42 @@ scan-start n k = record {
 
 module _ {n k setting rest power place i : ℕ} (s : Scanned n k setting rest power place i) where
   -- the next digit
-  pub scan-digit : rest % 3 ≡ digit 3 k i
-  unfolding digit
+  pub scan-digit : rest % 3 ≡ ternaryDigit 3 k i
+  unfolding ternaryDigit
   scan-digit = rw (s .rest-is)
 
   setting-lt : setting < 2 ^ i
-  setting-lt = rw (s .setting-is) (numeral-lt 2 (omega arith) (digit 3 k) i (s .fixed))
+  setting-lt = rw (s .setting-is) (numeral-lt 2 (omega arith) (ternaryDigit 3 k) i (s .fixed))
 
   next-rest : rest / 3 ≡ k / 3 ^ (i + 1)
   next-rest = rw (s .rest-is, div-div-eq-div-mul k (3 ^ i) 3, power-next 3 i {x = 3 ^ i} refl)
 
-  next-fixed : digit 3 k i < 2 → (j : ℕ) → j < i + 1 → digit 3 k j < 2
+  next-fixed : ternaryDigit 3 k i < 2 → (j : ℕ) → j < i + 1 → ternaryDigit 3 k j < 2
   next-fixed d j l = ⊎-elim (λ (e : j ≡ i). rw e d) (λ (ne : j ≡ i → ⊥). s .fixed j (omega arith)) (eq-or-ne j i)
 
   -- one digit more: a 1, or a 0
   pub scan-one : i < n → rest % 3 ≡ 1 → Scanned n k (setting + place) (rest / 3) (power * 3) (place * 2) (i + 1)
   scan-one l e =
-      let d : digit 3 k i ≡ 1 = sym scan-digit ∙ e in
+      let d : ternaryDigit 3 k i ≡ 1 = sym scan-digit ∙ e in
       record {
         within = omega arith;
         power-is = power-next 3 i (s .power-is);
         place-is = power-next 2 i (s .place-is);
         rest-is = next-rest;
-        setting-is = rw (numeral-one 2 (digit 3 k) i d, s .setting-is, s .place-is);
+        setting-is = rw (numeral-one 2 (ternaryDigit 3 k) i d, s .setting-is, s .place-is);
         fixed = next-fixed (omega arith);
       }
 
   pub scan-zero : i < n → (rest % 3 ≡ 2 → ⊥) → (rest % 3 ≡ 1 → ⊥) → Scanned n k setting (rest / 3) (power * 3) (place * 2) (i + 1)
   scan-zero l two one =
       let m : rest % 3 < 3 = omega arith in
-      let d : digit 3 k i ≡ 0 = sym scan-digit ∙ omega arith in
+      let d : ternaryDigit 3 k i ≡ 0 = sym scan-digit ∙ omega arith in
       record {
         within = omega arith;
         power-is = power-next 3 i (s .power-is);
         place-is = power-next 2 i (s .place-is);
         rest-is = next-rest;
-        setting-is = rw (numeral-zero 2 (digit 3 k) i d, s .setting-is);
+        setting-is = rw (numeral-zero 2 (ternaryDigit 3 k) i d, s .setting-is);
         fixed = next-fixed (omega arith);
       }
 
@@ -94,7 +94,7 @@ module _ {n k setting rest power place i : ℕ} (s : Scanned n k setting rest po
       pub scan-below : (0 < power) × (2 * power ≤ k)
       scan-below =
           let f : 0 < 3 ^ i = one-le-pow i 3 (omega arith) in
-          let d : digit 3 k i ≡ 2 = sym scan-digit ∙ e in
+          let d : ternaryDigit 3 k i ≡ 2 = sym scan-digit ∙ e in
           let g : 2 * 3 ^ i ≤ k = lowered-le 3 (omega arith) k n i 2 (b .number) l (omega arith) in
           omega arith
 
@@ -125,7 +125,7 @@ module _ {n k setting rest power place i : ℕ} (s : Scanned n k setting rest po
       full-byte =
           let e : i ≡ n = omega arith in
           byte-full (settledBy settled) n k (λ j m. s .fixed j (omega arith))
-          ∙ ap (λ (x : ℕ). byteOf (settledBy settled x)) (sym (s .setting-is ∙ ap (numeral 2 (digit 3 k)) e))
+          ∙ ap (λ (x : ℕ). byteOf (settledBy settled x)) (sym (s .setting-is ∙ ap (numeral 2 (ternaryDigit 3 k)) e))
 
       pub scan-settled : getD settled setting 0 ≡ 1 → 1 ≡ soundByte (settledBy settled) n k
       unfolding byteOf

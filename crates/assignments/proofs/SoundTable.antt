@@ -12,16 +12,16 @@ use Rattle.laws.proofs.Tests.{eq-or-ne, same-test, or-cases, or-left, or-right,
 use Rattle.laws.proofs.Quantifiers.{all-below, below-all, all-ext}
 use Rattle.netlist.specs.Rounds.{bit}
 use Rattle.netlist.specs.Cover.{Assignment, agrees, fixes}
-use Rattle.assignments.specs.Digits.{digit, numeral}
+use Rattle.assignments.specs.Digits.{ternaryDigit, numeral}
 use Rattle.assignments.specs.Over.{soundOver}
-use Rattle.assignments.specs.Tables.{digitOf, numberOf, agreesDigits, soundDigits, soundByte, byteOf}
+use Rattle.assignments.specs.Tables.{digitOf, ternaryNumber, agreesDigits, soundDigits, soundByte, byteOf}
 use Rattle.assignments.proofs.ListFacts.{implies-use, implies-from}
 use Rattle.assignments.proofs.Digits.{numeral-lt, digit-numeral, digit-lowered, digit-kept}
 use Rattle.assignments.proofs.Agree.{bit-lt, bits-eq}
 use Rattle.assignments.proofs.Numbers.{number-digit}
 
 bit-numeral : (d : ℕ → ℕ) (n i : ℕ) → ((j : ℕ) → j < n → d j < 2) → i < n → bit (numeral 2 d n) i ≡ d i
-unfolding bit digit
+unfolding bit ternaryDigit
 bit-numeral d n i h l = digit-numeral 2 (omega arith) d n i h l
 
 -- a setting agrees with digits exactly when it has the value of each that is not 2
@@ -54,7 +54,8 @@ module _ (p : ℕ → Bool) (n : ℕ) where
   unfolding soundDigits agreesDigits
   sound-same d e h =
       all-ext (λ s. not (agreesDigits n d s) || p s) (λ s. not (agreesDigits n e s) || p s) (2 ^ n)
-      (λ s l. ap (λ (b : Bool). not b || p s) (all-ext (λ i. eqb (d i) 2 || eqb (bit s i) (d i)) (λ i. eqb (e i) 2 || eqb (bit s i) (e i)) n (λ i m. rw (h i m))))
+      (λ s l. ap (λ (b : Bool). not b || p s)
+      (all-ext (λ i. eqb (d i) 2 || eqb (bit s i) (d i)) (λ i. eqb (e i) 2 || eqb (bit s i) (e i)) n (λ i m. rw (h i m))))
 
   -- an assignment is sound exactly when its digits are
   sound-digits : (a : Assignment) → soundOver p n a ≡ soundDigits p n (digitOf a)
@@ -70,9 +71,9 @@ module _ (p : ℕ → Bool) (n : ℕ) where
       one false s o l = refl
 
   -- the byte at an assignment's number is 1 exactly when it is sound
-  pub byte-number : (a : Assignment) → soundByte p n (numberOf n a) ≡ byteOf (soundOver p n a)
+  pub byte-number : (a : Assignment) → soundByte p n (ternaryNumber n a) ≡ byteOf (soundOver p n a)
   unfolding soundByte
-  byte-number a = ap byteOf (sound-same (digit 3 (numberOf n a)) (digitOf a) (number-digit n a) ∙ sym (sound-digits a))
+  byte-number a = ap byteOf (sound-same (ternaryDigit 3 (ternaryNumber n a)) (digitOf a) (number-digit n a) ∙ sym (sound-digits a))
 
   -- e is d but at i, where d has 2
   module _ (d e : ℕ → ℕ) (i : ℕ) (free : d i ≡ 2) (same : (j : ℕ) → j < n → (j ≡ i → ⊥) → e j ≡ d j) where
@@ -123,26 +124,26 @@ module _ (p : ℕ → Bool) (n : ℕ) where
           e)
 
   -- the byte of an assignment that fixes every input
-  pub byte-full : (k : ℕ) → ((i : ℕ) → i < n → digit 3 k i < 2) → soundByte p n k ≡ byteOf (p (numeral 2 (digit 3 k) n))
+  pub byte-full : (k : ℕ) → ((i : ℕ) → i < n → ternaryDigit 3 k i < 2) → soundByte p n k ≡ byteOf (p (numeral 2 (ternaryDigit 3 k) n))
   unfolding soundByte
-  byte-full k h = ap byteOf (full (digit 3 k) h)
+  byte-full k h = ap byteOf (full (ternaryDigit 3 k) h)
 
   -- the byte of an assignment with a free input, from the two that fix it
-  pub byte-free : (k i : ℕ) → k < 3 ^ n → i < n → digit 3 k i ≡ 2
+  pub byte-free : (k i : ℕ) → k < 3 ^ n → i < n → ternaryDigit 3 k i ≡ 2
       → soundByte p n k ≡ cond (eqb (soundByte p n (k - 3 ^ i)) 1) (soundByte p n (k - 2 * 3 ^ i)) 0
   unfolding soundByte byteOf
   byte-free k i small l free =
-      ap byteOf (split (digit 3 k) (digit 3 (k - 2 * 3 ^ i)) (digit 3 (k - 3 ^ i)) i free
+      ap byteOf (split (ternaryDigit 3 k) (ternaryDigit 3 (k - 2 * 3 ^ i)) (ternaryDigit 3 (k - 3 ^ i)) i free
       (digit-lowered 3 (omega arith) k n i 2 small l (omega arith) ∙ omega arith)
       (one-less ∙ omega arith)
       (digit-kept 3 (omega arith) k n i 2 small l (omega arith))
       one-kept)
-      ∙ bytes (soundDigits p n (digit 3 (k - 3 ^ i))) (soundDigits p n (digit 3 (k - 2 * 3 ^ i)))
+      ∙ bytes (soundDigits p n (ternaryDigit 3 (k - 3 ^ i))) (soundDigits p n (ternaryDigit 3 (k - 2 * 3 ^ i)))
     where
-      one-less : digit 3 (k - 3 ^ i) i ≡ digit 3 k i - 1
+      one-less : ternaryDigit 3 (k - 3 ^ i) i ≡ ternaryDigit 3 k i - 1
       one-less = rw (one-mul (3 ^ i)) at (digit-lowered 3 (omega arith) k n i 1 small l (omega arith))
 
-      one-kept : (j : ℕ) → j < n → (j ≡ i → ⊥) → digit 3 (k - 3 ^ i) j ≡ digit 3 k j
+      one-kept : (j : ℕ) → j < n → (j ≡ i → ⊥) → ternaryDigit 3 (k - 3 ^ i) j ≡ ternaryDigit 3 k j
       one-kept j m ne = rw (one-mul (3 ^ i)) at (digit-kept 3 (omega arith) k n i 1 small l (omega arith) j m ne)
 
       bytes : (a b : Bool) → byteOf (a && b) ≡ cond (eqb (byteOf a) 1) (byteOf b) 0

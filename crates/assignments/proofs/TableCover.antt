@@ -11,7 +11,7 @@ use Rattle.laws.proofs.Quantifiers.{all-ext}
 use Rattle.netlist.specs.Limits.{maxInputs}
 use Rattle.netlist.specs.Cover.{Assignment, fixes, without}
 use Rattle.assignments.specs.Over.{soundOver, minimalOver, coverOver}
-use Rattle.assignments.specs.Tables.{numberOf, soundByte, soundTable, byteOf, weightOf, weightTable}
+use Rattle.assignments.specs.Tables.{ternaryNumber, soundByte, soundTable, byteOf, weightOf, weightTable}
 use Rattle.assignments.specs.Entries.{pairAt, isEntry, entryAt, soundBy, neededBy, minimalBy, entryBy, entriesBelow, entriesBy, Weighed, EntriesWritten}
 use Rattle.assignments.proofs.ListFacts.{keep-ext}
 use Rattle.assignments.proofs.Numbers.{number-lt}
@@ -38,7 +38,7 @@ module _ (p : ℕ → Bool) (n : ℕ) (entry : List ℕ) where
   sound-by : (a : Assignment) → soundBy table n a ≡ soundOver p n a
   unfolding soundBy soundTable byteOf
   sound-by a =
-      ap (λ (x : ℕ). eqb x 1) (placed-tab (soundByte p n) (3 ^ n) entry (numberOf n a) 0 (number-lt n a) ∙ byte-number p n a)
+      ap (λ (x : ℕ). eqb x 1) (placed-tab (soundByte p n) (3 ^ n) entry (ternaryNumber n a) 0 (number-lt n a) ∙ byte-number p n a)
       ∙ is-one (soundOver p n a)
     where
       is-one : (b : Bool) → eqb (byteOf b) 1 ≡ b

@@ -2,8 +2,8 @@
 use Prim.Native.Nat.{ℕ, zero, suc, _+_, _*_, _/_, _%_, _^_}
 
 -- digit i of k in base b, the lowest being digit 0
-unfoldable pub digit : ℕ → ℕ → ℕ → ℕ
-digit b k i = k / b ^ i % b
+unfoldable pub ternaryDigit : ℕ → ℕ → ℕ → ℕ
+ternaryDigit b k i = k / b ^ i % b
 
 -- the number whose n digits in base b are d 0, d 1, .., d (n - 1)
 unfoldable pub numeral : ℕ → (ℕ → ℕ) → ℕ → ℕ

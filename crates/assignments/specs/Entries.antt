@@ -8,9 +8,9 @@ use lib.ListN.{length, getD}
 use lib.Dec.{eqb, leb}
 use Rattle.laws.specs.Lists.{all, upTo, keep, placed}
 use Rattle.netlist.specs.Limits.{maxInputs}
-use Rattle.netlist.specs.Cover.{Assignment, fixes, without, within}
-use Rattle.assignments.specs.Over.{soundOver, minimalOver, masks, wordsOf, Legal}
-use Rattle.assignments.specs.Tables.{numberOf, weightOf}
+use Rattle.netlist.specs.Cover.{Assignment, fixes, without, isWithin}
+use Rattle.assignments.specs.Over.{soundOver, minimalOver, masks, assignmentWords, Consistent}
+use Rattle.assignments.specs.Tables.{ternaryNumber, weightOf}
 
 -- pair number q of two masks of n bits
 unfoldable pub pairAt : ℕ → ℕ → Assignment
@@ -18,14 +18,14 @@ pairAt n q = record { fixed = q / 2 ^ n; ones = q % 2 ^ n }
 
 -- the pair is an entry of the cover
 unfoldable pub isEntry : (ℕ → Bool) → ℕ → Assignment → Bool
-isEntry p n a = within n (a .fixed) (a .ones) && (soundOver p n a && minimalOver p n a)
+isEntry p n a = isWithin n (a .fixed) (a .ones) && (soundOver p n a && minimalOver p n a)
 
 unfoldable pub entryAt : (ℕ → Bool) → ℕ → ℕ → Bool
 entryAt p n q = isEntry p n (pairAt n q)
 
 -- the same, with soundness read from a table
 unfoldable pub soundBy : List ℕ → ℕ → Assignment → Bool
-soundBy table n a = eqb (getD table (numberOf n a) 0) 1
+soundBy table n a = eqb (getD table (ternaryNumber n a) 0) 1
 
 -- input i is free, or cannot be dropped
 unfoldable pub neededBy : List ℕ → ℕ → Assignment → ℕ → Bool
@@ -36,7 +36,7 @@ minimalBy table n a = all (neededBy table n a) (upTo n)
 
 unfoldable pub entryBy : List ℕ → ℕ → ℕ → Bool
 entryBy table n q =
-    within n (pairAt n q .fixed) (pairAt n q .ones) && (soundBy table n (pairAt n q) && minimalBy table n (pairAt n q))
+    isWithin n (pairAt n q .fixed) (pairAt n q .ones) && (soundBy table n (pairAt n q) && minimalBy table n (pairAt n q))
 
 -- the entries among the first q pairs
 unfoldable pub entriesBelow : List ℕ → ℕ → ℕ → List Assignment
@@ -49,8 +49,8 @@ entriesBy table n = entriesBelow table n (2 ^ n * 2 ^ n)
 pub record Numbered (sound : List ℕ) (n fixed ones number : ℕ) : Type 0 where
   pub few : n ≤ maxInputs
   pub room : 3 ^ n ≤ length sound
-  pub legal : Legal n (masks fixed ones)
-  pub is : number ≡ numberOf n (masks fixed ones)
+  pub legal : Consistent n (masks fixed ones)
+  pub is : number ≡ ternaryNumber n (masks fixed ones)
 
 -- the weights of the masks of n bits, and 3^n
 pub record Weighed (weights : List ℕ) (n size : ℕ) : Type 0 where
@@ -62,4 +62,4 @@ pub record Weighed (weights : List ℕ) (n size : ℕ) : Type 0 where
 -- the number of entries, and their words where there is room for them
 pub record EntriesWritten (entries : List Assignment) (entry exit : List ℕ) (count : ℕ) : Type 0 where
   pub counted : count ≡ length entries
-  pub written : exit ≡ cond (leb (2 * length entries) (length entry)) (placed (wordsOf entries) entry) entry
+  pub written : exit ≡ cond (leb (2 * length entries) (length entry)) (placed (assignmentWords entries) entry) entry

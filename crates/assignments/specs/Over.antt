@@ -1,4 +1,4 @@
--- Document 01, "Cover", over any test p of the settings of n inputs: `netlist`'s definitions with p for "is settled" and n for the
+-- The cover (SPECIFICATION 4) over any test p of the settings of n inputs: `netlist`'s definitions with p for "is settled" and n for the
 -- block's inputs. Cited by the contracts of this crate and by the operation Cover. Assumes nothing.
 use Prim.Native.Nat.{ℕ, _^_, _<_}
 use mathlib.Core.Path.{_≡_}
@@ -6,7 +6,7 @@ use mathlib.Core.Logic.{_⊎_}
 use mathlib.Core.Bool.{Bool, true, not, _&&_, _||_}
 use mathlib.Core.List.{List, [], _∷_, map}
 use Rattle.laws.specs.Lists.{all, upTo, keep, joined}
-use Rattle.netlist.specs.Cover.{Assignment, fixes, agrees, without, within, assignments}
+use Rattle.netlist.specs.Cover.{Assignment, fixes, agrees, without, isWithin, assignments}
 
 -- every setting that agrees with the assignment passes
 unfoldable pub soundOver : (ℕ → Bool) → ℕ → Assignment → Bool
@@ -21,8 +21,8 @@ unfoldable pub coverOver : (ℕ → Bool) → ℕ → List Assignment
 coverOver p n = keep (λ a. soundOver p n a && minimalOver p n a) (assignments n)
 
 -- two words an entry
-unfoldable pub wordsOf : List Assignment → List ℕ
-wordsOf entries = joined (map (λ (a : Assignment). a .fixed ∷ a .ones ∷ []) entries)
+unfoldable pub assignmentWords : List Assignment → List ℕ
+assignmentWords entries = joined (map (λ (a : Assignment). a .fixed ∷ a .ones ∷ []) entries)
 
 -- the assignment with these masks, and the one that fixes no input
 abbrev pub masks : ℕ → ℕ → Assignment
@@ -32,14 +32,14 @@ abbrev pub nothing : Assignment
 nothing = masks 0 0
 
 -- an assignment of n inputs: both masks are of n bits, and an input at 1 is a fixed one
-pub record Legal (n : ℕ) (a : Assignment) : Type 0 where
+pub record Consistent (n : ℕ) (a : Assignment) : Type 0 where
   pub fixed-lt : a .fixed < 2 ^ n
   pub ones-lt : a .ones < 2 ^ n
-  pub inside : within n (a .fixed) (a .ones) ≡ true
+  pub inside : isWithin n (a .fixed) (a .ones) ≡ true
 
 -- what the cover lists: the sound and minimal assignments of n inputs
 pub record Listed (p : ℕ → Bool) (n : ℕ) (a : Assignment) : Type 0 where
-  pub legal : Legal n a
+  pub legal : Consistent n a
   pub sound : soundOver p n a ≡ true
   pub minimal : minimalOver p n a ≡ true
 

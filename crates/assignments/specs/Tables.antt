@@ -9,7 +9,7 @@ use Rattle.laws.specs.Lists.{all, upTo, tab}
 use Rattle.netlist.specs.Limits.{maxInputs}
 use Rattle.netlist.specs.Rounds.{bit}
 use Rattle.netlist.specs.Cover.{Assignment, fixes}
-use Rattle.assignments.specs.Digits.{digit, numeral}
+use Rattle.assignments.specs.Digits.{ternaryDigit, numeral}
 
 -- the settings at which the table has a 1
 unfoldable pub settledBy : List ℕ → ℕ → Bool
@@ -19,8 +19,8 @@ settledBy table s = eqb (getD table s 0) 1
 unfoldable pub digitOf : Assignment → ℕ → ℕ
 digitOf a i = cond (fixes a i) (bit (a .ones) i) 2
 
-unfoldable pub numberOf : ℕ → Assignment → ℕ
-numberOf n a = numeral 3 (digitOf a) n
+unfoldable pub ternaryNumber : ℕ → Assignment → ℕ
+ternaryNumber n a = numeral 3 (digitOf a) n
 
 -- the setting has the value of each digit that is not 2
 unfoldable pub agreesDigits : ℕ → (ℕ → ℕ) → ℕ → Bool
@@ -34,7 +34,7 @@ byteOf b = cond b 1 0
 
 -- for each ternary number of n digits, whether the assignment with these digits is sound
 unfoldable pub soundByte : (ℕ → Bool) → ℕ → ℕ → ℕ
-soundByte p n k = byteOf (soundDigits p n (digit 3 k))
+soundByte p n k = byteOf (soundDigits p n (ternaryDigit 3 k))
 
 unfoldable pub soundTable : (ℕ → Bool) → ℕ → List ℕ
 soundTable p n = tab (soundByte p n) (3 ^ n)

@@ -4,8 +4,8 @@ ghost use Prim.Native.Nat.{_*_, _^_, _≤_, _<_};
 ghost use lib.ListN.{length};
 ghost use Rattle.laws.specs.Lists.{placed};
 ghost use Rattle.assignments.specs.Entries.{minimalBy, entryBy, entriesBy, Numbered, Weighed, EntriesWritten};
-ghost use Rattle.assignments.specs.Over.{masks, wordsOf, Legal};
-ghost use Rattle.assignments.specs.Tables.{numberOf};
+ghost use Rattle.assignments.specs.Over.{masks, assignmentWords, Consistent};
+ghost use Rattle.assignments.specs.Tables.{ternaryNumber};
 
 // Whether no fixed input can be dropped: the assignment with input i free has a number greater by 2 or 1 times 3^i.
 fn is_minimal(sound: &[u8], n: usize, fixed: usize, ones: usize, number: usize) -> bool
@@ -29,8 +29,8 @@ fn is_minimal(sound: &[u8], n: usize, fixed: usize, ones: usize, number: usize) 
 
 // The number of an assignment, from the weights of its two masks.
 fn number_of(weights: &[u16], n: usize, size: usize, fixed: usize, ones: usize) -> usize
-    requires { ⌜ Weighed (now weights) n size × Legal n (masks fixed ones) ⌝ }
-    ensures { λ r. ⌜ r ≡ numberOf n (masks fixed ones) ⌝ }
+    requires { ⌜ Weighed (now weights) n size × Consistent n (masks fixed ones) ⌝ }
+    ensures { λ r. ⌜ r ≡ ternaryNumber n (masks fixed ones) ⌝ }
 {
     size - 1 + weights[ones] as usize - 2 * weights[fixed] as usize
 }
@@ -72,7 +72,7 @@ fn count_entries(sound: &[u8], weights: &[u16], n: usize, size: usize) -> usize
 // The entries' words into the beginning of `out`.
 fn list_entries(sound: &[u8], weights: &[u16], n: usize, size: usize, out: &mut [u16])
     requires { ⌜ Weighed (now weights) n size × (3 ^ n ≤ length (now sound)) × (2 * length (entriesBy (now sound) n) ≤ length (now out)) ⌝ }
-    ensures { λ _. ⌜ now (out .exit) ≡ placed (wordsOf (entriesBy (now (sound .entry)) n)) (now (out .entry)) ⌝ }
+    ensures { λ _. ⌜ now (out .exit) ≡ placed (assignmentWords (entriesBy (now (sound .entry)) n)) (now (out .entry)) ⌝ }
 {
     let pairs = 1usize << (2 * n);
     let mut at: usize = 0;

@@ -1,28 +1,24 @@
 -- The kinds and their operand counts, by ranges of numbers. Assumes nothing.
-use mathlib.Core.Path.{_≡_, refl}
+use mathlib.Core.Path.{_≡_}
 use mathlib.Core.Logic.{⊎-elim}
 use mathlib.Core.Bool.{true, false, _&&_}
-use Prim.Native.Nat.{ℕ, zero, suc, _≤_, _<_}
+use Prim.Native.Nat.{ℕ, _≤_, _<_}
 use native.Mathlib.Omega.{arith}
 use lib.Dec.{leb}
 use borrow.Author.Tests.{le-leb, lt-leb}
 use Rattle.laws.proofs.Tests.{lt-or-le}
-use Rattle.netlist.specs.Kinds.{isKind, arityFits, fewestOperands, mostOperands, isNot, rowOf, rows, row}
+use Rattle.netlist.specs.Kinds.{isKind, arityFits}
+use Rattle.layout.proofs.KindLaws.{not-counts, other-counts}
 
--- the kinds of the table have two to four operands
-arity-row : (k count : ℕ) → 1 ≤ k → k ≤ 4 → isKind k && arityFits k count ≡ leb 2 count && leb count 4
-unfolding isKind arityFits fewestOperands mostOperands isNot rowOf rows row
-arity-row zero count a b = absurd (omega arith)
-arity-row (suc zero) count a b = refl
-arity-row (suc (suc zero)) count a b = refl
-arity-row (suc (suc (suc zero))) count a b = refl
-arity-row (suc (suc (suc (suc zero)))) count a b = refl
-arity-row (suc (suc (suc (suc (suc k))))) count a b = absurd (omega arith)
+-- every kind but `not` has two to four operands
+arity-others : (k count : ℕ) → 1 ≤ k → k ≤ 4 → isKind k && arityFits k count ≡ leb 2 count && leb count 4
+unfolding isKind arityFits
+arity-others k count a b = rw (le-leb k 4 b, other-counts k a b .0, other-counts k a b .1)
 
 -- `not` has one
 arity-not : (count : ℕ) → isKind 0 && arityFits 0 count ≡ leb 1 count && leb count 1
-unfolding isKind arityFits fewestOperands mostOperands isNot rows
-arity-not count = refl
+unfolding isKind arityFits
+arity-not count = rw (not-counts .0, not-counts .1)
 
 pub not-one : isKind 0 && arityFits 0 1 ≡ true
 not-one = arity-not 1
@@ -32,15 +28,15 @@ not-other count ne = ⊎-elim (λ h. rw (arity-not, lt-leb 1 count h)) (λ h. rw
 
 module _ (k count : ℕ) (low : 1 ≤ k) (high : k ≤ 4) where
   pub row-fits : 2 ≤ count → count ≤ 4 → isKind k && arityFits k count ≡ true
-  row-fits a b = rw (arity-row k count low high, le-leb 2 count a, le-leb count 4 b)
+  row-fits a b = rw (arity-others k count low high, le-leb 2 count a, le-leb count 4 b)
 
   pub row-few : count < 2 → isKind k && arityFits k count ≡ false
-  row-few a = rw (arity-row k count low high, lt-leb 2 count a)
+  row-few a = rw (arity-others k count low high, lt-leb 2 count a)
 
   pub row-many : 4 < count → isKind k && arityFits k count ≡ false
-  row-many a = rw (arity-row k count low high, le-leb 2 count (omega arith), lt-leb count 4 a)
+  row-many a = rw (arity-others k count low high, le-leb 2 count (omega arith), lt-leb count 4 a)
 
 -- no other number is a kind
 pub no-kind : (k count : ℕ) → 4 < k → isKind k && arityFits k count ≡ false
-unfolding isKind rows
+unfolding isKind
 no-kind k count h = rw (lt-leb k 4 h)

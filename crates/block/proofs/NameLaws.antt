@@ -10,7 +10,7 @@ use lib.ListN.{length, getD, drop}
 use lib.Seq.{drop-cons}
 use lib.Dec.{eqb}
 use borrow.Author.Tests.{ne-eqb}
-use Rattle.netlist.specs.StoredBlock.{nameByte, bytesAt}
+use Rattle.netlist.specs.StoredBlock.{isNameByte, bytesAt}
 use Rattle.encoding.specs.Rules.{padded}
 use Rattle.block.specs.Steps.{zerosFrom}
 
@@ -43,7 +43,7 @@ module _ (bs : List ℕ) (i : ℕ) (inside : i < length bs) where
   zeros-from : zerosFrom bs i ≡ eqb 0 (getD bs i 0) && zerosFrom bs (i + 1)
   zeros-from = rw (add-one, drop-cons bs i 0)
 
-  padded-from : padded (drop i bs) ≡ cond (eqb (getD bs i 0) 0) (zerosFrom bs (i + 1)) (nameByte (getD bs i 0) && padded (drop (i + 1) bs))
+  padded-from : padded (drop i bs) ≡ cond (eqb (getD bs i 0) 0) (zerosFrom bs (i + 1)) (isNameByte (getD bs i 0) && padded (drop (i + 1) bs))
   unfolding padded
   padded-from = rw (add-one, drop-cons bs i 0)
 
@@ -61,10 +61,10 @@ module _ (ws : List ℕ) (at i r : ℕ) (inside : i < 8) (read : r ≡ getD (byt
   pub padded-zero : r ≡ 0 → padded (drop i (bytesAt ws at)) ≡ zerosFrom (bytesAt ws at) (i + 1)
   padded-zero e = rw (padded-from (bytesAt ws at) i within, ← read, e)
 
-  pub padded-more : (r ≡ 0 → ⊥) → nameByte r ≡ true → padded (drop i (bytesAt ws at)) ≡ padded (drop (i + 1) (bytesAt ws at))
+  pub padded-more : (r ≡ 0 → ⊥) → isNameByte r ≡ true → padded (drop i (bytesAt ws at)) ≡ padded (drop (i + 1) (bytesAt ws at))
   padded-more e t = rw (padded-from (bytesAt ws at) i within, ← read, ne-eqb r 0 e, t)
 
-  pub padded-fails : (r ≡ 0 → ⊥) → nameByte r ≡ false → padded (drop i (bytesAt ws at)) ≡ false
+  pub padded-fails : (r ≡ 0 → ⊥) → isNameByte r ≡ false → padded (drop i (bytesAt ws at)) ≡ false
   padded-fails e t = rw (padded-from (bytesAt ws at) i within, ← read, ne-eqb r 0 e, t)
 
 -- where name i stands

@@ -15,9 +15,9 @@ use Rattle.laws.proofs.Tab.{map-tab}
 use Rattle.laws.proofs.Quantifiers.{all-below, below-all, all-ext}
 use Rattle.laws.proofs.Lists.{all-joined}
 use Rattle.netlist.specs.Netlist.{Operand}
-use Rattle.netlist.specs.StoredBlock.{gateSize, operandWords, gatesAt, operandOf, gateAt, decode, torn}
+use Rattle.netlist.specs.StoredBlock.{gateSize, operandWords, gatesAt, operandOf, gateAt, decode, isTorn}
 use Rattle.netlist.specs.Groups.{gateOperand, readBy}
-use Rattle.netlist.specs.Rendering.{straight}
+use Rattle.netlist.specs.Rendering.{isStraight}
 use Rattle.encoding.specs.Rules.{nodeRule, operandRule, gateRule}
 use Rattle.encoding.proofs.ListFacts.{all-tab}
 use Rattle.encoding.proofs.Readers.{GateWhole, gateRule-parts, whole-parts}
@@ -54,7 +54,9 @@ lower-operand n j w =
     no-constant false = refl
 
     gate-below : n ≤ w → ltb (w - n) j && true ≡ ltb w (n + j)
-    gate-below g = ⊎-elim (λ (l : w < n + j). rw (lt-ltb w (n + j) l, lt-ltb (w - n) j (omega arith))) (λ (l : n + j ≤ w). rw (le-ltb w (n + j) l, le-ltb (w - n) j (omega arith))) (lt-or-le w (n + j))
+    gate-below g =
+        ⊎-elim (λ (l : w < n + j). rw (lt-ltb w (n + j) l, lt-ltb (w - n) j (omega arith)))
+        (λ (l : n + j ≤ w). rw (le-ltb w (n + j) l, le-ltb (w - n) j (omega arith))) (lt-or-le w (n + j))
 
 -- gate j reads only lower gates exactly when its operands do
 lower-gate : (n j : ℕ) (ws : List ℕ) (at : ℕ) →
@@ -104,8 +106,8 @@ gate-operands ws nodes all-nodes at h =
     unused i l g = rw (le-ltb i count g) (eq-eqb (getD ws (at + 1 + i) 0) 0 (w .unused i g l))
 
 -- the test of the words says "straight"
-pub straight-is : (ws : List ℕ) → torn ws ≡ false → lowerRule ws (getD ws 0 0) (getD ws 1 0) ≡ straight (decode ws)
-unfolding straight readBy lower
+pub straight-is : (ws : List ℕ) → isTorn ws ≡ false → lowerRule ws (getD ws 0 0) (getD ws 1 0) ≡ isStraight (decode ws)
+unfolding isStraight readBy lower
 straight-is ws h =
     all-ext (lowerRuleAt ws n) reads-lower m agree ∙ sym (ap (λ (k : ℕ). all reads-lower (upTo k)) (decode-gateCount ws))
   where

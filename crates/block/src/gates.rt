@@ -1,18 +1,21 @@
 // The gates of a block: kinds, operand counts and operands; and whether each gate reads only lower ones.
-use crate::header::GATE_SIZE;
-use crate::header::OPERAND_WORDS;
-use crate::header::gates_at;
-use ternary::read::word_at;
+use layout::nodes::CONSTANT_0;
+use layout::nodes::CONSTANT_1;
+use layout::offsets::GATE_SIZE;
+use layout::offsets::OPERAND_WORDS;
+use layout::offsets::gates_at;
+use layout::read::word_at;
 ghost use mathlib.Core.Path.{_≡_};
 ghost use mathlib.Core.Bool.{_&&_};
 ghost use Prim.Native.Nat.{_≤_, _<_, _+_, _*_};
 ghost use Rattle.laws.specs.Lists.{all, upTo};
 ghost use Rattle.netlist.specs.Limits.{maxInputs, maxGates};
 ghost use Rattle.netlist.specs.Kinds.{isKind, arityFits};
+ghost use Rattle.netlist.specs.StoredBlock.{operandWords};
 ghost use Rattle.encoding.specs.Rules.{nodeRule, operandRule, gateRule};
 ghost use Rattle.block.specs.Steps.{slotRule, gateRuleAt, gatesRule, lowerRule};
 
-// "kinds 0 not, 1 and, 2 or, 3 nand, 4 nor", "`not` with one operand, or `and`, `or`, `nand`, `nor` with two to four"
+// Is it a kind, and may it have so many operands?
 pub fn has_arity(kind: usize, count: usize) -> bool
     ensures { λ r. ⌜ r ≡ isKind kind && arityFits kind count ⌝ }
 {
@@ -36,11 +39,6 @@ pub fn is_node(nodes: usize, word: usize) -> bool
     word < nodes
 }
 
-// "65534 for constant 0, 65535 for constant 1"
-pub const CONSTANT_0: usize = 65534;
-
-pub const CONSTANT_1: usize = 65535;
-
 // An operand word: a node number or a constant.
 fn is_operand(nodes: usize, word: usize) -> bool
     ensures { λ r. ⌜ r ≡ operandRule nodes word ⌝ }
@@ -54,7 +52,7 @@ fn is_operand(nodes: usize, word: usize) -> bool
 // Operand word i of the gate at `at`: an operand below the count, 0 from there on.
 fn slot_fits(words: &[u16], nodes: usize, at: usize, count: usize, i: usize) -> bool
     requires { ⌜ at ≤ 8192 ⌝ }
-    requires { ⌜ i < 4 ⌝ }
+    requires { ⌜ i < operandWords ⌝ }
     ensures { λ r. ⌜ r ≡ slotRule (now (words .entry)) nodes at count i ⌝ }
 {
     let word = word_at(words, at + 1 + i);
@@ -65,9 +63,10 @@ fn slot_fits(words: &[u16], nodes: usize, at: usize, count: usize, i: usize) -> 
     }
 }
 
+// The four operand words of the gate at `at`.
 fn slots_fit(words: &[u16], nodes: usize, at: usize, count: usize) -> bool
     requires { ⌜ at ≤ 8192 ⌝ }
-    ensures { λ r. ⌜ r ≡ all (slotRule (now (words .entry)) nodes at count) (upTo 4) ⌝ }
+    ensures { λ r. ⌜ r ≡ all (slotRule (now (words .entry)) nodes at count) (upTo operandWords) ⌝ }
 {
     let mut i = 0;
     while i < OPERAND_WORDS {
@@ -97,7 +96,7 @@ fn fits_at(words: &[u16], nodes: usize, n: usize, j: usize) -> bool
     fits(words, nodes, gates_at(n) + GATE_SIZE * j)
 }
 
-// "kinds, counts, nodes" of all m gates.
+// All m gates.
 pub fn fit(words: &[u16], nodes: usize, n: usize, m: usize) -> bool
     requires { ⌜ n ≤ maxInputs ⌝ }
     requires { ⌜ m ≤ maxGates ⌝ }

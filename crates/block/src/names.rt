@@ -1,12 +1,14 @@
 // The names of inputs and the ports: each legal, none twice.
-use crate::header::NAME_SIZE;
-use ternary::read::word_at;
+use layout::limits::MAX_NAME;
+use layout::offsets::NAME_SIZE;
+use layout::read::word_at;
 ghost use mathlib.Core.Path.{_≡_};
 ghost use mathlib.Core.Bool.{_&&_};
 ghost use Prim.Native.Nat.{_≤_, _<_, _+_, _*_};
 ghost use lib.ListN.{getD};
 ghost use lib.Dec.{leb};
-ghost use Rattle.netlist.specs.StoredBlock.{letter, digit, nameByte, bytesAt};
+ghost use Rattle.netlist.specs.Limits.{maxName, maxGates};
+ghost use Rattle.netlist.specs.StoredBlock.{isLetter, isDigit, isNameByte, bytesAt};
 ghost use Rattle.encoding.specs.Rules.{padded, nameRule, sameName, namesRule};
 ghost use Rattle.block.specs.Steps.{zerosFrom, otherName, othersBefore, newName};
 
@@ -16,23 +18,21 @@ fn is_between(low: usize, high: usize, c: usize) -> bool
     low <= c && c <= high
 }
 
-// "a-z"
 fn is_letter(c: usize) -> bool
-    ensures { λ r. ⌜ r ≡ letter c ⌝ }
+    ensures { λ r. ⌜ r ≡ isLetter c ⌝ }
 {
-    is_between(97, 122, c)
+    is_between(b'a' as usize, b'z' as usize, c)
 }
 
-// "0-9"
 fn is_digit(c: usize) -> bool
-    ensures { λ r. ⌜ r ≡ digit c ⌝ }
+    ensures { λ r. ⌜ r ≡ isDigit c ⌝ }
 {
-    is_between(48, 57, c)
+    is_between(b'0' as usize, b'9' as usize, c)
 }
 
-// "a-z, 0-9 and `_`"
+// What may stand in a name.
 fn is_name_byte(c: usize) -> bool
-    ensures { λ r. ⌜ r ≡ nameByte c ⌝ }
+    ensures { λ r. ⌜ r ≡ isNameByte c ⌝ }
 {
     if is_letter(c) {
         return true;
@@ -40,13 +40,13 @@ fn is_name_byte(c: usize) -> bool
     if is_digit(c) {
         return true;
     }
-    c == 95
+    c == b'_' as usize
 }
 
 // Byte i of the eight bytes of the name whose words start at `at`.
 fn byte_at(words: &[u16], at: usize, i: usize) -> usize
     requires { ⌜ at ≤ 65535 ⌝ }
-    requires { ⌜ i < 8 ⌝ }
+    requires { ⌜ i < maxName ⌝ }
     ensures { λ r. ⌜ r ≡ getD (bytesAt (now (words .entry)) at) i 0 ⌝ }
 {
     let word = word_at(words, at + i / 2);
@@ -56,11 +56,11 @@ fn byte_at(words: &[u16], at: usize, i: usize) -> usize
 // Are the bytes from i on all zero?
 fn only_zeros(words: &[u16], at: usize, i: usize) -> bool
     requires { ⌜ at ≤ 65535 ⌝ }
-    requires { ⌜ i ≤ 8 ⌝ }
+    requires { ⌜ i ≤ maxName ⌝ }
     ensures { λ r. ⌜ r ≡ zerosFrom (bytesAt (now (words .entry)) at) i ⌝ }
 {
     let mut j = i;
-    while j < 8 {
+    while j < MAX_NAME {
         if byte_at(words, at, j) != 0 {
             return false;
         }
@@ -75,7 +75,7 @@ fn is_padded(words: &[u16], at: usize) -> bool
     ensures { λ r. ⌜ r ≡ padded (bytesAt (now (words .entry)) at) ⌝ }
 {
     let mut i = 0;
-    while i < 8 {
+    while i < MAX_NAME {
         let c = byte_at(words, at, i);
         if c == 0 {
             return only_zeros(words, at, i + 1);
@@ -116,8 +116,8 @@ fn is_same(words: &[u16], at: usize, other: usize) -> bool
 fn differ(words: &[u16], at: usize, size: usize, j: usize, i: usize) -> bool
     requires { ⌜ at ≤ 8192 ⌝ }
     requires { ⌜ size ≤ 5 ⌝ }
-    requires { ⌜ j ≤ 1024 ⌝ }
-    requires { ⌜ i ≤ 1024 ⌝ }
+    requires { ⌜ j ≤ maxGates ⌝ }
+    requires { ⌜ i ≤ maxGates ⌝ }
     ensures { λ r. ⌜ r ≡ otherName (now (words .entry)) at size j i ⌝ }
 {
     !is_same(words, at + size * i, at + size * j)
@@ -127,7 +127,7 @@ fn differ(words: &[u16], at: usize, size: usize, j: usize, i: usize) -> bool
 fn is_new(words: &[u16], at: usize, size: usize, j: usize) -> bool
     requires { ⌜ at ≤ 8192 ⌝ }
     requires { ⌜ size ≤ 5 ⌝ }
-    requires { ⌜ j ≤ 1024 ⌝ }
+    requires { ⌜ j ≤ maxGates ⌝ }
     ensures { λ r. ⌜ r ≡ othersBefore (now (words .entry)) at size j ⌝ }
 {
     let mut i = 0;
@@ -144,17 +144,17 @@ fn is_new(words: &[u16], at: usize, size: usize, j: usize) -> bool
 fn is_legal_and_new(words: &[u16], at: usize, size: usize, j: usize) -> bool
     requires { ⌜ at ≤ 8192 ⌝ }
     requires { ⌜ size ≤ 5 ⌝ }
-    requires { ⌜ j ≤ 1024 ⌝ }
+    requires { ⌜ j ≤ maxGates ⌝ }
     ensures { λ r. ⌜ r ≡ newName (now (words .entry)) at size j ⌝ }
 {
     is_legal(words, at + size * j) && is_new(words, at, size, j)
 }
 
-// "names legal and not twice": `count` names from `at` on, `size` words apart.
+// Are all legal, and none twice: `count` names from `at` on, `size` words apart.
 pub fn fit(words: &[u16], at: usize, size: usize, count: usize) -> bool
     requires { ⌜ at ≤ 8192 ⌝ }
     requires { ⌜ size ≤ 5 ⌝ }
-    requires { ⌜ count ≤ 1024 ⌝ }
+    requires { ⌜ count ≤ maxGates ⌝ }
     ensures { λ r. ⌜ r ≡ namesRule (now (words .entry)) at size count ⌝ }
 {
     let mut j = 0;

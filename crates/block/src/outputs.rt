@@ -1,8 +1,8 @@
 // What the outputs show: inputs and gates that are there, and no constants.
 use crate::gates::is_node;
-use crate::header::NAME_SIZE;
-use crate::header::OUTPUT_SIZE;
-use ternary::read::word_at;
+use layout::offsets::NAME_SIZE;
+use layout::offsets::OUTPUT_SIZE;
+use layout::read::word_at;
 ghost use mathlib.Core.Path.{_≡_};
 ghost use Prim.Native.Nat.{_≤_};
 ghost use Rattle.netlist.specs.Limits.{maxOutputs};
@@ -17,7 +17,7 @@ fn fits(words: &[u16], nodes: usize, at: usize, o: usize) -> bool
     is_node(nodes, word_at(words, at + OUTPUT_SIZE * o + NAME_SIZE))
 }
 
-// "The NAME is an input or a gate, not a constant.", of all k outputs.
+// All k outputs.
 pub fn fit(words: &[u16], nodes: usize, at: usize, k: usize) -> bool
     requires { ⌜ at ≤ 8192 ⌝ }
     requires { ⌜ k ≤ maxOutputs ⌝ }

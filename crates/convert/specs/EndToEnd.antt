@@ -4,7 +4,7 @@ use Prim.Native.Nat.{ℕ}
 use mathlib.Core.Path.{_≡_}
 use mathlib.Core.List.{List}
 use Rattle.netlist.specs.Answers.{Outcome, done, refused}
-use Rattle.netlist.specs.Operations.{counted, reading}
+use Rattle.netlist.specs.Operations.{counted, readText}
 use Rattle.netlist.specs.Program.{unloop}
 use Rattle.render.specs.Promise.{Renders}
 
@@ -18,6 +18,6 @@ pub record Faithful (text : List ℕ) : Type 0 where
   pub copies : List ℕ
   pub count : ℕ
   pub detail : ℕ
-  pub reads : reading text ≡ done block count detail
-  pub readsBack : reading (unloop text) ≡ counted copies
+  pub reads : readText text ≡ done block count detail
+  pub readsBack : readText (unloop text) ≡ counted copies
   pub renders : Renders block copies

@@ -13,7 +13,8 @@ use Rattle.laws.proofs.Lists.{joined-snoc}
 use Rattle.laws.proofs.Stores.{sets-append, length-joined-tab}
 use Rattle.laws.proofs.Slices.{sets-placed}
 use Rattle.netlist.specs.Netlist.{Operand, gate, constant, Gate, Output, Block, inputCount, gateCount, outputCount, gateOf}
-use Rattle.netlist.specs.StoredBlock.{gateSize, outputSize, gatesAt, outputsAt, nameWords, nameAt, nodeWord, gateWords, gateAt, outputWords, outputAt, encode, decode, torn}
+use Rattle.netlist.specs.StoredBlock.{gateSize, outputSize, gatesAt, outputsAt, nameWords, nameAt, nodeWord, gateWords, gateAt, outputWords, outputAt}
+use Rattle.netlist.specs.StoredBlock.{encode, decode, isTorn}
 use Rattle.netlist.specs.Rendering.{schedule, noCopies, copiedOperand, copied, copies, newestAfter, lastCopies, rendering}
 use Rattle.encoding.proofs.ListFacts.{joined-tab}
 use Rattle.encoding.proofs.Names.{nameWords-nameAt}
@@ -24,7 +25,7 @@ use Rattle.encoding.proofs.Readers.{GateWhole, whole-parts, whole-gate, whole-n
 use Rattle.agreement.proofs.Copies.{length-noCopies, length-newestAfter, newestAfter-snoc, copies-snoc}
 use Rattle.agreement.proofs.Schedule.{schedule-below}
 use Rattle.agreement.proofs.Block.{rendering-inputs, length-schedule-is, length-rendering-outputs}
-use Rattle.copying.specs.Words.{wordFrom, tableAfter, copyWords, copyAt, shownAt, Order, Ready}
+use Rattle.copying.specs.Words.{wordFrom, tableAfter, copyWords, copyAt, shownAt, Order, CopyReady}
 use Rattle.copying.proofs.Words.{length-tableAfter, length-copyAt}
 use Rattle.copying.proofs.Copied.{Stands, copy-words, shown-words, stands-none, stands-set}
 
@@ -41,7 +42,7 @@ names-written ws =
     (λ i k. ap (λ (p : ℕ). getD ws p 0) (add-assoc 3 (4 * j) i))))
     ∙ joined-tab (wordFrom ws 3) 4 (getD ws 0 0))
 
-module _ (ws : List ℕ) (n m k : ℕ) (whole : torn ws ≡ false) (inputsAre : n ≡ getD ws 0 0) (gatesAre : m ≡ getD ws 1 0) (outputsAre : k ≡ getD ws 2 0) where
+module _ (ws : List ℕ) (n m k : ℕ) (whole : isTorn ws ≡ false) (inputsAre : n ≡ getD ws 0 0) (gatesAre : m ≡ getD ws 1 0) (outputsAre : k ≡ getD ws 2 0) where
   parts : Intact ws n m k
   parts = rw (inputsAre, gatesAre, outputsAre) (whole-parts ws whole)
 
@@ -181,7 +182,7 @@ pub record Sizes (ws : List ℕ) (n m k total : ℕ) (out : List ℕ) : Type 0 w
   pub words : length ws ≡ 3 + 4 * n + 5 * m + 5 * k
   pub room : 3 + 4 * n + 5 * total + 5 * k ≤ length out
 
-module _ (ws : List ℕ) (n m k : ℕ) (order : List ℕ) (total : ℕ) (newest out : List ℕ) (r : Ready ws n m k order total newest out) where
+module _ (ws : List ℕ) (n m k : ℕ) (order : List ℕ) (total : ℕ) (newest out : List ℕ) (r : CopyReady ws n m k order total newest out) where
   counts : (inputCount (rendering (decode ws)) ≡ n) × (gateCount (rendering (decode ws)) ≡ total) × (outputCount (rendering (decode ws)) ≡ k)
   counts = (
     ap {B = ℕ} length (rendering-inputs (decode ws)) ∙ decode-inputCount ws ∙ sym (r .inputsAre),
@@ -202,10 +203,14 @@ module _ (ws : List ℕ) (n m k : ℕ) (order : List ℕ) (total : ℕ) (newest 
       }
 
   pub ordered : Order m total order
-  ordered = record { listed = omega (arith, sym (length-take total order) ∙ ap {B = ℕ} length (r .scheduled) ∙ sym (r .totalIs)); inside = ordered-below ws n m k (r .whole) (r .inputsAre) (r .gatesAre) (r .outputsAre) order total (r .totalIs) (r .scheduled) }
+  ordered =
+      record {
+        listed = omega (arith, sym (length-take total order) ∙ ap {B = ℕ} length (r .scheduled) ∙ sym (r .totalIs));
+        inside = ordered-below ws n m k (r .whole) (r .inputsAre) (r .gatesAre) (r .outputsAre) order total (r .totalIs) (r .scheduled);
+      }
 
   pub rendering-written : (table out₁ out₂ out₃ last out₄ : List ℕ) → out₁ ≡ sets out 0 (n ∷ total ∷ k ∷ [])
-      → out₂ ≡ sets out₁ 3 (tab (wordFrom ws 3) (4 * n)) → table ≡ replicate m 65534 ++ drop m newest
+      → out₂ ≡ sets out₁ 3 (tab (wordFrom ws 3) (4 * n)) → table ≡ placed (replicate m 65534) newest
       → out₃ ≡ sets out₂ (3 + 4 * n) (joined (tab (copyAt ws (3 + 4 * n) n m order table) total)) → last ≡ tableAfter n order table total
       → out₄ ≡ sets out₃ (3 + 4 * n + 5 * total) (joined (tab (shownAt ws (3 + 4 * n + 5 * m) n m last) k))
       → out₄ ≡ placed (encode (rendering (decode ws))) out
@@ -228,7 +233,8 @@ module _ (ws : List ℕ) (n m k : ℕ) (order : List ℕ) (total : ℕ) (newest 
       outputs = joined (tab (shownAt ws (3 + 4 * n + 5 * m) n m last) k)
 
       long : m ≤ length table
-      long = rw (et, length-append (replicate {A = ℕ} m 65534) (drop m newest), length-replicate {A = ℕ} m 65534) (omega arith)
+      long =
+          rw (et, length-append (replicate {A = ℕ} m 65534) (drop (length (replicate {A = ℕ} m 65534)) newest), length-replicate {A = ℕ} m 65534) (omega arith)
 
       none : Stands n m table (noCopies (decode ws))
       none = rw et (stands-none n m newest (gateCount (decode ws)) (decode-gateCount ws ∙ sym (r .gatesAre)))

@@ -7,7 +7,7 @@ use lib.ListN.{length, getD}
 use lib.Dec.{eqb}
 use Rattle.laws.specs.Lists.{tab, placed}
 use Rattle.netlist.specs.Netlist.{Block, inputCount}
-use Rattle.netlist.specs.Rounds.{settingCount, settledAt}
+use Rattle.netlist.specs.Rounds.{settingCount, isSettled}
 use Rattle.assignments.specs.Tables.{settledBy}
 use Rattle.assignments.proofs.ListFacts.{placed-at}
 use Rattle.verdict.specs.Flags.{settledFlag}
@@ -26,7 +26,7 @@ tabulated b n entry table e r t =
       long = rw (← e) r;
       right = λ s l.
           let l′ : s < 2 ^ n = rw e l in
-          ap (λ (x : ℕ). eqb x 1) (ap (λ (xs : List ℕ). getD xs s 0) t ∙ placed-at (settledFlag b) (2 ^ n) entry s 0 l′) ∙ flag-is-1 (settledAt b s);
+          ap (λ (x : ℕ). eqb x 1) (ap (λ (xs : List ℕ). getD xs s 0) t ∙ placed-at (settledFlag b) (2 ^ n) entry s 0 l′) ∙ flag-is-1 (isSettled b s);
     }
 
 -- it is long enough for the settings of n inputs

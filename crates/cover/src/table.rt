@@ -1,11 +1,11 @@
 // Which settings are settled: each is simulated once, along the order of `visiting`.
-ghost use mathlib.Core.Path.{_≡_};
-ghost use mathlib.Core.Bool.{false};
-ghost use Rattle.netlist.specs.StoredBlock.{decode, torn};
-ghost use Rattle.cover.specs.Table.{CoverRoom, Tabulated};
-use block::header;
+use layout::offsets;
 use verdict::settings::fill_settled;
 use visiting::order_gates;
+ghost use mathlib.Core.Path.{_≡_};
+ghost use mathlib.Core.Bool.{false};
+ghost use Rattle.netlist.specs.StoredBlock.{decode, isTorn};
+ghost use Rattle.cover.specs.Table.{CoverRoom, Tabulated};
 
 // For each setting of a block that is not torn: 1 where it is settled, else 0.
 pub fn tabulate(
@@ -15,13 +15,13 @@ pub fn tabulate(
     values: &mut [u8],
     settled: &mut [u8],
 )
-    requires { ⌜ torn (now words) ≡ false ⌝ }
+    requires { ⌜ isTorn (now words) ≡ false ⌝ }
     requires { ⌜ CoverRoom (now order) (now inputs) (now values) (now settled) ⌝ }
     ensures { λ _. ⌜ Tabulated (decode (now (words .entry))) (now (settled .exit)) ⌝ }
 {
-    let n = header::inputs_of(words);
-    let m = header::gates_of(words);
-    let gates = header::gates_at(n);
+    let n = offsets::inputs_of(words);
+    let m = offsets::gates_of(words);
+    let gates = offsets::gates_at(n);
     order_gates(words, order);
     fill_settled(
         words,

@@ -10,14 +10,14 @@ use mathlib.Core.List.{List}
 use Prim.Native.Nat.{ℕ, _<_}
 use native.Mathlib.Omega.{arith}
 use lib.ListN.{length, getD}
-use Rattle.netlist.specs.StoredBlock.{gatesAt, decode, torn}
+use Rattle.netlist.specs.StoredBlock.{gatesAt, decode, isTorn}
 use Rattle.encoding.proofs.Decoded.{decode-inputCount, decode-gateCount, decode-gate}
 use Rattle.encoding.proofs.Readers.{whole-parts, whole-gate}
 use Rattle.netlist.specs.Netlist.{gateCount}
-use Rattle.decide.specs.InPlace.{Legible, Visits, Ready}
+use Rattle.decide.specs.InPlace.{Legible, Visits, DecideReady}
 
 -- the words of a block, read from its first two words
-pub legible : (ws : List ℕ) → torn ws ≡ false → Legible ws (getD ws 0 0) (gatesAt (getD ws 0 0))
+pub legible : (ws : List ℕ) → isTorn ws ≡ false → Legible ws (getD ws 0 0) (gatesAt (getD ws 0 0))
 unfolding gatesAt
 legible ws h =
     record {
@@ -37,9 +37,9 @@ ascending-visits m =
     }
 
 -- whole words, an order over all gates, and slices of n and m bytes are what deciding a setting asks
-pub whole-ready : (ws : List ℕ) (n m gates : ℕ) (order inputs values : List ℕ) → torn ws ≡ false
+pub whole-ready : (ws : List ℕ) (n m gates : ℕ) (order inputs values : List ℕ) → isTorn ws ≡ false
     → n ≡ getD ws 0 0 → m ≡ getD ws 1 0 → gates ≡ gatesAt n → Visits m order → length inputs ≡ n → length values ≡ m
-    → Ready ws n gates order inputs values
+    → DecideReady ws n gates order inputs values
 whole-ready ws n m gates order inputs values h e f g v il vl =
     let c : m ≡ gateCount (decode ws) = f ∙ sym (decode-gateCount ws) in
     record {
@@ -51,8 +51,8 @@ whole-ready ws n m gates order inputs values h e f g v il vl =
     }
 
 -- slices of the same lengths are as good
-pub ready-kept : {ws : List ℕ} {n gates : ℕ} {order inputs values inputs′ values′ : List ℕ} → Ready ws n gates order inputs values
-    → length inputs′ ≡ length inputs → length values′ ≡ length values → Ready ws n gates order inputs′ values′
+pub ready-kept : {ws : List ℕ} {n gates : ℕ} {order inputs values inputs′ values′ : List ℕ} → DecideReady ws n gates order inputs values
+    → length inputs′ ≡ length inputs → length values′ ≡ length values → DecideReady ws n gates order inputs′ values′
 ready-kept r e f =
     record {
       legible = r .legible;

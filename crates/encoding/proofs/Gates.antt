@@ -14,7 +14,7 @@ use Rattle.laws.specs.Lists.{all, tab, upTo}
 use Rattle.laws.proofs.Tests.{and-left, and-right, and-intro, lt-or-le}
 use Rattle.laws.proofs.Tab.{length-tab, getD-tab, tab-ext, map-tab, tab-add}
 use Rattle.laws.proofs.Quantifiers.{all-at, all-tab-at, all-tab-from, all-below, below-all}
-use Rattle.netlist.specs.Kinds.{isKind, arityFits, mostOperands, fewestOperands, rowOf, rows, row, isNot}
+use Rattle.netlist.specs.Kinds.{isKind, arityFits, mostOperands, fewestOperands, signatureOf}
 use Rattle.netlist.specs.Netlist.{Operand, constant, Gate, Block, inputCount, gateCount}
 use Rattle.netlist.specs.StoredBlock.{gateSize, operandWords, nodeWord, operandOf, gateWords, gateAt, isOperand, gateFits}
 use Rattle.encoding.specs.Rules.{operandRule, gateRule}
@@ -24,19 +24,26 @@ use Rattle.encoding.proofs.Nodes.{nodeWord-operandOf, operandOf-nodeWor
 -- ---- kinds and counts
 
 pub kind-small : (k : ℕ) → isKind k ≡ true → k ≤ 4
-unfolding isKind rows row
+unfolding isKind
 kind-small k h = leb-true k 4 h
 
+-- what holds of each kind holds of all
+pub by-kind : (P : ℕ → Type 0) → P 0 → P 1 → P 2 → P 3 → P 4 → (k : ℕ) → isKind k ≡ true → P k
+by-kind P not and or nand nor zero h = not
+by-kind P not and or nand nor (suc zero) h = and
+by-kind P not and or nand nor (suc (suc zero)) h = or
+by-kind P not and or nand nor (suc (suc (suc zero))) h = nand
+by-kind P not and or nand nor (suc (suc (suc (suc zero)))) h = nor
+by-kind P not and or nand nor (suc (suc (suc (suc (suc k))))) h = absurd (omega (arith, kind-small (suc (suc (suc (suc (suc k))))) h))
+
 pub most-four : (k : ℕ) → mostOperands k ≤ operandWords
-unfolding mostOperands rowOf rows row isNot
+unfolding mostOperands signatureOf
 most-four zero = omega arith
 most-four (suc zero) = omega arith
 most-four (suc (suc zero)) = omega arith
 most-four (suc (suc (suc zero))) = omega arith
 most-four (suc (suc (suc (suc zero)))) = omega arith
-most-four (suc (suc (suc (suc (suc k))))) =
-    let less : suc (suc (suc (suc (suc k)))) - 1 ≡ suc (suc (suc (suc k))) = omega arith in
-    rw (ne-eqb (suc (suc (suc (suc (suc k))))) 0 (omega arith), less) (omega arith)
+most-four (suc (suc (suc (suc (suc k))))) = omega arith
 
 -- no gate has more than four operands
 pub arity-four : (k count : ℕ) → arityFits k count ≡ true → count ≤ operandWords
@@ -45,17 +52,13 @@ arity-four k count h = omega (arith, most-four k, leb-true count (mostOperands k
 
 -- `not` has one operand
 pub arity-not : (count : ℕ) → arityFits 0 count ≡ true → count ≡ 1
-unfolding arityFits mostOperands fewestOperands isNot
+unfolding arityFits mostOperands fewestOperands signatureOf
 arity-not count h = omega (arith, leb-true 1 count (and-left (leb 1 count) (leb count 1) h), leb-true count 1 (and-right (leb 1 count) (leb count 1) h))
 
 fewest-two : (k : ℕ) → isKind k ≡ true → 1 ≤ k → fewestOperands k ≡ 2
-unfolding fewestOperands isNot rowOf rows row
-fewest-two zero h l = omega arith
-fewest-two (suc zero) h l = refl
-fewest-two (suc (suc zero)) h l = refl
-fewest-two (suc (suc (suc zero))) h l = refl
-fewest-two (suc (suc (suc (suc zero)))) h l = refl
-fewest-two (suc (suc (suc (suc (suc k))))) h l = let s : suc (suc (suc (suc (suc k)))) ≤ 4 = kind-small (suc (suc (suc (suc (suc k))))) h in absurd (omega arith)
+unfolding fewestOperands signatureOf
+fewest-two =
+    by-kind (λ k. 1 ≤ k → fewestOperands k ≡ 2) (λ l. absurd (omega arith)) (λ _. refl) (λ _. refl) (λ _. refl) (λ _. refl)
 
 -- the other kinds have two at least
 pub arity-others : (k count : ℕ) → isKind k ≡ true → 1 ≤ k → arityFits k count ≡ true → 2 ≤ count
@@ -96,7 +99,12 @@ gateWords-gateAt n ws at unused =
     tail : (i : ℕ) → i < operandWords → getD (map (nodeWord n) (tab operand count)) i 0 ≡ getD ws (at + (1 + i)) 0
     tail i l =
         ⊎-elim
-        (λ k. rw (map-tab (nodeWord n) operand count, getD-tab (λ i. nodeWord n (operand i)) count i 0 k, nodeWord-operandOf n (getD ws (at + 1 + i) 0), add-assoc at 1 i))
+        (λ k. rw (
+          map-tab (nodeWord n) operand count,
+          getD-tab (λ i. nodeWord n (operand i)) count i 0 k,
+          nodeWord-operandOf n (getD ws (at + 1 + i) 0),
+          add-assoc at 1 i,
+        ))
         (λ k. no-operand-word n (tab operand count) i (rw (length-tab operand count) k) ∙ sym (unused i k l) ∙ rw (add-assoc at 1 i))
         (lt-or-le i count)
 

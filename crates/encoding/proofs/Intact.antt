@@ -1,4 +1,9 @@
 -- The rules of the stored block, word by word, together say "not torn". Cited by the proof of the code that tests the rules. Assumes nothing.
+--   Intact: the rules on the words, each as a fact
+--   intact-parts, intact-from: the test and the facts
+--   intact-wellFormed, intact-encode: words that meet the rules hold a well-formed block and are its words
+--   encoded-intact: the other way round
+--   intact-torn: the main law: the rules are "not torn"
 use mathlib.Core.Path.{_≡_, refl, sym, ap, _∙_}
 use mathlib.Core.Bool.{Bool, true, not, _&&_}
 use mathlib.Core.List.{List}
@@ -12,7 +17,8 @@ use Rattle.laws.proofs.Same.{same-eq, eq-same}
 use Rattle.laws.proofs.Quantifiers.{all-tab-at, all-tab-from, all-below, below-all}
 use Rattle.netlist.specs.Limits.{maxInputs, maxGates, maxOutputs}
 use Rattle.netlist.specs.Netlist.{Name, Gate, Output}
-use Rattle.netlist.specs.StoredBlock.{nameSize, gateSize, outputSize, inputsAt, gatesAt, outputsAt, plainName, nameAt, gateAt, outputAt, isNode, gateFits, encode, decode, wellFormed, torn}
+use Rattle.netlist.specs.StoredBlock.{nameSize, gateSize, outputSize, inputsAt, gatesAt, outputsAt, isPlainName, nameAt, gateAt, outputAt, isNode}
+use Rattle.netlist.specs.StoredBlock.{gateFits, encode, decode, isWellFormed, isTorn}
 use Rattle.encoding.specs.Rules.{namesRule, nodeRule, gateRule, headerRule, intact}
 use Rattle.encoding.proofs.ListFacts.{and-parts, all-map}
 use Rattle.encoding.proofs.Names.{namesRule-names}
@@ -97,7 +103,7 @@ module _ (ws : List ℕ) where
   output-at o = outputAt (getD ws 0 0) ws (outputsAt (getD ws 0 0) (getD ws 1 0) + outputSize * o)
 
   -- words that meet the rules hold a well-formed block
-  pub intact-wellFormed : intact ws ≡ true → wellFormed (decode ws) ≡ true
+  pub intact-wellFormed : intact ws ≡ true → isWellFormed (decode ws) ≡ true
   unfolding decode outputAt name port gate-at output-at port-of
   intact-wellFormed h =
       wellFormed-from (decode ws)
@@ -105,16 +111,17 @@ module _ (ws : List ℕ) where
         fewInputs = rw (decode-inputCount ws) (w .fewInputs);
         fewGates = rw (decode-gateCount ws) (w .fewGates);
         fewOutputs = rw (decode-outputCount ws) (w .fewOutputs);
-        inputNames = and-left (all plainName (tab name (getD ws 0 0))) (distinct (tab name (getD ws 0 0))) names;
-        inputsDistinct = and-right (all plainName (tab name (getD ws 0 0))) (distinct (tab name (getD ws 0 0))) names;
+        inputNames = and-left (all isPlainName (tab name (getD ws 0 0))) (distinct (tab name (getD ws 0 0))) names;
+        inputsDistinct = and-right (all isPlainName (tab name (getD ws 0 0))) (distinct (tab name (getD ws 0 0))) names;
         gatesFit =
             all-tab-from (gateFits (decode ws)) gate-at (getD ws 1 0)
-            (λ j l. gateRule-fits ws (gatesAt (getD ws 0 0) + gateSize * j) (decode ws) (getD ws 0 0) (getD ws 1 0) (decode-inputCount ws) (decode-gateCount ws) (w .gates j l));
+            (λ j l. gateRule-fits ws (gatesAt (getD ws 0 0) + gateSize * j) (decode ws) (getD ws 0 0) (getD ws 1 0) (decode-inputCount ws)
+            (decode-gateCount ws) (w .gates j l));
         portNames =
-            sym (all-map plainName port-of (decode ws .outputs))
-            ∙ ap (all plainName) (decode-ports ws)
-            ∙ and-left (all plainName (tab port (getD ws 2 0))) (distinct (tab port (getD ws 2 0))) ports;
-        portsDistinct = ap distinct (decode-ports ws) ∙ and-right (all plainName (tab port (getD ws 2 0))) (distinct (tab port (getD ws 2 0))) ports;
+            sym (all-map isPlainName port-of (decode ws .outputs))
+            ∙ ap (all isPlainName) (decode-ports ws)
+            ∙ and-left (all isPlainName (tab port (getD ws 2 0))) (distinct (tab port (getD ws 2 0))) ports;
+        portsDistinct = ap distinct (decode-ports ws) ∙ and-right (all isPlainName (tab port (getD ws 2 0))) (distinct (tab port (getD ws 2 0))) ports;
         nodesThere =
             all-tab-from (λ o. isNode (decode ws) (o .node)) output-at (getD ws 2 0)
             (λ o l. isNode-operandOf (decode ws) (getD ws 0 0) (getD ws 1 0) (getD ws (outputsAt (getD ws 0 0) (getD ws 1 0) + outputSize * o + nameSize) 0)
@@ -127,10 +134,10 @@ module _ (ws : List ℕ) where
       few : getD ws 0 0 + getD ws 1 0 ≤ 65534
       few = omega (arith, w .fewInputs, w .fewGates)
 
-      names : all plainName (tab name (getD ws 0 0)) && distinct (tab name (getD ws 0 0)) ≡ true
+      names : all isPlainName (tab name (getD ws 0 0)) && distinct (tab name (getD ws 0 0)) ≡ true
       names = sym (namesRule-names ws inputsAt nameSize (getD ws 0 0)) ∙ w .inputNames
 
-      ports : all plainName (tab port (getD ws 2 0)) && distinct (tab port (getD ws 2 0)) ≡ true
+      ports : all isPlainName (tab port (getD ws 2 0)) && distinct (tab port (getD ws 2 0)) ≡ true
       ports = sym (namesRule-names ws (outputsAt (getD ws 0 0) (getD ws 1 0)) outputSize (getD ws 2 0)) ∙ w .ports
 
   -- and are the words of that block
@@ -153,7 +160,7 @@ module _ (ws : List ℕ) where
       rw (e, decode-inputCount ws, decode-gate ws j l) at (encode-gate (decode ws) j (rw (decode-gateCount ws) l))
 
   -- the words of a well-formed block meet the rules
-  pub encoded-intact : wellFormed (decode ws) ≡ true → encode (decode ws) ≡ ws → intact ws ≡ true
+  pub encoded-intact : isWellFormed (decode ws) ≡ true → encode (decode ws) ≡ ws → intact ws ≡ true
   unfolding decode outputAt outputsAt gatesAt name port gate-at output-at port-of
   encoded-intact h e =
       intact-from ws
@@ -165,15 +172,15 @@ module _ (ws : List ℕ) where
         sized = sized;
         inputNames =
             namesRule-names ws inputsAt nameSize (getD ws 0 0)
-            ∙ and-intro (all plainName (tab name (getD ws 0 0))) (distinct (tab name (getD ws 0 0))) (w .inputNames) (w .inputsDistinct);
+            ∙ and-intro (all isPlainName (tab name (getD ws 0 0))) (distinct (tab name (getD ws 0 0))) (w .inputNames) (w .inputsDistinct);
         gates =
             λ j l. gateRule-from ws (gatesAt (getD ws 0 0) + gateSize * j) (decode ws) (getD ws 0 0) (getD ws 1 0) (decode-inputCount ws) (decode-gateCount ws)
             (all-tab-at (gateFits (decode ws)) gate-at (getD ws 1 0) j (w .gatesFit) l)
             (stands-unused (getD ws 0 0) ws (gatesAt (getD ws 0 0) + gateSize * j) (gate-stands e j l));
         ports =
             namesRule-names ws (outputsAt (getD ws 0 0) (getD ws 1 0)) outputSize (getD ws 2 0)
-            ∙ and-intro (all plainName (tab port (getD ws 2 0))) (distinct (tab port (getD ws 2 0)))
-            (sym (ap (all plainName) (decode-ports ws)) ∙ all-map plainName port-of (decode ws .outputs) ∙ w .portNames)
+            ∙ and-intro (all isPlainName (tab port (getD ws 2 0))) (distinct (tab port (getD ws 2 0)))
+            (sym (ap (all isPlainName) (decode-ports ws)) ∙ all-map isPlainName port-of (decode ws .outputs) ∙ w .portNames)
             (sym (ap distinct (decode-ports ws)) ∙ w .portsDistinct);
         nodes =
             λ o l. sym (isNode-operandOf (decode ws) (getD ws 0 0) (getD ws 1 0) (getD ws (outputsAt (getD ws 0 0) (getD ws 1 0) + outputSize * o + nameSize) 0)
@@ -193,11 +200,11 @@ module _ (ws : List ℕ) where
       long = omega arith
 
 -- The rules, word by word, together are "not torn".
-pub intact-torn : (ws : List ℕ) → torn ws ≡ not (intact ws)
-unfolding torn
+pub intact-torn : (ws : List ℕ) → isTorn ws ≡ not (intact ws)
+unfolding isTorn
 intact-torn ws =
     ap not
-    (same-test (wellFormed (decode ws) && same (encode (decode ws)) ws) (intact ws)
-    (λ h. encoded-intact ws (and-left (wellFormed (decode ws)) (same (encode (decode ws)) ws) h)
-    (same-eq (encode (decode ws)) ws (and-right (wellFormed (decode ws)) (same (encode (decode ws)) ws) h)))
-    (λ h. and-intro (wellFormed (decode ws)) (same (encode (decode ws)) ws) (intact-wellFormed ws h) (eq-same (encode (decode ws)) ws (intact-encode ws h))))
+    (same-test (isWellFormed (decode ws) && same (encode (decode ws)) ws) (intact ws)
+    (λ h. encoded-intact ws (and-left (isWellFormed (decode ws)) (same (encode (decode ws)) ws) h)
+    (same-eq (encode (decode ws)) ws (and-right (isWellFormed (decode ws)) (same (encode (decode ws)) ws) h)))
+    (λ h. and-intro (isWellFormed (decode ws)) (same (encode (decode ws)) ws) (intact-wellFormed ws h) (eq-same (encode (decode ws)) ws (intact-encode ws h))))

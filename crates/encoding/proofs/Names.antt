@@ -1,5 +1,9 @@
 -- Names in the stored block: the rule on the words is "a legal name", a name and its four words are each other's, and two names are the same when
 -- their words are. Cited by RoundTrip and Intact. Assumes nothing.
+--   plain-nameAt: the rule on the words is the rule on the name
+--   nameWords-nameAt, nameAt-nameWords: a name and its four words are each other's
+--   sameName-same: two names are the same when their words are
+--   namesRule-names: a run of names: all legal, none twice
 use mathlib.Core.Path.{_≡_, refl, sym, ap, _∙_}
 use mathlib.Core.Logic.{⊎-elim}
 use mathlib.Core.Bool.{Bool, true, false, cond, not, _&&_, _||_, and-false}
@@ -17,20 +21,20 @@ use Rattle.laws.proofs.Same.{same-eq, eq-same}
 use Rattle.laws.proofs.Quantifiers.{all-at, all-below, below-all}
 use Rattle.netlist.specs.Limits.{maxName}
 use Rattle.netlist.specs.Netlist.{Name}
-use Rattle.netlist.specs.StoredBlock.{nameSize, letter, digit, underscore, nameByte, legalName, plainName, nameWords, bytesAt, nameAt}
+use Rattle.netlist.specs.StoredBlock.{nameSize, isLetter, isDigit, isUnderscore, isNameByte, isLegalName, isPlainName, nameWords, bytesAt, nameAt}
 use Rattle.encoding.specs.Rules.{padded, nameRule, sameName, namesRule}
 use Rattle.encoding.proofs.ListFacts.{all-and, all-tab, joined-tab, distinct-from, distinct-at, getD-trimmed, length-trimmed}
 
 -- ---- the rule on the bytes
 
 -- a name byte is neither 0 nor above 122
-pub nameByte-range : (c : ℕ) → nameByte c ≡ true → (48 ≤ c) × (c ≤ 122)
-unfolding nameByte letter digit underscore
+pub nameByte-range : (c : ℕ) → isNameByte c ≡ true → (48 ≤ c) × (c ≤ 122)
+unfolding isNameByte isLetter isDigit isUnderscore
 nameByte-range c h =
     ⊎-elim
-    (λ g. ⊎-elim (λ l. range 97 122 (omega arith) (omega arith) l) (λ d. range 48 57 (omega arith) (omega arith) d) (or-cases (letter c) (digit c) g))
+    (λ g. ⊎-elim (λ l. range 97 122 (omega arith) (omega arith) l) (λ d. range 48 57 (omega arith) (omega arith) d) (or-cases (isLetter c) (isDigit c) g))
     (λ u. let e : c ≡ 95 = eqb-true c 95 u in (omega arith, omega arith))
-    (or-cases (letter c || digit c) (underscore c) h)
+    (or-cases (isLetter c || isDigit c) (isUnderscore c) h)
   where
     range : (low high : ℕ) → 48 ≤ low → high ≤ 122 → leb low c && leb c high ≡ true → (48 ≤ c) × (c ≤ 122)
     range low high a b l =
@@ -56,20 +60,20 @@ zeros-trimmed (c ∷ cs) = rw (zeros-trimmed cs) (go (trimmed cs) (eqb c 0) refl
     go (y ∷ t) b e = and-false (eqb 0 c)
 
 -- name bytes and then only zeros: without the zeros, only name bytes
-pub padded-trimmed : (cs : List ℕ) → padded cs ≡ all nameByte (trimmed cs)
-unfolding padded nameByte letter digit underscore
+pub padded-trimmed : (cs : List ℕ) → padded cs ≡ all isNameByte (trimmed cs)
+unfolding padded isNameByte isLetter isDigit isUnderscore
 padded-trimmed [] = refl
 padded-trimmed (c ∷ cs) = rw (zeros-trimmed cs, padded-trimmed cs) (go (trimmed cs) (eqb c 0) refl)
   where
-    go : (t : List ℕ) (b : Bool) → eqb c 0 ≡ b → cond b (empty t) (nameByte c && all nameByte t) ≡ all nameByte (onto c t)
+    go : (t : List ℕ) (b : Bool) → eqb c 0 ≡ b → cond b (empty t) (isNameByte c && all isNameByte t) ≡ all isNameByte (onto c t)
     go [] true e = rw e
     go [] false e = rw e
     go (y ∷ t) true e = rw (eqb-true c 0 e)
     go (y ∷ t) false e = refl
 
 -- a name of at most eight bytes
-plain-short : (s : Name) → length s ≤ maxName → plainName s ≡ letter (getD s 0 0) && all nameByte s
-unfolding plainName legalName letter
+plain-short : (s : Name) → length s ≤ maxName → isPlainName s ≡ isLetter (getD s 0 0) && all isNameByte s
+unfolding isPlainName isLegalName isLetter
 plain-short [] h = refl
 plain-short (c ∷ cs) h = rw (le-leb 1 (suc (length cs)) (omega arith), le-leb (suc (length cs)) maxName h)
 
@@ -78,7 +82,7 @@ unfolding bytesAt
 length-bytes ws at = refl
 
 -- the rule on the words is the rule on the name
-pub plain-nameAt : (ws : List ℕ) (at : ℕ) → plainName (nameAt ws at) ≡ nameRule ws at
+pub plain-nameAt : (ws : List ℕ) (at : ℕ) → isPlainName (nameAt ws at) ≡ nameRule ws at
 unfolding nameRule nameAt
 plain-nameAt ws at =
     plain-short (trimmed (bytesAt ws at)) (omega (arith, length-trimmed (bytesAt ws at), length-bytes ws at))
@@ -98,38 +102,38 @@ pub nameWords-nameAt : (ws : List ℕ) (at : ℕ) → nameWords (nameAt ws at) �
 unfolding nameWords nameAt bytesAt
 nameWords-nameAt ws at = simp (getD-trimmed, word)
 
-trimmed-is : (xs s : List ℕ) → ((i : ℕ) → getD xs i 0 ≡ getD s i 0) → all nameByte s ≡ true → trimmed xs ≡ s
+trimmed-is : (xs s : List ℕ) → ((i : ℕ) → getD xs i 0 ≡ getD s i 0) → all isNameByte s ≡ true → trimmed xs ≡ s
 trimmed-is [] [] h n = refl
 trimmed-is [] (c ∷ s) h n =
     let e : 0 ≡ c = h 0 in
-    let r : 48 ≤ c = nameByte-range c (and-left (nameByte c) (all nameByte s) n) .0 in absurd (omega arith)
+    let r : 48 ≤ c = nameByte-range c (and-left (isNameByte c) (all isNameByte s) n) .0 in absurd (omega arith)
 trimmed-is (x ∷ xs) [] h n = let e : x ≡ 0 = h 0 in rw (e, trimmed-is xs [] (λ i. h (suc i)) refl)
 trimmed-is (x ∷ xs) (c ∷ s) h n =
     let e : x ≡ c = h 0 in
-    let r : 48 ≤ c = nameByte-range c (and-left (nameByte c) (all nameByte s) n) .0 in
-    rw (e, trimmed-is xs s (λ i. h (suc i)) (and-right (nameByte c) (all nameByte s) n)) (go s (ne-eqb c 0 (omega arith)))
+    let r : 48 ≤ c = nameByte-range c (and-left (isNameByte c) (all isNameByte s) n) .0 in
+    rw (e, trimmed-is xs s (λ i. h (suc i)) (and-right (isNameByte c) (all isNameByte s) n)) (go s (ne-eqb c 0 (omega arith)))
   where
     go : (t : List ℕ) → eqb c 0 ≡ false → onto c t ≡ c ∷ t
     go [] e = rw e
     go (y ∷ t) e = refl
 
 -- what "legal" says of a name's bytes, whatever may come first
-module _ (start : ℕ → Bool) (s : Name) (legal : legalName start s ≡ true) where
-  legal-bytes : all nameByte s ≡ true
-  unfolding legalName
-  legal-bytes = and-right (leb 1 (length s) && leb (length s) maxName && start (getD s 0 0)) (all nameByte s) legal
+module _ (start : ℕ → Bool) (s : Name) (legal : isLegalName start s ≡ true) where
+  legal-bytes : all isNameByte s ≡ true
+  unfolding isLegalName
+  legal-bytes = and-right (leb 1 (length s) && leb (length s) maxName && start (getD s 0 0)) (all isNameByte s) legal
 
   pub legal-short : length s ≤ maxName
-  unfolding legalName
+  unfolding isLegalName
   legal-short =
       leb-true (length s) maxName
       (and-right (leb 1 (length s)) (leb (length s) maxName)
       (and-left (leb 1 (length s) && leb (length s) maxName) (start (getD s 0 0))
-      (and-left (leb 1 (length s) && leb (length s) maxName && start (getD s 0 0)) (all nameByte s) legal)))
+      (and-left (leb 1 (length s) && leb (length s) maxName && start (getD s 0 0)) (all isNameByte s) legal)))
 
   pub legal-byte : (i : ℕ) → getD s i 0 < 256
   legal-byte i =
-      ⊎-elim (λ l. let r : getD s i 0 ≤ 122 = nameByte-range (getD s i 0) (all-at nameByte s i 0 legal-bytes l) .1 in omega arith)
+      ⊎-elim (λ l. let r : getD s i 0 ≤ 122 = nameByte-range (getD s i 0) (all-at isNameByte s i 0 legal-bytes l) .1 in omega arith)
       (λ l. rw (List·getD-eq-default s 0 {n = i} l) (omega arith))
       (lt-or-le i (length s))
 
@@ -147,7 +151,8 @@ module _ (start : ℕ → Bool) (s : Name) (legal : legalName start s ≡ true) 
       pair : (i : ℕ) → i < nameSize
           → getD ws (at + i) 0 % 256 ∷ getD ws (at + i) 0 / 256 ∷ [] ≡ tab (λ k. getD s (2 * i + k) 0) 2
       pair i l =
-          let w : getD ws (at + i) 0 ≡ getD s (2 * i) 0 + 256 * getD s (2 * i + 1) 0 = stands i l ∙ getD-tab (λ i. getD s (2 * i) 0 + 256 * getD s (2 * i + 1) 0) nameSize i 0 l in
+          let w : getD ws (at + i) 0 ≡ getD s (2 * i) 0 + 256 * getD s (2 * i + 1) 0 = stands i l
+          ∙ getD-tab (λ i. getD s (2 * i) 0 + 256 * getD s (2 * i + 1) 0) nameSize i 0 l in
           let b : getD s (2 * i) 0 < 256 = legal-byte (2 * i) in
           let low : getD ws (at + i) 0 % 256 ≡ getD s (2 * i) 0 = omega arith in
           let high : getD ws (at + i) 0 / 256 ≡ getD s (2 * i + 1) 0 = omega arith in
@@ -165,10 +170,10 @@ module _ (start : ℕ → Bool) (s : Name) (legal : legalName start s ≡ true) 
           (λ l. List·getD-eq-default (tab (λ i. getD s i 0) maxName) 0 l ∙ sym (List·getD-eq-default s 0 (omega (arith, legal-short))))
           (lt-or-le i maxName)
 
-pub nameAt-nameWords : (ws : List ℕ) (at : ℕ) (s : Name) → plainName s ≡ true
+pub nameAt-nameWords : (ws : List ℕ) (at : ℕ) (s : Name) → isPlainName s ≡ true
     → ((i : ℕ) → i < nameSize → getD ws (at + i) 0 ≡ getD (nameWords s) i 0) → nameAt ws at ≡ s
-unfolding plainName
-nameAt-nameWords ws at s h stands = nameAt-legal letter s h ws at stands
+unfolding isPlainName
+nameAt-nameWords ws at s h stands = nameAt-legal isLetter s h ws at stands
 
 -- ---- names, not twice
 
@@ -230,9 +235,9 @@ distinct-tab f n = same-test (distinct (tab f n)) (all (λ j. all (λ i. not (sa
 
 -- the rule on a run of names: all are legal, and none stands twice
 pub namesRule-names : (ws : List ℕ) (at size count : ℕ)
-    → namesRule ws at size count ≡ all plainName (tab (λ j. nameAt ws (at + size * j)) count) && distinct (tab (λ j. nameAt ws (at + size * j)) count)
+    → namesRule ws at size count ≡ all isPlainName (tab (λ j. nameAt ws (at + size * j)) count) && distinct (tab (λ j. nameAt ws (at + size * j)) count)
 unfolding namesRule
 namesRule-names ws at size count =
-    rw (all-tab plainName (λ j. nameAt ws (at + size * j)) count, distinct-tab (λ j. nameAt ws (at + size * j)) count)
+    rw (all-tab isPlainName (λ j. nameAt ws (at + size * j)) count, distinct-tab (λ j. nameAt ws (at + size * j)) count)
     (simp (sameName-same, plain-nameAt)
     (all-and (λ j. nameRule ws (at + size * j)) (λ j. all (λ i. not (same (nameAt ws (at + size * i)) (nameAt ws (at + size * j)))) (upTo j)) (upTo count)))

@@ -1,4 +1,6 @@
 -- Outputs in the stored block: an output and its five words are each other's. Cited by RoundTrip. Assumes nothing.
+--   OutputStands: an output's words stand at a place
+--   outputWords-outputAt, outputAt-outputWords: an output and its words are each other's
 use mathlib.Core.Path.{_≡_, refl, ap, ap₂, _∙_}
 use mathlib.Core.Bool.{true}
 use mathlib.Core.List.{List, [], _∷_, _++_}
@@ -8,7 +10,7 @@ use lib.ListN.{length, getD, List·getD-append}
 use lib.Seq.{getD-at}
 use Rattle.laws.specs.Lists.{tab}
 use Rattle.netlist.specs.Netlist.{Output, Block, inputCount, gateCount}
-use Rattle.netlist.specs.StoredBlock.{nameSize, outputSize, plainName, nameWords, nameAt, nodeWord, operandOf, outputWords, outputAt, isNode}
+use Rattle.netlist.specs.StoredBlock.{nameSize, outputSize, isPlainName, nameWords, nameAt, nodeWord, operandOf, outputWords, outputAt, isNode}
 use Rattle.encoding.proofs.Names.{nameWords-nameAt, nameAt-nameWords, length-nameWords}
 use Rattle.encoding.proofs.Nodes.{nodeWord-operandOf, operandOf-nodeWord, isNode-isOperand}
 
@@ -27,7 +29,7 @@ abbrev pub OutputStands : ℕ → List ℕ → ℕ → Output → Type 0
 OutputStands n ws at o = (i : ℕ) → i < outputSize → getD ws (at + i) 0 ≡ getD (outputWords n o) i 0
 
 -- where a legal output's words stand, that output is read
-pub outputAt-outputWords : (b : Block) (ws : List ℕ) (at : ℕ) (o : Output) → inputCount b + gateCount b ≤ 65534 → plainName (o .port) ≡ true
+pub outputAt-outputWords : (b : Block) (ws : List ℕ) (at : ℕ) (o : Output) → inputCount b + gateCount b ≤ 65534 → isPlainName (o .port) ≡ true
     → isNode b (o .node) ≡ true → OutputStands (inputCount b) ws at o → outputAt (inputCount b) ws at ≡ o
 unfolding outputAt outputWords
 outputAt-outputWords b ws at o few plain node standing = λ i. record { port = port-is i; node = node-is i }

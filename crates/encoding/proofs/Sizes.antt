@@ -1,4 +1,6 @@
--- How large a stored block is: at most 5,243 words, each below 65,536. Cited by code that stores blocks. Assumes nothing.
+-- How large a stored block is. Cited by code that stores blocks. Assumes nothing.
+--   encode-longest, whole-longest: at most `maxBlock` words
+--   encode-small, whole-small: each is a 16-bit word
 use mathlib.Core.Path.{_≡_, refl, subst, _∙_}
 use mathlib.Core.Logic.{⊎-elim}
 use mathlib.Core.Bool.{Bool, true, false, _&&_}
@@ -12,8 +14,10 @@ use Rattle.laws.specs.Lists.{all, tab, joined}
 use Rattle.laws.proofs.Tests.{and-intro, lt-or-le}
 use Rattle.laws.proofs.Quantifiers.{all-at, all-from, all-append, all-tab-from}
 use Rattle.laws.proofs.Lists.{all-joined}
+use Rattle.netlist.specs.Limits.{maxBlock}
 use Rattle.netlist.specs.Netlist.{Name, constant, Gate, Output, Block, inputCount, gateCount, outputCount}
-use Rattle.netlist.specs.StoredBlock.{operandWords, gatesAt, outputsAt, letter, plainName, nameWords, nodeWord, gateWords, outputWords, isNode, isOperand, gateFits, encode, decode, wellFormed, torn}
+use Rattle.netlist.specs.StoredBlock.{operandWords, gatesAt, outputsAt, isLetter, isPlainName, nameWords, nodeWord, gateWords, outputWords, isNode}
+use Rattle.netlist.specs.StoredBlock.{isOperand, gateFits, encode, decode, isWellFormed, isTorn}
 use Rattle.encoding.proofs.ListFacts.{all-map, getD-map}
 use Rattle.encoding.proofs.Names.{length-nameWords, legal-words}
 use Rattle.encoding.proofs.Nodes.{nodeWord-small, isNode-isOperand}
@@ -22,8 +26,8 @@ use Rattle.encoding.proofs.WellFormed.{noGate, noOutput, WellFormed, we
 use Rattle.encoding.proofs.Encoded.{length-encode}
 use Rattle.encoding.proofs.RoundTrip.{whole-encode, whole-wellFormed}
 
--- the longest block has 10 inputs, 1,024 gates and 16 outputs
-pub encode-longest : (b : Block) → wellFormed b ≡ true → length (encode b) ≤ 5243
+-- the longest block has as many of everything as the limits allow
+pub encode-longest : (b : Block) → isWellFormed b ≡ true → length (encode b) ≤ maxBlock
 unfolding outputsAt gatesAt
 encode-longest b h = let w = wellFormed-parts b h in rw (length-encode b) (omega (arith, w .fewInputs, w .fewGates, w .fewOutputs))
 
@@ -31,9 +35,9 @@ encode-longest b h = let w = wellFormed-parts b h in rw (length-encode b) (omega
 small : ℕ → Bool
 small w = ltb w 65536
 
-name-small : (s : Name) → plainName s ≡ true → all small (nameWords s) ≡ true
-unfolding plainName small
-name-small s h = all-from small (nameWords s) 0 (λ i l. lt-ltb (getD (nameWords s) i 0) 65536 (legal-words letter s h i (rw (length-nameWords s) at l)))
+name-small : (s : Name) → isPlainName s ≡ true → all small (nameWords s) ≡ true
+unfolding isPlainName small
+name-small s h = all-from small (nameWords s) 0 (λ i l. lt-ltb (getD (nameWords s) i 0) 65536 (legal-words isLetter s h i (rw (length-nameWords s) at l)))
 
 gate-small : (b : Block) (g : Gate) → inputCount b + gateCount b ≤ 65534 → gateFits b g ≡ true → all small (gateWords (inputCount b) g) ≡ true
 unfolding gateWords small
@@ -54,19 +58,21 @@ gate-small b g few fits =
         (λ l. rw (no-operand-word (inputCount b) (g .operands) i l) (omega arith))
         (lt-or-le i (length (g .operands)))
 
-output-small : (b : Block) (o : Output) → inputCount b + gateCount b ≤ 65534 → plainName (o .port) ≡ true → isNode b (o .node) ≡ true
+output-small : (b : Block) (o : Output) → inputCount b + gateCount b ≤ 65534 → isPlainName (o .port) ≡ true → isNode b (o .node) ≡ true
     → all small (outputWords (inputCount b) o) ≡ true
 unfolding outputWords small
 output-small b o few plain node =
     all-append small (nameWords (o .port)) (nodeWord (inputCount b) (o .node) ∷ [])
     ∙ and-intro (all small (nameWords (o .port))) (small (nodeWord (inputCount b) (o .node)) && true) (name-small (o .port) plain)
-    (and-intro (small (nodeWord (inputCount b) (o .node))) true (lt-ltb (nodeWord (inputCount b) (o .node)) 65536 (nodeWord-small b (o .node) few (isNode-isOperand b (o .node) node))) refl)
+    (and-intro (small (nodeWord (inputCount b) (o .node))) true
+    (lt-ltb (nodeWord (inputCount b) (o .node)) 65536 (nodeWord-small b (o .node) few (isNode-isOperand b (o .node) node))) refl)
 
 -- parts whose words are small
-parts-small : {A : Type 0} (g : A → List ℕ) (xs : List A) (d : A) → ((i : ℕ) → i < length xs → all small (g (getD xs i d)) ≡ true) → all small (joined (map g xs)) ≡ true
+parts-small : {A : Type 0} (g : A → List ℕ) (xs : List A) (d : A) → ((i : ℕ) → i < length xs → all small (g (getD xs i d)) ≡ true)
+    → all small (joined (map g xs)) ≡ true
 parts-small g xs d h = all-joined small (map g xs) ∙ all-map (all small) g xs ∙ all-from (λ x. all small (g x)) xs d h
 
-all-small : (b : Block) → wellFormed b ≡ true → all small (encode b) ≡ true
+all-small : (b : Block) → isWellFormed b ≡ true → all small (encode b) ≡ true
 unfolding encode small
 all-small b h =
     and-intro (small (inputCount b)) (small (gateCount b) && (small (outputCount b) && all small (names ++ gates ++ outputs)))
@@ -91,7 +97,7 @@ all-small b h =
     outputs = joined (map (outputWords (inputCount b)) (b .outputs))
 
     names-small : all small names ≡ true
-    names-small = parts-small nameWords (b .inputs) [] (λ i l. name-small (getD (b .inputs) i []) (all-at plainName (b .inputs) i [] (w .inputNames) l))
+    names-small = parts-small nameWords (b .inputs) [] (λ i l. name-small (getD (b .inputs) i []) (all-at isPlainName (b .inputs) i [] (w .inputNames) l))
 
     gates-small : all small gates ≡ true
     gates-small =
@@ -102,11 +108,11 @@ all-small b h =
     outputs-small =
         parts-small (outputWords (inputCount b)) (b .outputs) noOutput
         (λ o l. output-small b (getD (b .outputs) o noOutput) (few-nodes b w)
-        (all-at (λ o. plainName (o .port)) (b .outputs) o noOutput (w .portNames) l)
+        (all-at (λ o. isPlainName (o .port)) (b .outputs) o noOutput (w .portNames) l)
         (all-at (λ o. isNode b (o .node)) (b .outputs) o noOutput (w .nodesThere) l))
 
 -- every word of a well-formed block is a 16-bit word
-pub encode-small : (b : Block) → wellFormed b ≡ true → (p : ℕ) → getD (encode b) p 0 < 65536
+pub encode-small : (b : Block) → isWellFormed b ≡ true → (p : ℕ) → getD (encode b) p 0 < 65536
 unfolding small
 encode-small b h p =
     ⊎-elim (λ l. ltb-true (getD (encode b) p 0) 65536 (all-at small (encode b) p 0 (all-small b h) l))
@@ -114,8 +120,8 @@ encode-small b h p =
     (lt-or-le p (length (encode b)))
 
 -- and so of words that are not torn
-pub whole-small : (ws : List ℕ) → torn ws ≡ false → (p : ℕ) → getD ws p 0 < 65536
+pub whole-small : (ws : List ℕ) → isTorn ws ≡ false → (p : ℕ) → getD ws p 0 < 65536
 whole-small ws h p = subst (λ (v : List ℕ). getD v p 0 < 65536) (whole-encode ws h) (encode-small (decode ws) (whole-wellFormed ws h) p)
 
-pub whole-longest : (ws : List ℕ) → torn ws ≡ false → length ws ≤ 5243
-whole-longest ws h = subst (λ (v : List ℕ). length v ≤ 5243) (whole-encode ws h) (encode-longest (decode ws) (whole-wellFormed ws h))
+pub whole-longest : (ws : List ℕ) → isTorn ws ≡ false → length ws ≤ maxBlock
+whole-longest ws h = subst (λ (v : List ℕ). length v ≤ maxBlock) (whole-encode ws h) (encode-longest (decode ws) (whole-wellFormed ws h))

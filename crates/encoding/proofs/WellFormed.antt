@@ -1,5 +1,9 @@
 -- A well-formed block, rule by rule: the rules' names, taken apart and put together, and a law for a block with another's interface (Render).
 -- Cited by RoundTrip, Readers and by whoever shows a block well-formed. Assumes nothing.
+--   WellFormed: the rules of a well-formed block, each as a fact
+--   wellFormed-parts, wellFormed-from: the test and the facts
+--   few-nodes: no node has the number of a constant
+--   wellFormed-interface: a block with another's inputs and outputs is well-formed when its gates are
 use mathlib.Core.Path.{_≡_, sym, ap, _∙_}
 use mathlib.Core.Bool.{true, false}
 use mathlib.Core.List.{[], map}
@@ -11,7 +15,7 @@ use Rattle.laws.specs.Lists.{all, distinct}
 use Rattle.laws.proofs.Quantifiers.{all-from}
 use Rattle.netlist.specs.Limits.{maxInputs, maxGates, maxOutputs}
 use Rattle.netlist.specs.Netlist.{Name, constant, Gate, Output, Block, inputCount, gateCount, outputCount, gateOf}
-use Rattle.netlist.specs.StoredBlock.{plainName, gateFits, isNode, wellFormed}
+use Rattle.netlist.specs.StoredBlock.{isPlainName, gateFits, isNode, isWellFormed}
 use Rattle.encoding.proofs.ListFacts.{and-parts, all-map}
 
 -- what a list of gates and a list of outputs hold past their end
@@ -21,21 +25,21 @@ noGate = record { kind = 0; operands = [] }
 abbrev pub noOutput : Output
 noOutput = record { port = []; node = constant false }
 
--- "limits, names legal and not twice, kinds, counts, nodes"
+-- the rules of a well-formed block (SPECIFICATION 2.4): limits, names, kinds, counts, nodes
 pub record WellFormed (b : Block) : Type 0 where
   pub fewInputs : inputCount b ≤ maxInputs
   pub fewGates : gateCount b ≤ maxGates
   pub fewOutputs : outputCount b ≤ maxOutputs
-  pub inputNames : all plainName (b .inputs) ≡ true
+  pub inputNames : all isPlainName (b .inputs) ≡ true
   pub inputsDistinct : distinct (b .inputs) ≡ true
   pub gatesFit : all (gateFits b) (b .gates) ≡ true
-  pub portNames : all (λ o. plainName (o .port)) (b .outputs) ≡ true
+  pub portNames : all (λ o. isPlainName (o .port)) (b .outputs) ≡ true
   pub portsDistinct : distinct (map (λ (o : Output). o .port) (b .outputs)) ≡ true
   pub nodesThere : all (λ o. isNode b (o .node)) (b .outputs) ≡ true
 
 -- a block is well-formed when it meets the rules
-pub wellFormed-from : (b : Block) → WellFormed b → wellFormed b ≡ true
-unfolding wellFormed
+pub wellFormed-from : (b : Block) → WellFormed b → isWellFormed b ≡ true
+unfolding isWellFormed
 wellFormed-from b w =
     let inputs = le-leb (inputCount b) maxInputs (w .fewInputs) in
     let gates = le-leb (gateCount b) maxGates (w .fewGates) in
@@ -43,8 +47,8 @@ wellFormed-from b w =
     rw (inputs, gates, outputs, w .inputNames, w .inputsDistinct, w .gatesFit, w .portNames, w .portsDistinct, w .nodesThere)
 
 -- what "well-formed" says, rule by rule
-pub wellFormed-parts : (b : Block) → wellFormed b ≡ true → WellFormed b
-unfolding wellFormed
+pub wellFormed-parts : (b : Block) → isWellFormed b ≡ true → WellFormed b
+unfolding isWellFormed
 wellFormed-parts b h =
     let h8 = and-parts _ _ h in
     let h7 = and-parts _ _ (h8 .0) in
@@ -72,13 +76,13 @@ few-nodes b w = omega (arith, w .fewInputs, w .fewGates)
 
 -- A block with the inputs and the ports of a well-formed one is well-formed, if it has no more gates than allowed, its gates fit and its outputs show
 -- nodes that are there.
-pub wellFormed-interface : (b c : Block) → wellFormed b ≡ true
+pub wellFormed-interface : (b c : Block) → isWellFormed b ≡ true
     → c .inputs ≡ b .inputs
     → map (λ (o : Output). o .port) (c .outputs) ≡ map (λ (o : Output). o .port) (b .outputs)
     → gateCount c ≤ maxGates
     → ((j : ℕ) → j < gateCount c → gateFits c (gateOf c j) ≡ true)
     → ((i : ℕ) (d : Output) → i < outputCount c → isNode c (getD (c .outputs) i d .node) ≡ true)
-    → wellFormed c ≡ true
+    → isWellFormed c ≡ true
 wellFormed-interface b c h inputs ports few fit there =
     wellFormed-from c
     (record {
@@ -88,7 +92,7 @@ wellFormed-interface b c h inputs ports few fit there =
       inputNames = rw inputs (w .inputNames);
       inputsDistinct = rw inputs (w .inputsDistinct);
       gatesFit = all-from (gateFits c) (c .gates) noGate fit;
-      portNames = sym (all-map plainName port-of (c .outputs)) ∙ ap (all plainName) ports ∙ all-map plainName port-of (b .outputs) ∙ w .portNames;
+      portNames = sym (all-map isPlainName port-of (c .outputs)) ∙ ap (all isPlainName) ports ∙ all-map isPlainName port-of (b .outputs) ∙ w .portNames;
       portsDistinct = rw ports (w .portsDistinct);
       nodesThere = all-from (λ o. isNode c (o .node)) (c .outputs) noOutput (λ i l. there i noOutput l);
     })

@@ -7,16 +7,16 @@ use lib.Dec.{eqb, leb, ltb}
 use Rattle.laws.specs.Lists.{all, upTo}
 use Rattle.netlist.specs.Limits.{maxInputs, maxGates, maxOutputs}
 use Rattle.netlist.specs.Kinds.{isKind, arityFits}
-use Rattle.netlist.specs.StoredBlock.{nameSize, gateSize, outputSize, operandWords, inputsAt, gatesAt, outputsAt, letter, nameByte, bytesAt}
+use Rattle.netlist.specs.StoredBlock.{nameSize, gateSize, outputSize, operandWords, inputsAt, gatesAt, outputsAt, isLetter, isNameByte, bytesAt}
 
 -- name bytes, and then only zeros
 unfoldable pub padded : List ℕ → Bool
 padded [] = true
-padded (c ∷ cs) = cond (eqb c 0) (all (eqb 0) cs) (nameByte c && padded cs)
+padded (c ∷ cs) = cond (eqb c 0) (all (eqb 0) cs) (isNameByte c && padded cs)
 
 -- the eight bytes of an input's name or a port
 unfoldable pub nameRule : List ℕ → ℕ → Bool
-nameRule ws at = letter (getD (bytesAt ws at) 0 0) && padded (bytesAt ws at)
+nameRule ws at = isLetter (getD (bytesAt ws at) 0 0) && padded (bytesAt ws at)
 
 unfoldable pub sameName : List ℕ → ℕ → ℕ → Bool
 sameName ws at other = all (λ i. eqb (getD ws (at + i) 0) (getD ws (other + i) 0)) (upTo nameSize)
@@ -39,7 +39,7 @@ gateRule ws nodes at =
     isKind (getD ws at 0 % 8) && arityFits (getD ws at 0 % 8) (getD ws at 0 / 8)
     && all (λ i. cond (ltb i (getD ws at 0 / 8)) (operandRule nodes (getD ws (at + 1 + i) 0)) (eqb (getD ws (at + 1 + i) 0) 0)) (upTo operandWords)
 
--- "A slice of 16-bit words of exactly this length", and the limits
+-- the length that the counts give, and the limits
 unfoldable pub headerRule : List ℕ → Bool
 headerRule ws =
     leb inputsAt (length ws)

@@ -5,7 +5,6 @@ mod Continues
 mod Chain
 mod First
 mod Words
-mod Counts
 mod KindWords
 mod Operands
 mod OperandLists

@@ -6,7 +6,7 @@ use Prim.Native.Nat.{ℕ, zero, suc, _-_, _<_}
 use native.Mathlib.Omega.{arith}
 use lib.ListN.{length, drop, getD, length-drop}
 use Rattle.laws.specs.Lists.{ascii}
-use Rattle.netlist.specs.StoredBlock.{letter, nameStart, underscore}
+use Rattle.netlist.specs.StoredBlock.{isLetter, isNameStart, isUnderscore}
 use Rattle.netlist.specs.Syntax.{Term, name, apply}
 use Rattle.netlist.specs.Parse.{Reader, pure, stop, expect, nameBytes, nameAfter, nameReader, exprReader, leafOr, termReader}
 use Rattle.form.specs.declared.Scan.the-variants.{Next, Bad}
@@ -16,12 +16,12 @@ use Rattle.form.proofs.First.{there, if-taken, if-left, byte-taken, byt
 
 -- ---- names
 
-no-start : nameStart 0 ≡ false
-unfolding nameStart letter underscore
+no-start : isNameStart 0 ≡ false
+unfolding isNameStart isLetter isUnderscore
 no-start = refl
 
 no-first : (u : Bool) → firstByte u 0 ≡ false
-unfolding firstByte letter
+unfolding firstByte isLetter
 no-first true = no-start
 no-first false = refl
 
@@ -51,35 +51,35 @@ unfolding termReader inner
 leaf-or-inner zero s = refl
 leaf-or-inner (suc depth) s = refl
 
-pub start-there : (s : List ℕ) → nameStart (getD s 0 0) ≡ true → 0 < length s
-start-there s h = there nameStart s no-start h
+pub start-there : (s : List ℕ) → isNameStart (getD s 0 0) ≡ true → 0 < length s
+start-there s h = there isNameStart s no-start h
 
 module _ (depth : ℕ) (s : List ℕ) where
-  pub operand-name : nameStart (getD s 0 0) ≡ true → scanOf (termReader depth s) ≡ scanOf (nameBytes 7 (drop 1 s))
+  pub operand-name : isNameStart (getD s 0 0) ≡ true → scanOf (termReader depth s) ≡ scanOf (nameBytes 7 (drop 1 s))
   unfolding leafOr nameAfter
   operand-name h =
-      ap scanOf (leaf-or-inner depth s ∙ if-taken _ _ nameStart s no-start h)
+      ap scanOf (leaf-or-inner depth s ∙ if-taken _ _ isNameStart s no-start h)
       ∙ scan-map (nameAfter (getD s 0 0)) name (drop 1 s)
       ∙ scan-map (nameBytes 7) (λ cs. getD s 0 0 ∷ cs) (drop 1 s)
 
-  module _ (h : nameStart (getD s 0 0) ≡ false) {b : ℕ} (e : b ≡ getD s 0 0) where
+  module _ (h : isNameStart (getD s 0 0) ≡ false) {b : ℕ} (e : b ≡ getD s 0 0) where
     pub operand-0 : b ≡ 48 → scanOf (termReader depth s) ≡ Next (length s - 1)
     unfolding leafOr pure
     operand-0 f =
-        ap scanOf (leaf-or-inner depth s ∙ if-left _ _ nameStart s h ∙ byte-taken _ _ s 48 e f (omega arith))
+        ap scanOf (leaf-or-inner depth s ∙ if-left _ _ isNameStart s h ∙ byte-taken _ _ s 48 e f (omega arith))
         ∙ ap Next (length-drop 1 s)
 
     module _ (n0 : b ≡ 48 → ⊥) where
       pub operand-1 : b ≡ 49 → scanOf (termReader depth s) ≡ Next (length s - 1)
       unfolding leafOr pure
       operand-1 f =
-          ap scanOf (leaf-or-inner depth s ∙ if-left _ _ nameStart s h ∙ byte-left _ _ s 48 e n0 ∙ byte-taken _ _ s 49 e f (omega arith))
+          ap scanOf (leaf-or-inner depth s ∙ if-left _ _ isNameStart s h ∙ byte-left _ _ s 48 e n0 ∙ byte-taken _ _ s 49 e f (omega arith))
           ∙ ap Next (length-drop 1 s)
 
       pub operand-inner : (b ≡ 49 → ⊥) → scanOf (termReader depth s) ≡ scanOf (inner depth s)
       unfolding leafOr
       operand-inner n1 =
-          ap scanOf (leaf-or-inner depth s ∙ if-left _ _ nameStart s h ∙ byte-left _ _ s 48 e n0 ∙ byte-left _ _ s 49 e n1)
+          ap scanOf (leaf-or-inner depth s ∙ if-left _ _ isNameStart s h ∙ byte-left _ _ s 48 e n0 ∙ byte-left _ _ s 49 e n1)
 
 pub inner-deepest : (depth : ℕ) (s : List ℕ) → depth ≡ 0 → scanOf (inner depth s) ≡ Bad (length s)
 unfolding inner stop

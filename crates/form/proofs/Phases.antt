@@ -10,12 +10,15 @@ use Rattle.laws.proofs.Tests.{eq-or-ne}
 use Rattle.laws.specs.Lists.{ascii}
 use Rattle.netlist.specs.Limits.{maxDepth}
 use Rattle.netlist.specs.Kinds.{mostOperands, fewestOperands}
-use Rattle.netlist.specs.StoredBlock.{letter, nameStart}
+use Rattle.netlist.specs.StoredBlock.{isLetter, isNameStart}
 use Rattle.netlist.specs.Syntax.{Term, Terms, Tree, apply}
-use Rattle.netlist.specs.Parse.{Parsed, got, stuck, Reader, pure, stop, ifNext, expect, onParsed, bind, nameReader, kindReader, termsReader, exprReader, termReader, addInput, addGate, addOutput, inputLine, gateLine, outputLine, atEnd, line, outputsReader, gatesReader, textReader}
+use Rattle.netlist.specs.Parse.{Parsed, got, stuck, Reader, pure, stop, ifNext, expect, onParsed, bind, nameReader, kindReader, termsReader, exprReader}
+use Rattle.netlist.specs.Parse.{termReader, addInput, addGate, addOutput, inputLine, gateLine, outputLine, atEnd, line, outputsReader, gatesReader}
+use Rattle.netlist.specs.Parse.{textReader}
 use Rattle.form.specs.declared.Scan.{Scan}
 use Rattle.form.specs.declared.Scan.the-variants.{Next, Bad}
-use Rattle.form.specs.Scan.{scanOf, firstByte, lineEnd, inputName, inputReader, gateExpression, gateBracket, gateName, gateReader, outputShown, outputSpace, outputPort, outputReader, lineBehind, lineReader, phaseOf}
+use Rattle.form.specs.Scan.{scanOf, firstByte, closing, inputName, inputReader, gateExpression, gateBracket, gateNaming, gateReader, outputShown}
+use Rattle.form.specs.Scan.{outputSpace, outputPort, outputReader, lineBehind, lineReader, phaseOf}
 use Rattle.form.proofs.First.{byte-taken, byte-left}
 use Rattle.form.proofs.Continues.{Continues, thenOf, continues-after-bind, continues-after-expect, continues-word, continues-same, scan-map}
 use Rattle.form.proofs.OperandLists.{afterKind}
@@ -25,7 +28,7 @@ use Rattle.form.proofs.LineChoice.{chosen-input, chosen-gate, chosen-ou
 
 -- the end of a line, and then the others
 continues-end : (others : Reader Tree) (add : Tree → Tree)
-    → Continues (expect (ascii ")\n") (bind others (λ t. pure (add t)))) lineEnd (λ t. scanOf (others t))
+    → Continues (expect (ascii ")\n") (bind others (λ t. pure (add t)))) closing (λ t. scanOf (others t))
 continues-end others add = continues-same (continues-word (ascii ")\n") (bind others (λ t. pure (add t)))) (λ t. scan-map others add t)
 
 -- an expression's value plays no part
@@ -47,19 +50,19 @@ continues-expression term make make₀ {next} {next₀} {k} h = record { goes-on
 module _ (others : Reader Tree) where
   input-then : Continues (inputLine others stop) inputReader (λ t. scanOf (others t))
   unfolding inputLine inputReader inputName firstByte expect
-  input-then = continues-after-expect (ascii "in ") (continues-after-bind (nameReader letter) (λ s. continues-end others (addInput s)))
+  input-then = continues-after-expect (ascii "in ") (continues-after-bind (nameReader isLetter) (λ s. continues-end others (addInput s)))
 
   gate-then : Continues (gateLine others stop) gateReader (λ t. scanOf (others t))
-  unfolding gateLine gateReader gateName gateBracket gateExpression firstByte expect
+  unfolding gateLine gateReader gateNaming gateBracket gateExpression firstByte expect
   gate-then =
-      continues-after-expect (ascii "gate ") (continues-after-bind (nameReader nameStart) (λ s. continues-after-expect (ascii " (")
+      continues-after-expect (ascii "gate ") (continues-after-bind (nameReader isNameStart) (λ s. continues-after-expect (ascii " (")
       (continues-expression (termReader (maxDepth - 1)) _ apply (λ g. continues-end others (addGate g)))))
 
   output-then : Continues (outputLine others stop) outputReader (λ t. scanOf (others t))
   unfolding outputLine outputReader outputPort outputSpace outputShown firstByte expect
   output-then =
-      continues-after-expect (ascii "out ") (continues-after-bind (nameReader letter) (λ p. continues-after-expect (ascii " ")
-      (continues-after-bind (nameReader nameStart) (λ s. continues-end others (addOutput (record { port = p; shown = s }))))))
+      continues-after-expect (ascii "out ") (continues-after-bind (nameReader isLetter) (λ p. continues-after-expect (ascii " ")
+      (continues-after-bind (nameReader isNameStart) (λ s. continues-end others (addOutput (record { port = p; shown = s }))))))
 
 -- ---- by the letter: where it is another, the line is something else
 
@@ -97,11 +100,13 @@ abbrev onward : ℕ → ℕ → List ℕ → Scan
 onward c more u = scanOf (linesReader (phaseOf c) more u)
 
 module _ (more : ℕ) (t : List ℕ) where
-  input-step : (otherwise : Reader Tree) → getD t 0 0 ≡ 105 → scanOf (inputLine (λ r. textReader more r) otherwise t) ≡ thenOf (inputReader t) (onward (getD t 0 0) more)
+  input-step : (otherwise : Reader Tree) → getD t 0 0 ≡ 105
+      → scanOf (inputLine (λ r. textReader more r) otherwise t) ≡ thenOf (inputReader t) (onward (getD t 0 0) more)
   unfolding linesReader phaseOf
   input-step otherwise e = rw e (ap scanOf (input-only (λ r. textReader more r) otherwise t e) ∙ input-then (λ r. textReader more r) .goes-on t)
 
-  gate-step : (otherwise : Reader Tree) → getD t 0 0 ≡ 103 → scanOf (gateLine (λ r. gatesReader more r) otherwise t) ≡ thenOf (gateReader t) (onward (getD t 0 0) more)
+  gate-step : (otherwise : Reader Tree) → getD t 0 0 ≡ 103
+      → scanOf (gateLine (λ r. gatesReader more r) otherwise t) ≡ thenOf (gateReader t) (onward (getD t 0 0) more)
   unfolding linesReader phaseOf
   gate-step otherwise e = rw e (ap scanOf (gate-only (λ r. gatesReader more r) otherwise t e) ∙ gate-then (λ r. gatesReader more r) .goes-on t)
 

@@ -10,10 +10,12 @@ use lib.Seq.{drop-drop}
 use lib.Dec.{eqb}
 use Rattle.laws.specs.Lists.{ascii, is}
 use Rattle.netlist.specs.Limits.{maxName, maxDepth}
-use Rattle.netlist.specs.StoredBlock.{letter, nameByte, nameStart}
+use Rattle.netlist.specs.StoredBlock.{isLetter, isNameByte, isNameStart}
 use Rattle.netlist.specs.Kinds.{mostOperands, fewestOperands}
 use Rattle.netlist.specs.Syntax.{Term, Terms, Tree, name, literal, apply, nil, cons}
-use Rattle.netlist.specs.Parse.{Parsed, got, stuck, Reader, pure, stop, onTest, ifNext, expect, onParsed, bind, nameBytes, nameAfter, nameReader, kindReader, spaced, termsReader, exprReader, leafOr, termReader, addInput, addGate, addOutput, inputLine, gateLine, outputLine}
+use Rattle.netlist.specs.Parse.{Parsed, got, stuck, Reader, pure, stop, onTest, ifNext, expect, onParsed, bind, nameBytes, nameAfter, nameReader}
+use Rattle.netlist.specs.Parse.{kindReader, spaced, termsReader, exprReader, leafOr, termReader, addInput, addGate, addOutput, inputLine, gateLine}
+use Rattle.netlist.specs.Parse.{outputLine}
 use Rattle.form.proofs.ListFacts.{lastOnes}
 
 -- the second text is the end of the first
@@ -99,7 +101,7 @@ unfolding nameBytes
 shortens-name-bytes zero = shortens-pure []
 shortens-name-bytes (suc most) =
     let r = shortens-name-bytes most in
-    shortens-if nameByte (λ c. shortens-bind r (λ cs. shortens-pure (c ∷ cs))) (shortens-pure [])
+    shortens-if isNameByte (λ c. shortens-bind r (λ cs. shortens-pure (c ∷ cs))) (shortens-pure [])
 
 pub shortens-name : (start : ℕ → Bool) → Shortens (nameReader start)
 unfolding nameReader nameAfter
@@ -136,7 +138,7 @@ shortens-expr make t =
 shortens-leaf : {inner : Reader Term} → Shortens inner → Shortens (leafOr inner)
 unfolding leafOr nameAfter
 shortens-leaf h =
-    shortens-if nameStart
+    shortens-if isNameStart
     (λ c. shortens-bind (shortens-bind (shortens-name-bytes (maxName - 1)) (λ cs. shortens-pure (c ∷ cs))) (λ s. shortens-pure (name s)))
     (shortens-if (is "0") (λ _. shortens-pure (literal false))
     (shortens-if (is "1") (λ _. shortens-pure (literal true)) h))
@@ -152,7 +154,7 @@ module _ {others otherwise : Reader Tree} (o : Shortens others) (e : Shortens ot
   unfolding inputLine
   shortens-input =
       shortens-if (is "i") (λ _. shortens-expect (ascii "n ")
-      (shortens-bind (shortens-name letter) (λ s. shortens-expect (ascii ")\n")
+      (shortens-bind (shortens-name isLetter) (λ s. shortens-expect (ascii ")\n")
       (shortens-bind o (λ t. shortens-pure (addInput s t))))))
       e
 
@@ -160,7 +162,7 @@ module _ {others otherwise : Reader Tree} (o : Shortens others) (e : Shortens ot
   unfolding gateLine
   shortens-gate =
       shortens-if (is "g") (λ _. shortens-expect (ascii "ate ")
-      (shortens-bind (shortens-name nameStart) (λ s. shortens-expect (ascii " (")
+      (shortens-bind (shortens-name isNameStart) (λ s. shortens-expect (ascii " (")
       (shortens-bind (shortens-expr _ (shortens-term (maxDepth - 1))) (λ g. shortens-expect (ascii ")\n")
       (shortens-bind o (λ t. shortens-pure (addGate g t))))))))
       e
@@ -169,7 +171,7 @@ module _ {others otherwise : Reader Tree} (o : Shortens others) (e : Shortens ot
   unfolding outputLine
   shortens-output =
       shortens-if (is "o") (λ _. shortens-expect (ascii "ut ")
-      (shortens-bind (shortens-name letter) (λ p. shortens-expect (ascii " ")
-      (shortens-bind (shortens-name nameStart) (λ s. shortens-expect (ascii ")\n")
+      (shortens-bind (shortens-name isLetter) (λ p. shortens-expect (ascii " ")
+      (shortens-bind (shortens-name isNameStart) (λ s. shortens-expect (ascii ")\n")
       (shortens-bind o (λ t. shortens-pure (addOutput (record { port = p; shown = s }) t))))))))
       e

@@ -9,7 +9,7 @@ use lib.ListN.{length, drop, getD, length-drop, drop-of-length-le}
 use lib.Seq.{drop-cons, getD-drop, drop-drop}
 use lib.Dec.{eqb}
 use borrow.Author.Tests.{eq-eqb, ne-eqb}
-use Rattle.netlist.specs.StoredBlock.{nameByte, letter, digit, underscore}
+use Rattle.netlist.specs.StoredBlock.{isNameByte, isLetter, isDigit, isUnderscore}
 use Rattle.netlist.specs.Parse.{pure, stop, onTest, ifNext, expect, nameBytes}
 use Rattle.form.specs.declared.Scan.{Scan}
 use Rattle.form.specs.declared.Scan.the-variants.{Next, Bad}
@@ -47,26 +47,26 @@ module _ (w s : List ℕ) (i : ℕ) where
 abbrev pub nameFrom : ℕ → List ℕ → ℕ → Scan
 nameFrom most s i = scanOf (nameBytes (most - i) (drop i s))
 
-no-name-byte : nameByte 0 ≡ false
-unfolding nameByte letter digit underscore
+no-name-byte : isNameByte 0 ≡ false
+unfolding isNameByte isLetter isDigit isUnderscore
 no-name-byte = refl
 
 first-at : (s : List ℕ) (i : ℕ) → getD (drop i s) 0 0 ≡ getD s i 0
 first-at s i = getD-drop i s 0 0 ∙ ap (λ (k : ℕ). getD s k 0) (add-zero i)
 
 module _ (most : ℕ) (s : List ℕ) (i : ℕ) where
-  pub name-byte-there : nameByte (getD s i 0) ≡ true → i < length s
+  pub name-byte-there : isNameByte (getD s i 0) ≡ true → i < length s
   name-byte-there h =
-      let l : 0 < length (drop i s) = there nameByte (drop i s) no-name-byte (ap nameByte (first-at s i) ∙ h) in
+      let l : 0 < length (drop i s) = there isNameByte (drop i s) no-name-byte (ap isNameByte (first-at s i) ∙ h) in
       omega (arith, l, length-drop i s)
 
-  pub name-more : i < most → nameByte (getD s i 0) ≡ true → nameFrom most s i ≡ nameFrom most s (suc i)
+  pub name-more : i < most → isNameByte (getD s i 0) ≡ true → nameFrom most s i ≡ nameFrom most s (suc i)
   unfolding nameBytes
   name-more l h =
       let m : most - i ≡ suc (most - suc i) = omega arith in
       let q : i + 1 ≡ suc i = omega arith in
       rw m
-      (ap scanOf (if-taken _ _ nameByte (drop i s) no-name-byte (ap nameByte (first-at s i) ∙ h))
+      (ap scanOf (if-taken _ _ isNameByte (drop i s) no-name-byte (ap isNameByte (first-at s i) ∙ h))
       ∙ scan-map (nameBytes (most - suc i)) (λ cs. getD (drop i s) 0 0 ∷ cs) (drop 1 (drop i s))
       ∙ ap (λ (t : List ℕ). scanOf (nameBytes (most - suc i) t)) (drop-drop 1 i s ∙ ap (λ (k : ℕ). drop k s) q))
 
@@ -74,8 +74,8 @@ module _ (most : ℕ) (s : List ℕ) (i : ℕ) where
   unfolding nameBytes pure
   name-over g h = let m : most - i ≡ 0 = omega arith in rw m (ap Next (length-drop i s))
 
-  pub name-other : i < most → nameByte (getD s i 0) ≡ false → nameFrom most s i ≡ Next (length s - i)
+  pub name-other : i < most → isNameByte (getD s i 0) ≡ false → nameFrom most s i ≡ Next (length s - i)
   unfolding nameBytes pure
   name-other l h =
       let m : most - i ≡ suc (most - suc i) = omega arith in
-      rw m (ap scanOf (if-left _ _ nameByte (drop i s) (ap nameByte (first-at s i) ∙ h)) ∙ ap Next (length-drop i s))
+      rw m (ap scanOf (if-left _ _ isNameByte (drop i s) (ap isNameByte (first-at s i) ∙ h)) ∙ ap Next (length-drop i s))

@@ -1,30 +1,29 @@
--- What `form` answers, and what its readers answer of netlist's readers: bytes left, and no tree. Read's crate cites `formOf`.
+-- What `form` answers, and what its readers answer of netlist's readers: bytes left, and no tree. Read's crate cites `firstBad`.
 -- Assumes nothing: these are definitions.
 use Prim.Native.Nat.{ℕ, _-_}
 use mathlib.Core.Bool.{Bool, true, false, cond, _&&_}
 use mathlib.Core.List.{List}
+use mathlib.Core.Option.{Option, none, some}
 use lib.ListN.{length, getD}
 use lib.Dec.{eqb, leb}
 use Rattle.laws.specs.Lists.{ascii, is}
-use Rattle.netlist.specs.StoredBlock.{letter, nameStart}
+use Rattle.netlist.specs.StoredBlock.{isLetter, isNameStart}
 use Rattle.netlist.specs.Limits.{maxDepth}
 use Rattle.netlist.specs.Syntax.{Tree, apply}
 use Rattle.netlist.specs.Parse.{Parsed, got, stuck, Reader, pure, stop, ifNext, expect, bind, nameReader, exprReader, termReader, parse}
-use Rattle.form.specs.declared.TextForm.{TextForm}
-use Rattle.form.specs.declared.TextForm.the-variants.{Legal, Bad}
 use Rattle.form.specs.declared.Scan.{Scan}
 use Rattle.form.specs.declared.Scan.the-variants.{Next, Bad as Stuck}
 use Rattle.form.specs.declared.Kind.{Kind}
 use Rattle.form.specs.declared.Kind.the-variants.{Is, Bad as NoKind}
 
 -- the place is the number of bytes before the bad one
-abbrev pub formAt : List ℕ → Parsed Tree → TextForm
-formAt text (got t rest) = Legal
-formAt text (stuck left) = Bad (length text - left)
+abbrev pub badOf : List ℕ → Parsed Tree → Option ℕ
+badOf text (got t rest) = none
+badOf text (stuck left) = some (length text - left)
 
--- "text not of the grammar; detail: bytes before the first that no legal text has after that beginning, or the length if cut off"
-unfoldable pub formOf : List ℕ → TextForm
-formOf text = formAt text (parse text)
+-- 2: the first byte that no legal text has behind that beginning, or the length where the text is cut off
+unfoldable pub firstBad : List ℕ → Option ℕ
+firstBad text = badOf text (parse text)
 
 -- the bytes left of what a reader answers
 abbrev pub scanOf : {A : Type 0} → Parsed A → Scan
@@ -43,8 +42,8 @@ wordReader w = expect w (pure 0)
 
 -- the first byte of a name, where `_` may stand or not
 unfoldable pub firstByte : Bool → ℕ → Bool
-firstByte true = nameStart
-firstByte false = letter
+firstByte true = isNameStart
+firstByte false = isLetter
 
 -- a kind behind the rest of its word
 unfoldable pub kindWord : List ℕ → ℕ → Reader ℕ
@@ -58,29 +57,29 @@ unfoldable pub kindN : Reader ℕ
 kindN = ifNext (is "a") (λ _. kindWord (ascii "nd") 3) (ifNext (is "o") (λ _. kindNo) stop)
 
 -- one line behind its opening bracket, without its tree, and what follows each of its parts
-abbrev pub lineEnd : Reader ℕ
-lineEnd = wordReader (ascii ")\n")
+abbrev pub closing : Reader ℕ
+closing = wordReader (ascii ")\n")
 
 unfoldable pub inputName : Reader ℕ
-inputName = bind (nameReader (firstByte false)) (λ _. lineEnd)
+inputName = bind (nameReader (firstByte false)) (λ _. closing)
 
 unfoldable pub inputReader : Reader ℕ
 inputReader = expect (ascii "in ") inputName
 
 unfoldable pub gateExpression : Reader ℕ
-gateExpression = bind (exprReader (termReader (maxDepth - 1)) apply) (λ _. lineEnd)
+gateExpression = bind (exprReader (termReader (maxDepth - 1)) apply) (λ _. closing)
 
 unfoldable pub gateBracket : Reader ℕ
 gateBracket = expect (ascii " (") gateExpression
 
-unfoldable pub gateName : Reader ℕ
-gateName = bind (nameReader (firstByte true)) (λ _. gateBracket)
+unfoldable pub gateNaming : Reader ℕ
+gateNaming = bind (nameReader (firstByte true)) (λ _. gateBracket)
 
 unfoldable pub gateReader : Reader ℕ
-gateReader = expect (ascii "gate ") gateName
+gateReader = expect (ascii "gate ") gateNaming
 
 unfoldable pub outputShown : Reader ℕ
-outputShown = bind (nameReader (firstByte true)) (λ _. lineEnd)
+outputShown = bind (nameReader (firstByte true)) (λ _. closing)
 
 unfoldable pub outputSpace : Reader ℕ
 outputSpace = expect (ascii " ") outputShown

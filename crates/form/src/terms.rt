@@ -3,9 +3,12 @@ use crate::Kind;
 use crate::Scan;
 use crate::bytes;
 use crate::names;
+use layout::bytes::byte_at;
+use layout::bytes::is_name_start;
+use layout::kinds::fewest_operands;
+use layout::kinds::most_operands;
 ghost use mathlib.Core.Path.{_≡_};
 ghost use Prim.Native.Nat.{_-_};
-ghost use Rattle.netlist.specs.Kinds.{fewestOperands, mostOperands};
 ghost use Rattle.netlist.specs.Syntax.{Term, apply};
 ghost use Rattle.netlist.specs.Parse.{kindReader, termReader, termsReader, exprReader};
 ghost use Rattle.form.specs.Scan.{scanOf, kindOf, kindWord, kindN, kindNo};
@@ -24,7 +27,7 @@ fn kind_word(s: &[u8], bytes: &[u8], kind: usize) -> Kind
 fn kind_no(s: &[u8]) -> Kind
     ensures { λ r. ⌜ r ≡ kindOf (kindNo (now (s .entry))) ⌝ }
 {
-    let c = bytes::byte_at(s, 0);
+    let c = byte_at(s, 0);
     if c == b't' {
         return Kind::Is {
             kind: 0,
@@ -44,7 +47,7 @@ fn kind_no(s: &[u8]) -> Kind
 fn kind_n(s: &[u8]) -> Kind
     ensures { λ r. ⌜ r ≡ kindOf (kindN (now (s .entry))) ⌝ }
 {
-    let c = bytes::byte_at(s, 0);
+    let c = byte_at(s, 0);
     if c == b'a' {
         return kind_word(&s[1..], b"nd", 3);
     }
@@ -58,7 +61,7 @@ fn kind_n(s: &[u8]) -> Kind
 fn kind(s: &[u8]) -> Kind
     ensures { λ r. ⌜ r ≡ kindOf (kindReader (now (s .entry))) ⌝ }
 {
-    let c = bytes::byte_at(s, 0);
+    let c = byte_at(s, 0);
     if c == b'a' {
         return kind_word(&s[1..], b"nd", 1);
     }
@@ -69,27 +72,6 @@ fn kind(s: &[u8]) -> Kind
         return kind_n(&s[1..]);
     }
     Kind::Bad(s.len())
-}
-
-// The operand counts of a kind.
-fn fewest_operands(kind: usize) -> usize
-    ensures { λ r. ⌜ r ≡ fewestOperands kind ⌝ }
-{
-    match kind {
-        0 => 1,
-        1 | 2 | 3 | 4 => 2,
-        _ => 0,
-    }
-}
-
-fn most_operands(kind: usize) -> usize
-    ensures { λ r. ⌜ r ≡ mostOperands kind ⌝ }
-{
-    match kind {
-        0 => 1,
-        1 | 2 | 3 | 4 => 4,
-        _ => 0,
-    }
 }
 
 // An expression behind its opening bracket, whose operands have `depth` levels left.
@@ -121,7 +103,7 @@ fn operands(s: &[u8], depth: usize, most: usize, needed: usize) -> Scan
     if most == 0 {
         return bytes::word(s, b")");
     }
-    let c = bytes::byte_at(s, 0);
+    let c = byte_at(s, 0);
     if c == b')' {
         if needed == 0 {
             return Scan::Next(s.len() - 1);
@@ -144,8 +126,8 @@ fn operands(s: &[u8], depth: usize, most: usize, needed: usize) -> Scan
 fn operand(s: &[u8], depth: usize) -> Scan
     ensures { λ r. ⌜ r ≡ scanOf (termReader depth (now (s .entry))) ⌝ }
 {
-    let c = bytes::byte_at(s, 0);
-    if bytes::is_name_start(c) {
+    let c = byte_at(s, 0);
+    if is_name_start(c) {
         return Scan::Next(names::name_bytes(&s[1..], 7));
     }
     if c == b'0' {

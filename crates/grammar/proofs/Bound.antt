@@ -1,4 +1,5 @@
 -- The result of reading a text does not depend on the bound on lines, once it is at least the length. Assumes nothing.
+--   textReader-bound: every bound that is at least the length gives one result
 use Prim.Native.Nat.{ℕ, zero, suc, _-_, _≤_}
 use mathlib.Core.Path.{_≡_, refl, sym, _∙_}
 use mathlib.Core.Bool.{Bool, true, false}
@@ -8,9 +9,10 @@ use lib.ListN.{length}
 use lib.Dec.{eqb}
 use Rattle.laws.specs.Lists.{ascii}
 use Rattle.netlist.specs.Limits.{maxDepth}
-use Rattle.netlist.specs.StoredBlock.{letter, nameByte, nameStart}
+use Rattle.netlist.specs.StoredBlock.{isLetter, isNameByte, isNameStart}
 use Rattle.netlist.specs.Syntax.{Terms, Tree}
-use Rattle.netlist.specs.Parse.{Parsed, Reader, got, stuck, stop, onTest, ifNext, expect, onParsed, bind, nameReader, exprReader, termReader, inputLine, gateLine, outputLine, atEnd, line, outputsReader, gatesReader, textReader}
+use Rattle.netlist.specs.Parse.{Parsed, Reader, got, stuck, stop, onTest, ifNext, expect, onParsed, bind, nameReader, exprReader, termReader, inputLine}
+use Rattle.netlist.specs.Parse.{gateLine, outputLine, atEnd, line, outputsReader, gatesReader, textReader}
 use Rattle.grammar.proofs.SoundTerms.{letter-nameByte, nameStart-nameByte}
 use Rattle.grammar.proofs.Shorter.{nameReader-shorter, exprReader-shorter}
 
@@ -57,7 +59,7 @@ module _ {A B : Type 0} (k : ℕ) where
   unfolding bind
   alike-first r q f h = record { alike = λ s le. rw (h .alike s le) }
 
-nameReader-shrinks : (start : ℕ → Bool) → ((c : ℕ) → start c ≡ true → nameByte c ≡ true) → Shrinks (nameReader start)
+nameReader-shrinks : (start : ℕ → Bool) → ((c : ℕ) → start c ≡ true → isNameByte c ≡ true) → Shrinks (nameReader start)
 nameReader-shrinks start within = record { shrinks = λ s x t e. let h = nameReader-shorter start within s x t e in omega arith }
 
 exprReader-shrinks : {A : Type 0} (depth : ℕ) (make : ℕ → Terms → A) → Shrinks (exprReader (termReader depth) make)
@@ -68,14 +70,14 @@ module _ (k : ℕ) (r q : Reader Tree) (h : Alike k r q) (a b : Reader Tree) (e 
   unfolding inputLine
   inputLine-alike =
       alike-ifNext k _ _ _ _ _
-      (λ _. alike-expect k (ascii "n ") _ _ (alike-bind k (nameReader letter) _ _ (nameReader-shrinks letter letter-nameByte)
+      (λ _. alike-expect k (ascii "n ") _ _ (alike-bind k (nameReader isLetter) _ _ (nameReader-shrinks isLetter letter-nameByte)
       λ s. alike-expect k (ascii ")\n") _ _ (alike-first k r q _ h))) e
 
   gateLine-alike : Alike k (gateLine r a) (gateLine q b)
   unfolding gateLine
   gateLine-alike =
       alike-ifNext k _ _ _ _ _
-      (λ _. alike-expect k (ascii "ate ") _ _ (alike-bind k (nameReader nameStart) _ _ (nameReader-shrinks nameStart nameStart-nameByte)
+      (λ _. alike-expect k (ascii "ate ") _ _ (alike-bind k (nameReader isNameStart) _ _ (nameReader-shrinks isNameStart nameStart-nameByte)
       λ s. alike-expect k (ascii " (") _ _ (alike-bind k (exprReader (termReader (maxDepth - 1)) _) _ _ (exprReader-shrinks (maxDepth - 1) _)
       λ g. alike-expect k (ascii ")\n") _ _ (alike-first k r q _ h)))) e
 
@@ -83,8 +85,8 @@ module _ (k : ℕ) (r q : Reader Tree) (h : Alike k r q) (a b : Reader Tree) (e 
   unfolding outputLine
   outputLine-alike =
       alike-ifNext k _ _ _ _ _
-      (λ _. alike-expect k (ascii "ut ") _ _ (alike-bind k (nameReader letter) _ _ (nameReader-shrinks letter letter-nameByte)
-      λ p. alike-expect k (ascii " ") _ _ (alike-bind k (nameReader nameStart) _ _ (nameReader-shrinks nameStart nameStart-nameByte)
+      (λ _. alike-expect k (ascii "ut ") _ _ (alike-bind k (nameReader isLetter) _ _ (nameReader-shrinks isLetter letter-nameByte)
+      λ p. alike-expect k (ascii " ") _ _ (alike-bind k (nameReader isNameStart) _ _ (nameReader-shrinks isNameStart nameStart-nameByte)
       λ s. alike-expect k (ascii ")\n") _ _ (alike-first k r q _ h)))) e
 
 line-alike : (k : ℕ) (r q : Reader Tree) → Alike k r q → Alike (suc k) (line r) (line q)

@@ -1,4 +1,6 @@
 -- The print of a legal tree is read back, line by line, with any bound that is at least the number of lines. Assumes nothing.
+--   parse-complete: the print of a legal tree parses to that tree
+--   print-injective: two legal trees with one print are one
 use Prim.Native.Nat.{ℕ, zero, suc, _+_, _-_, _≤_}
 use mathlib.Core.Path.{_≡_, refl, _∙_}
 use mathlib.Core.Bool.{true, false, and-eq-true-iff}
@@ -8,40 +10,42 @@ use lib.ListN.{length}
 use Rattle.laws.specs.Lists.{ascii, is, all}
 use Rattle.netlist.specs.Limits.{maxDepth}
 use Rattle.netlist.specs.Netlist.{Name}
-use Rattle.netlist.specs.StoredBlock.{letter, digit, underscore, nameByte, nameStart, plainName, nodeName}
-use Rattle.netlist.specs.Syntax.{apply, GateLine, OutputLine, Tree, printTerm, printInput, printGate, printOutput, printLines, print, legalTerm, legalGate, legalOutput, legalTree}
-use Rattle.netlist.specs.Parse.{Reader, got, pure, ifNext, nameReader, exprReader, termReader, addInput, addGate, addOutput, inputLine, gateLine, outputLine, atEnd, line, outputsReader, gatesReader, textReader, parse}
+use Rattle.netlist.specs.StoredBlock.{isLetter, isDigit, isUnderscore, isNameByte, isNameStart, isPlainName, isNodeName}
+use Rattle.netlist.specs.Syntax.{apply, GateLine, OutputLine, Tree, printTerm, printInput, printGate, printOutput, printLines, print, isLegalTerm}
+use Rattle.netlist.specs.Syntax.{isLegalGate, isLegalOutput, isLegalTree}
+use Rattle.netlist.specs.Parse.{Reader, got, pure, ifNext, nameReader, exprReader, termReader, addInput, addGate, addOutput, inputLine, gateLine}
+use Rattle.netlist.specs.Parse.{outputLine, atEnd, line, outputsReader, gatesReader, textReader, parse}
 use Rattle.grammar.proofs.Equations.{ifNext-true, ifNext-false, expect-back, bind-got}
 use Rattle.grammar.proofs.ListFacts.{and3}
 use Rattle.grammar.proofs.Lengths.{lineCount, lineCount-length}
 use Rattle.grammar.proofs.CompleteTerms.{nameReader-back, expr-back}
 
 module _ (others otherwise : Reader Tree) (rest : List ℕ) (t : Tree) (e : others rest ≡ got t []) where
-  inputLine-back : (x : Name) → plainName x ≡ true
+  inputLine-back : (x : Name) → isPlainName x ≡ true
       → inputLine others otherwise (ascii "in " ++ (x ++ (ascii ")\n" ++ rest))) ≡ got (addInput x t) []
-  unfolding inputLine plainName pure nameByte letter digit underscore
+  unfolding inputLine isPlainName pure isNameByte isLetter isDigit isUnderscore
   inputLine-back x h =
-      ifNext-true _ _ _ _ _ refl ∙ expect-back (ascii "n ") _ _ ∙ bind-got (nameReader letter) _ _ x _ (nameReader-back letter x _ h refl)
+      ifNext-true _ _ _ _ _ refl ∙ expect-back (ascii "n ") _ _ ∙ bind-got (nameReader isLetter) _ _ x _ (nameReader-back isLetter x _ h refl)
       ∙ expect-back (ascii ")\n") _ _ ∙ bind-got others _ _ t _ e
 
-  outputLine-back : (o : OutputLine) → legalOutput o ≡ true
+  outputLine-back : (o : OutputLine) → isLegalOutput o ≡ true
       → outputLine others otherwise (ascii "out " ++ (o .port ++ (ascii " " ++ (o .shown ++ (ascii ")\n" ++ rest))))) ≡ got (addOutput o t) []
-  unfolding outputLine legalOutput plainName nodeName pure nameByte letter digit underscore
+  unfolding outputLine isLegalOutput isPlainName isNodeName pure isNameByte isLetter isDigit isUnderscore
   outputLine-back o h =
-      let f = and-eq-true-iff (plainName (o .port)) (nodeName (o .shown)) .0 h in
+      let f = and-eq-true-iff (isPlainName (o .port)) (isNodeName (o .shown)) .0 h in
       ifNext-true _ _ _ _ _ refl ∙ expect-back (ascii "ut ") _ _
-      ∙ bind-got (nameReader letter) _ _ (o .port) _ (nameReader-back letter (o .port) _ (f .0) refl)
-      ∙ expect-back (ascii " ") _ _ ∙ bind-got (nameReader nameStart) _ _ (o .shown) _ (nameReader-back nameStart (o .shown) _ (f .1) refl)
+      ∙ bind-got (nameReader isLetter) _ _ (o .port) _ (nameReader-back isLetter (o .port) _ (f .0) refl)
+      ∙ expect-back (ascii " ") _ _ ∙ bind-got (nameReader isNameStart) _ _ (o .shown) _ (nameReader-back isNameStart (o .shown) _ (f .1) refl)
       ∙ expect-back (ascii ")\n") _ _ ∙ bind-got others _ _ t _ e
 
-  gateLine-back : (g : GateLine) → legalGate g ≡ true
+  gateLine-back : (g : GateLine) → isLegalGate g ≡ true
       → gateLine others otherwise
       (ascii "gate " ++ (g .name ++ (ascii " " ++ printTerm (apply (g .kind) (g .terms)) (ascii ")\n" ++ rest)))) ≡ got (addGate g t) []
-  unfolding gateLine legalGate printTerm nodeName pure nameByte letter digit underscore
+  unfolding gateLine isLegalGate printTerm isNodeName pure isNameByte isLetter isDigit isUnderscore
   gateLine-back g h =
-      let f = and-eq-true-iff (nodeName (g .name)) (legalTerm (apply (g .kind) (g .terms)) maxDepth) .0 h in
+      let f = and-eq-true-iff (isNodeName (g .name)) (isLegalTerm (apply (g .kind) (g .terms)) maxDepth) .0 h in
       ifNext-true _ _ _ _ _ refl ∙ expect-back (ascii "ate ") _ _
-      ∙ bind-got (nameReader nameStart) _ _ (g .name) _ (nameReader-back nameStart (g .name) _ (f .0) refl)
+      ∙ bind-got (nameReader isNameStart) _ _ (g .name) _ (nameReader-back isNameStart (g .name) _ (f .0) refl)
       ∙ expect-back (ascii " (") _ _
       ∙ bind-got (exprReader (termReader (maxDepth - 1)) _) _ _ g _ (expr-back (maxDepth - 1) _ (g .kind) (g .terms) _ (f .1))
       ∙ expect-back (ascii ")\n") _ _ ∙ bind-got others _ _ t _ e
@@ -60,17 +64,17 @@ inputLine-skip : (others otherwise : Reader Tree) (c : ℕ) (s : List ℕ) → i
 unfolding inputLine
 inputLine-skip others otherwise c s h = ifNext-false _ _ _ _ _ h
 
-outputs-back : (os : List OutputLine) (n : ℕ) → all legalOutput os ≡ true → length os ≤ n
+outputs-back : (os : List OutputLine) (n : ℕ) → all isLegalOutput os ≡ true → length os ≤ n
     → outputsReader n (printLines printOutput os []) ≡ got (record { inputs = []; gates = []; outputs = os }) []
 unfolding outputsReader printLines printOutput atEnd line ifNext addOutput
 outputs-back [] zero h le = refl
 outputs-back [] (suc n) h le = refl
 outputs-back (o ∷ os) zero h le = absurd (omega arith)
 outputs-back (o ∷ os) (suc n) h le =
-    let f = and-eq-true-iff (legalOutput o) (all legalOutput os) .0 h in
+    let f = and-eq-true-iff (isLegalOutput o) (all isLegalOutput os) .0 h in
     line-back _ _ ∙ outputLine-back (λ r. outputsReader n r) _ _ _ (outputs-back os n (f .1) (omega arith)) o (f .0)
 
-gates-back : (gs : List GateLine) (os : List OutputLine) (n : ℕ) → all legalGate gs ≡ true → all legalOutput os ≡ true
+gates-back : (gs : List GateLine) (os : List OutputLine) (n : ℕ) → all isLegalGate gs ≡ true → all isLegalOutput os ≡ true
     → length gs + length os ≤ n
     → gatesReader n (printLines printGate gs (printLines printOutput os [])) ≡ got (record { inputs = []; gates = gs; outputs = os }) []
 unfolding gatesReader printLines printOutput printGate atEnd line ifNext addOutput addGate
@@ -78,15 +82,15 @@ gates-back [] [] zero g h le = refl
 gates-back [] [] (suc n) g h le = refl
 gates-back [] (o ∷ os) zero g h le = absurd (omega arith)
 gates-back [] (o ∷ os) (suc n) g h le =
-    let f = and-eq-true-iff (legalOutput o) (all legalOutput os) .0 h in
+    let f = and-eq-true-iff (isLegalOutput o) (all isLegalOutput os) .0 h in
     line-back _ _ ∙ gateLine-skip _ _ _ ∙ outputLine-back (λ r. outputsReader n r) _ _ _ (outputs-back os n (f .1) (omega arith)) o (f .0)
 gates-back (g ∷ gs) os zero k h le = absurd (omega arith)
 gates-back (g ∷ gs) os (suc n) k h le =
-    let f = and-eq-true-iff (legalGate g) (all legalGate gs) .0 k in
+    let f = and-eq-true-iff (isLegalGate g) (all isLegalGate gs) .0 k in
     line-back _ _ ∙ gateLine-back (λ r. gatesReader n r) _ _ _ (gates-back gs os n (f .1) h (omega arith)) g (f .0)
 
 text-back : (xs : List Name) (gs : List GateLine) (os : List OutputLine) (n : ℕ)
-    → all plainName xs ≡ true → all legalGate gs ≡ true → all legalOutput os ≡ true → length xs + length gs + length os ≤ n
+    → all isPlainName xs ≡ true → all isLegalGate gs ≡ true → all isLegalOutput os ≡ true → length xs + length gs + length os ≤ n
     → textReader n (printLines printInput xs (printLines printGate gs (printLines printOutput os []))) ≡ got
     (record { inputs = xs; gates = gs; outputs = os }) []
 unfolding textReader printLines printOutput printGate printInput atEnd line ifNext addOutput addGate addInput
@@ -94,29 +98,29 @@ text-back [] [] [] zero i g h le = refl
 text-back [] [] [] (suc n) i g h le = refl
 text-back [] [] (o ∷ os) zero i g h le = absurd (omega arith)
 text-back [] [] (o ∷ os) (suc n) i g h le =
-    let f = and-eq-true-iff (legalOutput o) (all legalOutput os) .0 h in
+    let f = and-eq-true-iff (isLegalOutput o) (all isLegalOutput os) .0 h in
     line-back _ _ ∙ inputLine-skip _ _ _ _ refl ∙ gateLine-skip _ _ _
     ∙ outputLine-back (λ r. outputsReader n r) _ _ _ (outputs-back os n (f .1) (omega arith)) o (f .0)
 text-back [] (g ∷ gs) os zero i k h le = absurd (omega arith)
 text-back [] (g ∷ gs) os (suc n) i k h le =
-    let f = and-eq-true-iff (legalGate g) (all legalGate gs) .0 k in
+    let f = and-eq-true-iff (isLegalGate g) (all isLegalGate gs) .0 k in
     line-back _ _ ∙ inputLine-skip _ _ _ _ refl ∙ gateLine-back (λ r. gatesReader n r) _ _ _ (gates-back gs os n (f .1) h (omega arith)) g (f .0)
 text-back (x ∷ xs) gs os zero i k h le = absurd (omega arith)
 text-back (x ∷ xs) gs os (suc n) i k h le =
-    let f = and-eq-true-iff (plainName x) (all plainName xs) .0 i in
+    let f = and-eq-true-iff (isPlainName x) (all isPlainName xs) .0 i in
     line-back _ _ ∙ inputLine-back (λ r. textReader n r) _ _ _ (text-back xs gs os n (f .1) k h (omega arith)) x (f .0)
 
-pub textReader-complete : (t : Tree) (n : ℕ) → legalTree t ≡ true → lineCount t ≤ n → textReader n (print t) ≡ got t []
-unfolding print legalTree lineCount
+pub textReader-complete : (t : Tree) (n : ℕ) → isLegalTree t ≡ true → lineCount t ≤ n → textReader n (print t) ≡ got t []
+unfolding print isLegalTree lineCount
 textReader-complete t n h le =
-    let f = and3 (all plainName (t .inputs)) (all legalGate (t .gates)) (all legalOutput (t .outputs)) h in
+    let f = and3 (all isPlainName (t .inputs)) (all isLegalGate (t .gates)) (all isLegalOutput (t .outputs)) h in
     text-back (t .inputs) (t .gates) (t .outputs) n (f .0) (f .1) (f .2) le
 
 -- Completeness: the print of a legal tree parses, and gives that tree back.
-pub parse-complete : (t : Tree) → legalTree t ≡ true → parse (print t) ≡ got t []
+pub parse-complete : (t : Tree) → isLegalTree t ≡ true → parse (print t) ≡ got t []
 unfolding parse
 parse-complete t h = textReader-complete t (length (print t)) h (lineCount-length t)
 
 -- Two legal trees with one print are one.
-pub print-injective : (t u : Tree) → legalTree t ≡ true → legalTree u ≡ true → print t ≡ print u → t ≡ u
+pub print-injective : (t u : Tree) → isLegalTree t ≡ true → isLegalTree u ≡ true → print t ≡ print u → t ≡ u
 print-injective t u h g e = let a = parse-complete t h in let b = parse-complete u g in cc

@@ -1,4 +1,5 @@
 -- Every reader of the grammar is good: it refuses at the first byte that no accepted text has there. Assumes nothing.
+--   textReader-good: the reader of a whole text is good, with every bound on the lines
 use Prim.Native.Nat.{ℕ, zero, suc, _-_}
 use mathlib.Core.Path.{_≡_, refl}
 use mathlib.Core.Logic.{inl}
@@ -8,16 +9,18 @@ use native.Mathlib.Omega.{arith}
 use Rattle.laws.specs.Lists.{ascii}
 use Rattle.netlist.specs.Limits.{maxName, maxDepth}
 use Rattle.netlist.specs.Kinds.{fewestOperands, mostOperands}
-use Rattle.netlist.specs.StoredBlock.{letter, nameByte, nameStart}
+use Rattle.netlist.specs.StoredBlock.{isLetter, isNameByte, isNameStart}
 use Rattle.netlist.specs.Syntax.{Term, Terms, name, literal, apply, nil, cons, Tree}
-use Rattle.netlist.specs.Parse.{Reader, stuck, stop, nameBytes, nameAfter, nameReader, kindReader, spaced, termsReader, exprReader, leafOr, termReader, addInput, addGate, inputLine, gateLine, outputLine, atEnd, line, outputsReader, gatesReader, textReader}
-use Rattle.grammar.proofs.Refusals.{Fails, Good, HalfGood, GoodBefore, HalfGoodBefore, half-stop, good-ifNext, good-expect, before-pure, before-stop, before-ifNext, halfBefore-ifNext, before-half, before-expect, before-bind, good-made}
+use Rattle.netlist.specs.Parse.{Reader, stuck, stop, nameBytes, nameAfter, nameReader, kindReader, spaced, termsReader, exprReader, leafOr, termReader}
+use Rattle.netlist.specs.Parse.{addInput, addGate, inputLine, gateLine, outputLine, atEnd, line, outputsReader, gatesReader, textReader}
+use Rattle.grammar.proofs.Refusals.{Fails, Good, HalfGood, GoodBefore, HalfGoodBefore, half-stop, good-ifNext, good-expect, before-pure}
+use Rattle.grammar.proofs.Refusals.{before-stop, before-ifNext, halfBefore-ifNext, before-half, before-expect, before-bind, good-made}
 
 nameBytes-good : (most : ℕ) → GoodBefore (nameBytes most)
-unfolding nameBytes nameByte letter
+unfolding nameBytes isNameByte isLetter
 nameBytes-good zero = before-pure []
 nameBytes-good (suc most) =
-    before-ifNext nameByte _ _ (λ c q. before-bind (nameBytes most) _ (nameBytes-good most) λ cs. before-pure (c ∷ cs))
+    before-ifNext isNameByte _ _ (λ c q. before-bind (nameBytes most) _ (nameBytes-good most) λ cs. before-pure (c ∷ cs))
     (before-half (before-pure [])) 97 refl
 
 nameAfter-good : (c : ℕ) → GoodBefore (nameAfter c)
@@ -57,9 +60,9 @@ exprReader-good term make b =
     (termsReader-good term b (mostOperands k) (fewestOperands k)) λ ts. before-pure (make k ts)
 
 leafOr-good : (inner : Reader Term) → HalfGoodBefore inner → GoodBefore (leafOr inner)
-unfolding leafOr nameStart letter
+unfolding leafOr isNameStart isLetter
 leafOr-good inner b =
-    before-ifNext nameStart _ _ (λ c _. before-bind (nameAfter c) _ (nameAfter-good c) λ s. before-pure (name s))
+    before-ifNext isNameStart _ _ (λ c _. before-bind (nameAfter c) _ (nameAfter-good c) λ s. before-pure (name s))
     (halfBefore-ifNext _ _ _ (λ _ _. before-pure (literal false))
     (halfBefore-ifNext _ _ _ (λ _ _. before-pure (literal true)) b)) 97 refl
 
@@ -71,21 +74,21 @@ termReader-good (suc depth) =
 
 module _ (others otherwise : Reader Tree) (g : Good others) (h : HalfGood otherwise) where
   inputLine-good : Good (inputLine others otherwise)
-  unfolding inputLine letter
+  unfolding inputLine isLetter
   inputLine-good =
       good-ifNext _ _ _ (λ _ _. good-expect (ascii "n ") _
-      (nameReader-good letter refl .good _ λ s. good-expect (ascii ")\n") _ (good-made others (addInput s) g))) h 105 refl
+      (nameReader-good isLetter refl .good _ λ s. good-expect (ascii ")\n") _ (good-made others (addInput s) g))) h 105 refl
 
   outputLine-good : Good (outputLine others otherwise)
-  unfolding outputLine nameStart letter
+  unfolding outputLine isNameStart isLetter
   outputLine-good =
-      good-ifNext _ _ _ (λ _ _. good-expect (ascii "ut ") _ (nameReader-good letter refl .good _ λ p. good-expect (ascii " ") _
-      (nameReader-good nameStart refl .good _ λ s. good-expect (ascii ")\n") _ (good-made others _ g)))) h 111 refl
+      good-ifNext _ _ _ (λ _ _. good-expect (ascii "ut ") _ (nameReader-good isLetter refl .good _ λ p. good-expect (ascii " ") _
+      (nameReader-good isNameStart refl .good _ λ s. good-expect (ascii ")\n") _ (good-made others _ g)))) h 111 refl
 
   gateLine-good : Good (gateLine others otherwise)
-  unfolding gateLine nameStart letter
+  unfolding gateLine isNameStart isLetter
   gateLine-good =
-      good-ifNext _ _ _ (λ _ _. good-expect (ascii "ate ") _ (nameReader-good nameStart refl .good _ λ s. good-expect (ascii " (") _
+      good-ifNext _ _ _ (λ _ _. good-expect (ascii "ate ") _ (nameReader-good isNameStart refl .good _ λ s. good-expect (ascii " (") _
       (exprReader-good (termReader (maxDepth - 1)) _ (termReader-good (maxDepth - 1)) .good _ λ y. good-expect (ascii ")\n") _
       (good-made others (addGate y) g)))) h 103 refl
 

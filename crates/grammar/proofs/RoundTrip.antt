@@ -1,4 +1,7 @@
 -- What Write prints, Read gives back: the words of the block. Assumes nothing.
+--   parse-written: a written text parses to the tree it was printed from
+--   reading-written: reading it gives the block's words
+--   reading-written-words: the same from words that are not torn
 use Prim.Native.Nat.{ℕ}
 use mathlib.Core.Path.{_≡_, ap, _∙_}
 use mathlib.Core.Bool.{true, false, and-eq-true-iff}
@@ -10,11 +13,11 @@ use Rattle.laws.specs.Lists.{same}
 use Rattle.laws.proofs.Same.{same-eq}
 use Rattle.netlist.specs.Limits.{maxText}
 use Rattle.netlist.specs.Netlist.{Block}
-use Rattle.netlist.specs.StoredBlock.{encode, decode, wellFormed, torn}
+use Rattle.netlist.specs.StoredBlock.{encode, decode, isWellFormed, isTorn}
 use Rattle.netlist.specs.Parse.{got, parse}
 use Rattle.netlist.specs.Writing.{flatTree, writtenText}
 use Rattle.netlist.specs.Answers.{refuseIf, refuseAt}
-use Rattle.netlist.specs.Operations.{counted, readTree, readParsed, reading}
+use Rattle.netlist.specs.Operations.{counted, readTree, readParsed, readText}
 use Rattle.grammar.proofs.Complete.{parse-complete}
 use Rattle.grammar.proofs.WritingTree.{flatTree-legal}
 use Rattle.grammar.proofs.WritingBlock.{blockOf-flatTree}
@@ -22,13 +25,13 @@ use Rattle.grammar.proofs.WritingRefusals.{flatTree-within, flatTree-un
 use Rattle.grammar.proofs.WritingLength.{written-length}
 
 -- A written text parses to the tree it was printed from.
-pub parse-written : (b : Block) → wellFormed b ≡ true → parse (writtenText b) ≡ got (flatTree b) []
+pub parse-written : (b : Block) → isWellFormed b ≡ true → parse (writtenText b) ≡ got (flatTree b) []
 unfolding writtenText
 parse-written b h = parse-complete (flatTree b) (flatTree-legal b h)
 
 -- Round trip: reading what a well-formed block is written as gives its words.
-pub reading-written : (b : Block) → wellFormed b ≡ true → reading (writtenText b) ≡ counted (encode b)
-unfolding reading readParsed readTree refuseIf refuseAt
+pub reading-written : (b : Block) → isWellFormed b ≡ true → readText (writtenText b) ≡ counted (encode b)
+unfolding readText readParsed readTree refuseIf refuseAt
 reading-written b h =
     rw (
       le-ltb maxText (length (writtenText b)) (omega (arith, written-length b h)),
@@ -40,8 +43,8 @@ reading-written b h =
     )
 
 -- Round trip on words: what Write makes of words that are not torn, Read takes back to those words.
-pub reading-written-words : (ws : List ℕ) → torn ws ≡ false → reading (writtenText (decode ws)) ≡ counted ws
-unfolding torn
+pub reading-written-words : (ws : List ℕ) → isTorn ws ≡ false → readText (writtenText (decode ws)) ≡ counted ws
+unfolding isTorn
 reading-written-words ws h =
-    let f = and-eq-true-iff (wellFormed (decode ws)) (same (encode (decode ws)) ws) .0 (not-false _ h) in
+    let f = and-eq-true-iff (isWellFormed (decode ws)) (same (encode (decode ws)) ws) .0 (not-false _ h) in
     reading-written (decode ws) (f .0) ∙ ap counted (same-eq (encode (decode ws)) ws (f .1))

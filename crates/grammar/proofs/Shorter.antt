@@ -8,13 +8,15 @@ use native.Mathlib.Omega.{arith}
 use lib.ListN.{length, drop, length-append}
 use lib.Seq.{drop-at}
 use Rattle.laws.specs.Lists.{ascii}
-use Rattle.netlist.specs.Kinds.{isKind, keyword, isNot, rowOf, rows, row}
+use Rattle.netlist.specs.Kinds.{isKind, keyword, signatureOf}
 use Rattle.netlist.specs.Netlist.{Name}
-use Rattle.netlist.specs.StoredBlock.{nameByte, legalName, nodeName}
-use Rattle.netlist.specs.Syntax.{Term, Terms, name, literal, apply, nil, cons, printTerm, printTerms, legalTerm}
+use Rattle.netlist.specs.StoredBlock.{isNameByte, isLegalName, isNodeName}
+use Rattle.netlist.specs.Syntax.{Term, Terms, name, literal, apply, nil, cons, printTerm, printTerms, isLegalTerm}
 use Rattle.netlist.specs.Parse.{got, nameBytes, nameReader, kindReader, termsReader, exprReader, termReader}
 use Rattle.grammar.proofs.Readings.{Gives}
-use Rattle.grammar.proofs.SoundTerms.{ExprRead, by-kind, nameBytes-sound, nameReader-sound, kindReader-sound, termsReader-sound, exprReader-sound, termReader-sound}
+use Rattle.encoding.proofs.Gates.{by-kind}
+use Rattle.grammar.proofs.SoundTerms.{ExprRead, nameBytes-sound, nameReader-sound, kindReader-sound, termsReader-sound, exprReader-sound}
+use Rattle.grammar.proofs.SoundTerms.{termReader-sound}
 use Rattle.grammar.proofs.Lengths.{terms-length}
 
 -- A print is its own bytes, and then what follows: `a` may be empty.
@@ -49,7 +51,7 @@ ending w rest s e =
 pub nameBytes-ends : (most : ℕ) (s : List ℕ) → Gives (λ x rest. Ending rest s) (nameBytes most s)
 nameBytes-ends most s = record { holds = λ x rest e. ending x rest s (nameBytes-sound most s .holds x rest e .printed) }
 
-pub nameReader-ends : (start : ℕ → Bool) → ((c : ℕ) → start c ≡ true → nameByte c ≡ true) → (s : List ℕ)
+pub nameReader-ends : (start : ℕ → Bool) → ((c : ℕ) → start c ≡ true → isNameByte c ≡ true) → (s : List ℕ)
     → Gives (λ x rest. Ending rest s) (nameReader start s)
 nameReader-ends start within s = record { holds = λ x rest e. ending x rest s (nameReader-sound start within s .holds x rest e .printed) }
 
@@ -81,20 +83,20 @@ exprReader-ends depth make s =
 -- ---- and shorter
 
 -- a legal name has a byte
-name-longer : (start : ℕ → Bool) (x : Name) (rest : List ℕ) → legalName start x ≡ true → length rest < length (x ++ rest)
-unfolding legalName
+name-longer : (start : ℕ → Bool) (x : Name) (rest : List ℕ) → isLegalName start x ≡ true → length rest < length (x ++ rest)
+unfolding isLegalName
 name-longer start [] rest h = absurd (false≢true h)
 name-longer start (c ∷ cs) rest h = omega (arith, length-append cs rest)
 
-term-longer : (t : Term) (depth : ℕ) (rest : List ℕ) → legalTerm t depth ≡ true → length rest < length (printTerm t rest)
-unfolding printTerm legalTerm nodeName
+term-longer : (t : Term) (depth : ℕ) (rest : List ℕ) → isLegalTerm t depth ≡ true → length rest < length (printTerm t rest)
+unfolding printTerm isLegalTerm isNodeName
 term-longer (name x) depth rest h = name-longer _ x rest h
 term-longer (literal true) depth rest h = omega arith
 term-longer (literal false) depth rest h = omega arith
 term-longer (apply k ts) depth rest h =
     omega (arith, length-append (keyword k) (printTerms ts (ascii ")" ++ rest)), terms-length ts (ascii ")" ++ rest))
 
-pub nameReader-shorter : (start : ℕ → Bool) → ((c : ℕ) → start c ≡ true → nameByte c ≡ true) → (s : List ℕ) (x : Name) (rest : List ℕ)
+pub nameReader-shorter : (start : ℕ → Bool) → ((c : ℕ) → start c ≡ true → isNameByte c ≡ true) → (s : List ℕ) (x : Name) (rest : List ℕ)
     → nameReader start s ≡ got x rest → length rest < length s
 nameReader-shorter start within s x rest e =
     let h = nameReader-sound start within s .holds x rest e in rw (h .printed) at (name-longer start x rest (h .legal))
@@ -113,7 +115,7 @@ exprReader-shorter depth make s =
     exprReader-sound (termReader depth) depth (termReader-sound depth) make s (λ k ts rest. expr-shorter depth s k ts rest) .holds
 
 keyword-longer : (k : ℕ) → isKind k ≡ true → 0 < length (keyword k)
-unfolding keyword rowOf rows row isNot
+unfolding keyword signatureOf
 keyword-longer = by-kind (λ k. 0 < length (keyword k)) (omega arith) (omega arith) (omega arith) (omega arith) (omega arith)
 
 pub kindReader-shorter : (s : List ℕ) (k : ℕ) (rest : List ℕ) → kindReader s ≡ got k rest → length rest < length s

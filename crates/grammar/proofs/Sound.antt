@@ -1,4 +1,6 @@
 -- What is read is legal and printed back, for lines and the whole text: printed before the rest, it is the text. Assumes nothing.
+--   TreeRead: what is read of a text: all of it, a legal tree, printed back
+--   parse-sound: the main law, of every text
 use Prim.Native.Nat.{ℕ, zero, suc, _-_}
 use mathlib.Core.Path.{_≡_, refl}
 use mathlib.Core.Bool.{true}
@@ -7,9 +9,11 @@ use lib.ListN.{length}
 use Rattle.laws.specs.Lists.{ascii}
 use Rattle.netlist.specs.Limits.{maxDepth}
 use Rattle.netlist.specs.Netlist.{Name}
-use Rattle.netlist.specs.StoredBlock.{letter, nameStart, plainName, nodeName}
-use Rattle.netlist.specs.Syntax.{GateLine, OutputLine, Tree, printTerm, printInput, printGate, printOutput, printLines, print, legalGate, legalOutput, legalTree}
-use Rattle.netlist.specs.Parse.{Reader, got, nameReader, exprReader, termReader, addInput, addGate, addOutput, inputLine, gateLine, outputLine, atEnd, line, outputsReader, gatesReader, textReader, parse}
+use Rattle.netlist.specs.StoredBlock.{isLetter, isNameStart, isPlainName, isNodeName}
+use Rattle.netlist.specs.Syntax.{GateLine, OutputLine, Tree, printTerm, printInput, printGate, printOutput, printLines, print, isLegalGate, isLegalOutput}
+use Rattle.netlist.specs.Syntax.{isLegalTree}
+use Rattle.netlist.specs.Parse.{Reader, got, nameReader, exprReader, termReader, addInput, addGate, addOutput, inputLine, gateLine, outputLine, atEnd}
+use Rattle.netlist.specs.Parse.{line, outputsReader, gatesReader, textReader, parse}
 use Rattle.grammar.proofs.Readings.{Gives, gives-got, gives-stuck, gives-pure, gives-stop, gives-is, gives-expect, gives-bind}
 use Rattle.grammar.proofs.SoundTerms.{nameReader-sound, letter-nameByte, nameStart-nameByte, exprReader-sound, termReader-sound, ExprRead}
 
@@ -25,7 +29,7 @@ AnyTree t = Unit {0}
 
 pub record TreeRead (Lacks : Tree → Type 0) (s : List ℕ) (t : Tree) (rest : List ℕ) : Type 0 where
   pub ended : rest ≡ []
-  pub legal : legalTree t ≡ true
+  pub legal : isLegalTree t ≡ true
   pub printed : print t ≡ s
   pub lacks : Lacks t
 
@@ -38,9 +42,9 @@ module _ (Lacks : Tree → Type 0) where
       → ((t : List ℕ) → Gives (TreeRead AnyTree t) (others t))
       → Gives (TreeRead Lacks (ascii "(" ++ s)) (otherwise s)
       → Gives (TreeRead Lacks (ascii "(" ++ s)) (inputLine others otherwise s)
-  unfolding inputLine addInput print printLines printInput legalTree plainName
+  unfolding inputLine addInput print printLines printInput isLegalTree isPlainName
   inputLine-sound others otherwise s weaken rec =
-      gives-is _ _ _ s λ t e. gives-expect (ascii "n ") _ t λ u f. gives-bind (nameReader letter) _ u (nameReader-sound letter letter-nameByte u)
+      gives-is _ _ _ s λ t e. gives-expect (ascii "n ") _ t λ u f. gives-bind (nameReader isLetter) _ u (nameReader-sound isLetter letter-nameByte u)
       λ x v g. gives-expect (ascii ")\n") _ v λ w h. gives-bind others _ w (rec w)
       λ y z p. gives-pure (addInput x y) z (record { ended = p .ended; legal = rw (g .legal) (p .legal); printed = cc; lacks = weaken x y })
 
@@ -48,10 +52,10 @@ module _ (Lacks : Tree → Type 0) where
       → ((t : List ℕ) → Gives (TreeRead NoInputs t) (others t))
       → Gives (TreeRead Lacks (ascii "(" ++ s)) (otherwise s)
       → Gives (TreeRead Lacks (ascii "(" ++ s)) (gateLine others otherwise s)
-  unfolding gateLine addGate print printLines printGate printTerm legalTree legalGate nodeName
+  unfolding gateLine addGate print printLines printGate printTerm isLegalTree isLegalGate isNodeName
   gateLine-sound others otherwise s weaken rec =
-      gives-is _ _ _ s λ t e. gives-expect (ascii "ate ") _ t λ u f. gives-bind (nameReader nameStart) _ u
-      (nameReader-sound nameStart nameStart-nameByte u)
+      gives-is _ _ _ s λ t e. gives-expect (ascii "ate ") _ t λ u f. gives-bind (nameReader isNameStart) _ u
+      (nameReader-sound isNameStart nameStart-nameByte u)
       λ x v g. gives-expect (ascii " (") _ v λ w h. gives-bind {P = GateRead x w} (exprReader (termReader (maxDepth - 1)) _) _ w
       (exprReader-sound (termReader (maxDepth - 1)) (maxDepth - 1) (termReader-sound (maxDepth - 1)) _ w
       λ k ts rest m. record { named = refl; expr = m })
@@ -68,11 +72,11 @@ module _ (Lacks : Tree → Type 0) where
       → ((t : List ℕ) → Gives (TreeRead OnlyOutputs t) (others t))
       → Gives (TreeRead Lacks (ascii "(" ++ s)) (otherwise s)
       → Gives (TreeRead Lacks (ascii "(" ++ s)) (outputLine others otherwise s)
-  unfolding outputLine addOutput print printLines printOutput legalTree legalOutput plainName nodeName
+  unfolding outputLine addOutput print printLines printOutput isLegalTree isLegalOutput isPlainName isNodeName
   outputLine-sound others otherwise s weaken rec =
-      gives-is _ _ _ s λ t e. gives-expect (ascii "ut ") _ t λ u f. gives-bind (nameReader letter) _ u
-      (nameReader-sound letter letter-nameByte u)
-      λ x v g. gives-expect (ascii " ") _ v λ w h. gives-bind (nameReader nameStart) _ w (nameReader-sound nameStart nameStart-nameByte w)
+      gives-is _ _ _ s λ t e. gives-expect (ascii "ut ") _ t λ u f. gives-bind (nameReader isLetter) _ u
+      (nameReader-sound isLetter letter-nameByte u)
+      λ x v g. gives-expect (ascii " ") _ v λ w h. gives-bind (nameReader isNameStart) _ w (nameReader-sound isNameStart nameStart-nameByte w)
       λ y z p. gives-expect (ascii ")\n") _ z λ a i. gives-bind others _ a (rec a)
       λ b c j. gives-pure (addOutput (record { port = x; shown = y }) b) c (record {
         ended = j .ended;
@@ -82,7 +86,7 @@ module _ (Lacks : Tree → Type 0) where
       })
 
   atEnd-sound : (s : List ℕ) → Lacks (record { inputs = []; gates = []; outputs = [] }) → Gives (TreeRead Lacks s) (atEnd s)
-  unfolding atEnd print printLines legalTree
+  unfolding atEnd print printLines isLegalTree
   atEnd-sound [] l = gives-got _ [] (record { ended = refl; legal = refl; printed = refl; lacks = l })
   atEnd-sound (c ∷ s) l = gives-stuck _
 
@@ -118,6 +122,6 @@ textReader-sound (suc n) s =
     (outputLine-sound AnyTree _ _ t (λ o x l. tt) (outputsReader-sound n) (gives-stop t)))
 
 -- Soundness: a text that parses is the print of a legal tree, and nothing is left of it.
-pub parse-sound : (text : List ℕ) (t : Tree) (rest : List ℕ) → parse text ≡ got t rest → (rest ≡ []) × (legalTree t ≡ true) × (print t ≡ text)
+pub parse-sound : (text : List ℕ) (t : Tree) (rest : List ℕ) → parse text ≡ got t rest → (rest ≡ []) × (isLegalTree t ≡ true) × (print t ≡ text)
 unfolding parse
 parse-sound text t rest e = let h = textReader-sound (length text) text .holds t rest e in (h .ended, h .legal, h .printed)

@@ -5,14 +5,15 @@ use mathlib.Core.Bool.{Bool, true, false, _||_}
 use mathlib.Core.List.{List, [], _∷_, _++_}
 use native.Mathlib.Omega.{arith}
 use lib.ListN.{length}
-use borrow.Author.Tests.{le-leb, leb-true}
+use borrow.Author.Tests.{le-leb}
 use Rattle.laws.specs.Lists.{ascii, all}
 use Rattle.netlist.specs.Limits.{maxName}
-use Rattle.netlist.specs.Kinds.{isKind, fewestOperands, mostOperands, arityFits, keyword, isNot, rowOf, rows, row}
+use Rattle.netlist.specs.Kinds.{isKind, fewestOperands, mostOperands, arityFits, keyword, signatureOf}
 use Rattle.netlist.specs.Netlist.{Name}
-use Rattle.netlist.specs.StoredBlock.{letter, digit, underscore, nameByte, nameStart, legalName, nodeName}
-use Rattle.netlist.specs.Syntax.{Term, Terms, name, literal, apply, nil, cons, printTerm, printTerms, termCount, legalTerm, legalTerms}
+use Rattle.netlist.specs.StoredBlock.{isLetter, isDigit, isUnderscore, isNameByte, isNameStart, isLegalName, isNodeName}
+use Rattle.netlist.specs.Syntax.{Term, Terms, name, literal, apply, nil, cons, printTerm, printTerms, termCount, isLegalTerm, isLegalTerms}
 use Rattle.netlist.specs.Parse.{Reader, stop, nameBytes, nameAfter, nameReader, kindReader, spaced, termsReader, exprReader, leafOr, termReader}
+use Rattle.encoding.proofs.Gates.{by-kind}
 use Rattle.grammar.proofs.Readings.{Gives, gives-pure, gives-stop, gives-ifNext, gives-is, gives-expect, gives-bind}
 
 -- ---- names
@@ -20,47 +21,47 @@ use Rattle.grammar.proofs.Readings.{Gives, gives-pure, gives-stop, give
 pub record NameBytesRead (most : ℕ) (s : List ℕ) (cs : Name) (rest : List ℕ) : Type 0 where
   pub printed : cs ++ rest ≡ s
   pub few : length cs ≤ most
-  pub legal : all nameByte cs ≡ true
+  pub legal : all isNameByte cs ≡ true
 
 pub nameBytes-sound : (most : ℕ) (s : List ℕ) → Gives (NameBytesRead most s) (nameBytes most s)
 unfolding nameBytes
 nameBytes-sound zero s = gives-pure [] s (record { printed = refl; few = omega arith; legal = refl })
 nameBytes-sound (suc most) s =
-    gives-ifNext nameByte _ _ s
+    gives-ifNext isNameByte _ _ s
     (λ c t e q. gives-bind (nameBytes most) _ t (nameBytes-sound most t)
     λ cs u h. gives-pure (c ∷ cs) u (record { printed = cc; few = omega arith; legal = rw q (h .legal) }))
     (gives-pure [] s (record { printed = refl; few = omega arith; legal = refl }))
 
 pub record NameRead (start : ℕ → Bool) (s : List ℕ) (x : Name) (rest : List ℕ) : Type 0 where
   pub printed : x ++ rest ≡ s
-  pub legal : legalName start x ≡ true
+  pub legal : isLegalName start x ≡ true
 
-legal-name : (start : ℕ → Bool) (c : ℕ) (cs : Name) → start c ≡ true → nameByte c ≡ true → length cs ≤ maxName - 1 → all nameByte cs ≡ true
-    → legalName start (c ∷ cs) ≡ true
-unfolding legalName
+legal-name : (start : ℕ → Bool) (c : ℕ) (cs : Name) → start c ≡ true → isNameByte c ≡ true → length cs ≤ maxName - 1 → all isNameByte cs ≡ true
+    → isLegalName start (c ∷ cs) ≡ true
+unfolding isLegalName
 legal-name start c cs p q few h = rw (le-leb 1 (suc (length cs)) (omega arith), le-leb (suc (length cs)) 8 (omega arith), p, q) h
 
 -- the byte in front passed the test `start`
-pub nameAfter-sound : (start : ℕ → Bool) (c : ℕ) (s : List ℕ) → start c ≡ true → nameByte c ≡ true
+pub nameAfter-sound : (start : ℕ → Bool) (c : ℕ) (s : List ℕ) → start c ≡ true → isNameByte c ≡ true
     → Gives (NameRead start (c ∷ s)) (nameAfter c s)
 unfolding nameAfter
 nameAfter-sound start c s p q =
     gives-bind (nameBytes (maxName - 1)) _ s (nameBytes-sound (maxName - 1) s)
     λ cs u h. gives-pure (c ∷ cs) u (record { printed = cc; legal = legal-name start c cs p q (h .few) (h .legal) })
 
-pub nameReader-sound : (start : ℕ → Bool) → ((c : ℕ) → start c ≡ true → nameByte c ≡ true) → (s : List ℕ)
+pub nameReader-sound : (start : ℕ → Bool) → ((c : ℕ) → start c ≡ true → isNameByte c ≡ true) → (s : List ℕ)
     → Gives (NameRead start s) (nameReader start s)
 unfolding nameReader
 nameReader-sound start within s =
     gives-ifNext start _ _ s (λ c t e p. rw e at (nameAfter-sound start c t p (within c p))) (gives-stop s)
 
-pub letter-nameByte : (c : ℕ) → letter c ≡ true → nameByte c ≡ true
-unfolding nameByte
+pub letter-nameByte : (c : ℕ) → isLetter c ≡ true → isNameByte c ≡ true
+unfolding isNameByte
 letter-nameByte c h = rw h
 
-pub nameStart-nameByte : (c : ℕ) → nameStart c ≡ true → nameByte c ≡ true
-unfolding nameByte nameStart
-nameStart-nameByte c h = go (letter c) (digit c) (underscore c) h
+pub nameStart-nameByte : (c : ℕ) → isNameStart c ≡ true → isNameByte c ≡ true
+unfolding isNameByte isNameStart
+nameStart-nameByte c h = go (isLetter c) (isDigit c) (isUnderscore c) h
   where
     go : (a b d : Bool) → a || d ≡ true → a || b || d ≡ true
     go true b d h = refl
@@ -74,7 +75,7 @@ pub record KindRead (s : List ℕ) (k : ℕ) (rest : List ℕ) : Type 0 where
   pub legal : isKind k ≡ true
 
 pub kindReader-sound : (s : List ℕ) → Gives (KindRead s) (kindReader s)
-unfolding kindReader keyword isKind isNot rowOf rows row
+unfolding kindReader keyword isKind signatureOf
 kindReader-sound s =
     gives-is _ _ _ s (λ t e. gives-expect (ascii "nd") _ t λ u f. gives-pure 1 u (record { printed = cc; legal = refl }))
     (gives-is _ _ _ s (λ t e. gives-expect (ascii "r") _ t λ u f. gives-pure 2 u (record { printed = cc; legal = refl }))
@@ -88,38 +89,28 @@ kindReader-sound s =
 
 pub record TermRead (depth : ℕ) (s : List ℕ) (t : Term) (rest : List ℕ) : Type 0 where
   pub printed : printTerm t rest ≡ s
-  pub legal : legalTerm t depth ≡ true
+  pub legal : isLegalTerm t depth ≡ true
 
 pub record TermsRead (depth most needed : ℕ) (s : List ℕ) (ts : Terms) (rest : List ℕ) : Type 0 where
   pub printed : printTerms ts (ascii ")" ++ rest) ≡ s
-  pub legal : legalTerms ts depth ≡ true
+  pub legal : isLegalTerms ts depth ≡ true
   pub enough : needed ≤ termCount ts
   pub fits : termCount ts ≤ most
 
 -- an EXPR behind its opening bracket
 pub record ExprRead (depth : ℕ) (s : List ℕ) (k : ℕ) (ts : Terms) (rest : List ℕ) : Type 0 where
   pub printed : keyword k ++ printTerms ts (ascii ")" ++ rest) ≡ s
-  pub legal : legalTerm (apply k ts) (suc depth) ≡ true
-
--- there are five kinds
-pub by-kind : (P : ℕ → Type 0) → P 0 → P 1 → P 2 → P 3 → P 4 → (k : ℕ) → isKind k ≡ true → P k
-unfolding isKind rows row
-by-kind P not and or nand nor zero h = not
-by-kind P not and or nand nor (suc zero) h = and
-by-kind P not and or nand nor (suc (suc zero)) h = or
-by-kind P not and or nand nor (suc (suc (suc zero))) h = nand
-by-kind P not and or nand nor (suc (suc (suc (suc zero)))) h = nor
-by-kind P not and or nand nor (suc (suc (suc (suc (suc k))))) h = absurd (omega (arith, leb-true (suc (suc (suc (suc (suc k))))) 4 h))
+  pub legal : isLegalTerm (apply k ts) (suc depth) ≡ true
 
 pub fewest-most : (k : ℕ) → isKind k ≡ true → fewestOperands k ≤ mostOperands k
-unfolding fewestOperands mostOperands rowOf rows row isNot
+unfolding fewestOperands mostOperands signatureOf
 fewest-most = by-kind (λ k. fewestOperands k ≤ mostOperands k) (omega arith) (omega arith) (omega arith) (omega arith) (omega arith)
 
 module _ (term : Reader Term) (depth : ℕ) (reads : (s : List ℕ) → Gives (TermRead depth s) (term s)) where
   spaced-sound : (others : Reader Terms) (most before needed : ℕ) → needed ≤ suc before → (s : List ℕ)
       → ((t : List ℕ) → Gives (TermsRead depth most before t) (others t))
       → Gives (TermsRead depth (suc most) needed s) (spaced term others s)
-  unfolding spaced printTerms legalTerms termCount
+  unfolding spaced printTerms isLegalTerms termCount
   spaced-sound others most before needed le s rec =
       gives-expect (ascii " ") _ s λ t e. gives-bind term _ t (reads t) λ x u h. gives-bind others _ u (rec u)
       λ xs v g. gives-pure (cons x xs) v
@@ -127,7 +118,7 @@ module _ (term : Reader Term) (depth : ℕ) (reads : (s : List ℕ) → Gives (T
 
   pub termsReader-sound : (most needed : ℕ) → needed ≤ most → (s : List ℕ)
       → Gives (TermsRead depth most needed s) (termsReader term most needed s)
-  unfolding termsReader printTerms legalTerms termCount
+  unfolding termsReader printTerms isLegalTerms termCount
   termsReader-sound zero needed le s =
       gives-expect (ascii ")") _ s λ t e. gives-pure nil t (record { printed = e; legal = refl; enough = le; fits = omega arith })
   termsReader-sound (suc most) zero le s =
@@ -139,7 +130,7 @@ module _ (term : Reader Term) (depth : ℕ) (reads : (s : List ℕ) → Gives (T
   pub exprReader-sound : {A : Type 0} {P : A → List ℕ → Type 0} (make : ℕ → Terms → A) (s : List ℕ)
       → ((k : ℕ) (ts : Terms) (rest : List ℕ) → ExprRead depth s k ts rest → P (make k ts) rest)
       → Gives P (exprReader term make s)
-  unfolding exprReader legalTerm arityFits
+  unfolding exprReader isLegalTerm arityFits
   exprReader-sound make s post =
       gives-bind kindReader _ s (kindReader-sound s) λ k t e. gives-bind (termsReader term (mostOperands k) (fewestOperands k)) _ t
       (termsReader-sound (mostOperands k) (fewestOperands k) (fewest-most k (e .legal)) t)
@@ -149,10 +140,10 @@ module _ (term : Reader Term) (depth : ℕ) (reads : (s : List ℕ) → Gives (T
       }))
 
 leafOr-sound : (depth : ℕ) (inner : Reader Term) (s : List ℕ) → Gives (TermRead depth s) (inner s) → Gives (TermRead depth s) (leafOr inner s)
-unfolding leafOr printTerm legalTerm nodeName
+unfolding leafOr printTerm isLegalTerm isNodeName
 leafOr-sound depth inner s h =
-    gives-ifNext nameStart _ _ s
-    (λ c t e q. gives-bind (nameAfter c) _ t (nameAfter-sound nameStart c t q (nameStart-nameByte c q))
+    gives-ifNext isNameStart _ _ s
+    (λ c t e q. gives-bind (nameAfter c) _ t (nameAfter-sound isNameStart c t q (nameStart-nameByte c q))
     λ x u g. gives-pure (name x) u (record { printed = g .printed ∙ e; legal = g .legal }))
     (gives-is _ _ _ s (λ t e. gives-pure (literal false) t (record { printed = e; legal = refl }))
     (gives-is _ _ _ s (λ t e. gives-pure (literal true) t (record { printed = e; legal = refl })) h))

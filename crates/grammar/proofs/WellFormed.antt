@@ -8,7 +8,7 @@ use lib.ListN.{length, List·getD-eq-default}
 use Rattle.laws.specs.Lists.{all}
 use Rattle.laws.proofs.Tests.{lt-or-le}
 use Rattle.laws.proofs.Quantifiers.{all-at}
-use Rattle.netlist.specs.Kinds.{isKind, arityFits, mostOperands, rows, row}
+use Rattle.netlist.specs.Kinds.{isKind, arityFits, mostOperands}
 use Rattle.netlist.specs.Netlist.{Gate, Block, gateCount, gateOf}
 use Rattle.netlist.specs.StoredBlock.{isOperand, gateFits}
 use Rattle.encoding.proofs.WellFormed.{WellFormed}
@@ -22,7 +22,7 @@ pub record GateFacts (b : Block) (g : Gate) : Type 0 where
   pub fit : all (isOperand b) (g .operands) ≡ true
 
 pub gate-facts : (b : Block) → WellFormed b → (j : ℕ) → GateFacts b (gateOf b j)
-unfolding gateFits isKind rows row
+unfolding gateFits isKind
 gate-facts b w j = go (lt-or-le j (gateCount b))
   where
     go : (j < gateCount b) ⊎ (gateCount b ≤ j) → GateFacts b (gateOf b j)

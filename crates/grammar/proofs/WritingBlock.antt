@@ -1,4 +1,5 @@
 -- The netlist of what Write prints is the block it was given. Assumes nothing.
+--   blockOf-flatTree: the block of the written tree is the block
 use Prim.Native.Nat.{ℕ, zero, suc, _+_, _<_, _≤_}
 use mathlib.Core.Path.{_≡_, refl, sym, ap, ap₂, _∙_}
 use mathlib.Core.Bool.{true, and-eq-true-iff, false≢true}
@@ -12,9 +13,10 @@ use Rattle.laws.proofs.Same.{same-refl}
 use Rattle.laws.proofs.Tab.{tab-getD, getD-tab, length-tab}
 use Rattle.netlist.specs.Limits.{maxGates}
 use Rattle.netlist.specs.Netlist.{Name, Operand, input, gate, constant, Output, Block, inputCount, gateCount, gateOf}
-use Rattle.netlist.specs.StoredBlock.{plainName, isNode, isOperand, wellFormed}
+use Rattle.netlist.specs.StoredBlock.{isPlainName, isNode, isOperand, isWellFormed}
 use Rattle.netlist.specs.Syntax.{OutputLine}
-use Rattle.netlist.specs.Reading.{gatesIn, gatesInside, lineGates, Binding, inputBindings, gateBindings, bindings, lookup, termNode, termsNodes, termGates, termsGates, linesGates, blockOf}
+use Rattle.netlist.specs.Reading.{gatesIn, gatesInside, lineGates, Binding, inputBindings, gateBindings, bindings, lookup, termNode, termsNodes, termGates}
+use Rattle.netlist.specs.Reading.{termsGates, linesGates, blockOf}
 use Rattle.netlist.specs.Writing.{gateName, nodeNameOf, termOf, termsOf, flatLine, flatTree}
 use Rattle.grammar.proofs.ListFacts.{ne-same, distinct-apart, distinct-parts, tab-map}
 use Rattle.encoding.proofs.WellFormed.{WellFormed, wellFormed-parts}
@@ -95,7 +97,7 @@ module _ (b : Block) (w : WellFormed b) where
   unfolding bindings flatTree
   found-gate j l =
       lookup-past (b .inputs) 0 _ (gateName j)
-      (λ i m q. gateName-no-input j (getD (b .inputs) i []) (all-at plainName (b .inputs) i [] (w .inputNames) m) (sym q))
+      (λ i m q. gateName-no-input j (getD (b .inputs) i []) (all-at isPlainName (b .inputs) i [] (w .inputNames) m) (sym q))
       ∙ lookup-written b (gateCount b) (w .fewGates) j l
 
   found : (o : Operand) → isNode b o ≡ true → lookup (bindings (flatTree b)) (nodeNameOf b o) ≡ o
@@ -142,7 +144,7 @@ module _ (b : Block) (w : WellFormed b) where
       (tab-getD (record { kind = 0; operands = [] }) (b .gates) (gateCount b) refl)
 
 -- The netlist of the tree that a well-formed block is written as is the block.
-pub blockOf-flatTree : (b : Block) → wellFormed b ≡ true → blockOf (flatTree b) ≡ b
+pub blockOf-flatTree : (b : Block) → isWellFormed b ≡ true → blockOf (flatTree b) ≡ b
 unfolding blockOf flatTree
 blockOf-flatTree b h =
     let w = wellFormed-parts b h in

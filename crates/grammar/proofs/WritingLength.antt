@@ -12,22 +12,22 @@ use Rattle.laws.specs.Lists.{ascii, all, tab, upTo, sum}
 use Rattle.laws.proofs.Tab.{length-tab}
 use Rattle.laws.proofs.Lists.{sum-map-append}
 use Rattle.encoding.proofs.Gates.{most-four}
-use Rattle.netlist.specs.Limits.{maxName, maxGates}
-use Rattle.netlist.specs.Kinds.{isKind, keyword, isNot, rowOf, rows, row}
+use Rattle.netlist.specs.Limits.{maxName, maxGates, maxWritten}
+use Rattle.netlist.specs.Kinds.{isKind, keyword, signatureOf}
 use Rattle.netlist.specs.Netlist.{Name, Operand, input, gate, constant, Output, Block, gateCount, gateOf}
-use Rattle.netlist.specs.StoredBlock.{nameByte, legalName, plainName, nodeName, isNode, isOperand, wellFormed}
+use Rattle.netlist.specs.StoredBlock.{isNameByte, isLegalName, isPlainName, isNodeName, isNode, isOperand, isWellFormed}
 use Rattle.netlist.specs.Syntax.{printTerm, printTerms, printInput, printGate, printOutput, printLines, print}
 use Rattle.netlist.specs.Writing.{digits, decimal, gateName, nodeNameOf, termOf, termsOf, flatLine, flatTree, writtenText}
 use Rattle.grammar.proofs.ListFacts.{and3, tab-map}
-use Rattle.grammar.proofs.SoundTerms.{by-kind}
+use Rattle.encoding.proofs.Gates.{by-kind}
 use Rattle.encoding.proofs.WellFormed.{WellFormed, wellFormed-parts}
 use Rattle.grammar.proofs.WellFormed.{gate-facts}
 use Rattle.grammar.proofs.WritingTree.{node-legal}
 
-name-short : (start : ℕ → Bool) (x : Name) → legalName start x ≡ true → length x ≤ maxName
-unfolding legalName
+name-short : (start : ℕ → Bool) (x : Name) → isLegalName start x ≡ true → length x ≤ maxName
+unfolding isLegalName
 name-short start x h =
-    let a = and3 (leb 1 (length x) && leb (length x) maxName) (start (getD x 0 0)) (all nameByte x) h in
+    let a = and3 (leb 1 (length x) && leb (length x) maxName) (start (getD x 0 0)) (all isNameByte x) h in
     leb-true (length x) maxName (and-eq-true-iff (leb 1 (length x)) (leb (length x) maxName) .0 (a .0) .1)
 
 -- ---- the names of the gates
@@ -54,22 +54,22 @@ names-few m le =
 -- ---- the lines
 
 keyword-short : (k : ℕ) → isKind k ≡ true → length (keyword k) ≤ 4
-unfolding keyword rowOf rows row isNot
+unfolding keyword signatureOf
 keyword-short = by-kind (λ k. length (keyword k) ≤ 4) (omega arith) (omega arith) (omega arith) (omega arith) (omega arith)
 
-inputs-length : (xs : List Name) (rest : List ℕ) → all plainName xs ≡ true
+inputs-length : (xs : List Name) (rest : List ℕ) → all isPlainName xs ≡ true
     → length (printLines printInput xs rest) ≤ 14 * length xs + length rest
-unfolding printLines printInput plainName
+unfolding printLines printInput isPlainName
 inputs-length [] rest h = omega arith
 inputs-length (x ∷ xs) rest h =
-    let f = and-eq-true-iff (plainName x) (all plainName xs) .0 h in
+    let f = and-eq-true-iff (isPlainName x) (all isPlainName xs) .0 h in
     let s = name-short _ x (f .0) in
     let r = inputs-length xs rest (f .1) in
     simp length-append (omega arith)
 
 module _ (b : Block) (w : WellFormed b) where
   node-short : (o : Operand) → isNode b o ≡ true → length (nodeNameOf b o) ≤ 8
-  unfolding nodeName
+  unfolding isNodeName
   node-short o h = name-short _ (nodeNameOf b o) (node-legal b w o h)
 
   term-short : (o : Operand) (rest : List ℕ) → isOperand b o ≡ true → length (printTerm (termOf b o) rest) ≤ 8 + length rest
@@ -89,13 +89,13 @@ module _ (b : Block) (w : WellFormed b) where
       let r = terms-short os rest (f .1) in
       omega arith
 
-  outputs-length : (os : List Output) (rest : List ℕ) → all (λ o. plainName (o .port)) os ≡ true → all (λ o. isNode b (o .node)) os ≡ true
+  outputs-length : (os : List Output) (rest : List ℕ) → all (λ o. isPlainName (o .port)) os ≡ true → all (λ o. isNode b (o .node)) os ≡ true
       → length (printLines printOutput
       (map (λ (o : Output). record { port = o .port; shown = nodeNameOf b (o .node) }) os) rest) ≤ 24 * length os + length rest
-  unfolding printLines printOutput plainName
+  unfolding printLines printOutput isPlainName
   outputs-length [] rest p n = omega arith
   outputs-length (o ∷ os) rest p n =
-      let f = and-eq-true-iff (plainName (o .port)) (all (λ o. plainName (o .port)) os) .0 p in
+      let f = and-eq-true-iff (isPlainName (o .port)) (all (λ o. isPlainName (o .port)) os) .0 p in
       let g = and-eq-true-iff (isNode b (o .node)) (all (λ o. isNode b (o .node)) os) .0 n in
       let s = name-short _ (o .port) (f .0) in
       let t = node-short (o .node) (g .0) in
@@ -131,7 +131,7 @@ module _ (b : Block) (w : WellFormed b) where
       rw (tab-map (flatLine b) m) (omega arith)
 
 -- The length of a written text, and that it is not too long.
-pub written-length : (b : Block) → wellFormed b ≡ true → length (writtenText b) ≤ 56758
+pub written-length : (b : Block) → isWellFormed b ≡ true → length (writtenText b) ≤ maxWritten
 unfolding writtenText print flatTree
 written-length b h =
     let w = wellFormed-parts b h in

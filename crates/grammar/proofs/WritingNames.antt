@@ -1,5 +1,7 @@
 -- The names of written gates, `_0` to `_1023`: legal, unlike each other, and unlike every input's name. Computed over all of them.
 -- Assumes nothing.
+--   gateName-legal: each is legal
+--   gateName-injective, gateName-no-input: no two are the same, and none is an input's
 use Prim.Native.Nat.{ℕ, _+_, _-_, _*_, _<_}
 use mathlib.Core.Path.{_≡_, refl, ap}
 use mathlib.Core.Bool.{true, false≢true}
@@ -11,7 +13,7 @@ use Rattle.laws.proofs.Quantifiers.{all-below}
 use Rattle.grammar.proofs.CompleteTerms.{name-facts}
 use Rattle.netlist.specs.Limits.{maxGates}
 use Rattle.netlist.specs.Netlist.{Name}
-use Rattle.netlist.specs.StoredBlock.{letter, digit, underscore, nameByte, nameStart, legalName, plainName, nodeName}
+use Rattle.netlist.specs.StoredBlock.{isLetter, isDigit, isUnderscore, isNameByte, isNameStart, isLegalName, isPlainName, isNodeName}
 use Rattle.netlist.specs.Writing.{digits, decimal, gateName}
 
 -- the number that decimal digits stand for, behind a number already read
@@ -23,8 +25,8 @@ numberOf : Name → ℕ
 numberOf [] = 0
 numberOf (c ∷ cs) = numberFrom 0 cs
 
-names-legal : all (λ j. nodeName (gateName j)) (upTo maxGates) ≡ true
-unfolding digits decimal gateName letter digit underscore nameByte nameStart legalName nodeName
+names-legal : all (λ j. isNodeName (gateName j)) (upTo maxGates) ≡ true
+unfolding digits decimal gateName isLetter isDigit isUnderscore isNameByte isNameStart isLegalName isNodeName
 names-legal = refl
 
 names-read : all (λ j. eqb (numberOf (gateName j)) j) (upTo maxGates) ≡ true
@@ -32,8 +34,8 @@ unfolding digits decimal gateName numberOf numberFrom
 names-read = refl
 
 -- A written gate's name is legal.
-pub gateName-legal : (j : ℕ) → j < maxGates → nodeName (gateName j) ≡ true
-gateName-legal j h = all-below (λ j. nodeName (gateName j)) maxGates j names-legal h
+pub gateName-legal : (j : ℕ) → j < maxGates → isNodeName (gateName j) ≡ true
+gateName-legal j h = all-below (λ j. isNodeName (gateName j)) maxGates j names-legal h
 
 -- Two written gates have two names.
 pub gateName-injective : (i j : ℕ) → i < maxGates → j < maxGates → gateName i ≡ gateName j → i ≡ j
@@ -44,6 +46,6 @@ gateName-injective i j h g e =
     cc
 
 -- An input's name is no gate's.
-pub gateName-no-input : (j : ℕ) (x : Name) → plainName x ≡ true → x ≡ gateName j → ⊥
-unfolding gateName plainName letter
-gateName-no-input j x h e = let p = name-facts letter 95 (decimal j) (rw e at h) in false≢true (p .passes)
+pub gateName-no-input : (j : ℕ) (x : Name) → isPlainName x ≡ true → x ≡ gateName j → ⊥
+unfolding gateName isPlainName isLetter
+gateName-no-input j x h e = let p = name-facts isLetter 95 (decimal j) (rw e at h) in false≢true (p .passes)

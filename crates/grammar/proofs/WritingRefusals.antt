@@ -1,4 +1,7 @@
 -- What Write prints is refused for no limit, no repeated and no undeclared name. Assumes nothing.
+--   flatTree-within: within the limits
+--   flatTree-unrepeated: nothing declared twice
+--   flatTree-declared: nothing used that is not declared
 use Prim.Native.Nat.{ℕ, suc, _+_, _<_}
 use mathlib.Core.Path.{_≡_, refl, sym, ap₂, _∙_}
 use mathlib.Core.Bool.{Bool, true, false, and-eq-true-iff, false≢true}
@@ -13,9 +16,11 @@ use Rattle.laws.proofs.Quantifiers.{all-at, all-append}
 use Rattle.laws.proofs.Tab.{getD-tab, length-tab, map-tab}
 use Rattle.netlist.specs.Limits.{maxInputs, maxGates, maxOutputs}
 use Rattle.netlist.specs.Netlist.{Name, Operand, input, gate, constant, Output, Block, inputCount, gateCount, outputCount, gateOf}
-use Rattle.netlist.specs.StoredBlock.{plainName, isNode, isOperand, wellFormed}
+use Rattle.netlist.specs.StoredBlock.{isPlainName, isNode, isOperand, isWellFormed}
 use Rattle.netlist.specs.Syntax.{name, GateLine, OutputLine, printInput, printGate, printOutput}
-use Rattle.netlist.specs.Reading.{lineGates, overLimit, Mention, mentions, inputMention, gateMention, portMention, shownMention, termMentions, termsMentions, operandMentions, declaredNodes, declaredPorts, usedNames, firstRepeat, orElse, firstDuplicate, firstOutside, firstUndeclared}
+use Rattle.netlist.specs.Reading.{lineGates, isOverLimit, Mention, mentions, inputMention, gateMention, portMention, shownMention, termMentions}
+use Rattle.netlist.specs.Reading.{termsMentions, operandMentions, declaredNodes, declaredPorts, usedNames, firstRepeat, orElse, firstDuplicate}
+use Rattle.netlist.specs.Reading.{firstOutside, firstUndeclared}
 use Rattle.netlist.specs.Writing.{gateName, nodeNameOf, termOf, termsOf, flatLine, flatTree}
 use Rattle.grammar.proofs.ListFacts.{ne-same, memberList-from, distinct-apart, tab-map, Apart, apart-append}
 use Rattle.encoding.proofs.WellFormed.{WellFormed, wellFormed-parts}
@@ -30,8 +35,8 @@ lines-sum b [] = refl
 lines-sum b (j ∷ js) = rw (flat-lineGates b j, lines-sum b js) (omega arith)
 
 -- A written block is within the limits.
-pub flatTree-within : (b : Block) → wellFormed b ≡ true → overLimit (flatTree b) ≡ false
-unfolding overLimit flatTree
+pub flatTree-within : (b : Block) → isWellFormed b ≡ true → isOverLimit (flatTree b) ≡ false
+unfolding isOverLimit flatTree
 flatTree-within b h =
     let w = wellFormed-parts b h in
     let e : length (upTo (gateCount b)) ≡ gateCount b = length-tab (λ k. k) (gateCount b) in
@@ -96,7 +101,7 @@ module _ (b : Block) (w : WellFormed b) where
       apart-append (b .inputs) (tab gateName (gateCount b)) (distinct-apart (b .inputs) (w .inputsDistinct)) gates-apart
       λ i j l g e.
       let m : length (tab gateName (gateCount b)) ≡ gateCount b = length-tab gateName (gateCount b) in
-      gateName-no-input j (getD (b .inputs) i []) (all-at plainName (b .inputs) i [] (w .inputNames) l)
+      gateName-no-input j (getD (b .inputs) i []) (all-at isPlainName (b .inputs) i [] (w .inputNames) l)
       (e ∙ getD-tab gateName (gateCount b) j [] (omega arith))
 
 written-ports : (b : Block) → map nameOf (declaredPorts (flatTree b)) ≡ map (λ (o : Output). o .port) (b .outputs)
@@ -105,7 +110,7 @@ written-ports b =
     mention-names printOutput portMention (λ o. o .port) (λ o at. refl) _ _ ∙ map-map _ _ (b .outputs)
 
 -- A written block declares no name and no port twice.
-pub flatTree-unrepeated : (b : Block) → wellFormed b ≡ true → firstDuplicate (flatTree b) ≡ none
+pub flatTree-unrepeated : (b : Block) → isWellFormed b ≡ true → firstDuplicate (flatTree b) ≡ none
 unfolding firstDuplicate orElse
 flatTree-unrepeated b h =
     let w = wellFormed-parts b h in
@@ -179,6 +184,6 @@ module _ (b : Block) (w : WellFormed b) where
       ∙ rw (gates-declared (gateCount b)) (outputs-declared (b .outputs) _ (w .nodesThere))
 
 -- A written block uses no name that it does not declare.
-pub flatTree-declared : (b : Block) → wellFormed b ≡ true → firstUndeclared (flatTree b) ≡ none
+pub flatTree-declared : (b : Block) → isWellFormed b ≡ true → firstUndeclared (flatTree b) ≡ none
 unfolding firstUndeclared
 flatTree-declared b h = rw (written-names b) (none-outside (writtenNames b) (usedNames (flatTree b)) (used-declared b (wellFormed-parts b h)))

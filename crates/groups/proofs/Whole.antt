@@ -9,14 +9,14 @@ use lib.ListN.{length, getD}
 use Rattle.laws.specs.Lists.{joined}
 use Rattle.laws.proofs.Tests.{lt-or-le}
 use Rattle.laws.proofs.Tab.{map-tab, tab-ext}
-use Rattle.netlist.specs.StoredBlock.{gatesAt, gateSize, operandOf, gateAt, decode, torn}
+use Rattle.netlist.specs.StoredBlock.{gatesAt, gateSize, operandOf, gateAt, decode, isTorn}
 use Rattle.netlist.specs.Groups.{gateOperand, readBy}
 use Rattle.encoding.proofs.Nodes.{operandOf-input, operandOf-zero, operandOf-one, operandOf-gate}
 use Rattle.encoding.proofs.Readers.{OperandWord, whole-parts, whole-gate, whole-reads}
 use Rattle.encoding.proofs.Decoded.{decode-gate, decode-gateCount}
 use Rattle.search.specs.Search.{wordGate, wordGates, gateReads, GatesReady}
 use Rattle.search.proofs.Marking.{word-gate, word-none}
-use Rattle.components.specs.Leaders.{leaderOf, Ready}
+use Rattle.components.specs.Leaders.{leaderOf, LeadReady}
 use Rattle.groups.specs.Numbering.{NumberReady}
 
 -- an operand word names the gate that the operand is
@@ -32,16 +32,21 @@ word-operand n m w few (inl l) = ⊎-elim as-input as-gate (lt-or-le w n)
 word-operand n m w few (inr (inl e)) = rw (e, word-none n m 65534 (inr few), operandOf-zero n (omega arith)) refl
 word-operand n m w few (inr (inr e)) = rw (e, word-none n m 65535 (inr (omega arith)), operandOf-one n (omega arith)) refl
 
-module _ (ws : List ℕ) (whole : torn ws ≡ false) where
+module _ (ws : List ℕ) (whole : isTorn ws ≡ false) where
   nodes : getD ws 0 0 + getD ws 1 0 ≤ 65534
   nodes = omega (arith, whole-parts ws whole .fewInputs, whole-parts ws whole .fewGates)
 
   -- a whole gate's words are read as the gate's operands
-  operands : (i : ℕ) → i < getD ws 1 0 → wordGates ws (getD ws 0 0) (getD ws 1 0) (gatesAt (getD ws 0 0) + 5 * i) (getD ws (gatesAt (getD ws 0 0) + 5 * i) 0 / 8) ≡ readBy (decode ws) i
+  operands : (i : ℕ) → i < getD ws 1 0 → wordGates ws (getD ws 0 0) (getD ws 1 0) (gatesAt (getD ws 0 0) + 5 * i)
+      (getD ws (gatesAt (getD ws 0 0) + 5 * i) 0 / 8) ≡ readBy (decode ws) i
   unfolding wordGates readBy gateAt
   operands i l =
       let w = whole-gate ws whole i l in
-      rw (decode-gate ws i l, map-tab gateOperand (λ k. operandOf (getD ws 0 0) (getD ws (gatesAt (getD ws 0 0) + gateSize * i + 1 + k) 0)) (getD ws (gatesAt (getD ws 0 0) + gateSize * i) 0 / 8))
+      rw (
+        decode-gate ws i l,
+        map-tab gateOperand (λ k. operandOf (getD ws 0 0) (getD ws (gatesAt (getD ws 0 0) + gateSize * i + 1 + k) 0))
+            (getD ws (gatesAt (getD ws 0 0) + gateSize * i) 0 / 8),
+      )
       (ap joined
       (tab-ext (λ k. wordGate (getD ws 0 0) (getD ws 1 0) (getD ws (gatesAt (getD ws 0 0) + 5 * i + 1 + k) 0))
       (λ k. gateOperand (operandOf (getD ws 0 0) (getD ws (gatesAt (getD ws 0 0) + gateSize * i + 1 + k) 0)))
@@ -63,8 +68,10 @@ module _ (ws : List ℕ) (whole : torn ws ≡ false) where
         inside = λ i k l r. rw (← decode-gateCount ws) (whole-reads ws whole i k r);
       }
 
-  pub search-ready : (flags queue : List ℕ) → getD ws 1 0 ≤ length flags → getD ws 1 0 ≤ length queue → Ready ws (getD ws 0 0) (getD ws 1 0) (gatesAt (getD ws 0 0)) flags queue
+  pub search-ready : (flags queue : List ℕ) → getD ws 1 0 ≤ length flags → getD ws 1 0 ≤ length queue
+      → LeadReady ws (getD ws 0 0) (getD ws 1 0) (gatesAt (getD ws 0 0)) flags queue
   search-ready flags queue f q = record { search = record { whole = gates-ready; flagRoom = f; queueRoom = q }; gatesAre = sym (decode-gateCount ws) }
 
-  pub number-ready : (leaders : List ℕ) → ((j : ℕ) → j < getD ws 1 0 → getD leaders j 0 ≡ leaderOf (decode ws) j) → NumberReady ws (getD ws 0 0) (getD ws 1 0) (gatesAt (getD ws 0 0)) leaders
+  pub number-ready : (leaders : List ℕ) → ((j : ℕ) → j < getD ws 1 0 → getD leaders j 0 ≡ leaderOf (decode ws) j)
+      → NumberReady ws (getD ws 0 0) (getD ws 1 0) (gatesAt (getD ws 0 0)) leaders
   number-ready leaders h = record { whole = gates-ready; gatesAre = sym (decode-gateCount ws); inside = whole-reads ws whole; leads = h }

@@ -8,4 +8,5 @@ pub mod Same
 pub mod Least
 pub mod Lists
 pub mod Stores
+pub mod Filling
 pub mod Counting

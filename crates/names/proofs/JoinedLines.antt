@@ -15,7 +15,7 @@ use Rattle.laws.proofs.Quantifiers.{all-at}
 use Rattle.laws.proofs.Tests.{and-left, and-right}
 use Rattle.laws.proofs.Tab.{tab-ext}
 use Rattle.laws.proofs.Lists.{joined-append, sum-append}
-use Rattle.names.specs.Lines.{times, lineLength, lineOpens, lineStart, gatesTo}
+use Rattle.names.specs.Lines.{times, lengthWithLf, lineOpens, lineOffset, gatesTo}
 use Rattle.names.specs.Trees.{isEmpty, isLine}
 use Rattle.names.proofs.ListFacts.{tab-front}
 use Rattle.names.proofs.Starts.{times-append}
@@ -27,13 +27,14 @@ pub line-append : (xs ys : List ℕ) → times 10 xs ≡ 0 → isLine (xs ++ ys)
 line-append [] ys h = refl
 line-append (x ∷ xs) ys h = go (eqb x 10) h (line-append xs ys)
   where
-    go : (b : Bool) → cond b 1 0 + times 10 xs ≡ 0 → (times 10 xs ≡ 0 → isLine (xs ++ ys) ≡ isLine ys) → cond b (isEmpty (xs ++ ys)) (isLine (xs ++ ys)) ≡ isLine ys
+    go : (b : Bool) → cond b 1 0 + times 10 xs ≡ 0 → (times 10 xs ≡ 0 → isLine (xs ++ ys) ≡ isLine ys)
+        → cond b (isEmpty (xs ++ ys)) (isLine (xs ++ ys)) ≡ isLine ys
     go true h f = absurd (omega arith)
     go false h f = f (omega arith)
 
 -- what is read of a line that something follows
 record OneLine (l rest : List ℕ) : Type 0 where
-  size : lineLength (l ++ rest) ≡ length l
+  size : lengthWithLf (l ++ rest) ≡ length l
   opens : lineOpens (l ++ rest) ≡ times 40 l
   ends : times 10 l ≡ 1
 
@@ -82,19 +83,20 @@ module _ (ls : List (List ℕ)) (lines : all isLine ls ≡ true) where
   at-line i l = one-line (getD ls i []) (joined (drop (suc i) ls)) (all-at isLine ls i [] lines l)
 
   -- line i starts behind the lines before it
-  pub start-is : (i : ℕ) → i ≤ length ls → lineStart (joined ls) i ≡ length (joined (take i ls))
-  unfolding lineStart
+  pub start-is : (i : ℕ) → i ≤ length ls → lineOffset (joined ls) i ≡ length (joined (take i ls))
+  unfolding lineOffset
   start-is zero l = refl
   start-is (suc i) l =
       let h = start-is i (omega arith) in
-      let d : drop (lineStart (joined ls) i) (joined ls) ≡ getD ls i [] ++ joined (drop (suc i) ls) = behind i (lineStart (joined ls) i) h ∙ line-at i (omega arith) in
+      let d : drop (lineOffset (joined ls) i) (joined ls) ≡ getD ls i [] ++ joined (drop (suc i) ls) = behind i (lineOffset (joined ls) i) h
+      ∙ line-at i (omega arith) in
       let s = at-line i (omega arith) .size in
       let j = joined-suc i (omega arith) in
       rw (d, s, h) (omega arith)
 
   -- and what follows there is the line and the lines behind it
-  pub rest-is : (i : ℕ) → i ≤ length ls → drop (lineStart (joined ls) i) (joined ls) ≡ joined (drop i ls)
-  rest-is i l = behind i (lineStart (joined ls) i) (start-is i l)
+  pub rest-is : (i : ℕ) → i ≤ length ls → drop (lineOffset (joined ls) i) (joined ls) ≡ joined (drop i ls)
+  rest-is i l = behind i (lineOffset (joined ls) i) (start-is i l)
 
   -- the gates in the first i lines
   pub gates-are : (i : ℕ) → i ≤ length ls → gatesTo (joined ls) i ≡ sum (map innerOpens (take i ls))
@@ -102,7 +104,8 @@ module _ (ls : List (List ℕ)) (lines : all isLine ls ≡ true) where
   gates-are zero l = refl
   gates-are (suc i) l =
       let h = gates-are i (omega arith) in
-      let o : lineOpens (drop (lineStart (joined ls) i) (joined ls)) ≡ times 40 (getD ls i []) = rw (rest-is i (omega arith), line-at i (omega arith)) (at-line i (omega arith) .opens) in
+      let o : lineOpens (drop (lineOffset (joined ls) i) (joined ls)) ≡ times 40 (getD ls i []) = rw (rest-is i (omega arith), line-at i (omega arith))
+      (at-line i (omega arith) .opens) in
       let i′ : i < length ls = omega arith in
       rw (take-suc ls i [] i′, map-append innerOpens (take i ls) (getD ls i [] ∷ []), sum-append, o, h) (omega arith)
 
@@ -117,10 +120,13 @@ module _ {B : Type 0} (f : ℕ → List ℕ → B) where
   tab-each at [] = refl
   tab-each at (l ∷ ls) =
       tab-front (λ i. f (at + length (joined (take i (l ∷ ls)))) (joined (drop i (l ∷ ls)))) (length ls)
-      ∙ rw add-zero (ap (λ (r : List B). f at (l ++ joined ls) ∷ r) (tab-ext _ _ (length ls) (λ i h. rw (length-append l (joined (take i ls)), add-assoc)) ∙ tab-each (at + length l) ls))
+      ∙ rw add-zero
+      (ap (λ (r : List B). f at (l ++ joined ls) ∷ r)
+      (tab-ext _ _ (length ls) (λ i h. rw (length-append l (joined (take i ls)), add-assoc)) ∙ tab-each (at + length l) ls))
 
   -- a list that is read line by line, by the index of the line
-  pub tab-lines : (ls : List (List ℕ)) → all isLine ls ≡ true → tab (λ i. f (lineStart (joined ls) i) (drop (lineStart (joined ls) i) (joined ls))) (length ls) ≡ eachLine 0 ls
+  pub tab-lines : (ls : List (List ℕ)) → all isLine ls ≡ true
+      → tab (λ i. f (lineOffset (joined ls) i) (drop (lineOffset (joined ls) i) (joined ls))) (length ls) ≡ eachLine 0 ls
   tab-lines ls h =
       tab-ext _ _ (length ls)
       (λ i l. let l′ : i ≤ length ls = omega arith in rw (rest-is ls h i l′, start-is ls h i l′, zero-add))

@@ -13,7 +13,7 @@ use Rattle.laws.proofs.Tests.{and-left, and-right, same-test}
 use Rattle.laws.proofs.Same.{same-eq, eq-same}
 use Rattle.laws.proofs.Least.{least-le, least-below, least-at, least-is}
 use Rattle.netlist.specs.Netlist.{Name, Operand}
-use Rattle.netlist.specs.StoredBlock.{nameByte}
+use Rattle.netlist.specs.StoredBlock.{isNameByte}
 use Rattle.netlist.specs.Reading.{Binding, lookup}
 use Rattle.names.specs.Packed.{packed}
 use Rattle.names.specs.Search.{isAt, indexOf}
@@ -23,9 +23,9 @@ use Rattle.names.proofs.Packing.{packed-injective}
 
 -- all bytes are name bytes, of each name
 abbrev pub Bytes : List Name → Type 0
-Bytes names = all (all nameByte) names ≡ true
+Bytes names = all (all isNameByte) names ≡ true
 
-pub same-packed : (s u : Name) → all nameByte s ≡ true → all nameByte u ≡ true → eqb (packed u) (packed s) ≡ same s u
+pub same-packed : (s u : Name) → all isNameByte s ≡ true → all isNameByte u ≡ true → eqb (packed u) (packed s) ≡ same s u
 same-packed s u a b =
     same-test (eqb (packed u) (packed s)) (same s u)
     (λ e. eq-same s u (sym (packed-injective u s b a (eqb-true (packed u) (packed s) e))))
@@ -55,13 +55,13 @@ unfolding indexOf isAt
 index-cons y ys count x = ap (cond (eqb y x) 0) (leastFrom-suc (isAt (y ∷ ys) x) 0 count)
 
 -- a name is found exactly where it is one of them
-pub index-member : (s : Name) (names : List Name) → all nameByte s ≡ true → Bytes names
+pub index-member : (s : Name) (names : List Name) → all isNameByte s ≡ true → Bytes names
     → ltb (indexOf (map packed names) (length names) (packed s)) (length names) ≡ memberList s names
 unfolding indexOf
 index-member s [] a b = refl
 index-member s (u ∷ us) a b =
-    rw (index-cons (packed u) (map packed us) (length us) (packed s), same-packed s u a (and-left (all nameByte u) (all (all nameByte) us) b))
-    (go (same s u) (index-member s us a (and-right (all nameByte u) (all (all nameByte) us) b)))
+    rw (index-cons (packed u) (map packed us) (length us) (packed s), same-packed s u a (and-left (all isNameByte u) (all (all isNameByte) us) b))
+    (go (same s u) (index-member s us a (and-right (all isNameByte u) (all (all isNameByte) us) b)))
   where
     go : (b : Bool) → ltb (indexOf (map packed us) (length us) (packed s)) (length us) ≡ memberList s us
         → ltb (cond b 0 (suc (indexOf (map packed us) (length us) (packed s)))) (suc (length us)) ≡ (b || memberList s us)
@@ -69,20 +69,24 @@ index-member s (u ∷ us) a b =
     go false e = leb·suc-suc (suc (indexOf (map packed us) (length us) (packed s))) (length us) ∙ e
 
 -- what a name stands for stands at its index
-pub index-lookup : (f : Operand → ℕ) (s : Name) (bs : List Binding) → all nameByte s ≡ true → Bytes (map (λ (b : Binding). b .name) bs)
+pub index-lookup : (f : Operand → ℕ) (s : Name) (bs : List Binding) → all isNameByte s ≡ true → Bytes (map (λ (b : Binding). b .name) bs)
     → memberList s (map (λ (b : Binding). b .name) bs) ≡ true
     → getD (map (λ (b : Binding). f (b .node)) bs) (indexOf (map packed (map (λ (b : Binding). b .name) bs)) (length bs) (packed s)) 0 ≡ f (lookup bs s)
 unfolding lookup
 index-lookup f s [] a b m = absurd (false≢true m)
 index-lookup f s (x ∷ xs) a b m =
     let names = map (λ (b : Binding). b .name) xs in
-    rw (index-cons (packed (x .name)) (map packed names) (length xs) (packed s), same-packed s (x .name) a (and-left (all nameByte (x .name)) (all (all nameByte) names) b))
-    (go (same s (x .name)) m (index-lookup f s xs a (and-right (all nameByte (x .name)) (all (all nameByte) names) b)))
+    rw (
+      index-cons (packed (x .name)) (map packed names) (length xs) (packed s),
+      same-packed s (x .name) a (and-left (all isNameByte (x .name)) (all (all isNameByte) names) b),
+    )
+    (go (same s (x .name)) m (index-lookup f s xs a (and-right (all isNameByte (x .name)) (all (all isNameByte) names) b)))
   where
     go : (t : Bool) → t || memberList s (map (λ (b : Binding). b .name) xs) ≡ true
         → (memberList s (map (λ (b : Binding). b .name) xs) ≡ true
         → getD (map (λ (b : Binding). f (b .node)) xs) (indexOf (map packed (map (λ (b : Binding). b .name) xs)) (length xs) (packed s)) 0 ≡ f (lookup xs s))
-        → getD (f (x .node) ∷ map (λ (b : Binding). f (b .node)) xs) (cond t 0 (suc (indexOf (map packed (map (λ (b : Binding). b .name) xs)) (length xs) (packed s)))) 0
+        → getD (f (x .node) ∷ map (λ (b : Binding). f (b .node)) xs)
+        (cond t 0 (suc (indexOf (map packed (map (λ (b : Binding). b .name) xs)) (length xs) (packed s)))) 0
         ≡ f (cond t (x .node) (lookup xs s))
     go true m e = refl
     go false m e = e m

@@ -9,27 +9,27 @@ use lib.ListN.{length, getD, drop, drop-of-length-le}
 use lib.Seq.{drop-cons}
 use Rattle.laws.specs.Lists.{all}
 use Rattle.laws.proofs.Tests.{and-left, and-right, and-intro}
-use Rattle.netlist.specs.StoredBlock.{nameByte}
+use Rattle.netlist.specs.StoredBlock.{isNameByte}
 pub use Rattle.encoding.proofs.Names.{nameByte-range as name-byte-range}
 use Rattle.names.specs.Packed.{packed, nameFront}
 
 -- ---- the front of a list
 
-pub front-bytes : (most : ℕ) (xs : List ℕ) → all nameByte (nameFront most xs) ≡ true
+pub front-bytes : (most : ℕ) (xs : List ℕ) → all isNameByte (nameFront most xs) ≡ true
 unfolding nameFront
 front-bytes zero xs = refl
 front-bytes (suc most) [] = refl
-front-bytes (suc most) (x ∷ xs) = go (nameByte x) refl (front-bytes most xs)
+front-bytes (suc most) (x ∷ xs) = go (isNameByte x) refl (front-bytes most xs)
   where
-    go : (b : Bool) → nameByte x ≡ b → all nameByte (nameFront most xs) ≡ true → all nameByte (cond b (x ∷ nameFront most xs) []) ≡ true
-    go true e h = and-intro (nameByte x) (all nameByte (nameFront most xs)) e h
+    go : (b : Bool) → isNameByte x ≡ b → all isNameByte (nameFront most xs) ≡ true → all isNameByte (cond b (x ∷ nameFront most xs) []) ≡ true
+    go true e h = and-intro (isNameByte x) (all isNameByte (nameFront most xs)) e h
     go false e h = refl
 
 pub front-length : (most : ℕ) (xs : List ℕ) → length (nameFront most xs) ≤ most
 unfolding nameFront
 front-length zero xs = omega arith
 front-length (suc most) [] = omega arith
-front-length (suc most) (x ∷ xs) = go (nameByte x) (front-length most xs)
+front-length (suc most) (x ∷ xs) = go (isNameByte x) (front-length most xs)
   where
     go : (b : Bool) → length (nameFront most xs) ≤ most → length (cond b (x ∷ nameFront most xs) []) ≤ suc most
     go true h = omega arith
@@ -39,7 +39,7 @@ pub front-shorter : (most : ℕ) (xs : List ℕ) → length (nameFront most xs) 
 unfolding nameFront
 front-shorter zero xs = omega arith
 front-shorter (suc most) [] = omega arith
-front-shorter (suc most) (x ∷ xs) = go (nameByte x) (front-shorter most xs)
+front-shorter (suc most) (x ∷ xs) = go (isNameByte x) (front-shorter most xs)
   where
     go : (b : Bool) → length (nameFront most xs) ≤ length xs → length (cond b (x ∷ nameFront most xs) []) ≤ suc (length xs)
     go true h = omega arith
@@ -50,7 +50,7 @@ pub front-getD : (most : ℕ) (xs : List ℕ) (i : ℕ) → i < length (nameFron
 unfolding nameFront
 front-getD zero xs i l = absurd (omega arith)
 front-getD (suc most) [] i l = absurd (omega arith)
-front-getD (suc most) (x ∷ xs) i l = go (nameByte x) i l (front-getD most xs)
+front-getD (suc most) (x ∷ xs) i l = go (isNameByte x) i l (front-getD most xs)
   where
     go : (b : Bool) (i : ℕ) → i < length (cond b (x ∷ nameFront most xs) [])
         → ((i : ℕ) → i < length (nameFront most xs) → getD (nameFront most xs) i 0 ≡ getD xs i 0)
@@ -80,15 +80,16 @@ module _ (s : List ℕ) (most i : ℕ) where
     left : most - i ≡ suc (most - (i + 1))
     left = omega arith
 
-    pub front-stops : nameByte (getD s i 0) ≡ false → i + length (nameFront (most - i) (drop i s)) ≡ length (nameFront most s) → i ≡ length (nameFront most s)
+    pub front-stops : isNameByte (getD s i 0) ≡ false → i + length (nameFront (most - i) (drop i s)) ≡ length (nameFront most s) → i ≡ length (nameFront most s)
     unfolding nameFront
     front-stops e h = let z : length (nameFront (most - i) (drop i s)) ≡ 0 = rw (left, drop-cons s i 0, e) in omega arith
 
-    pub front-goes : nameByte (getD s i 0) ≡ true → i + length (nameFront (most - i) (drop i s)) ≡ length (nameFront most s)
+    pub front-goes : isNameByte (getD s i 0) ≡ true → i + length (nameFront (most - i) (drop i s)) ≡ length (nameFront most s)
         → i + 1 + length (nameFront (most - (i + 1)) (drop (i + 1) s)) ≡ length (nameFront most s)
     unfolding nameFront
     front-goes e h =
-        let z : length (nameFront (most - i) (drop i s)) ≡ suc (length (nameFront (most - (i + 1)) (drop (i + 1) s))) = rw (left, drop-cons s i 0, e, add-one) in
+        let z : length (nameFront (most - i) (drop i s)) ≡ suc (length (nameFront (most - (i + 1)) (drop (i + 1) s))) = rw
+        (left, drop-cons s i 0, e, add-one) in
         omega arith
 
 -- ---- numbers of names
@@ -98,17 +99,17 @@ abbrev room : ℕ → ℕ
 room zero = 1
 room (suc k) = 256 * room k
 
-packed-room : (k : ℕ) (xs : List ℕ) → all nameByte xs ≡ true → length xs ≤ k → packed xs < room k
+packed-room : (k : ℕ) (xs : List ℕ) → all isNameByte xs ≡ true → length xs ≤ k → packed xs < room k
 packed-room zero [] a l = omega arith
 packed-room (suc k) [] a l = let h = packed-room k [] refl (omega arith) in omega arith
 packed-room zero (x ∷ xs) a l = absurd (omega arith)
 packed-room (suc k) (x ∷ xs) a l =
-    let h = packed-room k xs (and-right (nameByte x) (all nameByte xs) a) (omega arith) in
-    let b = name-byte-range x (and-left (nameByte x) (all nameByte xs) a) in
+    let h = packed-room k xs (and-right (isNameByte x) (all isNameByte xs) a) (omega arith) in
+    let b = name-byte-range x (and-left (isNameByte x) (all isNameByte xs) a) in
     omega (arith, b .1)
 
 -- a name of 8 bytes fits a word of 64 bits
-pub packed-fits : (xs : List ℕ) → all nameByte xs ≡ true → length xs ≤ 8 → packed xs < 18446744073709551616
+pub packed-fits : (xs : List ℕ) → all isNameByte xs ≡ true → length xs ≤ 8 → packed xs < 18446744073709551616
 packed-fits xs a l = packed-room 8 xs a l
 
 all-drop : (p : ℕ → Bool) (i : ℕ) (xs : List ℕ) → all p xs ≡ true → all p (drop i xs) ≡ true
@@ -133,17 +134,17 @@ module _ (s : List ℕ) (i r : ℕ) (some : 0 < i) (inside : i ≤ length (nameF
   pub packed-more-fits : getD s (i - 1) 0 + 256 * r < 18446744073709551616
   packed-more-fits =
       rw packed-more
-      (packed-fits (drop (i - 1) (nameFront 8 s)) (all-drop nameByte (i - 1) (nameFront 8 s) (front-bytes 8 s))
+      (packed-fits (drop (i - 1) (nameFront 8 s)) (all-drop isNameByte (i - 1) (nameFront 8 s) (front-bytes 8 s))
       (omega (arith, length-drop-le (i - 1) (nameFront 8 s), front-length 8 s)))
 
 -- two names with one number are one name
-pub packed-injective : (xs ys : List ℕ) → all nameByte xs ≡ true → all nameByte ys ≡ true → packed xs ≡ packed ys → xs ≡ ys
+pub packed-injective : (xs ys : List ℕ) → all isNameByte xs ≡ true → all isNameByte ys ≡ true → packed xs ≡ packed ys → xs ≡ ys
 packed-injective [] [] a b e = refl
-packed-injective [] (y ∷ ys) a b e = absurd (omega (arith, name-byte-range y (and-left (nameByte y) (all nameByte ys) b)))
-packed-injective (x ∷ xs) [] a b e = absurd (omega (arith, name-byte-range x (and-left (nameByte x) (all nameByte xs) a)))
+packed-injective [] (y ∷ ys) a b e = absurd (omega (arith, name-byte-range y (and-left (isNameByte y) (all isNameByte ys) b)))
+packed-injective (x ∷ xs) [] a b e = absurd (omega (arith, name-byte-range x (and-left (isNameByte x) (all isNameByte xs) a)))
 packed-injective (x ∷ xs) (y ∷ ys) a b e =
-    let p = name-byte-range x (and-left (nameByte x) (all nameByte xs) a) in
-    let q = name-byte-range y (and-left (nameByte y) (all nameByte ys) b) in
+    let p = name-byte-range x (and-left (isNameByte x) (all isNameByte xs) a) in
+    let q = name-byte-range y (and-left (isNameByte y) (all isNameByte ys) b) in
     let h : x ≡ y = omega (arith, p .1, q .1) in
     let g : packed xs ≡ packed ys = omega (arith, p .1, q .1) in
-    ap₂ _∷_ h (packed-injective xs ys (and-right (nameByte x) (all nameByte xs) a) (and-right (nameByte y) (all nameByte ys) b) g)
+    ap₂ _∷_ h (packed-injective xs ys (and-right (isNameByte x) (all isNameByte xs) a) (and-right (isNameByte y) (all isNameByte ys) b) g)

@@ -9,7 +9,7 @@ use lib.ListN.{length, getD, drop, drop-of-length-le}
 use lib.Seq.{drop-cons}
 use lib.Dec.{eqb}
 use borrow.Author.Tests.{ne-eqb}
-use Rattle.names.specs.Lines.{times, lineLength, lineOpens}
+use Rattle.names.specs.Lines.{times, lengthWithLf, lineOpens}
 
 module _ (s : List ℕ) (i : ℕ) (inside : i < length s) where
   -- a byte more is counted
@@ -19,12 +19,12 @@ module _ (s : List ℕ) (i : ℕ) (inside : i < length s) where
       let d : times b (drop i s) ≡ cond (eqb (getD s i 0) b) 1 0 + times b (drop (i + 1) s) = rw (add-one, drop-cons s i 0) in
       omega arith
 
-  pub length-last : getD s i 0 ≡ 10 → i + lineLength (drop i s) ≡ lineLength s → i + 1 ≡ lineLength s
-  length-last e h = let d : lineLength (drop i s) ≡ 1 = rw (drop-cons s i 0, e) in omega arith
+  pub length-last : getD s i 0 ≡ 10 → i + lengthWithLf (drop i s) ≡ lengthWithLf s → i + 1 ≡ lengthWithLf s
+  length-last e h = let d : lengthWithLf (drop i s) ≡ 1 = rw (drop-cons s i 0, e) in omega arith
 
-  pub length-more : (getD s i 0 ≡ 10 → ⊥) → i + lineLength (drop i s) ≡ lineLength s → i + 1 + lineLength (drop (i + 1) s) ≡ lineLength s
+  pub length-more : (getD s i 0 ≡ 10 → ⊥) → i + lengthWithLf (drop i s) ≡ lengthWithLf s → i + 1 + lengthWithLf (drop (i + 1) s) ≡ lengthWithLf s
   length-more e h =
-      let d : lineLength (drop i s) ≡ suc (lineLength (drop (i + 1) s)) = rw (add-one, drop-cons s i 0, ne-eqb (getD s i 0) 10 e) in
+      let d : lengthWithLf (drop i s) ≡ suc (lengthWithLf (drop (i + 1) s)) = rw (add-one, drop-cons s i 0, ne-eqb (getD s i 0) 10 e) in
       omega arith
 
   pub opens-last : (n : ℕ) → getD s i 0 ≡ 10 → n + lineOpens (drop i s) ≡ lineOpens s → n ≡ lineOpens s
@@ -44,8 +44,8 @@ module _ (s : List ℕ) (i n : ℕ) (end : length s ≤ i) where
   pub times-end : (b : ℕ) → n + times b (drop i s) ≡ times b s → n ≡ times b s
   times-end b h = let d : times b (drop i s) ≡ 0 = rw nothing-left in omega arith
 
-  pub length-end : n + lineLength (drop i s) ≡ lineLength s → n ≡ lineLength s
-  length-end h = let d : lineLength (drop i s) ≡ 0 = rw nothing-left in omega arith
+  pub length-end : n + lengthWithLf (drop i s) ≡ lengthWithLf s → n ≡ lengthWithLf s
+  length-end h = let d : lengthWithLf (drop i s) ≡ 0 = rw nothing-left in omega arith
 
   pub opens-end : n + lineOpens (drop i s) ≡ lineOpens s → n ≡ lineOpens s
   opens-end h = let d : lineOpens (drop i s) ≡ 0 = rw nothing-left in omega arith
@@ -56,19 +56,19 @@ one-le true = omega arith
 one-le false = omega arith
 
 -- no line is longer than the text, and none has more brackets than bytes
-pub lineLength-le : (s : List ℕ) → lineLength s ≤ length s
+pub lineLength-le : (s : List ℕ) → lengthWithLf s ≤ length s
 lineLength-le [] = omega arith
 lineLength-le (x ∷ xs) = go (eqb x 10) (lineLength-le xs)
   where
-    go : (b : Bool) → lineLength xs ≤ length xs → suc (cond b 0 (lineLength xs)) ≤ suc (length xs)
+    go : (b : Bool) → lengthWithLf xs ≤ length xs → suc (cond b 0 (lengthWithLf xs)) ≤ suc (length xs)
     go true h = omega arith
     go false h = omega arith
 
-pub lineOpens-le : (s : List ℕ) → lineOpens s ≤ lineLength s
+pub lineOpens-le : (s : List ℕ) → lineOpens s ≤ lengthWithLf s
 lineOpens-le [] = omega arith
 lineOpens-le (x ∷ xs) = go (eqb x 10) (eqb x 40) (lineOpens-le xs)
   where
-    go : (b d : Bool) → lineOpens xs ≤ lineLength xs → cond b 0 (cond d 1 0 + lineOpens xs) ≤ suc (cond b 0 (lineLength xs))
+    go : (b d : Bool) → lineOpens xs ≤ lengthWithLf xs → cond b 0 (cond d 1 0 + lineOpens xs) ≤ suc (cond b 0 (lengthWithLf xs))
     go true d h = omega arith
     go false true h = omega arith
     go false false h = omega arith

@@ -9,23 +9,23 @@ use lib.ListN.{length, getD, drop, length-drop}
 use lib.Dec.{eqb, ltb}
 use borrow.Author.Tests.{ltb-true}
 use Rattle.laws.specs.Lists.{tab}
-use Rattle.names.specs.Lines.{times, lineLength, lineOpens, lineStart, gatesTo, letterAt, nameOffset, lineWord, linesWith}
+use Rattle.names.specs.Lines.{times, lengthWithLf, lineOpens, lineOffset, gatesTo, letterAt, nameOffset, lineWord, linesWith}
 use Rattle.names.proofs.Scanning.{one-le, lineLength-le, lineOpens-le}
 
-pub start-le : (text : List ℕ) (i : ℕ) → lineStart text i ≤ length text
-unfolding lineStart
+pub start-le : (text : List ℕ) (i : ℕ) → lineOffset text i ≤ length text
+unfolding lineOffset
 start-le text zero = omega arith
 start-le text (suc i) =
     let h = start-le text i in
-    let g = lineLength-le (drop (lineStart text i) text) in
-    omega (arith, length-drop (lineStart text i) text)
+    let g = lineLength-le (drop (lineOffset text i) text) in
+    omega (arith, length-drop (lineOffset text i) text)
 
-pub gatesTo-le : (text : List ℕ) (i : ℕ) → gatesTo text i ≤ lineStart text i
-unfolding lineStart gatesTo
+pub gatesTo-le : (text : List ℕ) (i : ℕ) → gatesTo text i ≤ lineOffset text i
+unfolding lineOffset gatesTo
 gatesTo-le text zero = omega arith
 gatesTo-le text (suc i) =
     let h = gatesTo-le text i in
-    let g = lineOpens-le (drop (lineStart text i) text) in
+    let g = lineOpens-le (drop (lineOffset text i) text) in
     omega arith
 
 pub times-append : (b : ℕ) (xs ys : List ℕ) → times b (xs ++ ys) ≡ times b xs + times b ys
@@ -33,9 +33,9 @@ times-append b [] ys = omega arith
 times-append b (x ∷ xs) ys = omega (arith, times-append b xs ys)
 
 -- the next line's start, and the gates up to it, from those of the line
-module _ (text : List ℕ) (i at : ℕ) (here′ : at ≡ lineStart text i) where
-  pub start-more : at + lineLength (drop at text) ≡ lineStart text (i + 1)
-  unfolding lineStart
+module _ (text : List ℕ) (i at : ℕ) (here′ : at ≡ lineOffset text i) where
+  pub start-more : at + lengthWithLf (drop at text) ≡ lineOffset text (i + 1)
+  unfolding lineOffset
   start-more = rw (here′, add-one)
 
   pub gates-more : (gates : ℕ) → gates ≡ gatesTo text i → gates + (lineOpens (drop at text) - 1) ≡ gatesTo text (i + 1)
@@ -50,11 +50,13 @@ module _ (text : List ℕ) (i at : ℕ) (here′ : at ≡ lineStart text i) wher
       let s = start-le text (i + 1) in
       omega arith
 
-  pub with-more : (letter n one byte : ℕ) → n ≡ linesWith letter text i → byte ≡ getD text (at + 1) 0 → one ≡ cond (eqb byte letter) 1 0 → n + one ≡ linesWith letter text (i + 1)
+  pub with-more : (letter n one byte : ℕ) → n ≡ linesWith letter text i → byte ≡ getD text (at + 1) 0 → one ≡ cond (eqb byte letter) 1 0
+      → n + one ≡ linesWith letter text (i + 1)
   unfolding linesWith letterAt
   with-more letter n one byte e f g =
       let v : one ≡ cond (eqb (letterAt text i) letter) 1 0 = g ∙ rw (f, here′) in
-      let w : linesWith letter text (i + 1) ≡ linesWith letter text i + (cond (eqb (letterAt text i) letter) 1 0 + 0) = rw (add-one i) (times-append letter (tab (letterAt text) i) (letterAt text i ∷ [])) in
+      let w : linesWith letter text (i + 1) ≡ linesWith letter text i + (cond (eqb (letterAt text i) letter) 1 0 + 0) = rw (add-one i)
+      (times-append letter (tab (letterAt text) i) (letterAt text i ∷ [])) in
       omega arith
 
 -- no more lines than lines
@@ -63,7 +65,7 @@ unfolding linesWith letterAt
 with-le letter text zero = omega arith
 with-le letter text (suc i) =
     let h = with-le letter text i in
-    let o = one-le (eqb (getD text (lineStart text i + 1) 0) letter) in
+    let o = one-le (eqb (getD text (lineOffset text i + 1) 0) letter) in
     rw (times-append letter (tab (letterAt text) i) (letterAt text i ∷ [])) (omega arith)
 
 -- what stands before a declared name is at most 6 bytes

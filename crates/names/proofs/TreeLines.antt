@@ -13,12 +13,13 @@ use Rattle.laws.specs.Lists.{ascii, all, joined}
 use Rattle.laws.proofs.Quantifiers.{all-append}
 use Rattle.laws.proofs.Tests.{and-left, and-right, and-intro}
 use Rattle.laws.proofs.Lists.{joined-append}
-use Rattle.netlist.specs.Kinds.{isKind, arityFits, keyword, isNot, rowOf, rows, row}
+use Rattle.netlist.specs.Kinds.{isKind, arityFits, keyword, signatureOf}
 use Rattle.netlist.specs.Netlist.{Name}
-use Rattle.netlist.specs.StoredBlock.{legalName, letter, digit, underscore, nameByte, plainName, nodeName}
-use Rattle.netlist.specs.Syntax.{Term, Terms, name, literal, apply, nil, cons, GateLine, OutputLine, Tree, printTerm, printTerms, printInput, printGate, printOutput, printLines, print, termCount, legalTerm, legalTerms, legalGate, legalOutput, legalTree}
+use Rattle.netlist.specs.StoredBlock.{isLegalName, isLetter, isDigit, isUnderscore, isNameByte, isPlainName, isNodeName}
+use Rattle.netlist.specs.Syntax.{Term, Terms, name, literal, apply, nil, cons, GateLine, OutputLine, Tree, printTerm, printTerms, printInput, printGate}
+use Rattle.netlist.specs.Syntax.{printOutput, printLines, print, termCount, isLegalTerm, isLegalTerms, isLegalGate, isLegalOutput, isLegalTree}
 use Rattle.netlist.specs.Reading.{gatesIn, gatesInside, lineGates}
-use Rattle.grammar.proofs.SoundTerms.{by-kind}
+use Rattle.encoding.proofs.Gates.{by-kind}
 use Rattle.grammar.proofs.Shorter.{printTerm-append}
 use Rattle.grammar.proofs.Places.{printInput-split, printGate-split, printOutput-split}
 use Rattle.names.specs.Lines.{times}
@@ -29,43 +30,43 @@ use Rattle.names.proofs.Packing.{name-byte-range}
 
 -- ---- names and keywords have no bracket and no LF
 
-pub times-name-bytes : (b : ℕ) → b ≤ 47 → (s : List ℕ) → all nameByte s ≡ true → times b s ≡ 0
+pub times-name-bytes : (b : ℕ) → b ≤ 47 → (s : List ℕ) → all isNameByte s ≡ true → times b s ≡ 0
 times-name-bytes b l [] h = refl
 times-name-bytes b l (x ∷ xs) h =
-    let r = name-byte-range x (and-left (nameByte x) (all nameByte xs) h) in
+    let r = name-byte-range x (and-left (isNameByte x) (all isNameByte xs) h) in
     let n : x ≡ b → ⊥ = λ e. omega (arith, r .0) in
-    let t = times-name-bytes b l xs (and-right (nameByte x) (all nameByte xs) h) in
+    let t = times-name-bytes b l xs (and-right (isNameByte x) (all isNameByte xs) h) in
     rw (ne-eqb x b n) (omega arith)
 
-pub name-bytes : (start : ℕ → Bool) (s : Name) → legalName start s ≡ true → all nameByte s ≡ true
-unfolding legalName
-name-bytes start s h = and-right (leb 1 (length s) && leb (length s) 8 && start (getD s 0 0)) (all nameByte s) h
+pub name-bytes : (start : ℕ → Bool) (s : Name) → isLegalName start s ≡ true → all isNameByte s ≡ true
+unfolding isLegalName
+name-bytes start s h = and-right (leb 1 (length s) && leb (length s) 8 && start (getD s 0 0)) (all isNameByte s) h
 
-pub times-name : (b : ℕ) → b ≤ 47 → (start : ℕ → Bool) (s : Name) → legalName start s ≡ true → times b s ≡ 0
+pub times-name : (b : ℕ) → b ≤ 47 → (start : ℕ → Bool) (s : Name) → isLegalName start s ≡ true → times b s ≡ 0
 times-name b l start s h = times-name-bytes b l s (name-bytes start s h)
 
-keyword-bytes : (k : ℕ) → isKind k ≡ true → all nameByte (keyword k) ≡ true
-unfolding keyword isNot rowOf rows row nameByte letter digit underscore
-keyword-bytes = by-kind (λ k. all nameByte (keyword k) ≡ true) refl refl refl refl refl
+keyword-bytes : (k : ℕ) → isKind k ≡ true → all isNameByte (keyword k) ≡ true
+unfolding keyword isNameByte isLetter isDigit isUnderscore signatureOf
+keyword-bytes = by-kind (λ k. all isNameByte (keyword k) ≡ true) refl refl refl refl refl
 
 -- ---- brackets and LFs of a term
 
-kind-legal : (k : ℕ) (ts : Terms) (d : ℕ) → legalTerm (apply k ts) (suc d) ≡ true → (isKind k ≡ true) × (legalTerms ts d ≡ true)
-unfolding legalTerm
+kind-legal : (k : ℕ) (ts : Terms) (d : ℕ) → isLegalTerm (apply k ts) (suc d) ≡ true → (isKind k ≡ true) × (isLegalTerms ts d ≡ true)
+unfolding isLegalTerm
 kind-legal k ts d h =
-    let ab : isKind k && arityFits k (termCount ts) ≡ true = and-left (isKind k && arityFits k (termCount ts)) (legalTerms ts d) h in
-    (and-left (isKind k) (arityFits k (termCount ts)) ab, and-right (isKind k && arityFits k (termCount ts)) (legalTerms ts d) h)
+    let ab : isKind k && arityFits k (termCount ts) ≡ true = and-left (isKind k && arityFits k (termCount ts)) (isLegalTerms ts d) h in
+    (and-left (isKind k) (arityFits k (termCount ts)) ab, and-right (isKind k && arityFits k (termCount ts)) (isLegalTerms ts d) h)
 
 -- of a byte b that is a bracket, or no byte of a term: each gate has one bracket
 module _ (b : ℕ) (low : b ≤ 47) (closing : times b (ascii ")") ≡ 0) (space : times b (ascii " ") ≡ 0) where
   digits : (times b (ascii "0") ≡ 0) × (times b (ascii "1") ≡ 0)
-  unfolding nameByte letter digit underscore
+  unfolding isNameByte isLetter isDigit isUnderscore
   digits = (times-name-bytes b low (ascii "0") refl, times-name-bytes b low (ascii "1") refl)
 
   mutual
-    unfolding printTerm printTerms gatesIn gatesInside legalTerm legalTerms nodeName
+    unfolding printTerm printTerms gatesIn gatesInside isLegalTerm isLegalTerms isNodeName
 
-    pub times-term : (t : Term) (d : ℕ) (rest : List ℕ) → legalTerm t d ≡ true → times b (printTerm t rest) ≡ times b (ascii "(") * gatesIn t + times b rest
+    pub times-term : (t : Term) (d : ℕ) (rest : List ℕ) → isLegalTerm t d ≡ true → times b (printTerm t rest) ≡ times b (ascii "(") * gatesIn t + times b rest
     times-term (name s) d rest h = rw (times-append b s rest, times-name b low _ s h, mul-zero) refl
     times-term (literal true) d rest h = rw mul-zero (omega (arith, digits .1))
     times-term (literal false) d rest h = rw mul-zero (omega (arith, digits .0))
@@ -77,18 +78,19 @@ module _ (b : ℕ) (low : b ≤ 47) (closing : times b (ascii ")") ≡ 0) (space
         let g = times-name-bytes b low (keyword k) (keyword-bytes k (l .0)) in
         rw (mul-suc (times b (ascii "(")) (gatesInside ts)) (omega (arith, closing))
 
-    pub times-terms : (ts : Terms) (d : ℕ) (rest : List ℕ) → legalTerms ts d ≡ true → times b (printTerms ts rest) ≡ times b (ascii "(") * gatesInside ts + times b rest
+    pub times-terms : (ts : Terms) (d : ℕ) (rest : List ℕ) → isLegalTerms ts d ≡ true
+        → times b (printTerms ts rest) ≡ times b (ascii "(") * gatesInside ts + times b rest
     times-terms nil d rest h = rw mul-zero (omega arith)
     times-terms (cons t ts) d rest h =
-        let x = times-term t d (printTerms ts rest) (and-left (legalTerm t d) (legalTerms ts d) h) in
-        let y = times-terms ts d rest (and-right (legalTerm t d) (legalTerms ts d) h) in
+        let x = times-term t d (printTerms ts rest) (and-left (isLegalTerm t d) (isLegalTerms ts d) h) in
+        let y = times-terms ts d rest (and-right (isLegalTerm t d) (isLegalTerms ts d) h) in
         rw (mul-add (times b (ascii "(")) (gatesIn t) (gatesInside ts)) (omega (arith, space))
 
 -- a term has a bracket for each gate, and no LF
-pub opens-term : (t : Term) (d : ℕ) (rest : List ℕ) → legalTerm t d ≡ true → times 40 (printTerm t rest) ≡ gatesIn t + times 40 rest
+pub opens-term : (t : Term) (d : ℕ) (rest : List ℕ) → isLegalTerm t d ≡ true → times 40 (printTerm t rest) ≡ gatesIn t + times 40 rest
 opens-term t d rest h = let e = times-term 40 (omega arith) refl refl t d rest h in omega arith
 
-pub ends-term : (t : Term) (d : ℕ) (rest : List ℕ) → legalTerm t d ≡ true → times 10 (printTerm t rest) ≡ times 10 rest
+pub ends-term : (t : Term) (d : ℕ) (rest : List ℕ) → isLegalTerm t d ≡ true → times 10 (printTerm t rest) ≡ times 10 rest
 ends-term t d rest h = let e = times-term 10 (omega arith) refl refl t d rest h in omega arith
 
 -- ---- the lines of a tree
@@ -101,21 +103,23 @@ pub record TreeLine (l : List ℕ) (gates : ℕ) : Type 0 where
 times-literal : (b : ℕ) (xs ys : List ℕ) → times b xs ≡ 0 → times b (xs ++ ys) ≡ times b ys
 times-literal b xs ys h = rw (times-append b xs ys, h) (omega arith)
 
-pub input-line : (s : Name) → plainName s ≡ true → TreeLine (inputText s) 0
-unfolding inputText printInput plainName
+pub input-line : (s : Name) → isPlainName s ≡ true → TreeLine (inputText s) 0
+unfolding inputText printInput isPlainName
 input-line s h =
     record {
       line = line-append s (ascii ")\n") (times-name 10 (omega arith) _ s h);
       opens = rw (times-literal 40 s (ascii ")\n") (times-name 40 (omega arith) _ s h));
     }
 
-pub output-line : (o : OutputLine) → legalOutput o ≡ true → TreeLine (outputText o) 0
-unfolding outputText printOutput legalOutput plainName nodeName
+pub output-line : (o : OutputLine) → isLegalOutput o ≡ true → TreeLine (outputText o) 0
+unfolding outputText printOutput isLegalOutput isPlainName isNodeName
 output-line o h =
-    let p = and-left (plainName (o .port)) (nodeName (o .shown)) h in
-    let q = and-right (plainName (o .port)) (nodeName (o .shown)) h in
+    let p = and-left (isPlainName (o .port)) (isNodeName (o .shown)) h in
+    let q = and-right (isPlainName (o .port)) (isNodeName (o .shown)) h in
     record {
-      line = line-append (o .port) _ (times-name 10 (omega arith) _ (o .port) p) ∙ line-append (o .shown) (ascii ")\n") (times-name 10 (omega arith) _ (o .shown) q);
+      line =
+          line-append (o .port) _ (times-name 10 (omega arith) _ (o .port) p)
+          ∙ line-append (o .shown) (ascii ")\n") (times-name 10 (omega arith) _ (o .shown) q);
       opens =
           rw (
             times-literal 40 (o .port) (ascii " " ++ (o .shown ++ ascii ")\n")) (times-name 40 (omega arith) _ (o .port) p),
@@ -123,11 +127,11 @@ output-line o h =
           );
     }
 
-pub gate-line : (g : GateLine) → legalGate g ≡ true → TreeLine (gateText g) (lineGates g)
-unfolding gateText printGate legalGate nodeName lineGates gatesIn
+pub gate-line : (g : GateLine) → isLegalGate g ≡ true → TreeLine (gateText g) (lineGates g)
+unfolding gateText printGate isLegalGate isNodeName lineGates gatesIn
 gate-line g h =
-    let p = and-left (nodeName (g .name)) (legalTerm (apply (g .kind) (g .terms)) 8) h in
-    let q = and-right (nodeName (g .name)) (legalTerm (apply (g .kind) (g .terms)) 8) h in
+    let p = and-left (isNodeName (g .name)) (isLegalTerm (apply (g .kind) (g .terms)) 8) h in
+    let q = and-right (isNodeName (g .name)) (isLegalTerm (apply (g .kind) (g .terms)) 8) h in
     let term = apply (g .kind) (g .terms) in
     let z : times 10 (printTerm term (ascii ")")) ≡ 0 = ends-term term 8 (ascii ")") q in
     record {
@@ -136,7 +140,10 @@ gate-line g h =
           ∙ ap isLine (printTerm-append term (ascii ")") (ascii "\n"))
           ∙ line-append (printTerm term (ascii ")")) (ascii "\n") z;
       opens =
-          rw (times-literal 40 (g .name) (ascii " " ++ printTerm term (ascii ")\n")) (times-name 40 (omega arith) _ (g .name) p), opens-term term 8 (ascii ")\n") q)
+          rw (
+            times-literal 40 (g .name) (ascii " " ++ printTerm term (ascii ")\n")) (times-name 40 (omega arith) _ (g .name) p),
+            opens-term term 8 (ascii ")\n") q,
+          )
           (omega arith);
     }
 
@@ -158,36 +165,38 @@ print-lines t =
     (joined-append (map inputText (t .inputs)) (map gateText (t .gates) ++ map outputText (t .outputs))
     ∙ ap (λ r. joined (map inputText (t .inputs)) ++ r) (joined-append (map gateText (t .gates)) (map outputText (t .outputs)))))
 
-all-lines : {A : Type 0} (legal : A → Bool) (line : A → List ℕ) → ((x : A) → legal x ≡ true → isLine (line x) ≡ true) → (xs : List A) → all legal xs ≡ true → all isLine (map line xs) ≡ true
+all-lines : {A : Type 0} (legal : A → Bool) (line : A → List ℕ) → ((x : A) → legal x ≡ true → isLine (line x) ≡ true) → (xs : List A) → all legal xs ≡ true
+    → all isLine (map line xs) ≡ true
 all-lines legal line f [] h = refl
 all-lines legal line f (x ∷ xs) h =
-    and-intro (isLine (line x)) (all isLine (map line xs)) (f x (and-left (legal x) (all legal xs) h)) (all-lines legal line f xs (and-right (legal x) (all legal xs) h))
+    and-intro (isLine (line x)) (all isLine (map line xs)) (f x (and-left (legal x) (all legal xs) h))
+    (all-lines legal line f xs (and-right (legal x) (all legal xs) h))
 
 -- the parts of a legal tree are legal
 pub record Parts (t : Tree) : Type 0 where
-  pub inputs : all plainName (t .inputs) ≡ true
-  pub gates : all legalGate (t .gates) ≡ true
-  pub outputs : all legalOutput (t .outputs) ≡ true
+  pub inputs : all isPlainName (t .inputs) ≡ true
+  pub gates : all isLegalGate (t .gates) ≡ true
+  pub outputs : all isLegalOutput (t .outputs) ≡ true
 
-pub legal-parts : (t : Tree) → legalTree t ≡ true → Parts t
-unfolding legalTree
+pub legal-parts : (t : Tree) → isLegalTree t ≡ true → Parts t
+unfolding isLegalTree
 legal-parts t h =
-    let a = and-left (all plainName (t .inputs) && all legalGate (t .gates)) (all legalOutput (t .outputs)) h in
+    let a = and-left (all isPlainName (t .inputs) && all isLegalGate (t .gates)) (all isLegalOutput (t .outputs)) h in
     record {
-      inputs = and-left (all plainName (t .inputs)) (all legalGate (t .gates)) a;
-      gates = and-right (all plainName (t .inputs)) (all legalGate (t .gates)) a;
-      outputs = and-right (all plainName (t .inputs) && all legalGate (t .gates)) (all legalOutput (t .outputs)) h;
+      inputs = and-left (all isPlainName (t .inputs)) (all isLegalGate (t .gates)) a;
+      gates = and-right (all isPlainName (t .inputs)) (all isLegalGate (t .gates)) a;
+      outputs = and-right (all isPlainName (t .inputs) && all isLegalGate (t .gates)) (all isLegalOutput (t .outputs)) h;
     }
 
 -- every line of a legal tree is a line
-pub tree-lines : (t : Tree) → legalTree t ≡ true → all isLine (treeLines t) ≡ true
+pub tree-lines : (t : Tree) → isLegalTree t ≡ true → all isLine (treeLines t) ≡ true
 unfolding treeLines
 tree-lines t h =
     let p = legal-parts t h in
     all-append isLine (map inputText (t .inputs)) (map gateText (t .gates) ++ map outputText (t .outputs))
     ∙ and-intro (all isLine (map inputText (t .inputs))) (all isLine (map gateText (t .gates) ++ map outputText (t .outputs)))
-    (all-lines plainName inputText (λ x l. input-line x l .line) (t .inputs) (p .inputs))
+    (all-lines isPlainName inputText (λ x l. input-line x l .line) (t .inputs) (p .inputs))
     (all-append isLine (map gateText (t .gates)) (map outputText (t .outputs))
     ∙ and-intro (all isLine (map gateText (t .gates))) (all isLine (map outputText (t .outputs)))
-    (all-lines legalGate gateText (λ x l. gate-line x l .line) (t .gates) (p .gates))
-    (all-lines legalOutput outputText (λ x l. output-line x l .line) (t .outputs) (p .outputs)))
+    (all-lines isLegalGate gateText (λ x l. gate-line x l .line) (t .gates) (p .gates))
+    (all-lines isLegalOutput outputText (λ x l. output-line x l .line) (t .outputs) (p .outputs)))

@@ -14,11 +14,11 @@ use Rattle.laws.proofs.Tab.{length-tab, tab-ext, map-tab, tab-add, placed-tab}
 use Rattle.laws.proofs.Lists.{sum-append}
 use Rattle.laws.proofs.Slices.{take-placed}
 use Rattle.netlist.specs.Netlist.{Name}
-use Rattle.netlist.specs.StoredBlock.{plainName, nodeWord}
-use Rattle.netlist.specs.Syntax.{GateLine, Tree, legalGate}
+use Rattle.netlist.specs.StoredBlock.{isPlainName, nodeWord}
+use Rattle.netlist.specs.Syntax.{GateLine, Tree, isLegalGate}
 use Rattle.netlist.specs.Reading.{Mention, Binding, lineGates, inputBindings, gateBindings, bindings}
-use Rattle.names.specs.Lines.{times, lineStart, gatesTo, declaredPlace, placeAt, lineWord, wordAt}
-use Rattle.names.specs.Packed.{packed, nameAt, packedAt, packedThrough}
+use Rattle.names.specs.Lines.{times, lineOffset, gatesTo, declaredPlace, placeAt, lineWord, wordAt}
+use Rattle.names.specs.Packed.{packed, nameHere, packedAt, packedThrough}
 use Rattle.names.specs.Trees.{inputText, gateText, outputText, treeLines}
 use Rattle.names.specs.Results.{Prints, treeCounts, declared, packedNames, namePlaces, nodeWords, Declared}
 use Rattle.names.specs.declared.Counts.{Counts}
@@ -30,16 +30,16 @@ use Rattle.names.proofs.TreeCounts.{text-is, line-total, lines-are, sum
 
 -- the declaration in line i of a text
 abbrev pub mentionIn : List ℕ → ℕ → Mention
-mentionIn text i = mentionAt (lineStart text i) (drop (lineStart text i) text)
+mentionIn text i = mentionAt (lineOffset text i) (drop (lineOffset text i) text)
 
 module _ (text : List ℕ) (i : ℕ) where
   place-in : placeAt text i ≡ mentionIn text i .place
   unfolding placeAt declaredPlace mentionAt
-  place-in = rw (getD-drop (lineStart text i) text 1 0)
+  place-in = rw (getD-drop (lineOffset text i) text 1 0)
 
-  name-in : nameAt text (placeAt text i) ≡ mentionIn text i .name
-  unfolding nameAt placeAt declaredPlace mentionAt
-  name-in = rw (getD-drop (lineStart text i) text 1 0, drop-drop)
+  name-in : nameHere text (placeAt text i) ≡ mentionIn text i .name
+  unfolding nameHere placeAt declaredPlace mentionAt
+  name-in = rw (getD-drop (lineOffset text i) text 1 0, drop-drop)
 
 module _ {t : Tree} {text : List ℕ} (p : Prints t text) where
   pub declared-are : tab (mentionIn text) (times 10 text) ≡ declared t
@@ -53,7 +53,8 @@ module _ {t : Tree} {text : List ℕ} (p : Prints t text) where
       ∙ sym (map-tab (λ (d : Mention). d .place) (mentionIn text) (times 10 text)) ∙ ap (map (λ (d : Mention). d .place)) declared-are
 
   -- The numbers in the table are those of the declared names.
-  pub names-are : (places : List ℕ) → ((i : ℕ) → i < times 10 text → getD places i 0 ≡ placeAt text i) → tab (packedThrough text places) (times 10 text) ≡ packedNames t
+  pub names-are : (places : List ℕ) → ((i : ℕ) → i < times 10 text → getD places i 0 ≡ placeAt text i)
+      → tab (packedThrough text places) (times 10 text) ≡ packedNames t
   unfolding packedNames packedThrough packedAt
   names-are places h =
       tab-ext _ _ (times 10 text) (λ i l. rw (h i l, name-in text i))
@@ -61,7 +62,8 @@ module _ {t : Tree} {text : List ℕ} (p : Prints t text) where
 
 -- ---- node numbers
 
-inner-of : {A : Type 0} (legal : A → Bool) (line : A → List ℕ) (gates : A → ℕ) → ((x : A) → legal x ≡ true → TreeLine (line x) (gates x)) → (xs : List A) → all legal xs ≡ true
+inner-of : {A : Type 0} (legal : A → Bool) (line : A → List ℕ) (gates : A → ℕ) → ((x : A) → legal x ≡ true → TreeLine (line x) (gates x)) → (xs : List A)
+    → all legal xs ≡ true
     → (i : ℕ) → sum (map innerOpens (take i (map line xs))) ≡ sum (map gates (take i xs))
 inner-of legal line gates f xs h zero = refl
 inner-of legal line gates f [] h (suc i) = refl
@@ -75,10 +77,12 @@ input-words : (n k : ℕ) (ss : List Name) → map (λ (b : Binding). nodeWord n
 unfolding inputBindings nodeWord
 input-words n k [] = refl
 input-words n k (s ∷ ss) =
-    sym (tab-front (λ i. k + i) (length ss) ∙ rw add-zero (ap (λ (r : List ℕ). k ∷ r) (tab-ext _ _ (length ss) (λ i l. omega arith) ∙ sym (input-words n (suc k) ss))))
+    sym (tab-front (λ i. k + i) (length ss) ∙ rw add-zero
+    (ap (λ (r : List ℕ). k ∷ r) (tab-ext _ _ (length ss) (λ i l. omega arith) ∙ sym (input-words n (suc k) ss))))
 
 -- the numbers of the named gates, when `first` gates stand before
-gate-words : (n first : ℕ) (gs : List GateLine) → map (λ (b : Binding). nodeWord n (b .node)) (gateBindings gs first) ≡ tab (λ j. n + (first + sum (map lineGates (take (suc j) gs)) - 1)) (length gs)
+gate-words : (n first : ℕ) (gs : List GateLine) → map (λ (b : Binding). nodeWord n (b .node)) (gateBindings gs first) ≡ tab
+    (λ j. n + (first + sum (map lineGates (take (suc j) gs)) - 1)) (length gs)
 unfolding gateBindings nodeWord lineGates
 gate-words n first [] = refl
 gate-words n first (g ∷ gs) =
@@ -106,9 +110,9 @@ module _ {t : Tree} {text : List ℕ} (p : Prints t text) where
       ap (λ k. take k (treeLines t)) one
       ∙ take-append-add (map inputText (t .inputs)) (map gateText (t .gates) ++ map outputText (t .outputs)) (suc j)
       ∙ ap (λ (r : List (List ℕ)). map inputText (t .inputs) ++ r) (take-append-le (suc j) (map gateText (t .gates)) (map outputText (t .outputs)) some) in
-      let a = rw take-length at (inner-of plainName inputText (λ x. 0) input-line (t .inputs) (q .inputs) (length (map inputText (t .inputs)))) in
+      let a = rw take-length at (inner-of isPlainName inputText (λ x. 0) input-line (t .inputs) (q .inputs) (length (map inputText (t .inputs)))) in
       let z = sum-none (take (length (map inputText (t .inputs))) (t .inputs)) in
-      let b = inner-of legalGate gateText lineGates gate-line (t .gates) (q .gates) (suc j) in
+      let b = inner-of isLegalGate gateText lineGates gate-line (t .gates) (q .gates) (suc j) in
       let whole = gates-are (treeLines t) (tree-lines t (p .legal)) (suc (n + j)) few in
       rw (text-is p)
       (whole ∙ rw (front, map-append innerOpens (map inputText (t .inputs)) (take (suc j) (map gateText (t .gates))), sum-append) (omega arith))
@@ -158,8 +162,22 @@ module _ {t : Tree} {text : List ℕ} (p : Prints t text) where
       rw ps′ (placed-tab (placeAt text) (times 10 text) places₀ i 0 l) in
       record {
         table = record {
-          numbersAre = rw (total, ns′, take-placed (tab (packedThrough text places) (times 10 text)) names₀ (times 10 text) (length-tab (packedThrough text places) (times 10 text))) (names-are p places read);
-          placesAre = rw (total, ps′, take-placed (tab (placeAt text) (times 10 text)) places₀ (times 10 text) (length-tab (placeAt text) (times 10 text))) (places-are p);
+          numbersAre =
+              rw (
+                total,
+                ns′,
+                take-placed (tab (packedThrough text places) (times 10 text)) names₀ (times 10 text)
+                    (length-tab (packedThrough text places) (times 10 text)),
+              ) (names-are p places read);
+          placesAre =
+              rw (total, ps′, take-placed (tab (placeAt text) (times 10 text)) places₀ (times 10 text) (length-tab (placeAt text) (times 10 text)))
+              (places-are p);
         };
-        nodesAre = rw (bindings-length, ws′, take-placed (tab (wordAt text (length (t .inputs))) (length (t .inputs) + length (t .gates))) words₀ (length (t .inputs) + length (t .gates)) (length-tab (wordAt text (length (t .inputs))) (length (t .inputs) + length (t .gates)))) (words-are p);
+        nodesAre =
+            rw (
+              bindings-length,
+              ws′,
+              take-placed (tab (wordAt text (length (t .inputs))) (length (t .inputs) + length (t .gates))) words₀
+                  (length (t .inputs) + length (t .gates)) (length-tab (wordAt text (length (t .inputs))) (length (t .inputs) + length (t .gates))),
+            ) (words-are p);
       }

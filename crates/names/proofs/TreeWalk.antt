@@ -12,11 +12,12 @@ use borrow.Author.Tests.{leb-true}
 use Rattle.laws.specs.Lists.{ascii, all, joined, sum, tab}
 use Rattle.laws.proofs.Tests.{and-left, and-right}
 use Rattle.netlist.specs.Netlist.{Name}
-use Rattle.netlist.specs.StoredBlock.{legalName, letter, digit, underscore, nameByte, plainName, nodeName}
-use Rattle.netlist.specs.Syntax.{GateLine, OutputLine, Tree, apply, printInput, printGate, printOutput, legalTerm, legalGate, legalOutput, legalTree}
-use Rattle.netlist.specs.Reading.{Mention, mentions, linesLength, gateLinesAt, outputLinesAt, inputMention, gateMention, portMention, declaredNodes, declaredPorts}
-use Rattle.names.specs.Lines.{lineStart, nameOffset}
-use Rattle.names.specs.Packed.{packed, nameFront, nameAt, packedAt}
+use Rattle.netlist.specs.StoredBlock.{isLegalName, isLetter, isDigit, isUnderscore, isNameByte, isPlainName, isNodeName}
+use Rattle.netlist.specs.Syntax.{GateLine, OutputLine, Tree, apply, printInput, printGate, printOutput, isLegalTerm, isLegalGate, isLegalOutput, isLegalTree}
+use Rattle.netlist.specs.Reading.{Mention, mentions, linesLength, gateLinesAt, outputLinesAt, inputMention, gateMention, portMention, declaredNodes}
+use Rattle.netlist.specs.Reading.{declaredPorts}
+use Rattle.names.specs.Lines.{lineOffset, nameOffset}
+use Rattle.names.specs.Packed.{packed, nameFront, nameHere, packedAt}
 use Rattle.names.specs.Trees.{inputText, gateText, outputText, treeLines}
 use Rattle.names.specs.Results.{declared}
 use Rattle.names.proofs.JoinedLines.{eachLine, tab-lines}
@@ -33,26 +34,33 @@ size line xs = sum (map (λ x. length (line x)) xs)
 
 module _ {A B : Type 0} (line : A → List ℕ) (legal : A → Bool) (f : ℕ → List ℕ → B) (m : A → ℕ → B)
     (agrees : (x : A) (at : ℕ) (rest : List ℕ) → legal x ≡ true → f at (line x ++ rest) ≡ m x at) where
-  each-walk : (xs : List A) (ys : List (List ℕ)) (at : ℕ) → all legal xs ≡ true → eachLine f at (map line xs ++ ys) ≡ walk line m xs at ++ eachLine f (at + size line xs) ys
+  each-walk : (xs : List A) (ys : List (List ℕ)) (at : ℕ) → all legal xs ≡ true
+      → eachLine f at (map line xs ++ ys) ≡ walk line m xs at ++ eachLine f (at + size line xs) ys
   each-walk [] ys at h = rw add-zero
   each-walk (x ∷ xs) ys at h =
-      rw (agrees x at (joined (map line xs ++ ys)) (and-left (legal x) (all legal xs) h), each-walk xs ys (at + length (line x)) (and-right (legal x) (all legal xs) h), add-assoc)
+      rw (
+        agrees x at (joined (map line xs ++ ys)) (and-left (legal x) (all legal xs) h),
+        each-walk xs ys (at + length (line x)) (and-right (legal x) (all legal xs) h),
+        add-assoc,
+      )
 
 -- the three forms of a tree, one after the other
 module _ {B : Type 0} (f : ℕ → List ℕ → B) (onInput : Name → ℕ → B) (onGate : GateLine → ℕ → B) (onOutput : OutputLine → ℕ → B)
-    (input-agrees : (x : Name) (at : ℕ) (rest : List ℕ) → plainName x ≡ true → f at (inputText x ++ rest) ≡ onInput x at)
-    (gate-agrees : (x : GateLine) (at : ℕ) (rest : List ℕ) → legalGate x ≡ true → f at (gateText x ++ rest) ≡ onGate x at)
-    (output-agrees : (x : OutputLine) (at : ℕ) (rest : List ℕ) → legalOutput x ≡ true → f at (outputText x ++ rest) ≡ onOutput x at) where
-  tree-walk : (t : Tree) → legalTree t ≡ true
-      → tab (λ i. f (lineStart (joined (treeLines t)) i) (drop (lineStart (joined (treeLines t)) i) (joined (treeLines t)))) (length (treeLines t))
-      ≡ walk inputText onInput (t .inputs) 0 ++ (walk gateText onGate (t .gates) (size inputText (t .inputs)) ++ walk outputText onOutput (t .outputs) (size inputText (t .inputs) + size gateText (t .gates)))
+    (input-agrees : (x : Name) (at : ℕ) (rest : List ℕ) → isPlainName x ≡ true → f at (inputText x ++ rest) ≡ onInput x at)
+    (gate-agrees : (x : GateLine) (at : ℕ) (rest : List ℕ) → isLegalGate x ≡ true → f at (gateText x ++ rest) ≡ onGate x at)
+    (output-agrees : (x : OutputLine) (at : ℕ) (rest : List ℕ) → isLegalOutput x ≡ true → f at (outputText x ++ rest) ≡ onOutput x at) where
+  tree-walk : (t : Tree) → isLegalTree t ≡ true
+      → tab (λ i. f (lineOffset (joined (treeLines t)) i) (drop (lineOffset (joined (treeLines t)) i) (joined (treeLines t)))) (length (treeLines t))
+      ≡ walk inputText onInput (t .inputs) 0
+      ++ (walk gateText onGate (t .gates) (size inputText (t .inputs)) ++ walk outputText onOutput (t .outputs)
+      (size inputText (t .inputs) + size gateText (t .gates)))
   unfolding treeLines
   tree-walk t h =
       let p = legal-parts t h in
       let i = size inputText (t .inputs) in
-      let a = each-walk inputText plainName f onInput input-agrees (t .inputs) (map gateText (t .gates) ++ map outputText (t .outputs)) 0 (p .inputs) in
-      let b = each-walk gateText legalGate f onGate gate-agrees (t .gates) (map outputText (t .outputs)) i (p .gates) in
-      let c = each-walk outputText legalOutput f onOutput output-agrees (t .outputs) [] (i + size gateText (t .gates)) (p .outputs) in
+      let a = each-walk inputText isPlainName f onInput input-agrees (t .inputs) (map gateText (t .gates) ++ map outputText (t .outputs)) 0 (p .inputs) in
+      let b = each-walk gateText isLegalGate f onGate gate-agrees (t .gates) (map outputText (t .outputs)) i (p .gates) in
+      let c = each-walk outputText isLegalOutput f onOutput output-agrees (t .outputs) [] (i + size gateText (t .gates)) (p .outputs) in
       let c′ = rw (append-nil, append-nil) at c in
       tab-lines f (treeLines t) (tree-lines t h) ∙ a
       ∙ ap (λ (r : List B). walk inputText onInput (t .inputs) 0 ++ r) (rw zero-add (b ∙ ap (λ (r : List B). walk gateText onGate (t .gates) i ++ r) c′))
@@ -60,27 +68,29 @@ module _ {B : Type 0} (f : ℕ → List ℕ → B) (onInput : Name → ℕ → B
 -- ---- the declared names
 
 -- the name at the front of a text ends with the first byte that is no name byte
-pub front-name : (most : ℕ) (s : List ℕ) (c : ℕ) (rest : List ℕ) → all nameByte s ≡ true → length s ≤ most → nameByte c ≡ false → nameFront most (s ++ c ∷ rest) ≡ s
+pub front-name : (most : ℕ) (s : List ℕ) (c : ℕ) (rest : List ℕ) → all isNameByte s ≡ true → length s ≤ most → isNameByte c ≡ false
+    → nameFront most (s ++ c ∷ rest) ≡ s
 unfolding nameFront
 front-name zero [] c rest a l n = refl
 front-name (suc most) [] c rest a l n = rw n
 front-name zero (x ∷ xs) c rest a l n = absurd (omega arith)
 front-name (suc most) (x ∷ xs) c rest a l n =
-    rw (and-left (nameByte x) (all nameByte xs) a, front-name most xs c rest (and-right (nameByte x) (all nameByte xs) a) (omega arith) n)
+    rw (and-left (isNameByte x) (all isNameByte xs) a, front-name most xs c rest (and-right (isNameByte x) (all isNameByte xs) a) (omega arith) n)
 
-pub name-length : (start : ℕ → Bool) (s : Name) → legalName start s ≡ true → length s ≤ 8
-unfolding legalName
+pub name-length : (start : ℕ → Bool) (s : Name) → isLegalName start s ≡ true → length s ≤ 8
+unfolding isLegalName
 name-length start s h =
-    let a = and-left (leb 1 (length s) && leb (length s) 8 && start (getD s 0 0)) (all nameByte s) h in
+    let a = and-left (leb 1 (length s) && leb (length s) 8 && start (getD s 0 0)) (all isNameByte s) h in
     let b = and-left (leb 1 (length s) && leb (length s) 8) (start (getD s 0 0)) a in
     leb-true (length s) 8 (and-right (leb 1 (length s)) (leb (length s) 8) b)
 
-pub front-legal : (start : ℕ → Bool) (s : Name) (c : ℕ) (rest : List ℕ) → legalName start s ≡ true → nameByte c ≡ false → nameFront 8 (s ++ c ∷ rest) ≡ s
+pub front-legal : (start : ℕ → Bool) (s : Name) (c : ℕ) (rest : List ℕ) → isLegalName start s ≡ true → isNameByte c ≡ false → nameFront 8 (s ++ c ∷ rest) ≡ s
 front-legal start s c rest h n = front-name 8 s c rest (name-bytes start s h) (name-length start s h) n
 
 -- the number of the name at a place of a text
-pub packed-at : (start : ℕ → Bool) (text : List ℕ) (at : ℕ) (s : Name) (c : ℕ) (rest : List ℕ) → drop at text ≡ s ++ c ∷ rest → legalName start s ≡ true → nameByte c ≡ false → packedAt text at ≡ packed s
-unfolding nameAt packedAt
+pub packed-at : (start : ℕ → Bool) (text : List ℕ) (at : ℕ) (s : Name) (c : ℕ) (rest : List ℕ) → drop at text ≡ s ++ c ∷ rest → isLegalName start s ≡ true
+    → isNameByte c ≡ false → packedAt text at ≡ packed s
+unfolding nameHere packedAt
 packed-at start text at s c rest e h n = rw (e, front-legal start s c rest h n)
 
 -- the name that the line at `at` declares, of which `rest` is the beginning
@@ -91,30 +101,33 @@ declares : (s : Name) (place : ℕ) (x : Name) → x ≡ s → _≡_ {A = Mentio
 declares s place x e = rw e
 
 module _ (at : ℕ) (rest : List ℕ) where
-  input-mention : (s : Name) → plainName s ≡ true → mentionAt at (inputText s ++ rest) ≡ record { name = s; place = at + length (ascii "(in ") }
-  unfolding mentionAt inputText printInput nameOffset plainName nameByte letter digit underscore
+  input-mention : (s : Name) → isPlainName s ≡ true → mentionAt at (inputText s ++ rest) ≡ record { name = s; place = at + length (ascii "(in ") }
+  unfolding mentionAt inputText printInput nameOffset isPlainName isNameByte isLetter isDigit isUnderscore
   input-mention s h = declares s _ _ (rw append-assoc (front-legal _ s 41 (10 ∷ rest) h refl))
 
-  gate-mention : (g : GateLine) → legalGate g ≡ true → mentionAt at (gateText g ++ rest) ≡ record { name = g .name; place = at + length (ascii "(gate ") }
-  unfolding mentionAt gateText printGate nameOffset legalGate nodeName nameByte letter digit underscore
+  gate-mention : (g : GateLine) → isLegalGate g ≡ true → mentionAt at (gateText g ++ rest) ≡ record { name = g .name; place = at + length (ascii "(gate ") }
+  unfolding mentionAt gateText printGate nameOffset isLegalGate isNodeName isNameByte isLetter isDigit isUnderscore
   gate-mention g h =
       declares (g .name) _ _
-      (rw append-assoc (front-legal _ (g .name) 32 _ (and-left (nodeName (g .name)) (legalTerm (apply (g .kind) (g .terms)) 8) h) refl))
+      (rw append-assoc (front-legal _ (g .name) 32 _ (and-left (isNodeName (g .name)) (isLegalTerm (apply (g .kind) (g .terms)) 8) h) refl))
 
-  port-mention : (o : OutputLine) → legalOutput o ≡ true → mentionAt at (outputText o ++ rest) ≡ record { name = o .port; place = at + length (ascii "(out ") }
-  unfolding mentionAt outputText printOutput nameOffset legalOutput plainName nameByte letter digit underscore
+  port-mention : (o : OutputLine) → isLegalOutput o ≡ true
+      → mentionAt at (outputText o ++ rest) ≡ record { name = o .port; place = at + length (ascii "(out ") }
+  unfolding mentionAt outputText printOutput nameOffset isLegalOutput isPlainName isNameByte isLetter isDigit isUnderscore
   port-mention o h =
-      declares (o .port) _ _ (rw append-assoc (front-legal _ (o .port) 32 _ (and-left (plainName (o .port)) (nodeName (o .shown)) h) refl))
+      declares (o .port) _ _ (rw append-assoc (front-legal _ (o .port) 32 _ (and-left (isPlainName (o .port)) (isNodeName (o .shown)) h) refl))
 
-mentions-walk : {A : Type 0} (printed : A → List ℕ → List ℕ) (inLine : A → ℕ → List Mention) (m : A → ℕ → Mention) → ((x : A) (at : ℕ) → inLine x at ≡ m x at ∷ [])
+mentions-walk : {A : Type 0} (printed : A → List ℕ → List ℕ) (inLine : A → ℕ → List Mention) (m : A → ℕ → Mention)
+    → ((x : A) (at : ℕ) → inLine x at ≡ m x at ∷ [])
     → (xs : List A) (at : ℕ) → mentions printed inLine xs at ≡ walk (λ x. printed x []) m xs at
 unfolding mentions
 mentions-walk printed inLine m e [] at = refl
 mentions-walk printed inLine m e (x ∷ xs) at = rw (e x at, mentions-walk printed inLine m e xs (at + length (printed x [])))
 
 -- line by line the text has the tree's declarations
-pub declared-walk : (t : Tree) → legalTree t ≡ true
-    → tab (λ i. mentionAt (lineStart (joined (treeLines t)) i) (drop (lineStart (joined (treeLines t)) i) (joined (treeLines t)))) (length (treeLines t)) ≡ declared t
+pub declared-walk : (t : Tree) → isLegalTree t ≡ true
+    → tab (λ i. mentionAt (lineOffset (joined (treeLines t)) i) (drop (lineOffset (joined (treeLines t)) i) (joined (treeLines t)))) (length (treeLines t))
+    ≡ declared t
 unfolding declared declaredNodes declaredPorts gateLinesAt outputLinesAt linesLength inputText gateText outputText inputMention gateMention portMention
 declared-walk t h =
     let i = walk {B = Mention} inputText (λ s at. record { name = s; place = at + length (ascii "(in ") }) (t .inputs) 0 in
@@ -122,7 +135,11 @@ declared-walk t h =
     let o = walk {B = Mention} outputText (λ x at. record { name = x .port; place = at + length (ascii "(out ") }) (t .outputs) (outputLinesAt t) in
     tree-walk mentionAt _ _ _ (λ x at rest l. input-mention at rest x l) (λ x at rest l. gate-mention at rest x l) (λ x at rest l. port-mention at rest x l) t h
     ∙ sym
-    (rw (mentions-walk printInput inputMention _ (λ x at. refl) (t .inputs) 0, mentions-walk printGate gateMention _ (λ x at. refl) (t .gates) (gateLinesAt t), mentions-walk printOutput portMention _ (λ x at. refl) (t .outputs) (outputLinesAt t))
+    (rw (
+      mentions-walk printInput inputMention _ (λ x at. refl) (t .inputs) 0,
+      mentions-walk printGate gateMention _ (λ x at. refl) (t .gates) (gateLinesAt t),
+      mentions-walk printOutput portMention _ (λ x at. refl) (t .outputs) (outputLinesAt t),
+    )
     (append-assoc i g o))
 
 -- ---- the letters
@@ -131,10 +148,14 @@ walk-same : {A : Type 0} (line : A → List ℕ) (c : ℕ) (xs : List A) (at : �
 walk-same line c [] at = refl
 walk-same line c (x ∷ xs) at = rw (walk-same line c xs (at + length (line x)))
 
-pub letters-walk : (t : Tree) → legalTree t ≡ true
-    → tab (λ i. getD (drop (lineStart (joined (treeLines t)) i) (joined (treeLines t))) 1 0) (length (treeLines t))
+pub letters-walk : (t : Tree) → isLegalTree t ≡ true
+    → tab (λ i. getD (drop (lineOffset (joined (treeLines t)) i) (joined (treeLines t))) 1 0) (length (treeLines t))
     ≡ replicate (length (t .inputs)) 105 ++ (replicate (length (t .gates)) 103 ++ replicate (length (t .outputs)) 111)
 unfolding inputText gateText outputText printInput printGate printOutput
 letters-walk t h =
     tree-walk (λ at rest. getD rest 1 0) (λ x at. 105) (λ x at. 103) (λ x at. 111) (λ x at rest l. refl) (λ x at rest l. refl) (λ x at rest l. refl) t h
-    ∙ rw (walk-same inputText 105 (t .inputs) 0, walk-same gateText 103 (t .gates) (size inputText (t .inputs)), walk-same outputText 111 (t .outputs) (size inputText (t .inputs) + size gateText (t .gates)))
+    ∙ rw (
+      walk-same inputText 105 (t .inputs) 0,
+      walk-same gateText 103 (t .gates) (size inputText (t .inputs)),
+      walk-same outputText 111 (t .outputs) (size inputText (t .inputs) + size gateText (t .gates)),
+    )

@@ -13,9 +13,9 @@ times b [] = 0
 times b (x ∷ xs) = cond (eqb x b) 1 0 + times b xs
 
 -- the bytes up to the first LF, that LF counted
-abbrev pub lineLength : List ℕ → ℕ
-lineLength [] = 0
-lineLength (x ∷ xs) = suc (cond (eqb x 10) 0 (lineLength xs))
+abbrev pub lengthWithLf : List ℕ → ℕ
+lengthWithLf [] = 0
+lengthWithLf (x ∷ xs) = suc (cond (eqb x 10) 0 (lengthWithLf xs))
 
 -- the opening brackets before the first LF
 abbrev pub lineOpens : List ℕ → ℕ
@@ -23,18 +23,18 @@ lineOpens [] = 0
 lineOpens (x ∷ xs) = cond (eqb x 10) 0 (cond (eqb x 40) 1 0 + lineOpens xs)
 
 -- where line i starts
-unfoldable pub lineStart : List ℕ → ℕ → ℕ
-lineStart text zero = 0
-lineStart text (suc i) = lineStart text i + lineLength (drop (lineStart text i) text)
+unfoldable pub lineOffset : List ℕ → ℕ → ℕ
+lineOffset text zero = 0
+lineOffset text (suc i) = lineOffset text i + lengthWithLf (drop (lineOffset text i) text)
 
 -- the gates in the first i lines: a line has one bracket that is no gate's
 unfoldable pub gatesTo : List ℕ → ℕ → ℕ
 gatesTo text zero = 0
-gatesTo text (suc i) = gatesTo text i + (lineOpens (drop (lineStart text i) text) - 1)
+gatesTo text (suc i) = gatesTo text i + (lineOpens (drop (lineOffset text i) text) - 1)
 
 -- the letter behind the bracket of line i: `i`, `g` or `o`
 unfoldable pub letterAt : List ℕ → ℕ → ℕ
-letterAt text i = getD text (lineStart text i + 1) 0
+letterAt text i = getD text (lineOffset text i + 1) 0
 
 -- "(in ", "(gate " or "(out " stands before the name
 unfoldable pub nameOffset : ℕ → ℕ
@@ -45,7 +45,7 @@ unfoldable pub declaredPlace : List ℕ → ℕ → ℕ
 declaredPlace text at = at + nameOffset (getD text (at + 1) 0)
 
 unfoldable pub placeAt : List ℕ → ℕ → ℕ
-placeAt text i = declaredPlace text (lineStart text i)
+placeAt text i = declaredPlace text (lineOffset text i)
 
 -- the node that line i declares, of a text of n inputs, when `gates` gates close up to its end
 unfoldable pub lineWord : ℕ → ℕ → ℕ → ℕ

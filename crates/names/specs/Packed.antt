@@ -4,7 +4,7 @@ use mathlib.Core.Bool.{cond}
 use mathlib.Core.List.{List, [], _∷_}
 use lib.ListN.{getD, drop}
 use Rattle.netlist.specs.Limits.{maxName}
-use Rattle.netlist.specs.StoredBlock.{nameByte}
+use Rattle.netlist.specs.StoredBlock.{isNameByte}
 
 abbrev pub packed : List ℕ → ℕ
 packed [] = 0
@@ -14,14 +14,14 @@ packed (x ∷ xs) = x + 256 * packed xs
 unfoldable pub nameFront : ℕ → List ℕ → List ℕ
 nameFront zero xs = []
 nameFront (suc most) [] = []
-nameFront (suc most) (x ∷ xs) = cond (nameByte x) (x ∷ nameFront most xs) []
+nameFront (suc most) (x ∷ xs) = cond (isNameByte x) (x ∷ nameFront most xs) []
 
 -- the name that stands at a place of a text, and its number
-unfoldable pub nameAt : List ℕ → ℕ → List ℕ
-nameAt text at = nameFront maxName (drop at text)
+unfoldable pub nameHere : List ℕ → ℕ → List ℕ
+nameHere text at = nameFront maxName (drop at text)
 
 unfoldable pub packedAt : List ℕ → ℕ → ℕ
-packedAt text at = packed (nameAt text at)
+packedAt text at = packed (nameHere text at)
 
 -- the number of the name at place i of these places
 unfoldable pub packedThrough : List ℕ → List ℕ → ℕ → ℕ

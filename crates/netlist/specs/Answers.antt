@@ -1,5 +1,6 @@
--- Document 01, "Operations and the refusals they give": the numbers of an answer, and what an operation leaves in the lent slice.
+-- SPECIFICATION 7.1, 7.2: the numbers of an answer, and what an operation leaves in the lent slice.
 use Prim.Native.Nat.{ℕ}
+use mathlib.Core.Path.{_≡_}
 use mathlib.Core.Bool.{Bool, true, false}
 use mathlib.Core.List.{List}
 use mathlib.Core.Option.{Option, none, some}
@@ -7,11 +8,14 @@ use lib.ListN.{length}
 use lib.Dec.{ltb}
 use Rattle.laws.specs.Lists.{placed}
 use Rattle.netlist.specs.declared.Refusal.{Refusal}
-use Rattle.netlist.specs.declared.Refusal.the-variants.{TextTooLong, SyntaxError, OverLimit, DuplicateDeclaration, UndeclaredName, MalformedBlock, BadSetting, TooManyCopies, NotSettled, NotStraight, NoRoom}
+use Rattle.netlist.specs.declared.Refusal.the-variants.{TextTooLong, SyntaxError, OverLimit, DuplicateDeclaration, UndeclaredName, MalformedBlock}
+use Rattle.netlist.specs.declared.Refusal.the-variants.{BadSetting, TooManyCopies, NotSettled, NotStraight, NoRoom}
+use Rattle.netlist.specs.declared.Test.{Test}
+use Rattle.netlist.specs.declared.Test.the-variants.{Passed, Failed}
 use Rattle.netlist.specs.declared.Answer.{Answer}
 use Rattle.netlist.specs.declared.Answer.the-variants.{Done, Refused}
 
--- the table's numbers
+-- the numbers of the table in SPECIFICATION 7.2
 unfoldable pub refusalNumber : Refusal → ℕ
 refusalNumber TextTooLong = 1
 refusalNumber (SyntaxError place) = 2
@@ -25,7 +29,7 @@ refusalNumber (NotSettled setting) = 9
 refusalNumber NotStraight = 10
 refusalNumber NoRoom = 11
 
--- "detail 0 but where stated"
+-- the place or the setting that a refusal tells, or 0
 unfoldable pub refusalDetail : Refusal → ℕ
 refusalDetail TextTooLong = 0
 refusalDetail (SyntaxError place) = place
@@ -39,12 +43,12 @@ refusalDetail (NotSettled setting) = setting
 refusalDetail NotStraight = 0
 refusalDetail NoRoom = 0
 
--- "Each but Line gives a number (0 on success), a count and a detail"
+-- 0 on success
 unfoldable pub numberOf : Answer → ℕ
 numberOf (Done count detail) = 0
 numberOf (Refused r) = refusalNumber r
 
--- "Refused: count 0"
+-- a refusal counts nothing
 unfoldable pub countOf : Answer → ℕ
 countOf (Done count detail) = count
 countOf (Refused r) = 0
@@ -52,6 +56,23 @@ countOf (Refused r) = 0
 unfoldable pub detailOf : Answer → ℕ
 detailOf (Done count detail) = detail
 detailOf (Refused r) = refusalDetail r
+
+-- ---- The answer of a condition's test
+
+-- a condition that holds refuses
+unfoldable pub testOf : Bool → Refusal → Test
+testOf true r = Failed r
+testOf false r = Passed
+
+-- a condition that tells a place
+unfoldable pub testAt : Option ℕ → (ℕ → Refusal) → Test
+testAt (some place) r = Failed (r place)
+testAt none r = Passed
+
+-- what an operation answers when a test failed
+unfoldable pub refusalOf : Test → Answer
+refusalOf (Failed r) = Refused r
+refusalOf Passed = Done 0 0
 
 -- ---- An operation's outcome: its result with count and detail, or a refusal.
 
@@ -69,7 +90,7 @@ unfoldable pub refuseAt : Option ℕ → (ℕ → Refusal) → Outcome → Outco
 refuseAt (some place) r next = refused (r place)
 refuseAt none r next = next
 
--- 11: "the slice for the result is too small"
+-- 11: a slice shorter than the result; an equal length is enough
 unfoldable pub inRoom : ℕ → Outcome → Outcome
 inRoom room (done result count detail) = refuseIf (ltb room (length result)) NoRoom (done result count detail)
 inRoom room (refused r) = refused r
@@ -78,8 +99,18 @@ unfoldable pub answerOf : Outcome → Answer
 answerOf (done result count detail) = Done count detail
 answerOf (refused r) = Refused r
 
--- what the slice lent for the result holds in the end: "Where a slice is longer than the result, its rest is kept.", "Refused: nothing
--- lent is altered."
+-- what the slice lent for the result holds in the end: the result in front and what was behind it, or, after a refusal, all that was there
 unfoldable pub leftIn : Outcome → List ℕ → List ℕ
 leftIn (done result count detail) entry = placed result entry
 leftIn (refused r) entry = entry
+
+-- ---- What an operation promises, from its outcome: the three numbers of its answer, and what the lent slice holds at exit
+
+pub record Told (o : Outcome) (r : Answer) : Type 0 where
+  pub number : numberOf r ≡ numberOf (answerOf o)
+  pub count : countOf r ≡ countOf (answerOf o)
+  pub detail : detailOf r ≡ detailOf (answerOf o)
+
+pub record Promise (o : Outcome) (entry : List ℕ) (r : Answer) (exit : List ℕ) : Type 0 where
+  pub told : Told o r
+  pub leaves : exit ≡ leftIn o entry

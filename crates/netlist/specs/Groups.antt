@@ -1,4 +1,4 @@
--- Document 01, "Groups and rendering": which gates reach each other, the strongly connected groups and their order.
+-- SPECIFICATION 5: which gates reach each other, the strongly connected groups and their order. The count of copies is of 6.1.
 use Prim.Native.Nat.{ℕ, zero, suc, _*_}
 use mathlib.Core.Path.{_≡_}
 use mathlib.Core.Bool.{Bool, true, false, cond, not, _&&_, _||_}
@@ -20,10 +20,10 @@ readBy b i = joined (map gateOperand (gateOf b i .operands))
 unfoldable pub reads : Block → ℕ → ℕ → Bool
 reads b i j = member j (readBy b i)
 
--- gate i "reaches" gate j "through operands", or is the same
-pub data Path (b : Block) : ℕ → ℕ → Type 0 where
-  stay : {i : ℕ} → Path b i i
-  step : {i j k : ℕ} → reads b i j ≡ true → Path b j k → Path b i k
+-- a chain of reads from gate i to gate j, perhaps of no step
+pub data OperandPath (b : Block) : ℕ → ℕ → Type 0 where
+  stay : {i : ℕ} → OperandPath b i i
+  step : {i j k : ℕ} → reads b i j ≡ true → OperandPath b j k → OperandPath b i k
 
 -- The same, computed. A set of gates is a Boolean for each; it grows by what its gates read, m times over.
 unfoldable pub has : List Bool → ℕ → Bool
@@ -42,7 +42,7 @@ reach b i = grownTimes b (gateCount b) (tab (eqb i) (gateCount b))
 unfoldable pub reaches : Block → ℕ → ℕ → Bool
 reaches b i j = has (reach b i) j
 
--- "Two gates are in one group when they are the same or each reaches the other through operands."
+-- each reaches the other, or they are the same
 unfoldable pub sameGroup : Block → ℕ → ℕ → Bool
 sameGroup b i j = reaches b i j && reaches b j i
 
@@ -50,15 +50,15 @@ sameGroup b i j = reaches b i j && reaches b j i
 unfoldable pub groupOf : Block → ℕ → List ℕ
 groupOf b j = keep (sameGroup b j) (upTo (gateCount b))
 
--- the group reads, "outside" itself, "no gate of a group not yet numbered"; `done` are the gates of the numbered groups
-unfoldable pub ready : Block → List ℕ → List ℕ → Bool
-ready b done group = all (λ i. all (λ k. member k group || member k done) (readBy b i)) group
+-- what the group reads outside itself is in groups that have a number; `done` are the gates of those groups
+unfoldable pub isReady : Block → List ℕ → List ℕ → Bool
+isReady b done group = all (λ i. all (λ k. member k group || member k done) (readBy b i)) group
 
 -- gate j's group can be numbered next
 unfoldable pub mayBeNext : Block → List ℕ → ℕ → Bool
-mayBeNext b done j = not (member j done) && ready b done (groupOf b j)
+mayBeNext b done j = not (member j done) && isReady b done (groupOf b j)
 
--- "the one holding the lowest gate number is next": the groups from here on, when those of `done` are numbered
+-- the groups from here on, when those of `done` are numbered: next is, of all that can be, the one with the lowest gate
 unfoldable pub groupsAfter : Block → ℕ → List ℕ → List (List ℕ)
 groupsAfter b zero done = []
 groupsAfter b (suc more) done =
@@ -66,7 +66,7 @@ groupsAfter b (suc more) done =
     let rest = groupsAfter b more (done ++ groupOf b j) in
     cond (ltb j (gateCount b)) (groupOf b j ∷ rest) []
 
--- "Groups are numbered one by one"; there are at most as many as gates
+-- all of them, from none numbered on; there are at most as many as gates
 unfoldable pub groups : Block → List (List ℕ)
 groups b = groupsAfter b (gateCount b) []
 
@@ -77,6 +77,6 @@ groupNumber b j = least (λ g. member j (getD (groups b) g [])) (length (groups 
 unfoldable pub groupNumbers : Block → List ℕ
 groupNumbers b = tab (groupNumber b) (gateCount b)
 
--- "Copies in all: the sum of g × g."
+-- a group of g gates is copied g times over: the sum of squares
 unfoldable pub copyCount : Block → ℕ
 copyCount b = sum (map (λ g. length g * length g) (groups b))

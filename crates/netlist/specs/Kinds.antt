@@ -1,21 +1,22 @@
--- Document 01, "Three-valued meaning": the kinds, the table of controlling values, and one gate's value from its operands' values.
+-- SPECIFICATION 3.2: the kinds, the table of controlling values, and one gate's value from its operands' values.
 -- Kinds are numbers: 0 not, 1 and, 2 or, 3 nand, 4 nor.
 use Prim.Native.Nat.{ℕ, _-_, _≤_}
 use mathlib.Core.Bool.{Bool, true, false, cond, _&&_}
-use mathlib.Core.List.{List, [], _∷_}
+use mathlib.Core.List.{List, [], _∷_, map}
 use Prim.Native.String.{String}
-use lib.ListN.{length, getD}
+use lib.ListN.{getD}
 use lib.Dec.{eqb, leb}
 use Rattle.laws.specs.Lists.{ascii, all, any, trimmed}
 use Rattle.netlist.specs.declared.Row.{Row}
-use Rattle.netlist.specs.Values.{Value, undefined, code, valueOf, invert, defined}
+use Rattle.netlist.specs.declared.Signature.{Signature}
+use Rattle.netlist.specs.Values.{Value, undefined, code, valueOf, invert, isDefined}
 
--- "`and`, `or`, `nand`, `nor` with two to four" operands
+-- every kind of the table has two to four operands
 unfoldable pub row : ℕ → ℕ → String → Row
 row controlling forced word =
     record { fewest = 2; most = 4; controlling = controlling; forced = forced; keyword = ascii word }
 
--- "and 0 forces 0, or 1 forces 1, nand 0 forces 1, nor 1 forces 0"
+-- `and`, `or`, `nand`, `nor`: the controlling value, and what it forces
 unfoldable pub rows : List Row
 rows = row 0 0 "and\0" ∷ row 1 1 "or\0\0" ∷ row 0 1 "nand" ∷ row 1 0 "nor\0" ∷ []
 
@@ -27,29 +28,42 @@ rowOf k = getD rows (k - 1) (record { fewest = 0; most = 0; controlling = 0; for
 unfoldable pub isNot : ℕ → Bool
 isNot k = eqb k 0
 
--- "kinds 0 not, 1 and, 2 or, 3 nand, 4 nor"
 unfoldable pub isKind : ℕ → Bool
-isKind k = leb k (length rows)
+isKind k = leb k 4
 
--- "`not` with one operand, or `and`, `or`, `nand`, `nor` with two to four"
+-- operand counts and keyword, of a row and of the kinds that have none
+unfoldable pub signatureIn : Row → Signature
+signatureIn r = record { fewest = r .fewest; most = r .most; keyword = r .keyword }
+
+unfoldable pub signature : ℕ → ℕ → String → Signature
+signature fewest most word = record { fewest = fewest; most = most; keyword = ascii word }
+
+-- by the kind's number
+unfoldable pub signatures : List Signature
+signatures = signature 1 1 "not\0" ∷ map signatureIn rows
+
+unfoldable pub signatureOf : ℕ → Signature
+unfolding signatures signatureIn signature rows row
+signatureOf k = getD signatures k (signature 0 0 "\0\0\0\0")
+
 unfoldable pub fewestOperands : ℕ → ℕ
-fewestOperands k = cond (isNot k) 1 (rowOf k .fewest)
+fewestOperands k = signatureOf k .fewest
 
 unfoldable pub mostOperands : ℕ → ℕ
-mostOperands k = cond (isNot k) 1 (rowOf k .most)
+mostOperands k = signatureOf k .most
 
 unfoldable pub arityFits : ℕ → ℕ → Bool
 arityFits k count = leb (fewestOperands k) count && leb count (mostOperands k)
 
 unfoldable pub keyword : ℕ → List ℕ
-keyword k = cond (isNot k) (ascii "not") (trimmed (rowOf k .keyword))
+keyword k = trimmed (signatureOf k .keyword)
 
--- "`and` is 0 if some operand is 0, 1 if all are 1, else undefined", and so for each row: what is forced if some operand is the
--- controlling value, the opposite if all are the other value, else undefined
+-- one rule for all rows: what is forced if some operand is the controlling value, its opposite if all are the other value, else
+-- undefined
 unfoldable pub ruled : Row → List Value → Value
 ruled r vs =
     cond (any (λ v. eqb (code v) (r .controlling)) vs) (valueOf (r .forced))
-    (cond (all defined vs) (invert (valueOf (r .forced))) undefined)
+    (cond (all isDefined vs) (invert (valueOf (r .forced))) undefined)
 
 -- the value of a gate of kind k whose operands have the values vs
 unfoldable pub gateValue : ℕ → List Value → Value

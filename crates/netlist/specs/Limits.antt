@@ -1,11 +1,11 @@
--- Every limit of document 01, once.
-use Prim.Native.Nat.{ℕ}
+-- SPECIFICATION 1.5: every limit, once.
+use Prim.Native.Nat.{ℕ, _+_, _*_}
 
--- "text above 61,440 bytes"
+-- bytes of a text
 abbrev pub maxText : ℕ
 maxText = 61440
 
--- "above 10 inputs, 1,024 gates (inner ones counted) or 16 outputs"
+-- inputs, gates (inner ones too) and outputs of a block
 abbrev pub maxInputs : ℕ
 maxInputs = 10
 
@@ -15,14 +15,28 @@ maxGates = 1024
 abbrev pub maxOutputs : ℕ
 maxOutputs = 16
 
--- "copies above 1,024": a rendered block is a block
+-- gates of a rendering, which is a block
 abbrev pub maxCopies : ℕ
 maxCopies = maxGates
 
--- "1 to 8 bytes"
+-- bytes of a name or a port
 abbrev pub maxName : ℕ
 maxName = 8
 
--- "depth 8 is the greatest"
+-- expressions inside each other
 abbrev pub maxDepth : ℕ
 maxDepth = 8
+
+-- ---- what follows from them
+
+-- words of the largest block (2.1): three counts, four words a name, five a gate and five an output
+abbrev pub maxBlock : ℕ
+maxBlock = 3 + 4 * maxInputs + 5 * maxGates + 5 * maxOutputs
+
+-- bytes of the names `_0` to `_1023`
+abbrev pub maxGateNames : ℕ
+maxGateNames = 4010
+
+-- bytes of the longest written text (7.11): `(in NAME)`, `(gate `, a name, ` (nand` with four names and `))`, and `(out PORT NAME)`, each with its LF
+abbrev pub maxWritten : ℕ
+maxWritten = (6 + maxName) * maxInputs + (15 + 4 * (1 + maxName)) * maxGates + maxGateNames + (8 + 2 * maxName) * maxOutputs

@@ -1,4 +1,4 @@
--- Document 01, Line: "the line of the text that holds a given place, as the part of the caller's own text, without its LF".
+-- SPECIFICATION 7.4: the line of a text that holds a place, by its two ends.
 use Prim.Native.Nat.{ℕ, zero, suc, _+_, _-_, min}
 use mathlib.Core.Bool.{cond}
 use mathlib.Core.List.{List, [], _∷_}
@@ -8,7 +8,7 @@ use lib.Dec.{eqb}
 abbrev pub lf : ℕ
 lf = 10
 
--- "A place past the end counts as the end"
+-- a place past the end is the end
 unfoldable pub clamped : List ℕ → ℕ → ℕ
 clamped text place = min place (length text)
 
@@ -17,7 +17,7 @@ unfoldable pub startBefore : List ℕ → ℕ → ℕ
 startBefore text zero = 0
 startBefore text (suc p) = cond (eqb (getD text p 0) lf) (suc p) (startBefore text p)
 
--- "An LF belongs to the line it ends.": how many bytes stand before the first LF
+-- how many bytes stand before the first LF; an LF at the place itself ends the line, so it is of that line
 unfoldable pub untilLf : List ℕ → ℕ
 untilLf [] = 0
 untilLf (c ∷ s) = cond (eqb c lf) 0 (suc (untilLf s))

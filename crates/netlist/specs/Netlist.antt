@@ -1,4 +1,4 @@
--- A netlist as a record: what the stored block and the text both stand for, and what the meaning is defined on.
+-- A netlist as a record: what the text (SPECIFICATION 1) and the stored block (2) both stand for, and what the meaning is defined on.
 use Prim.Native.Nat.{ℕ}
 use mathlib.Core.Bool.{Bool, true, false}
 use mathlib.Core.List.{List, []}
@@ -27,7 +27,7 @@ pub record Block : Type 0 where
   pub gates : List Gate
   pub outputs : List Output
 
--- n, m and k of document 01
+-- n, m and k
 abbrev pub inputCount : Block → ℕ
 inputCount b = length (b .inputs)
 

@@ -1,6 +1,6 @@
--- Document 01, "Operations and the refusals they give": one definition for each operation, its conditions in the order given there.
--- "Each condition is over the whole input, tested in the order given for the operation, and the first that holds is answered." Where an
--- operation has a slice for its result, `room` is the slice's length, and 11 is the last condition.
+-- SPECIFICATION 7.3 and 7.5 to 7.11: one definition for each operation. Its conditions stand in the order in which they are tested, each is
+-- over the whole input, and the first that holds is answered. Where an operation has a slice for its result, `room` is the slice's length,
+-- and 11 is the last condition.
 use Prim.Native.Nat.{ℕ, _-_}
 use mathlib.Core.Bool.{Bool, not, _||_}
 use mathlib.Core.List.{List, [], map}
@@ -8,22 +8,23 @@ use lib.ListN.{length}
 use lib.Dec.{eqb, leb, ltb}
 use Rattle.laws.specs.Lists.{all}
 use Rattle.netlist.specs.declared.Refusal.{Refusal}
-use Rattle.netlist.specs.declared.Refusal.the-variants.{TextTooLong, SyntaxError, OverLimit, DuplicateDeclaration, UndeclaredName, MalformedBlock, BadSetting, TooManyCopies, NotSettled, NotStraight, NoRoom}
+use Rattle.netlist.specs.declared.Refusal.the-variants.{TextTooLong, SyntaxError, OverLimit, DuplicateDeclaration, UndeclaredName, MalformedBlock}
+use Rattle.netlist.specs.declared.Refusal.the-variants.{BadSetting, TooManyCopies, NotSettled, NotStraight, NoRoom}
 use Rattle.netlist.specs.Limits.{maxText, maxCopies}
 use Rattle.netlist.specs.Values.{Value, code, valueOf}
 use Rattle.netlist.specs.Netlist.{Block, inputCount, gateCount}
-use Rattle.netlist.specs.StoredBlock.{encode, decode, torn}
+use Rattle.netlist.specs.StoredBlock.{encode, decode, isTorn}
 use Rattle.netlist.specs.Rounds.{rounds, settled, settledSettings, lowestUnsettled}
-use Rattle.netlist.specs.Cover.{sound, cover, coverWords}
+use Rattle.netlist.specs.Cover.{isSound, cover, coverEntries}
 use Rattle.netlist.specs.Groups.{groups, groupNumbers, copyCount}
-use Rattle.netlist.specs.Rendering.{rendering, straight, sweep}
+use Rattle.netlist.specs.Rendering.{rendering, isStraight, sweep}
 use Rattle.netlist.specs.Syntax.{Tree}
 use Rattle.netlist.specs.Parse.{Parsed, got, stuck, parse}
-use Rattle.netlist.specs.Reading.{overLimit, firstDuplicate, firstUndeclared, blockOf}
+use Rattle.netlist.specs.Reading.{isOverLimit, firstDuplicate, firstUndeclared, blockOf}
 use Rattle.netlist.specs.Writing.{writtenText}
 use Rattle.netlist.specs.Answers.{Outcome, done, refused, refuseIf, refuseAt, inRoom}
 
--- ---- Read (1, 2, 3, 4, 5, 11): "text to block; count: words"
+-- ---- 7.3 Read (1, 2, 3, 4, 5, 11): the block of a text; count: words
 
 -- words with their number as the count
 unfoldable pub counted : List ℕ → Outcome
@@ -31,7 +32,7 @@ counted ws = done ws (length ws) 0
 
 unfoldable pub readTree : Tree → Outcome
 readTree t =
-    refuseIf (overLimit t) OverLimit
+    refuseIf (isOverLimit t) OverLimit
     (refuseAt (firstDuplicate t) DuplicateDeclaration
     (refuseAt (firstUndeclared t) UndeclaredName
     (counted (encode (blockOf t)))))
@@ -41,96 +42,95 @@ unfoldable pub readParsed : List ℕ → Parsed Tree → Outcome
 readParsed text (stuck left) = refused (SyntaxError (length text - left))
 readParsed text (got t rest) = readTree t
 
-unfoldable pub reading : List ℕ → Outcome
-reading text =
+unfoldable pub readText : List ℕ → Outcome
+readText text =
     refuseIf (ltb maxText (length text)) TextTooLong
     (readParsed text (parse text))
 
 unfoldable pub read : List ℕ → ℕ → Outcome
-read text room = inRoom room (reading text)
+read text room = inRoom room (readText text)
 
--- ---- Settle (6, 7, 11): "settled value of each gate, a byte each, from one byte an input, 0, 1 or 2; count: rounds"
+-- ---- 7.5 Settle (6, 7, 11): the codes of the settled values; count: rounds
 
--- 7: "not exactly n bytes, or a byte above 2"
-unfoldable pub badSetting : Block → List ℕ → Bool
-badSetting b setting = not (eqb (length setting) (inputCount b)) || not (all (λ v. leb v 2) setting)
+-- 7: another length than n, or a byte that is no code
+unfoldable pub isBadSetting : Block → List ℕ → Bool
+isBadSetting b setting = not (eqb (length setting) (inputCount b)) || not (all (λ v. leb v 2) setting)
 
-unfoldable pub settling : Block → List Value → Outcome
-settling b x = done (map code (settled b x)) (rounds b x) 0
+unfoldable pub settleBlock : Block → List Value → Outcome
+settleBlock b x = done (map code (settled b x)) (rounds b x) 0
 
 unfoldable pub settle : List ℕ → List ℕ → ℕ → Outcome
 settle ws setting room =
     inRoom room
-    (refuseIf (torn ws) MalformedBlock
-    (refuseIf (badSetting (decode ws) setting) BadSetting
-    (settling (decode ws) (map valueOf setting))))
+    (refuseIf (isTorn ws) MalformedBlock
+    (refuseIf (isBadSetting (decode ws) setting) BadSetting
+    (settleBlock (decode ws) (map valueOf setting))))
 
--- ---- Verdict (6): "count: settled settings; detail: the lowest other, or 2^n if none"
+-- ---- 7.6 Verdict (6): nothing is written; count: settled settings; detail: the lowest other
 
 unfoldable pub verdict : List ℕ → Outcome
 verdict ws =
-    refuseIf (torn ws) MalformedBlock
+    refuseIf (isTorn ws) MalformedBlock
     (done [] (settledSettings (decode ws)) (lowestUnsettled (decode ws)))
 
--- ---- Cover (6, 11): "two words an entry; count: entries"
+-- ---- 7.7 Cover (6, 11): the cover's masks; count: entries
 
-unfoldable pub covering : Block → Outcome
-covering b = done (coverWords b) (length (cover b)) 0
+unfoldable pub coverBlock : Block → Outcome
+coverBlock b = done (coverEntries b) (length (cover b)) 0
 
 unfoldable pub coverOf : List ℕ → ℕ → Outcome
 coverOf ws room =
     inRoom room
-    (refuseIf (torn ws) MalformedBlock
-    (covering (decode ws)))
+    (refuseIf (isTorn ws) MalformedBlock
+    (coverBlock (decode ws)))
 
--- ---- Groups (6, 11): "each gate's group number, a word each; count: groups"
+-- ---- 7.8 Groups (6, 11): the number of each gate's group; count: groups
 
-unfoldable pub grouping : Block → Outcome
-grouping b = done (groupNumbers b) (length (groups b)) 0
+unfoldable pub groupsBlock : Block → Outcome
+groupsBlock b = done (groupNumbers b) (length (groups b)) 0
 
 unfoldable pub groupsOf : List ℕ → ℕ → Outcome
 groupsOf ws room =
     inRoom room
-    (refuseIf (torn ws) MalformedBlock
-    (grouping (decode ws)))
+    (refuseIf (isTorn ws) MalformedBlock
+    (groupsBlock (decode ws)))
 
--- ---- Render (6, 8, 9, 11): "count: words"
+-- ---- 7.9 Render (6, 8, 9, 11): the rendered block; count: words
 
--- "8 exactly when the sum is above 1,024; 9 exactly when the sum is at most 1,024 and the block isn't sound, with the number of the
--- lowest setting that isn't settled"
+-- 8 where there are too many copies, else 9 where some setting is not settled, with the lowest such
 unfoldable pub renderBlock : Block → Outcome
 renderBlock b =
     refuseIf (ltb maxCopies (copyCount b)) TooManyCopies
-    (refuseIf (not (sound b)) (NotSettled (lowestUnsettled b))
+    (refuseIf (not (isSound b)) (NotSettled (lowestUnsettled b))
     (counted (encode (rendering b))))
 
-unfoldable pub rendered : List ℕ → Outcome
-rendered ws =
-    refuseIf (torn ws) MalformedBlock
+unfoldable pub renderWords : List ℕ → Outcome
+renderWords ws =
+    refuseIf (isTorn ws) MalformedBlock
     (renderBlock (decode ws))
 
 unfoldable pub render : List ℕ → ℕ → Outcome
-render ws room = inRoom room (rendered ws)
+render ws room = inRoom room (renderWords ws)
 
--- ---- Pass (6, 10, 7, 11): "values of a straight block in one sweep, equal to Settle's; count: m"
+-- ---- 7.10 Pass (6, 10, 7, 11): the codes of a sweep's values, which are Settle's; count: gates
 
-unfoldable pub sweeping : Block → List Value → Outcome
-sweeping b x = done (map code (sweep b x)) (gateCount b) 0
+unfoldable pub passBlock : Block → List Value → Outcome
+passBlock b x = done (map code (sweep b x)) (gateCount b) 0
 
 unfoldable pub pass : List ℕ → List ℕ → ℕ → Outcome
 pass ws setting room =
     inRoom room
-    (refuseIf (torn ws) MalformedBlock
-    (refuseIf (not (straight (decode ws))) NotStraight
-    (refuseIf (badSetting (decode ws) setting) BadSetting
-    (sweeping (decode ws) (map valueOf setting)))))
+    (refuseIf (isTorn ws) MalformedBlock
+    (refuseIf (not (isStraight (decode ws))) NotStraight
+    (refuseIf (isBadSetting (decode ws) setting) BadSetting
+    (passBlock (decode ws) (map valueOf setting)))))
 
--- ---- Write (6, 11): "block to text; count: bytes"
+-- ---- 7.11 Write (6, 11): the text of a block; count: bytes
 
-unfoldable pub written : List ℕ → Outcome
-written ws =
-    refuseIf (torn ws) MalformedBlock
+unfoldable pub writeWords : List ℕ → Outcome
+writeWords ws =
+    refuseIf (isTorn ws) MalformedBlock
     (counted (writtenText (decode ws)))
 
 unfoldable pub write : List ℕ → ℕ → Outcome
-write ws room = inRoom room (written ws)
+write ws room = inRoom room (writeWords ws)

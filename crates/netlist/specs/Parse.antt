@@ -1,4 +1,4 @@
--- Document 01, "The netlist text": the tree of a text, or where its form breaks. A reader takes what it can from the front of a text and
+-- SPECIFICATION 1, 7.2 (refusal 2): the tree of a text, or where its form breaks. A reader takes what it can from the front of a text and
 -- answers a value with the rest, or the number of bytes left from the bad one on; so a place needs no arithmetic until the very end.
 use Prim.Native.Nat.{ℕ, zero, suc, _-_}
 use mathlib.Core.Bool.{Bool, true, false}
@@ -9,7 +9,7 @@ use Rattle.laws.specs.Lists.{ascii, is}
 use Rattle.netlist.specs.Limits.{maxName, maxDepth}
 use Rattle.netlist.specs.Kinds.{fewestOperands, mostOperands}
 use Rattle.netlist.specs.Netlist.{Name}
-use Rattle.netlist.specs.StoredBlock.{letter, nameByte, nameStart}
+use Rattle.netlist.specs.StoredBlock.{isLetter, isNameByte, isNameStart}
 use Rattle.netlist.specs.Syntax.{Term, Terms, name, literal, apply, nil, cons, GateLine, OutputLine, Tree}
 
 pub data Parsed (A : Type 0) : Type 0 where
@@ -58,7 +58,7 @@ module _ {A B : Type 0} where
 -- at most this many name bytes
 unfoldable pub nameBytes : ℕ → Reader Name
 nameBytes zero = pure []
-nameBytes (suc most) = ifNext nameByte (λ c. bind (nameBytes most) (λ cs. pure (c ∷ cs))) (pure [])
+nameBytes (suc most) = ifNext isNameByte (λ c. bind (nameBytes most) (λ cs. pure (c ∷ cs))) (pure [])
 
 unfoldable pub nameAfter : ℕ → Reader Name
 nameAfter c = bind (nameBytes (maxName - 1)) (λ cs. pure (c ∷ cs))
@@ -89,7 +89,7 @@ termsReader term zero needed = expect (ascii ")") (pure nil)
 termsReader term (suc most) zero = ifNext (is ")") (λ _. pure nil) (spaced term (termsReader term most zero))
 termsReader term (suc most) (suc needed) = spaced term (termsReader term most needed)
 
--- an EXPR behind its opening bracket
+-- an expression behind its opening bracket
 unfoldable pub exprReader : {A : Type 0} → Reader Term → (ℕ → Terms → A) → Reader A
 exprReader term make =
     bind kindReader (λ k. bind (termsReader term (mostOperands k) (fewestOperands k)) (λ ts. pure (make k ts)))
@@ -97,11 +97,11 @@ exprReader term make =
 -- an operand that is a name or a constant, or else `inner`
 unfoldable pub leafOr : Reader Term → Reader Term
 leafOr inner =
-    ifNext nameStart (λ c. bind (nameAfter c) (λ s. pure (name s)))
+    ifNext isNameStart (λ c. bind (nameAfter c) (λ s. pure (name s)))
     (ifNext (is "0") (λ _. pure (literal false))
     (ifNext (is "1") (λ _. pure (literal true)) inner))
 
--- an operand, with `depth` levels of EXPR left
+-- an operand, with `depth` levels of expressions left
 unfoldable pub termReader : ℕ → Reader Term
 termReader zero = leafOr stop
 termReader (suc depth) = leafOr (expect (ascii "(") (exprReader (termReader depth) apply))
@@ -120,14 +120,14 @@ addOutput o t = record { inputs = t .inputs; gates = t .gates; outputs = o ∷ t
 unfoldable pub inputLine : Reader Tree → Reader Tree → Reader Tree
 inputLine others otherwise =
     ifNext (is "i") (λ _. expect (ascii "n ")
-    (bind (nameReader letter) (λ s. expect (ascii ")\n")
+    (bind (nameReader isLetter) (λ s. expect (ascii ")\n")
     (bind others (λ t. pure (addInput s t))))))
     otherwise
 
 unfoldable pub gateLine : Reader Tree → Reader Tree → Reader Tree
 gateLine others otherwise =
     ifNext (is "g") (λ _. expect (ascii "ate ")
-    (bind (nameReader nameStart) (λ s. expect (ascii " (")
+    (bind (nameReader isNameStart) (λ s. expect (ascii " (")
     (bind (exprReader (termReader (maxDepth - 1)) (λ k ts. record { name = s; kind = k; terms = ts })) (λ g. expect (ascii ")\n")
     (bind others (λ t. pure (addGate g t))))))))
     otherwise
@@ -135,8 +135,8 @@ gateLine others otherwise =
 unfoldable pub outputLine : Reader Tree → Reader Tree → Reader Tree
 outputLine others otherwise =
     ifNext (is "o") (λ _. expect (ascii "ut ")
-    (bind (nameReader letter) (λ p. expect (ascii " ")
-    (bind (nameReader nameStart) (λ s. expect (ascii ")\n")
+    (bind (nameReader isLetter) (λ p. expect (ascii " ")
+    (bind (nameReader isNameStart) (λ s. expect (ascii ")\n")
     (bind others (λ t. pure (addOutput (record { port = p; shown = s }) t))))))))
     otherwise
 
@@ -148,7 +148,7 @@ atEnd (c ∷ s) = stuck (length (c ∷ s))
 unfoldable pub line : Reader Tree → Reader Tree
 line behind = ifNext (is "(") (λ _. behind) atEnd
 
--- "Lines stand in this order: all inputs, all gates, all outputs." The number bounds the lines.
+-- Behind an output only outputs go on, behind a gate no input. The number bounds the lines.
 unfoldable pub outputsReader : ℕ → Reader Tree
 outputsReader zero s = atEnd s
 outputsReader (suc more) s = line (outputLine (λ r. outputsReader more r) stop) s

@@ -1,12 +1,11 @@
--- Document 01: "The program `unloop` reads a text on standard input and writes the rendered text, or the line `(refused NUMBER DETAIL)`,
--- both decimal."
+-- SPECIFICATION 8: what the program `unloop` writes, the text of the rendering or the line of the first refusal.
 use Prim.Native.Nat.{ℕ}
 use mathlib.Core.List.{List, [], _++_}
 use Rattle.laws.specs.Lists.{ascii}
 use Rattle.netlist.specs.declared.Refusal.{Refusal}
 use Rattle.netlist.specs.Writing.{decimal}
 use Rattle.netlist.specs.Answers.{Outcome, done, refused, refusalNumber, refusalDetail}
-use Rattle.netlist.specs.Operations.{reading, rendered, written}
+use Rattle.netlist.specs.Operations.{readText, renderWords, writeWords}
 
 -- an operation on what the one before it gave
 unfoldable pub chained : Outcome → (List ℕ → Outcome) → Outcome
@@ -23,4 +22,4 @@ shown (refused r) = refusalLine r
 
 -- what `unloop` writes when it reads this text
 unfoldable pub unloop : List ℕ → List ℕ
-unloop text = shown (chained (chained (reading text) rendered) written)
+unloop text = shown (chained (chained (readText text) renderWords) writeWords)

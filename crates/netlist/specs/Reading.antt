@@ -1,5 +1,5 @@
--- Document 01, "The netlist text" and refusals 3 to 5: the counts, the declared and the used names with their places, and the netlist of a
--- tree.
+-- SPECIFICATION 1.2, 1.4 and refusals 3 to 5 of 7.2: the counts, the declared and the used names with their places, and the netlist of
+-- a tree.
 use Prim.Native.Nat.{ℕ, zero, suc, _+_}
 use mathlib.Core.Bool.{Bool, true, false, cond, not, _&&_}
 use mathlib.Core.List.{List, [], _∷_, _++_, map}
@@ -12,7 +12,7 @@ use Rattle.netlist.specs.Kinds.{keyword}
 use Rattle.netlist.specs.Netlist.{Name, Operand, input, gate, constant, Gate, Output, Block}
 use Rattle.netlist.specs.Syntax.{Term, Terms, name, literal, apply, nil, cons, GateLine, OutputLine, Tree, printTerm, printInput, printGate, printOutput}
 
--- ---- 3: "above 10 inputs, 1,024 gates (inner ones counted) or 16 outputs"
+-- ---- 3: too many inputs, gates (an inner expression is one) or outputs
 
 unfoldable mutual
   pub gatesIn : Term → ℕ
@@ -27,11 +27,11 @@ unfoldable mutual
 unfoldable pub lineGates : GateLine → ℕ
 lineGates g = suc (gatesInside (g .terms))
 
-unfoldable pub overLimit : Tree → Bool
-overLimit t =
+unfoldable pub isOverLimit : Tree → Bool
+isOverLimit t =
     not (leb (length (t .inputs)) maxInputs && leb (sum (map lineGates (t .gates))) maxGates && leb (length (t .outputs)) maxOutputs)
 
--- ---- names with their places: "A place is a byte offset from 0, a name's that of its first byte."
+-- ---- names with their places: the number of bytes before a name's first
 
 pub record Mention : Type 0 where
   pub name : Name
@@ -77,7 +77,7 @@ unfoldable mutual
 unfoldable pub operandMentions : GateLine → ℕ → List Mention
 operandMentions g at = termMentions (apply (g .kind) (g .terms)) (at + length (ascii "(gate ") + length (g .name) + 1)
 
--- "Inputs and gates share one set of names; ports are a set of their own."
+-- inputs and gates are declared in one set of names, ports in another
 unfoldable pub declaredNodes : Tree → List Mention
 declaredNodes t = mentions printInput inputMention (t .inputs) 0 ++ mentions printGate gateMention (t .gates) (gateLinesAt t)
 
@@ -89,7 +89,7 @@ usedNames t =
     mentions printGate operandMentions (t .gates) (gateLinesAt t)
     ++ mentions printOutput shownMention (t .outputs) (outputLinesAt t)
 
--- ---- 4: "an input or gate name, or a port, declared again; detail: place of the earliest repeating one"
+-- ---- 4: the least place of a declaration that has an equal one of its set before it
 
 unfoldable pub firstRepeat : List Name → List Mention → Option ℕ
 firstRepeat before [] = none
@@ -103,7 +103,7 @@ orElse none other = other
 unfoldable pub firstDuplicate : Tree → Option ℕ
 firstDuplicate t = orElse (firstRepeat [] (declaredNodes t)) (firstRepeat [] (declaredPorts t))
 
--- ---- 5: "a name used but not declared; detail: earliest place"
+-- ---- 5: the least place of a use of a name that no input or gate declares
 
 unfoldable pub firstOutside : List Name → List Mention → Option ℕ
 firstOutside declared [] = none
@@ -112,7 +112,7 @@ firstOutside declared (u ∷ us) = cond (memberList (u .name) declared) (firstOu
 unfoldable pub firstUndeclared : Tree → Option ℕ
 firstUndeclared t = firstOutside (map (λ (d : Mention). d .name) (declaredNodes t)) (usedNames t)
 
--- ---- the netlist: "Inputs are numbered from 0 by line, gates from 0 by the order of their EXPR's closing bracket."
+-- ---- 1.4, the netlist: inputs are numbered by line, gates by closing bracket
 
 pub record Binding : Type 0 where
   pub name : Name

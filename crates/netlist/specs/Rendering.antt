@@ -1,4 +1,4 @@
--- Document 01, "Groups and rendering": the rendering, straight blocks, and a sweep.
+-- SPECIFICATION 6.1, 6.2: the rendering, straight blocks, and a sweep.
 use Prim.Native.Nat.{ℕ, zero, suc}
 use mathlib.Core.Bool.{Bool, true, false, _&&_}
 use mathlib.Core.List.{List, [], _∷_, _++_, map}
@@ -10,20 +10,18 @@ use Rattle.netlist.specs.Netlist.{Operand, input, gate, constant, Gate, 
 use Rattle.netlist.specs.Rounds.{evaluated}
 use Rattle.netlist.specs.Groups.{groups, readBy}
 
--- "Rendering takes groups in that order. A group of g gates gives g passes; each pass copies its gates, ascending.": the gates in the
--- order in which they are copied
+-- The gates in the order in which they are copied: group after group, each as many times over as it has gates, ascending every time.
 unfoldable pub passes : List ℕ → List ℕ
 passes group = repeated (length group) group
 
 unfoldable pub schedule : Block → List ℕ
 schedule b = joined (map passes (groups b))
 
--- What stands for each gate now: its newest copy, or "constant 0 if it has none". The newest copy of a gate of an earlier group is its
--- last one.
+-- What stands for each gate now: its newest copy, or constant 0 before the first. Of a gate of an earlier group the newest copy is the last.
 unfoldable pub noCopies : Block → List Operand
 noCopies b = replicate (gateCount b) (constant false)
 
--- "A copied operand that is an input or constant is kept."
+-- inputs and constants stay as they are
 unfoldable pub copiedOperand : List Operand → Operand → Operand
 copiedOperand newest (input i) = input i
 copiedOperand newest (constant c) = constant c
@@ -45,7 +43,7 @@ newestAfter newest t (j ∷ js) = newestAfter (set newest j (gate t)) (suc t) js
 unfoldable pub lastCopies : Block → List Operand
 lastCopies b = newestAfter (noCopies b) 0 (schedule b)
 
--- "Outputs go to last copies; one that shows an input keeps it. Inputs and ports keep their names and order."
+-- the copies as gates; outputs show last copies, or the input that they showed
 unfoldable pub rendering : Block → Block
 rendering b =
     record {
@@ -54,11 +52,11 @@ rendering b =
       outputs = map (λ (o : Output). record { port = o .port; node = copiedOperand (lastCopies b) (o .node) }) (b .outputs);
     }
 
--- "A block is straight when each gate reads only inputs, constants and lower gates"
-unfoldable pub straight : Block → Bool
-straight b = all (λ j. all (λ i. ltb i j) (readBy b j)) (upTo (gateCount b))
+-- every gate that is read has a lower number than the gate that reads it
+unfoldable pub isStraight : Block → Bool
+isStraight b = all (λ j. all (λ i. ltb i j) (readBy b j)) (upTo (gateCount b))
 
--- "A sweep of a straight block evaluates each gate once, ascending, from inputs, constants and the values just found."
+-- Each gate once, ascending, from the values found so far. Meant for straight blocks; elsewhere a higher gate reads as undefined.
 unfoldable pub sweepFrom : List Value → List Value → List Gate → List Value
 sweepFrom x found [] = found
 sweepFrom x found (g ∷ gs) = sweepFrom x (found ++ (evaluated x found g ∷ [])) gs

@@ -1,5 +1,5 @@
--- Document 01, "Specimens": the starred ones, whole, and the worked examples that tell the definitions from their near misses, as one claim
--- over one list, computed from the definitions.
+-- SPECIFICATION 9.1 to 9.8: the worked examples, among them those that tell the definitions from their near misses, as one claim over one
+-- list, computed from the definitions.
 use Prim.Native.Nat.{ℕ, suc, _+_, _-_, _%_}
 use Prim.Native.String.{String}
 use mathlib.Core.Path.{_≡_, refl}
@@ -8,20 +8,31 @@ use mathlib.Core.List.{List, [], _∷_, _++_}
 use lib.ListN.{replicate}
 use Rattle.laws.specs.Lists.{ascii, same, all, repeated, tab, joined}
 use Rattle.netlist.specs.Limits.{maxText}
-use Rattle.netlist.specs.Values.{code, valueOf, invert, defined}
-use Rattle.netlist.specs.Kinds.{row, rows, rowOf, isNot, isKind, fewestOperands, mostOperands, arityFits, keyword, ruled, gateValue}
-use Rattle.netlist.specs.StoredBlock.{gatesAt, outputsAt, letter, digit, underscore, nameByte, nameStart, legalName, plainName, nodeName, nameWords, bytesAt, nameAt, nodeWord, operandOf, gateWords, gateAt, outputWords, outputAt, encode, decode, isNode, isOperand, gateFits, wellFormed, torn}
-use Rattle.netlist.specs.Rounds.{operandValue, evaluated, round, afterRounds, stable, rounds, settled, bit, settingOf, settingCount, settledUnder, settledAt, settledSettings, lowestUnsettled}
-use Rattle.netlist.specs.Cover.{fixes, agrees, soundUnder, sound, without, minimal, within, assignmentsAt, assignments, cover, coverWords}
-use Rattle.netlist.specs.Groups.{gateOperand, readBy, reads, has, grown, grownTimes, reach, reaches, sameGroup, groupOf, ready, mayBeNext, groupsAfter, groups, groupNumber, groupNumbers, copyCount}
-use Rattle.netlist.specs.Rendering.{passes, schedule, noCopies, copiedOperand, copied, copies, newestAfter, lastCopies, rendering, straight, sweepFrom, sweep}
+use Rattle.netlist.specs.Values.{code, valueOf, invert, isDefined}
+use Rattle.netlist.specs.Kinds.{row, rows, rowOf, isNot, isKind, signatureOf, fewestOperands, mostOperands, arityFits, keyword, ruled, gateValue}
+use Rattle.netlist.specs.StoredBlock.{gatesAt, outputsAt, isLetter, isDigit, isUnderscore, isNameByte, isNameStart, isLegalName, isPlainName}
+use Rattle.netlist.specs.StoredBlock.{isNodeName, nameWords, bytesAt, nameAt, nodeWord, operandOf, gateWords, gateAt, outputWords, outputAt, encode}
+use Rattle.netlist.specs.StoredBlock.{decode, isNode, isOperand, gateFits, isWellFormed, isTorn}
+use Rattle.netlist.specs.Rounds.{operandValue, evaluated, round, afterRounds, isStable, rounds, settled, bit, settingOf, settingCount, settledUnder}
+use Rattle.netlist.specs.Rounds.{isSettled, settledSettings, lowestUnsettled}
+use Rattle.netlist.specs.Cover.{fixes, agrees, isSoundUnder, isSound, without, isMinimal, isWithin, assignmentsAt, assignments, cover, coverEntries}
+use Rattle.netlist.specs.Groups.{gateOperand, readBy, reads, has, grown, grownTimes, reach, reaches, sameGroup, groupOf, isReady, mayBeNext}
+use Rattle.netlist.specs.Groups.{groupsAfter, groups, groupNumber, groupNumbers, copyCount}
+use Rattle.netlist.specs.Rendering.{passes, schedule, noCopies, copiedOperand, copied, copies, newestAfter, lastCopies, rendering, isStraight}
+use Rattle.netlist.specs.Rendering.{sweepFrom, sweep}
 use Rattle.netlist.specs.Syntax.{printTerm, printInput, printGate, printOutput, printLines, print}
-use Rattle.netlist.specs.Parse.{pure, stop, onTest, ifNext, expect, onParsed, bind, nameBytes, nameAfter, nameReader, kindReader, spaced, termsReader, exprReader, leafOr, termReader, addInput, addGate, addOutput, inputLine, gateLine, outputLine, atEnd, line, outputsReader, gatesReader, textReader, parse}
-use Rattle.netlist.specs.Reading.{gatesIn, lineGates, overLimit, mentions, linesLength, gateLinesAt, outputLinesAt, inputMention, gateMention, portMention, shownMention, termMentions, operandMentions, declaredNodes, declaredPorts, usedNames, firstRepeat, orElse, firstDuplicate, firstOutside, firstUndeclared, inputBindings, gateBindings, bindings, lookup, termNode, termsNodes, termGates, linesGates, blockOf}
+use Rattle.netlist.specs.Parse.{pure, stop, onTest, ifNext, expect, onParsed, bind, nameBytes, nameAfter, nameReader, kindReader, spaced}
+use Rattle.netlist.specs.Parse.{termsReader, exprReader, leafOr, termReader, addInput, addGate, addOutput, inputLine, gateLine, outputLine, atEnd}
+use Rattle.netlist.specs.Parse.{line, outputsReader, gatesReader, textReader, parse}
+use Rattle.netlist.specs.Reading.{gatesIn, lineGates, isOverLimit, mentions, linesLength, gateLinesAt, outputLinesAt, inputMention, gateMention}
+use Rattle.netlist.specs.Reading.{portMention, shownMention, termMentions, operandMentions, declaredNodes, declaredPorts, usedNames, firstRepeat}
+use Rattle.netlist.specs.Reading.{orElse, firstDuplicate, firstOutside, firstUndeclared, inputBindings, gateBindings, bindings, lookup, termNode}
+use Rattle.netlist.specs.Reading.{termsNodes, termGates, linesGates, blockOf}
 use Rattle.netlist.specs.Writing.{digits, decimal, gateName, nodeNameOf, termOf, termsOf, flatLine, flatTree, writtenText}
 use Rattle.netlist.specs.Line.{clamped, startBefore, untilLf, lineStart, lineEnd, lineLength, lineAt}
 use Rattle.netlist.specs.Answers.{Outcome, refusalNumber, refusalDetail, numberOf, countOf, detailOf, refuseIf, refuseAt, inRoom, answerOf, leftIn}
-use Rattle.netlist.specs.Operations.{counted, readTree, readParsed, reading, read, badSetting, settling, settle, verdict, covering, coverOf, grouping, groupsOf, renderBlock, rendered, render, sweeping, pass, written, write}
+use Rattle.netlist.specs.Operations.{counted, readTree, readParsed, readText, read, isBadSetting, settleBlock, settle, verdict, coverBlock, coverOf}
+use Rattle.netlist.specs.Operations.{groupsBlock, groupsOf, renderBlock, renderWords, render, passBlock, pass, writeWords, write}
 use Rattle.netlist.specs.Program.{chained, refusalLine, shown, unloop}
 
 -- What is asked. Where an operation takes a block, the question gives the block's text or its words; `room` is the slice's length.
@@ -31,7 +42,7 @@ pub data Question : Type 0 where
   toJudge : List ℕ → Question
   toCover toGroup toRender toWrite : List ℕ → (room : ℕ) → Question
   toShowLine : List ℕ → (place : ℕ) → Question
-  toUnloop : List ℕ → Question
+  toCountCopies toUnloop : List ℕ → Question
 
 -- number, count and detail, and then the result
 unfoldable pub report : Outcome → List ℕ
@@ -48,6 +59,7 @@ answered (toGroup ws room) = report (groupsOf ws room)
 answered (toRender ws room) = report (render ws room)
 answered (toWrite ws room) = report (write ws room)
 answered (toShowLine text place) = lineAt text place
+answered (toCountCopies ws) = copyCount (decode ws) ∷ []
 answered (toUnloop text) = unloop text
 
 pub record Specimen : Type 0 where
@@ -58,8 +70,8 @@ unfoldable pub right : Specimen → Bool
 right s = same (answered (s .asked)) (s .answer)
 
 -- the words of a text that is read
-unfoldable pub wordsOf : String → List ℕ
-wordsOf text = leftIn (reading (ascii text)) []
+unfoldable pub blockWords : String → List ℕ
+blockWords text = leftIn (readText (ascii text)) []
 
 infixl 5 _⇒_
 unfoldable pub _⇒_ : Question → List ℕ → Specimen
@@ -73,14 +85,17 @@ unfoldable pub specimen4 : String
 specimen4 = "(in a)\n(in b)\n(gate p (and a q))\n(gate q (or b p))\n"
 
 unfoldable pub specimen6 : String
-specimen6 = "(in a)\n(in b)\n(in c)\n(in d)\n(in x)\n(gate g1 (and x g6))\n(gate g2 (or a g1))\n(gate g3 (and b g2))\n(gate g4 (or x g3))\n(gate g5 (and c g4))\n(gate g6 (or d g5))\n"
+specimen6 =
+    "(in a)\n(in b)\n(in c)\n(in d)\n(in x)\n(gate g1 (and x g6))\n(gate g2 (or a g1))\n(gate g3 (and b g2))\n(gate g4 (or x g3))\n(gate g5 (and c g4))\n(gate g6 (or d g5))\n"
 
 unfoldable pub rendered6 : String
-rendered6 = "(in a)\n(in b)\n(in c)\n(in d)\n(in x)\n(gate _0 (and x 0))\n(gate _1 (or a _0))\n(gate _2 (and b _1))\n(gate _3 (or x _2))\n(gate _4 (and c _3))\n(gate _5 (or d _4))\n(gate _6 (and x _5))\n(gate _7 (or a _6))\n(gate _8 (and b _7))\n(gate _9 (or x _8))\n(gate _10 (and c _9))\n(gate _11 (or d _10))\n(gate _12 (and x _11))\n(gate _13 (or a _12))\n(gate _14 (and b _13))\n(gate _15 (or x _14))\n(gate _16 (and c _15))\n(gate _17 (or d _16))\n(gate _18 (and x _17))\n(gate _19 (or a _18))\n(gate _20 (and b _19))\n(gate _21 (or x _20))\n(gate _22 (and c _21))\n(gate _23 (or d _22))\n(gate _24 (and x _23))\n(gate _25 (or a _24))\n(gate _26 (and b _25))\n(gate _27 (or x _26))\n(gate _28 (and c _27))\n(gate _29 (or d _28))\n(gate _30 (and x _29))\n(gate _31 (or a _30))\n(gate _32 (and b _31))\n(gate _33 (or x _32))\n(gate _34 (and c _33))\n(gate _35 (or d _34))\n"
+rendered6 =
+    "(in a)\n(in b)\n(in c)\n(in d)\n(in x)\n(gate _0 (and x 0))\n(gate _1 (or a _0))\n(gate _2 (and b _1))\n(gate _3 (or x _2))\n(gate _4 (and c _3))\n(gate _5 (or d _4))\n(gate _6 (and x _5))\n(gate _7 (or a _6))\n(gate _8 (and b _7))\n(gate _9 (or x _8))\n(gate _10 (and c _9))\n(gate _11 (or d _10))\n(gate _12 (and x _11))\n(gate _13 (or a _12))\n(gate _14 (and b _13))\n(gate _15 (or x _14))\n(gate _16 (and c _15))\n(gate _17 (or d _16))\n(gate _18 (and x _17))\n(gate _19 (or a _18))\n(gate _20 (and b _19))\n(gate _21 (or x _20))\n(gate _22 (and c _21))\n(gate _23 (or d _22))\n(gate _24 (and x _23))\n(gate _25 (or a _24))\n(gate _26 (and b _25))\n(gate _27 (or x _26))\n(gate _28 (and c _27))\n(gate _29 (or d _28))\n(gate _30 (and x _29))\n(gate _31 (or a _30))\n(gate _32 (and b _31))\n(gate _33 (or x _32))\n(gate _34 (and c _33))\n(gate _35 (or d _34))\n"
 
 -- every row of the table of kinds, and `not`
 unfoldable pub kinds : String
-kinds = "(in a)\n(gate p (and a 0))\n(gate q (or 1 a))\n(gate r (nand a 0))\n(gate s (nor a 1 1 1))\n(gate t (not a))\n(gate u (nand a 1 1))\n(gate v (nor 0 0 a 0))\n"
+kinds =
+    "(in a)\n(gate p (and a 0))\n(gate q (or 1 a))\n(gate r (nand a 0))\n(gate s (nor a 1 1 1))\n(gate t (not a))\n(gate u (nand a 1 1))\n(gate v (nor 0 0 a 0))\n"
 
 unfoldable pub eleven : List ℕ
 eleven = repeated 11 (ascii "(in a)\n")
@@ -92,32 +107,33 @@ ring n =
 
 unfoldable pub specimens : List Specimen
 specimens =
-    -- 1
+    -- 9.1
     (toRead (ascii "") 3 ⇒ 0 ∷ 3 ∷ 0 ∷ 0 ∷ 0 ∷ 0 ∷ [])
-    ∷ (toJudge (wordsOf "") ⇒ 0 ∷ 1 ∷ 1 ∷ [])
-    ∷ (toCover (wordsOf "") 2 ⇒ 0 ∷ 1 ∷ 0 ∷ 0 ∷ 0 ∷ [])
-    ∷ (toRender (wordsOf "") 3 ⇒ 0 ∷ 3 ∷ 0 ∷ 0 ∷ 0 ∷ 0 ∷ [])
-    -- 2
+    ∷ (toJudge (blockWords "") ⇒ 0 ∷ 1 ∷ 1 ∷ [])
+    ∷ (toCover (blockWords "") 2 ⇒ 0 ∷ 1 ∷ 0 ∷ 0 ∷ 0 ∷ [])
+    ∷ (toRender (blockWords "") 3 ⇒ 0 ∷ 3 ∷ 0 ∷ 0 ∷ 0 ∷ 0 ∷ [])
+    -- 9.2
     ∷ (toRead (ascii "(in a)") 99 ⇒ with 2 6)
     ∷ (toRead (ascii "(in _a)\n") 99 ⇒ with 2 4)
-    -- 3
+    -- 9.2: a name twice, and one that is not declared
     ∷ (toRead (ascii "(in a)\n(in a)\n") 99 ⇒ with 4 11)
     ∷ (toRead (ascii "(in a)\n(gate p (not r))\n") 99 ⇒ with 5 20)
-    -- 4
-    ∷ (toJudge (wordsOf specimen4) ⇒ 0 ∷ 3 ∷ 1 ∷ [])
-    ∷ (toCover (wordsOf specimen4) 4 ⇒ 0 ∷ 2 ∷ 0 ∷ 1 ∷ 0 ∷ 2 ∷ 2 ∷ [])
-    ∷ (toRender (wordsOf specimen4) 99 ⇒ with 9 1)
-    -- 5
-    ∷ (toRender (wordsOf "(gate p (or p (not p)))\n") 99 ⇒ with 9 0)
+    -- 9.4
+    ∷ (toJudge (blockWords specimen4) ⇒ 0 ∷ 3 ∷ 1 ∷ [])
+    ∷ (toCover (blockWords specimen4) 4 ⇒ 0 ∷ 2 ∷ 0 ∷ 1 ∷ 0 ∷ 2 ∷ 2 ∷ [])
+    ∷ (toRender (blockWords specimen4) 99 ⇒ with 9 1)
+    -- 9.4: a gate that reads itself
+    ∷ (toRender (blockWords "(gate p (or p (not p)))\n") 99 ⇒ with 9 0)
     ∷ (toUnloop (ascii "(gate p (or p 1))\n") ⇒ ascii "(gate _0 (or 0 1))\n")
-    -- 6
-    ∷ (toJudge (wordsOf specimen6) ⇒ 0 ∷ 32 ∷ 32 ∷ [])
-    ∷ (toSettle (wordsOf specimen6) (0 ∷ 1 ∷ 1 ∷ 0 ∷ 0 ∷ []) 6 ⇒ 0 ∷ 6 ∷ 0 ∷ 0 ∷ 0 ∷ 0 ∷ 0 ∷ 0 ∷ 0 ∷ [])
+    -- 9.5
+    ∷ (toJudge (blockWords specimen6) ⇒ 0 ∷ 32 ∷ 32 ∷ [])
+    ∷ (toSettle (blockWords specimen6) (0 ∷ 1 ∷ 1 ∷ 0 ∷ 0 ∷ []) 6 ⇒ 0 ∷ 6 ∷ 0 ∷ 0 ∷ 0 ∷ 0 ∷ 0 ∷ 0 ∷ 0 ∷ [])
+    ∷ (toCountCopies (blockWords specimen6) ⇒ 36 ∷ [])
     ∷ (toUnloop (ascii specimen6) ⇒ ascii rendered6)
-    -- 9
+    -- 9.7: the whole of a rendered text
     ∷ (toUnloop (ascii "(in s)\n(gate p (and s q))\n(gate q (or s p))\n(out y q)\n")
     ⇒ ascii "(in s)\n(gate _0 (and s 0))\n(gate _1 (or s _0))\n(gate _2 (and s _1))\n(gate _3 (or s _2))\n(out y _3)\n")
-    -- refusal 2: places
+    -- 9.2: places of refusal 2
     ∷ (toRead (ascii "(") 99 ⇒ with 2 1)
     ∷ (toRead (ascii "(x") 99 ⇒ with 2 1)
     ∷ (toRead (ascii "(in a") 99 ⇒ with 2 5)
@@ -135,7 +151,7 @@ specimens =
     ∷ (toRead (ascii "(out _y a)\n") 99 ⇒ with 2 5)
     ∷ (toRead (ascii "(out y 0)\n") 99 ⇒ with 2 7)
     ∷ (toRead (ascii "(gate p (not 0))\n(in a)\n") 99 ⇒ with 2 18)
-    -- the order of Read's conditions
+    -- 9.2: the order of Read's conditions
     ∷ (toRead (replicate (suc maxText) 0) 0 ⇒ with 1 0)
     ∷ (toRead (replicate maxText 0) 0 ⇒ with 2 0)
     ∷ (toRead (eleven ++ ascii "(in") 0 ⇒ with 2 80)
@@ -145,31 +161,31 @@ specimens =
     ∷ (toRead (ascii "(in a)\n(gate p (and q (not r)))\n(out q p)\n") 0 ⇒ with 5 20)
     ∷ (toRead (ascii "(gate p (not 0))\n(out y _a)\n") 0 ⇒ with 5 24)
     ∷ (toRead (ascii "(in a)\n") 6 ⇒ with 11 0)
-    -- gates are numbered by their closing bracket, and a name may be used before its line; no word is reserved
+    -- 9.3: gates are numbered by their closing bracket, and a name may be used before its line; no word is reserved
     ∷ (toRead (ascii "(in in)\n(gate gate (and (not in) (or gate _ 1)))\n(gate _ (not in))\n(out in gate)\n") 32
     ⇒ 0 ∷ 32 ∷ 0 ∷ 1 ∷ 4 ∷ 1 ∷ 28265 ∷ 0 ∷ 0 ∷ 0
     ∷ 8 ∷ 0 ∷ 0 ∷ 0 ∷ 0 ∷ 26 ∷ 3 ∷ 4 ∷ 65535 ∷ 0 ∷ 17 ∷ 1 ∷ 2 ∷ 0 ∷ 0 ∷ 8 ∷ 0 ∷ 0 ∷ 0 ∷ 0
     ∷ 28265 ∷ 0 ∷ 0 ∷ 0 ∷ 3 ∷ [])
-    -- the table of kinds, at 2, 1 and 0; Pass gives Settle's values
-    ∷ (toSettle (wordsOf kinds) (2 ∷ []) 7 ⇒ 0 ∷ 1 ∷ 0 ∷ 0 ∷ 1 ∷ 1 ∷ 0 ∷ 2 ∷ 2 ∷ 2 ∷ [])
-    ∷ (toSettle (wordsOf kinds) (1 ∷ []) 7 ⇒ 0 ∷ 1 ∷ 0 ∷ 0 ∷ 1 ∷ 1 ∷ 0 ∷ 0 ∷ 0 ∷ 0 ∷ [])
-    ∷ (toSettle (wordsOf kinds) (0 ∷ []) 7 ⇒ 0 ∷ 1 ∷ 0 ∷ 0 ∷ 1 ∷ 1 ∷ 0 ∷ 1 ∷ 1 ∷ 1 ∷ [])
-    ∷ (toPass (wordsOf kinds) (2 ∷ []) 7 ⇒ 0 ∷ 7 ∷ 0 ∷ 0 ∷ 1 ∷ 1 ∷ 0 ∷ 2 ∷ 2 ∷ 2 ∷ [])
-    -- the order of conditions: 6 before 7 before 11, 10 before 7, 8 before 9 before 11
+    -- 9.6: the table of kinds, at 2, 1 and 0; Pass gives Settle's values
+    ∷ (toSettle (blockWords kinds) (2 ∷ []) 7 ⇒ 0 ∷ 1 ∷ 0 ∷ 0 ∷ 1 ∷ 1 ∷ 0 ∷ 2 ∷ 2 ∷ 2 ∷ [])
+    ∷ (toSettle (blockWords kinds) (1 ∷ []) 7 ⇒ 0 ∷ 1 ∷ 0 ∷ 0 ∷ 1 ∷ 1 ∷ 0 ∷ 0 ∷ 0 ∷ 0 ∷ [])
+    ∷ (toSettle (blockWords kinds) (0 ∷ []) 7 ⇒ 0 ∷ 1 ∷ 0 ∷ 0 ∷ 1 ∷ 1 ∷ 0 ∷ 1 ∷ 1 ∷ 1 ∷ [])
+    ∷ (toPass (blockWords kinds) (2 ∷ []) 7 ⇒ 0 ∷ 7 ∷ 0 ∷ 0 ∷ 1 ∷ 1 ∷ 0 ∷ 2 ∷ 2 ∷ 2 ∷ [])
+    -- 9.4, 9.6, 9.7: the order of conditions: 6 before 7 before 11, 10 before 7, 8 before 9 before 11
     ∷ (toSettle [] (3 ∷ []) 0 ⇒ with 6 0)
-    ∷ (toSettle (wordsOf kinds) (3 ∷ []) 0 ⇒ with 7 0)
-    ∷ (toSettle (wordsOf kinds) [] 0 ⇒ with 7 0)
-    ∷ (toSettle (wordsOf kinds) (2 ∷ []) 6 ⇒ with 11 0)
-    ∷ (toPass (wordsOf specimen4) [] 0 ⇒ with 10 0)
-    ∷ (toPass (wordsOf kinds) [] 0 ⇒ with 7 0)
+    ∷ (toSettle (blockWords kinds) (3 ∷ []) 0 ⇒ with 7 0)
+    ∷ (toSettle (blockWords kinds) [] 0 ⇒ with 7 0)
+    ∷ (toSettle (blockWords kinds) (2 ∷ []) 6 ⇒ with 11 0)
+    ∷ (toPass (blockWords specimen4) [] 0 ⇒ with 10 0)
+    ∷ (toPass (blockWords kinds) [] 0 ⇒ with 7 0)
     ∷ (toUnloop (ring 33) ⇒ ascii "(refused 8 0)\n")
-    ∷ (toRender (wordsOf specimen4) 0 ⇒ with 9 1)
-    ∷ (toRender (wordsOf kinds) 41 ⇒ with 11 0)
-    -- the next group is the one with the lowest gate among those ready
-    ∷ (toGroup (wordsOf "(gate a (not d))\n(gate b (not 0))\n(gate c (and a 1))\n(gate d (not 1))\n") 4
+    ∷ (toRender (blockWords specimen4) 0 ⇒ with 9 1)
+    ∷ (toRender (blockWords kinds) 41 ⇒ with 11 0)
+    -- 9.7: the next group is the one with the lowest gate among those ready
+    ∷ (toGroup (blockWords "(gate a (not d))\n(gate b (not 0))\n(gate c (and a 1))\n(gate d (not 1))\n") 4
     ⇒ 0 ∷ 4 ∷ 0 ∷ 2 ∷ 0 ∷ 3 ∷ 1 ∷ [])
-    ∷ (toGroup (wordsOf specimen4) 2 ⇒ 0 ∷ 1 ∷ 0 ∷ 0 ∷ 0 ∷ [])
-    -- forward references without a loop; a straight block renders to itself; depth 8
+    ∷ (toGroup (blockWords specimen4) 2 ⇒ 0 ∷ 1 ∷ 0 ∷ 0 ∷ 0 ∷ [])
+    -- 9.7: forward references without a loop; a straight block renders to itself; depth 8
     ∷ (toUnloop (ascii "(in a)\n(gate p (not q))\n(gate q (not 1))\n(out y p)\n(out z a)\n")
     ⇒ ascii "(in a)\n(gate _0 (not 1))\n(gate _1 (not _0))\n(out y _1)\n(out z a)\n")
     ∷ (toUnloop (ascii "(in a)\n(gate _0 (not a))\n(gate _1 (and _0 a 1))\n(out y _0)\n")
@@ -177,8 +193,8 @@ specimens =
     ∷ (toUnloop (ascii "(gate p (not (not (not (not (not (not (not (not 1)))))))))\n")
     ⇒ ascii "(gate _0 (not 1))\n(gate _1 (not _0))\n(gate _2 (not _1))\n(gate _3 (not _2))\n(gate _4 (not _3))\n(gate _5 (not _4))\n(gate _6 (not _5))\n(gate _7 (not _6))\n")
     ∷ (toUnloop (ascii "(in _a)\n") ⇒ ascii "(refused 2 4)\n")
-    -- torn: fewer than three words; one word too many; a zero byte inside a name; a name twice; an operand that is no node; kind 5; a
-    -- `not` of two; an operand behind the count; an output that shows a constant. The first of each pair is whole
+    -- 9.3, malformed: fewer than three words; one word too many; a zero byte inside a name; a name twice; an operand that is no node;
+    -- kind 5; a `not` of two; an operand behind the count; an output that shows a constant. Two that are whole stand between them
     ∷ (toWrite (0 ∷ 0 ∷ []) 99 ⇒ with 6 0)
     ∷ (toWrite (0 ∷ 0 ∷ 0 ∷ 0 ∷ []) 99 ⇒ with 6 0)
     ∷ (toWrite (1 ∷ 0 ∷ 0 ∷ 97 ∷ 0 ∷ 0 ∷ 0 ∷ []) 7 ⇒ 0 ∷ 7 ∷ 0 ∷ ascii "(in a)\n")
@@ -190,7 +206,7 @@ specimens =
     ∷ (toWrite (0 ∷ 1 ∷ 0 ∷ 16 ∷ 0 ∷ 0 ∷ 0 ∷ 0 ∷ []) 99 ⇒ with 6 0)
     ∷ (toWrite (0 ∷ 1 ∷ 0 ∷ 8 ∷ 0 ∷ 65534 ∷ 0 ∷ 0 ∷ []) 99 ⇒ with 6 0)
     ∷ (toWrite (0 ∷ 0 ∷ 1 ∷ 97 ∷ 0 ∷ 0 ∷ 0 ∷ 65534 ∷ []) 99 ⇒ with 6 0)
-    -- Line: an LF belongs to the line it ends; a place past the end
+    -- 9.8: an LF belongs to the line it ends; a place past the end
     ∷ (toShowLine (ascii "ab\ncd") 2 ⇒ ascii "ab")
     ∷ (toShowLine (ascii "ab\ncd") 3 ⇒ ascii "cd")
     ∷ (toShowLine (ascii "ab\ncd") 99 ⇒ ascii "cd")
@@ -199,5 +215,5 @@ specimens =
 
 -- All of them come out as stated.
 pub specimens-hold : all right specimens ≡ true
-unfolding code valueOf invert defined row rows rowOf isNot isKind fewestOperands mostOperands arityFits keyword ruled gateValue gatesAt outputsAt letter digit underscore nameByte nameStart legalName plainName nodeName nameWords bytesAt nameAt nodeWord operandOf gateWords gateAt outputWords outputAt encode decode isNode isOperand gateFits wellFormed torn operandValue evaluated round afterRounds stable rounds settled bit settingOf settingCount settledUnder settledAt settledSettings lowestUnsettled fixes agrees soundUnder sound without minimal within assignmentsAt assignments cover coverWords gateOperand readBy reads has grown grownTimes reach reaches sameGroup groupOf ready mayBeNext groupsAfter groups groupNumber groupNumbers copyCount passes schedule noCopies copiedOperand copied copies newestAfter lastCopies rendering straight sweepFrom sweep printTerm printInput printGate printOutput printLines print pure stop onTest ifNext expect onParsed bind nameBytes nameAfter nameReader kindReader spaced termsReader exprReader leafOr termReader addInput addGate addOutput inputLine gateLine outputLine atEnd line outputsReader gatesReader textReader parse gatesIn lineGates overLimit mentions linesLength gateLinesAt outputLinesAt inputMention gateMention portMention shownMention termMentions operandMentions declaredNodes declaredPorts usedNames firstRepeat orElse firstDuplicate firstOutside firstUndeclared inputBindings gateBindings bindings lookup termNode termsNodes termGates linesGates blockOf digits decimal gateName nodeNameOf termOf termsOf flatLine flatTree writtenText clamped startBefore untilLf lineStart lineEnd lineLength lineAt refusalNumber refusalDetail numberOf countOf detailOf refuseIf refuseAt inRoom answerOf leftIn counted readTree readParsed reading read badSetting settling settle verdict covering coverOf grouping groupsOf renderBlock rendered render sweeping pass written write chained refusalLine shown unloop report answered right wordsOf _⇒_ with specimen4 specimen6 rendered6 kinds eleven ring specimens
+unfolding code valueOf invert isDefined row rows rowOf isNot isKind signatureOf fewestOperands mostOperands arityFits keyword ruled gateValue gatesAt outputsAt isLetter isDigit isUnderscore isNameByte isNameStart isLegalName isPlainName isNodeName nameWords bytesAt nameAt nodeWord operandOf gateWords gateAt outputWords outputAt encode decode isNode isOperand gateFits isWellFormed isTorn operandValue evaluated round afterRounds isStable rounds settled bit settingOf settingCount settledUnder isSettled settledSettings lowestUnsettled fixes agrees isSoundUnder isSound without isMinimal isWithin assignmentsAt assignments cover coverEntries gateOperand readBy reads has grown grownTimes reach reaches sameGroup groupOf isReady mayBeNext groupsAfter groups groupNumber groupNumbers copyCount passes schedule noCopies copiedOperand copied copies newestAfter lastCopies rendering isStraight sweepFrom sweep printTerm printInput printGate printOutput printLines print pure stop onTest ifNext expect onParsed bind nameBytes nameAfter nameReader kindReader spaced termsReader exprReader leafOr termReader addInput addGate addOutput inputLine gateLine outputLine atEnd line outputsReader gatesReader textReader parse gatesIn lineGates isOverLimit mentions linesLength gateLinesAt outputLinesAt inputMention gateMention portMention shownMention termMentions operandMentions declaredNodes declaredPorts usedNames firstRepeat orElse firstDuplicate firstOutside firstUndeclared inputBindings gateBindings bindings lookup termNode termsNodes termGates linesGates blockOf digits decimal gateName nodeNameOf termOf termsOf flatLine flatTree writtenText clamped startBefore untilLf lineStart lineEnd lineLength lineAt refusalNumber refusalDetail numberOf countOf detailOf refuseIf refuseAt inRoom answerOf leftIn counted readTree readParsed readText read isBadSetting settleBlock settle verdict coverBlock coverOf groupsBlock groupsOf renderBlock renderWords render passBlock pass writeWords write chained refusalLine shown unloop report answered right blockWords _⇒_ with specimen4 specimen6 rendered6 kinds eleven ring specimens
 specimens-hold = refl

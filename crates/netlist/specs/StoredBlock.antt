@@ -1,4 +1,4 @@
--- Document 01, "The stored block": the words of a netlist, the netlist of a slice of words, and which words are torn.
+-- SPECIFICATION 2: the words of a netlist, the netlist of a slice of words, and which words are malformed ("torn"). Names are also of 1.2.
 use Prim.Native.Nat.{ℕ, zero, suc, _+_, _-_, _*_, _/_, _%_}
 use mathlib.Core.Bool.{Bool, true, false, cond, not, _&&_, _||_}
 use mathlib.Core.List.{List, [], _∷_, _++_, map}
@@ -9,8 +9,7 @@ use Rattle.netlist.specs.Limits.{maxInputs, maxGates, maxOutputs, maxNam
 use Rattle.netlist.specs.Kinds.{isKind, arityFits}
 use Rattle.netlist.specs.Netlist.{Name, Operand, input, gate, constant, Gate, Output, Block, inputCount, gateCount, outputCount}
 
--- ---- where the parts stand: "n; m gates; k outputs; per input 4 words of name; per gate 5 words; per output 4 words of port and 1 of
--- node number"
+-- ---- 2.1, where the parts stand: three counts, the names of inputs, the gates, the outputs; an output is its port and a node
 
 abbrev pub nameSize : ℕ
 nameSize = 4
@@ -33,36 +32,36 @@ gatesAt n = inputsAt + nameSize * n
 unfoldable pub outputsAt : ℕ → ℕ → ℕ
 outputsAt n m = gatesAt n + gateSize * m
 
--- ---- names: "1 to 8 bytes of a-z, 0-9 and `_`, and no digit first. An input's name and a PORT don't start with `_`."
+-- ---- 1.2, names: letters, digits and `_`, no digit in front
 
-unfoldable pub letter : ℕ → Bool
-letter c = leb 97 c && leb c 122
+unfoldable pub isLetter : ℕ → Bool
+isLetter c = leb 97 c && leb c 122
 
-unfoldable pub digit : ℕ → Bool
-digit c = leb 48 c && leb c 57
+unfoldable pub isDigit : ℕ → Bool
+isDigit c = leb 48 c && leb c 57
 
-unfoldable pub underscore : ℕ → Bool
-underscore c = eqb c 95
+unfoldable pub isUnderscore : ℕ → Bool
+isUnderscore c = eqb c 95
 
-unfoldable pub nameByte : ℕ → Bool
-nameByte c = letter c || digit c || underscore c
+unfoldable pub isNameByte : ℕ → Bool
+isNameByte c = isLetter c || isDigit c || isUnderscore c
 
-unfoldable pub nameStart : ℕ → Bool
-nameStart c = letter c || underscore c
+unfoldable pub isNameStart : ℕ → Bool
+isNameStart c = isLetter c || isUnderscore c
 
 -- a name whose first byte passes the test `start`
-unfoldable pub legalName : (ℕ → Bool) → Name → Bool
-legalName start s = leb 1 (length s) && leb (length s) maxName && start (getD s 0 0) && all nameByte s
+unfoldable pub isLegalName : (ℕ → Bool) → Name → Bool
+isLegalName start s = leb 1 (length s) && leb (length s) maxName && start (getD s 0 0) && all isNameByte s
 
 -- the name of an input, and a port
-unfoldable pub plainName : Name → Bool
-plainName = legalName letter
+unfoldable pub isPlainName : Name → Bool
+isPlainName = isLegalName isLetter
 
 -- the name of a gate, and any name that is used
-unfoldable pub nodeName : Name → Bool
-nodeName = legalName nameStart
+unfoldable pub isNodeName : Name → Bool
+isNodeName = isLegalName isNameStart
 
--- "A name word is first byte + 256 × second, unused bytes zero at the end."
+-- 2.2: two bytes to a word, the first of them low; zero bytes fill the last words
 unfoldable pub nameWords : Name → List ℕ
 nameWords s = tab (λ i. getD s (2 * i) 0 + 256 * getD s (2 * i + 1) 0) nameSize
 
@@ -73,7 +72,7 @@ bytesAt ws at = joined (tab (λ i. getD ws (at + i) 0 % 256 ∷ getD ws (at + i)
 unfoldable pub nameAt : List ℕ → ℕ → Name
 nameAt ws at = trimmed (bytesAt ws at)
 
--- ---- nodes: "input i is i; gate j is n + j", "65534 for constant 0, 65535 for constant 1"
+-- ---- 1.4, 2.3, nodes: inputs first, then gates; the two highest words are the constants
 
 unfoldable pub nodeWord : ℕ → Operand → ℕ
 nodeWord n (input i) = i
@@ -87,7 +86,7 @@ operandOf n w =
     (cond (eqb w 65534) (constant false)
     (cond (eqb w 65535) (constant true) (gate (w - n))))
 
--- ---- gates: "A gate's first word is kind + 8 × operand count", its four operand words, "unused ones are 0"
+-- ---- 2.3, gates: kind and operand count in one word, then four operands, zero behind the count
 
 unfoldable pub gateWords : ℕ → Gate → List ℕ
 gateWords n g =
@@ -123,9 +122,9 @@ decode ws =
       outputs = tab (λ o. outputAt n ws (outputsAt n m + outputSize * o)) k;
     }
 
--- ---- the rules: "limits, names legal and not twice, kinds, counts, nodes"
+-- ---- 2.4, the rules
 
--- a node that is there; for an output, "not a constant"
+-- an input or gate that is there: what an output may show
 unfoldable pub isNode : Block → Operand → Bool
 isNode b (input i) = ltb i (inputCount b)
 isNode b (gate j) = ltb j (gateCount b)
@@ -139,14 +138,14 @@ isOperand b (constant c) = true
 unfoldable pub gateFits : Block → Gate → Bool
 gateFits b g = isKind (g .kind) && arityFits (g .kind) (length (g .operands)) && all (isOperand b) (g .operands)
 
-unfoldable pub wellFormed : Block → Bool
-wellFormed b =
+unfoldable pub isWellFormed : Block → Bool
+isWellFormed b =
     leb (inputCount b) maxInputs && leb (gateCount b) maxGates && leb (outputCount b) maxOutputs
-    && all plainName (b .inputs) && distinct (b .inputs)
+    && all isPlainName (b .inputs) && distinct (b .inputs)
     && all (gateFits b) (b .gates)
-    && all (λ o. plainName (o .port)) (b .outputs) && distinct (map (λ (o : Output). o .port) (b .outputs))
+    && all (λ o. isPlainName (o .port)) (b .outputs) && distinct (map (λ (o : Output). o .port) (b .outputs))
     && all (λ o. isNode b (o .node)) (b .outputs)
 
--- "words break any rule of the stored block": they are not the encoding of a well-formed block
-unfoldable pub torn : List ℕ → Bool
-torn ws = not (wellFormed (decode ws) && same (encode (decode ws)) ws)
+-- not the encoding of any well-formed block
+unfoldable pub isTorn : List ℕ → Bool
+isTorn ws = not (isWellFormed (decode ws) && same (encode (decode ws)) ws)

@@ -1,4 +1,4 @@
--- Document 01, "The netlist text": syntax trees, what each looks like, and which texts are legal.
+-- SPECIFICATION 1, 1.1 to 1.3: syntax trees, what each looks like, and which texts are legal. The place of refusal 2 is of 7.2.
 use Prim.Native.Nat.{ℕ, zero, suc}
 use mathlib.Core.Path.{_≡_}
 use mathlib.Core.Logic.{_⊎_}
@@ -9,9 +9,9 @@ use Rattle.laws.specs.Lists.{ascii, all}
 use Rattle.netlist.specs.Limits.{maxDepth}
 use Rattle.netlist.specs.Kinds.{isKind, arityFits, keyword}
 use Rattle.netlist.specs.Netlist.{Name}
-use Rattle.netlist.specs.StoredBlock.{plainName, nodeName}
+use Rattle.netlist.specs.StoredBlock.{isPlainName, isNodeName}
 
--- "An OPERAND is a NAME, the constant `0` or `1`, or another EXPR"; EXPR is a kind and its operands.
+-- An operand: a name, a constant, or an expression, which is a kind and its operands.
 mutual
   pub data Term : Type 0 where
     name : Name → Term
@@ -31,7 +31,7 @@ pub record OutputLine : Type 0 where
   pub port : Name
   pub shown : Name
 
--- "all inputs, all gates, all outputs. Any of the three may be missing."
+-- the lines of a text, in this order; each of the three may be empty
 pub record Tree : Type 0 where
   pub inputs : List Name
   pub gates : List GateLine
@@ -50,15 +50,15 @@ unfoldable mutual
   printTerms nil rest = rest
   printTerms (cons t ts) rest = ascii " " ++ printTerm t (printTerms ts rest)
 
--- "Input: `(in NAME)`."
+-- the line of an input
 unfoldable pub printInput : Name → List ℕ → List ℕ
 printInput s rest = ascii "(in " ++ (s ++ (ascii ")\n" ++ rest))
 
--- "Gate: `(gate NAME EXPR)`."
+-- of a gate
 unfoldable pub printGate : GateLine → List ℕ → List ℕ
 printGate g rest = ascii "(gate " ++ (g .name ++ (ascii " " ++ printTerm (apply (g .kind) (g .terms)) (ascii ")\n" ++ rest)))
 
--- "Output: `(out PORT NAME)`."
+-- of an output
 unfoldable pub printOutput : OutputLine → List ℕ → List ℕ
 printOutput o rest = ascii "(out " ++ (o .port ++ (ascii " " ++ (o .shown ++ (ascii ")\n" ++ rest))))
 
@@ -75,33 +75,33 @@ unfoldable pub termCount : Terms → ℕ
 termCount nil = 0
 termCount (cons t ts) = suc (termCount ts)
 
--- with `depth` levels of EXPR left
+-- with `depth` levels of expressions left
 unfoldable mutual
-  pub legalTerm : Term → ℕ → Bool
-  legalTerm (name s) depth = nodeName s
-  legalTerm (literal b) depth = true
-  legalTerm (apply k ts) zero = false
-  legalTerm (apply k ts) (suc depth) = isKind k && arityFits k (termCount ts) && legalTerms ts depth
+  pub isLegalTerm : Term → ℕ → Bool
+  isLegalTerm (name s) depth = isNodeName s
+  isLegalTerm (literal b) depth = true
+  isLegalTerm (apply k ts) zero = false
+  isLegalTerm (apply k ts) (suc depth) = isKind k && arityFits k (termCount ts) && isLegalTerms ts depth
 
-  pub legalTerms : Terms → ℕ → Bool
-  legalTerms nil depth = true
-  legalTerms (cons t ts) depth = legalTerm t depth && legalTerms ts depth
+  pub isLegalTerms : Terms → ℕ → Bool
+  isLegalTerms nil depth = true
+  isLegalTerms (cons t ts) depth = isLegalTerm t depth && isLegalTerms ts depth
 
--- "The outermost EXPR has depth 1; depth 8 is the greatest."
-unfoldable pub legalGate : GateLine → Bool
-legalGate g = nodeName (g .name) && legalTerm (apply (g .kind) (g .terms)) maxDepth
+-- a line's own expression takes the first level
+unfoldable pub isLegalGate : GateLine → Bool
+isLegalGate g = isNodeName (g .name) && isLegalTerm (apply (g .kind) (g .terms)) maxDepth
 
-unfoldable pub legalOutput : OutputLine → Bool
-legalOutput o = plainName (o .port) && nodeName (o .shown)
+unfoldable pub isLegalOutput : OutputLine → Bool
+isLegalOutput o = isPlainName (o .port) && isNodeName (o .shown)
 
-unfoldable pub legalTree : Tree → Bool
-legalTree t = all plainName (t .inputs) && all legalGate (t .gates) && all legalOutput (t .outputs)
+unfoldable pub isLegalTree : Tree → Bool
+isLegalTree t = all isPlainName (t .inputs) && all isLegalGate (t .gates) && all isLegalOutput (t .outputs)
 
 -- ---- which texts are legal
 
 pub record Legal (text : List ℕ) : Type 0 where
   pub tree : Tree
-  pub legal : legalTree tree ≡ true
+  pub legal : isLegalTree tree ≡ true
   pub printed : print tree ≡ text
 
 -- some legal text begins so
@@ -109,7 +109,7 @@ pub record Viable (beginning : List ℕ) : Type 0 where
   pub rest : List ℕ
   pub legal : Legal (beginning ++ rest)
 
--- Refusal 2 at this place: "bytes before the first that no legal text has after that beginning, or the length if cut off"
+-- Refusal 2 at this place: some legal text begins as this one does up to it, none with one byte more, or the text ends there.
 pub record FirstBad (text : List ℕ) (place : ℕ) : Type 0 where
   pub illegal : Legal text → ⊥
   pub begins : Viable (take place text)

@@ -1,13 +1,13 @@
--- Document 01, "Three-valued meaning": the values and their codes.
+-- SPECIFICATION 3.1: the values and their codes.
 use Prim.Native.Nat.{ℕ, zero, suc}
 use mathlib.Core.Bool.{Bool, true, false, not}
 
--- "Values are 0, 1 and undefined": `val false` is 0 and `val true` is 1
+-- `val false` is 0 and `val true` is 1
 pub data Value : Type 0 where
   undefined : Value
   val : Bool → Value
 
--- "coded 0, 1, 2"
+-- the number of a value in settings and results
 unfoldable pub code : Value → ℕ
 code (val false) = 0
 code (val true) = 1
@@ -19,11 +19,11 @@ valueOf zero = val false
 valueOf (suc zero) = val true
 valueOf (suc (suc n)) = undefined
 
--- "`not` swaps 0 and 1 and keeps undefined"
+-- the value of `not`
 unfoldable pub invert : Value → Value
 invert undefined = undefined
 invert (val b) = val (not b)
 
-unfoldable pub defined : Value → Bool
-defined undefined = false
-defined (val b) = true
+unfoldable pub isDefined : Value → Bool
+isDefined undefined = false
+isDefined (val b) = true

@@ -1,4 +1,4 @@
--- Document 01, Write: "block to text, gates flat and named `_` and their decimal number".
+-- SPECIFICATION 7.11: the text of a block, an expression of depth 1 for each gate.
 use Prim.Native.Nat.{ℕ, zero, suc, _+_, _/_, _%_}
 use mathlib.Core.Bool.{cond}
 use mathlib.Core.List.{List, [], _∷_, _++_, map}
@@ -19,6 +19,7 @@ digits (suc most) v =
 unfoldable pub decimal : ℕ → List ℕ
 decimal v = digits (suc v) v
 
+-- gates have no stored names: `_` and the number
 unfoldable pub gateName : ℕ → Name
 gateName j = ascii "_" ++ decimal j
 

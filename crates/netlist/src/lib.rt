@@ -26,6 +26,12 @@ pub enum Refusal {
     NoRoom,
 }
 
+// What a condition of an operation answers: the input passes, or the operation refuses.
+pub enum Test {
+    Passed,
+    Failed(Refusal),
+}
+
 // What an operation answers.
 pub enum Answer {
     Done { count: usize, detail: usize },
@@ -39,5 +45,12 @@ pub struct Row {
     pub most: usize,
     pub controlling: u8,
     pub forced: u8,
+    pub keyword: [u8; 4],
+}
+
+// How an expression of a kind looks: the least and the greatest operand count, and the keyword's bytes, zero behind its end.
+pub struct Signature {
+    pub fewest: usize,
+    pub most: usize,
     pub keyword: [u8; 4],
 }

@@ -1,4 +1,8 @@
--- The number of copies: the sum of the squares of the groups' sizes, and its bounds. Render cites it. Assumes nothing.
+-- The number of copies: the sum of the squares of the groups' sizes, and its bounds. Render cites it.
+--   copyCount-least                          at least as many copies as gates
+--   copies-built                             the squares of a list that is being built are at most the copies
+--   copyCount-loopless, copyCount-straight   as many copies as gates where no gate reaches itself
+-- Assumes nothing.
 use Prim.Native.Nat.{ℕ, zero, suc, _-_, _*_, _≤_, _<_}
 use mathlib.Core.Path.{_≡_, refl, sym, ap, _∙_}
 use mathlib.Core.Bool.{true}
@@ -10,7 +14,7 @@ use Rattle.laws.specs.Lists.{joined, sum}
 use Rattle.laws.proofs.Lists.{length-joined, sum-map-append}
 use Rattle.netlist.specs.Netlist.{Block, gateCount}
 use Rattle.netlist.specs.Groups.{groups, copyCount, groupsAfter}
-use Rattle.netlist.specs.Rendering.{straight}
+use Rattle.netlist.specs.Rendering.{isStraight}
 use Rattle.reach.specs.Inside.{Inside, Loopless}
 use Rattle.reach.specs.Numbering.{Built}
 use Rattle.reach.proofs.ListFacts.{map-same, sum-at, sum-mono}
@@ -68,5 +72,5 @@ module _ (b : Block) where
       one g h = rw (groups-single b f g h .2) refl
 
   -- and so in a straight block
-  pub copyCount-straight : straight b ≡ true → copyCount b ≡ gateCount b
+  pub copyCount-straight : isStraight b ≡ true → copyCount b ≡ gateCount b
   copyCount-straight s = copyCount-loopless (straight-inside b s) (straight-loopless b s)

@@ -1,4 +1,9 @@
--- The number of a gate's group: the place of the one group that holds it. Groups and the agreement cite it. Assumes nothing.
+-- The number of a gate's group: the place of the one group that holds it. Groups and the agreement cite it.
+--   groupNumber-is, groupNumber-member       a gate's number is the place of the group that holds it
+--   groupNumber-same, same-groupNumber       two gates have one number exactly when they share a group
+--   groupNumber-reads, groupNumber-path      a gate reads, and reaches, no higher number
+--   length-groupNumbers, getD-groupNumbers   the list of all numbers
+-- Assumes nothing.
 use Prim.Native.Nat.{ℕ, _≤_, _<_}
 use mathlib.Core.Path.{_≡_, sym, ap, _∙_}
 use mathlib.Core.Bool.{Bool, true}
@@ -9,7 +14,7 @@ use Rattle.laws.specs.Lists.{member, least}
 use Rattle.laws.proofs.Least.{least-at}
 use Rattle.laws.proofs.Tab.{length-tab, getD-tab}
 use Rattle.netlist.specs.Netlist.{Block, gateCount}
-use Rattle.netlist.specs.Groups.{reads, Path, stay, step, sameGroup, groupOf, groups, groupNumber, groupNumbers}
+use Rattle.netlist.specs.Groups.{reads, OperandPath, stay, step, sameGroup, groupOf, groups, groupNumber, groupNumbers}
 use Rattle.reach.specs.Inside.{Inside}
 use Rattle.reach.proofs.ListFacts.{entry-below, least-at-most}
 use Rattle.reach.proofs.Reach.{reads-below}
@@ -63,7 +68,7 @@ module _ (b : Block) where
       omega arith
 
   -- and so it reaches them only
-  pub groupNumber-path : Inside b → {i k : ℕ} → Path b i k → groupNumber b k ≤ groupNumber b i
+  pub groupNumber-path : Inside b → {i k : ℕ} → OperandPath b i k → groupNumber b k ≤ groupNumber b i
   groupNumber-path inside stay = omega arith
   groupNumber-path inside (step {i} {j} {k} r p) =
       let u = groupNumber-reads inside i j r in

@@ -1,4 +1,6 @@
--- In a well-formed block every gate reads gates that are there. Assumes nothing.
+-- In a well-formed block every gate reads gates that are there.
+--   wellFormed-inside   a well-formed block is `Inside`
+-- Assumes nothing.
 use Prim.Native.Nat.{ℕ, zero, suc, _<_}
 use mathlib.Core.Path.{_≡_}
 use mathlib.Core.Logic.{⊎-elim}
@@ -13,7 +15,7 @@ use Rattle.laws.proofs.Lists.{member-cases, member-one}
 use Rattle.netlist.specs.Limits.{maxInputs, maxGates, maxOutputs}
 use Rattle.netlist.specs.Netlist.{Operand, input, gate, constant, Gate, Output, Block, inputCount, gateCount, outputCount}
 use Rattle.netlist.specs.Kinds.{isKind, arityFits}
-use Rattle.netlist.specs.StoredBlock.{plainName, isNode, isOperand, gateFits, wellFormed}
+use Rattle.netlist.specs.StoredBlock.{isPlainName, isNode, isOperand, gateFits, isWellFormed}
 use Rattle.netlist.specs.Groups.{gateOperand, readBy, reads}
 use Rattle.reach.specs.Inside.{Inside}
 
@@ -32,7 +34,8 @@ operands-inside b (o ∷ os) k h m =
     (operands-inside b os k (and-right (isOperand b o) _ h))
     (member-cases k (gateOperand o) (joined (map gateOperand os)) m)
 
-gates-inside : (b : Block) (gs : List Gate) (i k : ℕ) → all (gateFits b) gs ≡ true → member k (joined (map gateOperand (getD gs i (record { kind = 0; operands = [] }) .operands))) ≡ true → k < gateCount b
+gates-inside : (b : Block) (gs : List Gate) (i k : ℕ) → all (gateFits b) gs ≡ true
+    → member k (joined (map gateOperand (getD gs i (record { kind = 0; operands = [] }) .operands))) ≡ true → k < gateCount b
 unfolding gateFits
 gates-inside b [] i k h m = absurd (false≢true m)
 gates-inside b (g ∷ gs) zero k h m =
@@ -49,14 +52,14 @@ second : (a b c d e : Bool) → (a && b && c && d && e) ≡ true → b ≡ true
 second a b c d e h = and-right a b (and-left (a && b) c (and-left (a && b && c) d (and-left (a && b && c && d) e h)))
 
 -- and so in a well-formed block
-pub wellFormed-inside : (b : Block) → wellFormed b ≡ true → Inside b
-unfolding wellFormed
+pub wellFormed-inside : (b : Block) → isWellFormed b ≡ true → Inside b
+unfolding isWellFormed
 wellFormed-inside b h =
     fits-inside b
     (second
-    (leb (inputCount b) maxInputs && leb (gateCount b) maxGates && leb (outputCount b) maxOutputs && all plainName (b .inputs) && distinct (b .inputs))
+    (leb (inputCount b) maxInputs && leb (gateCount b) maxGates && leb (outputCount b) maxOutputs && all isPlainName (b .inputs) && distinct (b .inputs))
     (all (gateFits b) (b .gates))
-    (all (λ o. plainName (o .port)) (b .outputs))
+    (all (λ o. isPlainName (o .port)) (b .outputs))
     (distinct (map (λ (o : Output). o .port) (b .outputs)))
     (all (λ o. isNode b (o .node)) (b .outputs))
     h)

@@ -1,5 +1,10 @@
 -- What `reach` computes: gate i reaches gate j exactly when there is a path. Growing m times is enough, by counting.
--- The other files of this crate cite it. Assumes nothing.
+-- The other files of this crate cite it.
+--   grown-*, grownTimes-*         a step, and many: nothing is lost, and what is read is added
+--   path-reaches, reaches-path    `reaches` tells whether there is a path
+--   reaches-refl, reaches-trans   it is reflexive and transitive
+--   reach-least, reach-is         the reach is the least closed set with the gate
+-- Assumes nothing.
 use Prim.Native.Nat.{ℕ, zero, suc, _≤_, _<_}
 use mathlib.Core.Path.{_≡_, refl, sym, _∙_}
 use mathlib.Core.Logic.{_⊎_, inl, inr, ⊎-elim}
@@ -16,7 +21,7 @@ use Rattle.laws.proofs.Tab.{length-tab, getD-tab}
 use Rattle.laws.proofs.Quantifiers.{any-below, below-any}
 use Rattle.laws.proofs.Counting.{countBelow-less, countBelow-full}
 use Rattle.netlist.specs.Netlist.{Block, gateCount}
-use Rattle.netlist.specs.Groups.{readBy, reads, Path, stay, step, has, grown, grownTimes, reach, reaches}
+use Rattle.netlist.specs.Groups.{readBy, reads, OperandPath, stay, step, has, grown, grownTimes, reach, reaches}
 use Rattle.reach.specs.Inside.{Closed}
 
 -- only a gate that is there reads
@@ -31,7 +36,7 @@ reads-below b i k h = go (lt-or-le i (gateCount b))
         absurd (true≢false (sym (rw d at h)))
 
 -- paths follow one another
-pub path-append : {b : Block} {i j k : ℕ} → Path b i j → Path b j k → Path b i k
+pub path-append : {b : Block} {i j k : ℕ} → OperandPath b i j → OperandPath b j k → OperandPath b i k
 path-append stay q = q
 path-append (step h p) q = step h (path-append p q)
 
@@ -64,7 +69,7 @@ module _ (b : Block) where
   unfolding grown has
   has-grown set j h = getD-tab _ (gateCount b) j false h
 
-  -- "grown" only adds
+  -- `grown` only adds
   pub grown-keeps : (set : List Bool) (j : ℕ) → j < gateCount b → has set j ≡ true → has (grown b set) j ≡ true
   grown-keeps set j h e = has-grown set j h ∙ or-left _ _ e
 
@@ -75,10 +80,12 @@ module _ (b : Block) where
       ∙ or-right (has set j) _ (below-any (λ i. has set i && reads b i j) (gateCount b) i (reads-below b i j r) (and-intro _ _ e r))
 
   -- and nothing else
-  pub grown-cases : (set : List Bool) (j : ℕ) → j < gateCount b → has (grown b set) j ≡ true → (has set j ≡ true) ⊎ ((i : ℕ) × (has set i ≡ true) × (reads b i j ≡ true))
+  pub grown-cases : (set : List Bool) (j : ℕ) → j < gateCount b → has (grown b set) j ≡ true
+      → (has set j ≡ true) ⊎ ((i : ℕ) × (has set i ≡ true) × (reads b i j ≡ true))
   grown-cases set j h e = go (or-cases _ _ (sym (has-grown set j h) ∙ e))
     where
-      go : (has set j ≡ true) ⊎ (any (λ i. has set i && reads b i j) (upTo (gateCount b)) ≡ true) → (has set j ≡ true) ⊎ ((i : ℕ) × (has set i ≡ true) × (reads b i j ≡ true))
+      go : (has set j ≡ true) ⊎ (any (λ i. has set i && reads b i j) (upTo (gateCount b)) ≡ true)
+          → (has set j ≡ true) ⊎ ((i : ℕ) × (has set i ≡ true) × (reads b i j ≡ true))
       go (inl u) = inl u
       go (inr u) =
           let r = any-below (λ i. has set i && reads b i j) (gateCount b) u in
@@ -121,7 +128,8 @@ module _ (b : Block) where
   closed-or-many zero set = inr (omega arith)
   closed-or-many (suc t) set = go (closed-or-many t set)
     where
-      go : Closed b (grownTimes b t set) ⊎ (t ≤ size (grownTimes b t set)) → Closed b (grown b (grownTimes b t set)) ⊎ (suc t ≤ size (grown b (grownTimes b t set)))
+      go : Closed b (grownTimes b t set) ⊎ (t ≤ size (grownTimes b t set))
+          → Closed b (grown b (grownTimes b t set)) ⊎ (suc t ≤ size (grown b (grownTimes b t set)))
       go (inl c) = inl (grown-closed _ c)
       go (inr l) = ⊎-elim (λ c. inl (grown-closed _ c)) (λ u. inr (omega arith)) (closed-or-more (grownTimes b t set))
 
@@ -158,19 +166,19 @@ module _ (b : Block) where
   reaches-reads i j k h r l = grownTimes-closed _ j k (reads-below b j k r) l h r
 
   -- a path leads only through gates that are there
-  path-below : {j k : ℕ} → Path b j k → k < gateCount b → j < gateCount b
+  path-below : {j k : ℕ} → OperandPath b j k → k < gateCount b → j < gateCount b
   path-below stay h = h
   path-below (step {i} {j} r p) h = reads-below b i j r
 
-  reaches-along : {j k : ℕ} (i : ℕ) → reaches b i j ≡ true → Path b j k → k < gateCount b → reaches b i k ≡ true
+  reaches-along : {j k : ℕ} (i : ℕ) → reaches b i j ≡ true → OperandPath b j k → k < gateCount b → reaches b i k ≡ true
   reaches-along i e stay h = e
   reaches-along i e (step {j} {k} r p) h = reaches-along i (reaches-reads i _ _ e r (path-below p h)) p h
 
   -- where there is a path, the gate is reached
-  pub path-reaches : (i j : ℕ) → j < gateCount b → Path b i j → reaches b i j ≡ true
+  pub path-reaches : (i j : ℕ) → j < gateCount b → OperandPath b i j → reaches b i j ≡ true
   path-reaches i j h p = reaches-along i (reaches-refl i (path-below p h)) p h
 
-  grown-path : (i t j : ℕ) → has (grownTimes b t (tab (eqb i) (gateCount b))) j ≡ true → Path b i j × (i < gateCount b)
+  grown-path : (i t j : ℕ) → has (grownTimes b t (tab (eqb i) (gateCount b))) j ≡ true → OperandPath b i j × (i < gateCount b)
   unfolding grownTimes has
   grown-path i zero j h =
       let l = has-below (tab (eqb i) (gateCount b)) j (length-tab _ (gateCount b)) h in
@@ -181,12 +189,13 @@ module _ (b : Block) where
       set : List Bool
       set = grownTimes b t (tab (eqb i) (gateCount b))
 
-      go : (has set j ≡ true) ⊎ ((k : ℕ) × (has set k ≡ true) × (reads b k j ≡ true)) → ((k : ℕ) → has set k ≡ true → Path b i k × (i < gateCount b)) → Path b i j × (i < gateCount b)
+      go : (has set j ≡ true) ⊎ ((k : ℕ) × (has set k ≡ true) × (reads b k j ≡ true)) → ((k : ℕ) → has set k ≡ true → OperandPath b i k × (i < gateCount b))
+          → OperandPath b i j × (i < gateCount b)
       go (inl u) f = f j u
       go (inr u) f = let r = f (u .0) (u .1) in (path-append (r .0) (step (u .2) stay), r .1)
 
   -- where a gate is reached, there is a path
-  pub reaches-path : (i j : ℕ) → reaches b i j ≡ true → Path b i j
+  pub reaches-path : (i j : ℕ) → reaches b i j ≡ true → OperandPath b i j
   unfolding reaches reach
   reaches-path i j h = grown-path i (gateCount b) j h .0
 
@@ -201,7 +210,7 @@ module _ (b : Block) where
 
   -- ---- reach, recognised
 
-  closed-path : {i j : ℕ} (set : List Bool) → Closed b set → has set i ≡ true → Path b i j → j < gateCount b → has set j ≡ true
+  closed-path : {i j : ℕ} (set : List Bool) → Closed b set → has set i ≡ true → OperandPath b i j → j < gateCount b → has set j ≡ true
   closed-path set c e stay h = e
   closed-path set c e (step {i} {j} r p) h = closed-path set c (c i j (reads-below b i j r) (path-below p h) e r) p h
 
@@ -210,7 +219,8 @@ module _ (b : Block) where
   reach-least set i j c e h = closed-path set c e (reaches-path i j h) (reaches-below i j h)
 
   -- a closed set that has gate i, and only what it reaches, is its reach
-  pub reach-is : (set : List Bool) (i : ℕ) → length set ≡ gateCount b → Closed b set → has set i ≡ true → ((j : ℕ) → has set j ≡ true → reaches b i j ≡ true) → set ≡ reach b i
+  pub reach-is : (set : List Bool) (i : ℕ) → length set ≡ gateCount b → Closed b set → has set i ≡ true
+      → ((j : ℕ) → has set j ≡ true → reaches b i j ≡ true) → set ≡ reach b i
   unfolding reaches has
   reach-is set i l c e f =
       ext-getD false set (reach b i) (l ∙ sym (length-reach i))

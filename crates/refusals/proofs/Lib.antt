@@ -1,2 +1,3 @@
 -- The law that the proofs of this crate cite.
 pub mod Plain
+pub mod Promised

@@ -1,9 +1,45 @@
-// The numbers and details of document 01's table of refusals, for those who show an answer: the program, and callers in other languages.
+// Refusals: the test of a condition and what an operation answers when it fails, and the numbers and details of the table of refusals
+// (SPECIFICATION 7.1, 7.2).
+use netlist::Answer;
 use netlist::Refusal;
+use netlist::Test;
 ghost use mathlib.Core.Path.{_≡_};
-ghost use Rattle.netlist.specs.Answers.{refusalNumber, refusalDetail};
+ghost use lib.Dec.{ltb};
+ghost use Rattle.netlist.specs.declared.Refusal.the-variants.{NoRoom};
+ghost use Rattle.netlist.specs.Answers.{refusalNumber, refusalDetail, testOf, refusalOf};
 
-// Its number in document 01's table.
+// A condition that holds refuses.
+pub fn refuse_if(holds: bool, why: Refusal) -> Test
+    ensures { λ r. ⌜ r ≡ testOf holds why ⌝ }
+{
+    if holds {
+        Test::Failed(why)
+    } else {
+        Test::Passed
+    }
+}
+
+// 11: does a slice of `room` elements hold a result of `needed`?
+pub fn test_room(room: usize, needed: usize) -> Test
+    ensures { λ r. ⌜ r ≡ testOf (ltb room needed) NoRoom ⌝ }
+{
+    refuse_if(room < needed, Refusal::NoRoom)
+}
+
+// What an operation answers when this test failed.
+pub fn refusal(test: Test) -> Answer
+    ensures { λ r. ⌜ r ≡ refusalOf test ⌝ }
+{
+    match test {
+        Test::Failed(why) => Answer::Refused(why),
+        Test::Passed => Answer::Done {
+            count: 0,
+            detail: 0,
+        },
+    }
+}
+
+// Its number in the table of refusals.
 pub fn number_of(why: Refusal) -> usize
     ensures { λ r. ⌜ r ≡ refusalNumber why ⌝ }
 {

@@ -1,5 +1,8 @@
 -- How many gates of a list have a value 0 or 1: the count grows with the state, and where it does not, nothing on the list changed.
--- Cited for the fixed point within m rounds, and for the passes over a group. Assumes nothing.
+-- Cited for the fixed point within m rounds, and for the passes over a group.
+--   definedAmong-le, definedAmong-mono   at most the list's length; grows with the state
+--   definedAmong-same, same-by-count     no more defined, so nothing changed
+-- Assumes nothing.
 use Prim.Native.Nat.{ℕ, _≤_}
 use mathlib.Core.Path.{_≡_, refl, sym, _∙_}
 use mathlib.Core.Logic.{⊎-elim}
@@ -13,25 +16,25 @@ use lib.Seq.{ext-getD}
 use Rattle.laws.specs.Lists.{upTo}
 use Rattle.laws.proofs.Quantifiers.{below-any}
 use Rattle.laws.proofs.Lists.{member-head, member-rest, member-first}
-use Rattle.netlist.specs.Values.{Value, undefined, val, defined}
+use Rattle.netlist.specs.Values.{Value, undefined, val, isDefined}
 use Rattle.rounds.specs.Order.{Below, BelowOn, BelowAll, Listed, definedAmong}
 
 -- one value counts 1 where it is 0 or 1
 one : Value → ℕ
-one v = cond (defined v) 1 0
+one v = cond (isDefined v) 1 0
 
 one-le : (v : Value) → one v ≤ 1
-unfolding one defined
+unfolding one isDefined
 one-le undefined = omega arith
 one-le (val b) = omega arith
 
 one-mono : (v w : Value) → Below v w → one v ≤ one w
-unfolding one defined
+unfolding one isDefined
 one-mono undefined w h = omega arith
 one-mono (val b) w h = rw (h b refl) (omega arith)
 
 one-same : (v w : Value) → Below v w → one w ≤ one v → v ≡ w
-unfolding one defined
+unfolding one isDefined
 one-same undefined undefined h l = refl
 one-same undefined (val b) h l = absurd (omega arith)
 one-same (val b) w h l = sym (h b refl)

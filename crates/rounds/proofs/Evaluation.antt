@@ -1,5 +1,9 @@
 -- A gate evaluated from a state: it grows with the gates that it reads, and depends on them alone. Cited by the laws on rounds, steps
--- and sweeps. Assumes nothing.
+-- and sweeps.
+--   evaluated-mono*     grows with what the gate reads
+--   evaluated-agree     depends on that alone
+--   evaluated-defined   0 or 1 where that is
+-- Assumes nothing.
 use Prim.Native.Nat.{ℕ, _<_}
 use mathlib.Core.Path.{_≡_, sym}
 use mathlib.Core.Bool.{true}
@@ -7,7 +11,7 @@ use mathlib.Core.List.{List, [], _∷_, map}
 use lib.ListN.{length, getD, length-map}
 use Rattle.laws.specs.Lists.{all, member, joined}
 use Rattle.laws.proofs.Lists.{member-head, member-rest}
-use Rattle.netlist.specs.Values.{Value, undefined, val, defined}
+use Rattle.netlist.specs.Values.{Value, undefined, val, isDefined}
 use Rattle.netlist.specs.Netlist.{Operand, input, gate, constant, Gate, Block, gateOf}
 use Rattle.netlist.specs.Rounds.{operandValue, evaluated}
 use Rattle.netlist.specs.Groups.{gateOperand, readBy, reads}
@@ -55,7 +59,7 @@ evaluated-agree x u w b j h =
 
 -- A gate whose operands are each 0 or 1, at least one of them, has a value 0 or 1.
 pub evaluated-defined : (x v : List Value) (g : Gate) → 0 < length (g .operands)
-    → all defined (map (operandValue x v) (g .operands)) ≡ true → defined (evaluated x v g) ≡ true
+    → all isDefined (map (operandValue x v) (g .operands)) ≡ true → isDefined (evaluated x v g) ≡ true
 unfolding evaluated
 evaluated-defined x v g h d =
     gateValue-defined (g .kind) (map (operandValue x v) (g .operands)) (rw length-map h) d

@@ -1,5 +1,8 @@
 -- One gate: its value grows with its operands' values, and is 0 or 1 where they all are. Everything else in this crate cites these laws
--- and never opens the rule of the kinds. Assumes nothing.
+-- and never opens the rule of the kinds.
+--   TwoValued                           a row whose controlling and forced values are 0 or 1
+--   gateValue-mono, gateValue-defined   the two laws
+-- Assumes nothing.
 use Prim.Native.Nat.{ℕ, zero, suc, _-_, _<_}
 use mathlib.Core.Path.{_≡_, refl, ap, _∙_}
 use mathlib.Core.Bool.{Bool, true, false, cond, _||_}
@@ -11,7 +14,7 @@ use lib.ListN.{length, getD}
 use lib.Dec.{eqb}
 use Rattle.laws.specs.Lists.{all, any, ascii}
 use Rattle.laws.proofs.Tests.{and-left, and-right, or-cases, or-left, or-right}
-use Rattle.netlist.specs.Values.{Value, undefined, val, code, valueOf, invert, defined}
+use Rattle.netlist.specs.Values.{Value, undefined, val, code, valueOf, invert, isDefined}
 use Rattle.netlist.specs.declared.Row.{Row}
 use Rattle.netlist.specs.Kinds.{row, rows, rowOf, isNot, ruled, gateValue}
 use Rattle.rounds.specs.Order.{Below, BelowEach, none, more}
@@ -51,21 +54,21 @@ any-controlling-stays c h (more {v} {w} {vs} {ws} l ls) e = go (or-cases (eqb (c
     go (inr p) rest = or-right (eqb (code w) c) _ (rest p)
 
 -- above a list of values 0 or 1 there is only itself
-each-below-defined : {vs ws : List Value} → BelowEach vs ws → all defined vs ≡ true → vs ≡ ws
+each-below-defined : {vs ws : List Value} → BelowEach vs ws → all isDefined vs ≡ true → vs ≡ ws
 each-below-defined none d = refl
 each-below-defined (more {v} {w} {vs} {ws} l ls) d =
-    let p : v ≡ w = below-defined v w l (and-left (defined v) (all defined vs) d) in
-    let q : vs ≡ ws = each-below-defined ls (and-right (defined v) (all defined vs) d) in
+    let p : v ≡ w = below-defined v w l (and-left (isDefined v) (all isDefined vs) d) in
+    let q : vs ≡ ws = each-below-defined ls (and-right (isDefined v) (all isDefined vs) d) in
     cc
 
 ruled-mono : (r : Row) {vs ws : List Value} → r .controlling < 2 → BelowEach vs ws → Below (ruled r vs) (ruled r ws)
 unfolding ruled
-ruled-mono r {vs} {ws} h l b = go (any controls vs) (all defined vs) refl refl
+ruled-mono r {vs} {ws} h l b = go (any controls vs) (all isDefined vs) refl refl
   where
     controls : Value → Bool
     controls v = eqb (code v) (r .controlling)
 
-    go : (a d : Bool) → any controls vs ≡ a → all defined vs ≡ d
+    go : (a d : Bool) → any controls vs ≡ a → all isDefined vs ≡ d
         → cond a (valueOf (r .forced)) (cond d (invert (valueOf (r .forced))) undefined) ≡ val b → ruled r ws ≡ val b
     go true d p q e = rw (any-controlling-stays (r .controlling) h l p) e
     go false true p q e = rw (← each-below-defined l q, p, q) e
@@ -90,31 +93,31 @@ gateValue-mono k {vs} {ws} l = go (isNot k)
     go true = invert-mono (getD vs 0 undefined) (getD ws 0 undefined) (first-below l)
     go false = ruled-mono (rowOf k) (rowOf-two-valued k .controlling) l
 
-invert-defined : (v : Value) → defined v ≡ true → defined (invert v) ≡ true
-unfolding defined invert
+invert-defined : (v : Value) → isDefined v ≡ true → isDefined (invert v) ≡ true
+unfolding isDefined invert
 invert-defined undefined d = d
 invert-defined (val b) d = refl
 
-valueOf-defined : (n : ℕ) → n < 2 → defined (valueOf n) ≡ true
-unfolding defined valueOf
+valueOf-defined : (n : ℕ) → n < 2 → isDefined (valueOf n) ≡ true
+unfolding isDefined valueOf
 valueOf-defined zero h = refl
 valueOf-defined (suc zero) h = refl
 valueOf-defined (suc (suc n)) h = absurd (omega arith)
 
-ruled-defined : (r : Row) (vs : List Value) → r .forced < 2 → all defined vs ≡ true → defined (ruled r vs) ≡ true
+ruled-defined : (r : Row) (vs : List Value) → r .forced < 2 → all isDefined vs ≡ true → isDefined (ruled r vs) ≡ true
 unfolding ruled
 ruled-defined r vs h d = rw d (go (any (λ v. eqb (code v) (r .controlling)) vs))
   where
-    go : (a : Bool) → defined (cond a (valueOf (r .forced)) (invert (valueOf (r .forced)))) ≡ true
+    go : (a : Bool) → isDefined (cond a (valueOf (r .forced)) (invert (valueOf (r .forced)))) ≡ true
     go true = valueOf-defined (r .forced) h
     go false = invert-defined (valueOf (r .forced)) (valueOf-defined (r .forced) h)
 
 -- Operands that are each 0 or 1, at least one of them, give 0 or 1.
-pub gateValue-defined : (k : ℕ) (vs : List Value) → 0 < length vs → all defined vs ≡ true → defined (gateValue k vs) ≡ true
+pub gateValue-defined : (k : ℕ) (vs : List Value) → 0 < length vs → all isDefined vs ≡ true → isDefined (gateValue k vs) ≡ true
 unfolding gateValue
 gateValue-defined k [] h d = absurd (omega arith)
 gateValue-defined k (v ∷ vs) h d = go (isNot k)
   where
-    go : (t : Bool) → defined (cond t (invert v) (ruled (rowOf k) (v ∷ vs))) ≡ true
-    go true = invert-defined v (and-left (defined v) (all defined vs) d)
+    go : (t : Bool) → isDefined (cond t (invert v) (ruled (rowOf k) (v ∷ vs))) ≡ true
+    go true = invert-defined v (and-left (isDefined v) (all isDefined vs) d)
     go false = ruled-defined (rowOf k) (v ∷ vs) (rowOf-two-valued k .forced) d

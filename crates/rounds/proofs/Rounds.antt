@@ -1,5 +1,11 @@
 -- Rounds: the states grow, within m rounds a round changes nothing, and from then on none does. Cited by Settle's code and by the laws
--- on steps and sweeps. Assumes nothing.
+-- on steps and sweeps.
+--   getD-round, round-mono                   a round gate by gate; it grows with the state
+--   afterRounds-grow, stable-by-count, stable-all   states grow; no more defined means stable; m rounds are enough
+--   rounds-le, rounds-stable, rounds-least   how many rounds are needed
+--   afterRounds-settled, afterRounds-all, settled-when-stable   from then on the state is settled
+--   round-settled, evaluated-settled         a round changes no settled value
+-- Assumes nothing.
 use Prim.Native.Nat.{ℕ, zero, suc, _+_, _-_, _≤_, _<_}
 use mathlib.Core.Path.{_≡_, refl, sym, ap, _∙_}
 use mathlib.Core.Logic.{_⊎_, inl, inr, ⊎-elim}
@@ -16,7 +22,7 @@ use Rattle.laws.proofs.Least.{least-le, least-at, least-first}
 use Rattle.netlist.specs.Values.{Value, undefined, invert, code}
 use Rattle.netlist.specs.Kinds.{gateValue, isNot}
 use Rattle.netlist.specs.Netlist.{Block, gateCount, gateOf}
-use Rattle.netlist.specs.Rounds.{evaluated, round, afterRounds, stable, rounds, settled}
+use Rattle.netlist.specs.Rounds.{evaluated, round, afterRounds, isStable, rounds, settled}
 use Rattle.rounds.specs.Order.{BelowAll, definedAmong}
 use Rattle.rounds.proofs.Values.{below-refl, below-trans, code-injective}
 use Rattle.rounds.proofs.Evaluation.{evaluated-mono-all}
@@ -64,40 +70,40 @@ module _ (b : Block) (x : List Value) where
   afterRounds-mono r s l j = let e : s - r + r ≡ s = omega arith in rw e at (grow-plus (s - r) r j)
 
   -- `stable` says that a further round changes nothing.
-  pub stable-eq : (r : ℕ) → stable b x r ≡ true → afterRounds b x (suc r) ≡ afterRounds b x r
-  unfolding stable
+  pub stable-eq : (r : ℕ) → isStable b x r ≡ true → afterRounds b x (suc r) ≡ afterRounds b x r
+  unfolding isStable
   stable-eq r h =
       map-injective code code-injective (afterRounds b x (suc r)) (afterRounds b x r)
       (same-eq (map code (afterRounds b x (suc r))) (map code (afterRounds b x r)) h)
 
-  pub eq-stable : (r : ℕ) → afterRounds b x (suc r) ≡ afterRounds b x r → stable b x r ≡ true
-  unfolding stable
+  pub eq-stable : (r : ℕ) → afterRounds b x (suc r) ≡ afterRounds b x r → isStable b x r ≡ true
+  unfolding isStable
   eq-stable r e = eq-same (map code (afterRounds b x (suc r))) (map code (afterRounds b x r)) (ap (map code) e)
 
   -- once a round changes nothing, the next does not
-  stable-next : (r : ℕ) → stable b x r ≡ true → stable b x (suc r) ≡ true
+  stable-next : (r : ℕ) → isStable b x r ≡ true → isStable b x (suc r) ≡ true
   unfolding afterRounds
   stable-next r h = eq-stable (suc r) (ap (round b x) (stable-eq r h))
 
-  stable-plus : (n r : ℕ) → stable b x r ≡ true → afterRounds b x (n + r) ≡ afterRounds b x r
+  stable-plus : (n r : ℕ) → isStable b x r ≡ true → afterRounds b x (n + r) ≡ afterRounds b x r
   unfolding afterRounds
   stable-plus zero r h = rw zero-add refl
   stable-plus (suc n) r h = rw (suc-add, stable-plus n r h) (stable-eq r h)
 
   -- Once a round changes nothing, no later one does.
-  pub stable-later : (r s : ℕ) → r ≤ s → stable b x r ≡ true → afterRounds b x s ≡ afterRounds b x r
+  pub stable-later : (r s : ℕ) → r ≤ s → isStable b x r ≡ true → afterRounds b x s ≡ afterRounds b x r
   stable-later r s l h = let e : s ≡ (s - r) + r = omega arith in ap (afterRounds b x) e ∙ stable-plus (s - r) r h
 
   -- A round that defines no gate more changes nothing.
   pub stable-by-count : (r : ℕ)
       → definedAmong (upTo (gateCount b)) (afterRounds b x (suc r)) ≤ definedAmong (upTo (gateCount b)) (afterRounds b x r)
-      → stable b x r ≡ true
+      → isStable b x r ≡ true
   stable-by-count r h =
       eq-stable r
       (sym (same-by-count (afterRounds b x r) (afterRounds b x (suc r)) (gateCount b) (length-afterRounds r) (length-afterRounds (suc r))
       (afterRounds-grow r) h))
 
-  defined-or-stable : (r : ℕ) → (r ≤ definedAmong (upTo (gateCount b)) (afterRounds b x r)) ⊎ (stable b x r ≡ true)
+  defined-or-stable : (r : ℕ) → (r ≤ definedAmong (upTo (gateCount b)) (afterRounds b x r)) ⊎ (isStable b x r ≡ true)
   defined-or-stable zero = inl (omega arith)
   defined-or-stable (suc r) = go (defined-or-stable r) (lt-or-le before after)
     where
@@ -107,16 +113,16 @@ module _ (b : Block) (x : List Value) where
       after : ℕ
       after = definedAmong (upTo (gateCount b)) (afterRounds b x (suc r))
 
-      go : (r ≤ before) ⊎ (stable b x r ≡ true) → (before < after) ⊎ (after ≤ before) → (suc r ≤ after) ⊎ (stable b x (suc r) ≡ true)
+      go : (r ≤ before) ⊎ (isStable b x r ≡ true) → (before < after) ⊎ (after ≤ before) → (suc r ≤ after) ⊎ (isStable b x (suc r) ≡ true)
       go (inl h) (inl l) = inl (omega arith)
       go (inl h) (inr l) = inr (stable-next r (stable-by-count r l))
       go (inr h) l = inr (stable-next r h)
 
   -- After m rounds a further one changes nothing.
-  pub stable-all : stable b x (gateCount b) ≡ true
+  pub stable-all : isStable b x (gateCount b) ≡ true
   stable-all = ⊎-elim full (λ h. h) (defined-or-stable (gateCount b))
     where
-      full : gateCount b ≤ definedAmong (upTo (gateCount b)) (afterRounds b x (gateCount b)) → stable b x (gateCount b) ≡ true
+      full : gateCount b ≤ definedAmong (upTo (gateCount b)) (afterRounds b x (gateCount b)) → isStable b x (gateCount b) ≡ true
       full h =
           stable-by-count (gateCount b)
           (omega (arith, definedAmong-le (upTo (gateCount b)) (afterRounds b x (suc (gateCount b))), length-tab (λ k. k) (gateCount b)))
@@ -124,28 +130,28 @@ module _ (b : Block) (x : List Value) where
   -- The rounds reported are at most m.
   pub rounds-le : rounds b x ≤ gateCount b
   unfolding rounds
-  rounds-le = least-le (stable b x) (gateCount b)
+  rounds-le = least-le (isStable b x) (gateCount b)
 
   -- After the rounds reported a further one changes nothing.
-  pub rounds-stable : stable b x (rounds b x) ≡ true
+  pub rounds-stable : isStable b x (rounds b x) ≡ true
   unfolding rounds
   rounds-stable = go (lt-or-le (rounds b x) (gateCount b))
     where
-      go : (rounds b x < gateCount b) ⊎ (gateCount b ≤ rounds b x) → stable b x (rounds b x) ≡ true
-      go (inl l) = least-at (stable b x) (gateCount b) l
+      go : (rounds b x < gateCount b) ⊎ (gateCount b ≤ rounds b x) → isStable b x (rounds b x) ≡ true
+      go (inl l) = least-at (isStable b x) (gateCount b) l
       go (inr l) = let e : rounds b x ≡ gateCount b = le-antisymm rounds-le l in rw e stable-all
 
   -- They are the fewest after which this is so.
-  pub rounds-least : (r : ℕ) → stable b x r ≡ true → rounds b x ≤ r
+  pub rounds-least : (r : ℕ) → isStable b x r ≡ true → rounds b x ≤ r
   unfolding rounds
-  rounds-least r h = ⊎-elim (λ l. l) (λ l. le-trans rounds-le l) (least-first (stable b x) (gateCount b) r h)
+  rounds-least r h = ⊎-elim (λ l. l) (λ l. le-trans rounds-le l) (least-first (isStable b x) (gateCount b) r h)
 
   -- Counting up to them: a round that changes something is one of them.
-  pub rounds-more : (r : ℕ) → r ≤ rounds b x → stable b x r ≡ false → suc r ≤ rounds b x
-  rounds-more r l h = ⊎-elim (λ m. m) (λ m. not-both {b = stable b x r} (rw (le-antisymm l m) rounds-stable) h) (lt-or-le r (rounds b x))
+  pub rounds-more : (r : ℕ) → r ≤ rounds b x → isStable b x r ≡ false → suc r ≤ rounds b x
+  rounds-more r l h = ⊎-elim (λ m. m) (λ m. not-both {b = isStable b x r} (rw (le-antisymm l m) rounds-stable) h) (lt-or-le r (rounds b x))
 
   -- The first that changes nothing ends them.
-  pub rounds-end : (r : ℕ) → r ≤ rounds b x → stable b x r ≡ true → rounds b x ≡ r
+  pub rounds-end : (r : ℕ) → r ≤ rounds b x → isStable b x r ≡ true → rounds b x ≡ r
   rounds-end r l h = le-antisymm (rounds-least r h) l
 
   -- The settled values: from the rounds reported on, the state is this one.

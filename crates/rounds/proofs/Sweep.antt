@@ -1,4 +1,8 @@
--- One sweep of a straight block gives the settled values. Cited by Pass's code and for the run of a rendering. Assumes nothing.
+-- One sweep of a straight block gives the settled values. Cited by Pass's code and for the run of a rendering.
+--   straight-unique               in a straight block two states at rest are equal
+--   getD-sweep, evaluated-sweep   a sweep gate by gate, and that it is at rest
+--   sweep-settled                 so it is settled
+-- Assumes nothing.
 use Prim.Native.Nat.{ℕ, zero, suc, _+_, _≤_, _<_}
 use mathlib.Core.Path.{_≡_, sym, ap, _∙_}
 use mathlib.Core.Bool.{true}
@@ -11,12 +15,12 @@ use Rattle.reach.proofs.Straight.{straight-reads}
 use Rattle.netlist.specs.Values.{Value, undefined}
 use Rattle.netlist.specs.Netlist.{Gate, Block, gateCount, gateOf}
 use Rattle.netlist.specs.Rounds.{evaluated, settled}
-use Rattle.netlist.specs.Rendering.{straight, sweepFrom, sweep}
+use Rattle.netlist.specs.Rendering.{isStraight, sweepFrom, sweep}
 use Rattle.rounds.proofs.Evaluation.{evaluated-agree}
 use Rattle.rounds.proofs.Rounds.{evaluated-settled, length-settled}
 
 -- Two states of a straight block that are fixed at every gate agree.
-pub straight-unique : (b : Block) (x u w : List Value) → straight b ≡ true
+pub straight-unique : (b : Block) (x u w : List Value) → isStraight b ≡ true
     → ((j : ℕ) → j < gateCount b → evaluated x u (gateOf b j) ≡ getD u j undefined)
     → ((j : ℕ) → j < gateCount b → evaluated x w (gateOf b j) ≡ getD w j undefined)
     → (j : ℕ) → j < gateCount b → getD u j undefined ≡ getD w j undefined
@@ -75,14 +79,14 @@ module _ (b : Block) (x : List Value) where
   getD-sweep j l = rw zero-add at (getD-sweepFrom x [] (b .gates) (record { kind = 0; operands = [] }) j l)
 
   -- In a straight block it is evaluated from the sweep itself.
-  pub evaluated-sweep : straight b ≡ true → (j : ℕ) → j < gateCount b
+  pub evaluated-sweep : isStraight b ≡ true → (j : ℕ) → j < gateCount b
       → evaluated x (sweep b x) (gateOf b j) ≡ getD (sweep b x) j undefined
   evaluated-sweep h j l =
       evaluated-agree x (sweep b x) (take j (sweep b x)) b j
       (λ k r. sym (getD-take j (sweep b x) k undefined (straight-reads b h j k r))) ∙ sym (getD-sweep j l)
 
   -- One sweep of a straight block gives the settled values.
-  pub sweep-settled : straight b ≡ true → sweep b x ≡ settled b x
+  pub sweep-settled : isStraight b ≡ true → sweep b x ≡ settled b x
   sweep-settled h =
       ext-getD undefined (sweep b x) (settled b x) (length-sweep ∙ sym (length-settled b x))
       (λ j l. straight-unique b x (sweep b x) (settled b x) h (evaluated-sweep h) (λ i m. evaluated-settled b x i) j

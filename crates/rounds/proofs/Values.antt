@@ -1,10 +1,14 @@
--- Values, their codes and the information order. Every file of this crate cites it. Assumes nothing.
+-- Values, their codes and the information order. Every file of this crate cites it.
+--   valueOf-code, code-injective, code-le   values and their codes
+--   below-refl, -trans, -antisym            the order
+--   below-defined, below-keeps-defined      what is above 0 or 1 is the same
+-- Assumes nothing.
 use Prim.Native.Nat.{ℕ, _≤_}
 use mathlib.Core.Path.{_≡_, refl, ap, _∙_, sym}
 use mathlib.Core.Bool.{Bool, true, false}
 use mathlib.Core.List.{List, [], _∷_, map}
 use native.Mathlib.Omega.{arith}
-use Rattle.netlist.specs.Values.{Value, undefined, val, code, valueOf, defined}
+use Rattle.netlist.specs.Values.{Value, undefined, val, code, valueOf, isDefined}
 use Rattle.rounds.specs.Order.{Below}
 
 -- the code names the value
@@ -58,11 +62,11 @@ below-antisym undefined (val b) h k = k b refl
 below-antisym (val b) w h k = sym (h b refl)
 
 -- above a value 0 or 1 there is only itself
-pub below-defined : (v w : Value) → Below v w → defined v ≡ true → v ≡ w
-unfolding defined
+pub below-defined : (v w : Value) → Below v w → isDefined v ≡ true → v ≡ w
+unfolding isDefined
 below-defined undefined w h d = let z : _≡_ {A = ℕ} 0 1 = cc in absurd (omega arith)
 below-defined (val b) w h d = sym (h b refl)
 
 -- what is above a value 0 or 1 is 0 or 1
-pub below-keeps-defined : (v w : Value) → Below v w → defined v ≡ true → defined w ≡ true
+pub below-keeps-defined : (v w : Value) → Below v w → isDefined v ≡ true → isDefined w ≡ true
 below-keeps-defined v w h d = rw (← below-defined v w h d) d

@@ -7,7 +7,7 @@ use mathlib.Core.Bool.{Bool, true, cond}
 use mathlib.Core.List.{List, [], _∷_}
 use lib.ListN.{getD}
 use Rattle.laws.specs.Lists.{member}
-use Rattle.netlist.specs.Values.{Value, undefined, val, defined}
+use Rattle.netlist.specs.Values.{Value, undefined, val, isDefined}
 use Rattle.netlist.specs.Netlist.{Block, gateCount}
 use Rattle.netlist.specs.Groups.{reads}
 
@@ -44,4 +44,4 @@ pub record Follows (b : Block) (before : ℕ → Type 0) (group : List ℕ) : Ty
 -- how many of the gates listed have a value 0 or 1
 unfoldable pub definedAmong : List ℕ → List Value → ℕ
 definedAmong [] v = 0
-definedAmong (j ∷ js) v = cond (defined (getD v j undefined)) 1 0 + definedAmong js v
+definedAmong (j ∷ js) v = cond (isDefined (getD v j undefined)) 1 0 + definedAmong js v

@@ -8,7 +8,7 @@ use Rattle.laws.specs.Lists.{tab}
 use Rattle.laws.proofs.Tab.{map-tab, tab-getD, length-tab}
 use Rattle.netlist.specs.Values.{Value, undefined, code, valueOf}
 use Rattle.netlist.specs.Netlist.{gateOf}
-use Rattle.netlist.specs.StoredBlock.{decode, torn, gatesAt, gateSize}
+use Rattle.netlist.specs.StoredBlock.{decode, isTorn, gatesAt, gateSize}
 use Rattle.netlist.specs.Rounds.{evaluated, round}
 use Rattle.encoding.proofs.Decoded.{decode-gateCount}
 use Rattle.encoding.proofs.Readers.{whole-gate}
@@ -17,7 +17,7 @@ use Rattle.ternary.specs.Legal.{LegalHead}
 use Rattle.simulate.specs.Rounded.{gateCode, roundCodes}
 
 -- the gates of a block that is not torn have legal head words
-pub legal-head : (ws : List ℕ) (j : ℕ) → torn ws ≡ false → j < getD ws 1 0 → LegalHead ws (gatesAt (getD ws 0 0) + gateSize * j)
+pub legal-head : (ws : List ℕ) (j : ℕ) → isTorn ws ≡ false → j < getD ws 1 0 → LegalHead ws (gatesAt (getD ws 0 0) + gateSize * j)
 legal-head ws j h l = let head = whole-gate ws h j l in record { kind = head .known; count = head .arity }
 
 module _ (ws setting values : List ℕ) where
@@ -27,8 +27,10 @@ module _ (ws setting values : List ℕ) where
   roundCodes-tab =
       let x = map valueOf setting in
       let v = map valueOf values in
-      let e : tab (gateOf (decode ws)) (getD ws 1 0) ≡ decode ws .gates = tab-getD (record { kind = 0; operands = [] }) (decode ws .gates) (getD ws 1 0) (decode-gateCount ws) in
-      rw (← e) (ap (map code) (map-tab (evaluated x v) (gateOf (decode ws)) (getD ws 1 0)) ∙ map-tab code (λ j. evaluated x v (gateOf (decode ws) j)) (getD ws 1 0))
+      let m = getD ws 1 0 in
+      let e : tab (gateOf (decode ws)) m ≡ decode ws .gates =
+      tab-getD (record { kind = 0; operands = [] }) (decode ws .gates) m (decode-gateCount ws) in
+      rw (← e) (ap (map code) (map-tab (evaluated x v) (gateOf (decode ws)) m) ∙ map-tab code (λ j. evaluated x v (gateOf (decode ws) j)) m)
 
   pub length-roundCodes : length (roundCodes ws setting values) ≡ getD ws 1 0
   length-roundCodes = rw roundCodes-tab (length-tab (gateCode ws setting values) (getD ws 1 0))
@@ -38,7 +40,7 @@ pub roundCodes-of : (ws setting : List ℕ) (s : List Value) → roundCodes ws s
 unfolding roundCodes
 roundCodes-of ws setting s = rw (values-codes s)
 
--- "Before the first all gates are 2."
+-- the codes before the first round
 pub codes-start : (n : ℕ) → map code (replicate n undefined) ≡ replicate n 2
 unfolding code
 codes-start zero = refl

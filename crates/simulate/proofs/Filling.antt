@@ -1,4 +1,4 @@
--- How a loop fills the beginning of a slice, one element a turn. Assumes nothing.
+-- A loop that copies a slice and tells whether something changed. Assumes nothing.
 use mathlib.Core.Path.{_≡_, refl, sym, ap, _∙_}
 use mathlib.Core.Bool.{Bool, true, false, not, _&&_, and-true, and-false}
 use mathlib.Core.List.{List, [], _∷_, _++_}
@@ -11,28 +11,8 @@ use borrow.Author.Tests.{eq-eqb, ne-eqb}
 use lib.ListN.{length, getD, take, set, length-append, length-set}
 use Rattle.laws.specs.Lists.{same, placed}
 use Rattle.laws.proofs.Slices.{set-placed, getD-past}
+use Rattle.laws.proofs.Filling.{Filling}
 use Rattle.simulate.proofs.ListFacts.{same-more}
-
--- the first j elements are those of xs, the rest is as at entry
-pub record Filling (entry slice xs : List ℕ) (j : ℕ) : Type 0 where
-  pub long : length xs ≡ j
-  pub kept : length slice ≡ length entry
-  pub holds : slice ≡ placed xs entry
-
-pub filling-none : (entry : List ℕ) → Filling entry entry [] 0
-filling-none entry = record { long = refl; kept = refl; holds = refl }
-
-pub filling-more : {entry slice xs ys : List ℕ} {j : ℕ} → Filling entry slice xs j → j < length entry → (a : ℕ) → ys ≡ xs ++ (a ∷ [])
-    → Filling entry (set slice j a) ys (j + 1)
-filling-more {entry} {slice} {xs} {ys} {j} f l a e =
-    rw e
-    (record {
-      long = rw (length-append, f .long);
-      kept = length-set slice j a ∙ f .kept;
-      holds = rw (f .holds) (set-placed xs entry j a (f .long) l);
-    })
-
--- ---- a loop that copies `next` and tells whether something changed
 
 -- some of the first j bytes of `next` is not that of `entry`
 abbrev pub changedBelow : List ℕ → List ℕ → ℕ → Bool

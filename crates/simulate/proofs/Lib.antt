@@ -6,4 +6,3 @@ pub mod Rounds
 pub mod Filling
 pub mod Sweeps
 pub mod Outcomes
-pub mod Told

@@ -1,4 +1,4 @@
--- A list placed over another, a number over and over, and sameness of two lists that grow. Assumes nothing.
+-- A list placed over another, and sameness of two lists that grow. Assumes nothing.
 use mathlib.Core.Path.{_≡_, refl, sym, ap, _∙_}
 use mathlib.Core.Bool.{Bool, _&&_, and-true, and-assoc}
 use mathlib.Core.List.{List, [], _∷_, _++_}
@@ -13,10 +13,6 @@ module _ {A : Type 0} where
   -- a second list of the same length covers the first
   pub placed-placed : (xs ys entry : List A) → length xs ≡ length ys → placed xs (placed ys entry) ≡ placed xs entry
   placed-placed xs ys entry e = ap (λ (r : List A). xs ++ r) (drop-placed ys entry (length xs) (sym e))
-
-  pub replicate-more : (n : ℕ) (a : A) → replicate (suc n) a ≡ replicate n a ++ (a ∷ [])
-  replicate-more zero a = refl
-  replicate-more (suc n) a = ap (λ (r : List A). a ∷ r) (replicate-more n a)
 
 -- two lists of the same length, with one element more each
 pub same-more : (xs ys : List ℕ) (a b : ℕ) → length xs ≡ length ys → same (xs ++ (a ∷ [])) (ys ++ (b ∷ [])) ≡ same xs ys && eqb a b

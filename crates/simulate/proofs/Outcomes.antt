@@ -1,70 +1,52 @@
--- Settle's and Pass's outcomes, by the first condition that holds. Assumes nothing.
-use mathlib.Core.Path.{_≡_, refl, _∙_}
-use mathlib.Core.Bool.{Bool, true, false}
+-- Settle's and Pass's outcomes, as chains of conditions. Assumes nothing.
+use mathlib.Core.Path.{_≡_, refl, sym, _∙_}
+use mathlib.Core.Bool.{Bool, true, false, not}
 use mathlib.Core.List.{List, map}
 use Prim.Native.Nat.{ℕ}
+use native.Mathlib.Omega.{arith}
 use lib.ListN.{length, getD, length-map}
 use lib.Dec.{ltb}
 use Rattle.netlist.specs.declared.Refusal.the-variants.{MalformedBlock, BadSetting, NotStraight, NoRoom}
-use Rattle.netlist.specs.Values.{code, valueOf}
-use Rattle.netlist.specs.Netlist.{gateCount}
-use Rattle.netlist.specs.StoredBlock.{decode, torn}
+use Rattle.netlist.specs.Values.{Value, code, valueOf}
+use Rattle.netlist.specs.Netlist.{Block, gateCount}
+use Rattle.netlist.specs.StoredBlock.{decode, isTorn}
 use Rattle.netlist.specs.Rounds.{rounds, settled}
-use Rattle.netlist.specs.Rendering.{straight, sweep}
-use Rattle.netlist.specs.Answers.{done, refused, refuseIf, inRoom, leftIn}
-use Rattle.netlist.specs.Operations.{badSetting, settling, settle, sweeping, pass}
+use Rattle.netlist.specs.Rendering.{isStraight, sweep}
+use Rattle.netlist.specs.declared.Answer.{Answer}
+use Rattle.netlist.specs.Answers.{refusalNumber, numberOf, Outcome, done, refuseIf, inRoom, answerOf, leftIn, Promise}
+use Rattle.netlist.specs.Operations.{isBadSetting, settleBlock, settle, passBlock, pass}
 use Rattle.encoding.proofs.Decoded.{decode-gateCount}
 use Rattle.rounds.proofs.Rounds.{length-settled}
 use Rattle.rounds.proofs.Sweep.{length-sweep, sweep-settled}
 use Rattle.simulate.specs.Rounded.{sweepCodes}
+use Rattle.simulate.specs.Passed.{PassPromise}
 
 module _ (ws setting : List ℕ) (room : ℕ) where
-  pub settle-malformed : torn ws ≡ true → settle ws setting room ≡ refused MalformedBlock
-  unfolding settle refuseIf inRoom
-  settle-malformed t = rw t
+  abbrev x : List Value
+  x = map valueOf setting
 
-  pub settle-setting : torn ws ≡ false → badSetting (decode ws) setting ≡ true → settle ws setting room ≡ refused BadSetting
-  unfolding settle refuseIf inRoom
-  settle-setting t s = rw (t, s)
+  abbrev b : Block
+  b = decode ws
 
-  settled-length : length (map code (settled (decode ws) (map valueOf setting))) ≡ getD ws 1 0
-  settled-length = length-map (settled (decode ws) (map valueOf setting)) code ∙ length-settled (decode ws) (map valueOf setting) ∙ decode-gateCount ws
+  -- Settle's conditions, and the last one
+  pub settle-chain : settle ws setting room ≡ inRoom room (refuseIf (isTorn ws) MalformedBlock (refuseIf (isBadSetting b setting) BadSetting (settleBlock b x)))
+  unfolding settle
+  settle-chain = refl
 
-  module _ (t : torn ws ≡ false) (s : badSetting (decode ws) setting ≡ false) where
-    pub settle-room : ltb room (getD ws 1 0) ≡ true → settle ws setting room ≡ refused NoRoom
-    unfolding settle settling refuseIf inRoom
-    settle-room r = rw (t, s, settled-length, r)
+  pub settle-room : inRoom room (settleBlock b x) ≡ refuseIf (ltb room (getD ws 1 0)) NoRoom (done (map code (settled b x)) (rounds b x) 0)
+  unfolding settleBlock inRoom
+  settle-room = rw (length-map (settled b x) code, length-settled b x, decode-gateCount ws) refl
 
-    pub settle-done : ltb room (getD ws 1 0) ≡ false
-        → settle ws setting room ≡ done (map code (settled (decode ws) (map valueOf setting))) (rounds (decode ws) (map valueOf setting)) 0
-    unfolding settle settling refuseIf inRoom
-    settle-done r = rw (t, s, settled-length, r)
+  -- Pass's
+  pub pass-chain : pass ws setting room
+      ≡ inRoom room
+      (refuseIf (isTorn ws) MalformedBlock (refuseIf (not (isStraight b)) NotStraight (refuseIf (isBadSetting b setting) BadSetting (passBlock b x))))
+  unfolding pass
+  pass-chain = refl
 
-  -- ---- Pass
-
-  pub pass-malformed : torn ws ≡ true → pass ws setting room ≡ refused MalformedBlock
-  unfolding pass refuseIf inRoom
-  pass-malformed t = rw t
-
-  pub pass-looped : torn ws ≡ false → straight (decode ws) ≡ false → pass ws setting room ≡ refused NotStraight
-  unfolding pass refuseIf inRoom
-  pass-looped t l = rw (t, l)
-
-  pub pass-setting : torn ws ≡ false → straight (decode ws) ≡ true → badSetting (decode ws) setting ≡ true → pass ws setting room ≡ refused BadSetting
-  unfolding pass refuseIf inRoom
-  pass-setting t l s = rw (t, l, s)
-
-  sweep-length : length (map code (sweep (decode ws) (map valueOf setting))) ≡ getD ws 1 0
-  sweep-length = length-map (sweep (decode ws) (map valueOf setting)) code ∙ length-sweep (decode ws) (map valueOf setting) ∙ decode-gateCount ws
-
-  module _ (t : torn ws ≡ false) (l : straight (decode ws) ≡ true) (s : badSetting (decode ws) setting ≡ false) where
-    pub pass-room : ltb room (getD ws 1 0) ≡ true → pass ws setting room ≡ refused NoRoom
-    unfolding pass sweeping refuseIf inRoom
-    pass-room r = rw (t, l, s, sweep-length, r)
-
-    pub pass-done : ltb room (getD ws 1 0) ≡ false → pass ws setting room ≡ done (sweepCodes ws setting) (getD ws 1 0) 0
-    unfolding pass sweeping refuseIf inRoom sweepCodes
-    pass-done r = rw (t, l, s, sweep-length, r, decode-gateCount ws)
+  pub pass-room : inRoom room (passBlock b x) ≡ refuseIf (ltb room (getD ws 1 0)) NoRoom (done (sweepCodes ws setting) (getD ws 1 0) 0)
+  unfolding passBlock inRoom sweepCodes
+  pass-room = rw (length-map (sweep b x) code, length-sweep b x, decode-gateCount ws) refl
 
 -- ---- Pass and Settle
 
@@ -81,11 +63,28 @@ same-left room entry result false false a b = go (ltb room (length result))
     go true = refl
     go false = refl
 
--- "equal to Settle's": of a straight block both leave the same in the slice, for every setting and room
-pub pass-settle : (ws setting : List ℕ) (room : ℕ) (entry : List ℕ) → straight (decode ws) ≡ true
+-- of a straight block both leave the same in the slice, for every setting and room
+pub pass-settle : (ws setting : List ℕ) (room : ℕ) (entry : List ℕ) → isStraight (decode ws) ≡ true
     → leftIn (pass ws setting room) entry ≡ leftIn (settle ws setting room) entry
-unfolding pass settle sweeping settling refuseIf
+unfolding pass settle passBlock settleBlock refuseIf
 pass-settle ws setting room entry h =
     let b = decode ws in
     let x = map valueOf setting in
-    rw (h, sweep-settled b x h) (same-left room entry (map code (settled b x)) (torn ws) (badSetting b setting) (gateCount b) (rounds b x))
+    rw (h, sweep-settled b x h) (same-left room entry (map code (settled b x)) (isTorn ws) (isBadSetting b setting) (gateCount b) (rounds b x))
+
+-- Pass answers 0 for straight blocks only
+straight-of : (room : ℕ) (torn straight : Bool) (next : Outcome)
+    → numberOf (answerOf (inRoom room (refuseIf torn MalformedBlock (refuseIf (not straight) NotStraight next)))) ≡ 0 → straight ≡ true
+unfolding refuseIf inRoom answerOf numberOf refusalNumber
+straight-of room true straight next e = absurd (omega arith)
+straight-of room false true next e = refl
+straight-of room false false next e = absurd (omega arith)
+
+-- so its promise says that its values are Settle's
+pub pass-promise : {ws setting entry exit : List ℕ} {r : Answer} → Promise (pass ws setting (length entry)) entry r exit → PassPromise ws setting entry r exit
+unfolding pass
+pass-promise {ws} {setting} {entry} p =
+    record {
+      promise = p;
+      settles = λ z. p .leaves ∙ pass-settle ws setting (length entry) entry (straight-of (length entry) (isTorn ws) _ _ (sym (p .told .number) ∙ z));
+    }

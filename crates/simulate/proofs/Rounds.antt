@@ -11,7 +11,7 @@ use Rattle.laws.specs.Lists.{same, placed}
 use Rattle.laws.proofs.Slices.{take-placed}
 use Rattle.netlist.specs.Values.{code, valueOf}
 use Rattle.netlist.specs.StoredBlock.{decode}
-use Rattle.netlist.specs.Rounds.{afterRounds, stable, rounds, settled}
+use Rattle.netlist.specs.Rounds.{afterRounds, isStable, rounds, settled}
 use Rattle.encoding.proofs.Decoded.{decode-gateCount}
 use Rattle.rounds.proofs.Rounds.{length-afterRounds, rounds-more, rounds-end, afterRounds-settled, length-settled}
 use Rattle.simulate.specs.Rounded.{roundCodes, Rounded, Settled}
@@ -58,8 +58,8 @@ module _ (ws setting : List ℕ) where
     unfolding afterRounds
     next-codes = rw at-hand (roundCodes-of ws setting (afterRounds (decode ws) (map valueOf setting) count))
 
-    told-stable : {exit : List ℕ} {changed : Bool} → Rounded ws setting m values exit changed → changed ≡ not (stable (decode ws) (map valueOf setting) count)
-    unfolding stable
+    told-stable : {exit : List ℕ} {changed : Bool} → Rounded ws setting m values exit changed → changed ≡ not (isStable (decode ws) (map valueOf setting) count)
+    unfolding isStable
     told-stable d = rw (next-codes, at-hand) at (d .told)
 
     exit-holds : {exit : List ℕ} {changed : Bool} → Rounded ws setting m values exit changed → exit ≡ placed (codesAfter (suc count)) entry

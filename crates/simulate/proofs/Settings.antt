@@ -7,17 +7,17 @@ use lib.ListN.{length, getD}
 use borrow.Author.Tests.{eq-eqb, ne-eqb}
 use Rattle.laws.specs.Lists.{all}
 use Rattle.netlist.specs.StoredBlock.{decode}
-use Rattle.netlist.specs.Operations.{badSetting}
+use Rattle.netlist.specs.Operations.{isBadSetting}
 use Rattle.encoding.proofs.Decoded.{decode-inputCount}
 use Rattle.simulate.specs.Tests.{codeByte}
 
 module _ (ws setting : List ℕ) where
-  -- "not exactly n bytes"
-  pub bad-length : (length setting ≡ getD ws 0 0 → ⊥) → badSetting (decode ws) setting ≡ true
-  unfolding badSetting
+  -- not one byte for each input
+  pub bad-length : (length setting ≡ getD ws 0 0 → ⊥) → isBadSetting (decode ws) setting ≡ true
+  unfolding isBadSetting
   bad-length h = rw (decode-inputCount ws, ne-eqb (length setting) (getD ws 0 0) h)
 
-  -- "or a byte above 2"
-  pub bad-codes : length setting ≡ getD ws 0 0 → badSetting (decode ws) setting ≡ not (all codeByte setting)
-  unfolding badSetting
+  -- a byte that is no code
+  pub bad-codes : length setting ≡ getD ws 0 0 → isBadSetting (decode ws) setting ≡ not (all codeByte setting)
+  unfolding isBadSetting
   bad-codes e = rw (decode-inputCount ws, eq-eqb (length setting) (getD ws 0 0) e)

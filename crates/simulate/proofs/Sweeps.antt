@@ -14,7 +14,7 @@ use Rattle.encoding.proofs.Decoded.{decode-gateCount}
 use Rattle.rounds.proofs.Sweep.{length-sweep, getD-sweep}
 use Rattle.rounds.proofs.Values.{values-codes}
 use Rattle.simulate.specs.Rounded.{gateCode, sweepCodes}
-use Rattle.simulate.proofs.Filling.{Filling}
+use Rattle.laws.proofs.Filling.{Filling}
 
 module _ (ws setting : List ℕ) where
   -- the codes of the first j gates

@@ -7,19 +7,19 @@ use lib.ListN.{getD, take}
 use Rattle.laws.specs.Lists.{same, placed}
 use Rattle.netlist.specs.Values.{code, valueOf}
 use Rattle.netlist.specs.Netlist.{gateOf}
-use Rattle.netlist.specs.StoredBlock.{decode, torn}
+use Rattle.netlist.specs.StoredBlock.{decode, isTorn}
 use Rattle.netlist.specs.Rounds.{evaluated, round, rounds, settled}
 use Rattle.netlist.specs.Rendering.{sweep}
 
 -- gate j of a block that is not torn, of n inputs
 pub record InBlock (ws : List ℕ) (n j : ℕ) : Type 0 where
-  pub whole : torn ws ≡ false
+  pub whole : isTorn ws ≡ false
   pub inputs : n ≡ getD ws 0 0
   pub below : j < getD ws 1 0
 
 -- a block that is not torn, of n inputs and m gates, whose values a slice of `room` bytes holds
 pub record ForRounds (ws : List ℕ) (n m room : ℕ) : Type 0 where
-  pub whole : torn ws ≡ false
+  pub whole : isTorn ws ≡ false
   pub inputs : n ≡ getD ws 0 0
   pub gates : m ≡ getD ws 1 0
   pub fits : m ≤ room

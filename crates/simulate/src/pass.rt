@@ -1,37 +1,35 @@
-// Pass of document 01.
-use crate::room::RoomTest;
-use crate::room::test_room;
-use crate::setting::SettingTest;
+// Pass (SPECIFICATION 7.10).
 use crate::setting::test_setting;
 use crate::sweep::sweep_into;
-use block::Check;
-use block::Straightness;
 use block::check_straight;
 use block::check_words;
-use block::header::gates_of;
+use layout::offsets::gates_of;
 use netlist::Answer;
-use netlist::Refusal;
-ghost use mathlib.Core.Path.{_≡_};
+use netlist::Test;
+use refusals::refusal;
+use refusals::test_room;
 ghost use lib.ListN.{length};
-ghost use Rattle.netlist.specs.Answers.{answerOf, leftIn};
-ghost use Rattle.netlist.specs.Operations.{pass};
+ghost use Rattle.simulate.specs.Passed.{PassPromise};
 
-// Pass (6, 10, 7, 11): "values of a straight block in one sweep, equal to Settle's; count: m".
+// Pass (6, 10, 7, 11): the values of a straight block in one sweep, equal to Settle's; count: gates.
 pub fn pass(words: &[u16], setting: &[u8], values: &mut [u8]) -> Answer
-    ensures { λ r. ⌜ r ≡ answerOf (pass (now (words .entry)) (now (setting .entry)) (length (now (values .entry)))) ⌝ }
-    ensures { λ r. ⌜ now (values .exit) ≡ leftIn (pass (now (words .entry)) (now (setting .entry)) (length (now (values .entry)))) (now (values .entry)) ⌝ }
+    ensures { λ r. ⌜ PassPromise (now (words .entry)) (now (setting .entry)) (now (values .entry)) r (now (values .exit)) ⌝ }
 {
-    let Check::Whole = check_words(words) else {
-        return Answer::Refused(Refusal::MalformedBlock);
+    let tested = check_words(words);
+    let Test::Passed = tested else {
+        return refusal(tested);
     };
-    let Straightness::Straight = check_straight(words) else {
-        return Answer::Refused(Refusal::NotStraight);
+    let tested = check_straight(words);
+    let Test::Passed = tested else {
+        return refusal(tested);
     };
-    let SettingTest::Legal = test_setting(words, setting) else {
-        return Answer::Refused(Refusal::BadSetting);
+    let tested = test_setting(words, setting);
+    let Test::Passed = tested else {
+        return refusal(tested);
     };
-    let RoomTest::Enough = test_room(values.len(), gates_of(words)) else {
-        return Answer::Refused(Refusal::NoRoom);
+    let tested = test_room(values.len(), gates_of(words));
+    let Test::Passed = tested else {
+        return refusal(tested);
     };
     let count = sweep_into(words, setting, values);
     Answer::Done { count, detail: 0 }

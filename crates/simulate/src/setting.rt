@@ -1,15 +1,15 @@
-// Refusal 7 of document 01: "not exactly n bytes, or a byte above 2".
-use block::header::inputs_of;
+// Refusal 7 (SPECIFICATION 7.5): the bytes of a setting.
+use layout::offsets::inputs_of;
+use netlist::Refusal;
+use netlist::Test;
+use refusals::refuse_if;
 ghost use mathlib.Core.Path.{_≡_};
 ghost use Rattle.laws.specs.Lists.{all};
 ghost use Rattle.netlist.specs.StoredBlock.{decode};
-ghost use Rattle.netlist.specs.Operations.{badSetting};
-ghost use Rattle.simulate.specs.Tests.{codeByte, settingTestOf};
-
-pub enum SettingTest {
-    Legal,
-    Bad,
-}
+ghost use Rattle.netlist.specs.Operations.{isBadSetting};
+ghost use Rattle.netlist.specs.declared.Refusal.the-variants.{BadSetting};
+ghost use Rattle.netlist.specs.Answers.{testOf};
+ghost use Rattle.simulate.specs.Tests.{codeByte};
 
 // Is no byte above 2?
 fn has_codes(setting: &[u8]) -> bool
@@ -25,15 +25,12 @@ fn has_codes(setting: &[u8]) -> bool
     true
 }
 
-pub fn test_setting(words: &[u16], setting: &[u8]) -> SettingTest
-    ensures { λ r. ⌜ r ≡ settingTestOf (badSetting (decode (now (words .entry))) (now (setting .entry))) ⌝ }
+// Refusal 7: one byte for each input, and none above 2?
+pub fn test_setting(words: &[u16], setting: &[u8]) -> Test
+    ensures { λ r. ⌜ r ≡ testOf (isBadSetting (decode (now (words .entry))) (now (setting .entry))) BadSetting ⌝ }
 {
     if setting.len() != inputs_of(words) {
-        return SettingTest::Bad;
+        return Test::Failed(Refusal::BadSetting);
     }
-    if has_codes(setting) {
-        SettingTest::Legal
-    } else {
-        SettingTest::Bad
-    }
+    refuse_if(!has_codes(setting), Refusal::BadSetting)
 }

@@ -1,32 +1,33 @@
-// Settle of document 01.
-use crate::room::RoomTest;
-use crate::room::test_room;
+// Settle (SPECIFICATION 7.5).
 use crate::round::settle_into;
-use crate::setting::SettingTest;
 use crate::setting::test_setting;
-use block::Check;
 use block::check_words;
-use block::header::gates_of;
+use layout::offsets::gates_of;
 use netlist::Answer;
-use netlist::Refusal;
-ghost use mathlib.Core.Path.{_≡_};
+use netlist::Test;
+use refusals::refusal;
+use refusals::test_room;
 ghost use lib.ListN.{length};
-ghost use Rattle.netlist.specs.Answers.{answerOf, leftIn};
+ghost use Rattle.netlist.specs.Answers.{Promise};
 ghost use Rattle.netlist.specs.Operations.{settle};
 
-// Settle (6, 7, 11): "settled value of each gate, a byte each, from one byte an input, 0, 1 or 2; count: rounds".
+// Settle (6, 7, 11): the settled value of each gate, a byte each, from a byte for each input: 0, 1 or 2; count: rounds.
 pub fn settle(words: &[u16], setting: &[u8], values: &mut [u8]) -> Answer
-    ensures { λ r. ⌜ r ≡ answerOf (settle (now (words .entry)) (now (setting .entry)) (length (now (values .entry)))) ⌝ }
-    ensures { λ r. ⌜ now (values .exit) ≡ leftIn (settle (now (words .entry)) (now (setting .entry)) (length (now (values .entry)))) (now (values .entry)) ⌝ }
+    ensures { λ r. ⌜
+        Promise (settle (now (words .entry)) (now (setting .entry)) (length (now (values .entry)))) (now (values .entry)) r (now (values .exit))
+        ⌝ }
 {
-    let Check::Whole = check_words(words) else {
-        return Answer::Refused(Refusal::MalformedBlock);
+    let tested = check_words(words);
+    let Test::Passed = tested else {
+        return refusal(tested);
     };
-    let SettingTest::Legal = test_setting(words, setting) else {
-        return Answer::Refused(Refusal::BadSetting);
+    let tested = test_setting(words, setting);
+    let Test::Passed = tested else {
+        return refusal(tested);
     };
-    let RoomTest::Enough = test_room(values.len(), gates_of(words)) else {
-        return Answer::Refused(Refusal::NoRoom);
+    let tested = test_room(values.len(), gates_of(words));
+    let Test::Passed = tested else {
+        return refusal(tested);
     };
     let count = settle_into(words, setting, values);
     Answer::Done { count, detail: 0 }

@@ -1,16 +1,16 @@
 // One sweep of a block that is not torn, straight into the slice for the values.
 use crate::round::value_of_gate;
-use block::header::gates_of;
-use block::header::inputs_of;
+use layout::offsets::gates_of;
+use layout::offsets::inputs_of;
 ghost use mathlib.Core.Path.{_≡_};
 ghost use mathlib.Core.Bool.{false};
 ghost use Prim.Native.Nat.{_≤_};
 ghost use lib.ListN.{length, getD};
 ghost use Rattle.laws.specs.Lists.{placed};
-ghost use Rattle.netlist.specs.StoredBlock.{torn};
+ghost use Rattle.netlist.specs.StoredBlock.{isTorn};
 ghost use Rattle.simulate.specs.Rounded.{ForRounds, sweepCodes};
 
-// "evaluates each gate once, ascending, from inputs, constants and the values just found"
+// Each gate once, in ascending order, from the setting and the values that this sweep has found so far.
 fn sweep_gates(words: &[u16], n: usize, m: usize, setting: &[u8], values: &mut [u8])
     requires { ⌜ ForRounds (now words) n m (length (now values)) ⌝ }
     ensures { λ r. ⌜ now (values .exit) ≡ placed (sweepCodes (now (words .entry)) (now (setting .entry))) (now (values .entry)) ⌝ }
@@ -25,7 +25,7 @@ fn sweep_gates(words: &[u16], n: usize, m: usize, setting: &[u8], values: &mut [
 
 // The values of one sweep into the first bytes of `values`; how many gates there are.
 pub fn sweep_into(words: &[u16], setting: &[u8], values: &mut [u8]) -> usize
-    requires { ⌜ torn (now words) ≡ false ⌝ }
+    requires { ⌜ isTorn (now words) ≡ false ⌝ }
     requires { ⌜ getD (now words) 1 0 ≤ length (now values) ⌝ }
     ensures { λ r. ⌜ now (values .exit) ≡ placed (sweepCodes (now (words .entry)) (now (setting .entry))) (now (values .entry)) ⌝ }
     ensures { λ r. ⌜ r ≡ getD (now (words .entry)) 1 0 ⌝ }

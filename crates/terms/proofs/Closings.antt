@@ -11,15 +11,16 @@ use lib.Seq.{sets}
 use Rattle.laws.specs.Lists.{all, joined, tab, memberList}
 use Rattle.netlist.specs.Kinds.{keyword}
 use Rattle.netlist.specs.Netlist.{Name, Operand, Gate}
-use Rattle.netlist.specs.StoredBlock.{letter, underscore, nameStart, nodeName, nodeWord, gateWords}
-use Rattle.netlist.specs.Syntax.{Term, Terms, name, literal, apply, nil, cons, printTerm, termCount, legalTerm}
-use Rattle.netlist.specs.Reading.{Mention, Binding, gatesIn, gatesInside, termMentions, termsMentions, firstOutside, termNode, termsNodes, termGates, termsGates}
+use Rattle.netlist.specs.StoredBlock.{isLetter, isUnderscore, isNameStart, isNodeName, nodeWord, gateWords}
+use Rattle.netlist.specs.Syntax.{Term, Terms, name, literal, apply, nil, cons, printTerm, termCount, isLegalTerm}
+use Rattle.netlist.specs.Reading.{Mention, Binding, gatesIn, gatesInside, termMentions, termsMentions, firstOutside, termNode, termsNodes, termGates}
+use Rattle.netlist.specs.Reading.{termsGates}
 use Rattle.grammar.proofs.Places.{term-measure}
 use Rattle.terms.specs.declared.Leaf.{Leaf}
 use Rattle.terms.specs.declared.Found.{Found}
 use Rattle.terms.specs.declared.Listed.{Listed}
 use Rattle.terms.specs.Leaves.{earlier, nameLength, indexHere, nameHere, constantHere, leafHere}
-use Rattle.terms.specs.Walk.{Ends, leftOf, declaredNames, unknownAfter, wordsOf, Table, TermAt, TermDone, TermsDone}
+use Rattle.terms.specs.Walk.{Ends, leftOf, declaredNames, unknownAfter, gatesWords, Table, TermAt, TermDone, TermsDone}
 use Rattle.laws.proofs.Stores.{sets-append}
 use Rattle.laws.proofs.Lists.{joined-append}
 use Rattle.terms.proofs.Fronts.{earlier-none, earlier-assoc, leaf-name}
@@ -34,28 +35,29 @@ mutual
   pub gates-count : (o : Term) (bs : List Binding) (first : ℕ) → length (termGates o bs first) ≡ gatesIn o
   gates-count (name x) bs first = refl
   gates-count (literal b) bs first = refl
-  gates-count (apply k ts) bs first = omega (arith, gates-counts ts bs first, length-append (termsGates ts bs first) (record { kind = k; operands = termsNodes ts bs first } ∷ []))
+  gates-count (apply k ts) bs first =
+      omega (arith, gates-counts ts bs first, length-append (termsGates ts bs first) (record { kind = k; operands = termsNodes ts bs first } ∷ []))
 
   pub gates-counts : (ts : Terms) (bs : List Binding) (first : ℕ) → length (termsGates ts bs first) ≡ gatesInside ts
   gates-counts nil bs first = refl
   gates-counts (cons t ts) bs first =
       omega (arith, gates-count t bs first, gates-counts ts bs (first + gatesIn t), length-append (termGates t bs first) (termsGates ts bs (first + gatesIn t)))
 
-pub words-length : (n : ℕ) (gs : List Gate) → length (wordsOf n gs) ≡ 5 * length gs
-unfolding wordsOf gateWords
+pub words-length : (n : ℕ) (gs : List Gate) → length (gatesWords n gs) ≡ 5 * length gs
+unfolding gatesWords gateWords
 words-length n [] = refl
 words-length n (g ∷ gs) =
-    omega (arith, length-append (gateWords n g) (wordsOf n gs), words-length n gs)
+    omega (arith, length-append (gateWords n g) (gatesWords n gs), words-length n gs)
 
-pub words-append : (n : ℕ) (gs hs : List Gate) → wordsOf n (gs ++ hs) ≡ wordsOf n gs ++ wordsOf n hs
-unfolding wordsOf
+pub words-append : (n : ℕ) (gs hs : List Gate) → gatesWords n (gs ++ hs) ≡ gatesWords n gs ++ gatesWords n hs
+unfolding gatesWords
 words-append n gs hs = ap joined (map-append (gateWords n) gs hs) ∙ joined-append (map (gateWords n) gs) (map (gateWords n) hs)
 
 -- one run of gates' words behind another
 pub words-behind : (n : ℕ) (gs hs : List Gate) (d : List ℕ) (i j : ℕ) → j ≡ i + length gs
-    → sets (sets d (5 * i) (wordsOf n gs)) (5 * j) (wordsOf n hs) ≡ sets d (5 * i) (wordsOf n (gs ++ hs))
+    → sets (sets d (5 * i) (gatesWords n gs)) (5 * j) (gatesWords n hs) ≡ sets d (5 * i) (gatesWords n (gs ++ hs))
 words-behind n gs hs d i j e =
-    rw (words-append n gs hs) (sets-append (wordsOf n gs) d (5 * i) (5 * j) (wordsOf n hs) (omega (arith, words-length n gs)))
+    rw (words-append n gs hs) (sets-append (gatesWords n gs) d (5 * i) (5 * j) (gatesWords n hs) (omega (arith, words-length n gs)))
 
 -- ---- the first undeclared name
 
@@ -104,8 +106,8 @@ filled-words n (a ∷ b ∷ c ∷ d ∷ e ∷ os) h = absurd (omega arith)
 -- a gate's five words
 gate-made : (n k count : ℕ) (os : List Operand) (filled : List ℕ) → length os ≤ 4 → count ≡ length os
     → filled ≡ sets noWords 0 (map (nodeWord n) os)
-    → (k + 8 * count) ∷ filled ≡ wordsOf n (record { kind = k; operands = os } ∷ [])
-unfolding wordsOf gateWords
+    → (k + 8 * count) ∷ filled ≡ gatesWords n (record { kind = k; operands = os } ∷ [])
+unfolding gatesWords gateWords
 gate-made n k count os filled few c f = rw (c, f, filled-words n os few)
 
 -- ---- the ways through the code
@@ -114,7 +116,7 @@ module _ (n : ℕ) (bs : List Binding) where
   -- no operand is left
   pub nil-done : (at first seen i : ℕ) (s rest gates slots : List ℕ) → length s ≡ suc (length rest)
       → TermsDone n bs nil at s rest first seen i gates gates slots slots (record { left = length s - 1; count = i; gates = first; unknown = seen })
-  unfolding termCount gatesInside termsMentions termsGates termsNodes wordsOf
+  unfolding termCount gatesInside termsMentions termsGates termsNodes gatesWords
   nil-done at first seen i s rest gates slots e =
       record {
         left = omega arith;
@@ -142,7 +144,9 @@ module _ (n : ℕ) (bs : List Binding) where
         left = e .left;
         count = omega (arith, e .count);
         gates = omega (arith, e .gates, d .gates);
-        unknown = e .unknown ∙ rw (d .unknown, total, total′) (unknown-append seen bs (termMentions o (at + 1)) (termsMentions ts (at + 1 + length (printTerm o []))) (at + length s));
+        unknown =
+            e .unknown ∙ rw (d .unknown, total, total′)
+            (unknown-append seen bs (termMentions o (at + 1)) (termsMentions ts (at + 1 + length (printTerm o []))) (at + length s));
         words = e .words ∙ rw (d .words, d .gates)
             (words-behind n (termGates o bs first) (termsGates ts bs (first + gatesIn o)) g₀ first (first + gatesIn o) (omega (arith, gates-count o bs first)));
         operands = let k : i + 1 ≡ suc i = omega arith in e .operands ∙ rw (d .word, d .gates, k);
@@ -159,7 +163,7 @@ module _ (n : ℕ) (bs : List Binding) where
   apply-done k ts at first seen s inner rest g₀ g₁ g₂ filled l few m d e =
       let total : at + 1 + length (keyword k) + length inner ≡ at + length s = omega arith in
       let c = nodes-count ts bs first in
-      let made : (k + 8 * l .count) ∷ filled ≡ wordsOf n (record { kind = k; operands = termsNodes ts bs first } ∷ []) =
+      let made : (k + 8 * l .count) ∷ filled ≡ gatesWords n (record { kind = k; operands = termsNodes ts bs first } ∷ []) =
       gate-made n k (l .count) (termsNodes ts bs first) filled (omega arith) (omega (arith, d .count)) (d .operands) in
       record {
         left = d .left;
@@ -167,7 +171,8 @@ module _ (n : ℕ) (bs : List Binding) where
         gates = omega (arith, d .gates);
         unknown = d .unknown ∙ rw total;
         words = e ∙ ap (sets g₁ (5 * l .gates)) made ∙ rw (d .words, d .gates)
-            (words-behind n (termsGates ts bs first) (record { kind = k; operands = termsNodes ts bs first } ∷ []) g₀ first (first + gatesInside ts) (omega (arith, gates-counts ts bs first)));
+            (words-behind n (termsGates ts bs first) (record { kind = k; operands = termsNodes ts bs first } ∷ []) g₀ first (first + gatesInside ts)
+            (omega (arith, gates-counts ts bs first)));
       }
 
   -- a name, or a constant
@@ -175,13 +180,13 @@ module _ (n : ℕ) (bs : List Binding) where
     abbrev pub leafFound : Leaf → Found
     leafFound l = record { left = l .left; word = l .word; gates = first; unknown = l .unknown }
 
-    pub name-done : (x : Name) → nodeName x ≡ true → Ends rest → all nodeName (declaredNames bs) ≡ true
+    pub name-done : (x : Name) → isNodeName x ≡ true → Ends rest → all isNodeName (declaredNames bs) ≡ true
         → TermDone n bs (name x) at (x ++ rest) rest first seen gates gates (leafFound (nameHere (x ++ rest) (numbersOf bs) (nodesOf n bs) seen))
-    unfolding termNode gatesIn termMentions termGates wordsOf nameHere nameLength indexHere unknownAfter firstOutside leftOf nodeName
+    unfolding termNode gatesIn termMentions termGates gatesWords nameHere nameLength indexHere unknownAfter firstOutside leftOf isNodeName
     name-done x h e a =
         let l = looked n bs x h a in
         let m = length-append x rest in
-        rw (front-back nameStart x rest h e) (record {
+        rw (front-back isNameStart x rest h e) (record {
           left = omega arith;
           word = l .word;
           gates = omega arith;
@@ -193,16 +198,16 @@ module _ (n : ℕ) (bs : List Binding) where
         go true = refl
         go false = omega arith
 
-    leaf-name-done : (x : Name) → nodeName x ≡ true → Ends rest → all nodeName (declaredNames bs) ≡ true
+    leaf-name-done : (x : Name) → isNodeName x ≡ true → Ends rest → all isNodeName (declaredNames bs) ≡ true
         → TermDone n bs (name x) at (x ++ rest) rest first seen gates gates (leafFound (leafHere (x ++ rest) (numbersOf bs) (nodesOf n bs) seen))
-    unfolding nameStart letter underscore
+    unfolding isNameStart isLetter isUnderscore
     leaf-name-done x h e a =
         rw (← leaf-name (x ++ rest) (numbersOf bs) (nodesOf n bs) seen (name-begins 48 rest x h refl) (name-begins 49 rest x h refl)) (name-done x h e a)
 
-    leaf-at : (o : Term) (depth : ℕ) → legalTerm o depth ≡ true → Ends rest → all nodeName (declaredNames bs) ≡ true
+    leaf-at : (o : Term) (depth : ℕ) → isLegalTerm o depth ≡ true → Ends rest → all isNodeName (declaredNames bs) ≡ true
         → (getD (printTerm o rest) 0 0 ≡ 40 → ⊥)
         → TermDone n bs o at (printTerm o rest) rest first seen gates gates (leafFound (leafHere (printTerm o rest) (numbersOf bs) (nodesOf n bs) seen))
-    unfolding printTerm legalTerm termNode gatesIn termMentions termGates wordsOf leafHere constantHere nodeWord
+    unfolding printTerm isLegalTerm termNode gatesIn termMentions termGates gatesWords leafHere constantHere nodeWord
     leaf-at (name x) depth h e a ne = leaf-name-done x h e a
     leaf-at (literal true) depth h e a ne =
         record { left = omega arith; word = refl; gates = omega arith; unknown = unknown-none seen bs (at + suc (length rest)); words = refl }
@@ -213,6 +218,13 @@ module _ (n : ℕ) (bs : List Binding) where
   pub leaf-done : (o : Term) (depth at first seen : ℕ) (s rest names words gates : List ℕ) → Table n bs names words → TermAt o depth rest s
       → (getD s 0 0 ≡ 40 → ⊥)
       → TermDone n bs o at s rest first seen gates gates
-      (record { left = leafHere s names words seen .left; word = leafHere s names words seen .word; gates = first; unknown = leafHere s names words seen .unknown })
+      (record {
+        left = leafHere s names words seen .left;
+        word = leafHere s names words seen .word;
+        gates = first;
+        unknown = leafHere s names words seen
+            .unknown;
+      })
   leaf-done o depth at first seen s rest names words gates t w ne =
-      rw (← w .printed, ← t .packedNames, ← t .nodeWords) (leaf-at at first seen rest gates o depth (w .legal) (w .ends) (t .legal) (λ e. ne (rw (w .printed) at e)))
+      rw (← w .printed, ← t .packedNames, ← t .nodeWords)
+      (leaf-at at first seen rest gates o depth (w .legal) (w .ends) (t .legal) (λ e. ne (rw (w .printed) at e)))

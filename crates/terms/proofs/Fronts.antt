@@ -1,15 +1,17 @@
 -- What the functions of src/leaves answer, way by way, and what that is at the front of a print. Assumes nothing.
-use mathlib.Core.Path.{_≡_, refl}
+use mathlib.Core.Path.{_≡_, refl, sym, ap, _∙_}
 use mathlib.Core.Bool.{true}
 use mathlib.Core.List.{List, _++_}
 use Prim.Native.Nat.{ℕ, zero, suc, _+_, _-_, _≤_, _<_}
-use lib.ListN.{length, getD}
+use lib.ListN.{length, take, getD}
+use lib.Seq.{length-take-le}
 use borrow.Author.Tests.{ne-eqb, lt-ltb, le-ltb}
+use Rattle.laws.specs.Lists.{trimmed}
 use Rattle.names.specs.Packed.{packed, nameFront}
 use Rattle.names.specs.Search.{indexOf}
 use Rattle.terms.specs.declared.Leaf.{Leaf}
-use Rattle.netlist.specs.Kinds.{isKind, keyword, isNot, rowOf, rows, row}
-use Rattle.grammar.proofs.SoundTerms.{by-kind}
+use Rattle.netlist.specs.Kinds.{isKind, keyword, signatureOf}
+use Rattle.encoding.proofs.Gates.{by-kind}
 use Rattle.terms.specs.Leaves.{kindHere, wordLength, nameLength, indexHere, earlier, nameHere, constantHere, leafHere}
 
 pub earlier-first : (u v : ℕ) → (u ≡ 0 → ⊥) → u ≡ earlier u v
@@ -53,24 +55,17 @@ module _ (s : List ℕ) where
 
 -- at a kind's word it is that kind
 pub kind-back : (rest : List ℕ) (k : ℕ) → isKind k ≡ true → kindHere (keyword k ++ rest) ≡ k
-unfolding kindHere keyword isNot rowOf rows row
+unfolding kindHere keyword signatureOf
 kind-back rest = by-kind (λ k. kindHere (keyword k ++ rest) ≡ k) refl refl refl refl refl
 
-pub word-back : (k : ℕ) → isKind k ≡ true → wordLength k ≡ length (keyword k)
-unfolding wordLength keyword isNot rowOf rows row
-word-back = by-kind (λ k. wordLength k ≡ length (keyword k)) refl refl refl refl refl
-
-pub length-two : (k : ℕ) → k ≡ 2 → 2 ≡ wordLength k
+pub word-back : (k : ℕ) → wordLength k ≡ length (keyword k)
 unfolding wordLength
-length-two k e = rw e
+word-back k = refl
 
-pub length-four : (k : ℕ) → (k ≡ 2 → ⊥) → k ≡ 3 → 4 ≡ wordLength k
-unfolding wordLength
-length-four k d e = rw e
-
-pub length-three : (k : ℕ) → (k ≡ 2 → ⊥) → (k ≡ 3 → ⊥) → 3 ≡ wordLength k
-unfolding wordLength
-length-three k d e = rw (ne-eqb k 2 d, ne-eqb k 3 e)
+-- read off the kind's signature, whose keyword ends in zeros
+pub word-read : (k r : ℕ) (bytes : List ℕ) → bytes ≡ signatureOf k .keyword → r ≤ length bytes → take r bytes ≡ trimmed bytes → r ≡ wordLength k
+unfolding wordLength keyword
+word-read k r bytes e h t = sym (length-take-le r bytes h) ∙ ap length t ∙ rw e refl
 
 -- ---- an operand that is no expression
 

@@ -11,8 +11,9 @@ use Rattle.laws.proofs.Tests.{and-left, and-right}
 use Rattle.laws.proofs.Elements.{rest-is-drop}
 use Rattle.netlist.specs.Limits.{maxGates, maxDepth}
 use Rattle.netlist.specs.Netlist.{Name}
-use Rattle.netlist.specs.StoredBlock.{letter, digit, underscore, nameByte, nameStart, legalName, plainName, nodeName, nameWords, nodeWord, outputWords}
-use Rattle.netlist.specs.Syntax.{name, apply, GateLine, OutputLine, printTerm, printInput, printGate, printOutput, legalTerm, legalGate, legalOutput}
+use Rattle.netlist.specs.StoredBlock.{isLetter, isDigit, isUnderscore, isNameByte, isNameStart, isLegalName, isPlainName, isNodeName, nameWords, nodeWord}
+use Rattle.netlist.specs.StoredBlock.{outputWords}
+use Rattle.netlist.specs.Syntax.{name, apply, GateLine, OutputLine, printTerm, printInput, printGate, printOutput, isLegalTerm, isLegalGate, isLegalOutput}
 use Rattle.netlist.specs.Reading.{Binding, gatesIn, lineGates, operandMentions, shownMention, termMentions, termNode, termGates, lookup}
 use Rattle.grammar.proofs.Places.{printInput-split, printGate-split, printOutput-split}
 use Rattle.names.specs.Packed.{packed, nameFront}
@@ -37,7 +38,9 @@ unfolding gateForm lineGates gatesIn
 gate-lawful =
     record {
       split = printGate-split;
-      sized = λ n bs g first. words-length n (termGates (apply (g .kind) (g .terms)) bs first) ∙ ap (λ k. 5 * k) (gates-count (apply (g .kind) (g .terms)) bs first);
+      sized =
+          λ n bs g first. words-length n (termGates (apply (g .kind) (g .terms)) bs first)
+          ∙ ap (λ k. 5 * k) (gates-count (apply (g .kind) (g .terms)) bs first);
     }
 
 pub output-lawful : Lawful outputForm
@@ -59,7 +62,7 @@ module _ (w x r : List ℕ) (c : ℕ) where
   whole-length = omega (arith, length-append w (x ++ (c ∷ r)), length-append x (c ∷ r))
 
   -- the name that is read there
-  name-behind : (start : ℕ → Bool) (j : ℕ) → j ≡ length w → legalName start x ≡ true → nameByte c ≡ false
+  name-behind : (start : ℕ → Bool) (j : ℕ) → j ≡ length w → isLegalName start x ≡ true → isNameByte c ≡ false
       → nameFront 8 (take (length (w ++ (x ++ (c ∷ r))) - j) (drop j (w ++ (x ++ (c ∷ r))))) ≡ x
   name-behind start j e h f =
       rw (e, rest-is-drop (w ++ (x ++ (c ∷ r))) (length w), behind-word) (front-back start x (c ∷ r) h f)
@@ -70,11 +73,11 @@ pub record InputParts (s rest : List ℕ) (k : ℕ) : Type 0 where
   pub long : 4 ≤ length s
   pub measured : length s ≡ 6 + k + length rest
 
-input-parts-at : (x : Name) (rest : List ℕ) (k : ℕ) → plainName x ≡ true
+input-parts-at : (x : Name) (rest : List ℕ) (k : ℕ) → isPlainName x ≡ true
     → k ≡ length (nameFront 8 (take (length (printInput x rest) - 4) (drop 4 (printInput x rest)))) → InputParts (printInput x rest) rest k
-unfolding printInput plainName nameByte letter digit underscore
+unfolding printInput isPlainName isNameByte isLetter isDigit isUnderscore
 input-parts-at x rest k h e =
-    let f : k ≡ length x = e ∙ ap length (name-behind (ascii "(in ") x (10 ∷ rest) 41 letter 4 refl h refl) in
+    let f : k ≡ length x = e ∙ ap length (name-behind (ascii "(in ") x (10 ∷ rest) 41 isLetter 4 refl h refl) in
     let m = whole-length (ascii "(in ") x (10 ∷ rest) 41 in
     record { long = omega arith; measured = omega arith }
 
@@ -106,15 +109,15 @@ pub record GateParts (g : GateLine) (s rest : List ℕ) (k : ℕ) : Type 0 where
   pub measured : length s ≡ 7 + k + length (drop (7 + k) s)
   pub inner : TermAt (apply (g .kind) (g .terms)) 8 (ascii ")\n" ++ rest) (drop (7 + k) s)
 
-gate-parts-at : (g : GateLine) (rest : List ℕ) (k : ℕ) → legalGate g ≡ true
+gate-parts-at : (g : GateLine) (rest : List ℕ) (k : ℕ) → isLegalGate g ≡ true
     → k ≡ length (nameFront 8 (take (length (printGate g rest) - 6) (drop 6 (printGate g rest)))) → GateParts g (printGate g rest) rest k
-unfolding printGate legalGate nodeName nameByte letter digit underscore
+unfolding printGate isLegalGate isNodeName isNameByte isLetter isDigit isUnderscore
 gate-parts-at g rest k h e =
     let o = apply (g .kind) (g .terms) in
     let inner = printTerm o (ascii ")\n" ++ rest) in
-    let a = and-left (nodeName (g .name)) (legalTerm o maxDepth) h in
-    let b = and-right (nodeName (g .name)) (legalTerm o maxDepth) h in
-    let f : k ≡ length (g .name) = e ∙ ap length (name-behind (ascii "(gate ") (g .name) inner 32 nameStart 6 refl a refl) in
+    let a = and-left (isNodeName (g .name)) (isLegalTerm o maxDepth) h in
+    let b = and-right (isNodeName (g .name)) (isLegalTerm o maxDepth) h in
+    let f : k ≡ length (g .name) = e ∙ ap length (name-behind (ascii "(gate ") (g .name) inner 32 isNameStart 6 refl a refl) in
     let m = whole-length (ascii "(gate ") (g .name) inner 32 in
     let z = behind-name (ascii "(gate ") (g .name) inner 32 (7 + k) (omega arith) in
     record {
@@ -146,7 +149,8 @@ module _ (s : List ℕ) (k : ℕ) (e : k ≡ length (nameFront 8 (take (length s
           room = p .room;
         }
 
-    module _ (seen : ℕ) (after : List ℕ) (one : Found) (r : TermRead (take (length s - (7 + k)) (drop (7 + k) s)) 8 n names words first seen gates after one) where
+    module _ (seen : ℕ) (after : List ℕ) (one : Found)
+        (r : TermRead (take (length s - (7 + k)) (drop (7 + k) s)) 8 n names words first seen gates after one) where
       gate-done : (bs : List Binding) (g : GateLine) (rest : List ℕ) (at : ℕ) → Table n bs names words → LineAt gateForm g rest s
           → TermDone n bs (apply (g .kind) (g .terms)) at (drop (7 + k) s) (ascii ")\n" ++ rest) first seen gates after one
       gate-done bs g rest at t w =
@@ -180,16 +184,16 @@ pub record OutputParts (o : OutputLine) (s rest : List ℕ) (k : ℕ) : Type 0 w
   pub long : 6 + k ≤ length s
   pub measured : length s ≡ 6 + k + length (drop (6 + k) s)
   pub inner : drop (6 + k) s ≡ o .shown ++ (ascii ")\n" ++ rest)
-  pub legalPort : all nameByte (o .port) ≡ true
-  pub legalShown : nodeName (o .shown) ≡ true
+  pub legalPort : all isNameByte (o .port) ≡ true
+  pub legalShown : isNodeName (o .shown) ≡ true
 
-output-parts-at : (o : OutputLine) (rest : List ℕ) (k : ℕ) → legalOutput o ≡ true
+output-parts-at : (o : OutputLine) (rest : List ℕ) (k : ℕ) → isLegalOutput o ≡ true
     → k ≡ length (nameFront 8 (take (length (printOutput o rest) - 5) (drop 5 (printOutput o rest)))) → OutputParts o (printOutput o rest) rest k
-unfolding printOutput legalOutput plainName nameByte letter digit underscore
+unfolding printOutput isLegalOutput isPlainName isNameByte isLetter isDigit isUnderscore
 output-parts-at o rest k h e =
     let inner = o .shown ++ (ascii ")\n" ++ rest) in
-    let a = and-left (plainName (o .port)) (nodeName (o .shown)) h in
-    let f = name-behind (ascii "(out ") (o .port) inner 32 letter 5 refl a refl in
+    let a = and-left (isPlainName (o .port)) (isNodeName (o .shown)) h in
+    let f = name-behind (ascii "(out ") (o .port) inner 32 isLetter 5 refl a refl in
     let g : k ≡ length (o .port) = e ∙ ap length f in
     let m = whole-length (ascii "(out ") (o .port) inner 32 in
     let z = behind-name (ascii "(out ") (o .port) inner 32 (6 + k) (omega arith) in
@@ -199,8 +203,8 @@ output-parts-at o rest k h e =
       long = omega arith;
       measured = rw z (omega arith);
       inner = z;
-      legalPort = name-bytes letter (o .port) a;
-      legalShown = and-right (plainName (o .port)) (nodeName (o .shown)) h;
+      legalPort = name-bytes isLetter (o .port) a;
+      legalShown = and-right (isPlainName (o .port)) (isNodeName (o .shown)) h;
     }
 
 module _ (s : List ℕ) (k : ℕ) (e : k ≡ length (nameFront 8 (take (length s - 5) (drop 5 s)))) where
@@ -211,8 +215,9 @@ module _ (s : List ℕ) (k : ℕ) (e : k ≡ length (nameFront 8 (take (length s
   module _ (n : ℕ) (names words : List ℕ) (first seen : ℕ) (array : List ℕ) (l : Leaf)
       (f : l ≡ nameHere (take (length s - (6 + k)) (drop (6 + k) s)) names words seen) where
     shown-done : (bs : List Binding) (o : OutputLine) (rest : List ℕ) (at : ℕ) → Table n bs names words → LineAt outputForm o rest s
-        → TermDone n bs (name (o .shown)) at (drop (6 + k) s) (ascii ")\n" ++ rest) first seen array array (record { left = l .left; word = l .word; gates = first; unknown = l .unknown })
-    unfolding nameByte letter digit underscore
+        → TermDone n bs (name (o .shown)) at (drop (6 + k) s) (ascii ")\n" ++ rest) first seen array array
+        (record { left = l .left; word = l .word; gates = first; unknown = l .unknown })
+    unfolding isNameByte isLetter isDigit isUnderscore
     shown-done bs o rest at t w =
         let c = output-parts o rest w in
         rw (f, rest-is-drop s (6 + k), c .inner, ← t .packedNames, ← t .nodeWords)

@@ -9,7 +9,7 @@ use lib.Dec.{ltb}
 use Rattle.laws.specs.Lists.{all, same, memberList}
 use Rattle.laws.proofs.Tests.{and-left, and-right, and-intro, bool-cases}
 use Rattle.netlist.specs.Netlist.{Name, constant}
-use Rattle.netlist.specs.StoredBlock.{nameByte, nameStart, legalName, nodeName, nodeWord}
+use Rattle.netlist.specs.StoredBlock.{isNameByte, isNameStart, isLegalName, isNodeName, nodeWord}
 use Rattle.netlist.specs.Reading.{Binding, lookup}
 use Rattle.names.specs.Packed.{packed, nameFront}
 use Rattle.names.specs.Search.{indexOf}
@@ -19,7 +19,7 @@ use Rattle.names.proofs.Lookup.{Bytes, index-member, index-lookup}
 use Rattle.terms.specs.Walk.{Ends, declaredNames}
 
 -- the name in front of a byte that no name has
-pub front-back : (start : ℕ → Bool) (x rest : List ℕ) → legalName start x ≡ true → Ends rest → nameFront 8 (x ++ rest) ≡ x
+pub front-back : (start : ℕ → Bool) (x rest : List ℕ) → isLegalName start x ≡ true → Ends rest → nameFront 8 (x ++ rest) ≡ x
 front-back start x [] h e = absurd e
 front-back start x (c ∷ rest) h e = front-legal start x c rest h e
 
@@ -34,12 +34,12 @@ pub record Looked (n : ℕ) (bs : List Binding) (x : Name) (i : ℕ) : Type 0 wh
   pub word : cond (ltb i (length (numbersOf bs))) (getD (nodesOf n bs) i 0) 65534 ≡ nodeWord n (lookup bs x)
   pub known : ltb i (length (numbersOf bs)) ≡ memberList x (declaredNames bs)
 
-legal-bytes : (xs : List Name) → all nodeName xs ≡ true → Bytes xs
-unfolding nodeName
+legal-bytes : (xs : List Name) → all isNodeName xs ≡ true → Bytes xs
+unfolding isNodeName
 legal-bytes [] h = refl
 legal-bytes (x ∷ xs) h =
-    and-intro (all nameByte x) (all (all nameByte) xs) (name-bytes nameStart x (and-left (nodeName x) (all nodeName xs) h))
-    (legal-bytes xs (and-right (nodeName x) (all nodeName xs) h))
+    and-intro (all isNameByte x) (all (all isNameByte) xs) (name-bytes isNameStart x (and-left (isNodeName x) (all isNodeName xs) h))
+    (legal-bytes xs (and-right (isNodeName x) (all isNodeName xs) h))
 
 -- what is not declared stands for constant 0
 lookup-none : (bs : List Binding) (x : Name) → memberList x (declaredNames bs) ≡ false → lookup bs x ≡ constant false
@@ -52,27 +52,29 @@ lookup-none (b ∷ bs) x h = go (same x (b .name)) h (lookup-none bs x)
     go true h r = absurd (false≢true (sym h))
     go false h r = r h
 
-pub looked : (n : ℕ) (bs : List Binding) (x : Name) → nodeName x ≡ true → all nodeName (declaredNames bs) ≡ true
+pub looked : (n : ℕ) (bs : List Binding) (x : Name) → isNodeName x ≡ true → all isNodeName (declaredNames bs) ≡ true
     → Looked n bs x (indexOf (numbersOf bs) (length (numbersOf bs)) (packed x))
-unfolding declaredNames nodeName nodeWord
+unfolding declaredNames isNodeName nodeWord
 looked n bs x h a = record { word = ⊎-elim declared undeclared (bool-cases (memberList x (declaredNames bs))); known = known }
   where
     numbers : numbersOf bs ≡ map packed (declaredNames bs)
     numbers = sym (map-map packed (λ (b : Binding). b .name) bs)
 
-    bytes : all nameByte x ≡ true
-    bytes = name-bytes nameStart x h
+    bytes : all isNameByte x ≡ true
+    bytes = name-bytes isNameStart x h
 
     known : ltb (indexOf (numbersOf bs) (length (numbersOf bs)) (packed x)) (length (numbersOf bs)) ≡ memberList x (declaredNames bs)
     known = rw (numbers, length-map (declaredNames bs) packed) (index-member x (declaredNames bs) bytes (legal-bytes (declaredNames bs) a))
 
     declared : memberList x (declaredNames bs) ≡ true
-        → cond (ltb (indexOf (numbersOf bs) (length (numbersOf bs)) (packed x)) (length (numbersOf bs))) (getD (nodesOf n bs) (indexOf (numbersOf bs) (length (numbersOf bs)) (packed x)) 0) 65534
+        → cond (ltb (indexOf (numbersOf bs) (length (numbersOf bs)) (packed x)) (length (numbersOf bs)))
+        (getD (nodesOf n bs) (indexOf (numbersOf bs) (length (numbersOf bs)) (packed x)) 0) 65534
         ≡ nodeWord n (lookup bs x)
     declared m =
         rw (known, m, length-map bs (λ (b : Binding). packed (b .name)), numbers) (index-lookup (nodeWord n) x bs bytes (legal-bytes (declaredNames bs) a) m)
 
     undeclared : memberList x (declaredNames bs) ≡ false
-        → cond (ltb (indexOf (numbersOf bs) (length (numbersOf bs)) (packed x)) (length (numbersOf bs))) (getD (nodesOf n bs) (indexOf (numbersOf bs) (length (numbersOf bs)) (packed x)) 0) 65534
+        → cond (ltb (indexOf (numbersOf bs) (length (numbersOf bs)) (packed x)) (length (numbersOf bs)))
+        (getD (nodesOf n bs) (indexOf (numbersOf bs) (length (numbersOf bs)) (packed x)) 0) 65534
         ≡ nodeWord n (lookup bs x)
     undeclared m = rw (known, m, lookup-none bs x m)

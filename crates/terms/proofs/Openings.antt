@@ -14,8 +14,8 @@ use Rattle.laws.proofs.Elements.{rest-is-drop}
 use Rattle.encoding.proofs.Gates.{most-four}
 use Rattle.netlist.specs.Kinds.{isKind, arityFits, keyword}
 use Rattle.netlist.specs.Limits.{maxName}
-use Rattle.netlist.specs.StoredBlock.{letter, digit, underscore, nameByte, nameStart, legalName, nodeName}
-use Rattle.netlist.specs.Syntax.{Term, Terms, name, literal, apply, nil, cons, printTerm, printTerms, termCount, legalTerm, legalTerms}
+use Rattle.netlist.specs.StoredBlock.{isLetter, isDigit, isUnderscore, isNameByte, isNameStart, isLegalName, isNodeName}
+use Rattle.netlist.specs.Syntax.{Term, Terms, name, literal, apply, nil, cons, printTerm, printTerms, termCount, isLegalTerm, isLegalTerms}
 use Rattle.grammar.proofs.ListFacts.{and3}
 use Rattle.grammar.proofs.CompleteTerms.{arity-bounds}
 use Rattle.grammar.proofs.Shorter.{printTerm-append, ending}
@@ -39,29 +39,29 @@ pub record Opened (o : Term) (depth : ℕ) (rest s : List ℕ) : Type 0 where
   pub measured : length s ≡ 1 + length (keyword kind) + length (drop (1 + wordLength kind) s)
   pub inner : TermsAt terms (depth - 1) rest (drop (1 + wordLength kind) s)
 
-no-start : (c : ℕ) (rest x : List ℕ) → 0 < length x → nameStart (getD x 0 0) ≡ true → nameStart c ≡ false → getD (x ++ rest) 0 0 ≡ c → ⊥
+no-start : (c : ℕ) (rest x : List ℕ) → 0 < length x → isNameStart (getD x 0 0) ≡ true → isNameStart c ≡ false → getD (x ++ rest) 0 0 ≡ c → ⊥
 no-start c rest [] l h f e = omega arith
-no-start c rest (d ∷ x) l h f e = not-both h (ap nameStart e ∙ f)
+no-start c rest (d ∷ x) l h f e = not-both h (ap isNameStart e ∙ f)
 
 -- a name begins with none of these bytes
-pub name-begins : (c : ℕ) (rest x : List ℕ) → nodeName x ≡ true → nameStart c ≡ false → getD (x ++ rest) 0 0 ≡ c → ⊥
-unfolding nodeName legalName
+pub name-begins : (c : ℕ) (rest x : List ℕ) → isNodeName x ≡ true → isNameStart c ≡ false → getD (x ++ rest) 0 0 ≡ c → ⊥
+unfolding isNodeName isLegalName
 name-begins c rest x h f =
-    let a = and3 (leb 1 (length x) && leb (length x) maxName) (nameStart (getD x 0 0)) (all nameByte x) h in
+    let a = and3 (leb 1 (length x) && leb (length x) maxName) (isNameStart (getD x 0 0)) (all isNameByte x) h in
     no-start c rest x (leb-true 1 (length x) (and-left (leb 1 (length x)) (leb (length x) maxName) (a .0))) (a .1) f
 
-opened-at : (o : Term) (depth : ℕ) (rest : List ℕ) → legalTerm o depth ≡ true → getD (printTerm o rest) 0 0 ≡ 40 → Opened o depth rest (printTerm o rest)
-unfolding printTerm legalTerm nameStart letter underscore
+opened-at : (o : Term) (depth : ℕ) (rest : List ℕ) → isLegalTerm o depth ≡ true → getD (printTerm o rest) 0 0 ≡ 40 → Opened o depth rest (printTerm o rest)
+unfolding printTerm isLegalTerm isNameStart isLetter isUnderscore
 opened-at (name x) depth rest h e = absurd (name-begins 40 rest x h refl e)
 opened-at (literal true) depth rest h e = absurd (omega arith)
 opened-at (literal false) depth rest h e = absurd (omega arith)
 opened-at (apply k ts) zero rest h e = absurd (false≢true h)
 opened-at (apply k ts) (suc depth) rest h e =
-    let f = and3 (isKind k) (arityFits k (termCount ts)) (legalTerms ts depth) h in
+    let f = and3 (isKind k) (arityFits k (termCount ts)) (isLegalTerms ts depth) h in
     let m = most-four k in
     let a = arity-bounds k (termCount ts) (f .1) .1 in
     let inside = printTerms ts (ascii ")" ++ rest) in
-    let d : drop (1 + wordLength k) (40 ∷ (keyword k ++ inside)) ≡ inside = drop-at (40 ∷ keyword k) inside (1 + wordLength k) (omega (arith, word-back k (f .0))) in
+    let d : drop (1 + wordLength k) (40 ∷ (keyword k ++ inside)) ≡ inside = drop-at (40 ∷ keyword k) inside (1 + wordLength k) (omega (arith, word-back k)) in
     let z : suc depth - 1 ≡ depth = omega arith in
     record {
       kind = k;
@@ -71,7 +71,7 @@ opened-at (apply k ts) (suc depth) rest h e =
       count = omega arith;
       deep = omega arith;
       kindRead = kind-back inside k (f .0);
-      wordRead = word-back k (f .0);
+      wordRead = word-back k;
       measured = rw d (omega (arith, length-append (keyword k) inside));
       inner = rw (d, z) (record { legal = f .2; printed = refl });
     }
@@ -134,16 +134,16 @@ closed os depth rest s w e = rw (← w .printed) (closed-at os rest (rw (w .prin
 
 -- what follows an operand begins with a space or a bracket
 terms-end : (os : Terms) (rest : List ℕ) → Ends (printTerms os (ascii ")" ++ rest))
-unfolding printTerms nameByte letter digit underscore
+unfolding printTerms isNameByte isLetter isDigit isUnderscore
 terms-end nil rest = refl
 terms-end (cons o os) rest = refl
 
-more-at : (os : Terms) (depth : ℕ) (rest : List ℕ) → legalTerms os depth ≡ true → (getD (printTerms os (ascii ")" ++ rest)) 0 0 ≡ 41 → ⊥)
+more-at : (os : Terms) (depth : ℕ) (rest : List ℕ) → isLegalTerms os depth ≡ true → (getD (printTerms os (ascii ")" ++ rest)) 0 0 ≡ 41 → ⊥)
     → More os depth rest (printTerms os (ascii ")" ++ rest))
-unfolding printTerms legalTerms
+unfolding printTerms isLegalTerms
 more-at nil depth rest h e = absurd (e refl)
 more-at (cons o os) depth rest h e =
-    let f = and-eq-true-iff (legalTerm o depth) (legalTerms os depth) .0 h in
+    let f = and-eq-true-iff (isLegalTerm o depth) (isLegalTerms os depth) .0 h in
     let behind = printTerms os (ascii ")" ++ rest) in
     let m = term-measure o behind in
     let z = ending (32 ∷ printTerm o []) behind (32 ∷ printTerm o behind) (ap (λ (r : List ℕ). 32 ∷ r) (sym (printTerm-append o [] behind))) in

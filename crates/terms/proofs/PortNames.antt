@@ -9,7 +9,7 @@ use lib.Seq.{getD-drop}
 use Rattle.laws.specs.Lists.{all}
 use Rattle.laws.proofs.Tests.{and-left, and-right}
 use Rattle.netlist.specs.Netlist.{Name}
-use Rattle.netlist.specs.StoredBlock.{nameByte, nameWords}
+use Rattle.netlist.specs.StoredBlock.{isNameByte, nameWords}
 use Rattle.names.specs.Packed.{packed}
 use Rattle.names.proofs.Packing.{name-byte-range}
 use Rattle.terms.specs.Ports.{portWords}
@@ -17,23 +17,23 @@ use Rattle.terms.specs.Ports.{portWords}
 record Halves (x : Name) : Type 0 where
   low : packed x % 65536 ≡ getD x 0 0 + 256 * getD x 1 0
   high : packed x / 65536 ≡ packed (drop 2 x)
-  legal : all nameByte (drop 2 x) ≡ true
+  legal : all isNameByte (drop 2 x) ≡ true
 
-halves : (x : Name) → all nameByte x ≡ true → Halves x
+halves : (x : Name) → all isNameByte x ≡ true → Halves x
 halves [] h = record { low = refl; high = refl; legal = refl }
 halves (a ∷ []) h =
-    let p = name-byte-range a (and-left (nameByte a) true h) .1 in
+    let p = name-byte-range a (and-left (isNameByte a) true h) .1 in
     record { low = omega arith; high = omega arith; legal = refl }
 halves (a ∷ b ∷ x) h =
-    let p = name-byte-range a (and-left (nameByte a) (nameByte b && all nameByte x) h) .1 in
-    let r = and-right (nameByte a) (nameByte b && all nameByte x) h in
-    let q = name-byte-range b (and-left (nameByte b) (all nameByte x) r) .1 in
-    record { low = omega arith; high = omega arith; legal = and-right (nameByte b) (all nameByte x) r }
+    let p = name-byte-range a (and-left (isNameByte a) (isNameByte b && all isNameByte x) h) .1 in
+    let r = and-right (isNameByte a) (isNameByte b && all isNameByte x) h in
+    let q = name-byte-range b (and-left (isNameByte b) (all isNameByte x) r) .1 in
+    record { low = omega arith; high = omega arith; legal = and-right (isNameByte b) (all isNameByte x) r }
 
 four : {a b c d e f g h : ℕ} → a ≡ e → b ≡ f → c ≡ g → d ≡ h → _≡_ {A = List ℕ} (a ∷ b ∷ c ∷ d ∷ []) (e ∷ f ∷ g ∷ h ∷ [])
 four p q r s = rw (p, q, r, s)
 
-pub port-words : (x : Name) → all nameByte x ≡ true → portWords (packed x) ≡ nameWords x
+pub port-words : (x : Name) → all isNameByte x ≡ true → portWords (packed x) ≡ nameWords x
 unfolding portWords nameWords
 port-words x h =
     let y = drop 2 x in

@@ -14,8 +14,8 @@ use Rattle.laws.proofs.Elements.{rest-is-drop}
 use Rattle.grammar.proofs.WritingTree.{plain-node}
 use Rattle.netlist.specs.Limits.{maxInputs, maxGates, maxOutputs, maxDepth}
 use Rattle.netlist.specs.Netlist.{Name}
-use Rattle.netlist.specs.StoredBlock.{plainName, nodeName, nodeWord}
-use Rattle.netlist.specs.Syntax.{GateLine, Tree, apply, printInput, printGate, printOutput, printLines, print, legalTerm, legalGate, legalTree}
+use Rattle.netlist.specs.StoredBlock.{isPlainName, isNodeName, nodeWord}
+use Rattle.netlist.specs.Syntax.{GateLine, Tree, apply, printInput, printGate, printOutput, printLines, print, isLegalTerm, isLegalGate, isLegalTree}
 use Rattle.netlist.specs.Reading.{Mention, Binding, lineGates, inputBindings, gateBindings, bindings, declaredNodes, declaredPorts, gateLinesAt, outputLinesAt}
 use Rattle.grammar.proofs.Shorter.{Ending, ending}
 use Rattle.grammar.proofs.Places.{printInput-split, printGate-split, lines-split}
@@ -34,30 +34,30 @@ use Rattle.terms.specs.Resolution.{TreeAt}
 
 -- ---- the table
 
-inputs-named : (ss : List Name) (k : ℕ) → all plainName ss ≡ true → all nodeName (declaredNames (inputBindings ss k)) ≡ true
+inputs-named : (ss : List Name) (k : ℕ) → all isPlainName ss ≡ true → all isNodeName (declaredNames (inputBindings ss k)) ≡ true
 unfolding declaredNames inputBindings
 inputs-named [] k h = refl
 inputs-named (s ∷ ss) k h =
-    and-intro (nodeName s) (all nodeName (declaredNames (inputBindings ss (suc k)))) (plain-node s (and-left (plainName s) (all plainName ss) h))
-    (inputs-named ss (suc k) (and-right (plainName s) (all plainName ss) h))
+    and-intro (isNodeName s) (all isNodeName (declaredNames (inputBindings ss (suc k)))) (plain-node s (and-left (isPlainName s) (all isPlainName ss) h))
+    (inputs-named ss (suc k) (and-right (isPlainName s) (all isPlainName ss) h))
 
-gates-named : (gs : List GateLine) (first : ℕ) → all legalGate gs ≡ true → all nodeName (declaredNames (gateBindings gs first)) ≡ true
-unfolding declaredNames gateBindings legalGate
+gates-named : (gs : List GateLine) (first : ℕ) → all isLegalGate gs ≡ true → all isNodeName (declaredNames (gateBindings gs first)) ≡ true
+unfolding declaredNames gateBindings isLegalGate
 gates-named [] first h = refl
 gates-named (g ∷ gs) first h =
-    and-intro (nodeName (g .name)) (all nodeName (declaredNames (gateBindings gs (first + lineGates g))))
-    (and-left (nodeName (g .name)) (legalTerm (apply (g .kind) (g .terms)) maxDepth) (and-left (legalGate g) (all legalGate gs) h))
-    (gates-named gs (first + lineGates g) (and-right (legalGate g) (all legalGate gs) h))
+    and-intro (isNodeName (g .name)) (all isNodeName (declaredNames (gateBindings gs (first + lineGates g))))
+    (and-left (isNodeName (g .name)) (isLegalTerm (apply (g .kind) (g .terms)) maxDepth) (and-left (isLegalGate g) (all isLegalGate gs) h))
+    (gates-named gs (first + lineGates g) (and-right (isLegalGate g) (all isLegalGate gs) h))
 
-nodes-named : (t : Tree) → legalTree t ≡ true → all nodeName (declaredNames (bindings t)) ≡ true
+nodes-named : (t : Tree) → isLegalTree t ≡ true → all isNodeName (declaredNames (bindings t)) ≡ true
 unfolding declaredNames bindings
 nodes-named t h =
     let p = legal-parts t h in
     rw (
       map-append (λ (b : Binding). b .name) (inputBindings (t .inputs) 0) (gateBindings (t .gates) 0),
-      all-append nodeName (declaredNames (inputBindings (t .inputs) 0)) (declaredNames (gateBindings (t .gates) 0)),
+      all-append isNodeName (declaredNames (inputBindings (t .inputs) 0)) (declaredNames (gateBindings (t .gates) 0)),
     )
-    (and-intro (all nodeName (declaredNames (inputBindings (t .inputs) 0))) (all nodeName (declaredNames (gateBindings (t .gates) 0)))
+    (and-intro (all isNodeName (declaredNames (inputBindings (t .inputs) 0))) (all isNodeName (declaredNames (gateBindings (t .gates) 0)))
     (inputs-named (t .inputs) 0 (p .inputs)) (gates-named (t .gates) 0 (p .gates)))
 
 module _ (t : Tree) (text : List ℕ) (c : Counts) (names words : List ℕ) (w : TreeAt t text c names words) where
@@ -84,9 +84,11 @@ module _ (t : Tree) (text : List ℕ) (c : Counts) (names words : List ℕ) (w :
       let l = length-append (declaredNodes t) (declaredPorts t) in
       let h : length (declaredNodes t) ≤ length (declared t) = omega arith in
       rw node-count
-      (sym (take-take (length (declaredNodes t)) (length (declared t)) names h) ∙ ap (take (length (declaredNodes t))) (w .numbersAre ∙ map-append f (declaredNodes t) (declaredPorts t))
+      (sym (take-take (length (declaredNodes t)) (length (declared t)) names h)
+      ∙ ap (take (length (declaredNodes t))) (w .numbersAre ∙ map-append f (declaredNodes t) (declaredPorts t))
       ∙ take-at (map f (declaredNodes t)) (map f (declaredPorts t)) (length (declaredNodes t)) (length-map (declaredNodes t) f)
-      ∙ sym (map-map packed (λ (d : Mention). d .name) (declaredNodes t)) ∙ ap (map packed) (sym (bound-names t)) ∙ map-map packed (λ (b : Binding). b .name) (bindings t))
+      ∙ sym (map-map packed (λ (d : Mention). d .name) (declaredNodes t)) ∙ ap (map packed) (sym (bound-names t))
+      ∙ map-map packed (λ (b : Binding). b .name) (bindings t))
 
   node-values : take (c .inputs + c .named) words ≡ map (λ (b : Binding). nodeWord (length (t .inputs)) (b .node)) (bindings t)
   unfolding nodeWords
@@ -110,7 +112,14 @@ module _ (t : Tree) (text : List ℕ) (c : Counts) (names words : List ℕ) (w :
 
   pub values-length : c .inputs + c .named ≡ length (take (c .inputs + c .named) words)
   values-length =
-      omega (arith, input-count, gate-count, bindings-length (w .prints), ap length node-values, length-map (bindings t) (λ (b : Binding). nodeWord (length (t .inputs)) (b .node)))
+      omega (
+        arith,
+        input-count,
+        gate-count,
+        bindings-length (w .prints),
+        ap length node-values,
+        length-map (bindings t) (λ (b : Binding). nodeWord (length (t .inputs)) (b .node)),
+      )
 
   -- ---- where the lines of each form stand
 

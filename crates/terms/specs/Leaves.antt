@@ -5,6 +5,7 @@ use mathlib.Core.Bool.{cond}
 use mathlib.Core.List.{List}
 use lib.ListN.{length, getD}
 use lib.Dec.{eqb, ltb}
+use Rattle.netlist.specs.Kinds.{keyword}
 use Rattle.names.specs.Packed.{packed, nameFront}
 use Rattle.names.specs.Search.{indexOf}
 use Rattle.terms.specs.declared.Leaf.{Leaf}
@@ -19,7 +20,7 @@ kindHere s =
 
 -- the bytes of a kind's word
 unfoldable pub wordLength : ℕ → ℕ
-wordLength k = cond (eqb k 2) 2 (cond (eqb k 3) 4 3)
+wordLength k = length (keyword k)
 
 -- the bytes of the name at the front
 unfoldable pub nameLength : List ℕ → ℕ
@@ -47,7 +48,7 @@ nameHere s names words unknown =
 unfoldable pub constantHere : List ℕ → ℕ → ℕ → Leaf
 constantHere s word unknown = record { left = length s - 1; word = word; unknown = unknown }
 
--- an operand that is no expression: "a NAME, the constant `0` or `1`"
+-- an operand that is no expression: a name, `0` or `1`
 unfoldable pub leafHere : List ℕ → List ℕ → List ℕ → ℕ → Leaf
 leafHere s names words unknown =
     cond (eqb (getD s 0 0) 48) (constantHere s 65534 unknown)

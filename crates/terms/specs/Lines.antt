@@ -9,11 +9,11 @@ use lib.Seq.{sets}
 use Rattle.laws.specs.Lists.{all, sum}
 use Rattle.netlist.specs.Limits.{maxInputs}
 use Rattle.netlist.specs.Netlist.{Name, Output}
-use Rattle.netlist.specs.StoredBlock.{plainName, outputWords}
-use Rattle.netlist.specs.Syntax.{apply, GateLine, OutputLine, printInput, printGate, printOutput, printLines, legalGate, legalOutput}
+use Rattle.netlist.specs.StoredBlock.{isPlainName, outputWords}
+use Rattle.netlist.specs.Syntax.{apply, GateLine, OutputLine, printInput, printGate, printOutput, printLines, isLegalGate, isLegalOutput}
 use Rattle.netlist.specs.Reading.{Mention, Binding, lineGates, mentions, operandMentions, shownMention, lookup, termGates}
 use Rattle.terms.specs.declared.Walked.{Walked}
-use Rattle.terms.specs.Walk.{Table, unknownAfter, wordsOf}
+use Rattle.terms.specs.Walk.{Table, unknownAfter, gatesWords}
 
 -- a form of line: how it is printed, which are legal, how many entries of five words it makes, these words when `first` entries stand
 -- before, and the names that it uses
@@ -25,15 +25,15 @@ pub record LineForm (A : Type 0) : Type 0 where
   pub uses : A → ℕ → List Mention
 
 unfoldable pub inputForm : LineForm Name
-inputForm = record { printed = printInput; legal = plainName; cost = λ x. 0; words = λ n bs x first. []; uses = λ x at. [] }
+inputForm = record { printed = printInput; legal = isPlainName; cost = λ x. 0; words = λ n bs x first. []; uses = λ x at. [] }
 
 unfoldable pub gateForm : LineForm GateLine
 gateForm =
     record {
       printed = printGate;
-      legal = legalGate;
+      legal = isLegalGate;
       cost = lineGates;
-      words = λ n bs g first. wordsOf n (termGates (apply (g .kind) (g .terms)) bs first);
+      words = λ n bs g first. gatesWords n (termGates (apply (g .kind) (g .terms)) bs first);
       uses = operandMentions;
     }
 
@@ -45,7 +45,7 @@ unfoldable pub outputForm : LineForm OutputLine
 outputForm =
     record {
       printed = printOutput;
-      legal = legalOutput;
+      legal = isLegalOutput;
       cost = λ o. 1;
       words = λ n bs o first. outputWords n (outputOf bs o);
       uses = shownMention;
@@ -132,5 +132,5 @@ module _ {A : Type 0} (F : LineForm A) where
       (array : List ℕ) : Type 0 where
     pub within : left ≤ length s
     pub same : length array ≡ length before
-    pub now : (bs : List Binding) (xs : List A) (rest : List ℕ) (at : ℕ) → Table n bs names words → LinesAt xs rest s → length xs ≡ count
+    pub reached : (bs : List Binding) (xs : List A) (rest : List ℕ) (at : ℕ) → Table n bs names words → LinesAt xs rest s → length xs ≡ count
         → LinesNow count s seen before n bs xs rest at i left first unknown array

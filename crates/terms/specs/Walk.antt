@@ -10,9 +10,10 @@ use lib.Seq.{sets}
 use Rattle.laws.specs.Lists.{ascii, all, joined}
 use Rattle.netlist.specs.Limits.{maxInputs, maxGates}
 use Rattle.netlist.specs.Netlist.{Name, Gate}
-use Rattle.netlist.specs.StoredBlock.{nameByte, nodeName, nodeWord, gateWords}
-use Rattle.netlist.specs.Syntax.{Term, Terms, printTerm, printTerms, termCount, legalTerm, legalTerms}
-use Rattle.netlist.specs.Reading.{Mention, Binding, gatesIn, gatesInside, termMentions, termsMentions, firstOutside, termNode, termsNodes, termGates, termsGates}
+use Rattle.netlist.specs.StoredBlock.{isNameByte, isNodeName, nodeWord, gateWords}
+use Rattle.netlist.specs.Syntax.{Term, Terms, printTerm, printTerms, termCount, isLegalTerm, isLegalTerms}
+use Rattle.netlist.specs.Reading.{Mention, Binding, gatesIn, gatesInside, termMentions, termsMentions, firstOutside, termNode, termsNodes, termGates}
+use Rattle.netlist.specs.Reading.{termsGates}
 use Rattle.names.specs.Packed.{packed}
 use Rattle.terms.specs.declared.Found.{Found}
 use Rattle.terms.specs.declared.Listed.{Listed}
@@ -31,12 +32,12 @@ unfoldable pub unknownAfter : ℕ → List Binding → List Mention → ℕ → 
 unknownAfter unknown bs mentions total = earlier unknown (leftOf total (firstOutside (declaredNames bs) mentions))
 
 -- the words of some gates
-unfoldable pub wordsOf : ℕ → List Gate → List ℕ
-wordsOf n gs = joined (map (gateWords n) gs)
+unfoldable pub gatesWords : ℕ → List Gate → List ℕ
+gatesWords n gs = joined (map (gateWords n) gs)
 
 -- the table of declared names holds these bindings
 pub record Table (n : ℕ) (bs : List Binding) (names words : List ℕ) : Type 0 where
-  pub legal : all nodeName (declaredNames bs) ≡ true
+  pub legal : all isNodeName (declaredNames bs) ≡ true
   pub packedNames : map (λ (b : Binding). packed (b .name)) bs ≡ names
   pub nodeWords : map (λ (b : Binding). nodeWord n (b .node)) bs ≡ words
 
@@ -45,11 +46,11 @@ pub record Table (n : ℕ) (bs : List Binding) (names words : List ℕ) : Type 0
 -- what follows a name begins with a byte that no name has
 abbrev pub Ends : List ℕ → Type 0
 Ends [] = ⊥
-Ends (c ∷ rest) = nameByte c ≡ false
+Ends (c ∷ rest) = isNameByte c ≡ false
 
 -- a term stands here, and then `rest`
 pub record TermAt (o : Term) (depth : ℕ) (rest s : List ℕ) : Type 0 where
-  pub legal : legalTerm o depth ≡ true
+  pub legal : isLegalTerm o depth ≡ true
   pub printed : printTerm o rest ≡ s
   pub ends : Ends rest
 
@@ -70,7 +71,7 @@ pub record TermDone (n : ℕ) (bs : List Binding) (o : Term) (at : ℕ) (s rest 
   pub word : r .word ≡ nodeWord n (termNode o bs first)
   pub gates : r .gates ≡ first + gatesIn o
   pub unknown : r .unknown ≡ unknownAfter seen bs (termMentions o at) (at + length s)
-  pub words : after ≡ sets before (5 * first) (wordsOf n (termGates o bs first))
+  pub words : after ≡ sets before (5 * first) (gatesWords n (termGates o bs first))
 
 -- of whatever term and bindings it is
 pub record TermRead (s : List ℕ) (depth n : ℕ) (names words : List ℕ) (first unknown : ℕ) (before after : List ℕ) (r : Found) : Type 0 where
@@ -80,7 +81,7 @@ pub record TermRead (s : List ℕ) (depth n : ℕ) (names words : List ℕ) (fir
 -- ---- an operand list, and its closing bracket
 
 pub record TermsAt (os : Terms) (depth : ℕ) (rest s : List ℕ) : Type 0 where
-  pub legal : legalTerms os depth ≡ true
+  pub legal : isLegalTerms os depth ≡ true
   pub printed : printTerms os (ascii ")" ++ rest) ≡ s
 
 pub record TermsHere (s : List ℕ) (depth n : ℕ) (names words : List ℕ) (first i : ℕ) (gates slots : List ℕ) : Type 0 where
@@ -100,7 +101,7 @@ pub record TermsDone (n : ℕ) (bs : List Binding) (os : Terms) (at : ℕ) (s re
   pub count : r .count ≡ i + termCount os
   pub gates : r .gates ≡ first + gatesInside os
   pub unknown : r .unknown ≡ unknownAfter seen bs (termsMentions os at) (at + length s)
-  pub words : after ≡ sets before (5 * first) (wordsOf n (termsGates os bs first))
+  pub words : after ≡ sets before (5 * first) (gatesWords n (termsGates os bs first))
   pub operands : filled ≡ sets slots i (map (nodeWord n) (termsNodes os bs first))
 
 pub record TermsRead (s : List ℕ) (depth n : ℕ) (names words : List ℕ) (first unknown i : ℕ) (before after slots filled : List ℕ)

@@ -1,18 +1,21 @@
 // What stands at the front of a text: a kind's word, a name, a constant.
 use crate::Leaf;
-use names::lines::byte_at;
+use layout::bytes::byte_at;
+use layout::kinds::signature_of;
+use layout::nodes::CONSTANT_0;
+use layout::nodes::CONSTANT_1;
+use layout::trim::trimmed_length;
 use names::pack::name_length;
 use names::pack::pack;
 use names::search::find;
 ghost use mathlib.Core.Path.{_≡_};
-ghost use Prim.Native.Nat.{_≤_};
 ghost use lib.ListN.{length};
 ghost use Rattle.terms.specs.Leaves.{kindHere, wordLength, nameLength, indexHere, earlier, nameHere, constantHere, leafHere};
 
 // The words of the constants.
-const ZERO: u16 = 65534;
+const ZERO: u16 = CONSTANT_0 as u16;
 
-const ONE: u16 = 65535;
+const ONE: u16 = CONSTANT_1 as u16;
 
 // The kind whose word stands here.
 pub fn kind_here(s: &[u8]) -> usize
@@ -35,10 +38,9 @@ pub fn kind_here(s: &[u8]) -> usize
 pub fn word_length(kind: usize) -> usize
     ensures { λ r. ⌜ r ≡ wordLength kind ⌝ }
 {
-    if kind == 2 {
-        return 2;
-    }
-    if kind == 3 { 4 } else { 3 }
+    let signature = signature_of(kind);
+    let bytes = signature.keyword;
+    trimmed_length(&bytes)
 }
 
 // The first of two that is not 0.

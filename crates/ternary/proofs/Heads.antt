@@ -1,37 +1,27 @@
 -- A gate's head word: what a legal one says, and the gate's value by its kind. Assumes nothing.
-use mathlib.Core.Path.{_≡_, refl}
+use mathlib.Core.Path.{_≡_}
 use mathlib.Core.Logic.{⊎-elim}
-use mathlib.Core.Bool.{Bool, true, false, _&&_}
+use mathlib.Core.Bool.{true, false}
 use mathlib.Core.List.{List, map}
-use Prim.Native.Nat.{ℕ, _+_, _-_, _/_, _%_, _≤_, _<_}
+use Prim.Native.Nat.{ℕ, _+_, _/_, _%_, _≤_, _<_}
 use native.Mathlib.Nat.{add-zero}
 use native.Mathlib.Omega.{arith}
 use lib.ListN.{length, getD, List·getD-eq-default}
 use lib.Dec.{eqb, leb}
-use borrow.Author.Tests.{leb-true, ne-eqb, eqb-true}
+use borrow.Author.Tests.{leb-true, ne-eqb}
 use Rattle.laws.specs.Lists.{tab}
 use Rattle.laws.proofs.Tab.{map-tab}
 use Rattle.laws.proofs.Tests.{and-left, and-right, lt-or-le}
-use Rattle.laws.proofs.Quantifiers.{all-at}
-use Rattle.netlist.specs.declared.Row.{Row}
 use Rattle.netlist.specs.Values.{valueOf, invert}
-use Rattle.netlist.specs.Kinds.{row, rows, rowOf, isNot, isKind, fewestOperands, mostOperands, arityFits, ruled, gateValue}
+use Rattle.netlist.specs.Kinds.{rowOf, isNot, fewestOperands, mostOperands, arityFits, ruled, gateValue}
 use Rattle.netlist.specs.Rounds.{operandValue, evaluated}
 use Rattle.netlist.specs.StoredBlock.{operandOf, gateAt}
+use Rattle.layout.proofs.KindLaws.{not-counts, other-counts, kind-last}
 use Rattle.ternary.specs.Legal.{LegalHead, wordValue, valueFrom}
-
-abbrev ranged : Row → Bool
-ranged r = eqb (r .fewest) 2 && eqb (r .most) 4
-
--- every row of the table allows two to four operands
-row-ranged : (k : ℕ) → 1 ≤ k → k ≤ 4 → ranged (rowOf k) ≡ true
-unfolding rowOf rows row
-row-ranged k h l = all-at ranged rows (k - 1) _ refl (omega arith)
 
 module _ (words : List ℕ) (at : ℕ) (l : LegalHead words at) where
   head-kind : getD words at 0 % 8 ≤ 4
-  unfolding isKind rows
-  head-kind = leb-true (getD words at 0 % 8) 4 (l .kind)
+  head-kind = kind-last (getD words at 0 % 8) (l .kind)
 
   least-count : fewestOperands (getD words at 0 % 8) ≤ getD words at 0 / 8
   unfolding arityFits
@@ -43,21 +33,16 @@ module _ (words : List ℕ) (at : ℕ) (l : LegalHead words at) where
 
   -- `not` has one operand
   head-not : getD words at 0 % 8 ≡ 0 → getD words at 0 / 8 ≡ 1
-  unfolding fewestOperands mostOperands isNot
   head-not e =
-      let lo : 1 ≤ getD words at 0 / 8 = rw e at least-count in
-      let hi : getD words at 0 / 8 ≤ 1 = rw e at most-count in
+      let lo : 1 ≤ getD words at 0 / 8 = rw (e, not-counts .0) at least-count in
+      let hi : getD words at 0 / 8 ≤ 1 = rw (e, not-counts .1) at most-count in
       omega arith
 
   -- a kind of the table has two to four
   head-row : 1 ≤ getD words at 0 % 8 → (2 ≤ getD words at 0 / 8) × (getD words at 0 / 8 ≤ 4)
-  unfolding fewestOperands mostOperands isNot
   head-row h =
-      let t : ranged (rowOf (getD words at 0 % 8)) ≡ true = row-ranged (getD words at 0 % 8) h head-kind in
-      let e : rowOf (getD words at 0 % 8) .fewest ≡ 2 = eqb-true _ _ (and-left (eqb (rowOf (getD words at 0 % 8) .fewest) 2) _ t) in
-      let f : rowOf (getD words at 0 % 8) .most ≡ 4 = eqb-true _ _ (and-right (eqb (rowOf (getD words at 0 % 8) .fewest) 2) _ t) in
-      let z : eqb (getD words at 0 % 8) 0 ≡ false = ne-eqb (getD words at 0 % 8) 0 (omega arith) in
-      (rw (z, e) at least-count, rw (z, f) at most-count)
+      let t = other-counts (getD words at 0 % 8) h head-kind in
+      (rw (t .0) at least-count, rw (t .1) at most-count)
 
   -- the head is a word of the slice
   head-in : at < length words

@@ -10,7 +10,7 @@ use borrow.Author.Tests.{eq-eqb, ne-eqb, ltb-true}
 use Rattle.laws.specs.Lists.{all, any, tab}
 use Rattle.laws.proofs.Quantifiers.{any-tab-from, any-append, all-append, all-at}
 use Rattle.netlist.specs.declared.Row.{Row}
-use Rattle.netlist.specs.Values.{Value, code, valueOf, invert, defined}
+use Rattle.netlist.specs.Values.{Value, code, valueOf, invert, isDefined}
 use Rattle.netlist.specs.Kinds.{rows, row, rowOf, ruled}
 use Rattle.ternary.proofs.Codes.{code-low, defined-code, undefined-code}
 
@@ -21,7 +21,7 @@ controls controlling v = eqb (code v) controlling
 -- the first i operands, none of them controlling; `unknown`: one of them is undefined
 pub record Passed (controlling : ℕ) (v : ℕ → Value) (unknown : Bool) (i : ℕ) : Type 0 where
   pub none : any (controls controlling) (tab v i) ≡ false
-  pub seen : all defined (tab v i) ≡ not unknown
+  pub seen : all isDefined (tab v i) ≡ not unknown
 
 pub passed-none : (controlling : ℕ) (v : ℕ → Value) → Passed controlling v false 0
 passed-none controlling v = record { none = refl; seen = refl }
@@ -40,13 +40,13 @@ module _ {controlling : ℕ} {v : ℕ → Value} {unknown : Bool} {i : ℕ} (p :
   pub passed-undefined : code (v i) ≡ 2 → Passed controlling v true (i + 1)
   passed-undefined e =
       rw add-one
-      (record { none = none-more; seen = rw (all-append defined (tab v i) (v i ∷ []), undefined-code (v i) e) (and-false (all defined (tab v i))) })
+      (record { none = none-more; seen = rw (all-append isDefined (tab v i) (v i ∷ []), undefined-code (v i) e) (and-false (all isDefined (tab v i))) })
 
   -- one more operand, defined
   pub passed-defined : (code (v i) ≡ 2 → ⊥) → Passed controlling v unknown (i + 1)
   passed-defined d =
       rw add-one
-      (record { none = none-more; seen = rw (all-append defined (tab v i) (v i ∷ []), defined-code (v i) d, p .seen) (and-true (not unknown)) })
+      (record { none = none-more; seen = rw (all-append isDefined (tab v i) (v i ∷ []), defined-code (v i) d, p .seen) (and-true (not unknown)) })
 
 module _ (r : Row) (v : ℕ → Value) (count : ℕ) where
   -- a controlling operand forces

@@ -1,7 +1,9 @@
 // One gate's value from its words and the values of the inputs and gates. It is found once for each gate, round and setting.
-use crate::read::value_at;
-use crate::read::word_at;
-use crate::table::row_of;
+use layout::kinds::row_of;
+use layout::nodes::CONSTANT_0;
+use layout::nodes::CONSTANT_1;
+use layout::read::value_at;
+use layout::read::word_at;
 use netlist::Row;
 ghost use mathlib.Core.Path.{_≡_};
 ghost use mathlib.Core.List.{map};
@@ -39,8 +41,8 @@ pub fn operand_value(word: usize, n: usize, inputs: &[u8], gates: &[u8]) -> u8
         return coded(value_at(inputs, word));
     }
     match word {
-        65534 => 0,
-        65535 => 1,
+        CONSTANT_0 => 0,
+        CONSTANT_1 => 1,
         _ => coded(value_at(gates, word - n)),
     }
 }

@@ -2,8 +2,8 @@
 use Prim.Native.Nat.{ℕ}
 use mathlib.Core.Bool.{cond}
 use Rattle.netlist.specs.Netlist.{Block}
-use Rattle.netlist.specs.Rounds.{settledAt}
+use Rattle.netlist.specs.Rounds.{isSettled}
 
 -- 1 for a settled setting, 0 for another
 unfoldable pub settledFlag : Block → ℕ → ℕ
-settledFlag b s = cond (settledAt b s) 1 0
+settledFlag b s = cond (isSettled b s) 1 0

@@ -1,20 +1,21 @@
 // Which settings are settled, for a block of n inputs whose gates' words start at `gates`. `inputs` and `values` have exactly one byte for
 // each input and each gate; the gates are evaluated along `order`.
+use decide::in_place::settle_setting;
+use netlist::Answer;
 ghost use mathlib.Core.Path.{_≡_};
 ghost use Prim.Native.Nat.{_≤_, _^_};
 ghost use lib.ListN.{length};
 ghost use Rattle.laws.specs.Lists.{tab, placed};
+ghost use Rattle.netlist.specs.Limits.{maxInputs};
 ghost use Rattle.netlist.specs.declared.Answer.the-variants.{Done};
 ghost use Rattle.netlist.specs.StoredBlock.{decode};
 ghost use Rattle.netlist.specs.Rounds.{settledSettings, lowestUnsettled};
-ghost use Rattle.decide.specs.InPlace.{Ready};
+ghost use Rattle.decide.specs.InPlace.{DecideReady};
 ghost use Rattle.verdict.specs.Flags.{settledFlag};
-use decide::in_place::settle_setting;
-use netlist::Answer;
 
-// "A setting gives every input 0 or 1": 2^n of them.
+// How many settings n inputs have.
 pub fn setting_count(n: usize) -> usize
-    requires { ⌜ n ≤ 10 ⌝ }
+    requires { ⌜ n ≤ maxInputs ⌝ }
     ensures { λ r. ⌜ r ≡ 2 ^ n ⌝ }
 {
     1usize << n
@@ -29,7 +30,7 @@ pub fn lowest_unsettled(
     inputs: &mut [u8],
     values: &mut [u8],
 ) -> usize
-    requires { ⌜ Ready (now words) n gates (now order) (now inputs) (now values) ⌝ }
+    requires { ⌜ DecideReady (now words) n gates (now order) (now inputs) (now values) ⌝ }
     ensures { λ r. ⌜ r ≡ lowestUnsettled (decode (now (words .entry))) ⌝ }
 {
     let count = setting_count(n);
@@ -58,7 +59,7 @@ pub fn settled_flag(
     inputs: &mut [u8],
     values: &mut [u8],
 ) -> u8
-    requires { ⌜ Ready (now words) n gates (now order) (now inputs) (now values) ⌝ }
+    requires { ⌜ DecideReady (now words) n gates (now order) (now inputs) (now values) ⌝ }
     ensures { λ r. ⌜ r ≡ settledFlag (decode (now (words .entry))) s ⌝ }
 {
     settle_setting(words, n, gates, order, s, inputs, values);
@@ -82,7 +83,7 @@ pub fn count_settled(
     inputs: &mut [u8],
     values: &mut [u8],
 ) -> usize
-    requires { ⌜ Ready (now words) n gates (now order) (now inputs) (now values) ⌝ }
+    requires { ⌜ DecideReady (now words) n gates (now order) (now inputs) (now values) ⌝ }
     requires { ⌜ lowest ≡ lowestUnsettled (decode (now words)) ⌝ }
     ensures { λ r. ⌜ r ≡ settledSettings (decode (now (words .entry))) ⌝ }
 {
@@ -106,7 +107,7 @@ pub fn fill_settled(
     values: &mut [u8],
     settled: &mut [u8],
 )
-    requires { ⌜ Ready (now words) n gates (now order) (now inputs) (now values) ⌝ }
+    requires { ⌜ DecideReady (now words) n gates (now order) (now inputs) (now values) ⌝ }
     requires { ⌜ 2 ^ n ≤ length (now settled) ⌝ }
     ensures { λ r. ⌜ now (settled .exit) ≡ placed (tab (settledFlag (decode (now (words .entry)))) (2 ^ n)) (now (settled .entry)) ⌝ }
 {
@@ -127,7 +128,7 @@ pub fn search_settings(
     inputs: &mut [u8],
     values: &mut [u8],
 ) -> Answer
-    requires { ⌜ Ready (now words) n gates (now order) (now inputs) (now values) ⌝ }
+    requires { ⌜ DecideReady (now words) n gates (now order) (now inputs) (now values) ⌝ }
     ensures { λ r. ⌜ r ≡ Done (settledSettings (decode (now (words .entry)))) (lowestUnsettled (decode (now (words .entry)))) ⌝ }
 {
     let lowest = lowest_unsettled(words, n, gates, order, inputs, values);

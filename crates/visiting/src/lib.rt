@@ -1,24 +1,25 @@
 // The order in which a setting's gates are visited: a depth-first search's postorder, so that a gate stands behind its operands but for those
 // that close a loop. Any order of all gates decides a setting; in this one few sweeps do. Callers are in `verdict`, `cover` and `render`.
+use layout::limits::MAX_GATES;
+use layout::offsets;
 ghost use mathlib.Core.Path.{_≡_};
 ghost use mathlib.Core.Bool.{false};
 ghost use Prim.Native.Nat.{_≤_};
 ghost use lib.ListN.{length, getD, take};
-ghost use Rattle.netlist.specs.StoredBlock.{torn};
+ghost use Rattle.netlist.specs.StoredBlock.{isTorn};
 ghost use Rattle.decide.specs.InPlace.{Visits};
-use block::header;
 
 pub mod postorder;
 
 // Writes the gates of a whole block in that order.
 pub fn order_gates(words: &[u16], order: &mut [u16])
-    requires { ⌜ (torn (now words) ≡ false) × (getD (now words) 1 0 ≤ length (now order)) ⌝ }
+    requires { ⌜ (isTorn (now words) ≡ false) × (getD (now words) 1 0 ≤ length (now order)) ⌝ }
     ensures { λ r. ⌜ Visits (getD (now (words .entry)) 1 0) (take (getD (now (words .entry)) 1 0) (now (order .exit))) ⌝ }
 {
-    let n = header::inputs_of(words);
-    let m = header::gates_of(words);
-    let gates = header::gates_at(n);
-    let mut flags = [0u8; 1024];
-    let mut stack = [0u16; 1024];
+    let n = offsets::inputs_of(words);
+    let m = offsets::gates_of(words);
+    let gates = offsets::gates_at(n);
+    let mut flags = [0u8; MAX_GATES];
+    let mut stack = [0u16; MAX_GATES];
     postorder::write_postorder(words, n, m, gates, &mut flags, &mut stack, order);
 }

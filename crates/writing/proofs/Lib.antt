@@ -1,6 +1,5 @@
 -- Mathematics of the written text; no function of src/ is named.
 pub mod Appending
-pub mod TrimmedLaws
 pub mod DecimalLaws
 pub mod NameLaws
 pub mod OperandLaws

@@ -1,4 +1,4 @@
--- What is written for a keyword and for an operand word, by cases. Cited by `pieces::put_keyword` and `pieces::put_operand`.
+-- What is written for an operand word, by cases. Cited by `pieces::put_operand`.
 -- Assumes nothing.
 use Prim.Native.Nat.{ℕ, _+_, _-_, _*_, _/_, _%_, _≤_, _<_}
 use mathlib.Core.Path.{_≡_, refl, _∙_}
@@ -6,21 +6,13 @@ use mathlib.Core.List.{List, [], _++_, append-nil}
 use native.Mathlib.Omega.{arith}
 use lib.ListN.{getD}
 use borrow.Author.Tests.{eq-eqb, ne-eqb, lt-ltb, le-ltb}
-use Rattle.laws.specs.Lists.{ascii, trimmed}
-use Rattle.netlist.specs.Kinds.{keyword, isNot, rowOf}
+use Rattle.laws.specs.Lists.{ascii}
+use Rattle.netlist.specs.Kinds.{keyword}
 use Rattle.netlist.specs.StoredBlock.{inputsAt, nameSize, nameAt, operandOf, decode}
 use Rattle.netlist.specs.Syntax.{printTerm}
 use Rattle.netlist.specs.Writing.{gateName, nodeNameOf, termOf}
 use Rattle.encoding.proofs.Decoded.{decode-input}
 use Rattle.writing.specs.Pieces.{pieces, operandText, itemText, expressionText}
-
-pub keyword-not : (k : ℕ) → k ≡ 0 → keyword k ≡ ascii "not"
-unfolding keyword isNot
-keyword-not k e = rw (eq-eqb k 0 e) refl
-
-pub keyword-row : (k : ℕ) → (k ≡ 0 → ⊥) → keyword k ≡ trimmed (rowOf k .keyword)
-unfolding keyword isNot
-keyword-row k ne = rw (ne-eqb k 0 ne) refl
 
 module _ (ws : List ℕ) (at word : ℕ) (is : word ≡ getD ws at 0) where
   pub operand-input : word < getD ws 0 0 → operandText ws at ≡ nameAt ws (inputsAt + nameSize * word)

@@ -8,7 +8,8 @@ use lib.ListN.{getD}
 use Rattle.laws.specs.Lists.{ascii, tab}
 use Rattle.laws.proofs.Tab.{map-tab}
 use Rattle.netlist.specs.Netlist.{Operand, input, gate, constant, Block}
-use Rattle.netlist.specs.StoredBlock.{nameSize, gateSize, outputSize, inputsAt, gatesAt, outputsAt, nameAt, operandOf, gateAt, outputAt, isNode, decode, wellFormed, torn}
+use Rattle.netlist.specs.StoredBlock.{nameSize, gateSize, outputSize, inputsAt, gatesAt, outputsAt, nameAt, operandOf, gateAt, outputAt, isNode, decode}
+use Rattle.netlist.specs.StoredBlock.{isWellFormed, isTorn}
 use Rattle.netlist.specs.Syntax.{apply, printTerm, printTerms, printInput, printGate, printOutput, printLines, print, OutputLine}
 use Rattle.netlist.specs.Writing.{nodeNameOf, termOf, termsOf, flatLine, flatTree, writtenText}
 use Rattle.grammar.proofs.Shorter.{printTerm-append}
@@ -103,8 +104,8 @@ output-piece ws at o h rest =
     rw (shown-term (decode ws) (operandOf (getD ws 0 0) (getD ws (at + outputSize * o + nameSize) 0)) h) (simp append-assoc refl)
 
 -- The pieces are the written text.
-module _ (ws : List ℕ) (whole : torn ws ≡ false) where
-  pub decoded-well : wellFormed (decode ws) ≡ true
+module _ (ws : List ℕ) (whole : isTorn ws ≡ false) where
+  pub decoded-well : isWellFormed (decode ws) ≡ true
   decoded-well = intact-wellFormed ws (whole-intact ws whole)
 
   shown-node : (o : ℕ) → o < getD ws 2 0

@@ -1,14 +1,17 @@
 // Bytes, names, numbers and operands, each appended to a text at `at`. Each function answers the new end. What does not fit into the
 // text is left out, and counted all the same.
-use block::header::INPUTS_AT;
-use block::header::NAME_SIZE;
-use block::header::inputs_of;
-use ternary::read::word_at;
-use ternary::table::row_of;
+use layout::kinds::signature_of;
+use layout::limits::MAX_NAME;
+use layout::nodes::CONSTANT_0;
+use layout::nodes::CONSTANT_1;
+use layout::offsets::INPUTS_AT;
+use layout::offsets::NAME_SIZE;
+use layout::offsets::inputs_of;
+use layout::read::word_at;
+use layout::trim::trimmed_length;
 ghost use mathlib.Core.Path.{_≡_};
 ghost use mathlib.Core.List.{[], _∷_};
 ghost use Prim.Native.Nat.{_≤_};
-ghost use lib.ListN.{length, take};
 ghost use Rattle.laws.specs.Lists.{trimmed};
 ghost use Rattle.netlist.specs.Kinds.{keyword};
 ghost use Rattle.netlist.specs.StoredBlock.{bytesAt, nameAt};
@@ -41,20 +44,6 @@ pub fn put_all(text: &mut [u8], at: usize, bytes: &[u8]) -> usize
     end
 }
 
-// How many bytes are left without the zeros at the end.
-fn trimmed_length(bytes: &[u8]) -> usize
-    ensures { λ r. ⌜ (r ≤ length (now (bytes .entry))) × (take r (now (bytes .entry)) ≡ trimmed (now (bytes .entry))) ⌝ }
-{
-    let mut count = bytes.len();
-    while 0 < count {
-        if bytes[count - 1] != 0 {
-            return count;
-        }
-        count -= 1;
-    }
-    0
-}
-
 // The bytes without the zeros at the end.
 fn put_trimmed(text: &mut [u8], at: usize, bytes: &[u8]) -> usize
     requires { ⌜ Short (trimmed (now bytes)) at ⌝ }
@@ -64,8 +53,8 @@ fn put_trimmed(text: &mut [u8], at: usize, bytes: &[u8]) -> usize
     put_all(text, at, &bytes[..count])
 }
 
-// "A name word is first byte + 256 × second": the eight bytes of the name at `from`.
-fn name_bytes(words: &[u16], from: usize) -> [u8; 8]
+// The eight bytes of the name at `from`: a word has two, the lower one first (SPECIFICATION 2.2).
+fn name_bytes(words: &[u16], from: usize) -> [u8; MAX_NAME]
     requires { ⌜ from ≤ 1000000 ⌝ }
     ensures { λ r. ⌜ r ≡ bytesAt (now (words .entry)) from ⌝ }
 {
@@ -107,7 +96,7 @@ pub fn put_decimal(text: &mut [u8], at: usize, v: usize) -> usize
     put(text, end, (48 + v % 10) as u8)
 }
 
-// "named `_` and their decimal number"
+// The name of gate j: `_` and its number.
 pub fn put_gate_name(text: &mut [u8], at: usize, j: usize) -> usize
     requires { ⌜ Short (gateName j) at ⌝ }
     ensures { λ r. ⌜ Appended (gateName j) (now (text .entry)) at (now (text .exit)) r ⌝ }
@@ -116,16 +105,13 @@ pub fn put_gate_name(text: &mut [u8], at: usize, j: usize) -> usize
     put_decimal(text, end, j)
 }
 
-// The keyword of a kind: `not`, or that of the kind's row.
+// The keyword of a kind.
 pub fn put_keyword(text: &mut [u8], at: usize, kind: usize) -> usize
     requires { ⌜ Short (keyword kind) at ⌝ }
     ensures { λ r. ⌜ Appended (keyword kind) (now (text .entry)) at (now (text .exit)) r ⌝ }
 {
-    if kind == 0 {
-        return put_all(text, at, b"not");
-    }
-    let row = row_of(kind);
-    let bytes = row.keyword;
+    let signature = signature_of(kind);
+    let bytes = signature.keyword;
     put_trimmed(text, at, &bytes)
 }
 
@@ -140,8 +126,8 @@ pub fn put_operand(text: &mut [u8], at: usize, words: &[u16], from: usize) -> us
         return put_name(text, at, words, INPUTS_AT + NAME_SIZE * word);
     }
     match word {
-        65534 => put(text, at, b'0'),
-        65535 => put(text, at, b'1'),
+        CONSTANT_0 => put(text, at, b'0'),
+        CONSTANT_1 => put(text, at, b'1'),
         _ => put_gate_name(text, at, word - n),
     }
 }

@@ -3,7 +3,7 @@
 use super::block::Block;
 use super::verdict::is_settled;
 use super::{handed_over, refused};
-use unloop::Reply;
+use unloop::raw::Reply;
 
 /// Two words an entry; count: entries.
 pub fn cover(words: &[u16], entries: &mut [u16]) -> Reply {

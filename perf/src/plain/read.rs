@@ -3,7 +3,7 @@
 use super::parse::{Name, Netlist, Operand, Parser};
 use super::{handed_over, refused};
 use std::collections::{HashMap, HashSet};
-use unloop::Reply;
+use unloop::raw::Reply;
 
 /// Text to block; count: words.
 pub fn read(text: &[u8], block: &mut [u16]) -> Reply {
@@ -14,7 +14,7 @@ pub fn read(text: &[u8], block: &mut [u16]) -> Reply {
 }
 
 /// A refusal's number and detail.
-type Refusal = (u64, usize);
+type Refusal = (usize, usize);
 
 fn words_of(text: &[u8]) -> Result<Vec<u16>, Refusal> {
     if text.len() > 61_440 {

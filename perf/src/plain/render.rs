@@ -4,7 +4,7 @@ use super::block::Block;
 use super::groups::ordered_groups;
 use super::verdict::is_settled;
 use super::{handed_over, refused};
-use unloop::Reply;
+use unloop::raw::Reply;
 
 /// The rendered block; count: words.
 pub fn render(words: &[u16], rendered: &mut [u16]) -> Reply {

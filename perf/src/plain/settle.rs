@@ -3,7 +3,7 @@
 use super::block::Block;
 use super::{handed_over, refused};
 use std::mem::swap;
-use unloop::Reply;
+use unloop::raw::Reply;
 
 /// The settled value of each gate; count: rounds.
 pub fn settle(words: &[u16], setting: &[u8], values: &mut [u8]) -> Reply {

@@ -2,7 +2,7 @@
 
 use super::block::Block;
 use super::{done, refused};
-use unloop::Reply;
+use unloop::raw::Reply;
 
 /// Count: settled settings; detail: the lowest other, or 2^n if none.
 pub fn verdict(words: &[u16]) -> Reply {

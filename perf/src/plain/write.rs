@@ -3,7 +3,7 @@
 use super::block::{name_bytes, Block};
 use super::{handed_over, refused};
 use std::io::Write;
-use unloop::Reply;
+use unloop::raw::Reply;
 
 /// Block to text; count: bytes.
 pub fn write(words: &[u16], text: &mut [u8]) -> Reply {

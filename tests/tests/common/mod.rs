@@ -3,7 +3,7 @@
 use simulator::Answer;
 
 /// An answer by its three numbers.
-pub fn answer(number: u64, count: u64, detail: u64) -> Answer {
+pub fn answer(number: usize, count: usize, detail: usize) -> Answer {
     Answer {
         number,
         count,

@@ -18,6 +18,9 @@ read-lower-requires c κs =
     let w = whole-parts (s .args .words .now) (s .pre) in
     rw (c .before .inputs-of .ensures, c .gates-of .ensures) (w .fewInputs, w .fewGates)
 
+refuse-if-requires : tie.Need-refuse-if-requires
+refuse-if-requires c κs = search needs
+
 returns : tie.Need-returns
 returns c =
     let s = c .before .before .before .before .before in
@@ -26,20 +29,9 @@ returns c =
       ← c .before .before .before .inputs-of .ensures,
       ← c .before .before .gates-of .ensures,
       ← c .before .read-lower .ensures,
-      c .if1 .taken,
     )
-
-returns-2 : tie.Need-returns-2
-returns-2 c =
-    let s = c .before .before .before .before .before in
-    rw (
-      ← straight-is (s .args .words .now) (s .pre),
-      ← c .before .before .before .inputs-of .ensures,
-      ← c .before .before .gates-of .ensures,
-      ← c .before .read-lower .ensures,
-      c .if1 .left,
-    )
+    (c .refuse-if .ensures)
 
 pub check-straight-spec : {M : Type 1} → statement M
 check-straight-spec =
-    tie.close (tie.spec inputs-of-requires gates-of-requires read-lower-requires returns returns-2)
+    tie.close (tie.spec inputs-of-requires gates-of-requires read-lower-requires refuse-if-requires returns)

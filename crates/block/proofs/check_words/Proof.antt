@@ -7,11 +7,11 @@ use Rattle.block.proofs.check_words.Tie as tie
 is-intact-requires : tie.Need-is-intact-requires
 is-intact-requires c κs = search needs
 
-returns : tie.Need-returns
-returns c = rw (intact-torn (c .before .before .before .args .words .now), ← c .before .is-intact .ensures, c .if1 .taken)
+refuse-if-requires : tie.Need-refuse-if-requires
+refuse-if-requires c κs = search needs
 
-returns-2 : tie.Need-returns-2
-returns-2 c = rw (intact-torn (c .before .before .before .args .words .now), ← c .before .is-intact .ensures, c .if1 .left)
+returns : tie.Need-returns
+returns c = rw (intact-torn (c .before .before .before .args .words .now), ← c .before .is-intact .ensures) (c .refuse-if .ensures)
 
 pub check-words-spec : {M : Type 1} → statement M
-check-words-spec = tie.close (tie.spec is-intact-requires returns returns-2)
+check-words-spec = tie.close (tie.spec is-intact-requires refuse-if-requires returns)

@@ -12,12 +12,12 @@ mod tally;
 use folder::Folder;
 use options::{Options, Request};
 use program::Program;
-use report::Refusal;
 use screen::Screen;
 use source::Source;
 use std::io::{self, IsTerminal, Write};
 use std::process::ExitCode;
 use tally::{Outcome, Tally};
+use unloop::Refusal;
 
 const USAGE: &str = include_str!("usage.txt");
 
@@ -125,7 +125,7 @@ impl Run {
                 let Some(refusal) = answer.refusal else {
                     return Ok(Outcome::Rendered);
                 };
-                let report = refusal.report(&source.name(), &answer.text);
+                let report = report::report(refusal, &source.name(), &answer.text);
                 self.screen.say(&report);
                 Ok(Outcome::Refused(refusal))
             }
@@ -146,7 +146,7 @@ impl Run {
             .text()
             .map_err(|error| named(source::reason(&error)))?;
         let output = self.program.run(&text).map_err(named)?;
-        let refusal = Refusal::of(&output).map_err(named)?;
+        let refusal = report::refusal_in(&output).map_err(named)?;
         if let (Some(folder), Source::File(path), None) = (&self.folder, source, refusal) {
             folder.put(path, &output)?;
         }

@@ -3,9 +3,10 @@
 use std::fs::File;
 use std::io::{self, Read};
 use std::path::{Path, PathBuf};
+use unloop::limits::TEXT_BYTES;
 
 /// One byte more than the longest text, so that a longer one is refused and a huge file costs no more.
-const BYTES_READ: u64 = 61_441;
+const BYTES_READ: u64 = TEXT_BYTES as u64 + 1;
 
 pub enum Source {
     Input,

@@ -1,8 +1,8 @@
 //! How many files were rendered, refused or in error, and the exit status that says so.
 
-use crate::report::Refusal;
 use std::collections::BTreeMap;
 use std::fmt;
+use unloop::Refusal;
 
 /// The exit status of any error.
 pub const ERROR: u8 = 2;
@@ -18,7 +18,9 @@ impl fmt::Display for Outcome {
     fn fmt(&self, f: &mut fmt::Formatter) -> fmt::Result {
         match self {
             Outcome::Rendered => write!(f, "rendered"),
-            Outcome::Refused(refusal) => write!(f, "refused {} {}", refusal.number, refusal.word()),
+            Outcome::Refused(refusal) => {
+                write!(f, "refused {} {}", refusal.number(), refusal.word())
+            }
             Outcome::Error => write!(f, "error"),
         }
     }
@@ -37,7 +39,7 @@ impl Tally {
         match outcome {
             Outcome::Rendered => self.rendered += 1,
             Outcome::Refused(refusal) => {
-                let counted = self.refused.entry(refusal.number);
+                let counted = self.refused.entry(refusal.number());
                 counted.or_insert((refusal.word(), 0)).1 += 1;
             }
             Outcome::Error => self.errors += 1,

@@ -1,7 +1,7 @@
 -- `block::names::is_name_byte` meets its contract: each way out is one side of the rule's disjunctions. Assumes nothing.
 use mathlib.Core.Path.{sym, _∙_}
 use borrow.Author.Needs.{needs}
-use Rattle.netlist.specs.StoredBlock.{nameByte, underscore}
+use Rattle.netlist.specs.StoredBlock.{isNameByte, isUnderscore}
 use Rattle.block.proofs.names.is_name_byte.Statement.{statement}
 use Rattle.block.proofs.names.is_name_byte.Tie as tie
 
@@ -9,20 +9,23 @@ is-letter-requires : tie.Need-is-letter-requires
 is-letter-requires c κs = search needs
 
 returns : tie.Need-returns
-unfolding nameByte
+unfolding isNameByte
 returns c = rw (sym (c .before .is-letter .ensures) ∙ c .if1 .taken)
 
 is-digit-requires : tie.Need-is-digit-requires
 is-digit-requires c κs = search needs
 
 returns-2 : tie.Need-returns-2
-unfolding nameByte
+unfolding isNameByte
 returns-2 c = rw (sym (c .before .before .before .is-letter .ensures) ∙ c .before .before .if1 .left, sym (c .before .is-digit .ensures) ∙ c .if2 .taken)
 
+cast-result : tie.Need-cast-result
+cast-result c = search needs
+
 returns-3 : tie.Need-returns-3
-unfolding nameByte underscore
+unfolding isNameByte isUnderscore
 returns-3 c = rw (sym (c .before .before .before .is-letter .ensures) ∙ c .before .before .if1 .left, sym (c .before .is-digit .ensures) ∙ c .if2 .left)
 
 pub is-name-byte-spec : {M : Type 1} → statement M
 is-name-byte-spec =
-    tie.close (tie.spec is-letter-requires returns is-digit-requires returns-2 returns-3)
+    tie.close (tie.spec is-letter-requires returns is-digit-requires returns-2 cast-result returns-3)

@@ -32,7 +32,9 @@ returns : tie.Need-returns Inv-loop μ-loop
 returns c =
     let a = c .before .before .before .before .before .before .args in
     let l = c .before .before .before .before .loop in
-    c .only-zeros .ensures ∙ sym (l .inv .1 ∙ padded-zero (a .words .now) (a .at) (l .i) _ (c .before .before .before .loop-test .taken) (c .before .before .byte-at .ensures) (c .before .if1 .taken))
+    c .only-zeros .ensures ∙ sym
+    (l .inv .1 ∙ padded-zero (a .words .now) (a .at) (l .i) _ (c .before .before .before .loop-test .taken) (c .before .before .byte-at .ensures)
+    (c .before .if1 .taken))
 
 is-name-byte-requires : tie.Need-is-name-byte-requires Inv-loop μ-loop
 is-name-byte-requires c κs = search needs
@@ -41,7 +43,8 @@ returns-2 : tie.Need-returns-2 Inv-loop μ-loop
 returns-2 c =
     let a = c .before .before .before .before .before .before .before .args in
     let l = c .before .before .before .before .before .loop in
-    sym (l .inv .1 ∙ padded-fails (a .words .now) (a .at) (l .i) _ (c .before .before .before .before .loop-test .taken) (c .before .before .before .byte-at .ensures) (c .before .before .if1 .left)
+    sym (l .inv .1 ∙ padded-fails (a .words .now) (a .at) (l .i) _ (c .before .before .before .before .loop-test .taken)
+    (c .before .before .before .byte-at .ensures) (c .before .before .if1 .left)
     (sym (c .before .is-name-byte .ensures) ∙ not-true _ (c .if2 .taken)))
 
 add-i : tie.Need-add-i Inv-loop μ-loop
@@ -55,7 +58,8 @@ loop-again c =
     let a = c .before .before .before .before .before .before .before .args in
     let l = c .before .before .before .before .before .loop in (
       search needs,
-      l .inv .1 ∙ padded-more (a .words .now) (a .at) (l .i) _ (c .before .before .before .before .loop-test .taken) (c .before .before .before .byte-at .ensures) (c .before .before .if1 .left)
+      l .inv .1 ∙ padded-more (a .words .now) (a .at) (l .i) _ (c .before .before .before .before .loop-test .taken)
+          (c .before .before .before .byte-at .ensures) (c .before .before .if1 .left)
           (sym (c .before .is-name-byte .ensures) ∙ not-false _ (c .if2 .left)),
     )
 

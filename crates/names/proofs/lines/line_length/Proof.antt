@@ -3,13 +3,13 @@ use Prim.Native.Nat.{_+_, _-_, _≤_}
 use mathlib.Core.Path.{_≡_}
 use native.Mathlib.Omega.{arith}
 use lib.ListN.{length, drop}
-use Rattle.names.specs.Lines.{lineLength}
+use Rattle.names.specs.Lines.{lengthWithLf}
 use Rattle.names.proofs.Scanning.{length-more, length-last, length-end}
 use Rattle.names.proofs.lines.line_length.Statement.{statement}
 use Rattle.names.proofs.lines.line_length.Tie as tie
 
 abbrev Inv-loop : tie.InvT-loop
-Inv-loop s i₀ i = (i ≤ length s) × (i + lineLength (drop i s) ≡ lineLength s)
+Inv-loop s i₀ i = (i ≤ length s) × (i + lengthWithLf (drop i s) ≡ lengthWithLf s)
 
 abbrev μ-loop : tie.MeasureT-loop
 μ-loop s i₀ i = length s - i
@@ -24,7 +24,10 @@ add-result : tie.Need-add-result Inv-loop μ-loop
 add-result c = omega arith
 
 returns : tie.Need-returns Inv-loop μ-loop
-returns c = let l = c .before .before .before .loop in length-last (c .before .before .before .before .args .s .now) (l .i) (omega arith) (c .if1 .taken) (l .inv .1)
+returns c =
+    let at-loop = c .before .before .before in
+    let start = at-loop .before in
+    let l = at-loop .loop in length-last (start .args .s .now) (l .i) (omega arith) (c .if1 .taken) (l .inv .1)
 
 add-i : tie.Need-add-i Inv-loop μ-loop
 add-i c = omega arith
@@ -33,7 +36,10 @@ loop-less : tie.Need-loop-less Inv-loop μ-loop
 loop-less c = omega arith
 
 loop-again : tie.Need-loop-again Inv-loop μ-loop
-loop-again c = let l = c .before .before .before .loop in (omega arith, length-more (c .before .before .before .before .args .s .now) (l .i) (omega arith) (c .if1 .left) (l .inv .1))
+loop-again c =
+    let at-loop = c .before .before .before in
+    let start = at-loop .before in
+    let l = at-loop .loop in (omega arith, length-more (start .args .s .now) (l .i) (omega arith) (c .if1 .left) (l .inv .1))
 
 returns-2 : tie.Need-returns-2 Inv-loop μ-loop
 returns-2 c = let l = c .before .loop in length-end (c .before .before .args .s .now) (l .i) (l .i) (omega arith) (l .inv .1)

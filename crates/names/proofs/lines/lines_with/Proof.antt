@@ -5,20 +5,20 @@ use native.Mathlib.Omega.{arith}
 use lib.Dec.{eqb}
 use lib.ListN.{length}
 use borrow.Author.Needs.{needs}
-use Rattle.names.specs.Lines.{lineStart, linesWith}
+use Rattle.names.specs.Lines.{lineOffset, linesWith}
 use Rattle.names.proofs.Starts.{start-le, start-more, with-more, with-le}
 use Rattle.names.proofs.Scanning.{one-le}
 use Rattle.names.proofs.lines.lines_with.Statement.{statement}
 use Rattle.names.proofs.lines.lines_with.Tie as tie
 
 abbrev Inv-loop : tie.InvT-loop
-Inv-loop letter text lines n₀ at₀ i₀ n at i = (i ≤ lines) × (at ≡ lineStart text i) × (n ≡ linesWith letter text i)
+Inv-loop letter text lines n₀ at₀ i₀ n at i = (i ≤ lines) × (at ≡ lineOffset text i) × (n ≡ linesWith letter text i)
 
 abbrev μ-loop : tie.MeasureT-loop
 μ-loop letter text lines n₀ at₀ i₀ n at i = lines - i
 
 loop-holds : tie.Need-loop-holds Inv-loop μ-loop
-unfolding lineStart linesWith
+unfolding lineOffset linesWith
 loop-holds c = (omega arith, refl, refl)
 
 add-byte-at : tie.Need-add-byte-at Inv-loop μ-loop
@@ -37,7 +37,10 @@ add-n c =
     omega (arith, with-le (a .letter) (a .text .now) (l .i), c .one-if .ensures, one-le (eqb (c .before .byte-at .result) (a .letter)))
 
 next-line-requires : tie.Need-next-line-requires Inv-loop μ-loop
-next-line-requires c κs = let l = c .before .before .before .loop in let h : l .at ≤ length (c .before .before .before .before .before .args .text .now) = omega (arith, start-le (c .before .before .before .before .before .args .text .now) (l .i)) in h
+next-line-requires c κs =
+    let at-loop = c .before .before .before in
+    let start = at-loop .before .before in
+    let l = at-loop .loop in let h : l .at ≤ length (start .args .text .now) = omega (arith, start-le (start .args .text .now) (l .i)) in h
 
 add-i : tie.Need-add-i Inv-loop μ-loop
 add-i c = omega arith
@@ -47,11 +50,14 @@ loop-less c = omega arith
 
 loop-again : tie.Need-loop-again Inv-loop μ-loop
 loop-again c =
-    let a = c .before .before .before .before .before .before .args in
-    let l = c .before .before .before .before .loop in (
+    let at-loop = c .before .before .before .before in
+    let start = at-loop .before .before in
+    let a = start .args in
+    let l = at-loop .loop in (
       omega arith,
       c .next-line .ensures ∙ start-more (a .text .now) (l .i) (l .at) (l .inv .1),
-      with-more (a .text .now) (l .i) (l .at) (l .inv .1) (a .letter) (l .n) (c .before .one-if .result) (c .before .before .byte-at .result) (l .inv .2) (c .before .before .byte-at .ensures) (c .before .one-if .ensures),
+      with-more (a .text .now) (l .i) (l .at) (l .inv .1) (a .letter) (l .n) (c .before .one-if .result) (c .before .before .byte-at .result) (l .inv .2)
+          (c .before .before .byte-at .ensures) (c .before .one-if .ensures),
     )
 
 returns : tie.Need-returns Inv-loop μ-loop

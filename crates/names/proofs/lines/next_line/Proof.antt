@@ -4,7 +4,7 @@ use native.Mathlib.Omega.{arith}
 use lib.ListN.{drop, length-drop}
 use borrow.Author.Needs.{needs}
 use Rattle.laws.proofs.Elements.{rest-is-drop}
-use Rattle.names.specs.Lines.{lineLength}
+use Rattle.names.specs.Lines.{lengthWithLf}
 use Rattle.names.proofs.Scanning.{lineLength-le}
 use Rattle.names.proofs.lines.next_line.Statement.{statement}
 use Rattle.names.proofs.lines.next_line.Tie as tie
@@ -24,13 +24,13 @@ line-length-requires c κs = search needs
 add-result : tie.Need-add-result
 add-result c =
     let a = c .before .before .before .args in
-    let e : c .line-length .result ≡ lineLength (drop (a .at) (a .text .now)) = rw (rest-is-drop (a .text .now) (a .at)) at (c .line-length .ensures) in
+    let e : c .line-length .result ≡ lengthWithLf (drop (a .at) (a .text .now)) = rw (rest-is-drop (a .text .now) (a .at)) at (c .line-length .ensures) in
     omega (arith, lineLength-le (drop (a .at) (a .text .now)), length-drop (a .at) (a .text .now))
 
 returns : tie.Need-returns
 returns c =
     let a = c .before .before .before .args in
-    let e : c .line-length .result ≡ lineLength (drop (a .at) (a .text .now)) = rw (rest-is-drop (a .text .now) (a .at)) at (c .line-length .ensures) in
+    let e : c .line-length .result ≡ lengthWithLf (drop (a .at) (a .text .now)) = rw (rest-is-drop (a .text .now) (a .at)) at (c .line-length .ensures) in
     rw e
 
 pub next-line-spec : {M : Type 1} → statement M

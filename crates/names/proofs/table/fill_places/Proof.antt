@@ -5,19 +5,20 @@ use native.Mathlib.Omega.{arith}
 use lib.ListN.{length, length-set}
 use Rattle.laws.specs.Lists.{tab, placed}
 use Rattle.laws.proofs.Tab.{fill-next}
-use Rattle.names.specs.Lines.{lineStart, declaredPlace, placeAt}
+use Rattle.names.specs.Lines.{lineOffset, declaredPlace, placeAt}
 use Rattle.names.proofs.Starts.{start-le, start-more}
 use Rattle.names.proofs.table.fill_places.Statement.{statement}
 use Rattle.names.proofs.table.fill_places.Tie as tie
 
 abbrev Inv-loop : tie.InvT-loop
-Inv-loop text lines places₀ at₀ i₀ places at i = (i ≤ lines) × (at ≡ lineStart text i) × (places ≡ placed (tab (placeAt text) i) places₀) × (length places ≡ length places₀)
+Inv-loop text lines places₀ at₀ i₀ places at i =
+    (i ≤ lines) × (at ≡ lineOffset text i) × (places ≡ placed (tab (placeAt text) i) places₀) × (length places ≡ length places₀)
 
 abbrev μ-loop : tie.MeasureT-loop
 μ-loop text lines places₀ at₀ i₀ places at i = lines - i
 
 loop-holds : tie.Need-loop-holds Inv-loop μ-loop
-unfolding lineStart
+unfolding lineOffset
 loop-holds c = (omega arith, refl, refl, refl)
 
 declared-at-requires : tie.Need-declared-at-requires Inv-loop μ-loop
@@ -41,11 +42,14 @@ loop-less c = omega arith
 loop-again : tie.Need-loop-again Inv-loop μ-loop
 unfolding placeAt
 loop-again c =
-    let a = c .before .before .before .before .before .before .args in
-    let l = c .before .before .before .loop in (
+    let at-loop = c .before .before .before in
+    let start = at-loop .before .before .before in
+    let a = start .args in
+    let l = at-loop .loop in (
       omega arith,
       c .next-line .ensures ∙ start-more (a .text .now) (l .i) (l .at) (l .inv .1),
-      fill-next (placeAt (a .text .now)) (l .i) (a .places .now) (l .places) (c .before .declared-at .result) (l .inv .2) (omega arith) (c .before .declared-at .ensures ∙ ap (declaredPlace (a .text .now)) (l .inv .1)),
+      fill-next (placeAt (a .text .now)) (l .i) (a .places .now) (l .places) (c .before .declared-at .result) (l .inv .2) (omega arith)
+          (c .before .declared-at .ensures ∙ ap (declaredPlace (a .text .now)) (l .inv .1)),
       length-set (l .places) (l .i) (c .before .declared-at .result) ∙ l .inv .3,
     )
 

@@ -8,7 +8,8 @@ use native.Mathlib.Omega.{arith}
 use denote.Ref.{now}
 use lib.ListN.{take}
 use lib.Seq.{take-suc}
-use Rattle.simulate.proofs.Filling.{Filling, filling-none, filling-more, changedBelow, changed-here, same-so-far}
+use Rattle.laws.proofs.Filling.{Filling, filling-none, filling-more}
+use Rattle.simulate.proofs.Filling.{changedBelow, changed-here, same-so-far}
 use Rattle.simulate.proofs.round.copy_changed.Statement.{statement}
 use Rattle.simulate.proofs.round.copy_changed.Tie as tie
 

@@ -8,7 +8,7 @@ use lib.ListN.{getD}
 use Rattle.laws.specs.Lists.{tab}
 use Rattle.simulate.specs.Rounded.{gateCode}
 use Rattle.simulate.proofs.Codes.{roundCodes-tab}
-use Rattle.simulate.proofs.Filling.{Filling, filling-none, filling-more}
+use Rattle.laws.proofs.Filling.{Filling, filling-none, filling-more}
 use Rattle.simulate.proofs.round.round_into.Statement.{statement}
 use Rattle.simulate.proofs.round.round_into.Tie as tie
 

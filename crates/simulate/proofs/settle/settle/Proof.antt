@@ -1,39 +1,52 @@
 -- `simulate::settle::settle` meets its contract: the tests are the definition's conditions in its order, and then the rounds settle.
 -- Assumes nothing.
-use mathlib.Core.Path.{_≡_}
+use mathlib.Core.Path.{_≡_, _∙_}
 use mathlib.Core.Bool.{false}
+use mathlib.Core.List.{map}
 use denote.Ref.{now}
 use borrow.Author.Needs.{needs}
 use borrow.Author.Tests.{ltb-false}
 use lib.ListN.{length, getD}
 use lib.Dec.{ltb}
-use Rattle.netlist.specs.StoredBlock.{decode, torn}
-use Rattle.netlist.specs.Operations.{badSetting}
-use Rattle.block.proofs.Answered.{told-whole, told-torn}
-use Rattle.simulate.proofs.Told.{told-legal, told-bad, told-enough, told-short, when-refused, when-done}
-use Rattle.simulate.proofs.Outcomes.{settle-malformed, settle-setting, settle-room, settle-done}
+use Rattle.netlist.specs.declared.Refusal.the-variants.{MalformedBlock, BadSetting, NoRoom}
+use Rattle.netlist.specs.Values.{code, valueOf}
+use Rattle.netlist.specs.StoredBlock.{decode, isTorn}
+use Rattle.netlist.specs.Rounds.{rounds, settled}
+use Rattle.netlist.specs.Answers.{done, refuseIf, inRoom}
+use Rattle.netlist.specs.Operations.{isBadSetting, settleBlock, settle}
+use Rattle.refusals.proofs.Promised.{passed, passed-false, failed, keeps-room, bare, keeps-bare, finished}
+use Rattle.simulate.proofs.Outcomes.{settle-chain, settle-room}
 use Rattle.simulate.proofs.settle.settle.Statement.{statement}
 use Rattle.simulate.proofs.settle.settle.Tie as tie
 
--- the tests that were passed: from each the one before it, and the function's entry
-abbrev start : tie.After-enum-told → tie.Start
-start c = c .before .before .before .before .before .before
+-- the function's entry, and the tests that were passed before
+abbrev start : tie.After-check-words → tie.Start
+start c = c .before .before .before .before
 
-abbrev torn-test : tie.After-enum-told3 → tie.After-enum-told
-torn-test c = c .before .before .before
+abbrev words-test : tie.After-enum-told → tie.After-check-words
+words-test c = c .before .before
 
-abbrev setting-test : tie.After-enum-told5 → tie.After-enum-told3
-setting-test c = c .before .before .before .before
+abbrev setting-test : tie.After-enum-told3 → tie.After-test-setting
+setting-test c = c .before .before
 
--- what each says
-whole : (c : tie.After-enum-told) → torn (now (start c .args .words)) ≡ false
-whole c = told-whole _ (c .before .before .check-words .ensures) (c .enum-told .given .1)
+abbrev room-test : tie.After-enum-told5 → tie.After-test-room
+room-test c = c .before .before
 
-legal : (c : tie.After-enum-told3) → badSetting (decode (now (start (torn-test c) .args .words))) (now (start (torn-test c) .args .setting)) ≡ false
-legal c = told-legal _ (c .before .before .test-setting .ensures) (c .enum-told3 .given .1)
+-- what is left of the chain of conditions behind each
+behind-words : (c : tie.After-enum-told) → let a = start (words-test c) .args in
+    settle (now (a .words)) (now (a .setting)) (length (now (a .values)))
+    ≡ inRoom (length (now (a .values)))
+    (refuseIf (isBadSetting (decode (now (a .words))) (now (a .setting))) BadSetting (settleBlock (decode (now (a .words))) (map valueOf (now (a .setting)))))
+behind-words c = passed (inRoom _) (keeps-room _) _ _ MalformedBlock (settle-chain _ _ _) (words-test c .check-words .ensures) (c .enum-told .given .1)
 
-enough : (c : tie.After-enum-told5) → ltb (length (now (start (torn-test (setting-test c)) .args .values))) (getD (now (start (torn-test (setting-test c)) .args .words)) 1 0) ≡ false
-enough c = told-enough _ _ (c .before .before .before .gates-of .ensures) (c .before .before .test-room .ensures) (c .enum-told5 .given .1)
+behind-setting : (c : tie.After-enum-told3) → let a = start (words-test (setting-test c .before)) .args in
+    settle (now (a .words)) (now (a .setting)) (length (now (a .values)))
+    ≡ refuseIf (ltb (length (now (a .values))) (getD (now (a .words)) 1 0)) NoRoom
+    (done (map code (settled (decode (now (a .words))) (map valueOf (now (a .setting))))) (rounds (decode (now (a .words))) (map valueOf (now (a .setting)))) 0)
+behind-setting c =
+    let a = start (words-test (setting-test c .before)) .args in
+    passed (inRoom _) (keeps-room _) _ _ BadSetting (behind-words (setting-test c .before)) (setting-test c .test-setting .ensures) (c .enum-told3 .given .1)
+    ∙ settle-room (now (a .words)) (now (a .setting)) _
 
 check-words-requires : tie.Need-check-words-requires
 check-words-requires c κs = search needs
@@ -44,10 +57,14 @@ enum-told c = search needs
 enum-told-2 : tie.Need-enum-told-2
 enum-told-2 c = search needs
 
+refusal-requires : tie.Need-refusal-requires
+refusal-requires c κs = search needs
+
 returns : tie.Need-returns
 returns c =
-    let t = told-torn _ (c .before .before .check-words .ensures) (c .enum-told2 .given .1) in
-    when-refused (now (c .before .before .before .before .before .before .args .values)) (settle-malformed _ _ _ t)
+    let t = c .before .before .before in
+    failed (inRoom _) (keeps-room _) _ _ MalformedBlock (settle-chain _ _ _) (t .check-words .ensures) (now (start t .args .values))
+    (c .before .before .match .keys2) (c .refusal .ensures)
 
 test-setting-requires : tie.Need-test-setting-requires
 test-setting-requires c κs = search needs
@@ -58,11 +75,14 @@ enum-told-3 c = search needs
 enum-told-4 : tie.Need-enum-told-4
 enum-told-4 c = search needs
 
+refusal-requires-2 : tie.Need-refusal-requires-2
+refusal-requires-2 c κs = search needs
+
 returns-2 : tie.Need-returns-2
 returns-2 c =
-    let passed = c .before .before .before in
-    let t = told-bad _ (c .before .before .test-setting .ensures) (c .enum-told4 .given .1) in
-    when-refused (now (start passed .args .values)) (settle-setting _ _ _ (whole passed) t)
+    let t = c .before .before .before in
+    failed (inRoom _) (keeps-room _) _ _ BadSetting (behind-words (t .before)) (t .test-setting .ensures) (now (start (words-test (t .before)) .args .values))
+    (c .before .before .match2 .keys2) (c .refusal2 .ensures)
 
 gates-of-requires : tie.Need-gates-of-requires
 gates-of-requires c κs = search needs
@@ -76,24 +96,35 @@ enum-told-5 c = search needs
 enum-told-6 : tie.Need-enum-told-6
 enum-told-6 c = search needs
 
+refusal-requires-3 : tie.Need-refusal-requires-3
+refusal-requires-3 c κs = search needs
+
 returns-3 : tie.Need-returns-3
 returns-3 c =
-    let passed = c .before .before .before .before in
-    let t = told-short _ _ (c .before .before .before .gates-of .ensures) (c .before .before .test-room .ensures) (c .enum-told6 .given .1) in
-    when-refused (now (start (torn-test passed) .args .values)) (settle-room _ _ _ (whole (torn-test passed)) (legal passed) t)
+    let t = c .before .before .before in
+    let a = start (words-test (setting-test (t .before .before) .before)) .args in
+    failed bare keeps-bare _ _ NoRoom (behind-setting (t .before .before)) (rw (← t .before .gates-of .ensures) (t .test-room .ensures)) (now (a .values))
+    (c .before .before .match3 .keys2) (c .refusal3 .ensures)
 
 settle-into-requires : tie.Need-settle-into-requires
-settle-into-requires c κs = (whole (torn-test (setting-test (c .before))), ltb-false _ _ (enough (c .before)))
+settle-into-requires c κs =
+    let t = c .before in
+    let w = words-test (setting-test (room-test t .before .before) .before) in (
+      passed-false _ MalformedBlock (w .check-words .ensures) (setting-test (room-test t .before .before) .before .enum-told .given .1),
+      ltb-false _ _ (passed-false _ NoRoom (rw (← room-test t .before .gates-of .ensures) (room-test t .test-room .ensures)) (t .enum-told5 .given .1)),
+    )
 
 same-length : tie.Need-same-length
 same-length c = search needs
 
 returns-4 : tie.Need-returns-4
 returns-4 c =
-    let passed = c .before .before .before .before in
+    let t = c .before .before .before .before in
     let d = c .before .before .settle-into .ensures in
-    when-done (now (start (torn-test (setting-test passed)) .args .values))
-    (settle-done _ _ _ (whole (torn-test (setting-test passed))) (legal (setting-test passed)) (enough passed)) (d .reported) (d .values)
+    finished
+    (passed bare keeps-bare _ _ NoRoom (behind-setting (room-test t .before .before))
+    (rw (← room-test t .before .gates-of .ensures) (room-test t .test-room .ensures)) (t .enum-told5 .given .1))
+    (d .reported) (d .values)
 
 pub settle-spec : {M : Type 1} → statement M
 settle-spec =
@@ -102,15 +133,18 @@ settle-spec =
     check-words-requires
     enum-told
     enum-told-2
+    refusal-requires
     returns
     test-setting-requires
     enum-told-3
     enum-told-4
+    refusal-requires-2
     returns-2
     gates-of-requires
     test-room-requires
     enum-told-5
     enum-told-6
+    refusal-requires-3
     returns-3
     settle-into-requires
     same-length

@@ -5,7 +5,7 @@ use native.Mathlib.Omega.{arith}
 use denote.Ref.{now}
 use lib.ListN.{getD}
 use lib.Seq.{length-take-le}
-use Rattle.simulate.proofs.Filling.{Filling, filling-none, filling-more}
+use Rattle.laws.proofs.Filling.{Filling, filling-none, filling-more}
 use Rattle.simulate.proofs.Sweeps.{swept, swept-more, swept-all}
 use Rattle.simulate.proofs.sweep.sweep_gates.Statement.{statement}
 use Rattle.simulate.proofs.sweep.sweep_gates.Tie as tie

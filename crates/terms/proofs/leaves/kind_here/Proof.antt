@@ -18,16 +18,27 @@ byte-at-requires-2 : tie.Need-byte-at-requires-2
 byte-at-requires-2 c κs = search needs
 
 returns-3 : tie.Need-returns-3
-returns-3 c = kind-nand (c .before .before .before .before .before .before .args .s .now) (λ e. c .before .before .before .if1 .left (c .before .before .before .before .byte-at .ensures ∙ e)) (λ e. c .before .before .if2 .left (c .before .before .before .before .byte-at .ensures ∙ e)) (sym (c .before .byte-at2 .ensures) ∙ c .if3 .taken)
+returns-3 c =
+    kind-nand (c .before .before .before .before .before .before .args .s .now)
+    (λ e. c .before .before .before .if1 .left (c .before .before .before .before .byte-at .ensures ∙ e))
+    (λ e. c .before .before .if2 .left (c .before .before .before .before .byte-at .ensures ∙ e)) (sym (c .before .byte-at2 .ensures) ∙ c .if3 .taken)
 
 byte-at-requires-3 : tie.Need-byte-at-requires-3
 byte-at-requires-3 c κs = search needs
 
 returns-4 : tie.Need-returns-4
-returns-4 c = kind-not (c .before .before .before .before .before .before .before .before .args .s .now) (λ e. c .before .before .before .before .before .if1 .left (c .before .before .before .before .before .before .byte-at .ensures ∙ e)) (λ e. c .before .before .before .before .if2 .left (c .before .before .before .before .before .before .byte-at .ensures ∙ e)) (λ e. c .before .before .if3 .left (c .before .before .before .byte-at2 .ensures ∙ e)) (sym (c .before .byte-at3 .ensures) ∙ c .if4 .taken)
+returns-4 c =
+    kind-not (c .before .before .before .before .before .before .before .before .args .s .now)
+    (λ e. c .before .before .before .before .before .if1 .left (c .before .before .before .before .before .before .byte-at .ensures ∙ e))
+    (λ e. c .before .before .before .before .if2 .left (c .before .before .before .before .before .before .byte-at .ensures ∙ e))
+    (λ e. c .before .before .if3 .left (c .before .before .before .byte-at2 .ensures ∙ e)) (sym (c .before .byte-at3 .ensures) ∙ c .if4 .taken)
 
 returns-5 : tie.Need-returns-5
-returns-5 c = kind-nor (c .before .before .before .before .before .before .before .before .args .s .now) (λ e. c .before .before .before .before .before .if1 .left (c .before .before .before .before .before .before .byte-at .ensures ∙ e)) (λ e. c .before .before .before .before .if2 .left (c .before .before .before .before .before .before .byte-at .ensures ∙ e)) (λ e. c .before .before .if3 .left (c .before .before .before .byte-at2 .ensures ∙ e)) (λ e. c .if4 .left (c .before .byte-at3 .ensures ∙ e))
+returns-5 c =
+    kind-nor (c .before .before .before .before .before .before .before .before .args .s .now)
+    (λ e. c .before .before .before .before .before .if1 .left (c .before .before .before .before .before .before .byte-at .ensures ∙ e))
+    (λ e. c .before .before .before .before .if2 .left (c .before .before .before .before .before .before .byte-at .ensures ∙ e))
+    (λ e. c .before .before .if3 .left (c .before .before .before .byte-at2 .ensures ∙ e)) (λ e. c .if4 .left (c .before .byte-at3 .ensures ∙ e))
 
 pub kind-here-spec : {M : Type 1} → statement M
 kind-here-spec =

@@ -1,16 +1,27 @@
--- `terms::leaves::word_length` meets its contract. Assumes nothing.
-use Rattle.terms.proofs.Fronts.{length-two, length-three, length-four}
+-- `terms::leaves::word_length` meets its contract: the keyword of the kind's signature, without the zeros at its end. Assumes nothing.
+use mathlib.Core.Path.{ap}
+use borrow.Author.Needs.{needs}
+use Rattle.netlist.specs.declared.Signature.{Signature}
+use Rattle.terms.proofs.Fronts.{word-read}
 use Rattle.terms.proofs.leaves.word_length.Statement.{statement}
 use Rattle.terms.proofs.leaves.word_length.Tie as tie
 
+signature-of-requires : tie.Need-signature-of-requires
+signature-of-requires c κs = search needs
+
+slice-aggregate-trimmed-length : tie.Need-slice-aggregate-trimmed-length
+slice-aggregate-trimmed-length c = search needs
+
+trimmed-length-requires : tie.Need-trimmed-length-requires
+trimmed-length-requires c κs = search needs
+
 returns : tie.Need-returns
-returns c = length-two (c .before .args .kind) (c .if1 .taken)
-
-returns-2 : tie.Need-returns-2
-returns-2 c = length-four (c .before .before .args .kind) (c .before .if1 .left) (c .if2 .taken)
-
-returns-3 : tie.Need-returns-3
-returns-3 c = length-three (c .before .before .args .kind) (c .before .if1 .left) (c .if2 .left)
+returns c =
+    let r = c .trimmed-length in
+    let read = c .before .before .before in
+    word-read (read .before .args .kind) (r .result) _ (ap (λ (s : Signature). s .keyword) (read .signature-of .ensures)) (r .ensures .0) (r .ensures .1)
 
 pub word-length-spec : {M : Type 1} → statement M
-word-length-spec = tie.close (tie.spec returns returns-2 returns-3)
+word-length-spec =
+    tie.close
+    (tie.spec signature-of-requires slice-aggregate-trimmed-length trimmed-length-requires returns)

@@ -1,0 +1,3 @@
+-- Laws on what the readers find that belong to no one function.
+pub mod TrimmedLaws
+pub mod KindLaws

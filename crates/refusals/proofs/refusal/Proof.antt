@@ -1,0 +1,23 @@
+-- `refusals::refusal` meets its contract. Assumes nothing.
+use mathlib.Core.Path.{sym, ap}
+use borrow.Author.Needs.{needs}
+use Rattle.netlist.specs.Answers.{refusalOf}
+use Rattle.refusals.proofs.refusal.Statement.{statement}
+use Rattle.refusals.proofs.refusal.Tie as tie
+
+enum-known-test : tie.Need-enum-known-test
+enum-known-test c = search needs
+
+enum-told : tie.Need-enum-told
+enum-told c = search needs
+
+returns : tie.Need-returns
+unfolding refusalOf
+returns c = sym (ap refusalOf (c .before .test .given .1))
+
+returns-2 : tie.Need-returns-2
+unfolding refusalOf
+returns-2 c = sym (ap refusalOf (c .enum-told .given .1))
+
+pub refusal-spec : {M : Type 1} → statement M
+refusal-spec = tie.close (tie.spec enum-known-test enum-told returns returns-2)

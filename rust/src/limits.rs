@@ -1,0 +1,27 @@
+//! Every limit of a text and a block, and with it the room that is enough for any result.
+
+/// The longest text, in bytes.
+pub const TEXT_BYTES: usize = 61_440;
+/// The most inputs of a block.
+pub const INPUTS: usize = 10;
+/// The most gates of a block, and so of a rendering.
+pub const GATES: usize = 1_024;
+/// The most outputs of a block.
+pub const OUTPUTS: usize = 16;
+
+/// The words that a stored block begins with: the counts of inputs, gates and outputs.
+pub const HEAD_WORDS: usize = 3;
+/// The words of a stored name, two bytes each.
+pub const NAME_WORDS: usize = 4;
+/// The words of a stored gate: its kind and operand count, and four operands.
+pub const GATE_WORDS: usize = 5;
+/// The words of a stored output: its port's name and its node.
+pub const OUTPUT_WORDS: usize = NAME_WORDS + 1;
+
+/// The longest stored block, in words.
+pub const BLOCK_WORDS: usize =
+    HEAD_WORDS + NAME_WORDS * INPUTS + GATE_WORDS * GATES + OUTPUT_WORDS * OUTPUTS;
+/// The longest text that is written, in bytes.
+pub const WRITTEN_BYTES: usize = 56_758;
+/// Room for every cover, in words: two for each partial assignment, where an input is free, 0 or 1.
+pub const COVER_WORDS: usize = 2 * 3_usize.pow(INPUTS as u32);

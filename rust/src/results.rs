@@ -1,0 +1,61 @@
+//! What the operations on a block tell.
+
+use crate::Value;
+
+/// How many settings of the inputs are settled, of all 2^n.
+#[derive(Debug, Clone, Copy, PartialEq, Eq)]
+pub struct Verdict {
+    /// The settled settings.
+    pub settled: usize,
+    /// The lowest setting that isn't settled; input i has weight 2^i.
+    pub lowest_unsettled: Option<usize>,
+}
+
+impl Verdict {
+    /// Whether every setting is settled.
+    pub fn is_sound(self) -> bool {
+        self.lowest_unsettled.is_none()
+    }
+}
+
+/// A partial assignment of the inputs: bit i is for input i.
+#[derive(Debug, Clone, Copy, PartialEq, Eq, Hash)]
+pub struct Assignment {
+    /// The inputs that it fixes.
+    pub fixed: u16,
+    /// Those that it fixes at 1.
+    pub ones: u16,
+}
+
+impl Assignment {
+    /// What it fixes an input at.
+    pub fn value(self, input: usize) -> Option<bool> {
+        let bit = |mask: u16| usize::from(mask) >> input & 1 == 1;
+        bit(self.fixed).then(|| bit(self.ones))
+    }
+}
+
+/// The strongly connected groups of a block's gates, in the order in which they can be rendered.
+#[derive(Debug, Clone, PartialEq, Eq)]
+pub struct Groups {
+    /// How many there are.
+    pub count: usize,
+    /// The group's number of each gate.
+    pub of_gates: Vec<u16>,
+}
+
+/// What a block settles to under a setting.
+#[derive(Debug, Clone, PartialEq, Eq)]
+pub struct Settled {
+    /// The value of each gate.
+    pub values: Vec<Value>,
+    /// The rounds that changed something.
+    pub rounds: usize,
+}
+
+impl Settled {
+    /// Whether no gate's value is undefined.
+    pub fn is_defined(&self) -> bool {
+        !self.values.contains(&Value::Undefined)
+    }
+}

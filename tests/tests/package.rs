@@ -1,0 +1,110 @@
+//! The Rust package's `Block` tells what the simulator tells, on generated texts and blocks.
+
+use simulator::generate::{
+    for_blocks, for_texts, for_typical_blocks, large, malformed, spoiled, widest_cover, Random,
+    Report, Size,
+};
+use simulator::{cover, groups, pass, read, render, settle, verdict, write, Answer};
+use unloop::{Block, Refusal, Value};
+
+/// As the simulator tells a count and a result, or a refusal.
+fn told<T>(outcome: Result<(usize, Vec<T>), Refusal>) -> (Answer, Vec<T>) {
+    match outcome {
+        Ok((count, result)) => (Answer::success(count), result),
+        Err(refusal) => {
+            let detail = refusal.place().or(refusal.setting());
+            let answer = Answer::refusal(refusal.number(), detail.unwrap_or(0));
+            (answer, Vec::new())
+        }
+    }
+}
+
+fn same_text(text: &[u8]) {
+    let _report = Report(|| format!("read of {}", text.escape_ascii()));
+    let words = Block::read(text).map(|block| block.words().to_vec());
+    let words = words.map(|words| (words.len(), words));
+    assert_eq!(told(words), read(text, usize::MAX));
+}
+
+fn same_verdict(block: &Block) {
+    let found = block.verdict();
+    let all = 1 << block.inputs();
+    let answer = Answer {
+        detail: found.lowest_unsettled.unwrap_or(all),
+        ..Answer::success(found.settled)
+    };
+    assert_eq!(answer, verdict(block.words()));
+    assert_eq!(found.is_sound(), found.settled == all);
+}
+
+fn same_results(block: &Block) {
+    let words = block.words();
+    let text = block.write().into_bytes();
+    assert_eq!(told(Ok((text.len(), text))), write(words, usize::MAX));
+    let entries = block.cover();
+    let pairs = entries.iter().flat_map(|entry| [entry.fixed, entry.ones]);
+    let entries = (entries.len(), pairs.collect());
+    assert_eq!(told(Ok(entries)), cover(words, usize::MAX));
+    let found = block.groups();
+    let found = (found.count, found.of_gates);
+    assert_eq!(told(Ok(found)), groups(words, usize::MAX));
+    let rendered = block.render().map(|rendered| rendered.words().to_vec());
+    let rendered = rendered.map(|words| (words.len(), words));
+    assert_eq!(told(rendered), render(words, usize::MAX));
+}
+
+fn same_values(block: &Block, setting: &[Value]) {
+    let codes = |values: &[Value]| -> Vec<u8> { values.iter().map(|&value| value as u8).collect() };
+    let (words, bytes) = (block.words(), codes(setting));
+    let settled = block.settle(setting);
+    let settled = settled.map(|settled| (settled.rounds, codes(&settled.values)));
+    assert_eq!(told(settled), settle(words, &bytes, usize::MAX));
+    let swept = block.pass(setting);
+    let swept = swept.map(|values| (values.len(), codes(&values)));
+    assert_eq!(told(swept), pass(words, &bytes, usize::MAX));
+}
+
+/// Any words, a block's or not.
+fn same_words(random: &mut Random, words: &[u16]) {
+    let answer = verdict(words);
+    let block = match Block::from_words(words) {
+        Ok(block) => block,
+        Err(refusal) => return assert_eq!(told::<u16>(Err(refusal)).0, answer),
+    };
+    same_verdict(&block);
+    same_results(&block);
+    same_values(&block, &block.setting(random.below(1 << block.inputs())));
+    same_values(&block, &vec![Value::Undefined; block.inputs()]);
+    same_values(&block, &vec![Value::One; block.inputs() + 1]);
+}
+
+#[test]
+fn texts() {
+    for_texts(0..400, Size::SMALL, |random, text, _| {
+        same_text(text);
+        same_text(&spoiled(random, text));
+    });
+}
+
+#[test]
+fn blocks() {
+    for_blocks(0..200, Size::SMALL, |random, _, w| same_words(random, w));
+    for_typical_blocks(0..10, |random, _, words| same_words(random, words));
+    same_words(&mut Random::new(0), &widest_cover().to_words());
+    for (name, block) in large() {
+        let _report = Report(|| name.to_string());
+        let block = Block::from_words(block.to_words()).unwrap();
+        same_values(&block, &block.setting(0));
+    }
+}
+
+#[test]
+fn malformed_words() {
+    for_blocks(0..10, Size::SMALL, |random, block, _| {
+        for (rule, words) in malformed(random, block) {
+            let _report = Report(|| format!("{rule}, {words:?}"));
+            assert_eq!(Block::from_words(&words[..]), Err(Refusal::MalformedBlock));
+            same_words(random, &words);
+        }
+    });
+}
