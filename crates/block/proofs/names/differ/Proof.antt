@@ -34,8 +34,10 @@ add-is-same-2 c =
 
 is-same-requires : tie.Need-is-same-requires
 is-same-requires c κs =
-    let a = c .before .args in
-    (place-le (a .at) (a .size) (a .i) (search needs) (search needs) (search needs), place-le (a .at) (a .size) (a .j) (search needs) (search needs) (search needs))
+    let a = c .before .args in (
+      place-le (a .at) (a .size) (a .i) (search needs) (search needs) (search needs),
+      place-le (a .at) (a .size) (a .j) (search needs) (search needs) (search needs),
+    )
 
 returns : tie.Need-returns
 returns c = ap not (c .is-same .ensures)

@@ -40,9 +40,10 @@ read c = rw (← c .before .word-at .ensures) (sym (c .operand-value .ensures))
 
 returns : tie.Need-returns Inv-loop μ-loop
 returns c =
-    let a = c .before .before .before .before .before .before .before .before .args in
+    let met = c .before .before .before .before in
+    let a = met .before .before .before .before .args in
     let v = valueFrom (now (a .words)) (a .n) (a .from) (now (a .inputs)) (now (a .gates)) in
-    parity-undefined v (a .count) (c .before .before .before .before .loop .place) (omega arith) (read (c .before) ∙ c .if1 .taken)
+    parity-undefined v (a .count) (met .loop .place) (omega arith) (read (c .before) ∙ c .if1 .taken)
 
 add-odd : tie.Need-add-odd Inv-loop μ-loop
 add-odd c =
