@@ -1,4 +1,4 @@
-/* Calls every function of include/unloop.h on document 01's specimens 4, 5, 6 and 9, and says where an answer is another. */
+/* Calls every function of include/unloop.h on worked examples of docs/SPECIFICATION.md, and says where an answer is another. */
 #include "unloop.h"
 #include <stdio.h>
 #include <string.h>

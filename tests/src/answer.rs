@@ -1,4 +1,4 @@
-//! The three numbers each operation answers, and document 01's table of refusals.
+//! The three numbers each operation answers, and the table of refusals (SPECIFICATION 7.2).
 
 /// The number (0 on success), the count and the detail of an answer.
 #[derive(Debug, Clone, Copy, PartialEq, Eq)]
@@ -8,27 +8,27 @@ pub struct Answer {
     pub detail: usize,
 }
 
-/// Document 01's word: overlong.
+/// The trade's word: overlong.
 pub const TEXT_TOO_LONG: usize = 1;
-/// Document 01's word: form.
+/// The trade's word: form.
 pub const SYNTAX_ERROR: usize = 2;
-/// Document 01's word: crowded.
+/// The trade's word: crowded.
 pub const OVER_A_LIMIT: usize = 3;
-/// Document 01's word: twice.
+/// The trade's word: twice.
 pub const DUPLICATE_DECLARATION: usize = 4;
-/// Document 01's word: unknown.
+/// The trade's word: unknown.
 pub const UNDECLARED_NAME: usize = 5;
-/// Document 01's word: torn.
+/// The trade's word: torn.
 pub const MALFORMED_BLOCK: usize = 6;
-/// Document 01's word: setting.
+/// The trade's word: setting.
 pub const BAD_SETTING: usize = 7;
-/// Document 01's word: swollen.
+/// The trade's word: swollen.
 pub const TOO_MANY_COPIES: usize = 8;
-/// Document 01's word: undecided.
+/// The trade's word: undecided.
 pub const NOT_SETTLED: usize = 9;
-/// Document 01's word: looped.
+/// The trade's word: looped.
 pub const NOT_STRAIGHT: usize = 10;
-/// Document 01's word: short.
+/// The trade's word: short.
 pub const NO_ROOM: usize = 11;
 
 impl Answer {
@@ -41,7 +41,7 @@ impl Answer {
         }
     }
 
-    /// A refusal, with a detail (0 where document 01 states none).
+    /// A refusal, with a detail (0 where none is stated).
     pub fn refusal(number: usize, detail: usize) -> Answer {
         Answer {
             number,

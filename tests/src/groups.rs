@@ -1,4 +1,4 @@
-//! Groups: strongly connected gates by Tarjan's algorithm, then numbered by document 01's rule.
+//! Groups: strongly connected gates by Tarjan's algorithm, then numbered by the rule of SPECIFICATION 5.
 
 use crate::answer::{told, Answer, Outcome};
 use crate::block::Block;

@@ -1,4 +1,4 @@
-//! A second, independent program for every operation of document 01, to compare the proved one with.
+//! A second, independent program for every operation of docs/SPECIFICATION.md, to compare the proved one with.
 //! Written from the papers only, in plain safe Rust, and in other ways than the definitions go.
 //! A block is lent as its words; `room` is the length of the slice for the result.
 //! `generate` makes the input, `compare` compares the two programs on it; nothing else here calls the proved one.

@@ -1,4 +1,4 @@
-//! Every limit of document 01, by name.
+//! Every limit (SPECIFICATION 1.5), by name.
 
 /// The longest text, in bytes.
 pub const TEXT_BYTES: usize = 61_440;

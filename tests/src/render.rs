@@ -77,7 +77,7 @@ impl Layout {
         }
     }
 
-    /// The rendering that document 01 defines, whether or not the block is sound.
+    /// The rendering of SPECIFICATION 6.1, whether or not the block is sound.
     fn rendering(&self, block: &Block) -> Block {
         let mut gates = Vec::with_capacity(self.copies);
         for group in &self.groups {

@@ -1,4 +1,4 @@
-//! Rounds, all gates at once, with each kind's value as document 01 states it. Kept apart from values.rs.
+//! Rounds, all gates at once, with each kind's value as SPECIFICATION 3.2 states it. Kept apart from values.rs.
 
 use crate::block::{Block, Kind, Source};
 

@@ -1,4 +1,4 @@
-//! The texts of document 01's specimens.
+//! The texts of the specimens (SPECIFICATION 9).
 
 use crate::limits::BLOCK_WORDS;
 use crate::read;

@@ -1,4 +1,4 @@
-//! The simulator's own ways against plain transcriptions of document 01's definitions.
+//! The simulator's own ways against plain transcriptions of the definitions of docs/SPECIFICATION.md.
 
 use simulator::block::{Block, Gate, Kind, Output, Source};
 use simulator::generate::{for_blocks, Random, Size};

@@ -1,4 +1,4 @@
-//! Document 01's claims on generated blocks.
+//! The claims of docs/SPECIFICATION.md on generated blocks.
 
 mod common;
 

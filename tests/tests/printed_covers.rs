@@ -88,7 +88,7 @@ fn first_step(circuit: &str, names: &str, gates: &str, rows: &[Row]) {
     }
 }
 
-/// 000, Figure 1: the gates are document 01's specimen 4. Printed: both entries, and "unless a = 1 and b = 0".
+/// 000, Figure 1: the gates are specimen 4's. Printed: both entries, and "unless a = 1 and b = 0".
 #[test]
 fn figure_1_of_000() {
     let list = [1, 0, 2, 2];

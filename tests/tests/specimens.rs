@@ -1,4 +1,4 @@
-//! Document 01's specimens 1 to 9, starred or not, whole.
+//! Specimens 1 to 9 (SPECIFICATION 9), starred or not, whole.
 
 mod common;
 

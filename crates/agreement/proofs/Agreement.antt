@@ -1,18 +1,23 @@
--- Demand 3: every gate whose settled value is 0 or 1 has it at its last copy, in every block and under every setting; so the outputs agree
--- wherever the setting is settled, and in a sound block under every setting. Render's code cites it. Assumes nothing.
+-- A rendering computes what the original settles to.
+--   schedule-above        after a run along the schedule every gate is above its settled value
+--   agreement             a gate whose settled value is 0 or 1 has it at its last copy, in every block and under every setting
+--   outputs-agree         under a settled setting the outputs' values are the original's
+--   sound-outputs-agree   in a sound block under every setting
+-- Assumes nothing.
 use Prim.Native.Nat.{ℕ, zero, suc, _≤_, _<_}
-use mathlib.Core.Path.{_≡_, refl, sym, ap, _∙_}
+use mathlib.Core.Path.{_≡_, refl, sym, ap, ap₂, _∙_}
 use mathlib.Core.Bool.{true, false, false≢true}
-use mathlib.Core.List.{List, [], _++_}
+use mathlib.Core.List.{List, [], _∷_, _++_, map}
 use native.Mathlib.Omega.{arith}
 use borrow.Author.Tests.{ltb-true}
 use lib.ListN.{length, getD, take, replicate, length-replicate}
 use lib.Seq.{take-suc, take-length}
-use Rattle.laws.specs.Lists.{joined}
+use Rattle.laws.specs.Lists.{all, joined}
+use Rattle.laws.proofs.Tests.{and-left, and-right}
 use Rattle.laws.proofs.Quantifiers.{all-at}
 use Rattle.laws.proofs.Lists.{joined-snoc, member-cases, member-right}
 use Rattle.netlist.specs.Values.{Value, undefined, val, isDefined}
-use Rattle.netlist.specs.Netlist.{Operand, input, gate, constant, Output, Block, inputCount, gateCount, outputCount}
+use Rattle.netlist.specs.Netlist.{Operand, input, gate, constant, Output, Block, inputCount, gateCount}
 use Rattle.netlist.specs.StoredBlock.{isNode, isWellFormed}
 use Rattle.netlist.specs.Rounds.{operandValue, outputValue, settled, settingOf, settingCount, settledUnder, isSettled}
 use Rattle.netlist.specs.Cover.{isSound}
@@ -31,7 +36,6 @@ use Rattle.reach.proofs.Inside.{wellFormed-inside}
 use Rattle.reach.proofs.Order.{groups-all, groups-numbered, groups-closed}
 use Rattle.agreement.specs.Copies.{scheduleOf, groupAt, gatesBefore}
 use Rattle.agreement.proofs.Schedule.{scheduleOf-take, scheduleOf-all}
-use Rattle.agreement.proofs.Block.{rendering-node}
 use Rattle.agreement.proofs.Sound.{sound-settledAt}
 use Rattle.agreement.proofs.Run.{lastCopy-value}
 
@@ -92,19 +96,33 @@ module _ (b : Block) where
         (below-defined (getD (settled b x) j undefined) (operandValue x (sweep (rendering b) x) (getD (lastCopies b) j (constant false)))
         (agreement (wellFormed-inside b w) x j l) (all-at isDefined (settled b x) j undefined h (rw (length-settled b x) l)))
 
-  -- Under a settled setting each output has, read from a sweep of the rendering, the value of the original's output of the same number.
-  pub outputs-agree : isWellFormed b ≡ true → (s : ℕ) → isSettled b s ≡ true → (o : ℕ) (d e : Output) → o < outputCount b
-      → outputValue (settingOf (inputCount b) s) (sweep (rendering b) (settingOf (inputCount b) s)) (getD (rendering b .outputs) o d)
-      ≡ outputValue (settingOf (inputCount b) s) (settled b (settingOf (inputCount b) s)) (getD (b .outputs) o e)
-  unfolding outputValue x
-  outputs-agree w s h o d e l =
-      rw (rendering-node b o d e l)
-      (node-agrees w s h (getD (b .outputs) o e .node)
-      (all-at (λ o. isNode b (o .node)) (b .outputs) o e (wellFormed-parts b w .nodesThere) l))
+  -- what an output of the rendering shows
+  shown : Output → Output
+  shown o = record { port = o .port; node = copiedOperand (lastCopies b) (o .node) }
 
-  -- Demand 3: in a sound block the outputs agree under every setting.
-  pub sound-outputs-agree : isWellFormed b ≡ true → isSound b ≡ true → (s : ℕ) → s < settingCount b → (o : ℕ) (d e : Output) → o < outputCount b
-      → outputValue (settingOf (inputCount b) s) (sweep (rendering b) (settingOf (inputCount b) s)) (getD (rendering b .outputs) o d)
-      ≡ outputValue (settingOf (inputCount b) s) (settledUnder b s) (getD (b .outputs) o e)
+  rendering-shown : rendering b .outputs ≡ map shown (b .outputs)
+  unfolding rendering shown
+  rendering-shown = refl
+
+  -- Under a settled setting the outputs' values, read from a sweep of the rendering, are the original's, output by output.
+  pub outputs-agree : isWellFormed b ≡ true → (s : ℕ) → isSettled b s ≡ true → let x = settingOf (inputCount b) s in
+      map (outputValue x (sweep (rendering b) x)) (rendering b .outputs) ≡ map (outputValue x (settled b x)) (b .outputs)
+  unfolding outputValue x shown
+  outputs-agree w s h =
+      ap (map (outputValue (settingOf (inputCount b) s) (sweep (rendering b) (settingOf (inputCount b) s)))) rendering-shown
+      ∙ go (b .outputs) (wellFormed-parts b w .nodesThere)
+    where
+      go : (os : List Output) → all (λ (o : Output). isNode b (o .node)) os ≡ true
+          → map (outputValue (settingOf (inputCount b) s) (sweep (rendering b) (settingOf (inputCount b) s))) (map shown os)
+          ≡ map (outputValue (settingOf (inputCount b) s) (settled b (settingOf (inputCount b) s))) os
+      go [] k = refl
+      go (o ∷ os) k =
+          ap₂ (λ (v : Value) (vs : List Value). v ∷ vs)
+          (node-agrees w s h (o .node) (and-left (isNode b (o .node)) (all (λ (o : Output). isNode b (o .node)) os) k))
+          (go os (and-right (isNode b (o .node)) (all (λ (o : Output). isNode b (o .node)) os) k))
+
+  -- In a sound block they are under every setting.
+  pub sound-outputs-agree : isWellFormed b ≡ true → isSound b ≡ true → (s : ℕ) → s < settingCount b → let x = settingOf (inputCount b) s in
+      map (outputValue x (sweep (rendering b) x)) (rendering b .outputs) ≡ map (outputValue x (settledUnder b s)) (b .outputs)
   unfolding settledUnder
-  sound-outputs-agree w h s l o d e k = outputs-agree w s (sound-settledAt b h s l) o d e k
+  sound-outputs-agree w h s l = outputs-agree w s (sound-settledAt b h s l)

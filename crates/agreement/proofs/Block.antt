@@ -1,5 +1,10 @@
 -- The rendering as a block: it is straight, has as many gates as there are copies, the original's inputs and ports, and is well-formed where
--- the original is and there is room. Render's code cites it. Assumes nothing.
+-- the original is and there is room. Render's code cites it.
+--   rendering-count, rendering-inputs, rendering-ports   gates are copies; names are kept
+--   rendering-straight             it is straight
+--   lastCopies-*, rendering-node   what stands for each gate in the end, and what outputs show
+--   rendering-wellFormed           it is well-formed
+-- Assumes nothing.
 use Prim.Native.Nat.{ℕ, _+_, _≤_, _<_}
 use mathlib.Core.Path.{_≡_, refl, sym, ap, _∙_}
 use mathlib.Core.Bool.{true, false, false≢true, _&&_}
@@ -25,7 +30,8 @@ use Rattle.reach.specs.Inside.{Inside}
 use Rattle.reach.proofs.Inside.{wellFormed-inside}
 use Rattle.reach.proofs.ListFacts.{all-intro}
 use Rattle.agreement.specs.Copies.{IsCopy, AreCopies, newestAt}
-use Rattle.agreement.proofs.Copies.{noCopies-areCopies, length-noCopies, length-newestAfter, newestAfter-areCopies, newestAfter-copied, length-copies, getD-copies, copied-reads}
+use Rattle.agreement.proofs.Copies.{noCopies-areCopies, length-noCopies, length-newestAfter, newestAfter-areCopies, newestAfter-copied}
+use Rattle.agreement.proofs.Copies.{length-copies, getD-copies, copied-reads}
 use Rattle.agreement.proofs.Schedule.{length-schedule, member-schedule, schedule-below}
 
 module _ (b : Block) where

@@ -1,5 +1,10 @@
 -- Copies of a list of gates, and what stands for each gate after them: over a list and then another, their number, kinds, operand
--- counts and operands. Render's code and every other file of this crate cite it. Assumes nothing.
+-- counts and operands. Render's code and every other file of this crate cite it.
+--   newestAfter-*                             what stands for each gate, after a list and another
+--   copies-append, copies-snoc, getD-copies   the copies of a list
+--   copied-kind, length-copied, getD-copied   a copy's kind and operands
+--   copied-reads                              it reads earlier copies only
+-- Assumes nothing.
 use Prim.Native.Nat.{ℕ, zero, suc, _+_, _≤_, _<_}
 use mathlib.Core.Path.{_≡_, refl, ap, _∙_}
 use mathlib.Core.Logic.{_⊎_, inl, inr, ⊎-elim}

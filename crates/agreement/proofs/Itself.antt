@@ -1,4 +1,7 @@
--- "a straight block renders to itself": the record itself, so its words and its text too. Assumes nothing.
+-- A straight block renders to itself: the record itself, so its words and its text too.
+--   rendering-itself         a straight block
+--   rendering-itself-words   its words
+-- Assumes nothing.
 use Prim.Native.Nat.{ℕ, zero, suc, _≤_, _<_}
 use mathlib.Core.Path.{_≡_, refl, sym, ap, _∙_}
 use mathlib.Core.Logic.{⊎-elim}

@@ -1,5 +1,8 @@
 -- A sweep of the copies is the run of single steps along the schedule over the state that holds, for each gate, the value of its newest
--- copy, and 0 where it has none. The agreement cites it. Assumes nothing.
+-- copy, and 0 where it has none. The agreement cites it.
+--   evaluated-copied               a copy is evaluated as its gate is
+--   sweep-is-run, lastCopy-value   the sweep is the run, and a last copy has the run's value
+-- Assumes nothing.
 use Prim.Native.Nat.{ℕ, suc, _+_, _<_}
 use mathlib.Core.Path.{_≡_, refl, sym, ap, _∙_}
 use mathlib.Core.Bool.{true, false}

@@ -1,5 +1,10 @@
 -- The order of copying: over the first groups and one more, its length, and the gates in it. Render's code, the number of copies and the
--- agreement cite it. Assumes nothing.
+-- agreement cite it.
+--   length-passes, member-passes   the passes over one group
+--   scheduleOf-*                   over the first groups, and one more
+--   schedule-is, length-schedule, member-schedule, schedule-below   the whole order
+--   schedule-straight              a straight block's
+-- Assumes nothing.
 use Prim.Native.Nat.{ℕ, zero, suc, _≤_, _<_}
 use mathlib.Core.Path.{_≡_, refl, sym, ap, _∙_}
 use mathlib.Core.Logic.{⊎-elim}

@@ -1,4 +1,7 @@
--- In a sound block every setting is settled. Render's code and the agreement cite it. Assumes nothing.
+-- In a sound block every setting is settled. Render's code and the agreement cite it.
+--   sound-settledAt, settledAt-sound   sound exactly when every setting is settled
+--   agrees-nothing                     every setting agrees with the assignment that fixes nothing
+-- Assumes nothing.
 use Prim.Native.Nat.{ℕ, _<_}
 use mathlib.Core.Path.{_≡_, refl}
 use mathlib.Core.Bool.{true, not, _||_}

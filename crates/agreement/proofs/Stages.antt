@@ -1,5 +1,8 @@
 -- The schedule gate by gate, pass by pass and group by group, as a loop goes through it, and how many copies are made at each stage.
--- Render's code cites it. Assumes nothing.
+-- Render's code cites it.
+--   copiedBy-start, -gate, -pass, -group, -all   a loop's way through it
+--   length-copiedBy, length-copiedBy-below       how many copies there are
+-- Assumes nothing.
 use Prim.Native.Nat.{ℕ, suc, _+_, _*_, _≤_, _<_}
 use mathlib.Core.Path.{_≡_, refl, sym, ap, _∙_}
 use mathlib.Core.List.{List, [], _∷_, _++_, map, append-assoc, append-nil}

@@ -1,1 +1,1 @@
-// No code: the theory of rendering (document 01, "Groups and rendering", demand 3).
+// No code: the theory of rendering (SPECIFICATION 6).

@@ -1,4 +1,4 @@
--- Document 01's cover of a block is the cover over "is settled": the definitions are the same text. So the laws of covers hold of blocks.
+-- The cover of a block is the cover over "is settled": the definitions are the same text. So the laws of covers hold of blocks.
 -- Cited by the operation Cover and by docs/GUARANTEES.md. Assumes nothing.
 use mathlib.Core.Path.{_≡_, refl, sym, ap, _∙_}
 use mathlib.Core.Bool.{Bool, true, not, _&&_, _||_}
@@ -53,13 +53,13 @@ module _ (b : Block) where
   unfolding cover coverOver isMinimal minimalOver isSoundUnder soundOver settingCount
   cover-over = refl
 
-  pub coverWords-over : coverEntries b ≡ assignmentWords (coverOver (isSettled b) (inputCount b))
+  pub coverEntries-over : coverEntries b ≡ assignmentWords (coverOver (isSettled b) (inputCount b))
   unfolding coverEntries assignmentWords cover coverOver isMinimal minimalOver isSoundUnder soundOver settingCount
-  coverWords-over = refl
+  coverEntries-over = refl
 
-  pub coverWords-words : coverEntries b ≡ assignmentWords (cover b)
+  pub coverEntries-words : coverEntries b ≡ assignmentWords (cover b)
   unfolding coverEntries assignmentWords
-  coverWords-words = refl
+  coverEntries-words = refl
 
   -- the cover over a table that is right about every setting is the block's
   pub cover-from : (table : List ℕ) → ((s : ℕ) → s < settingCount b → settledBy table s ≡ isSettled b s)

@@ -146,4 +146,5 @@ module _ (p : ℕ → Bool) (n : ℕ) where
   unfolding listed
   entries-ascend i j d h l =
       let m : j < length listed = rw length-cover at l in
-      rw (cover-getD i d (omega arith), cover-getD j d m) (pairs-ascend (getD listed i 0) (getD listed j 0) (kept-ascend (entryAt p n) (2 ^ n * 2 ^ n) i j h m))
+      rw (cover-getD i d (omega arith), cover-getD j d m)
+      (pairs-ascend (getD listed i 0) (getD listed j 0) (kept-ascend (entryAt p n) (2 ^ n * 2 ^ n) i j h m))

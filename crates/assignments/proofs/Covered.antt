@@ -72,7 +72,8 @@ module _ (p : ℕ → Bool) (n : ℕ) where
 
       right : any (λ a. agrees n a s) (coverOver p n) ≡ true → p s ≡ true
       right h =
-          let e : (i : ℕ) × (i < length (coverOver p n)) × (agrees n (getD (coverOver p n) i nothing) s ≡ true) = any-at (λ a. agrees n a s) (coverOver p n) nothing h in
+          let e : (i : ℕ) × (i < length (coverOver p n)) × (agrees n (getD (coverOver p n) i nothing) s ≡ true) =
+          any-at (λ a. agrees n a s) (coverOver p n) nothing h in
           sound-at p n (getD (coverOver p n) (e .0) nothing) (entries-listed p n (e .0) nothing (e .1) .sound) s l (e .2)
 
   -- fixing nothing is sound exactly when every setting passes

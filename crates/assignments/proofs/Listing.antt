@@ -36,7 +36,13 @@ module _ (table : List ℕ) (n q : ℕ) where
   pub count-le : (m : ℕ) → length (entriesBelow table n q) ≤ length (entriesBelow table n (q + m))
   unfolding entriesBelow
   count-le m =
-      rw (tab-add (λ k. k) q m, keep-append (entryBy table n) (upTo q) (tab (λ j. q + j) m), length-map (keep (entryBy table n) (upTo q)) (pairAt n), length-map, length-append) (omega arith)
+      rw (
+        tab-add (λ k. k) q m,
+        keep-append (entryBy table n) (upTo q) (tab (λ j. q + j) m),
+        length-map (keep (entryBy table n) (upTo q)) (pairAt n),
+        length-map,
+        length-append,
+      ) (omega arith)
 
 -- no more entries than pairs
 pub entries-few : (table : List ℕ) (n : ℕ) → length (entriesBy table n) ≤ 2 ^ n * 2 ^ n
@@ -127,7 +133,8 @@ module _ {sound entry out : List ℕ} {n q pairs at : ℕ} (w : Written sound en
           same-length = simp length-set (w .same-length);
           at-is = omega (arith, w .at-is);
           words =
-              rw (first, o, ← here) (set-placed (so-far ++ (q / 2 ^ n ∷ [])) entry (length (so-far ++ (q / 2 ^ n ∷ []))) (q % 2 ^ n) refl (rw here (omega arith)))
+              rw (first, o, ← here)
+              (set-placed (so-far ++ (q / 2 ^ n ∷ [])) entry (length (so-far ++ (q / 2 ^ n ∷ []))) (q % 2 ^ n) refl (rw here (omega arith)))
               ∙ ap (λ (xs : List ℕ). placed xs entry) (sym next-words);
         }
 

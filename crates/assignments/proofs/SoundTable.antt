@@ -54,7 +54,8 @@ module _ (p : ℕ → Bool) (n : ℕ) where
   unfolding soundDigits agreesDigits
   sound-same d e h =
       all-ext (λ s. not (agreesDigits n d s) || p s) (λ s. not (agreesDigits n e s) || p s) (2 ^ n)
-      (λ s l. ap (λ (b : Bool). not b || p s) (all-ext (λ i. eqb (d i) 2 || eqb (bit s i) (d i)) (λ i. eqb (e i) 2 || eqb (bit s i) (e i)) n (λ i m. rw (h i m))))
+      (λ s l. ap (λ (b : Bool). not b || p s)
+      (all-ext (λ i. eqb (d i) 2 || eqb (bit s i) (d i)) (λ i. eqb (e i) 2 || eqb (bit s i) (e i)) n (λ i m. rw (h i m))))
 
   -- an assignment is sound exactly when its digits are
   sound-digits : (a : Assignment) → soundOver p n a ≡ soundDigits p n (digitOf a)

@@ -1,4 +1,4 @@
--- Document 01's cover over any test of settings, and the tables that the code of this crate keeps.
+-- The cover over any test of settings, and the tables that the code of this crate keeps.
 pub mod Over
 pub mod Digits
 pub mod Tables

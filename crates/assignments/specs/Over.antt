@@ -1,4 +1,4 @@
--- Document 01, "Cover", over any test p of the settings of n inputs: `netlist`'s definitions with p for "is settled" and n for the
+-- The cover (SPECIFICATION 4) over any test p of the settings of n inputs: `netlist`'s definitions with p for "is settled" and n for the
 -- block's inputs. Cited by the contracts of this crate and by the operation Cover. Assumes nothing.
 use Prim.Native.Nat.{ℕ, _^_, _<_}
 use mathlib.Core.Path.{_≡_}

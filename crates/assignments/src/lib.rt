@@ -1,9 +1,7 @@
-// Cover's core, over a table that says which settings are settled: the sound and minimal partial assignments of n inputs, in order.
+// Cover's core (SPECIFICATION 4), over a table that says which settings are settled: the sound and minimal partial assignments of n inputs, in order.
 // The operation Cover simulates each setting once, and then calls `cover_entries`.
-mod entries;
-mod tables;
-
 use entries::write_entries;
+use layout::limits::MAX_SETTINGS;
 use tables::fill_sound;
 use tables::fill_weights;
 use tables::power_of_3;
@@ -14,10 +12,11 @@ ghost use Rattle.assignments.specs.Over.{coverOver};
 ghost use Rattle.assignments.specs.Tables.{settledBy};
 ghost use Rattle.assignments.specs.Entries.{EntriesWritten};
 
-// 3^10 assignments and 2^10 masks: the most that ten inputs have.
-const ASSIGNMENTS: usize = 59049;
+mod entries;
+mod tables;
 
-const MASKS: usize = 1024;
+// The most assignments: 3^MAX_INPUTS. There are as many masks as settings.
+const ASSIGNMENTS: usize = 59049;
 
 // The number of entries; their words, two an entry, where `out` has room for all of them. `settled` has a 1 for each settled setting.
 pub fn cover_entries(settled: &[u8], n: usize, out: &mut [u16]) -> usize
@@ -25,7 +24,7 @@ pub fn cover_entries(settled: &[u8], n: usize, out: &mut [u16]) -> usize
     ensures { λ r. ⌜ EntriesWritten (coverOver (settledBy (now (settled .entry))) n) (now (out .entry)) (now (out .exit)) r ⌝ }
 {
     let mut sound = [0u8; ASSIGNMENTS];
-    let mut weights = [0u16; MASKS];
+    let mut weights = [0u16; MAX_SETTINGS];
     cover_within(settled, n, &mut sound, &mut weights, out)
 }
 

@@ -56,8 +56,7 @@ lower-operand n j w =
     gate-below : n ≤ w → ltb (w - n) j && true ≡ ltb w (n + j)
     gate-below g =
         ⊎-elim (λ (l : w < n + j). rw (lt-ltb w (n + j) l, lt-ltb (w - n) j (omega arith)))
-        (λ (l : n + j ≤ w). rw (le-ltb w (n + j) l, le-ltb (w - n) j (omega arith)))
-        (lt-or-le w (n + j))
+        (λ (l : n + j ≤ w). rw (le-ltb w (n + j) l, le-ltb (w - n) j (omega arith))) (lt-or-le w (n + j))
 
 -- gate j reads only lower gates exactly when its operands do
 lower-gate : (n j : ℕ) (ws : List ℕ) (at : ℕ) →

@@ -19,10 +19,11 @@ use Rattle.netlist.specs.Groups.{OperandPath, stay, step, reads, readBy, reache
 use Rattle.reach.proofs.Reach.{path-reaches, reaches-path, reaches-trans}
 use Rattle.reach.proofs.SameGroup.{sameGroup-refl, sameGroup-below}
 use Rattle.search.specs.Search.{gateReads, GatesReady, SearchReady, StartReady, Queued, Reached}
-use Rattle.components.specs.Leaders.{noLeader, barredBy, ledBy, joins, Joined, none, more, Quiet, Spread, QueueReady, LeadReady, givenBy, GroupLed}
+use Rattle.components.specs.Leaders.{noLeader, barredBy, ledBy, joins, Joined, none, more, Quiet, Spread, QueueReady, TurnReady, givenBy, GroupLed}
 use Rattle.components.proofs.Joining.{joins-free, joined-length}
 
-module _ (ws : List ℕ) (n m gates l : ℕ) (whole : GatesReady ws n m gates) (gatesAre : m ≡ gateCount (decode ws)) (entry : List ℕ) (ready : LeadReady ws m l entry) (free : getD entry l 0 ≡ noLeader) where
+module _ (ws : List ℕ) (n m gates l : ℕ) (whole : GatesReady ws n m gates) (gatesAre : m ≡ gateCount (decode ws)) (entry : List ℕ)
+    (ready : TurnReady ws m l entry) (free : getD entry l 0 ≡ noLeader) where
   abbrev b : Block
   b = decode ws
 
@@ -52,7 +53,8 @@ module _ (ws : List ℕ) (n m gates l : ℕ) (whole : GatesReady ws n m gates) (
   at-l : getD entry₁ l 0 ≡ l
   at-l = getD-set-same entry l l 0 (omega (arith, ready .below, ready .room))
 
-  module _ (queue : List ℕ) (count : ℕ) (barred : List ℕ) (are : (k : ℕ) → k < m → getD barred k 0 ≡ barredBy entry k) (r : Reached b m l barred queue count) where
+  module _ (queue : List ℕ) (count : ℕ) (barred : List ℕ) (are : (k : ℕ) → k < m → getD barred k 0 ≡ barredBy entry k)
+      (r : Reached b m l barred queue count) where
     -- ---- the queue holds the group
 
     not-barred : (k : ℕ) → sameGroup b l k ≡ true → getD barred k 0 ≡ 1 → ⊥
@@ -74,7 +76,9 @@ module _ (ws : List ℕ) (n m gates l : ℕ) (whole : GatesReady ws n m gates) (
 
     group-queued : (k : ℕ) → sameGroup b l k ≡ true → Queued queue count k
     unfolding sameGroup
-    group-queued k g = from l k (sameGroup-below b l k g) (sameGroup-refl b l (below (ready .below))) (r .started) (reaches-path b l k (and-left (reaches b l k) (reaches b k l) g)) (and-right (reaches b l k) (reaches b k l) g)
+    group-queued k g =
+        from l k (sameGroup-below b l k g) (sameGroup-refl b l (below (ready .below))) (r .started)
+        (reaches-path b l k (and-left (reaches b l k) (reaches b k l) g)) (and-right (reaches b l k) (reaches b k l) g)
 
     -- ---- what joins is of the group
 
@@ -82,12 +86,17 @@ module _ (ws : List ℕ) (n m gates l : ℕ) (whole : GatesReady ws n m gates) (
     joins-reads : (leaders : List ℕ) (k : ℕ) → k < m → joins ws n m gates l leaders k ≡ true → (j : ℕ) × (reads b k j ≡ true) × (getD leaders j 0 ≡ l)
     unfolding joins ledBy reads
     joins-reads leaders k kl h =
-        let e : any (ledBy leaders l) (readBy b k) ≡ true = rw (whole .operands k kl) at (and-right (eqb (getD leaders k 0) noLeader) (any (ledBy leaders l) (gateReads ws n m gates k)) h) in
-        let a = any-at (ledBy leaders l) (readBy b k) 0 e in
-        (getD (readBy b k) (a .0) 0, member-from (getD (readBy b k) (a .0) 0) (readBy b k) (a .0) (a .1) refl, eqb-true (getD leaders (getD (readBy b k) (a .0) 0) 0) l (a .2))
+        let e : any (ledBy leaders l) (readBy b k) ≡ true = rw (whole .operands k kl) at
+        (and-right (eqb (getD leaders k 0) noLeader) (any (ledBy leaders l) (gateReads ws n m gates k)) h) in
+        let a = any-at (ledBy leaders l) (readBy b k) 0 e in (
+          getD (readBy b k) (a .0) 0,
+          member-from (getD (readBy b k) (a .0) 0) (readBy b k) (a .0) (a .1) refl,
+          eqb-true (getD leaders (getD (readBy b k) (a .0) 0) 0) l (a .2),
+        )
 
     -- and a gate without a leader that reads such a one joins
-    reads-joins : (leaders : List ℕ) (k j : ℕ) → k < m → getD leaders k 0 ≡ noLeader → reads b k j ≡ true → getD leaders j 0 ≡ l → joins ws n m gates l leaders k ≡ true
+    reads-joins : (leaders : List ℕ) (k j : ℕ) → k < m → getD leaders k 0 ≡ noLeader → reads b k j ≡ true → getD leaders j 0 ≡ l
+        → joins ws n m gates l leaders k ≡ true
     unfolding joins ledBy reads
     reads-joins leaders k j kl free d e =
         let a = member-at j (readBy b k) d in
@@ -101,38 +110,48 @@ module _ (ws : List ℕ) (n m gates l : ℕ) (whole : GatesReady ws n m gates) (
     joined-start (more {leaders = before} s q lt h) = getD-set-other before (getD queue q 0) l l 0 (other (joined-start s)) ∙ joined-start s
       where
         other : getD before l 0 ≡ l → l ≡ getD queue q 0 → ⊥
-        other ih e = let f : getD before l 0 ≡ noLeader = rw (← e) at (joins-free ws n m gates l before (getD queue q 0) h) in let g : l ≡ noLeader = sym ih ∙ f in omega (arith, small)
+        other ih e =
+            let f : getD before l 0 ≡ noLeader = rw (← e) at (joins-free ws n m gates l before (getD queue q 0) h) in let g : l ≡ noLeader = sym ih ∙ f in
+            omega (arith, small)
 
     -- a gate keeps what it had, or is of the group and has gate l
-    joined-sound : {leaders : List ℕ} → Joined ws n m gates l queue count entry₁ leaders → (k : ℕ) → k < m → (getD leaders k 0 ≡ getD entry k 0) ⊎ ((getD leaders k 0 ≡ l) × (sameGroup b l k ≡ true))
+    joined-sound : {leaders : List ℕ} → Joined ws n m gates l queue count entry₁ leaders → (k : ℕ) → k < m
+        → (getD leaders k 0 ≡ getD entry k 0) ⊎ ((getD leaders k 0 ≡ l) × (sameGroup b l k ≡ true))
     unfolding sameGroup
     joined-sound none k kl =
         ⊎-elim (λ e. inr (rw e (at-l, sameGroup-refl b l (below (ready .below))))) (λ ne. inl (getD-set-other entry l k l 0 ne)) (eq-or-ne k l)
-    joined-sound (more {leaders = before} s q lt h) k kl = ⊎-elim (here (λ j jl. joined-sound s j jl)) (λ ne. rw (getD-set-other before (getD queue q 0) k l 0 ne) (joined-sound s k kl)) (eq-or-ne k (getD queue q 0))
+    joined-sound (more {leaders = before} s q lt h) k kl =
+        ⊎-elim (here (λ j jl. joined-sound s j jl)) (λ ne. rw (getD-set-other before (getD queue q 0) k l 0 ne) (joined-sound s k kl))
+        (eq-or-ne k (getD queue q 0))
       where
         at : (getD queue q 0 < m) × OperandPath b l (getD queue q 0)
         at = r .sound q lt
 
-        group : ((j : ℕ) → j < m → (getD before j 0 ≡ getD entry j 0) ⊎ ((getD before j 0 ≡ l) × (sameGroup b l j ≡ true))) → sameGroup b l (getD queue q 0) ≡ true
+        group : ((j : ℕ) → j < m → (getD before j 0 ≡ getD entry j 0) ⊎ ((getD before j 0 ≡ l) × (sameGroup b l j ≡ true)))
+            → sameGroup b l (getD queue q 0) ≡ true
         group ih =
             let d = joins-reads before (getD queue q 0) (at .0) h in
             let jl : d .0 < m = whole .inside (getD queue q 0) (d .0) (at .0) (d .1) in
             let g : sameGroup b l (d .0) ≡ true = ⊎-elim (λ e. absurd (not-yet (d .0) jl (sym e ∙ d .2))) (λ e. e .1) (ih (d .0) jl) in
             and-intro (reaches b l (getD queue q 0)) (reaches b (getD queue q 0) l)
             (path-reaches b l (getD queue q 0) (below (at .0)) (at .1))
-            (reaches-trans b (getD queue q 0) (d .0) l (path-reaches b (getD queue q 0) (d .0) (below jl) (step (d .1) stay)) (and-right (reaches b l (d .0)) (reaches b (d .0) l) g))
+            (reaches-trans b (getD queue q 0) (d .0) l (path-reaches b (getD queue q 0) (d .0) (below jl) (step (d .1) stay))
+            (and-right (reaches b l (d .0)) (reaches b (d .0) l) g))
 
-        here : ((j : ℕ) → j < m → (getD before j 0 ≡ getD entry j 0) ⊎ ((getD before j 0 ≡ l) × (sameGroup b l j ≡ true))) → k ≡ getD queue q 0 → (getD (set before (getD queue q 0) l) k 0 ≡ getD entry k 0) ⊎ ((getD (set before (getD queue q 0) l) k 0 ≡ l) × (sameGroup b l k ≡ true))
+        here : ((j : ℕ) → j < m → (getD before j 0 ≡ getD entry j 0) ⊎ ((getD before j 0 ≡ l) × (sameGroup b l j ≡ true))) → k ≡ getD queue q 0
+            → (getD (set before (getD queue q 0) l) k 0 ≡ getD entry k 0) ⊎ ((getD (set before (getD queue q 0) l) k 0 ≡ l) × (sameGroup b l k ≡ true))
         here ih e =
             let room : getD queue q 0 < length before = rw (joined-length ws n m gates l queue count s, length-set) (omega (arith, at .0, ready .room)) in
             inr (rw e (getD-set-same before (getD queue q 0) l 0 room, group ih))
 
     -- ---- and at last all of it has joined
 
-    joined-complete : {leaders : List ℕ} → Joined ws n m gates l queue count entry₁ leaders → Quiet ws n m gates l queue count leaders → (k : ℕ) → sameGroup b l k ≡ true → OperandPath b k l → getD leaders k 0 ≡ l
+    joined-complete : {leaders : List ℕ} → Joined ws n m gates l queue count entry₁ leaders → Quiet ws n m gates l queue count leaders → (k : ℕ)
+        → sameGroup b l k ≡ true → OperandPath b k l → getD leaders k 0 ≡ l
     unfolding sameGroup
     joined-complete s quiet k g stay = joined-start s
-    joined-complete {leaders} s quiet k g (step {j = j} d p) = ⊎-elim (λ e. absurd (still (λ gj. joined-complete s quiet j gj p) e)) (λ e. e .0) (joined-sound s k kl)
+    joined-complete {leaders} s quiet k g (step {j = j} d p) =
+        ⊎-elim (λ e. absurd (still (λ gj. joined-complete s quiet j gj p) e)) (λ e. e .0) (joined-sound s k kl)
       where
         kl : k < m
         kl = above (sameGroup-below b l k g)
@@ -155,9 +174,11 @@ module _ (ws : List ℕ) (n m gates l : ℕ) (whole : GatesReady ws n m gates) (
     -- nothing is stored past the gates
     joined-rest : {leaders : List ℕ} → Joined ws n m gates l queue count entry₁ leaders → (k : ℕ) → m ≤ k → getD leaders k 0 ≡ getD entry k 0
     joined-rest none k h = getD-set-other entry l k l 0 (λ e. omega (arith, ready .below))
-    joined-rest (more {leaders = before} s q lt h) k le = getD-set-other before (getD queue q 0) k l 0 (λ e. omega (arith, r .sound q lt .0)) ∙ joined-rest s k le
+    joined-rest (more {leaders = before} s q lt h) k le =
+        getD-set-other before (getD queue q 0) k l 0 (λ e. omega (arith, r .sound q lt .0)) ∙ joined-rest s k le
 
-    found-at : {leaders : List ℕ} → Joined ws n m gates l queue count entry₁ leaders → Quiet ws n m gates l queue count leaders → (k : ℕ) → k < m → getD leaders k 0 ≡ givenBy b l entry k
+    found-at : {leaders : List ℕ} → Joined ws n m gates l queue count entry₁ leaders → Quiet ws n m gates l queue count leaders → (k : ℕ) → k < m
+        → getD leaders k 0 ≡ givenBy b l entry k
     unfolding sameGroup givenBy
     found-at {leaders} s quiet k kl = rw (eq-eqb (getD entry l 0) noLeader free) (⊎-elim inside outside (bool-cases (sameGroup b l k)))
       where
@@ -187,7 +208,8 @@ group-had b m l leaders had = record { sameLength = refl; first = λ k kl. rw (n
 pub barred-at : (leaders flags entry : List ℕ) (m : ℕ) → flags ≡ placed (tab (barredBy leaders) m) entry → (k : ℕ) → k < m → getD flags k 0 ≡ barredBy leaders k
 barred-at leaders flags entry m e k l = rw e (placed-tab (barredBy leaders) m entry k 0 l)
 
-pub start-ready : (leaders flags entry : List ℕ) (m l : ℕ) → flags ≡ placed (tab (barredBy leaders) m) entry → l < m → getD leaders l 0 ≡ noLeader → StartReady m l flags
+pub start-ready : (leaders flags entry : List ℕ) (m l : ℕ) → flags ≡ placed (tab (barredBy leaders) m) entry → l < m → getD leaders l 0 ≡ noLeader
+    → StartReady m l flags
 unfolding barredBy
 start-ready leaders flags entry m l e lt free =
     record {
@@ -201,8 +223,10 @@ start-ready leaders flags entry m l e lt free =
     bit false = inr refl
 
 -- a search needs only the lengths of its flags and its queue
-pub still-room : {ws : List ℕ} {n m gates : ℕ} {flags queue flags′ queue′ : List ℕ} → SearchReady ws n m gates flags queue → length flags′ ≡ length flags → length queue′ ≡ length queue → SearchReady ws n m gates flags′ queue′
+pub still-room : {ws : List ℕ} {n m gates : ℕ} {flags queue flags′ queue′ : List ℕ} → SearchReady ws n m gates flags queue → length flags′ ≡ length flags
+    → length queue′ ≡ length queue → SearchReady ws n m gates flags′ queue′
 still-room s e f = record { whole = s .whole; flagRoom = rw e (s .flagRoom); queueRoom = rw f (s .queueRoom) }
 
-pub queue-ready : {ws : List ℕ} {n m gates l count : ℕ} {leaders barred queue : List ℕ} → GatesReady ws n m gates → LeadReady ws m l leaders → Reached (decode ws) m l barred queue count → QueueReady ws n m gates l queue count (set leaders l l)
+pub queue-ready : {ws : List ℕ} {n m gates l count : ℕ} {leaders barred queue : List ℕ} → GatesReady ws n m gates → TurnReady ws m l leaders
+    → Reached (decode ws) m l barred queue count → QueueReady ws n m gates l queue count (set leaders l l)
 queue-ready w a r = record { whole = w; below = a .below; room = rw length-set (a .room); queued = λ q lt. r .sound q lt .0 }

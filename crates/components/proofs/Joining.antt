@@ -33,11 +33,14 @@ module _ (ws : List ℕ) (n m gates leader : ℕ) where
   unfolding joins
   led-before k leaders h = record { answer = rw (ne-eqb (getD leaders k 0) noLeader h) refl; leaves = refl }
 
-  pub reads-none : (k : ℕ) (leaders : List ℕ) (r : Bool) → r ≡ any (ledBy leaders leader) (wordGates ws n m (gates + 5 * k) (getD ws (gates + 5 * k) 0 / 8)) → r ≡ false → LedOne ws n m gates leader k leaders leaders false
+  pub reads-none : (k : ℕ) (leaders : List ℕ) (r : Bool) → r ≡ any (ledBy leaders leader) (wordGates ws n m (gates + 5 * k) (getD ws (gates + 5 * k) 0 / 8))
+      → r ≡ false → LedOne ws n m gates leader k leaders leaders false
   unfolding joins gateReads
   reads-none k leaders r is e = record { answer = rw (sym is ∙ e) (sym (and-false (eqb (getD leaders k 0) noLeader))); leaves = refl }
 
-  pub led-now : (k : ℕ) (leaders : List ℕ) (r : Bool) → getD leaders k 0 ≡ noLeader → r ≡ any (ledBy leaders leader) (wordGates ws n m (gates + 5 * k) (getD ws (gates + 5 * k) 0 / 8)) → r ≡ true → LedOne ws n m gates leader k leaders (set leaders k leader) true
+  pub led-now : (k : ℕ) (leaders : List ℕ) (r : Bool) → getD leaders k 0 ≡ noLeader
+      → r ≡ any (ledBy leaders leader) (wordGates ws n m (gates + 5 * k) (getD ws (gates + 5 * k) 0 / 8)) → r ≡ true
+      → LedOne ws n m gates leader k leaders (set leaders k leader) true
   unfolding joins gateReads
   led-now k leaders r h is e = record { answer = rw (eq-eqb (getD leaders k 0) noLeader h, sym is ∙ e) refl; leaves = refl }
 
@@ -46,17 +49,21 @@ module _ (ws : List ℕ) (n m gates leader : ℕ) where
   -- a gate that joins had no leader
   pub joins-free : (leaders : List ℕ) (k : ℕ) → joins ws n m gates leader leaders k ≡ true → getD leaders k 0 ≡ noLeader
   unfolding joins
-  joins-free leaders k h = eqb-true (getD leaders k 0) noLeader (and-left (eqb (getD leaders k 0) noLeader) (any (ledBy leaders leader) (gateReads ws n m gates k)) h)
+  joins-free leaders k h =
+      eqb-true (getD leaders k 0) noLeader (and-left (eqb (getD leaders k 0) noLeader) (any (ledBy leaders leader) (gateReads ws n m gates k)) h)
 
   -- and one gate fewer has none then
-  pub joins-fewer : (leaders : List ℕ) (k : ℕ) → leader < m → m ≤ 1024 → m ≤ length leaders → k < m → joins ws n m gates leader leaders k ≡ true → unled (set leaders k leader) m < unled leaders m
+  pub joins-fewer : (leaders : List ℕ) (k : ℕ) → leader < m → m ≤ 1024 → m ≤ length leaders → k < m → joins ws n m gates leader leaders k ≡ true
+      → unled (set leaders k leader) m < unled leaders m
   unfolding unled
   joins-fewer leaders k small few room l h =
       let was : eqb (getD leaders k 0) noLeader ≡ true = eq-eqb (getD leaders k 0) noLeader (joins-free leaders k h) in
       let is : getD (set leaders k leader) k 0 ≡ leader = getD-set-same leaders k leader 0 (omega arith) in
-      let not : eqb (getD (set leaders k leader) k 0) noLeader ≡ false = ne-eqb (getD (set leaders k leader) k 0) noLeader (λ e. let s : leader ≡ noLeader = sym is ∙ e in omega arith) in
+      let not : eqb (getD (set leaders k leader) k 0) noLeader ≡ false = ne-eqb (getD (set leaders k leader) k 0) noLeader
+      (λ e. let s : leader ≡ noLeader = sym is ∙ e in omega arith) in
       let one : countBelow (λ j. eqb (getD leaders j 0) noLeader) m ≡ suc (countBelow (λ j. eqb (getD (set leaders k leader) j 0) noLeader) m) =
-      countBelow-one (λ j. eqb (getD (set leaders k leader) j 0) noLeader) (λ j. eqb (getD leaders j 0) noLeader) m k l not was (λ j ne. rw (getD-set-other leaders k j leader 0 ne) refl) in
+      countBelow-one (λ j. eqb (getD (set leaders k leader) j 0) noLeader) (λ j. eqb (getD leaders j 0) noLeader) m k l not was
+      (λ j ne. rw (getD-set-other leaders k j leader 0 ne) refl) in
       omega arith
 
   module _ (queue : List ℕ) (count : ℕ) where
@@ -64,7 +71,8 @@ module _ (ws : List ℕ) (n m gates leader : ℕ) where
     joined-length none = refl
     joined-length (more {leaders = before} s q l h) = length-set before (getD queue q 0) leader ∙ joined-length s
 
-    pub joined-then : {entry middle leaders : List ℕ} → Joined ws n m gates leader queue count entry middle → Joined ws n m gates leader queue count middle leaders → Joined ws n m gates leader queue count entry leaders
+    pub joined-then : {entry middle leaders : List ℕ} → Joined ws n m gates leader queue count entry middle
+        → Joined ws n m gates leader queue count middle leaders → Joined ws n m gates leader queue count entry leaders
     joined-then s none = s
     joined-then s (more t q l h) = more (joined-then s t) q l h
 
@@ -84,7 +92,8 @@ module _ (ws : List ℕ) (n m gates leader : ℕ) where
           fewer = λ e. not-both e refl;
         }
 
-    module _ {entry leaders : List ℕ} {changed : Bool} {left : ℕ} (ready : QueueReady ws n m gates leader queue count entry) (s : Sweeping entry leaders changed left) (l : 0 < left) (k : ℕ) (is : k ≡ getD queue (left - 1) 0)
+    module _ {entry leaders : List ℕ} {changed : Bool} {left : ℕ} (ready : QueueReady ws n m gates leader queue count entry)
+        (s : Sweeping entry leaders changed left) (l : 0 < left) (k : ℕ) (is : k ≡ getD queue (left - 1) 0)
         {leaders′ : List ℕ} {did : Bool} (o : LedOne ws n m gates leader k leaders leaders′ did) where
       here : left - 1 < count
       here = let w : left ≤ count = s .within in omega arith
@@ -97,7 +106,9 @@ module _ (ws : List ℕ) (n m gates leader : ℕ) where
 
       pub sweep-join : did ≡ true → Sweeping entry leaders′ true (left - 1)
       sweep-join e =
-          let less : unled leaders′ m < unled leaders m = rw (set-here e) (joins-fewer leaders (getD queue (left - 1) 0) (ready .below) (ready .whole .fewGates) (rw (joined-length (s .steps)) (ready .room)) (ready .queued (left - 1) here) (joining e)) in
+          let less : unled leaders′ m < unled leaders m = rw (set-here e)
+          (joins-fewer leaders (getD queue (left - 1) 0) (ready .below) (ready .whole .fewGates) (rw (joined-length (s .steps)) (ready .room))
+          (ready .queued (left - 1) here) (joining e)) in
           record {
             within = let w : left ≤ count = s .within in omega arith;
             steps = rw (set-here e) (more (s .steps) (left - 1) here (joining e));
@@ -111,21 +122,31 @@ module _ (ws : List ℕ) (n m gates leader : ℕ) where
           record {
             within = let w : left ≤ count = s .within in omega arith;
             steps = rw same (s .steps);
-            quiet = λ f. let old = s .quiet f in (same ∙ old .0, λ q lo hi. ⊎-elim (λ at. rw at (rw (old .0, is) at (sym (o .answer) ∙ e))) (λ ne. old .1 q (omega arith) hi) (eq-or-ne q (left - 1)));
+            quiet =
+                λ f. let old = s .quiet f
+                in (
+                  same ∙ old .0,
+                  λ q lo hi. ⊎-elim (λ at. rw at (rw (old .0, is) at (sym (o .answer) ∙ e))) (λ ne. old .1 q (omega arith) hi)
+                      (eq-or-ne q (left - 1)),
+                );
             fewer = λ f. rw same (s .fewer f);
           }
 
-    pub sweep-end : {entry leaders : List ℕ} {changed : Bool} {left : ℕ} → Sweeping entry leaders changed left → left ≤ 0 → Swept ws n m gates leader queue count entry leaders changed
+    pub sweep-end : {entry leaders : List ℕ} {changed : Bool} {left : ℕ} → Sweeping entry leaders changed left → left ≤ 0
+        → Swept ws n m gates leader queue count entry leaders changed
     sweep-end s z = record { steps = s .steps; quiet = λ e. (s .quiet e .0, λ q l. s .quiet e .1 q (omega arith) l); fewer = s .fewer }
 
     -- ---- sweeps, until one changes nothing
 
-    pub sweeps-less : {leaders leaders′ : List ℕ} {changed : Bool} → Swept ws n m gates leader queue count leaders leaders′ changed → unled leaders′ m + cond changed 1 0 < unled leaders m + 1
+    pub sweeps-less : {leaders leaders′ : List ℕ} {changed : Bool} → Swept ws n m gates leader queue count leaders leaders′ changed
+        → unled leaders′ m + cond changed 1 0 < unled leaders m + 1
     sweeps-less {changed = true} s = let f = s .fewer refl in omega arith
     sweeps-less {changed = false} s = rw (s .quiet refl .0) (omega arith)
 
-    pub sweep-quiet : {leaders leaders′ : List ℕ} {changed : Bool} → Swept ws n m gates leader queue count leaders leaders′ changed → changed ≡ false → Quiet ws n m gates leader queue count leaders′
+    pub sweep-quiet : {leaders leaders′ : List ℕ} {changed : Bool} → Swept ws n m gates leader queue count leaders leaders′ changed → changed ≡ false
+        → Quiet ws n m gates leader queue count leaders′
     sweep-quiet s e = rw (s .quiet e .0) (s .quiet e .1)
 
-    pub still-ready : {entry leaders : List ℕ} → QueueReady ws n m gates leader queue count entry → Joined ws n m gates leader queue count entry leaders → QueueReady ws n m gates leader queue count leaders
+    pub still-ready : {entry leaders : List ℕ} → QueueReady ws n m gates leader queue count entry → Joined ws n m gates leader queue count entry leaders
+        → QueueReady ws n m gates leader queue count leaders
     still-ready r s = record { whole = r .whole; below = r .below; room = rw (joined-length s) (r .room); queued = r .queued }

@@ -23,7 +23,8 @@ least-cong p q n h =
 
 pub leader-below : (b : Block) (j : ℕ) → j < gateCount b → leaderOf b j < gateCount b
 unfolding leaderOf
-leader-below b j l = ⊎-elim (λ h. h) (λ h. not-both (sameGroup-refl b j l) (least-below (sameGroup b j) (gateCount b) j (omega arith))) (lt-or-le (leaderOf b j) (gateCount b))
+leader-below b j l =
+    ⊎-elim (λ h. h) (λ h. not-both (sameGroup-refl b j l) (least-below (sameGroup b j) (gateCount b) j (omega arith))) (lt-or-le (leaderOf b j) (gateCount b))
 
 pub leader-same : (b : Block) (j : ℕ) → j < gateCount b → sameGroup b j (leaderOf b j) ≡ true
 unfolding leaderOf
@@ -39,13 +40,16 @@ same-leader b i j h =
 pub leaders-same : (b : Block) (i j : ℕ) → i < gateCount b → j < gateCount b → eqb (leaderOf b i) (leaderOf b j) ≡ sameGroup b i j
 leaders-same b i j il jl =
     same-test (eqb (leaderOf b i) (leaderOf b j)) (sameGroup b i j)
-    (λ h. sameGroup-trans b i (leaderOf b i) j (leader-same b i il) (sameGroup-sym b j (leaderOf b i) (rw (eqb-true (leaderOf b i) (leaderOf b j) h) (leader-same b j jl))))
+    (λ h. sameGroup-trans b i (leaderOf b i) j (leader-same b i il)
+    (sameGroup-sym b j (leaderOf b i) (rw (eqb-true (leaderOf b i) (leaderOf b j) h) (leader-same b j jl))))
     (λ h. eq-eqb (leaderOf b i) (leaderOf b j) (same-leader b i j h))
 
 -- no gate of a group is below its leader
 pub leader-le : (b : Block) (j : ℕ) → j < gateCount b → leaderOf b j ≤ j
 unfolding leaderOf
-leader-le b j l = ⊎-elim (λ h. h) (λ h. let n : leaderOf b j ≤ gateCount b = least-le (sameGroup b j) (gateCount b) in omega arith) (least-first (sameGroup b j) (gateCount b) j (sameGroup-refl b j l))
+leader-le b j l =
+    ⊎-elim (λ h. h) (λ h. let n : leaderOf b j ≤ gateCount b = least-le (sameGroup b j) (gateCount b) in omega arith)
+    (least-first (sameGroup b j) (gateCount b) j (sameGroup-refl b j l))
 
 -- a leader leads itself
 pub leader-leads : (b : Block) (j : ℕ) → j < gateCount b → leaderOf b (leaderOf b j) ≡ leaderOf b j

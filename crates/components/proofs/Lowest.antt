@@ -23,8 +23,11 @@ use Rattle.components.specs.Leaders.{noLeader, leaderOf, Grouped, givenB
 -- ---- slices
 
 -- a slice is known by its first m elements and the rest
-placed-is : (f : ℕ → ℕ) (m : ℕ) (entry slice : List ℕ) → m ≤ length entry → length slice ≡ length entry → ((k : ℕ) → k < m → getD slice k 0 ≡ f k) → ((k : ℕ) → m ≤ k → getD slice k 0 ≡ getD entry k 0) → slice ≡ placed (tab f m) entry
-placed-is f m entry slice room len first rest = ext-getD 0 slice (placed (tab f m) entry) lengths (λ k l. ⊎-elim (λ h. first k h ∙ sym (placed-tab f m entry k 0 h)) (λ h. rest k h ∙ sym (behind k h)) (lt-or-le k m))
+placed-is : (f : ℕ → ℕ) (m : ℕ) (entry slice : List ℕ) → m ≤ length entry → length slice ≡ length entry → ((k : ℕ) → k < m → getD slice k 0 ≡ f k)
+    → ((k : ℕ) → m ≤ k → getD slice k 0 ≡ getD entry k 0) → slice ≡ placed (tab f m) entry
+placed-is f m entry slice room len first rest =
+    ext-getD 0 slice (placed (tab f m) entry) lengths
+    (λ k l. ⊎-elim (λ h. first k h ∙ sym (placed-tab f m entry k 0 h)) (λ h. rest k h ∙ sym (behind k h)) (lt-or-le k m))
   where
     lengths : length slice ≡ length (placed (tab f m) entry)
     lengths = len ∙ sym (length-placed (tab f m) entry (rw (length-tab f m) room))
@@ -34,7 +37,8 @@ placed-is f m entry slice room len first rest = ext-getD 0 slice (placed (tab f 
 
 -- what `forget` stores
 forgotten : (m : ℕ) (entry : List ℕ) (k : ℕ) → k < m → getD (replicate m noLeader ++ drop m entry) k 0 ≡ noLeader
-forgotten m entry k l = List·getD-append (replicate m noLeader) (drop m entry) 0 k (rw (length-replicate {A = ℕ} m noLeader) l) ∙ getD-replicate m k noLeader 0 l
+forgotten m entry k l =
+    List·getD-append (replicate m noLeader) (drop m entry) 0 k (rw (length-replicate {A = ℕ} m noLeader) l) ∙ getD-replicate m k noLeader 0 l
 
 -- ---- turns
 
@@ -45,14 +49,24 @@ module _ (b : Block) (m : ℕ) (gatesAre : m ≡ gateCount b) (few : m ≤ 1024)
 
   module _ {l : ℕ} (lt : l < m) {entry leaders : List ℕ} (g : Grouped b m entry) (t : GroupLed b m l entry leaders) where
     -- what is given: gate l, or what stood there
-    given : (k : ℕ) → k < m → ((getD leaders k 0 ≡ l) × (sameGroup b l k ≡ true) × (getD entry l 0 ≡ noLeader)) ⊎ ((getD leaders k 0 ≡ getD entry k 0) × (eqb (getD entry l 0) noLeader && sameGroup b l k ≡ false))
+    given : (k : ℕ) → k < m → ((getD leaders k 0 ≡ l) × (sameGroup b l k ≡ true) × (getD entry l 0 ≡ noLeader))
+        ⊎ ((getD leaders k 0 ≡ getD entry k 0) × (eqb (getD entry l 0) noLeader && sameGroup b l k ≡ false))
     unfolding givenBy
     given k kl = ⊎-elim yes no (bool-cases (eqb (getD entry l 0) noLeader && sameGroup b l k))
       where
-        yes : eqb (getD entry l 0) noLeader && sameGroup b l k ≡ true → ((getD leaders k 0 ≡ l) × (sameGroup b l k ≡ true) × (getD entry l 0 ≡ noLeader)) ⊎ ((getD leaders k 0 ≡ getD entry k 0) × (eqb (getD entry l 0) noLeader && sameGroup b l k ≡ false))
-        yes h = inl (t .first k kl ∙ rw h refl, and-right (eqb (getD entry l 0) noLeader) (sameGroup b l k) h, eqb-true (getD entry l 0) noLeader (and-left (eqb (getD entry l 0) noLeader) (sameGroup b l k) h))
+        yes : eqb (getD entry l 0) noLeader && sameGroup b l k ≡ true
+            → ((getD leaders k 0 ≡ l) × (sameGroup b l k ≡ true) × (getD entry l 0 ≡ noLeader))
+            ⊎ ((getD leaders k 0 ≡ getD entry k 0) × (eqb (getD entry l 0) noLeader && sameGroup b l k ≡ false))
+        yes h =
+            inl (
+              t .first k kl ∙ rw h refl,
+              and-right (eqb (getD entry l 0) noLeader) (sameGroup b l k) h,
+              eqb-true (getD entry l 0) noLeader (and-left (eqb (getD entry l 0) noLeader) (sameGroup b l k) h),
+            )
 
-        no : eqb (getD entry l 0) noLeader && sameGroup b l k ≡ false → ((getD leaders k 0 ≡ l) × (sameGroup b l k ≡ true) × (getD entry l 0 ≡ noLeader)) ⊎ ((getD leaders k 0 ≡ getD entry k 0) × (eqb (getD entry l 0) noLeader && sameGroup b l k ≡ false))
+        no : eqb (getD entry l 0) noLeader && sameGroup b l k ≡ false
+            → ((getD leaders k 0 ≡ l) × (sameGroup b l k ≡ true) × (getD entry l 0 ≡ noLeader))
+            ⊎ ((getD leaders k 0 ≡ getD entry k 0) × (eqb (getD entry l 0) noLeader && sameGroup b l k ≡ false))
         no h = inr (t .first k kl ∙ rw h refl, h)
 
     pub grouped-next : Grouped b m leaders
@@ -60,7 +74,8 @@ module _ (b : Block) (m : ℕ) (gatesAre : m ≡ gateCount b) (few : m ≤ 1024)
     grouped-next =
         record {
           alike = λ i j il jl same.
-              let e : sameGroup b l i ≡ sameGroup b l j = same-test (sameGroup b l i) (sameGroup b l j) (λ h. sameGroup-trans b l i j h same) (λ h. sameGroup-trans b l j i h (sameGroup-sym b i j same)) in
+              let e : sameGroup b l i ≡ sameGroup b l j = same-test (sameGroup b l i) (sameGroup b l j) (λ h. sameGroup-trans b l i j h same)
+              (λ h. sameGroup-trans b l j i h (sameGroup-sym b i j same)) in
               t .first i il ∙ rw (e, g .alike i j il jl same) (sym (t .first j jl));
           own = λ j jl. ⊎-elim (λ y. inr (rw (y .0) (y .1))) (λ n. rw (n .0) (g .own j jl)) (given j jl);
         }
@@ -101,23 +116,29 @@ module _ (b : Block) (m : ℕ) (gatesAre : m ≡ gateCount b) (few : m ≤ 1024)
   turns-start downward entry g =
       record { within = omega arith; sameLength = refl; grouped = g; led = λ i l. absurd (not-suc-le-zero l); rest = λ k h. refl }
 
-  pub turns-next : {downward : Bool} {t : ℕ} {entry leaders leaders′ : List ℕ} → Turns downward t entry leaders → t < m → (l : ℕ) → l ≡ takenAt downward m t → GroupLed b m l leaders leaders′ → Turns downward (t + 1) entry leaders′
+  pub turns-next : {downward : Bool} {t : ℕ} {entry leaders leaders′ : List ℕ} → Turns downward t entry leaders → t < m → (l : ℕ) → l ≡ takenAt downward m t
+      → GroupLed b m l leaders leaders′ → Turns downward (t + 1) entry leaders′
   turns-next {downward} {t} {entry} {leaders} {leaders′} s lt l is g =
       let ll : l < m = rw is (taken-below downward t lt) in
       record {
         within = omega arith;
         sameLength = g .sameLength ∙ s .sameLength;
         grouped = grouped-next ll (s .grouped) g;
-        led = λ i il. ⊎-elim (λ e. rw e (subst (λ (k : ℕ). getD leaders′ k 0 ≡ noLeader → ⊥) is (led-now ll (s .grouped) g))) (λ ne. led-kept ll (s .grouped) g (takenAt downward m i) (taken-below downward i (omega arith)) (s .led i (omega arith))) (eq-or-ne i t);
+        led =
+            λ i il. ⊎-elim (λ e. rw e (subst (λ (k : ℕ). getD leaders′ k 0 ≡ noLeader → ⊥) is (led-now ll (s .grouped) g)))
+            (λ ne. led-kept ll (s .grouped) g (takenAt downward m i) (taken-below downward i (omega arith)) (s .led i (omega arith))) (eq-or-ne i t);
         rest = λ k h. g .rest k h ∙ s .rest k h;
       }
 
-  pub turns-end : {downward : Bool} {t : ℕ} (entry : List ℕ) {leaders : List ℕ} → m ≤ length entry → m ≤ t → Turns downward t (replicate m noLeader ++ drop m entry) leaders → AllLed b m entry leaders
+  pub turns-end : {downward : Bool} {t : ℕ} (entry : List ℕ) {leaders : List ℕ} → m ≤ length entry → m ≤ t
+      → Turns downward t (replicate m noLeader ++ drop m entry) leaders → AllLed b m entry leaders
   turns-end {downward} {t} entry {leaders} room ge s =
       record {
         sameLength = s .sameLength ∙ rw (length-append, length-replicate {A = ℕ} m noLeader, length-drop) (omega arith);
         grouped = s .grouped;
-        led = λ j jl. subst (λ (k : ℕ). getD leaders k 0 ≡ noLeader → ⊥) (taken-back downward j jl) (s .led (takenAt downward m j) (omega (arith, taken-below downward j jl)));
+        led =
+            λ j jl. subst (λ (k : ℕ). getD leaders k 0 ≡ noLeader → ⊥) (taken-back downward j jl)
+            (s .led (takenAt downward m j) (omega (arith, taken-below downward j jl)));
         rest = λ k h. s .rest k h ∙ getD-past (replicate m noLeader) entry m k 0 (length-replicate {A = ℕ} m noLeader) h;
       }
 
@@ -125,30 +146,39 @@ module _ (b : Block) (m : ℕ) (gatesAre : m ≡ gateCount b) (few : m ≤ 1024)
 
 -- `firsts` tells of each leader the first of the k gates below that has it
 pub record Firsts (leaders : List ℕ) (m k : ℕ) (firsts : List ℕ) : Type 0 where
-  pub known : (r : ℕ) → r < m → ((getD firsts r 0 ≡ noLeader) × ((j : ℕ) → j < k → getD leaders j 0 ≡ r → ⊥)) ⊎ ((getD firsts r 0 < k) × (getD leaders (getD firsts r 0) 0 ≡ r) × ((j : ℕ) → j < getD firsts r 0 → getD leaders j 0 ≡ r → ⊥))
+  pub known : (r : ℕ) → r < m → ((getD firsts r 0 ≡ noLeader) × ((j : ℕ) → j < k → getD leaders j 0 ≡ r → ⊥))
+      ⊎ ((getD firsts r 0 < k) × (getD leaders (getD firsts r 0) 0 ≡ r) × ((j : ℕ) → j < getD firsts r 0 → getD leaders j 0 ≡ r → ⊥))
 
 pub firsts-none : (leaders : List ℕ) (m : ℕ) (entry : List ℕ) → Firsts leaders m 0 (replicate m noLeader ++ drop m entry)
 firsts-none leaders m entry =
     record { known = λ r l. inl (forgotten m entry r l, λ j h. absurd (not-suc-le-zero h)) }
 
-module _ {leaders : List ℕ} {m k : ℕ} {firsts : List ℕ} (f : Firsts leaders m k firsts) (kl : k < m) (few : m ≤ 1024) (leader : ℕ) (is : leader ≡ getD leaders k 0) (small : leader < m) {firsts′ : List ℕ} {first : ℕ} (o : FirstLed leader k firsts firsts′ first) where
+module _ {leaders : List ℕ} {m k : ℕ} {firsts : List ℕ} (f : Firsts leaders m k firsts) (kl : k < m) (few : m ≤ 1024) (leader : ℕ)
+    (is : leader ≡ getD leaders k 0) (small : leader < m) {firsts′ : List ℕ} {first : ℕ} (o : FirstLed leader k firsts firsts′ first) where
   pub first-is : first ≡ firstLike leaders k
   unfolding firstLike
   first-is = ⊎-elim none some (f .known leader small)
     where
-      none : (getD firsts leader 0 ≡ noLeader) × ((j : ℕ) → j < k → getD leaders j 0 ≡ leader → ⊥) → first ≡ least (λ j. eqb (getD leaders j 0) (getD leaders k 0)) k
+      none : (getD firsts leader 0 ≡ noLeader) × ((j : ℕ) → j < k → getD leaders j 0 ≡ leader → ⊥)
+          → first ≡ least (λ j. eqb (getD leaders j 0) (getD leaders k 0)) k
       none h =
           o .answer ∙ rw (eq-eqb (getD firsts leader 0) noLeader (h .0))
-          (sym (least-is (λ j. eqb (getD leaders j 0) (getD leaders k 0)) k k (omega arith) (λ i il. ne-eqb (getD leaders i 0) (getD leaders k 0) (λ e. h .1 i il (e ∙ sym is))) (λ lt. absurd (omega arith))))
+          (sym (least-is (λ j. eqb (getD leaders j 0) (getD leaders k 0)) k k (omega arith)
+          (λ i il. ne-eqb (getD leaders i 0) (getD leaders k 0) (λ e. h .1 i il (e ∙ sym is))) (λ lt. absurd (omega arith))))
 
-      some : (getD firsts leader 0 < k) × (getD leaders (getD firsts leader 0) 0 ≡ leader) × ((j : ℕ) → j < getD firsts leader 0 → getD leaders j 0 ≡ leader → ⊥) → first ≡ least (λ j. eqb (getD leaders j 0) (getD leaders k 0)) k
+      some : (getD firsts leader 0 < k) × (getD leaders (getD firsts leader 0) 0 ≡ leader)
+          × ((j : ℕ) → j < getD firsts leader 0 → getD leaders j 0 ≡ leader → ⊥) → first ≡ least (λ j. eqb (getD leaders j 0) (getD leaders k 0)) k
       some h =
           let lt : getD firsts leader 0 < k = h .0 in
           o .answer ∙ rw (ne-eqb (getD firsts leader 0) noLeader (λ e. omega arith))
-          (sym (least-is (λ j. eqb (getD leaders j 0) (getD leaders k 0)) k (getD firsts leader 0) (omega arith) (λ i il. ne-eqb (getD leaders i 0) (getD leaders k 0) (λ e. h .2 i il (e ∙ sym is))) (λ l. eq-eqb (getD leaders (getD firsts leader 0) 0) (getD leaders k 0) (h .1 ∙ is))))
+          (sym (least-is (λ j. eqb (getD leaders j 0) (getD leaders k 0)) k (getD firsts leader 0) (omega arith)
+          (λ i il. ne-eqb (getD leaders i 0) (getD leaders k 0) (λ e. h .2 i il (e ∙ sym is)))
+          (λ l. eq-eqb (getD leaders (getD firsts leader 0) 0) (getD leaders k 0) (h .1 ∙ is))))
 
   abbrev Known : ℕ → ℕ → Type 0
-  Known r x = ((x ≡ noLeader) × ((j : ℕ) → j < k + 1 → getD leaders j 0 ≡ r → ⊥)) ⊎ ((x < k + 1) × (getD leaders x 0 ≡ r) × ((j : ℕ) → j < x → getD leaders j 0 ≡ r → ⊥))
+  Known r x =
+      ((x ≡ noLeader) × ((j : ℕ) → j < k + 1 → getD leaders j 0 ≡ r → ⊥))
+      ⊎ ((x < k + 1) × (getD leaders x 0 ≡ r) × ((j : ℕ) → j < x → getD leaders j 0 ≡ r → ⊥))
 
   pub firsts-next : m ≤ length firsts → Firsts leaders m (k + 1) firsts′
   firsts-next room = record { known = λ r rl. ⊎-elim (λ e. rw e here) (other r rl) (eq-or-ne r leader) }
@@ -157,7 +187,8 @@ module _ {leaders : List ℕ} {m k : ℕ} {firsts : List ℕ} (f : Firsts leader
       here =
           ⊎-elim
           (λ h. rw (o .leaves, eq-eqb (getD firsts leader 0) noLeader (h .0), getD-set-same firsts leader k 0 (omega arith)) (inr (omega arith, sym is, h .1)))
-          (λ h. let lt : getD firsts leader 0 < k = h .0 in rw (o .leaves, ne-eqb (getD firsts leader 0) noLeader (λ e. omega arith)) (inr (omega arith, h .1, h .2)))
+          (λ h. let lt : getD firsts leader 0 < k = h .0 in
+          rw (o .leaves, ne-eqb (getD firsts leader 0) noLeader (λ e. omega arith)) (inr (omega arith, h .1, h .2)))
           (f .known leader small)
 
       kept : (r : ℕ) → (r ≡ leader → ⊥) → getD firsts′ r 0 ≡ getD firsts r 0
@@ -202,8 +233,10 @@ module _ {b : Block} {m : ℕ} {entry leaders : List ℕ} (gatesAre : m ≡ gate
   unfolding firstLike leaderOf
   first-leads k kl =
       sym (least-is (sameGroup b k) (gateCount b) f (omega (arith, in-block kl, f-le))
-      (λ i il. not-true-false (sameGroup b k i) (λ g. not-both (eq-eqb (getD leaders i 0) (getD leaders k 0) (sym (a .grouped .alike k i kl (omega (arith, il, f-le)) g))) (least-below test k i il)))
-      (λ lt. ⊎-elim (λ h. same-led f k (omega arith) kl (eqb-true (getD leaders f 0) (getD leaders k 0) (least-at test k h))) (λ h. let e : f ≡ k = omega (arith, f-le) in rw e (sameGroup-refl b k (in-block kl))) (lt-or-le f k)))
+      (λ i il. not-true-false (sameGroup b k i)
+      (λ g. not-both (eq-eqb (getD leaders i 0) (getD leaders k 0) (sym (a .grouped .alike k i kl (omega (arith, il, f-le)) g))) (least-below test k i il)))
+      (λ lt. ⊎-elim (λ h. same-led f k (omega arith) kl (eqb-true (getD leaders f 0) (getD leaders k 0) (least-at test k h)))
+      (λ h. let e : f ≡ k = omega (arith, f-le) in rw e (sameGroup-refl b k (in-block kl))) (lt-or-le f k)))
     where
       test : ℕ → Bool
       test j = eqb (getD leaders j 0) (getD leaders k 0)
@@ -220,11 +253,15 @@ module _ {b : Block} {m : ℕ} {entry leaders : List ℕ} (gatesAre : m ≡ gate
         few = few;
         room = rw (a .sameLength) room;
         firstRoom = firstRoom;
-        below = λ j jl. ⊎-elim (λ h. absurd (a .led j jl h)) (λ h. subst (λ (c : ℕ). getD leaders j 0 < c) (sym gatesAre) (sameGroup-below b j (getD leaders j 0) (sameGroup-sym b (getD leaders j 0) j h))) (a .grouped .own j jl);
+        below =
+            λ j jl. ⊎-elim (λ h. absurd (a .led j jl h))
+            (λ h. subst (λ (c : ℕ). getD leaders j 0 < c) (sym gatesAre) (sameGroup-below b j (getD leaders j 0) (sameGroup-sym b (getD leaders j 0) j h)))
+            (a .grouped .own j jl);
       }
 
   pub lowest-led : {final : List ℕ} → m ≤ length entry → final ≡ placed (tab (firstLike leaders) m) leaders → final ≡ placed (tab (leaderOf b) m) entry
   lowest-led {final} room e =
       placed-is (leaderOf b) m entry final room (rw (e, length-append, length-drop, length-tab (firstLike leaders) m) (omega (arith, a .sameLength)))
       (λ k kl. rw e (placed-tab (firstLike leaders) m leaders k 0 kl) ∙ first-leads k kl)
-      (λ k h. rw e (rw (length-tab (firstLike leaders) m) (getD-past (tab (firstLike leaders) m) leaders m k 0 (length-tab (firstLike leaders) m) h)) ∙ a .rest k h)
+      (λ k h. rw e (rw (length-tab (firstLike leaders) m) (getD-past (tab (firstLike leaders) m) leaders m k 0 (length-tab (firstLike leaders) m) h))
+      ∙ a .rest k h)

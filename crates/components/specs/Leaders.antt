@@ -1,4 +1,4 @@
--- The leader of a strongly connected group is its lowest gate; and how leaders are found, on arrays: a gate's leader or 65535.
+-- The leader of a strongly connected group is its lowest gate; and how leaders are found, on arrays: a gate's leader, or the mark of none.
 use Prim.Native.Nat.{ℕ, _-_, _≤_, _<_}
 use mathlib.Core.Path.{_≡_}
 use mathlib.Core.Logic.{_⊎_}
@@ -7,11 +7,13 @@ use mathlib.Core.List.{List}
 use lib.ListN.{length, getD, set}
 use lib.Dec.{eqb}
 use Rattle.laws.specs.Lists.{any, countBelow, least}
+use Rattle.netlist.specs.Limits.{maxGates}
 use Rattle.netlist.specs.Netlist.{Block, gateCount}
 use Rattle.netlist.specs.StoredBlock.{decode}
 use Rattle.netlist.specs.Groups.{sameGroup}
 use Rattle.search.specs.Search.{gateReads, GatesReady, SearchReady}
 
+-- the code's layout::nodes::NONE, which is no gate
 abbrev pub noLeader : ℕ
 noLeader = 65535
 
@@ -38,7 +40,8 @@ pub record LedOne (ws : List ℕ) (n m gates leader k : ℕ) (leaders leaders′
 -- queued gates that join `leader`, one after the other, in any order
 pub data Joined (ws : List ℕ) (n m gates leader : ℕ) (queue : List ℕ) (count : ℕ) (entry : List ℕ) : List ℕ → Type 0 where
   none : Joined ws n m gates leader queue count entry entry
-  more : {leaders : List ℕ} → Joined ws n m gates leader queue count entry leaders → (q : ℕ) → q < count → joins ws n m gates leader leaders (getD queue q 0) ≡ true → Joined ws n m gates leader queue count entry (set leaders (getD queue q 0) leader)
+  more : {leaders : List ℕ} → Joined ws n m gates leader queue count entry leaders → (q : ℕ) → q < count
+      → joins ws n m gates leader leaders (getD queue q 0) ≡ true → Joined ws n m gates leader queue count entry (set leaders (getD queue q 0) leader)
 
 -- how many gates have no leader
 unfoldable pub unled : List ℕ → ℕ → ℕ
@@ -77,7 +80,7 @@ pub record Grouped (b : Block) (m : ℕ) (leaders : List ℕ) : Type 0 where
   pub own : (j : ℕ) → j < m → (getD leaders j 0 ≡ noLeader) ⊎ (sameGroup b (getD leaders j 0) j ≡ true)
 
 -- it is `leader`'s turn
-pub record LeadReady (ws : List ℕ) (m leader : ℕ) (leaders : List ℕ) : Type 0 where
+pub record TurnReady (ws : List ℕ) (m leader : ℕ) (leaders : List ℕ) : Type 0 where
   pub below : leader < m
   pub room : m ≤ length leaders
   pub grouped : Grouped (decode ws) m leaders
@@ -114,7 +117,7 @@ pub record FirstLed (leader k : ℕ) (firsts firsts′ : List ℕ) (first : ℕ)
 
 -- what `lower` needs
 pub record LowerReady (m : ℕ) (leaders firsts : List ℕ) : Type 0 where
-  pub few : m ≤ 1024
+  pub few : m ≤ maxGates
   pub room : m ≤ length leaders
   pub firstRoom : m ≤ length firsts
   pub below : (j : ℕ) → j < m → getD leaders j 0 < m

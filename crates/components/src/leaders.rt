@@ -1,59 +1,57 @@
 // The lowest gate of each gate's strongly connected group, its leader. Gates are taken one by one; one without a leader leads itself and those
 // gates that it reaches, past no gate that has a leader, and that reach it back. At last each group's lowest gate becomes its leader.
+use layout::fill::fill_words;
+use layout::nodes::NONE;
+use layout::nodes::gate_named;
+use layout::offsets::GATE_SIZE;
+use layout::read::word_at;
+use search::walk::queue_reach;
 ghost use mathlib.Core.Path.{_≡_};
 ghost use Prim.Native.Nat.{_/_, _+_, _≤_, _<_};
 ghost use mathlib.Core.List.{_++_};
 ghost use lib.ListN.{length, getD, drop, replicate};
 ghost use Rattle.laws.specs.Lists.{any, tab, placed};
+ghost use Rattle.netlist.specs.Limits.{maxGates};
 ghost use Rattle.netlist.specs.StoredBlock.{decode};
 ghost use Rattle.search.specs.Search.{wordGate, wordGates, GatesReady};
-ghost use Rattle.components.specs.Leaders.{leaderOf, noLeader, barredBy, ledBy, LedOne, Swept, Spread, QueueReady, LeadReady, LeadReady, GroupLed, AllLed, takenAt, FirstLed, LowerReady, firstLike};
-use layout::read::word_at;
-use search::walk::queue_reach;
+ghost use Rattle.components.specs.Leaders.{leaderOf, noLeader, barredBy, ledBy, LedOne, Swept, Spread, QueueReady, TurnReady, LeadReady, GroupLed, AllLed};
+ghost use Rattle.components.specs.Leaders.{takenAt, FirstLed, LowerReady, firstLike};
 
-pub const NO_LEADER: usize = 65535;
-
-// Stores 65535, which is no gate, for each gate.
-pub fn forget(m: usize, leaders: &mut [u16])
-    requires { ⌜ (m ≤ length (now leaders)) × (m ≤ 1024) ⌝ }
-    ensures { λ r. ⌜ now (leaders .exit) ≡ replicate m noLeader ++ drop m (now (leaders .entry)) ⌝ }
+// Stores the mark of none for each of the m gates.
+pub fn forget(m: usize, table: &mut [u16])
+    requires { ⌜ m ≤ length (now table) ⌝ }
+    ensures { λ r. ⌜ now (table .exit) ≡ replicate m noLeader ++ drop m (now (table .entry)) ⌝ }
 {
-    let mut i = 0;
-    while i < m {
-        leaders[i] = 65535;
-        i += 1;
-    }
+    fill_words(table, m, NONE as u16);
 }
 
 // Marks the gates that have a leader.
 fn bar(m: usize, leaders: &[u16], flags: &mut [u8])
-    requires { ⌜ (m ≤ length (now flags)) × (m ≤ 1024) ⌝ }
+    requires { ⌜ (m ≤ length (now flags)) × (m ≤ maxGates) ⌝ }
     ensures { λ r. ⌜ now (flags .exit) ≡ placed (tab (barredBy (now (leaders .entry))) m) (now (flags .entry)) ⌝ }
 {
     let mut i = 0;
     while i < m {
-        flags[i] = (word_at(leaders, i) != NO_LEADER) as u8;
+        flags[i] = (word_at(leaders, i) != NONE) as u8;
         i += 1;
     }
 }
 
 // The operand word names a gate that `leader` leads.
 fn is_led(w: usize, n: usize, m: usize, leaders: &[u16], leader: usize) -> bool
-    requires { ⌜ (n ≤ 65535) × (m ≤ 1024) ⌝ }
+    requires { ⌜ (n ≤ 65535) × (m ≤ maxGates) ⌝ }
     ensures { λ r. ⌜ r ≡ any (ledBy (now (leaders .entry)) leader) (wordGate n m w) ⌝ }
 {
-    if w < n {
+    let k = gate_named(w, n, m);
+    if m <= k {
         return false;
     }
-    if n + m <= w {
-        return false;
-    }
-    word_at(leaders, w - n) == leader
+    word_at(leaders, k) == leader
 }
 
 // The gate at `at` reads such a gate.
 fn reads_led(words: &[u16], n: usize, m: usize, at: usize, leaders: &[u16], leader: usize) -> bool
-    requires { ⌜ (at ≤ 65535) × (n ≤ 65535) × (m ≤ 1024) ⌝ }
+    requires { ⌜ (at ≤ 65535) × (n ≤ 65535) × (m ≤ maxGates) ⌝ }
     ensures { λ r. ⌜ r ≡ any (ledBy (now (leaders .entry)) leader) (wordGates (now (words .entry)) n m at (getD (now (words .entry)) at 0 / 8)) ⌝ }
 {
     let count = word_at(words, at) / 8;
@@ -80,10 +78,10 @@ fn lead_gate(
     requires { ⌜ (k < m) × (leader < m) × (m ≤ length (now leaders)) × GatesReady (now words) n m gates ⌝ }
     ensures { λ r. ⌜ LedOne (now (words .entry)) n m gates leader k (now (leaders .entry)) (now (leaders .exit)) r ⌝ }
 {
-    if word_at(leaders, k) != NO_LEADER {
+    if word_at(leaders, k) != NONE {
         return false;
     }
-    if !reads_led(words, n, m, gates + 5 * k, leaders, leader) {
+    if !reads_led(words, n, m, gates + GATE_SIZE * k, leaders, leader) {
         return false;
     }
     leaders[k] = leader as u16;
@@ -146,10 +144,10 @@ fn lead_group(
     flags: &mut [u8],
     queue: &mut [u16],
 )
-    requires { ⌜ LeadReady (now words) m leader (now leaders) × LeadReady (now words) n m gates (now flags) (now queue) ⌝ }
+    requires { ⌜ TurnReady (now words) m leader (now leaders) × LeadReady (now words) n m gates (now flags) (now queue) ⌝ }
     ensures { λ r. ⌜ GroupLed (decode (now (words .entry))) m leader (now (leaders .entry)) (now (leaders .exit)) ⌝ }
 {
-    if word_at(leaders, leader) != NO_LEADER {
+    if word_at(leaders, leader) != NONE {
         return;
     }
     bar(m, leaders, flags);
@@ -161,13 +159,13 @@ fn lead_group(
 // More than every second gate reads a higher gate, or some read several. It decides the order in which gates are taken; any is right, but a
 // gate whose operands have leaders costs least.
 fn reads_upward(words: &[u16], n: usize, m: usize, gates: usize) -> bool
-    requires { ⌜ (n ≤ 65535) × (m ≤ 1024) × (gates ≤ 1024) ⌝ }
+    requires { ⌜ (n ≤ 65535) × (m ≤ maxGates) × (gates ≤ 1024) ⌝ }
 {
     let mut upward = 0;
     let mut p = 0;
-    while p < 5 * m {
+    while p < GATE_SIZE * m {
         let w = word_at(words, gates + p);
-        if n + p / 5 < w {
+        if n + p / GATE_SIZE < w {
             if w < n + m {
                 upward += 1;
             }
@@ -221,11 +219,11 @@ fn lead_groups(
 
 // The first gate that had this leader; gate k, if none had.
 fn first_led(leader: usize, k: usize, firsts: &mut [u16]) -> usize
-    requires { ⌜ (leader < length (now firsts)) × (k < 1024) ⌝ }
+    requires { ⌜ (leader < length (now firsts)) × (k < maxGates) ⌝ }
     ensures { λ r. ⌜ FirstLed leader k (now (firsts .entry)) (now (firsts .exit)) r ⌝ }
 {
     let first = word_at(firsts, leader);
-    if first != NO_LEADER {
+    if first != NONE {
         return first;
     }
     firsts[leader] = k as u16;

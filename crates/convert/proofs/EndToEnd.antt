@@ -42,7 +42,11 @@ module _ (text ws : List ℕ) (count detail : ℕ) (e : readText text ≡ done w
         renders = r;
       }
 
-  by-tests : (t m s : Bool) → isTorn ws ≡ t → ltb maxCopies (copyCount (decode ws)) ≡ m → isSound (decode ws) ≡ s → Wrote (chained (refuseIf t MalformedBlock (refuseIf m TooManyCopies (refuseIf (not s) (NotSettled (lowestUnsettled (decode ws))) (counted (encode (rendering (decode ws))))))) writeWords) → Faithful text
+  by-tests : (t m s : Bool) → isTorn ws ≡ t → ltb maxCopies (copyCount (decode ws)) ≡ m → isSound (decode ws) ≡ s
+      → Wrote (chained
+      (refuseIf t MalformedBlock
+      (refuseIf m TooManyCopies (refuseIf (not s) (NotSettled (lowestUnsettled (decode ws))) (counted (encode (rendering (decode ws))))))) writeWords)
+      → Faithful text
   unfolding renderWords renderBlock refuseIf chained Wrote
   by-tests true m s et em es h = absurd h
   by-tests false true s et em es h = absurd h

@@ -9,7 +9,7 @@ use lib.ListN.{length}
 use lib.Dec.{ltb}
 use borrow.Author.Tests.{ltb-false}
 use Rattle.netlist.specs.declared.Refusal.{Refusal}
-use Rattle.netlist.specs.Limits.{maxText, maxCopies}
+use Rattle.netlist.specs.Limits.{maxText, maxCopies, maxBlock, maxWritten}
 use Rattle.netlist.specs.Netlist.{inputCount}
 use Rattle.netlist.specs.StoredBlock.{gatesAt, outputsAt, encode, decode, isTorn}
 use Rattle.netlist.specs.Cover.{isSound}
@@ -26,12 +26,10 @@ use Rattle.encoding.proofs.RoundTrip.{whole-wellFormed}
 use Rattle.encoding.proofs.WellFormed.{wellFormed-parts}
 use Rattle.grammar.proofs.WritingLength.{written-length}
 use Rattle.agreement.proofs.Block.{rendering-count, rendering-inputs, length-rendering-outputs}
-use Rattle.names.specs.declared.Limits.the-variants.{Within}
-use Rattle.names.specs.Results.{treeCounts, limitsOf}
+use Rattle.names.specs.Results.{treeCounts}
 use Rattle.names.proofs.TreeCounts.{limits-within}
 use Rattle.reading.specs.Words.{wordCount}
 use Rattle.reading.proofs.BlockWords.{block-length}
-use Rattle.convert.specs.Shown.{maxWords, maxWritten}
 use Rattle.convert.proofs.Telling.{Fits}
 
 module _ (room : ℕ) where
@@ -65,7 +63,7 @@ module _ (room : ℕ) where
       if-fits (isTorn ws) _ _
       (λ whole. counted-fits (writtenText (decode ws)) (omega (arith, h, written-length (decode ws) (whole-wellFormed ws whole))))
 
-  module _ (h : maxWords ≤ room) where
+  module _ (h : maxBlock ≤ room) where
     rendered-length : (ws : List ℕ) → isTorn ws ≡ false → copyCount (decode ws) ≤ maxCopies → length (encode (rendering (decode ws))) ≤ room
     unfolding outputsAt gatesAt
     rendered-length ws whole few =
@@ -83,10 +81,9 @@ module _ (room : ℕ) where
         (λ s. counted-fits (encode (rendering (decode ws))) (rendered-length ws whole (ltb-false maxCopies (copyCount (decode ws)) few)))))
 
     read-length : (t : Tree) → isOverLimit t ≡ false → length (encode (blockOf t)) ≤ room
-    unfolding wordCount treeCounts limitsOf
+    unfolding wordCount treeCounts
     read-length t o =
-        let e : limitsOf t ≡ Within = rw o refl in
-        let l = limits-within t e in
+        let l = limits-within t o in
         omega (arith, h, block-length t (treeCounts t) refl, l .inputs, l .gates, l .outputs)
 
     parsed-fits : (text : List ℕ) (p : Parsed Tree) → Fits room (readParsed text p)

@@ -1,4 +1,4 @@
--- What the answer of an operation with enough room tells of its outcome. Assumes nothing.
+-- What the promise of an operation with enough room tells of its outcome. Assumes nothing.
 use mathlib.Core.Path.{_≡_, refl, sym, ap, _∙_}
 use mathlib.Core.List.{List}
 use Prim.Native.Nat.{ℕ, _≤_}
@@ -10,9 +10,10 @@ use Rattle.laws.proofs.Slices.{placed-room, take-placed}
 use Rattle.netlist.specs.declared.Refusal.{Refusal}
 use Rattle.netlist.specs.declared.Answer.{Answer}
 use Rattle.netlist.specs.declared.Answer.the-variants.{Done, Refused}
-use Rattle.netlist.specs.Answers.{Outcome, done, refused, refuseIf, inRoom, answerOf, leftIn}
+use Rattle.netlist.specs.Answers.{Outcome, done, refused, refuseIf, inRoom, answerOf, leftIn, Promise}
 use Rattle.netlist.specs.Operations.{readText, renderWords, writeWords}
 use Rattle.netlist.specs.Program.{chained, shown, unloop}
+use Rattle.refusals.proofs.Promised.{promise-answer}
 use Rattle.convert.specs.Shown.{Shown, Converted}
 
 -- the result fits, and the count is its length
@@ -34,12 +35,12 @@ pub record Gave (o : Outcome) (entry exit : List ℕ) (count detail : ℕ) : Typ
   pub left : exit ≡ placed result entry
 
 module _ (o : Outcome) (a : Answer) (entry exit : List ℕ) (f : Fits (length entry) o)
-    (answers : a ≡ answerOf (inRoom (length entry) o)) (leaves : exit ≡ leftIn (inRoom (length entry) o) entry) where
+    (p : Promise (inRoom (length entry) o) entry a exit) where
   answer : a ≡ answerOf o
-  answer = answers ∙ ap answerOf (in-room (length entry) o f)
+  answer = promise-answer p ∙ ap answerOf (in-room (length entry) o f)
 
   left-is : exit ≡ leftIn o entry
-  left-is = leaves ∙ ap (λ (u : Outcome). leftIn u entry) (in-room (length entry) o f)
+  left-is = p .leaves ∙ ap (λ (u : Outcome). leftIn u entry) (in-room (length entry) o f)
 
   pub told-refused : (r : Refusal) → a ≡ Refused r → o ≡ refused r
   unfolding answerOf
@@ -76,7 +77,8 @@ module _ (o : Outcome) (a : Answer) (entry exit : List ℕ) (f : Fits (length en
 
 -- ---- one operation after another
 
-pub shown-refused : (o : Outcome) (r : Refusal) (entry mid exit : List ℕ) (n : ℕ) → o ≡ refused r → mid ≡ entry → Shown (refused r) mid exit n → Shown o entry exit n
+pub shown-refused : (o : Outcome) (r : Refusal) (entry mid exit : List ℕ) (n : ℕ) → o ≡ refused r → mid ≡ entry → Shown (refused r) mid exit n
+    → Shown o entry exit n
 shown-refused o r entry mid exit n e k s = rw (e, ← k) s
 
 pub chained-refused : (o : Outcome) (next : List ℕ → Outcome) (r : Refusal) → o ≡ refused r → chained o next ≡ refused r
@@ -98,7 +100,8 @@ shown-is e s = rw e s
 pub gave-within : {o : Outcome} {entry exit : List ℕ} {count detail : ℕ} → Gave o entry exit count detail → count ≤ length exit
 gave-within {o} {entry} g = rw (g .left) (placed-room (g .result) entry (sym (g .counts)))
 
-shown-converted : (text : List ℕ) {entry exit : List ℕ} {n : ℕ} → Shown (chained (chained (readText text) renderWords) writeWords) entry exit n → Converted text entry exit n
+shown-converted : (text : List ℕ) {entry exit : List ℕ} {n : ℕ} → Shown (chained (chained (readText text) renderWords) writeWords) entry exit n
+    → Converted text entry exit n
 unfolding unloop
 shown-converted text {entry} s =
     record {
@@ -107,7 +110,8 @@ shown-converted text {entry} s =
       within = rw (s .textIs) (placed-room (shown (chained (chained (readText text) renderWords) writeWords)) entry (sym (s .countIs)));
     }
 
-pub unloop-refused : (text : List ℕ) (r : Refusal) {entry exit : List ℕ} {n : ℕ} → readText text ≡ refused r → Shown (refused r) entry exit n → Converted text entry exit n
+pub unloop-refused : (text : List ℕ) (r : Refusal) {entry exit : List ℕ} {n : ℕ} → readText text ≡ refused r → Shown (refused r) entry exit n
+    → Converted text entry exit n
 unloop-refused text r e s =
     shown-converted text
     (shown-is (chained-refused (chained (readText text) renderWords) writeWords r (chained-refused (readText text) renderWords r e)) s)

@@ -7,14 +7,6 @@ use Rattle.laws.specs.Lists.{placed}
 use Rattle.netlist.specs.Answers.{Outcome}
 use Rattle.netlist.specs.Program.{shown, unloop}
 
--- the words of the largest block: 3 + 4 × 10 + 5 × 1,024 + 5 × 16
-abbrev pub maxWords : ℕ
-maxWords = 5243
-
--- the bytes of the longest written text
-abbrev pub maxWritten : ℕ
-maxWritten = 56758
-
 -- room for a refusal's line
 abbrev pub maxLine : ℕ
 maxLine = 64

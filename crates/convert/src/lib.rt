@@ -1,15 +1,16 @@
-// What the program writes: Read, Render and Write one after the other, or the line of the refusal (document 01, "The program").
+// What the program writes: Read, Render and Write one after the other, or the line of the refusal (SPECIFICATION 8).
+use layout::limits::BLOCK_WORDS;
 use netlist::Answer;
 use reading::read;
 use refusal::tell;
 use render::render;
 use writing::write;
-ghost use mathlib.Core.Path.{_≡_};
 ghost use Prim.Native.Nat.{_≤_};
 ghost use lib.ListN.{length};
-ghost use Rattle.netlist.specs.Operations.{readText, renderWords, writeWords};
-ghost use Rattle.netlist.specs.Program.{chained, unloop};
-ghost use Rattle.convert.specs.Shown.{maxWords, maxWritten, Shown, Converted};
+ghost use Rattle.netlist.specs.Limits.{maxBlock, maxWritten};
+ghost use Rattle.netlist.specs.Operations.{renderWords, writeWords};
+ghost use Rattle.netlist.specs.Program.{chained};
+ghost use Rattle.convert.specs.Shown.{Shown, Converted};
 
 mod refusal;
 
@@ -26,7 +27,7 @@ fn convert_rendered(words: &[u16], out: &mut [u8]) -> usize
 
 // Render and what follows, or the refusal.
 fn convert_block(words: &[u16], copies: &mut [u16], out: &mut [u8]) -> usize
-    requires { ⌜ (maxWords ≤ length (now copies)) × (maxWritten ≤ length (now out)) ⌝ }
+    requires { ⌜ (maxBlock ≤ length (now copies)) × (maxWritten ≤ length (now out)) ⌝ }
     ensures { λ r. ⌜ Shown (chained (renderWords (now (words .entry))) writeWords) (now (out .entry)) (now (out .exit)) r ⌝ }
 {
     match render(words, copies) {
@@ -37,7 +38,7 @@ fn convert_block(words: &[u16], copies: &mut [u16], out: &mut [u8]) -> usize
 
 // Read and what follows, or the refusal.
 fn convert_with(text: &[u8], block: &mut [u16], copies: &mut [u16], out: &mut [u8]) -> usize
-    requires { ⌜ (maxWords ≤ length (now block)) × (maxWords ≤ length (now copies)) × (maxWritten ≤ length (now out)) ⌝ }
+    requires { ⌜ (maxBlock ≤ length (now block)) × (maxBlock ≤ length (now copies)) × (maxWritten ≤ length (now out)) ⌝ }
     ensures { λ r. ⌜ Converted (now (text .entry)) (now (out .entry)) (now (out .exit)) r ⌝ }
 {
     match read(text, block) {
@@ -51,7 +52,7 @@ pub fn convert(text: &[u8], out: &mut [u8]) -> usize
     requires { ⌜ maxWritten ≤ length (now out) ⌝ }
     ensures { λ r. ⌜ Converted (now (text .entry)) (now (out .entry)) (now (out .exit)) r ⌝ }
 {
-    let mut block = [0u16; 5243];
-    let mut copies = [0u16; 5243];
+    let mut block = [0u16; BLOCK_WORDS];
+    let mut copies = [0u16; BLOCK_WORDS];
     convert_with(text, &mut block, &mut copies, out)
 }

@@ -9,6 +9,7 @@ use native.Mathlib.Nat.{add-zero}
 use native.Mathlib.Omega.{arith}
 use lib.ListN.{length, getD, set, drop, replicate, length-replicate, getD-replicate, List·getD-append}
 use lib.Seq.{getD-set-same, getD-set-other}
+use Rattle.laws.specs.Lists.{placed}
 use Rattle.laws.proofs.Tab.{tab-ext}
 use Rattle.laws.proofs.Tests.{lt-or-le, eq-or-ne}
 use Rattle.netlist.specs.Netlist.{Operand, gate, constant}
@@ -100,10 +101,10 @@ module _ (n m : ℕ) (few : n + m ≤ 65534) (table : List ℕ) (newest : List O
 
 -- At first constant 0 stands for each gate.
 pub stands-none : (n m : ℕ) (entry : List ℕ) (count : ℕ) → count ≡ m
-    → Stands n m (replicate m 65534 ++ drop m entry) (replicate count (constant false))
+    → Stands n m (placed (replicate m 65534) entry) (replicate count (constant false))
 unfolding nodeWord
 stands-none n m entry count e j l =
-    List·getD-append (replicate m 65534) (drop m entry) 0 j (rw (length-replicate {A = ℕ} m 65534) l)
+    List·getD-append (replicate m 65534) (drop (length (replicate {A = ℕ} m 65534)) entry) 0 j (rw (length-replicate {A = ℕ} m 65534) l)
     ∙ getD-replicate {A = ℕ} m j 65534 0 l
     ∙ sym (ap (nodeWord n) (getD-replicate count j (constant false) (constant false) (rw e l)))
 

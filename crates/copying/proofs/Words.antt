@@ -5,15 +5,17 @@ use mathlib.Core.Logic.{_⊎_, inl, inr}
 use mathlib.Core.Bool.{Bool, true, false, cond, _&&_}
 use mathlib.Core.List.{List}
 use native.Mathlib.Numerals.{add-one}
+use native.Mathlib.Omega.{arith}
 use borrow.Author.Tests.{lt-ltb, le-ltb, le-leb, lt-leb}
 use lib.ListN.{length, getD, set, length-set}
 use lib.Dec.{leb, ltb}
 use lib.Seq.{sets}
 use Rattle.laws.specs.Lists.{tab, joined}
 use Rattle.laws.proofs.Stores.{sets-joined-next}
+use Rattle.layout.specs.Nodes.{gateNamed}
 use Rattle.copying.specs.Words.{mappedWord, entryWord, entryWords, tableAfter, copyWords, copyAt, shownAt}
 
--- The choice that both kinds of words make: inside a range, or not.
+-- Inside a range, or not.
 between : {A : Type 0} (a x b : ℕ) (y z : A) → a ≤ x → x < b → cond (leb a x && ltb x b) y z ≡ y
 between a x b y z l k = rw (le-leb a x l, lt-ltb x b k) refl
 
@@ -25,15 +27,32 @@ outside a x b y z (inr l) = go (leb a x)
     go true = rw (le-ltb x b l) refl
     go false = refl
 
--- A gate's word is mapped,
-pub mapped-gate : (n m : ℕ) (newest : List ℕ) (w : ℕ) → n ≤ w → w < n + m → mappedWord n m newest w ≡ getD newest (w - n) 0
-unfolding mappedWord
-mapped-gate n m newest w l k = between n w (n + m) (getD newest (w - n) 0) w l k
+-- Of the gate k that `gate_named` answered: its word is mapped,
+module _ (n m : ℕ) (newest : List ℕ) (w : ℕ) {k : ℕ} (is : k ≡ gateNamed n m w) where
+  pub mapped-named : k < m → mappedWord n m newest w ≡ getD newest k 0
+  unfolding mappedWord
+  mapped-named l = rw (← is, lt-ltb k m l) refl
 
--- and any other kept.
+  -- and any other kept.
+  pub mapped-none : m ≤ k → mappedWord n m newest w ≡ w
+  unfolding mappedWord
+  mapped-none l = rw (← is, le-ltb k m l) refl
+
+-- The same by the word.
+pub mapped-gate : (n m : ℕ) (newest : List ℕ) (w : ℕ) → n ≤ w → w < n + m → mappedWord n m newest w ≡ getD newest (w - n) 0
+unfolding gateNamed
+mapped-gate n m newest w lo hi = mapped-named n m newest w names (omega arith)
+  where
+    names : w - n ≡ gateNamed n m w
+    names = rw (le-ltb w n lo, lt-ltb w (n + m) hi) refl
+
 pub mapped-other : (n m : ℕ) (newest : List ℕ) (w : ℕ) → (w < n) ⊎ (n + m ≤ w) → mappedWord n m newest w ≡ w
-unfolding mappedWord
-mapped-other n m newest w h = outside n w (n + m) (getD newest (w - n) 0) w h
+unfolding gateNamed
+mapped-other n m newest w h = mapped-none n m newest w (names h) (omega arith)
+  where
+    names : (w < n) ⊎ (n + m ≤ w) → m ≡ gateNamed n m w
+    names (inl lo) = rw (lt-ltb w n lo) refl
+    names (inr hi) = rw (le-ltb w n (omega arith), le-ltb w (n + m) hi) refl
 
 module _ (ws : List ℕ) (from n m first last : ℕ) (newest : List ℕ) where
   -- A word in the range is mapped,

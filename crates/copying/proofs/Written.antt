@@ -13,7 +13,8 @@ use Rattle.laws.proofs.Lists.{joined-snoc}
 use Rattle.laws.proofs.Stores.{sets-append, length-joined-tab}
 use Rattle.laws.proofs.Slices.{sets-placed}
 use Rattle.netlist.specs.Netlist.{Operand, gate, constant, Gate, Output, Block, inputCount, gateCount, outputCount, gateOf}
-use Rattle.netlist.specs.StoredBlock.{gateSize, outputSize, gatesAt, outputsAt, nameWords, nameAt, nodeWord, gateWords, gateAt, outputWords, outputAt, encode, decode, isTorn}
+use Rattle.netlist.specs.StoredBlock.{gateSize, outputSize, gatesAt, outputsAt, nameWords, nameAt, nodeWord, gateWords, gateAt, outputWords, outputAt}
+use Rattle.netlist.specs.StoredBlock.{encode, decode, isTorn}
 use Rattle.netlist.specs.Rendering.{schedule, noCopies, copiedOperand, copied, copies, newestAfter, lastCopies, rendering}
 use Rattle.encoding.proofs.ListFacts.{joined-tab}
 use Rattle.encoding.proofs.Names.{nameWords-nameAt}
@@ -202,10 +203,14 @@ module _ (ws : List ℕ) (n m k : ℕ) (order : List ℕ) (total : ℕ) (newest 
       }
 
   pub ordered : Order m total order
-  ordered = record { listed = omega (arith, sym (length-take total order) ∙ ap {B = ℕ} length (r .scheduled) ∙ sym (r .totalIs)); inside = ordered-below ws n m k (r .whole) (r .inputsAre) (r .gatesAre) (r .outputsAre) order total (r .totalIs) (r .scheduled) }
+  ordered =
+      record {
+        listed = omega (arith, sym (length-take total order) ∙ ap {B = ℕ} length (r .scheduled) ∙ sym (r .totalIs));
+        inside = ordered-below ws n m k (r .whole) (r .inputsAre) (r .gatesAre) (r .outputsAre) order total (r .totalIs) (r .scheduled);
+      }
 
   pub rendering-written : (table out₁ out₂ out₃ last out₄ : List ℕ) → out₁ ≡ sets out 0 (n ∷ total ∷ k ∷ [])
-      → out₂ ≡ sets out₁ 3 (tab (wordFrom ws 3) (4 * n)) → table ≡ replicate m 65534 ++ drop m newest
+      → out₂ ≡ sets out₁ 3 (tab (wordFrom ws 3) (4 * n)) → table ≡ placed (replicate m 65534) newest
       → out₃ ≡ sets out₂ (3 + 4 * n) (joined (tab (copyAt ws (3 + 4 * n) n m order table) total)) → last ≡ tableAfter n order table total
       → out₄ ≡ sets out₃ (3 + 4 * n + 5 * total) (joined (tab (shownAt ws (3 + 4 * n + 5 * m) n m last) k))
       → out₄ ≡ placed (encode (rendering (decode ws))) out
@@ -228,7 +233,8 @@ module _ (ws : List ℕ) (n m k : ℕ) (order : List ℕ) (total : ℕ) (newest 
       outputs = joined (tab (shownAt ws (3 + 4 * n + 5 * m) n m last) k)
 
       long : m ≤ length table
-      long = rw (et, length-append (replicate {A = ℕ} m 65534) (drop m newest), length-replicate {A = ℕ} m 65534) (omega arith)
+      long =
+          rw (et, length-append (replicate {A = ℕ} m 65534) (drop (length (replicate {A = ℕ} m 65534)) newest), length-replicate {A = ℕ} m 65534) (omega arith)
 
       none : Stands n m table (noCopies (decode ws))
       none = rw et (stands-none n m newest (gateCount (decode ws)) (decode-gateCount ws ∙ sym (r .gatesAre)))

@@ -1,18 +1,20 @@
 -- Words copied while a rendering is written: which are mapped through the table of newest copies, and what copying asks of its slices.
 -- The contracts of this crate cite it. Assumes nothing.
-use Prim.Native.Nat.{ℕ, zero, suc, _+_, _-_, _*_, _/_, _≤_, _<_}
+use Prim.Native.Nat.{ℕ, zero, suc, _+_, _*_, _/_, _≤_, _<_}
 use mathlib.Core.Path.{_≡_}
 use mathlib.Core.Bool.{false, cond, _&&_}
 use mathlib.Core.List.{List}
 use lib.ListN.{length, getD, set, take}
 use lib.Dec.{leb, ltb}
 use Rattle.laws.specs.Lists.{tab}
+use Rattle.layout.specs.Nodes.{gateNamed}
+use Rattle.netlist.specs.Limits.{maxCopies}
 use Rattle.netlist.specs.StoredBlock.{decode, encode, isTorn}
 use Rattle.netlist.specs.Rendering.{schedule, rendering}
 
 -- a gate's word gives its entry in the table, any other word itself
 unfoldable pub mappedWord : ℕ → ℕ → List ℕ → ℕ → ℕ
-mappedWord n m newest w = cond (leb n w && ltb w (n + m)) (getD newest (w - n) 0) w
+mappedWord n m newest w = cond (ltb (gateNamed n m w) m) (getD newest (gateNamed n m w) 0) w
 
 -- word i of the five at `from`: mapped from `first` on and below `last`, else kept
 unfoldable pub entryWord : List ℕ → ℕ → ℕ → ℕ → ℕ → ℕ → List ℕ → ℕ → ℕ
@@ -70,7 +72,7 @@ pub record CopyReady (ws : List ℕ) (n m k : ℕ) (order : List ℕ) (total : �
   pub gatesAre : m ≡ getD ws 1 0
   pub outputsAre : k ≡ getD ws 2 0
   pub totalIs : total ≡ length (schedule (decode ws))
-  pub fewCopies : total ≤ 1024
+  pub fewCopies : total ≤ maxCopies
   pub scheduled : take total order ≡ schedule (decode ws)
   pub table : m ≤ length newest
   pub room : length (encode (rendering (decode ws))) ≤ length out

@@ -1,8 +1,9 @@
 // Words copied from one slice to another, some of them mapped through the table of newest copies.
+use layout::nodes::gate_named;
+use layout::offsets::GATE_SIZE;
 ghost use mathlib.Core.Path.{_≡_};
-ghost use mathlib.Core.List.{_++_};
 ghost use Prim.Native.Nat.{_+_, _≤_, _<_};
-ghost use lib.ListN.{length, drop, replicate};
+ghost use lib.ListN.{length};
 ghost use lib.Seq.{sets};
 ghost use Rattle.laws.specs.Lists.{tab};
 ghost use Rattle.copying.specs.Words.{mappedWord, entryWord, entryWords, wordFrom, EntryRoom};
@@ -12,11 +13,9 @@ fn mapped(w: u16, n: usize, m: usize, newest: &[u16]) -> u16
     requires { ⌜ (n + m ≤ 65534) × (m ≤ length (now newest)) ⌝ }
     ensures { λ r. ⌜ r ≡ mappedWord n m (now (newest .entry)) w ⌝ }
 {
-    let node = w as usize;
-    if n <= node {
-        if node < n + m {
-            return newest[node - n];
-        }
+    let k = gate_named(w as usize, n, m);
+    if k < m {
+        return newest[k];
     }
     w
 }
@@ -44,7 +43,7 @@ fn entry_word(
     w
 }
 
-// Copies the five words at `from` to `to`; those from `first` on and below `last` are mapped.
+// Copies the five words of a gate or an output at `from` to `to`; those from `first` on and below `last` are mapped.
 pub fn copy_entry(
     words: &[u16],
     from: usize,
@@ -60,7 +59,7 @@ pub fn copy_entry(
     ensures { λ r. ⌜ now (out .exit) ≡ sets (now (out .entry)) to (entryWords (now (words .entry)) from n m first last (now (newest .entry))) ⌝ }
 {
     let mut i = 0;
-    while i < 5 {
+    while i < GATE_SIZE {
         let w = entry_word(words, from, n, m, first, last, newest, i);
         out[to + i] = w;
         i += 1;
@@ -75,18 +74,6 @@ pub fn copy_words(words: &[u16], at: usize, count: usize, out: &mut [u16])
     let mut i = 0;
     while i < count {
         out[at + i] = words[at + i];
-        i += 1;
-    }
-}
-
-// No gate has a copy: constant 0 stands for each.
-pub fn clear(m: usize, newest: &mut [u16])
-    requires { ⌜ m ≤ length (now newest) ⌝ }
-    ensures { λ r. ⌜ now (newest .exit) ≡ replicate m 65534 ++ drop m (now (newest .entry)) ⌝ }
-{
-    let mut i = 0;
-    while i < m {
-        newest[i] = 65534;
         i += 1;
     }
 }

@@ -1,20 +1,26 @@
-// The rendering's words: header, input names, a copy of each scheduled gate, outputs at last copies.
+// The rendering's words (SPECIFICATION 6): head, input names, a copy of each scheduled gate, outputs at last copies.
+use crate::entry::copy_entry;
+use crate::entry::copy_words;
+use layout::fill::fill_words;
+use layout::nodes::CONSTANT_0;
+use layout::offsets::GATE_SIZE;
+use layout::offsets::INPUTS_AT;
+use layout::offsets::NAME_SIZE;
+use layout::offsets::OUTPUT_SIZE;
 ghost use mathlib.Core.Path.{_≡_};
 ghost use mathlib.Core.List.{[], _∷_};
 ghost use Prim.Native.Nat.{_+_, _*_, _≤_, _<_};
 ghost use lib.ListN.{length, set};
 ghost use lib.Seq.{sets};
 ghost use Rattle.laws.specs.Lists.{tab, joined, placed};
+ghost use Rattle.netlist.specs.Limits.{maxInputs, maxGates, maxOutputs};
 ghost use Rattle.netlist.specs.StoredBlock.{decode, encode};
 ghost use Rattle.netlist.specs.Rendering.{rendering};
 ghost use Rattle.copying.specs.Words.{tableAfter, copyWords, copyAt, shownAt, EntryRoom, GateRoom, Order, CopyReady};
-use crate::entry::clear;
-use crate::entry::copy_entry;
-use crate::entry::copy_words;
 
-// Writes the three counts.
+// Writes the head: the three counts.
 fn write_header(n: usize, total: usize, k: usize, out: &mut [u16])
-    requires { ⌜ (n ≤ 10) × (total ≤ 1024) × (k ≤ 16) × (3 ≤ length (now out)) ⌝ }
+    requires { ⌜ (n ≤ maxInputs) × (total ≤ maxGates) × (k ≤ maxOutputs) × (3 ≤ length (now out)) ⌝ }
     ensures { λ r. ⌜ now (out .exit) ≡ sets (now (out .entry)) 0 (n ∷ total ∷ k ∷ []) ⌝ }
 {
     out[0] = n as u16;
@@ -37,9 +43,19 @@ fn copy_gate(
     ensures { λ r. ⌜ now (out .exit) ≡ sets (now (out .entry)) (gates + 5 * t) (copyWords (now (words .entry)) gates n m j (now (newest .entry))) ⌝ }
     ensures { λ r. ⌜ now (newest .exit) ≡ set (now (newest .entry)) j (n + t) ⌝ }
 {
-    let from = gates + 5 * j;
+    let from = gates + GATE_SIZE * j;
     let count = words[from] as usize / 8;
-    copy_entry(words, from, n, m, 1, 1 + count, newest, out, gates + 5 * t);
+    copy_entry(
+        words,
+        from,
+        n,
+        m,
+        1,
+        1 + count,
+        newest,
+        out,
+        gates + GATE_SIZE * t,
+    );
     newest[j] = (n + t) as u16;
 }
 
@@ -81,7 +97,17 @@ fn copy_outputs(
 {
     let mut o = 0;
     while o < k {
-        copy_entry(words, from + 5 * o, n, m, 4, 5, newest, out, to + 5 * o);
+        copy_entry(
+            words,
+            from + OUTPUT_SIZE * o,
+            n,
+            m,
+            NAME_SIZE,
+            OUTPUT_SIZE,
+            newest,
+            out,
+            to + OUTPUT_SIZE * o,
+        );
         o += 1;
     }
 }
@@ -100,19 +126,20 @@ pub fn write_rendering(
     requires { ⌜ CopyReady (now words) n m k (now order) total (now newest) (now out) ⌝ }
     ensures { λ r. ⌜ now (out .exit) ≡ placed (encode (rendering (decode (now (words .entry))))) (now (out .entry)) ⌝ }
 {
-    let gates = 3 + 4 * n;
+    let gates = INPUTS_AT + NAME_SIZE * n;
     write_header(n, total, k, out);
-    copy_words(words, 3, 4 * n, out);
-    clear(m, newest);
+    copy_words(words, INPUTS_AT, NAME_SIZE * n, out);
+    // No gate has a copy: constant 0 stands for each.
+    fill_words(newest, m, CONSTANT_0 as u16);
     copy_gates(words, gates, n, m, order, total, newest, out);
     copy_outputs(
         words,
-        gates + 5 * m,
+        gates + GATE_SIZE * m,
         n,
         m,
         k,
         newest,
         out,
-        gates + 5 * total,
+        gates + GATE_SIZE * total,
     );
 }

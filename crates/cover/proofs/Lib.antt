@@ -1,3 +1,3 @@
 -- Mathematics of Cover's answer; no function of src/ is named.
 pub mod Flags
-pub mod Answered
+pub mod Outcomes

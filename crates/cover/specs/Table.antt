@@ -1,18 +1,19 @@
 -- The arrays that Cover lends to its inner functions, and the table of settled settings. Cited by the contracts of this crate. Assumes nothing.
 use mathlib.Core.Path.{_≡_}
 use mathlib.Core.List.{List}
-use Prim.Native.Nat.{ℕ, _≤_, _<_}
+use Prim.Native.Nat.{ℕ, _^_, _≤_, _<_}
 use lib.ListN.{length}
+use Rattle.netlist.specs.Limits.{maxInputs, maxGates}
 use Rattle.netlist.specs.Netlist.{Block}
 use Rattle.netlist.specs.Rounds.{settingCount, isSettled}
 use Rattle.assignments.specs.Tables.{settledBy}
 
--- room for the gates' order and values, the inputs' values, and a byte for each setting of ten inputs
+-- room for the gates' order and values, the inputs' values, and a byte for each setting of the most inputs
 pub record CoverRoom (order inputs values settled : List ℕ) : Type 0 where
-  pub orderRoom : length order ≡ 1024
-  pub inputRoom : length inputs ≡ 10
-  pub valueRoom : length values ≡ 1024
-  pub settledRoom : length settled ≡ 1024
+  pub orderRoom : length order ≡ maxGates
+  pub inputRoom : length inputs ≡ maxInputs
+  pub valueRoom : length values ≡ maxGates
+  pub settledRoom : length settled ≡ 2 ^ maxInputs
 
 -- the table has a byte for each setting, 1 exactly where it is settled
 pub record Tabulated (b : Block) (table : List ℕ) : Type 0 where

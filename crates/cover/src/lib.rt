@@ -1,18 +1,22 @@
-// Cover (document 01): the sound partial assignments from which no single fixed input can be dropped.
+// Cover (SPECIFICATION 4, 7.7): the sound partial assignments from which no single fixed input can be dropped.
+use assignments::cover_entries;
+use block::check_words;
+use layout::limits::MAX_GATES;
+use layout::limits::MAX_INPUTS;
+use layout::limits::MAX_SETTINGS;
+use layout::offsets;
+use netlist::Answer;
+use netlist::Test;
+use refusals::refusal;
+use refusals::test_room;
+use table::tabulate;
 ghost use mathlib.Core.Path.{_≡_};
 ghost use mathlib.Core.Bool.{false};
 ghost use lib.ListN.{length};
-ghost use Rattle.netlist.specs.Answers.{answerOf, leftIn};
+ghost use Rattle.netlist.specs.Answers.{Promise};
 ghost use Rattle.netlist.specs.StoredBlock.{isTorn};
 ghost use Rattle.netlist.specs.Operations.{coverOf};
 ghost use Rattle.cover.specs.Table.{CoverRoom};
-use assignments::cover_entries;
-use block::Check;
-use block::check_words;
-use layout::offsets;
-use netlist::Answer;
-use netlist::Refusal;
-use table::tabulate;
 
 mod table;
 
@@ -28,30 +32,30 @@ fn whole_cover(
 ) -> Answer
     requires { ⌜ isTorn (now words) ≡ false ⌝ }
     requires { ⌜ CoverRoom (now order) (now inputs) (now values) (now settled) ⌝ }
-    ensures answers { λ r. ⌜ r ≡ answerOf (coverOf (now (words .entry)) (length (now (entries .entry)))) ⌝ }
-    ensures leaves { λ r. ⌜ now (entries .exit) ≡ leftIn (coverOf (now (words .entry)) (length (now (entries .entry)))) (now (entries .entry)) ⌝ }
+    ensures { λ r. ⌜ Promise (coverOf (now (words .entry)) (length (now (entries .entry)))) (now (entries .entry)) r (now (entries .exit)) ⌝ }
 {
     tabulate(words, order, inputs, values, settled);
     let n = offsets::inputs_of(words);
     let count = cover_entries(settled, n, entries);
-    if entries.len() / 2 < count {
-        return Answer::Refused(Refusal::NoRoom);
-    }
+    let tested = test_room(entries.len() / 2, count);
+    let Test::Passed = tested else {
+        return refusal(tested);
+    };
     Answer::Done { count, detail: 0 }
 }
 
 // Cover (6, 11): two words an entry; count: entries.
 pub fn cover(words: &[u16], entries: &mut [u16]) -> Answer
-    ensures answers { λ r. ⌜ r ≡ answerOf (coverOf (now (words .entry)) (length (now (entries .entry)))) ⌝ }
-    ensures leaves { λ r. ⌜ now (entries .exit) ≡ leftIn (coverOf (now (words .entry)) (length (now (entries .entry)))) (now (entries .entry)) ⌝ }
+    ensures { λ r. ⌜ Promise (coverOf (now (words .entry)) (length (now (entries .entry)))) (now (entries .entry)) r (now (entries .exit)) ⌝ }
 {
-    let Check::Whole = check_words(words) else {
-        return Answer::Refused(Refusal::MalformedBlock);
+    let tested = check_words(words);
+    let Test::Passed = tested else {
+        return refusal(tested);
     };
-    let mut order = [0u16; 1024];
-    let mut inputs = [0u8; 10];
-    let mut values = [0u8; 1024];
-    let mut settled = [0u8; 1024];
+    let mut order = [0u16; MAX_GATES];
+    let mut inputs = [0u8; MAX_INPUTS];
+    let mut values = [0u8; MAX_GATES];
+    let mut settled = [0u8; MAX_SETTINGS];
     whole_cover(
         words,
         &mut order,

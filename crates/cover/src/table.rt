@@ -1,11 +1,11 @@
 // Which settings are settled: each is simulated once, along the order of `visiting`.
+use layout::offsets;
+use verdict::settings::fill_settled;
+use visiting::order_gates;
 ghost use mathlib.Core.Path.{_≡_};
 ghost use mathlib.Core.Bool.{false};
 ghost use Rattle.netlist.specs.StoredBlock.{decode, isTorn};
 ghost use Rattle.cover.specs.Table.{CoverRoom, Tabulated};
-use layout::offsets;
-use verdict::settings::fill_settled;
-use visiting::order_gates;
 
 // For each setting of a block that is not torn: 1 where it is settled, else 0.
 pub fn tabulate(

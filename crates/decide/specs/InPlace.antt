@@ -8,6 +8,7 @@ use lib.ListN.{length, getD}
 use Rattle.laws.specs.Lists.{same, member}
 use Rattle.netlist.specs.Values.{Value, code, valueOf}
 use Rattle.netlist.specs.Netlist.{Block, inputCount, gateCount, gateOf}
+use Rattle.netlist.specs.Limits.{maxInputs, maxGates}
 use Rattle.netlist.specs.StoredBlock.{gateSize, gateAt, decode}
 use Rattle.netlist.specs.Rounds.{settled}
 use Rattle.rounds.specs.Order.{BelowAll}
@@ -16,8 +17,8 @@ use Rattle.ternary.specs.Legal.{LegalHead}
 
 -- the words hold a block of n inputs whose gates' words start at `gates`, each with a legal head
 pub record Legible (ws : List ℕ) (n gates : ℕ) : Type 0 where
-  pub near : gates ≤ 1024
-  pub fewGates : gateCount (decode ws) ≤ 1024
+  pub near : gates ≤ maxGates
+  pub fewGates : gateCount (decode ws) ≤ maxGates
   pub inputs : n ≡ inputCount (decode ws)
   pub legal : (j : ℕ) → j < gateCount (decode ws) → LegalHead ws (gates + gateSize * j)
   pub gateIs : (j : ℕ) → j < gateCount (decode ws) → gateAt n ws (gates + gateSize * j) ≡ gateOf (decode ws) j
@@ -43,6 +44,6 @@ pub record Swept (b : Block) (x : List Value) (js bytes after : List ℕ) (chang
 pub record DecideReady (ws : List ℕ) (n gates : ℕ) (order inputs values : List ℕ) : Type 0 where
   pub legible : Legible ws n gates
   pub visits : Visits (gateCount (decode ws)) order
-  pub fewInputs : n ≤ 10
+  pub fewInputs : n ≤ maxInputs
   pub inputRoom : length inputs ≡ n
   pub valueRoom : length values ≡ gateCount (decode ws)

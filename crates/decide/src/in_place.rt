@@ -1,20 +1,22 @@
 // The settled values of a setting, found in place: any order is right (`rounds`), the groups' order is fast. `inputs` and `values` have
 // exactly one byte for each input and each gate.
+use layout::fill::fill_bytes;
+use layout::offsets::GATE_SIZE;
+use ternary::gate::gate_value;
 ghost use mathlib.Core.Path.{_≡_};
 ghost use mathlib.Core.List.{[], _∷_, map};
-ghost use Prim.Native.Nat.{_+_, _*_, _≤_, _<_};
-ghost use lib.ListN.{length, getD, replicate};
+ghost use Prim.Native.Nat.{_≤_, _<_};
+ghost use lib.ListN.{length};
+ghost use Rattle.netlist.specs.Limits.{maxInputs};
 ghost use Rattle.netlist.specs.Values.{code, valueOf};
 ghost use Rattle.netlist.specs.Netlist.{gateCount};
 ghost use Rattle.netlist.specs.StoredBlock.{decode};
 ghost use Rattle.netlist.specs.Rounds.{settled, settingOf, settledUnder};
 ghost use Rattle.decide.specs.InPlace.{Legible, Visits, Underway, Swept, DecideReady};
-use layout::read::word_at;
-use ternary::gate::gate_value;
 
 // The bits of setting number `s`, the lowest first.
 pub fn set_inputs(s: usize, inputs: &mut [u8])
-    requires { ⌜ length (now inputs) ≤ 10 ⌝ }
+    requires { ⌜ length (now inputs) ≤ maxInputs ⌝ }
     ensures { λ r. ⌜ now (inputs .exit) ≡ map code (settingOf (length (now (inputs .entry))) s) ⌝ }
 {
     let mut i = 0;
@@ -30,7 +32,7 @@ fn step(words: &[u16], n: usize, gates: usize, j: usize, inputs: &[u8], values: 
     ensures { λ r. ⌜ Swept (decode (now (words .entry))) (map valueOf (now (inputs .entry))) (j ∷ []) (now (values .entry)) (now (values .exit)) r ⌝ }
 {
     let was = values[j];
-    let value = gate_value(words, n, gates + 5 * j, inputs, values);
+    let value = gate_value(words, n, gates + GATE_SIZE * j, inputs, values);
     values[j] = value;
     value != was
 }
@@ -44,8 +46,11 @@ pub fn sweep_in_place(
     inputs: &[u8],
     values: &mut [u8],
 ) -> bool
-    requires { ⌜ Legible (now words) n gates × Visits (gateCount (decode (now words))) (now order) × Underway (decode (now words)) (map valueOf (now inputs)) (now values) ⌝ }
-    ensures { λ r. ⌜ Swept (decode (now (words .entry))) (map valueOf (now (inputs .entry))) (now (order .entry)) (now (values .entry)) (now (values .exit)) r ⌝ }
+    requires { ⌜ Legible (now words) n gates × Visits (gateCount (decode (now words))) (now order) ⌝ }
+    requires { ⌜ Underway (decode (now words)) (map valueOf (now inputs)) (now values) ⌝ }
+    ensures { λ r. ⌜
+        Swept (decode (now (words .entry))) (map valueOf (now (inputs .entry))) (now (order .entry)) (now (values .entry)) (now (values .exit)) r
+        ⌝ }
 {
     let mut changed = false;
     let mut i = 0;
@@ -56,18 +61,7 @@ pub fn sweep_in_place(
     changed
 }
 
-// Every gate is undefined.
-fn undefine(values: &mut [u8])
-    ensures { λ r. ⌜ now (values .exit) ≡ replicate (length (now (values .entry))) 2 ⌝ }
-{
-    let mut i = 0;
-    while i < values.len() {
-        values[i] = 2;
-        i += 1;
-    }
-}
-
-// The settled values under the inputs' values.
+// The settled values under the inputs' values: from all gates undefined, sweep after sweep until one changes nothing.
 pub fn settle_in_place(
     words: &[u16],
     n: usize,
@@ -79,7 +73,8 @@ pub fn settle_in_place(
     requires { ⌜ Legible (now words) n gates × Visits (gateCount (decode (now words))) (now order) × (length (now values) ≡ gateCount (decode (now words))) ⌝ }
     ensures { λ r. ⌜ now (values .exit) ≡ map code (settled (decode (now (words .entry))) (map valueOf (now (inputs .entry)))) ⌝ }
 {
-    undefine(values);
+    let m = values.len();
+    fill_bytes(values, m, 2);
     while sweep_in_place(words, n, gates, order, inputs, values) {}
 }
 

@@ -1,5 +1,9 @@
 -- The block that words hold, part by part, for every list of words: the counts, the names, the gates, the outputs. Cited by Intact, by Readers and
 -- by the proofs of code that reads words. Assumes nothing.
+--   decode-inputCount, decode-gateCount, decode-outputCount: n, m and k are the first three words
+--   decode-input, decode-ports: the names, read from four words each
+--   decode-gate, decode-kind, decode-count, decode-operand: gate j and its parts
+--   decode-output: output o
 use mathlib.Core.Path.{_≡_, refl, ap, _∙_}
 use mathlib.Core.List.{List, map}
 use Prim.Native.Nat.{ℕ, _+_, _*_, _/_, _%_, _<_}
@@ -41,7 +45,8 @@ module _ (ws : List ℕ) where
   decode-output o d l = getD-tab (λ o. outputAt (getD ws 0 0) ws (outputsAt (getD ws 0 0) (getD ws 1 0) + outputSize * o)) (getD ws 2 0) o d l
 
   -- the ports
-  pub decode-ports : map (λ (o : Output). o .port) (decode ws .outputs) ≡ tab (λ o. nameAt ws (outputsAt (getD ws 0 0) (getD ws 1 0) + outputSize * o)) (getD ws 2 0)
+  pub decode-ports : map (λ (o : Output). o .port) (decode ws .outputs) ≡ tab (λ o. nameAt ws (outputsAt (getD ws 0 0) (getD ws 1 0) + outputSize * o))
+      (getD ws 2 0)
   unfolding decode outputAt
   decode-ports = map-tab (λ (o : Output). o .port) (λ o. outputAt (getD ws 0 0) ws (outputsAt (getD ws 0 0) (getD ws 1 0) + outputSize * o)) (getD ws 2 0)
 

@@ -1,4 +1,7 @@
 -- The words of a block: their number, and where each part's words stand. Cited by RoundTrip and Readers. Assumes nothing.
+--   length-encode: the number of words
+--   encode-inputCount, encode-gateCount, encode-outputCount: the three counts
+--   encode-input, encode-gate, encode-output: where each part's words stand
 use mathlib.Core.Path.{_≡_, refl, sym, ap, _∙_}
 use mathlib.Core.List.{List, [], _∷_, _++_, map, append-assoc, append-nil}
 use Prim.Native.Nat.{ℕ, _+_, _*_, _<_}
@@ -65,7 +68,7 @@ module _ (b : Block) where
   unfolding outputsAt
   length-before-outputs = rw (length-append (header b ++ inputPart b) (gatePart b), length-before-gates, length-gatePart)
 
-  -- "A slice of 16-bit words of exactly this length"
+  -- the length is the one that the counts give
   pub length-encode : length (encode b) ≡ outputsAt (inputCount b) (gateCount b) + outputSize * outputCount b
   length-encode = rw (encode-parts, length-append (header b ++ inputPart b ++ gatePart b) (outputPart b), length-before-outputs, length-outputPart)
 
@@ -95,7 +98,9 @@ module _ (b : Block) where
   unfolding outputPart
   encode-output o d h i l =
       ap (λ (p : ℕ). getD (encode b) p 0) (add-assoc (outputsAt (inputCount b) (gateCount b)) (outputSize * o) i)
-      ∙ ap (λ (ws : List ℕ). getD ws (outputsAt (inputCount b) (gateCount b) + (outputSize * o + i)) 0) (encode-parts ∙ sym (append-nil (header b ++ inputPart b ++ gatePart b ++ outputPart b)))
-      ∙ getD-middle (header b ++ inputPart b ++ gatePart b) (outputPart b) [] (outputsAt (inputCount b) (gateCount b)) (outputSize * o + i) 0 length-before-outputs
+      ∙ ap (λ (ws : List ℕ). getD ws (outputsAt (inputCount b) (gateCount b) + (outputSize * o + i)) 0)
+      (encode-parts ∙ sym (append-nil (header b ++ inputPart b ++ gatePart b ++ outputPart b)))
+      ∙ getD-middle (header b ++ inputPart b ++ gatePart b) (outputPart b) [] (outputsAt (inputCount b) (gateCount b)) (outputSize * o + i) 0
+      length-before-outputs
       (rw length-outputPart (omega arith))
       ∙ getD-joined (outputWords (inputCount b)) outputSize (length-outputWords (inputCount b)) (b .outputs) o i d 0 h l

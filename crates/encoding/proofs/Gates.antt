@@ -104,7 +104,12 @@ gateWords-gateAt n ws at unused =
     tail : (i : ℕ) → i < operandWords → getD (map (nodeWord n) (tab operand count)) i 0 ≡ getD ws (at + (1 + i)) 0
     tail i l =
         ⊎-elim
-        (λ k. rw (map-tab (nodeWord n) operand count, getD-tab (λ i. nodeWord n (operand i)) count i 0 k, nodeWord-operandOf n (getD ws (at + 1 + i) 0), add-assoc at 1 i))
+        (λ k. rw (
+          map-tab (nodeWord n) operand count,
+          getD-tab (λ i. nodeWord n (operand i)) count i 0 k,
+          nodeWord-operandOf n (getD ws (at + 1 + i) 0),
+          add-assoc at 1 i,
+        ))
         (λ k. no-operand-word n (tab operand count) i (rw (length-tab operand count) k) ∙ sym (unused i k l) ∙ rw (add-assoc at 1 i))
         (lt-or-le i count)
 

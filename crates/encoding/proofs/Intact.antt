@@ -1,4 +1,9 @@
 -- The rules of the stored block, word by word, together say "not torn". Cited by the proof of the code that tests the rules. Assumes nothing.
+--   Intact: the rules on the words, each as a fact
+--   intact-parts, intact-from: the test and the facts
+--   intact-wellFormed, intact-encode: words that meet the rules hold a well-formed block and are its words
+--   encoded-intact: the other way round
+--   intact-torn: the main law: the rules are "not torn"
 use mathlib.Core.Path.{_≡_, refl, sym, ap, _∙_}
 use mathlib.Core.Bool.{Bool, true, not, _&&_}
 use mathlib.Core.List.{List}
@@ -12,7 +17,8 @@ use Rattle.laws.proofs.Same.{same-eq, eq-same}
 use Rattle.laws.proofs.Quantifiers.{all-tab-at, all-tab-from, all-below, below-all}
 use Rattle.netlist.specs.Limits.{maxInputs, maxGates, maxOutputs}
 use Rattle.netlist.specs.Netlist.{Name, Gate, Output}
-use Rattle.netlist.specs.StoredBlock.{nameSize, gateSize, outputSize, inputsAt, gatesAt, outputsAt, isPlainName, nameAt, gateAt, outputAt, isNode, gateFits, encode, decode, isWellFormed, isTorn}
+use Rattle.netlist.specs.StoredBlock.{nameSize, gateSize, outputSize, inputsAt, gatesAt, outputsAt, isPlainName, nameAt, gateAt, outputAt, isNode}
+use Rattle.netlist.specs.StoredBlock.{gateFits, encode, decode, isWellFormed, isTorn}
 use Rattle.encoding.specs.Rules.{namesRule, nodeRule, gateRule, headerRule, intact}
 use Rattle.encoding.proofs.ListFacts.{and-parts, all-map}
 use Rattle.encoding.proofs.Names.{namesRule-names}
@@ -109,7 +115,8 @@ module _ (ws : List ℕ) where
         inputsDistinct = and-right (all isPlainName (tab name (getD ws 0 0))) (distinct (tab name (getD ws 0 0))) names;
         gatesFit =
             all-tab-from (gateFits (decode ws)) gate-at (getD ws 1 0)
-            (λ j l. gateRule-fits ws (gatesAt (getD ws 0 0) + gateSize * j) (decode ws) (getD ws 0 0) (getD ws 1 0) (decode-inputCount ws) (decode-gateCount ws) (w .gates j l));
+            (λ j l. gateRule-fits ws (gatesAt (getD ws 0 0) + gateSize * j) (decode ws) (getD ws 0 0) (getD ws 1 0) (decode-inputCount ws)
+            (decode-gateCount ws) (w .gates j l));
         portNames =
             sym (all-map isPlainName port-of (decode ws .outputs))
             ∙ ap (all isPlainName) (decode-ports ws)

@@ -1,5 +1,9 @@
 -- Facts on lists that are nobody's in particular: all of a conjunction, lists put one behind the other, lists without repetition, zeros trimmed.
 -- Assumes nothing.
+--   and-parts, all-and, all-tab, all-map: tests of all elements
+--   tab-is, joined-tab, length-joined, getD-joined, getD-middle: lists of values, one behind the other
+--   distinct-from, distinct-at: lists without repetition, by places
+--   getD-trimmed, length-trimmed: zeros trimmed from the end
 use mathlib.Core.Path.{_≡_, refl, sym, ap, _∙_}
 use mathlib.Core.Bool.{Bool, true, false, cond, _&&_, false≢true}
 use mathlib.Core.List.{List, [], _∷_, _++_, map}

@@ -1,5 +1,9 @@
 -- Names in the stored block: the rule on the words is "a legal name", a name and its four words are each other's, and two names are the same when
 -- their words are. Cited by RoundTrip and Intact. Assumes nothing.
+--   plain-nameAt: the rule on the words is the rule on the name
+--   nameWords-nameAt, nameAt-nameWords: a name and its four words are each other's
+--   sameName-same: two names are the same when their words are
+--   namesRule-names: a run of names: all legal, none twice
 use mathlib.Core.Path.{_≡_, refl, sym, ap, _∙_}
 use mathlib.Core.Logic.{⊎-elim}
 use mathlib.Core.Bool.{Bool, true, false, cond, not, _&&_, _||_, and-false}
@@ -147,7 +151,8 @@ module _ (start : ℕ → Bool) (s : Name) (legal : isLegalName start s ≡ true
       pair : (i : ℕ) → i < nameSize
           → getD ws (at + i) 0 % 256 ∷ getD ws (at + i) 0 / 256 ∷ [] ≡ tab (λ k. getD s (2 * i + k) 0) 2
       pair i l =
-          let w : getD ws (at + i) 0 ≡ getD s (2 * i) 0 + 256 * getD s (2 * i + 1) 0 = stands i l ∙ getD-tab (λ i. getD s (2 * i) 0 + 256 * getD s (2 * i + 1) 0) nameSize i 0 l in
+          let w : getD ws (at + i) 0 ≡ getD s (2 * i) 0 + 256 * getD s (2 * i + 1) 0 = stands i l
+          ∙ getD-tab (λ i. getD s (2 * i) 0 + 256 * getD s (2 * i + 1) 0) nameSize i 0 l in
           let b : getD s (2 * i) 0 < 256 = legal-byte (2 * i) in
           let low : getD ws (at + i) 0 % 256 ≡ getD s (2 * i) 0 = omega arith in
           let high : getD ws (at + i) 0 / 256 ≡ getD s (2 * i + 1) 0 = omega arith in

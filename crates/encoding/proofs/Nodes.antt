@@ -1,5 +1,8 @@
 -- Node numbers in the stored block: a word and what it stands for are each other's, and the rule on the word is the rule on the node.
 -- Cited by Gates and Outputs. Assumes nothing.
+--   nodeWord-operandOf, operandOf-nodeWord: a word and what it stands for are each other's
+--   isOperand-operandOf, isNode-operandOf: the rules on a word are those on the operand and the node
+--   nodeWord-small: it is a 16-bit word
 use mathlib.Core.Path.{_≡_, refl, sym, _∙_}
 use mathlib.Core.Bool.{Bool, true, false, cond, or-true, or-false}
 use Prim.Native.Nat.{ℕ, _+_, _-_, _≤_, _<_}
@@ -59,7 +62,8 @@ nodeWord-operandOf n w = go (operandOf n w) (stands n w)
     go (gate j) (a-gate l p q) = omega arith
 
 -- an operand that is there is what its word stands for
-pub operandOf-nodeWord : (b : Block) (o : Operand) → inputCount b + gateCount b ≤ 65534 → isOperand b o ≡ true → operandOf (inputCount b) (nodeWord (inputCount b) o) ≡ o
+pub operandOf-nodeWord : (b : Block) (o : Operand) → inputCount b + gateCount b ≤ 65534 → isOperand b o ≡ true
+    → operandOf (inputCount b) (nodeWord (inputCount b) o) ≡ o
 unfolding nodeWord isOperand isNode
 operandOf-nodeWord b (input i) h e = operandOf-input (inputCount b) i (ltb-true i (inputCount b) e)
 operandOf-nodeWord b (gate j) h e =

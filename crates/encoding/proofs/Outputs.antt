@@ -1,4 +1,6 @@
 -- Outputs in the stored block: an output and its five words are each other's. Cited by RoundTrip. Assumes nothing.
+--   OutputStands: an output's words stand at a place
+--   outputWords-outputAt, outputAt-outputWords: an output and its words are each other's
 use mathlib.Core.Path.{_≡_, refl, ap, ap₂, _∙_}
 use mathlib.Core.Bool.{true}
 use mathlib.Core.List.{List, [], _∷_, _++_}

@@ -1,5 +1,10 @@
 -- What holds of a block that is not torn: of its words at a gate and at an output, and of the gates that its gates read. The parts themselves, for
 -- every list of words, are in Decoded. Cited by the crates that work on stored blocks. Assumes nothing.
+--   GateWhole, OperandWord: what is known of a gate's and an operand's words
+--   whole-parts: the limits, the length and the rules of words that are not torn
+--   whole-gate, whole-node: a gate's and an output's words
+--   wellFormed-gate, wellFormed-operand, wellFormed-output: the same of the block
+--   whole-reads: a gate that is read is there
 use mathlib.Core.Path.{_≡_, sym, _∙_}
 use mathlib.Core.Logic.{_⊎_, inl, inr, ⊎-elim}
 use mathlib.Core.Bool.{true, false, _||_}
@@ -14,9 +19,11 @@ use Rattle.reach.proofs.Inside.{wellFormed-inside}
 use Rattle.netlist.specs.Kinds.{isKind, arityFits}
 use Rattle.netlist.specs.Netlist.{Operand, Output, Block, gateCount, outputCount, gateOf}
 use Rattle.netlist.specs.Groups.{reads}
-use Rattle.netlist.specs.StoredBlock.{nameSize, gateSize, outputSize, operandWords, gatesAt, outputsAt, isNode, isOperand, gateFits, decode, isWellFormed, isTorn}
+use Rattle.netlist.specs.StoredBlock.{nameSize, gateSize, outputSize, operandWords, gatesAt, outputsAt, isNode, isOperand, gateFits, decode, isWellFormed}
+use Rattle.netlist.specs.StoredBlock.{isTorn}
 use Rattle.encoding.specs.Rules.{nodeRule, operandRule, gateRule, intact}
-use Rattle.encoding.proofs.Gates.{Unused, kind-small, arity-four, arity-not, arity-others, gateRule-kind, gateRule-arity, gateRule-operand, gateRule-unused, fits-operands}
+use Rattle.encoding.proofs.Gates.{Unused, kind-small, arity-four, arity-not, arity-others, gateRule-kind, gateRule-arity, gateRule-operand}
+use Rattle.encoding.proofs.Gates.{gateRule-unused, fits-operands}
 use Rattle.encoding.proofs.WellFormed.{noGate, wellFormed-parts}
 use Rattle.encoding.proofs.Intact.{Intact, intact-parts, intact-torn}
 use Rattle.encoding.proofs.RoundTrip.{whole-wellFormed}

@@ -1,5 +1,8 @@
 -- Encode and decode undo each other: on words of the right length whose unused operand words are 0, and on well-formed blocks.
 -- Cited by Intact and by whoever writes or reads blocks. Assumes nothing.
+--   encode-decode: on words of the right length whose unused operand words are 0
+--   decode-encode, encode-whole: on well-formed blocks, whose words are not torn
+--   whole-encode, whole-wellFormed: on words that are not torn, whose block is well-formed
 use mathlib.Core.Path.{_≡_, refl, sym, ap, _∙_}
 use mathlib.Core.Bool.{true, false, _&&_}
 use mathlib.Core.List.{List, [], _∷_, _++_, map}
@@ -13,7 +16,8 @@ use Rattle.laws.proofs.Tab.{length-tab, tab-ext, tab-getD, map-tab, tab-add}
 use Rattle.laws.proofs.Same.{same-eq, eq-same}
 use Rattle.laws.proofs.Quantifiers.{all-at}
 use Rattle.netlist.specs.Netlist.{Name, Gate, Output, Block, inputCount, gateCount, outputCount, gateOf}
-use Rattle.netlist.specs.StoredBlock.{nameSize, gateSize, outputSize, inputsAt, gatesAt, outputsAt, isPlainName, nameWords, nameAt, gateWords, gateAt, outputWords, outputAt, gateFits, isNode, encode, decode, isWellFormed, isTorn}
+use Rattle.netlist.specs.StoredBlock.{nameSize, gateSize, outputSize, inputsAt, gatesAt, outputsAt, isPlainName, nameWords, nameAt, gateWords, gateAt}
+use Rattle.netlist.specs.StoredBlock.{outputWords, outputAt, gateFits, isNode, encode, decode, isWellFormed, isTorn}
 use Rattle.encoding.proofs.ListFacts.{tab-is, joined-tab}
 use Rattle.encoding.proofs.Names.{nameWords-nameAt, nameAt-nameWords}
 use Rattle.encoding.proofs.Gates.{gateWords-gateAt, gateAt-gateWords, Unused}
@@ -91,12 +95,14 @@ decode-encode b h = λ i. record { inputs = inputs-are i; gates = gates-are i; o
     inputs-are : tab (λ i. nameAt (encode b) (inputsAt + nameSize * i)) n ≡ b .inputs
     inputs-are =
         tab-is (λ i. nameAt (encode b) (inputsAt + nameSize * i)) (b .inputs) []
-        (λ i l. nameAt-nameWords (encode b) (inputsAt + nameSize * i) (getD (b .inputs) i []) (all-at isPlainName (b .inputs) i [] (w .inputNames) l) (encode-input b i [] l))
+        (λ i l. nameAt-nameWords (encode b) (inputsAt + nameSize * i) (getD (b .inputs) i []) (all-at isPlainName (b .inputs) i [] (w .inputNames) l)
+        (encode-input b i [] l))
 
     gates-are : tab (λ j. gateAt n (encode b) (gatesAt n + gateSize * j)) m ≡ b .gates
     gates-are =
         tab-is (λ j. gateAt n (encode b) (gatesAt n + gateSize * j)) (b .gates) noGate
-        (λ j l. gateAt-gateWords b (encode b) (gatesAt n + gateSize * j) (gateOf b j) (few-nodes b w) (all-at (gateFits b) (b .gates) j noGate (w .gatesFit) l) (encode-gate b j l))
+        (λ j l. gateAt-gateWords b (encode b) (gatesAt n + gateSize * j) (gateOf b j) (few-nodes b w)
+        (all-at (gateFits b) (b .gates) j noGate (w .gatesFit) l) (encode-gate b j l))
 
     outputs-are : tab (λ o. outputAt n (encode b) (outputsAt n m + outputSize * o)) k ≡ b .outputs
     outputs-are =
@@ -111,12 +117,15 @@ decode-encode b h = λ i. record { inputs = inputs-are i; gates = gates-are i; o
 -- words that are not torn are the words of the block that they hold
 pub whole-encode : (ws : List ℕ) → isTorn ws ≡ false → encode (decode ws) ≡ ws
 unfolding isTorn
-whole-encode ws h = same-eq (encode (decode ws)) ws (and-right (isWellFormed (decode ws)) (same (encode (decode ws)) ws) (not-false (isWellFormed (decode ws) && same (encode (decode ws)) ws) h))
+whole-encode ws h =
+    same-eq (encode (decode ws)) ws
+    (and-right (isWellFormed (decode ws)) (same (encode (decode ws)) ws) (not-false (isWellFormed (decode ws) && same (encode (decode ws)) ws) h))
 
 -- and that block is well-formed
 pub whole-wellFormed : (ws : List ℕ) → isTorn ws ≡ false → isWellFormed (decode ws) ≡ true
 unfolding isTorn
-whole-wellFormed ws h = and-left (isWellFormed (decode ws)) (same (encode (decode ws)) ws) (not-false (isWellFormed (decode ws) && same (encode (decode ws)) ws) h)
+whole-wellFormed ws h =
+    and-left (isWellFormed (decode ws)) (same (encode (decode ws)) ws) (not-false (isWellFormed (decode ws) && same (encode (decode ws)) ws) h)
 
 -- the words of a well-formed block are not torn
 pub encode-whole : (b : Block) → isWellFormed b ≡ true → isTorn (encode b) ≡ false

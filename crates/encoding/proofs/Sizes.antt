@@ -1,4 +1,6 @@
--- How large a stored block is: at most 5,243 words, each below 65,536. Cited by code that stores blocks. Assumes nothing.
+-- How large a stored block is. Cited by code that stores blocks. Assumes nothing.
+--   encode-longest, whole-longest: at most `maxBlock` words
+--   encode-small, whole-small: each is a 16-bit word
 use mathlib.Core.Path.{_≡_, refl, subst, _∙_}
 use mathlib.Core.Logic.{⊎-elim}
 use mathlib.Core.Bool.{Bool, true, false, _&&_}
@@ -12,8 +14,10 @@ use Rattle.laws.specs.Lists.{all, tab, joined}
 use Rattle.laws.proofs.Tests.{and-intro, lt-or-le}
 use Rattle.laws.proofs.Quantifiers.{all-at, all-from, all-append, all-tab-from}
 use Rattle.laws.proofs.Lists.{all-joined}
+use Rattle.netlist.specs.Limits.{maxBlock}
 use Rattle.netlist.specs.Netlist.{Name, constant, Gate, Output, Block, inputCount, gateCount, outputCount}
-use Rattle.netlist.specs.StoredBlock.{operandWords, gatesAt, outputsAt, isLetter, isPlainName, nameWords, nodeWord, gateWords, outputWords, isNode, isOperand, gateFits, encode, decode, isWellFormed, isTorn}
+use Rattle.netlist.specs.StoredBlock.{operandWords, gatesAt, outputsAt, isLetter, isPlainName, nameWords, nodeWord, gateWords, outputWords, isNode}
+use Rattle.netlist.specs.StoredBlock.{isOperand, gateFits, encode, decode, isWellFormed, isTorn}
 use Rattle.encoding.proofs.ListFacts.{all-map, getD-map}
 use Rattle.encoding.proofs.Names.{length-nameWords, legal-words}
 use Rattle.encoding.proofs.Nodes.{nodeWord-small, isNode-isOperand}
@@ -22,8 +26,8 @@ use Rattle.encoding.proofs.WellFormed.{noGate, noOutput, WellFormed, we
 use Rattle.encoding.proofs.Encoded.{length-encode}
 use Rattle.encoding.proofs.RoundTrip.{whole-encode, whole-wellFormed}
 
--- the longest block has 10 inputs, 1,024 gates and 16 outputs
-pub encode-longest : (b : Block) → isWellFormed b ≡ true → length (encode b) ≤ 5243
+-- the longest block has as many of everything as the limits allow
+pub encode-longest : (b : Block) → isWellFormed b ≡ true → length (encode b) ≤ maxBlock
 unfolding outputsAt gatesAt
 encode-longest b h = let w = wellFormed-parts b h in rw (length-encode b) (omega (arith, w .fewInputs, w .fewGates, w .fewOutputs))
 
@@ -60,10 +64,12 @@ unfolding outputWords small
 output-small b o few plain node =
     all-append small (nameWords (o .port)) (nodeWord (inputCount b) (o .node) ∷ [])
     ∙ and-intro (all small (nameWords (o .port))) (small (nodeWord (inputCount b) (o .node)) && true) (name-small (o .port) plain)
-    (and-intro (small (nodeWord (inputCount b) (o .node))) true (lt-ltb (nodeWord (inputCount b) (o .node)) 65536 (nodeWord-small b (o .node) few (isNode-isOperand b (o .node) node))) refl)
+    (and-intro (small (nodeWord (inputCount b) (o .node))) true
+    (lt-ltb (nodeWord (inputCount b) (o .node)) 65536 (nodeWord-small b (o .node) few (isNode-isOperand b (o .node) node))) refl)
 
 -- parts whose words are small
-parts-small : {A : Type 0} (g : A → List ℕ) (xs : List A) (d : A) → ((i : ℕ) → i < length xs → all small (g (getD xs i d)) ≡ true) → all small (joined (map g xs)) ≡ true
+parts-small : {A : Type 0} (g : A → List ℕ) (xs : List A) (d : A) → ((i : ℕ) → i < length xs → all small (g (getD xs i d)) ≡ true)
+    → all small (joined (map g xs)) ≡ true
 parts-small g xs d h = all-joined small (map g xs) ∙ all-map (all small) g xs ∙ all-from (λ x. all small (g x)) xs d h
 
 all-small : (b : Block) → isWellFormed b ≡ true → all small (encode b) ≡ true
@@ -117,5 +123,5 @@ encode-small b h p =
 pub whole-small : (ws : List ℕ) → isTorn ws ≡ false → (p : ℕ) → getD ws p 0 < 65536
 whole-small ws h p = subst (λ (v : List ℕ). getD v p 0 < 65536) (whole-encode ws h) (encode-small (decode ws) (whole-wellFormed ws h) p)
 
-pub whole-longest : (ws : List ℕ) → isTorn ws ≡ false → length ws ≤ 5243
-whole-longest ws h = subst (λ (v : List ℕ). length v ≤ 5243) (whole-encode ws h) (encode-longest (decode ws) (whole-wellFormed ws h))
+pub whole-longest : (ws : List ℕ) → isTorn ws ≡ false → length ws ≤ maxBlock
+whole-longest ws h = subst (λ (v : List ℕ). length v ≤ maxBlock) (whole-encode ws h) (encode-longest (decode ws) (whole-wellFormed ws h))

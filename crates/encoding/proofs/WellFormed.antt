@@ -1,5 +1,9 @@
 -- A well-formed block, rule by rule: the rules' names, taken apart and put together, and a law for a block with another's interface (Render).
 -- Cited by RoundTrip, Readers and by whoever shows a block well-formed. Assumes nothing.
+--   WellFormed: the rules of a well-formed block, each as a fact
+--   wellFormed-parts, wellFormed-from: the test and the facts
+--   few-nodes: no node has the number of a constant
+--   wellFormed-interface: a block with another's inputs and outputs is well-formed when its gates are
 use mathlib.Core.Path.{_≡_, sym, ap, _∙_}
 use mathlib.Core.Bool.{true, false}
 use mathlib.Core.List.{[], map}
@@ -21,7 +25,7 @@ noGate = record { kind = 0; operands = [] }
 abbrev pub noOutput : Output
 noOutput = record { port = []; node = constant false }
 
--- "limits, names legal and not twice, kinds, counts, nodes"
+-- the rules of a well-formed block (SPECIFICATION 2.4): limits, names, kinds, counts, nodes
 pub record WellFormed (b : Block) : Type 0 where
   pub fewInputs : inputCount b ≤ maxInputs
   pub fewGates : gateCount b ≤ maxGates

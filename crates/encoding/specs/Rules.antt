@@ -39,7 +39,7 @@ gateRule ws nodes at =
     isKind (getD ws at 0 % 8) && arityFits (getD ws at 0 % 8) (getD ws at 0 / 8)
     && all (λ i. cond (ltb i (getD ws at 0 / 8)) (operandRule nodes (getD ws (at + 1 + i) 0)) (eqb (getD ws (at + 1 + i) 0) 0)) (upTo operandWords)
 
--- "A slice of 16-bit words of exactly this length", and the limits
+-- the length that the counts give, and the limits
 unfoldable pub headerRule : List ℕ → Bool
 headerRule ws =
     leb inputsAt (length ws)

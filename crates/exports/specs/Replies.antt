@@ -1,11 +1,11 @@
--- What the contracts of the C functions say of the three words that they return. Assumes nothing.
+-- What the C functions promise: an operation's promise, of the three numbers that they return. Assumes nothing.
 use mathlib.Core.Path.{_≡_}
 use mathlib.Core.List.{List}
 use Prim.Native.Nat.{ℕ}
 use lib.ListN.{length}
 use Rattle.netlist.specs.declared.Answer.{Answer}
-use Rattle.netlist.specs.Answers.{numberOf, countOf, detailOf, answerOf}
-use Rattle.netlist.specs.Operations.{render}
+use Rattle.netlist.specs.Answers.{numberOf, countOf, detailOf, Outcome, answerOf, leftIn}
+use Rattle.netlist.specs.Operations.{settle, pass, render}
 use Rattle.render.specs.Promise.{RenderPromise}
 use Rattle.exports.specs.declared.Reply.{Reply}
 
@@ -15,7 +15,17 @@ pub record Shows (a : Answer) (r : Reply) : Type 0 where
   pub count : r .count ≡ countOf a
   pub detail : r .detail ≡ detailOf a
 
+-- An operation's promise (netlist's `Promise`), for the reply.
+pub record Replies (o : Outcome) (entry : List ℕ) (r : Reply) (exit : List ℕ) : Type 0 where
+  pub shows : Shows (answerOf o) r
+  pub leaves : exit ≡ leftIn o entry
+
+-- Pass's: the values are Settle's.
+pub record PassReply (ws setting entry : List ℕ) (r : Reply) (exit : List ℕ) : Type 0 where
+  pub replies : Replies (pass ws setting (length entry)) entry r exit
+  pub settles : r .number ≡ 0 → exit ≡ leftIn (settle ws setting (length entry)) entry
+
 -- Render's whole promise, for the answer that the reply shows.
 pub record RenderReply (ws entry : List ℕ) (r : Reply) (exit : List ℕ) : Type 0 where
-  pub shows : Shows (answerOf (render ws (length entry))) r
+  pub replies : Replies (render ws (length entry)) entry r exit
   pub promise : RenderPromise ws entry (answerOf (render ws (length entry))) exit

@@ -1,16 +1,16 @@
-// The operations of document 01 as C functions, for programs in other languages: include/unloop.h declares them. Each has its operation's
+// The operations as C functions (SPECIFICATION 7), for programs in other languages: include/unloop.h declares them. Each has its operation's
 // promise and no condition. A slice is a pointer and a length.
-ghost use mathlib.Core.Path.{_≡_};
-ghost use lib.ListN.{length};
-ghost use Rattle.netlist.specs.declared.Answer.the-variants.{Refused};
-ghost use Rattle.netlist.specs.Answers.{answerOf, leftIn};
-ghost use Rattle.netlist.specs.Operations.{read, write, settle, pass, verdict, coverOf, groupsOf};
-ghost use Rattle.netlist.specs.Line.{lineStart, lineLength};
-ghost use Rattle.exports.specs.Replies.{Shows, RenderReply};
 use netlist::Answer;
 use netlist::Refusal;
 use refusals::detail_of;
 use refusals::number_of;
+ghost use mathlib.Core.Path.{_≡_};
+ghost use lib.ListN.{length};
+ghost use Rattle.netlist.specs.declared.Answer.the-variants.{Refused};
+ghost use Rattle.netlist.specs.Answers.{answerOf};
+ghost use Rattle.netlist.specs.Operations.{read, write, settle, verdict, coverOf, groupsOf};
+ghost use Rattle.netlist.specs.Line.{lineStart, lineLength};
+ghost use Rattle.exports.specs.Replies.{Shows, Replies, PassReply, RenderReply};
 
 // An answer's number (0 on success), count and detail.
 #[repr(C)]
@@ -27,7 +27,7 @@ pub struct Span {
     pub length: usize,
 }
 
-// A refusal's three words: "count 0".
+// A refusal's three numbers: it counts nothing.
 fn reply_of_refusal(refusal: Refusal) -> Reply
     ensures { λ r. ⌜ Shows (Refused refusal) r ⌝ }
 {
@@ -40,7 +40,7 @@ fn reply_of_refusal(refusal: Refusal) -> Reply
     }
 }
 
-// The three words of an answer.
+// The three numbers of an answer.
 fn reply_of(answer: Answer) -> Reply
     ensures { λ r. ⌜ Shows answer r ⌝ }
 {
@@ -57,8 +57,7 @@ fn reply_of(answer: Answer) -> Reply
 // Read: text to block; count: words.
 #[no_mangle]
 pub extern "C" fn unloop_read(text: &[u8], block: &mut [u16]) -> Reply
-    ensures answers { λ r. ⌜ Shows (answerOf (read (now (text .entry)) (length (now (block .entry))))) r ⌝ }
-    ensures leaves { λ r. ⌜ now (block .exit) ≡ leftIn (read (now (text .entry)) (length (now (block .entry)))) (now (block .entry)) ⌝ }
+    ensures { λ r. ⌜ Replies (read (now (text .entry)) (length (now (block .entry)))) (now (block .entry)) r (now (block .exit)) ⌝ }
 {
     reply_of(reading::read(text, block))
 }
@@ -66,8 +65,7 @@ pub extern "C" fn unloop_read(text: &[u8], block: &mut [u16]) -> Reply
 // Write: block to text; count: bytes.
 #[no_mangle]
 pub extern "C" fn unloop_write(block: &[u16], text: &mut [u8]) -> Reply
-    ensures answers { λ r. ⌜ Shows (answerOf (write (now (block .entry)) (length (now (text .entry))))) r ⌝ }
-    ensures leaves { λ r. ⌜ now (text .exit) ≡ leftIn (write (now (block .entry)) (length (now (text .entry)))) (now (text .entry)) ⌝ }
+    ensures { λ r. ⌜ Replies (write (now (block .entry)) (length (now (text .entry)))) (now (text .entry)) r (now (text .exit)) ⌝ }
 {
     reply_of(writing::write(block, text))
 }
@@ -75,17 +73,15 @@ pub extern "C" fn unloop_write(block: &[u16], text: &mut [u8]) -> Reply
 // Settle: the settled value of each gate; count: rounds.
 #[no_mangle]
 pub extern "C" fn unloop_settle(block: &[u16], setting: &[u8], values: &mut [u8]) -> Reply
-    ensures answers { λ r. ⌜ Shows (answerOf (settle (now (block .entry)) (now (setting .entry)) (length (now (values .entry))))) r ⌝ }
-    ensures leaves { λ r. ⌜ now (values .exit) ≡ leftIn (settle (now (block .entry)) (now (setting .entry)) (length (now (values .entry)))) (now (values .entry)) ⌝ }
+    ensures { λ r. ⌜ Replies (settle (now (block .entry)) (now (setting .entry)) (length (now (values .entry)))) (now (values .entry)) r (now (values .exit)) ⌝ }
 {
     reply_of(simulate::settle::settle(block, setting, values))
 }
 
-// Pass: the values of a straight block in one sweep; count: gates.
+// Pass: the values of a straight block in one sweep, Settle's values; count: gates.
 #[no_mangle]
 pub extern "C" fn unloop_pass(block: &[u16], setting: &[u8], values: &mut [u8]) -> Reply
-    ensures answers { λ r. ⌜ Shows (answerOf (pass (now (block .entry)) (now (setting .entry)) (length (now (values .entry))))) r ⌝ }
-    ensures leaves { λ r. ⌜ now (values .exit) ≡ leftIn (pass (now (block .entry)) (now (setting .entry)) (length (now (values .entry)))) (now (values .entry)) ⌝ }
+    ensures { λ r. ⌜ PassReply (now (block .entry)) (now (setting .entry)) (now (values .entry)) r (now (values .exit)) ⌝ }
 {
     reply_of(simulate::pass::pass(block, setting, values))
 }
@@ -101,8 +97,7 @@ pub extern "C" fn unloop_verdict(block: &[u16]) -> Reply
 // Cover: two words an entry; count: entries.
 #[no_mangle]
 pub extern "C" fn unloop_cover(block: &[u16], entries: &mut [u16]) -> Reply
-    ensures answers { λ r. ⌜ Shows (answerOf (coverOf (now (block .entry)) (length (now (entries .entry))))) r ⌝ }
-    ensures leaves { λ r. ⌜ now (entries .exit) ≡ leftIn (coverOf (now (block .entry)) (length (now (entries .entry)))) (now (entries .entry)) ⌝ }
+    ensures { λ r. ⌜ Replies (coverOf (now (block .entry)) (length (now (entries .entry)))) (now (entries .entry)) r (now (entries .exit)) ⌝ }
 {
     reply_of(cover::cover(block, entries))
 }
@@ -110,8 +105,7 @@ pub extern "C" fn unloop_cover(block: &[u16], entries: &mut [u16]) -> Reply
 // Groups: each gate's group number; count: groups.
 #[no_mangle]
 pub extern "C" fn unloop_groups(block: &[u16], numbers: &mut [u16]) -> Reply
-    ensures answers { λ r. ⌜ Shows (answerOf (groupsOf (now (block .entry)) (length (now (numbers .entry))))) r ⌝ }
-    ensures leaves { λ r. ⌜ now (numbers .exit) ≡ leftIn (groupsOf (now (block .entry)) (length (now (numbers .entry)))) (now (numbers .entry)) ⌝ }
+    ensures { λ r. ⌜ Replies (groupsOf (now (block .entry)) (length (now (numbers .entry)))) (now (numbers .entry)) r (now (numbers .exit)) ⌝ }
 {
     reply_of(groups::groups(block, numbers))
 }

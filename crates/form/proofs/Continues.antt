@@ -24,7 +24,8 @@ pub record Continues {A B : Type 0} (whole : Reader B) (first : Reader A) (k : L
   pub goes-on : (s : List ℕ) → scanOf (whole s) ≡ thenOf (first s) k
 
 module _ {A B : Type 0} where
-  pub continues-bind : (first : Reader A) (next : A → Reader B) (k : List ℕ → Scan) → ((a : A) (t : List ℕ) → scanOf (next a t) ≡ k t) → Continues (bind first next) first k
+  pub continues-bind : (first : Reader A) (next : A → Reader B) (k : List ℕ → Scan) → ((a : A) (t : List ℕ) → scanOf (next a t) ≡ k t)
+      → Continues (bind first next) first k
   unfolding bind onParsed
   continues-bind first next k h = record { goes-on = λ s. go (first s) }
     where
@@ -76,7 +77,8 @@ pub continues-skip : {A B : Type 0} (R : Reader A) (next : Reader B) → Continu
 continues-skip R next = continues-bind R (λ _. next) (λ t. scanOf (next t)) (λ _ _. refl)
 
 -- where what follows is the same
-pub continues-same : {A B : Type 0} {whole : Reader B} {first : Reader A} {k j : List ℕ → Scan} → Continues whole first k → ((t : List ℕ) → k t ≡ j t) → Continues whole first j
+pub continues-same : {A B : Type 0} {whole : Reader B} {first : Reader A} {k j : List ℕ → Scan} → Continues whole first k → ((t : List ℕ) → k t ≡ j t)
+    → Continues whole first j
 continues-same {A} {B} {whole} {first} {k} {j} c h = record { goes-on = λ s. c .goes-on s ∙ go (first s) }
   where
     go : (p : Parsed A) → thenOf p k ≡ thenOf p j

@@ -15,7 +15,8 @@ use Rattle.netlist.specs.Limits.{maxDepth}
 use Rattle.netlist.specs.Syntax.{apply}
 use Rattle.netlist.specs.Parse.{stuck, stop, expect}
 use Rattle.form.specs.declared.Scan.the-variants.{Next, Bad}
-use Rattle.form.specs.Scan.{scanOf, firstByte, inputName, inputReader, gateExpression, gateBracket, gateNaming, gateReader, outputShown, outputSpace, outputPort, outputReader, lineBehind, lineReader}
+use Rattle.form.specs.Scan.{scanOf, firstByte, inputName, inputReader, gateExpression, gateBracket, gateNaming, gateReader, outputShown, outputSpace}
+use Rattle.form.specs.Scan.{outputPort, outputReader, lineBehind, lineReader}
 use Rattle.form.proofs.First.{byte-taken, byte-left}
 use Rattle.form.proofs.Shortens.{Leaves, Shortens, shortens-expect, shortens-bind, shortens-name, shortens-expr, shortens-term}
 use Rattle.form.proofs.Continues.{left-short}
@@ -32,7 +33,8 @@ module _ (phase : ℕ) (t : List ℕ) {c : ℕ} (e : c ≡ getD t 0 0) where
     no-input : is "i" (getD t 0 0) && eqb phase 0 ≡ false
     no-input =
         not-true-false (is "i" (getD t 0 0) && eqb phase 0)
-        (λ h. n (e ∙ sym (eqb-true 105 (getD t 0 0) (and-left (is "i" (getD t 0 0)) (eqb phase 0) h))) (eqb-true phase 0 (and-right (is "i" (getD t 0 0)) (eqb phase 0) h)))
+        (λ h. n (e ∙ sym (eqb-true 105 (getD t 0 0) (and-left (is "i" (getD t 0 0)) (eqb phase 0) h)))
+        (eqb-true phase 0 (and-right (is "i" (getD t 0 0)) (eqb phase 0) h)))
 
     pub chosen-gate : c ≡ 103 → phase ≤ 1 → lineBehind phase t ≡ gateReader t
     unfolding lineBehind
@@ -43,7 +45,8 @@ module _ (phase : ℕ) (t : List ℕ) {c : ℕ} (e : c ≡ getD t 0 0) where
     chosen-output g =
         let m : is "g" (getD t 0 0) && leb phase 1 ≡ false =
         not-true-false (is "g" (getD t 0 0) && leb phase 1)
-        (λ h. g (e ∙ sym (eqb-true 103 (getD t 0 0) (and-left (is "g" (getD t 0 0)) (leb phase 1) h))) (leb-true phase 1 (and-right (is "g" (getD t 0 0)) (leb phase 1) h)))
+        (λ h. g (e ∙ sym (eqb-true 103 (getD t 0 0) (and-left (is "g" (getD t 0 0)) (leb phase 1) h)))
+        (leb-true phase 1 (and-right (is "g" (getD t 0 0)) (leb phase 1) h)))
         in
         rw (no-input, m)
 

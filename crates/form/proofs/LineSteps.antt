@@ -7,7 +7,8 @@ use Rattle.laws.specs.Lists.{ascii}
 use Rattle.netlist.specs.Limits.{maxDepth}
 use Rattle.netlist.specs.Syntax.{Term, apply}
 use Rattle.netlist.specs.Parse.{nameReader, exprReader, termReader}
-use Rattle.form.specs.Scan.{scanOf, wordReader, firstByte, closing, inputName, inputReader, gateExpression, gateBracket, gateNaming, gateReader, outputShown, outputSpace, outputPort, outputReader}
+use Rattle.form.specs.Scan.{scanOf, wordReader, firstByte, closing, inputName, inputReader, gateExpression, gateBracket, gateNaming, gateReader}
+use Rattle.form.specs.Scan.{outputShown, outputSpace, outputPort, outputReader}
 use Rattle.form.proofs.Shortens.{Shortens, shortens-expect, shortens-pure}
 use Rattle.form.proofs.Continues.{Continues, continues-word, continues-skip}
 

@@ -1,6 +1,5 @@
 -- Facts on lists that are nobody's in particular: the last elements of a list. Assumes nothing.
 use mathlib.Core.Path.{_≡_, refl}
-use mathlib.Core.Bool.{Bool, true, false, _||_}
 use mathlib.Core.List.{List, [], _∷_}
 use Prim.Native.Nat.{ℕ, _+_, _-_, _≤_, _<_}
 use native.Mathlib.Omega.{arith}
@@ -26,12 +25,3 @@ module _ {A : Type 0} where
   pub first-and-rest : (d : A) (xs : List A) → 0 < length xs → xs ≡ getD xs 0 d ∷ drop 1 xs
   first-and-rest d [] h = absurd (omega arith)
   first-and-rest d (x ∷ xs) h = refl
-
--- the middle one of three alternatives holds, or does not
-pub or-middle : (a b c : Bool) → b ≡ true → a || b || c ≡ true
-or-middle true b c h = refl
-or-middle false b c h = rw h
-
-pub or-without : (a b c : Bool) → b ≡ false → a || b || c ≡ a || c
-or-without true b c h = refl
-or-without false b c h = rw h

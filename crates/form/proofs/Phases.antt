@@ -12,10 +12,13 @@ use Rattle.netlist.specs.Limits.{maxDepth}
 use Rattle.netlist.specs.Kinds.{mostOperands, fewestOperands}
 use Rattle.netlist.specs.StoredBlock.{isLetter, isNameStart}
 use Rattle.netlist.specs.Syntax.{Term, Terms, Tree, apply}
-use Rattle.netlist.specs.Parse.{Parsed, got, stuck, Reader, pure, stop, ifNext, expect, onParsed, bind, nameReader, kindReader, termsReader, exprReader, termReader, addInput, addGate, addOutput, inputLine, gateLine, outputLine, atEnd, line, outputsReader, gatesReader, textReader}
+use Rattle.netlist.specs.Parse.{Parsed, got, stuck, Reader, pure, stop, ifNext, expect, onParsed, bind, nameReader, kindReader, termsReader, exprReader}
+use Rattle.netlist.specs.Parse.{termReader, addInput, addGate, addOutput, inputLine, gateLine, outputLine, atEnd, line, outputsReader, gatesReader}
+use Rattle.netlist.specs.Parse.{textReader}
 use Rattle.form.specs.declared.Scan.{Scan}
 use Rattle.form.specs.declared.Scan.the-variants.{Next, Bad}
-use Rattle.form.specs.Scan.{scanOf, firstByte, closing, inputName, inputReader, gateExpression, gateBracket, gateNaming, gateReader, outputShown, outputSpace, outputPort, outputReader, lineBehind, lineReader, phaseOf}
+use Rattle.form.specs.Scan.{scanOf, firstByte, closing, inputName, inputReader, gateExpression, gateBracket, gateNaming, gateReader, outputShown}
+use Rattle.form.specs.Scan.{outputSpace, outputPort, outputReader, lineBehind, lineReader, phaseOf}
 use Rattle.form.proofs.First.{byte-taken, byte-left}
 use Rattle.form.proofs.Continues.{Continues, thenOf, continues-after-bind, continues-after-expect, continues-word, continues-same, scan-map}
 use Rattle.form.proofs.OperandLists.{afterKind}
@@ -97,11 +100,13 @@ abbrev onward : ℕ → ℕ → List ℕ → Scan
 onward c more u = scanOf (linesReader (phaseOf c) more u)
 
 module _ (more : ℕ) (t : List ℕ) where
-  input-step : (otherwise : Reader Tree) → getD t 0 0 ≡ 105 → scanOf (inputLine (λ r. textReader more r) otherwise t) ≡ thenOf (inputReader t) (onward (getD t 0 0) more)
+  input-step : (otherwise : Reader Tree) → getD t 0 0 ≡ 105
+      → scanOf (inputLine (λ r. textReader more r) otherwise t) ≡ thenOf (inputReader t) (onward (getD t 0 0) more)
   unfolding linesReader phaseOf
   input-step otherwise e = rw e (ap scanOf (input-only (λ r. textReader more r) otherwise t e) ∙ input-then (λ r. textReader more r) .goes-on t)
 
-  gate-step : (otherwise : Reader Tree) → getD t 0 0 ≡ 103 → scanOf (gateLine (λ r. gatesReader more r) otherwise t) ≡ thenOf (gateReader t) (onward (getD t 0 0) more)
+  gate-step : (otherwise : Reader Tree) → getD t 0 0 ≡ 103
+      → scanOf (gateLine (λ r. gatesReader more r) otherwise t) ≡ thenOf (gateReader t) (onward (getD t 0 0) more)
   unfolding linesReader phaseOf
   gate-step otherwise e = rw e (ap scanOf (gate-only (λ r. gatesReader more r) otherwise t e) ∙ gate-then (λ r. gatesReader more r) .goes-on t)
 

@@ -7,29 +7,31 @@ use lib.ListN.{length, take, drop, getD, length-drop, drop-of-length-le}
 use Rattle.laws.proofs.Elements.{rest-is-drop}
 use Rattle.netlist.specs.Syntax.{Tree}
 use Rattle.netlist.specs.Parse.{Parsed, got, stuck, parse}
-use Rattle.form.specs.declared.TextForm.the-variants.{Legal, Bad}
+use Rattle.netlist.specs.declared.Refusal.the-variants.{SyntaxError}
+use Rattle.netlist.specs.declared.Test.the-variants.{Passed, Failed}
+use Rattle.netlist.specs.Answers.{testAt}
 use Rattle.form.specs.declared.Scan.{Scan}
 use Rattle.form.specs.declared.Scan.the-variants.{Next, Bad as Stuck}
-use Rattle.form.specs.Scan.{formAt, formOf, scanOf, lineReader, phaseOf}
+use Rattle.form.specs.Scan.{badOf, firstBad, scanOf, lineReader, phaseOf}
 use Rattle.form.proofs.ListFacts.{lastOnes, last-last}
 use Rattle.form.proofs.Continues.{thenOf, stuck-short, then-read, then-refused}
 use Rattle.form.proofs.LineChoice.{shortens-line, line-shorter}
 use Rattle.form.proofs.Phases.{linesReader, lines-step, lines-over}
 
--- the form from what is left
-form-stuck : (text : List ℕ) (n : ℕ) → scanOf (parse text) ≡ Stuck n → formOf text ≡ Bad (length text - n)
-unfolding formOf
+-- the test from what is left
+form-stuck : (text : List ℕ) (n : ℕ) → scanOf (parse text) ≡ Stuck n → testAt (firstBad text) SyntaxError ≡ Failed (SyntaxError (length text - n))
+unfolding firstBad testAt
 form-stuck text n e = go (parse text) e
   where
-    go : (p : Parsed Tree) → scanOf p ≡ Stuck n → formAt text p ≡ Bad (length text - n)
+    go : (p : Parsed Tree) → scanOf p ≡ Stuck n → testAt (badOf text p) SyntaxError ≡ Failed (SyntaxError (length text - n))
     go (got t rest) e = let z : _≡_ {A = ℕ} 0 1 = cc in absurd (omega arith)
     go (stuck left) e = let f : left ≡ n = cc in rw f
 
-form-legal : (text : List ℕ) (n : ℕ) → scanOf (parse text) ≡ Next n → formOf text ≡ Legal
-unfolding formOf
+form-legal : (text : List ℕ) (n : ℕ) → scanOf (parse text) ≡ Next n → testAt (firstBad text) SyntaxError ≡ Passed
+unfolding firstBad testAt
 form-legal text n e = go (parse text) e
   where
-    go : (p : Parsed Tree) → scanOf p ≡ Next n → formAt text p ≡ Legal
+    go : (p : Parsed Tree) → scanOf p ≡ Next n → testAt (badOf text p) SyntaxError ≡ Passed
     go (got t rest) e = refl
     go (stuck left) e = let z : _≡_ {A = ℕ} 0 1 = cc in absurd (omega arith)
 
@@ -82,9 +84,16 @@ module _ (text : List ℕ) (phase at : ℕ) (r : Reached text phase at) (open-en
     reached-next {n} g =
         let l : n < length text - at = line-left g in
         let w : length text - at ≤ r .more = r .enough in
-        record { within = omega arith; more = r .more - 1; enough = omega arith; is-rest = rest-after l (then-line ∙ then-read _ (shortens-line phase) (restOf text at) (sym g ∙ e)) }
+        record {
+          within = omega arith;
+          more = r .more - 1;
+          enough = omega arith;
+          is-rest = rest-after l
+              (then-line ∙ then-read _ (shortens-line phase) (restOf text at) (sym g ∙ e));
+        }
       where
-        rest-after : n < length text - at → scanOf (parse text) ≡ scanOf (linesReader (phaseOf (getD (restOf text at) 1 0)) (r .more - 1) (lastOnes n (restOf text at)))
+        rest-after : n < length text - at → scanOf (parse text) ≡ scanOf
+            (linesReader (phaseOf (getD (restOf text at) 1 0)) (r .more - 1) (lastOnes n (restOf text at)))
             → scanOf (parse text) ≡ scanOf (linesReader (phaseOf (getD (restOf text at) 1 0)) (r .more - 1) (drop (length text - n) text))
         rest-after l q =
             let a : length text - (length text - at) ≡ at = omega arith in
@@ -92,8 +101,8 @@ module _ (text : List ℕ) (phase at : ℕ) (r : Reached text phase at) (open-en
             let d : lastOnes n (restOf text at) ≡ lastOnes n text = ap (lastOnes n) b ∙ last-last n (length text - at) text (omega arith) (omega arith) in
             rw d at q
 
-    pub reached-stuck : {n : ℕ} → x ≡ Stuck n → formOf text ≡ Bad (length text - n)
+    pub reached-stuck : {n : ℕ} → x ≡ Stuck n → testAt (firstBad text) SyntaxError ≡ Failed (SyntaxError (length text - n))
     reached-stuck {n} g = form-stuck text n (then-line ∙ then-refused (lineReader phase (restOf text at)) _ (sym g ∙ e))
 
-pub reached-end : (text : List ℕ) (phase at : ℕ) → Reached text phase at → length text ≤ at → formOf text ≡ Legal
+pub reached-end : (text : List ℕ) (phase at : ℕ) → Reached text phase at → length text ≤ at → testAt (firstBad text) SyntaxError ≡ Passed
 reached-end text phase at r h = form-legal text 0 (r .is-rest ∙ rw (drop-of-length-le text h) (lines-over phase (r .more)))

@@ -13,7 +13,9 @@ use Rattle.netlist.specs.Limits.{maxName, maxDepth}
 use Rattle.netlist.specs.StoredBlock.{isLetter, isNameByte, isNameStart}
 use Rattle.netlist.specs.Kinds.{mostOperands, fewestOperands}
 use Rattle.netlist.specs.Syntax.{Term, Terms, Tree, name, literal, apply, nil, cons}
-use Rattle.netlist.specs.Parse.{Parsed, got, stuck, Reader, pure, stop, onTest, ifNext, expect, onParsed, bind, nameBytes, nameAfter, nameReader, kindReader, spaced, termsReader, exprReader, leafOr, termReader, addInput, addGate, addOutput, inputLine, gateLine, outputLine}
+use Rattle.netlist.specs.Parse.{Parsed, got, stuck, Reader, pure, stop, onTest, ifNext, expect, onParsed, bind, nameBytes, nameAfter, nameReader}
+use Rattle.netlist.specs.Parse.{kindReader, spaced, termsReader, exprReader, leafOr, termReader, addInput, addGate, addOutput, inputLine, gateLine}
+use Rattle.netlist.specs.Parse.{outputLine}
 use Rattle.form.proofs.ListFacts.{lastOnes}
 
 -- the second text is the end of the first

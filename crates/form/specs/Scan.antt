@@ -1,8 +1,9 @@
--- What `form` answers, and what its readers answer of netlist's readers: bytes left, and no tree. Read's crate cites `formOf`.
+-- What `form` answers, and what its readers answer of netlist's readers: bytes left, and no tree. Read's crate cites `firstBad`.
 -- Assumes nothing: these are definitions.
 use Prim.Native.Nat.{ℕ, _-_}
 use mathlib.Core.Bool.{Bool, true, false, cond, _&&_}
 use mathlib.Core.List.{List}
+use mathlib.Core.Option.{Option, none, some}
 use lib.ListN.{length, getD}
 use lib.Dec.{eqb, leb}
 use Rattle.laws.specs.Lists.{ascii, is}
@@ -10,21 +11,19 @@ use Rattle.netlist.specs.StoredBlock.{isLetter, isNameStart}
 use Rattle.netlist.specs.Limits.{maxDepth}
 use Rattle.netlist.specs.Syntax.{Tree, apply}
 use Rattle.netlist.specs.Parse.{Parsed, got, stuck, Reader, pure, stop, ifNext, expect, bind, nameReader, exprReader, termReader, parse}
-use Rattle.form.specs.declared.TextForm.{TextForm}
-use Rattle.form.specs.declared.TextForm.the-variants.{Legal, Bad}
 use Rattle.form.specs.declared.Scan.{Scan}
 use Rattle.form.specs.declared.Scan.the-variants.{Next, Bad as Stuck}
 use Rattle.form.specs.declared.Kind.{Kind}
 use Rattle.form.specs.declared.Kind.the-variants.{Is, Bad as NoKind}
 
 -- the place is the number of bytes before the bad one
-abbrev pub formAt : List ℕ → Parsed Tree → TextForm
-formAt text (got t rest) = Legal
-formAt text (stuck left) = Bad (length text - left)
+abbrev pub badOf : List ℕ → Parsed Tree → Option ℕ
+badOf text (got t rest) = none
+badOf text (stuck left) = some (length text - left)
 
--- "text not of the grammar; detail: bytes before the first that no legal text has after that beginning, or the length if cut off"
-unfoldable pub formOf : List ℕ → TextForm
-formOf text = formAt text (parse text)
+-- 2: the first byte that no legal text has behind that beginning, or the length where the text is cut off
+unfoldable pub firstBad : List ℕ → Option ℕ
+firstBad text = badOf text (parse text)
 
 -- the bytes left of what a reader answers
 abbrev pub scanOf : {A : Type 0} → Parsed A → Scan

@@ -1,18 +1,17 @@
-// Does a text have the grammar's form, and where does it break: refusal 2 of document 01. `form` is for Read; the readers below it take
-// the rest of the text as their slice and answer how many bytes are left. Nothing is written.
+// Does a text have the grammar's form, and where does it break (SPECIFICATION 1, and Read's 2 in 7.3). The readers below `form` take the
+// rest of the text as their slice and answer how many bytes are left. Nothing is written.
+use layout::bytes::byte_at;
+use netlist::Refusal;
+use netlist::Test;
 ghost use mathlib.Core.Path.{_≡_};
-ghost use Rattle.form.specs.Scan.{formOf};
+ghost use Rattle.netlist.specs.declared.Refusal.the-variants.{SyntaxError};
+ghost use Rattle.netlist.specs.Answers.{testAt};
+ghost use Rattle.form.specs.Scan.{firstBad};
 
 mod bytes;
 mod lines;
 mod names;
 mod terms;
-
-// What a text is: legal, or out of form at a place.
-pub enum TextForm {
-    Legal,
-    Bad(usize),
-}
 
 // What a reader answers: the bytes left behind what it read, or the bytes left from the bad one on.
 enum Scan {
@@ -26,9 +25,9 @@ enum Kind {
     Bad(usize),
 }
 
-// The text's form. The loop lends each line's reader the rest of the text; `phase` says which lines may still come.
-pub fn form(text: &[u8]) -> TextForm
-    ensures { λ r. ⌜ r ≡ formOf (now (text .entry)) ⌝ }
+// 2: the place of the first byte that no legal text has there. The loop lends each line's reader the rest of the text; `phase` says which lines may still come.
+pub fn form(text: &[u8]) -> Test
+    ensures { λ r. ⌜ r ≡ testAt (firstBad (now (text .entry))) SyntaxError ⌝ }
 {
     let mut phase: usize = 0;
     let mut at: usize = 0;
@@ -37,13 +36,13 @@ pub fn form(text: &[u8]) -> TextForm
         let found = lines::line(rest, phase);
         match found {
             Scan::Next(left) => {
-                phase = lines::phase_of(bytes::byte_at(rest, 1));
+                phase = lines::phase_of(byte_at(rest, 1));
                 at = text.len() - left;
             }
             Scan::Bad(left) => {
-                return TextForm::Bad(text.len() - left);
+                return Test::Failed(Refusal::SyntaxError(text.len() - left));
             }
         }
     }
-    TextForm::Legal
+    Test::Passed
 }

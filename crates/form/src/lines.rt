@@ -3,6 +3,7 @@ use crate::Scan;
 use crate::bytes;
 use crate::names;
 use crate::terms;
+use layout::bytes::byte_at;
 ghost use mathlib.Core.Path.{_≡_};
 ghost use Rattle.form.specs.Scan.{scanOf, inputReader, gateReader, outputReader, lineReader, phaseOf};
 
@@ -94,10 +95,10 @@ pub fn phase_of(letter: u8) -> usize
 pub fn line(s: &[u8], phase: usize) -> Scan
     ensures { λ r. ⌜ r ≡ scanOf (lineReader phase (now (s .entry))) ⌝ }
 {
-    if bytes::byte_at(s, 0) != b'(' {
+    if byte_at(s, 0) != b'(' {
         return Scan::Bad(s.len());
     }
-    let c = bytes::byte_at(s, 1);
+    let c = byte_at(s, 1);
     if c == b'i' {
         if phase == 0 {
             return input_line(&s[1..]);

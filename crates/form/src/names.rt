@@ -1,6 +1,9 @@
 // Names and ports.
 use crate::Scan;
-use crate::bytes;
+use layout::bytes::byte_at;
+use layout::bytes::is_letter;
+use layout::bytes::is_name_byte;
+use layout::bytes::is_name_start;
 ghost use mathlib.Core.Path.{_≡_};
 ghost use Rattle.netlist.specs.Parse.{nameBytes, nameReader};
 ghost use Rattle.form.specs.Scan.{scanOf, firstByte};
@@ -11,8 +14,8 @@ pub fn name_bytes(s: &[u8], most: usize) -> usize
 {
     let mut i: usize = 0;
     while i < most {
-        let c = bytes::byte_at(s, i);
-        if !bytes::is_name_byte(c) {
+        let c = byte_at(s, i);
+        if !is_name_byte(c) {
             return s.len() - i;
         }
         i += 1;
@@ -25,9 +28,9 @@ fn starts(c: u8, underscore: bool) -> bool
     ensures { λ r. ⌜ r ≡ firstByte underscore c ⌝ }
 {
     if underscore {
-        bytes::is_name_start(c)
+        is_name_start(c)
     } else {
-        bytes::is_letter(c)
+        is_letter(c)
     }
 }
 
@@ -35,7 +38,7 @@ fn starts(c: u8, underscore: bool) -> bool
 pub fn name(s: &[u8], underscore: bool) -> Scan
     ensures { λ r. ⌜ r ≡ scanOf (nameReader (firstByte underscore) (now (s .entry))) ⌝ }
 {
-    let c = bytes::byte_at(s, 0);
+    let c = byte_at(s, 0);
     if !starts(c, underscore) {
         return Scan::Bad(s.len());
     }

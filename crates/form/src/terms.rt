@@ -3,6 +3,8 @@ use crate::Kind;
 use crate::Scan;
 use crate::bytes;
 use crate::names;
+use layout::bytes::byte_at;
+use layout::bytes::is_name_start;
 use layout::kinds::fewest_operands;
 use layout::kinds::most_operands;
 ghost use mathlib.Core.Path.{_≡_};
@@ -25,7 +27,7 @@ fn kind_word(s: &[u8], bytes: &[u8], kind: usize) -> Kind
 fn kind_no(s: &[u8]) -> Kind
     ensures { λ r. ⌜ r ≡ kindOf (kindNo (now (s .entry))) ⌝ }
 {
-    let c = bytes::byte_at(s, 0);
+    let c = byte_at(s, 0);
     if c == b't' {
         return Kind::Is {
             kind: 0,
@@ -45,7 +47,7 @@ fn kind_no(s: &[u8]) -> Kind
 fn kind_n(s: &[u8]) -> Kind
     ensures { λ r. ⌜ r ≡ kindOf (kindN (now (s .entry))) ⌝ }
 {
-    let c = bytes::byte_at(s, 0);
+    let c = byte_at(s, 0);
     if c == b'a' {
         return kind_word(&s[1..], b"nd", 3);
     }
@@ -59,7 +61,7 @@ fn kind_n(s: &[u8]) -> Kind
 fn kind_x(s: &[u8]) -> Kind
     ensures { λ r. ⌜ r ≡ kindOf (kindX (now (s .entry))) ⌝ }
 {
-    let c = bytes::byte_at(s, 0);
+    let c = byte_at(s, 0);
     if c == b'o' {
         return kind_word(&s[1..], b"r", 5);
     }
@@ -73,7 +75,7 @@ fn kind_x(s: &[u8]) -> Kind
 fn kind(s: &[u8]) -> Kind
     ensures { λ r. ⌜ r ≡ kindOf (kindReader (now (s .entry))) ⌝ }
 {
-    let c = bytes::byte_at(s, 0);
+    let c = byte_at(s, 0);
     if c == b'a' {
         return kind_word(&s[1..], b"nd", 1);
     }
@@ -118,7 +120,7 @@ fn operands(s: &[u8], depth: usize, most: usize, needed: usize) -> Scan
     if most == 0 {
         return bytes::word(s, b")");
     }
-    let c = bytes::byte_at(s, 0);
+    let c = byte_at(s, 0);
     if c == b')' {
         if needed == 0 {
             return Scan::Next(s.len() - 1);
@@ -141,8 +143,8 @@ fn operands(s: &[u8], depth: usize, most: usize, needed: usize) -> Scan
 fn operand(s: &[u8], depth: usize) -> Scan
     ensures { λ r. ⌜ r ≡ scanOf (termReader depth (now (s .entry))) ⌝ }
 {
-    let c = bytes::byte_at(s, 0);
-    if bytes::is_name_start(c) {
+    let c = byte_at(s, 0);
+    if is_name_start(c) {
         return Scan::Next(names::name_bytes(&s[1..], 7));
     }
     if c == b'0' {

@@ -1,5 +1,8 @@
 -- The parser is right: a text is legal exactly where it parses, and where it does not, the place is that of the first bad byte. These are the
 -- statements to cite; `parse-sound` and `parse-complete` are in Sound and Complete. Assumes nothing.
+--   legal-parses, parsed-legal: a text is legal exactly when it parses
+--   parse-refused: where it does not, the place is that of the first bad byte
+--   first-bad-one, first-bad-refused: there is only one such place
 use Prim.Native.Nat.{ℕ, zero, suc, _+_, _-_, _≤_, _<_}
 use mathlib.Core.Path.{_≡_, refl, sym, ap, _∙_}
 use mathlib.Core.Logic.{_⊎_, inl, inr}

@@ -1,4 +1,5 @@
 -- The result of reading a text does not depend on the bound on lines, once it is at least the length. Assumes nothing.
+--   textReader-bound: every bound that is at least the length gives one result
 use Prim.Native.Nat.{ℕ, zero, suc, _-_, _≤_}
 use mathlib.Core.Path.{_≡_, refl, sym, _∙_}
 use mathlib.Core.Bool.{Bool, true, false}
@@ -10,7 +11,8 @@ use Rattle.laws.specs.Lists.{ascii}
 use Rattle.netlist.specs.Limits.{maxDepth}
 use Rattle.netlist.specs.StoredBlock.{isLetter, isNameByte, isNameStart}
 use Rattle.netlist.specs.Syntax.{Terms, Tree}
-use Rattle.netlist.specs.Parse.{Parsed, Reader, got, stuck, stop, onTest, ifNext, expect, onParsed, bind, nameReader, exprReader, termReader, inputLine, gateLine, outputLine, atEnd, line, outputsReader, gatesReader, textReader}
+use Rattle.netlist.specs.Parse.{Parsed, Reader, got, stuck, stop, onTest, ifNext, expect, onParsed, bind, nameReader, exprReader, termReader, inputLine}
+use Rattle.netlist.specs.Parse.{gateLine, outputLine, atEnd, line, outputsReader, gatesReader, textReader}
 use Rattle.grammar.proofs.SoundTerms.{letter-nameByte, nameStart-nameByte}
 use Rattle.grammar.proofs.Shorter.{nameReader-shorter, exprReader-shorter}
 

@@ -1,4 +1,6 @@
 -- The print of a legal tree is read back, line by line, with any bound that is at least the number of lines. Assumes nothing.
+--   parse-complete: the print of a legal tree parses to that tree
+--   print-injective: two legal trees with one print are one
 use Prim.Native.Nat.{ℕ, zero, suc, _+_, _-_, _≤_}
 use mathlib.Core.Path.{_≡_, refl, _∙_}
 use mathlib.Core.Bool.{true, false, and-eq-true-iff}
@@ -9,8 +11,10 @@ use Rattle.laws.specs.Lists.{ascii, is, all}
 use Rattle.netlist.specs.Limits.{maxDepth}
 use Rattle.netlist.specs.Netlist.{Name}
 use Rattle.netlist.specs.StoredBlock.{isLetter, isDigit, isUnderscore, isNameByte, isNameStart, isPlainName, isNodeName}
-use Rattle.netlist.specs.Syntax.{apply, GateLine, OutputLine, Tree, printTerm, printInput, printGate, printOutput, printLines, print, isLegalTerm, isLegalGate, isLegalOutput, isLegalTree}
-use Rattle.netlist.specs.Parse.{Reader, got, pure, ifNext, nameReader, exprReader, termReader, addInput, addGate, addOutput, inputLine, gateLine, outputLine, atEnd, line, outputsReader, gatesReader, textReader, parse}
+use Rattle.netlist.specs.Syntax.{apply, GateLine, OutputLine, Tree, printTerm, printInput, printGate, printOutput, printLines, print, isLegalTerm}
+use Rattle.netlist.specs.Syntax.{isLegalGate, isLegalOutput, isLegalTree}
+use Rattle.netlist.specs.Parse.{Reader, got, pure, ifNext, nameReader, exprReader, termReader, addInput, addGate, addOutput, inputLine, gateLine}
+use Rattle.netlist.specs.Parse.{outputLine, atEnd, line, outputsReader, gatesReader, textReader, parse}
 use Rattle.grammar.proofs.Equations.{ifNext-true, ifNext-false, expect-back, bind-got}
 use Rattle.grammar.proofs.ListFacts.{and3}
 use Rattle.grammar.proofs.Lengths.{lineCount, lineCount-length}

@@ -13,7 +13,8 @@ use Rattle.netlist.specs.Kinds.{isKind, fewestOperands, mostOperands, arityFits
 use Rattle.netlist.specs.Netlist.{Name}
 use Rattle.netlist.specs.StoredBlock.{isLetter, isDigit, isUnderscore, isNameByte, isNameStart, isLegalName, isNodeName}
 use Rattle.netlist.specs.Syntax.{Term, Terms, name, literal, apply, nil, cons, printTerm, printTerms, termCount, isLegalTerm, isLegalTerms}
-use Rattle.netlist.specs.Parse.{got, Reader, pure, onTest, ifNext, expect, nameBytes, nameAfter, nameReader, kindReader, spaced, termsReader, exprReader, leafOr, termReader}
+use Rattle.netlist.specs.Parse.{got, Reader, pure, onTest, ifNext, expect, nameBytes, nameAfter, nameReader, kindReader, spaced, termsReader, exprReader}
+use Rattle.netlist.specs.Parse.{leafOr, termReader}
 use Rattle.grammar.proofs.Equations.{ifNext-true, ifNext-false, expect-back, bind-got}
 use Rattle.grammar.proofs.ListFacts.{and3}
 use Rattle.encoding.proofs.Gates.{by-kind}

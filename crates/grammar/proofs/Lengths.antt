@@ -1,5 +1,7 @@
 -- Prints are longer than what follows them: by what expressions and lines add. Cited for the bound on lines and for the laws that a
 -- reader's rest is shorter. Assumes nothing.
+--   term-length, terms-length, input-length, gate-length, output-length: what each print adds
+--   lineCount-length: no text has more lines than bytes
 use Prim.Native.Nat.{ℕ, _+_, _≤_, _<_}
 use mathlib.Core.Bool.{true, false}
 use mathlib.Core.List.{List, [], _∷_, _++_}
@@ -8,7 +10,8 @@ use lib.ListN.{length, length-append}
 use Rattle.laws.specs.Lists.{ascii}
 use Rattle.netlist.specs.Netlist.{Name}
 use Rattle.netlist.specs.Kinds.{keyword}
-use Rattle.netlist.specs.Syntax.{Term, Terms, name, literal, apply, nil, cons, GateLine, OutputLine, Tree, printTerm, printTerms, printInput, printGate, printOutput, printLines, print}
+use Rattle.netlist.specs.Syntax.{Term, Terms, name, literal, apply, nil, cons, GateLine, OutputLine, Tree, printTerm, printTerms, printInput, printGate}
+use Rattle.netlist.specs.Syntax.{printOutput, printLines, print}
 
 mutual
   unfolding printTerm printTerms

@@ -1,4 +1,7 @@
 -- Facts on lists, numbers and Bools that are nobody's in particular. Assumes nothing.
+--   and3, ne-same, memberList-from: tests
+--   distinct-parts, distinct-apart, Apart, apart-append: lists without repetition
+--   tab-map, getD-behind: elements
 use Prim.Native.Nat.{ℕ, zero, suc, _+_, _-_, _<_, _≤_}
 use mathlib.Core.Path.{_≡_, refl, sym, _∙_}
 use mathlib.Core.Logic.{_⊎_, inl, inr}

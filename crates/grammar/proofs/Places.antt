@@ -1,5 +1,8 @@
 -- Where the lines of a printed tree stand: a print is its own bytes and then what follows, and lengths add up. Cited for places of names.
 -- Assumes nothing.
+--   printInput-split, printGate-split, printOutput-split, lines-split: a print is its own bytes and then what follows
+--   term-measure, lines-measure, print-measure: lengths add up
+--   gates-at, outputs-at, lines-drop: where the lines stand
 use Prim.Native.Nat.{ℕ, _+_}
 use mathlib.Core.Path.{_≡_, refl, sym, ap, _∙_}
 use mathlib.Core.List.{List, [], _∷_, _++_, append-assoc}

@@ -1,5 +1,9 @@
 -- Where a reader refuses: `Fails r s n` says that n bytes are left from the first byte on that no accepted text has there. A reader is half good
 -- if its refusals are such failures, and good if besides it accepts something. One lemma for each way to make a reader. Assumes nothing.
+--   Fails: n bytes are left from the first one on that no accepted text has there
+--   HalfGood, Good: a reader whose refusals are such failures; which besides accepts something
+--   GoodBefore, HalfGoodBefore: the same of a reader with another behind it
+--   half-.., good-.., before-..: one law for each way to make a reader
 use Prim.Native.Nat.{ℕ, suc}
 use mathlib.Core.Path.{_≡_, refl, sym, _∙_, fun-ext}
 use mathlib.Core.Logic.{_⊎_, inl, inr}

@@ -1,4 +1,5 @@
 -- Every reader of the grammar is good: it refuses at the first byte that no accepted text has there. Assumes nothing.
+--   textReader-good: the reader of a whole text is good, with every bound on the lines
 use Prim.Native.Nat.{ℕ, zero, suc, _-_}
 use mathlib.Core.Path.{_≡_, refl}
 use mathlib.Core.Logic.{inl}
@@ -10,8 +11,10 @@ use Rattle.netlist.specs.Limits.{maxName, maxDepth}
 use Rattle.netlist.specs.Kinds.{fewestOperands, mostOperands}
 use Rattle.netlist.specs.StoredBlock.{isLetter, isNameByte, isNameStart}
 use Rattle.netlist.specs.Syntax.{Term, Terms, name, literal, apply, nil, cons, Tree}
-use Rattle.netlist.specs.Parse.{Reader, stuck, stop, nameBytes, nameAfter, nameReader, kindReader, spaced, termsReader, exprReader, leafOr, termReader, addInput, addGate, inputLine, gateLine, outputLine, atEnd, line, outputsReader, gatesReader, textReader}
-use Rattle.grammar.proofs.Refusals.{Fails, Good, HalfGood, GoodBefore, HalfGoodBefore, half-stop, good-ifNext, good-expect, before-pure, before-stop, before-ifNext, halfBefore-ifNext, before-half, before-expect, before-bind, good-made}
+use Rattle.netlist.specs.Parse.{Reader, stuck, stop, nameBytes, nameAfter, nameReader, kindReader, spaced, termsReader, exprReader, leafOr, termReader}
+use Rattle.netlist.specs.Parse.{addInput, addGate, inputLine, gateLine, outputLine, atEnd, line, outputsReader, gatesReader, textReader}
+use Rattle.grammar.proofs.Refusals.{Fails, Good, HalfGood, GoodBefore, HalfGoodBefore, half-stop, good-ifNext, good-expect, before-pure}
+use Rattle.grammar.proofs.Refusals.{before-stop, before-ifNext, halfBefore-ifNext, before-half, before-expect, before-bind, good-made}
 
 nameBytes-good : (most : ℕ) → GoodBefore (nameBytes most)
 unfolding nameBytes isNameByte isLetter

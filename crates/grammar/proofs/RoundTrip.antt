@@ -1,4 +1,7 @@
 -- What Write prints, Read gives back: the words of the block. Assumes nothing.
+--   parse-written: a written text parses to the tree it was printed from
+--   reading-written: reading it gives the block's words
+--   reading-written-words: the same from words that are not torn
 use Prim.Native.Nat.{ℕ}
 use mathlib.Core.Path.{_≡_, ap, _∙_}
 use mathlib.Core.Bool.{true, false, and-eq-true-iff}

@@ -15,7 +15,8 @@ use Rattle.netlist.specs.Syntax.{Term, Terms, name, literal, apply, nil, cons, 
 use Rattle.netlist.specs.Parse.{got, nameBytes, nameReader, kindReader, termsReader, exprReader, termReader}
 use Rattle.grammar.proofs.Readings.{Gives}
 use Rattle.encoding.proofs.Gates.{by-kind}
-use Rattle.grammar.proofs.SoundTerms.{ExprRead, nameBytes-sound, nameReader-sound, kindReader-sound, termsReader-sound, exprReader-sound, termReader-sound}
+use Rattle.grammar.proofs.SoundTerms.{ExprRead, nameBytes-sound, nameReader-sound, kindReader-sound, termsReader-sound, exprReader-sound}
+use Rattle.grammar.proofs.SoundTerms.{termReader-sound}
 use Rattle.grammar.proofs.Lengths.{terms-length}
 
 -- A print is its own bytes, and then what follows: `a` may be empty.

@@ -1,4 +1,6 @@
 -- What is read is legal and printed back, for lines and the whole text: printed before the rest, it is the text. Assumes nothing.
+--   TreeRead: what is read of a text: all of it, a legal tree, printed back
+--   parse-sound: the main law, of every text
 use Prim.Native.Nat.{ℕ, zero, suc, _-_}
 use mathlib.Core.Path.{_≡_, refl}
 use mathlib.Core.Bool.{true}
@@ -8,8 +10,10 @@ use Rattle.laws.specs.Lists.{ascii}
 use Rattle.netlist.specs.Limits.{maxDepth}
 use Rattle.netlist.specs.Netlist.{Name}
 use Rattle.netlist.specs.StoredBlock.{isLetter, isNameStart, isPlainName, isNodeName}
-use Rattle.netlist.specs.Syntax.{GateLine, OutputLine, Tree, printTerm, printInput, printGate, printOutput, printLines, print, isLegalGate, isLegalOutput, isLegalTree}
-use Rattle.netlist.specs.Parse.{Reader, got, nameReader, exprReader, termReader, addInput, addGate, addOutput, inputLine, gateLine, outputLine, atEnd, line, outputsReader, gatesReader, textReader, parse}
+use Rattle.netlist.specs.Syntax.{GateLine, OutputLine, Tree, printTerm, printInput, printGate, printOutput, printLines, print, isLegalGate, isLegalOutput}
+use Rattle.netlist.specs.Syntax.{isLegalTree}
+use Rattle.netlist.specs.Parse.{Reader, got, nameReader, exprReader, termReader, addInput, addGate, addOutput, inputLine, gateLine, outputLine, atEnd}
+use Rattle.netlist.specs.Parse.{line, outputsReader, gatesReader, textReader, parse}
 use Rattle.grammar.proofs.Readings.{Gives, gives-got, gives-stuck, gives-pure, gives-stop, gives-is, gives-expect, gives-bind}
 use Rattle.grammar.proofs.SoundTerms.{nameReader-sound, letter-nameByte, nameStart-nameByte, exprReader-sound, termReader-sound, ExprRead}
 

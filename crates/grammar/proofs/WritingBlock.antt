@@ -1,4 +1,5 @@
 -- The netlist of what Write prints is the block it was given. Assumes nothing.
+--   blockOf-flatTree: the block of the written tree is the block
 use Prim.Native.Nat.{ℕ, zero, suc, _+_, _<_, _≤_}
 use mathlib.Core.Path.{_≡_, refl, sym, ap, ap₂, _∙_}
 use mathlib.Core.Bool.{true, and-eq-true-iff, false≢true}
@@ -14,7 +15,8 @@ use Rattle.netlist.specs.Limits.{maxGates}
 use Rattle.netlist.specs.Netlist.{Name, Operand, input, gate, constant, Output, Block, inputCount, gateCount, gateOf}
 use Rattle.netlist.specs.StoredBlock.{isPlainName, isNode, isOperand, isWellFormed}
 use Rattle.netlist.specs.Syntax.{OutputLine}
-use Rattle.netlist.specs.Reading.{gatesIn, gatesInside, lineGates, Binding, inputBindings, gateBindings, bindings, lookup, termNode, termsNodes, termGates, termsGates, linesGates, blockOf}
+use Rattle.netlist.specs.Reading.{gatesIn, gatesInside, lineGates, Binding, inputBindings, gateBindings, bindings, lookup, termNode, termsNodes, termGates}
+use Rattle.netlist.specs.Reading.{termsGates, linesGates, blockOf}
 use Rattle.netlist.specs.Writing.{gateName, nodeNameOf, termOf, termsOf, flatLine, flatTree}
 use Rattle.grammar.proofs.ListFacts.{ne-same, distinct-apart, distinct-parts, tab-map}
 use Rattle.encoding.proofs.WellFormed.{WellFormed, wellFormed-parts}

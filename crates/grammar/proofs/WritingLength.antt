@@ -12,7 +12,7 @@ use Rattle.laws.specs.Lists.{ascii, all, tab, upTo, sum}
 use Rattle.laws.proofs.Tab.{length-tab}
 use Rattle.laws.proofs.Lists.{sum-map-append}
 use Rattle.encoding.proofs.Gates.{most-four}
-use Rattle.netlist.specs.Limits.{maxName, maxGates}
+use Rattle.netlist.specs.Limits.{maxName, maxGates, maxWritten}
 use Rattle.netlist.specs.Kinds.{isKind, keyword, signatureOf}
 use Rattle.netlist.specs.Netlist.{Name, Operand, input, gate, constant, Output, Block, gateCount, gateOf}
 use Rattle.netlist.specs.StoredBlock.{isNameByte, isLegalName, isPlainName, isNodeName, isNode, isOperand, isWellFormed}
@@ -132,7 +132,7 @@ module _ (b : Block) (w : WellFormed b) where
       rw (tab-map (flatLine b) m) (omega arith)
 
 -- The length of a written text, and that it is not too long.
-pub written-length : (b : Block) → isWellFormed b ≡ true → length (writtenText b) ≤ 56758
+pub written-length : (b : Block) → isWellFormed b ≡ true → length (writtenText b) ≤ maxWritten
 unfolding writtenText print flatTree
 written-length b h =
     let w = wellFormed-parts b h in

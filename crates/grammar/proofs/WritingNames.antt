@@ -1,5 +1,7 @@
 -- The names of written gates, `_0` to `_1023`: legal, unlike each other, and unlike every input's name. Computed over all of them.
 -- Assumes nothing.
+--   gateName-legal: each is legal
+--   gateName-injective, gateName-no-input: no two are the same, and none is an input's
 use Prim.Native.Nat.{ℕ, _+_, _-_, _*_, _<_}
 use mathlib.Core.Path.{_≡_, refl, ap}
 use mathlib.Core.Bool.{true, false≢true}

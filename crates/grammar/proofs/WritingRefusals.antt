@@ -1,4 +1,7 @@
 -- What Write prints is refused for no limit, no repeated and no undeclared name. Assumes nothing.
+--   flatTree-within: within the limits
+--   flatTree-unrepeated: nothing declared twice
+--   flatTree-declared: nothing used that is not declared
 use Prim.Native.Nat.{ℕ, suc, _+_, _<_}
 use mathlib.Core.Path.{_≡_, refl, sym, ap₂, _∙_}
 use mathlib.Core.Bool.{Bool, true, false, and-eq-true-iff, false≢true}
@@ -15,7 +18,9 @@ use Rattle.netlist.specs.Limits.{maxInputs, maxGates, maxOutputs}
 use Rattle.netlist.specs.Netlist.{Name, Operand, input, gate, constant, Output, Block, inputCount, gateCount, outputCount, gateOf}
 use Rattle.netlist.specs.StoredBlock.{isPlainName, isNode, isOperand, isWellFormed}
 use Rattle.netlist.specs.Syntax.{name, GateLine, OutputLine, printInput, printGate, printOutput}
-use Rattle.netlist.specs.Reading.{lineGates, isOverLimit, Mention, mentions, inputMention, gateMention, portMention, shownMention, termMentions, termsMentions, operandMentions, declaredNodes, declaredPorts, usedNames, firstRepeat, orElse, firstDuplicate, firstOutside, firstUndeclared}
+use Rattle.netlist.specs.Reading.{lineGates, isOverLimit, Mention, mentions, inputMention, gateMention, portMention, shownMention, termMentions}
+use Rattle.netlist.specs.Reading.{termsMentions, operandMentions, declaredNodes, declaredPorts, usedNames, firstRepeat, orElse, firstDuplicate}
+use Rattle.netlist.specs.Reading.{firstOutside, firstUndeclared}
 use Rattle.netlist.specs.Writing.{gateName, nodeNameOf, termOf, termsOf, flatLine, flatTree}
 use Rattle.grammar.proofs.ListFacts.{ne-same, memberList-from, distinct-apart, tab-map, Apart, apart-append}
 use Rattle.encoding.proofs.WellFormed.{WellFormed, wellFormed-parts}

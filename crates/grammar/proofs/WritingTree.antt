@@ -1,4 +1,5 @@
 -- What Write prints is a legal tree. Assumes nothing.
+--   flatTree-legal: the tree of a well-formed block is legal
 use Prim.Native.Nat.{ℕ, suc, _-_, _<_}
 use mathlib.Core.Path.{_≡_, refl, ap}
 use mathlib.Core.Bool.{true, _&&_, and-eq-true-iff, false≢true}

@@ -77,27 +77,33 @@ module _ {ws : List ℕ} {n m gates : ℕ} {leaders : List ℕ} (r : NumberReady
     unfolding outside reads
     waits k o u =
         let w = read-by ws n m gates leaders j k (and-left (member k (groupReads ws n m gates leaders j m)) (not (eqb (getD leaders k 0) j)) o) in
-        let apart : eqb (getD leaders k 0) j ≡ false = not-true (eqb (getD leaders k 0) j) (and-right (member k (groupReads ws n m gates leaders j m)) (not (eqb (getD leaders k 0) j)) o) in
+        let apart : eqb (getD leaders k 0) j ≡ false = not-true (eqb (getD leaders k 0) j)
+        (and-right (member k (groupReads ws n m gates leaders j m)) (not (eqb (getD leaders k 0) j)) o) in
         let read : reads (decode ws) (w .0) k ≡ true = rw (r .whole .operands (w .0) (w .1)) at (w .3) in
         let kl : k < m = from-block (r .inside (w .0) k read) in
         not-true-false (mayBeNext (decode ws) done j) (λ t.
         ⊎-elim
         (λ g. not-both (led k kl ∙ g) apart)
         (λ d. not-both d (done-member m numbers k kl ∙ ap not u))
-        (ready-reads (decode ws) done (groupOf (decode ws) j) (mayBeNext-ready (decode ws) done j t) (w .0) k (sym (led (w .0) (w .1)) ∙ eq-eqb (getD leaders (w .0) 0) j (w .2)) read))
+        (ready-reads (decode ws) done (groupOf (decode ws) j) (mayBeNext-ready (decode ws) done j t) (w .0) k
+        (sym (led (w .0) (w .1)) ∙ eq-eqb (getD leaders (w .0) 0) j (w .2)) read))
 
     -- it reads none
-    pub free : unnumbered numbers j ≡ true → any (obstacle numbers leaders j) (groupReads ws n m gates leaders j m) ≡ false → mayBeNext (decode ws) done j ≡ true
+    pub free : unnumbered numbers j ≡ true → any (obstacle numbers leaders j) (groupReads ws n m gates leaders j m) ≡ false
+        → mayBeNext (decode ws) done j ≡ true
     unfolding obstacle reads
     free u none =
         mayBeNext-intro (decode ws) done j (done-member m numbers j l ∙ ap not u)
         (ready-intro (decode ws) done (groupOf (decode ws) j) (λ i k im read.
         let kl : k < m = from-block (r .inside i k read) in
-        ⊎-elim inr (λ d. ⊎-elim inl (λ g. not-both (found i k im read kl d g) none) (bool-cases (member k (groupOf (decode ws) j)))) (bool-cases (member k done))))
+        ⊎-elim inr (λ d. ⊎-elim inl (λ g. not-both (found i k im read kl d g) none) (bool-cases (member k (groupOf (decode ws) j))))
+        (bool-cases (member k done))))
       where
-        found : (i k : ℕ) → member i (groupOf (decode ws) j) ≡ true → member k (readBy (decode ws) i) ≡ true → k < m → member k done ≡ false → member k (groupOf (decode ws) j) ≡ false → any (obstacle numbers leaders j) (groupReads ws n m gates leaders j m) ≡ true
+        found : (i k : ℕ) → member i (groupOf (decode ws) j) ≡ true → member k (readBy (decode ws) i) ≡ true → k < m → member k done ≡ false
+            → member k (groupOf (decode ws) j) ≡ false → any (obstacle numbers leaders j) (groupReads ws n m gates leaders j m) ≡ true
         found i k im read kl d g =
             let il : i < m = from-block (groupOf-below (decode ws) j i im) in
             any-member (obstacle numbers leaders j) (groupReads ws n m gates leaders j m) k
             (reads-of ws n m gates leaders j i k il (eqb-true (getD leaders i 0) j (led i il ∙ im)) (rw (r .whole .operands i il) read))
-            (and-intro (unnumbered numbers k) (not (eqb (getD leaders k 0) j)) (not-false (unnumbered numbers k) (sym (done-member m numbers k kl) ∙ d)) (ap not (led k kl ∙ g)))
+            (and-intro (unnumbered numbers k) (not (eqb (getD leaders k 0) j)) (not-false (unnumbered numbers k) (sym (done-member m numbers k kl) ∙ d))
+            (ap not (led k kl ∙ g)))

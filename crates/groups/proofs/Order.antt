@@ -1,4 +1,4 @@
--- The numbering loop follows document 01's rule. Cited by `number_groups`. Assumes nothing.
+-- The numbering loop follows the definition's rule (SPECIFICATION 5). Cited by `number_groups`. Assumes nothing.
 use mathlib.Core.Path.{_≡_, refl, sym, ap, _∙_}
 use mathlib.Core.Logic.{⊎-elim}
 use mathlib.Core.Bool.{Bool, true, false, cond, not, and-false, Bool·not-not}
@@ -44,7 +44,8 @@ module _ (b : Block) (inside : Inside b) where
           member-joined j (take g (groups b)) (groupNumber b j) (rw (getD-take g (groups b) (groupNumber b j) [] lt) (groupNumber-member b inside j l))
 
   -- the state of the numbers tells which gates are done
-  open-is : (g : ℕ) (numbers : List ℕ) → gateCount b ≤ 1024 → ((j : ℕ) → j < gateCount b → getD numbers j 0 ≡ numberUpTo b g j) → (j : ℕ) → j < gateCount b → unnumbered numbers j ≡ not (member j (joined (take g (groups b))))
+  open-is : (g : ℕ) (numbers : List ℕ) → gateCount b ≤ 1024 → ((j : ℕ) → j < gateCount b → getD numbers j 0 ≡ numberUpTo b g j) → (j : ℕ) → j < gateCount b
+      → unnumbered numbers j ≡ not (member j (joined (take g (groups b))))
   unfolding unnumbered numberUpTo
   open-is g numbers few are j l = rw (are j l, numbered-below g j l) (go (ltb (groupNumber b j) g) refl)
     where
@@ -69,11 +70,13 @@ module _ {ws : List ℕ} {n m gates g : ℕ} {leaders numbers : List ℕ} (s : S
 
   left : (j : ℕ) → j < m → unnumbered numbers j ≡ not (member j done)
   left j l =
-      open-is b (s .prepared .inside) g numbers (rw (← s .prepared .gatesAre) (s .prepared .whole .fewGates)) (λ k kl. s .numbersAre k (from-block (s .prepared) kl)) j (in-block (s .prepared) l)
+      open-is b (s .prepared .inside) g numbers (rw (← s .prepared .gatesAre) (s .prepared .whole .fewGates))
+      (λ k kl. s .numbersAre k (from-block (s .prepared) kl)) j (in-block (s .prepared) l)
 
   -- the gates with a number are those of the first g groups
   same-done : (k : ℕ) → member k (numberedGates m numbers) ≡ member k done
-  same-done k = ⊎-elim (λ l. done-member m numbers k l ∙ ap not (left k l) ∙ Bool·not-not (member k done)) (λ ge. none ge ∙ sym (outside-done ge)) (lt-or-le k m)
+  same-done k =
+      ⊎-elim (λ l. done-member m numbers k l ∙ ap not (left k l) ∙ Bool·not-not (member k done)) (λ ge. none ge ∙ sym (outside-done ge)) (lt-or-le k m)
     where
       none : m ≤ k → member k (numberedGates m numbers) ≡ false
       none ge = not-true-false (member k (numberedGates m numbers)) (λ t. let lt : k < m = done-below m numbers k t in omega arith)
@@ -96,11 +99,13 @@ module _ {ws : List ℕ} {n m gates g : ℕ} {leaders numbers : List ℕ} (s : S
 
       lower : getD leaders j 0 < j → getD leaders j 0 ≡ j
       lower lt =
-          let new : member (getD leaders j 0) done ≡ false = not-true-false (member (getD leaders j 0) done) (λ t. not-both (groups-numbered b g .whole (getD leaders j 0) j t (sameGroup-sym b j (getD leaders j 0) group)) (mayBeNext-left b done j may)) in
-          let also : mayBeNext b done (getD leaders j 0) ≡ true = mayBeNext-intro b done (getD leaders j 0) new (rw (← groupOf-equal b j (getD leaders j 0) group) (mayBeNext-ready b done j may)) in
+          let new : member (getD leaders j 0) done ≡ false = not-true-false (member (getD leaders j 0) done)
+          (λ t. not-both (groups-numbered b g .whole (getD leaders j 0) j t (sameGroup-sym b j (getD leaders j 0) group)) (mayBeNext-left b done j may)) in
+          let also : mayBeNext b done (getD leaders j 0) ≡ true = mayBeNext-intro b done (getD leaders j 0) new
+          (rw (← groupOf-equal b j (getD leaders j 0) group) (mayBeNext-ready b done j may)) in
           not-both also (least-below (mayBeNext b done) (gateCount b) (getD leaders j 0) (rw (← e) lt))
 
-  -- the loop's search finds document 01's next gate
+  -- the loop's search finds the definition's next gate
   pub next-found : least (leadsNext b m numbers leaders) m ≡ nextGate b done
   unfolding leadsNext
   next-found =

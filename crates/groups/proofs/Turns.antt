@@ -42,30 +42,36 @@ unfolding numberUpTo
 none-number b j = rw (le-ltb (groupNumber b j) 0 (omega arith)) refl
 
 -- no group has a number yet
-pub numbers-none : (b : Block) (m : ℕ) (entry : List ℕ) → replicate m noNumber ++ drop m entry ≡ placed (tab (numberUpTo b 0) m) (replicate m noNumber ++ drop m entry)
+pub numbers-none : (b : Block) (m : ℕ) (entry : List ℕ)
+    → replicate m noNumber ++ drop m entry ≡ placed (tab (numberUpTo b 0) m) (replicate m noNumber ++ drop m entry)
 numbers-none b m entry =
     let e : tab (numberUpTo b 0) m ≡ replicate m noNumber = tab-constant (numberUpTo b 0) noNumber m (λ j l. none-number b j) in
     rw (e, length-replicate {A = ℕ} m noNumber, drop-at (replicate m noNumber) (drop m entry) m (length-replicate {A = ℕ} m noNumber)) refl
 
--- and no witness is known
-pub watching-none : {ws : List ℕ} {n m gates : ℕ} {leaders witnesses : List ℕ} (entry : List ℕ) → NumberReady ws n m gates leaders → m ≤ length witnesses → witnesses ≡ replicate m noNumber ++ drop m entry → Watching ws n m gates leaders witnesses
-watching-none {m = m} {witnesses = witnesses} entry r room is =
+-- and no obstacle is known
+pub watching-none : {ws : List ℕ} {n m gates : ℕ} {leaders obstacles : List ℕ} (entry : List ℕ) → NumberReady ws n m gates leaders → m ≤ length obstacles
+    → obstacles ≡ replicate m noNumber ++ drop m entry → Watching ws n m gates leaders obstacles
+watching-none {m = m} {obstacles = obstacles} entry r room is =
     record {
       prepared = r;
       room = room;
-      witnessed = λ l il below. absurd (omega (arith, unknown l il, r .whole .fewGates));
+      outsideOf = λ l il below. absurd (omega (arith, unknown l il, r .whole .fewGates));
     }
   where
-    same : witnesses ≡ placed (tab (λ j. noNumber) m) entry
+    same : obstacles ≡ placed (tab (λ j. noNumber) m) entry
     same = is ∙ rw (tab-constant (λ j. noNumber) noNumber m (λ j l. refl), length-replicate {A = ℕ} m noNumber) refl
 
-    unknown : (l : ℕ) → l < m → getD witnesses l 0 ≡ noNumber
+    unknown : (l : ℕ) → l < m → getD obstacles l 0 ≡ noNumber
     unknown l il = rw same (placed-tab (λ j. noNumber) m entry l 0 il)
 
 module _ (b : Block) (inside : Inside b) where
   -- there is a next gate only while groups are left, and always then
   next-within : (g : ℕ) → nextGate b (joined (take g (groups b))) < gateCount b → g < length (groups b)
-  next-within g h = ⊎-elim (λ l. l) (λ ge. not-both (all-done ge) (mayBeNext-left b (joined (take g (groups b))) (nextGate b (joined (take g (groups b)))) (nextGate-passes b (joined (take g (groups b))) h))) (lt-or-le g (length (groups b)))
+  next-within g h =
+      ⊎-elim (λ l. l)
+      (λ ge. not-both (all-done ge)
+      (mayBeNext-left b (joined (take g (groups b))) (nextGate b (joined (take g (groups b)))) (nextGate-passes b (joined (take g (groups b))) h)))
+      (lt-or-le g (length (groups b)))
     where
       all-done : length (groups b) ≤ g → member (nextGate b (joined (take g (groups b)))) (joined (take g (groups b))) ≡ true
       all-done ge = rw (take-all g (groups b) ge) (groups-all b inside (nextGate b (joined (groups b))) (rw (take-all g (groups b) ge) at h))
@@ -74,7 +80,8 @@ module _ (b : Block) (inside : Inside b) where
   none-next g le h = ⊎-elim (λ l. absurd (omega (arith, groups-at b g l .0))) (λ ge. le-antisymm le ge) (lt-or-le g (length (groups b)))
 
   -- one group more has its number
-  number-more : (g i j : ℕ) → nextGate b (joined (take g (groups b))) ≡ j → i < gateCount b → j < gateCount b → cond (sameGroup b i j) g (numberUpTo b g i) ≡ numberUpTo b (g + 1) i
+  number-more : (g i j : ℕ) → nextGate b (joined (take g (groups b))) ≡ j → i < gateCount b → j < gateCount b
+      → cond (sameGroup b i j) g (numberUpTo b g i) ≡ numberUpTo b (g + 1) i
   unfolding numberUpTo
   number-more g i j is il jl = go (sameGroup b i j) refl
     where
@@ -84,23 +91,28 @@ module _ (b : Block) (inside : Inside b) where
       group : getD (groups b) g [] ≡ groupOf b j
       group = rw is at (groups-at b g lt .1)
 
-      go : (t : Bool) → sameGroup b i j ≡ t → cond t g (cond (ltb (groupNumber b i) g) (groupNumber b i) noNumber) ≡ cond (ltb (groupNumber b i) (g + 1)) (groupNumber b i) noNumber
+      go : (t : Bool) → sameGroup b i j ≡ t → cond t g (cond (ltb (groupNumber b i) g) (groupNumber b i) noNumber) ≡ cond (ltb (groupNumber b i) (g + 1))
+          (groupNumber b i) noNumber
       go true e =
           let m : member i (getD (groups b) g []) ≡ true = rw (group, member-groupOf b j i) (sameGroup-sym b i j e) in
           let is-g : groupNumber b i ≡ g = groupNumber-is b i g m in
           rw (is-g, lt-ltb g (g + 1) (omega arith)) refl
       go false e =
-          let ne : groupNumber b i ≡ g → ⊥ = λ q. not-both (sameGroup-sym b j i (sym (member-groupOf b j i) ∙ rw (← group, ← q) (groupNumber-member b inside i il))) e in
+          let ne : groupNumber b i ≡ g → ⊥ = λ q. not-both
+          (sameGroup-sym b j i (sym (member-groupOf b j i) ∙ rw (← group, ← q) (groupNumber-member b inside i il))) e in
           ⊎-elim (λ l. rw (lt-ltb (groupNumber b i) g l, lt-ltb (groupNumber b i) (g + 1) (omega arith)) refl)
           (λ l. rw (le-ltb (groupNumber b i) g l, le-ltb (groupNumber b i) (g + 1) (omega arith)) refl) (lt-or-le (groupNumber b i) g)
 
   -- all groups have their numbers
   all-numbered : tab (numberUpTo b (length (groups b))) (gateCount b) ≡ groupNumbers b
   unfolding numberUpTo groupNumbers
-  all-numbered = tab-ext (numberUpTo b (length (groups b))) (groupNumber b) (gateCount b) (λ j l. rw (lt-ltb (groupNumber b j) (length (groups b)) (groupNumber-below b inside j l)) refl)
+  all-numbered =
+      tab-ext (numberUpTo b (length (groups b))) (groupNumber b) (gateCount b)
+      (λ j l. rw (lt-ltb (groupNumber b j) (length (groups b)) (groupNumber-below b inside j l)) refl)
 
 -- a turn of the loop: gate j leads the next group
-module _ {ws : List ℕ} {n m gates : ℕ} {leaders : List ℕ} (r : NumberReady ws n m gates leaders) (g : ℕ) (numbers₀ numbers : List ℕ) (is : numbers ≡ placed (tab (numberUpTo (decode ws) g) m) numbers₀) (j : ℕ) (found : j ≡ least (leadsNext (decode ws) m numbers leaders) m) where
+module _ {ws : List ℕ} {n m gates : ℕ} {leaders : List ℕ} (r : NumberReady ws n m gates leaders) (g : ℕ) (numbers₀ numbers : List ℕ)
+    (is : numbers ≡ placed (tab (numberUpTo (decode ws) g) m) numbers₀) (j : ℕ) (found : j ≡ least (leadsNext (decode ws) m numbers leaders) m) where
   number-now : (i : ℕ) → i < m → getD numbers i 0 ≡ numberUpTo (decode ws) g i
   number-now i l = rw is (placed-tab (numberUpTo (decode ws) g) m numbers₀ i 0 l)
 
@@ -119,10 +131,12 @@ module _ {ws : List ℕ} {n m gates : ℕ} {leaders : List ℕ} (r : NumberReady
     turn-within = rw add-one (next-within (decode ws) (r .inside) g (rw (← next) (in-block r l)))
 
     -- the gates that j leads are those of the next group
-    pub turn-numbers : (numbers′ : List ℕ) → numbers′ ≡ placed (tab (renumbered leaders j g numbers) m) numbers → numbers′ ≡ placed (tab (numberUpTo (decode ws) (g + 1)) m) numbers₀
+    pub turn-numbers : (numbers′ : List ℕ) → numbers′ ≡ placed (tab (renumbered leaders j g numbers) m) numbers
+        → numbers′ ≡ placed (tab (numberUpTo (decode ws) (g + 1)) m) numbers₀
     unfolding renumbered
     turn-numbers numbers′ e =
-        let behind : drop m numbers ≡ drop m numbers₀ = rw is (drop-placed (tab (numberUpTo (decode ws) g) m) numbers₀ m (length-tab (numberUpTo (decode ws) g) m)) in
+        let behind : drop m numbers ≡ drop m numbers₀ = rw is
+        (drop-placed (tab (numberUpTo (decode ws) g) m) numbers₀ m (length-tab (numberUpTo (decode ws) g) m)) in
         e
         ∙ rw (length-tab (renumbered leaders j g numbers) m, length-tab (numberUpTo (decode ws) (g + 1)) m, behind)
         (ap (λ (l : List ℕ). l ++ drop m numbers₀) (tab-ext (renumbered leaders j g numbers) (numberUpTo (decode ws) (g + 1)) m each))
@@ -133,16 +147,26 @@ module _ {ws : List ℕ} {n m gates : ℕ} {leaders : List ℕ} (r : NumberReady
             rw (led, number-now i il) (number-more (decode ws) (r .inside) g i j (sym next) (in-block r il) (in-block r l))
 
 -- the loop's end
-pub numbers-end : {ws : List ℕ} {n m gates : ℕ} {leaders : List ℕ} (g : ℕ) (entry numbers₀ numbers : List ℕ) → NumberReady ws n m gates leaders → numbers₀ ≡ replicate m noNumber ++ drop m entry → numbers ≡ placed (tab (numberUpTo (decode ws) g) m) numbers₀ → g ≡ length (groups (decode ws)) → GroupsNumbered (decode ws) entry numbers g
+pub numbers-end : {ws : List ℕ} {n m gates : ℕ} {leaders : List ℕ} (g : ℕ) (entry numbers₀ numbers : List ℕ) → NumberReady ws n m gates leaders
+    → numbers₀ ≡ replicate m noNumber ++ drop m entry → numbers ≡ placed (tab (numberUpTo (decode ws) g) m) numbers₀ → g ≡ length (groups (decode ws))
+    → GroupsNumbered (decode ws) entry numbers g
 unfolding groupNumbers
 numbers-end {ws} {n} {m} {gates} {leaders} g entry numbers₀ numbers r start is end =
     record {
       numbersAre =
           is
-          ∙ rw (length-tab (numberUpTo (decode ws) g) m, start, drop-at (replicate m noNumber) (drop m entry) m (length-replicate {A = ℕ} m noNumber), length-tab (groupNumber (decode ws)) (gateCount (decode ws)), end, r .gatesAre)
+          ∙ rw (
+            length-tab (numberUpTo (decode ws) g) m,
+            start,
+            drop-at (replicate m noNumber) (drop m entry) m (length-replicate {A = ℕ} m noNumber),
+            length-tab (groupNumber (decode ws)) (gateCount (decode ws)),
+            end,
+            r .gatesAre,
+          )
           (ap (λ (l : List ℕ). l ++ drop (gateCount (decode ws)) entry) (all-numbered (decode ws) (r .inside)));
       countIs = end;
     }
 
-pub end-late : {ws : List ℕ} {n m gates : ℕ} {leaders : List ℕ} (g : ℕ) → NumberReady ws n m gates leaders → g ≤ length (groups (decode ws)) → m ≤ g → g ≡ length (groups (decode ws))
+pub end-late : {ws : List ℕ} {n m gates : ℕ} {leaders : List ℕ} (g : ℕ) → NumberReady ws n m gates leaders → g ≤ length (groups (decode ws)) → m ≤ g
+    → g ≡ length (groups (decode ws))
 end-late {ws} {m = m} g r le h = let t : length (groups (decode ws)) ≤ gateCount (decode ws) = length-groups (decode ws) in omega (arith, r .gatesAre)

@@ -1,4 +1,4 @@
--- Numbering groups one by one, on arrays: a gate's number or 65535, and each gate's leader, the lowest gate of its group.
+-- Numbering groups one by one, on arrays: a gate's number, or the mark of none, and each gate's leader, the lowest gate of its group.
 use Prim.Native.Nat.{ℕ, _≤_, _<_}
 use mathlib.Core.Path.{_≡_}
 use mathlib.Core.Bool.{Bool, true, false, cond, not, _&&_, _||_}
@@ -13,6 +13,7 @@ use Rattle.reach.specs.Inside.{Inside}
 use Rattle.search.specs.Search.{gateReads, GatesReady}
 use Rattle.components.specs.Leaders.{leaderOf}
 
+-- the code's layout::nodes::NONE
 abbrev pub noNumber : ℕ
 noNumber = 65535
 
@@ -31,10 +32,10 @@ groupReads ws n m gates leaders leader count = joined (tab (λ i. cond (eqb (get
 unfoldable pub outside : List ℕ → ℕ → ℕ → ℕ → List ℕ → ℕ → ℕ → Bool
 outside ws n m gates leaders leader k = member k (groupReads ws n m gates leaders leader m) && not (eqb (getD leaders k 0) leader)
 
--- gate j's group needs no look: it has a number, a lower gate leads it, or its witness has no number
+-- gate j's group needs no look: it has a number, a lower gate leads it, or the obstacle that is remembered has no number
 unfoldable pub passed : ℕ → List ℕ → List ℕ → List ℕ → ℕ → Bool
-passed m numbers leaders witnesses j =
-    not (unnumbered numbers j) || (not (eqb (getD leaders j 0) j) || (ltb (getD witnesses j 0) m && unnumbered numbers (getD witnesses j 0)))
+passed m numbers leaders obstacles j =
+    not (unnumbered numbers j) || (not (eqb (getD leaders j 0) j) || (ltb (getD obstacles j 0) m && unnumbered numbers (getD obstacles j 0)))
 
 -- the gates that have a number
 unfoldable pub numberedGates : ℕ → List ℕ → List ℕ
@@ -68,11 +69,11 @@ pub record Sought (test : ℕ → Bool) (ks : List ℕ) (m r : ℕ) : Type 0 whe
 abbrev pub Lowest : List ℕ → ℕ → Type 0
 Lowest leaders leader = (i : ℕ) → i < leader → getD leaders i 0 ≡ leader → ⊥
 
--- each witness below m is a gate that the group reads outside itself
-pub record Watching (ws : List ℕ) (n m gates : ℕ) (leaders witnesses : List ℕ) : Type 0 where
+-- each remembered obstacle below m is a gate that the group reads outside itself
+pub record Watching (ws : List ℕ) (n m gates : ℕ) (leaders obstacles : List ℕ) : Type 0 where
   pub prepared : NumberReady ws n m gates leaders
-  pub room : m ≤ length witnesses
-  pub witnessed : (l : ℕ) → l < m → getD witnesses l 0 < m → outside ws n m gates leaders l (getD witnesses l 0) ≡ true
+  pub room : m ≤ length obstacles
+  pub outsideOf : (l : ℕ) → l < m → getD obstacles l 0 < m → outside ws n m gates leaders l (getD obstacles l 0) ≡ true
 
 -- the end of numbering
 pub record GroupsNumbered (b : Block) (entry exit : List ℕ) (count : ℕ) : Type 0 where

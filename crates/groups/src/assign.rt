@@ -1,13 +1,16 @@
 // The groups' numbers of a whole block.
+use crate::numbering::number_groups;
+use components::leaders::lead;
+use layout::limits::MAX_GATES;
+use layout::offsets::gates_at;
+use layout::offsets::gates_of;
+use layout::offsets::inputs_of;
 ghost use mathlib.Core.Path.{_≡_};
 ghost use mathlib.Core.Bool.{false};
 ghost use Prim.Native.Nat.{_≤_};
 ghost use lib.ListN.{length, getD};
-ghost use Rattle.netlist.specs.StoredBlock.{decode, isTorn, gatesAt};
+ghost use Rattle.netlist.specs.StoredBlock.{decode, isTorn};
 ghost use Rattle.groups.specs.Numbering.{GroupsNumbered, AssignReady};
-use crate::numbering::number_groups;
-use components::leaders::lead;
-use layout::offsets;
 
 // With arrays for the leaders and the search, each of at least m elements. The queue is used again for the obstacles found.
 fn assign_with(
@@ -32,12 +35,12 @@ pub fn assign(words: &[u16], numbers: &mut [u16]) -> usize
     requires { ⌜ (isTorn (now words) ≡ false) × (getD (now words) 1 0 ≤ length (now numbers)) ⌝ }
     ensures { λ r. ⌜ GroupsNumbered (decode (now (words .entry))) (now (numbers .entry)) (now (numbers .exit)) r ⌝ }
 {
-    let n = offsets::inputs_of(words);
-    let m = offsets::gates_of(words);
-    let gates = offsets::gates_at(n);
-    let mut leaders = [0u16; 1024];
-    let mut queue = [0u16; 1024];
-    let mut flags = [0u8; 1024];
+    let n = inputs_of(words);
+    let m = gates_of(words);
+    let gates = gates_at(n);
+    let mut leaders = [0u16; MAX_GATES];
+    let mut queue = [0u16; MAX_GATES];
+    let mut flags = [0u8; MAX_GATES];
     assign_with(
         words,
         n,

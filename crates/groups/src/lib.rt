@@ -1,11 +1,14 @@
-// Groups: each gate's place in the order of the strongly connected groups (document 01, "Groups and rendering").
-ghost use mathlib.Core.Path.{_≡_};
-ghost use lib.ListN.{length};
-ghost use Rattle.netlist.specs.Answers.{answerOf, leftIn};
-ghost use Rattle.netlist.specs.Operations.{groupsOf};
-use block::Check;
+// Groups (SPECIFICATION 5 and 7.8): each gate's place in the order of the strongly connected groups.
+use crate::assign::assign;
+use block::check_words;
+use layout::offsets::gates_of;
 use netlist::Answer;
-use netlist::Refusal;
+use netlist::Test;
+use refusals::refusal;
+use refusals::test_room;
+ghost use lib.ListN.{length};
+ghost use Rattle.netlist.specs.Answers.{Promise};
+ghost use Rattle.netlist.specs.Operations.{groupsOf};
 
 pub mod assign;
 pub mod numbering;
@@ -13,15 +16,16 @@ mod obstacle;
 
 // Groups (6, 11): each gate's group number, a word each; count: groups.
 pub fn groups(words: &[u16], numbers: &mut [u16]) -> Answer
-    ensures answers { λ r. ⌜ r ≡ answerOf (groupsOf (now (words .entry)) (length (now (numbers .entry)))) ⌝ }
-    ensures leaves { λ r. ⌜ now (numbers .exit) ≡ leftIn (groupsOf (now (words .entry)) (length (now (numbers .entry)))) (now (numbers .entry)) ⌝ }
+    ensures { λ r. ⌜ Promise (groupsOf (now (words .entry)) (length (now (numbers .entry)))) (now (numbers .entry)) r (now (numbers .exit)) ⌝ }
 {
-    let Check::Whole = block::check_words(words) else {
-        return Answer::Refused(Refusal::MalformedBlock);
+    let tested = check_words(words);
+    let Test::Passed = tested else {
+        return refusal(tested);
     };
-    if numbers.len() < layout::offsets::gates_of(words) {
-        return Answer::Refused(Refusal::NoRoom);
-    }
-    let count = assign::assign(words, numbers);
+    let tested = test_room(numbers.len(), gates_of(words));
+    let Test::Passed = tested else {
+        return refusal(tested);
+    };
+    let count = assign(words, numbers);
     Answer::Done { count, detail: 0 }
 }

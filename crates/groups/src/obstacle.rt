@@ -1,36 +1,28 @@
 // What keeps a group from being next: a gate without a number that it reads outside itself.
-ghost use mathlib.Core.Path.{_≡_};
-ghost use Prim.Native.Nat.{_+_, _/_, _≤_, _<_};
-ghost use lib.ListN.{getD};
-ghost use Rattle.laws.specs.Lists.{any};
-ghost use Rattle.search.specs.Search.{wordGate, wordGates};
-ghost use Rattle.groups.specs.Numbering.{obstacle, groupReads, Sought, NumberReady};
+use layout::nodes::NONE;
+use layout::nodes::gate_named;
+use layout::offsets::GATE_SIZE;
 use layout::read::word_at;
+ghost use mathlib.Core.Path.{_≡_};
+ghost use mathlib.Core.Bool.{_&&_};
+ghost use Prim.Native.Nat.{_/_, _≤_, _<_};
+ghost use lib.ListN.{getD};
+ghost use lib.Dec.{ltb};
+ghost use Rattle.netlist.specs.Limits.{maxGates};
+ghost use Rattle.search.specs.Search.{wordGates};
+ghost use Rattle.groups.specs.Numbering.{obstacle, groupReads, Sought, NumberReady};
 
-pub const NO_NUMBER: usize = 65535;
-
-// The operand word names a gate without a number, of another group than `leader` leads.
-fn is_obstacle(
-    w: usize,
-    n: usize,
-    m: usize,
-    numbers: &[u16],
-    leaders: &[u16],
-    leader: usize,
-) -> bool
-    requires { ⌜ (n ≤ 65535) × (m ≤ 1024) ⌝ }
-    ensures { λ r. ⌜ r ≡ any (obstacle (now (numbers .entry)) (now (leaders .entry)) leader) (wordGate n m w) ⌝ }
+// k is a gate without a number, of another group than `leader` leads.
+fn is_obstacle(k: usize, m: usize, numbers: &[u16], leaders: &[u16], leader: usize) -> bool
+    ensures { λ r. ⌜ r ≡ (ltb k m && obstacle (now (numbers .entry)) (now (leaders .entry)) leader k) ⌝ }
 {
-    if w < n {
+    if m <= k {
         return false;
     }
-    if n + m <= w {
+    if word_at(numbers, k) != NONE {
         return false;
     }
-    if word_at(numbers, w - n) != NO_NUMBER {
-        return false;
-    }
-    word_at(leaders, w - n) != leader
+    word_at(leaders, k) != leader
 }
 
 // The first such gate that the gate at `at` reads, or m.
@@ -43,15 +35,15 @@ fn obstacle_of_gate(
     leaders: &[u16],
     leader: usize,
 ) -> usize
-    requires { ⌜ (at ≤ 65535) × (n ≤ 65535) × (m ≤ 1024) ⌝ }
+    requires { ⌜ (at ≤ 65535) × (n ≤ 65535) × (m ≤ maxGates) ⌝ }
     ensures { λ r. ⌜ Sought (obstacle (now (numbers .entry)) (now (leaders .entry)) leader) (wordGates (now (words .entry)) n m at (getD (now (words .entry)) at 0 / 8)) m r ⌝ }
 {
     let count = word_at(words, at) / 8;
     let mut i = 0;
     while i < count {
-        let w = word_at(words, at + 1 + i);
-        if is_obstacle(w, n, m, numbers, leaders, leader) {
-            return w - n;
+        let k = gate_named(word_at(words, at + 1 + i), n, m);
+        if is_obstacle(k, m, numbers, leaders, leader) {
+            return k;
         }
         i += 1;
     }
@@ -74,7 +66,7 @@ pub fn obstacle_of_group(
     let mut i = leader;
     while i < m {
         if word_at(leaders, i) == leader {
-            let k = obstacle_of_gate(words, n, m, gates + 5 * i, numbers, leaders, leader);
+            let k = obstacle_of_gate(words, n, m, gates + GATE_SIZE * i, numbers, leaders, leader);
             if k < m {
                 return k;
             }

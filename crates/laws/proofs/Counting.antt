@@ -1,4 +1,8 @@
--- How many of 0 .. n - 1 pass a test: by comparison of two tests, and as the length of what is kept. Assumes nothing.
+-- How many of 0 .. n - 1 pass a test: by comparison of two tests, and as the length of what is kept.
+--   countBelow-ext, -mono, -less       two tests compared
+--   countBelow-all, -le, -full, -one   all pass; at most n; n pass, so all do; one passes more
+--   length-keep                        the length of what is kept
+-- Assumes nothing.
 use Prim.Native.Nat.{ℕ, zero, suc, _+_, _≤_, _<_}
 use mathlib.Core.Path.{_≡_, refl, sym, ap, _∙_}
 use mathlib.Core.Logic.{_⊎_, inl, inr, ⊎-elim}
@@ -31,7 +35,8 @@ countBelow-mono p q (suc n) f =
     omega arith
 
 -- and fewer, where one passes only the other
-pub countBelow-less : (p q : ℕ → Bool) (n : ℕ) → ((k : ℕ) → k < n → p k ≡ true → q k ≡ true) → (k : ℕ) → k < n → p k ≡ false → q k ≡ true → countBelow p n < countBelow q n
+pub countBelow-less : (p q : ℕ → Bool) (n : ℕ) → ((k : ℕ) → k < n → p k ≡ true → q k ≡ true) → (k : ℕ) → k < n → p k ≡ false → q k ≡ true
+    → countBelow p n < countBelow q n
 countBelow-less p q zero f k h e g = absurd (omega arith)
 countBelow-less p q (suc n) f k h e g =
     go (lt-or-le k n) (countBelow-less p q n (λ i l. f i (omega arith)) k)

@@ -1,4 +1,8 @@
--- Elements of a list that is read with a default, and the rest of a list. Assumes nothing.
+-- Elements of a list that is read with a default, and the rest of a list.
+--   getD-defaults   inside a list the default does not matter
+--   rest-is-drop    a slice's rest
+--   byte-there      a byte that is not the default is there
+-- Assumes nothing.
 use mathlib.Core.Path.{_≡_, refl}
 use mathlib.Core.List.{List, [], _∷_}
 use Prim.Native.Nat.{ℕ, zero, suc, _-_, _<_}

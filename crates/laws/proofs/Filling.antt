@@ -1,4 +1,8 @@
--- How a loop fills the beginning of a slice, one element a turn. Assumes nothing.
+-- How a loop fills the beginning of a slice, one element a turn.
+--   Filling                                    after j turns: the length filled, the slice's length kept, what it holds
+--   filling-none, filling-more, filling-same   the start, a turn, and a turn that stores one value over and over
+--   replicate-more                             one more of a value, at the end
+-- Assumes nothing.
 use mathlib.Core.Path.{_≡_, refl, ap, _∙_}
 use mathlib.Core.List.{List, [], _∷_, _++_}
 use Prim.Native.Nat.{ℕ, zero, suc, _+_, _<_}

@@ -1,4 +1,7 @@
--- The lowest number below a bound that passes a test: what is found, and that nothing else is. Assumes nothing.
+-- The lowest number below a bound that passes a test: what is found, and that nothing else is.
+--   least-le, least-below, least-at   within the bound; none below passes; it passes if it is below the bound
+--   least-is, least-first             what has these properties is it; it is at most what passes
+-- Assumes nothing.
 use mathlib.Core.Path.{_≡_, refl, sym, _∙_, subst}
 use mathlib.Core.Logic.{_⊎_, inl, inr, ⊎-elim}
 use mathlib.Core.Bool.{Bool, true, false, cond, true≢false}

@@ -1,4 +1,10 @@
--- Lists one after the other: joined, written behind each other, mapped, summed, tested and searched. Assumes nothing.
+-- Lists one after the other: joined, written behind each other, mapped, summed, tested and searched.
+--   joined-*, length-joined   lists one after the other
+--   keep-append, all-joined   tests over them
+--   sets-sets                 two stores behind each other
+--   sum-*, map-*              sums and maps
+--   member-*                  members of lists put together
+-- Assumes nothing.
 use mathlib.Core.Path.{_≡_, refl, sym, ap, _∙_}
 use mathlib.Core.Logic.{_⊎_, inl, inr, ⊎-elim}
 use mathlib.Core.Bool.{Bool, true, false, cond, _&&_, _||_, false≢true}
@@ -34,7 +40,8 @@ module _ {A : Type 0} where
   keep-append p [] ys = refl
   keep-append p (x ∷ xs) ys = go (p x) (keep-append p xs ys)
     where
-      go : (t : Bool) → keep p (xs ++ ys) ≡ keep p xs ++ keep p ys → cond t (x ∷ keep p (xs ++ ys)) (keep p (xs ++ ys)) ≡ cond t (x ∷ keep p xs) (keep p xs) ++ keep p ys
+      go : (t : Bool) → keep p (xs ++ ys) ≡ keep p xs ++ keep p ys
+          → cond t (x ∷ keep p (xs ++ ys)) (keep p (xs ++ ys)) ≡ cond t (x ∷ keep p xs) (keep p xs) ++ keep p ys
       go true e = ap (λ (l : List A). x ∷ l) e
       go false e = e
 

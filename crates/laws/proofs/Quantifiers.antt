@@ -1,4 +1,10 @@
--- "All" and "any" over a list and over the numbers below a bound, taken apart and put together. Assumes nothing.
+-- `all` and `any` over a list and over the numbers below a bound, taken apart and put together.
+--   all-at, all-from, any-at, any-from   over a list, by element
+--   all-append, any-append               over two lists
+--   all-tab-*, any-tab-*, all-below, below-all, any-below, below-any   over numbers below a bound
+--   all-next, all-not, all-ext           one more; none; two tests
+--   member-at, member-from               members by place
+-- Assumes nothing.
 use mathlib.Core.Path.{_≡_, refl, sym, ap, _∙_, subst}
 use mathlib.Core.Logic.{_⊎_, ⊎-elim}
 use mathlib.Core.Bool.{Bool, true, _&&_, _||_, and-assoc, or-assoc, false≢true, false}

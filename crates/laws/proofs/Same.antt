@@ -1,4 +1,6 @@
--- The test whether two lists of numbers are the same says so. Assumes nothing.
+-- The test whether two lists of numbers are the same says so.
+--   same-eq, eq-same, same-refl   the test and equality
+-- Assumes nothing.
 use mathlib.Core.Path.{_≡_, refl, ap₂}
 use mathlib.Core.Bool.{Bool, true, false, _&&_, false≢true}
 use mathlib.Core.List.{List, [], _∷_}

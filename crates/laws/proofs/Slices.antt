@@ -1,4 +1,8 @@
--- A list placed over the front of a slice: what stands there and behind it, and one element more. Assumes nothing.
+-- A list placed over the front of a slice: what stands there and behind it, and one element more.
+--   length-placed, placed-room            its length
+--   take-placed, drop-placed, getD-past   the front, and what is behind
+--   set-placed, sets-placed               one element more, and a list at once
+-- Assumes nothing.
 use mathlib.Core.Path.{_≡_, ap, _∙_}
 use mathlib.Core.List.{List, [], _∷_, _++_, append-assoc}
 use Prim.Native.Nat.{ℕ, suc, _+_, _-_, _≤_, _<_}

@@ -1,4 +1,7 @@
--- Lists stored in a slice, one behind the other. Cited by every function that writes words. Assumes nothing.
+-- Lists stored in a slice, one behind the other. Cited by every function that writes words.
+--   sets-append, sets-next                a list more, an element more
+--   sets-joined-next, length-joined-tab   entries of one size, one after the other
+-- Assumes nothing.
 use mathlib.Core.Path.{_≡_, _∙_}
 use mathlib.Core.List.{List, [], _∷_, _++_}
 use Prim.Native.Nat.{ℕ, zero, suc, _+_, _*_}

@@ -1,4 +1,8 @@
--- The list of a function's first values: its length, its elements, when two are equal, and how a loop fills a slice with it. Assumes nothing.
+-- The list of a function's first values: its length, its elements, when two are equal, and how a loop fills a slice with it.
+--   length-tab, getD-tab, tab-getD   its length and elements
+--   tab-add, tab-ext, map-tab        in two parts, two that are equal, mapped
+--   fill-next, keep-next, placed-tab, placed-all   a slice that is being filled with it
+-- Assumes nothing.
 use mathlib.Core.Path.{_≡_, refl, sym, ap, _∙_}
 use mathlib.Core.Logic.{_⊎_, ⊎-elim}
 use mathlib.Core.List.{List, [], _∷_, _++_, map, append-assoc, append-nil}
@@ -52,11 +56,13 @@ module _ {A : Type 0} where
   set-placed-tab f n entry h = set-placed (tab f n) entry n (f n) (length-tab f n) h
 
   -- the same of a loop's slice, by its next number
-  pub fill-next : (f : ℕ → A) (j : ℕ) (entry slice : List A) (v : A) → slice ≡ placed (tab f j) entry → j < length entry → v ≡ f j → set slice j v ≡ placed (tab f (j + 1)) entry
+  pub fill-next : (f : ℕ → A) (j : ℕ) (entry slice : List A) (v : A) → slice ≡ placed (tab f j) entry → j < length entry → v ≡ f j
+      → set slice j v ≡ placed (tab f (j + 1)) entry
   fill-next f j entry slice v is l e = rw (is, e, add-one) (set-placed-tab f j entry l)
 
   -- a place that is kept
-  pub keep-next : (f : ℕ → A) (j : ℕ) (entry slice : List A) (d : A) → slice ≡ placed (tab f j) entry → j < length entry → getD entry j d ≡ f j → slice ≡ placed (tab f (j + 1)) entry
+  pub keep-next : (f : ℕ → A) (j : ℕ) (entry slice : List A) (d : A) → slice ≡ placed (tab f j) entry → j < length entry → getD entry j d ≡ f j
+      → slice ≡ placed (tab f (j + 1)) entry
   keep-next f j entry slice d is l e =
       is ∙ rw (add-one, length-tab f j, length-tab f (suc j), drop-cons entry j d l, e) (sym (append-assoc (tab f j) (f j ∷ []) (drop (suc j) entry)))
 

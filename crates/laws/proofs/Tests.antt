@@ -1,4 +1,8 @@
--- Facts on tests: what a conjunction or a disjunction of Bools says, and two cases of an order. Assumes nothing.
+-- Facts on tests: what a conjunction or a disjunction of Bools says, and two cases of an order.
+--   bool-cases, not-both, same-test   one Bool, a contradiction, two that are equal
+--   and-*, or-*                       conjunctions and disjunctions
+--   lt-or-le, eq-or-ne                two numbers
+-- Assumes nothing.
 use mathlib.Core.Path.{_≡_, refl, sym, _∙_}
 use mathlib.Core.Logic.{_⊎_, inl, inr}
 use mathlib.Core.Bool.{Bool, true, false, _&&_, _||_, true≢false, false≢true}

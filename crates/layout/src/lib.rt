@@ -1,5 +1,6 @@
 // What every crate on blocks shares: the limits, where the parts of a stored block stand, the words of constants, the kinds,
 // and the readers and fillers of slices (SPECIFICATION 1.5, 2 and 3.2).
+pub mod bytes;
 pub mod fill;
 pub mod kinds;
 pub mod limits;

@@ -1,6 +1,7 @@
-// Line of document 01: the line of the text that holds a given place, as the part of the caller's own text, without its LF. Never refuses.
+// Line (SPECIFICATION 7.4): the line of the text that holds a given place, as the part of the caller's own text, without its LF. Never refuses.
 // `line_start` and `line_length` are its two ends for callers who cannot be handed a part: the C export.
 ghost use mathlib.Core.Path.{_≡_};
+ghost use Prim.Native.Nat.{_+_};
 ghost use Rattle.netlist.specs.Line.{clamped, lineStart, lineEnd, lineLength, lineAt};
 
 // The place, or the end where it is past it.
@@ -49,9 +50,10 @@ pub fn line_length(text: &[u8], place: usize) -> usize
     line_end(text, place) - line_start(text, place)
 }
 
-// The line.
+// The line: its bytes, and that it is the caller's own part, from the line's start on.
 pub fn line(text: &[u8], place: usize) -> &[u8]
-    ensures { λ r. ⌜ now r ≡ lineAt (now (text .entry)) place ⌝ }
+    ensures holds { λ r. ⌜ now r ≡ lineAt (now (text .entry)) place ⌝ }
+    ensures stands { λ r. ⌜ (r .ptr .0 ≡ text .entry .ptr .0) × (r .ptr .1 ≡ text .entry .ptr .1 + lineStart (now (text .entry)) place) ⌝ }
 {
     let start = line_start(text, place);
     let end = line_end(text, place);

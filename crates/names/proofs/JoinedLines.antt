@@ -27,7 +27,8 @@ pub line-append : (xs ys : List ℕ) → times 10 xs ≡ 0 → isLine (xs ++ ys)
 line-append [] ys h = refl
 line-append (x ∷ xs) ys h = go (eqb x 10) h (line-append xs ys)
   where
-    go : (b : Bool) → cond b 1 0 + times 10 xs ≡ 0 → (times 10 xs ≡ 0 → isLine (xs ++ ys) ≡ isLine ys) → cond b (isEmpty (xs ++ ys)) (isLine (xs ++ ys)) ≡ isLine ys
+    go : (b : Bool) → cond b 1 0 + times 10 xs ≡ 0 → (times 10 xs ≡ 0 → isLine (xs ++ ys) ≡ isLine ys)
+        → cond b (isEmpty (xs ++ ys)) (isLine (xs ++ ys)) ≡ isLine ys
     go true h f = absurd (omega arith)
     go false h f = f (omega arith)
 
@@ -87,7 +88,8 @@ module _ (ls : List (List ℕ)) (lines : all isLine ls ≡ true) where
   start-is zero l = refl
   start-is (suc i) l =
       let h = start-is i (omega arith) in
-      let d : drop (lineOffset (joined ls) i) (joined ls) ≡ getD ls i [] ++ joined (drop (suc i) ls) = behind i (lineOffset (joined ls) i) h ∙ line-at i (omega arith) in
+      let d : drop (lineOffset (joined ls) i) (joined ls) ≡ getD ls i [] ++ joined (drop (suc i) ls) = behind i (lineOffset (joined ls) i) h
+      ∙ line-at i (omega arith) in
       let s = at-line i (omega arith) .size in
       let j = joined-suc i (omega arith) in
       rw (d, s, h) (omega arith)
@@ -102,7 +104,8 @@ module _ (ls : List (List ℕ)) (lines : all isLine ls ≡ true) where
   gates-are zero l = refl
   gates-are (suc i) l =
       let h = gates-are i (omega arith) in
-      let o : lineOpens (drop (lineOffset (joined ls) i) (joined ls)) ≡ times 40 (getD ls i []) = rw (rest-is i (omega arith), line-at i (omega arith)) (at-line i (omega arith) .opens) in
+      let o : lineOpens (drop (lineOffset (joined ls) i) (joined ls)) ≡ times 40 (getD ls i []) = rw (rest-is i (omega arith), line-at i (omega arith))
+      (at-line i (omega arith) .opens) in
       let i′ : i < length ls = omega arith in
       rw (take-suc ls i [] i′, map-append innerOpens (take i ls) (getD ls i [] ∷ []), sum-append, o, h) (omega arith)
 
@@ -117,10 +120,13 @@ module _ {B : Type 0} (f : ℕ → List ℕ → B) where
   tab-each at [] = refl
   tab-each at (l ∷ ls) =
       tab-front (λ i. f (at + length (joined (take i (l ∷ ls)))) (joined (drop i (l ∷ ls)))) (length ls)
-      ∙ rw add-zero (ap (λ (r : List B). f at (l ++ joined ls) ∷ r) (tab-ext _ _ (length ls) (λ i h. rw (length-append l (joined (take i ls)), add-assoc)) ∙ tab-each (at + length l) ls))
+      ∙ rw add-zero
+      (ap (λ (r : List B). f at (l ++ joined ls) ∷ r)
+      (tab-ext _ _ (length ls) (λ i h. rw (length-append l (joined (take i ls)), add-assoc)) ∙ tab-each (at + length l) ls))
 
   -- a list that is read line by line, by the index of the line
-  pub tab-lines : (ls : List (List ℕ)) → all isLine ls ≡ true → tab (λ i. f (lineOffset (joined ls) i) (drop (lineOffset (joined ls) i) (joined ls))) (length ls) ≡ eachLine 0 ls
+  pub tab-lines : (ls : List (List ℕ)) → all isLine ls ≡ true
+      → tab (λ i. f (lineOffset (joined ls) i) (drop (lineOffset (joined ls) i) (joined ls))) (length ls) ≡ eachLine 0 ls
   tab-lines ls h =
       tab-ext _ _ (length ls)
       (λ i l. let l′ : i ≤ length ls = omega arith in rw (rest-is ls h i l′, start-is ls h i l′, zero-add))

@@ -76,13 +76,17 @@ unfolding lookup
 index-lookup f s [] a b m = absurd (false≢true m)
 index-lookup f s (x ∷ xs) a b m =
     let names = map (λ (b : Binding). b .name) xs in
-    rw (index-cons (packed (x .name)) (map packed names) (length xs) (packed s), same-packed s (x .name) a (and-left (all isNameByte (x .name)) (all (all isNameByte) names) b))
+    rw (
+      index-cons (packed (x .name)) (map packed names) (length xs) (packed s),
+      same-packed s (x .name) a (and-left (all isNameByte (x .name)) (all (all isNameByte) names) b),
+    )
     (go (same s (x .name)) m (index-lookup f s xs a (and-right (all isNameByte (x .name)) (all (all isNameByte) names) b)))
   where
     go : (t : Bool) → t || memberList s (map (λ (b : Binding). b .name) xs) ≡ true
         → (memberList s (map (λ (b : Binding). b .name) xs) ≡ true
         → getD (map (λ (b : Binding). f (b .node)) xs) (indexOf (map packed (map (λ (b : Binding). b .name) xs)) (length xs) (packed s)) 0 ≡ f (lookup xs s))
-        → getD (f (x .node) ∷ map (λ (b : Binding). f (b .node)) xs) (cond t 0 (suc (indexOf (map packed (map (λ (b : Binding). b .name) xs)) (length xs) (packed s)))) 0
+        → getD (f (x .node) ∷ map (λ (b : Binding). f (b .node)) xs)
+        (cond t 0 (suc (indexOf (map packed (map (λ (b : Binding). b .name) xs)) (length xs) (packed s)))) 0
         ≡ f (cond t (x .node) (lookup xs s))
     go true m e = refl
     go false m e = e m

@@ -88,7 +88,8 @@ module _ (s : List ℕ) (most i : ℕ) where
         → i + 1 + length (nameFront (most - (i + 1)) (drop (i + 1) s)) ≡ length (nameFront most s)
     unfolding nameFront
     front-goes e h =
-        let z : length (nameFront (most - i) (drop i s)) ≡ suc (length (nameFront (most - (i + 1)) (drop (i + 1) s))) = rw (left, drop-cons s i 0, e, add-one) in
+        let z : length (nameFront (most - i) (drop i s)) ≡ suc (length (nameFront (most - (i + 1)) (drop (i + 1) s))) = rw
+        (left, drop-cons s i 0, e, add-one) in
         omega arith
 
 -- ---- numbers of names

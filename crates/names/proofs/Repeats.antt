@@ -36,7 +36,12 @@ member-to : (x : Name) (ds : List Mention) (i : ℕ) → i ≤ length ds → mem
 member-to x ds zero l = refl
 member-to x ds (suc i) l =
     let l′ : i < length (map nameOf ds) = rw (length-map ds nameOf) l in
-    rw (take-suc (map nameOf ds) i [] l′, any-append (same x) (take i (map nameOf ds)) (getD (map nameOf ds) i [] ∷ []), List·getD-map nameOf ds i nobody, member-to x ds i (omega arith))
+    rw (
+      take-suc (map nameOf ds) i [] l′,
+      any-append (same x) (take i (map nameOf ds)) (getD (map nameOf ds) i [] ∷ []),
+      List·getD-map nameOf ds i nobody,
+      member-to x ds i (omega arith),
+    )
     (or-swap (same x (getD ds i nobody .name)) (memberList x (take i (map nameOf ds))))
 
 module _ (ds : List Mention) (bytes : Bytes (map nameOf ds)) where
@@ -49,7 +54,8 @@ module _ (ds : List Mention) (bytes : Bytes (map nameOf ds)) where
       let before : take i (map keyOf ds) ≡ map packed names = ap (take i) (sym (map-map packed nameOf ds)) ∙ take-map packed i (map nameOf ds) in
       let cut : indexOf (map keyOf ds) i (packed (getD ds i nobody .name)) ≡ indexOf (map packed names) i (packed (getD ds i nobody .name)) =
       index-same (map keyOf ds) (map packed names) i (packed (getD ds i nobody .name)) (λ j h. sym (rw (← before) (getD-take i (map keyOf ds) j 0 h))) in
-      let one : all isNameByte (getD ds i nobody .name) ≡ true = rw (List·getD-map nameOf ds i nobody) at (all-at (all isNameByte) (map nameOf ds) i [] bytes (rw (length-map ds nameOf) l)) in
+      let one : all isNameByte (getD ds i nobody .name) ≡ true = rw (List·getD-map nameOf ds i nobody) at
+      (all-at (all isNameByte) (map nameOf ds) i [] bytes (rw (length-map ds nameOf) l)) in
       let found = index-member (getD ds i nobody .name) names one (all-take (all isNameByte) i (map nameOf ds) bytes) in
       rw (here′, cut, member-to (getD ds i nobody .name) ds i (omega arith)) (rw size at found)
 
@@ -69,7 +75,8 @@ module _ (ds : List Mention) (bytes : Bytes (map nameOf ds)) where
   pub repeat-found : first < length ds → firstRepeat [] ds ≡ some (getD (map (λ (d : Mention). d .place) ds) first 0)
   unfolding firstRepeat
   repeat-found l =
-      let e : memberList (getD ds first nobody .name) (namesTo ds first) ≡ true = sym (repeats-is first l) ∙ least-at (repeatsAt (map keyOf ds)) (length ds) l in
+      let e : memberList (getD ds first nobody .name) (namesTo ds first) ≡ true = sym (repeats-is first l)
+      ∙ least-at (repeatsAt (map keyOf ds)) (length ds) l in
       repeat-walk first (omega arith) (least-below (repeatsAt (map keyOf ds)) (length ds))
       ∙ rw (drop-cons ds first nobody l, e, List·getD-map (λ (d : Mention). d .place) ds first nobody)
 

@@ -50,11 +50,13 @@ module _ (text : List ℕ) (i at : ℕ) (here′ : at ≡ lineOffset text i) whe
       let s = start-le text (i + 1) in
       omega arith
 
-  pub with-more : (letter n one byte : ℕ) → n ≡ linesWith letter text i → byte ≡ getD text (at + 1) 0 → one ≡ cond (eqb byte letter) 1 0 → n + one ≡ linesWith letter text (i + 1)
+  pub with-more : (letter n one byte : ℕ) → n ≡ linesWith letter text i → byte ≡ getD text (at + 1) 0 → one ≡ cond (eqb byte letter) 1 0
+      → n + one ≡ linesWith letter text (i + 1)
   unfolding linesWith letterAt
   with-more letter n one byte e f g =
       let v : one ≡ cond (eqb (letterAt text i) letter) 1 0 = g ∙ rw (f, here′) in
-      let w : linesWith letter text (i + 1) ≡ linesWith letter text i + (cond (eqb (letterAt text i) letter) 1 0 + 0) = rw (add-one i) (times-append letter (tab (letterAt text) i) (letterAt text i ∷ [])) in
+      let w : linesWith letter text (i + 1) ≡ linesWith letter text i + (cond (eqb (letterAt text i) letter) 1 0 + 0) = rw (add-one i)
+      (times-append letter (tab (letterAt text) i) (letterAt text i ∷ [])) in
       omega arith
 
 -- no more lines than lines

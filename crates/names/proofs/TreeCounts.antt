@@ -1,7 +1,7 @@
 -- The counts that the bytes of a tree's text give are the tree's, and so are the limits. Assumes nothing.
 use Prim.Native.Nat.{ℕ, zero, suc, _+_, _-_, _≤_}
 use mathlib.Core.Path.{_≡_, refl, sym, _∙_}
-use mathlib.Core.Bool.{Bool, true, false, cond, not, _&&_}
+use mathlib.Core.Bool.{Bool, true, false, cond, not, _&&_, true≢false}
 use mathlib.Core.List.{List, [], _∷_, _++_, map, map-append}
 use native.Mathlib.Omega.{arith}
 use lib.ListN.{length, replicate, length-append, length-map}
@@ -18,9 +18,8 @@ use Rattle.netlist.specs.Syntax.{Legal, GateLine, Tree, isLegalGate, isLegalOut
 use Rattle.netlist.specs.Reading.{lineGates, isOverLimit}
 use Rattle.names.specs.Lines.{times, lineOffset, letterAt, linesWith}
 use Rattle.names.specs.Trees.{inputText, gateText, outputText, treeLines}
-use Rattle.names.specs.Results.{Prints, countsOf, treeCounts, limitsFor, limitsOf, TableRoom}
+use Rattle.names.specs.Results.{Prints, countsOf, treeCounts, isOver, TableRoom}
 use Rattle.names.specs.declared.Counts.{Counts}
-use Rattle.names.specs.declared.Limits.the-variants.{Within, Over}
 use Rattle.names.proofs.Starts.{times-append}
 use Rattle.names.proofs.JoinedLines.{line-count, times-joined}
 use Rattle.names.proofs.TreeLines.{TreeLine, legal-parts, tree-lines, print-lines, input-line, gate-line, output-line}
@@ -52,13 +51,15 @@ module _ {t : Tree} {text : List ℕ} (p : Prints t text) where
   pub lines-are : times 10 text ≡ length (t .inputs) + (length (t .gates) + length (t .outputs))
   lines-are = rw (text-is p) (line-count (treeLines t) (tree-lines t (p .legal)) ∙ line-total t)
 
-  letters : tab (letterAt text) (times 10 text) ≡ replicate (length (t .inputs)) 105 ++ (replicate (length (t .gates)) 103 ++ replicate (length (t .outputs)) 111)
+  letters : tab (letterAt text) (times 10 text) ≡ replicate (length (t .inputs)) 105
+      ++ (replicate (length (t .gates)) 103 ++ replicate (length (t .outputs)) 111)
   unfolding letterAt
   letters =
       rw (text-is p, line-count (treeLines t) (tree-lines t (p .legal)))
       (tab-ext _ _ (length (treeLines t)) (λ i l. sym (getD-drop (lineOffset (joined (treeLines t)) i) (joined (treeLines t)) 1 0)) ∙ letters-walk t (p .legal))
 
-  split : (b : ℕ) → linesWith b text (times 10 text) ≡ times b (replicate (length (t .inputs)) 105) + (times b (replicate (length (t .gates)) 103) + times b (replicate (length (t .outputs)) 111))
+  split : (b : ℕ) → linesWith b text (times 10 text) ≡ times b (replicate (length (t .inputs)) 105)
+      + (times b (replicate (length (t .gates)) 103) + times b (replicate (length (t .outputs)) 111))
   unfolding linesWith
   split b = rw (letters, times-append b (replicate (length (t .inputs)) 105), times-append b (replicate (length (t .gates)) 103))
 
@@ -85,7 +86,8 @@ module _ {t : Tree} {text : List ℕ} (p : Prints t text) where
 
 -- ---- gates: each line has one bracket of its own, each gate one more
 
-opens-are : {A : Type 0} (legal : A → Bool) (line : A → List ℕ) (gates : A → ℕ) → ((x : A) → legal x ≡ true → TreeLine (line x) (gates x)) → (xs : List A) → all legal xs ≡ true
+opens-are : {A : Type 0} (legal : A → Bool) (line : A → List ℕ) (gates : A → ℕ) → ((x : A) → legal x ≡ true → TreeLine (line x) (gates x)) → (xs : List A)
+    → all legal xs ≡ true
     → sum (map (times 40) (map line xs)) ≡ length xs + sum (map gates xs)
 opens-are legal line gates f [] h = refl
 opens-are legal line gates f (x ∷ xs) h =
@@ -107,7 +109,14 @@ module _ {t : Tree} {text : List ℕ} (p : Prints t text) where
       let c = opens-are isLegalOutput outputText (λ x. 0) output-line (t .outputs) (q .outputs) in
       let d = sum-none (t .inputs) in
       let e = sum-none (t .outputs) in
-      rw (text-is p, times-joined 40 (treeLines t), map-append (times 40) (map inputText (t .inputs)), map-append (times 40) (map gateText (t .gates)), sum-append, sum-append) (omega arith)
+      rw (
+        text-is p,
+        times-joined 40 (treeLines t),
+        map-append (times 40) (map inputText (t .inputs)),
+        map-append (times 40) (map gateText (t .gates)),
+        sum-append,
+        sum-append,
+      ) (omega arith)
 
   pub gates-are : times 40 text - times 10 text ≡ sum (map lineGates (t .gates))
   gates-are = omega (arith, all-opens, lines-are p)
@@ -118,13 +127,9 @@ module _ {t : Tree} {text : List ℕ} (p : Prints t text) where
   counts-are = rw (inputs-are p, named-are p, outputs-are p, gates-are)
 
   -- 3: the limits, from the counts
-  pub limits-are : limitsFor (countsOf text) ≡ limitsOf t
-  unfolding limitsFor treeCounts limitsOf isOverLimit
-  limits-are = rw counts-are (go (leb (length (t .inputs)) maxInputs && leb (sum (map lineGates (t .gates))) maxGates && leb (length (t .outputs)) maxOutputs))
-    where
-      go : (b : Bool) → cond b Within Over ≡ cond (not b) Over Within
-      go true = refl
-      go false = refl
+  pub limits-are : isOver (countsOf text) ≡ isOverLimit t
+  unfolding isOver treeCounts isOverLimit
+  limits-are = rw counts-are
 
 -- ---- within the limits there is room
 
@@ -133,19 +138,17 @@ pub record WithinLimits (t : Tree) : Type 0 where
   pub gates : sum (map lineGates (t .gates)) ≤ maxGates
   pub outputs : length (t .outputs) ≤ maxOutputs
 
-pub limits-within : (t : Tree) → limitsOf t ≡ Within → WithinLimits t
-unfolding limitsOf isOverLimit
-limits-within t h = go (leb (length (t .inputs)) maxInputs) (leb (sum (map lineGates (t .gates))) maxGates) (leb (length (t .outputs)) maxOutputs) refl refl refl h
+pub limits-within : (t : Tree) → isOverLimit t ≡ false → WithinLimits t
+unfolding isOverLimit
+limits-within t h =
+    go (leb (length (t .inputs)) maxInputs) (leb (sum (map lineGates (t .gates))) maxGates) (leb (length (t .outputs)) maxOutputs) refl refl refl h
   where
-    never : {A : Type 0} → Over ≡ Within → A
-    never e = let z : _≡_ {A = ℕ} 0 1 = cc in absurd (omega arith)
-
     go : (a b c : Bool) → leb (length (t .inputs)) maxInputs ≡ a → leb (sum (map lineGates (t .gates))) maxGates ≡ b → leb (length (t .outputs)) maxOutputs ≡ c
-        → cond (not (a && b && c)) Over Within ≡ Within → WithinLimits t
+        → not (a && b && c) ≡ false → WithinLimits t
     go true true true p q r h = record { inputs = leb-true _ _ p; gates = leb-true _ _ q; outputs = leb-true _ _ r }
-    go true true false p q r h = never h
-    go true false c p q r h = never h
-    go false b c p q r h = never h
+    go true true false p q r h = absurd (true≢false h)
+    go true false c p q r h = absurd (true≢false h)
+    go false b c p q r h = absurd (true≢false h)
 
 -- a named gate is a gate
 pub named-le : (gs : List GateLine) → length gs ≤ sum (map lineGates gs)
@@ -154,8 +157,9 @@ named-le [] = omega arith
 named-le (g ∷ gs) = let h = named-le gs in omega arith
 
 -- Within the limits, tables of these lengths have room.
-pub table-room : {t : Tree} {text : List ℕ} → Prints t text → limitsOf t ≡ Within → (c : Counts) → c ≡ treeCounts t → (names places words : List ℕ)
-    → length text ≤ maxText → maxInputs + maxGates + maxOutputs ≤ length names → maxInputs + maxGates + maxOutputs ≤ length places → maxInputs + maxGates ≤ length words
+pub table-room : {t : Tree} {text : List ℕ} → Prints t text → isOverLimit t ≡ false → (c : Counts) → c ≡ treeCounts t → (names places words : List ℕ)
+    → length text ≤ maxText → maxInputs + maxGates + maxOutputs ≤ length names → maxInputs + maxGates + maxOutputs ≤ length places
+    → maxInputs + maxGates ≤ length words
     → TableRoom c text names places words
 unfolding treeCounts
 table-room {t} p h c e names places words short a b d =

@@ -16,7 +16,8 @@ use Rattle.laws.proofs.Lists.{joined-append}
 use Rattle.netlist.specs.Kinds.{isKind, arityFits, keyword, signatureOf}
 use Rattle.netlist.specs.Netlist.{Name}
 use Rattle.netlist.specs.StoredBlock.{isLegalName, isLetter, isDigit, isUnderscore, isNameByte, isPlainName, isNodeName}
-use Rattle.netlist.specs.Syntax.{Term, Terms, name, literal, apply, nil, cons, GateLine, OutputLine, Tree, printTerm, printTerms, printInput, printGate, printOutput, printLines, print, termCount, isLegalTerm, isLegalTerms, isLegalGate, isLegalOutput, isLegalTree}
+use Rattle.netlist.specs.Syntax.{Term, Terms, name, literal, apply, nil, cons, GateLine, OutputLine, Tree, printTerm, printTerms, printInput, printGate}
+use Rattle.netlist.specs.Syntax.{printOutput, printLines, print, termCount, isLegalTerm, isLegalTerms, isLegalGate, isLegalOutput, isLegalTree}
 use Rattle.netlist.specs.Reading.{gatesIn, gatesInside, lineGates}
 use Rattle.encoding.proofs.Gates.{by-kind}
 use Rattle.grammar.proofs.Shorter.{printTerm-append}
@@ -77,7 +78,8 @@ module _ (b : ℕ) (low : b ≤ 47) (closing : times b (ascii ")") ≡ 0) (space
         let g = times-name-bytes b low (keyword k) (keyword-bytes k (l .0)) in
         rw (mul-suc (times b (ascii "(")) (gatesInside ts)) (omega (arith, closing))
 
-    pub times-terms : (ts : Terms) (d : ℕ) (rest : List ℕ) → isLegalTerms ts d ≡ true → times b (printTerms ts rest) ≡ times b (ascii "(") * gatesInside ts + times b rest
+    pub times-terms : (ts : Terms) (d : ℕ) (rest : List ℕ) → isLegalTerms ts d ≡ true
+        → times b (printTerms ts rest) ≡ times b (ascii "(") * gatesInside ts + times b rest
     times-terms nil d rest h = rw mul-zero (omega arith)
     times-terms (cons t ts) d rest h =
         let x = times-term t d (printTerms ts rest) (and-left (isLegalTerm t d) (isLegalTerms ts d) h) in
@@ -115,7 +117,9 @@ output-line o h =
     let p = and-left (isPlainName (o .port)) (isNodeName (o .shown)) h in
     let q = and-right (isPlainName (o .port)) (isNodeName (o .shown)) h in
     record {
-      line = line-append (o .port) _ (times-name 10 (omega arith) _ (o .port) p) ∙ line-append (o .shown) (ascii ")\n") (times-name 10 (omega arith) _ (o .shown) q);
+      line =
+          line-append (o .port) _ (times-name 10 (omega arith) _ (o .port) p)
+          ∙ line-append (o .shown) (ascii ")\n") (times-name 10 (omega arith) _ (o .shown) q);
       opens =
           rw (
             times-literal 40 (o .port) (ascii " " ++ (o .shown ++ ascii ")\n")) (times-name 40 (omega arith) _ (o .port) p),
@@ -136,7 +140,10 @@ gate-line g h =
           ∙ ap isLine (printTerm-append term (ascii ")") (ascii "\n"))
           ∙ line-append (printTerm term (ascii ")")) (ascii "\n") z;
       opens =
-          rw (times-literal 40 (g .name) (ascii " " ++ printTerm term (ascii ")\n")) (times-name 40 (omega arith) _ (g .name) p), opens-term term 8 (ascii ")\n") q)
+          rw (
+            times-literal 40 (g .name) (ascii " " ++ printTerm term (ascii ")\n")) (times-name 40 (omega arith) _ (g .name) p),
+            opens-term term 8 (ascii ")\n") q,
+          )
           (omega arith);
     }
 
@@ -158,10 +165,12 @@ print-lines t =
     (joined-append (map inputText (t .inputs)) (map gateText (t .gates) ++ map outputText (t .outputs))
     ∙ ap (λ r. joined (map inputText (t .inputs)) ++ r) (joined-append (map gateText (t .gates)) (map outputText (t .outputs)))))
 
-all-lines : {A : Type 0} (legal : A → Bool) (line : A → List ℕ) → ((x : A) → legal x ≡ true → isLine (line x) ≡ true) → (xs : List A) → all legal xs ≡ true → all isLine (map line xs) ≡ true
+all-lines : {A : Type 0} (legal : A → Bool) (line : A → List ℕ) → ((x : A) → legal x ≡ true → isLine (line x) ≡ true) → (xs : List A) → all legal xs ≡ true
+    → all isLine (map line xs) ≡ true
 all-lines legal line f [] h = refl
 all-lines legal line f (x ∷ xs) h =
-    and-intro (isLine (line x)) (all isLine (map line xs)) (f x (and-left (legal x) (all legal xs) h)) (all-lines legal line f xs (and-right (legal x) (all legal xs) h))
+    and-intro (isLine (line x)) (all isLine (map line xs)) (f x (and-left (legal x) (all legal xs) h))
+    (all-lines legal line f xs (and-right (legal x) (all legal xs) h))
 
 -- the parts of a legal tree are legal
 pub record Parts (t : Tree) : Type 0 where

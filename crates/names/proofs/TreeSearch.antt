@@ -14,13 +14,17 @@ use Rattle.laws.proofs.Tests.{and-left, and-right, and-intro}
 use Rattle.laws.proofs.Quantifiers.{all-append}
 use Rattle.netlist.specs.Netlist.{Name}
 use Rattle.netlist.specs.StoredBlock.{isNameByte, isPlainName, isNodeName, nodeWord}
-use Rattle.netlist.specs.Syntax.{GateLine, OutputLine, Tree, apply, printInput, printGate, printOutput, isLegalTerm, isLegalGate, isLegalOutput, isLegalTree, print}
-use Rattle.netlist.specs.Reading.{Mention, mentions, inputMention, gateMention, portMention, gateLinesAt, outputLinesAt, declaredNodes, declaredPorts, firstRepeat, orElse, firstDuplicate, Binding, inputBindings, gateBindings, bindings, lookup}
+use Rattle.netlist.specs.Syntax.{GateLine, OutputLine, Tree, apply, printInput, printGate, printOutput, isLegalTerm, isLegalGate, isLegalOutput}
+use Rattle.netlist.specs.Syntax.{isLegalTree, print}
+use Rattle.netlist.specs.Reading.{Mention, mentions, inputMention, gateMention, portMention, gateLinesAt, outputLinesAt, declaredNodes, declaredPorts}
+use Rattle.netlist.specs.Reading.{firstRepeat, orElse, firstDuplicate, Binding, inputBindings, gateBindings, bindings, lookup}
 use Rattle.names.specs.Packed.{packed}
 use Rattle.names.specs.Search.{indexOf, repeatsAt}
-use Rattle.names.specs.Results.{Prints, treeCounts, declared, packedNames, namePlaces, nodeWords, repeatOf, NameTable, Declared}
+use Rattle.names.specs.Results.{Prints, treeCounts, declared, packedNames, namePlaces, nodeWords, NameTable, Declared}
 use Rattle.names.specs.declared.Counts.{Counts}
-use Rattle.names.specs.declared.Repeat.the-variants.{None, At}
+use Rattle.netlist.specs.declared.Refusal.the-variants.{DuplicateDeclaration}
+use Rattle.netlist.specs.declared.Test.the-variants.{Passed, Failed}
+use Rattle.netlist.specs.Answers.{testAt}
 use Rattle.names.proofs.TreeLines.{legal-parts, name-bytes}
 use Rattle.names.proofs.TreeTable.{declared-length, bindings-length}
 use Rattle.names.proofs.Lookup.{Bytes, index-same, index-member, index-lookup}
@@ -32,10 +36,12 @@ abbrev pub mentioned : List Mention → List Name
 mentioned ds = map (λ (d : Mention). d .name) ds
 
 mentioned-are : {A : Type 0} (printed : A → List ℕ → List ℕ) (inLine : A → ℕ → List Mention) (named : A → Name) (place : ℕ → ℕ)
-    → ((x : A) (at : ℕ) → inLine x at ≡ record { name = named x; place = place at } ∷ []) → (xs : List A) (at : ℕ) → mentioned (mentions printed inLine xs at) ≡ map named xs
+    → ((x : A) (at : ℕ) → inLine x at ≡ record { name = named x; place = place at } ∷ []) → (xs : List A) (at : ℕ)
+    → mentioned (mentions printed inLine xs at) ≡ map named xs
 unfolding mentions
 mentioned-are printed inLine named place e [] at = refl
-mentioned-are printed inLine named place e (x ∷ xs) at = rw (e x at) (ap (λ (r : List Name). named x ∷ r) (mentioned-are printed inLine named place e xs (at + length (printed x []))))
+mentioned-are printed inLine named place e (x ∷ xs) at =
+    rw (e x at) (ap (λ (r : List Name). named x ∷ r) (mentioned-are printed inLine named place e xs (at + length (printed x []))))
 
 module _ (t : Tree) where
   abbrev nodeNames : List Name
@@ -45,7 +51,8 @@ module _ (t : Tree) where
   unfolding declaredNodes inputMention gateMention
   node-names =
       map-append (λ (d : Mention). d .name) (mentions printInput inputMention (t .inputs) 0) (mentions printGate gateMention (t .gates) (gateLinesAt t))
-      ∙ ap₂ _++_ (mentioned-are printInput inputMention _ _ (λ x at. refl) (t .inputs) 0) (mentioned-are printGate gateMention _ _ (λ x at. refl) (t .gates) (gateLinesAt t))
+      ∙ ap₂ _++_ (mentioned-are printInput inputMention _ _ (λ x at. refl) (t .inputs) 0)
+      (mentioned-are printGate gateMention _ _ (λ x at. refl) (t .gates) (gateLinesAt t))
 
   port-names : mentioned (declaredPorts t) ≡ map (λ (o : OutputLine). o .port) (t .outputs)
   unfolding declaredPorts portMention
@@ -68,10 +75,12 @@ module _ (t : Tree) where
       map-append (λ (b : Binding). b .name) (inputBindings (t .inputs) 0) (gateBindings (t .gates) 0)
       ∙ ap₂ _++_ (bound-inputs (t .inputs) 0) (bound-gates (t .gates) 0) ∙ sym node-names
 
-bytes-of : {A : Type 0} (legal : A → Bool) (named : A → Name) → ((x : A) → legal x ≡ true → all isNameByte (named x) ≡ true) → (xs : List A) → all legal xs ≡ true → Bytes (map named xs)
+bytes-of : {A : Type 0} (legal : A → Bool) (named : A → Name) → ((x : A) → legal x ≡ true → all isNameByte (named x) ≡ true) → (xs : List A)
+    → all legal xs ≡ true → Bytes (map named xs)
 bytes-of legal named f [] h = refl
 bytes-of legal named f (x ∷ xs) h =
-    and-intro (all isNameByte (named x)) (all (all isNameByte) (map named xs)) (f x (and-left (legal x) (all legal xs) h)) (bytes-of legal named f xs (and-right (legal x) (all legal xs) h))
+    and-intro (all isNameByte (named x)) (all (all isNameByte) (map named xs)) (f x (and-left (legal x) (all legal xs) h))
+    (bytes-of legal named f xs (and-right (legal x) (all legal xs) h))
 
 module _ (t : Tree) (legal : isLegalTree t ≡ true) where
   node-bytes : Bytes (mentioned (declaredNodes t))
@@ -82,13 +91,15 @@ module _ (t : Tree) (legal : isLegalTree t ≡ true) where
       (all-append (all isNameByte) (map (λ s. s) (t .inputs)) (map (λ (g : GateLine). g .name) (t .gates))
       ∙ and-intro (all (all isNameByte) (map (λ s. s) (t .inputs))) (all (all isNameByte) (map (λ (g : GateLine). g .name) (t .gates)))
       (bytes-of isPlainName (λ s. s) (λ x h. name-bytes _ x h) (t .inputs) (p .inputs))
-      (bytes-of isLegalGate (λ (g : GateLine). g .name) (λ g h. name-bytes _ (g .name) (and-left (isNodeName (g .name)) (isLegalTerm (apply (g .kind) (g .terms)) 8) h)) (t .gates) (p .gates)))
+      (bytes-of isLegalGate (λ (g : GateLine). g .name)
+      (λ g h. name-bytes _ (g .name) (and-left (isNodeName (g .name)) (isLegalTerm (apply (g .kind) (g .terms)) 8) h)) (t .gates) (p .gates)))
 
   port-bytes : Bytes (mentioned (declaredPorts t))
   unfolding isLegalOutput isPlainName
   port-bytes =
       rw (port-names t)
-      (bytes-of isLegalOutput (λ (o : OutputLine). o .port) (λ o h. name-bytes _ (o .port) (and-left (isPlainName (o .port)) (isNodeName (o .shown)) h)) (t .outputs) (legal-parts t legal .outputs))
+      (bytes-of isLegalOutput (λ (o : OutputLine). o .port) (λ o h. name-bytes _ (o .port) (and-left (isPlainName (o .port)) (isNodeName (o .shown)) h))
+      (t .outputs) (legal-parts t legal .outputs))
 
 -- ---- the parts of the tables that hold nodes and ports
 
@@ -165,7 +176,12 @@ module _ (t : Tree) (legal : isLegalTree t ≡ true) (c : Counts) (counted : c �
   unfolding namePlaces
   port-places j l =
       let l′ : j < length (declaredPorts t) = omega (arith, port-count) in
-      rw (← ports-held t _ places (table .placesAre) (omega (arith, node-count)), getD-take (length (declaredPorts t)) (drop (length (declaredNodes t)) places) j 0 l′, getD-drop, node-count)
+      rw (
+        ← ports-held t _ places (table .placesAre) (omega (arith, node-count)),
+        getD-take (length (declaredPorts t)) (drop (length (declaredNodes t)) places) j 0 l′,
+        getD-drop,
+        node-count,
+      )
 
   -- the first repeat among the first names, and among the rest
   abbrev firstOf : List ℕ → ℕ
@@ -179,8 +195,8 @@ module _ (t : Tree) (legal : isLegalTree t ≡ true) (c : Counts) (counted : c �
     at-node : i ≡ least (repeatsAt (map (λ (d : Mention). packed (d .name)) (declaredNodes t))) (length (declaredNodes t))
     at-node = among (declaredNodes t) (take nodes names) i node-keys found
 
-    pub node-repeats : i < nodes → At (getD places i 0) ≡ repeatOf (firstDuplicate t)
-    unfolding firstDuplicate orElse repeatOf
+    pub node-repeats : i < nodes → Failed (DuplicateDeclaration (getD places i 0)) ≡ testAt (firstDuplicate t) DuplicateDeclaration
+    unfolding firstDuplicate orElse testAt
     node-repeats l =
         let r = repeat-found (declaredNodes t) (node-bytes t legal) (rw (← at-node, ← node-count) l) in
         rw (node-places i l, r, ← at-node)
@@ -192,14 +208,14 @@ module _ (t : Tree) (legal : isLegalTree t ≡ true) (c : Counts) (counted : c �
       at-port : j ≡ least (repeatsAt (map (λ (d : Mention). packed (d .name)) (declaredPorts t))) (length (declaredPorts t))
       at-port = among (declaredPorts t) (take (nodes + ports - nodes) (drop nodes names)) j port-keys found-port
 
-      pub port-repeats : j < ports → At (getD places (nodes + j) 0) ≡ repeatOf (firstDuplicate t)
-      unfolding firstDuplicate orElse repeatOf
+      pub port-repeats : j < ports → Failed (DuplicateDeclaration (getD places (nodes + j) 0)) ≡ testAt (firstDuplicate t) DuplicateDeclaration
+      unfolding firstDuplicate orElse testAt
       port-repeats l =
           let r = repeat-found (declaredPorts t) (port-bytes t legal) (rw (← at-port, ← port-count) l) in
           rw (port-places j l, no-node, r, ← at-port)
 
-      pub none-repeats : ports ≤ j → None ≡ repeatOf (firstDuplicate t)
-      unfolding firstDuplicate orElse repeatOf
+      pub none-repeats : ports ≤ j → Passed ≡ testAt (firstDuplicate t) DuplicateDeclaration
+      unfolding firstDuplicate orElse testAt
       none-repeats l = rw (no-node, repeat-none (declaredPorts t) (port-bytes t legal) (rw (← at-port, ← port-count) l))
 
 -- ---- a name and its node
@@ -216,7 +232,8 @@ module _ (t : Tree) (legal : isLegalTree t ≡ true) (names places words : List 
   keys-held : (i : ℕ) → i < length (declaredNodes t) → getD names i 0 ≡ getD (map packed (mentioned (declaredNodes t))) i 0
   unfolding packedNames
   keys-held i l =
-      rw (map-map packed (λ (d : Mention). d .name) (declaredNodes t), ← nodes-held t _ names (tables .table .numbersAre) nameRoom) (sym (getD-take (length (declaredNodes t)) names i 0 l))
+      rw (map-map packed (λ (d : Mention). d .name) (declaredNodes t), ← nodes-held t _ names (tables .table .numbersAre) nameRoom)
+      (sym (getD-take (length (declaredNodes t)) names i 0 l))
 
   index-is : index ≡ indexOf (map packed (mentioned (declaredNodes t))) (length (declaredNodes t)) (packed s)
   index-is = index-same names (map packed (mentioned (declaredNodes t))) (length (declaredNodes t)) (packed s) keys-held

@@ -53,7 +53,8 @@ module _ {t : Tree} {text : List ℕ} (p : Prints t text) where
       ∙ sym (map-tab (λ (d : Mention). d .place) (mentionIn text) (times 10 text)) ∙ ap (map (λ (d : Mention). d .place)) declared-are
 
   -- The numbers in the table are those of the declared names.
-  pub names-are : (places : List ℕ) → ((i : ℕ) → i < times 10 text → getD places i 0 ≡ placeAt text i) → tab (packedThrough text places) (times 10 text) ≡ packedNames t
+  pub names-are : (places : List ℕ) → ((i : ℕ) → i < times 10 text → getD places i 0 ≡ placeAt text i)
+      → tab (packedThrough text places) (times 10 text) ≡ packedNames t
   unfolding packedNames packedThrough packedAt
   names-are places h =
       tab-ext _ _ (times 10 text) (λ i l. rw (h i l, name-in text i))
@@ -61,7 +62,8 @@ module _ {t : Tree} {text : List ℕ} (p : Prints t text) where
 
 -- ---- node numbers
 
-inner-of : {A : Type 0} (legal : A → Bool) (line : A → List ℕ) (gates : A → ℕ) → ((x : A) → legal x ≡ true → TreeLine (line x) (gates x)) → (xs : List A) → all legal xs ≡ true
+inner-of : {A : Type 0} (legal : A → Bool) (line : A → List ℕ) (gates : A → ℕ) → ((x : A) → legal x ≡ true → TreeLine (line x) (gates x)) → (xs : List A)
+    → all legal xs ≡ true
     → (i : ℕ) → sum (map innerOpens (take i (map line xs))) ≡ sum (map gates (take i xs))
 inner-of legal line gates f xs h zero = refl
 inner-of legal line gates f [] h (suc i) = refl
@@ -75,10 +77,12 @@ input-words : (n k : ℕ) (ss : List Name) → map (λ (b : Binding). nodeWord n
 unfolding inputBindings nodeWord
 input-words n k [] = refl
 input-words n k (s ∷ ss) =
-    sym (tab-front (λ i. k + i) (length ss) ∙ rw add-zero (ap (λ (r : List ℕ). k ∷ r) (tab-ext _ _ (length ss) (λ i l. omega arith) ∙ sym (input-words n (suc k) ss))))
+    sym (tab-front (λ i. k + i) (length ss) ∙ rw add-zero
+    (ap (λ (r : List ℕ). k ∷ r) (tab-ext _ _ (length ss) (λ i l. omega arith) ∙ sym (input-words n (suc k) ss))))
 
 -- the numbers of the named gates, when `first` gates stand before
-gate-words : (n first : ℕ) (gs : List GateLine) → map (λ (b : Binding). nodeWord n (b .node)) (gateBindings gs first) ≡ tab (λ j. n + (first + sum (map lineGates (take (suc j) gs)) - 1)) (length gs)
+gate-words : (n first : ℕ) (gs : List GateLine) → map (λ (b : Binding). nodeWord n (b .node)) (gateBindings gs first) ≡ tab
+    (λ j. n + (first + sum (map lineGates (take (suc j) gs)) - 1)) (length gs)
 unfolding gateBindings nodeWord lineGates
 gate-words n first [] = refl
 gate-words n first (g ∷ gs) =
@@ -158,8 +162,22 @@ module _ {t : Tree} {text : List ℕ} (p : Prints t text) where
       rw ps′ (placed-tab (placeAt text) (times 10 text) places₀ i 0 l) in
       record {
         table = record {
-          numbersAre = rw (total, ns′, take-placed (tab (packedThrough text places) (times 10 text)) names₀ (times 10 text) (length-tab (packedThrough text places) (times 10 text))) (names-are p places read);
-          placesAre = rw (total, ps′, take-placed (tab (placeAt text) (times 10 text)) places₀ (times 10 text) (length-tab (placeAt text) (times 10 text))) (places-are p);
+          numbersAre =
+              rw (
+                total,
+                ns′,
+                take-placed (tab (packedThrough text places) (times 10 text)) names₀ (times 10 text)
+                    (length-tab (packedThrough text places) (times 10 text)),
+              ) (names-are p places read);
+          placesAre =
+              rw (total, ps′, take-placed (tab (placeAt text) (times 10 text)) places₀ (times 10 text) (length-tab (placeAt text) (times 10 text)))
+              (places-are p);
         };
-        nodesAre = rw (bindings-length, ws′, take-placed (tab (wordAt text (length (t .inputs))) (length (t .inputs) + length (t .gates))) words₀ (length (t .inputs) + length (t .gates)) (length-tab (wordAt text (length (t .inputs))) (length (t .inputs) + length (t .gates)))) (words-are p);
+        nodesAre =
+            rw (
+              bindings-length,
+              ws′,
+              take-placed (tab (wordAt text (length (t .inputs))) (length (t .inputs) + length (t .gates))) words₀
+                  (length (t .inputs) + length (t .gates)) (length-tab (wordAt text (length (t .inputs))) (length (t .inputs) + length (t .gates))),
+            ) (words-are p);
       }

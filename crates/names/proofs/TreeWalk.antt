@@ -14,7 +14,8 @@ use Rattle.laws.proofs.Tests.{and-left, and-right}
 use Rattle.netlist.specs.Netlist.{Name}
 use Rattle.netlist.specs.StoredBlock.{isLegalName, isLetter, isDigit, isUnderscore, isNameByte, isPlainName, isNodeName}
 use Rattle.netlist.specs.Syntax.{GateLine, OutputLine, Tree, apply, printInput, printGate, printOutput, isLegalTerm, isLegalGate, isLegalOutput, isLegalTree}
-use Rattle.netlist.specs.Reading.{Mention, mentions, linesLength, gateLinesAt, outputLinesAt, inputMention, gateMention, portMention, declaredNodes, declaredPorts}
+use Rattle.netlist.specs.Reading.{Mention, mentions, linesLength, gateLinesAt, outputLinesAt, inputMention, gateMention, portMention, declaredNodes}
+use Rattle.netlist.specs.Reading.{declaredPorts}
 use Rattle.names.specs.Lines.{lineOffset, nameOffset}
 use Rattle.names.specs.Packed.{packed, nameFront, nameHere, packedAt}
 use Rattle.names.specs.Trees.{inputText, gateText, outputText, treeLines}
@@ -33,10 +34,15 @@ size line xs = sum (map (λ x. length (line x)) xs)
 
 module _ {A B : Type 0} (line : A → List ℕ) (legal : A → Bool) (f : ℕ → List ℕ → B) (m : A → ℕ → B)
     (agrees : (x : A) (at : ℕ) (rest : List ℕ) → legal x ≡ true → f at (line x ++ rest) ≡ m x at) where
-  each-walk : (xs : List A) (ys : List (List ℕ)) (at : ℕ) → all legal xs ≡ true → eachLine f at (map line xs ++ ys) ≡ walk line m xs at ++ eachLine f (at + size line xs) ys
+  each-walk : (xs : List A) (ys : List (List ℕ)) (at : ℕ) → all legal xs ≡ true
+      → eachLine f at (map line xs ++ ys) ≡ walk line m xs at ++ eachLine f (at + size line xs) ys
   each-walk [] ys at h = rw add-zero
   each-walk (x ∷ xs) ys at h =
-      rw (agrees x at (joined (map line xs ++ ys)) (and-left (legal x) (all legal xs) h), each-walk xs ys (at + length (line x)) (and-right (legal x) (all legal xs) h), add-assoc)
+      rw (
+        agrees x at (joined (map line xs ++ ys)) (and-left (legal x) (all legal xs) h),
+        each-walk xs ys (at + length (line x)) (and-right (legal x) (all legal xs) h),
+        add-assoc,
+      )
 
 -- the three forms of a tree, one after the other
 module _ {B : Type 0} (f : ℕ → List ℕ → B) (onInput : Name → ℕ → B) (onGate : GateLine → ℕ → B) (onOutput : OutputLine → ℕ → B)
@@ -45,7 +51,9 @@ module _ {B : Type 0} (f : ℕ → List ℕ → B) (onInput : Name → ℕ → B
     (output-agrees : (x : OutputLine) (at : ℕ) (rest : List ℕ) → isLegalOutput x ≡ true → f at (outputText x ++ rest) ≡ onOutput x at) where
   tree-walk : (t : Tree) → isLegalTree t ≡ true
       → tab (λ i. f (lineOffset (joined (treeLines t)) i) (drop (lineOffset (joined (treeLines t)) i) (joined (treeLines t)))) (length (treeLines t))
-      ≡ walk inputText onInput (t .inputs) 0 ++ (walk gateText onGate (t .gates) (size inputText (t .inputs)) ++ walk outputText onOutput (t .outputs) (size inputText (t .inputs) + size gateText (t .gates)))
+      ≡ walk inputText onInput (t .inputs) 0
+      ++ (walk gateText onGate (t .gates) (size inputText (t .inputs)) ++ walk outputText onOutput (t .outputs)
+      (size inputText (t .inputs) + size gateText (t .gates)))
   unfolding treeLines
   tree-walk t h =
       let p = legal-parts t h in
@@ -60,7 +68,8 @@ module _ {B : Type 0} (f : ℕ → List ℕ → B) (onInput : Name → ℕ → B
 -- ---- the declared names
 
 -- the name at the front of a text ends with the first byte that is no name byte
-pub front-name : (most : ℕ) (s : List ℕ) (c : ℕ) (rest : List ℕ) → all isNameByte s ≡ true → length s ≤ most → isNameByte c ≡ false → nameFront most (s ++ c ∷ rest) ≡ s
+pub front-name : (most : ℕ) (s : List ℕ) (c : ℕ) (rest : List ℕ) → all isNameByte s ≡ true → length s ≤ most → isNameByte c ≡ false
+    → nameFront most (s ++ c ∷ rest) ≡ s
 unfolding nameFront
 front-name zero [] c rest a l n = refl
 front-name (suc most) [] c rest a l n = rw n
@@ -79,7 +88,8 @@ pub front-legal : (start : ℕ → Bool) (s : Name) (c : ℕ) (rest : List ℕ) 
 front-legal start s c rest h n = front-name 8 s c rest (name-bytes start s h) (name-length start s h) n
 
 -- the number of the name at a place of a text
-pub packed-at : (start : ℕ → Bool) (text : List ℕ) (at : ℕ) (s : Name) (c : ℕ) (rest : List ℕ) → drop at text ≡ s ++ c ∷ rest → isLegalName start s ≡ true → isNameByte c ≡ false → packedAt text at ≡ packed s
+pub packed-at : (start : ℕ → Bool) (text : List ℕ) (at : ℕ) (s : Name) (c : ℕ) (rest : List ℕ) → drop at text ≡ s ++ c ∷ rest → isLegalName start s ≡ true
+    → isNameByte c ≡ false → packedAt text at ≡ packed s
 unfolding nameHere packedAt
 packed-at start text at s c rest e h n = rw (e, front-legal start s c rest h n)
 
@@ -101,12 +111,14 @@ module _ (at : ℕ) (rest : List ℕ) where
       declares (g .name) _ _
       (rw append-assoc (front-legal _ (g .name) 32 _ (and-left (isNodeName (g .name)) (isLegalTerm (apply (g .kind) (g .terms)) 8) h) refl))
 
-  port-mention : (o : OutputLine) → isLegalOutput o ≡ true → mentionAt at (outputText o ++ rest) ≡ record { name = o .port; place = at + length (ascii "(out ") }
+  port-mention : (o : OutputLine) → isLegalOutput o ≡ true
+      → mentionAt at (outputText o ++ rest) ≡ record { name = o .port; place = at + length (ascii "(out ") }
   unfolding mentionAt outputText printOutput nameOffset isLegalOutput isPlainName isNameByte isLetter isDigit isUnderscore
   port-mention o h =
       declares (o .port) _ _ (rw append-assoc (front-legal _ (o .port) 32 _ (and-left (isPlainName (o .port)) (isNodeName (o .shown)) h) refl))
 
-mentions-walk : {A : Type 0} (printed : A → List ℕ → List ℕ) (inLine : A → ℕ → List Mention) (m : A → ℕ → Mention) → ((x : A) (at : ℕ) → inLine x at ≡ m x at ∷ [])
+mentions-walk : {A : Type 0} (printed : A → List ℕ → List ℕ) (inLine : A → ℕ → List Mention) (m : A → ℕ → Mention)
+    → ((x : A) (at : ℕ) → inLine x at ≡ m x at ∷ [])
     → (xs : List A) (at : ℕ) → mentions printed inLine xs at ≡ walk (λ x. printed x []) m xs at
 unfolding mentions
 mentions-walk printed inLine m e [] at = refl
@@ -114,7 +126,8 @@ mentions-walk printed inLine m e (x ∷ xs) at = rw (e x at, mentions-walk print
 
 -- line by line the text has the tree's declarations
 pub declared-walk : (t : Tree) → isLegalTree t ≡ true
-    → tab (λ i. mentionAt (lineOffset (joined (treeLines t)) i) (drop (lineOffset (joined (treeLines t)) i) (joined (treeLines t)))) (length (treeLines t)) ≡ declared t
+    → tab (λ i. mentionAt (lineOffset (joined (treeLines t)) i) (drop (lineOffset (joined (treeLines t)) i) (joined (treeLines t)))) (length (treeLines t))
+    ≡ declared t
 unfolding declared declaredNodes declaredPorts gateLinesAt outputLinesAt linesLength inputText gateText outputText inputMention gateMention portMention
 declared-walk t h =
     let i = walk {B = Mention} inputText (λ s at. record { name = s; place = at + length (ascii "(in ") }) (t .inputs) 0 in
@@ -122,7 +135,11 @@ declared-walk t h =
     let o = walk {B = Mention} outputText (λ x at. record { name = x .port; place = at + length (ascii "(out ") }) (t .outputs) (outputLinesAt t) in
     tree-walk mentionAt _ _ _ (λ x at rest l. input-mention at rest x l) (λ x at rest l. gate-mention at rest x l) (λ x at rest l. port-mention at rest x l) t h
     ∙ sym
-    (rw (mentions-walk printInput inputMention _ (λ x at. refl) (t .inputs) 0, mentions-walk printGate gateMention _ (λ x at. refl) (t .gates) (gateLinesAt t), mentions-walk printOutput portMention _ (λ x at. refl) (t .outputs) (outputLinesAt t))
+    (rw (
+      mentions-walk printInput inputMention _ (λ x at. refl) (t .inputs) 0,
+      mentions-walk printGate gateMention _ (λ x at. refl) (t .gates) (gateLinesAt t),
+      mentions-walk printOutput portMention _ (λ x at. refl) (t .outputs) (outputLinesAt t),
+    )
     (append-assoc i g o))
 
 -- ---- the letters
@@ -137,4 +154,8 @@ pub letters-walk : (t : Tree) → isLegalTree t ≡ true
 unfolding inputText gateText outputText printInput printGate printOutput
 letters-walk t h =
     tree-walk (λ at rest. getD rest 1 0) (λ x at. 105) (λ x at. 103) (λ x at. 111) (λ x at rest l. refl) (λ x at rest l. refl) (λ x at rest l. refl) t h
-    ∙ rw (walk-same inputText 105 (t .inputs) 0, walk-same gateText 103 (t .gates) (size inputText (t .inputs)), walk-same outputText 111 (t .outputs) (size inputText (t .inputs) + size gateText (t .gates)))
+    ∙ rw (
+      walk-same inputText 105 (t .inputs) 0,
+      walk-same gateText 103 (t .gates) (size inputText (t .inputs)),
+      walk-same outputText 111 (t .outputs) (size inputText (t .inputs) + size gateText (t .gates)),
+    )

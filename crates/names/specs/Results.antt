@@ -1,23 +1,18 @@
 -- What the functions of src/ answer, in terms of the tree that a text prints.
 use Prim.Native.Nat.{ℕ, _+_, _-_, _≤_}
 use mathlib.Core.Path.{_≡_}
-use mathlib.Core.Bool.{true, cond, _&&_}
+use mathlib.Core.Bool.{Bool, true, not, _&&_}
 use mathlib.Core.List.{List, _++_, map}
-use mathlib.Core.Option.{Option, none, some}
 use lib.ListN.{length, take}
 use lib.Dec.{leb}
 use Rattle.laws.specs.Lists.{sum}
 use Rattle.netlist.specs.Limits.{maxText, maxInputs, maxGates, maxOutputs}
 use Rattle.netlist.specs.StoredBlock.{nodeWord}
 use Rattle.netlist.specs.Syntax.{Tree, isLegalTree, print}
-use Rattle.netlist.specs.Reading.{Mention, Binding, lineGates, isOverLimit, declaredNodes, declaredPorts, bindings}
+use Rattle.netlist.specs.Reading.{Mention, Binding, lineGates, declaredNodes, declaredPorts, bindings}
 use Rattle.names.specs.Packed.{packed}
 use Rattle.names.specs.Lines.{times, linesWith}
 use Rattle.names.specs.declared.Counts.{Counts}
-use Rattle.names.specs.declared.Limits.{Limits}
-use Rattle.names.specs.declared.Limits.the-variants.{Within, Over}
-use Rattle.names.specs.declared.Repeat.{Repeat}
-use Rattle.names.specs.declared.Repeat.the-variants.{None, At}
 
 -- the text is this tree's, which is legal
 pub record Prints (t : Tree) (text : List ℕ) : Type 0 where
@@ -45,17 +40,9 @@ treeCounts t =
       gates = sum (map lineGates (t .gates));
     }
 
--- 3: "above 10 inputs, 1,024 gates (inner ones counted) or 16 outputs", of counts and of a tree
-unfoldable pub limitsFor : Counts → Limits
-limitsFor c = cond (leb (c .inputs) maxInputs && leb (c .gates) maxGates && leb (c .outputs) maxOutputs) Within Over
-
-unfoldable pub limitsOf : Tree → Limits
-limitsOf t = cond (isOverLimit t) Over Within
-
--- 4: the place of the earliest declaration that repeats another
-unfoldable pub repeatOf : Option ℕ → Repeat
-repeatOf none = None
-repeatOf (some place) = At place
+-- 3, from the counts
+unfoldable pub isOver : Counts → Bool
+isOver c = not (leb (c .inputs) maxInputs && leb (c .gates) maxGates && leb (c .outputs) maxOutputs)
 
 -- every declaration, in the order of the text: the nodes, then the ports
 unfoldable pub declared : Tree → List Mention

@@ -1,5 +1,5 @@
 // What a text in form declares: counts and limits, its names with their places and node numbers, repeats, and the search for a name.
-pub mod lines;
+mod lines;
 pub mod pack;
 pub mod search;
 pub mod table;
@@ -11,16 +11,4 @@ pub struct Counts {
     pub named: usize,
     pub outputs: usize,
     pub gates: usize,
-}
-
-// 3: above 10 inputs, 1,024 gates or 16 outputs, or not.
-pub enum Limits {
-    Within,
-    Over,
-}
-
-// 4: no declaration repeats another, or the place of the earliest that does.
-pub enum Repeat {
-    None,
-    At(usize),
 }

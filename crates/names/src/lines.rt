@@ -1,18 +1,12 @@
 // The lines of a text: where each starts, and what its bytes say of it.
+use layout::bytes::byte_at;
 ghost use mathlib.Core.Path.{_≡_};
 ghost use mathlib.Core.Bool.{cond};
 ghost use Prim.Native.Nat.{_+_, _-_, _≤_};
 ghost use lib.Dec.{eqb};
-ghost use lib.ListN.{length, getD, drop};
+ghost use lib.ListN.{length, drop};
 ghost use Rattle.netlist.specs.Limits.{maxText};
 ghost use Rattle.names.specs.Lines.{times, lengthWithLf, lineOpens, linesWith};
-
-// The byte at `i`, or 0.
-pub fn byte_at(s: &[u8], i: usize) -> u8
-    ensures { λ r. ⌜ r ≡ getD (now (s .entry)) i 0 ⌝ }
-{
-    if i < s.len() { s[i] } else { 0 }
-}
 
 // 1 where the bytes are the same.
 fn one_if(a: u8, b: u8) -> usize
@@ -40,7 +34,7 @@ fn line_length(s: &[u8]) -> usize
 {
     let mut i = 0;
     while i < s.len() {
-        if s[i] == 10 {
+        if s[i] == b'\n' {
             return i + 1;
         }
         i += 1;
@@ -63,10 +57,10 @@ fn opens(s: &[u8]) -> usize
     let mut n = 0;
     let mut i = 0;
     while i < s.len() {
-        if s[i] == 10 {
+        if s[i] == b'\n' {
             return n;
         }
-        n += one_if(s[i], 40);
+        n += one_if(s[i], b'(');
         i += 1;
     }
     n

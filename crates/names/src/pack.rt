@@ -1,37 +1,17 @@
-// Names of at most 8 bytes as numbers.
+// Names as numbers: a name has at most MAX_NAME bytes.
+use layout::bytes::is_name_byte;
+use layout::limits::MAX_NAME;
 ghost use mathlib.Core.Path.{_≡_};
-ghost use mathlib.Core.Bool.{_&&_};
-ghost use lib.Dec.{leb};
-ghost use Prim.Native.Nat.{_+_, _*_, _≤_};
-ghost use lib.ListN.{length, getD, drop};
-ghost use Rattle.netlist.specs.StoredBlock.{isNameByte};
+ghost use lib.ListN.{length};
+ghost use Rattle.netlist.specs.Limits.{maxName};
 ghost use Rattle.names.specs.Packed.{packed, nameFront, packedAt};
 
-fn is_between(low: u8, high: u8, c: u8) -> bool
-    ensures { λ r. ⌜ r ≡ leb low c && leb c high ⌝ }
-{
-    low <= c && c <= high
-}
-
-// "a-z, 0-9 and `_`"
-fn is_name_byte(c: u8) -> bool
-    ensures { λ r. ⌜ r ≡ isNameByte c ⌝ }
-{
-    if is_between(97, 122, c) {
-        return true;
-    }
-    if is_between(48, 57, c) {
-        return true;
-    }
-    c == 95
-}
-
-// How many of the first 8 bytes are name bytes, up to the first other one.
+// How many name bytes stand at the front, at most MAX_NAME.
 pub fn name_length(s: &[u8]) -> usize
-    ensures { λ r. ⌜ r ≡ length (nameFront 8 (now (s .entry))) ⌝ }
+    ensures { λ r. ⌜ r ≡ length (nameFront maxName (now (s .entry))) ⌝ }
 {
     let mut i = 0;
-    while i < 8 {
+    while i < MAX_NAME {
         if s.len() <= i {
             return i;
         }
@@ -45,7 +25,7 @@ pub fn name_length(s: &[u8]) -> usize
 
 // The number of the name at the front of `s`.
 pub fn pack(s: &[u8]) -> u64
-    ensures { λ r. ⌜ r ≡ packed (nameFront 8 (now (s .entry))) ⌝ }
+    ensures { λ r. ⌜ r ≡ packed (nameFront maxName (now (s .entry))) ⌝ }
 {
     let mut i = name_length(s);
     let mut r: u64 = 0;

@@ -1,14 +1,17 @@
 // Searches in a table of names: the first that is equal to a given one, and the first that repeats one before it.
 use crate::Counts;
-use crate::Repeat;
+use netlist::Refusal;
+use netlist::Test;
 ghost use mathlib.Core.Path.{_≡_};
 ghost use mathlib.Core.Bool.{true};
 ghost use Prim.Native.Nat.{_+_, _≤_, _<_};
 ghost use lib.ListN.{length};
 ghost use Rattle.laws.specs.Lists.{least};
+ghost use Rattle.netlist.specs.declared.Refusal.the-variants.{DuplicateDeclaration};
+ghost use Rattle.netlist.specs.Answers.{testAt};
 ghost use Rattle.netlist.specs.Syntax.{Tree, isLegalTree};
 ghost use Rattle.netlist.specs.Reading.{firstDuplicate};
-ghost use Rattle.names.specs.Results.{treeCounts, NameTable, repeatOf};
+ghost use Rattle.names.specs.Results.{treeCounts, NameTable};
 ghost use Rattle.names.specs.Search.{indexOf, repeatsAt};
 
 // The index of the first of `count` names that is this one, or `count`.
@@ -35,7 +38,7 @@ fn repeats(names: &[u64], i: usize) -> bool
 }
 
 // The index of the first name that is one of those before it, or the length.
-pub fn first_repeat(names: &[u64]) -> usize
+fn first_repeat(names: &[u64]) -> usize
     ensures { λ r. ⌜ r ≡ least (repeatsAt (now (names .entry))) (length (now (names .entry))) ⌝ }
 {
     let mut i = 0;
@@ -48,20 +51,22 @@ pub fn first_repeat(names: &[u64]) -> usize
     i
 }
 
-// 4: the place of the earliest declaration that repeats another. "Inputs and gates share one set of names; ports are a set of their own."
-pub fn duplicate(c: Counts, names: &[u64], places: &[usize]) -> Repeat
+// 4: the place of the earliest declaration that repeats another. Inputs and gates share one set of names, ports have another (SPECIFICATION 1.4).
+pub fn duplicate(c: Counts, names: &[u64], places: &[usize]) -> Test
     requires { ⌜ (c .inputs + c .named + c .outputs ≤ length (now names)) × (c .inputs + c .named + c .outputs ≤ length (now places)) ⌝ }
-    ensures { λ r. ⌜ ((t : Tree) → isLegalTree t ≡ true → c ≡ treeCounts t → NameTable t (now (names .entry)) (now (places .entry)) → r ≡ repeatOf (firstDuplicate t)) ⌝ }
+    ensures { λ r. ⌜ ((t : Tree) → isLegalTree t ≡ true → c ≡ treeCounts t → NameTable t (now (names .entry)) (now (places .entry)) → r ≡ testAt (firstDuplicate t) DuplicateDeclaration) ⌝ }
 {
     let nodes = c.inputs + c.named;
     let ports = c.outputs;
     let i = first_repeat(&names[..nodes]);
     if i < nodes {
-        return Repeat::At(places[i]);
+        let place = places[i];
+        return Test::Failed(Refusal::DuplicateDeclaration(place));
     }
     let j = first_repeat(&names[nodes..nodes + ports]);
     if j < ports {
-        return Repeat::At(places[nodes + j]);
+        let place = places[nodes + j];
+        return Test::Failed(Refusal::DuplicateDeclaration(place));
     }
-    Repeat::None
+    Test::Passed
 }

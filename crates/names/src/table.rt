@@ -1,9 +1,9 @@
 // The table of declared names, in the order of the text: numbers of the names, their places, and the node numbers of inputs and gates.
 use crate::Counts;
-use crate::lines::byte_at;
 use crate::lines::line_gates;
 use crate::lines::next_line;
 use crate::pack::pack_at;
+use layout::bytes::byte_at;
 ghost use mathlib.Core.Path.{_≡_};
 ghost use Prim.Native.Nat.{_≤_};
 ghost use lib.ListN.{length};
@@ -14,14 +14,14 @@ ghost use Rattle.netlist.specs.Syntax.{Tree};
 ghost use Rattle.names.specs.Packed.{packedThrough};
 ghost use Rattle.names.specs.Results.{Prints, treeCounts, TableRoom, Declared};
 
-// "(in ", "(gate " or "(out " stands before the name that a line declares.
+// `(in `, `(gate ` or `(out ` stands before the name that a line declares.
 fn name_offset(letter: u8) -> usize
     ensures { λ r. ⌜ r ≡ nameOffset letter ⌝ }
 {
-    if letter == 105 {
+    if letter == b'i' {
         return 4;
     }
-    if letter == 103 { 6 } else { 5 }
+    if letter == b'g' { 6 } else { 5 }
 }
 
 // The place of the name that the line at `at` declares.

@@ -1,14 +1,22 @@
 // What a text has of each kind, and whether that is within the limits.
 use crate::Counts;
-use crate::Limits;
 use crate::lines::count;
 use crate::lines::lines_with;
+use layout::limits::MAX_GATES;
+use layout::limits::MAX_INPUTS;
+use layout::limits::MAX_OUTPUTS;
+use netlist::Refusal;
+use netlist::Test;
+use refusals::refuse_if;
 ghost use mathlib.Core.Path.{_≡_};
 ghost use Prim.Native.Nat.{_-_, _≤_};
 ghost use lib.ListN.{length};
 ghost use Rattle.netlist.specs.Limits.{maxText};
+ghost use Rattle.netlist.specs.declared.Refusal.the-variants.{OverLimit};
+ghost use Rattle.netlist.specs.Answers.{testOf};
 ghost use Rattle.netlist.specs.Syntax.{Tree};
-ghost use Rattle.names.specs.Results.{Prints, countsOf, treeCounts, limitsFor, limitsOf};
+ghost use Rattle.netlist.specs.Reading.{isOverLimit};
+ghost use Rattle.names.specs.Results.{Prints, countsOf, treeCounts, isOver};
 
 // The difference, or 0.
 fn minus(a: usize, b: usize) -> usize
@@ -22,11 +30,11 @@ fn count_bytes(text: &[u8]) -> Counts
     requires { ⌜ length (now text) ≤ maxText ⌝ }
     ensures { λ r. ⌜ r ≡ countsOf (now (text .entry)) ⌝ }
 {
-    let lines = count(text, 10);
-    let inputs = lines_with(105, text, lines);
-    let named = lines_with(103, text, lines);
-    let outputs = lines_with(111, text, lines);
-    let gates = minus(count(text, 40), lines);
+    let lines = count(text, b'\n');
+    let inputs = lines_with(b'i', text, lines);
+    let named = lines_with(b'g', text, lines);
+    let outputs = lines_with(b'o', text, lines);
+    let gates = minus(count(text, b'('), lines);
     Counts {
         inputs,
         named,
@@ -43,28 +51,26 @@ pub fn counts(text: &[u8]) -> Counts
     count_bytes(text)
 }
 
-fn limits_for(c: Counts) -> Limits
-    ensures { λ r. ⌜ r ≡ limitsFor c ⌝ }
+// 3, from the counts.
+fn is_over(c: Counts) -> bool
+    ensures { λ r. ⌜ r ≡ isOver c ⌝ }
 {
     let inputs = c.inputs;
     let gates = c.gates;
     let outputs = c.outputs;
-    if 10 < inputs {
-        return Limits::Over;
+    if MAX_INPUTS < inputs {
+        return true;
     }
-    if 1024 < gates {
-        return Limits::Over;
+    if MAX_GATES < gates {
+        return true;
     }
-    if 16 < outputs {
-        return Limits::Over;
-    }
-    Limits::Within
+    MAX_OUTPUTS < outputs
 }
 
-// 3: "above 10 inputs, 1,024 gates (inner ones counted) or 16 outputs"
-pub fn limits(text: &[u8]) -> Limits
+// 3: more inputs, gates (inner ones counted) or outputs than the limits allow.
+pub fn limits(text: &[u8]) -> Test
     requires { ⌜ length (now text) ≤ maxText ⌝ }
-    ensures { λ r. ⌜ ((t : Tree) → Prints t (now (text .entry)) → r ≡ limitsOf t) ⌝ }
+    ensures { λ r. ⌜ ((t : Tree) → Prints t (now (text .entry)) → r ≡ testOf (isOverLimit t) OverLimit) ⌝ }
 {
-    limits_for(count_bytes(text))
+    refuse_if(is_over(count_bytes(text)), Refusal::OverLimit)
 }

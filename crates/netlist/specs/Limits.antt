@@ -1,5 +1,5 @@
 -- SPECIFICATION 1.5: every limit, once.
-use Prim.Native.Nat.{ℕ}
+use Prim.Native.Nat.{ℕ, _+_, _*_}
 
 -- bytes of a text
 abbrev pub maxText : ℕ
@@ -26,3 +26,17 @@ maxName = 8
 -- expressions inside each other
 abbrev pub maxDepth : ℕ
 maxDepth = 8
+
+-- ---- what follows from them
+
+-- words of the largest block (2.1): three counts, four words a name, five a gate and five an output
+abbrev pub maxBlock : ℕ
+maxBlock = 3 + 4 * maxInputs + 5 * maxGates + 5 * maxOutputs
+
+-- bytes of the names `_0` to `_1023`
+abbrev pub maxGateNames : ℕ
+maxGateNames = 4010
+
+-- bytes of the longest written text (7.11): `(in NAME)`, `(gate `, a name, ` (nand` with four names and `))`, and `(out PORT NAME)`, each with its LF
+abbrev pub maxWritten : ℕ
+maxWritten = (6 + maxName) * maxInputs + (15 + 4 * (1 + maxName)) * maxGates + maxGateNames + (8 + 2 * maxName) * maxOutputs

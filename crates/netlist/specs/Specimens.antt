@@ -9,19 +9,31 @@ use lib.ListN.{replicate}
 use Rattle.laws.specs.Lists.{ascii, same, all, repeated, tab, joined}
 use Rattle.netlist.specs.Limits.{maxText}
 use Rattle.netlist.specs.Values.{code, valueOf, invert, isDefined}
-use Rattle.netlist.specs.Kinds.{row, rows, rowOf, isNot, isXor, isXnor, isKind, signatureOf, fewestOperands, mostOperands, arityFits, keyword, ruled, ones, parity, gateValue}
-use Rattle.netlist.specs.StoredBlock.{gatesAt, outputsAt, isLetter, isDigit, isUnderscore, isNameByte, isNameStart, isLegalName, isPlainName, isNodeName, nameWords, bytesAt, nameAt, nodeWord, operandOf, gateWords, gateAt, outputWords, outputAt, encode, decode, isNode, isOperand, gateFits, isWellFormed, isTorn}
-use Rattle.netlist.specs.Rounds.{operandValue, evaluated, round, afterRounds, isStable, rounds, settled, bit, settingOf, settingCount, settledUnder, isSettled, settledSettings, lowestUnsettled}
+use Rattle.netlist.specs.Kinds.{row, rows, rowOf, isNot, isXor, isXnor, isKind, signatureOf, fewestOperands, mostOperands, arityFits, keyword}
+use Rattle.netlist.specs.Kinds.{ruled, ones, parity, gateValue}
+use Rattle.netlist.specs.StoredBlock.{gatesAt, outputsAt, isLetter, isDigit, isUnderscore, isNameByte, isNameStart, isLegalName, isPlainName}
+use Rattle.netlist.specs.StoredBlock.{isNodeName, nameWords, bytesAt, nameAt, nodeWord, operandOf, gateWords, gateAt, outputWords, outputAt, encode}
+use Rattle.netlist.specs.StoredBlock.{decode, isNode, isOperand, gateFits, isWellFormed, isTorn}
+use Rattle.netlist.specs.Rounds.{operandValue, evaluated, round, afterRounds, isStable, rounds, settled, bit, settingOf, settingCount, settledUnder}
+use Rattle.netlist.specs.Rounds.{isSettled, settledSettings, lowestUnsettled}
 use Rattle.netlist.specs.Cover.{fixes, agrees, isSoundUnder, isSound, without, isMinimal, isWithin, assignmentsAt, assignments, cover, coverEntries}
-use Rattle.netlist.specs.Groups.{gateOperand, readBy, reads, has, grown, grownTimes, reach, reaches, sameGroup, groupOf, isReady, mayBeNext, groupsAfter, groups, groupNumber, groupNumbers, copyCount}
-use Rattle.netlist.specs.Rendering.{passes, schedule, noCopies, copiedOperand, copied, copies, newestAfter, lastCopies, rendering, isStraight, sweepFrom, sweep}
+use Rattle.netlist.specs.Groups.{gateOperand, readBy, reads, has, grown, grownTimes, reach, reaches, sameGroup, groupOf, isReady, mayBeNext}
+use Rattle.netlist.specs.Groups.{groupsAfter, groups, groupNumber, groupNumbers, copyCount}
+use Rattle.netlist.specs.Rendering.{passes, schedule, noCopies, copiedOperand, copied, copies, newestAfter, lastCopies, rendering, isStraight}
+use Rattle.netlist.specs.Rendering.{sweepFrom, sweep}
 use Rattle.netlist.specs.Syntax.{printTerm, printInput, printGate, printOutput, printLines, print}
-use Rattle.netlist.specs.Parse.{pure, stop, onTest, ifNext, expect, onParsed, bind, nameBytes, nameAfter, nameReader, kindReader, spaced, termsReader, exprReader, leafOr, termReader, addInput, addGate, addOutput, inputLine, gateLine, outputLine, atEnd, line, outputsReader, gatesReader, textReader, parse}
-use Rattle.netlist.specs.Reading.{gatesIn, lineGates, isOverLimit, mentions, linesLength, gateLinesAt, outputLinesAt, inputMention, gateMention, portMention, shownMention, termMentions, operandMentions, declaredNodes, declaredPorts, usedNames, firstRepeat, orElse, firstDuplicate, firstOutside, firstUndeclared, inputBindings, gateBindings, bindings, lookup, termNode, termsNodes, termGates, linesGates, blockOf}
+use Rattle.netlist.specs.Parse.{pure, stop, onTest, ifNext, expect, onParsed, bind, nameBytes, nameAfter, nameReader, kindReader, spaced}
+use Rattle.netlist.specs.Parse.{termsReader, exprReader, leafOr, termReader, addInput, addGate, addOutput, inputLine, gateLine, outputLine, atEnd}
+use Rattle.netlist.specs.Parse.{line, outputsReader, gatesReader, textReader, parse}
+use Rattle.netlist.specs.Reading.{gatesIn, lineGates, isOverLimit, mentions, linesLength, gateLinesAt, outputLinesAt, inputMention, gateMention}
+use Rattle.netlist.specs.Reading.{portMention, shownMention, termMentions, operandMentions, declaredNodes, declaredPorts, usedNames, firstRepeat}
+use Rattle.netlist.specs.Reading.{orElse, firstDuplicate, firstOutside, firstUndeclared, inputBindings, gateBindings, bindings, lookup, termNode}
+use Rattle.netlist.specs.Reading.{termsNodes, termGates, linesGates, blockOf}
 use Rattle.netlist.specs.Writing.{digits, decimal, gateName, nodeNameOf, termOf, termsOf, flatLine, flatTree, writtenText}
 use Rattle.netlist.specs.Line.{clamped, startBefore, untilLf, lineStart, lineEnd, lineLength, lineAt}
 use Rattle.netlist.specs.Answers.{Outcome, refusalNumber, refusalDetail, numberOf, countOf, detailOf, refuseIf, refuseAt, inRoom, answerOf, leftIn}
-use Rattle.netlist.specs.Operations.{counted, readTree, readParsed, readText, read, isBadSetting, settleBlock, settle, verdict, coverBlock, coverOf, groupsBlock, groupsOf, renderBlock, renderWords, render, passBlock, pass, writeWords, write}
+use Rattle.netlist.specs.Operations.{counted, readTree, readParsed, readText, read, isBadSetting, settleBlock, settle, verdict, coverBlock, coverOf}
+use Rattle.netlist.specs.Operations.{groupsBlock, groupsOf, renderBlock, renderWords, render, passBlock, pass, writeWords, write}
 use Rattle.netlist.specs.Program.{chained, refusalLine, shown, unloop}
 
 -- What is asked. Where an operation takes a block, the question gives the block's text or its words; `room` is the slice's length.
@@ -31,7 +43,7 @@ pub data Question : Type 0 where
   toJudge : List ℕ → Question
   toCover toGroup toRender toWrite : List ℕ → (room : ℕ) → Question
   toShowLine : List ℕ → (place : ℕ) → Question
-  toUnloop : List ℕ → Question
+  toCountCopies toUnloop : List ℕ → Question
 
 -- number, count and detail, and then the result
 unfoldable pub report : Outcome → List ℕ
@@ -48,6 +60,7 @@ answered (toGroup ws room) = report (groupsOf ws room)
 answered (toRender ws room) = report (render ws room)
 answered (toWrite ws room) = report (write ws room)
 answered (toShowLine text place) = lineAt text place
+answered (toCountCopies ws) = copyCount (decode ws) ∷ []
 answered (toUnloop text) = unloop text
 
 pub record Specimen : Type 0 where
@@ -73,10 +86,12 @@ unfoldable pub specimen4 : String
 specimen4 = "(in a)\n(in b)\n(gate p (and a q))\n(gate q (or b p))\n"
 
 unfoldable pub specimen6 : String
-specimen6 = "(in a)\n(in b)\n(in c)\n(in d)\n(in x)\n(gate g1 (and x g6))\n(gate g2 (or a g1))\n(gate g3 (and b g2))\n(gate g4 (or x g3))\n(gate g5 (and c g4))\n(gate g6 (or d g5))\n"
+specimen6 =
+    "(in a)\n(in b)\n(in c)\n(in d)\n(in x)\n(gate g1 (and x g6))\n(gate g2 (or a g1))\n(gate g3 (and b g2))\n(gate g4 (or x g3))\n(gate g5 (and c g4))\n(gate g6 (or d g5))\n"
 
 unfoldable pub rendered6 : String
-rendered6 = "(in a)\n(in b)\n(in c)\n(in d)\n(in x)\n(gate _0 (and x 0))\n(gate _1 (or a _0))\n(gate _2 (and b _1))\n(gate _3 (or x _2))\n(gate _4 (and c _3))\n(gate _5 (or d _4))\n(gate _6 (and x _5))\n(gate _7 (or a _6))\n(gate _8 (and b _7))\n(gate _9 (or x _8))\n(gate _10 (and c _9))\n(gate _11 (or d _10))\n(gate _12 (and x _11))\n(gate _13 (or a _12))\n(gate _14 (and b _13))\n(gate _15 (or x _14))\n(gate _16 (and c _15))\n(gate _17 (or d _16))\n(gate _18 (and x _17))\n(gate _19 (or a _18))\n(gate _20 (and b _19))\n(gate _21 (or x _20))\n(gate _22 (and c _21))\n(gate _23 (or d _22))\n(gate _24 (and x _23))\n(gate _25 (or a _24))\n(gate _26 (and b _25))\n(gate _27 (or x _26))\n(gate _28 (and c _27))\n(gate _29 (or d _28))\n(gate _30 (and x _29))\n(gate _31 (or a _30))\n(gate _32 (and b _31))\n(gate _33 (or x _32))\n(gate _34 (and c _33))\n(gate _35 (or d _34))\n"
+rendered6 =
+    "(in a)\n(in b)\n(in c)\n(in d)\n(in x)\n(gate _0 (and x 0))\n(gate _1 (or a _0))\n(gate _2 (and b _1))\n(gate _3 (or x _2))\n(gate _4 (and c _3))\n(gate _5 (or d _4))\n(gate _6 (and x _5))\n(gate _7 (or a _6))\n(gate _8 (and b _7))\n(gate _9 (or x _8))\n(gate _10 (and c _9))\n(gate _11 (or d _10))\n(gate _12 (and x _11))\n(gate _13 (or a _12))\n(gate _14 (and b _13))\n(gate _15 (or x _14))\n(gate _16 (and c _15))\n(gate _17 (or d _16))\n(gate _18 (and x _17))\n(gate _19 (or a _18))\n(gate _20 (and b _19))\n(gate _21 (or x _20))\n(gate _22 (and c _21))\n(gate _23 (or d _22))\n(gate _24 (and x _23))\n(gate _25 (or a _24))\n(gate _26 (and b _25))\n(gate _27 (or x _26))\n(gate _28 (and c _27))\n(gate _29 (or d _28))\n(gate _30 (and x _29))\n(gate _31 (or a _30))\n(gate _32 (and b _31))\n(gate _33 (or x _32))\n(gate _34 (and c _33))\n(gate _35 (or d _34))\n"
 
 -- xor and xnor of two, three and four operands
 unfoldable pub parities : String
@@ -88,7 +103,8 @@ parityLoop = "(in a)\n(in s)\n(gate p (and s q))\n(gate q (xor a (and p (not s))
 
 -- every row of the table of kinds, and `not`
 unfoldable pub kinds : String
-kinds = "(in a)\n(gate p (and a 0))\n(gate q (or 1 a))\n(gate r (nand a 0))\n(gate s (nor a 1 1 1))\n(gate t (not a))\n(gate u (nand a 1 1))\n(gate v (nor 0 0 a 0))\n"
+kinds =
+    "(in a)\n(gate p (and a 0))\n(gate q (or 1 a))\n(gate r (nand a 0))\n(gate s (nor a 1 1 1))\n(gate t (not a))\n(gate u (nand a 1 1))\n(gate v (nor 0 0 a 0))\n"
 
 unfoldable pub eleven : List ℕ
 eleven = repeated 11 (ascii "(in a)\n")
@@ -121,6 +137,7 @@ specimens =
     -- 9.5
     ∷ (toJudge (blockWords specimen6) ⇒ 0 ∷ 32 ∷ 32 ∷ [])
     ∷ (toSettle (blockWords specimen6) (0 ∷ 1 ∷ 1 ∷ 0 ∷ 0 ∷ []) 6 ⇒ 0 ∷ 6 ∷ 0 ∷ 0 ∷ 0 ∷ 0 ∷ 0 ∷ 0 ∷ 0 ∷ [])
+    ∷ (toCountCopies (blockWords specimen6) ⇒ 36 ∷ [])
     ∷ (toUnloop (ascii specimen6) ⇒ ascii rendered6)
     -- 9.7: the whole of a rendered text
     ∷ (toUnloop (ascii "(in s)\n(gate p (and s q))\n(gate q (or s p))\n(out y q)\n")

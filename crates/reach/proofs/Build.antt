@@ -1,5 +1,10 @@
 -- A list of groups built one by one, each time the group of the lowest gate that may be next, is the first part of `groups`,
--- and is `groups` once every gate is in it. The code of Groups cites it. Assumes nothing.
+-- and is `groups` once every gate is in it. The code of Groups cites it.
+--   built-numbered, built-count   what is built is a numbered list, and no longer than its gates
+--   built-groups                  once it holds every gate it is `groups`
+--   groups-built, groups-at       each first part of `groups` is so built, and entry t is the next gate's group
+--   built-groupNumber             a built list gives the numbers that `groups` gives
+-- Assumes nothing.
 use Prim.Native.Nat.{ℕ, zero, suc, _-_, _≤_, _<_}
 use mathlib.Core.Path.{_≡_, refl, sym, ap, _∙_}
 use mathlib.Core.Logic.{_⊎_, inl, inr}
@@ -23,7 +28,8 @@ use Rattle.reach.proofs.GroupNumber.{groupNumber-is}
 
 module _ (b : Block) where
   -- the next gate is the lowest of its group
-  pub nextGate-lowest : (done : List ℕ) → Numbered b done → nextGate b done < gateCount b → (k : ℕ) → member k (groupOf b (nextGate b done)) ≡ true → nextGate b done ≤ k
+  pub nextGate-lowest : (done : List ℕ) → Numbered b done → nextGate b done < gateCount b → (k : ℕ) → member k (groupOf b (nextGate b done)) ≡ true
+      → nextGate b done ≤ k
   nextGate-lowest done n h k m =
       let p = nextGate-passes b done h in
       let e = groupOf-equal b (nextGate b done) k (groupOf-same b (nextGate b done) k m) in
@@ -103,7 +109,10 @@ module _ (b : Block) where
       (λ more done l f t gs e r. go more done l f t gs e r)
       (λ more done l t gs e r. rw (take-nil {A = List ℕ} t, append-nil gs) r)
     where
-      go : (more : ℕ) (done : List ℕ) → nextGate b done < gateCount b → ((t : ℕ) (gs : List (List ℕ)) → joined gs ≡ done ++ groupOf b (nextGate b done) → Built b gs → Built b (gs ++ take t (groupsAfter b more (done ++ groupOf b (nextGate b done))))) → (t : ℕ) (gs : List (List ℕ)) → joined gs ≡ done → Built b gs → Built b (gs ++ take t (groupOf b (nextGate b done) ∷ groupsAfter b more (done ++ groupOf b (nextGate b done))))
+      go : (more : ℕ) (done : List ℕ) → nextGate b done < gateCount b
+          → ((t : ℕ) (gs : List (List ℕ)) → joined gs ≡ done ++ groupOf b (nextGate b done) → Built b gs
+          → Built b (gs ++ take t (groupsAfter b more (done ++ groupOf b (nextGate b done))))) → (t : ℕ) (gs : List (List ℕ)) → joined gs ≡ done
+          → Built b gs → Built b (gs ++ take t (groupOf b (nextGate b done) ∷ groupsAfter b more (done ++ groupOf b (nextGate b done))))
       go more done l f zero gs e r = rw (append-nil gs) r
       go more done l f (suc t) gs e r =
           let g = groupOf b (nextGate b done) in
@@ -117,10 +126,12 @@ module _ (b : Block) where
   groups-built t = after-built (gateCount b) [] t [] refl none
 
   -- group t is that of the lowest gate that may be next when the first t are numbered
-  pub groups-at : (t : ℕ) → t < length (groups b) → (nextGate b (joined (take t (groups b))) < gateCount b) × (getD (groups b) t [] ≡ groupOf b (nextGate b (joined (take t (groups b)))))
+  pub groups-at : (t : ℕ) → t < length (groups b) → (nextGate b (joined (take t (groups b))) < gateCount b)
+      × (getD (groups b) t [] ≡ groupOf b (nextGate b (joined (take t (groups b)))))
   groups-at t h = go (lt-or-le (nextGate b (joined (take t (groups b)))) (gateCount b))
     where
-      go : (nextGate b (joined (take t (groups b))) < gateCount b) ⊎ (gateCount b ≤ nextGate b (joined (take t (groups b)))) → (nextGate b (joined (take t (groups b))) < gateCount b) × (getD (groups b) t [] ≡ groupOf b (nextGate b (joined (take t (groups b)))))
+      go : (nextGate b (joined (take t (groups b))) < gateCount b) ⊎ (gateCount b ≤ nextGate b (joined (take t (groups b))))
+          → (nextGate b (joined (take t (groups b))) < gateCount b) × (getD (groups b) t [] ≡ groupOf b (nextGate b (joined (take t (groups b)))))
       go (inl l) =
           let gs = take t (groups b) in
           let g = groupOf b (nextGate b (joined gs)) in

@@ -1,4 +1,8 @@
--- The number of copies: the sum of the squares of the groups' sizes, and its bounds. Render cites it. Assumes nothing.
+-- The number of copies: the sum of the squares of the groups' sizes, and its bounds. Render cites it.
+--   copyCount-least                          at least as many copies as gates
+--   copies-built                             the squares of a list that is being built are at most the copies
+--   copyCount-loopless, copyCount-straight   as many copies as gates where no gate reaches itself
+-- Assumes nothing.
 use Prim.Native.Nat.{ℕ, zero, suc, _-_, _*_, _≤_, _<_}
 use mathlib.Core.Path.{_≡_, refl, sym, ap, _∙_}
 use mathlib.Core.Bool.{true}

@@ -1,4 +1,9 @@
--- The number of a gate's group: the place of the one group that holds it. Groups and the agreement cite it. Assumes nothing.
+-- The number of a gate's group: the place of the one group that holds it. Groups and the agreement cite it.
+--   groupNumber-is, groupNumber-member       a gate's number is the place of the group that holds it
+--   groupNumber-same, same-groupNumber       two gates have one number exactly when they share a group
+--   groupNumber-reads, groupNumber-path      a gate reads, and reaches, no higher number
+--   length-groupNumbers, getD-groupNumbers   the list of all numbers
+-- Assumes nothing.
 use Prim.Native.Nat.{ℕ, _≤_, _<_}
 use mathlib.Core.Path.{_≡_, sym, ap, _∙_}
 use mathlib.Core.Bool.{Bool, true}

@@ -1,4 +1,6 @@
--- In a well-formed block every gate reads gates that are there. Assumes nothing.
+-- In a well-formed block every gate reads gates that are there.
+--   wellFormed-inside   a well-formed block is `Inside`
+-- Assumes nothing.
 use Prim.Native.Nat.{ℕ, zero, suc, _<_}
 use mathlib.Core.Path.{_≡_}
 use mathlib.Core.Logic.{⊎-elim}
@@ -32,7 +34,8 @@ operands-inside b (o ∷ os) k h m =
     (operands-inside b os k (and-right (isOperand b o) _ h))
     (member-cases k (gateOperand o) (joined (map gateOperand os)) m)
 
-gates-inside : (b : Block) (gs : List Gate) (i k : ℕ) → all (gateFits b) gs ≡ true → member k (joined (map gateOperand (getD gs i (record { kind = 0; operands = [] }) .operands))) ≡ true → k < gateCount b
+gates-inside : (b : Block) (gs : List Gate) (i k : ℕ) → all (gateFits b) gs ≡ true
+    → member k (joined (map gateOperand (getD gs i (record { kind = 0; operands = [] }) .operands))) ≡ true → k < gateCount b
 unfolding gateFits
 gates-inside b [] i k h m = absurd (false≢true m)
 gates-inside b (g ∷ gs) zero k h m =

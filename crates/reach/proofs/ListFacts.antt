@@ -1,5 +1,10 @@
 -- Facts on numbers in lists, on what passes a test, and on lists one after the other, that are nobody's in particular.
--- Cited by every file of this crate. Assumes nothing.
+-- Cited by every file of this crate.
+--   all-*, member-*, keep-*      tests, members and what is kept
+--   ascending-*, once-*          ascending lists, and lists without repeats
+--   joined-member, entry-below   lists one after the other
+--   sum-at, sum-mono             sums
+-- Assumes nothing.
 use Prim.Native.Nat.{ℕ, zero, suc, _≤_, _<_}
 use mathlib.Core.Path.{_≡_, refl, sym, ap, _∙_}
 use mathlib.Core.Logic.{_⊎_, inl, inr, ⊎-elim}
@@ -38,7 +43,8 @@ pub all-fails : (p : ℕ → Bool) (xs : List ℕ) → all p xs ≡ false → (x
 all-fails p [] h = absurd (true≢false h)
 all-fails p (y ∷ xs) h = go (p y) refl h (all-fails p xs)
   where
-    go : (t : Bool) → p y ≡ t → (t && all p xs) ≡ false → (all p xs ≡ false → (x : ℕ) × (member x xs ≡ true) × (p x ≡ false)) → (x : ℕ) × (member x (y ∷ xs) ≡ true) × (p x ≡ false)
+    go : (t : Bool) → p y ≡ t → (t && all p xs) ≡ false → (all p xs ≡ false → (x : ℕ) × (member x xs ≡ true) × (p x ≡ false))
+        → (x : ℕ) × (member x (y ∷ xs) ≡ true) × (p x ≡ false)
     go true e k f = let r = f k in (r .0, or-right (eqb (r .0) y) _ (r .1), r .2)
     go false e k f = (y, member-head y xs, e)
 
@@ -69,7 +75,8 @@ pub member-keep : (p : ℕ → Bool) (xs : List ℕ) (x : ℕ) → member x (kee
 member-keep p [] x = refl
 member-keep p (y ∷ xs) x = go (p y) (eqb x y) refl refl (member-keep p xs x)
   where
-    go : (t u : Bool) → p y ≡ t → eqb x y ≡ u → member x (keep p xs) ≡ (member x xs && p x) → member x (cond t (y ∷ keep p xs) (keep p xs)) ≡ ((u || member x xs) && p x)
+    go : (t u : Bool) → p y ≡ t → eqb x y ≡ u → member x (keep p xs) ≡ (member x xs && p x)
+        → member x (cond t (y ∷ keep p xs) (keep p xs)) ≡ ((u || member x xs) && p x)
     go true true e f r = rw f (sym (ap p (eqb-true x y f) ∙ e))
     go true false e f r = rw f r
     go false true e f r =
@@ -171,7 +178,8 @@ pub joined-member : (x : ℕ) (xs : List (List ℕ)) → member x (joined xs) �
 joined-member x [] h = absurd (false≢true h)
 joined-member x (y ∷ xs) h = go (member-cases x y (joined xs) h) (joined-member x xs)
   where
-    go : (member x y ≡ true) ⊎ (member x (joined xs) ≡ true) → (member x (joined xs) ≡ true → (g : ℕ) × (g < length xs) × (member x (getD xs g []) ≡ true)) → (g : ℕ) × (g < length (y ∷ xs)) × (member x (getD (y ∷ xs) g []) ≡ true)
+    go : (member x y ≡ true) ⊎ (member x (joined xs) ≡ true) → (member x (joined xs) ≡ true → (g : ℕ) × (g < length xs) × (member x (getD xs g []) ≡ true))
+        → (g : ℕ) × (g < length (y ∷ xs)) × (member x (getD (y ∷ xs) g []) ≡ true)
     go (inl e) f = (0, omega arith, e)
     go (inr e) f = let r = f e in (suc (r .0), (let l = r .1 in omega arith), r .2)
 

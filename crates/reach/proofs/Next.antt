@@ -1,5 +1,10 @@
 -- Which group may be numbered next, that there is one while a gate is left, and that numbering it keeps what is numbered closed.
--- The order of the groups and the code of Groups cite it. Assumes nothing.
+-- The order of the groups and the code of Groups cite it.
+--   ready-reads, ready-intro     a gate is ready: all that its group reads has a number or is in it
+--   mayBeNext-*                  what may be next, taken apart and put together
+--   some-next, none-left         while a gate has no number some gate may be next
+--   numbered-next, next-counts   numbering its group keeps the list closed, and longer
+-- Assumes nothing.
 use Prim.Native.Nat.{ℕ, zero, suc, _≤_, _<_}
 use mathlib.Core.Path.{_≡_, ap, fun-ext}
 use mathlib.Core.Logic.{_⊎_, inl, inr, ⊎-elim}
@@ -21,19 +26,22 @@ use Rattle.reach.proofs.SameGroup.{sameGroup-sym, sameGroup-trans, grou
 
 module _ (b : Block) where
   -- a ready group reads itself and what is numbered
-  pub ready-reads : (done group : List ℕ) → isReady b done group ≡ true → (i k : ℕ) → member i group ≡ true → reads b i k ≡ true → (member k group ≡ true) ⊎ (member k done ≡ true)
+  pub ready-reads : (done group : List ℕ) → isReady b done group ≡ true → (i k : ℕ) → member i group ≡ true → reads b i k ≡ true
+      → (member k group ≡ true) ⊎ (member k done ≡ true)
   unfolding isReady reads
   ready-reads done group h i k m r =
       or-cases _ _ (all-member (λ k. member k group || member k done) (readBy b i) (all-member _ group h i m) k r)
 
   -- and a group that does is ready
-  pub ready-intro : (done group : List ℕ) → ((i k : ℕ) → member i group ≡ true → reads b i k ≡ true → (member k group ≡ true) ⊎ (member k done ≡ true)) → isReady b done group ≡ true
+  pub ready-intro : (done group : List ℕ) → ((i k : ℕ) → member i group ≡ true → reads b i k ≡ true → (member k group ≡ true) ⊎ (member k done ≡ true))
+      → isReady b done group ≡ true
   unfolding isReady reads
   ready-intro done group f =
       all-intro _ group λ i m. all-intro _ (readBy b i) λ k r. ⊎-elim (or-left _ _) (or-right (member k group) _) (f i k m r)
 
   -- a group that is not ready reads a gate that is neither its own nor numbered
-  ready-fails : (done group : List ℕ) → isReady b done group ≡ false → (i k : ℕ) × (member i group ≡ true) × (reads b i k ≡ true) × (member k group ≡ false) × (member k done ≡ false)
+  ready-fails : (done group : List ℕ) → isReady b done group ≡ false
+      → (i k : ℕ) × (member i group ≡ true) × (reads b i k ≡ true) × (member k group ≡ false) × (member k done ≡ false)
   unfolding isReady reads
   ready-fails done group h =
       let r = all-fails _ group h in
@@ -65,21 +73,26 @@ module _ (b : Block) where
 
   -- ---- there is a next one
 
-  reach-less : (j k : ℕ) → j < gateCount b → reaches b j k ≡ true → reaches b k j ≡ false → countBelow (reaches b k) (gateCount b) < countBelow (reaches b j) (gateCount b)
+  reach-less : (j k : ℕ) → j < gateCount b → reaches b j k ≡ true → reaches b k j ≡ false
+      → countBelow (reaches b k) (gateCount b) < countBelow (reaches b j) (gateCount b)
   reach-less j k h r e =
       countBelow-less (reaches b k) (reaches b j) (gateCount b) (λ i l. reaches-trans b j k i r) j h e (reaches-refl b j h)
 
-  reach-outside : (i j k : ℕ) → Inside b → member i (groupOf b j) ≡ true → reads b i k ≡ true → member k (groupOf b j) ≡ false → (reaches b j k ≡ true) × (reaches b k j ≡ false)
+  reach-outside : (i j k : ℕ) → Inside b → member i (groupOf b j) ≡ true → reads b i k ≡ true → member k (groupOf b j) ≡ false
+      → (reaches b j k ≡ true) × (reaches b k j ≡ false)
   unfolding sameGroup
   reach-outside i j k inside m r e =
       let to-k = reaches-reads b j i k (and-left _ _ (groupOf-same b j i m)) r (inside i k r) in
       (to-k, not-true-false _ (λ back. not-both (groupOf-member b j k (and-intro _ _ to-k back)) e))
 
-  next-within : Inside b → (done : List ℕ) (n j : ℕ) → countBelow (reaches b j) (gateCount b) < n → j < gateCount b → member j done ≡ false → (k : ℕ) × (k < gateCount b) × (mayBeNext b done k ≡ true)
+  next-within : Inside b → (done : List ℕ) (n j : ℕ) → countBelow (reaches b j) (gateCount b) < n → j < gateCount b → member j done ≡ false
+      → (k : ℕ) × (k < gateCount b) × (mayBeNext b done k ≡ true)
   next-within inside done zero j c h e = absurd (omega arith)
   next-within inside done (suc n) j c h e = go (bool-cases (isReady b done (groupOf b j))) (next-within inside done n)
     where
-      go : (isReady b done (groupOf b j) ≡ true) ⊎ (isReady b done (groupOf b j) ≡ false) → ((k : ℕ) → countBelow (reaches b k) (gateCount b) < n → k < gateCount b → member k done ≡ false → (k : ℕ) × (k < gateCount b) × (mayBeNext b done k ≡ true)) → (k : ℕ) × (k < gateCount b) × (mayBeNext b done k ≡ true)
+      go : (isReady b done (groupOf b j) ≡ true) ⊎ (isReady b done (groupOf b j) ≡ false)
+          → ((k : ℕ) → countBelow (reaches b k) (gateCount b) < n → k < gateCount b → member k done ≡ false
+          → (k : ℕ) × (k < gateCount b) × (mayBeNext b done k ≡ true)) → (k : ℕ) × (k < gateCount b) × (mayBeNext b done k ≡ true)
       go (inl u) f = (j, h, mayBeNext-intro done j e u)
       go (inr u) f =
           let w = ready-fails done (groupOf b j) u in
@@ -141,7 +154,8 @@ module _ (b : Block) where
       }
 
   -- and one gate more at least is numbered
-  pub next-counts : (done : List ℕ) (j : ℕ) → j < gateCount b → mayBeNext b done j ≡ true → countBelow (λ k. member k done) (gateCount b) < countBelow (λ k. member k (done ++ groupOf b j)) (gateCount b)
+  pub next-counts : (done : List ℕ) (j : ℕ) → j < gateCount b → mayBeNext b done j ≡ true
+      → countBelow (λ k. member k done) (gateCount b) < countBelow (λ k. member k (done ++ groupOf b j)) (gateCount b)
   next-counts done j h e =
       countBelow-less (λ k. member k done) (λ k. member k (done ++ groupOf b j)) (gateCount b)
       (λ k l m. member-left k done (groupOf b j) m)

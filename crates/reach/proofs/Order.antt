@@ -1,5 +1,11 @@
 -- The list of groups: one step of it, its entries, each gate once, and a group reads only itself and earlier ones.
--- Groups, Render's schedule and the agreement cite it. Assumes nothing.
+-- Groups, Render's schedule and the agreement cite it.
+--   groupsAfter-found, groupsAfter-none   one step of the list
+--   groups-all, groups-one, groups-once   each gate is in one group, once
+--   groups-entry, groups-group            an entry is the group of a gate, and of each of its gates
+--   groups-closed, groups-read-back       a group reads only itself and earlier groups
+--   length-groups                         no more groups than gates
+-- Assumes nothing.
 use Prim.Native.Nat.{ℕ, zero, suc, _+_, _≤_, _<_}
 use mathlib.Core.Path.{_≡_, refl, sym, ap, _∙_}
 use mathlib.Core.Logic.{_⊎_, inl, inr}
@@ -30,7 +36,8 @@ module _ (b : Block) where
   nextGate-passes done h = least-at (mayBeNext b done) (gateCount b) h
 
   -- one step of the list where a group may be next
-  pub groupsAfter-found : (more : ℕ) (done : List ℕ) → nextGate b done < gateCount b → groupsAfter b (suc more) done ≡ groupOf b (nextGate b done) ∷ groupsAfter b more (done ++ groupOf b (nextGate b done))
+  pub groupsAfter-found : (more : ℕ) (done : List ℕ) → nextGate b done < gateCount b
+      → groupsAfter b (suc more) done ≡ groupOf b (nextGate b done) ∷ groupsAfter b more (done ++ groupOf b (nextGate b done))
   unfolding groupsAfter
   groupsAfter-found more done h = rw (lt-ltb (nextGate b done) (gateCount b) h)
 
@@ -53,13 +60,19 @@ module _ (b : Block) where
       rw (n, r)
 
   -- what holds in each of the three cases holds of the list
-  pub groupsAfter-elim : (P : ℕ → List ℕ → List (List ℕ) → Type 0) → ((done : List ℕ) → P 0 done []) → ((more : ℕ) (done : List ℕ) → nextGate b done < gateCount b → P more (done ++ groupOf b (nextGate b done)) (groupsAfter b more (done ++ groupOf b (nextGate b done))) → P (suc more) done (groupOf b (nextGate b done) ∷ groupsAfter b more (done ++ groupOf b (nextGate b done)))) → ((more : ℕ) (done : List ℕ) → gateCount b ≤ nextGate b done → P (suc more) done []) → (more : ℕ) (done : List ℕ) → P more done (groupsAfter b more done)
+  pub groupsAfter-elim : (P : ℕ → List ℕ → List (List ℕ) → Type 0) → ((done : List ℕ) → P 0 done [])
+      → ((more : ℕ) (done : List ℕ) → nextGate b done < gateCount b
+      → P more (done ++ groupOf b (nextGate b done)) (groupsAfter b more (done ++ groupOf b (nextGate b done)))
+      → P (suc more) done (groupOf b (nextGate b done) ∷ groupsAfter b more (done ++ groupOf b (nextGate b done)))) → ((more : ℕ) (done : List ℕ)
+      → gateCount b ≤ nextGate b done → P (suc more) done []) → (more : ℕ) (done : List ℕ) → P more done (groupsAfter b more done)
   unfolding groupsAfter
   groupsAfter-elim P z s n zero done = z done
   groupsAfter-elim P z s n (suc more) done =
       go (lt-or-le (nextGate b done) (gateCount b)) (groupsAfter-elim P z s n more (done ++ groupOf b (nextGate b done)))
     where
-      go : (nextGate b done < gateCount b) ⊎ (gateCount b ≤ nextGate b done) → P more (done ++ groupOf b (nextGate b done)) (groupsAfter b more (done ++ groupOf b (nextGate b done))) → P (suc more) done (groupsAfter b (suc more) done)
+      go : (nextGate b done < gateCount b) ⊎ (gateCount b ≤ nextGate b done)
+          → P more (done ++ groupOf b (nextGate b done)) (groupsAfter b more (done ++ groupOf b (nextGate b done)))
+          → P (suc more) done (groupsAfter b (suc more) done)
       go (inl l) r = rw (groupsAfter-found more done l) (s more done l r)
       go (inr l) r = rw (groupsAfter-none (suc more) done l) (n more done l)
 
@@ -70,7 +83,8 @@ module _ (b : Block) where
   length-groupsAfter =
       groupsAfter-elim (λ more done gs. length gs ≤ more) (λ done. omega arith) (λ more done l r. omega arith) (λ more done l. omega arith)
 
-  groupsAfter-entry : (more : ℕ) (done : List ℕ) (g : ℕ) → g < length (groupsAfter b more done) → (j : ℕ) × (j < gateCount b) × (getD (groupsAfter b more done) g [] ≡ groupOf b j)
+  groupsAfter-entry : (more : ℕ) (done : List ℕ) (g : ℕ) → g < length (groupsAfter b more done)
+      → (j : ℕ) × (j < gateCount b) × (getD (groupsAfter b more done) g [] ≡ groupOf b j)
   groupsAfter-entry =
       groupsAfter-elim
       (λ more done gs. (g : ℕ) → g < length gs → (j : ℕ) × (j < gateCount b) × (getD gs g [] ≡ groupOf b j))
@@ -78,7 +92,8 @@ module _ (b : Block) where
       (λ more done l r g h. first (nextGate b done) l (groupsAfter b more (done ++ groupOf b (nextGate b done))) r g h)
       (λ more done l g h. absurd (omega arith))
     where
-      first : (i : ℕ) → i < gateCount b → (gs : List (List ℕ)) → ((g : ℕ) → g < length gs → (j : ℕ) × (j < gateCount b) × (getD gs g [] ≡ groupOf b j)) → (g : ℕ) → g < length (groupOf b i ∷ gs) → (j : ℕ) × (j < gateCount b) × (getD (groupOf b i ∷ gs) g [] ≡ groupOf b j)
+      first : (i : ℕ) → i < gateCount b → (gs : List (List ℕ)) → ((g : ℕ) → g < length gs → (j : ℕ) × (j < gateCount b) × (getD gs g [] ≡ groupOf b j))
+          → (g : ℕ) → g < length (groupOf b i ∷ gs) → (j : ℕ) × (j < gateCount b) × (getD (groupOf b i ∷ gs) g [] ≡ groupOf b j)
       first i l gs r zero h = (i, l, refl)
       first i l gs r (suc g) h = r g (omega arith)
 
@@ -95,15 +110,19 @@ module _ (b : Block) where
       nothing done zero n = rw (append-nil done) n
       nothing done (suc t) n = rw (append-nil done) n
 
-      some : (done : List ℕ) (j : ℕ) (gs : List (List ℕ)) → Numbered b (done ++ groupOf b j) → Numbered b done → ((t : ℕ) → Numbered b (done ++ groupOf b j) → Numbered b (done ++ groupOf b j ++ joined (take t gs))) → (t : ℕ) → Numbered b (done ++ joined (take t (groupOf b j ∷ gs)))
+      some : (done : List ℕ) (j : ℕ) (gs : List (List ℕ)) → Numbered b (done ++ groupOf b j) → Numbered b done
+          → ((t : ℕ) → Numbered b (done ++ groupOf b j) → Numbered b (done ++ groupOf b j ++ joined (take t gs))) → (t : ℕ)
+          → Numbered b (done ++ joined (take t (groupOf b j ∷ gs)))
       some done j gs n′ n r zero = rw (append-nil done) n
       some done j gs n′ n r (suc t) = rw (append-assoc done (groupOf b j) (joined (take t gs))) at (r t n′)
 
   -- enough steps number every gate
-  groupsAfter-all : Inside b → (more : ℕ) (done : List ℕ) → Numbered b done → gateCount b ≤ countBelow (λ k. member k done) (gateCount b) + more → (j : ℕ) → j < gateCount b → member j (done ++ joined (groupsAfter b more done)) ≡ true
+  groupsAfter-all : Inside b → (more : ℕ) (done : List ℕ) → Numbered b done → gateCount b ≤ countBelow (λ k. member k done) (gateCount b) + more → (j : ℕ)
+      → j < gateCount b → member j (done ++ joined (groupsAfter b more done)) ≡ true
   groupsAfter-all inside =
       groupsAfter-elim
-      (λ more done gs. Numbered b done → gateCount b ≤ countBelow (λ k. member k done) (gateCount b) + more → (j : ℕ) → j < gateCount b → member j (done ++ joined gs) ≡ true)
+      (λ more done gs. Numbered b done → gateCount b ≤ countBelow (λ k. member k done) (gateCount b) + more → (j : ℕ) → j < gateCount b
+      → member j (done ++ joined gs) ≡ true)
       (λ done n c j h. rw (append-nil done) (countBelow-full (λ k. member k done) (gateCount b) (omega arith) j h))
       (λ more done l r n c j h.
       let p = nextGate-passes done l in
@@ -181,7 +200,8 @@ module _ (b : Block) where
   groups-closed t = groups-numbered t .closed
 
   -- a group reads only itself and earlier groups
-  pub groups-read-back : (g i k : ℕ) → member i (getD (groups b) g []) ≡ true → reads b i k ≡ true → (h : ℕ) × (h ≤ g) × (member k (getD (groups b) h []) ≡ true)
+  pub groups-read-back : (g i k : ℕ) → member i (getD (groups b) g []) ≡ true → reads b i k ≡ true
+      → (h : ℕ) × (h ≤ g) × (member k (getD (groups b) h []) ≡ true)
   groups-read-back g i k m r =
       let first : getD (take (suc g) (groups b)) g [] ≡ getD (groups b) g [] = getD-take (suc g) (groups b) g [] (omega arith) in
       let inside = member-joined i (take (suc g) (groups b)) g (rw first m) in

@@ -1,5 +1,10 @@
 -- What `reach` computes: gate i reaches gate j exactly when there is a path. Growing m times is enough, by counting.
--- The other files of this crate cite it. Assumes nothing.
+-- The other files of this crate cite it.
+--   grown-*, grownTimes-*         a step, and many: nothing is lost, and what is read is added
+--   path-reaches, reaches-path    `reaches` tells whether there is a path
+--   reaches-refl, reaches-trans   it is reflexive and transitive
+--   reach-least, reach-is         the reach is the least closed set with the gate
+-- Assumes nothing.
 use Prim.Native.Nat.{ℕ, zero, suc, _≤_, _<_}
 use mathlib.Core.Path.{_≡_, refl, sym, _∙_}
 use mathlib.Core.Logic.{_⊎_, inl, inr, ⊎-elim}
@@ -64,7 +69,7 @@ module _ (b : Block) where
   unfolding grown has
   has-grown set j h = getD-tab _ (gateCount b) j false h
 
-  -- "grown" only adds
+  -- `grown` only adds
   pub grown-keeps : (set : List Bool) (j : ℕ) → j < gateCount b → has set j ≡ true → has (grown b set) j ≡ true
   grown-keeps set j h e = has-grown set j h ∙ or-left _ _ e
 
@@ -75,10 +80,12 @@ module _ (b : Block) where
       ∙ or-right (has set j) _ (below-any (λ i. has set i && reads b i j) (gateCount b) i (reads-below b i j r) (and-intro _ _ e r))
 
   -- and nothing else
-  pub grown-cases : (set : List Bool) (j : ℕ) → j < gateCount b → has (grown b set) j ≡ true → (has set j ≡ true) ⊎ ((i : ℕ) × (has set i ≡ true) × (reads b i j ≡ true))
+  pub grown-cases : (set : List Bool) (j : ℕ) → j < gateCount b → has (grown b set) j ≡ true
+      → (has set j ≡ true) ⊎ ((i : ℕ) × (has set i ≡ true) × (reads b i j ≡ true))
   grown-cases set j h e = go (or-cases _ _ (sym (has-grown set j h) ∙ e))
     where
-      go : (has set j ≡ true) ⊎ (any (λ i. has set i && reads b i j) (upTo (gateCount b)) ≡ true) → (has set j ≡ true) ⊎ ((i : ℕ) × (has set i ≡ true) × (reads b i j ≡ true))
+      go : (has set j ≡ true) ⊎ (any (λ i. has set i && reads b i j) (upTo (gateCount b)) ≡ true)
+          → (has set j ≡ true) ⊎ ((i : ℕ) × (has set i ≡ true) × (reads b i j ≡ true))
       go (inl u) = inl u
       go (inr u) =
           let r = any-below (λ i. has set i && reads b i j) (gateCount b) u in
@@ -121,7 +128,8 @@ module _ (b : Block) where
   closed-or-many zero set = inr (omega arith)
   closed-or-many (suc t) set = go (closed-or-many t set)
     where
-      go : Closed b (grownTimes b t set) ⊎ (t ≤ size (grownTimes b t set)) → Closed b (grown b (grownTimes b t set)) ⊎ (suc t ≤ size (grown b (grownTimes b t set)))
+      go : Closed b (grownTimes b t set) ⊎ (t ≤ size (grownTimes b t set))
+          → Closed b (grown b (grownTimes b t set)) ⊎ (suc t ≤ size (grown b (grownTimes b t set)))
       go (inl c) = inl (grown-closed _ c)
       go (inr l) = ⊎-elim (λ c. inl (grown-closed _ c)) (λ u. inr (omega arith)) (closed-or-more (grownTimes b t set))
 
@@ -181,7 +189,8 @@ module _ (b : Block) where
       set : List Bool
       set = grownTimes b t (tab (eqb i) (gateCount b))
 
-      go : (has set j ≡ true) ⊎ ((k : ℕ) × (has set k ≡ true) × (reads b k j ≡ true)) → ((k : ℕ) → has set k ≡ true → OperandPath b i k × (i < gateCount b)) → OperandPath b i j × (i < gateCount b)
+      go : (has set j ≡ true) ⊎ ((k : ℕ) × (has set k ≡ true) × (reads b k j ≡ true)) → ((k : ℕ) → has set k ≡ true → OperandPath b i k × (i < gateCount b))
+          → OperandPath b i j × (i < gateCount b)
       go (inl u) f = f j u
       go (inr u) f = let r = f (u .0) (u .1) in (path-append (r .0) (step (u .2) stay), r .1)
 
@@ -210,7 +219,8 @@ module _ (b : Block) where
   reach-least set i j c e h = closed-path set c e (reaches-path i j h) (reaches-below i j h)
 
   -- a closed set that has gate i, and only what it reaches, is its reach
-  pub reach-is : (set : List Bool) (i : ℕ) → length set ≡ gateCount b → Closed b set → has set i ≡ true → ((j : ℕ) → has set j ≡ true → reaches b i j ≡ true) → set ≡ reach b i
+  pub reach-is : (set : List Bool) (i : ℕ) → length set ≡ gateCount b → Closed b set → has set i ≡ true
+      → ((j : ℕ) → has set j ≡ true → reaches b i j ≡ true) → set ≡ reach b i
   unfolding reaches has
   reach-is set i l c e f =
       ext-getD false set (reach b i) (l ∙ sym (length-reach i))

@@ -1,5 +1,9 @@
 -- Being in one group is an equivalence, and `groupOf` lists a gate's class in ascending order.
--- The order of the groups and Render's schedule cite it. Assumes nothing.
+-- The order of the groups and Render's schedule cite it.
+--   sameGroup-refl, -sym, -trans     an equivalence
+--   member-groupOf, groupOf-member   a group holds exactly the gates of the class
+--   groupOf-ascending, groupOf-once, groupOf-equal   it is ascending, and the same for each of its gates
+-- Assumes nothing.
 use Prim.Native.Nat.{ℕ, _≤_, _<_}
 use mathlib.Core.Path.{_≡_, sym, ap, _∙_, fun-ext}
 use mathlib.Core.Bool.{Bool, true}

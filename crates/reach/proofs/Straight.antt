@@ -1,4 +1,8 @@
--- Straight blocks: every group is one gate, and the order is 0, 1, 2, .. Render's "renders to itself" cites it. Assumes nothing.
+-- Straight blocks: every group is one gate, and the order is 0, 1, 2, .. The law that a straight block renders to itself cites it.
+--   straight-reads, straight-inside     a straight block's gates read lower gates
+--   straight-loopless                   no gate reaches itself
+--   straight-groupOf, straight-groups   each group is one gate, in order
+-- Assumes nothing.
 use Prim.Native.Nat.{ℕ, zero, suc, _≤_, _<_}
 use mathlib.Core.Path.{_≡_, refl, sym, ap, _∙_}
 use mathlib.Core.Logic.{inr}
@@ -87,7 +91,7 @@ module _ (b : Block) (s : isStraight b ≡ true) where
       let g : groupOf b (nextGate b (joined (tab (λ j. j ∷ []) t))) ≡ t ∷ [] = ap (groupOf b) e ∙ straight-groupOf t h in
       rw g at (next (straight-built t (omega arith)) (rw e h))
 
-  -- "A straight block's" groups are its gates, one by one
+  -- a straight block's groups are its gates, one by one
   pub straight-groups : groups b ≡ tab (λ j. j ∷ []) (gateCount b)
   straight-groups =
       sym

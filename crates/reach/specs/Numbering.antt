@@ -19,7 +19,7 @@ pub record Numbered (b : Block) (done : List ℕ) : Type 0 where
 abbrev pub nextGate : Block → List ℕ → ℕ
 nextGate b done = least (mayBeNext b done) (gateCount b)
 
--- "Groups are numbered one by one": the lists of groups that this builds
+-- the lists of groups that numbering one by one builds
 pub data Built (b : Block) : List (List ℕ) → Type 0 where
   none : Built b []
   next : {gs : List (List ℕ)} → Built b gs → nextGate b (joined gs) < gateCount b → Built b (gs ++ (groupOf b (nextGate b (joined gs)) ∷ []))

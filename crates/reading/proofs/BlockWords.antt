@@ -13,7 +13,8 @@ use Rattle.laws.proofs.Stores.{sets-append, length-joined-tab}
 use Rattle.netlist.specs.Netlist.{Name, gateCount, outputCount}
 use Rattle.netlist.specs.StoredBlock.{isPlainName, nameWords, gateWords, outputWords, gatesAt, outputsAt, encode}
 use Rattle.netlist.specs.Syntax.{name, apply, GateLine, Tree, isLegalTree, print, printInput, printGate}
-use Rattle.netlist.specs.Reading.{Mention, mentions, inputMention, gateMention, gateLinesAt, declaredNodes, declaredPorts, gatesIn, lineGates, Binding, bindings, termGates, linesGates, blockOf}
+use Rattle.netlist.specs.Reading.{Mention, mentions, inputMention, gateMention, gateLinesAt, declaredNodes, declaredPorts, gatesIn, lineGates, Binding}
+use Rattle.netlist.specs.Reading.{bindings, termGates, linesGates, blockOf}
 use Rattle.encoding.proofs.Encoded.{length-encode}
 use Rattle.encoding.proofs.ListFacts.{length-joined}
 use Rattle.encoding.proofs.Gates.{length-gateWords}
@@ -85,7 +86,8 @@ module _ (t : Tree) (legal : isLegalTree t ≡ true) (names : List ℕ) (is : ta
       let gs = mentions printGate gateMention (t .gates) (gateLinesAt t) in
       let e : map number (declared t) ≡ map packed (t .inputs) ++ (map number gs ++ map number (declaredPorts t)) =
       map-append number (ins ++ gs) (declaredPorts t)
-      ∙ ap (λ (r : List ℕ). r ++ map number (declaredPorts t)) (map-append number ins gs ∙ ap (λ (r : List ℕ). r ++ map number gs) (input-numbers (t .inputs) 0))
+      ∙ ap (λ (r : List ℕ). r ++ map number (declaredPorts t))
+      (map-append number ins gs ∙ ap (λ (r : List ℕ). r ++ map number gs) (input-numbers (t .inputs) 0))
       ∙ append-assoc (map packed (t .inputs)) (map number gs) (map number (declaredPorts t)) in
       let l : n ≤ length (declared t) = rw (declared-length prints) (omega arith) in
       sym (take-take n (length (declared t)) names l) ∙ ap (take n) (is ∙ e) ∙ take-at (map packed (t .inputs)) _ n (length-map (t .inputs) packed)
@@ -95,7 +97,8 @@ module _ (t : Tree) (legal : isLegalTree t ≡ true) (names : List ℕ) (is : ta
   input-words =
       let n = length (t .inputs) in
       let ps = map packed (t .inputs) in
-      tab-ext (nameOf names) (λ i. portWords (getD ps i 0)) n (λ i l. ap portWords (sym (getD-take n names i 0 l) ∙ ap (λ (r : List ℕ). getD r i 0) first-numbers))
+      tab-ext (nameOf names) (λ i. portWords (getD ps i 0)) n
+      (λ i l. ap portWords (sym (getD-take n names i 0 l) ∙ ap (λ (r : List ℕ). getD r i 0) first-numbers))
       ∙ sym (map-tab portWords (λ i. getD ps i 0) n)
       ∙ ap (map portWords) (tab-getD 0 ps n (length-map (t .inputs) packed))
       ∙ map-map portWords packed (t .inputs)
@@ -158,7 +161,8 @@ block-written c names gates outputs block a b d e p q r s =
     let os = tab (wordOf outputs) (5 * c .outputs) in
     let l : length ns ≡ 4 * c .inputs = length-joined-tab (nameOf names) 4 (name-size names) (c .inputs) in
     let m : length (head ++ ns) ≡ 3 + 4 * c .inputs = omega (arith, length-append head ns, l) in
-    let k : length (head ++ ns ++ gs) ≡ 3 + 4 * c .inputs + 5 * c .gates = omega (arith, length-append (head ++ ns) gs, m, length-tab (wordOf gates) (5 * c .gates)) in
+    let k : length (head ++ ns ++ gs) ≡ 3 + 4 * c .inputs + 5 * c .gates = omega
+    (arith, length-append (head ++ ns) gs, m, length-tab (wordOf gates) (5 * c .gates)) in
     let u : b ≡ sets block 0 (head ++ ns) = q ∙ rw p (sets-append head block 0 3 ns (omega arith)) in
     let v : d ≡ sets block 0 (head ++ ns ++ gs) = r ∙ rw u (sets-append (head ++ ns) block 0 (3 + 4 * c .inputs) gs (omega (arith, m))) in
     s ∙ rw v (sets-append (head ++ ns ++ gs) block 0 (3 + 4 * c .inputs + 5 * c .gates) os (omega (arith, k)))

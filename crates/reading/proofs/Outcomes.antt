@@ -1,12 +1,17 @@
--- What Read answers, case by case, of the legal tree that the text prints. Assumes nothing.
-use mathlib.Core.Path.{_≡_, refl, sym, ap, _∙_}
-use mathlib.Core.Bool.{Bool, true, false, cond}
+-- What Read answers, condition by condition, of the legal tree that the text prints.
+--   read-start, read-form   the chain of conditions from 1 on, and from 2 on
+--   in-form                 a text without a bad byte is a legal tree's
+--   read-tree               the chain from 3 on; read-within from 4 on; read-single from 5 on; read-known has 11 left
+-- Assumes nothing.
+use mathlib.Core.Path.{_≡_, refl, _∙_}
+use mathlib.Core.Bool.{false}
 use mathlib.Core.List.{List}
 use mathlib.Core.Option.{Option, none, some}
-use Prim.Native.Nat.{ℕ, _-_, _≤_, _<_}
+use Prim.Native.Nat.{ℕ, _≤_}
 use native.Mathlib.Omega.{arith}
 use lib.ListN.{length}
-use borrow.Author.Tests.{lt-ltb, le-ltb}
+use lib.Dec.{ltb}
+use borrow.Author.Tests.{le-ltb}
 use Rattle.netlist.specs.declared.Refusal.the-variants.{TextTooLong, SyntaxError, OverLimit, DuplicateDeclaration, UndeclaredName, NoRoom}
 use Rattle.netlist.specs.Limits.{maxText}
 use Rattle.netlist.specs.StoredBlock.{encode}
@@ -16,105 +21,70 @@ use Rattle.netlist.specs.Reading.{isOverLimit, firstDuplicate, firstUndeclared,
 use Rattle.netlist.specs.Answers.{Outcome, done, refused, refuseIf, refuseAt, inRoom}
 use Rattle.netlist.specs.Operations.{counted, readTree, readParsed, readText, read}
 use Rattle.grammar.proofs.Adequacy.{legal-parses, parsed-legal}
-use Rattle.form.specs.declared.TextForm.{TextForm}
-use Rattle.form.specs.declared.TextForm.the-variants.{Legal as Formed, Bad}
-use Rattle.form.specs.Scan.{formAt, formOf}
-use Rattle.names.specs.declared.Limits.{Limits}
-use Rattle.names.specs.declared.Limits.the-variants.{Within, Over}
-use Rattle.names.specs.declared.Repeat.{Repeat}
-use Rattle.names.specs.declared.Repeat.the-variants.{None, At}
-use Rattle.names.specs.Results.{Prints, limitsOf, repeatOf}
+use Rattle.form.specs.Scan.{badOf, firstBad}
+use Rattle.names.specs.Results.{Prints}
 use Rattle.names.proofs.TreeCounts.{legal-prints}
-use Rattle.terms.specs.declared.Uses.{Uses}
-use Rattle.terms.specs.declared.Uses.the-variants.{Known, Undeclared}
-use Rattle.terms.specs.Resolution.{usesOf}
+use Rattle.refusals.proofs.Promised.{room-last}
 use Rattle.reading.specs.Steps.{InForm, Limited}
 
 -- ---- 1 and 2
 
-pub read-long : (text : List ℕ) (room : ℕ) → maxText < length text → read text room ≡ refused TextTooLong
-unfolding read readText refuseIf inRoom
-read-long text room l = rw (lt-ltb maxText (length text) l) refl
+pub read-start : (text : List ℕ) (room : ℕ) → read text room ≡ inRoom room (refuseIf (ltb maxText (length text)) TextTooLong (readParsed text (parse text)))
+unfolding read readText
+read-start text room = refl
 
-pub read-bad : (text : List ℕ) (room place : ℕ) (r : TextForm) → length text ≤ maxText → r ≡ formOf text → r ≡ Bad place → read text room ≡ refused (SyntaxError place)
-unfolding read readText formOf refuseIf readParsed inRoom
-read-bad text room place r s e f = rw (le-ltb maxText (length text) s) (go (parse text) (sym f ∙ e))
-  where
-    go : (p : Parsed Tree) → Bad place ≡ formAt text p → inRoom room (readParsed text p) ≡ refused (SyntaxError place)
-    go (got t rest) h = let z : _≡_ {A = ℕ} 0 1 = cc in absurd (omega arith)
-    go (stuck left) h = let z : place ≡ length text - left = cc in rw z refl
+-- what follows 2
+unfoldable pub afterForm : Parsed Tree → Outcome
+afterForm (got t rest) = readTree t
+afterForm (stuck left) = refused TextTooLong
 
-pub in-form : (text : List ℕ) (r : TextForm) → length text ≤ maxText → r ≡ formOf text → r ≡ Formed → InForm text
-unfolding formOf
-in-form text r s e f = go (parse text) refl (sym f ∙ e)
+read-parsed : (text : List ℕ) (p : Parsed Tree) → readParsed text p ≡ refuseAt (badOf text p) SyntaxError (afterForm p)
+unfolding readParsed refuseAt afterForm
+read-parsed text (got t rest) = refl
+read-parsed text (stuck left) = refl
+
+pub read-form : (text : List ℕ) (room : ℕ) → read text room ≡ inRoom room (readParsed text (parse text))
+    → read text room ≡ inRoom room (refuseAt (firstBad text) SyntaxError (afterForm (parse text)))
+unfolding firstBad
+read-form text room e = e ∙ rw (read-parsed text (parse text)) refl
+
+pub in-form : (text : List ℕ) → length text ≤ maxText → firstBad text ≡ none → InForm text
+unfolding firstBad
+in-form text s e = go (parse text) refl e
   where
-    go : (p : Parsed Tree) → parse text ≡ p → Formed ≡ formAt text p → InForm text
+    go : (p : Parsed Tree) → parse text ≡ p → badOf text p ≡ none → InForm text
     go (got t rest) q h = let l = parsed-legal text t rest q in record { tree = l .tree; prints = legal-prints l; short = s }
     go (stuck left) q h = let z : _≡_ {A = ℕ} 0 1 = cc in absurd (omega arith)
 
 -- ---- 3, 4, 5 and 11
 
 module _ (t : Tree) (text : List ℕ) (room : ℕ) where
-  read-tree : Prints t text → length text ≤ maxText → read text room ≡ inRoom room (readTree t)
-  unfolding read readText readParsed refuseIf
+  -- the block's words, and behind each condition what is left
+  abbrev words : List ℕ
+  words = encode (blockOf t)
+
+  abbrev afterRepeats : Outcome
+  afterRepeats = refuseAt (firstUndeclared t) UndeclaredName (counted words)
+
+  abbrev afterLimits : Outcome
+  afterLimits = refuseAt (firstDuplicate t) DuplicateDeclaration afterRepeats
+
+  pub read-tree : Prints t text → length text ≤ maxText → read text room ≡ inRoom room (refuseIf (isOverLimit t) OverLimit afterLimits)
+  unfolding read readText readParsed readTree refuseIf
   read-tree p s =
       let l : Legal text = record { tree = t; legal = p .legal; printed = p .printed } in
       rw (le-ltb maxText (length text) s, legal-parses text l) refl
 
-  pub read-over : Prints t text → length text ≤ maxText → (r : Limits) → r ≡ limitsOf t → r ≡ Over → read text room ≡ refused OverLimit
-  unfolding readTree limitsOf refuseIf inRoom
-  read-over p s r e f = read-tree p s ∙ go (isOverLimit t) _ (sym f ∙ e)
-    where
-      go : (b : Bool) (o : Outcome) → Over ≡ cond b Over Within → inRoom room (refuseIf b OverLimit o) ≡ refused OverLimit
-      go true o h = refl
-      go false o h = let z : _≡_ {A = ℕ} 0 1 = cc in absurd (omega arith)
-
   module _ (l : Limited t text) where
-    read-within : read text room ≡ inRoom room (refuseAt (firstDuplicate t) DuplicateDeclaration (refuseAt (firstUndeclared t) UndeclaredName (counted (encode (blockOf t)))))
-    unfolding readTree limitsOf refuseIf
-    read-within = read-tree (l .prints) (l .short) ∙ go (isOverLimit t) _ (l .within)
-      where
-        go : (b : Bool) (o : Outcome) → cond b Over Within ≡ Within → inRoom room (refuseIf b OverLimit o) ≡ inRoom room o
-        go true o h = let z : _≡_ {A = ℕ} 0 1 = cc in absurd (omega arith)
-        go false o h = refl
+    pub read-within : read text room ≡ inRoom room afterLimits
+    unfolding refuseIf
+    read-within = rw (l .within) at read-tree (l .prints) (l .short)
 
-    pub read-twice : (place : ℕ) → firstDuplicate t ≡ some place → read text room ≡ refused (DuplicateDeclaration place)
-    unfolding refuseAt inRoom
-    read-twice place e = read-within ∙ rw e refl
+    module _ (single : firstDuplicate t ≡ none) where
+      pub read-single : read text room ≡ inRoom room afterRepeats
+      unfolding refuseAt
+      read-single = rw single at read-within
 
-    pub read-unknown : (place : ℕ) → firstDuplicate t ≡ none → firstUndeclared t ≡ some place → read text room ≡ refused (UndeclaredName place)
-    unfolding refuseAt inRoom
-    read-unknown place d e = read-within ∙ rw (d, e) refl
-
-    pub read-short : firstDuplicate t ≡ none → firstUndeclared t ≡ none → room < length (encode (blockOf t)) → read text room ≡ refused NoRoom
-    unfolding refuseAt inRoom refuseIf counted
-    read-short d e h = read-within ∙ rw (d, e, lt-ltb room (length (encode (blockOf t))) h) refl
-
-    pub read-done : firstDuplicate t ≡ none → firstUndeclared t ≡ none → length (encode (blockOf t)) ≤ room → read text room ≡ done (encode (blockOf t)) (length (encode (blockOf t))) 0
-    unfolding refuseAt inRoom refuseIf counted
-    read-done d e h = read-within ∙ rw (d, e, le-ltb room (length (encode (blockOf t))) h) refl
-
--- ---- what the answers of the tests tell
-
-pub told-within : (t : Tree) (r : Limits) → r ≡ limitsOf t → r ≡ Within → limitsOf t ≡ Within
-told-within t r e f = sym e ∙ f
-
-pub told-single : (o : Option ℕ) (r : Repeat) → r ≡ repeatOf o → r ≡ None → o ≡ none
-unfolding repeatOf
-told-single none r e f = refl
-told-single (some p) r e f = let z : _≡_ {A = ℕ} 0 1 = cc in absurd (omega arith)
-
-pub told-twice : (o : Option ℕ) (r : Repeat) (place : ℕ) → r ≡ repeatOf o → r ≡ At place → o ≡ some place
-unfolding repeatOf
-told-twice none r place e f = let z : _≡_ {A = ℕ} 0 1 = cc in absurd (omega arith)
-told-twice (some p) r place e f = let z : p ≡ place = cc in ap some z
-
-pub told-known : (o : Option ℕ) (r : Uses) → r ≡ usesOf o → r ≡ Known → o ≡ none
-unfolding usesOf
-told-known none r e f = refl
-told-known (some p) r e f = let z : _≡_ {A = ℕ} 0 1 = cc in absurd (omega arith)
-
-pub told-undeclared : (o : Option ℕ) (r : Uses) (place : ℕ) → r ≡ usesOf o → r ≡ Undeclared place → o ≡ some place
-unfolding usesOf
-told-undeclared none r place e f = let z : _≡_ {A = ℕ} 0 1 = cc in absurd (omega arith)
-told-undeclared (some p) r place e f = let z : p ≡ place = cc in ap some z
+      pub read-known : firstUndeclared t ≡ none → read text room ≡ refuseIf (ltb room (length words)) NoRoom (done words (length words) 0)
+      unfolding refuseAt counted
+      read-known e = (rw e at read-single) ∙ room-last room words (length words) 0

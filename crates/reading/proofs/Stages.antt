@@ -2,40 +2,36 @@
 use mathlib.Core.Path.{_≡_, refl, ap, _∙_}
 use mathlib.Core.Bool.{true}
 use mathlib.Core.List.{List, map}
-use Prim.Native.Nat.{ℕ, _≤_, _<_}
+use Prim.Native.Nat.{ℕ, _≤_}
 use native.Mathlib.Nat.{min-le-right}
 use native.Mathlib.Omega.{arith}
 use lib.ListN.{length, take, length-map, length-take}
 use lib.Seq.{sets}
+use lib.Dec.{ltb}
+use borrow.Author.Tests.{ltb-false}
 use Rattle.laws.specs.Lists.{joined}
 use Rattle.laws.proofs.Slices.{sets-placed, placed-room}
-use Rattle.netlist.specs.declared.Answer.the-variants.{Done, Refused}
+use Rattle.netlist.specs.declared.Answer.{Answer}
+use Rattle.netlist.specs.declared.Answer.the-variants.{Done}
 use Rattle.netlist.specs.declared.Refusal.the-variants.{DuplicateDeclaration, UndeclaredName, NoRoom}
+use Rattle.netlist.specs.declared.Test.{Test}
+use Rattle.netlist.specs.declared.Test.the-variants.{Passed}
+use Rattle.netlist.specs.Limits.{maxInputs, maxGates, maxOutputs}
 use Rattle.netlist.specs.StoredBlock.{gateWords, outputWords, encode}
 use Rattle.netlist.specs.Syntax.{Tree, isLegalTree}
 use Rattle.netlist.specs.Reading.{firstDuplicate, firstUndeclared, blockOf}
-use Rattle.netlist.specs.Answers.{refused, answerOf, leftIn}
-use Rattle.netlist.specs.declared.Refusal.{Refusal}
+use Rattle.netlist.specs.Answers.{testOf, testAt, refusalOf, done, refuseIf, inRoom, Promise}
 use Rattle.netlist.specs.Operations.{read}
 use Rattle.names.specs.declared.Counts.{Counts}
-use Rattle.names.specs.declared.Repeat.{Repeat}
-use Rattle.names.specs.declared.Repeat.the-variants.{None, At}
-use Rattle.names.specs.Results.{Prints, treeCounts, declared, packedNames, NameTable, Declared, TableRoom, repeatOf}
+use Rattle.names.specs.Results.{Prints, treeCounts, declared, packedNames, NameTable, Declared, TableRoom}
 use Rattle.names.proofs.TreeCounts.{limits-within, table-room}
 use Rattle.names.proofs.TreeTable.{declared-length}
-use Rattle.terms.specs.declared.Uses.{Uses}
-use Rattle.terms.specs.declared.Uses.the-variants.{Known, Undeclared}
-use Rattle.terms.specs.Resolution.{Resolved}
-use Rattle.terms.specs.Resolution as resolution
+use Rattle.terms.specs.Resolution.{ResolveReady, Resolved}
+use Rattle.refusals.proofs.Promised.{IsFailed, passed-none, passed-false, failed, failed-at, passed, keeps-room, bare, keeps-bare, finished}
 use Rattle.reading.specs.Words.{blockWords, wordCount, PutReady}
-use Rattle.reading.specs.Steps.{Answered, ReadReady, TablesReady, Tabled, Resolving, WriteReady}
-use Rattle.reading.proofs.Outcomes.{read-twice, read-unknown, read-short, read-done, told-single, told-twice, told-known, told-undeclared}
+use Rattle.reading.specs.Steps.{ReadReady, TablesReady, Tabled, Resolving, WriteReady}
+use Rattle.reading.proofs.Outcomes.{read-within, read-single, read-known}
 use Rattle.reading.proofs.BlockWords.{block-length, gates-length, outputs-length, words-are}
-
--- a refusal leaves everything
-pub answered-refused : (text entry : List ℕ) (r : Refusal) → read text (length entry) ≡ refused r → Answered text entry (Refused r) entry
-unfolding answerOf leftIn
-answered-refused text entry r e = record { answers = rw e refl; leaves = rw e refl }
 
 -- ---- the tables and 4
 
@@ -43,9 +39,9 @@ pub room-for : {text : List ℕ} {c : Counts} {names places nodes : List ℕ} �
 room-for {text} {c} {names} {places} {nodes} a =
     table-room (a .limited .prints) (a .limited .within) c (a .counted) names places nodes (a .limited .short) (a .nameRoom) (a .placeRoom) (a .nodeRoom)
 
-pub tabled : (text : List ℕ) (c : Counts) (names places nodes : List ℕ) (r : Repeat)
+pub tabled : (text : List ℕ) (c : Counts) (names places nodes : List ℕ) (r : Test)
     → ((t : Tree) → Prints t text → c ≡ treeCounts t → Declared t names places nodes)
-    → ((t : Tree) → isLegalTree t ≡ true → c ≡ treeCounts t → NameTable t names places → r ≡ repeatOf (firstDuplicate t))
+    → ((t : Tree) → isLegalTree t ≡ true → c ≡ treeCounts t → NameTable t names places → r ≡ testAt (firstDuplicate t) DuplicateDeclaration)
     → Tabled text c names nodes r
 tabled text c names places nodes r d u =
     record {
@@ -70,20 +66,20 @@ module _ {text names places nodes gates outputs : List ℕ} (a : ReadReady text 
         nodeRoom = a .nodeRoom;
       }
 
-  module _ (names′ nodes′ : List ℕ) (r : Repeat) (h : Tabled text c names′ nodes′ r) where
-    pub twice : (entry : List ℕ) (place : ℕ) → r ≡ At place → Answered text entry (Refused (DuplicateDeclaration place)) entry
-    twice entry place e =
-        let d = told-twice (firstDuplicate (a .tree)) r place (h .done (a .tree) (a .limited) (counts (a .tree) (a .limited .prints)) .1) e in
-        answered-refused text entry (DuplicateDeclaration place) (read-twice (a .tree) text (length entry) (a .limited) place d)
+  module _ (names′ nodes′ : List ℕ) (r : Test) (h : Tabled text c names′ nodes′ r) where
+    pub twice : (entry : List ℕ) → IsFailed r → {answer : Answer} → answer ≡ refusalOf r → Promise (read text (length entry)) entry answer entry
+    twice entry k e =
+        let d = h .done (a .tree) (a .limited) (counts (a .tree) (a .limited .prints)) .1 in
+        failed-at (inRoom _) (keeps-room _) _ _ DuplicateDeclaration (read-within (a .tree) text (length entry) (a .limited)) d entry k e
 
-    pub resolving : r ≡ None → Resolving text c names′ nodes′ gates outputs
+    pub resolving : r ≡ Passed → Resolving text c names′ nodes′ gates outputs
     resolving e =
         let d = h .done (a .tree) (a .limited) (counts (a .tree) (a .limited .prints)) in
         record {
           tree = a .tree;
           limited = a .limited;
           here = d .0;
-          single = told-single (firstDuplicate (a .tree)) r (d .1) e;
+          single = passed-none (firstDuplicate (a .tree)) DuplicateDeclaration (d .1) e;
           gateRoom = a .gateRoom;
           outputRoom = a .outputRoom;
         }
@@ -91,16 +87,16 @@ module _ {text names places nodes gates outputs : List ℕ} (a : ReadReady text 
 -- ---- 5
 
 module _ {text : List ℕ} {c : Counts} {names nodes gates outputs : List ℕ} (a : Resolving text c names nodes gates outputs) where
-  pub resolve-ready : resolution.Ready text c names nodes gates outputs
+  pub resolve-ready : ResolveReady text c names nodes gates outputs
   resolve-ready = record { tree = a .tree; here = a .here; gateRoom = a .gateRoom; outputRoom = a .outputRoom }
 
-  module _ (gates′ outputs′ : List ℕ) (r : Uses) (h : Resolved text c names nodes gates gates′ outputs outputs′ r) where
-    pub unknown : (entry : List ℕ) (place : ℕ) → r ≡ Undeclared place → Answered text entry (Refused (UndeclaredName place)) entry
-    unknown entry place e =
-        let d = told-undeclared (firstUndeclared (a .tree)) r place (h .done (a .tree) (a .here) .answer) e in
-        answered-refused text entry (UndeclaredName place) (read-unknown (a .tree) text (length entry) (a .limited) place (a .single) d)
+  module _ (gates′ outputs′ : List ℕ) (r : Test) (h : Resolved text c names nodes gates gates′ outputs outputs′ r) where
+    pub unknown : (entry : List ℕ) → IsFailed r → {answer : Answer} → answer ≡ refusalOf r → Promise (read text (length entry)) entry answer entry
+    unknown entry k e =
+        failed-at (inRoom _) (keeps-room _) _ _ UndeclaredName (read-single (a .tree) text (length entry) (a .limited) (a .single))
+        (h .done (a .tree) (a .here) .answer) entry k e
 
-    pub write-ready : r ≡ Known → WriteReady text c names gates′ outputs′
+    pub write-ready : r ≡ Passed → WriteReady text c names gates′ outputs′
     write-ready e =
         let d = h .done (a .tree) (a .here) in
         record {
@@ -109,7 +105,7 @@ module _ {text : List ℕ} {c : Counts} {names nodes gates outputs : List ℕ} (
           counted = a .here .counted;
           numbersAre = a .here .numbersAre;
           single = a .single;
-          known = told-known (firstUndeclared (a .tree)) r (d .answer) e;
+          known = passed-none (firstUndeclared (a .tree)) UndeclaredName (d .answer) e;
           gates₀ = gates;
           outputs₀ = outputs;
           gatesWritten = d .gatesWritten;
@@ -119,9 +115,9 @@ module _ {text : List ℕ} {c : Counts} {names nodes gates outputs : List ℕ} (
 -- ---- 11 and the words
 
 pub record Few (c : Counts) : Type 0 where
-  pub inputs : c .inputs ≤ 10
-  pub gates : c .gates ≤ 1024
-  pub outputs : c .outputs ≤ 16
+  pub inputs : c .inputs ≤ maxInputs
+  pub gates : c .gates ≤ maxGates
+  pub outputs : c .outputs ≤ maxOutputs
 
 module _ {text : List ℕ} {c : Counts} {names gates outputs : List ℕ} (w : WriteReady text c names gates outputs) where
   pub few : Few c
@@ -158,16 +154,21 @@ module _ {text : List ℕ} {c : Counts} {names gates outputs : List ℕ} (w : Wr
         room = r;
       }
 
-  pub no-room : (entry : List ℕ) → length entry < wordCount c → Answered text entry (Refused NoRoom) entry
-  no-room entry l =
-      answered-refused text entry NoRoom (read-short (w .tree) text (length entry) (w .limited) (w .single) (w .known) (rw size l))
+  -- 11's condition, on the number of words
+  module _ (entry : List ℕ) {r : Test} (tested : r ≡ testOf (ltb (length entry) (wordCount c)) NoRoom) where
+    chain : read text (length entry) ≡ refuseIf (ltb (length entry) (wordCount c)) NoRoom (done (encode (blockOf (w .tree))) (wordCount c) 0)
+    chain =
+        read-known (w .tree) text (length entry) (w .limited) (w .single) (w .known)
+        ∙ ap (λ (n : ℕ). refuseIf (ltb (length entry) n) NoRoom (done (encode (blockOf (w .tree))) n 0)) size
 
-  pub all-written : (entry exit : List ℕ) → wordCount c ≤ length entry → exit ≡ sets entry 0 (blockWords c names gates outputs)
-      → Answered text entry (Done (wordCount c) 0) exit
-  unfolding answerOf leftIn
-  all-written entry exit l e =
-      let is = read-done (w .tree) text (length entry) (w .limited) (w .single) (w .known) (rw size l) in
-      record {
-        answers = rw (is, size) refl;
-        leaves = rw is (e ∙ rw (words-are w) (sets-placed (encode (blockOf (w .tree))) entry (rw size l)));
-      }
+    pub no-room : IsFailed r → {answer : Answer} → answer ≡ refusalOf r → Promise (read text (length entry)) entry answer entry
+    no-room k e = failed bare keeps-bare _ _ NoRoom chain tested entry k e
+
+    pub fits : r ≡ Passed → wordCount c ≤ length entry
+    fits e = ltb-false _ _ (passed-false _ NoRoom tested e)
+
+    pub all-written : r ≡ Passed → (exit : List ℕ) → exit ≡ sets entry 0 (blockWords c names gates outputs)
+        → Promise (read text (length entry)) entry (Done (wordCount c) 0) exit
+    all-written e exit x =
+        finished (passed bare keeps-bare _ _ NoRoom chain tested e) refl
+        (x ∙ rw (words-are w) (sets-placed (encode (blockOf (w .tree))) entry (rw size (fits e))))

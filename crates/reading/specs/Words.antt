@@ -3,6 +3,8 @@ use Prim.Native.Nat.{ℕ, _+_, _*_, _≤_}
 use mathlib.Core.List.{List, [], _∷_, _++_}
 use lib.ListN.{length, getD}
 use Rattle.laws.specs.Lists.{tab, joined}
+use Rattle.netlist.specs.Limits.{maxInputs, maxGates, maxOutputs}
+use Rattle.netlist.specs.StoredBlock.{nameSize, gateSize, outputSize, inputsAt}
 use Rattle.names.specs.declared.Counts.{Counts}
 use Rattle.terms.specs.Ports.{portWords}
 
@@ -17,18 +19,18 @@ unfoldable pub blockWords : Counts → List ℕ → List ℕ → List ℕ → Li
 blockWords c names gates outputs =
     (c .inputs ∷ c .gates ∷ c .outputs ∷ [])
     ++ joined (tab (nameOf names) (c .inputs))
-    ++ tab (wordOf gates) (5 * c .gates)
-    ++ tab (wordOf outputs) (5 * c .outputs)
+    ++ tab (wordOf gates) (gateSize * c .gates)
+    ++ tab (wordOf outputs) (outputSize * c .outputs)
 
--- "3 + 4n + 5m + 5k words"
+-- the length of a block with these counts (SPECIFICATION 2.1)
 unfoldable pub wordCount : Counts → ℕ
-wordCount c = 3 + 4 * c .inputs + 5 * c .gates + 5 * c .outputs
+wordCount c = inputsAt + nameSize * c .inputs + gateSize * c .gates + outputSize * c .outputs
 
 pub record PutReady (c : Counts) (names gates outputs block : List ℕ) : Type 0 where
-  pub fewInputs : c .inputs ≤ 10
-  pub fewGates : c .gates ≤ 1024
-  pub fewOutputs : c .outputs ≤ 16
+  pub fewInputs : c .inputs ≤ maxInputs
+  pub fewGates : c .gates ≤ maxGates
+  pub fewOutputs : c .outputs ≤ maxOutputs
   pub named : c .inputs ≤ length names
-  pub gateRoom : 5 * c .gates ≤ length gates
-  pub outputRoom : 5 * c .outputs ≤ length outputs
-  pub room : 3 + 4 * c .inputs + 5 * c .gates + 5 * c .outputs ≤ length block
+  pub gateRoom : gateSize * c .gates ≤ length gates
+  pub outputRoom : outputSize * c .outputs ≤ length outputs
+  pub room : inputsAt + nameSize * c .inputs + gateSize * c .gates + outputSize * c .outputs ≤ length block

@@ -1,36 +1,45 @@
-// Read of document 01: "text to block; count: words". The length, the form, and then the steps, which know that the text is a tree's.
-use form::TextForm;
+// Read (SPECIFICATION 7.3). The length, the form, and then the steps, which know that the text is a tree's.
 use form::form;
-use names::Limits;
+use layout::limits::MAX_GATES;
+use layout::limits::MAX_INPUTS;
+use layout::limits::MAX_OUTPUTS;
+use layout::limits::MAX_TEXT;
+use layout::offsets::GATE_SIZE;
+use layout::offsets::OUTPUT_SIZE;
 use names::tally::limits;
 use netlist::Answer;
 use netlist::Refusal;
+use netlist::Test;
+use refusals::refusal;
+use refusals::refuse_if;
 use steps::read_with;
-ghost use mathlib.Core.Path.{_≡_};
 ghost use lib.ListN.{length};
-ghost use Rattle.netlist.specs.Answers.{answerOf, leftIn};
+ghost use Rattle.netlist.specs.Answers.{Promise};
 ghost use Rattle.netlist.specs.Operations.{read};
-ghost use Rattle.reading.specs.Steps.{InForm, Answered};
+ghost use Rattle.reading.specs.Steps.{InForm};
 
 mod steps;
 mod words;
 
-// The greatest length of a text.
-const MAX_TEXT: usize = 61440;
+// The nodes of the largest text that have a name, and all names that it declares.
+const NODES: usize = MAX_INPUTS + MAX_GATES;
+
+const NAMES: usize = NODES + MAX_OUTPUTS;
 
 // 3, and the tables that the steps fill.
 fn read_legal(text: &[u8], block: &mut [u16]) -> Answer
     requires { ⌜ InForm (now text) ⌝ }
-    ensures { λ r. ⌜ Answered (now (text .entry)) (now (block .entry)) r (now (block .exit)) ⌝ }
+    ensures { λ r. ⌜ Promise (read (now (text .entry)) (length (now (block .entry)))) (now (block .entry)) r (now (block .exit)) ⌝ }
 {
-    let Limits::Within = limits(text) else {
-        return Answer::Refused(Refusal::OverLimit);
+    let tested = limits(text);
+    let Test::Passed = tested else {
+        return refusal(tested);
     };
-    let mut names = [0u64; 1050];
-    let mut places = [0usize; 1050];
-    let mut nodes = [0u16; 1034];
-    let mut gates = [0u16; 5120];
-    let mut outputs = [0u16; 80];
+    let mut names = [0u64; NAMES];
+    let mut places = [0usize; NAMES];
+    let mut nodes = [0u16; NODES];
+    let mut gates = [0u16; GATE_SIZE * MAX_GATES];
+    let mut outputs = [0u16; OUTPUT_SIZE * MAX_OUTPUTS];
     read_with(
         text,
         &mut names,
@@ -44,15 +53,15 @@ fn read_legal(text: &[u8], block: &mut [u16]) -> Answer
 
 // Read (1, 2, 3, 4, 5, 11): the block's words; count: words.
 pub fn read(text: &[u8], block: &mut [u16]) -> Answer
-    ensures answers { λ r. ⌜ r ≡ answerOf (read (now (text .entry)) (length (now (block .entry)))) ⌝ }
-    ensures leaves { λ r. ⌜ now (block .exit) ≡ leftIn (read (now (text .entry)) (length (now (block .entry)))) (now (block .entry)) ⌝ }
+    ensures { λ r. ⌜ Promise (read (now (text .entry)) (length (now (block .entry)))) (now (block .entry)) r (now (block .exit)) ⌝ }
 {
-    if MAX_TEXT < text.len() {
-        return Answer::Refused(Refusal::TextTooLong);
-    }
-    let found = form(text);
-    if let TextForm::Bad(place) = found {
-        return Answer::Refused(Refusal::SyntaxError(place));
-    }
+    let tested = refuse_if(MAX_TEXT < text.len(), Refusal::TextTooLong);
+    let Test::Passed = tested else {
+        return refusal(tested);
+    };
+    let tested = form(text);
+    let Test::Passed = tested else {
+        return refusal(tested);
+    };
     read_legal(text, block)
 }

@@ -1,15 +1,22 @@
 // The steps of Read on a text that is a legal tree's and within the limits: declare, look for repeats, resolve, write.
 use crate::words::put_block;
+use layout::offsets::GATE_SIZE;
+use layout::offsets::INPUTS_AT;
+use layout::offsets::NAME_SIZE;
+use layout::offsets::OUTPUT_SIZE;
 use names::Counts;
-use names::Repeat;
 use names::search::duplicate;
 use names::table::declare;
 use names::tally::counts;
 use netlist::Answer;
-use netlist::Refusal;
-use terms::Uses;
+use netlist::Test;
+use refusals::refusal;
+use refusals::test_room;
 use terms::resolve;
-ghost use Rattle.reading.specs.Steps.{ReadReady, Tabled, TablesReady, Resolving, WriteReady, Answered};
+ghost use lib.ListN.{length};
+ghost use Rattle.netlist.specs.Answers.{Promise};
+ghost use Rattle.netlist.specs.Operations.{read};
+ghost use Rattle.reading.specs.Steps.{ReadReady, Tabled, TablesReady, Resolving, WriteReady};
 
 // The tables of the declared names, and 4.
 fn tables(
@@ -18,7 +25,7 @@ fn tables(
     names: &mut [u64],
     places: &mut [usize],
     nodes: &mut [u16],
-) -> Repeat
+) -> Test
     requires { ⌜ TablesReady (now text) c (now names) (now places) (now nodes) ⌝ }
     ensures { λ r. ⌜ Tabled (now (text .entry)) c (now (names .exit)) (now (nodes .exit)) r ⌝ }
 {
@@ -36,12 +43,13 @@ fn finish(
     block: &mut [u16],
 ) -> Answer
     requires { ⌜ WriteReady (now text) c (now names) (now gates) (now outputs) ⌝ }
-    ensures { λ r. ⌜ Answered (now (text .entry)) (now (block .entry)) r (now (block .exit)) ⌝ }
+    ensures { λ r. ⌜ Promise (read (now (text .entry)) (length (now (block .entry)))) (now (block .entry)) r (now (block .exit)) ⌝ }
 {
-    let count = 3 + 4 * c.inputs + 5 * c.gates + 5 * c.outputs;
-    if block.len() < count {
-        return Answer::Refused(Refusal::NoRoom);
-    }
+    let count = INPUTS_AT + NAME_SIZE * c.inputs + GATE_SIZE * c.gates + OUTPUT_SIZE * c.outputs;
+    let tested = test_room(block.len(), count);
+    let Test::Passed = tested else {
+        return refusal(tested);
+    };
     put_block(c, names, gates, outputs, block);
     Answer::Done { count, detail: 0 }
 }
@@ -57,12 +65,12 @@ fn read_terms(
     block: &mut [u16],
 ) -> Answer
     requires { ⌜ Resolving (now text) c (now names) (now nodes) (now gates) (now outputs) ⌝ }
-    ensures { λ r. ⌜ Answered (now (text .entry)) (now (block .entry)) r (now (block .exit)) ⌝ }
+    ensures { λ r. ⌜ Promise (read (now (text .entry)) (length (now (block .entry)))) (now (block .entry)) r (now (block .exit)) ⌝ }
 {
-    let uses = resolve(text, c, names, nodes, gates, outputs);
-    if let Uses::Undeclared(place) = uses {
-        return Answer::Refused(Refusal::UndeclaredName(place));
-    }
+    let tested = resolve(text, c, names, nodes, gates, outputs);
+    let Test::Passed = tested else {
+        return refusal(tested);
+    };
     finish(text, c, names, gates, outputs, block)
 }
 
@@ -77,12 +85,12 @@ pub fn read_with(
     block: &mut [u16],
 ) -> Answer
     requires { ⌜ ReadReady (now text) (now names) (now places) (now nodes) (now gates) (now outputs) ⌝ }
-    ensures { λ r. ⌜ Answered (now (text .entry)) (now (block .entry)) r (now (block .exit)) ⌝ }
+    ensures { λ r. ⌜ Promise (read (now (text .entry)) (length (now (block .entry)))) (now (block .entry)) r (now (block .exit)) ⌝ }
 {
     let c = counts(text);
-    let repeat = tables(text, c, names, places, nodes);
-    if let Repeat::At(place) = repeat {
-        return Answer::Refused(Refusal::DuplicateDeclaration(place));
-    }
+    let tested = tables(text, c, names, places, nodes);
+    let Test::Passed = tested else {
+        return refusal(tested);
+    };
     read_terms(text, c, names, nodes, gates, outputs, block)
 }

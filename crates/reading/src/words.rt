@@ -1,4 +1,8 @@
 // The block's words: the counts, the names of the inputs, and the words of gates and outputs that are there already.
+use layout::offsets::GATE_SIZE;
+use layout::offsets::INPUTS_AT;
+use layout::offsets::NAME_SIZE;
+use layout::offsets::OUTPUT_SIZE;
 use names::Counts;
 ghost use mathlib.Core.Path.{_≡_};
 ghost use mathlib.Core.List.{[], _∷_};
@@ -6,12 +10,14 @@ ghost use Prim.Native.Nat.{_+_, _*_, _≤_};
 ghost use lib.ListN.{length};
 ghost use lib.Seq.{sets};
 ghost use Rattle.laws.specs.Lists.{tab, joined};
+ghost use Rattle.netlist.specs.Limits.{maxInputs, maxGates, maxOutputs};
+ghost use Rattle.netlist.specs.StoredBlock.{nameSize, inputsAt};
 ghost use Rattle.terms.specs.Ports.{portWords};
 ghost use Rattle.reading.specs.Words.{nameOf, wordOf, blockWords, PutReady};
 
 // Writes the three counts.
 fn put_counts(c: Counts, block: &mut [u16])
-    requires { ⌜ (c .inputs ≤ 10) × (c .gates ≤ 1024) × (c .outputs ≤ 16) × (3 ≤ length (now block)) ⌝ }
+    requires { ⌜ (c .inputs ≤ maxInputs) × (c .gates ≤ maxGates) × (c .outputs ≤ maxOutputs) × (inputsAt ≤ length (now block)) ⌝ }
     ensures { λ r. ⌜ now (block .exit) ≡ sets (now (block .entry)) 0 (c .inputs ∷ c .gates ∷ c .outputs ∷ []) ⌝ }
 {
     block[0] = c.inputs as u16;
@@ -21,7 +27,7 @@ fn put_counts(c: Counts, block: &mut [u16])
 
 // Writes the four words of the name with this number.
 fn put_name(block: &mut [u16], at: usize, name: u64)
-    requires { ⌜ at + 4 ≤ length (now block) ⌝ }
+    requires { ⌜ at + nameSize ≤ length (now block) ⌝ }
     ensures { λ r. ⌜ now (block .exit) ≡ sets (now (block .entry)) at (portWords name) ⌝ }
 {
     block[at] = (name % 65536) as u16;
@@ -32,12 +38,12 @@ fn put_name(block: &mut [u16], at: usize, name: u64)
 
 // Writes the first n names.
 fn put_names(names: &[u64], n: usize, block: &mut [u16])
-    requires { ⌜ (n ≤ length (now names)) × (3 + 4 * n ≤ length (now block)) ⌝ }
-    ensures { λ r. ⌜ now (block .exit) ≡ sets (now (block .entry)) 3 (joined (tab (nameOf (now (names .entry))) n)) ⌝ }
+    requires { ⌜ (n ≤ length (now names)) × (inputsAt + nameSize * n ≤ length (now block)) ⌝ }
+    ensures { λ r. ⌜ now (block .exit) ≡ sets (now (block .entry)) inputsAt (joined (tab (nameOf (now (names .entry))) n)) ⌝ }
 {
     let mut i = 0;
     while i < n {
-        put_name(block, 3 + 4 * i, names[i]);
+        put_name(block, INPUTS_AT + NAME_SIZE * i, names[i]);
         i += 1;
     }
 }
@@ -59,10 +65,10 @@ pub fn put_block(c: Counts, names: &[u64], gates: &[u16], outputs: &[u16], block
     requires { ⌜ PutReady c (now names) (now gates) (now outputs) (now block) ⌝ }
     ensures { λ r. ⌜ now (block .exit) ≡ sets (now (block .entry)) 0 (blockWords c (now (names .entry)) (now (gates .entry)) (now (outputs .entry))) ⌝ }
 {
-    let first = 3 + 4 * c.inputs;
-    let last = first + 5 * c.gates;
+    let first = INPUTS_AT + NAME_SIZE * c.inputs;
+    let last = first + GATE_SIZE * c.gates;
     put_counts(c, block);
     put_names(names, c.inputs, block);
-    put_words(gates, 5 * c.gates, block, first);
-    put_words(outputs, 5 * c.outputs, block, last);
+    put_words(gates, GATE_SIZE * c.gates, block, first);
+    put_words(outputs, OUTPUT_SIZE * c.outputs, block, last);
 }

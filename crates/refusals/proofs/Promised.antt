@@ -17,13 +17,15 @@ use lib.ListN.{length, getD}
 use lib.Dec.{ltb}
 use Rattle.laws.specs.Lists.{placed}
 use Rattle.netlist.specs.declared.Refusal.{Refusal}
-use Rattle.netlist.specs.declared.Refusal.the-variants.{TextTooLong, SyntaxError, OverLimit, DuplicateDeclaration, UndeclaredName, MalformedBlock, BadSetting, TooManyCopies, NotSettled, NotStraight, NoRoom}
+use Rattle.netlist.specs.declared.Refusal.the-variants.{TextTooLong, SyntaxError, OverLimit, DuplicateDeclaration, UndeclaredName, MalformedBlock}
+use Rattle.netlist.specs.declared.Refusal.the-variants.{BadSetting, TooManyCopies, NotSettled, NotStraight, NoRoom}
 use Rattle.netlist.specs.declared.Test.{Test}
 use Rattle.netlist.proofs.Test.{the-type}
 use Rattle.netlist.specs.declared.Test.the-variants.{Passed, Failed}
 use Rattle.netlist.specs.declared.Answer.{Answer}
 use Rattle.netlist.specs.declared.Answer.the-variants.{Done, Refused}
-use Rattle.netlist.specs.Answers.{refusalNumber, refusalDetail, numberOf, countOf, detailOf, testOf, testAt, refusalOf, Outcome, done, refused, refuseIf, refuseAt, inRoom, answerOf, leftIn, Told, Promise}
+use Rattle.netlist.specs.Answers.{refusalNumber, refusalDetail, numberOf, countOf, detailOf, testOf, testAt, refusalOf, Outcome, done, refused, refuseIf}
+use Rattle.netlist.specs.Answers.{refuseAt, inRoom, answerOf, leftIn, Told, Promise}
 
 -- ---- answers and promises
 
@@ -141,7 +143,8 @@ pub keeps-bare : (r : Refusal) → bare (refused r) ≡ refused r
 keeps-bare r = refl
 
 -- a result stands in the slice's beginning
-pub finished : {o : Outcome} {entry exit result : List ℕ} {count reported detail : ℕ} → o ≡ done result reported detail → count ≡ reported → exit ≡ placed result entry
+pub finished : {o : Outcome} {entry exit result : List ℕ} {count reported detail : ℕ} → o ≡ done result reported detail → count ≡ reported
+    → exit ≡ placed result entry
     → Promise o entry (Done count detail) exit
 unfolding answerOf leftIn
 finished e c x = promise (rw (e, c) refl) (rw (e, x) refl)

@@ -39,7 +39,7 @@ pub fn refusal(test: Test) -> Answer
     }
 }
 
-// Its number in document 01's table.
+// Its number in the table of refusals.
 pub fn number_of(why: Refusal) -> usize
     ensures { λ r. ⌜ r ≡ refusalNumber why ⌝ }
 {

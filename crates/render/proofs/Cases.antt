@@ -1,11 +1,12 @@
--- What Render answers, case by case. Assumes nothing.
-use mathlib.Core.Path.{_≡_, refl, sym, ap, _∙_}
-use mathlib.Core.Bool.{Bool, true, false, cond, not}
+-- Render's outcome: by the four tests (`render-by`), and as a chain of conditions, from its beginning (`render-chain`), for whole words
+-- (`render-whole`) and where nothing but the room is left (`render-left`). Assumes nothing.
+use mathlib.Core.Path.{_≡_, refl}
+use mathlib.Core.Bool.{Bool, true, false, not}
 use mathlib.Core.List.{List}
-use Prim.Native.Nat.{ℕ, _≤_, _<_}
+use Prim.Native.Nat.{ℕ, _≤_}
 use lib.ListN.{length}
 use lib.Dec.{ltb}
-use borrow.Author.Tests.{lt-ltb, le-ltb}
+use borrow.Author.Tests.{le-ltb}
 use Rattle.netlist.specs.declared.Refusal.the-variants.{MalformedBlock, TooManyCopies, NotSettled, NoRoom}
 use Rattle.netlist.specs.Limits.{maxCopies}
 use Rattle.netlist.specs.Netlist.{Block}
@@ -25,34 +26,46 @@ renderBy ws false false false short = refused (NotSettled (lowestUnsettled (deco
 renderBy ws false false true true = refused NoRoom
 renderBy ws false false true false = done (encode (rendering (decode ws))) (length (encode (rendering (decode ws)))) 0
 
-pub render-by : (ws : List ℕ) (room : ℕ) → render ws room ≡ renderBy ws (isTorn ws) (ltb maxCopies (copyCount (decode ws))) (isSound (decode ws)) (ltb room (length (encode (rendering (decode ws)))))
+pub render-by : (ws : List ℕ) (room : ℕ)
+    → render ws room ≡ renderBy ws (isTorn ws) (ltb maxCopies (copyCount (decode ws))) (isSound (decode ws))
+    (ltb room (length (encode (rendering (decode ws)))))
 unfolding render renderWords renderBlock counted inRoom refuseIf renderBy
 render-by ws room = go (isTorn ws) (ltb maxCopies (copyCount (decode ws))) (isSound (decode ws)) (ltb room (length (encode (rendering (decode ws))))) refl
   where
-    go : (t m s r : Bool) → ltb room (length (encode (rendering (decode ws)))) ≡ r → inRoom room (refuseIf t MalformedBlock (refuseIf m TooManyCopies (refuseIf (not s) (NotSettled (lowestUnsettled (decode ws))) (counted (encode (rendering (decode ws))))))) ≡ renderBy ws t m s r
+    go : (t m s r : Bool) → ltb room (length (encode (rendering (decode ws)))) ≡ r
+        → inRoom room
+        (refuseIf t MalformedBlock
+        (refuseIf m TooManyCopies
+        (refuseIf (not s) (NotSettled (lowestUnsettled (decode ws)))
+        (counted (encode (rendering (decode ws)))))))
+        ≡ renderBy ws t m s r
     go true m s r e = refl
     go false true s r e = refl
     go false false false r e = refl
     go false false true true e = rw e refl
     go false false true false e = rw e refl
 
+-- ---- the conditions, one after the other
+
 module _ (ws : List ℕ) (room : ℕ) where
-  pub render-torn : isTorn ws ≡ true → render ws room ≡ refused MalformedBlock
-  unfolding renderBy
-  render-torn t = render-by ws room ∙ rw t refl
+  abbrev b : Block
+  b = decode ws
 
-  pub render-swollen : isTorn ws ≡ false → maxCopies < copyCount (decode ws) → render ws room ≡ refused TooManyCopies
-  unfolding renderBy
-  render-swollen t m = render-by ws room ∙ rw (t, lt-ltb maxCopies (copyCount (decode ws)) m) refl
+  -- what a block that is whole can be refused for, and what one that is sound
+  abbrev pub copied : Outcome
+  copied = refuseIf (not (isSound b)) (NotSettled (lowestUnsettled b)) (counted (encode (rendering b)))
 
-  pub render-undecided : isTorn ws ≡ false → copyCount (decode ws) ≤ maxCopies → isSound (decode ws) ≡ false → render ws room ≡ refused (NotSettled (lowestUnsettled (decode ws)))
-  unfolding renderBy
-  render-undecided t m s = render-by ws room ∙ rw (t, le-ltb maxCopies (copyCount (decode ws)) m, s) refl
+  abbrev pub roomed : Outcome
+  roomed = refuseIf (ltb room (length (encode (rendering b)))) NoRoom (done (encode (rendering b)) (length (encode (rendering b))) 0)
 
-  pub render-short : isTorn ws ≡ false → copyCount (decode ws) ≤ maxCopies → isSound (decode ws) ≡ true → room < length (encode (rendering (decode ws))) → render ws room ≡ refused NoRoom
-  unfolding renderBy
-  render-short t m s l = render-by ws room ∙ rw (t, le-ltb maxCopies (copyCount (decode ws)) m, s, lt-ltb room (length (encode (rendering (decode ws)))) l) refl
+  pub render-chain : render ws room ≡ inRoom room (refuseIf (isTorn ws) MalformedBlock (renderBlock b))
+  unfolding render renderWords
+  render-chain = refl
 
-  pub render-done : isTorn ws ≡ false → copyCount (decode ws) ≤ maxCopies → isSound (decode ws) ≡ true → length (encode (rendering (decode ws))) ≤ room → render ws room ≡ done (encode (rendering (decode ws))) (length (encode (rendering (decode ws)))) 0
-  unfolding renderBy
-  render-done t m s l = render-by ws room ∙ rw (t, le-ltb maxCopies (copyCount (decode ws)) m, s, le-ltb room (length (encode (rendering (decode ws)))) l) refl
+  pub render-whole : isTorn ws ≡ false → render ws room ≡ inRoom room (refuseIf (ltb maxCopies (copyCount b)) TooManyCopies copied)
+  unfolding render renderWords renderBlock refuseIf
+  render-whole t = rw t refl
+
+  pub render-left : isTorn ws ≡ false → copyCount b ≤ maxCopies → isSound b ≡ true → render ws room ≡ roomed
+  unfolding render renderWords renderBlock counted inRoom refuseIf
+  render-left t m s = rw (t, le-ltb maxCopies (copyCount b) m, s) refl

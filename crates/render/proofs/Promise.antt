@@ -1,37 +1,40 @@
 -- The definition of Render meets its whole promise: from the theory of rendering (crate `agreement`) and of the stored block (`encoding`).
 -- Assumes nothing.
-use mathlib.Core.Path.{_≡_, refl, sym, ap, _∙_, subst}
+use mathlib.Core.Path.{_≡_, refl}
 use mathlib.Core.Logic.{⊎-elim}
 use mathlib.Core.Bool.{Bool, true, false, cond, not}
-use mathlib.Core.List.{List, map}
+use mathlib.Core.List.{List}
 use Prim.Native.Nat.{ℕ, _≤_, _<_}
 use native.Mathlib.Nat.{le-antisymm}
 use native.Mathlib.Omega.{arith}
-use lib.ListN.{length, getD, take}
+use lib.ListN.{length, take, drop}
 use lib.Seq.{take-append-seam}
 use lib.Dec.{eqb, ltb}
-use borrow.Author.Tests.{ltb-true, ltb-false, not-false}
-use Rattle.laws.specs.Lists.{placed, least}
+use borrow.Author.Tests.{ltb-false, not-true, not-false}
+use Rattle.laws.specs.Lists.{least}
 use Rattle.laws.proofs.Tests.{lt-or-le, not-both}
 use Rattle.laws.proofs.Least.{least-le, least-below, least-at}
+use Rattle.netlist.specs.declared.Answer.{Answer}
 use Rattle.netlist.specs.Limits.{maxCopies}
-use Rattle.netlist.specs.Netlist.{Output, Block, inputCount, gateCount, outputCount}
+use Rattle.netlist.specs.Netlist.{Block}
 use Rattle.netlist.specs.StoredBlock.{encode, decode, isTorn, isWellFormed}
 use Rattle.netlist.specs.Rounds.{settingCount, isSettled, lowestUnsettled}
 use Rattle.netlist.specs.Cover.{isSound}
 use Rattle.netlist.specs.Groups.{copyCount}
-use Rattle.netlist.specs.Rendering.{rendering, isStraight}
-use Rattle.netlist.specs.Answers.{Outcome, done, refused, refusalNumber, refusalDetail, numberOf, countOf, detailOf, answerOf, leftIn}
+use Rattle.netlist.specs.Rendering.{rendering}
+use Rattle.netlist.specs.Answers.{Outcome, refusalNumber, refusalDetail, numberOf, countOf, detailOf, answerOf, leftIn, Promise}
 use Rattle.netlist.specs.Operations.{render}
+use Rattle.refusals.proofs.Promised.{promise, promise-answer}
 use Rattle.encoding.proofs.RoundTrip.{whole-wellFormed, decode-encode, encode-whole}
 use Rattle.agreement.proofs.Block.{rendering-straight, rendering-count, rendering-inputs, rendering-ports, rendering-wellFormed}
 use Rattle.agreement.proofs.Agreement.{sound-outputs-agree}
 use Rattle.assignments.proofs.Blocks.{lowest-sound}
-use Rattle.render.specs.Promise.{portOf, Renders, RenderPromise}
+use Rattle.render.specs.Promise.{portOf, Renders, LowestOf, renderNumber, RenderPromise}
 use Rattle.render.proofs.Cases.{renderBy, render-by}
 
 -- what is rendered when the block is whole, sound, and has few enough copies
-pub rendered-so : (ws : List ℕ) → isTorn ws ≡ false → copyCount (decode ws) ≤ maxCopies → isSound (decode ws) ≡ true → Renders ws (encode (rendering (decode ws)))
+pub rendered-so : (ws : List ℕ) → isTorn ws ≡ false → copyCount (decode ws) ≤ maxCopies → isSound (decode ws) ≡ true
+    → Renders ws (encode (rendering (decode ws)))
 unfolding portOf
 rendered-so ws t m s =
     let w : isWellFormed (decode ws) ≡ true = whole-wellFormed ws t in
@@ -44,44 +47,74 @@ rendered-so ws t m s =
       gatesAreTheSum = rw back (rendering-count (decode ws));
       sameInputs = rw back (rendering-inputs (decode ws));
       samePorts = rw back (rendering-ports (decode ws));
-      sameOutputs = λ n l o d e ol. rw back (sound-outputs-agree (decode ws) w s n l o d e ol);
+      sameOutputs = λ n l. rw back (sound-outputs-agree (decode ws) w s n l);
     }
 
 -- the lowest setting that is not settled
-lowest-so : (b : Block) → isSound b ≡ false → (lowestUnsettled b < settingCount b) × (isSettled b (lowestUnsettled b) ≡ false) × ((s : ℕ) → s < lowestUnsettled b → isSettled b s ≡ true)
-unfolding lowestUnsettled
-lowest-so b h =
-    let lt : least (λ s. not (isSettled b s)) (settingCount b) < settingCount b = ⊎-elim (λ l. l) (λ ge. not-both (lowest-sound b (le-antisymm (least-le (λ s. not (isSettled b s)) (settingCount b)) ge)) h) (lt-or-le (least (λ s. not (isSettled b s)) (settingCount b)) (settingCount b)) in
-    (lt, borrow.Author.Tests.not-true (isSettled b (least (λ s. not (isSettled b s)) (settingCount b))) (least-at (λ s. not (isSettled b s)) (settingCount b) lt), λ s l. not-false (isSettled b s) (least-below (λ s. not (isSettled b s)) (settingCount b) s l))
+module _ (b : Block) where
+  unsettled : ℕ → Bool
+  unsettled s = not (isSettled b s)
+
+  lowest-so : isSound b ≡ false → LowestOf b (lowestUnsettled b)
+  unfolding lowestUnsettled unsettled
+  lowest-so h =
+      let all : settingCount b ≤ least unsettled (settingCount b)
+      → isSound b ≡ true = λ ge. lowest-sound b (le-antisymm (least-le unsettled (settingCount b)) ge) in
+      let lt : least unsettled (settingCount b) < settingCount b =
+      ⊎-elim (λ l. l) (λ ge. not-both (all ge) h) (lt-or-le (least unsettled (settingCount b)) (settingCount b)) in
+      record {
+        within = lt;
+        unsettled = not-true (isSettled b (least unsettled (settingCount b))) (least-at unsettled (settingCount b) lt);
+        below = λ s l. not-false (isSettled b s) (least-below unsettled (settingCount b) s l);
+      }
 
 no-number : {A : Type 0} (n : ℕ) → n ≡ 0 → 0 < n → A
 no-number n e l = absurd (omega arith)
 
--- the promise, for the outcome that the four tests tell
-by-tests : (ws entry : List ℕ) (t m s r : Bool) → isTorn ws ≡ t → ltb maxCopies (copyCount (decode ws)) ≡ m → isSound (decode ws) ≡ s → ltb (length entry) (length (encode (rendering (decode ws)))) ≡ r → (o : Outcome) → o ≡ renderBy ws t m s r → (numberOf (answerOf o) ≡ cond t 6 (cond m 8 (cond (not s) 9 (cond r 11 0)))) × (detailOf (answerOf o) ≡ cond (eqb (numberOf (answerOf o)) 9) (lowestUnsettled (decode ws)) 0) × (countOf (answerOf o) ≡ cond (eqb (numberOf (answerOf o)) 0) (length (encode (rendering (decode ws)))) 0) × (numberOf (answerOf o) ≡ 0 → Renders ws (take (countOf (answerOf o)) (leftIn o entry)))
+-- what the outcome that the four tests tell promises
+record Told-by (ws entry : List ℕ) (number : ℕ) (o : Outcome) : Type 0 where
+  numberIs : numberOf (answerOf o) ≡ number
+  detailIs : detailOf (answerOf o) ≡ cond (eqb (numberOf (answerOf o)) 9) (lowestUnsettled (decode ws)) 0
+  countIs : countOf (answerOf o) ≡ cond (eqb (numberOf (answerOf o)) 0) (length (encode (rendering (decode ws)))) 0
+  rendersIt : numberOf (answerOf o) ≡ 0 → Renders ws (take (countOf (answerOf o)) (leftIn o entry))
+
+by-tests : (ws entry : List ℕ) (t m s r : Bool) → isTorn ws ≡ t → ltb maxCopies (copyCount (decode ws)) ≡ m → isSound (decode ws) ≡ s
+    → Told-by ws entry (cond t 6 (cond m 8 (cond (not s) 9 (cond r 11 0)))) (renderBy ws t m s r)
 unfolding renderBy numberOf countOf detailOf answerOf leftIn refusalNumber refusalDetail
-by-tests ws entry true m s r et em es er o e = rw e (refl, refl, refl, λ z. no-number 6 z (omega arith))
-by-tests ws entry false true s r et em es er o e = rw e (refl, refl, refl, λ z. no-number 8 z (omega arith))
-by-tests ws entry false false false r et em es er o e = rw e (refl, refl, refl, λ z. no-number 9 z (omega arith))
-by-tests ws entry false false true true et em es er o e = rw e (refl, refl, refl, λ z. no-number 11 z (omega arith))
-by-tests ws entry false false true false et em es er o e =
-    rw e (
-      refl,
-      refl,
-      refl,
-      λ z. rw (take-append-seam (encode (rendering (decode ws))) (lib.ListN.drop (length (encode (rendering (decode ws)))) entry)) (rendered-so ws et (ltb-false maxCopies (copyCount (decode ws)) em) es),
-    )
+by-tests ws entry true m s r et em es =
+    record { numberIs = refl; detailIs = refl; countIs = refl; rendersIt = λ z. no-number 6 z (omega arith) }
+by-tests ws entry false true s r et em es =
+    record { numberIs = refl; detailIs = refl; countIs = refl; rendersIt = λ z. no-number 8 z (omega arith) }
+by-tests ws entry false false false r et em es =
+    record { numberIs = refl; detailIs = refl; countIs = refl; rendersIt = λ z. no-number 9 z (omega arith) }
+by-tests ws entry false false true true et em es =
+    record { numberIs = refl; detailIs = refl; countIs = refl; rendersIt = λ z. no-number 11 z (omega arith) }
+by-tests ws entry false false true false et em es =
+    record {
+      numberIs = refl;
+      detailIs = refl;
+      countIs = refl;
+      rendersIt = λ z.
+          rw (take-append-seam (encode (rendering (decode ws))) (drop (length (encode (rendering (decode ws)))) entry))
+          (rendered-so ws et (ltb-false maxCopies (copyCount (decode ws)) em) es);
+    }
 
 -- every part of the promise follows from the definition
 pub promise-holds : (ws entry : List ℕ) → RenderPromise ws entry (answerOf (render ws (length entry))) (leftIn (render ws (length entry)) entry)
+unfolding renderNumber
 promise-holds ws entry =
-    let p = by-tests ws entry (isTorn ws) (ltb maxCopies (copyCount (decode ws))) (isSound (decode ws)) (ltb (length entry) (length (encode (rendering (decode ws))))) refl refl refl refl (render ws (length entry)) (render-by ws (length entry)) in
+    let short = ltb (length entry) (length (encode (rendering (decode ws)))) in
+    let p : Told-by ws entry (renderNumber ws (length entry)) (render ws (length entry)) =
+    rw (render-by ws (length entry)) (by-tests ws entry (isTorn ws) (ltb maxCopies (copyCount (decode ws))) (isSound (decode ws)) short refl refl refl) in
     record {
-      answers = refl;
-      leaves = refl;
-      number = p .0;
-      detail = p .1;
+      promise = promise refl refl;
+      number = p .numberIs;
+      detail = p .detailIs;
       lowest = lowest-so (decode ws);
-      count = p .2;
-      renders = p .3;
+      count = p .countIs;
+      renders = p .rendersIt;
     }
+
+-- and so from the first part
+pub whole-promise : {ws entry exit : List ℕ} {r : Answer} → Promise (render ws (length entry)) entry r exit → RenderPromise ws entry r exit
+whole-promise {ws} {entry} p = rw (promise-answer p, p .leaves) (promise-holds ws entry)

@@ -1,46 +1,43 @@
 // The steps of Render: number the groups, count the copies, look for a setting that is not settled, write.
-ghost use mathlib.Core.Path.{_≡_};
-ghost use mathlib.Core.Bool.{false};
-ghost use Prim.Native.Nat.{_≤_};
-ghost use lib.ListN.{length, getD};
-ghost use Rattle.netlist.specs.StoredBlock.{decode, isTorn};
-ghost use Rattle.netlist.specs.Rounds.{lowestUnsettled};
-ghost use Rattle.netlist.specs.Cover.{isSound};
-ghost use Rattle.render.specs.Tests.{settingsOf, Planned, LowestReady, SearchReady, WriteReady, ArrayRoom, Answered};
-use crate::Plan;
-use crate::Settings;
 use copying::rendered::write_rendering;
 use groups::assign::assign;
-use layout::offsets;
+use layout::limits::MAX_GATES;
+use layout::offsets::OUTPUT_SIZE;
+use layout::offsets::gates_at;
+use layout::offsets::gates_of;
+use layout::offsets::inputs_of;
+use layout::offsets::outputs_at;
+use layout::offsets::outputs_of;
 use netlist::Answer;
 use netlist::Refusal;
-use schedule::Copies;
+use netlist::Test;
+use refusals::refusal;
+use refusals::refuse_if;
+use refusals::test_room;
 use schedule::count_copies;
 use schedule::fill_schedule;
 use verdict::settings::lowest_unsettled;
 use verdict::settings::setting_count;
 use visiting::order_gates;
-
-// Numbers the groups and counts the copies.
-fn plan(words: &[u16], numbers: &mut [u16]) -> Plan
-    requires { ⌜ (isTorn (now words) ≡ false) × (getD (now words) 1 0 ≤ length (now numbers)) ⌝ }
-    ensures { λ r. ⌜ Planned (now (words .entry)) (now (numbers .exit)) r ⌝ }
-{
-    let count = assign(words, numbers);
-    let Copies::Fit(total) = count_copies(offsets::gates_of(words), numbers, count) else {
-        return Plan::TooMany;
-    };
-    Plan::Fit { count, total }
-}
+ghost use mathlib.Core.Path.{_≡_};
+ghost use mathlib.Core.Bool.{not};
+ghost use lib.ListN.{length};
+ghost use Rattle.netlist.specs.declared.Refusal.the-variants.{NotSettled};
+ghost use Rattle.netlist.specs.StoredBlock.{decode};
+ghost use Rattle.netlist.specs.Rounds.{lowestUnsettled};
+ghost use Rattle.netlist.specs.Cover.{isSound};
+ghost use Rattle.netlist.specs.Answers.{testOf, Promise};
+ghost use Rattle.netlist.specs.Operations.{render};
+ghost use Rattle.render.specs.Tests.{LowestReady, SearchReady, WriteReady, ArrayRoom};
 
 // The lowest setting that is not settled, or 2^n; the gates are evaluated along `order`.
 fn lowest_along(words: &[u16], order: &[u16], inputs: &mut [u8], values: &mut [u8]) -> usize
     requires { ⌜ LowestReady (now words) (now order) (now inputs) (now values) ⌝ }
     ensures { λ r. ⌜ r ≡ lowestUnsettled (decode (now (words .entry))) ⌝ }
 {
-    let n = offsets::inputs_of(words);
-    let m = offsets::gates_of(words);
-    let gates = offsets::gates_at(n);
+    let n = inputs_of(words);
+    let m = gates_of(words);
+    let gates = gates_at(n);
     lowest_unsettled(
         words,
         n,
@@ -51,22 +48,15 @@ fn lowest_along(words: &[u16], order: &[u16], inputs: &mut [u8], values: &mut [u
     )
 }
 
-// Looks for a setting that is not settled.
-fn find_unsettled(
-    words: &[u16],
-    order: &mut [u16],
-    inputs: &mut [u8],
-    values: &mut [u8],
-) -> Settings
+// 9: is some setting not settled? Tells the lowest.
+fn find_unsettled(words: &[u16], order: &mut [u16], inputs: &mut [u8], values: &mut [u8]) -> Test
     requires { ⌜ SearchReady (now words) (now order) (now inputs) (now values) ⌝ }
-    ensures { λ r. ⌜ r ≡ settingsOf (isSound (decode (now (words .entry)))) (lowestUnsettled (decode (now (words .entry)))) ⌝ }
+    ensures { λ r. ⌜ r ≡ testOf (not (isSound (decode (now (words .entry))))) (NotSettled (lowestUnsettled (decode (now (words .entry))))) ⌝ }
 {
     order_gates(words, order);
     let lowest = lowest_along(words, order, inputs, values);
-    if lowest < setting_count(offsets::inputs_of(words)) {
-        return Settings::Unsettled(lowest);
-    }
-    Settings::AllSettled
+    let count = setting_count(inputs_of(words));
+    refuse_if(lowest < count, Refusal::NotSettled(lowest))
 }
 
 // Writes the rendered block, if there is room.
@@ -80,15 +70,16 @@ fn finish(
     rendered: &mut [u16],
 ) -> Answer
     requires { ⌜ WriteReady (now words) (now numbers) count total (now order) (now newest) ⌝ }
-    ensures { λ r. ⌜ Answered (now (words .entry)) (now (rendered .entry)) r (now (rendered .exit)) ⌝ }
+    ensures { λ r. ⌜ Promise (render (now (words .entry)) (length (now (rendered .entry)))) (now (rendered .entry)) r (now (rendered .exit)) ⌝ }
 {
-    let n = offsets::inputs_of(words);
-    let m = offsets::gates_of(words);
-    let k = offsets::outputs_of(words);
-    let size = offsets::outputs_at(n, total) + 5 * k;
-    if rendered.len() < size {
-        return Answer::Refused(Refusal::NoRoom);
-    }
+    let n = inputs_of(words);
+    let m = gates_of(words);
+    let k = outputs_of(words);
+    let size = outputs_at(n, total) + OUTPUT_SIZE * k;
+    let tested = test_room(rendered.len(), size);
+    let Test::Passed = tested else {
+        return refusal(tested);
+    };
     fill_schedule(m, numbers, count, order);
     write_rendering(words, n, m, k, order, total, newest, rendered);
     Answer::Done {
@@ -108,14 +99,17 @@ pub fn render_with(
     rendered: &mut [u16],
 ) -> Answer
     requires { ⌜ ArrayRoom (now words) (now numbers) (now order) (now newest) (now inputs) (now values) ⌝ }
-    ensures { λ r. ⌜ Answered (now (words .entry)) (now (rendered .entry)) r (now (rendered .exit)) ⌝ }
+    ensures { λ r. ⌜ Promise (render (now (words .entry)) (length (now (rendered .entry)))) (now (rendered .entry)) r (now (rendered .exit)) ⌝ }
 {
-    let Plan::Fit { count, total } = plan(words, numbers) else {
-        return Answer::Refused(Refusal::TooManyCopies);
+    let count = assign(words, numbers);
+    let total = count_copies(gates_of(words), numbers, count);
+    let tested = refuse_if(MAX_GATES < total, Refusal::TooManyCopies);
+    let Test::Passed = tested else {
+        return refusal(tested);
     };
-    let settings = find_unsettled(words, order, inputs, values);
-    if let Settings::Unsettled(lowest) = settings {
-        return Answer::Refused(Refusal::NotSettled(lowest));
-    }
+    let tested = find_unsettled(words, order, inputs, values);
+    let Test::Passed = tested else {
+        return refusal(tested);
+    };
     finish(words, numbers, count, total, order, newest, rendered)
 }

@@ -1,5 +1,10 @@
--- One gate at a time, in any order (Paper 14): from a state below the settled values every step stays below them, and where it comes to
--- rest it is settled. Cited for in-place evaluation and for the run of a rendering. Assumes nothing.
+-- One gate at a time, in any order: from a state below the settled values every step stays below them, and where it comes to
+-- rest it is settled. Cited for in-place evaluation and for the run of a rendering.
+--   length-run, run-append, run-elsewhere   a run of steps: its length, in two parts, and gates that are not stepped
+--   step-mono, run-mono                     it grows with the state
+--   run-below-settled, any-order-below      it stays below the settled values
+--   any-order-settled                       at rest it is settled
+-- Assumes nothing.
 use Prim.Native.Nat.{ℕ, _<_}
 use mathlib.Core.Path.{_≡_, refl, sym, _∙_}
 use mathlib.Core.Bool.{false}

@@ -1,5 +1,8 @@
 -- How many gates of a list have a value 0 or 1: the count grows with the state, and where it does not, nothing on the list changed.
--- Cited for the fixed point within m rounds, and for the passes over a group. Assumes nothing.
+-- Cited for the fixed point within m rounds, and for the passes over a group.
+--   definedAmong-le, definedAmong-mono   at most the list's length; grows with the state
+--   definedAmong-same, same-by-count     no more defined, so nothing changed
+-- Assumes nothing.
 use Prim.Native.Nat.{ℕ, _≤_}
 use mathlib.Core.Path.{_≡_, refl, sym, _∙_}
 use mathlib.Core.Logic.{⊎-elim}

@@ -1,5 +1,9 @@
 -- A gate evaluated from a state: it grows with the gates that it reads, and depends on them alone. Cited by the laws on rounds, steps
--- and sweeps. Assumes nothing.
+-- and sweeps.
+--   evaluated-mono*     grows with what the gate reads
+--   evaluated-agree     depends on that alone
+--   evaluated-defined   0 or 1 where that is
+-- Assumes nothing.
 use Prim.Native.Nat.{ℕ, _<_}
 use mathlib.Core.Path.{_≡_, sym}
 use mathlib.Core.Bool.{true}

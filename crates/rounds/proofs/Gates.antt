@@ -1,5 +1,8 @@
 -- One gate: its value grows with its operands' values, and is 0 or 1 where they all are. Everything else in this crate cites these laws
--- and never opens the rule of the kinds. Assumes nothing.
+-- and never opens the rule of the kinds.
+--   TwoValued                           a row whose controlling and forced values are 0 or 1
+--   gateValue-mono, gateValue-defined   the two laws
+-- Assumes nothing.
 use Prim.Native.Nat.{ℕ, zero, suc, _-_, _%_, _<_}
 use mathlib.Core.Path.{_≡_, refl, ap, _∙_}
 use mathlib.Core.Bool.{Bool, true, false, cond, _||_}

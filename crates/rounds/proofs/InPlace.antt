@@ -1,5 +1,9 @@
 -- Settling in place: steps from all undefined only add to the state, and a run over all gates that changes nothing shows it settled.
--- Cited by Verdict's code. Assumes nothing.
+-- Cited by Verdict's code.
+--   start-rising, step-rising, run-rising   every step only adds
+--   run-grows, run-same-by-count            a run that adds nothing changes nothing
+--   in-place-settled                        and then the state is settled
+-- Assumes nothing.
 use Prim.Native.Nat.{ℕ, _≤_, _<_}
 use mathlib.Core.Path.{_≡_, refl, sym, ap, _∙_, subst}
 use mathlib.Core.Logic.{⊎-elim}

@@ -1,5 +1,9 @@
 -- The settled values are the least state: below every state that is above its own round, on any set of gates that reads only itself.
--- Cited by the laws on steps and sweeps, and for the agreement of a rendering. Assumes nothing.
+-- Cited by the laws on steps and sweeps, and for the agreement of a rendering.
+--   afterRounds-below, settled-below*   the settled values are below such a state
+--   afterRounds-below-settled           and every round is below them
+--   fixed-settled-on                    a state at rest below them is them, on a closed set
+-- Assumes nothing.
 use Prim.Native.Nat.{ℕ, zero, suc, _≤_, _<_}
 use mathlib.Core.Path.{_≡_}
 use mathlib.Core.Logic.{_⊎_, inl, inr}

@@ -1,5 +1,8 @@
 -- As many passes over a group of gates as it has gates put it above its settled values, from any start, where the gates that it reads
--- outside itself are so already. Cited for the agreement of a rendering. Assumes nothing.
+-- outside itself are so already. Cited for the agreement of a rendering.
+--   passes-above-round   after r passes the group is above round r
+--   passes-above         after as many passes as gates it is above the settled values
+-- Assumes nothing.
 use Prim.Native.Nat.{ℕ, zero, suc, _≤_, _<_}
 use mathlib.Core.Path.{_≡_, sym, _∙_}
 use mathlib.Core.Logic.{_⊎_, inl, inr, ⊎-elim}

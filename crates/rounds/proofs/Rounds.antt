@@ -1,5 +1,11 @@
 -- Rounds: the states grow, within m rounds a round changes nothing, and from then on none does. Cited by Settle's code and by the laws
--- on steps and sweeps. Assumes nothing.
+-- on steps and sweeps.
+--   getD-round, round-mono                   a round gate by gate; it grows with the state
+--   afterRounds-grow, stable-by-count, stable-all   states grow; no more defined means stable; m rounds are enough
+--   rounds-le, rounds-stable, rounds-least   how many rounds are needed
+--   afterRounds-settled, afterRounds-all, settled-when-stable   from then on the state is settled
+--   round-settled, evaluated-settled         a round changes no settled value
+-- Assumes nothing.
 use Prim.Native.Nat.{ℕ, zero, suc, _+_, _-_, _≤_, _<_}
 use mathlib.Core.Path.{_≡_, refl, sym, ap, _∙_}
 use mathlib.Core.Logic.{_⊎_, inl, inr, ⊎-elim}

@@ -1,4 +1,7 @@
--- States in the information order: the start, a store in one or both, and equality from both directions. Assumes nothing.
+-- States in the information order: the start, a store in one or both, and equality from both directions.
+--   start-below, states-antisym           all undefined is lowest; equal from both sides
+--   set-below, below-set, set-below-set   a store on the left, the right, both
+-- Assumes nothing.
 use Prim.Native.Nat.{ℕ}
 use mathlib.Core.Path.{_≡_, sym}
 use mathlib.Core.List.{List}

@@ -1,4 +1,8 @@
--- One sweep of a straight block gives the settled values. Cited by Pass's code and for the run of a rendering. Assumes nothing.
+-- One sweep of a straight block gives the settled values. Cited by Pass's code and for the run of a rendering.
+--   straight-unique               in a straight block two states at rest are equal
+--   getD-sweep, evaluated-sweep   a sweep gate by gate, and that it is at rest
+--   sweep-settled                 so it is settled
+-- Assumes nothing.
 use Prim.Native.Nat.{ℕ, zero, suc, _+_, _≤_, _<_}
 use mathlib.Core.Path.{_≡_, sym, ap, _∙_}
 use mathlib.Core.Bool.{true}

@@ -1,4 +1,8 @@
--- Values, their codes and the information order. Every file of this crate cites it. Assumes nothing.
+-- Values, their codes and the information order. Every file of this crate cites it.
+--   valueOf-code, code-injective, code-le   values and their codes
+--   below-refl, -trans, -antisym            the order
+--   below-defined, below-keeps-defined      what is above 0 or 1 is the same
+-- Assumes nothing.
 use Prim.Native.Nat.{ℕ, _≤_}
 use mathlib.Core.Path.{_≡_, refl, ap, _∙_, sym}
 use mathlib.Core.Bool.{Bool, true, false}

@@ -1,4 +1,4 @@
--- One gate at a time, in any order (Paper 14): the laws of proofs/AnyOrder.antt are stated with these. Assumes nothing.
+-- One gate at a time, in any order: the laws of proofs/AnyOrder.antt are stated with these. Assumes nothing.
 use Prim.Native.Nat.{ℕ}
 use mathlib.Core.List.{List, [], _∷_}
 use lib.ListN.{set, getD}

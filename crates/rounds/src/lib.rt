@@ -1,1 +1,1 @@
-// No code: the theory of three-valued simulation (document 01, "Three-valued meaning"; Paper 14's any order; Pass's one sweep).
+// No code: the theory of three-valued simulation (SPECIFICATION 3): rounds, evaluation in any order, and Pass's one sweep.

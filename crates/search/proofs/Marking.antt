@@ -16,6 +16,7 @@ use Rattle.laws.proofs.Tests.{eq-or-ne, lt-or-le, and-left, and-right}
 use Rattle.laws.proofs.Quantifiers.{all-append}
 use Rattle.laws.proofs.Lists.{joined-append, sets-sets}
 use Rattle.laws.proofs.Counting.{countBelow-ext, countBelow-le, countBelow-one}
+use Rattle.layout.specs.Nodes.{gateNamed}
 use Rattle.search.specs.Search.{wordGate, wordGates, marked, fresh, setFlags, Room, Extended}
 
 -- ---- lists put together
@@ -37,7 +38,9 @@ fresh-append flags (k ∷ ks) js =
     ∙ sym (cond-append (eqb (getD flags k 0) 0) k (fresh (set flags k 1) ks) (fresh (marked (set flags k 1) ks) js))
 
 -- marking one list and then another is marking both
-pub extended-then : {ks js flags queue : List ℕ} {tail : ℕ} {flags₁ queue₁ : List ℕ} {tail₁ : ℕ} {flags₂ queue₂ : List ℕ} {tail₂ : ℕ} → Extended ks flags queue tail flags₁ queue₁ tail₁ → Extended js flags₁ queue₁ tail₁ flags₂ queue₂ tail₂ → Extended (ks ++ js) flags queue tail flags₂ queue₂ tail₂
+pub extended-then : {ks js flags queue : List ℕ} {tail : ℕ} {flags₁ queue₁ : List ℕ} {tail₁ : ℕ} {flags₂ queue₂ : List ℕ} {tail₂ : ℕ}
+    → Extended ks flags queue tail flags₁ queue₁ tail₁ → Extended js flags₁ queue₁ tail₁ flags₂ queue₂ tail₂
+    → Extended (ks ++ js) flags queue tail flags₂ queue₂ tail₂
 extended-then {ks} {js} {flags} {queue} {tail} e f =
     record {
       flagsAre = f .flagsAre ∙ ap (λ (l : List ℕ). marked l js) (e .flagsAre) ∙ sym (marked-append flags ks js);
@@ -62,7 +65,8 @@ extended-old k flags queue tail h =
     let e : eqb (getD flags k 0) 0 ≡ false = ne-eqb (getD flags k 0) 0 h in
     record { flagsAre = refl; queueIs = rw e refl; tailIs = rw e (sym (add-zero tail)) }
 
-pub extended-new : (k : ℕ) (flags queue : List ℕ) (tail : ℕ) → getD flags k 0 ≡ 0 → Extended (k ∷ []) flags queue tail (set flags k 1) (set queue tail k) (tail + 1)
+pub extended-new : (k : ℕ) (flags queue : List ℕ) (tail : ℕ) → getD flags k 0 ≡ 0
+    → Extended (k ∷ []) flags queue tail (set flags k 1) (set queue tail k) (tail + 1)
 unfolding marked fresh
 extended-new k flags queue tail h =
     let e : eqb (getD flags k 0) 0 ≡ true = eq-eqb (getD flags k 0) 0 h in
@@ -117,15 +121,18 @@ length-marked flags [] = refl
 length-marked flags (k ∷ ks) = length-marked (set flags k 1) ks ∙ length-set flags k 1
 
 -- marking adds as many flags as are fresh
-marked-count : (flags ks : List ℕ) (m : ℕ) → m ≤ length flags → all (λ k. ltb k m) ks ≡ true → setFlags (marked flags ks) m ≡ setFlags flags m + length (fresh flags ks)
+marked-count : (flags ks : List ℕ) (m : ℕ) → m ≤ length flags → all (λ k. ltb k m) ks ≡ true
+    → setFlags (marked flags ks) m ≡ setFlags flags m + length (fresh flags ks)
 unfolding marked fresh
 marked-count flags [] m fits inside = sym (add-zero (setFlags flags m))
-marked-count flags (k ∷ ks) m fits inside = go (eqb (getD flags k 0) 0) refl (marked-count (set flags k 1) ks m (rw (length-set) fits) (and-right (ltb k m) (all (λ j. ltb j m) ks) inside))
+marked-count flags (k ∷ ks) m fits inside =
+    go (eqb (getD flags k 0) 0) refl (marked-count (set flags k 1) ks m (rw (length-set) fits) (and-right (ltb k m) (all (λ j. ltb j m) ks) inside))
   where
     l : k < m
     l = ltb-true k m (and-left (ltb k m) (all (λ j. ltb j m) ks) inside)
 
-    go : (b : Bool) → eqb (getD flags k 0) 0 ≡ b → setFlags (marked (set flags k 1) ks) m ≡ setFlags (set flags k 1) m + length (fresh (set flags k 1) ks) → setFlags (marked (set flags k 1) ks) m ≡ setFlags flags m + length (cond b (k ∷ fresh (set flags k 1) ks) (fresh (set flags k 1) ks))
+    go : (b : Bool) → eqb (getD flags k 0) 0 ≡ b → setFlags (marked (set flags k 1) ks) m ≡ setFlags (set flags k 1) m + length (fresh (set flags k 1) ks)
+        → setFlags (marked (set flags k 1) ks) m ≡ setFlags flags m + length (cond b (k ∷ fresh (set flags k 1) ks) (fresh (set flags k 1) ks))
     go true e ih =
         let one : setFlags (set flags k 1) m ≡ suc (setFlags flags m) = set-new flags k m l fits (eqb-true (getD flags k 0) 0 e) in
         omega arith
@@ -134,7 +141,8 @@ marked-count flags (k ∷ ks) m fits inside = go (eqb (getD flags k 0) 0) refl (
         omega arith
 
 -- the queue's room stays
-pub room-kept : {m : ℕ} {ks flags queue : List ℕ} {tail : ℕ} {flags′ queue′ : List ℕ} {tail′ : ℕ} → Room m flags queue tail → all (λ k. ltb k m) ks ≡ true → Extended ks flags queue tail flags′ queue′ tail′ → Room m flags′ queue′ tail′
+pub room-kept : {m : ℕ} {ks flags queue : List ℕ} {tail : ℕ} {flags′ queue′ : List ℕ} {tail′ : ℕ} → Room m flags queue tail → all (λ k. ltb k m) ks ≡ true
+    → Extended ks flags queue tail flags′ queue′ tail′ → Room m flags′ queue′ tail′
 room-kept {m} {ks} {flags} {queue} {tail} r inside e =
     record {
       flagRoom = rw (e .flagsAre, length-marked) (r .flagRoom);
@@ -147,48 +155,57 @@ room-kept {m} {ks} {flags} {queue} {tail} r inside e =
 
 -- ---- operand words
 
+-- the gate k that `gate_named` answered
+module _ (n m w : ℕ) {k : ℕ} (is : k ≡ gateNamed n m w) where
+  pub named-gate : k < m → wordGate n m w ≡ k ∷ []
+  unfolding wordGate
+  named-gate l = rw (← is, lt-ltb k m l) refl
+
+  pub named-none : m ≤ k → wordGate n m w ≡ []
+  unfolding wordGate
+  named-none l = rw (← is, le-ltb k m l) refl
+
 -- the gates that words name are below m
 word-inside : (n m w : ℕ) → all (λ k. ltb k m) (wordGate n m w) ≡ true
-unfolding wordGate
-word-inside n m w = go (leb n w && ltb w (n + m)) refl
-  where
-    go : (b : Bool) → leb n w && ltb w (n + m) ≡ b → all (λ k. ltb k m) (cond b ((w - n) ∷ []) []) ≡ true
-    go false e = refl
-    go true e =
-        let lo : n ≤ w = leb-true n w (and-left (leb n w) (ltb w (n + m)) e) in
-        let hi : w < n + m = ltb-true w (n + m) (and-right (leb n w) (ltb w (n + m)) e) in
-        let i : ltb (w - n) m ≡ true = lt-ltb (w - n) m (omega arith) in
-        rw i refl
+word-inside n m w =
+    ⊎-elim (λ l. rw (named-gate n m w refl l, lt-ltb (gateNamed n m w) m l) refl) (λ l. rw (named-none n m w refl l) refl) (lt-or-le (gateNamed n m w) m)
 
 pub word-gate : (n m w : ℕ) → n ≤ w → w < n + m → wordGate n m w ≡ (w - n) ∷ []
-unfolding wordGate
-word-gate n m w lo hi = rw (le-leb n w lo, lt-ltb w (n + m) hi) refl
+unfolding gateNamed
+word-gate n m w lo hi = named-gate n m w names (omega arith)
+  where
+    names : w - n ≡ gateNamed n m w
+    names = rw (le-ltb w n lo, lt-ltb w (n + m) hi) refl
 
 pub word-none : (n m w : ℕ) → (w < n) ⊎ (n + m ≤ w) → wordGate n m w ≡ []
-unfolding wordGate
-word-none n m w (inl lo) = rw (lt-leb n w lo) refl
-word-none n m w (inr hi) = go (leb n w)
+unfolding gateNamed
+word-none n m w h = named-none n m w (names h) (omega arith)
   where
-    go : (b : Bool) → cond (b && ltb w (n + m)) ((w - n) ∷ []) [] ≡ []
-    go true = rw (le-ltb w (n + m) hi) refl
-    go false = refl
+    names : (w < n) ⊎ (n + m ≤ w) → m ≡ gateNamed n m w
+    names (inl lo) = rw (lt-ltb w n lo) refl
+    names (inr hi) = rw (le-ltb w n (omega arith), le-ltb w (n + m) hi) refl
 
 -- one operand word more
 pub words-more : (ws : List ℕ) (n m at i : ℕ) → wordGates ws n m at (suc i) ≡ wordGates ws n m at i ++ wordGate n m (getD ws (at + 1 + i) 0)
 unfolding wordGates
-words-more ws n m at i = joined-append (tab (λ j. wordGate n m (getD ws (at + 1 + j) 0)) i) (wordGate n m (getD ws (at + 1 + i) 0) ∷ []) ∙ ap (λ (r : List ℕ). joined (tab (λ j. wordGate n m (getD ws (at + 1 + j) 0)) i) ++ r) (append-nil (wordGate n m (getD ws (at + 1 + i) 0)))
+words-more ws n m at i =
+    joined-append (tab (λ j. wordGate n m (getD ws (at + 1 + j) 0)) i) (wordGate n m (getD ws (at + 1 + i) 0) ∷ [])
+    ∙ ap (λ (r : List ℕ). joined (tab (λ j. wordGate n m (getD ws (at + 1 + j) 0)) i) ++ r) (append-nil (wordGate n m (getD ws (at + 1 + i) 0)))
 
 pub words-inside : (ws : List ℕ) (n m at count : ℕ) → all (λ k. ltb k m) (wordGates ws n m at count) ≡ true
 unfolding wordGates
 words-inside ws n m at zero = refl
 words-inside ws n m at (suc i) =
-    rw (words-more ws n m at i, all-append (λ k. ltb k m) (wordGates ws n m at i) (wordGate n m (getD ws (at + 1 + i) 0)), words-inside ws n m at i) (word-inside n m (getD ws (at + 1 + i) 0))
+    rw (words-more ws n m at i, all-append (λ k. ltb k m) (wordGates ws n m at i) (wordGate n m (getD ws (at + 1 + i) 0)), words-inside ws n m at i)
+    (word-inside n m (getD ws (at + 1 + i) 0))
 
 -- no slice changes its length
-pub flags-length : {ks flags queue : List ℕ} {tail : ℕ} {flags′ queue′ : List ℕ} {tail′ : ℕ} → Extended ks flags queue tail flags′ queue′ tail′ → length flags′ ≡ length flags
+pub flags-length : {ks flags queue : List ℕ} {tail : ℕ} {flags′ queue′ : List ℕ} {tail′ : ℕ} → Extended ks flags queue tail flags′ queue′ tail′
+    → length flags′ ≡ length flags
 flags-length {ks} {flags} e = rw (e .flagsAre) (length-marked flags ks)
 
-pub queue-length : {ks flags queue : List ℕ} {tail : ℕ} {flags′ queue′ : List ℕ} {tail′ : ℕ} → Extended ks flags queue tail flags′ queue′ tail′ → length queue′ ≡ length queue
+pub queue-length : {ks flags queue : List ℕ} {tail : ℕ} {flags′ queue′ : List ℕ} {tail′ : ℕ} → Extended ks flags queue tail flags′ queue′ tail′
+    → length queue′ ≡ length queue
 queue-length {ks} {flags} {queue} {tail} e = rw (e .queueIs) (length-sets queue tail (fresh flags ks))
 
 pub words-none : (ws : List ℕ) (n m at : ℕ) → wordGates ws n m at 0 ≡ []
@@ -196,5 +213,7 @@ unfolding wordGates
 words-none ws n m at = refl
 
 -- the turn of a loop over operand words
-pub word-turn : (ws : List ℕ) (n m at i : ℕ) {flags queue : List ℕ} {tail : ℕ} {flags₁ queue₁ : List ℕ} {tail₁ : ℕ} {flags₂ queue₂ : List ℕ} {tail₂ : ℕ} (w : ℕ) → w ≡ getD ws (at + 1 + i) 0 → Extended (wordGates ws n m at i) flags queue tail flags₁ queue₁ tail₁ → Extended (wordGate n m w) flags₁ queue₁ tail₁ flags₂ queue₂ tail₂ → Extended (wordGates ws n m at (i + 1)) flags queue tail flags₂ queue₂ tail₂
+pub word-turn : (ws : List ℕ) (n m at i : ℕ) {flags queue : List ℕ} {tail : ℕ} {flags₁ queue₁ : List ℕ} {tail₁ : ℕ} {flags₂ queue₂ : List ℕ} {tail₂ : ℕ}
+    (w : ℕ) → w ≡ getD ws (at + 1 + i) 0 → Extended (wordGates ws n m at i) flags queue tail flags₁ queue₁ tail₁
+    → Extended (wordGate n m w) flags₁ queue₁ tail₁ flags₂ queue₂ tail₂ → Extended (wordGates ws n m at (i + 1)) flags queue tail flags₂ queue₂ tail₂
 word-turn ws n m at i w is e f = rw (add-one, words-more ws n m at i, ← is) (extended-then e f)

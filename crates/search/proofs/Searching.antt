@@ -46,7 +46,8 @@ unfolding marked
 only flags [] k = inl refl
 only flags (j ∷ ks) k = go (eq-or-ne k j) (only (set flags j 1) ks k)
   where
-    go : (k ≡ j) ⊎ (k ≡ j → ⊥) → (getD (marked (set flags j 1) ks) k 0 ≡ getD (set flags j 1) k 0) ⊎ (member k ks ≡ true) → (getD (marked (set flags j 1) ks) k 0 ≡ getD flags k 0) ⊎ (member k (j ∷ ks) ≡ true)
+    go : (k ≡ j) ⊎ (k ≡ j → ⊥) → (getD (marked (set flags j 1) ks) k 0 ≡ getD (set flags j 1) k 0) ⊎ (member k ks ≡ true)
+        → (getD (marked (set flags j 1) ks) k 0 ≡ getD flags k 0) ⊎ (member k (j ∷ ks) ≡ true)
     go (inl e) r = inr (or-left (eqb k j) (member k ks) (eq-eqb k j e))
     go (inr ne) (inl e) = inl (e ∙ getD-set-other flags j k 1 0 ne)
     go (inr ne) (inr m) = inr (or-right (eqb k j) (member k ks) m)
@@ -59,8 +60,11 @@ unfolding fresh
 fresh-of flags [] k h = h
 fresh-of flags (j ∷ ks) k h = go (eqb (getD flags j 0) 0) h (fresh-of (set flags j 1) ks k)
   where
-    go : (b : Bool) → member k (cond b (j ∷ fresh (set flags j 1) ks) (fresh (set flags j 1) ks)) ≡ true → (member k (fresh (set flags j 1) ks) ≡ true → member k ks ≡ true) → member k (j ∷ ks) ≡ true
-    go true m ih = ⊎-elim (λ e. or-left (eqb k j) (member k ks) e) (λ e. or-right (eqb k j) (member k ks) (ih e)) (or-cases (eqb k j) (member k (fresh (set flags j 1) ks)) m)
+    go : (b : Bool) → member k (cond b (j ∷ fresh (set flags j 1) ks) (fresh (set flags j 1) ks)) ≡ true
+        → (member k (fresh (set flags j 1) ks) ≡ true → member k ks ≡ true) → member k (j ∷ ks) ≡ true
+    go true m ih =
+        ⊎-elim (λ e. or-left (eqb k j) (member k ks) e) (λ e. or-right (eqb k j) (member k ks) (ih e))
+        (or-cases (eqb k j) (member k (fresh (set flags j 1) ks)) m)
     go false m ih = or-right (eqb k j) (member k ks) (ih m)
 
 -- what is of the list and not marked is fresh
@@ -69,11 +73,14 @@ unfolding fresh
 fresh-all flags [] k h z = h
 fresh-all flags (j ∷ ks) k h z = go (eq-or-ne k j) (fresh-all (set flags j 1) ks k)
   where
-    go : (k ≡ j) ⊎ (k ≡ j → ⊥) → (member k ks ≡ true → getD (set flags j 1) k 0 ≡ 0 → member k (fresh (set flags j 1) ks) ≡ true) → member k (cond (eqb (getD flags j 0) 0) (j ∷ fresh (set flags j 1) ks) (fresh (set flags j 1) ks)) ≡ true
+    go : (k ≡ j) ⊎ (k ≡ j → ⊥) → (member k ks ≡ true → getD (set flags j 1) k 0 ≡ 0 → member k (fresh (set flags j 1) ks) ≡ true)
+        → member k (cond (eqb (getD flags j 0) 0) (j ∷ fresh (set flags j 1) ks) (fresh (set flags j 1) ks)) ≡ true
     go (inl e) ih =
         let zj : eqb (getD flags j 0) 0 ≡ true = eq-eqb (getD flags j 0) 0 (rw (← e) z) in
         rw zj (or-left (eqb k j) (member k (fresh (set flags j 1) ks)) (eq-eqb k j e))
-    go (inr ne) ih = after (eqb (getD flags j 0) 0) (ih (⊎-elim (λ e. absurd (ne (eqb-true k j e))) (λ e. e) (or-cases (eqb k j) (member k ks) h)) (getD-set-other flags j k 1 0 ne ∙ z))
+    go (inr ne) ih =
+        after (eqb (getD flags j 0) 0)
+        (ih (⊎-elim (λ e. absurd (ne (eqb-true k j e))) (λ e. e) (or-cases (eqb k j) (member k ks) h)) (getD-set-other flags j k 1 0 ne ∙ z))
       where
         after : (b : Bool) → member k (fresh (set flags j 1) ks) ≡ true → member k (cond b (j ∷ fresh (set flags j 1) ks) (fresh (set flags j 1) ks)) ≡ true
         after true m = or-right (eqb k j) (member k (fresh (set flags j 1) ks)) m
@@ -166,7 +173,8 @@ module _ {b : Block} {m start : ℕ} {barred flags queue : List ℕ} {head tail 
           let p : q - tail < length (fresh flags ks) = omega arith in
           let back : tail + (q - tail) ≡ q = omega arith in
           let is : getD queue′ q 0 ≡ getD (fresh flags ks) (q - tail) 0 = rw back at (new-queue (q - tail) p) in
-          let in-ks : member (getD (fresh flags ks) (q - tail) 0) ks ≡ true = fresh-of flags ks (getD (fresh flags ks) (q - tail) 0) (member-from (getD (fresh flags ks) (q - tail) 0) (fresh flags ks) (q - tail) p refl) in
+          let in-ks : member (getD (fresh flags ks) (q - tail) 0) ks ≡ true = fresh-of flags ks (getD (fresh flags ks) (q - tail) 0)
+          (member-from (getD (fresh flags ks) (q - tail) 0) (fresh flags ks) (q - tail) p refl) in
           rw is (below (getD (fresh flags ks) (q - tail) 0) in-ks, path-more (s .queued head more .1) (in-reads (getD (fresh flags ks) (q - tail) 0) in-ks))
 
   found′ : (k : ℕ) → k < m → getD flags′ k 0 ≡ 1 → (getD barred k 0 ≡ 1) ⊎ Queued queue′ tail′ k
@@ -214,10 +222,18 @@ module _ {b : Block} {m start : ℕ} {barred flags queue : List ℕ} {head tail 
 -- ---- its start and its end
 
 -- only the start is queued
-pub search-start : (b : Block) (m start : ℕ) (flags queue : List ℕ) → StartReady m start flags → m ≤ length flags → m ≤ length queue → m ≤ 1024 → Searching b m start (set flags start 1) (set flags start 1) (set queue 0 start) 0 1
+pub search-start : (b : Block) (m start : ℕ) (flags queue : List ℕ) → StartReady m start flags → m ≤ length flags → m ≤ length queue → m ≤ 1024
+    → Searching b m start (set flags start 1) (set flags start 1) (set queue 0 start) 0 1
 search-start b m start flags queue ready flagRoom queueRoom few =
     record {
-      room = record { flagRoom = rw length-set flagRoom; queueRoom = rw length-set queueRoom; small = omega arith; counted = rw (set-new flags start m (ready .below) flagRoom (ready .free)) (omega arith) };
+      room =
+          record {
+            flagRoom = rw length-set flagRoom;
+            queueRoom = rw length-set queueRoom;
+            small = omega arith;
+            counted = rw
+                (set-new flags start m (ready .below) flagRoom (ready .free)) (omega arith);
+          };
       behind = omega arith;
       bits = λ k kl. ⊎-elim (λ e. inr (rw e marked-start)) (λ ne. rw (others k ne) (ready .bits k kl)) (eq-or-ne k start);
       started = (0, omega arith, first);
@@ -236,7 +252,9 @@ search-start b m start flags queue ready flagRoom queueRoom few =
     first = getD-set-same queue 0 start 0 (omega (arith, ready .below))
 
 -- when the queue is worked off, it is closed but for barred gates
-pub search-reached : {b : Block} {m start : ℕ} {flags queue : List ℕ} {head tail : ℕ} (barred : List ℕ) → Searching b m start (set barred start 1) flags queue head tail → tail ≤ head → ((i k : ℕ) → i < m → reads b i k ≡ true → k < m) → Reached b m start barred queue tail
+pub search-reached : {b : Block} {m start : ℕ} {flags queue : List ℕ} {head tail : ℕ} (barred : List ℕ)
+    → Searching b m start (set barred start 1) flags queue head tail → tail ≤ head → ((i k : ℕ) → i < m → reads b i k ≡ true → k < m)
+    → Reached b m start barred queue tail
 search-reached {start = start} {queue = queue} {tail = tail} barred s e inside =
     record {
       few = room-tail (s .room);
@@ -249,6 +267,7 @@ search-reached {start = start} {queue = queue} {tail = tail} barred s e inside =
     before k h = ⊎-elim (λ same. inr (rw same (s .started))) (λ ne. inl (sym (getD-set-other barred start k 1 0 ne) ∙ h)) (eq-or-ne k start)
 
 -- a gate's words, read as its operands
-pub gate-words : {ws : List ℕ} {n m gates : ℕ} → GatesReady ws n m gates → (i : ℕ) → i < m → wordGates ws n m (gates + 5 * i) (getD ws (gates + 5 * i) 0 / 8) ≡ readBy (decode ws) i
+pub gate-words : {ws : List ℕ} {n m gates : ℕ} → GatesReady ws n m gates → (i : ℕ) → i < m
+    → wordGates ws n m (gates + 5 * i) (getD ws (gates + 5 * i) 0 / 8) ≡ readBy (decode ws) i
 unfolding gateReads
 gate-words g i l = g .operands i l

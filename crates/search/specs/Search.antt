@@ -1,20 +1,21 @@
 -- A breadth-first search over gates, as list functions: which operand words are gates, and what marking a list of gates adds.
-use Prim.Native.Nat.{ℕ, _+_, _-_, _*_, _/_, _≤_, _<_}
+use Prim.Native.Nat.{ℕ, _+_, _*_, _/_, _≤_, _<_}
 use mathlib.Core.Path.{_≡_}
 use mathlib.Core.Logic.{_⊎_}
-use mathlib.Core.Bool.{true, cond, not, _&&_}
+use mathlib.Core.Bool.{true, cond, not}
 use mathlib.Core.List.{List, [], _∷_}
 use lib.ListN.{length, getD, set}
 use lib.Seq.{sets}
-use lib.Dec.{eqb, leb, ltb}
+use lib.Dec.{eqb, ltb}
 use Rattle.laws.specs.Lists.{tab, joined, countBelow}
+use Rattle.layout.specs.Nodes.{gateNamed}
 use Rattle.netlist.specs.Netlist.{Block}
 use Rattle.netlist.specs.Groups.{OperandPath, reads, readBy}
 use Rattle.netlist.specs.StoredBlock.{decode}
 
 -- the gate that an operand word of a block of n inputs and m gates names, if it names one
 unfoldable pub wordGate : ℕ → ℕ → ℕ → List ℕ
-wordGate n m w = cond (leb n w && ltb w (n + m)) ((w - n) ∷ []) []
+wordGate n m w = cond (ltb (gateNamed n m w) m) (gateNamed n m w ∷ []) []
 
 -- the gates among the first `count` operand words of the gate at `at`
 unfoldable pub wordGates : List ℕ → ℕ → ℕ → ℕ → ℕ → List ℕ

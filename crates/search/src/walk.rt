@@ -1,10 +1,12 @@
 // Breadth-first search along operands: what one gate reaches.
+use layout::nodes::gate_named;
+use layout::offsets::GATE_SIZE;
+use layout::read::word_at;
 ghost use mathlib.Core.List.{[], _∷_};
 ghost use Prim.Native.Nat.{_/_, _≤_, _<_};
 ghost use lib.ListN.{getD};
-ghost use Rattle.search.specs.Search.{wordGate, wordGates, Room, Extended, StartReady, SearchReady, Reached};
 ghost use Rattle.netlist.specs.StoredBlock.{decode};
-use layout::read::word_at;
+ghost use Rattle.search.specs.Search.{wordGate, wordGates, Room, Extended, StartReady, SearchReady, Reached};
 
 // Marks gate `k`, and queues it if it was not marked; the queue's new end.
 fn mark(k: usize, m: usize, flags: &mut [u8], queue: &mut [u16], tail: usize) -> usize
@@ -32,10 +34,9 @@ fn mark_word(
     requires { ⌜ (n ≤ 65535) × Room m (now flags) (now queue) tail ⌝ }
     ensures { λ r. ⌜ Extended (wordGate n m w) (now (flags .entry)) (now (queue .entry)) tail (now (flags .exit)) (now (queue .exit)) r ⌝ }
 {
-    if n <= w {
-        if w < n + m {
-            return mark(w - n, m, flags, queue, tail);
-        }
+    let k = gate_named(w, n, m);
+    if k < m {
+        return mark(k, m, flags, queue, tail);
     }
     tail
 }
@@ -83,7 +84,7 @@ pub fn queue_reach(
     let mut tail = 1;
     while head < tail {
         let i = word_at(queue, head);
-        tail = visit(words, n, m, gates + 5 * i, flags, queue, tail);
+        tail = visit(words, n, m, gates + GATE_SIZE * i, flags, queue, tail);
         head += 1;
     }
     tail

@@ -27,8 +27,10 @@ module _ (ws setting values : List ℕ) where
   roundCodes-tab =
       let x = map valueOf setting in
       let v = map valueOf values in
-      let e : tab (gateOf (decode ws)) (getD ws 1 0) ≡ decode ws .gates = tab-getD (record { kind = 0; operands = [] }) (decode ws .gates) (getD ws 1 0) (decode-gateCount ws) in
-      rw (← e) (ap (map code) (map-tab (evaluated x v) (gateOf (decode ws)) (getD ws 1 0)) ∙ map-tab code (λ j. evaluated x v (gateOf (decode ws) j)) (getD ws 1 0))
+      let m = getD ws 1 0 in
+      let e : tab (gateOf (decode ws)) m ≡ decode ws .gates =
+      tab-getD (record { kind = 0; operands = [] }) (decode ws .gates) m (decode-gateCount ws) in
+      rw (← e) (ap (map code) (map-tab (evaluated x v) (gateOf (decode ws)) m) ∙ map-tab code (λ j. evaluated x v (gateOf (decode ws) j)) m)
 
   pub length-roundCodes : length (roundCodes ws setting values) ≡ getD ws 1 0
   length-roundCodes = rw roundCodes-tab (length-tab (gateCode ws setting values) (getD ws 1 0))
@@ -38,7 +40,7 @@ pub roundCodes-of : (ws setting : List ℕ) (s : List Value) → roundCodes ws s
 unfolding roundCodes
 roundCodes-of ws setting s = rw (values-codes s)
 
--- "Before the first all gates are 2."
+-- the codes before the first round
 pub codes-start : (n : ℕ) → map code (replicate n undefined) ≡ replicate n 2
 unfolding code
 codes-start zero = refl

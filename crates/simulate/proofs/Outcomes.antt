@@ -1,8 +1,9 @@
 -- Settle's and Pass's outcomes, as chains of conditions. Assumes nothing.
-use mathlib.Core.Path.{_≡_, refl}
+use mathlib.Core.Path.{_≡_, refl, sym, _∙_}
 use mathlib.Core.Bool.{Bool, true, false, not}
 use mathlib.Core.List.{List, map}
 use Prim.Native.Nat.{ℕ}
+use native.Mathlib.Omega.{arith}
 use lib.ListN.{length, getD, length-map}
 use lib.Dec.{ltb}
 use Rattle.netlist.specs.declared.Refusal.the-variants.{MalformedBlock, BadSetting, NotStraight, NoRoom}
@@ -11,12 +12,14 @@ use Rattle.netlist.specs.Netlist.{Block, gateCount}
 use Rattle.netlist.specs.StoredBlock.{decode, isTorn}
 use Rattle.netlist.specs.Rounds.{rounds, settled}
 use Rattle.netlist.specs.Rendering.{isStraight, sweep}
-use Rattle.netlist.specs.Answers.{done, refuseIf, inRoom, leftIn}
+use Rattle.netlist.specs.declared.Answer.{Answer}
+use Rattle.netlist.specs.Answers.{refusalNumber, numberOf, Outcome, done, refuseIf, inRoom, answerOf, leftIn, Promise}
 use Rattle.netlist.specs.Operations.{isBadSetting, settleBlock, settle, passBlock, pass}
 use Rattle.encoding.proofs.Decoded.{decode-gateCount}
 use Rattle.rounds.proofs.Rounds.{length-settled}
 use Rattle.rounds.proofs.Sweep.{length-sweep, sweep-settled}
 use Rattle.simulate.specs.Rounded.{sweepCodes}
+use Rattle.simulate.specs.Passed.{PassPromise}
 
 module _ (ws setting : List ℕ) (room : ℕ) where
   abbrev x : List Value
@@ -36,7 +39,8 @@ module _ (ws setting : List ℕ) (room : ℕ) where
 
   -- Pass's
   pub pass-chain : pass ws setting room
-      ≡ inRoom room (refuseIf (isTorn ws) MalformedBlock (refuseIf (not (isStraight b)) NotStraight (refuseIf (isBadSetting b setting) BadSetting (passBlock b x))))
+      ≡ inRoom room
+      (refuseIf (isTorn ws) MalformedBlock (refuseIf (not (isStraight b)) NotStraight (refuseIf (isBadSetting b setting) BadSetting (passBlock b x))))
   unfolding pass
   pass-chain = refl
 
@@ -67,3 +71,20 @@ pass-settle ws setting room entry h =
     let b = decode ws in
     let x = map valueOf setting in
     rw (h, sweep-settled b x h) (same-left room entry (map code (settled b x)) (isTorn ws) (isBadSetting b setting) (gateCount b) (rounds b x))
+
+-- Pass answers 0 for straight blocks only
+straight-of : (room : ℕ) (torn straight : Bool) (next : Outcome)
+    → numberOf (answerOf (inRoom room (refuseIf torn MalformedBlock (refuseIf (not straight) NotStraight next)))) ≡ 0 → straight ≡ true
+unfolding refuseIf inRoom answerOf numberOf refusalNumber
+straight-of room true straight next e = absurd (omega arith)
+straight-of room false true next e = refl
+straight-of room false false next e = absurd (omega arith)
+
+-- so its promise says that its values are Settle's
+pub pass-promise : {ws setting entry exit : List ℕ} {r : Answer} → Promise (pass ws setting (length entry)) entry r exit → PassPromise ws setting entry r exit
+unfolding pass
+pass-promise {ws} {setting} {entry} p =
+    record {
+      promise = p;
+      settles = λ z. p .leaves ∙ pass-settle ws setting (length entry) entry (straight-of (length entry) (isTorn ws) _ _ (sym (p .told .number) ∙ z));
+    }

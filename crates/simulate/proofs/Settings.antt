@@ -12,12 +12,12 @@ use Rattle.encoding.proofs.Decoded.{decode-inputCount}
 use Rattle.simulate.specs.Tests.{codeByte}
 
 module _ (ws setting : List ℕ) where
-  -- "not exactly n bytes"
+  -- not one byte for each input
   pub bad-length : (length setting ≡ getD ws 0 0 → ⊥) → isBadSetting (decode ws) setting ≡ true
   unfolding isBadSetting
   bad-length h = rw (decode-inputCount ws, ne-eqb (length setting) (getD ws 0 0) h)
 
-  -- "or a byte above 2"
+  -- a byte that is no code
   pub bad-codes : length setting ≡ getD ws 0 0 → isBadSetting (decode ws) setting ≡ not (all codeByte setting)
   unfolding isBadSetting
   bad-codes e = rw (decode-inputCount ws, eq-eqb (length setting) (getD ws 0 0) e)

@@ -1,4 +1,6 @@
 // Rounds of a block that is not torn, all gates at once: into a spare slice, and then over the values of the round before.
+use layout::fill::fill_bytes;
+use layout::limits::MAX_GATES;
 use layout::offsets::GATE_SIZE;
 use layout::offsets::gates_at;
 use layout::offsets::gates_of;
@@ -6,8 +8,8 @@ use layout::offsets::inputs_of;
 use ternary::gate::gate_value;
 ghost use mathlib.Core.Path.{_≡_};
 ghost use mathlib.Core.Bool.{false, not};
-ghost use Prim.Native.Nat.{_≤_, _<_};
-ghost use lib.ListN.{length, getD, take, replicate};
+ghost use Prim.Native.Nat.{_≤_};
+ghost use lib.ListN.{length, getD, take};
 ghost use Rattle.laws.specs.Lists.{same, placed};
 ghost use Rattle.netlist.specs.StoredBlock.{isTorn};
 ghost use Rattle.simulate.specs.Rounded.{InBlock, ForRounds, gateCode, roundCodes, Rounded, Settled};
@@ -20,7 +22,7 @@ pub fn value_of_gate(words: &[u16], n: usize, j: usize, setting: &[u8], gates: &
     gate_value(words, n, gates_at(n) + GATE_SIZE * j, setting, gates)
 }
 
-// "A round evaluates all gates at once from the round before.": into the first bytes of `next`.
+// A round (SPECIFICATION 3.3): every gate from the values of the round before, into the first bytes of `next`.
 fn round_into(words: &[u16], n: usize, m: usize, setting: &[u8], values: &[u8], next: &mut [u8])
     requires { ⌜ ForRounds (now words) n m (length (now next)) ⌝ }
     ensures { λ r. ⌜ now (next .exit) ≡ placed (roundCodes (now (words .entry)) (now (setting .entry)) (now (values .entry))) (now (next .entry)) ⌝ }
@@ -69,19 +71,7 @@ fn next_round(
     copy_changed(next, m, values)
 }
 
-// "Before the first all gates are 2."
-fn clear(values: &mut [u8], m: usize)
-    requires { ⌜ m ≤ length (now values) ⌝ }
-    ensures { λ r. ⌜ now (values .exit) ≡ placed (replicate m 2) (now (values .entry)) ⌝ }
-{
-    let mut j = 0;
-    while j < m {
-        values[j] = 2;
-        j += 1;
-    }
-}
-
-// Rounds until one changes nothing; how many changed something. `next` is spare room.
+// Rounds from all gates undefined until one changes nothing; how many changed something. `next` is spare room.
 fn settle_with(
     words: &[u16],
     n: usize,
@@ -94,7 +84,7 @@ fn settle_with(
     requires { ⌜ m ≤ length (now next) ⌝ }
     ensures { λ r. ⌜ Settled (now (words .entry)) (now (setting .entry)) (now (values .entry)) (now (values .exit)) r ⌝ }
 {
-    clear(values, m);
+    fill_bytes(values, m, 2);
     let mut count = 0;
     while next_round(words, n, m, setting, values, next) {
         count += 1;
@@ -108,7 +98,7 @@ pub fn settle_into(words: &[u16], setting: &[u8], values: &mut [u8]) -> usize
     requires { ⌜ getD (now words) 1 0 ≤ length (now values) ⌝ }
     ensures { λ r. ⌜ Settled (now (words .entry)) (now (setting .entry)) (now (values .entry)) (now (values .exit)) r ⌝ }
 {
-    let mut next = [0u8; 1024];
+    let mut next = [0u8; MAX_GATES];
     settle_with(
         words,
         inputs_of(words),

@@ -10,7 +10,7 @@ ghost use Rattle.laws.specs.Lists.{placed};
 ghost use Rattle.netlist.specs.StoredBlock.{isTorn};
 ghost use Rattle.simulate.specs.Rounded.{ForRounds, sweepCodes};
 
-// "evaluates each gate once, ascending, from inputs, constants and the values just found"
+// Each gate once, in ascending order, from the setting and the values that this sweep has found so far.
 fn sweep_gates(words: &[u16], n: usize, m: usize, setting: &[u8], values: &mut [u8])
     requires { ⌜ ForRounds (now words) n m (length (now values)) ⌝ }
     ensures { λ r. ⌜ now (values .exit) ≡ placed (sweepCodes (now (words .entry)) (now (setting .entry))) (now (values .entry)) ⌝ }

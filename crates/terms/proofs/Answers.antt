@@ -13,12 +13,14 @@ use Rattle.netlist.specs.Limits.{maxGates, maxOutputs}
 use Rattle.netlist.specs.Netlist.{Output}
 use Rattle.netlist.specs.StoredBlock.{gateWords, outputWords}
 use Rattle.netlist.specs.Syntax.{GateLine, OutputLine, Tree, apply, printGate, printOutput}
-use Rattle.netlist.specs.Reading.{mentions, Binding, lineGates, bindings, gateLinesAt, outputLinesAt, operandMentions, shownMention, usedNames, firstOutside, firstUndeclared, lookup, termGates, linesGates, blockOf}
+use Rattle.netlist.specs.Reading.{mentions, Binding, lineGates, bindings, gateLinesAt, outputLinesAt, operandMentions, shownMention, usedNames}
+use Rattle.netlist.specs.Reading.{firstOutside, firstUndeclared, lookup, termGates, linesGates, blockOf}
 use Rattle.grammar.proofs.Places.{printGate-split, printOutput-split, lines-measure, print-measure}
 use Rattle.names.specs.declared.Counts.{Counts}
 use Rattle.names.proofs.TreeSearch.{bound-names}
 use Rattle.terms.specs.declared.Walked.{Walked}
-use Rattle.terms.specs.declared.Uses.the-variants.{Known, Undeclared}
+use Rattle.netlist.specs.declared.Refusal.the-variants.{UndeclaredName}
+use Rattle.netlist.specs.declared.Test.the-variants.{Passed, Failed}
 use Rattle.terms.specs.Leaves.{earlier}
 use Rattle.terms.specs.Walk.{leftOf, declaredNames, unknownAfter, gatesWords}
 use Rattle.terms.specs.Lines.{LineForm, gateForm, outputForm, outputOf, linesWords, linesCost, LinesDone}
@@ -37,7 +39,12 @@ lines-sized : {A : Type 0} (F : LineForm A) → Lawful F → (n : ℕ) (bs : Lis
 unfolding linesWords linesCost
 lines-sized F lawful n bs [] first = refl
 lines-sized F lawful n bs (x ∷ xs) first =
-    omega (arith, length-append (F .words n bs x first) (linesWords F n bs xs (first + F .cost x)), lawful .sized n bs x first, lines-sized F lawful n bs xs (first + F .cost x))
+    omega (
+      arith,
+      length-append (F .words n bs x first) (linesWords F n bs xs (first + F .cost x)),
+      lawful .sized n bs x first,
+      lines-sized F lawful n bs xs (first + F .cost x),
+    )
 
 gate-words : (n : ℕ) (bs : List Binding) (gs : List GateLine) (first : ℕ) → linesWords gateForm n bs gs first ≡ gatesWords n (linesGates gs bs first)
 unfolding linesWords linesGates gateForm gatesWords
@@ -54,8 +61,10 @@ output-words n bs (o ∷ os) first = ap (λ (r : List ℕ). outputWords n (outpu
 
 module _ (t : Tree) (text : List ℕ) (c : Counts) (names words : List ℕ) (w : TreeAt t text c names words)
     (gates gates′ outputs outputs′ : List ℕ) (walked last : Walked)
-    (d : LinesDone gateForm (c .inputs) (bindings t) (t .gates) (gateLinesAt t) (gatesText t text c names words w) (outputsText t text c names words w) 0 0 gates gates′ walked)
-    (e : LinesDone outputForm (c .inputs) (bindings t) (t .outputs) (outputLinesAt t) (outputsText t text c names words w) [] 0 (walked .unknown) outputs outputs′ last) where
+    (d : LinesDone gateForm (c .inputs) (bindings t) (t .gates) (gateLinesAt t) (gatesText t text c names words w) (outputsText t text c names words w) 0 0
+    gates gates′ walked)
+    (e : LinesDone outputForm (c .inputs) (bindings t) (t .outputs) (outputLinesAt t) (outputsText t text c names words w) [] 0 (walked .unknown) outputs
+    outputs′ last) where
   gates-written : 5 * maxGates ≤ length gates → gates′ ≡ placed (joined (map (gateWords (length (t .inputs))) (blockOf t .gates))) gates
   unfolding blockOf gatesWords linesCost gateForm
   gates-written r =
@@ -63,7 +72,8 @@ module _ (t : Tree) (text : List ℕ) (c : Counts) (names words : List ℕ) (w :
       let size = lines-sized gateForm gate-lawful (c .inputs) (bindings t) (t .gates) 0 in
       let l = limits t text c names words w .gates in
       d .words ∙ sets-placed (linesWords gateForm (c .inputs) (bindings t) (t .gates) 0) gates (omega arith)
-      ∙ ap (λ (xs : List ℕ). placed xs gates) (gate-words (c .inputs) (bindings t) (t .gates) 0 ∙ ap (λ k. gatesWords k (linesGates (t .gates) (bindings t) 0)) n)
+      ∙ ap (λ (xs : List ℕ). placed xs gates)
+      (gate-words (c .inputs) (bindings t) (t .gates) 0 ∙ ap (λ k. gatesWords k (linesGates (t .gates) (bindings t) 0)) n)
 
   outputs-written : 5 * maxOutputs ≤ length outputs → outputs′ ≡ placed (joined (map (outputWords (length (t .inputs))) (blockOf t .outputs))) outputs
   unfolding blockOf linesCost outputForm
@@ -96,7 +106,7 @@ module _ (t : Tree) (text : List ℕ) (c : Counts) (names words : List ℕ) (w :
   placed-inside = rw (w .prints .printed) at (used-inside t)
 
   -- every used name is declared
-  pub known-done : last .unknown ≡ 0 → 5 * maxGates ≤ length gates → 5 * maxOutputs ≤ length outputs → TreeDone t gates gates′ outputs outputs′ Known
+  pub known-done : last .unknown ≡ 0 → 5 * maxGates ≤ length gates → 5 * maxOutputs ≤ length outputs → TreeDone t gates gates′ outputs outputs′ Passed
   unfolding firstUndeclared
   known-done z r s =
       record {
@@ -107,7 +117,7 @@ module _ (t : Tree) (text : List ℕ) (c : Counts) (names words : List ℕ) (w :
 
   -- one is not
   pub undeclared-done : (last .unknown ≡ 0 → ⊥) → 5 * maxGates ≤ length gates → 5 * maxOutputs ≤ length outputs
-      → TreeDone t gates gates′ outputs outputs′ (Undeclared (length text + 1 - last .unknown))
+      → TreeDone t gates gates′ outputs outputs′ (Failed (UndeclaredName (length text + 1 - last .unknown)))
   unfolding firstUndeclared
   undeclared-done z r s =
       record {

@@ -13,7 +13,8 @@ use Rattle.netlist.specs.Kinds.{keyword}
 use Rattle.netlist.specs.Netlist.{Name, Operand, Gate}
 use Rattle.netlist.specs.StoredBlock.{isLetter, isUnderscore, isNameStart, isNodeName, nodeWord, gateWords}
 use Rattle.netlist.specs.Syntax.{Term, Terms, name, literal, apply, nil, cons, printTerm, termCount, isLegalTerm}
-use Rattle.netlist.specs.Reading.{Mention, Binding, gatesIn, gatesInside, termMentions, termsMentions, firstOutside, termNode, termsNodes, termGates, termsGates}
+use Rattle.netlist.specs.Reading.{Mention, Binding, gatesIn, gatesInside, termMentions, termsMentions, firstOutside, termNode, termsNodes, termGates}
+use Rattle.netlist.specs.Reading.{termsGates}
 use Rattle.grammar.proofs.Places.{term-measure}
 use Rattle.terms.specs.declared.Leaf.{Leaf}
 use Rattle.terms.specs.declared.Found.{Found}
@@ -34,7 +35,8 @@ mutual
   pub gates-count : (o : Term) (bs : List Binding) (first : ℕ) → length (termGates o bs first) ≡ gatesIn o
   gates-count (name x) bs first = refl
   gates-count (literal b) bs first = refl
-  gates-count (apply k ts) bs first = omega (arith, gates-counts ts bs first, length-append (termsGates ts bs first) (record { kind = k; operands = termsNodes ts bs first } ∷ []))
+  gates-count (apply k ts) bs first =
+      omega (arith, gates-counts ts bs first, length-append (termsGates ts bs first) (record { kind = k; operands = termsNodes ts bs first } ∷ []))
 
   pub gates-counts : (ts : Terms) (bs : List Binding) (first : ℕ) → length (termsGates ts bs first) ≡ gatesInside ts
   gates-counts nil bs first = refl
@@ -142,7 +144,9 @@ module _ (n : ℕ) (bs : List Binding) where
         left = e .left;
         count = omega (arith, e .count);
         gates = omega (arith, e .gates, d .gates);
-        unknown = e .unknown ∙ rw (d .unknown, total, total′) (unknown-append seen bs (termMentions o (at + 1)) (termsMentions ts (at + 1 + length (printTerm o []))) (at + length s));
+        unknown =
+            e .unknown ∙ rw (d .unknown, total, total′)
+            (unknown-append seen bs (termMentions o (at + 1)) (termsMentions ts (at + 1 + length (printTerm o []))) (at + length s));
         words = e .words ∙ rw (d .words, d .gates)
             (words-behind n (termGates o bs first) (termsGates ts bs (first + gatesIn o)) g₀ first (first + gatesIn o) (omega (arith, gates-count o bs first)));
         operands = let k : i + 1 ≡ suc i = omega arith in e .operands ∙ rw (d .word, d .gates, k);
@@ -167,7 +171,8 @@ module _ (n : ℕ) (bs : List Binding) where
         gates = omega (arith, d .gates);
         unknown = d .unknown ∙ rw total;
         words = e ∙ ap (sets g₁ (5 * l .gates)) made ∙ rw (d .words, d .gates)
-            (words-behind n (termsGates ts bs first) (record { kind = k; operands = termsNodes ts bs first } ∷ []) g₀ first (first + gatesInside ts) (omega (arith, gates-counts ts bs first)));
+            (words-behind n (termsGates ts bs first) (record { kind = k; operands = termsNodes ts bs first } ∷ []) g₀ first (first + gatesInside ts)
+            (omega (arith, gates-counts ts bs first)));
       }
 
   -- a name, or a constant
@@ -213,6 +218,13 @@ module _ (n : ℕ) (bs : List Binding) where
   pub leaf-done : (o : Term) (depth at first seen : ℕ) (s rest names words gates : List ℕ) → Table n bs names words → TermAt o depth rest s
       → (getD s 0 0 ≡ 40 → ⊥)
       → TermDone n bs o at s rest first seen gates gates
-      (record { left = leafHere s names words seen .left; word = leafHere s names words seen .word; gates = first; unknown = leafHere s names words seen .unknown })
+      (record {
+        left = leafHere s names words seen .left;
+        word = leafHere s names words seen .word;
+        gates = first;
+        unknown = leafHere s names words seen
+            .unknown;
+      })
   leaf-done o depth at first seen s rest names words gates t w ne =
-      rw (← w .printed, ← t .packedNames, ← t .nodeWords) (leaf-at at first seen rest gates o depth (w .legal) (w .ends) (t .legal) (λ e. ne (rw (w .printed) at e)))
+      rw (← w .printed, ← t .packedNames, ← t .nodeWords)
+      (leaf-at at first seen rest gates o depth (w .legal) (w .ends) (t .legal) (λ e. ne (rw (w .printed) at e)))

@@ -11,7 +11,8 @@ use Rattle.laws.proofs.Tests.{and-left, and-right}
 use Rattle.laws.proofs.Elements.{rest-is-drop}
 use Rattle.netlist.specs.Limits.{maxGates, maxDepth}
 use Rattle.netlist.specs.Netlist.{Name}
-use Rattle.netlist.specs.StoredBlock.{isLetter, isDigit, isUnderscore, isNameByte, isNameStart, isLegalName, isPlainName, isNodeName, nameWords, nodeWord, outputWords}
+use Rattle.netlist.specs.StoredBlock.{isLetter, isDigit, isUnderscore, isNameByte, isNameStart, isLegalName, isPlainName, isNodeName, nameWords, nodeWord}
+use Rattle.netlist.specs.StoredBlock.{outputWords}
 use Rattle.netlist.specs.Syntax.{name, apply, GateLine, OutputLine, printTerm, printInput, printGate, printOutput, isLegalTerm, isLegalGate, isLegalOutput}
 use Rattle.netlist.specs.Reading.{Binding, gatesIn, lineGates, operandMentions, shownMention, termMentions, termNode, termGates, lookup}
 use Rattle.grammar.proofs.Places.{printInput-split, printGate-split, printOutput-split}
@@ -37,7 +38,9 @@ unfolding gateForm lineGates gatesIn
 gate-lawful =
     record {
       split = printGate-split;
-      sized = λ n bs g first. words-length n (termGates (apply (g .kind) (g .terms)) bs first) ∙ ap (λ k. 5 * k) (gates-count (apply (g .kind) (g .terms)) bs first);
+      sized =
+          λ n bs g first. words-length n (termGates (apply (g .kind) (g .terms)) bs first)
+          ∙ ap (λ k. 5 * k) (gates-count (apply (g .kind) (g .terms)) bs first);
     }
 
 pub output-lawful : Lawful outputForm
@@ -146,7 +149,8 @@ module _ (s : List ℕ) (k : ℕ) (e : k ≡ length (nameFront 8 (take (length s
           room = p .room;
         }
 
-    module _ (seen : ℕ) (after : List ℕ) (one : Found) (r : TermRead (take (length s - (7 + k)) (drop (7 + k) s)) 8 n names words first seen gates after one) where
+    module _ (seen : ℕ) (after : List ℕ) (one : Found)
+        (r : TermRead (take (length s - (7 + k)) (drop (7 + k) s)) 8 n names words first seen gates after one) where
       gate-done : (bs : List Binding) (g : GateLine) (rest : List ℕ) (at : ℕ) → Table n bs names words → LineAt gateForm g rest s
           → TermDone n bs (apply (g .kind) (g .terms)) at (drop (7 + k) s) (ascii ")\n" ++ rest) first seen gates after one
       gate-done bs g rest at t w =
@@ -211,7 +215,8 @@ module _ (s : List ℕ) (k : ℕ) (e : k ≡ length (nameFront 8 (take (length s
   module _ (n : ℕ) (names words : List ℕ) (first seen : ℕ) (array : List ℕ) (l : Leaf)
       (f : l ≡ nameHere (take (length s - (6 + k)) (drop (6 + k) s)) names words seen) where
     shown-done : (bs : List Binding) (o : OutputLine) (rest : List ℕ) (at : ℕ) → Table n bs names words → LineAt outputForm o rest s
-        → TermDone n bs (name (o .shown)) at (drop (6 + k) s) (ascii ")\n" ++ rest) first seen array array (record { left = l .left; word = l .word; gates = first; unknown = l .unknown })
+        → TermDone n bs (name (o .shown)) at (drop (6 + k) s) (ascii ")\n" ++ rest) first seen array array
+        (record { left = l .left; word = l .word; gates = first; unknown = l .unknown })
     unfolding isNameByte isLetter isDigit isUnderscore
     shown-done bs o rest at t w =
         let c = output-parts o rest w in

@@ -43,7 +43,8 @@ module _ {A : Type 0} (F : LineForm A) (lawful : Lawful F) where
         unknown = e .unknown ∙ rw (d .unknown, total)
             (unknown-append seen bs (F .uses x at) (mentions (F .printed) (F .uses) xs (at + length (F .printed x []))) (at + length s));
         words = e .words ∙ rw (d .words, d .number)
-            (sets-append (F .words n bs x first) a₀ (5 * first) (5 * (first + F .cost x)) (linesWords F n bs xs (first + F .cost x)) (omega (arith, lawful .sized n bs x first)));
+            (sets-append (F .words n bs x first) a₀ (5 * first) (5 * (first + F .cost x)) (linesWords F n bs xs (first + F .cost x))
+            (omega (arith, lawful .sized n bs x first)));
       }
 
   -- the first of some lines
@@ -85,7 +86,7 @@ module _ {A : Type 0} (F : LineForm A) (lawful : Lawful F) where
         record {
           within = omega arith;
           same = refl;
-          now = λ bs xs rest at t w c.
+          reached = λ bs xs rest at t w c.
               record {
                 others = xs;
                 here = rw z w;
@@ -103,7 +104,7 @@ module _ {A : Type 0} (F : LineForm A) (lawful : Lawful F) where
       pub line-here : (most : ℕ) → LinesHere F most count s n names words before → i < count → LineHere F most lineText n names words first array
       unfolding linesCost
       line-here most p l =
-          let w = on .now (p .bindings) (p .lines) (p .rest) 0 (p .table) (p .here) (p .counted) in
+          let w = on .reached (p .bindings) (p .lines) (p .rest) 0 (p .table) (p .here) (p .counted) in
           let x = next-line (w .others) (p .rest) (drop (length s - left) s) (w .here) (let c = w .counted in omega arith) in
           let c : first + linesCost F (x .line ∷ x .others) ≡ linesCost F (p .lines) = rw (x .lines) at (w .costs) in
           record {
@@ -139,7 +140,7 @@ module _ {A : Type 0} (F : LineForm A) (lawful : Lawful F) where
             → (one .left ≤ length s) × (length array′ ≡ length before)
         lines-kept most p l =
             let d′ = rw (rest-is-drop s (length s - left)) at d in
-            let w = on .now (p .bindings) (p .lines) (p .rest) 0 (p .table) (p .here) (p .counted) in
+            let w = on .reached (p .bindings) (p .lines) (p .rest) 0 (p .table) (p .here) (p .counted) in
             let x = next-line (w .others) (p .rest) (drop (length s - left) s) (w .here) (let c = w .counted in omega arith) in
             let e = d′ .done (p .bindings) (x .line) (x .behind) 0 (p .table) (x .here) in
             (omega (arith, e .left, x .ends .within, text-length, on .within), rw (e .words, length-sets array (5 * first) _) (on .same))
@@ -153,8 +154,8 @@ module _ {A : Type 0} (F : LineForm A) (lawful : Lawful F) where
             record {
               within = kept .0;
               same = kept .1;
-              now = λ bs xs rest at t h c.
-                  let w = on .now bs xs rest at t h c in
+              reached = λ bs xs rest at t h c.
+                  let w = on .reached bs xs rest at t h c in
                   let x = next-line (w .others) rest (drop (length s - left) s) (w .here) (let c = w .counted in omega arith) in
                   let e = d′ .done bs (x .line) (x .behind) (at + (length s - left)) t (x .here) in
                   let c₁ : i + length (x .line ∷ x .others) ≡ count = rw (x .lines) at (w .counted) in
@@ -165,7 +166,11 @@ module _ {A : Type 0} (F : LineForm A) (lawful : Lawful F) where
                     here = rw z (x .next);
                     counted = omega arith;
                     costs = omega (arith, e .number);
-                    onward = λ after r f. w .onward after r (rw (x .lines) (one-done n bs (x .line) (x .others) (at + (length s - left)) (drop (length s - left) s) (x .behind) rest first unknown array array′ after one r
+                    onward =
+                        λ after r f. w .onward after r
+                        (rw (x .lines)
+                        (one-done n bs (x .line) (x .others) (at + (length s - left)) (drop (length s - left) s) (x .behind) rest first unknown array array′
+                        after one r
                         (x .here .printed) e (rw (z, position at (one .left) (x .line) (x .behind) (e .left) (x .here)) at f)));
                   };
             }
@@ -176,7 +181,7 @@ module _ {A : Type 0} (F : LineForm A) (lawful : Lawful F) where
     lines-end i left first unknown array on l =
         record {
           done = λ bs xs rest at t h c.
-              let w = on .now bs xs rest at t h c in
+              let w = on .reached bs xs rest at t h c in
               let z = no-line (w .others) rest (drop (length s - left) s) (w .here) (let k = w .counted in omega arith) in
               let m : left ≡ length rest = rw (z .1) (sym (text-length i left first unknown array on)) in
               w .onward array (record { left = left; number = first; unknown = unknown })

@@ -67,12 +67,14 @@ looked n bs x h a = record { word = ⊎-elim declared undeclared (bool-cases (me
     known = rw (numbers, length-map (declaredNames bs) packed) (index-member x (declaredNames bs) bytes (legal-bytes (declaredNames bs) a))
 
     declared : memberList x (declaredNames bs) ≡ true
-        → cond (ltb (indexOf (numbersOf bs) (length (numbersOf bs)) (packed x)) (length (numbersOf bs))) (getD (nodesOf n bs) (indexOf (numbersOf bs) (length (numbersOf bs)) (packed x)) 0) 65534
+        → cond (ltb (indexOf (numbersOf bs) (length (numbersOf bs)) (packed x)) (length (numbersOf bs)))
+        (getD (nodesOf n bs) (indexOf (numbersOf bs) (length (numbersOf bs)) (packed x)) 0) 65534
         ≡ nodeWord n (lookup bs x)
     declared m =
         rw (known, m, length-map bs (λ (b : Binding). packed (b .name)), numbers) (index-lookup (nodeWord n) x bs bytes (legal-bytes (declaredNames bs) a) m)
 
     undeclared : memberList x (declaredNames bs) ≡ false
-        → cond (ltb (indexOf (numbersOf bs) (length (numbersOf bs)) (packed x)) (length (numbersOf bs))) (getD (nodesOf n bs) (indexOf (numbersOf bs) (length (numbersOf bs)) (packed x)) 0) 65534
+        → cond (ltb (indexOf (numbersOf bs) (length (numbersOf bs)) (packed x)) (length (numbersOf bs)))
+        (getD (nodesOf n bs) (indexOf (numbersOf bs) (length (numbersOf bs)) (packed x)) 0) 65534
         ≡ nodeWord n (lookup bs x)
     undeclared m = rw (known, m, lookup-none bs x m)

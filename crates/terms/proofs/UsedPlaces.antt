@@ -2,7 +2,7 @@
 use mathlib.Core.Path.{_≡_, refl, ap, _∙_}
 use mathlib.Core.Bool.{Bool, true, false, cond}
 use mathlib.Core.List.{List, [], _∷_, _++_}
-use mathlib.Core.Option.{some}
+use mathlib.Core.Option.{Option, some}
 use Prim.Native.Nat.{ℕ, _+_, _-_, _≤_}
 use native.Mathlib.Omega.{arith}
 use lib.ListN.{length, length-append}
@@ -14,12 +14,14 @@ use Rattle.laws.proofs.Quantifiers.{all-append}
 use Rattle.netlist.specs.Kinds.{keyword}
 use Rattle.netlist.specs.Netlist.{Name}
 use Rattle.netlist.specs.Syntax.{Term, Terms, name, literal, apply, nil, cons, GateLine, OutputLine, Tree, printTerm, printTerms, printGate, printOutput, print}
-use Rattle.netlist.specs.Reading.{Mention, mentions, linesLength, gateLinesAt, outputLinesAt, termMentions, termsMentions, operandMentions, shownMention, usedNames, firstOutside}
+use Rattle.netlist.specs.Reading.{Mention, mentions, linesLength, gateLinesAt, outputLinesAt, termMentions, termsMentions, operandMentions, shownMention}
+use Rattle.netlist.specs.Reading.{usedNames, firstOutside}
 use Rattle.grammar.proofs.Shorter.{printTerms-append}
 use Rattle.grammar.proofs.Places.{term-measure, print-measure}
-use Rattle.terms.specs.declared.Uses.the-variants.{Known, Undeclared}
+use Rattle.netlist.specs.declared.Refusal.the-variants.{UndeclaredName}
+use Rattle.netlist.specs.declared.Test.the-variants.{Passed, Failed}
+use Rattle.netlist.specs.Answers.{testAt}
 use Rattle.terms.specs.Walk.{leftOf}
-use Rattle.terms.specs.Resolution.{usesOf}
 
 module _ (bound : ℕ) where
   abbrev pub inside : Mention → Bool
@@ -72,16 +74,19 @@ module _ (bound : ℕ) where
       both (inLine x at) (mentions printed inLine xs (at + length (printed x [])))
       (f x at (omega arith)) (lines-inside printed inLine f xs (at + length (printed x [])) (omega arith))
 
-  -- a place, from the bytes left
+  -- the test's answer, from one more than the bytes left at a place, or 0
+  abbrev PlaceBack : ℕ → Option ℕ → Type 0
+  PlaceBack u p = ((u ≡ 0) → Passed ≡ testAt p UndeclaredName) × ((u ≡ 0 → ⊥) → Failed (UndeclaredName (bound + 1 - u)) ≡ testAt p UndeclaredName)
+
   pub place-back : (ds : List Name) (ms : List Mention) (u : ℕ) → all inside ms ≡ true → u ≡ leftOf bound (firstOutside ds ms)
-      → ((u ≡ 0) → Known ≡ usesOf (firstOutside ds ms)) × ((u ≡ 0 → ⊥) → Undeclared (bound + 1 - u) ≡ usesOf (firstOutside ds ms))
-  unfolding firstOutside leftOf usesOf
+      → PlaceBack u (firstOutside ds ms)
+  unfolding firstOutside leftOf testAt
   place-back ds [] u h e = (λ z. refl, λ z. absurd (z e))
   place-back ds (m ∷ ms) u h e = go (memberList (m .name) ds) e (place-back ds ms u (and-right (inside m) (all inside ms) h))
     where
       go : (b : Bool) → u ≡ leftOf bound (cond b (firstOutside ds ms) (some (m .place)))
-          → (u ≡ leftOf bound (firstOutside ds ms) → ((u ≡ 0) → Known ≡ usesOf (firstOutside ds ms)) × ((u ≡ 0 → ⊥) → Undeclared (bound + 1 - u) ≡ usesOf (firstOutside ds ms)))
-          → ((u ≡ 0) → Known ≡ usesOf (cond b (firstOutside ds ms) (some (m .place)))) × ((u ≡ 0 → ⊥) → Undeclared (bound + 1 - u) ≡ usesOf (cond b (firstOutside ds ms) (some (m .place))))
+          → (u ≡ leftOf bound (firstOutside ds ms) → PlaceBack u (firstOutside ds ms))
+          → PlaceBack u (cond b (firstOutside ds ms) (some (m .place)))
       go true e r = r e
       go false e r =
           let l = leb-true (m .place) bound (and-left (inside m) (all inside ms) h) in

@@ -84,9 +84,11 @@ module _ (t : Tree) (text : List ℕ) (c : Counts) (names words : List ℕ) (w :
       let l = length-append (declaredNodes t) (declaredPorts t) in
       let h : length (declaredNodes t) ≤ length (declared t) = omega arith in
       rw node-count
-      (sym (take-take (length (declaredNodes t)) (length (declared t)) names h) ∙ ap (take (length (declaredNodes t))) (w .numbersAre ∙ map-append f (declaredNodes t) (declaredPorts t))
+      (sym (take-take (length (declaredNodes t)) (length (declared t)) names h)
+      ∙ ap (take (length (declaredNodes t))) (w .numbersAre ∙ map-append f (declaredNodes t) (declaredPorts t))
       ∙ take-at (map f (declaredNodes t)) (map f (declaredPorts t)) (length (declaredNodes t)) (length-map (declaredNodes t) f)
-      ∙ sym (map-map packed (λ (d : Mention). d .name) (declaredNodes t)) ∙ ap (map packed) (sym (bound-names t)) ∙ map-map packed (λ (b : Binding). b .name) (bindings t))
+      ∙ sym (map-map packed (λ (d : Mention). d .name) (declaredNodes t)) ∙ ap (map packed) (sym (bound-names t))
+      ∙ map-map packed (λ (b : Binding). b .name) (bindings t))
 
   node-values : take (c .inputs + c .named) words ≡ map (λ (b : Binding). nodeWord (length (t .inputs)) (b .node)) (bindings t)
   unfolding nodeWords
@@ -110,7 +112,14 @@ module _ (t : Tree) (text : List ℕ) (c : Counts) (names words : List ℕ) (w :
 
   pub values-length : c .inputs + c .named ≡ length (take (c .inputs + c .named) words)
   values-length =
-      omega (arith, input-count, gate-count, bindings-length (w .prints), ap length node-values, length-map (bindings t) (λ (b : Binding). nodeWord (length (t .inputs)) (b .node)))
+      omega (
+        arith,
+        input-count,
+        gate-count,
+        bindings-length (w .prints),
+        ap length node-values,
+        length-map (bindings t) (λ (b : Binding). nodeWord (length (t .inputs)) (b .node)),
+      )
 
   -- ---- where the lines of each form stand
 

@@ -53,7 +53,7 @@ nameHere s names words unknown =
 unfoldable pub constantHere : List ℕ → ℕ → ℕ → Leaf
 constantHere s word unknown = record { left = length s - 1; word = word; unknown = unknown }
 
--- an operand that is no expression: "a NAME, the constant `0` or `1`"
+-- an operand that is no expression: a name, `0` or `1`
 unfoldable pub leafHere : List ℕ → List ℕ → List ℕ → ℕ → Leaf
 leafHere s names words unknown =
     cond (eqb (getD s 0 0) 48) (constantHere s 65534 unknown)

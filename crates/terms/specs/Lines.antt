@@ -132,5 +132,5 @@ module _ {A : Type 0} (F : LineForm A) where
       (array : List ℕ) : Type 0 where
     pub within : left ≤ length s
     pub same : length array ≡ length before
-    pub now : (bs : List Binding) (xs : List A) (rest : List ℕ) (at : ℕ) → Table n bs names words → LinesAt xs rest s → length xs ≡ count
+    pub reached : (bs : List Binding) (xs : List A) (rest : List ℕ) (at : ℕ) → Table n bs names words → LinesAt xs rest s → length xs ≡ count
         → LinesNow count s seen before n bs xs rest at i left first unknown array

@@ -1,31 +1,26 @@
--- What `resolve` needs of a text and its table of names, and what it answers and writes: refusal 5 of document 01 and the words of gates and
--- outputs. Assumes nothing.
+-- What `resolve` needs of a text and its table of names, and what it answers and writes: Read's 5 (SPECIFICATION 7.3) and the words of gates
+-- and outputs. Assumes nothing.
 use Prim.Native.Nat.{ℕ, _*_, _≤_}
 use mathlib.Core.Path.{_≡_}
+use mathlib.Core.Bool.{false}
 use mathlib.Core.List.{List, map}
-use mathlib.Core.Option.{Option, none, some}
 use lib.ListN.{length, take}
 use Rattle.laws.specs.Lists.{placed, joined}
+use Rattle.netlist.specs.declared.Refusal.the-variants.{UndeclaredName}
+use Rattle.netlist.specs.declared.Test.{Test}
+use Rattle.netlist.specs.Answers.{testAt}
 use Rattle.netlist.specs.Limits.{maxGates, maxOutputs}
 use Rattle.netlist.specs.StoredBlock.{gateWords, outputWords}
 use Rattle.netlist.specs.Syntax.{Tree}
-use Rattle.netlist.specs.Reading.{bindings, firstUndeclared, blockOf}
+use Rattle.netlist.specs.Reading.{isOverLimit, bindings, firstUndeclared, blockOf}
 use Rattle.names.specs.declared.Counts.{Counts}
-use Rattle.names.specs.declared.Limits.the-variants.{Within}
-use Rattle.names.specs.Results.{Prints, treeCounts, limitsOf, declared, packedNames, nodeWords}
-use Rattle.terms.specs.declared.Uses.{Uses}
-use Rattle.terms.specs.declared.Uses.the-variants.{Known, Undeclared}
-
--- 5: "a name used but not declared; detail: earliest place"
-unfoldable pub usesOf : Option ℕ → Uses
-usesOf none = Known
-usesOf (some place) = Undeclared place
+use Rattle.names.specs.Results.{Prints, treeCounts, declared, packedNames, nodeWords}
 
 -- the text is this tree's, within the limits, these are its counts, and the tables hold its declared names and their nodes
 pub record TreeAt (t : Tree) (text : List ℕ) (c : Counts) (names words : List ℕ) : Type 0 where
   pub prints : Prints t text
   pub counted : c ≡ treeCounts t
-  pub within : limitsOf t ≡ Within
+  pub within : isOverLimit t ≡ false
   pub numbersAre : take (length (declared t)) names ≡ packedNames t
   pub nodesAre : take (length (bindings t)) words ≡ nodeWords t
 
@@ -35,11 +30,11 @@ pub record ResolveReady (text : List ℕ) (c : Counts) (names words gates output
   pub gateRoom : 5 * maxGates ≤ length gates
   pub outputRoom : 5 * maxOutputs ≤ length outputs
 
-pub record TreeDone (t : Tree) (gates gates′ outputs outputs′ : List ℕ) (r : Uses) : Type 0 where
-  pub answer : r ≡ usesOf (firstUndeclared t)
+pub record TreeDone (t : Tree) (gates gates′ outputs outputs′ : List ℕ) (r : Test) : Type 0 where
+  pub answer : r ≡ testAt (firstUndeclared t) UndeclaredName
   pub gatesWritten : gates′ ≡ placed (joined (map (gateWords (length (t .inputs))) (blockOf t .gates))) gates
   pub outputsWritten : outputs′ ≡ placed (joined (map (outputWords (length (t .inputs))) (blockOf t .outputs))) outputs
 
 -- of whatever tree it is
-pub record Resolved (text : List ℕ) (c : Counts) (names words gates gates′ outputs outputs′ : List ℕ) (r : Uses) : Type 0 where
+pub record Resolved (text : List ℕ) (c : Counts) (names words gates gates′ outputs outputs′ : List ℕ) (r : Test) : Type 0 where
   pub done : (t : Tree) → TreeAt t text c names words → TreeDone t gates gates′ outputs outputs′ r

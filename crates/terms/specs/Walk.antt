@@ -12,7 +12,8 @@ use Rattle.netlist.specs.Limits.{maxInputs, maxGates}
 use Rattle.netlist.specs.Netlist.{Name, Gate}
 use Rattle.netlist.specs.StoredBlock.{isNameByte, isNodeName, nodeWord, gateWords}
 use Rattle.netlist.specs.Syntax.{Term, Terms, printTerm, printTerms, termCount, isLegalTerm, isLegalTerms}
-use Rattle.netlist.specs.Reading.{Mention, Binding, gatesIn, gatesInside, termMentions, termsMentions, firstOutside, termNode, termsNodes, termGates, termsGates}
+use Rattle.netlist.specs.Reading.{Mention, Binding, gatesIn, gatesInside, termMentions, termsMentions, firstOutside, termNode, termsNodes, termGates}
+use Rattle.netlist.specs.Reading.{termsGates}
 use Rattle.names.specs.Packed.{packed}
 use Rattle.terms.specs.declared.Found.{Found}
 use Rattle.terms.specs.declared.Listed.{Listed}

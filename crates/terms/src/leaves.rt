@@ -1,20 +1,21 @@
 // What stands at the front of a text: a kind's word, a name, a constant.
 use crate::Leaf;
+use layout::bytes::byte_at;
 use layout::kinds::signature_of;
+use layout::nodes::CONSTANT_0;
+use layout::nodes::CONSTANT_1;
 use layout::trim::trimmed_length;
-use names::lines::byte_at;
 use names::pack::name_length;
 use names::pack::pack;
 use names::search::find;
 ghost use mathlib.Core.Path.{_≡_};
-ghost use Prim.Native.Nat.{_≤_};
 ghost use lib.ListN.{length};
 ghost use Rattle.terms.specs.Leaves.{kindBehindX, kindHere, wordLength, nameLength, indexHere, earlier, nameHere, constantHere, leafHere};
 
 // The words of the constants.
-const ZERO: u16 = 65534;
+const ZERO: u16 = CONSTANT_0 as u16;
 
-const ONE: u16 = 65535;
+const ONE: u16 = CONSTANT_1 as u16;
 
 // The kind of a word of `x` and this byte.
 fn kind_behind_x(c: u8) -> usize

@@ -3,18 +3,13 @@ use lines::gate_lines;
 use lines::input_lines;
 use lines::output_lines;
 use names::Counts;
-ghost use mathlib.Core.Path.{_≡_};
+use netlist::Refusal;
+use netlist::Test;
 ghost use Rattle.terms.specs.Resolution.{ResolveReady, Resolved};
 
 mod leaves;
 mod lines;
 mod walk;
-
-// 5: every used name is declared, or the place of the first that is not.
-pub enum Uses {
-    Known,
-    Undeclared(usize),
-}
 
 // A name or a constant: the bytes left behind it, its node's word, and `unknown` as in `Found`.
 pub struct Leaf {
@@ -47,7 +42,8 @@ pub struct Walked {
     pub unknown: usize,
 }
 
-// Fills in the words of gates and outputs of a text with these counts and these tables of its declared names and their nodes.
+// Fills in the words of gates and outputs of a text with these counts and these tables of its declared names and their nodes. 5: the place
+// of the first used name that is not declared.
 pub fn resolve(
     text: &[u8],
     c: Counts,
@@ -55,7 +51,7 @@ pub fn resolve(
     words: &[u16],
     gates: &mut [u16],
     outputs: &mut [u16],
-) -> Uses
+) -> Test
     requires { ⌜ ResolveReady (now text) c (now names) (now words) (now gates) (now outputs) ⌝ }
     ensures { λ r. ⌜ Resolved (now (text .entry)) c (now (names .entry)) (now (words .entry)) (now (gates .entry)) (now (gates .exit)) (now (outputs .entry)) (now (outputs .exit)) r ⌝ }
 {
@@ -80,7 +76,7 @@ pub fn resolve(
         outputs,
     );
     if last.unknown == 0 {
-        return Uses::Known;
+        return Test::Passed;
     }
-    Uses::Undeclared(length + 1 - last.unknown)
+    Test::Failed(Refusal::UndeclaredName(length + 1 - last.unknown))
 }

@@ -2,6 +2,8 @@
 use crate::Walked;
 use crate::leaves::name_here;
 use crate::walk::operand;
+use layout::limits::MAX_DEPTH;
+use layout::offsets::OUTPUT_SIZE;
 use names::pack::name_length;
 use names::pack::pack;
 ghost use mathlib.Core.Path.{_≡_};
@@ -35,7 +37,7 @@ fn gate_line(
     ensures { λ r. ⌜ LineRead gateForm (now (s .entry)) n (now (names .entry)) (now (words .entry)) first unknown (now (gates .entry)) (now (gates .exit)) r ⌝ }
 {
     let at = 7 + name_length(&s[6..]);
-    let one = operand(&s[at..], 8, n, names, words, first, unknown, gates);
+    let one = operand(&s[at..], MAX_DEPTH, n, names, words, first, unknown, gates);
     Walked {
         left: one.left - 2,
         number: one.gates,
@@ -48,7 +50,7 @@ fn put_output(outputs: &mut [u16], number: usize, port: u64, word: u16)
     requires { ⌜ 5 * number + 5 ≤ length (now outputs) ⌝ }
     ensures { λ _. ⌜ now (outputs .exit) ≡ sets (now (outputs .entry)) (5 * number) (portWords port ++ (word ∷ [])) ⌝ }
 {
-    let at = 5 * number;
+    let at = OUTPUT_SIZE * number;
     outputs[at] = (port % 65536) as u16;
     outputs[at + 1] = (port / 65536 % 65536) as u16;
     outputs[at + 2] = (port / 4294967296 % 65536) as u16;

@@ -4,7 +4,9 @@ use crate::Listed;
 use crate::leaves::kind_here;
 use crate::leaves::leaf_here;
 use crate::leaves::word_length;
-use names::lines::byte_at;
+use layout::bytes::byte_at;
+use layout::offsets::GATE_SIZE;
+use layout::offsets::OPERAND_WORDS;
 ghost use mathlib.Core.Path.{_≡_};
 ghost use mathlib.Core.List.{_∷_};
 ghost use Prim.Native.Nat.{_+_, _*_, _≤_};
@@ -19,7 +21,7 @@ fn put_gate(gates: &mut [u16], number: usize, kind: usize, count: usize, slots: 
     requires { ⌜ length (now slots) ≡ 4 ⌝ }
     ensures { λ _. ⌜ now (gates .exit) ≡ sets (now (gates .entry)) (5 * number) ((kind + 8 * count) ∷ now (slots .entry)) ⌝ }
 {
-    let at = 5 * number;
+    let at = GATE_SIZE * number;
     gates[at] = (kind + 8 * count) as u16;
     gates[at + 1] = slots[0];
     gates[at + 2] = slots[1];
@@ -52,7 +54,7 @@ pub fn operand(
     }
     let kind = kind_here(&s[1..]);
     let at = 1 + word_length(kind);
-    let mut slots: [u16; 4] = [0; 4];
+    let mut slots = [0u16; OPERAND_WORDS];
     let list = operands(
         &s[at..],
         depth - 1,

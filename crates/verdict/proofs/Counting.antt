@@ -5,14 +5,16 @@ use mathlib.Core.List.{List, map}
 use Prim.Native.Nat.{ℕ, _+_, _^_, _≤_, _<_}
 use native.Mathlib.Omega.{arith}
 use native.Mathlib.Numerals.{add-one}
-use lib.ListN.{length, getD, length-map, List·getD-map}
+use lib.ListN.{length, getD, set, length-map, List·getD-map}
 use lib.Pow.{pow-mono}
-use Rattle.laws.specs.Lists.{countBelow}
+use Rattle.laws.specs.Lists.{countBelow, tab, placed}
+use Rattle.laws.proofs.Tab.{set-placed-tab}
 use Rattle.laws.proofs.Tests.{not-true-false, not-both}
 use Rattle.laws.proofs.Elements.{getD-defaults}
 use Rattle.laws.proofs.Quantifiers.{all-at, all-from}
 use Rattle.laws.proofs.Least.{least-le, least-below, least-is}
 use Rattle.laws.proofs.Counting.{countBelow-all, countBelow-le}
+use Rattle.netlist.specs.Limits.{maxInputs}
 use Rattle.netlist.specs.Values.{undefined, code, isDefined}
 use Rattle.netlist.specs.Netlist.{Block, inputCount}
 use Rattle.netlist.specs.Rounds.{settingCount, settledUnder, isSettled, settledSettings, lowestUnsettled}
@@ -93,15 +95,21 @@ module _ (b : Block) where
   count-le s = countBelow-le (isSettled b) s
 
   -- one setting more
-  pub count-more : (s : ℕ) → countBelow (isSettled b) (s + 1) ≡ countBelow (isSettled b) s + settledFlag b s
+  pub count-more : {count flag : ℕ} (s : ℕ) → count ≡ countBelow (isSettled b) s → flag ≡ settledFlag b s → count + flag ≡ countBelow (isSettled b) (s + 1)
   unfolding settledFlag
-  count-more s = rw add-one refl
+  count-more s e f = rw (e, f, add-one) refl
+
+  -- one flag more
+  pub flags-more : {flags : List ℕ} {flag : ℕ} (s : ℕ) (entry : List ℕ) → s < length entry → flags ≡ placed (tab (settledFlag b) s) entry
+      → flag ≡ settledFlag b s
+      → set flags s flag ≡ placed (tab (settledFlag b) (s + 1)) entry
+  flags-more s entry l e f = rw (e, f, add-one) (set-placed-tab (settledFlag b) s entry l)
 
   -- all settings
   pub count-end : (s count : ℕ) → count ≡ settingCount b → s ≡ count → countBelow (isSettled b) s ≡ settledSettings b
   unfolding settledSettings
   count-end s count e f = rw (f, e) refl
 
--- at most 1,024 settings
-pub few-settings : (n : ℕ) → n ≤ 10 → 2 ^ n ≤ 1024
+-- at most as many settings as the most inputs have
+pub few-settings : (n : ℕ) → n ≤ maxInputs → 2 ^ n ≤ 2 ^ maxInputs
 few-settings n l = pow-mono l

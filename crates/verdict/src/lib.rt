@@ -1,26 +1,29 @@
-// Verdict (document 01): how many settings are settled, and the lowest other.
+// Verdict (SPECIFICATION 7.6).
+use block::check_words;
+use layout::limits::MAX_GATES;
+use layout::limits::MAX_INPUTS;
+use layout::offsets;
+use netlist::Answer;
+use netlist::Test;
+use refusals::refusal;
+use visiting::order_gates;
 ghost use mathlib.Core.Path.{_≡_};
 ghost use mathlib.Core.Bool.{false};
 ghost use lib.ListN.{length};
-ghost use Rattle.netlist.specs.Answers.{answerOf};
+ghost use Rattle.netlist.specs.Limits.{maxInputs, maxGates};
+ghost use Rattle.netlist.specs.Answers.{Told};
 ghost use Rattle.netlist.specs.StoredBlock.{isTorn};
 ghost use Rattle.netlist.specs.Operations.{verdict as verdictOf};
-use block::Check;
-use block::check_words;
-use layout::offsets;
-use netlist::Answer;
-use netlist::Refusal;
-use visiting::order_gates;
 
 pub mod settings;
 
 // Verdict of a block that is not torn, with room for an order, the inputs' values and the gates'.
 fn whole_verdict(words: &[u16], order: &mut [u16], inputs: &mut [u8], values: &mut [u8]) -> Answer
     requires { ⌜ isTorn (now words) ≡ false ⌝ }
-    requires { ⌜ length (now order) ≡ 1024 ⌝ }
-    requires { ⌜ length (now inputs) ≡ 10 ⌝ }
-    requires { ⌜ length (now values) ≡ 1024 ⌝ }
-    ensures { λ r. ⌜ r ≡ answerOf (verdictOf (now (words .entry))) ⌝ }
+    requires { ⌜ length (now order) ≡ maxGates ⌝ }
+    requires { ⌜ length (now inputs) ≡ maxInputs ⌝ }
+    requires { ⌜ length (now values) ≡ maxGates ⌝ }
+    ensures { λ r. ⌜ Told (verdictOf (now (words .entry))) r ⌝ }
 {
     let n = offsets::inputs_of(words);
     let m = offsets::gates_of(words);
@@ -36,15 +39,16 @@ fn whole_verdict(words: &[u16], order: &mut [u16], inputs: &mut [u8], values: &m
     )
 }
 
-// "count: settled settings; detail: the lowest other, or 2^n if none"
+// Verdict (6): how many settings are settled; detail: the lowest other, or 2^n where there is none.
 pub fn verdict(words: &[u16]) -> Answer
-    ensures { λ r. ⌜ r ≡ answerOf (verdictOf (now (words .entry))) ⌝ }
+    ensures { λ r. ⌜ Told (verdictOf (now (words .entry))) r ⌝ }
 {
-    let Check::Whole = check_words(words) else {
-        return Answer::Refused(Refusal::MalformedBlock);
+    let tested = check_words(words);
+    let Test::Passed = tested else {
+        return refusal(tested);
     };
-    let mut order = [0u16; 1024];
-    let mut inputs = [0u8; 10];
-    let mut values = [0u8; 1024];
+    let mut order = [0u16; MAX_GATES];
+    let mut inputs = [0u8; MAX_INPUTS];
+    let mut values = [0u8; MAX_GATES];
     whole_verdict(words, &mut order, &mut inputs, &mut values)
 }

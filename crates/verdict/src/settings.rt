@@ -1,20 +1,21 @@
 // Which settings are settled, for a block of n inputs whose gates' words start at `gates`. `inputs` and `values` have exactly one byte for
 // each input and each gate; the gates are evaluated along `order`.
+use decide::in_place::settle_setting;
+use netlist::Answer;
 ghost use mathlib.Core.Path.{_≡_};
 ghost use Prim.Native.Nat.{_≤_, _^_};
 ghost use lib.ListN.{length};
 ghost use Rattle.laws.specs.Lists.{tab, placed};
+ghost use Rattle.netlist.specs.Limits.{maxInputs};
 ghost use Rattle.netlist.specs.declared.Answer.the-variants.{Done};
 ghost use Rattle.netlist.specs.StoredBlock.{decode};
 ghost use Rattle.netlist.specs.Rounds.{settledSettings, lowestUnsettled};
 ghost use Rattle.decide.specs.InPlace.{DecideReady};
 ghost use Rattle.verdict.specs.Flags.{settledFlag};
-use decide::in_place::settle_setting;
-use netlist::Answer;
 
-// "A setting gives every input 0 or 1": 2^n of them.
+// How many settings n inputs have.
 pub fn setting_count(n: usize) -> usize
-    requires { ⌜ n ≤ 10 ⌝ }
+    requires { ⌜ n ≤ maxInputs ⌝ }
     ensures { λ r. ⌜ r ≡ 2 ^ n ⌝ }
 {
     1usize << n

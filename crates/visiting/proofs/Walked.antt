@@ -13,6 +13,7 @@ use Rattle.laws.specs.Lists.{countBelow, member}
 use Rattle.laws.proofs.Tests.{eq-or-ne}
 use Rattle.laws.proofs.Quantifiers.{member-from}
 use Rattle.laws.proofs.Counting.{countBelow-le, countBelow-all}
+use Rattle.netlist.specs.Limits.{maxGates}
 use Rattle.netlist.specs.StoredBlock.{isTorn, gatesAt}
 use Rattle.encoding.proofs.Readers.{whole-parts}
 use Rattle.search.specs.Search.{Queued, setFlags}
@@ -32,7 +33,8 @@ still-queued queue tail x k q = (q .0, omega (arith, q .1), getD-set-other queue
 new-queued : (queue : List ℕ) (tail x : ℕ) → tail < length queue → Queued (set queue tail x) (tail + 1) x
 new-queued queue tail x l = (tail, omega arith, getD-set-same queue tail x 0 l)
 
-all-below : (queue : List ℕ) (tail x m : ℕ) → tail < length queue → x < m → ((q : ℕ) → q < tail → getD queue q 0 < m) → (q : ℕ) → q < tail + 1 → getD (set queue tail x) q 0 < m
+all-below : (queue : List ℕ) (tail x m : ℕ) → tail < length queue → x < m → ((q : ℕ) → q < tail → getD queue q 0 < m) → (q : ℕ) → q < tail + 1
+    → getD (set queue tail x) q 0 < m
 all-below queue tail x m room xl h q l = ⊎-elim new (λ ne. rw (getD-set-other queue tail q x 0 ne) (h q (omega arith))) (eq-or-ne q tail)
   where
     new : q ≡ tail → getD (set queue tail x) q 0 < m
@@ -55,7 +57,9 @@ module _ {m : ℕ} {flags stack order : List ℕ} {depth tail : ℕ} (w : Walkin
       record {
         pushed = all-below stack depth k m at l (w .pushed);
         inside = w .inside;
-        seen = λ j jl. ⊎-elim (λ e. inr (inl (rw e (new-queued stack depth k at)))) (λ ne. ⊎-elim (λ z. inl (getD-set-other flags k j 1 0 ne ∙ z)) (λ s. inr (⊎-elim (λ q. inl (still-queued stack depth k j q)) (λ q. inr q) s)) (w .seen j jl)) (eq-or-ne j k);
+        seen = λ j jl. ⊎-elim (λ e. inr (inl (rw e (new-queued stack depth k at))))
+            (λ ne. ⊎-elim (λ z. inl (getD-set-other flags k j 1 0 ne ∙ z)) (λ s. inr (⊎-elim (λ q. inl (still-queued stack depth k j q)) (λ q. inr q) s))
+            (w .seen j jl)) (eq-or-ne j k);
         counted = rw (set-new flags k m l room free) (omega (arith, w .counted));
       }
 
@@ -86,7 +90,13 @@ module _ {m : ℕ} {flags stack order : List ℕ} {depth tail : ℕ} (w : Walkin
 
 -- nothing is on the stack
 pub walk-start : {m : ℕ} {flags order : List ℕ} {tail : ℕ} (stack : List ℕ) → Written m flags order tail → Walking m flags stack order 0 tail
-walk-start stack w = record { pushed = λ d l. absurd (omega arith); inside = w .inside; seen = λ k l. ⊎-elim inl (λ q. inr (inr q)) (w .seen k l); counted = omega (arith, w .counted) }
+walk-start stack w = record {
+  pushed = λ d l. absurd (omega arith);
+  inside = w .inside;
+  seen = λ k l. ⊎-elim inl (λ q. inr (inr q)) (w .seen k l);
+  counted =
+      omega (arith, w .counted);
+}
 
 pub walk-end : {m : ℕ} {flags stack order : List ℕ} {depth tail : ℕ} → Walking m flags stack order depth tail → depth ≤ 0 → Written m flags order tail
 walk-end w z =
@@ -106,7 +116,8 @@ kept-set m entry flags k l h j jl z =
     (eq-or-ne j k)
 
 -- what a search from `root` leaves
-pub grown : (m root : ℕ) {entry flags order : List ℕ} {tail : ℕ} → root < m → m ≤ length entry → Written m flags order tail → Kept m (set entry root 1) flags → Grown m root entry flags order tail
+pub grown : (m root : ℕ) {entry flags order : List ℕ} {tail : ℕ} → root < m → m ≤ length entry → Written m flags order tail → Kept m (set entry root 1) flags
+    → Grown m root entry flags order tail
 grown m root {entry} {flags} l room w h =
     record {
       written = w;
@@ -131,11 +142,13 @@ none-written m flags order blank =
     }
 
 -- one gate more was searched from, downward
-pub done-next : (m left : ℕ) (flags : List ℕ) → 0 < left → ((k : ℕ) → left ≤ k → k < m → getD flags k 0 ≡ 0 → ⊥) → (getD flags (left - 1) 0 ≡ 0 → ⊥) → (k : ℕ) → left - 1 ≤ k → k < m → getD flags k 0 ≡ 0 → ⊥
+pub done-next : (m left : ℕ) (flags : List ℕ) → 0 < left → ((k : ℕ) → left ≤ k → k < m → getD flags k 0 ≡ 0 → ⊥) → (getD flags (left - 1) 0 ≡ 0 → ⊥) → (k : ℕ)
+    → left - 1 ≤ k → k < m → getD flags k 0 ≡ 0 → ⊥
 done-next m left flags some done now k lo hi z = ⊎-elim (λ e. now (rw e at z)) (λ ne. done k (omega arith) hi z) (eq-or-ne k (left - 1))
 
 -- all were
-pub all-written : (m : ℕ) (flags order : List ℕ) (tail : ℕ) → m ≤ length order → Written m flags order tail → ((k : ℕ) → k < m → getD flags k 0 ≡ 0 → ⊥) → Visits m (take m order)
+pub all-written : (m : ℕ) (flags order : List ℕ) (tail : ℕ) → m ≤ length order → Written m flags order tail → ((k : ℕ) → k < m → getD flags k 0 ≡ 0 → ⊥)
+    → Visits m (take m order)
 unfolding setFlags
 all-written m flags order tail room w marked =
     let all : setFlags flags m ≡ m = countBelow-all (λ k. not (eqb (getD flags k 0) 0)) m (λ k l. rw (ne-eqb (getD flags k 0) 0 (marked k l)) refl) in
@@ -154,18 +167,29 @@ all-written m flags order tail room w marked =
 -- ---- room
 
 -- the gate on top
-pub top-below : {m : ℕ} {flags stack order : List ℕ} {depth tail : ℕ} (k : ℕ) → Walking m flags stack order depth tail → 0 < depth → k ≡ getD stack (depth - 1) 0 → k < m
+pub top-below : {m : ℕ} {flags stack order : List ℕ} {depth tail : ℕ} (k : ℕ) → Walking m flags stack order depth tail → 0 < depth
+    → k ≡ getD stack (depth - 1) 0 → k < m
 top-below k w some is = rw is (w .pushed _ (omega arith))
 
-pub room-kept : {n m gates : ℕ} {flags stack order flags′ stack′ order′ : List ℕ} → Room n m gates flags stack order → length flags′ ≡ length flags → length stack′ ≡ length stack → length order′ ≡ length order → Room n m gates flags′ stack′ order′
-room-kept r e f g = record { fewInputs = r .fewInputs; fewGates = r .fewGates; near = r .near; flagRoom = rw e (r .flagRoom); stackRoom = rw f (r .stackRoom); orderRoom = rw g (r .orderRoom) }
+pub room-kept : {n m gates : ℕ} {flags stack order flags′ stack′ order′ : List ℕ} → Room n m gates flags stack order → length flags′ ≡ length flags
+    → length stack′ ≡ length stack → length order′ ≡ length order → Room n m gates flags′ stack′ order′
+room-kept r e f g = record {
+  fewInputs = r .fewInputs;
+  fewGates = r .fewGates;
+  near = r .near;
+  flagRoom = rw e (r .flagRoom);
+  stackRoom = rw f (r .stackRoom);
+  orderRoom =
+      rw g (r .orderRoom);
+}
 
 -- an array of zeros marks none
 pub blank : (m n : ℕ) → m ≤ n → Blank m (replicate n 0)
 blank m n most k l = getD-replicate n k 0 0 (omega arith)
 
--- arrays of 1,024 elements have room for a whole block's gates
-pub whole-room : (ws : List ℕ) {n m gates : ℕ} {flags stack order : List ℕ} → isTorn ws ≡ false → n ≡ getD ws 0 0 → m ≡ getD ws 1 0 → gates ≡ gatesAt n → 1024 ≤ length flags → 1024 ≤ length stack → getD ws 1 0 ≤ length order → Room n m gates flags stack order
+-- arrays of that many elements have room for a whole block's gates
+pub whole-room : (ws : List ℕ) {n m gates : ℕ} {flags stack order : List ℕ} → isTorn ws ≡ false → n ≡ getD ws 0 0 → m ≡ getD ws 1 0 → gates ≡ gatesAt n
+    → maxGates ≤ length flags → maxGates ≤ length stack → getD ws 1 0 ≤ length order → Room n m gates flags stack order
 unfolding gatesAt
 whole-room ws whole inputs gates first f s o =
     let parts = whole-parts ws whole in

@@ -5,6 +5,7 @@ use mathlib.Core.Path.{_≡_}
 use mathlib.Core.Logic.{_⊎_}
 use mathlib.Core.List.{List}
 use lib.ListN.{length, getD}
+use Rattle.netlist.specs.Limits.{maxGates}
 use Rattle.search.specs.Search.{Queued, setFlags}
 
 -- the operand word names a gate whose flag is 0
@@ -16,8 +17,8 @@ pub record Unmarked (n m : ℕ) (flags : List ℕ) (w : ℕ) : Type 0 where
 -- room for every gate in each array
 pub record Room (n m gates : ℕ) (flags stack order : List ℕ) : Type 0 where
   pub fewInputs : n ≤ 65535
-  pub fewGates : m ≤ 1024
-  pub near : gates ≤ 1024
+  pub fewGates : m ≤ maxGates
+  pub near : gates ≤ maxGates
   pub flagRoom : m ≤ length flags
   pub stackRoom : m ≤ length stack
   pub orderRoom : m ≤ length order

@@ -1,12 +1,13 @@
 // The order in which a setting's gates are visited: a depth-first search's postorder, so that a gate stands behind its operands but for those
 // that close a loop. Any order of all gates decides a setting; in this one few sweeps do. Callers are in `verdict`, `cover` and `render`.
+use layout::limits::MAX_GATES;
+use layout::offsets;
 ghost use mathlib.Core.Path.{_≡_};
 ghost use mathlib.Core.Bool.{false};
 ghost use Prim.Native.Nat.{_≤_};
 ghost use lib.ListN.{length, getD, take};
 ghost use Rattle.netlist.specs.StoredBlock.{isTorn};
 ghost use Rattle.decide.specs.InPlace.{Visits};
-use layout::offsets;
 
 pub mod postorder;
 
@@ -18,7 +19,7 @@ pub fn order_gates(words: &[u16], order: &mut [u16])
     let n = offsets::inputs_of(words);
     let m = offsets::gates_of(words);
     let gates = offsets::gates_at(n);
-    let mut flags = [0u8; 1024];
-    let mut stack = [0u16; 1024];
+    let mut flags = [0u8; MAX_GATES];
+    let mut stack = [0u16; MAX_GATES];
     postorder::write_postorder(words, n, m, gates, &mut flags, &mut stack, order);
 }

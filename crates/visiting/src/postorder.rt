@@ -1,15 +1,17 @@
 // Depth-first search along operands. A gate is marked when it is pushed, and written when all gates that it reads are marked.
+use layout::offsets::GATE_SIZE;
+use layout::read::word_at;
 ghost use mathlib.Core.Path.{_≡_};
 ghost use mathlib.Core.Bool.{true};
 ghost use Prim.Native.Nat.{_≤_, _<_};
 ghost use lib.ListN.{length, getD, take};
+ghost use Rattle.netlist.specs.Limits.{maxGates};
 ghost use Rattle.decide.specs.InPlace.{Visits};
 ghost use Rattle.visiting.specs.Postorder.{Unmarked, Room, Written, Grown, Blank};
-use layout::read::word_at;
 
 // The operand word names a gate that is not marked.
 fn is_unmarked(w: usize, n: usize, m: usize, flags: &[u8]) -> bool
-    requires { ⌜ (n ≤ 65535) × (m ≤ 1024) × (m ≤ length (now flags)) ⌝ }
+    requires { ⌜ (n ≤ 65535) × (m ≤ maxGates) × (m ≤ length (now flags)) ⌝ }
     ensures { λ r. ⌜ (r ≡ true → Unmarked n m (now (flags .entry)) w) ⌝ }
 {
     if w < n {
@@ -23,7 +25,7 @@ fn is_unmarked(w: usize, n: usize, m: usize, flags: &[u8]) -> bool
 
 // The first such gate that the gate at `at` reads, or m.
 fn unmarked_operand(words: &[u16], n: usize, m: usize, at: usize, flags: &[u8]) -> usize
-    requires { ⌜ (at ≤ 65535) × (n ≤ 65535) × (m ≤ 1024) × (m ≤ length (now flags)) ⌝ }
+    requires { ⌜ (at ≤ 65535) × (n ≤ 65535) × (m ≤ maxGates) × (m ≤ length (now flags)) ⌝ }
     ensures { λ r. ⌜ (r < m → getD (now (flags .entry)) r 0 ≡ 0) ⌝ }
 {
     let count = word_at(words, at) / 8;
@@ -59,7 +61,7 @@ fn write_from(
     let mut end = tail;
     while 0 < depth {
         let k = word_at(stack, depth - 1);
-        let next = unmarked_operand(words, n, m, gates + 5 * k, flags);
+        let next = unmarked_operand(words, n, m, gates + GATE_SIZE * k, flags);
         if next < m {
             flags[next] = 1;
             stack[depth] = next as u16;

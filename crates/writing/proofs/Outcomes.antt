@@ -1,14 +1,15 @@
--- What `write` answers and leaves: refused as torn, refused for room, or the whole text. Cited by `write`. Assumes nothing.
-use Prim.Native.Nat.{ℕ, _+_, _≤_, _<_}
+-- The conditions of `write` one after the other, and that what it writes is short. Cited by `write`. Assumes nothing.
+use Prim.Native.Nat.{ℕ}
 use mathlib.Core.Path.{_≡_, refl}
-use mathlib.Core.Bool.{true, false}
+use mathlib.Core.Bool.{false}
 use mathlib.Core.List.{List, _++_}
 use native.Mathlib.Omega.{arith}
 use lib.ListN.{length, getD}
-use borrow.Author.Tests.{lt-ltb, le-ltb}
+use lib.Dec.{ltb}
 use Rattle.netlist.specs.StoredBlock.{gatesAt, outputsAt, decode, isTorn}
-use Rattle.netlist.specs.Answers.{done, refused, refuseIf, inRoom}
+use Rattle.netlist.specs.Answers.{done, refuseIf, inRoom}
 use Rattle.netlist.specs.declared.Refusal.the-variants.{MalformedBlock, NoRoom}
+use Rattle.netlist.specs.Writing.{writtenText}
 use Rattle.netlist.specs.Operations.{counted, writeWords, write}
 use Rattle.grammar.proofs.WritingLength.{written-length}
 use Rattle.writing.specs.Pieces.{Short, pieces, inputText, gateText, outputText, blockText}
@@ -26,15 +27,13 @@ pub block-short : (ws : List ℕ) → isTorn ws ≡ false → Short (blockText w
 block-short ws whole =
     record { small = rw (← written-pieces ws whole) (omega (arith, written-length (decode ws) (decoded-well ws whole))) }
 
-pub outcome-torn : (ws : List ℕ) (room : ℕ) → isTorn ws ≡ true → write ws room ≡ refused MalformedBlock
-unfolding write writeWords refuseIf inRoom
-outcome-torn ws room t = rw t refl
+-- ---- the chain of conditions: from 6 on, and from 11 on
 
-module _ (ws : List ℕ) (room : ℕ) (whole : isTorn ws ≡ false) where
-  pub outcome-short : room < length (blockText ws) → write ws room ≡ refused NoRoom
-  unfolding write writeWords counted refuseIf inRoom
-  outcome-short l = rw (whole, written-pieces ws whole, lt-ltb room (length (blockText ws)) l) refl
+pub write-start : (ws : List ℕ) (room : ℕ) → write ws room ≡ inRoom room (refuseIf (isTorn ws) MalformedBlock (counted (writtenText (decode ws))))
+unfolding write writeWords
+write-start ws room = refl
 
-  pub outcome-done : length (blockText ws) ≤ room → write ws room ≡ done (blockText ws) (length (blockText ws)) 0
-  unfolding write writeWords counted refuseIf inRoom
-  outcome-done l = rw (whole, written-pieces ws whole, le-ltb room (length (blockText ws)) l) refl
+pub write-room : (ws : List ℕ) (room : ℕ) → isTorn ws ≡ false
+    → write ws room ≡ refuseIf (ltb room (length (blockText ws))) NoRoom (done (blockText ws) (length (blockText ws)) 0)
+unfolding write writeWords counted refuseIf inRoom
+write-room ws room whole = rw (whole, written-pieces ws whole) refl

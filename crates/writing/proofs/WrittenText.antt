@@ -8,7 +8,8 @@ use lib.ListN.{getD}
 use Rattle.laws.specs.Lists.{ascii, tab}
 use Rattle.laws.proofs.Tab.{map-tab}
 use Rattle.netlist.specs.Netlist.{Operand, input, gate, constant, Block}
-use Rattle.netlist.specs.StoredBlock.{nameSize, gateSize, outputSize, inputsAt, gatesAt, outputsAt, nameAt, operandOf, gateAt, outputAt, isNode, decode, isWellFormed, isTorn}
+use Rattle.netlist.specs.StoredBlock.{nameSize, gateSize, outputSize, inputsAt, gatesAt, outputsAt, nameAt, operandOf, gateAt, outputAt, isNode, decode}
+use Rattle.netlist.specs.StoredBlock.{isWellFormed, isTorn}
 use Rattle.netlist.specs.Syntax.{apply, printTerm, printTerms, printInput, printGate, printOutput, printLines, print, OutputLine}
 use Rattle.netlist.specs.Writing.{nodeNameOf, termOf, termsOf, flatLine, flatTree, writtenText}
 use Rattle.grammar.proofs.Shorter.{printTerm-append}

@@ -1,11 +1,12 @@
-// Write of document 01: "block to text, gates flat and named `_` and their decimal number; count: bytes".
-use block::Check;
+// Write (SPECIFICATION 7.11): block to text, each gate on a line of its own and named by `_` and its number; count: bytes.
+use block::check_words;
 use lines::put_block;
 use netlist::Answer;
-use netlist::Refusal;
-ghost use mathlib.Core.Path.{_≡_};
+use netlist::Test;
+use refusals::refusal;
+use refusals::test_room;
 ghost use lib.ListN.{length};
-ghost use Rattle.netlist.specs.Answers.{answerOf, leftIn};
+ghost use Rattle.netlist.specs.Answers.{Promise};
 ghost use Rattle.netlist.specs.Operations.{write};
 
 mod lines;
@@ -13,17 +14,18 @@ pub mod pieces;
 
 // Write (6, 11). The first pass is over a text of one byte, and only measures.
 pub fn write(words: &[u16], text: &mut [u8]) -> Answer
-    ensures { λ r. ⌜ r ≡ answerOf (write (now (words .entry)) (length (now (text .entry)))) ⌝ }
-    ensures { λ r. ⌜ now (text .exit) ≡ leftIn (write (now (words .entry)) (length (now (text .entry)))) (now (text .entry)) ⌝ }
+    ensures { λ r. ⌜ Promise (write (now (words .entry)) (length (now (text .entry)))) (now (text .entry)) r (now (text .exit)) ⌝ }
 {
-    let Check::Whole = block::check_words(words) else {
-        return Answer::Refused(Refusal::MalformedBlock);
+    let tested = check_words(words);
+    let Test::Passed = tested else {
+        return refusal(tested);
     };
     let mut small = [0u8; 1];
     let count = put_block(&mut small, 0, words);
-    if text.len() < count {
-        return Answer::Refused(Refusal::NoRoom);
-    }
+    let tested = test_room(text.len(), count);
+    let Test::Passed = tested else {
+        return refusal(tested);
+    };
     put_block(text, 0, words);
     Answer::Done { count, detail: 0 }
 }

@@ -1,4 +1,4 @@
-// The lines of a text, "all inputs, all gates, all outputs", appended as in `pieces`.
+// The lines of a text, those of inputs, gates and outputs, appended as in `pieces` (SPECIFICATION 1).
 use crate::pieces::put;
 use crate::pieces::put_all;
 use crate::pieces::put_gate_name;
@@ -42,7 +42,7 @@ fn put_items(text: &mut [u8], at: usize, words: &[u16], from: usize, count: usiz
     end
 }
 
-// "EXPR is `(KIND OPERAND ...)`": that of the gate whose first word is at `from`.
+// `(KIND OPERAND ...)`: the expression of the gate whose first word is at `from`.
 fn put_expression(text: &mut [u8], at: usize, words: &[u16], from: usize) -> usize
     requires { ⌜ from ≤ 1000000 ⌝ }
     requires { ⌜ Short (expressionText (now words) from) at ⌝ }
@@ -55,7 +55,7 @@ fn put_expression(text: &mut [u8], at: usize, words: &[u16], from: usize) -> usi
     put(text, filled, b')')
 }
 
-// "Gate: `(gate NAME EXPR)`.": gate j of those from `from` on.
+// `(gate NAME EXPR)` and its LF: gate j of those from `from` on.
 fn put_gate(text: &mut [u8], at: usize, words: &[u16], from: usize, j: usize) -> usize
     requires { ⌜ (from ≤ 600000) × (j ≤ 65535) ⌝ }
     requires { ⌜ Short (gateText (now words) from j) at ⌝ }
@@ -82,7 +82,7 @@ fn put_gates(text: &mut [u8], at: usize, words: &[u16], from: usize, m: usize) -
     end
 }
 
-// "Input: `(in NAME)`."
+// `(in NAME)` and its LF.
 fn put_input(text: &mut [u8], at: usize, words: &[u16], i: usize) -> usize
     requires { ⌜ i ≤ 65535 ⌝ }
     requires { ⌜ Short (inputText (now words) i) at ⌝ }
@@ -107,7 +107,7 @@ fn put_inputs(text: &mut [u8], at: usize, words: &[u16], n: usize) -> usize
     end
 }
 
-// "Output: `(out PORT NAME)`.": output o of those from `from` on.
+// `(out PORT NAME)` and its LF: output o of those from `from` on.
 fn put_output(text: &mut [u8], at: usize, words: &[u16], from: usize, o: usize) -> usize
     requires { ⌜ (from ≤ 600000) × (o ≤ 65535) ⌝ }
     requires { ⌜ Short (outputText (now words) from o) at ⌝ }
@@ -135,7 +135,7 @@ fn put_outputs(text: &mut [u8], at: usize, words: &[u16], from: usize, k: usize)
     end
 }
 
-// "all inputs, all gates, all outputs"
+// All inputs, all gates, all outputs.
 pub fn put_block(text: &mut [u8], at: usize, words: &[u16]) -> usize
     requires { ⌜ Short (blockText (now words)) at ⌝ }
     ensures { λ r. ⌜ Appended (blockText (now (words .entry))) (now (text .entry)) at (now (text .exit)) r ⌝ }

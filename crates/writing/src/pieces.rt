@@ -1,6 +1,9 @@
 // Bytes, names, numbers and operands, each appended to a text at `at`. Each function answers the new end. What does not fit into the
 // text is left out, and counted all the same.
 use layout::kinds::signature_of;
+use layout::limits::MAX_NAME;
+use layout::nodes::CONSTANT_0;
+use layout::nodes::CONSTANT_1;
 use layout::offsets::INPUTS_AT;
 use layout::offsets::NAME_SIZE;
 use layout::offsets::inputs_of;
@@ -50,8 +53,8 @@ fn put_trimmed(text: &mut [u8], at: usize, bytes: &[u8]) -> usize
     put_all(text, at, &bytes[..count])
 }
 
-// "A name word is first byte + 256 × second": the eight bytes of the name at `from`.
-fn name_bytes(words: &[u16], from: usize) -> [u8; 8]
+// The eight bytes of the name at `from`: a word has two, the lower one first (SPECIFICATION 2.2).
+fn name_bytes(words: &[u16], from: usize) -> [u8; MAX_NAME]
     requires { ⌜ from ≤ 1000000 ⌝ }
     ensures { λ r. ⌜ r ≡ bytesAt (now (words .entry)) from ⌝ }
 {
@@ -93,7 +96,7 @@ pub fn put_decimal(text: &mut [u8], at: usize, v: usize) -> usize
     put(text, end, (48 + v % 10) as u8)
 }
 
-// "named `_` and their decimal number"
+// The name of gate j: `_` and its number.
 pub fn put_gate_name(text: &mut [u8], at: usize, j: usize) -> usize
     requires { ⌜ Short (gateName j) at ⌝ }
     ensures { λ r. ⌜ Appended (gateName j) (now (text .entry)) at (now (text .exit)) r ⌝ }
@@ -123,8 +126,8 @@ pub fn put_operand(text: &mut [u8], at: usize, words: &[u16], from: usize) -> us
         return put_name(text, at, words, INPUTS_AT + NAME_SIZE * word);
     }
     match word {
-        65534 => put(text, at, b'0'),
-        65535 => put(text, at, b'1'),
+        CONSTANT_0 => put(text, at, b'0'),
+        CONSTANT_1 => put(text, at, b'1'),
         _ => put_gate_name(text, at, word - n),
     }
 }

@@ -37,10 +37,12 @@ same-length-3 c = search needs
 
 returns : tie.Need-returns
 returns c =
-    let sounded = c .before .before .before .before .before .before .before .before in
-    let args = sounded .before .before .before .before .before .before .before .before .before .before .before .args in
+    let written = c .before .before in
+    let sounded = written .before .before .before .before .before .before in
+    let weighed = sounded .before .before .before .before in
+    let args = weighed .before .before .before .before .before .before .before .args in
     cover-written (settledBy (args .settled .now)) (args .n) (sounded .fill-sound .last .1 .1 .1 .0) (args .sound .now)
-    (sounded .fill-sound .ensures) (c .before .before .write-entries .ensures)
+    (sounded .fill-sound .ensures) (written .write-entries .ensures)
 
 pub cover-within-spec : {M : Type 1} → statement M
 cover-within-spec =

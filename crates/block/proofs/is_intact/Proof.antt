@@ -26,24 +26,20 @@ outputs-of-requires c κs = search needs
 
 parts-fit-requires : tie.Need-parts-fit-requires
 parts-fit-requires c κs =
-    let tested = c .before .before .before in
-    let ws = tested .before .before .before .args .words .now in
-    let l : Limits (getD ws 0 0) (getD ws 1 0) (getD ws 2 0) =
-    header-limits ws (sym (tested .before .fits2 .ensures) ∙ not-false _ (tested .if1 .left)) in
+    let ws = c .before .before .before .before .before .before .args .words .now in
+    let l : Limits (getD ws 0 0) (getD ws 1 0) (getD ws 2 0) = header-limits ws
+    (sym (c .before .before .before .before .fits2 .ensures) ∙ not-false _ (c .before .before .before .if1 .left)) in
     rw (c .before .before .inputs-of .ensures, c .before .gates-of .ensures, c .outputs-of .ensures) (l .inputs, (l .gates, l .outputs))
 
 returns-2 : tie.Need-returns-2
 unfolding intact
 returns-2 c =
-    let read = c .before in
-    let tested = read .before .before .before in
     rw (
-      sym (tested .before .fits2 .ensures) ∙ not-false _ (tested .if1 .left),
-      ← read .before .before .inputs-of .ensures,
-      ← read .before .gates-of .ensures,
-      ← read .outputs-of .ensures,
-    )
-    (c .parts-fit .ensures)
+      sym (c .before .before .before .before .before .fits2 .ensures) ∙ not-false _ (c .before .before .before .before .if1 .left),
+      ← c .before .before .before .inputs-of .ensures,
+      ← c .before .before .gates-of .ensures,
+      ← c .before .outputs-of .ensures,
+    ) (c .parts-fit .ensures)
 
 pub is-intact-spec : {M : Type 1} → statement M
 is-intact-spec =

@@ -24,8 +24,7 @@ fit-requires-2 c κs = search needs
 
 returns-2 : tie.Need-returns-2
 returns-2 c =
-    let named = c .before .before in
-    rw (sym (named .before .fit .ensures) ∙ not-false _ (named .if1 .left), sym (c .before .fit2 .ensures) ∙ not-true _ (c .if2 .taken))
+    rw (sym (c .before .before .before .fit .ensures) ∙ not-false _ (c .before .before .if1 .left), sym (c .before .fit2 .ensures) ∙ not-true _ (c .if2 .taken))
 
 fit-requires-3 : tie.Need-fit-requires-3
 unfolding gatesAt outputsAt
@@ -46,8 +45,11 @@ add-fit-2 c = search needs
 fit-requires-4 : tie.Need-fit-requires-4
 unfolding gatesAt outputsAt
 fit-requires-4 c κs =
-    let counted = c .before .before .before .before .before .before in
-    omega (arith, counted .outputs-at .ensures, counted .before .before .pre)
+    omega (
+      arith,
+      c .before .before .before .before .before .before .outputs-at .ensures,
+      c .before .before .before .before .before .before .before .before .pre,
+    )
 
 returns-4 : tie.Need-returns-4
 returns-4 c =

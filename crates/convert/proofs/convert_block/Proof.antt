@@ -9,6 +9,16 @@ use Rattle.convert.proofs.Telling.{told-refused, told-done, gave-within
 use Rattle.convert.proofs.Sizes.{render-fits}
 use lib.Seq.{length-take-le}
 
+-- the entry, and what Render told on each way
+abbrev start : tie.After-render → tie.Start
+start c = c .before .before .before .before .before
+
+abbrev refused-render : tie.After-why → tie.After-render
+refused-render c = c .before .before .before .before
+
+abbrev done-render : tie.After-count → tie.After-render
+done-render c = c .before .before .before .before
+
 render-requires : tie.Need-render-requires
 render-requires c κs = search needs
 
@@ -23,11 +33,27 @@ enum-known-count c = search needs
 
 slice-reshare-prefix-convert-rendered : tie.Need-slice-reshare-prefix-convert-rendered
 unfolding render
-slice-reshare-prefix-convert-rendered c = gave-within (told-done (renderWords (c .before .before .before .before .before .before .before .before .before .before .args .words .now)) _ (c .before .before .before .before .before .before .before .before .before .before .args .copies .now) _ (render-fits (length (c .before .before .before .before .before .before .before .before .before .before .args .copies .now)) (c .before .before .before .before .before .before .before .before .before .before .pre .0) (c .before .before .before .before .before .before .before .before .before .before .args .words .now)) (c .before .before .before .before .before .render .ensures .answers) (c .before .before .before .before .before .render .ensures .leaves) (c .before .count .given .0 .0) (c .before .count .given .0 .1 .0) (c .before .count .given .1))
+slice-reshare-prefix-convert-rendered c =
+    let n = c .before in
+    let s = start (done-render n) in
+    let a = s .args in
+    let f = render-fits (length (a .copies .now)) (s .pre .0) (a .words .now) in
+    gave-within
+    (told-done (renderWords (a .words .now)) _ (a .copies .now) _ f (done-render n .render .ensures .promise)
+    (n .count .given .0 .0) (n .count .given .0 .1 .0) (n .count .given .1))
 
 slice-aggregate-convert-rendered : tie.Need-slice-aggregate-convert-rendered
 unfolding render
-slice-aggregate-convert-rendered c = sym (length-take-le _ _ (gave-within (told-done (renderWords (c .before .before .before .before .before .before .before .before .before .before .before .args .words .now)) _ (c .before .before .before .before .before .before .before .before .before .before .before .args .copies .now) _ (render-fits (length (c .before .before .before .before .before .before .before .before .before .before .before .args .copies .now)) (c .before .before .before .before .before .before .before .before .before .before .before .pre .0) (c .before .before .before .before .before .before .before .before .before .before .before .args .words .now)) (c .before .before .before .before .before .before .render .ensures .answers) (c .before .before .before .before .before .before .render .ensures .leaves) (c .before .before .count .given .0 .0) (c .before .before .count .given .0 .1 .0) (c .before .before .count .given .1))))
+slice-aggregate-convert-rendered c =
+    let n = c .before .before in
+    let s = start (done-render n) in
+    let a = s .args in
+    let f = render-fits (length (a .copies .now)) (s .pre .0) (a .words .now) in
+    sym
+    (length-take-le _ _
+    (gave-within
+    (told-done (renderWords (a .words .now)) _ (a .copies .now) _ f (done-render n .render .ensures .promise)
+    (n .count .given .0 .0) (n .count .given .0 .1 .0) (n .count .given .1))))
 
 convert-rendered-requires : tie.Need-convert-rendered-requires
 convert-rendered-requires c κs = search needs
@@ -40,10 +66,16 @@ same-length-2 c = search needs
 
 returns : tie.Need-returns
 unfolding render
-returns c = let a = c .before .before .before .before .before .before .before .before .before .before .before .before .before .before .args in
+returns c =
+    let w = c .before .before .before .before .before in
+    let s = start (refused-render w) in
+    let a = s .args in
     let o = renderWords (a .words .now) in
-    let f = render-fits (length (a .copies .now)) (c .before .before .before .before .before .before .before .before .before .before .before .before .before .before .pre .0) (a .words .now) in
-    shown-is (chained-refused o writeWords (c .before .before .before .before .before .why .given .0 .0) (told-refused o _ (a .copies .now) _ f (c .before .before .before .before .before .before .before .before .before .render .ensures .answers) (c .before .before .before .before .before .before .before .before .before .render .ensures .leaves) (c .before .before .before .before .before .why .given .0 .0) (c .before .before .before .before .before .why .given .1))) (c .before .before .tell .ensures)
+    let f = render-fits (length (a .copies .now)) (s .pre .0) (a .words .now) in
+    shown-is
+    (chained-refused o writeWords (w .why .given .0 .0)
+    (told-refused o _ (a .copies .now) _ f (refused-render w .render .ensures .promise) (w .why .given .0 .0) (w .why .given .1)))
+    (c .before .before .tell .ensures)
 
 same-length-3 : tie.Need-same-length-3
 same-length-3 c = search needs
@@ -53,8 +85,17 @@ same-length-4 c = search needs
 
 returns-2 : tie.Need-returns-2
 unfolding render
-returns-2 c = let g = told-done (renderWords (c .before .before .before .before .before .before .before .before .before .before .before .before .before .before .before .args .words .now)) _ (c .before .before .before .before .before .before .before .before .before .before .before .before .before .before .before .args .copies .now) _ (render-fits (length (c .before .before .before .before .before .before .before .before .before .before .before .before .before .before .before .args .copies .now)) (c .before .before .before .before .before .before .before .before .before .before .before .before .before .before .before .pre .0) (c .before .before .before .before .before .before .before .before .before .before .before .before .before .before .before .args .words .now)) (c .before .before .before .before .before .before .before .before .before .before .render .ensures .answers) (c .before .before .before .before .before .before .before .before .before .before .render .ensures .leaves) (c .before .before .before .before .before .before .count .given .0 .0) (c .before .before .before .before .before .before .count .given .0 .1 .0) (c .before .before .before .before .before .before .count .given .1) in
-    shown-is (chained-gave (renderWords (c .before .before .before .before .before .before .before .before .before .before .before .before .before .before .before .args .words .now)) writeWords g) (c .before .before .convert-rendered .ensures)
+returns-2 c =
+    let n = c .before .before .before .before .before .before in
+    let s = start (done-render n) in
+    let a = s .args in
+    let o = renderWords (a .words .now) in
+    let f = render-fits (length (a .copies .now)) (s .pre .0) (a .words .now) in
+    shown-is
+    (chained-gave o writeWords
+    (told-done o _ (a .copies .now) _ f (done-render n .render .ensures .promise)
+    (n .count .given .0 .0) (n .count .given .0 .1 .0) (n .count .given .1)))
+    (c .before .before .convert-rendered .ensures)
 
 pub convert-block-spec : {M : Type 1} → statement M
 convert-block-spec =

@@ -7,6 +7,16 @@ use Rattle.netlist.specs.Operations.{write, writeWords}
 use Rattle.convert.proofs.Telling.{told-refused, kept-refused, told-done, shown-refused, shown-gave}
 use Rattle.convert.proofs.Sizes.{write-fits}
 
+-- the entry, and what Write told on each way
+abbrev start : tie.After-write → tie.Start
+start c = c .before .before .before .before
+
+abbrev refused-write : tie.After-why → tie.After-write
+refused-write c = c .before .before .before .before
+
+abbrev done-write : tie.After-count → tie.After-write
+done-write c = c .before .before .before .before
+
 write-requires : tie.Need-write-requires
 write-requires c κs = search needs
 
@@ -24,24 +34,30 @@ same-length c = search needs
 
 returns : tie.Need-returns
 unfolding write
-returns c = let a = c .before .before .before .before .before .before .before .before .before .before .before .before .before .args in
+returns c =
+    let w = c .before .before .before .before .before in
+    let s = start (refused-write w) in
+    let a = s .args in
     let o = writeWords (a .words .now) in
-    let f = write-fits (length (a .out .now)) (c .before .before .before .before .before .before .before .before .before .before .before .before .before .pre) (a .words .now) in
-    let e = c .before .before .before .before .before .before .before .before .before .write .ensures in
-    shown-refused o (c .before .before .before .before .before .why .given .0 .0) (a .out .now) _ _ _
-    (told-refused o _ (a .out .now) _ f (e .0) (e .1) (c .before .before .before .before .before .why .given .0 .0) (c .before .before .before .before .before .why .given .1))
-    (kept-refused o _ (a .out .now) _ f (e .0) (e .1) (c .before .before .before .before .before .why .given .0 .0) (c .before .before .before .before .before .why .given .1)) (c .before .before .tell .ensures)
+    let f = write-fits (length (a .out .now)) (s .pre) (a .words .now) in
+    let e = refused-write w .write .ensures in
+    let why = w .why .given in
+    shown-refused o (why .0 .0) (a .out .now) _ _ _
+    (told-refused o _ (a .out .now) _ f e (why .0 .0) (why .1)) (kept-refused o _ (a .out .now) _ f e (why .0 .0) (why .1)) (c .before .before .tell .ensures)
 
 same-length-2 : tie.Need-same-length-2
 same-length-2 c = search needs
 
 returns-2 : tie.Need-returns-2
 unfolding write
-returns-2 c = let a = c .before .before .before .before .before .before .before .before .before .args in
-    let o = writeWords (a .words .now) in
-    let f = write-fits (length (a .out .now)) (c .before .before .before .before .before .before .before .before .before .pre) (a .words .now) in
-    let e = c .before .before .before .before .before .write .ensures in
-    shown-gave (told-done o _ (a .out .now) _ f (e .0) (e .1) (c .before .count .given .0 .0) (c .before .count .given .0 .1 .0) (c .before .count .given .1))
+returns-2 c =
+    let n = c .before in
+    let s = start (done-write n) in
+    let a = s .args in
+    let f = write-fits (length (a .out .now)) (s .pre) (a .words .now) in
+    shown-gave
+    (told-done (writeWords (a .words .now)) _ (a .out .now) _ f (done-write n .write .ensures)
+    (n .count .given .0 .0) (n .count .given .0 .1 .0) (n .count .given .1))
 
 pub convert-rendered-spec : {M : Type 1} → statement M
 convert-rendered-spec =

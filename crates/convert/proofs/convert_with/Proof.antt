@@ -9,6 +9,16 @@ use Rattle.convert.proofs.Telling.{told-refused, told-done, gave-within
 use Rattle.convert.proofs.Sizes.{read-fits}
 use lib.Seq.{length-take-le}
 
+-- the entry, and what Read told on each way
+abbrev start : tie.After-read → tie.Start
+start c = c .before .before .before .before .before .before
+
+abbrev refused-read : tie.After-why → tie.After-read
+refused-read c = c .before .before .before .before
+
+abbrev done-read : tie.After-count → tie.After-read
+done-read c = c .before .before .before .before
+
 read-requires : tie.Need-read-requires
 read-requires c κs = search needs
 
@@ -23,11 +33,25 @@ enum-known-count c = search needs
 
 slice-reshare-prefix-convert-block : tie.Need-slice-reshare-prefix-convert-block
 unfolding read
-slice-reshare-prefix-convert-block c = gave-within (told-done (readText (c .before .before .before .before .before .before .before .before .before .before .before .args .text .now)) _ (c .before .before .before .before .before .before .before .before .before .before .before .args .block .now) _ (read-fits (length (c .before .before .before .before .before .before .before .before .before .before .before .args .block .now)) (c .before .before .before .before .before .before .before .before .before .before .before .pre .0) (c .before .before .before .before .before .before .before .before .before .before .before .args .text .now)) (c .before .before .before .before .before .read .ensures .0) (c .before .before .before .before .before .read .ensures .1) (c .before .count .given .0 .0) (c .before .count .given .0 .1 .0) (c .before .count .given .1))
+slice-reshare-prefix-convert-block c =
+    let n = c .before in
+    let s = start (done-read n) in
+    let a = s .args in
+    gave-within
+    (told-done (readText (a .text .now)) _ (a .block .now) _ (read-fits (length (a .block .now)) (s .pre .0) (a .text .now)) (done-read n .read .ensures)
+    (n .count .given .0 .0) (n .count .given .0 .1 .0) (n .count .given .1))
 
 slice-aggregate-convert-block : tie.Need-slice-aggregate-convert-block
 unfolding read
-slice-aggregate-convert-block c = sym (length-take-le _ _ (gave-within (told-done (readText (c .before .before .before .before .before .before .before .before .before .before .before .before .args .text .now)) _ (c .before .before .before .before .before .before .before .before .before .before .before .before .args .block .now) _ (read-fits (length (c .before .before .before .before .before .before .before .before .before .before .before .before .args .block .now)) (c .before .before .before .before .before .before .before .before .before .before .before .before .pre .0) (c .before .before .before .before .before .before .before .before .before .before .before .before .args .text .now)) (c .before .before .before .before .before .before .read .ensures .0) (c .before .before .before .before .before .before .read .ensures .1) (c .before .before .count .given .0 .0) (c .before .before .count .given .0 .1 .0) (c .before .before .count .given .1))))
+slice-aggregate-convert-block c =
+    let n = c .before .before in
+    let s = start (done-read n) in
+    let a = s .args in
+    sym
+    (length-take-le _ _
+    (gave-within
+    (told-done (readText (a .text .now)) _ (a .block .now) _ (read-fits (length (a .block .now)) (s .pre .0) (a .text .now)) (done-read n .read .ensures)
+    (n .count .given .0 .0) (n .count .given .0 .1 .0) (n .count .given .1))))
 
 convert-block-requires : tie.Need-convert-block-requires
 convert-block-requires c κs = search needs
@@ -40,10 +64,14 @@ same-length-2 c = search needs
 
 returns : tie.Need-returns
 unfolding read
-returns c = let a = c .before .before .before .before .before .before .before .before .before .before .before .before .before .before .before .args in
-    let o = readText (a .text .now) in
-    let f = read-fits (length (a .block .now)) (c .before .before .before .before .before .before .before .before .before .before .before .before .before .before .before .pre .0) (a .text .now) in
-    unloop-refused (a .text .now) (c .before .before .before .before .before .why .given .0 .0) (told-refused o _ (a .block .now) _ f (c .before .before .before .before .before .before .before .before .before .read .ensures .0) (c .before .before .before .before .before .before .before .before .before .read .ensures .1) (c .before .before .before .before .before .why .given .0 .0) (c .before .before .before .before .before .why .given .1)) (c .before .before .tell .ensures)
+returns c =
+    let w = c .before .before .before .before .before in
+    let s = start (refused-read w) in
+    let a = s .args in
+    unloop-refused (a .text .now) (w .why .given .0 .0)
+    (told-refused (readText (a .text .now)) _ (a .block .now) _ (read-fits (length (a .block .now)) (s .pre .0) (a .text .now)) (refused-read w .read .ensures)
+    (w .why .given .0 .0) (w .why .given .1))
+    (c .before .before .tell .ensures)
 
 same-length-3 : tie.Need-same-length-3
 same-length-3 c = search needs
@@ -56,8 +84,15 @@ same-length-5 c = search needs
 
 returns-2 : tie.Need-returns-2
 unfolding read
-returns-2 c = let g = told-done (readText (c .before .before .before .before .before .before .before .before .before .before .before .before .before .before .before .before .before .before .before .args .text .now)) _ (c .before .before .before .before .before .before .before .before .before .before .before .before .before .before .before .before .before .before .before .args .block .now) _ (read-fits (length (c .before .before .before .before .before .before .before .before .before .before .before .before .before .before .before .before .before .before .before .args .block .now)) (c .before .before .before .before .before .before .before .before .before .before .before .before .before .before .before .before .before .before .before .pre .0) (c .before .before .before .before .before .before .before .before .before .before .before .before .before .before .before .before .before .before .before .args .text .now)) (c .before .before .before .before .before .before .before .before .before .before .before .before .before .read .ensures .0) (c .before .before .before .before .before .before .before .before .before .before .before .before .before .read .ensures .1) (c .before .before .before .before .before .before .before .before .before .count .given .0 .0) (c .before .before .before .before .before .before .before .before .before .count .given .0 .1 .0) (c .before .before .before .before .before .before .before .before .before .count .given .1) in
-    unloop-gave (c .before .before .before .before .before .before .before .before .before .before .before .before .before .before .before .before .before .before .before .args .text .now) g (c .before .before .before .before .convert-block .ensures)
+returns-2 c =
+    let converted = c .before .before .before .before in
+    let n = converted .before .before .before .before .before in
+    let s = start (done-read n) in
+    let a = s .args in
+    unloop-gave (a .text .now)
+    (told-done (readText (a .text .now)) _ (a .block .now) _ (read-fits (length (a .block .now)) (s .pre .0) (a .text .now)) (done-read n .read .ensures)
+    (n .count .given .0 .0) (n .count .given .0 .1 .0) (n .count .given .1))
+    (converted .convert-block .ensures)
 
 pub convert-with-spec : {M : Type 1} → statement M
 convert-with-spec =

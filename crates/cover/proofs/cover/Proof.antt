@@ -1,10 +1,11 @@
 -- `cover::cover` meets its contract: torn words are refused, and whole ones are `whole_cover`'s. Assumes nothing.
 use mathlib.Core.Path.{refl}
-use lib.ListN.{length}
-use Rattle.netlist.specs.Answers.{answerOf, leftIn}
-use Rattle.block.proofs.Answered.{told-whole, told-torn}
-use Rattle.cover.proofs.Answered.{cover-torn}
+use denote.Ref.{now}
 use borrow.Author.Needs.{needs}
+use Rattle.netlist.specs.declared.Refusal.the-variants.{MalformedBlock}
+use Rattle.netlist.specs.Answers.{inRoom}
+use Rattle.refusals.proofs.Promised.{passed-false, failed, keeps-room}
+use Rattle.cover.proofs.Outcomes.{cover-chain}
 use Rattle.cover.proofs.cover.Statement.{statement}
 use Rattle.cover.proofs.cover.Tie as tie
 
@@ -17,12 +18,15 @@ enum-told c = search needs
 enum-told-2 : tie.Need-enum-told-2
 enum-told-2 c = search needs
 
+refusal-requires : tie.Need-refusal-requires
+refusal-requires c κs = search needs
+
 returns : tie.Need-returns
-unfolding answerOf leftIn
 returns c =
-    let s = c .before .before .before .before .before in
-    let ws = s .args .words .now in
-    rw (cover-torn ws (length (s .args .entries .now)) (told-torn ws (c .before .before .check-words .ensures) (c .enum-told2 .given .1))) (refl, refl)
+    let t = c .before .before .before in
+    let s = t .before .before .before in
+    failed (inRoom _) (keeps-room _) _ _ MalformedBlock (cover-chain _ _) (t .check-words .ensures) (now (s .args .entries))
+    (c .before .before .match .keys2) (c .refusal .ensures)
 
 slice-aggregate-whole-cover : tie.Need-slice-aggregate-whole-cover
 slice-aggregate-whole-cover c = search needs
@@ -38,8 +42,8 @@ slice-aggregate-whole-cover-4 c = search needs
 
 whole-cover-requires : tie.Need-whole-cover-requires
 whole-cover-requires c κs =
-    let ws = c .before .before .before .before .before .before .before .before .before .before .args .words .now in (
-      told-whole ws (c .before .before .before .before .before .before .before .check-words .ensures) (c .before .before .before .before .before .enum-told .given .1),
+    let told = c .before .before .before .before .before in (
+      passed-false _ MalformedBlock (told .before .before .check-words .ensures) (told .enum-told .given .1),
       record { orderRoom = refl; inputRoom = refl; valueRoom = refl; settledRoom = refl },
     )
 
@@ -56,6 +60,7 @@ cover-spec =
     check-words-requires
     enum-told
     enum-told-2
+    refusal-requires
     returns
     slice-aggregate-whole-cover
     slice-aggregate-whole-cover-2

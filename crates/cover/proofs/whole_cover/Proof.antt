@@ -1,19 +1,32 @@
 -- `cover::whole_cover` meets its contract: the entries over the table of settled settings are the block's cover. Assumes nothing.
-use lib.ListN.{length}
-use Prim.Native.Nat.{ℕ, _*_, _≤_, _<_}
-use mathlib.Core.Path.{refl, sym, ap, _∙_}
-use native.Mathlib.Omega.{arith}
-use Rattle.netlist.specs.declared.Answer.the-variants.{Done}
+use mathlib.Core.Path.{_≡_, sym, _∙_}
+use denote.Ref.{now}
+use borrow.Author.Needs.{needs}
+use Rattle.netlist.specs.Netlist.{inputCount}
 use Rattle.netlist.specs.StoredBlock.{decode}
-use Rattle.netlist.specs.Cover.{cover}
-use Rattle.netlist.specs.Answers.{answerOf, leftIn}
 use Rattle.encoding.proofs.Decoded.{decode-inputCount}
 use Rattle.encoding.proofs.Readers.{whole-parts}
 use Rattle.cover.proofs.Flags.{table-room}
-use Rattle.cover.proofs.Answered.{cover-short, cover-done, count-is, kept-short, placed-all}
-use borrow.Author.Needs.{needs}
+use Rattle.cover.proofs.Outcomes.{cover-short, cover-done}
 use Rattle.cover.proofs.whole_cover.Statement.{statement}
 use Rattle.cover.proofs.whole_cover.Tie as tie
+
+-- the places of the calls, and the function's entry
+abbrev tabled : tie.After-inputs-of → tie.After-tabulate
+tabled c = let v = c .before .before .before .before in v .before .before .before .before .before
+
+abbrev start : tie.After-tabulate → tie.Start
+start c = let k = c .before .before .before .before .before in k .before .before .before .before .before .before
+
+abbrev counted : tie.After-cover-entries → tie.After-inputs-of
+counted c = c .before .before .before
+
+abbrev listed : tie.After-test-room → tie.After-cover-entries
+listed c = c .before .before .before
+
+-- n is the block's number of inputs
+inputs-are : (c : tie.After-inputs-of) → c .inputs-of .result ≡ inputCount (decode (now (start (tabled c) .args .words)))
+inputs-are c = c .inputs-of .ensures ∙ sym (decode-inputCount (now (start (tabled c) .args .words)))
 
 tabulate-requires : tie.Need-tabulate-requires
 tabulate-requires c κs = search needs
@@ -23,11 +36,23 @@ inputs-of-requires c κs = search needs
 
 cover-entries-requires : tie.Need-cover-entries-requires
 cover-entries-requires c κs =
-    let s = c .before .before .before .before .before .before .before .before .before .before .before .before .before .before .before .before .before .before .before .before .before .before in
-    let n = c .before .before .inputs-of in (
-      rw (n .ensures) (whole-parts (s .args .words .now) (s .pre .0) .fewInputs),
-      table-room (c .before .before .before .before .before .before .before .before .before .before .before .tabulate .ensures) (n .ensures ∙ sym (decode-inputCount (s .args .words .now))),
+    let i = c .before .before in
+    let s = start (tabled i) in (
+      rw (i .inputs-of .ensures) (whole-parts (now (s .args .words)) (s .pre .0) .fewInputs),
+      table-room (tabled i .tabulate .ensures) (inputs-are i),
     )
+
+test-room-requires : tie.Need-test-room-requires
+test-room-requires c κs = search needs
+
+enum-told : tie.Need-enum-told
+enum-told c = search needs
+
+enum-told-2 : tie.Need-enum-told-2
+enum-told-2 c = search needs
+
+refusal-requires : tie.Need-refusal-requires
+refusal-requires c κs = search needs
 
 same-length : tie.Need-same-length
 same-length c = search needs
@@ -45,17 +70,12 @@ same-length-5 : tie.Need-same-length-5
 same-length-5 c = search needs
 
 returns : tie.Need-returns
-unfolding answerOf leftIn
 returns c =
-    let s = c .before .before .before .before .before .before .before .before .before .before .before .before .before .before .before .before .before .before .before .before .before .before .before .before .before .before in
-    let ws = s .args .words .now in
-    let entry = s .args .entries .now in
-    let n = c .before .before .before .before .before .before .inputs-of in
-    let e = c .before .before .before .cover-entries in
-    let ni = n .ensures ∙ sym (decode-inputCount ws) in
-    let t = c .before .before .before .before .before .before .before .before .before .before .before .before .before .before .before .tabulate .ensures in
-    let few : length entry < 2 * length (cover (decode ws)) = omega (arith, c .if1 .taken, e .kept .1 .1 .0, count-is t ni (e .ensures)) in
-    rw (cover-short ws (length entry) (s .pre .0) few) (refl, kept-short t ni (e .ensures) few)
+    let t = c .before .before .before in
+    let e = listed t in
+    let i = counted e in
+    cover-short _ (start (tabled i) .pre .0) (tabled i .tabulate .ensures) (inputs-are i) (e .cover-entries .ensures) (e .cover-entries .kept .1 .1 .0)
+    (t .test-room .ensures) (c .before .before .match .keys2) (c .refusal .ensures)
 
 same-length-6 : tie.Need-same-length-6
 same-length-6 c = search needs
@@ -73,18 +93,12 @@ same-length-10 : tie.Need-same-length-10
 same-length-10 c = search needs
 
 returns-2 : tie.Need-returns-2
-unfolding answerOf leftIn
 returns-2 c =
-    let s = c .before .before .before .before .before .before .before .before .before .before .before .before .before .before .before .before .before .before .before .before .before .before .before .before .before .before in
-    let ws = s .args .words .now in
-    let entry = s .args .entries .now in
-    let n = c .before .before .before .before .before .before .inputs-of in
-    let e = c .before .before .before .cover-entries in
-    let ni = n .ensures ∙ sym (decode-inputCount ws) in
-    let t = c .before .before .before .before .before .before .before .before .before .before .before .before .before .before .before .tabulate .ensures in
-    let enough : 2 * length (cover (decode ws)) ≤ length entry = omega (arith, c .if1 .left, e .kept .1 .1 .0, count-is t ni (e .ensures)) in
-    rw (cover-done ws (length entry) (s .pre .0) enough)
-    (ap (λ (k : ℕ). Done k 0) (count-is t ni (e .ensures)), placed-all t ni (e .ensures) enough)
+    let t = c .before .before in
+    let e = listed t in
+    let i = counted e in
+    cover-done _ (start (tabled i) .pre .0) (tabled i .tabulate .ensures) (inputs-are i) (e .cover-entries .ensures) (e .cover-entries .kept .1 .1 .0)
+    (t .test-room .ensures) (c .enum-told .given .1)
 
 pub whole-cover-spec : {M : Type 1} → statement M
 whole-cover-spec =
@@ -93,6 +107,10 @@ whole-cover-spec =
     tabulate-requires
     inputs-of-requires
     cover-entries-requires
+    test-room-requires
+    enum-told
+    enum-told-2
+    refusal-requires
     same-length
     same-length-2
     same-length-3

@@ -1,5 +1,5 @@
--- `exports::unloop_verdict` meets its contract: it shows the answer of the operation. Assumes nothing.
-use Rattle.exports.proofs.Shown.{shows-same}
+-- `exports::unloop_verdict` meets its contract: its reply keeps the operation's promise. Assumes nothing.
+use Rattle.exports.proofs.Shown.{shows-told}
 use borrow.Author.Needs.{needs}
 use Rattle.exports.proofs.unloop_verdict.Statement.{statement}
 use Rattle.exports.proofs.unloop_verdict.Tie as tie
@@ -11,7 +11,7 @@ reply-of-requires : tie.Need-reply-of-requires
 reply-of-requires c κs = search needs
 
 returns : tie.Need-returns
-returns c = shows-same (c .before .verdict .ensures) (c .reply-of .ensures)
+returns c = shows-told (c .before .verdict .ensures) (c .reply-of .ensures)
 
 pub unloop-verdict-spec : {M : Type 1} → statement M
 unloop-verdict-spec = tie.close (tie.spec verdict-requires reply-of-requires returns)

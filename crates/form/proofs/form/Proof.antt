@@ -42,10 +42,18 @@ phase-of-requires : tie.Need-phase-of-requires Inv-loop μ-loop
 phase-of-requires c κs = search needs
 
 -- a line that was read leaves less
-less : (c : tie.After-phase-of Inv-loop μ-loop) → c .before .before .before .found .given .0 .0 < length (c .before .before .before .before .before .before .before .before .before .before .args .text .now) - c .before .before .before .before .before .before .before .before .loop .at
+less : (c : tie.After-phase-of Inv-loop μ-loop) →
+    let at-found = c .before .before .before in
+    let at-loop = at-found .before .before .before .before .before in
+    let start = at-loop .before .before in
+    at-found .found .given .0 .0 < length (start .args .text .now) - at-loop .loop .at
 less c =
-    let i = c .before .before .before .before .before .before .before in
-    line-left (i .before .before .before .args .text .now) (i .before .loop .phase) (i .before .loop .at) (i .before .loop .inv) (i .loop-test .taken) (c .before .before .before .before .before .line .ensures) (c .before .before .before .found .given .1)
+    let at-found = c .before .before .before in
+    let at-line = at-found .before .before in
+    let stage = at-line .before .before in
+    let i = stage in
+    line-left (i .before .before .before .args .text .now) (i .before .loop .phase) (i .before .loop .at) (i .before .loop .inv) (i .loop-test .taken)
+    (at-line .line .ensures) (at-found .found .given .1)
 
 sub-at : tie.Need-sub-at Inv-loop μ-loop
 sub-at c = let l = less c in omega arith
@@ -54,23 +62,37 @@ loop-less : tie.Need-loop-less Inv-loop μ-loop
 loop-less c = let l = less c in omega arith
 
 loop-again : tie.Need-loop-again Inv-loop μ-loop
-loop-again c = let i = c .before .before .before .before .before .before .before in
+loop-again c =
+    let at-found = c .before .before .before in
+    let at-line = at-found .before .before in
+    let stage = at-line .before .before in
+    let i = stage in
     rw (c .phase-of .ensures ∙ ap phaseOf (c .before .byte-at .ensures))
-    (reached-next (i .before .before .before .args .text .now) (i .before .loop .phase) (i .before .loop .at) (i .before .loop .inv) (i .loop-test .taken) (c .before .before .before .before .before .line .ensures) (c .before .before .before .found .given .1))
+    (reached-next (i .before .before .before .args .text .now) (i .before .loop .phase) (i .before .loop .at) (i .before .loop .inv) (i .loop-test .taken)
+    (at-line .line .ensures) (at-found .found .given .1))
 
 enum-known-found-2 : tie.Need-enum-known-found-2 Inv-loop μ-loop
 enum-known-found-2 c = search needs
 
 sub-t15 : tie.Need-sub-t15 Inv-loop μ-loop
-sub-t15 c = let i = c .before .before .before .before .before in
-    line-stuck (i .before .before .before .args .text .now) (i .before .loop .phase) (i .before .loop .at) (i .before .loop .inv) (i .loop-test .taken) (c .before .before .before .line .ensures) (c .before .found2 .given .1)
+sub-t15 c =
+    let at-line = c .before .before .before in
+    let stage = at-line .before .before in
+    let i = stage in
+    line-stuck (i .before .before .before .args .text .now) (i .before .loop .phase) (i .before .loop .at) (i .before .loop .inv) (i .loop-test .taken)
+    (at-line .line .ensures) (c .before .found2 .given .1)
 
 returns : tie.Need-returns Inv-loop μ-loop
-returns c = let i = c .before .before .before .before .before in
-    sym (reached-stuck (i .before .before .before .args .text .now) (i .before .loop .phase) (i .before .loop .at) (i .before .loop .inv) (i .loop-test .taken) (c .before .before .before .line .ensures) (c .before .found2 .given .1))
+returns c =
+    let at-line = c .before .before .before in
+    let stage = at-line .before .before in
+    let i = stage in
+    sym (reached-stuck (i .before .before .before .args .text .now) (i .before .loop .phase) (i .before .loop .at) (i .before .loop .inv)
+    (i .loop-test .taken) (at-line .line .ensures) (c .before .found2 .given .1))
 
 returns-2 : tie.Need-returns-2 Inv-loop μ-loop
-returns-2 c = sym (reached-end (c .before .before .before .args .text .now) (c .before .loop .phase) (c .before .loop .at) (c .before .loop .inv) (c .loop-test .left))
+returns-2 c =
+    sym (reached-end (c .before .before .before .args .text .now) (c .before .loop .phase) (c .before .loop .at) (c .before .loop .inv) (c .loop-test .left))
 
 pub form-spec : {M : Type 1} → statement M
 form-spec =

@@ -1,14 +1,40 @@
--- `groups::groups` meets its contract, by the three ways through it. Assumes nothing.
-use mathlib.Core.Path.{refl, ap}
-use Prim.Native.Nat.{ℕ, _≤_, _<_}
-use lib.ListN.{length, getD}
-use Rattle.netlist.specs.declared.Answer.the-variants.{Done}
-use Rattle.block.proofs.Answered.{told-whole, told-torn}
-use Rattle.netlist.specs.Answers.{answerOf, leftIn}
-use Rattle.groups.proofs.Answered.{groups-torn, groups-short, groups-done}
+-- `groups::groups` meets its contract: the tests are the definition's conditions in its order, and then the groups are numbered.
+-- Assumes nothing.
+use mathlib.Core.Path.{_≡_, _∙_}
+use denote.Ref.{now}
 use borrow.Author.Needs.{needs}
+use borrow.Author.Tests.{ltb-false}
+use lib.ListN.{length, getD}
+use lib.Dec.{ltb}
+use Rattle.netlist.specs.declared.Refusal.the-variants.{MalformedBlock, NoRoom}
+use Rattle.netlist.specs.StoredBlock.{decode}
+use Rattle.netlist.specs.Groups.{groups, groupNumbers}
+use Rattle.netlist.specs.Answers.{done, refuseIf, inRoom}
+use Rattle.netlist.specs.Operations.{groupsOf}
+use Rattle.refusals.proofs.Promised.{passed, passed-false, failed, keeps-room, bare, keeps-bare, finished}
+use Rattle.groups.proofs.Answered.{groups-chain, groups-room}
 use Rattle.groups.proofs.groups.Statement.{statement}
 use Rattle.groups.proofs.groups.Tie as tie
+
+-- the function's entry, and the tests that were passed before
+abbrev start : tie.After-check-words → tie.Start
+start c = c .before .before .before
+
+abbrev words-test : tie.After-enum-told → tie.After-check-words
+words-test c = c .before .before
+
+abbrev room-test : tie.After-enum-told3 → tie.After-test-room
+room-test c = c .before .before
+
+-- what is left of the chain of conditions behind the first
+behind-words : (c : tie.After-enum-told) → let a = start (words-test c) .args in
+    groupsOf (now (a .words)) (length (now (a .numbers)))
+    ≡ refuseIf (ltb (length (now (a .numbers))) (getD (now (a .words)) 1 0)) NoRoom
+    (done (groupNumbers (decode (now (a .words)))) (length (groups (decode (now (a .words))))) 0)
+behind-words c =
+    let a = start (words-test c) .args in
+    passed (inRoom _) (keeps-room _) _ _ MalformedBlock (groups-chain _ _) (words-test c .check-words .ensures) (c .enum-told .given .1)
+    ∙ groups-room (now (a .words)) _
 
 check-words-requires : tie.Need-check-words-requires
 check-words-requires c κs = search needs
@@ -19,41 +45,58 @@ enum-told c = search needs
 enum-told-2 : tie.Need-enum-told-2
 enum-told-2 c = search needs
 
+refusal-requires : tie.Need-refusal-requires
+refusal-requires c κs = search needs
+
 returns : tie.Need-returns
-unfolding answerOf leftIn
 returns c =
-    let s = c .before .before .before .before .before in
-    let ws = s .args .words .now in
-    rw (groups-torn ws (length (s .args .numbers .now)) (told-torn ws (c .before .before .check-words .ensures) (c .enum-told2 .given .1))) (refl, refl)
+    let t = c .before .before .before in
+    failed (inRoom _) (keeps-room _) _ _ MalformedBlock (groups-chain _ _) (t .check-words .ensures) (now (start t .args .numbers))
+    (c .before .before .match .keys2) (c .refusal .ensures)
 
 gates-of-requires : tie.Need-gates-of-requires
 gates-of-requires c κs = search needs
 
+test-room-requires : tie.Need-test-room-requires
+test-room-requires c κs = search needs
+
+enum-told-3 : tie.Need-enum-told-3
+enum-told-3 c = search needs
+
+enum-told-4 : tie.Need-enum-told-4
+enum-told-4 c = search needs
+
+refusal-requires-2 : tie.Need-refusal-requires-2
+refusal-requires-2 c κs = search needs
+
 returns-2 : tie.Need-returns-2
-unfolding answerOf leftIn
 returns-2 c =
-    let s = c .before .before .before .before .before .before .before in
-    let ws = s .args .words .now in
-    let few : length (s .args .numbers .now) < getD ws 1 0 = rw (← c .before .gates-of .ensures) (c .if1 .taken) in
-    rw (groups-short ws (length (s .args .numbers .now)) (told-whole ws (c .before .before .before .before .check-words .ensures) (c .before .before .enum-told .given .1)) few) (refl, refl)
+    let t = c .before .before .before in
+    let w = t .before .before in
+    failed bare keeps-bare _ _ NoRoom (behind-words w) (rw (← t .before .gates-of .ensures) (t .test-room .ensures)) (now (start (words-test w) .args .numbers))
+    (c .before .before .match2 .keys2) (c .refusal2 .ensures)
 
 assign-requires : tie.Need-assign-requires
 assign-requires c κs =
-    let s = c .before .before .before .before .before .before .before .before in
-    let ws = s .args .words .now in
-    (told-whole ws (c .before .before .before .before .before .check-words .ensures) (c .before .before .before .enum-told .given .1), rw (← c .before .before .gates-of .ensures) (c .before .if1 .left))
+    let t = room-test (c .before) in
+    let w = t .before .before in (
+      passed-false _ MalformedBlock (words-test w .check-words .ensures) (w .enum-told .given .1),
+      ltb-false _ _ (passed-false _ NoRoom (rw (← t .before .gates-of .ensures) (t .test-room .ensures)) (c .before .enum-told3 .given .1)),
+    )
 
 same-length : tie.Need-same-length
 same-length c = search needs
 
 returns-3 : tie.Need-returns-3
-unfolding answerOf leftIn
 returns-3 c =
-    let s = c .before .before .before .before .before .before .before .before .before .before .before in
-    let ws = s .args .words .now in
-    let enough : getD ws 1 0 ≤ length (s .args .numbers .now) = rw (← c .before .before .before .before .before .gates-of .ensures) (c .before .before .before .before .if1 .left) in
-    rw (groups-done ws (length (s .args .numbers .now)) (told-whole ws (c .before .before .before .before .before .before .before .before .check-words .ensures) (c .before .before .before .before .before .before .enum-told .given .1)) enough)
-    (ap (λ (k : ℕ). Done k 0) (c .before .before .assign .ensures .countIs), c .before .before .assign .ensures .numbersAre)
+    let assigned = c .before .before in
+    let p = assigned .before .before in
+    let t = room-test p in
+    let d = assigned .assign .ensures in
+    finished
+    (passed bare keeps-bare _ _ NoRoom (behind-words (t .before .before)) (rw (← t .before .gates-of .ensures) (t .test-room .ensures))
+    (p .enum-told3 .given .1))
+    (d .countIs) (d .numbersAre)
 
 pub groups-spec : {M : Type 1} → statement M
 groups-spec =
@@ -62,8 +105,13 @@ groups-spec =
     check-words-requires
     enum-told
     enum-told-2
+    refusal-requires
     returns
     gates-of-requires
+    test-room-requires
+    enum-told-3
+    enum-told-4
+    refusal-requires-2
     returns-2
     assign-requires
     same-length

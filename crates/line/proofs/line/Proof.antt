@@ -4,6 +4,7 @@ use borrow.Author.Needs.{needs}
 use Rattle.line.proofs.line.Statement.{statement}
 use Rattle.line.proofs.line.Tie as tie
 use native.Mathlib.Omega.{arith}
+use mathlib.Core.Path.{refl}
 use Rattle.netlist.specs.Line.{lineLength, lineAt}
 use Rattle.line.proofs.Ends.{ends-in-order, end-inside}
 
@@ -27,7 +28,9 @@ part-result-end c = let a = c .before .before .before .args in
 
 returns : tie.Need-returns
 unfolding lineAt lineLength
-returns c = rw (c .before .before .line-start .ensures, c .before .line-end .ensures)
+returns c =
+    let s = c .before .before .line-start .ensures in
+    (rw (s, c .before .line-end .ensures), (refl, omega (arith, s)))
 
 pub line-spec : {M : Type 1} → statement M
 line-spec =

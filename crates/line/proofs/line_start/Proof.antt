@@ -40,8 +40,11 @@ loop-less : tie.Need-loop-less Inv-loop μ-loop
 loop-less c = omega arith
 
 loop-again : tie.Need-loop-again Inv-loop μ-loop
-loop-again c = let l = c .before .before .before in
-    (omega arith, l .loop .inv .1 ∙ start-before (l .before .before .before .args .text .now) (l .loop .at) (c .before .before .loop-test .taken) (c .if1 .left))
+loop-again c = let l = c .before .before .before in (
+  omega arith,
+  l .loop .inv .1 ∙ start-before (l .before .before .before .args .text .now) (l .loop .at) (c .before .before .loop-test .taken)
+      (c .if1 .left),
+)
 
 returns-2 : tie.Need-returns-2 Inv-loop μ-loop
 unfolding startBefore

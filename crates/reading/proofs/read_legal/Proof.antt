@@ -1,12 +1,20 @@
--- `reading::read_legal` meets its contract. Assumes nothing.
+-- `reading::read_legal` meets its contract: 3, and then the steps with room for every table. Assumes nothing.
 use native.Mathlib.Omega.{arith}
 use borrow.Author.Needs.{needs}
-use Rattle.reading.proofs.read_legal.Statement.{statement}
-use Rattle.reading.proofs.read_legal.Tie as tie
 use lib.ListN.{length}
 use Rattle.netlist.specs.declared.Refusal.the-variants.{OverLimit}
-use Rattle.reading.proofs.Stages.{answered-refused}
-use Rattle.reading.proofs.Outcomes.{read-over, told-within}
+use Rattle.netlist.specs.Answers.{inRoom}
+use Rattle.refusals.proofs.Promised.{passed-false, failed, keeps-room}
+use Rattle.reading.proofs.Outcomes.{read-tree}
+use Rattle.reading.proofs.read_legal.Statement.{statement}
+use Rattle.reading.proofs.read_legal.Tie as tie
+
+abbrev start : tie.After-limits → tie.Start
+start c = c .before .before .before
+
+-- behind the test, before the tables
+abbrev limits-passed : tie.After-outputs → tie.After-enum-told
+limits-passed c = c .before .before .before .before .before
 
 limits-requires : tie.Need-limits-requires
 limits-requires c κs = search needs
@@ -17,11 +25,16 @@ enum-told c = search needs
 enum-told-2 : tie.Need-enum-told-2
 enum-told-2 c = search needs
 
+refusal-requires : tie.Need-refusal-requires
+refusal-requires c κs = search needs
+
 returns : tie.Need-returns
-returns c = let a = c .before .before .before .before .before .args in
-    let p = c .before .before .before .before .before .pre in
-    answered-refused (a .text .now) (a .block .now) OverLimit
-    (read-over (p .tree) (a .text .now) (length (a .block .now)) (p .prints) (p .short) _ (c .before .before .limits .ensures (p .tree) (p .prints)) (c .enum-told2 .given .1))
+returns c =
+    let t = c .before .before .before in
+    let a = start t .args in
+    let p = start t .pre in
+    failed (inRoom _) (keeps-room _) _ _ OverLimit (read-tree (p .tree) (a .text .now) (length (a .block .now)) (p .prints) (p .short))
+    (t .limits .ensures (p .tree) (p .prints)) (a .block .now) (c .before .before .match .keys2) (c .refusal .ensures)
 
 slice-aggregate-read-with : tie.Need-slice-aggregate-read-with
 slice-aggregate-read-with c = search needs
@@ -39,10 +52,18 @@ slice-aggregate-read-with-5 : tie.Need-slice-aggregate-read-with-5
 slice-aggregate-read-with-5 c = search needs
 
 read-with-requires : tie.Need-read-with-requires
-read-with-requires c κs = let p = c .before .before .before .before .before .before .before .before .before .before .before .pre in
+read-with-requires c κs =
+    let e = limits-passed (c .before) in
+    let t = e .before .before in
+    let p = start t .pre in
     record {
       tree = p .tree;
-      limited = record { prints = p .prints; short = p .short; within = told-within (p .tree) _ (c .before .before .before .before .before .before .before .before .limits .ensures (p .tree) (p .prints)) (c .before .before .before .before .before .before .enum-told .given .1) };
+      limited =
+          record {
+            prints = p .prints;
+            short = p .short;
+            within = passed-false _ OverLimit (t .limits .ensures (p .tree) (p .prints)) (e .enum-told .given .1);
+          };
       nameRoom = omega arith;
       placeRoom = omega arith;
       nodeRoom = omega arith;
@@ -63,6 +84,7 @@ read-legal-spec =
     limits-requires
     enum-told
     enum-told-2
+    refusal-requires
     returns
     slice-aggregate-read-with
     slice-aggregate-read-with-2

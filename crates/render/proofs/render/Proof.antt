@@ -1,16 +1,25 @@
 -- `render::render` meets its promise: the answer and the slice are the definition's, and the definition has every part of it. Assumes nothing.
 use Prim.Native.Nat.{_≤_}
-use mathlib.Core.Path.{refl}
 use native.Mathlib.Omega.{arith}
-use lib.ListN.{length, getD}
-use Rattle.netlist.specs.Answers.{answerOf, leftIn}
-use Rattle.encoding.proofs.Readers.{whole-parts}
-use Rattle.block.proofs.Answered.{told-whole, told-torn}
-use Rattle.render.proofs.Cases.{render-torn}
-use Rattle.render.proofs.Told.{answered-promise}
+use denote.Ref.{now}
+use lib.ListN.{getD}
 use borrow.Author.Needs.{needs}
+use Rattle.netlist.specs.declared.Refusal.the-variants.{MalformedBlock}
+use Rattle.netlist.specs.Limits.{maxGates}
+use Rattle.netlist.specs.Answers.{inRoom}
+use Rattle.encoding.proofs.Readers.{whole-parts}
+use Rattle.refusals.proofs.Promised.{passed-false, failed, keeps-room}
+use Rattle.render.proofs.Cases.{render-chain}
+use Rattle.render.proofs.Promise.{whole-promise}
 use Rattle.render.proofs.render.Statement.{statement}
 use Rattle.render.proofs.render.Tie as tie
+
+-- the function's entry, and the test that was passed before
+abbrev start : tie.After-check-words → tie.Start
+start c = c .before .before .before
+
+abbrev words-test : tie.After-enum-told → tie.After-check-words
+words-test c = c .before .before
 
 check-words-requires : tie.Need-check-words-requires
 check-words-requires c κs = search needs
@@ -21,13 +30,16 @@ enum-told c = search needs
 enum-told-2 : tie.Need-enum-told-2
 enum-told-2 c = search needs
 
+refusal-requires : tie.Need-refusal-requires
+refusal-requires c κs = search needs
+
 returns : tie.Need-returns
-unfolding answerOf leftIn
 returns c =
-    let s = c .before .before .before .before .before in
-    let ws = s .args .words .now in
-    let is = render-torn ws (length (s .args .rendered .now)) (told-torn ws (c .before .before .check-words .ensures) (c .enum-told2 .given .1)) in
-    answered-promise ws (s .args .rendered .now) (s .args .rendered .now) _ (record { answers = rw is refl; leaves = rw is refl })
+    let t = c .before .before .before in
+    let a = start t .args in
+    whole-promise
+    (failed (inRoom _) (keeps-room _) _ _ MalformedBlock (render-chain (now (a .words)) _) (t .check-words .ensures) (now (a .rendered))
+    (c .before .before .match .keys2) (c .refusal .ensures))
 
 slice-aggregate-render-with : tie.Need-slice-aggregate-render-with
 slice-aggregate-render-with c = search needs
@@ -46,10 +58,11 @@ slice-aggregate-render-with-5 c = search needs
 
 render-with-requires : tie.Need-render-with-requires
 render-with-requires c κs =
-    let s = c .before .before .before .before .before .before .before .before .before .before .before in
-    let ws = s .args .words .now in
-    let whole = told-whole ws (c .before .before .before .before .before .before .before .before .check-words .ensures) (c .before .before .before .before .before .before .enum-told .given .1) in
-    let few : getD ws 1 0 ≤ 1024 = whole-parts ws whole .fewGates in
+    let p = c .before .before .before .before .before .before in
+    let t = words-test p in
+    let ws = now (start t .args .words) in
+    let whole = passed-false _ MalformedBlock (t .check-words .ensures) (p .enum-told .given .1) in
+    let few : getD ws 1 0 ≤ maxGates = whole-parts ws whole .fewGates in
     record {
       whole = whole;
       numberRoom = few;
@@ -63,7 +76,7 @@ same-length : tie.Need-same-length
 same-length c = search needs
 
 returns-2 : tie.Need-returns-2
-returns-2 c = let s = c .before .before .before .before .before .before .before .before .before .before .before .before .before .before .before .before .before .before .before in answered-promise (s .args .words .now) (s .args .rendered .now) _ _ (c .before .before .before .before .before .before .before .render-with .ensures)
+returns-2 c = whole-promise (c .before .before .before .before .before .before .before .render-with .ensures)
 
 pub render-spec : {M : Type 1} → statement M
 render-spec =
@@ -72,6 +85,7 @@ render-spec =
     check-words-requires
     enum-told
     enum-told-2
+    refusal-requires
     returns
     slice-aggregate-render-with
     slice-aggregate-render-with-2

@@ -6,10 +6,34 @@ use native.Mathlib.Omega.{arith}
 use lib.Seq.{length-take-le}
 use Rattle.encoding.proofs.Readers.{whole-parts}
 use Rattle.decide.proofs.Legible.{whole-ready}
+use Rattle.refusals.proofs.Promised.{tell}
 use Rattle.verdict.proofs.Outcomes.{answer-whole}
 use borrow.Author.Needs.{needs}
 use Rattle.verdict.proofs.whole_verdict.Statement.{statement}
 use Rattle.verdict.proofs.whole_verdict.Tie as tie
+
+-- the function's entry and the places of its calls
+abbrev start : tie.After-gates-of → tie.Start
+start c = c .before .before .before .before .before .before
+
+abbrev counted : tie.After-order-gates → tie.After-gates-of
+counted c = c .before .before .before
+
+-- the block's gates are few enough for the arrays of its order and its values, and its inputs for theirs
+order-room : (o : tie.After-order-gates) → counted o .gates-of .result ≤ length (o .order-gates .last .1 .0)
+order-room o =
+    let s = start (counted o) in
+    omega (arith, counted o .gates-of .ensures, whole-parts (s .args .words .now) (s .pre .0) .fewGates, s .pre .1 .0, o .order-gates .kept .1 .0)
+
+value-room : (o : tie.After-order-gates) → counted o .gates-of .result ≤ length (start (counted o) .args .values .now)
+value-room o =
+    let s = start (counted o) in
+    omega (arith, counted o .gates-of .ensures, whole-parts (s .args .words .now) (s .pre .0) .fewGates, s .pre .1 .1 .1)
+
+input-room : (o : tie.After-order-gates) → counted o .before .inputs-of .result ≤ length (start (counted o) .args .inputs .now)
+input-room o =
+    let s = start (counted o) in
+    omega (arith, counted o .before .inputs-of .ensures, whole-parts (s .args .words .now) (s .pre .0) .fewInputs, s .pre .1 .1 .0)
 
 inputs-of-requires : tie.Need-inputs-of-requires
 inputs-of-requires c κs = search needs
@@ -18,66 +42,43 @@ gates-of-requires : tie.Need-gates-of-requires
 gates-of-requires c κs = search needs
 
 gates-at-requires : tie.Need-gates-at-requires
-gates-at-requires c κs = rw (c .before .inputs-of .ensures) (omega (arith, whole-parts (c .before .before .before .before .before .before .args .words .now) (c .before .before .before .before .before .before .pre .0) .fewInputs))
+gates-at-requires c κs =
+    let s = start c in
+    rw (c .before .inputs-of .ensures) (omega (arith, whole-parts (s .args .words .now) (s .pre .0) .fewInputs))
 
 order-gates-requires : tie.Need-order-gates-requires
 order-gates-requires c κs =
-    let s = c .before .before .before .before .before .before .before .before in
+    let s = start (c .before .before) in
     (s .pre .0, omega (arith, whole-parts (s .args .words .now) (s .pre .0) .fewGates, s .pre .1 .0))
 
 slice-reshare-prefix-search-settings : tie.Need-slice-reshare-prefix-search-settings
-slice-reshare-prefix-search-settings c =
-    let s = c .before .before .before .before .before .before .before .before .before .before .before in
-    omega (arith, c .before .before .before .before .before .gates-of .ensures, whole-parts (s .args .words .now) (s .pre .0) .fewGates, s .pre .1 .0, c .before .before .order-gates .kept .1 .0)
+slice-reshare-prefix-search-settings c = order-room (c .before .before)
 
 slice-aggregate-search-settings : tie.Need-slice-aggregate-search-settings
-slice-aggregate-search-settings c =
-    let s = c .before .before .before .before .before .before .before .before .before .before .before .before in
-    let m = c .before .before .before .before .before .before .gates-of in
-    let e = c .before .before .before .order-gates in
-    let room : m .result ≤ length (e .last .1 .0) =
-    omega (arith, m .ensures, whole-parts (s .args .words .now) (s .pre .0) .fewGates, s .pre .1 .0, e .kept .1 .0) in
-    sym (length-take-le (m .result) (e .last .1 .0) room)
+slice-aggregate-search-settings c = sym (length-take-le _ _ (order-room (c .before .before .before)))
 
 slice-relend-prefix-search-settings : tie.Need-slice-relend-prefix-search-settings
-slice-relend-prefix-search-settings c =
-    let s = c .before .before .before .before .before .before .before .before .before .before .before .before in
-    omega (arith, c .before .before .before .before .before .before .before .inputs-of .ensures, whole-parts (s .args .words .now) (s .pre .0) .fewInputs, s .pre .1 .1 .0)
+slice-relend-prefix-search-settings c = input-room (c .before .before .before)
 
 slice-aggregate-search-settings-2 : tie.Need-slice-aggregate-search-settings-2
-slice-aggregate-search-settings-2 c =
-    let s = c .before .before .before .before .before .before .before .before .before .before .before .before .before in
-    let n = c .before .before .before .before .before .before .before .before .inputs-of in
-    let room : n .result ≤ length (s .args .inputs .now) =
-    omega (arith, n .ensures, whole-parts (s .args .words .now) (s .pre .0) .fewInputs, s .pre .1 .1 .0) in
-    sym (length-take-le (n .result) (s .args .inputs .now) room)
+slice-aggregate-search-settings-2 c = sym (length-take-le _ _ (input-room (c .before .before .before .before)))
 
 slice-relend-prefix-search-settings-2 : tie.Need-slice-relend-prefix-search-settings-2
-slice-relend-prefix-search-settings-2 c =
-    let s = c .before .before .before .before .before .before .before .before .before .before .before .before .before in
-    omega (arith, c .before .before .before .before .before .before .before .gates-of .ensures, whole-parts (s .args .words .now) (s .pre .0) .fewGates, s .pre .1 .1 .1)
+slice-relend-prefix-search-settings-2 c = value-room (c .before .before .before .before)
 
 slice-aggregate-search-settings-3 : tie.Need-slice-aggregate-search-settings-3
-slice-aggregate-search-settings-3 c =
-    let s = c .before .before .before .before .before .before .before .before .before .before .before .before .before .before in
-    let m = c .before .before .before .before .before .before .before .before .gates-of in
-    let room : m .result ≤ length (s .args .values .now) =
-    omega (arith, m .ensures, whole-parts (s .args .words .now) (s .pre .0) .fewGates, s .pre .1 .1 .1) in
-    sym (length-take-le (m .result) (s .args .values .now) room)
+slice-aggregate-search-settings-3 c = sym (length-take-le _ _ (value-room (c .before .before .before .before .before)))
 
 search-settings-requires : tie.Need-search-settings-requires
 search-settings-requires c κs =
-    let s = c .before .before .before .before .before .before .before .before .before .before .before .before .before .before in
-    let n = c .before .before .before .before .before .before .before .before .before .inputs-of in
-    let m = c .before .before .before .before .before .before .before .before .gates-of in
-    let e = c .before .before .before .before .before .order-gates in
-    let whole = whole-parts (s .args .words .now) (s .pre .0) in
-    let inputRoom : n .result ≤ length (s .args .inputs .now) = omega (arith, n .ensures, whole .fewInputs, s .pre .1 .1 .0) in
-    let valueRoom : m .result ≤ length (s .args .values .now) = omega (arith, m .ensures, whole .fewGates, s .pre .1 .1 .1) in
-    whole-ready (s .args .words .now) (n .result) (m .result) (c .before .before .before .before .before .before .before .gates-at .result) _ _ _ (s .pre .0)
-    (n .ensures) (m .ensures) (c .before .before .before .before .before .before .before .gates-at .ensures)
-    (rw (m .ensures) (e .ensures))
-    (length-take-le (n .result) (s .args .inputs .now) inputRoom) (length-take-le (m .result) (s .args .values .now) valueRoom)
+    let o = c .before .before .before .before .before in
+    let s = start (counted o) in
+    let m = counted o .gates-of in
+    let n = counted o .before .inputs-of in
+    let at = o .before .before .gates-at in
+    whole-ready (s .args .words .now) (n .result) (m .result) (at .result) _ _ _ (s .pre .0) (n .ensures) (m .ensures) (at .ensures)
+    (rw (m .ensures) (o .order-gates .ensures))
+    (length-take-le _ _ (input-room o)) (length-take-le _ _ (value-room o))
 
 same-length : tie.Need-same-length
 same-length c = search needs
@@ -89,7 +90,11 @@ same-length-3 : tie.Need-same-length-3
 same-length-3 c = search needs
 
 returns : tie.Need-returns
-returns c = c .before .before .before .before .search-settings .ensures ∙ answer-whole (c .before .before .before .before .before .before .before .before .before .before .before .before .before .before .before .before .before .before .before .args .words .now) (c .before .before .before .before .before .before .before .before .before .before .before .before .before .before .before .before .before .before .before .pre .0)
+returns c =
+    let found = c .before .before .before .before in
+    let o = found .before .before .before .before .before .before in
+    let s = start (counted o) in
+    tell (found .search-settings .ensures ∙ answer-whole (s .args .words .now) (s .pre .0))
 
 pub whole-verdict-spec : {M : Type 1} → statement M
 whole-verdict-spec =

@@ -96,7 +96,8 @@ loop-again c =
     let l = c .before .before .loop-test .taken in
     let pre = c .before .before .before .before .before .before .before .pre in
     ⊎-elim
-    (λ t. rw (t .1, t .2) (written-add w l (pre .2) (sym (c .before .is-entry .ensures) ∙ t .0 .taken) (masked (c .before .before .before .loop .q) (pre .0 .few))))
+    (λ t. rw (t .1, t .2)
+    (written-add w l (pre .2) (sym (c .before .is-entry .ensures) ∙ t .0 .taken) (masked (c .before .before .before .loop .q) (pre .0 .few))))
     (λ t. rw (t .1, t .2) (written-skip w l (sym (c .before .is-entry .ensures) ∙ t .0 .left)))
     (c .if1 .came)
 

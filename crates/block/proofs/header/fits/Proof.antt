@@ -28,11 +28,10 @@ returns-2 c = rw (le-leb inputsAt _ (c .before .if1 .left), ← c .before .befor
 returns-3 : tie.Need-returns-3
 unfolding headerRule
 returns-3 c =
-    let long = c .before .before in
     rw (
-      le-leb inputsAt _ (long .if1 .left),
-      ← long .before .before .before .inputs-of .ensures,
-      ← long .before .before .gates-of .ensures,
+      le-leb inputsAt _ (c .before .before .if1 .left),
+      ← c .before .before .before .before .before .inputs-of .ensures,
+      ← c .before .before .before .before .gates-of .ensures,
       le-leb _ maxInputs (c .before .if2 .left),
       lt-leb _ maxGates (c .if3 .taken),
     )

@@ -13,13 +13,13 @@ word-at-requires c κs = search needs
 
 returns : tie.Need-returns
 returns c =
-    let a = c .before .before .before .args in
-    rw (← byte-is (a .words .now) (a .at) (a .i) (search needs), eq-eqb _ 0 (c .if1 .taken), c .before .word-at .ensures)
+    let a = c .before .before .before .args in rw
+    (← byte-is (a .words .now) (a .at) (a .i) (search needs), eq-eqb _ 0 (c .if1 .taken), c .before .word-at .ensures)
 
 returns-2 : tie.Need-returns-2
 returns-2 c =
-    let a = c .before .before .before .args in
-    rw (← byte-is (a .words .now) (a .at) (a .i) (search needs), ne-eqb _ 0 (c .if1 .left), c .before .word-at .ensures)
+    let a = c .before .before .before .args in rw
+    (← byte-is (a .words .now) (a .at) (a .i) (search needs), ne-eqb _ 0 (c .if1 .left), c .before .word-at .ensures)
 
 pub byte-at-spec : {M : Type 1} → statement M
 byte-at-spec = tie.close (tie.spec add-word-at word-at-requires returns returns-2)

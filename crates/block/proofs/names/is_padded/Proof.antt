@@ -30,24 +30,21 @@ only-zeros-requires c κs = search needs
 
 returns : tie.Need-returns Inv-loop μ-loop
 returns c =
-    let read = c .before .before in
-    let l = read .before .before .loop in
-    let a = read .before .before .before .before .args in
-    let here = padded-zero (a .words .now) (a .at) (l .i) _ (read .before .loop-test .taken) (read .byte-at .ensures) (c .before .if1 .taken) in
-    c .only-zeros .ensures ∙ sym (l .inv .1 ∙ here)
+    let a = c .before .before .before .before .before .before .args in
+    let l = c .before .before .before .before .loop in
+    c .only-zeros .ensures ∙ sym
+    (l .inv .1 ∙ padded-zero (a .words .now) (a .at) (l .i) _ (c .before .before .before .loop-test .taken) (c .before .before .byte-at .ensures)
+    (c .before .if1 .taken))
 
 is-name-byte-requires : tie.Need-is-name-byte-requires Inv-loop μ-loop
 is-name-byte-requires c κs = search needs
 
 returns-2 : tie.Need-returns-2 Inv-loop μ-loop
 returns-2 c =
-    let tested = c .before .before in
-    let read = tested .before in
-    let l = read .before .before .loop in
-    let a = read .before .before .before .before .args in
-    sym
-    (l .inv .1
-    ∙ padded-fails (a .words .now) (a .at) (l .i) _ (read .before .loop-test .taken) (read .byte-at .ensures) (tested .if1 .left)
+    let a = c .before .before .before .before .before .before .before .args in
+    let l = c .before .before .before .before .before .loop in
+    sym (l .inv .1 ∙ padded-fails (a .words .now) (a .at) (l .i) _ (c .before .before .before .before .loop-test .taken)
+    (c .before .before .before .byte-at .ensures) (c .before .before .if1 .left)
     (sym (c .before .is-name-byte .ensures) ∙ not-true _ (c .if2 .taken)))
 
 add-i : tie.Need-add-i Inv-loop μ-loop
@@ -58,13 +55,11 @@ loop-less c = search needs
 
 loop-again : tie.Need-loop-again Inv-loop μ-loop
 loop-again c =
-    let tested = c .before .before in
-    let read = tested .before in
-    let l = read .before .before .loop in
-    let a = read .before .before .before .before .args in (
+    let a = c .before .before .before .before .before .before .before .args in
+    let l = c .before .before .before .before .before .loop in (
       search needs,
-      l .inv .1
-          ∙ padded-more (a .words .now) (a .at) (l .i) _ (read .before .loop-test .taken) (read .byte-at .ensures) (tested .if1 .left)
+      l .inv .1 ∙ padded-more (a .words .now) (a .at) (l .i) _ (c .before .before .before .before .loop-test .taken)
+          (c .before .before .before .byte-at .ensures) (c .before .before .if1 .left)
           (sym (c .before .is-name-byte .ensures) ∙ not-false _ (c .if2 .left)),
     )
 

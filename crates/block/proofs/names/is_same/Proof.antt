@@ -38,8 +38,8 @@ unfolding sameName
 returns c =
     let a = c .before .before .before .before .before .before .args in
     let l = c .before .before .before .before .loop in
-    let e : sameWord (a .words .now) (a .at) (a .other) (l .i) ≡ false =
-    rw (← c .before .before .word-at .ensures, ← c .before .word-at2 .ensures) (ne-eqb _ _ (c .if1 .taken)) in
+    let e : sameWord (a .words .now) (a .at) (a .other) (l .i) ≡ false = rw (← c .before .before .word-at .ensures, ← c .before .word-at2 .ensures)
+    (ne-eqb _ _ (c .if1 .taken)) in
     sym (all-not (sameWord (a .words .now) (a .at) (a .other)) 4 (l .i) (c .before .before .before .loop-test .taken) e)
 
 add-i : tie.Need-add-i Inv-loop μ-loop
@@ -52,8 +52,8 @@ loop-again : tie.Need-loop-again Inv-loop μ-loop
 loop-again c =
     let a = c .before .before .before .before .before .before .args in
     let l = c .before .before .before .before .loop in
-    let e : sameWord (a .words .now) (a .at) (a .other) (l .i) ≡ true =
-    rw (← c .before .before .word-at .ensures, ← c .before .word-at2 .ensures) (eq-eqb _ _ (c .if1 .left)) in
+    let e : sameWord (a .words .now) (a .at) (a .other) (l .i) ≡ true = rw (← c .before .before .word-at .ensures, ← c .before .word-at2 .ensures)
+    (eq-eqb _ _ (c .if1 .left)) in
     (search needs, all-next (sameWord (a .words .now) (a .at) (a .other)) (l .i) (l .inv .1) e)
 
 returns-2 : tie.Need-returns-2 Inv-loop μ-loop

@@ -41,7 +41,8 @@ loop-again c =
     let l = c .before .before .loop in
     let lt : l .i < length (s .args .flags .now) = omega (arith, s .pre .0, c .before .loop-test .taken) in (
       omega arith,
-      fill-next (barredBy (s .args .leaders .now)) (l .i) (s .args .flags .now) (l .flags) _ (l .inv .1) lt (barred-flag (s .args .leaders .now) (l .i) (c .word-at .result) (c .word-at .ensures)),
+      fill-next (barredBy (s .args .leaders .now)) (l .i) (s .args .flags .now) (l .flags) _ (l .inv .1) lt
+          (barred-flag (s .args .leaders .now) (l .i) (c .word-at .result) (c .word-at .ensures)),
       length-set (l .flags) (l .i) _ ∙ l .inv .2,
     )
 

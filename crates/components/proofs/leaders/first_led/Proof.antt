@@ -13,7 +13,10 @@ same-length : tie.Need-same-length
 same-length c = search needs
 
 returns : tie.Need-returns
-returns c = let a = c .before .before .before .before .args in let e = ne-eqb (getD (a .firsts .now) (a .leader) 0) 65535 (λ z. c .if1 .taken (c .before .word-at .ensures ∙ z)) in record { answer = rw e (c .before .word-at .ensures); leaves = rw e refl }
+returns c =
+    let at-start = c .before .before .before .before in
+    let a = at-start .args in let e = ne-eqb (getD (a .firsts .now) (a .leader) 0) 65535
+    (λ z. c .if1 .taken (c .before .word-at .ensures ∙ z)) in record { answer = rw e (c .before .word-at .ensures); leaves = rw e refl }
 
 cast-firsts : tie.Need-cast-firsts
 cast-firsts c = search needs
@@ -28,7 +31,10 @@ same-length-2 : tie.Need-same-length-2
 same-length-2 c = search needs
 
 returns-2 : tie.Need-returns-2
-returns-2 c = let a = c .before .before .before .before .args in let e = eq-eqb (getD (a .firsts .now) (a .leader) 0) 65535 (sym (c .before .word-at .ensures) ∙ c .if1 .left) in record { answer = rw e refl; leaves = rw e refl }
+returns-2 c =
+    let at-start = c .before .before .before .before in
+    let a = at-start .args in let e = eq-eqb (getD (a .firsts .now) (a .leader) 0) 65535
+    (sym (c .before .word-at .ensures) ∙ c .if1 .left) in record { answer = rw e refl; leaves = rw e refl }
 
 pub first-led-spec : {M : Type 1} → statement M
 first-led-spec =

@@ -1,5 +1,4 @@
--- `components::leaders::is_led` meets its contract, by the ways through its tests. Assumes nothing.
-use mathlib.Core.Logic.{inl, inr}
+-- `components::leaders::is_led` meets its contract, by the gate that the word names. Assumes nothing.
 use borrow.Author.Needs.{needs}
 use native.Mathlib.Omega.{arith}
 use Rattle.search.proofs.Operands.{no-gate, one-gate}
@@ -7,21 +6,26 @@ use Rattle.components.specs.Leaders.{ledBy}
 use Rattle.components.proofs.leaders.is_led.Statement.{statement}
 use Rattle.components.proofs.leaders.is_led.Tie as tie
 
+-- the function's entry
+abbrev start : tie.After-gate-named → tie.Start
+start c = c .before .before
+
+gate-named-requires : tie.Need-gate-named-requires
+gate-named-requires c κs = search needs
+
 returns : tie.Need-returns
-returns c = let a = c .before .before .args in no-gate (ledBy (a .leaders .now) (a .leader)) (a .n) (a .m) (a .w) (inl (c .if1 .taken))
-
-add-if2 : tie.Need-add-if2
-add-if2 c = search needs
-
-returns-2 : tie.Need-returns-2
-returns-2 c = let a = c .before .before .before .args in no-gate (ledBy (a .leaders .now) (a .leader)) (a .n) (a .m) (a .w) (inr (c .if2 .taken))
+returns c =
+    let a = start (c .before) .args in no-gate (ledBy (a .leaders .now) (a .leader)) (a .n) (a .m) (a .w) (c .before .gate-named .ensures) (c .if1 .taken)
 
 word-at-requires : tie.Need-word-at-requires
 word-at-requires c κs = search needs
 
-returns-3 : tie.Need-returns-3
+returns-2 : tie.Need-returns-2
 unfolding ledBy
-returns-3 c = let a = c .before .before .before .before .args in rw (c .word-at .ensures) (one-gate (ledBy (a .leaders .now) (a .leader)) (a .n) (a .m) (a .w) (omega arith) (omega arith))
+returns-2 c =
+    let named = c .before .before in
+    let a = start named .args in
+    rw (c .word-at .ensures) (one-gate (ledBy (a .leaders .now) (a .leader)) (a .n) (a .m) (a .w) (named .gate-named .ensures) (c .before .if1 .left))
 
 pub is-led-spec : {M : Type 1} → statement M
-is-led-spec = tie.close (tie.spec returns add-if2 returns-2 word-at-requires returns-3)
+is-led-spec = tie.close (tie.spec gate-named-requires returns word-at-requires returns-2)

@@ -13,7 +13,10 @@ same-length : tie.Need-same-length
 same-length c = search needs
 
 returns : tie.Need-returns
-returns c = let a = c .before .before .before .before .before .args in led-before (a .words .now) (a .n) (a .m) (a .gates) (a .leader) (a .k) (a .leaders .now) (λ e. c .if1 .taken (c .before .word-at .ensures ∙ e))
+returns c =
+    let at-start = c .before .before .before .before .before in
+    let a = at-start .args in led-before (a .words .now) (a .n) (a .m) (a .gates) (a .leader) (a .k) (a .leaders .now)
+    (λ e. c .if1 .taken (c .before .word-at .ensures ∙ e))
 
 mul-reads-led : tie.Need-mul-reads-led
 mul-reads-led c = search needs
@@ -28,7 +31,11 @@ same-length-2 : tie.Need-same-length-2
 same-length-2 c = search needs
 
 returns-2 : tie.Need-returns-2
-returns-2 c = let a = c .before .before .before .before .before .before .before .before .args in reads-none (a .words .now) (a .n) (a .m) (a .gates) (a .leader) (a .k) (a .leaders .now) (c .before .reads-led .result) (c .before .reads-led .ensures) (not-true _ (c .if2 .taken))
+returns-2 c =
+    let after-slice-known = c .before .before .before .before .before .before in
+    let at-start = after-slice-known .before .before in
+    let a = at-start .args in reads-none (a .words .now) (a .n) (a .m) (a .gates) (a .leader) (a .k) (a .leaders .now) (c .before .reads-led .result)
+    (c .before .reads-led .ensures) (not-true _ (c .if2 .taken))
 
 cast-leaders : tie.Need-cast-leaders
 cast-leaders c = search needs
@@ -43,7 +50,11 @@ same-length-3 : tie.Need-same-length-3
 same-length-3 c = search needs
 
 returns-3 : tie.Need-returns-3
-returns-3 c = let a = c .before .before .before .before .before .before .before .before .args in led-now (a .words .now) (a .n) (a .m) (a .gates) (a .leader) (a .k) (a .leaders .now) (c .before .reads-led .result) (sym (c .before .before .before .before .word-at .ensures) ∙ c .before .before .before .if1 .left) (c .before .reads-led .ensures) (not-false _ (c .if2 .left))
+returns-3 c =
+    let after-word-at = c .before .before .before .before in
+    let at-start = after-word-at .before .before .before .before in
+    let a = at-start .args in led-now (a .words .now) (a .n) (a .m) (a .gates) (a .leader) (a .k) (a .leaders .now) (c .before .reads-led .result)
+    (sym (after-word-at .word-at .ensures) ∙ c .before .before .before .if1 .left) (c .before .reads-led .ensures) (not-false _ (c .if2 .left))
 
 pub lead-gate-spec : {M : Type 1} → statement M
 lead-gate-spec =

@@ -19,19 +19,33 @@ loop-holds : tie.Need-loop-holds Inv-loop μ-loop
 loop-holds c = (none, λ e. not-both refl e)
 
 lead-once-requires : tie.Need-lead-once-requires Inv-loop μ-loop
-lead-once-requires c κs = let a = c .before .before .before .before .before .before .args in still-ready (a .words .now) (a .n) (a .m) (a .gates) (a .leader) (a .queue .now) (a .count) (c .before .before .before .before .before .before .pre) (c .before .before .loop .inv .0)
+lead-once-requires c κs =
+    let at-start = c .before .before .before .before .before .before in
+    let a = at-start .args in still-ready (a .words .now) (a .n) (a .m) (a .gates) (a .leader) (a .queue .now) (a .count) (at-start .pre)
+    (c .before .before .loop .inv .0)
 
 loop-less : tie.Need-loop-less Inv-loop μ-loop
-loop-less c = let a = c .before .before .before .before .before .before .before .before .before .args in rw (c .before .before .before .before .loop-test .taken) (sweeps-less (a .words .now) (a .n) (a .m) (a .gates) (a .leader) (a .queue .now) (a .count) (c .before .before .lead-once .ensures))
+loop-less c =
+    let in-loop = c .before .before .before .before in
+    let at-start = in-loop .before .before .before .before .before in
+    let a = at-start .args in rw (in-loop .loop-test .taken)
+    (sweeps-less (a .words .now) (a .n) (a .m) (a .gates) (a .leader) (a .queue .now) (a .count) (c .before .before .lead-once .ensures))
 
 loop-again : tie.Need-loop-again Inv-loop μ-loop
 loop-again c =
-    let a = c .before .before .before .before .before .before .before .before .before .args in
-    let e = c .before .before .lead-once .ensures in
-    (joined-then (a .words .now) (a .n) (a .m) (a .gates) (a .leader) (a .queue .now) (a .count) (c .before .before .before .before .before .loop .inv .0) (e .steps), sweep-quiet (a .words .now) (a .n) (a .m) (a .gates) (a .leader) (a .queue .now) (a .count) e)
+    let at-loop = c .before .before .before .before .before in
+    let at-start = at-loop .before .before .before .before in
+    let a = at-start .args in
+    let e = c .before .before .lead-once .ensures in (
+      joined-then (a .words .now) (a .n) (a .m) (a .gates) (a .leader) (a .queue .now) (a .count) (at-loop .loop .inv .0) (e .steps),
+      sweep-quiet
+          (a .words .now) (a .n) (a .m) (a .gates) (a .leader) (a .queue .now) (a .count) e,
+    )
 
 same-length : tie.Need-same-length Inv-loop μ-loop
-same-length c = let a = c .before .before .before .before .before .args in joined-length (a .words .now) (a .n) (a .m) (a .gates) (a .leader) (a .queue .now) (a .count) (c .before .loop .inv .0)
+same-length c =
+    let at-start = c .before .before .before .before .before in
+    let a = at-start .args in joined-length (a .words .now) (a .n) (a .m) (a .gates) (a .leader) (a .queue .now) (a .count) (c .before .loop .inv .0)
 
 returns : tie.Need-returns Inv-loop μ-loop
 returns c = record { steps = c .before .loop .inv .0; quiet = c .before .loop .inv .1 (c .loop-test .left) }

@@ -13,63 +13,100 @@ use Rattle.components.proofs.leaders.lower.Tie as tie
 
 abbrev Inv-loop : tie.InvT-loop
 Inv-loop m leaders₀ firsts₀ k₀ leaders firsts k =
-    (k ≤ m) × (leaders ≡ placed (tab (firstLike leaders₀) k) leaders₀) × Firsts leaders₀ m k firsts × (length leaders ≡ length leaders₀) × (length firsts ≡ length firsts₀)
+    (k ≤ m) × (leaders ≡ placed (tab (firstLike leaders₀) k) leaders₀) × Firsts leaders₀ m k firsts × (length leaders ≡ length leaders₀)
+    × (length firsts ≡ length firsts₀)
 
 abbrev μ-loop : tie.MeasureT-loop
 μ-loop m leaders₀ firsts₀ k₀ leaders firsts k = m - k
 
 forget-requires : tie.Need-forget-requires Inv-loop μ-loop
-forget-requires c κs = (c .before .before .before .pre .firstRoom, c .before .before .before .pre .few)
+forget-requires c κs = c .before .before .before .pre .firstRoom
 
 loop-holds : tie.Need-loop-holds Inv-loop μ-loop
-loop-holds c = let s = c .before .before .before .before .before .before in (omega arith, refl, rw (c .before .before .forget .ensures) (firsts-none (s .args .leaders .now) (s .args .m) (s .args .firsts .now)), refl, refl)
+loop-holds c =
+    let at-start = c .before .before .before .before .before .before in
+    let s = at-start in (
+      omega arith,
+      refl,
+      rw (c .before .before .forget .ensures)
+          (firsts-none (s .args .leaders .now) (s .args .m) (s .args .firsts .now)),
+      refl,
+      refl,
+    )
 
 word-at-requires : tie.Need-word-at-requires Inv-loop μ-loop
 word-at-requires c κs = search needs
 
 first-led-requires : tie.Need-first-led-requires Inv-loop μ-loop
 first-led-requires c κs =
-    let s = c .before .before .before .before .before .before .before .before .before .before .before in
-    let l = c .before .before .before .before .loop in
+    let at-loop = c .before .before .before .before in
+    let after-forget = at-loop .before .before .before in
+    let s = after-forget .before .before .before .before in
+    let l = at-loop .loop in
     let w = c .before .word-at in
-    let is : w .result ≡ getD (s .args .leaders .now) (l .k) 0 = w .ensures ∙ still-there (firstLike (s .args .leaders .now)) (l .k) (s .args .leaders .now) (l .leaders) (l .inv .1) in
+    let is : w .result ≡ getD (s .args .leaders .now) (l .k) 0 = w .ensures ∙ still-there (firstLike (s .args .leaders .now)) (l .k)
+    (s .args .leaders .now) (l .leaders) (l .inv .1) in
     let small : w .result < s .args .m = rw is (s .pre .below (l .k) (c .before .before .before .loop-test .taken)) in
-    (omega (arith, l .inv .4, c .before .before .before .before .before .before .before .forget .kept .1 .0, s .pre .firstRoom), omega (arith, s .pre .few, c .before .before .before .loop-test .taken))
+    (omega (arith, l .inv .4, after-forget .forget .kept .1 .0, s .pre .firstRoom), omega (arith, s .pre .few, c .before .before .before .loop-test .taken))
 
 cast-leaders : tie.Need-cast-leaders Inv-loop μ-loop
 cast-leaders c =
-    let s = c .before .before .before .before .before .before .before .before .before .before .before .before .before .before in
-    let l = c .before .before .before .before .before .before .before .loop in
-    let w = c .before .before .before .before .word-at in
-    let is : w .result ≡ getD (s .args .leaders .now) (l .k) 0 = w .ensures ∙ still-there (firstLike (s .args .leaders .now)) (l .k) (s .args .leaders .now) (l .leaders) (l .inv .1) in
-    let small : w .result < s .args .m = rw is (s .pre .below (l .k) (c .before .before .before .before .before .before .loop-test .taken)) in
-    let found : c .before .before .first-led .result ≡ firstLike (s .args .leaders .now) (l .k) = first-is (l .inv .2) (c .before .before .before .before .before .before .loop-test .taken) (s .pre .few) (w .result) is small (c .before .before .first-led .ensures) in
-    omega (arith, first-le (s .args .leaders .now) (l .k), s .pre .few, c .before .before .before .before .before .before .loop-test .taken)
+    let after-word-at = c .before .before .before .before in
+    let in-loop = after-word-at .before .before in
+    let at-loop = in-loop .before in
+    let s = at-loop .before .before .before .before .before .before .before in
+    let l = at-loop .loop in
+    let w = after-word-at .word-at in
+    let is : w .result ≡ getD (s .args .leaders .now) (l .k) 0 = w .ensures ∙ still-there (firstLike (s .args .leaders .now)) (l .k)
+    (s .args .leaders .now) (l .leaders) (l .inv .1) in
+    let small : w .result < s .args .m = rw is (s .pre .below (l .k) (in-loop .loop-test .taken)) in
+    let found : c .before .before .first-led .result ≡ firstLike (s .args .leaders .now) (l .k) = first-is (l .inv .2) (in-loop .loop-test .taken)
+    (s .pre .few) (w .result) is small (c .before .before .first-led .ensures) in
+    omega (arith, first-le (s .args .leaders .now) (l .k), s .pre .few, in-loop .loop-test .taken)
 
 mul-leaders : tie.Need-mul-leaders Inv-loop μ-loop
-mul-leaders c = omega (arith, c .before .before .before .before .before .before .before .before .before .before .before .before .before .before .pre .few, c .before .before .before .before .before .before .loop-test .taken)
+mul-leaders c =
+    let in-loop = c .before .before .before .before .before .before in
+    let after-slice-known2 = in-loop .before .before .before .before .before .before in
+    let at-start = after-slice-known2 .before .before in
+    omega (arith, at-start .pre .few, in-loop .loop-test .taken)
 
 slice-write-leaders : tie.Need-slice-write-leaders Inv-loop μ-loop
-slice-write-leaders c = omega (arith, c .before .before .before .before .before .before .before .before .before .before .before .before .before .before .pre .room, c .before .before .before .before .before .before .before .loop .inv .3, c .before .before .before .before .before .before .loop-test .taken)
+slice-write-leaders c =
+    let in-loop = c .before .before .before .before .before .before in
+    let at-loop = in-loop .before in
+    let at-start = at-loop .before .before .before .before .before .before .before in
+    omega (arith, at-start .pre .room, at-loop .loop .inv .3, in-loop .loop-test .taken)
 
 add-k : tie.Need-add-k Inv-loop μ-loop
-add-k c = omega (arith, c .before .before .before .before .before .before .before .before .before .before .before .before .before .before .pre .few, c .before .before .before .before .before .before .loop-test .taken)
+add-k c =
+    let in-loop = c .before .before .before .before .before .before in
+    let after-slice-known2 = in-loop .before .before .before .before .before .before in
+    let at-start = after-slice-known2 .before .before in
+    omega (arith, at-start .pre .few, in-loop .loop-test .taken)
 
 loop-less : tie.Need-loop-less Inv-loop μ-loop
 loop-less c = omega (arith, c .before .before .before .before .before .before .loop-test .taken)
 
 loop-again : tie.Need-loop-again Inv-loop μ-loop
 loop-again c =
-    let s = c .before .before .before .before .before .before .before .before .before .before .before .before .before .before in
-    let l = c .before .before .before .before .before .before .before .loop in
-    let w = c .before .before .before .before .word-at in
-    let is : w .result ≡ getD (s .args .leaders .now) (l .k) 0 = w .ensures ∙ still-there (firstLike (s .args .leaders .now)) (l .k) (s .args .leaders .now) (l .leaders) (l .inv .1) in
-    let small : w .result < s .args .m = rw is (s .pre .below (l .k) (c .before .before .before .before .before .before .loop-test .taken)) in
-    let found : c .before .before .first-led .result ≡ firstLike (s .args .leaders .now) (l .k) = first-is (l .inv .2) (c .before .before .before .before .before .before .loop-test .taken) (s .pre .few) (w .result) is small (c .before .before .first-led .ensures) in
-    let lt : l .k < length (s .args .leaders .now) = omega (arith, s .pre .room, c .before .before .before .before .before .before .loop-test .taken) in (
-      omega (arith, c .before .before .before .before .before .before .loop-test .taken),
+    let after-word-at = c .before .before .before .before in
+    let in-loop = after-word-at .before .before in
+    let at-loop = in-loop .before in
+    let after-forget = at-loop .before .before .before in
+    let s = after-forget .before .before .before .before in
+    let l = at-loop .loop in
+    let w = after-word-at .word-at in
+    let is : w .result ≡ getD (s .args .leaders .now) (l .k) 0 = w .ensures ∙ still-there (firstLike (s .args .leaders .now)) (l .k)
+    (s .args .leaders .now) (l .leaders) (l .inv .1) in
+    let small : w .result < s .args .m = rw is (s .pre .below (l .k) (in-loop .loop-test .taken)) in
+    let found : c .before .before .first-led .result ≡ firstLike (s .args .leaders .now) (l .k) = first-is (l .inv .2) (in-loop .loop-test .taken)
+    (s .pre .few) (w .result) is small (c .before .before .first-led .ensures) in
+    let lt : l .k < length (s .args .leaders .now) = omega (arith, s .pre .room, in-loop .loop-test .taken) in (
+      omega (arith, in-loop .loop-test .taken),
       fill-next (firstLike (s .args .leaders .now)) (l .k) (s .args .leaders .now) (l .leaders) (c .before .before .first-led .result) (l .inv .1) lt found,
-      firsts-next (l .inv .2) (c .before .before .before .before .before .before .loop-test .taken) (s .pre .few) (w .result) is small (c .before .before .first-led .ensures) (rw (l .inv .4, c .before .before .before .before .before .before .before .before .before .before .forget .kept .1 .0) (s .pre .firstRoom)),
+      firsts-next (l .inv .2) (in-loop .loop-test .taken) (s .pre .few) (w .result) is small (c .before .before .first-led .ensures)
+          (rw (l .inv .4, after-forget .forget .kept .1 .0) (s .pre .firstRoom)),
       length-set (l .leaders) (l .k) (c .before .before .first-led .result) ∙ l .inv .3,
       c .before .before .first-led .kept .1 .1 .0 ∙ l .inv .4,
     )
@@ -81,7 +118,10 @@ same-length-2 : tie.Need-same-length-2 Inv-loop μ-loop
 same-length-2 c = c .before .loop .inv .4 ∙ c .before .before .before .before .forget .kept .1 .0
 
 returns : tie.Need-returns Inv-loop μ-loop
-returns c = let all : c .before .loop .k ≡ c .before .before .before .before .before .before .before .before .args .m = omega arith in rw (← all) (c .before .loop .inv .1)
+returns c =
+    let after-slice-known2 = c .before .before .before .before .before .before in
+    let at-start = after-slice-known2 .before .before in
+    let all : c .before .loop .k ≡ at-start .args .m = omega arith in rw (← all) (c .before .loop .inv .1)
 
 pub lower-spec : {M : Type 1} → statement M
 lower-spec =

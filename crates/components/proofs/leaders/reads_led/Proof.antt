@@ -37,9 +37,13 @@ is-led-requires c κs = (c .before .before .before .before .before .before .pre 
 
 returns : tie.Need-returns Inv-loop μ-loop
 returns c =
-    let a = c .before .before .before .before .before .before .before .before .args in
-    rw (← c .before .before .before .before .before .word-at .ensures)
-    (sym (found-one (ledBy (a .leaders .now) (a .leader)) (a .n) (a .m) (a .words .now) (a .at) (c .before .before .before .before .loop .i) (c .before .before .before .before .before .word-at .result / 8) (c .before .before .before .loop-test .taken)
+    let at-loop = c .before .before .before .before in
+    let after-word-at = at-loop .before in
+    let at-start = after-word-at .before .before .before in
+    let a = at-start .args in
+    rw (← after-word-at .word-at .ensures)
+    (sym (found-one (ledBy (a .leaders .now) (a .leader)) (a .n) (a .m) (a .words .now) (a .at) (at-loop .loop .i) (after-word-at .word-at .result / 8)
+    (c .before .before .before .loop-test .taken)
     (rw (← c .before .before .word-at2 .ensures) (sym (c .before .is-led .ensures) ∙ c .if1 .taken))))
 
 add-i : tie.Need-add-i Inv-loop μ-loop
@@ -50,10 +54,13 @@ loop-less c = omega arith
 
 loop-again : tie.Need-loop-again Inv-loop μ-loop
 loop-again c =
-    let a = c .before .before .before .before .before .before .before .before .args in
-    let l = c .before .before .before .before .loop in (
+    let at-loop = c .before .before .before .before in
+    let at-start = at-loop .before .before .before .before in
+    let a = at-start .args in
+    let l = at-loop .loop in (
       omega arith,
-      none-yet (ledBy (a .leaders .now) (a .leader)) (a .n) (a .m) (a .words .now) (a .at) (l .i) (l .inv .1) (rw (← c .before .before .word-at2 .ensures) (sym (c .before .is-led .ensures) ∙ c .if1 .left)),
+      none-yet (ledBy (a .leaders .now) (a .leader)) (a .n) (a .m) (a .words .now) (a .at) (l .i) (l .inv .1)
+          (rw (← c .before .before .word-at2 .ensures) (sym (c .before .is-led .ensures) ∙ c .if1 .left)),
     )
 
 returns-2 : tie.Need-returns-2 Inv-loop μ-loop

@@ -35,30 +35,66 @@ slice-aggregate-put-all-2 c = search needs
 
 put-all-requires-2 : tie.Need-put-all-requires-2
 put-all-requires-2 c κs =
-    let few = digits (c .before .before .before .before .before .before .before .before .before .before .before) in
-    record { small = omega (arith, few .0, few .1, c .before .before .before .before .before .before .before .before .put-all .ensures .endIs, c .before .before .before .before .put-decimal .ensures .endIs) }
+    let at-put-decimal = c .before .before .before .before in
+    let at-put-all = at-put-decimal .before .before .before .before in
+    let stage = at-put-all .before .before .before in
+    let few = digits (stage) in
+    record { small = omega (arith, few .0, few .1, at-put-all .put-all .ensures .endIs, at-put-decimal .put-decimal .ensures .endIs) }
 
 put-decimal-requires-2 : tie.Need-put-decimal-requires-2
 put-decimal-requires-2 c κs =
-    let few = digits (c .before .before .before .before .before .before .before .before .before .before .before .before .before .before .before) in
-    record { small = omega (arith, few .0, few .1, c .before .before .before .before .before .before .before .before .before .before .before .before .put-all .ensures .endIs, c .before .before .before .before .before .before .before .before .put-decimal .ensures .endIs, c .before .before .before .put-all2 .ensures .endIs) }
+    let at-put-all2 = c .before .before .before in
+    let at-put-decimal = at-put-all2 .before .before .before .before .before in
+    let at-put-all = at-put-decimal .before .before .before .before in
+    let stage = at-put-all .before .before .before in
+    let few = digits (stage) in
+    record {
+      small = omega
+          (arith, few .0, few .1, at-put-all .put-all .ensures .endIs, at-put-decimal .put-decimal .ensures .endIs, at-put-all2 .put-all2 .ensures .endIs);
+    }
 
 slice-aggregate-put-all-3 : tie.Need-slice-aggregate-put-all-3
 slice-aggregate-put-all-3 c = search needs
 
 put-all-requires-3 : tie.Need-put-all-requires-3
 put-all-requires-3 c κs =
-    let few = digits (c .before .before .before .before .before .before .before .before .before .before .before .before .before .before .before .before .before .before .before .before) in
-    record { small = omega (arith, few .0, few .1, c .before .before .before .before .before .before .before .before .before .before .before .before .before .before .before .before .before .put-all .ensures .endIs, c .before .before .before .before .before .before .before .before .before .before .before .before .before .put-decimal .ensures .endIs, c .before .before .before .before .before .before .before .before .put-all2 .ensures .endIs, c .before .before .before .before .put-decimal2 .ensures .endIs) }
+    let at-put-decimal2 = c .before .before .before .before in
+    let at-put-all2 = at-put-decimal2 .before .before .before .before in
+    let at-put-decimal = at-put-all2 .before .before .before .before .before in
+    let at-put-all = at-put-decimal .before .before .before .before in
+    let stage = at-put-all .before .before .before in
+    let few = digits (stage) in
+    record {
+      small = omega (
+        arith,
+        few .0,
+        few .1,
+        at-put-all .put-all .ensures .endIs,
+        at-put-decimal .put-decimal .ensures .endIs,
+        at-put-all2 .put-all2 .ensures .endIs,
+        at-put-decimal2 .put-decimal2 .ensures .endIs,
+      );
+    }
 
 same-length : tie.Need-same-length
 same-length c = search needs
 
 returns : tie.Need-returns
 unfolding toldLine
-returns c = let a = c .before .before .before .before .before .before .before .before .before .before .before .before .before .before .before .before .before .before .before .before .before .before .before .before .before .before .args in
-    line-told (a .why) (a .out .now) _ _ (c .before .before .before .before .before .before .before .before .before .before .before .before .before .before .before .before .before .before .before .before .before .before .before .before .before .before .pre) (c .before .before .before .before .before .before .before .before .before .before .before .before .before .before .before .before .before .before .before .before .before .before .before .before .number-of .ensures) (c .before .before .before .before .before .before .before .before .before .before .before .before .before .before .before .before .before .before .before .before .before .before .before .detail-of .ensures) (c .before .before .before .before .before .before .before .before .before .before .before .before .before .before .before .before .before .before .before .before .before .before .before .before .number-of .ok) (c .before .before .before .before .before .before .before .before .before .before .before .before .before .before .before .before .before .before .before .before .before .before .before .detail-of .ok)
-    (appended-then (c .before .before .before .before .before .before .before .before .before .before .before .before .before .before .before .before .before .before .before .before .put-all .ensures) (appended-then (c .before .before .before .before .before .before .before .before .before .before .before .before .before .before .before .before .put-decimal .ensures) (appended-then (c .before .before .before .before .before .before .before .before .before .before .before .put-all2 .ensures) (appended-then (c .before .before .before .before .before .before .before .put-decimal2 .ensures) (c .before .before .put-all3 .ensures)))))
+returns c =
+    let at-put-decimal2 = c .before .before .before .before .before .before .before in
+    let at-put-all2 = at-put-decimal2 .before .before .before .before in
+    let at-put-decimal = at-put-all2 .before .before .before .before .before in
+    let at-put-all = at-put-decimal .before .before .before .before in
+    let at-detail-of = at-put-all .before .before .before in
+    let at-number-of = at-detail-of .before in
+    let start = at-number-of .before .before in
+    let a = start .args in
+    line-told (a .why) (a .out .now) _ _ (start .pre) (at-number-of .number-of .ensures) (at-detail-of .detail-of .ensures) (at-number-of .number-of .ok)
+    (at-detail-of .detail-of .ok)
+    (appended-then (at-put-all .put-all .ensures)
+    (appended-then (at-put-decimal .put-decimal .ensures)
+    (appended-then (at-put-all2 .put-all2 .ensures) (appended-then (at-put-decimal2 .put-decimal2 .ensures) (c .before .before .put-all3 .ensures)))))
 
 pub tell-spec : {M : Type 1} → statement M
 tell-spec =

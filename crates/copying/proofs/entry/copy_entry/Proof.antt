@@ -11,7 +11,8 @@ use Rattle.copying.proofs.entry.copy_entry.Statement.{statement}
 use Rattle.copying.proofs.entry.copy_entry.Tie as tie
 
 abbrev Inv-loop : tie.InvT-loop
-Inv-loop words from n m first last newest out₀ to i₀ out i = (i ≤ 5) × (out ≡ sets out₀ to (tab (entryWord words from n m first last newest) i)) × (length out ≡ length out₀)
+Inv-loop words from n m first last newest out₀ to i₀ out i =
+    (i ≤ 5) × (out ≡ sets out₀ to (tab (entryWord words from n m first last newest) i)) × (length out ≡ length out₀)
 
 abbrev μ-loop : tie.MeasureT-loop
 μ-loop words from n m first last newest out₀ to i₀ out i = 5 - i

@@ -1,14 +1,17 @@
--- `copying::entry::mapped` meets its contract: a word is a gate's exactly when it is at least n and below n + m. Assumes nothing.
+-- `copying::entry::mapped` meets its contract, by the gate that the word names. Assumes nothing.
 use mathlib.Core.Path.{sym}
-use mathlib.Core.Logic.{inl, inr}
 use borrow.Author.Needs.{needs}
 use native.Mathlib.Omega.{arith}
-use Rattle.copying.proofs.Words.{mapped-gate, mapped-other}
+use Rattle.copying.proofs.Words.{mapped-named, mapped-none}
 use Rattle.copying.proofs.entry.mapped.Statement.{statement}
 use Rattle.copying.proofs.entry.mapped.Tie as tie
 
-add-if2 : tie.Need-add-if2
-add-if2 c = search needs
+-- the function's entry
+abbrev start : tie.After-gate-named → tie.Start
+start c = c .before .before
+
+gate-named-requires : tie.Need-gate-named-requires
+gate-named-requires c κs = search needs
 
 mul-result : tie.Need-mul-result
 mul-result c = search needs
@@ -17,14 +20,16 @@ shared-slice-read-result : tie.Need-shared-slice-read-result
 shared-slice-read-result c = search needs
 
 returns : tie.Need-returns
-returns c = let a = c .before .before .before .args in sym (mapped-gate (a .n) (a .m) (a .newest .now) (a .w) (omega arith) (omega arith))
+returns c =
+    let named = c .before .before in
+    let a = start named .args in
+    sym (mapped-named (a .n) (a .m) (a .newest .now) (a .w) (named .gate-named .ensures) (c .before .if1 .taken))
 
 returns-2 : tie.Need-returns-2
-returns-2 c = let a = c .before .before .args in sym (mapped-other (a .n) (a .m) (a .newest .now) (a .w) (inr (c .if2 .left)))
-
-returns-3 : tie.Need-returns-3
-returns-3 c = let a = c .before .args in sym (mapped-other (a .n) (a .m) (a .newest .now) (a .w) (inl (c .if1 .left)))
+returns-2 c =
+    let named = c .before in
+    let a = start named .args in
+    sym (mapped-none (a .n) (a .m) (a .newest .now) (a .w) (named .gate-named .ensures) (c .if1 .left))
 
 pub mapped-spec : {M : Type 1} → statement M
-mapped-spec =
-    tie.close (tie.spec add-if2 mul-result shared-slice-read-result returns returns-2 returns-3)
+mapped-spec = tie.close (tie.spec gate-named-requires mul-result shared-slice-read-result returns returns-2)

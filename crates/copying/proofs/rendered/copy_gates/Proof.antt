@@ -33,7 +33,10 @@ cast-copy-gate : tie.Need-cast-copy-gate Inv-loop μ-loop
 cast-copy-gate c = omega (arith, c .shared-slice-known3 .given (c .before .before .loop .t))
 
 copy-gate-requires : tie.Need-copy-gate-requires Inv-loop μ-loop
-copy-gate-requires c κs = (c .before .before .before .before .before .before .before .before .before .pre .0 .inside (c .before .before .before .before .loop .t) (omega arith), omega arith)
+copy-gate-requires c κs =
+    let at-loop = c .before .before .before .before in
+    let at-start = at-loop .before .before .before .before .before in
+    (at-start .pre .0 .inside (at-loop .loop .t) (omega arith), omega arith)
 
 add-t : tie.Need-add-t Inv-loop μ-loop
 add-t c = omega arith
@@ -43,9 +46,12 @@ loop-less c = omega arith
 
 loop-again : tie.Need-loop-again Inv-loop μ-loop
 loop-again c =
-    let a = c .before .before .before .before .before .before .before .before .before .before .before .before .before .before .args in
-    let l = c .before .before .before .before .before .before .before .before .before .loop in
-    let g = c .before .before .before .before .copy-gate in (
+    let after-copy-gate = c .before .before .before .before in
+    let at-loop = after-copy-gate .before .before .before .before .before in
+    let at-start = at-loop .before .before .before .before .before in
+    let a = at-start .args in
+    let l = at-loop .loop in
+    let g = after-copy-gate .copy-gate in (
       omega arith,
       copies-next (a .words .now) (a .gates) (a .n) (a .m) (a .order .now) (a .newest .now) (a .out .now) (l .newest) (l .out) _ (l .t)
           (l .inv .1) (l .inv .2) (g .ensures .0),

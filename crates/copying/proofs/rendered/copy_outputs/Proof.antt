@@ -42,8 +42,10 @@ loop-less c = omega arith
 
 loop-again : tie.Need-loop-again Inv-loop μ-loop
 loop-again c =
-    let a = c .before .before .before .before .before .before .before .before .before .args in
-    let l = c .before .before .before .before .before .loop in
+    let at-loop = c .before .before .before .before .before in
+    let at-start = at-loop .before .before .before .before in
+    let a = at-start .args in
+    let l = at-loop .loop in
     let e = c .before .before .copy-entry in (
       omega arith,
       outputs-next (a .words .now) (a .from) (a .n) (a .m) (a .newest .now) (a .out .now) (l .out) _ (a .to) (l .o) (l .inv .1) (e .ensures),

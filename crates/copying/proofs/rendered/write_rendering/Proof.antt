@@ -12,6 +12,19 @@ known s =
     sizes (s .args .words .now) (s .args .n) (s .args .m) (s .args .k) (s .args .order .now) (s .args .total) (s .args .newest .now)
     (s .args .out .now) (s .pre)
 
+-- the function's entry, and the calls one before the other
+abbrev start : tie.After-write-header → tie.Start
+start c = c .before .before .before .before .before .before
+
+abbrev heading : tie.After-copy-words → tie.After-write-header
+heading c = c .before .before .before .before
+
+abbrev naming : tie.After-fill-words → tie.After-copy-words
+naming c = c .before .before .before .before
+
+abbrev clearing : tie.After-copy-gates → tie.After-fill-words
+clearing c = c .before .before .before .before .before
+
 mul-gates : tie.Need-mul-gates
 mul-gates c = omega (arith, known (c .before .before .before .before))
 
@@ -22,39 +35,65 @@ write-header-requires : tie.Need-write-header-requires
 write-header-requires c κs = let s = c .before .before .before .before .before in omega (arith, known s, s .pre .fewCopies)
 
 mul-copy-words : tie.Need-mul-copy-words
-mul-copy-words c = omega (arith, known (c .before .before .before .before .before .before .before .before))
+mul-copy-words c = omega (arith, known (start (c .before .before)))
 
 copy-words-requires : tie.Need-copy-words-requires
-copy-words-requires c κs = omega (arith, known (c .before .before .before .before .before .before .before .before .before), c .before .before .before .write-header .kept .1 .1 .1 .0)
+copy-words-requires c κs = let h = c .before .before .before in omega (arith, known (start h), h .write-header .kept .1 .1 .1 .0)
 
-clear-requires : tie.Need-clear-requires
-clear-requires c κs = search needs
+cast-fill-words : tie.Need-cast-fill-words
+cast-fill-words c = search needs
+
+fill-words-requires : tie.Need-fill-words-requires
+fill-words-requires c κs = search needs
 
 copy-gates-requires : tie.Need-copy-gates-requires
 copy-gates-requires c κs =
-    let s = c .before .before .before .before .before .before .before .before .before .before .before .before .before .before .before .before .before .before in (
+    let z = c .before .before .before .before in
+    let w = naming z in
+    let s = start (heading w) in (
       ordered (s .args .words .now) (s .args .n) (s .args .m) (s .args .k) (s .args .order .now) (s .args .total) (s .args .newest .now)
           (s .args .out .now) (s .pre),
-      omega (arith, known s, s .pre .fewCopies, s .pre .table, c .before .before .before .before .clear .kept .1 .0, c .before .before .before .before .before .before .before .before .copy-words .kept .1 .1 .1 .0, c .before .before .before .before .before .before .before .before .before .before .before .before .write-header .kept .1 .1 .1 .0),
+      omega (
+        arith,
+        known s,
+        s .pre .fewCopies,
+        s .pre .table,
+        z .fill-words .kept .0,
+        w .copy-words .kept .1 .1 .1 .0,
+        heading w .write-header .kept .1 .1 .1 .0,
+      ),
     )
 
 mul-copy-outputs : tie.Need-mul-copy-outputs
-mul-copy-outputs c = omega (arith, known (c .before .before .before .before .before .before .before .before .before .before .before .before .before .before .before .before .before .before .before .before .before .before .before))
+mul-copy-outputs c = let g = c .before .before .before .before in omega (arith, known (start (heading (naming (clearing g)))))
 
 add-copy-outputs : tie.Need-add-copy-outputs
-add-copy-outputs c = omega (arith, known (c .before .before .before .before .before .before .before .before .before .before .before .before .before .before .before .before .before .before .before .before .before .before .before))
+add-copy-outputs c = let g = c .before .before .before .before in omega (arith, known (start (heading (naming (clearing g)))))
 
 mul-copy-outputs-2 : tie.Need-mul-copy-outputs-2
 mul-copy-outputs-2 c = search needs
 
 add-copy-outputs-2 : tie.Need-add-copy-outputs-2
-add-copy-outputs-2 c = let s = c .before .before .before .before .before .before .before .before .before .before .before .before .before .before .before .before .before .before .before .before .before .before .before .before .before in omega (arith, known s, s .pre .fewCopies)
+add-copy-outputs-2 c =
+    let g = c .before .before .before .before .before .before in
+    let s = start (heading (naming (clearing g))) in
+    omega (arith, known s, s .pre .fewCopies)
 
 copy-outputs-requires : tie.Need-copy-outputs-requires
 copy-outputs-requires c κs =
-    let s = c .before .before .before .before .before .before .before .before .before .before .before .before .before .before .before .before .before .before .before .before .before .before .before .before .before in
-    let g = c .before .before .before .before .before .before .copy-gates in
-    omega (arith, known s, s .pre .table, g .kept .1 .1 .1 .1 .1 .1 .0, g .kept .1 .1 .1 .1 .1 .1 .1 .0, c .before .before .before .before .before .before .before .before .before .before .before .clear .kept .1 .0, c .before .before .before .before .before .before .before .before .before .before .before .before .before .before .before .copy-words .kept .1 .1 .1 .0, c .before .before .before .before .before .before .before .before .before .before .before .before .before .before .before .before .before .before .before .write-header .kept .1 .1 .1 .0)
+    let g = c .before .before .before .before .before .before in
+    let w = naming (clearing g) in
+    let s = start (heading w) in
+    omega (
+      arith,
+      known s,
+      s .pre .table,
+      g .copy-gates .kept .1 .1 .1 .1 .1 .1 .0,
+      g .copy-gates .kept .1 .1 .1 .1 .1 .1 .1 .0,
+      clearing g .fill-words .kept .0,
+      w .copy-words .kept .1 .1 .1 .0,
+      heading w .write-header .kept .1 .1 .1 .0,
+    )
 
 same-length : tie.Need-same-length
 same-length c = search needs
@@ -64,11 +103,13 @@ same-length-2 c = search needs
 
 returns : tie.Need-returns
 returns c =
-    let s = c .before .before .before .before .before .before .before .before .before .before .before .before .before .before .before .before .before .before .before .before .before .before .before .before .before .before .before .before in
-    let g = c .before .before .before .before .before .before .before .before .before .copy-gates in
+    let out = c .before .before in
+    let g = out .before .before .before .before .before .before .before in
+    let w = naming (clearing g) in
+    let s = start (heading w) in
     rendering-written (s .args .words .now) (s .args .n) (s .args .m) (s .args .k) (s .args .order .now) (s .args .total) (s .args .newest .now)
-    (s .args .out .now) (s .pre) _ _ _ _ _ _ (c .before .before .before .before .before .before .before .before .before .before .before .before .before .before .before .before .before .before .before .before .before .before .write-header .ensures) (c .before .before .before .before .before .before .before .before .before .before .before .before .before .before .before .before .before .before .copy-words .ensures)
-    (c .before .before .before .before .before .before .before .before .before .before .before .before .before .before .clear .ensures) (g .ensures .0) (g .ensures .1) (c .before .before .copy-outputs .ensures)
+    (s .args .out .now) (s .pre) _ _ _ _ _ _ (heading w .write-header .ensures) (w .copy-words .ensures) (clearing g .fill-words .ensures)
+    (g .copy-gates .ensures .0) (g .copy-gates .ensures .1) (out .copy-outputs .ensures)
 
 pub write-rendering-spec : {M : Type 1} → statement M
 write-rendering-spec =
@@ -79,7 +120,8 @@ write-rendering-spec =
     write-header-requires
     mul-copy-words
     copy-words-requires
-    clear-requires
+    cast-fill-words
+    fill-words-requires
     copy-gates-requires
     mul-copy-outputs
     add-copy-outputs

@@ -4,6 +4,7 @@ use Prim.Native.Nat.{_^_, _≤_}
 use mathlib.Core.Path.{sym, _∙_}
 use native.Mathlib.Omega.{arith}
 use lib.Seq.{length-take-le}
+use Rattle.netlist.specs.Limits.{maxInputs}
 use Rattle.netlist.specs.StoredBlock.{decode}
 use Rattle.encoding.proofs.Decoded.{decode-inputCount}
 use Rattle.encoding.proofs.Readers.{whole-parts}
@@ -14,6 +15,35 @@ use borrow.Author.Needs.{needs}
 use Rattle.cover.proofs.table.tabulate.Statement.{statement}
 use Rattle.cover.proofs.table.tabulate.Tie as tie
 
+-- the function's entry and the places of its calls
+abbrev start : tie.After-gates-of → tie.Start
+start c = c .before .before .before .before .before .before .before
+
+abbrev counted : tie.After-order-gates → tie.After-gates-of
+counted c = c .before .before .before
+
+-- the block's gates are few enough for the arrays of its order and its values, its inputs for theirs, and its settings for the table
+order-room : (o : tie.After-order-gates) → counted o .gates-of .result ≤ length (o .order-gates .last .1 .0)
+order-room o =
+    let s = start (counted o) in
+    omega (arith, counted o .gates-of .ensures, whole-parts (s .args .words .now) (s .pre .0) .fewGates, s .pre .1 .orderRoom, o .order-gates .kept .1 .0)
+
+value-room : (o : tie.After-order-gates) → counted o .gates-of .result ≤ length (start (counted o) .args .values .now)
+value-room o =
+    let s = start (counted o) in
+    omega (arith, counted o .gates-of .ensures, whole-parts (s .args .words .now) (s .pre .0) .fewGates, s .pre .1 .valueRoom)
+
+few-inputs : (o : tie.After-order-gates) → counted o .before .inputs-of .result ≤ maxInputs
+few-inputs o =
+    let s = start (counted o) in
+    omega (arith, counted o .before .inputs-of .ensures, whole-parts (s .args .words .now) (s .pre .0) .fewInputs)
+
+input-room : (o : tie.After-order-gates) → counted o .before .inputs-of .result ≤ length (start (counted o) .args .inputs .now)
+input-room o = omega (arith, few-inputs o, start (counted o) .pre .1 .inputRoom)
+
+table-room : (o : tie.After-order-gates) → 2 ^ counted o .before .inputs-of .result ≤ length (start (counted o) .args .settled .now)
+table-room o = rw (start (counted o) .pre .1 .settledRoom) (few-settings _ (few-inputs o))
+
 inputs-of-requires : tie.Need-inputs-of-requires
 inputs-of-requires c κs = search needs
 
@@ -22,68 +52,42 @@ gates-of-requires c κs = search needs
 
 gates-at-requires : tie.Need-gates-at-requires
 gates-at-requires c κs =
-    let s = c .before .before .before .before .before .before .before in
+    let s = start c in
     rw (c .before .inputs-of .ensures) (omega (arith, whole-parts (s .args .words .now) (s .pre .0) .fewInputs))
 
 order-gates-requires : tie.Need-order-gates-requires
 order-gates-requires c κs =
-    let s = c .before .before .before .before .before .before .before .before .before in
+    let s = start (c .before .before) in
     (s .pre .0, omega (arith, whole-parts (s .args .words .now) (s .pre .0) .fewGates, s .pre .1 .orderRoom))
 
 slice-reshare-prefix-fill-settled : tie.Need-slice-reshare-prefix-fill-settled
-slice-reshare-prefix-fill-settled c =
-    let s = c .before .before .before .before .before .before .before .before .before .before .before .before in
-    omega (arith, c .before .before .before .before .before .gates-of .ensures, whole-parts (s .args .words .now) (s .pre .0) .fewGates, s .pre .1 .orderRoom, c .before .before .order-gates .kept .1 .0)
+slice-reshare-prefix-fill-settled c = order-room (c .before .before)
 
 slice-aggregate-fill-settled : tie.Need-slice-aggregate-fill-settled
-slice-aggregate-fill-settled c =
-    let s = c .before .before .before .before .before .before .before .before .before .before .before .before .before in
-    let m = c .before .before .before .before .before .before .gates-of in
-    let e = c .before .before .before .order-gates in
-    let room : m .result ≤ length (e .last .1 .0) =
-    omega (arith, m .ensures, whole-parts (s .args .words .now) (s .pre .0) .fewGates, s .pre .1 .orderRoom, e .kept .1 .0) in
-    sym (length-take-le (m .result) (e .last .1 .0) room)
+slice-aggregate-fill-settled c = sym (length-take-le _ _ (order-room (c .before .before .before)))
 
 slice-relend-prefix-fill-settled : tie.Need-slice-relend-prefix-fill-settled
-slice-relend-prefix-fill-settled c =
-    let s = c .before .before .before .before .before .before .before .before .before .before .before .before .before in
-    omega (arith, c .before .before .before .before .before .before .before .inputs-of .ensures, whole-parts (s .args .words .now) (s .pre .0) .fewInputs, s .pre .1 .inputRoom)
+slice-relend-prefix-fill-settled c = input-room (c .before .before .before)
 
 slice-aggregate-fill-settled-2 : tie.Need-slice-aggregate-fill-settled-2
-slice-aggregate-fill-settled-2 c =
-    let s = c .before .before .before .before .before .before .before .before .before .before .before .before .before .before in
-    let n = c .before .before .before .before .before .before .before .before .inputs-of in
-    let room : n .result ≤ length (s .args .inputs .now) =
-    omega (arith, n .ensures, whole-parts (s .args .words .now) (s .pre .0) .fewInputs, s .pre .1 .inputRoom) in
-    sym (length-take-le (n .result) (s .args .inputs .now) room)
+slice-aggregate-fill-settled-2 c = sym (length-take-le _ _ (input-room (c .before .before .before .before)))
 
 slice-relend-prefix-fill-settled-2 : tie.Need-slice-relend-prefix-fill-settled-2
-slice-relend-prefix-fill-settled-2 c =
-    let s = c .before .before .before .before .before .before .before .before .before .before .before .before .before .before in
-    omega (arith, c .before .before .before .before .before .before .before .gates-of .ensures, whole-parts (s .args .words .now) (s .pre .0) .fewGates, s .pre .1 .valueRoom)
+slice-relend-prefix-fill-settled-2 c = value-room (c .before .before .before .before)
 
 slice-aggregate-fill-settled-3 : tie.Need-slice-aggregate-fill-settled-3
-slice-aggregate-fill-settled-3 c =
-    let s = c .before .before .before .before .before .before .before .before .before .before .before .before .before .before .before in
-    let m = c .before .before .before .before .before .before .before .before .gates-of in
-    let room : m .result ≤ length (s .args .values .now) =
-    omega (arith, m .ensures, whole-parts (s .args .words .now) (s .pre .0) .fewGates, s .pre .1 .valueRoom) in
-    sym (length-take-le (m .result) (s .args .values .now) room)
+slice-aggregate-fill-settled-3 c = sym (length-take-le _ _ (value-room (c .before .before .before .before .before)))
 
 fill-settled-requires : tie.Need-fill-settled-requires
 fill-settled-requires c κs =
-    let s = c .before .before .before .before .before .before .before .before .before .before .before .before .before .before .before .before in
-    let n = c .before .before .before .before .before .before .before .before .before .before .inputs-of in
-    let m = c .before .before .before .before .before .before .before .before .before .gates-of in
-    let e = c .before .before .before .before .before .before .order-gates in
-    let whole = whole-parts (s .args .words .now) (s .pre .0) in
-    let inputRoom : n .result ≤ length (s .args .inputs .now) = omega (arith, n .ensures, whole .fewInputs, s .pre .1 .inputRoom) in
-    let valueRoom : m .result ≤ length (s .args .values .now) = omega (arith, m .ensures, whole .fewGates, s .pre .1 .valueRoom) in
-    let few : 2 ^ n .result ≤ 1024 = few-settings (n .result) (omega (arith, n .ensures, whole .fewInputs)) in (
-      whole-ready (s .args .words .now) (n .result) (m .result) (c .before .before .before .before .before .before .before .before .gates-at .result) _ _ _ (s .pre .0) (n .ensures) (m .ensures) (c .before .before .before .before .before .before .before .before .gates-at .ensures)
-          (rw (m .ensures) (e .ensures))
-          (length-take-le (n .result) (s .args .inputs .now) inputRoom) (length-take-le (m .result) (s .args .values .now) valueRoom),
-      omega (arith, few, s .pre .1 .settledRoom),
+    let o = c .before .before .before .before .before .before in
+    let s = start (counted o) in
+    let m = counted o .gates-of in
+    let n = counted o .before .inputs-of in
+    let at = o .before .before .gates-at in (
+      whole-ready (s .args .words .now) (n .result) (m .result) (at .result) _ _ _ (s .pre .0) (n .ensures) (m .ensures) (at .ensures)
+          (rw (m .ensures) (o .order-gates .ensures)) (length-take-le _ _ (input-room o)) (length-take-le _ _ (value-room o)),
+      table-room o,
     )
 
 same-length : tie.Need-same-length
@@ -100,15 +104,13 @@ same-length-4 c = search needs
 
 returns : tie.Need-returns
 returns c =
-    let s = c .before .before .before .before .before .before .before .before .before .before .before .before .before .before .before .before .before .before .before .before .before .before .before in
-    let n = c .before .before .before .before .before .before .before .before .before .before .before .before .before .before .before .before .before .inputs-of in
-    let e = c .before .before .before .before .before .before .fill-settled in
-    let whole = whole-parts (s .args .words .now) (s .pre .0) in
-    let table = e .last .1 .1 .1 .1 .1 .1 .0 in
-    let few : 2 ^ n .result ≤ 1024 = few-settings (n .result) (omega (arith, n .ensures, whole .fewInputs)) in
-    let room : 2 ^ n .result ≤ length table = omega (arith, few, e .kept .1 .1 .1 .1 .1 .1 .0, s .pre .1 .settledRoom) in
-    tabulated (decode (s .args .words .now)) (n .result) (s .args .settled .now) table (n .ensures ∙ sym (decode-inputCount (s .args .words .now)))
-    room (e .ensures)
+    let filled = c .before .before .before .before .before .before in
+    let o = filled .before .before .before .before .before .before .before in
+    let s = start (counted o) in
+    let n = counted o .before .inputs-of in
+    let e = filled .fill-settled in
+    tabulated (decode (s .args .words .now)) (n .result) (s .args .settled .now) (e .last .1 .1 .1 .1 .1 .1 .0)
+    (n .ensures ∙ sym (decode-inputCount (s .args .words .now))) (rw (e .kept .1 .1 .1 .1 .1 .1 .0) (table-room o)) (e .ensures)
 
 pub tabulate-spec : {M : Type 1} → statement M
 tabulate-spec =

@@ -22,8 +22,9 @@ same-length-2 c = search needs
 returns : tie.Need-returns
 unfolding settledUnder
 returns c =
-    let s = c .before .before .before .before .before .before .before .before .before .before .before .before .before in
-    let bits = c .before .before .before .before .before .before .before .set-inputs .ensures in
+    let set = c .before .before .before .before .before .before .before in
+    let s = set .before .before .before .before .before .before in
+    let bits = set .set-inputs .ensures in
     c .before .before .settle-in-place .ensures
     ∙ rw (bits, values-codes (settingOf (length (s .args .inputs .now)) (s .args .s)), s .pre .inputRoom, s .pre .legible .inputs) refl
 

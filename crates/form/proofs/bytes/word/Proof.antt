@@ -22,7 +22,9 @@ sub-t7 : tie.Need-sub-t7 Inv-loop μ-loop
 sub-t7 c = c .before .before .loop .inv .1
 
 returns : tie.Need-returns Inv-loop μ-loop
-returns c = sym (c .before .before .loop .inv .2 ∙ word-short (c .before .before .before .args .bytes .now) (c .before .before .before .args .s .now) (c .before .before .loop .i) (c .before .loop-test .taken) (c .if1 .taken))
+returns c =
+    sym (c .before .before .loop .inv .2 ∙ word-short (c .before .before .before .args .bytes .now) (c .before .before .before .args .s .now)
+    (c .before .before .loop .i) (c .before .loop-test .taken) (c .if1 .taken))
 
 shared-slice-read-if2 : tie.Need-shared-slice-read-if2 Inv-loop μ-loop
 shared-slice-read-if2 c = omega arith
@@ -34,9 +36,12 @@ sub-t13 : tie.Need-sub-t13 Inv-loop μ-loop
 sub-t13 c = c .before .before .before .before .before .loop .inv .1
 
 returns-2 : tie.Need-returns-2 Inv-loop μ-loop
-returns-2 c = let b = c .before .before .before .before in
+returns-2 c =
+    let at-if1 = c .before .before .before in
+    let stage = at-if1 .before in
+    let b = stage in
     let a = b .before .before .args in
-    sym (b .before .loop .inv .2 ∙ word-other (a .bytes .now) (a .s .now) (b .before .loop .i) (b .loop-test .taken) (c .before .before .before .if1 .left) (c .if2 .taken))
+    sym (b .before .loop .inv .2 ∙ word-other (a .bytes .now) (a .s .now) (b .before .loop .i) (b .loop-test .taken) (at-if1 .if1 .left) (c .if2 .taken))
 
 add-i : tie.Need-add-i Inv-loop μ-loop
 add-i c = omega arith
@@ -45,9 +50,12 @@ loop-less : tie.Need-loop-less Inv-loop μ-loop
 loop-less c = omega arith
 
 loop-again : tie.Need-loop-again Inv-loop μ-loop
-loop-again c = let b = c .before .before .before .before in
+loop-again c =
+    let at-if1 = c .before .before .before in
+    let stage = at-if1 .before in
+    let b = stage in
     let a = b .before .before .args in
-    let e = b .before .loop .inv .2 ∙ word-same (a .bytes .now) (a .s .now) (b .before .loop .i) (b .loop-test .taken) (c .before .before .before .if1 .left) (c .if2 .left) in
+    let e = b .before .loop .inv .2 ∙ word-same (a .bytes .now) (a .s .now) (b .before .loop .i) (b .loop-test .taken) (at-if1 .if1 .left) (c .if2 .left) in
     (omega arith, omega arith, rw (add-one (b .before .loop .i)) e)
 
 sub-t15 : tie.Need-sub-t15 Inv-loop μ-loop

@@ -16,7 +16,8 @@ use Rattle.form.proofs.LineChoice.{chosen-input, chosen-gate, chosen-ou
 bracket-there : (c : tie.Else1) → 0 < length (c .before .before .before .args .s .now)
 bracket-there c = byte-there (c .before .before .before .args .s .now) (c .before .byte-at .ensures) (c .if1 .left) (omega arith)
 
-behind : (c : tie.Else1) → lineReader (c .before .before .before .args .phase) (c .before .before .before .args .s .now) ≡ lineBehind (c .before .before .before .args .phase) (drop 1 (c .before .before .before .args .s .now))
+behind : (c : tie.Else1) → lineReader (c .before .before .before .args .phase) (c .before .before .before .args .s .now) ≡ lineBehind
+    (c .before .before .before .args .phase) (drop 1 (c .before .before .before .args .s .now))
 behind c = line-bracket (c .before .before .before .args .phase) (c .before .before .before .args .s .now) (c .before .byte-at .ensures) (c .if1 .left)
 
 letter-is : (c : tie.After-byte-at2) → c .byte-at2 .result ≡ getD (drop 1 (c .before .before .before .before .args .s .now)) 0 0
@@ -33,7 +34,8 @@ byte-at-requires : tie.Need-byte-at-requires
 byte-at-requires c κs = search needs
 
 returns : tie.Need-returns
-returns c = sym (ap scanOf (line-none (c .before .before .before .args .phase) (c .before .before .before .args .s .now) (c .before .byte-at .ensures) (c .if1 .taken)))
+returns c =
+    sym (ap scanOf (line-none (c .before .before .before .args .phase) (c .before .before .before .args .s .now) (c .before .byte-at .ensures) (c .if1 .taken)))
 
 byte-at-requires-2 : tie.Need-byte-at-requires-2
 byte-at-requires-2 c κs = search needs
@@ -51,10 +53,13 @@ input-line-requires : tie.Need-input-line-requires
 input-line-requires c κs = search needs
 
 returns-2 : tie.Need-returns-2
-returns-2 c = let b = c .before .before .before .before in
+returns-2 c =
+    let at-if2 = c .before .before .before in
+    let stage = at-if2 .before in
+    let b = stage in
     let a = b .before .before .before .before .args in
     c .input-line .ensures ∙ ap (λ t. scanOf (inputReader t)) (rest-is-drop (a .s .now) 1)
-    ∙ sym (ap scanOf (behind (b .before) ∙ chosen-input (a .phase) (drop 1 (a .s .now)) (letter-is b) (c .before .before .before .if2 .taken) (c .before .before .if3 .taken)))
+    ∙ sym (ap scanOf (behind (b .before) ∙ chosen-input (a .phase) (drop 1 (a .s .now)) (letter-is b) (at-if2 .if2 .taken) (c .before .before .if3 .taken)))
 
 sub-gate-line : tie.Need-sub-gate-line
 sub-gate-line c = bracket-there (c .before .before .before .before)
@@ -69,11 +74,15 @@ gate-line-requires : tie.Need-gate-line-requires
 gate-line-requires c κs = search needs
 
 returns-3 : tie.Need-returns-3
-returns-3 c = let j = c .before .before .before .before in
+returns-3 c =
+    let at-if4 = c .before .before .before in
+    let stage = at-if4 .before in
+    let j = stage in
     let b = j .before in
     let a = b .before .before .before .before .args in
     c .gate-line .ensures ∙ ap (λ t. scanOf (gateReader t)) (rest-is-drop (a .s .now) 1)
-    ∙ sym (ap scanOf (behind (b .before) ∙ chosen-gate (a .phase) (drop 1 (a .s .now)) (letter-is b) (no-input j) (c .before .before .before .if4 .taken) (c .before .before .if5 .taken)))
+    ∙ sym (ap scanOf
+    (behind (b .before) ∙ chosen-gate (a .phase) (drop 1 (a .s .now)) (letter-is b) (no-input j) (at-if4 .if4 .taken) (c .before .before .if5 .taken)))
 
 sub-output-line : tie.Need-sub-output-line
 sub-output-line c = bracket-there (c .before .before .before)

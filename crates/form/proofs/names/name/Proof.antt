@@ -13,10 +13,12 @@ use Rattle.form.specs.Scan.{scanOf, firstByte}
 use Rattle.form.proofs.Operands.{name-there, name-first, name-none}
 
 -- what the test of the first byte tells
-starts-is : (c : tie.After-starts) → c .starts .result ≡ firstByte (c .before .before .before .args .underscore) (getD (c .before .before .before .args .s .now) 0 0)
+starts-is : (c : tie.After-starts) → c .starts .result ≡ firstByte (c .before .before .before .args .underscore)
+    (getD (c .before .before .before .args .s .now) 0 0)
 starts-is c = c .starts .ensures ∙ ap (firstByte (c .before .before .before .args .underscore)) (c .before .byte-at .ensures)
 
-starts-at : (c : tie.Else1) → firstByte (c .before .before .before .before .args .underscore) (getD (c .before .before .before .before .args .s .now) 0 0) ≡ true
+starts-at : (c : tie.Else1) → firstByte (c .before .before .before .before .args .underscore) (getD (c .before .before .before .before .args .s .now) 0 0)
+    ≡ true
 starts-at c = sym (starts-is (c .before)) ∙ not-false (c .before .starts .result) (c .if1 .left)
 
 byte-at-requires : tie.Need-byte-at-requires

@@ -35,12 +35,16 @@ sub-result : tie.Need-sub-result Inv-loop μ-loop
 sub-result c = c .before .before .before .before .loop .inv .0
 
 returns : tie.Need-returns Inv-loop μ-loop
-returns c = let b = c .before .before .before .before in
+returns c =
+    let at-loop-test = c .before .before .before in
+    let stage = at-loop-test .before in
+    let b = stage in
     let a = b .before .before .args in
     let h : isNameByte (getD (a .s .now) (b .loop .i) 0) ≡ false =
-    ap isNameByte (sym (c .before .before .byte-at .ensures)) ∙ sym (c .before .is-name-byte .ensures) ∙ not-true (c .before .is-name-byte .result) (c .if1 .taken)
+    ap isNameByte (sym (c .before .before .byte-at .ensures)) ∙ sym (c .before .is-name-byte .ensures)
+    ∙ not-true (c .before .is-name-byte .result) (c .if1 .taken)
     in
-    sym (b .loop .inv .1 ∙ name-other (a .most) (a .s .now) (b .loop .i) (c .before .before .before .loop-test .taken) h)
+    sym (b .loop .inv .1 ∙ name-other (a .most) (a .s .now) (b .loop .i) (at-loop-test .loop-test .taken) h)
 
 add-i : tie.Need-add-i Inv-loop μ-loop
 add-i c = omega (arith, c .before .before .before .loop-test .taken, c .before .before .before .before .before .before .fits .most)
@@ -49,13 +53,17 @@ loop-less : tie.Need-loop-less Inv-loop μ-loop
 loop-less c = omega arith
 
 loop-again : tie.Need-loop-again Inv-loop μ-loop
-loop-again c = let b = c .before .before .before .before in
+loop-again c =
+    let at-loop-test = c .before .before .before in
+    let stage = at-loop-test .before in
+    let b = stage in
     let a = b .before .before .args in
     let h : isNameByte (getD (a .s .now) (b .loop .i) 0) ≡ true =
-    ap isNameByte (sym (c .before .before .byte-at .ensures)) ∙ sym (c .before .is-name-byte .ensures) ∙ not-false (c .before .is-name-byte .result) (c .if1 .left)
+    ap isNameByte (sym (c .before .before .byte-at .ensures)) ∙ sym (c .before .is-name-byte .ensures)
+    ∙ not-false (c .before .is-name-byte .result) (c .if1 .left)
     in
     let l : b .loop .i < length (a .s .now) = name-byte-there (a .most) (a .s .now) (b .loop .i) h in
-    let e = b .loop .inv .1 ∙ name-more (a .most) (a .s .now) (b .loop .i) (c .before .before .before .loop-test .taken) h in
+    let e = b .loop .inv .1 ∙ name-more (a .most) (a .s .now) (b .loop .i) (at-loop-test .loop-test .taken) h in
     (omega arith, rw (add-one (b .loop .i)) e)
 
 sub-result-2 : tie.Need-sub-result-2 Inv-loop μ-loop

@@ -13,8 +13,8 @@ use Rattle.form.proofs.terms.+expression+operand+operands.Lts-operand a
 use Rattle.form.proofs.terms.operands.Reads as operands
 use Rattle.form.proofs.terms.operands.Kinds as operands-kinds
 use Rattle.form.proofs.terms.+expression+operand+operands.Lts-operands as operands-lts
-use Rattle.form.proofs.bytes.byte_at.Reads as byte-at-reads
-use Rattle.form.proofs.bytes.is_name_start.Reads as is-name-start-reads
+use Rattle.layout.proofs.bytes.byte_at.Reads as byte-at-reads
+use Rattle.layout.proofs.bytes.is_name_start.Reads as is-name-start-reads
 use Rattle.form.proofs.bytes.word.Reads as word-reads
 use Rattle.form.proofs.names.name_bytes.Reads as name-bytes-reads
 use Rattle.layout.proofs.kinds.fewest_operands.Reads as fewest-operands-reads
@@ -39,7 +39,8 @@ use Rattle.form.proofs.Shortens.{shortens-term}
 use Rattle.form.proofs.Continues.{left-short}
 use Rattle.form.proofs.Chain.{At, lent-last, lent-rest, lent-last-length, lent-rest-length, then-bad, then-next, then-last, behind-first}
 use Rattle.form.proofs.Operands.{inner, start-there, operand-name, operand-0, operand-1, operand-inner, inner-deepest, inner-other, inner-expression}
-use Rattle.form.proofs.OperandLists.{operandThen, continues-operand, list-full, list-closed, list-needed, list-other, list-more, expression-kind, expression-none}
+use Rattle.form.proofs.OperandLists.{operandThen, continues-operand, list-full, list-closed, list-needed, list-other, list-more, expression-kind}
+use Rattle.form.proofs.OperandLists.{expression-none}
 
 abbrev μ-expression : Measures 1 expression-kinds.ps ℕ
 μ-expression κs a = suc (2 * length (a .0 .now))
@@ -72,20 +73,53 @@ operands-below t =
     and 1 operands-kinds.ps (falls 1 operands-kinds.ps _<_ μ-operands t) operands.Pre
 
 abbrev expression-claims : ℕ → expression-lts.Claims
-expression-claims t = (kind-reads.Asked, kind-reads.Learnt, most-operands-reads.Asked, most-operands-reads.Learnt, fewest-operands-reads.Asked, fewest-operands-reads.Learnt, operands-below t, operands.Post)
+expression-claims t = (
+  kind-reads.Asked,
+  kind-reads.Learnt,
+  most-operands-reads.Asked,
+  most-operands-reads.Learnt,
+  fewest-operands-reads.Asked,
+  fewest-operands-reads.Learnt,
+  operands-below t,
+  operands.Post,
+)
 
 abbrev operand-claims : ℕ → operand-lts.Claims
-operand-claims t = (byte-at-reads.Asked, byte-at-reads.Learnt, is-name-start-reads.Asked, is-name-start-reads.Learnt, name-bytes-reads.Asked, name-bytes-reads.Learnt, expression-below t, expression.Post)
+operand-claims t = (
+  byte-at-reads.Asked,
+  byte-at-reads.Learnt,
+  is-name-start-reads.Asked,
+  is-name-start-reads.Learnt,
+  name-bytes-reads.Asked,
+  name-bytes-reads.Learnt,
+  expression-below t,
+  expression.Post,
+)
 
 abbrev operands-claims : ℕ → operands-lts.Claims
-operands-claims t = (word-reads.Asked, word-reads.Learnt, byte-at-reads.Asked, byte-at-reads.Learnt, operand-below t, operand.Post, one-less-reads.Asked, one-less-reads.Learnt, operands-below t, operands.Post)
+operands-claims t = (
+  word-reads.Asked,
+  word-reads.Learnt,
+  byte-at-reads.Asked,
+  byte-at-reads.Learnt,
+  operand-below t,
+  operand.Post,
+  one-less-reads.Asked,
+  one-less-reads.Learnt,
+  operands-below t,
+  operands.Post,
+)
 
 -- behind the kind: the operands are left
 expression-chain : (t : ℕ) (c : expression-lts.After-known-told (expression-claims t) (expression-at t) expression.Post)
-    → At (scanOf (exprReader {A = Term} (termReader (c .before .before .before .before .before .args .depth)) apply (c .before .before .before .before .before .args .s .now)))
+    → At (scanOf
+    (exprReader {A = Term} (termReader (c .before .before .before .before .before .args .depth)) apply
+    (c .before .before .before .before .before .args .s .now)))
     (c .before .before .before .before .before .args .s .now)
     (c .before .kind2 .given .0 .1 .0)
-    (λ u. scanOf (termsReader (termReader (c .before .before .before .before .before .args .depth)) (mostOperands (c .before .kind2 .given .0 .0)) (fewestOperands (c .before .kind2 .given .0 .0)) u))
+    (λ u. scanOf
+    (termsReader (termReader (c .before .before .before .before .before .args .depth)) (mostOperands (c .before .kind2 .given .0 .0))
+    (fewestOperands (c .before .kind2 .given .0 .0)) u))
 expression-chain t c =
     let a = c .before .before .before .before .before .args in
     expression-kind (termReader (a .depth)) apply (a .s .now) (sym (c .before .kind2 .given .1) ∙ c .before .before .before .kind .ensures)
@@ -125,10 +159,15 @@ expression-enum-known-left : (t : ℕ) → expression-lts.Need-enum-known-left (
 expression-enum-known-left t c = search needs
 
 expression-returns : (t : ℕ) → expression-lts.Need-returns (expression-claims t) (expression-at t) expression.Post
-expression-returns t c = let b = c .before .before .before .before in
+expression-returns t c =
+    let at-most-operands = c .before .before .before in
+    let stage = at-most-operands .before in
+    let b = stage in
     let s = b .before .before .before .before .before .args .s .now in
-    let e = rw (c .before .before .before .most-operands .ensures, c .before .before .fewest-operands .ensures) at (c .operands .ensures) in
-    then-last (termsReader (termReader (b .before .before .before .before .before .args .depth)) (mostOperands (b .before .kind2 .given .0 .0)) (fewestOperands (b .before .kind2 .given .0 .0)))
+    let e = rw (at-most-operands .most-operands .ensures, c .before .before .fewest-operands .ensures) at (c .operands .ensures) in
+    then-last
+    (termsReader (termReader (b .before .before .before .before .before .args .depth)) (mostOperands (b .before .kind2 .given .0 .0))
+    (fewestOperands (b .before .kind2 .given .0 .0)))
     (expression-chain t b) (lent-last (b .before .kind2 .given .0 .1 .0) s) e
 
 expression-returns-2 : (t : ℕ) → expression-lts.Need-returns-2 (expression-claims t) (expression-at t) expression.Post
@@ -140,15 +179,18 @@ start-is : (t : ℕ) (c : operand-lts.After-is-name-start (operand-claims t) (op
     → c .is-name-start .result ≡ isNameStart (getD (c .before .before .before .args .s .now) 0 0)
 start-is t c = c .is-name-start .ensures ∙ ap isNameStart (c .before .byte-at .ensures)
 
-no-start : (t : ℕ) (c : operand-lts.Else1 (operand-claims t) (operand-at t) operand.Post) → isNameStart (getD (c .before .before .before .before .args .s .now) 0 0) ≡ false
+no-start : (t : ℕ) (c : operand-lts.Else1 (operand-claims t) (operand-at t) operand.Post)
+    → isNameStart (getD (c .before .before .before .before .args .s .now) 0 0) ≡ false
 no-start t c = sym (start-is t (c .before)) ∙ c .if1 .left
 
 no-leaf : (t : ℕ) (c : operand-lts.Else3 (operand-claims t) (operand-at t) operand.Post)
     → scanOf (termReader (c .before .before .before .before .before .before .args .depth) (c .before .before .before .before .before .before .args .s .now))
     ≡ scanOf (inner (c .before .before .before .before .before .before .args .depth) (c .before .before .before .before .before .before .args .s .now))
 no-leaf t c =
-    let a = c .before .before .before .before .before .before .args in
-    operand-inner (a .depth) (a .s .now) (no-start t (c .before .before)) (c .before .before .before .before .byte-at .ensures) (c .before .if2 .left) (c .if3 .left)
+    let at-byte-at = c .before .before .before .before in
+    let start = at-byte-at .before .before in
+    let a = start .args in
+    operand-inner (a .depth) (a .s .now) (no-start t (c .before .before)) (at-byte-at .byte-at .ensures) (c .before .if2 .left) (c .if3 .left)
 
 operand-byte-at-requires : (t : ℕ) → operand-lts.Need-byte-at-requires (operand-claims t) (operand-at t) operand.Post
 operand-byte-at-requires t c κs = search needs
@@ -175,32 +217,50 @@ operand-returns t c = let b = c .before .before in
     ∙ sym (operand-name (a .depth) (a .s .now) (sym (start-is t (b .before)) ∙ b .if1 .taken))
 
 operand-sub-t12 : (t : ℕ) → operand-lts.Need-sub-t12 (operand-claims t) (operand-at t) operand.Post
-operand-sub-t12 t c = byte-there (c .before .before .before .before .before .args .s .now) (c .before .before .before .byte-at .ensures) (c .if2 .taken) (omega arith)
+operand-sub-t12 t c =
+    let at-byte-at = c .before .before .before in
+    let start = at-byte-at .before .before in
+    byte-there (start .args .s .now) (at-byte-at .byte-at .ensures) (c .if2 .taken) (omega arith)
 
 operand-returns-2 : (t : ℕ) → operand-lts.Need-returns-2 (operand-claims t) (operand-at t) operand.Post
 operand-returns-2 t c = let a = c .before .before .before .before .before .args in
     sym (operand-0 (a .depth) (a .s .now) (no-start t (c .before)) (c .before .before .before .byte-at .ensures) (c .if2 .taken))
 
 operand-sub-t14 : (t : ℕ) → operand-lts.Need-sub-t14 (operand-claims t) (operand-at t) operand.Post
-operand-sub-t14 t c = byte-there (c .before .before .before .before .before .before .args .s .now) (c .before .before .before .before .byte-at .ensures) (c .if3 .taken) (omega arith)
+operand-sub-t14 t c =
+    let at-byte-at = c .before .before .before .before in
+    let start = at-byte-at .before .before in
+    byte-there (start .args .s .now) (at-byte-at .byte-at .ensures) (c .if3 .taken) (omega arith)
 
 operand-returns-3 : (t : ℕ) → operand-lts.Need-returns-3 (operand-claims t) (operand-at t) operand.Post
-operand-returns-3 t c = let a = c .before .before .before .before .before .before .args in
-    sym (operand-1 (a .depth) (a .s .now) (no-start t (c .before .before)) (c .before .before .before .before .byte-at .ensures) (c .before .if2 .left) (c .if3 .taken))
+operand-returns-3 t c =
+    let at-byte-at = c .before .before .before .before in
+    let start = at-byte-at .before .before in
+    let a = start .args in
+    sym (operand-1 (a .depth) (a .s .now) (no-start t (c .before .before)) (at-byte-at .byte-at .ensures) (c .before .if2 .left) (c .if3 .taken))
 
 operand-returns-4 : (t : ℕ) → operand-lts.Need-returns-4 (operand-claims t) (operand-at t) operand.Post
 operand-returns-4 t c = let a = c .before .before .before .before .before .before .before .args in
     sym (no-leaf t (c .before) ∙ inner-deepest (a .depth) (a .s .now) (c .if4 .taken))
 
 operand-returns-5 : (t : ℕ) → operand-lts.Need-returns-5 (operand-claims t) (operand-at t) operand.Post
-operand-returns-5 t c = let a = c .before .before .before .before .before .before .before .before .args in
-    sym (no-leaf t (c .before .before) ∙ inner-other (a .depth) (a .s .now) (c .before .if4 .left) (c .before .before .before .before .before .before .byte-at .ensures) (c .if5 .taken))
+operand-returns-5 t c =
+    let at-byte-at = c .before .before .before .before .before .before in
+    let start = at-byte-at .before .before in
+    let a = start .args in
+    sym (no-leaf t (c .before .before) ∙ inner-other (a .depth) (a .s .now) (c .before .if4 .left) (at-byte-at .byte-at .ensures) (c .if5 .taken))
 
 operand-sub-expression : (t : ℕ) → operand-lts.Need-sub-expression (operand-claims t) (operand-at t) operand.Post
-operand-sub-expression t c = byte-there (c .before .before .before .before .before .before .before .before .args .s .now) (c .before .before .before .before .before .before .byte-at .ensures) (c .if5 .left) (omega arith)
+operand-sub-expression t c =
+    let at-byte-at = c .before .before .before .before .before .before in
+    let start = at-byte-at .before .before in
+    byte-there (start .args .s .now) (at-byte-at .byte-at .ensures) (c .if5 .left) (omega arith)
 
 operand-part-expression-start : (t : ℕ) → operand-lts.Need-part-expression-start (operand-claims t) (operand-at t) operand.Post
-operand-part-expression-start t c = byte-there (c .before .before .before .before .before .before .before .before .args .s .now) (c .before .before .before .before .before .before .byte-at .ensures) (c .if5 .left) (omega arith)
+operand-part-expression-start t c =
+    let at-byte-at = c .before .before .before .before .before .before in
+    let start = at-byte-at .before .before in
+    byte-there (start .args .s .now) (at-byte-at .byte-at .ensures) (c .if5 .left) (omega arith)
 
 operand-part-expression-end : (t : ℕ) → operand-lts.Need-part-expression-end (operand-claims t) (operand-at t) operand.Post
 operand-part-expression-end t c = search needs
@@ -218,10 +278,12 @@ operand-returns-6 : (t : ℕ) → operand-lts.Need-returns-6 (operand-claims t) 
 operand-returns-6 t c = let b = c .before .before in
     let a = b .before .before .before .before .before .before .before .before .args in
     c .expression .ensures ∙ ap (λ u. scanOf (exprReader {A = Term} (termReader (a .depth - 1)) apply u)) (rest-is-drop (a .s .now) 1)
-    ∙ sym (no-leaf t (b .before .before) ∙ inner-expression (a .depth) (a .s .now) (b .before .if4 .left) (b .before .before .before .before .before .before .byte-at .ensures) (b .if5 .left))
+    ∙ sym (no-leaf t (b .before .before) ∙ inner-expression (a .depth) (a .s .now) (b .before .if4 .left)
+    (b .before .before .before .before .before .before .byte-at .ensures) (b .if5 .left))
 
 -- behind a list's space: an operand and the others are left; behind that operand: the others
-space-there : (t : ℕ) (c : operands-lts.Else4 (operands-claims t) (operands-at t) operands.Post) → 0 < length (c .before .before .before .before .before .args .s .now)
+space-there : (t : ℕ) (c : operands-lts.Else4 (operands-claims t) (operands-at t) operands.Post)
+    → 0 < length (c .before .before .before .before .before .args .s .now)
 space-there t c = byte-there (c .before .before .before .before .before .args .s .now) (c .before .before .byte-at .ensures) (c .if4 .left) (omega arith)
 
 operands-chain : (t : ℕ) (c : operands-lts.Else4 (operands-claims t) (operands-at t) operands.Post)
@@ -229,9 +291,12 @@ operands-chain : (t : ℕ) (c : operands-lts.Else4 (operands-claims t) (operands
     At (scanOf (termsReader (termReader (a .depth)) (a .most) (a .needed) (a .s .now))) (a .s .now) (length (a .s .now) - 1)
     (λ u. scanOf (operandThen (termReader (a .depth)) (termsReader (termReader (a .depth)) (a .most - 1) (a .needed - 1)) u))
 operands-chain t c =
-    let a = c .before .before .before .before .before .args in
+    let at-if1 = c .before .before .before in
+    let start = at-if1 .before .before in
+    let a = start .args in
     behind-first (a .s .now) (space-there t c)
-    (list-more (termReader (a .depth)) (a .most) (a .needed) (a .s .now) (c .before .before .before .if1 .left) (c .before .before .byte-at .ensures) (c .before .if2 .left) (c .if4 .left))
+    (list-more (termReader (a .depth)) (a .most) (a .needed) (a .s .now) (at-if1 .if1 .left) (c .before .before .byte-at .ensures) (c .before .if2 .left)
+    (c .if4 .left))
 
 operands-chain-2 : (t : ℕ) (c : operands-lts.After-known-told (operands-claims t) (operands-at t) operands.Post)
     → let a = c .before .before .before .before .before .before .before .before .before .before .args in
@@ -257,19 +322,33 @@ operands-byte-at-requires : (t : ℕ) → operands-lts.Need-byte-at-requires (op
 operands-byte-at-requires t c κs = search needs
 
 operands-sub-t16 : (t : ℕ) → operands-lts.Need-sub-t16 (operands-claims t) (operands-at t) operands.Post
-operands-sub-t16 t c = byte-there (c .before .before .before .before .before .args .s .now) (c .before .before .byte-at .ensures) (c .before .if2 .taken) (omega arith)
+operands-sub-t16 t c =
+    let start = c .before .before .before .before .before in
+    byte-there (start .args .s .now) (c .before .before .byte-at .ensures) (c .before .if2 .taken) (omega arith)
 
 operands-returns-2 : (t : ℕ) → operands-lts.Need-returns-2 (operands-claims t) (operands-at t) operands.Post
-operands-returns-2 t c = let a = c .before .before .before .before .before .args in
-    sym (list-closed (termReader (a .depth)) (a .most) (a .needed) (a .s .now) (c .before .before .before .if1 .left) (c .before .before .byte-at .ensures) (c .before .if2 .taken) (c .if3 .taken))
+operands-returns-2 t c =
+    let at-if1 = c .before .before .before in
+    let start = at-if1 .before .before in
+    let a = start .args in
+    sym (list-closed (termReader (a .depth)) (a .most) (a .needed) (a .s .now) (at-if1 .if1 .left) (c .before .before .byte-at .ensures)
+    (c .before .if2 .taken) (c .if3 .taken))
 
 operands-returns-3 : (t : ℕ) → operands-lts.Need-returns-3 (operands-claims t) (operands-at t) operands.Post
-operands-returns-3 t c = let a = c .before .before .before .before .before .args in
-    sym (list-needed (termReader (a .depth)) (a .most) (a .needed) (a .s .now) (c .before .before .before .if1 .left) (c .before .before .byte-at .ensures) (c .before .if2 .taken) (c .if3 .left))
+operands-returns-3 t c =
+    let at-if1 = c .before .before .before in
+    let start = at-if1 .before .before in
+    let a = start .args in
+    sym (list-needed (termReader (a .depth)) (a .most) (a .needed) (a .s .now) (at-if1 .if1 .left) (c .before .before .byte-at .ensures)
+    (c .before .if2 .taken) (c .if3 .left))
 
 operands-returns-4 : (t : ℕ) → operands-lts.Need-returns-4 (operands-claims t) (operands-at t) operands.Post
-operands-returns-4 t c = let a = c .before .before .before .before .before .args in
-    sym (list-other (termReader (a .depth)) (a .most) (a .needed) (a .s .now) (c .before .before .before .if1 .left) (c .before .before .byte-at .ensures) (c .before .if2 .left) (c .if4 .taken))
+operands-returns-4 t c =
+    let at-if1 = c .before .before .before in
+    let start = at-if1 .before .before in
+    let a = start .args in
+    sym (list-other (termReader (a .depth)) (a .most) (a .needed) (a .s .now) (at-if1 .if1 .left) (c .before .before .byte-at .ensures)
+    (c .before .if2 .left) (c .if4 .taken))
 
 operands-sub-operand : (t : ℕ) → operands-lts.Need-sub-operand (operands-claims t) (operands-at t) operands.Post
 operands-sub-operand t c = space-there t c
@@ -281,8 +360,15 @@ operands-part-operand-end : (t : ℕ) → operands-lts.Need-part-operand-end (op
 operands-part-operand-end t c = search needs
 
 operands-operand-requires : (t : ℕ) → operands-lts.Need-operand-requires (operands-claims t) (operands-at t) operands.Post
-operands-operand-requires t c κs = let b = c .before in
-    (omega (arith, lent-rest-length (b .before .before .before .before .before .args .s .now) (space-there t b), space-there t b, b .before .before .before .before .before .pre .0), tt)
+operands-operand-requires t c κs = let b = c .before in (
+  omega (
+    arith,
+    lent-rest-length (b .before .before .before .before .before .args .s .now) (space-there t b),
+    space-there t b,
+    b .before .before .before .before .before .pre .0,
+  ),
+  tt,
+)
 
 operands-enum-known-found : (t : ℕ) → operands-lts.Need-enum-known-found (operands-claims t) (operands-at t) operands.Post
 operands-enum-known-found t c = search needs
@@ -312,21 +398,27 @@ operands-part-operands-end : (t : ℕ) → operands-lts.Need-part-operands-end (
 operands-part-operands-end t c = search needs
 
 operands-sub-operands-2 : (t : ℕ) → operands-lts.Need-sub-operands-2 (operands-claims t) (operands-at t) operands.Post
-operands-sub-operands-2 t c = omega (arith, c .before .before .before .before .before .before .before .before .before .before .if1 .left)
+operands-sub-operands-2 t c =
+    let earlier = c .before .before .before .before .before .before .before in
+    let at-if1 = earlier .before .before .before in
+    omega (arith, at-if1 .if1 .left)
 
 operands-operands-requires : (t : ℕ) → operands-lts.Need-operands-requires (operands-claims t) (operands-at t) operands.Post
 operands-operands-requires t c κs = let b = c .before .before in
     let d = b .before .before .before .before .before in
     let s = d .before .before .before .before .before .args .s .now in
     let n = b .before .found .given .0 .0 in
-    let l : n ≤ length s - 1 = rw (lent-rest-length s (space-there t d)) at (left-short (shortens-term (d .before .before .before .before .before .args .depth)) _ (sym (b .before .found .given .1) ∙ b .before .before .before .operand .ensures)) in
+    let l : n ≤ length s - 1 = rw (lent-rest-length s (space-there t d)) at
+    (left-short (shortens-term (d .before .before .before .before .before .args .depth)) _
+    (sym (b .before .found .given .1) ∙ b .before .before .before .operand .ensures)) in
     (omega (arith, lent-last-length n s (operands-chain-2 t b .within), space-there t d, d .before .before .before .before .before .pre .0), tt)
 
 operands-returns-6 : (t : ℕ) → operands-lts.Need-returns-6 (operands-claims t) (operands-at t) operands.Post
 operands-returns-6 t c = let b = c .before .before .before in
     let a = b .before .before .before .before .before .before .before .before .before .before .args in
     let e = rw (c .before .before .one-less .ensures) at (c .operands .ensures) in
-    then-last (termsReader (termReader (a .depth)) (a .most - 1) (a .needed - 1)) (operands-chain-2 t b) (lent-last (b .before .found .given .0 .0) (a .s .now)) e
+    then-last (termsReader (termReader (a .depth)) (a .most - 1) (a .needed - 1)) (operands-chain-2 t b)
+    (lent-last (b .before .found .given .0 .0) (a .s .now)) e
 
 pub +expression+operand+operands-spec : {M : Type 1} → statement M
 +expression+operand+operands-spec =

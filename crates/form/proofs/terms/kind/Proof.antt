@@ -63,7 +63,8 @@ sub-kind-n : tie.Need-sub-kind-n
 sub-kind-n c = byte-there (c .before .before .before .before .before .args .s .now) (c .before .before .before .byte-at .ensures) (c .if3 .taken) (omega arith)
 
 part-kind-n-start : tie.Need-part-kind-n-start
-part-kind-n-start c = byte-there (c .before .before .before .before .before .args .s .now) (c .before .before .before .byte-at .ensures) (c .if3 .taken) (omega arith)
+part-kind-n-start c =
+    byte-there (c .before .before .before .before .before .args .s .now) (c .before .before .before .byte-at .ensures) (c .if3 .taken) (omega arith)
 
 part-kind-n-end : tie.Need-part-kind-n-end
 part-kind-n-end c = search needs
@@ -77,7 +78,9 @@ returns-3 c = let b = c .before .before in
     let s = b .before .before .before .before .before .args .s .now in
     let e = b .before .before .before .byte-at .ensures in
     c .kind-n .ensures ∙ ap (λ t. kindOf (kindN t)) (rest-is-drop s 1)
-    ∙ sym (ap kindOf (byte-left _ _ s 97 e (b .before .before .if1 .left) ∙ byte-left _ _ s 111 e (b .before .if2 .left) ∙ byte-taken _ _ s 110 e (b .if3 .taken) (omega arith)))
+    ∙ sym (ap kindOf
+    (byte-left _ _ s 97 e (b .before .before .if1 .left) ∙ byte-left _ _ s 111 e (b .before .if2 .left)
+    ∙ byte-taken _ _ s 110 e (b .if3 .taken) (omega arith)))
 
 sub-kind-x : tie.Need-sub-kind-x
 sub-kind-x c = let read = c .before .before .before .before in byte-there (read .before .before .args .s .now) (read .byte-at .ensures) (c .if4 .taken) (omega arith)

@@ -17,11 +17,13 @@ enum-known-left-2 c = search needs
 
 returns : tie.Need-returns
 returns c = let a = c .before .before .before .before .before .before .args in
-    sym (kind-word-is (a .kind) (a .bytes .now) (a .s .now) ∙ ap (kindFrom (a .kind)) (sym (c .before .before .before .word .ensures) ∙ c .before .left .given .1))
+    sym (kind-word-is (a .kind) (a .bytes .now) (a .s .now)
+    ∙ ap (kindFrom (a .kind)) (sym (c .before .before .before .word .ensures) ∙ c .before .left .given .1))
 
 returns-2 : tie.Need-returns-2
 returns-2 c = let a = c .before .before .before .before .before .before .args in
-    sym (kind-word-is (a .kind) (a .bytes .now) (a .s .now) ∙ ap (kindFrom (a .kind)) (sym (c .before .before .before .word .ensures) ∙ c .before .left2 .given .1))
+    sym (kind-word-is (a .kind) (a .bytes .now) (a .s .now)
+    ∙ ap (kindFrom (a .kind)) (sym (c .before .before .before .word .ensures) ∙ c .before .left2 .given .1))
 
 pub kind-word-spec : {M : Type 1} → statement M
 kind-word-spec =

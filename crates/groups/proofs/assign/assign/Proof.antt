@@ -13,7 +13,9 @@ gates-of-requires : tie.Need-gates-of-requires
 gates-of-requires c κs = search needs
 
 gates-at-requires : tie.Need-gates-at-requires
-gates-at-requires c κs = omega (arith, c .before .inputs-of .ensures, whole-parts (c .before .before .before .before .args .words .now) (c .before .before .before .before .pre .0) .fewInputs)
+gates-at-requires c κs =
+    let at-start = c .before .before .before .before in
+    omega (arith, c .before .inputs-of .ensures, whole-parts (at-start .args .words .now) (at-start .pre .0) .fewInputs)
 
 slice-aggregate-assign-with : tie.Need-slice-aggregate-assign-with
 slice-aggregate-assign-with c = search needs
@@ -26,15 +28,18 @@ slice-aggregate-assign-with-3 c = search needs
 
 assign-with-requires : tie.Need-assign-with-requires
 assign-with-requires c κs =
-    let s = c .before .before .before .before .before .before .before .before .before in
+    let after-gates-at = c .before .before .before .before in
+    let after-gates-of = after-gates-at .before in
+    let after-inputs-of = after-gates-of .before in
+    let s = after-inputs-of .before .before .before in
     let few = whole-parts (s .args .words .now) (s .pre .0) .fewGates in
-    let m : c .before .before .before .before .before .gates-of .result ≤ 1024 = omega (arith, c .before .before .before .before .before .gates-of .ensures) in
+    let m : after-gates-of .gates-of .result ≤ 1024 = omega (arith, after-gates-of .gates-of .ensures) in
     record {
       whole = s .pre .0;
-      inputsAre = c .before .before .before .before .before .before .inputs-of .ensures;
-      gatesAre = c .before .before .before .before .before .gates-of .ensures;
-      firstIs = c .before .before .before .before .gates-at .ensures;
-      numberRoom = rw (c .before .before .before .before .before .gates-of .ensures) (s .pre .1);
+      inputsAre = after-inputs-of .inputs-of .ensures;
+      gatesAre = after-gates-of .gates-of .ensures;
+      firstIs = after-gates-at .gates-at .ensures;
+      numberRoom = rw (after-gates-of .gates-of .ensures) (s .pre .1);
       leaderRoom = m;
       queueRoom = m;
       flagRoom = m;

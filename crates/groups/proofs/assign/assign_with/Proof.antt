@@ -6,13 +6,23 @@ use Rattle.groups.proofs.assign.assign_with.Statement.{statement}
 use Rattle.groups.proofs.assign.assign_with.Tie as tie
 
 lead-requires : tie.Need-lead-requires
-lead-requires c κs = let s = c .before .before .before .before .before .before .before .before in (s .pre .leaderRoom, ready-for (s .pre) (s .args .flags .now) (s .args .queue .now) refl refl)
+lead-requires c κs =
+    let after-slice-known = c .before .before .before .before .before .before in
+    let at-start = after-slice-known .before .before in
+    let s = at-start in (s .pre .leaderRoom, ready-for (s .pre) (s .args .flags .now) (s .args .queue .now) refl refl)
 
 number-groups-requires : tie.Need-number-groups-requires
 number-groups-requires c κs =
-    let s = c .before .before .before .before .before .before .before .before .before .before .before .before .before .before .before .before .before .before in
-    let l = c .before .before .before .before .before .before .before .before .before .lead in
-    (s .pre .numberRoom, rw (l .kept .1 .1 .1 .1 .1 .1 .0) (s .pre .queueRoom), number-for (s .pre) (l .last .1 .1 .1 .1 .0) (s .args .leaders .now) (l .ensures))
+    let after-flags = c .before .before .before .before .before .before in
+    let after-lead = after-flags .before .before .before in
+    let after-slice-known2 = after-lead .before .before .before .before .before .before in
+    let s = after-slice-known2 .before .before .before in
+    let l = after-lead .lead in (
+      s .pre .numberRoom,
+      rw (l .kept .1 .1 .1 .1 .1 .1 .0) (s .pre .queueRoom),
+      number-for (s .pre) (l .last .1 .1 .1 .1 .0) (s .args .leaders .now)
+          (l .ensures),
+    )
 
 same-length : tie.Need-same-length
 same-length c = search needs

@@ -11,7 +11,9 @@ same-length : tie.Need-same-length
 same-length c = search needs
 
 returns : tie.Need-returns
-returns c = let s = c .before .before .before .before .before .before .before in look-passed (s .pre .1) (s .args .numbers .now) (s .args .j) (s .pre .0) (c .before .is-passed .ensures) (c .if1 .taken)
+returns c =
+    let at-start = c .before .before .before .before .before .before .before in
+    let s = at-start in look-passed (s .pre .1) (s .args .numbers .now) (s .args .j) (s .pre .0) (c .before .is-passed .ensures) (c .if1 .taken)
 
 obstacle-of-group-requires : tie.Need-obstacle-of-group-requires
 obstacle-of-group-requires c κs = search needs
@@ -21,25 +23,29 @@ same-length-2 c = search needs
 
 returns-2 : tie.Need-returns-2
 returns-2 c =
-    let s = c .before .before .before .before .before .before .before .before .before in
-    look-free (s .pre .1) (s .args .numbers .now) (s .args .j) (s .pre .0) (c .before .before .before .is-passed .ensures) (c .before .before .if1 .left) (c .before .obstacle-of-group .result) (c .before .obstacle-of-group .ensures) (c .if2 .taken)
+    let after-shared-slice-known3 = c .before .before .before .before .before .before in
+    let s = after-shared-slice-known3 .before .before .before in
+    look-free (s .pre .1) (s .args .numbers .now) (s .args .j) (s .pre .0) (c .before .before .before .is-passed .ensures) (c .before .before .if1 .left)
+    (c .before .obstacle-of-group .result) (c .before .obstacle-of-group .ensures) (c .if2 .taken)
 
-cast-witnesses : tie.Need-cast-witnesses
-cast-witnesses c = search needs
+cast-obstacles : tie.Need-cast-obstacles
+cast-obstacles c = search needs
 
-mul-witnesses : tie.Need-mul-witnesses
-mul-witnesses c = search needs
+mul-obstacles : tie.Need-mul-obstacles
+mul-obstacles c = search needs
 
-slice-write-witnesses : tie.Need-slice-write-witnesses
-slice-write-witnesses c = search needs
+slice-write-obstacles : tie.Need-slice-write-obstacles
+slice-write-obstacles c = search needs
 
 same-length-3 : tie.Need-same-length-3
 same-length-3 c = search needs
 
 returns-3 : tie.Need-returns-3
 returns-3 c =
-    let s = c .before .before .before .before .before .before .before .before .before in
-    look-found (s .pre .1) (s .args .numbers .now) (s .args .j) (s .pre .0) (c .before .before .before .is-passed .ensures) (c .before .before .if1 .left) (c .before .obstacle-of-group .result) (c .before .obstacle-of-group .ensures) (c .if2 .left)
+    let after-shared-slice-known3 = c .before .before .before .before .before .before in
+    let s = after-shared-slice-known3 .before .before .before in
+    look-found (s .pre .1) (s .args .numbers .now) (s .args .j) (s .pre .0) (c .before .before .before .is-passed .ensures) (c .before .before .if1 .left)
+    (c .before .obstacle-of-group .result) (c .before .obstacle-of-group .ensures) (c .if2 .left)
 
 pub leads-next-spec : {M : Type 1} → statement M
 leads-next-spec =
@@ -51,8 +57,8 @@ leads-next-spec =
     obstacle-of-group-requires
     same-length-2
     returns-2
-    cast-witnesses
-    mul-witnesses
-    slice-write-witnesses
+    cast-obstacles
+    mul-obstacles
+    slice-write-obstacles
     same-length-3
     returns-3)

@@ -12,15 +12,20 @@ use Rattle.groups.proofs.numbering.number_group.Statement.{statement}
 use Rattle.groups.proofs.numbering.number_group.Tie as tie
 
 abbrev Inv-loop : tie.InvT-loop
-Inv-loop m leaders leader g numbers₀ i₀ numbers i = (i ≤ m) × (numbers ≡ placed (tab (renumbered leaders leader g numbers₀) i) numbers₀) × (length numbers ≡ length numbers₀)
+Inv-loop m leaders leader g numbers₀ i₀ numbers i =
+    (i ≤ m) × (numbers ≡ placed (tab (renumbered leaders leader g numbers₀) i) numbers₀) × (length numbers ≡ length numbers₀)
 
 abbrev μ-loop : tie.MeasureT-loop
 μ-loop m leaders leader g numbers₀ i₀ numbers i = m - i
 
 loop-holds : tie.Need-loop-holds Inv-loop μ-loop
 loop-holds c =
-    let s = c .before .before in
-    (s .pre .3, kept-below (s .args .leaders .now) (s .args .leader) (s .args .g) (s .args .numbers .now) (s .pre .4) (s .args .leader) (omega arith) (omega arith), refl)
+    let s = c .before .before in (
+      s .pre .3,
+      kept-below (s .args .leaders .now) (s .args .leader) (s .args .g) (s .args .numbers .now) (s .pre .4) (s .args .leader) (omega arith)
+          (omega arith),
+      refl,
+    )
 
 word-at-requires : tie.Need-word-at-requires Inv-loop μ-loop
 word-at-requires c κs = search needs
@@ -47,8 +52,10 @@ loop-again c =
     let lt : l .i < length (s .args .numbers .now) = omega arith in (
       omega arith,
       ⊎-elim
-          (λ w. w .1 ∙ renumber (s .args .leaders .now) (s .args .leader) (s .args .g) (s .args .numbers .now) (l .numbers) (l .i) (l .inv .1) lt (sym (c .before .word-at .ensures) ∙ w .0 .taken))
-          (λ w. w .1 ∙ keep-number (s .args .leaders .now) (s .args .leader) (s .args .g) (s .args .numbers .now) (l .numbers) (l .i) (l .inv .1) lt (λ e. w .0 .left (c .before .word-at .ensures ∙ e)))
+          (λ w. w .1 ∙ renumber (s .args .leaders .now) (s .args .leader) (s .args .g) (s .args .numbers .now) (l .numbers) (l .i) (l .inv .1) lt
+          (sym (c .before .word-at .ensures) ∙ w .0 .taken))
+          (λ w. w .1 ∙ keep-number (s .args .leaders .now) (s .args .leader) (s .args .g) (s .args .numbers .now) (l .numbers) (l .i) (l .inv .1) lt
+          (λ e. w .0 .left (c .before .word-at .ensures ∙ e)))
           (c .if1 .came),
       ⊎-elim (λ w. rw (w .1) (length-set (l .numbers) (l .i) (s .args .g) ∙ l .inv .2)) (λ w. rw (w .1) (l .inv .2)) (c .if1 .came),
     )

@@ -20,8 +20,12 @@ abbrev μ-loop : tie.MeasureT-loop
 
 loop-holds : tie.Need-loop-holds Inv-loop μ-loop
 loop-holds c =
-    let s = c .before .before .before in
-    (omega arith, gates-below (s .args .words .now) (s .args .n) (s .args .m) (s .args .gates) (s .args .leaders .now) (s .args .leader) (obstacle (s .args .numbers .now) (s .args .leaders .now) (s .args .leader)) (lowest (s .pre .1) (s .args .leader) (s .pre .0)) (s .args .leader) (omega arith))
+    let s = c .before .before .before in (
+      omega arith,
+      gates-below (s .args .words .now) (s .args .n) (s .args .m) (s .args .gates) (s .args .leaders .now) (s .args .leader)
+          (obstacle (s .args .numbers .now) (s .args .leaders .now) (s .args .leader)) (lowest (s .pre .1) (s .args .leader) (s .pre .0)) (s .args .leader)
+          (omega arith),
+    )
 
 word-at-requires : tie.Need-word-at-requires Inv-loop μ-loop
 word-at-requires c κs = search needs
@@ -37,8 +41,13 @@ obstacle-of-gate-requires c κs = omega arith
 
 returns : tie.Need-returns Inv-loop μ-loop
 returns c =
-    let s = c .before .before .before .before .before .before .before .before .before in
-    gate-found (s .args .words .now) (s .args .n) (s .args .m) (s .args .gates) (s .args .leaders .now) (s .args .leader) (obstacle (s .args .numbers .now) (s .args .leaders .now) (s .args .leader)) (c .before .before .before .before .before .loop .i) (c .before .obstacle-of-gate .result) (c .before .before .before .before .loop-test .taken) (sym (c .before .before .before .word-at .ensures) ∙ c .before .before .if1 .taken) (c .if2 .taken) (c .before .obstacle-of-gate .ensures)
+    let in-loop = c .before .before .before .before in
+    let at-loop = in-loop .before in
+    let s = at-loop .before .before .before .before in
+    gate-found (s .args .words .now) (s .args .n) (s .args .m) (s .args .gates) (s .args .leaders .now) (s .args .leader)
+    (obstacle (s .args .numbers .now) (s .args .leaders .now) (s .args .leader)) (at-loop .loop .i) (c .before .obstacle-of-gate .result)
+    (in-loop .loop-test .taken) (sym (c .before .before .before .word-at .ensures) ∙ c .before .before .if1 .taken) (c .if2 .taken)
+    (c .before .obstacle-of-gate .ensures)
 
 add-i : tie.Need-add-i Inv-loop μ-loop
 add-i c = omega arith
@@ -52,15 +61,19 @@ loop-again c =
     let l = c .before .before .before .loop in (
       omega arith,
       ⊎-elim
-          (λ w. gate-passed (s .args .words .now) (s .args .n) (s .args .m) (s .args .gates) (s .args .leaders .now) (s .args .leader) (obstacle (s .args .numbers .now) (s .args .leaders .now) (s .args .leader)) (l .i) (w .1 .result) (sym (c .before .word-at .ensures) ∙ w .0 .taken) (w .2 .left) (w .1 .ensures) (l .inv .1))
-          (λ w. gate-other (s .args .words .now) (s .args .n) (s .args .m) (s .args .gates) (s .args .leaders .now) (s .args .leader) (obstacle (s .args .numbers .now) (s .args .leaders .now) (s .args .leader)) (l .i) (λ e. w .left (c .before .word-at .ensures ∙ e)) (l .inv .1))
+          (λ w. gate-passed (s .args .words .now) (s .args .n) (s .args .m) (s .args .gates) (s .args .leaders .now) (s .args .leader)
+          (obstacle (s .args .numbers .now) (s .args .leaders .now) (s .args .leader)) (l .i) (w .1 .result)
+          (sym (c .before .word-at .ensures) ∙ w .0 .taken) (w .2 .left) (w .1 .ensures) (l .inv .1))
+          (λ w. gate-other (s .args .words .now) (s .args .n) (s .args .m) (s .args .gates) (s .args .leaders .now) (s .args .leader)
+          (obstacle (s .args .numbers .now) (s .args .leaders .now) (s .args .leader)) (l .i) (λ e. w .left (c .before .word-at .ensures ∙ e)) (l .inv .1))
           (c .if1 .came),
     )
 
 returns-2 : tie.Need-returns-2 Inv-loop μ-loop
 returns-2 c =
     let s = c .before .before .before .before .before in
-    gates-passed (s .args .words .now) (s .args .n) (s .args .m) (s .args .gates) (s .args .leaders .now) (s .args .leader) (obstacle (s .args .numbers .now) (s .args .leaders .now) (s .args .leader)) (c .before .loop .i) (omega arith) (c .before .loop .inv .1)
+    gates-passed (s .args .words .now) (s .args .n) (s .args .m) (s .args .gates) (s .args .leaders .now) (s .args .leader)
+    (obstacle (s .args .numbers .now) (s .args .leaders .now) (s .args .leader)) (c .before .loop .i) (omega arith) (c .before .loop .inv .1)
 
 pub obstacle-of-group-spec : {M : Type 1} → statement M
 obstacle-of-group-spec =

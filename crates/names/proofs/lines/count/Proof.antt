@@ -47,7 +47,8 @@ loop-again c =
     )
 
 returns : tie.Need-returns Inv-loop μ-loop
-returns c = let l = c .before .loop in times-end (c .before .before .before .args .s .now) (l .i) (l .n) (omega arith) (c .before .before .before .args .b) (l .inv .2)
+returns c =
+    let l = c .before .loop in times-end (c .before .before .before .args .s .now) (l .i) (l .n) (omega arith) (c .before .before .before .args .b) (l .inv .2)
 
 pub count-spec : {M : Type 1} → statement M
 count-spec =

@@ -24,7 +24,10 @@ add-result : tie.Need-add-result Inv-loop μ-loop
 add-result c = omega arith
 
 returns : tie.Need-returns Inv-loop μ-loop
-returns c = let l = c .before .before .before .loop in length-last (c .before .before .before .before .args .s .now) (l .i) (omega arith) (c .if1 .taken) (l .inv .1)
+returns c =
+    let at-loop = c .before .before .before in
+    let start = at-loop .before in
+    let l = at-loop .loop in length-last (start .args .s .now) (l .i) (omega arith) (c .if1 .taken) (l .inv .1)
 
 add-i : tie.Need-add-i Inv-loop μ-loop
 add-i c = omega arith
@@ -33,7 +36,10 @@ loop-less : tie.Need-loop-less Inv-loop μ-loop
 loop-less c = omega arith
 
 loop-again : tie.Need-loop-again Inv-loop μ-loop
-loop-again c = let l = c .before .before .before .loop in (omega arith, length-more (c .before .before .before .before .args .s .now) (l .i) (omega arith) (c .if1 .left) (l .inv .1))
+loop-again c =
+    let at-loop = c .before .before .before in
+    let start = at-loop .before in
+    let l = at-loop .loop in (omega arith, length-more (start .args .s .now) (l .i) (omega arith) (c .if1 .left) (l .inv .1))
 
 returns-2 : tie.Need-returns-2 Inv-loop μ-loop
 returns-2 c = let l = c .before .loop in length-end (c .before .before .args .s .now) (l .i) (l .i) (omega arith) (l .inv .1)

@@ -37,7 +37,10 @@ add-n c =
     omega (arith, with-le (a .letter) (a .text .now) (l .i), c .one-if .ensures, one-le (eqb (c .before .byte-at .result) (a .letter)))
 
 next-line-requires : tie.Need-next-line-requires Inv-loop μ-loop
-next-line-requires c κs = let l = c .before .before .before .loop in let h : l .at ≤ length (c .before .before .before .before .before .args .text .now) = omega (arith, start-le (c .before .before .before .before .before .args .text .now) (l .i)) in h
+next-line-requires c κs =
+    let at-loop = c .before .before .before in
+    let start = at-loop .before .before in
+    let l = at-loop .loop in let h : l .at ≤ length (start .args .text .now) = omega (arith, start-le (start .args .text .now) (l .i)) in h
 
 add-i : tie.Need-add-i Inv-loop μ-loop
 add-i c = omega arith
@@ -47,11 +50,14 @@ loop-less c = omega arith
 
 loop-again : tie.Need-loop-again Inv-loop μ-loop
 loop-again c =
-    let a = c .before .before .before .before .before .before .args in
-    let l = c .before .before .before .before .loop in (
+    let at-loop = c .before .before .before .before in
+    let start = at-loop .before .before in
+    let a = start .args in
+    let l = at-loop .loop in (
       omega arith,
       c .next-line .ensures ∙ start-more (a .text .now) (l .i) (l .at) (l .inv .1),
-      with-more (a .text .now) (l .i) (l .at) (l .inv .1) (a .letter) (l .n) (c .before .one-if .result) (c .before .before .byte-at .result) (l .inv .2) (c .before .before .byte-at .ensures) (c .before .one-if .ensures),
+      with-more (a .text .now) (l .i) (l .at) (l .inv .1) (a .letter) (l .n) (c .before .one-if .result) (c .before .before .byte-at .result) (l .inv .2)
+          (c .before .before .byte-at .ensures) (c .before .one-if .ensures),
     )
 
 returns : tie.Need-returns Inv-loop μ-loop

@@ -23,7 +23,10 @@ shared-slice-read-if1 : tie.Need-shared-slice-read-if1 Inv-loop μ-loop
 shared-slice-read-if1 c = omega arith
 
 returns : tie.Need-returns Inv-loop μ-loop
-returns c = let l = c .before .before .before .loop in opens-last (c .before .before .before .before .before .args .s .now) (l .i) (omega arith) (l .n) (c .if1 .taken) (l .inv .2)
+returns c =
+    let at-loop = c .before .before .before in
+    let start = at-loop .before .before in
+    let l = at-loop .loop in opens-last (start .args .s .now) (l .i) (omega arith) (l .n) (c .if1 .taken) (l .inv .2)
 
 shared-slice-read-one-if : tie.Need-shared-slice-read-one-if Inv-loop μ-loop
 shared-slice-read-one-if c = omega arith
@@ -32,7 +35,10 @@ one-if-requires : tie.Need-one-if-requires Inv-loop μ-loop
 one-if-requires c κs = search needs
 
 add-n : tie.Need-add-n Inv-loop μ-loop
-add-n c = omega (arith, c .one-if .ensures, one-le (eqb (getD (c .before .before .before .before .before .before .before .args .s .now) (c .before .before .before .before .before .loop .i) 0) 40))
+add-n c =
+    let at-loop = c .before .before .before .before .before in
+    let start = at-loop .before .before in
+    omega (arith, c .one-if .ensures, one-le (eqb (getD (start .args .s .now) (at-loop .loop .i) 0) 40))
 
 add-i : tie.Need-add-i Inv-loop μ-loop
 add-i c = omega arith

@@ -30,8 +30,10 @@ is-name-byte-requires c κs = search needs
 
 returns-2 : tie.Need-returns-2 Inv-loop μ-loop
 returns-2 c =
-    let l = c .before .before .before .before .before .loop in
-    front-stops (c .before .before .before .before .before .before .before .args .s .now) 8 (l .i) (omega arith) (omega arith) (sym (c .before .is-name-byte .ensures) ∙ not-true _ (c .if2 .taken)) (l .inv .2)
+    let at-loop = c .before .before .before .before .before in
+    let start = at-loop .before .before in
+    let l = at-loop .loop in
+    front-stops (start .args .s .now) 8 (l .i) (omega arith) (omega arith) (sym (c .before .is-name-byte .ensures) ∙ not-true _ (c .if2 .taken)) (l .inv .2)
 
 add-i : tie.Need-add-i Inv-loop μ-loop
 add-i c = omega arith
@@ -41,8 +43,14 @@ loop-less c = omega arith
 
 loop-again : tie.Need-loop-again Inv-loop μ-loop
 loop-again c =
-    let l = c .before .before .before .before .before .loop in
-    (omega arith, omega arith, front-goes (c .before .before .before .before .before .before .before .args .s .now) 8 (l .i) (omega arith) (omega arith) (sym (c .before .is-name-byte .ensures) ∙ not-false _ (c .if2 .left)) (l .inv .2))
+    let at-loop = c .before .before .before .before .before in
+    let start = at-loop .before .before in
+    let l = at-loop .loop in (
+      omega arith,
+      omega arith,
+      front-goes (start .args .s .now) 8 (l .i) (omega arith) (omega arith)
+          (sym (c .before .is-name-byte .ensures) ∙ not-false _ (c .if2 .left)) (l .inv .2),
+    )
 
 returns-3 : tie.Need-returns-3 Inv-loop μ-loop
 returns-3 c = let l = c .before .loop in front-full (c .before .before .before .args .s .now) 8 (l .i) (omega arith) (l .inv .2)

@@ -32,19 +32,27 @@ shared-slice-read-r : tie.Need-shared-slice-read-r Inv-loop μ-loop
 shared-slice-read-r c = let l = c .before .before .loop in omega (arith, front-shorter 8 (c .before .before .before .before .before .args .s .now), l .inv .0)
 
 cast-r : tie.Need-cast-r Inv-loop μ-loop
-cast-r c = let l = c .before .before .loop in omega (arith, packed-more-fits (c .before .before .before .before .before .args .s .now) (l .i) (l .r) (omega arith) (l .inv .0) (l .inv .1))
+cast-r c =
+    let start = c .before .before .before .before .before in
+    let l = c .before .before .loop in omega (arith, packed-more-fits (start .args .s .now) (l .i) (l .r) (omega arith) (l .inv .0) (l .inv .1))
 
 mul-r : tie.Need-mul-r Inv-loop μ-loop
-mul-r c = let l = c .before .before .loop in omega (arith, packed-more-fits (c .before .before .before .before .before .args .s .now) (l .i) (l .r) (omega arith) (l .inv .0) (l .inv .1))
+mul-r c =
+    let start = c .before .before .before .before .before in
+    let l = c .before .before .loop in omega (arith, packed-more-fits (start .args .s .now) (l .i) (l .r) (omega arith) (l .inv .0) (l .inv .1))
 
 add-r : tie.Need-add-r Inv-loop μ-loop
-add-r c = let l = c .before .before .loop in omega (arith, packed-more-fits (c .before .before .before .before .before .args .s .now) (l .i) (l .r) (omega arith) (l .inv .0) (l .inv .1))
+add-r c =
+    let start = c .before .before .before .before .before in
+    let l = c .before .before .loop in omega (arith, packed-more-fits (start .args .s .now) (l .i) (l .r) (omega arith) (l .inv .0) (l .inv .1))
 
 loop-less : tie.Need-loop-less Inv-loop μ-loop
 loop-less c = omega arith
 
 loop-again : tie.Need-loop-again Inv-loop μ-loop
-loop-again c = let l = c .before .before .loop in (omega arith, packed-more (c .before .before .before .before .before .args .s .now) (l .i) (l .r) (omega arith) (l .inv .0) (l .inv .1))
+loop-again c =
+    let start = c .before .before .before .before .before in
+    let l = c .before .before .loop in (omega arith, packed-more (start .args .s .now) (l .i) (l .r) (omega arith) (l .inv .0) (l .inv .1))
 
 returns : tie.Need-returns Inv-loop μ-loop
 returns c = let l = c .before .loop in let z : l .i ≡ 0 = omega arith in rw z at (l .inv .1)

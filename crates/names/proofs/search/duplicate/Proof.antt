@@ -12,22 +12,26 @@ add-nodes : tie.Need-add-nodes
 add-nodes c = search needs
 
 slice-aggregate-first-repeat : tie.Need-slice-aggregate-first-repeat
-slice-aggregate-first-repeat c = let s = c .before .before .before .before in sym (length-take-le (s .args .c .inputs + s .args .c .named) (s .args .names .now) (omega arith))
+slice-aggregate-first-repeat c =
+    let stage = c .before .before .before .before in
+    let s = stage in sym (length-take-le (s .args .c .inputs + s .args .c .named) (s .args .names .now) (omega arith))
 
 first-repeat-requires : tie.Need-first-repeat-requires
 first-repeat-requires c κs = search needs
 
-mul-t11 : tie.Need-mul-t11
-mul-t11 c = search needs
+mul-place : tie.Need-mul-place
+mul-place c = search needs
 
-shared-slice-read-t13 : tie.Need-shared-slice-read-t13
-shared-slice-read-t13 c = search needs
+shared-slice-read-place : tie.Need-shared-slice-read-place
+shared-slice-read-place c = search needs
 
 returns : tie.Need-returns
 returns c =
+    let stage = c .before .before .before .before .before .before .before in
     λ t legal counted table.
-    let s = c .before .before .before .before .before .before .before in
-    node-repeats t legal (s .args .c) counted (s .args .names .now) (s .args .places .now) table (s .pre .0) (s .pre .1) (c .before .before .first-repeat .result) (c .before .before .first-repeat .ensures) (c .before .if1 .taken)
+    let s = stage in
+    node-repeats t legal (s .args .c) counted (s .args .names .now) (s .args .places .now) table (s .pre .0) (s .pre .1)
+    (c .before .before .first-repeat .result) (c .before .before .first-repeat .ensures) (c .before .if1 .taken)
 
 add-first-repeat : tie.Need-add-first-repeat
 add-first-repeat c = search needs
@@ -47,26 +51,36 @@ part-first-repeat-end c = search needs
 first-repeat-requires-2 : tie.Need-first-repeat-requires-2
 first-repeat-requires-2 c κs = search needs
 
-add-t20 : tie.Need-add-t20
-add-t20 c = search needs
+add-place : tie.Need-add-place
+add-place c = search needs
 
-mul-t21 : tie.Need-mul-t21
-mul-t21 c = search needs
+mul-place-2 : tie.Need-mul-place-2
+mul-place-2 c = search needs
 
-shared-slice-read-t23 : tie.Need-shared-slice-read-t23
-shared-slice-read-t23 c = search needs
+shared-slice-read-place-2 : tie.Need-shared-slice-read-place-2
+shared-slice-read-place-2 c = search needs
 
 returns-2 : tie.Need-returns-2
 returns-2 c =
+    let at-if1 = c .before .before .before .before in
+    let at-first-repeat = at-if1 .before in
+    let stage = at-first-repeat .before .before .before .before .before in
     λ t legal counted table.
-    let s = c .before .before .before .before .before .before .before .before .before .before in
-    port-repeats t legal (s .args .c) counted (s .args .names .now) (s .args .places .now) table (s .pre .0) (s .pre .1) (c .before .before .before .before .before .first-repeat .result) (c .before .before .before .before .before .first-repeat .ensures) (c .before .before .before .before .if1 .left) (c .before .before .first-repeat2 .result) (c .before .before .first-repeat2 .ensures) (c .before .if2 .taken)
+    let s = stage in
+    port-repeats t legal (s .args .c) counted (s .args .names .now) (s .args .places .now) table (s .pre .0) (s .pre .1)
+    (at-first-repeat .first-repeat .result) (at-first-repeat .first-repeat .ensures) (at-if1 .if1 .left) (c .before .before .first-repeat2 .result)
+    (c .before .before .first-repeat2 .ensures) (c .before .if2 .taken)
 
 returns-3 : tie.Need-returns-3
 returns-3 c =
+    let at-if1 = c .before .before .before in
+    let at-first-repeat = at-if1 .before in
+    let stage = at-first-repeat .before .before .before .before .before in
     λ t legal counted table.
-    let s = c .before .before .before .before .before .before .before .before .before in
-    none-repeats t legal (s .args .c) counted (s .args .names .now) (s .args .places .now) table (s .pre .0) (s .pre .1) (c .before .before .before .before .first-repeat .result) (c .before .before .before .before .first-repeat .ensures) (c .before .before .before .if1 .left) (c .before .first-repeat2 .result) (c .before .first-repeat2 .ensures) (c .if2 .left)
+    let s = stage in
+    none-repeats t legal (s .args .c) counted (s .args .names .now) (s .args .places .now) table (s .pre .0) (s .pre .1)
+    (at-first-repeat .first-repeat .result) (at-first-repeat .first-repeat .ensures) (at-if1 .if1 .left) (c .before .first-repeat2 .result)
+    (c .before .first-repeat2 .ensures) (c .if2 .left)
 
 pub duplicate-spec : {M : Type 1} → statement M
 duplicate-spec =
@@ -75,8 +89,8 @@ duplicate-spec =
     add-nodes
     slice-aggregate-first-repeat
     first-repeat-requires
-    mul-t11
-    shared-slice-read-t13
+    mul-place
+    shared-slice-read-place
     returns
     add-first-repeat
     mul-first-repeat
@@ -84,8 +98,8 @@ duplicate-spec =
     part-first-repeat-start
     part-first-repeat-end
     first-repeat-requires-2
-    add-t20
-    mul-t21
-    shared-slice-read-t23
+    add-place
+    mul-place-2
+    shared-slice-read-place-2
     returns-2
     returns-3)

@@ -26,7 +26,11 @@ shared-slice-read-if1 c = omega arith
 
 returns : tie.Need-returns Inv-loop μ-loop
 unfolding isAt indexOf
-returns c = let a = c .before .before .before .before .args in let l = c .before .before .before .loop in first-found (isAt (a .names .now) (a .name)) (a .count) (l .i) (l .inv .1) (omega arith) (eq-eqb _ (a .name) (c .if1 .taken))
+returns c =
+    let at-loop = c .before .before .before in
+    let start = at-loop .before in
+    let a = start .args in let l = at-loop .loop in first-found (isAt (a .names .now) (a .name)) (a .count) (l .i) (l .inv .1) (omega arith)
+    (eq-eqb _ (a .name) (c .if1 .taken))
 
 add-i : tie.Need-add-i Inv-loop μ-loop
 add-i c = omega arith
@@ -36,11 +40,17 @@ loop-less c = omega arith
 
 loop-again : tie.Need-loop-again Inv-loop μ-loop
 unfolding isAt indexOf
-loop-again c = let a = c .before .before .before .before .args in let l = c .before .before .before .loop in (omega arith, passed-more (isAt (a .names .now) (a .name)) (a .count) (l .i) (l .inv .1) (ne-eqb _ (a .name) (c .if1 .left)))
+loop-again c =
+    let at-loop = c .before .before .before in
+    let start = at-loop .before in
+    let a = start .args in let l = at-loop .loop
+    in (omega arith, passed-more (isAt (a .names .now) (a .name)) (a .count) (l .i) (l .inv .1) (ne-eqb _ (a .name) (c .if1 .left)))
 
 returns-2 : tie.Need-returns-2 Inv-loop μ-loop
 unfolding isAt indexOf
-returns-2 c = let a = c .before .before .args in let l = c .before .loop in none-found (isAt (a .names .now) (a .name)) (a .count) (l .i) (l .inv .1) (l .inv .0) (omega arith)
+returns-2 c =
+    let a = c .before .before .args in let l = c .before .loop in
+    none-found (isAt (a .names .now) (a .name)) (a .count) (l .i) (l .inv .1) (l .inv .0) (omega arith)
 
 pub find-spec : {M : Type 1} → statement M
 find-spec =

@@ -22,7 +22,11 @@ repeats-requires : tie.Need-repeats-requires Inv-loop μ-loop
 repeats-requires c κs = omega arith
 
 returns : tie.Need-returns Inv-loop μ-loop
-returns c = let l = c .before .before .before .loop in first-found (repeatsAt (c .before .before .before .before .before .args .names .now)) (length (c .before .before .before .before .before .args .names .now)) (l .i) (l .inv .1) (omega arith) (sym (c .before .repeats .ensures) ∙ c .if1 .taken)
+returns c =
+    let at-loop = c .before .before .before in
+    let start = at-loop .before .before in
+    let l = at-loop .loop in first-found (repeatsAt (start .args .names .now)) (length (start .args .names .now)) (l .i) (l .inv .1) (omega arith)
+    (sym (c .before .repeats .ensures) ∙ c .if1 .taken)
 
 add-i : tie.Need-add-i Inv-loop μ-loop
 add-i c = omega arith
@@ -31,10 +35,20 @@ loop-less : tie.Need-loop-less Inv-loop μ-loop
 loop-less c = omega arith
 
 loop-again : tie.Need-loop-again Inv-loop μ-loop
-loop-again c = let l = c .before .before .before .loop in (omega arith, passed-more (repeatsAt (c .before .before .before .before .before .args .names .now)) (length (c .before .before .before .before .before .args .names .now)) (l .i) (l .inv .1) (sym (c .before .repeats .ensures) ∙ c .if1 .left))
+loop-again c =
+    let at-loop = c .before .before .before in
+    let start = at-loop .before .before in
+    let l = at-loop .loop
+    in (
+      omega arith,
+      passed-more (repeatsAt (start .args .names .now)) (length (start .args .names .now)) (l .i) (l .inv .1)
+          (sym (c .before .repeats .ensures) ∙ c .if1 .left),
+    )
 
 returns-2 : tie.Need-returns-2 Inv-loop μ-loop
-returns-2 c = let l = c .before .loop in none-found (repeatsAt (c .before .before .before .args .names .now)) (length (c .before .before .before .args .names .now)) (l .i) (l .inv .1) (l .inv .0) (omega arith)
+returns-2 c =
+    let l = c .before .loop in none-found (repeatsAt (c .before .before .before .args .names .now)) (length (c .before .before .before .args .names .now))
+    (l .i) (l .inv .1) (l .inv .0) (omega arith)
 
 pub first-repeat-spec : {M : Type 1} → statement M
 first-repeat-spec =

@@ -30,9 +30,14 @@ same-length-3 c = search needs
 
 returns : tie.Need-returns
 returns c =
+    let at-fill-names = c .before .before .before .before .before .before in
+    let at-fill-places = at-fill-names .before .before .before .before .before in
+    let earlier-18 = at-fill-places .before .before .before .before .before .before .before in
+    let stage = earlier-18 .before in
     λ t p e.
-    let s = c .before .before .before .before .before .before .before .before .before .before .before .before .before .before .before .before .before .before .before in
-    tables-are p (s .args .c) _ _ _ (s .args .names .now) (s .args .places .now) (s .args .words .now) e (s .pre .placeRoom) (c .before .before .before .before .before .before .before .before .before .before .before .fill-places .ensures) (c .before .before .before .before .before .before .fill-names .ensures) (c .before .before .fill-words .ensures)
+    let s = stage in
+    tables-are p (s .args .c) _ _ _ (s .args .names .now) (s .args .places .now) (s .args .words .now) e (s .pre .placeRoom)
+    (at-fill-places .fill-places .ensures) (at-fill-names .fill-names .ensures) (c .before .before .fill-words .ensures)
 
 pub declare-spec : {M : Type 1} → statement M
 declare-spec =

@@ -43,10 +43,13 @@ loop-less c = omega arith
 loop-again : tie.Need-loop-again Inv-loop μ-loop
 unfolding packedThrough
 loop-again c =
-    let a = c .before .before .before .before .before .before .before .args in
-    let l = c .before .before .before .loop in (
+    let at-loop = c .before .before .before in
+    let start = at-loop .before .before .before .before in
+    let a = start .args in
+    let l = at-loop .loop in (
       omega arith,
-      fill-next (packedThrough (a .text .now) (a .places .now)) (l .i) (a .names .now) (l .names) (c .pack-at .result) (l .inv .1) (omega arith) (c .pack-at .ensures),
+      fill-next (packedThrough (a .text .now) (a .places .now)) (l .i) (a .names .now) (l .names) (c .pack-at .result) (l .inv .1) (omega arith)
+          (c .pack-at .ensures),
       length-set (l .names) (l .i) (c .pack-at .result) ∙ l .inv .2,
     )
 

@@ -11,7 +11,8 @@ use Rattle.names.proofs.table.fill_places.Statement.{statement}
 use Rattle.names.proofs.table.fill_places.Tie as tie
 
 abbrev Inv-loop : tie.InvT-loop
-Inv-loop text lines places₀ at₀ i₀ places at i = (i ≤ lines) × (at ≡ lineOffset text i) × (places ≡ placed (tab (placeAt text) i) places₀) × (length places ≡ length places₀)
+Inv-loop text lines places₀ at₀ i₀ places at i =
+    (i ≤ lines) × (at ≡ lineOffset text i) × (places ≡ placed (tab (placeAt text) i) places₀) × (length places ≡ length places₀)
 
 abbrev μ-loop : tie.MeasureT-loop
 μ-loop text lines places₀ at₀ i₀ places at i = lines - i
@@ -41,11 +42,14 @@ loop-less c = omega arith
 loop-again : tie.Need-loop-again Inv-loop μ-loop
 unfolding placeAt
 loop-again c =
-    let a = c .before .before .before .before .before .before .args in
-    let l = c .before .before .before .loop in (
+    let at-loop = c .before .before .before in
+    let start = at-loop .before .before .before in
+    let a = start .args in
+    let l = at-loop .loop in (
       omega arith,
       c .next-line .ensures ∙ start-more (a .text .now) (l .i) (l .at) (l .inv .1),
-      fill-next (placeAt (a .text .now)) (l .i) (a .places .now) (l .places) (c .before .declared-at .result) (l .inv .2) (omega arith) (c .before .declared-at .ensures ∙ ap (declaredPlace (a .text .now)) (l .inv .1)),
+      fill-next (placeAt (a .text .now)) (l .i) (a .places .now) (l .places) (c .before .declared-at .result) (l .inv .2) (omega arith)
+          (c .before .declared-at .ensures ∙ ap (declaredPlace (a .text .now)) (l .inv .1)),
       length-set (l .places) (l .i) (c .before .declared-at .result) ∙ l .inv .3,
     )
 

@@ -12,7 +12,8 @@ use Rattle.names.proofs.table.fill_words.Statement.{statement}
 use Rattle.names.proofs.table.fill_words.Tie as tie
 
 abbrev Inv-loop : tie.InvT-loop
-Inv-loop text n nodes words₀ gates₀ at₀ i₀ words gates at i = (i ≤ nodes) × (at ≡ lineOffset text i) × (gates ≡ gatesTo text i) × (words ≡ placed (tab (wordAt text n) i) words₀) × (length words ≡ length words₀)
+Inv-loop text n nodes words₀ gates₀ at₀ i₀ words gates at i =
+    (i ≤ nodes) × (at ≡ lineOffset text i) × (gates ≡ gatesTo text i) × (words ≡ placed (tab (wordAt text n) i) words₀) × (length words ≡ length words₀)
 
 abbrev μ-loop : tie.MeasureT-loop
 μ-loop text n nodes words₀ gates₀ at₀ i₀ words gates at i = nodes - i
@@ -52,7 +53,10 @@ slice-write-words : tie.Need-slice-write-words Inv-loop μ-loop
 slice-write-words c = omega arith
 
 next-line-requires : tie.Need-next-line-requires Inv-loop μ-loop
-next-line-requires c κs = let l = c .before .before .before .loop in omega (arith, start-le (c .before .before .before .before .before .before .args .text .now) (l .i))
+next-line-requires c κs =
+    let at-loop = c .before .before .before in
+    let start = at-loop .before .before .before in
+    let l = at-loop .loop in omega (arith, start-le (start .args .text .now) (l .i))
 
 add-i : tie.Need-add-i Inv-loop μ-loop
 add-i c = omega arith
@@ -63,13 +67,17 @@ loop-less c = omega arith
 loop-again : tie.Need-loop-again Inv-loop μ-loop
 unfolding wordAt
 loop-again c =
-    let a = c .before .before .before .before .before .before .before .args in
-    let l = c .before .before .before .before .loop in
-    let g : l .gates + c .before .before .line-gates .result ≡ gatesTo (a .text .now) (l .i + 1) = rw (c .before .before .line-gates .ensures) (gates-more (a .text .now) (l .i) (l .at) (l .inv .1) (l .gates) (l .inv .2)) in (
+    let at-loop = c .before .before .before .before in
+    let start = at-loop .before .before .before in
+    let a = start .args in
+    let l = at-loop .loop in
+    let g : l .gates + c .before .before .line-gates .result ≡ gatesTo (a .text .now) (l .i + 1) = rw (c .before .before .line-gates .ensures)
+    (gates-more (a .text .now) (l .i) (l .at) (l .inv .1) (l .gates) (l .inv .2)) in (
       omega arith,
       c .next-line .ensures ∙ start-more (a .text .now) (l .i) (l .at) (l .inv .1),
       g,
-      fill-next (wordAt (a .text .now) (a .n)) (l .i) (a .words .now) (l .words) (c .before .line-word .result) (l .inv .3) (omega arith) (c .before .line-word .ensures ∙ ap (lineWord (a .n) (l .i)) (rw (add-one (l .i)) at g)),
+      fill-next (wordAt (a .text .now) (a .n)) (l .i) (a .words .now) (l .words) (c .before .line-word .result) (l .inv .3) (omega arith)
+          (c .before .line-word .ensures ∙ ap (lineWord (a .n) (l .i)) (rw (add-one (l .i)) at g)),
       length-set (l .words) (l .i) (c .before .line-word .result) ∙ l .inv .4,
     )
 

@@ -25,7 +25,14 @@ minus-requires c κs = search needs
 returns : tie.Need-returns
 unfolding countsOf
 returns c =
-    rw (c .minus .ensures, c .before .count2 .ensures, c .before .before .lines-with3 .ensures, c .before .before .before .lines-with2 .ensures, c .before .before .before .before .lines-with .ensures, c .before .before .before .before .before .count .ensures)
+    rw (
+      c .minus .ensures,
+      c .before .count2 .ensures,
+      c .before .before .lines-with3 .ensures,
+      c .before .before .before .lines-with2 .ensures,
+      c .before .before .before .before .lines-with .ensures,
+      c .before .before .before .before .before .count .ensures,
+    )
 
 pub count-bytes-spec : {M : Type 1} → statement M
 count-bytes-spec =

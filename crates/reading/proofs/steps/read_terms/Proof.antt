@@ -1,14 +1,30 @@
--- `reading::steps::read_terms` meets its contract. Assumes nothing.
+-- `reading::steps::read_terms` meets its contract: 5, and then the words. Assumes nothing.
 use borrow.Author.Needs.{needs}
+use Rattle.reading.proofs.Stages.{resolve-ready, unknown, write-ready}
 use Rattle.reading.proofs.steps.read_terms.Statement.{statement}
 use Rattle.reading.proofs.steps.read_terms.Tie as tie
-use Rattle.reading.proofs.Stages.{resolve-ready, unknown, write-ready}
+
+-- the entry, and the call of `resolve`
+abbrev start : tie.After-slice-known3 → tie.Start
+start c = c .before .before .before .before .before .before
+
+abbrev resolved : tie.After-slice-known5 → tie.After-resolve
+resolved c = c .before .before .before .before
+
+abbrev known : tie.After-resolve → tie.After-slice-known3
+known c = c .before .before .before
 
 resolve-requires : tie.Need-resolve-requires
-resolve-requires c κs = resolve-ready (c .before .before .before .before .before .before .before .before .pre)
+resolve-requires c κs = resolve-ready (start (c .before .before) .pre)
 
-enum-known-uses : tie.Need-enum-known-uses
-enum-known-uses c = search needs
+enum-told : tie.Need-enum-told
+enum-told c = search needs
+
+enum-told-2 : tie.Need-enum-told-2
+enum-told-2 c = search needs
+
+refusal-requires : tie.Need-refusal-requires
+refusal-requires c κs = search needs
 
 same-length : tie.Need-same-length
 same-length c = search needs
@@ -17,13 +33,16 @@ same-length-2 : tie.Need-same-length-2
 same-length-2 c = search needs
 
 returns : tie.Need-returns
-returns c = unknown (c .before .before .before .before .before .before .before .before .before .before .before .before .before .before .before .before .pre) _ _ _ (c .before .before .before .before .before .before .before .resolve .ensures) (c .before .before .before .before .before .before .before .before .before .before .before .before .before .before .before .before .args .block .now) (c .before .uses .given .0 .0) (c .before .uses .given .1)
-
-enum-told : tie.Need-enum-told
-enum-told c = search needs
+returns c =
+    let t = resolved (c .before .before .before) in
+    let s = start (known t) in
+    unknown (s .pre) _ _ _ (t .resolve .ensures) (s .args .block .now) (c .before .before .match .keys2) (c .refusal .ensures)
 
 finish-requires : tie.Need-finish-requires
-finish-requires c κs = write-ready (c .before .before .before .before .before .before .before .before .before .before .before .before .before .before .before .before .before .before .pre) _ _ _ (c .before .before .before .before .before .before .before .before .before .resolve .ensures) (c .before .before .before .enum-told .given .1)
+finish-requires c κs =
+    let e = c .before .before .before in
+    let t = resolved (e .before .before) in
+    write-ready (start (known t) .pre) _ _ _ (t .resolve .ensures) (e .enum-told .given .1)
 
 same-length-3 : tie.Need-same-length-3
 same-length-3 c = search needs
@@ -42,11 +61,12 @@ read-terms-spec =
     tie.close
     (tie.spec
     resolve-requires
-    enum-known-uses
+    enum-told
+    enum-told-2
+    refusal-requires
     same-length
     same-length-2
     returns
-    enum-told
     finish-requires
     same-length-3
     same-length-4

@@ -1,17 +1,33 @@
 -- `reading::steps::read_with` meets its contract: 4 before 5. Assumes nothing.
 use borrow.Author.Needs.{needs}
+use Rattle.reading.proofs.Stages.{tables-ready, twice, resolving}
 use Rattle.reading.proofs.steps.read_with.Statement.{statement}
 use Rattle.reading.proofs.steps.read_with.Tie as tie
-use Rattle.reading.proofs.Stages.{tables-ready, twice, resolving}
+
+-- the entry, the counts, and the tables
+abbrev start : tie.After-slice-known6 → tie.Start
+start c = c .before .before .before .before .before .before .before
+
+abbrev counted : tie.After-tables → tie.After-counts
+counted c = c .before .before .before .before
+
+abbrev tabled : tie.After-slice-known9 → tie.After-tables
+tabled c = c .before .before .before .before .before .before
 
 counts-requires : tie.Need-counts-requires
 counts-requires c κs = search needs
 
 tables-requires : tie.Need-tables-requires
-tables-requires c κs = tables-ready (c .before .before .before .before .before .before .before .before .before .before .before .pre) _ (c .before .before .before .counts .ensures)
+tables-requires c κs = let counts = c .before .before .before in tables-ready (start (counts .before) .pre) _ (counts .counts .ensures)
 
-enum-known-repeat : tie.Need-enum-known-repeat
-enum-known-repeat c = search needs
+enum-told : tie.Need-enum-told
+enum-told c = search needs
+
+enum-told-2 : tie.Need-enum-told-2
+enum-told-2 c = search needs
+
+refusal-requires : tie.Need-refusal-requires
+refusal-requires c κs = search needs
 
 same-length : tie.Need-same-length
 same-length c = search needs
@@ -23,13 +39,16 @@ same-length-3 : tie.Need-same-length-3
 same-length-3 c = search needs
 
 returns : tie.Need-returns
-returns c = twice (c .before .before .before .before .before .before .before .before .before .before .before .before .before .before .before .before .before .before .before .before .before .pre) _ (c .before .before .before .before .before .before .before .before .before .before .before .before .before .counts .ensures) _ _ _ (c .before .before .before .before .before .before .before .before .before .tables .ensures) (c .before .before .before .before .before .before .before .before .before .before .before .before .before .before .before .before .before .before .before .before .before .args .block .now) (c .before .repeat .given .0 .0) (c .before .repeat .given .1)
-
-enum-told : tie.Need-enum-told
-enum-told c = search needs
+returns c =
+    let t = tabled (c .before .before .before) in
+    let s = start (counted t .before) in
+    twice (s .pre) _ (counted t .counts .ensures) _ _ _ (t .tables .ensures) (s .args .block .now) (c .before .before .match .keys2) (c .refusal .ensures)
 
 read-terms-requires : tie.Need-read-terms-requires
-read-terms-requires c κs = resolving (c .before .before .before .before .before .before .before .before .before .before .before .before .before .before .before .before .before .before .before .before .before .before .before .before .before .pre) _ (c .before .before .before .before .before .before .before .before .before .before .before .before .before .before .before .before .before .counts .ensures) _ _ _ (c .before .before .before .before .before .before .before .before .before .before .before .before .before .tables .ensures) (c .before .before .before .before .before .enum-told .given .1)
+read-terms-requires c κs =
+    let e = c .before .before .before .before .before in
+    let t = tabled (e .before .before) in
+    resolving (start (counted t .before) .pre) _ (counted t .counts .ensures) _ _ _ (t .tables .ensures) (e .enum-told .given .1)
 
 same-length-4 : tie.Need-same-length-4
 same-length-4 c = search needs
@@ -58,12 +77,13 @@ read-with-spec =
     (tie.spec
     counts-requires
     tables-requires
-    enum-known-repeat
+    enum-told
+    enum-told-2
+    refusal-requires
     same-length
     same-length-2
     same-length-3
     returns
-    enum-told
     read-terms-requires
     same-length-4
     same-length-5

@@ -38,9 +38,15 @@ same-length : tie.Need-same-length
 same-length c = search needs
 
 returns : tie.Need-returns
-returns c = let a = c .before .before .before .before .before .before .before .before .before .before .before .before .before .before .before .before .before .before .before .before .before .before .before .before .args in
+returns c =
+    let at-put-words = c .before .before .before .before .before .before .before in
+    let at-put-names = at-put-words .before .before .before .before .before in
+    let at-put-counts = at-put-names .before .before .before .before in
+    let earlier-23 = at-put-counts .before .before .before .before .before .before .before in
+    let start = earlier-23 .before in
+    let a = start .args in
     block-written (a .c) (a .names .now) (a .gates .now) (a .outputs .now) (a .block .now) _ _ _ _
-    (c .before .before .before .before .before .before .before .before .before .before .before .before .before .before .before .before .put-counts .ensures) (c .before .before .before .before .before .before .before .before .before .before .before .before .put-names .ensures) (c .before .before .before .before .before .before .before .put-words .ensures) (c .before .before .put-words2 .ensures)
+    (at-put-counts .put-counts .ensures) (at-put-names .put-names .ensures) (at-put-words .put-words .ensures) (c .before .before .put-words2 .ensures)
 
 pub put-block-spec : {M : Type 1} → statement M
 put-block-spec =

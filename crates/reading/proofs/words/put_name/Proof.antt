@@ -58,7 +58,9 @@ same-length c = search needs
 
 returns : tie.Need-returns
 unfolding portWords
-returns c = let a = c .args in four-stores (a .block .now) (a .at) (a .name % 65536) (a .name / 65536 % 65536) (a .name / 4294967296 % 65536) (a .name / 281474976710656 % 65536)
+returns c =
+    let a = c .args in four-stores (a .block .now) (a .at) (a .name % 65536) (a .name / 65536 % 65536) (a .name / 4294967296 % 65536)
+    (a .name / 281474976710656 % 65536)
 
 pub put-name-spec : {M : Type 1} → statement M
 put-name-spec =

@@ -43,10 +43,14 @@ loop-less c = omega arith
 
 loop-again : tie.Need-loop-again Inv-loop μ-loop
 unfolding nameOf
-loop-again c = let a = c .before .before .before .before .before .before .before .before .before .args in
-    let l = c .before .before .before .before .before .before .loop in (
+loop-again c =
+    let at-loop = c .before .before .before .before .before .before in
+    let start = at-loop .before .before .before in
+    let a = start .args in
+    let l = at-loop .loop in (
       omega arith,
-      sets-joined-next (nameOf (a .names .now)) 4 (name-size (a .names .now)) (a .block .now) (l .block) _ 3 (l .i) (l .inv .1) (c .before .before .put-name .ensures),
+      sets-joined-next (nameOf (a .names .now)) 4 (name-size (a .names .now)) (a .block .now) (l .block) _ 3 (l .i) (l .inv .1)
+          (c .before .before .put-name .ensures),
       c .before .before .put-name .kept .0 ∙ l .inv .2,
     )
 

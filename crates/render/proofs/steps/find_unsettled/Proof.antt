@@ -1,10 +1,21 @@
--- `render::steps::find_unsettled` meets its contract: the order visits every gate. Assumes nothing.
+-- `render::steps::find_unsettled` meets its contract: the order visits every gate, and what is lowest among 2 ^ n settings tells whether the
+-- block is sound. Assumes nothing.
 use native.Mathlib.Omega.{arith}
 use Rattle.encoding.proofs.Readers.{whole-parts}
-use Rattle.render.proofs.Told.{found-unsettled, found-none}
+use Rattle.render.proofs.Told.{settings-tested}
 use borrow.Author.Needs.{needs}
 use Rattle.render.proofs.steps.find_unsettled.Statement.{statement}
 use Rattle.render.proofs.steps.find_unsettled.Tie as tie
+
+-- the function's entry, and the calls one before the other
+abbrev start : tie.After-order-gates → tie.Start
+start c = c .before .before .before .before .before .before
+
+abbrev ordering : tie.After-lowest-along → tie.After-order-gates
+ordering c = c .before .before .before .before .before .before
+
+abbrev searching : tie.After-inputs-of → tie.After-lowest-along
+searching c = c .before .before .before .before .before
 
 order-gates-requires : tie.Need-order-gates-requires
 order-gates-requires c κs = search needs
@@ -16,7 +27,12 @@ inputs-of-requires : tie.Need-inputs-of-requires
 inputs-of-requires c κs = search needs
 
 setting-count-requires : tie.Need-setting-count-requires
-setting-count-requires c κs = let s = c .before .before .before .before .before .before .before .before .before .before .before .before .before .before .before .before .before in omega (arith, c .inputs-of .ensures, whole-parts (s .args .words .now) (s .pre .whole) .fewInputs)
+setting-count-requires c κs =
+    let s = start (ordering (searching c)) in
+    omega (arith, c .inputs-of .ensures, whole-parts (s .args .words .now) (s .pre .whole) .fewInputs)
+
+refuse-if-requires : tie.Need-refuse-if-requires
+refuse-if-requires c κs = search needs
 
 same-length : tie.Need-same-length
 same-length c = search needs
@@ -28,19 +44,12 @@ same-length-3 : tie.Need-same-length-3
 same-length-3 c = search needs
 
 returns : tie.Need-returns
-returns c = found-unsettled (c .before .before .before .before .before .before .before .before .before .before .before .before .before .before .before .before .before .before .before .args .words .now) (c .before .before .inputs-of .result) (c .before .before .before .before .before .before .before .lowest-along .result) (c .before .setting-count .result) (c .before .before .inputs-of .ensures) (c .before .before .before .before .before .before .before .lowest-along .ensures) (c .before .setting-count .ensures) (c .if1 .taken)
-
-same-length-4 : tie.Need-same-length-4
-same-length-4 c = search needs
-
-same-length-5 : tie.Need-same-length-5
-same-length-5 c = search needs
-
-same-length-6 : tie.Need-same-length-6
-same-length-6 c = search needs
-
-returns-2 : tie.Need-returns-2
-returns-2 c = found-none (c .before .before .before .before .before .before .before .before .before .before .before .before .before .before .before .before .before .before .before .args .words .now) (c .before .before .inputs-of .result) (c .before .before .before .before .before .before .before .lowest-along .result) (c .before .setting-count .result) (c .before .before .inputs-of .ensures) (c .before .before .before .before .before .before .before .lowest-along .ensures) (c .before .setting-count .ensures) (c .if1 .left)
+returns c =
+    let counted = c .before in
+    let n = counted .before in
+    let l = searching n in
+    settings-tested (start (ordering l) .args .words .now) (n .inputs-of .ensures) (l .lowest-along .ensures) (counted .setting-count .ensures)
+    (c .refuse-if .ensures)
 
 pub find-unsettled-spec : {M : Type 1} → statement M
 find-unsettled-spec =
@@ -50,11 +59,8 @@ find-unsettled-spec =
     lowest-along-requires
     inputs-of-requires
     setting-count-requires
+    refuse-if-requires
     same-length
     same-length-2
     same-length-3
-    returns
-    same-length-4
-    same-length-5
-    same-length-6
-    returns-2)
+    returns)

@@ -1,20 +1,55 @@
 -- `render::steps::finish` meets its contract: the room is the rendered block's length, and the words are the rendering's. Assumes nothing.
-use Prim.Native.Nat.{_+_, _*_, _≤_, _<_}
-use mathlib.Core.Path.{_≡_, refl, sym}
+use Prim.Native.Nat.{_+_, _*_, _≤_}
+use mathlib.Core.Path.{_≡_, sym}
 use native.Mathlib.Omega.{arith}
 use lib.ListN.{length}
-use Rattle.netlist.specs.StoredBlock.{gatesAt, outputsAt, encode, decode}
-use Rattle.netlist.specs.Limits.{maxCopies}
-use Rattle.netlist.specs.Groups.{copyCount}
-use Rattle.netlist.specs.Rendering.{rendering}
-use Rattle.netlist.specs.Answers.{answerOf, leftIn}
-use Rattle.encoding.proofs.Readers.{whole-parts}
-use Rattle.schedule.proofs.Blocks.{count-few, plan-schedule}
-use Rattle.render.proofs.Cases.{render-short, render-done}
-use Rattle.render.proofs.Told.{rendered-size, scheduled, schedule-length}
+use lib.Dec.{ltb}
+use denote.Ref.{now}
 use borrow.Author.Needs.{needs}
+use borrow.Author.Tests.{ltb-false}
+use Rattle.netlist.specs.declared.Refusal.the-variants.{NoRoom}
+use Rattle.netlist.specs.StoredBlock.{gatesAt, outputsAt, encode, decode}
+use Rattle.netlist.specs.Rendering.{rendering}
+use Rattle.netlist.specs.Answers.{testOf}
+use Rattle.netlist.specs.Operations.{render}
+use Rattle.encoding.proofs.Readers.{whole-parts}
+use Rattle.refusals.proofs.Promised.{passed, passed-false, failed, bare, keeps-bare, finished}
+use Rattle.schedule.proofs.Blocks.{count-few, plan-schedule}
+use Rattle.render.proofs.Cases.{roomed, render-left}
+use Rattle.render.proofs.Told.{rendered-size, scheduled, schedule-length}
 use Rattle.render.proofs.steps.finish.Statement.{statement}
 use Rattle.render.proofs.steps.finish.Tie as tie
+
+-- the function's entry, and the stages one before the other
+abbrev start : tie.After-inputs-of → tie.Start
+start c = c .before .before .before .before .before .before
+
+abbrev counting : tie.After-outputs-at → tie.After-inputs-of
+counting c = c .before .before .before
+
+abbrev testing : tie.After-enum-told → tie.After-test-room
+testing c = c .before .before
+
+abbrev entry : tie.After-test-room → tie.Start
+entry c = start (counting (c .before))
+
+-- the rendered block's length
+size-is : (c : tie.After-outputs-at)
+    → length (encode (rendering (decode (now (start (counting c) .args .words))))) ≡ c .outputs-at .result + 5 * c .before .outputs-of .result
+size-is c =
+    let n = counting c in
+    let s = start n in
+    rendered-size (now (s .args .words)) (n .inputs-of .result) (c .before .outputs-of .result) (s .args .total) (c .outputs-at .result)
+    (n .inputs-of .ensures) (c .before .outputs-of .ensures) (s .pre .totalIs) (c .outputs-at .ensures)
+
+-- nothing but the room is left to refuse for, and that is what is tested
+left-is : (c : tie.After-test-room) → let a = entry c .args in
+    render (now (a .words)) (length (now (a .rendered))) ≡ roomed (now (a .words)) (length (now (a .rendered)))
+left-is c = let s = entry c in render-left (now (s .args .words)) _ (s .pre .whole) (rw (← s .pre .totalIs) (s .pre .fits)) (s .pre .settled)
+
+room-told : (c : tie.After-test-room) → let a = entry c .args in
+    c .test-room .result ≡ testOf (ltb (length (now (a .rendered))) (length (encode (rendering (decode (now (a .words))))))) NoRoom
+room-told c = rw (size-is (c .before)) (c .test-room .ensures)
 
 inputs-of-requires : tie.Need-inputs-of-requires
 inputs-of-requires c κs = search needs
@@ -26,57 +61,72 @@ outputs-of-requires : tie.Need-outputs-of-requires
 outputs-of-requires c κs = search needs
 
 outputs-at-requires : tie.Need-outputs-at-requires
-outputs-at-requires c κs = let s = c .before .before .before .before .before .before .before .before in (omega (arith, c .before .before .inputs-of .ensures, whole-parts (s .args .words .now) (s .pre .whole) .fewInputs), omega (arith, s .pre .fits))
+outputs-at-requires c κs =
+    let n = c .before .before in
+    let s = start n in
+    (omega (arith, n .inputs-of .ensures, whole-parts (now (s .args .words)) (s .pre .whole) .fewInputs), omega (arith, s .pre .fits))
 
 mul-size : tie.Need-mul-size
 mul-size c =
-    let s = c .before .before .before .before .before .before .before .before .before in
-    omega (arith, c .outputs-at .ensures, c .before .outputs-of .ensures, whole-parts (s .args .words .now) (s .pre .whole) .fewOutputs, c .before .before .before .inputs-of .ensures, whole-parts (s .args .words .now) (s .pre .whole) .fewInputs, s .pre .fits)
+    let s = start (counting c) in
+    omega (arith, c .before .outputs-of .ensures, whole-parts (now (s .args .words)) (s .pre .whole) .fewOutputs)
 
 add-size : tie.Need-add-size
 unfolding gatesAt outputsAt
 add-size c =
-    let s = c .before .before .before .before .before .before .before .before .before in
-    omega (arith, c .outputs-at .ensures, c .before .outputs-of .ensures, whole-parts (s .args .words .now) (s .pre .whole) .fewOutputs, c .before .before .before .inputs-of .ensures, whole-parts (s .args .words .now) (s .pre .whole) .fewInputs, s .pre .fits)
+    let n = counting c in
+    let s = start n in
+    let p = whole-parts (now (s .args .words)) (s .pre .whole) in
+    omega (arith, c .outputs-at .ensures, c .before .outputs-of .ensures, p .fewOutputs, n .inputs-of .ensures, p .fewInputs, s .pre .fits)
+
+test-room-requires : tie.Need-test-room-requires
+test-room-requires c κs = search needs
+
+enum-told : tie.Need-enum-told
+enum-told c = search needs
+
+enum-told-2 : tie.Need-enum-told-2
+enum-told-2 c = search needs
+
+refusal-requires : tie.Need-refusal-requires
+refusal-requires c κs = search needs
 
 returns : tie.Need-returns
-unfolding answerOf leftIn
 returns c =
-    let s = c .before .before .before .before .before .before .before .before .before .before in
-    let ws = s .args .words .now in
-    let size : length (encode (rendering (decode ws))) ≡ c .before .outputs-at .result + 5 * c .before .before .outputs-of .result =
-    rendered-size ws (c .before .before .before .before .inputs-of .result) (c .before .before .outputs-of .result) (s .args .total) (c .before .outputs-at .result) (c .before .before .before .before .inputs-of .ensures) (c .before .before .outputs-of .ensures) (s .pre .totalIs) (c .before .outputs-at .ensures) in
-    let few : copyCount (decode ws) ≤ maxCopies = rw (← s .pre .totalIs) (s .pre .fits) in
-    let short : length (s .args .rendered .now) < length (encode (rendering (decode ws))) = rw size (c .if1 .taken) in
-    let is = render-short ws (length (s .args .rendered .now)) (s .pre .whole) few (s .pre .settled) short in
-    record { answers = rw is refl; leaves = rw is refl }
+    let t = c .before .before .before in
+    failed bare keeps-bare _ _ NoRoom (left-is t) (room-told t) (now (entry t .args .rendered)) (c .before .before .match .keys2) (c .refusal .ensures)
 
 fill-schedule-requires : tie.Need-fill-schedule-requires
 fill-schedule-requires c κs =
-    let s = c .before .before .before .before .before .before .before .before .before .before .before in
+    let t = testing (c .before) in
+    let s = entry t in
     let a = s .pre .numbersAre in
-    rw (c .before .before .before .before .gates-of .ensures) (a .few, count-few a, rw (plan-schedule a, schedule-length (s .args .words .now) (s .args .total) (s .pre .totalIs)) (omega (arith, s .pre .fits, s .pre .orderRoom)))
+    rw (t .before .before .before .gates-of .ensures) (
+      a .few,
+      count-few a,
+      rw (plan-schedule a, schedule-length (now (s .args .words)) (s .args .total) (s .pre .totalIs)) (omega (arith, s .pre .fits, s .pre .orderRoom)),
+    )
 
 write-rendering-requires : tie.Need-write-rendering-requires
 write-rendering-requires c κs =
-    let s = c .before .before .before .before .before .before .before .before .before .before .before .before .before .before .before .before .before in
-    let ws = s .args .words .now in
-    let size : length (encode (rendering (decode ws))) ≡ c .before .before .before .before .before .before .before .before .outputs-at .result + 5 * c .before .before .before .before .before .before .before .before .before .outputs-of .result =
-    rendered-size ws (c .before .before .before .before .before .before .before .before .before .before .before .inputs-of .result) (c .before .before .before .before .before .before .before .before .before .outputs-of .result) (s .args .total) (c .before .before .before .before .before .before .before .before .outputs-at .result) (c .before .before .before .before .before .before .before .before .before .before .before .inputs-of .ensures) (c .before .before .before .before .before .before .before .before .before .outputs-of .ensures) (s .pre .totalIs) (c .before .before .before .before .before .before .before .before .outputs-at .ensures) in
-    let few : copyCount (decode ws) ≤ maxCopies = rw (← s .pre .totalIs) (s .pre .fits) in
-    let a = s .pre .numbersAre in
-    let f = c .before .before .before .before .before .fill-schedule in
-    let written = rw (c .before .before .before .before .before .before .before .before .before .before .gates-of .ensures) at (f .ensures) in
+    let f = c .before .before .before .before .before in
+    let p = f .before .before in
+    let t = testing p in
+    let o = t .before .before in
+    let s = entry t in
+    let written = rw (o .before .gates-of .ensures) at (f .fill-schedule .ensures) in
     record {
       whole = s .pre .whole;
-      inputsAre = c .before .before .before .before .before .before .before .before .before .before .before .inputs-of .ensures;
-      gatesAre = c .before .before .before .before .before .before .before .before .before .before .gates-of .ensures;
-      outputsAre = c .before .before .before .before .before .before .before .before .before .outputs-of .ensures;
-      totalIs = sym (schedule-length ws (s .args .total) (s .pre .totalIs));
+      inputsAre = o .before .before .inputs-of .ensures;
+      gatesAre = o .before .gates-of .ensures;
+      outputsAre = o .outputs-of .ensures;
+      totalIs = sym (schedule-length (now (s .args .words)) (s .args .total) (s .pre .totalIs));
       fewCopies = s .pre .fits;
-      scheduled = scheduled ws (s .args .numbers .now) (s .args .count) (s .args .total) (s .args .order .now) (f .last .1 .1 .1 .0) (f .result) a (s .pre .totalIs) (s .pre .fits) (s .pre .orderRoom) written;
-      table = rw (c .before .before .before .before .before .before .before .before .before .before .gates-of .ensures) (s .pre .tableRoom);
-      room = rw size (c .before .before .before .before .before .before .before .if1 .left);
+      scheduled =
+          scheduled (now (s .args .words)) (now (s .args .numbers)) (s .args .count) (s .args .total) (now (s .args .order))
+          (f .fill-schedule .last .1 .1 .1 .0) (f .fill-schedule .result) (s .pre .numbersAre) (s .pre .totalIs) (s .pre .fits) (s .pre .orderRoom) written;
+      table = rw (o .before .gates-of .ensures) (s .pre .tableRoom);
+      room = ltb-false _ _ (passed-false _ NoRoom (room-told t) (p .enum-told .given .1));
     }
 
 same-length : tie.Need-same-length
@@ -89,16 +139,12 @@ same-length-3 : tie.Need-same-length-3
 same-length-3 c = search needs
 
 returns-2 : tie.Need-returns-2
-unfolding answerOf leftIn
 returns-2 c =
-    let s = c .before .before .before .before .before .before .before .before .before .before .before .before .before .before .before .before .before .before .before .before .before .before in
-    let ws = s .args .words .now in
-    let size : length (encode (rendering (decode ws))) ≡ c .before .before .before .before .before .before .before .before .before .before .before .before .before .outputs-at .result + 5 * c .before .before .before .before .before .before .before .before .before .before .before .before .before .before .outputs-of .result =
-    rendered-size ws (c .before .before .before .before .before .before .before .before .before .before .before .before .before .before .before .before .inputs-of .result) (c .before .before .before .before .before .before .before .before .before .before .before .before .before .before .outputs-of .result) (s .args .total) (c .before .before .before .before .before .before .before .before .before .before .before .before .before .outputs-at .result) (c .before .before .before .before .before .before .before .before .before .before .before .before .before .before .before .before .inputs-of .ensures) (c .before .before .before .before .before .before .before .before .before .before .before .before .before .before .outputs-of .ensures) (s .pre .totalIs) (c .before .before .before .before .before .before .before .before .before .before .before .before .before .outputs-at .ensures) in
-    let few : copyCount (decode ws) ≤ maxCopies = rw (← s .pre .totalIs) (s .pre .fits) in
-    let enough : length (encode (rendering (decode ws))) ≤ length (s .args .rendered .now) = rw size (c .before .before .before .before .before .before .before .before .before .before .before .before .if1 .left) in
-    let is = render-done ws (length (s .args .rendered .now)) (s .pre .whole) few (s .pre .settled) enough in
-    record { answers = rw (is, size) refl; leaves = rw is (c .before .before .before .before .write-rendering .ensures) }
+    let w = c .before .before .before .before in
+    let f = w .before .before .before .before .before .before in
+    let p = f .before .before in
+    let t = testing p in
+    finished (passed bare keeps-bare _ _ NoRoom (left-is t) (room-told t) (p .enum-told .given .1)) (sym (size-is (t .before))) (w .write-rendering .ensures)
 
 pub finish-spec : {M : Type 1} → statement M
 finish-spec =
@@ -110,6 +156,10 @@ finish-spec =
     outputs-at-requires
     mul-size
     add-size
+    test-room-requires
+    enum-told
+    enum-told-2
+    refusal-requires
     returns
     fill-schedule-requires
     write-rendering-requires

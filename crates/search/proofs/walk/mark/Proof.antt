@@ -22,13 +22,31 @@ cast-queue : tie.Need-cast-queue
 cast-queue c = search needs
 
 mul-queue : tie.Need-mul-queue
-mul-queue c = omega (arith, room-below (c .before .before .args .k) (c .before .before .pre .1) (c .before .before .pre .0) (c .if1 .left), c .before .before .pre .1 .small)
+mul-queue c =
+    omega (
+      arith,
+      room-below (c .before .before .args .k) (c .before .before .pre .1) (c .before .before .pre .0)
+          (c .if1 .left),
+      c .before .before .pre .1 .small,
+    )
 
 slice-write-queue : tie.Need-slice-write-queue
-slice-write-queue c = omega (arith, room-below (c .before .before .args .k) (c .before .before .pre .1) (c .before .before .pre .0) (c .if1 .left), c .before .before .pre .1 .queueRoom)
+slice-write-queue c =
+    omega (
+      arith,
+      room-below (c .before .before .args .k) (c .before .before .pre .1) (c .before .before .pre .0)
+          (c .if1 .left),
+      c .before .before .pre .1 .queueRoom,
+    )
 
 add-result : tie.Need-add-result
-add-result c = omega (arith, room-below (c .before .before .args .k) (c .before .before .pre .1) (c .before .before .pre .0) (c .if1 .left), c .before .before .pre .1 .small)
+add-result c =
+    omega (
+      arith,
+      room-below (c .before .before .args .k) (c .before .before .pre .1) (c .before .before .pre .0)
+          (c .if1 .left),
+      c .before .before .pre .1 .small,
+    )
 
 same-length-2 : tie.Need-same-length-2
 same-length-2 c = search needs

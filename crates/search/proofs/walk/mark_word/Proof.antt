@@ -1,13 +1,15 @@
--- `search::walk::mark_word` meets its contract: a word names a gate exactly when it is at least n and below n + m. Assumes nothing.
-use mathlib.Core.Logic.{inl, inr}
+-- `search::walk::mark_word` meets its contract: the gate that `gate_named` answers, if it is one. Assumes nothing.
 use borrow.Author.Needs.{needs}
-use native.Mathlib.Omega.{arith}
-use Rattle.search.proofs.Marking.{extended-none, word-gate, word-none}
+use Rattle.search.proofs.Marking.{extended-none, named-gate, named-none}
 use Rattle.search.proofs.walk.mark_word.Statement.{statement}
 use Rattle.search.proofs.walk.mark_word.Tie as tie
 
-add-if2 : tie.Need-add-if2
-add-if2 c = search needs
+-- the function's entry
+abbrev start : tie.After-gate-named → tie.Start
+start c = c .before .before .before
+
+gate-named-requires : tie.Need-gate-named-requires
+gate-named-requires c κs = search needs
 
 mark-requires : tie.Need-mark-requires
 mark-requires c κs = search needs
@@ -20,21 +22,15 @@ same-length-2 c = search needs
 
 returns : tie.Need-returns
 returns c =
-    let s = c .before .before .before .before .before .before .before .before .before .before .before in
-    rw (word-gate (s .args .n) (s .args .m) (s .args .w) (omega arith) (omega arith))
-    (c .before .before .before .before .mark .ensures)
+    let marked = c .before .before .before .before in
+    let named = marked .before .before .before in
+    let a = start (named .before) .args in
+    rw (named-gate (a .n) (a .m) (a .w) (named .before .gate-named .ensures) (named .if1 .taken)) (marked .mark .ensures)
 
 returns-2 : tie.Need-returns-2
 returns-2 c =
-    let a = c .before .before .before .before .args in
-    rw (word-none (a .n) (a .m) (a .w) (inr (c .if2 .left)))
-    (extended-none (a .flags .now) (a .queue .now) (a .tail))
-
-returns-3 : tie.Need-returns-3
-returns-3 c =
-    let a = c .before .before .before .args in
-    rw (word-none (a .n) (a .m) (a .w) (inl (c .if1 .left)))
-    (extended-none (a .flags .now) (a .queue .now) (a .tail))
+    let a = start (c .before) .args in
+    rw (named-none (a .n) (a .m) (a .w) (c .before .gate-named .ensures) (c .if1 .left)) (extended-none (a .flags .now) (a .queue .now) (a .tail))
 
 pub mark-word-spec : {M : Type 1} → statement M
-mark-word-spec = tie.close (tie.spec add-if2 mark-requires same-length same-length-2 returns returns-2 returns-3)
+mark-word-spec = tie.close (tie.spec gate-named-requires mark-requires same-length same-length-2 returns returns-2)

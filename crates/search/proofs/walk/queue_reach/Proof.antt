@@ -33,7 +33,8 @@ slice-write-queue c = omega (arith, c .before .before .before .pre .0 .below, c 
 loop-holds : tie.Need-loop-holds Inv-loop μ-loop
 loop-holds c =
     let s = c .before .before .before in (
-      search-start (decode (s .args .words .now)) (s .args .m) (s .args .start) (s .args .flags .now) (s .args .queue .now) (s .pre .0) (s .pre .1 .flagRoom) (s .pre .1 .queueRoom) (s .pre .1 .whole .fewGates),
+      search-start (decode (s .args .words .now)) (s .args .m) (s .args .start) (s .args .flags .now) (s .args .queue .now) (s .pre .0)
+          (s .pre .1 .flagRoom) (s .pre .1 .queueRoom) (s .pre .1 .whole .fewGates),
       refl,
       refl,
     )
@@ -55,43 +56,74 @@ add-visit c =
 
 visit-requires : tie.Need-visit-requires Inv-loop μ-loop
 visit-requires c κs =
-    let s = c .before .before .before .before .before .before .before .before .before in
-    let l = c .before .before .before .before .before .loop in
-    (omega (arith, l .inv .0 .queued (l .head) (c .before .before .before .before .loop-test .taken) .0, c .before .before .word-at .ensures, s .pre .1 .whole .fewGates, s .pre .1 .whole .near), s .pre .1 .whole .fewInputs, l .inv .0 .room)
+    let in-loop = c .before .before .before .before in
+    let at-loop = in-loop .before in
+    let s = at-loop .before .before .before .before in
+    let l = at-loop .loop in (
+      omega (
+        arith,
+        l .inv .0 .queued (l .head) (in-loop .loop-test .taken) .0,
+        c .before .before .word-at .ensures,
+        s .pre .1 .whole .fewGates,
+        s .pre .1 .whole .near,
+      ),
+      s .pre .1 .whole .fewInputs,
+      l .inv .0 .room,
+    )
 
 add-head : tie.Need-add-head Inv-loop μ-loop
-add-head c = omega (arith, room-tail (c .before .before .before .before .before .before .before .before .before .before .loop .inv .0 .room), c .before .before .before .before .before .before .before .before .before .before .before .before .before .before .pre .1 .whole .fewGates, c .before .before .before .before .before .before .before .before .before .loop-test .taken)
+add-head c =
+    let after-visit-arg = c .before .before .before .before .before .before in
+    let in-loop = after-visit-arg .before .before .before in
+    let at-loop = in-loop .before in
+    let at-start = at-loop .before .before .before .before in
+    omega (arith, room-tail (at-loop .loop .inv .0 .room), at-start .pre .1 .whole .fewGates, in-loop .loop-test .taken)
 
 loop-less : tie.Need-loop-less Inv-loop μ-loop
 loop-less c =
-    let l = c .before .before .before .before .before .before .before .before .before .before .loop in
-    falls (c .before .before .before .before .before .before .before .before .before .before .before .before .before .before .args .m) (l .head) (omega (arith, room-tail (l .inv .0 .room), c .before .before .before .before .before .before .before .before .before .loop-test .taken))
+    let after-visit-arg = c .before .before .before .before .before .before in
+    let in-loop = after-visit-arg .before .before .before in
+    let at-loop = in-loop .before in
+    let at-start = at-loop .before .before .before .before in
+    let l = at-loop .loop in
+    falls (at-start .args .m) (l .head) (omega (arith, room-tail (l .inv .0 .room), in-loop .loop-test .taken))
 
 loop-again : tie.Need-loop-again Inv-loop μ-loop
 loop-again c =
-    let s = c .before .before .before .before .before .before .before .before .before .before .before .before .before .before in
-    let l = c .before .before .before .before .before .before .before .before .before .before .loop in
-    let w = c .before .before .before .before .before .before .before .word-at in
+    let after-visit = c .before .before .before .before in
+    let after-word-at = after-visit .before .before .before in
+    let in-loop = after-word-at .before .before in
+    let at-loop = in-loop .before in
+    let s = at-loop .before .before .before .before in
+    let l = at-loop .loop in
+    let w = after-word-at .word-at in
     let ws = s .args .words .now in
     let at = s .args .gates + 5 * w .result in
-    let lt : getD (l .queue) (l .head) 0 < s .args .m = l .inv .0 .queued (l .head) (c .before .before .before .before .before .before .before .before .before .loop-test .taken) .0 in
+    let lt : getD (l .queue) (l .head) 0 < s .args .m = l .inv .0 .queued (l .head) (in-loop .loop-test .taken) .0 in
     let lt′ : w .result < s .args .m = rw (w .ensures) lt in
-    let are : wordGates ws (s .args .n) (s .args .m) at (getD ws at 0 / 8) ≡ readBy (decode ws) (getD (l .queue) (l .head) 0) = rw (← w .ensures) (gate-words (s .pre .1 .whole) (w .result) lt′) in
-    let e = c .before .before .before .before .visit .ensures in (
+    let are : wordGates ws (s .args .n) (s .args .m) at (getD ws at 0 / 8) ≡ readBy (decode ws) (getD (l .queue) (l .head) 0) = rw (← w .ensures)
+    (gate-words (s .pre .1 .whole) (w .result) lt′) in
+    let e = after-visit .visit .ensures in (
       search-turn (l .inv .0) (wordGates ws (s .args .n) (s .args .m) at (getD ws at 0 / 8)) are
-          (words-inside ws (s .args .n) (s .args .m) at (getD ws at 0 / 8)) (c .before .before .before .before .before .before .before .before .before .loop-test .taken) e,
+          (words-inside ws (s .args .n) (s .args .m) at (getD ws at 0 / 8)) (in-loop .loop-test .taken) e,
       flags-length e ∙ l .inv .1,
       queue-length e ∙ l .inv .2,
     )
 
 same-length : tie.Need-same-length Inv-loop μ-loop
-same-length c = c .before .loop .inv .1 ∙ length-set (c .before .before .before .before .before .args .flags .now) (c .before .before .before .before .before .args .start) 1
+same-length c =
+    let at-start = c .before .before .before .before .before in
+    c .before .loop .inv .1 ∙ length-set (at-start .args .flags .now) (at-start .args .start) 1
 
 same-length-2 : tie.Need-same-length-2 Inv-loop μ-loop
-same-length-2 c = c .before .loop .inv .2 ∙ length-set (c .before .before .before .before .before .args .queue .now) 0 (c .before .before .before .before .before .args .start)
+same-length-2 c =
+    let at-start = c .before .before .before .before .before in
+    c .before .loop .inv .2 ∙ length-set (at-start .args .queue .now) 0 (at-start .args .start)
 
 returns : tie.Need-returns Inv-loop μ-loop
-returns c = search-reached (c .before .before .before .before .before .args .flags .now) (c .before .loop .inv .0) (c .loop-test .left) (c .before .before .before .before .before .pre .1 .whole .inside)
+returns c =
+    let at-start = c .before .before .before .before .before in
+    search-reached (at-start .args .flags .now) (c .before .loop .inv .0) (c .loop-test .left) (at-start .pre .1 .whole .inside)
 
 pub queue-reach-spec : {M : Type 1} → statement M
 queue-reach-spec =

@@ -32,8 +32,9 @@ word-at-requires-2 c κs = search needs
 
 mark-word-requires : tie.Need-mark-word-requires Inv-loop μ-loop
 mark-word-requires c κs =
-    let s = c .before .before .before .before .before .before .before .before .before in
-    let l = c .before .before .before .before .loop in
+    let at-loop = c .before .before .before .before in
+    let s = at-loop .before .before .before .before .before in
+    let l = at-loop .loop in
     (s .pre .1, room-kept (s .pre .2) (words-inside (s .args .words .now) (s .args .n) (s .args .m) (s .args .at) (l .i)) (l .inv .1))
 
 add-i : tie.Need-add-i Inv-loop μ-loop
@@ -44,9 +45,16 @@ loop-less c = omega arith
 
 loop-again : tie.Need-loop-again Inv-loop μ-loop
 loop-again c =
-    let a = c .before .before .before .before .before .before .before .before .before .before .before .before .before .before .args in
-    let l = c .before .before .before .before .before .before .before .before .before .loop in
-    (omega arith, word-turn (a .words .now) (a .n) (a .m) (a .at) (l .i) (c .before .before .before .before .before .before .before .word-at2 .result) (c .before .before .before .before .before .before .before .word-at2 .ensures) (l .inv .1) (c .before .before .before .before .mark-word .ensures))
+    let after-mark-word = c .before .before .before .before in
+    let after-word-at2 = after-mark-word .before .before .before in
+    let at-loop = after-word-at2 .before .before in
+    let at-start = at-loop .before .before .before .before .before in
+    let a = at-start .args in
+    let l = at-loop .loop in (
+      omega arith,
+      word-turn (a .words .now) (a .n) (a .m) (a .at) (l .i) (after-word-at2 .word-at2 .result) (after-word-at2 .word-at2 .ensures) (l .inv .1)
+          (after-mark-word .mark-word .ensures),
+    )
 
 same-length : tie.Need-same-length Inv-loop μ-loop
 same-length c = flags-length (c .before .loop .inv .1)

@@ -31,8 +31,9 @@ same-length-2 c = search needs
 returns : tie.Need-returns
 returns c =
     let copied = c .before .before .copy-changed in
-    let stepped = c .before .before .before .before .before .before .before .round-into in
-    let s = c .before .before .before .before .before .before .before .before .before .before .before .before .before .before in
+    let made = c .before .before .before .before .before .before .before in
+    let stepped = made .round-into in
+    let s = made .before .before .before .before .before .before .before in
     rounded (now (s .args .words)) (now (s .args .setting)) (s .args .m) (now (s .args .values)) _ _ (now (s .args .next)) _ (s .pre .0 .gates)
     (stepped .ensures) (copied .ensures .0) (copied .ensures .1)
 

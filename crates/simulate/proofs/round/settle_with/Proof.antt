@@ -24,35 +24,38 @@ Inv-loop words n m setting values₀ next₀ count₀ values next count =
 abbrev μ-loop : tie.MeasureT-loop
 μ-loop words n m setting values₀ next₀ count₀ values next count = getD words 1 0 - count
 
-clear-requires : tie.Need-clear-requires Inv-loop μ-loop
-clear-requires c κs = search needs
+fill-bytes-requires : tie.Need-fill-bytes-requires Inv-loop μ-loop
+fill-bytes-requires c κs = search needs
 
--- the function's entry, what clearing left, and the loop's head, from a round that was made
-abbrev start : tie.At-loop Inv-loop μ-loop → tie.Start Inv-loop μ-loop
-start l = l .before .before .before .before .before .before .before .before .before
-
-abbrev clearing : tie.At-loop Inv-loop μ-loop → tie.After-clear Inv-loop μ-loop
+-- the function's entry, what the filling left, and the loop's head, from a round that was made
+abbrev clearing : tie.At-loop Inv-loop μ-loop → tie.After-fill-bytes Inv-loop μ-loop
 clearing l = l .before .before .before
+
+abbrev entry : tie.After-fill-bytes Inv-loop μ-loop → tie.Start Inv-loop μ-loop
+entry f = f .before .before .before .before .before .before
+
+abbrev start : tie.At-loop Inv-loop μ-loop → tie.Start Inv-loop μ-loop
+start l = entry (clearing l)
 
 abbrev head : tie.After-next-round Inv-loop μ-loop → tie.At-loop Inv-loop μ-loop
 head d = d .before .before .before
 
 loop-holds : tie.Need-loop-holds Inv-loop μ-loop
 loop-holds c =
-    let s = c .before .before .before .before .before .before .before .before in
-    let cleared = c .before .before .clear in
+    let s = entry (c .before .before) in
+    let cleared = c .before .before .fill-bytes in
     (rounding-none _ _ (s .args .m) (now (s .args .values)) (cleared .last .0) (s .pre .0 .gates) (cleared .ensures), refl, refl)
 
 next-round-requires : tie.Need-next-round-requires Inv-loop μ-loop
 next-round-requires c κs =
     let l = c .before .before in
     let p = start l .pre .0 in
-    let k = clearing l .clear .kept in
+    let k = clearing l .fill-bytes .kept in
     (record { whole = p .whole; inputs = p .inputs; gates = p .gates; fits = omega arith }, omega arith)
 
 -- a round that changed something
 more : (d : tie.After-next-round Inv-loop μ-loop) → d .next-round .result ≡ true
-    → Rounding (now (start (head d) .args .words)) (now (start (head d) .args .setting)) (clearing (head d) .clear .last .0)
+    → Rounding (now (start (head d) .args .words)) (now (start (head d) .args .setting)) (clearing (head d) .fill-bytes .last .0)
     (d .next-round .last .1 .1 .1 .1 .0) (head d .loop .count + 1)
 more d t = rounding-more _ _ _ (start (head d) .pre .0 .gates) (head d .loop .inv .0) (rw t at (d .next-round .ensures))
 
@@ -63,7 +66,7 @@ below d t =
     omega (arith, more d t .reached, rounds-le (decode (now (a .words))) (map valueOf (now (a .setting))), decode-gateCount (now (a .words)))
 
 -- the slices keep their lengths
-values-kept : (d : tie.After-next-round Inv-loop μ-loop) → length (d .next-round .last .1 .1 .1 .1 .0) ≡ length (clearing (head d) .clear .last .0)
+values-kept : (d : tie.After-next-round Inv-loop μ-loop) → length (d .next-round .last .1 .1 .1 .1 .0) ≡ length (clearing (head d) .fill-bytes .last .0)
 values-kept d = d .next-round .kept .1 .1 .1 .1 .0 ∙ head d .loop .inv .1
 
 next-kept : (d : tie.After-next-round Inv-loop μ-loop) → length (d .next-round .last .1 .1 .1 .1 .1 .0) ≡ length (now (start (head d) .args .next))
@@ -82,7 +85,7 @@ loop-again : tie.Need-loop-again Inv-loop μ-loop
 loop-again c = let d = c .before .before .before .before .before in (more d (c .if1 .taken), values-kept d, next-kept d)
 
 same-length : tie.Need-same-length Inv-loop μ-loop
-same-length c = let d = c .before .before .before .before .before in values-kept d ∙ clearing (head d) .clear .kept .0
+same-length c = let d = c .before .before .before .before .before in values-kept d ∙ clearing (head d) .fill-bytes .kept .0
 
 same-length-2 : tie.Need-same-length-2 Inv-loop μ-loop
 same-length-2 c = next-kept (c .before .before .before .before .before)
@@ -91,7 +94,7 @@ returns : tie.Need-returns Inv-loop μ-loop
 returns c =
     let d = c .before .before .before .before .before in
     let s = start (head d) in
-    settled-over _ _ (s .args .m) (now (s .args .values)) (s .pre .0 .gates) (clearing (head d) .clear .ensures)
+    settled-over _ _ (s .args .m) (now (s .args .values)) (s .pre .0 .gates) (clearing (head d) .fill-bytes .ensures)
     (rounding-end _ _ _ (s .pre .0 .gates) (head d .loop .inv .0) (rw (c .if1 .left) at (d .next-round .ensures)))
 
 pub settle-with-spec : {M : Type 1} → statement M
@@ -100,7 +103,7 @@ settle-with-spec =
     (tie.spec
     Inv-loop
     μ-loop
-    clear-requires
+    fill-bytes-requires
     loop-holds
     next-round-requires
     add-count

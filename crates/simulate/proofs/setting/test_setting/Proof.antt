@@ -23,10 +23,11 @@ has-codes-requires : tie.Need-has-codes-requires
 has-codes-requires c κs = search needs
 
 -- once the length fits, the bytes decide
-bytes : (c : tie.After-has-codes) → isBadSetting (decode (now (c .before .before .before .before .before .args .words))) (now (c .before .before .before .before .before .args .setting)) ≡ not (c .has-codes .result)
+bytes : (c : tie.After-has-codes) → let a = c .before .before .before .before .before .args in
+    isBadSetting (decode (now (a .words))) (now (a .setting)) ≡ not (c .has-codes .result)
 bytes c =
-    rw (c .has-codes .ensures)
-    (bad-codes (now (c .before .before .before .before .before .args .words)) (now (c .before .before .before .before .before .args .setting)) (c .before .if1 .left ∙ c .before .before .inputs-of .ensures))
+    let a = c .before .before .before .before .before .args in
+    rw (c .has-codes .ensures) (bad-codes (now (a .words)) (now (a .setting)) (c .before .if1 .left ∙ c .before .before .inputs-of .ensures))
 
 refuse-if-requires : tie.Need-refuse-if-requires
 refuse-if-requires c κs = search needs

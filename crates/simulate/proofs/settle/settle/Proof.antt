@@ -122,7 +122,8 @@ returns-4 c =
     let t = c .before .before .before .before in
     let d = c .before .before .settle-into .ensures in
     finished
-    (passed bare keeps-bare _ _ NoRoom (behind-setting (room-test t .before .before)) (rw (← room-test t .before .gates-of .ensures) (room-test t .test-room .ensures)) (t .enum-told5 .given .1))
+    (passed bare keeps-bare _ _ NoRoom (behind-setting (room-test t .before .before))
+    (rw (← room-test t .before .gates-of .ensures) (room-test t .test-room .ensures)) (t .enum-told5 .given .1))
     (d .reported) (d .values)
 
 pub settle-spec : {M : Type 1} → statement M

@@ -16,20 +16,28 @@ sub-t8 c = byte-there (c .before .before .before .before .before .args .s .now) 
 
 returns : tie.Need-returns
 unfolding constantHere
-returns c = let a = c .before .before .before .before .before .args in leaf-0 (a .s .now) (a .names .now) (a .words .now) (a .unknown) (sym (c .before .byte-at .ensures) ∙ c .if1 .taken)
+returns c =
+    let start = c .before .before .before .before .before in
+    let a = start .args in leaf-0 (a .s .now) (a .names .now) (a .words .now) (a .unknown) (sym (c .before .byte-at .ensures) ∙ c .if1 .taken)
 
 sub-t9 : tie.Need-sub-t9
 sub-t9 c = byte-there (c .before .before .before .before .before .before .args .s .now) (c .before .before .byte-at .ensures) (c .if2 .taken) (omega arith)
 
 returns-2 : tie.Need-returns-2
 unfolding constantHere
-returns-2 c = let a = c .before .before .before .before .before .before .args in leaf-1 (a .s .now) (a .names .now) (a .words .now) (a .unknown) (sym (c .before .before .byte-at .ensures) ∙ c .if2 .taken)
+returns-2 c =
+    let start = c .before .before .before .before .before .before in
+    let a = start .args in leaf-1 (a .s .now) (a .names .now) (a .words .now) (a .unknown) (sym (c .before .before .byte-at .ensures) ∙ c .if2 .taken)
 
 name-here-requires : tie.Need-name-here-requires
 name-here-requires c κs = search needs
 
 returns-3 : tie.Need-returns-3
-returns-3 c = let a = c .before .before .before .before .before .before .before .args in c .name-here .ensures ∙ leaf-name (a .s .now) (a .names .now) (a .words .now) (a .unknown) (λ e. c .before .before .if1 .left (c .before .before .before .byte-at .ensures ∙ e)) (λ e. c .before .if2 .left (c .before .before .before .byte-at .ensures ∙ e))
+returns-3 c =
+    let at-byte-at = c .before .before .before in
+    let start = at-byte-at .before .before .before .before in
+    let a = start .args in c .name-here .ensures ∙ leaf-name (a .s .now) (a .names .now) (a .words .now) (a .unknown)
+    (λ e. c .before .before .if1 .left (at-byte-at .byte-at .ensures ∙ e)) (λ e. c .before .if2 .left (at-byte-at .byte-at .ensures ∙ e))
 
 pub leaf-here-spec : {M : Type 1} → statement M
 leaf-here-spec =

@@ -28,7 +28,13 @@ earlier-requires : tie.Need-earlier-requires
 earlier-requires c κs = search needs
 
 returns : tie.Need-returns
-returns c = let a = c .before .before .before .before .before .before .before .before .before .args in name-found (a .s .now) (a .names .now) (a .words .now) (a .unknown) (c .before .before .before .before .before .name-length .ensures) (c .before .before .before .before .pack .ensures) (c .before .before .before .find .ensures) (c .before .before .if1 .taken) (c .earlier .ensures)
+returns c =
+    let at-find = c .before .before .before in
+    let at-pack = at-find .before in
+    let at-name-length = at-pack .before in
+    let start = at-name-length .before .before .before .before in
+    let a = start .args in name-found (a .s .now) (a .names .now) (a .words .now) (a .unknown) (at-name-length .name-length .ensures)
+    (at-pack .pack .ensures) (at-find .find .ensures) (c .before .before .if1 .taken) (c .earlier .ensures)
 
 add-earlier : tie.Need-add-earlier
 add-earlier c = search needs
@@ -37,7 +43,12 @@ earlier-requires-2 : tie.Need-earlier-requires-2
 earlier-requires-2 c κs = search needs
 
 returns-2 : tie.Need-returns-2
-returns-2 c = let a = c .before .before .before .before .before .before .before .before .args in name-unknown (a .s .now) (a .names .now) (a .words .now) (a .unknown) (c .before .before .before .before .name-length .ensures) (c .before .before .before .pack .ensures) (c .before .before .find .ensures) (c .before .if1 .left) (c .earlier2 .ensures)
+returns-2 c =
+    let at-pack = c .before .before .before in
+    let at-name-length = at-pack .before in
+    let start = at-name-length .before .before .before .before in
+    let a = start .args in name-unknown (a .s .now) (a .names .now) (a .words .now) (a .unknown) (at-name-length .name-length .ensures)
+    (at-pack .pack .ensures) (c .before .before .find .ensures) (c .before .if1 .left) (c .earlier2 .ensures)
 
 pub name-here-spec : {M : Type 1} → statement M
 name-here-spec =

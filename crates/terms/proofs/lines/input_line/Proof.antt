@@ -19,10 +19,18 @@ name-length-requires : tie.Need-name-length-requires
 name-length-requires c κs = search needs
 
 add-result : tie.Need-add-result
-add-result c = let p = c .before .before .before .pre in omega (arith, input-parts (p .line) (p .rest) (c .before .before .before .args .s .now) (c .name-length .result) (p .here) (c .name-length .ensures) .measured, c .before .before .before .good)
+add-result c =
+    let p = c .before .before .before .pre in omega (
+      arith,
+      input-parts (p .line) (p .rest) (c .before .before .before .args .s .now) (c .name-length .result) (p .here) (c .name-length .ensures)
+          .measured,
+      c .before .before .before .good,
+    )
 
 sub-result : tie.Need-sub-result
-sub-result c = let p = c .before .before .before .pre in omega (arith, input-parts (p .line) (p .rest) (c .before .before .before .args .s .now) (c .name-length .result) (p .here) (c .name-length .ensures) .measured)
+sub-result c =
+    let p = c .before .before .before .pre in omega
+    (arith, input-parts (p .line) (p .rest) (c .before .before .before .args .s .now) (c .name-length .result) (p .here) (c .name-length .ensures) .measured)
 
 returns : tie.Need-returns
 returns c = input-read (c .before .before .before .args .s .now) (c .name-length .result) (c .name-length .ensures)

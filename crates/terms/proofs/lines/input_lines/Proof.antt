@@ -34,7 +34,8 @@ input-line-requires : tie.Need-input-line-requires Inv-loop μ-loop
 input-line-requires c κs = let b = c .before in
     let a = b .before .before .before .args in
     let l = b .before .loop in
-    line-here inputForm input-lawful (a .lines) (a .text .now) 0 [] [] 0 [] (l .i) (l .left) 0 0 [] (l .inv) 0 (b .before .before .before .pre) (b .loop-test .taken)
+    line-here inputForm input-lawful (a .lines) (a .text .now) 0 [] [] 0 [] (l .i) (l .left) 0 0 [] (l .inv) 0 (b .before .before .before .pre)
+    (b .loop-test .taken)
 
 add-i : tie.Need-add-i Inv-loop μ-loop
 add-i c = omega (arith, c .before .before .loop-test .taken, c .before .before .before .before .before .fits .lines)
@@ -46,8 +47,11 @@ loop-again : tie.Need-loop-again Inv-loop μ-loop
 loop-again c = let b = c .before .before in
     let a = b .before .before .before .args in
     let l = b .before .loop in
-    lines-step inputForm input-lawful (a .lines) (a .text .now) 0 [] [] 0 [] (l .i) (l .left) 0 0 [] (l .inv) [] (record { left = c .input-line .result; number = 0; unknown = 0 }) (c .input-line .ensures)
-    (lines-kept inputForm input-lawful (a .lines) (a .text .now) 0 [] [] 0 [] (l .i) (l .left) 0 0 [] (l .inv) [] (record { left = c .input-line .result; number = 0; unknown = 0 }) (c .input-line .ensures) 0 (b .before .before .before .pre) (b .loop-test .taken)) (b .loop-test .taken)
+    lines-step inputForm input-lawful (a .lines) (a .text .now) 0 [] [] 0 [] (l .i) (l .left) 0 0 [] (l .inv) []
+    (record { left = c .input-line .result; number = 0; unknown = 0 }) (c .input-line .ensures)
+    (lines-kept inputForm input-lawful (a .lines) (a .text .now) 0 [] [] 0 [] (l .i) (l .left) 0 0 [] (l .inv) []
+    (record { left = c .input-line .result; number = 0; unknown = 0 }) (c .input-line .ensures) 0 (b .before .before .before .pre)
+    (b .loop-test .taken)) (b .loop-test .taken)
 
 returns : tie.Need-returns Inv-loop μ-loop
 returns c = let a = c .before .before .before .args in

@@ -9,10 +9,14 @@ use Rattle.terms.proofs.lines.output_line.Statement.{statement}
 use Rattle.terms.proofs.lines.output_line.Tie as tie
 
 sub-name-length : tie.Need-sub-name-length
-sub-name-length c = let p = c .before .before .before .before .pre .1 in omega (arith, output-parts (c .before .before .before .before .args .s .now) _ refl (p .line) (p .rest) (p .here) .long)
+sub-name-length c =
+    let start = c .before .before .before .before in
+    let p = start .pre .1 in omega (arith, output-parts (start .args .s .now) _ refl (p .line) (p .rest) (p .here) .long)
 
 part-name-length-start : tie.Need-part-name-length-start
-part-name-length-start c = let p = c .before .before .before .before .pre .1 in omega (arith, output-parts (c .before .before .before .before .args .s .now) _ refl (p .line) (p .rest) (p .here) .long)
+part-name-length-start c =
+    let start = c .before .before .before .before in
+    let p = start .pre .1 in omega (arith, output-parts (start .args .s .now) _ refl (p .line) (p .rest) (p .here) .long)
 
 part-name-length-end : tie.Need-part-name-length-end
 part-name-length-end c = search needs
@@ -21,25 +25,42 @@ name-length-requires : tie.Need-name-length-requires
 name-length-requires c κs = search needs
 
 add-at : tie.Need-add-at
-add-at c = let a = c .before .before .before .before .before .before .args in let p = c .before .before .before .before .before .before .pre .1 in omega (arith, output-parts (a .s .now) (c .name-length .result) (c .name-length .ensures) (p .line) (p .rest) (p .here) .long, c .before .before .before .before .before .before .good)
+add-at c =
+    let start = c .before .before .before .before .before .before in
+    let a = start .args in let p = start .pre .1 in omega
+    (arith, output-parts (a .s .now) (c .name-length .result) (c .name-length .ensures) (p .line) (p .rest) (p .here) .long, start .good)
 
 sub-name-here : tie.Need-sub-name-here
-sub-name-here c = let a = c .before .before .before .before .before .before .args in let p = c .before .before .before .before .before .before .pre .1 in output-parts (a .s .now) (c .name-length .result) (c .name-length .ensures) (p .line) (p .rest) (p .here) .long
+sub-name-here c =
+    let start = c .before .before .before .before .before .before in
+    let a = start .args in let p = start .pre .1 in output-parts (a .s .now) (c .name-length .result) (c .name-length .ensures) (p .line) (p .rest)
+    (p .here) .long
 
 part-name-here-start : tie.Need-part-name-here-start
-part-name-here-start c = let a = c .before .before .before .before .before .before .args in let p = c .before .before .before .before .before .before .pre .1 in output-parts (a .s .now) (c .name-length .result) (c .name-length .ensures) (p .line) (p .rest) (p .here) .long
+part-name-here-start c =
+    let start = c .before .before .before .before .before .before in
+    let a = start .args in let p = start .pre .1 in output-parts (a .s .now) (c .name-length .result) (c .name-length .ensures) (p .line) (p .rest)
+    (p .here) .long
 
 part-name-here-end : tie.Need-part-name-here-end
 part-name-here-end c = search needs
 
 name-here-requires : tie.Need-name-here-requires
-name-here-requires c κs = let b = c .before .before .before .before .before .before .before in let p = b .pre .1 in table-lengths (b .pre .0) (p .bindings) (b .args .names .now) (b .args .words .now) (p .table)
+name-here-requires c κs =
+    let stage = c .before .before .before .before .before .before .before in
+    let b = stage in let p = b .pre .1 in table-lengths (b .pre .0) (p .bindings) (b .args .names .now) (b .args .words .now) (p .table)
 
 sub-pack : tie.Need-sub-pack
-sub-pack c = let p = c .before .before .before .before .before .before .before .before .before .pre .1 in omega (arith, output-parts (c .before .before .before .before .before .before .before .before .before .args .s .now) _ refl (p .line) (p .rest) (p .here) .long)
+sub-pack c =
+    let earlier = c .before .before .before .before .before .before .before in
+    let start = earlier .before .before in
+    let p = start .pre .1 in omega (arith, output-parts (start .args .s .now) _ refl (p .line) (p .rest) (p .here) .long)
 
 part-pack-start : tie.Need-part-pack-start
-part-pack-start c = let p = c .before .before .before .before .before .before .before .before .before .pre .1 in omega (arith, output-parts (c .before .before .before .before .before .before .before .before .before .args .s .now) _ refl (p .line) (p .rest) (p .here) .long)
+part-pack-start c =
+    let earlier = c .before .before .before .before .before .before .before in
+    let start = earlier .before .before in
+    let p = start .pre .1 in omega (arith, output-parts (start .args .s .now) _ refl (p .line) (p .rest) (p .here) .long)
 
 part-pack-end : tie.Need-part-pack-end
 part-pack-end c = search needs
@@ -49,14 +70,22 @@ pack-requires c κs = search needs
 
 put-output-requires : tie.Need-put-output-requires
 unfolding outputForm
-put-output-requires c κs = let p = c .before .before .before .before .before .before .before .before .before .before .before .pre .1 in omega (arith, p .few, p .room)
+put-output-requires c κs =
+    let earlier = c .before .before .before .before .before .before .before in
+    let start = earlier .before .before .before .before in
+    let p = start .pre .1 in omega (arith, p .few, p .room)
 
 sub-t9 : tie.Need-sub-t9
-sub-t9 c = let b = c .before .before .before .before .before .before .before .before .before in
+sub-t9 c =
+    let stage = c .before .before .before .before .before .before .before in
+    let stage-2 = stage .before .before in
+    let b = stage-2 in
     let s = b .before .before .before .before .before .before in
     let p = s .pre .1 in
-    let l = c .before .before .before .before .before .before .before in
-    output-left (s .args .s .now) (b .name-length .result) (b .name-length .ensures) (s .pre .0) (s .args .names .now) (s .args .words .now) (s .args .first) (s .args .unknown) (s .args .outputs .now) (l .name-here .result) (l .name-here .ensures) (p .bindings) (p .line) (p .rest) (p .table) (p .here)
+    let l = stage in
+    output-left (s .args .s .now) (b .name-length .result) (b .name-length .ensures) (s .pre .0) (s .args .names .now) (s .args .words .now)
+    (s .args .first) (s .args .unknown) (s .args .outputs .now) (l .name-here .result) (l .name-here .ensures) (p .bindings) (p .line) (p .rest)
+    (p .table) (p .here)
 
 add-t11 : tie.Need-add-t11
 add-t11 c = search needs
@@ -65,11 +94,18 @@ same-length : tie.Need-same-length
 same-length c = search needs
 
 returns : tie.Need-returns
-returns c = λ n.
-    let b = c .before .before .before .before .before .before .before .before .before in
+returns c =
+    let at-put-output = c .before .before .before in
+    let at-pack = at-put-output .before in
+    let stage = at-pack .before .before .before in
+    let stage-2 = stage .before .before in
+    λ n.
+    let b = stage-2 in
     let s = b .before .before .before .before .before .before in
-    let l = c .before .before .before .before .before .before .before in
-    output-read (s .args .s .now) (b .name-length .result) (b .name-length .ensures) n (s .args .names .now) (s .args .words .now) (s .args .first) (s .args .unknown) (s .args .outputs .now) (l .name-here .result) (l .name-here .ensures) (c .before .before .before .put-output .last .0) (c .before .before .before .before .pack .result) (c .before .before .before .before .pack .ensures) (c .before .before .before .put-output .ensures)
+    let l = stage in
+    output-read (s .args .s .now) (b .name-length .result) (b .name-length .ensures) n (s .args .names .now) (s .args .words .now) (s .args .first)
+    (s .args .unknown) (s .args .outputs .now) (l .name-here .result) (l .name-here .ensures) (at-put-output .put-output .last .0)
+    (at-pack .pack .result) (at-pack .pack .ensures) (at-put-output .put-output .ensures)
 
 pub output-line-spec : {M : Type 1} → statement M
 output-line-spec =

@@ -77,7 +77,9 @@ same-length : tie.Need-same-length
 same-length c = search needs
 
 returns : tie.Need-returns
-returns c = let a = c .before .before .before .before .args in five-stores (a .gates .now) (a .slots .now) (5 * a .number) (a .kind + 8 * a .count) (c .before .before .before .before .pre .1 .1)
+returns c =
+    let a = c .before .before .before .before .args in
+    five-stores (a .gates .now) (a .slots .now) (5 * a .number) (a .kind + 8 * a .count) (c .before .before .before .before .pre .1 .1)
 
 pub put-gate-spec : {M : Type 1} → statement M
 put-gate-spec =

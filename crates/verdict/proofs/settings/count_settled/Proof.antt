@@ -12,10 +12,18 @@ use Rattle.verdict.proofs.settings.count_settled.Statement.{statement}
 use Rattle.verdict.proofs.settings.count_settled.Tie as tie
 
 abbrev Inv-loop : tie.InvT-loop
-Inv-loop words n gates order lowest inputs₀ values₀ count settled₀ s₀ inputs values settled s = (s ≤ count) × (settled ≡ countBelow (isSettled (decode words)) s) × (length inputs ≡ length inputs₀) × (length values ≡ length values₀)
+Inv-loop words n gates order lowest inputs₀ values₀ count settled₀ s₀ inputs values settled s =
+    (s ≤ count) × (settled ≡ countBelow (isSettled (decode words)) s) × (length inputs ≡ length inputs₀) × (length values ≡ length values₀)
 
 abbrev μ-loop : tie.MeasureT-loop
 μ-loop words n gates order lowest inputs₀ values₀ count settled₀ s₀ inputs values settled s = count - s
+
+-- the function's entry from the loop's head, and that from a setting's flag
+abbrev start : tie.At-loop Inv-loop μ-loop → tie.Start Inv-loop μ-loop
+start l = l .before .before .before .before .before .before
+
+abbrev head : tie.After-settled-flag Inv-loop μ-loop → tie.At-loop Inv-loop μ-loop
+head f = f .before .before .before .before
 
 setting-count-requires : tie.Need-setting-count-requires Inv-loop μ-loop
 setting-count-requires c κs = c .before .before .before .before .pre .0 .fewInputs
@@ -28,24 +36,27 @@ loop-holds c =
     (rw (s .pre .1) (lowest-le block (c .setting-count .result) whole), rw (s .pre .1) (count-lowest block), refl, refl)
 
 settled-flag-requires : tie.Need-settled-flag-requires Inv-loop μ-loop
-settled-flag-requires c κs = let l = c .before .before .before .loop in ready-kept (c .before .before .before .before .before .before .before .before .before .pre .0) (l .inv .2) (l .inv .3)
+settled-flag-requires c κs = let l = c .before .before .before in ready-kept (start l .pre .0) (l .loop .inv .2) (l .loop .inv .3)
 
 cast-settled : tie.Need-cast-settled Inv-loop μ-loop
-cast-settled c = omega (arith, c .before .before .before .before .settled-flag .ensures, flag-le (decode (c .before .before .before .before .before .before .before .before .before .before .before .before .before .before .args .words .now)) (c .before .before .before .before .before .before .before .before .loop .s))
+cast-settled c =
+    let f = c .before .before .before .before in
+    omega (arith, f .settled-flag .ensures, flag-le (decode (start (head f) .args .words .now)) (head f .loop .s))
 
 add-settled : tie.Need-add-settled Inv-loop μ-loop
 add-settled c =
-    let s = c .before .before .before .before .before .before .before .before .before .before .before .before .before .before in
-    let l = c .before .before .before .before .before .before .before .before .loop in
+    let f = c .before .before .before .before in
+    let s = start (head f) in
+    let l = head f .loop in
     let block = decode (s .args .words .now) in
     omega (
       arith,
       l .inv .1,
       count-le block (l .s),
-      c .before .before .before .before .settled-flag .ensures,
+      f .settled-flag .ensures,
       flag-le block (l .s),
-      c .before .before .before .before .before .before .before .loop-test .taken,
-      c .before .before .before .before .before .before .before .before .before .setting-count .ensures,
+      f .before .before .before .loop-test .taken,
+      head f .before .setting-count .ensures,
       few-settings (s .args .n) (s .pre .0 .fewInputs),
     )
 
@@ -57,10 +68,11 @@ loop-less c = omega arith
 
 loop-again : tie.Need-loop-again Inv-loop μ-loop
 loop-again c =
-    let l = c .before .before .before .before .before .before .before .before .loop in
-    let e = c .before .before .before .before .settled-flag in (
+    let f = c .before .before .before .before in
+    let l = head f .loop in
+    let e = f .settled-flag in (
       omega arith,
-      rw (l .inv .1, e .ensures) (sym (count-more (decode (c .before .before .before .before .before .before .before .before .before .before .before .before .before .before .args .words .now)) (l .s))),
+      count-more (decode (start (head f) .args .words .now)) (l .s) (l .inv .1) (e .ensures),
       e .kept .1 .1 .1 .1 .1 .0 ∙ l .inv .2,
       e .kept .1 .1 .1 .1 .1 .1 .0 ∙ l .inv .3,
     )

@@ -1,10 +1,9 @@
 -- `verdict::settings::fill_settled` meets its contract: after s turns the first s bytes are flags. Assumes nothing.
 use lib.ListN.{length-set, length}
-use Rattle.laws.proofs.Tab.{set-placed-tab}
+use Rattle.verdict.proofs.Counting.{flags-more}
 use Prim.Native.Nat.{_-_, _^_, _≤_, _<_}
 use mathlib.Core.Path.{_≡_, refl, _∙_}
 use native.Mathlib.Omega.{arith}
-use native.Mathlib.Numerals.{add-one}
 use Rattle.netlist.specs.StoredBlock.{decode}
 use Rattle.decide.proofs.Legible.{ready-kept}
 use Rattle.verdict.specs.Flags.{settledFlag}
@@ -13,10 +12,23 @@ use Rattle.verdict.proofs.settings.fill_settled.Statement.{statement}
 use Rattle.verdict.proofs.settings.fill_settled.Tie as tie
 
 abbrev Inv-loop : tie.InvT-loop
-Inv-loop words n gates order inputs₀ values₀ settled₀ count s₀ inputs values settled s = (s ≤ count) × (settled ≡ placed (tab (settledFlag (decode words)) s) settled₀) × (length settled ≡ length settled₀) × (length inputs ≡ length inputs₀) × (length values ≡ length values₀)
+Inv-loop words n gates order inputs₀ values₀ settled₀ count s₀ inputs values settled s =
+    (s ≤ count) × (settled ≡ placed (tab (settledFlag (decode words)) s) settled₀) × (length settled ≡ length settled₀) × (length inputs ≡ length inputs₀)
+    × (length values ≡ length values₀)
 
 abbrev μ-loop : tie.MeasureT-loop
 μ-loop words n gates order inputs₀ values₀ settled₀ count s₀ inputs values settled s = count - s
+
+-- the function's entry from the loop's head, and that from a setting's flag
+abbrev start : tie.At-loop Inv-loop μ-loop → tie.Start Inv-loop μ-loop
+start l = l .before .before .before .before .before .before .before
+
+abbrev head : tie.After-settled-flag Inv-loop μ-loop → tie.At-loop Inv-loop μ-loop
+head f = f .before .before .before .before
+
+-- a byte for this setting
+room : (f : tie.After-settled-flag Inv-loop μ-loop) → head f .loop .s < length (start (head f) .args .settled .now)
+room f = omega (arith, f .before .before .before .loop-test .taken, head f .before .setting-count .ensures, start (head f) .pre .1)
 
 setting-count-requires : tie.Need-setting-count-requires Inv-loop μ-loop
 setting-count-requires c κs = c .before .before .before .before .before .pre .0 .fewInputs
@@ -25,10 +37,10 @@ loop-holds : tie.Need-loop-holds Inv-loop μ-loop
 loop-holds c = (omega arith, refl, refl, refl, refl)
 
 settled-flag-requires : tie.Need-settled-flag-requires Inv-loop μ-loop
-settled-flag-requires c κs = let l = c .before .before .before .loop in ready-kept (c .before .before .before .before .before .before .before .before .before .before .pre .0) (l .inv .3) (l .inv .4)
+settled-flag-requires c κs = let l = c .before .before .before in ready-kept (start l .pre .0) (l .loop .inv .3) (l .loop .inv .4)
 
 slice-write-settled : tie.Need-slice-write-settled Inv-loop μ-loop
-slice-write-settled c = omega (arith, c .before .before .before .before .before .before .before .before .loop .inv .2, c .before .before .before .before .before .before .before .loop-test .taken, c .before .before .before .before .before .before .before .before .before .setting-count .ensures, c .before .before .before .before .before .before .before .before .before .before .before .before .before .before .before .pre .1)
+slice-write-settled c = let f = c .before .before .before .before in omega (arith, head f .loop .inv .2, room f)
 
 add-s : tie.Need-add-s Inv-loop μ-loop
 add-s c = omega arith
@@ -38,12 +50,12 @@ loop-less c = omega arith
 
 loop-again : tie.Need-loop-again Inv-loop μ-loop
 loop-again c =
-    let s = c .before .before .before .before .before .before .before .before .before .before .before .before .before .before .before in
-    let l = c .before .before .before .before .before .before .before .before .loop in
-    let e = c .before .before .before .before .settled-flag in
-    let room : l .s < length (s .args .settled .now) = omega (arith, c .before .before .before .before .before .before .before .loop-test .taken, c .before .before .before .before .before .before .before .before .before .setting-count .ensures, s .pre .1) in (
+    let f = c .before .before .before .before in
+    let s = start (head f) in
+    let l = head f .loop in
+    let e = f .settled-flag in (
       omega arith,
-      rw (l .inv .1, e .ensures, add-one) (set-placed-tab (settledFlag (decode (s .args .words .now))) (l .s) (s .args .settled .now) room),
+      flags-more (decode (s .args .words .now)) (l .s) (s .args .settled .now) (room f) (l .inv .1) (e .ensures),
       length-set (l .settled) (l .s) (e .result) ∙ l .inv .2,
       e .kept .1 .1 .1 .1 .1 .0 ∙ l .inv .3,
       e .kept .1 .1 .1 .1 .1 .1 .0 ∙ l .inv .4,
@@ -62,7 +74,7 @@ returns : tie.Need-returns Inv-loop μ-loop
 returns c =
     let l = c .before .loop in
     let count = c .before .before .setting-count in
-    let all : l .s ≡ 2 ^ c .before .before .before .before .before .before .before .before .args .n = omega (arith, count .ensures) in
+    let all : l .s ≡ 2 ^ start (c .before) .args .n = omega (arith, count .ensures) in
     rw (← all) (l .inv .1)
 
 pub fill-settled-spec : {M : Type 1} → statement M

@@ -9,8 +9,9 @@ lowest-unsettled-requires c κs = search needs
 
 count-settled-requires : tie.Need-count-settled-requires
 count-settled-requires c κs =
-    let e = c .before .before .before .before .before .before .lowest-unsettled in
-    (ready-kept (c .before .before .before .before .before .before .before .before .before .before .before .before .before .pre) (e .kept .1 .1 .1 .1 .0) (e .kept .1 .1 .1 .1 .1 .0), e .ensures)
+    let searched = c .before .before .before .before .before .before in
+    let e = searched .lowest-unsettled in
+    (ready-kept (searched .before .before .before .before .before .before .before .pre) (e .kept .1 .1 .1 .1 .0) (e .kept .1 .1 .1 .1 .1 .0), e .ensures)
 
 same-length : tie.Need-same-length
 same-length c = search needs

@@ -1,5 +1,5 @@
 -- `visiting::postorder::write_from` meets its contract: each turn pushes a gate that was not marked, or writes the one on top. Assumes nothing.
-use Prim.Native.Nat.{_+_, _-_, _*_}
+use Prim.Native.Nat.{_+_, _-_, _*_, _<_}
 use mathlib.Core.Path.{_≡_, refl, _∙_}
 use native.Mathlib.Omega.{arith}
 use borrow.Author.Needs.{needs}
@@ -11,10 +11,20 @@ use Rattle.visiting.proofs.postorder.write_from.Statement.{statement}
 use Rattle.visiting.proofs.postorder.write_from.Tie as tie
 
 abbrev Inv-loop : tie.InvT-loop
-Inv-loop words n m gates root flags₀ stack₀ order₀ tail depth₀ end₀ flags stack order depth end = Walking m flags stack order depth end × Kept m flags₀ flags × Room n m gates flags stack order × (length flags ≡ length flags₀) × (length stack ≡ length stack₀) × (length order ≡ length order₀)
+Inv-loop words n m gates root flags₀ stack₀ order₀ tail depth₀ end₀ flags stack order depth end =
+    Walking m flags stack order depth end × Kept m flags₀ flags × Room n m gates flags stack order × (length flags ≡ length flags₀)
+    × (length stack ≡ length stack₀) × (length order ≡ length order₀)
 
 abbrev μ-loop : tie.MeasureT-loop
 μ-loop words n m gates root flags₀ stack₀ order₀ tail depth₀ end₀ flags stack order depth end = 2 * (m - setFlags flags m) + depth
+
+-- the function's entry, from the loop's head
+abbrev start : tie.At-loop Inv-loop μ-loop → tie.Start Inv-loop μ-loop
+start l = l .before .before .before .before .before
+
+-- the gate on top of the stack is a gate
+top : (c : tie.After-word-at Inv-loop μ-loop) → c .word-at .result < start (c .before .before .before) .args .m
+top c = top-below (c .word-at .result) (c .before .before .before .loop .inv .0) (c .before .before .loop-test .taken) (c .word-at .ensures)
 
 slice-write-flags : tie.Need-slice-write-flags Inv-loop μ-loop
 slice-write-flags c = omega (arith, c .before .before .before .before .pre .2, c .before .before .before .before .pre .0 .flagRoom)
@@ -28,8 +38,15 @@ slice-write-stack c = omega (arith, c .before .before .before .before .pre .2, c
 loop-holds : tie.Need-loop-holds Inv-loop μ-loop
 loop-holds c =
     let s = c .before .before .before .before in
-    let r = s .pre .0 in
-    (push (walk-start (s .args .stack .now) (s .pre .1)) (r .flagRoom) (s .args .root) (s .pre .2) (s .pre .3) (r .stackRoom), λ k l z. z, room-kept r (length-set (s .args .flags .now) _ _) (length-set (s .args .stack .now) _ _) refl, refl, refl, refl)
+    let r = s .pre .0 in (
+      push (walk-start (s .args .stack .now) (s .pre .1)) (r .flagRoom) (s .args .root) (s .pre .2) (s .pre .3) (r .stackRoom),
+      λ k l z. z,
+      room-kept r
+          (length-set (s .args .flags .now) _ _) (length-set (s .args .stack .now) _ _) refl,
+      refl,
+      refl,
+      refl,
+    )
 
 sub-word-at : tie.Need-sub-word-at Inv-loop μ-loop
 sub-word-at c = omega arith
@@ -38,15 +55,15 @@ word-at-requires : tie.Need-word-at-requires Inv-loop μ-loop
 word-at-requires c κs = search needs
 
 mul-unmarked-operand : tie.Need-mul-unmarked-operand Inv-loop μ-loop
-mul-unmarked-operand c = omega (arith, top-below (c .word-at .result) (c .before .before .before .loop .inv .0) (c .before .before .loop-test .taken) (c .word-at .ensures), c .before .before .before .before .before .before .before .before .pre .0 .fewGates)
+mul-unmarked-operand c = omega (arith, top c, start (c .before .before .before) .pre .0 .fewGates)
 
 add-unmarked-operand : tie.Need-add-unmarked-operand Inv-loop μ-loop
-add-unmarked-operand c = omega (arith, top-below (c .word-at .result) (c .before .before .before .loop .inv .0) (c .before .before .loop-test .taken) (c .word-at .ensures), c .before .before .before .before .before .before .before .before .pre .0 .fewGates, c .before .before .before .before .before .before .before .before .pre .0 .near)
+add-unmarked-operand c = let r = start (c .before .before .before) .pre .0 in omega (arith, top c, r .fewGates, r .near)
 
 unmarked-operand-requires : tie.Need-unmarked-operand-requires Inv-loop μ-loop
 unmarked-operand-requires c κs =
     let r = c .before .before .before .before .loop .inv .2 in
-    (omega (arith, top-below (c .before .word-at .result) (c .before .before .before .before .loop .inv .0) (c .before .before .before .loop-test .taken) (c .before .word-at .ensures), r .fewGates, r .near), r .fewInputs, r .fewGates, r .flagRoom)
+    (omega (arith, top (c .before), r .fewGates, r .near), r .fewInputs, r .fewGates, r .flagRoom)
 
 slice-write-flags-2 : tie.Need-slice-write-flags-2 Inv-loop μ-loop
 slice-write-flags-2 c = omega (arith, c .if1 .taken, c .before .before .before .before .before .before .loop .inv .2 .flagRoom)
@@ -82,24 +99,34 @@ loop-again : tie.Need-loop-again Inv-loop μ-loop
 loop-again c =
     let w = c .before .before .before .before .before .before .loop .inv in
     let free = c .before .unmarked-operand .ensures (c .if1 .taken) in
-    let s = c .before .before .before .before .before .before .before .before .before .before .before in
+    let s = start (c .before .before .before .before .before .before) in
     let l = c .before .before .before .before .before .before .loop in
     let k = c .before .unmarked-operand .result in
     let fl = length-set (l .flags) k 1 in
-    let sl = length-set (l .stack) (l .depth) k in
-    (push (w .0) (w .2 .flagRoom) k (c .if1 .taken) free (w .2 .stackRoom), kept-set (s .args .m) (set (s .args .flags .now) (s .args .root) 1) (l .flags) k (omega (arith, c .if1 .taken, w .2 .flagRoom)) (w .1), room-kept (w .2) fl sl refl, fl ∙ w .3, sl ∙ w .4, w .5)
+    let sl = length-set (l .stack) (l .depth) k in (
+      push (w .0) (w .2 .flagRoom) k (c .if1 .taken) free (w .2 .stackRoom),
+      kept-set (s .args .m) (set (s .args .flags .now) (s .args .root) 1) (l .flags) k
+          (omega (arith, c .if1 .taken, w .2 .flagRoom)) (w .1),
+      room-kept (w .2) fl sl refl,
+      fl ∙ w .3,
+      sl ∙ w .4,
+      w .5,
+    )
 
 cast-order : tie.Need-cast-order Inv-loop μ-loop
-cast-order c = omega (arith, top-below (c .before .before .before .word-at .result) (c .before .before .before .before .before .before .loop .inv .0) (c .before .before .before .before .before .loop-test .taken) (c .before .before .before .word-at .ensures), c .before .before .before .before .before .before .loop .inv .2 .fewGates)
+cast-order c = omega (arith, top (c .before .before .before), c .before .before .before .before .before .before .loop .inv .2 .fewGates)
 
 mul-order : tie.Need-mul-order Inv-loop μ-loop
-mul-order c = let w = c .before .before .before .before .before .before .loop .inv in omega (arith, write-room (w .0) (w .2 .flagRoom) (c .before .before .before .before .before .loop-test .taken), w .2 .fewGates)
+mul-order c = let w = c .before .before .before .before .before .before .loop .inv in
+    omega (arith, write-room (w .0) (w .2 .flagRoom) (c .before .before .before .before .before .loop-test .taken), w .2 .fewGates)
 
 slice-write-order : tie.Need-slice-write-order Inv-loop μ-loop
-slice-write-order c = let w = c .before .before .before .before .before .before .loop .inv in omega (arith, write-room (w .0) (w .2 .flagRoom) (c .before .before .before .before .before .loop-test .taken), w .2 .orderRoom)
+slice-write-order c = let w = c .before .before .before .before .before .before .loop .inv in
+    omega (arith, write-room (w .0) (w .2 .flagRoom) (c .before .before .before .before .before .loop-test .taken), w .2 .orderRoom)
 
 add-end : tie.Need-add-end Inv-loop μ-loop
-add-end c = let w = c .before .before .before .before .before .before .loop .inv in omega (arith, write-room (w .0) (w .2 .flagRoom) (c .before .before .before .before .before .loop-test .taken), w .2 .fewGates)
+add-end c = let w = c .before .before .before .before .before .before .loop .inv in
+    omega (arith, write-room (w .0) (w .2 .flagRoom) (c .before .before .before .before .before .loop-test .taken), w .2 .fewGates)
 
 sub-depth : tie.Need-sub-depth Inv-loop μ-loop
 sub-depth c = omega arith
@@ -111,8 +138,15 @@ loop-again-2 : tie.Need-loop-again-2 Inv-loop μ-loop
 loop-again-2 c =
     let l = c .before .before .before .before .before .before .loop in
     let w = l .inv in
-    let ol = length-set (l .order) (l .end) (c .before .before .before .word-at .result) in
-    (write (w .0) (w .2 .flagRoom) (c .before .before .before .word-at .result) (c .before .before .before .word-at .ensures) (c .before .before .before .before .before .loop-test .taken) (w .2 .orderRoom), w .1, room-kept (w .2) refl refl ol, w .3, w .4, ol ∙ w .5)
+    let ol = length-set (l .order) (l .end) (c .before .before .before .word-at .result) in (
+      write (w .0) (w .2 .flagRoom) (c .before .before .before .word-at .result) (c .before .before .before .word-at .ensures)
+          (c .before .before .before .before .before .loop-test .taken) (w .2 .orderRoom),
+      w .1,
+      room-kept (w .2) refl refl ol,
+      w .3,
+      w .4,
+      ol ∙ w .5,
+    )
 
 same-length : tie.Need-same-length Inv-loop μ-loop
 same-length c = c .before .loop .inv .3 ∙ length-set (c .before .before .before .before .before .before .args .flags .now) _ _
@@ -124,7 +158,8 @@ same-length-3 : tie.Need-same-length-3 Inv-loop μ-loop
 same-length-3 c = c .before .loop .inv .5
 
 returns : tie.Need-returns Inv-loop μ-loop
-returns c = let s = c .before .before .before .before .before .before in grown (s .args .m) (s .args .root) (s .pre .2) (s .pre .0 .flagRoom) (walk-end (c .before .loop .inv .0) (c .loop-test .left)) (c .before .loop .inv .1)
+returns c = let s = c .before .before .before .before .before .before in
+    grown (s .args .m) (s .args .root) (s .pre .2) (s .pre .0 .flagRoom) (walk-end (c .before .loop .inv .0) (c .loop-test .left)) (c .before .loop .inv .1)
 
 pub write-from-spec : {M : Type 1} → statement M
 write-from-spec =

@@ -30,14 +30,19 @@ outputs-at-requires c κs =
 -- the three parts, from the header that was read
 parts : (c : tie.After-outputs-at) → blockText (c .before .before .before .before .before .before .before .args .words .now)
     ≡ pieces (inputText (c .before .before .before .before .before .before .before .args .words .now)) (c .before .before .before .before .inputs-of .result)
-    ++ (pieces (gateText (c .before .before .before .before .before .before .before .args .words .now) (c .before .gates-at .result)) (c .before .before .before .gates-of .result)
-    ++ pieces (outputText (c .before .before .before .before .before .before .before .args .words .now) (c .outputs-at .result)) (c .before .before .outputs-of .result))
+    ++ (pieces (gateText (c .before .before .before .before .before .before .before .args .words .now) (c .before .gates-at .result))
+    (c .before .before .before .gates-of .result)
+    ++ pieces (outputText (c .before .before .before .before .before .before .before .args .words .now) (c .outputs-at .result))
+    (c .before .before .outputs-of .result))
 parts c =
-    let n = c .before .before .before .before .inputs-of in
-    let m = c .before .before .before .gates-of in
+    let at-gates-of = c .before .before .before in
+    let at-inputs-of = at-gates-of .before in
+    let start = at-inputs-of .before .before .before in
+    let n = at-inputs-of .inputs-of in
+    let m = at-gates-of .gates-of in
     let k = c .before .before .outputs-of in
     let gates = c .before .gates-at in
-    block-of (c .before .before .before .before .before .before .before .args .words .now) (n .result) (m .result) (k .result) (gates .result) (c .outputs-at .result)
+    block-of (start .args .words .now) (n .result) (m .result) (k .result) (gates .result) (c .outputs-at .result)
     (n .ensures) (m .ensures) (k .ensures) (gates .ensures) (c .outputs-at .ensures)
 
 put-inputs-requires : tie.Need-put-inputs-requires

@@ -18,7 +18,8 @@ add-put-operand-2 c = search needs
 
 put-operand-requires : tie.Need-put-operand-requires
 unfolding itemText
-put-operand-requires c κs = short-rest {xs = ascii " "} _ (c .before .before .before .before .before .before .before .pre .1) (c .before .before .before .put .ensures)
+put-operand-requires c κs =
+    short-rest {xs = ascii " "} _ (c .before .before .before .before .before .before .before .pre .1) (c .before .before .before .put .ensures)
 
 same-length : tie.Need-same-length
 same-length c = search needs

@@ -22,8 +22,11 @@ put-item-requires : tie.Need-put-item-requires Inv-loop μ-loop
 put-item-requires c κs =
     let start = c .before .before .before .before .before in
     let a = start .args in
-    let l = c .before .before .loop in
-    ((start .pre .0 .0, omega arith), short-turn (itemText (a .words .now) (a .from)) (l .i) (a .count) (c .before .loop-test .taken) (start .pre .1) (l .inv .1))
+    let l = c .before .before .loop in (
+      (start .pre .0 .0, omega arith),
+      short-turn (itemText (a .words .now) (a .from)) (l .i) (a .count) (c .before .loop-test .taken) (start .pre .1)
+          (l .inv .1),
+    )
 
 add-i : tie.Need-add-i Inv-loop μ-loop
 add-i c = omega (arith, c .before .before .before .before .before .before .before .before .pre .0)

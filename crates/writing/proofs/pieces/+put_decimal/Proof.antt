@@ -120,7 +120,8 @@ put-decimal-returns-2 : (t : ℕ) → put-decimal-lts.Need-returns-2 (
 put-decimal-returns-2 t c =
     let last = c .before .before in
     let front = last .before .before .before .before in
-    rw (decimal-more (front .before .before .before .before .args .v) (front .before .before .if1 .left)) (appended-then (front .put-decimal .ensures) (last .put2 .ensures))
+    rw (decimal-more (front .before .before .before .before .args .v) (front .before .before .if1 .left))
+    (appended-then (front .put-decimal .ensures) (last .put2 .ensures))
 
 pub +put-decimal-spec : {M : Type 1} → statement M
 +put-decimal-spec = close μ-put-decimal λ t. put-decimal-lts.spec (
