@@ -15,16 +15,33 @@ pub enum Kind {
     Or,
     Nand,
     Nor,
+    Xor,
+    Xnor,
 }
 
 impl Kind {
-    pub const ALL: [Kind; 5] = [Kind::Not, Kind::And, Kind::Or, Kind::Nand, Kind::Nor];
+    pub const ALL: [Kind; 7] = [
+        Kind::Not,
+        Kind::And,
+        Kind::Or,
+        Kind::Nand,
+        Kind::Nor,
+        Kind::Xor,
+        Kind::Xnor,
+    ];
     /// The kinds of two to four operands.
-    pub const MANY: [Kind; 4] = [Kind::And, Kind::Or, Kind::Nand, Kind::Nor];
+    pub const MANY: [Kind; 6] = [
+        Kind::And,
+        Kind::Or,
+        Kind::Nand,
+        Kind::Nor,
+        Kind::Xor,
+        Kind::Xnor,
+    ];
 
     /// The word of the netlist text for this kind.
     pub fn keyword(self) -> &'static str {
-        ["not", "and", "or", "nand", "nor"][self as usize]
+        ["not", "and", "or", "nand", "nor", "xor", "xnor"][self as usize]
     }
 }
 

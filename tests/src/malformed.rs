@@ -74,9 +74,9 @@ fn has_repeat(names: &[&[u16]]) -> bool {
     sorted.windows(2).any(|pair| pair[0] == pair[1])
 }
 
-/// One of the thirteen legal first words of a gate.
+/// One of the nineteen legal first words of a gate.
 fn head_legal(word: u16) -> bool {
-    matches!(word, 8 | 17..=20 | 25..=28 | 33..=36)
+    matches!(word, 8 | 17..=22 | 25..=30 | 33..=38)
 }
 
 /// Used operands are nodes or constants, unused ones are 0. Counts above 4 use all four.

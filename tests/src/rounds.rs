@@ -43,5 +43,8 @@ pub fn stated_value(kind: Kind, operands: &[u8]) -> u8 {
         Kind::And | Kind::Or => 2,
         Kind::Nand => stated_value(Kind::Not, &[stated_value(Kind::And, operands)]),
         Kind::Nor => stated_value(Kind::Not, &[stated_value(Kind::Or, operands)]),
+        Kind::Xor if operands.contains(&2) => 2,
+        Kind::Xor => (operands.iter().filter(|&&operand| operand == 1).count() % 2) as u8,
+        Kind::Xnor => stated_value(Kind::Not, &[stated_value(Kind::Xor, operands)]),
     }
 }

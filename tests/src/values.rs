@@ -10,11 +10,15 @@ pub const UNDEFINED: u8 = 2;
 const MAY_BE_0: u8 = 1;
 const MAY_BE_1: u8 = 2;
 
+/// The truth table of `xor` over what two values may be; nothing may be neither.
+const ODD: [[u8; 4]; 4] = [[0, 0, 0, 0], [0, 1, 2, 3], [0, 2, 1, 3], [0, 3, 3, 3]];
+
 /// The gate's value from its operands' values, all coded 0, 1, 2.
 pub fn gate_value(kind: Kind, operands: impl Iterator<Item = u8> + Clone) -> u8 {
     let bits = operands.map(|value| value + 1);
     let some = bits.clone().fold(0, |some, bits| some | bits);
-    let all = bits.fold(3, |all, bits| all & bits);
+    let all = bits.clone().fold(3, |all, bits| all & bits);
+    let odd = bits.fold(MAY_BE_0, |odd, bits| ODD[odd as usize][bits as usize]);
     let and = (all & MAY_BE_1) | (some & MAY_BE_0);
     let or = (some & MAY_BE_1) | (all & MAY_BE_0);
     let bits = match kind {
@@ -23,6 +27,8 @@ pub fn gate_value(kind: Kind, operands: impl Iterator<Item = u8> + Clone) -> u8 
         Kind::Nand => swapped(and),
         Kind::Nor => swapped(or),
         Kind::Not => swapped(all),
+        Kind::Xor => odd,
+        Kind::Xnor => swapped(odd),
     };
     bits - 1
 }

@@ -185,6 +185,24 @@ fn scaler_adds_and_doubles_in_either_order() {
     });
 }
 
+/// The same scaler, with the words' parity bits: a word whose parity is wrong is scaled to 0.
+#[test]
+fn scaler_with_parity_tells_a_wrong_word() {
+    let add = |x: usize| (x + 1) % 4;
+    let double = |x: usize| (2 * x).min(3);
+    for_settings("scaler-parity", |pins, ports| {
+        let x = 2 * pins["x1"] + pins["x0"];
+        let ok = (pins["x1"] + pins["x0"] + pins["xp"] + 1) % 2;
+        let scaled = match pins["select"] {
+            0 => double(add(x)),
+            _ => add(double(x)),
+        };
+        assert_eq!(ports["ok"], ok);
+        assert_eq!(2 * ports["y1"] + ports["y0"], ok * scaled);
+        assert_eq!((ports["y1"] + ports["y0"] + ports["yp"]) % 2, 0);
+    });
+}
+
 #[test]
 fn mended_rate_block_passes_the_sample_unless_muted() {
     for_settings("rate-mended", |pins, ports| {
@@ -235,13 +253,12 @@ fn four_functions_are_those_of_the_printed_table() {
 }
 
 #[test]
-fn full_adder_adds_and_is_only_renamed() {
-    for_settings("full-adder", |pins, ports| {
-        let sum: usize = pins.values().sum();
-        assert_eq!(2 * ports["carry"] + ports["sum"], sum);
-    });
-    assert_eq!(
-        words(&file("full-adder", "net")),
-        words(&file("full-adder", "out"))
-    );
+fn full_adders_add_and_are_only_renamed() {
+    for name in ["full-adder", "full-adder-xor"] {
+        for_settings(name, |pins, ports| {
+            let sum: usize = pins.values().sum();
+            assert_eq!(2 * ports["carry"] + ports["sum"], sum);
+        });
+        assert_eq!(words(&file(name, "net")), words(&file(name, "out")));
+    }
 }

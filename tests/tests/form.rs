@@ -7,13 +7,15 @@ use std::collections::BTreeSet;
 use std::sync::OnceLock;
 
 /// Whole lines but for their closing brackets; every suffix of one is tried as an ending.
-const LINES: [&str; 7] = [
+const LINES: [&str; 9] = [
     "(in a",
     "(gate p (not 0",
     "(gate p (and 0 0",
     "(gate p (or 0 0",
     "(gate p (nand 0 0",
     "(gate p (nor 0 0",
+    "(gate p (xor 0 0",
+    "(gate p (xnor 0 0",
     "(out y a",
 ];
 

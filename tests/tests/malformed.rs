@@ -47,7 +47,7 @@ fn legal(place: usize, word: u16) -> bool {
     let end = |byte| byte == 0 || is_name_byte(byte);
     let first = LETTERS.contains(&low) && end(high);
     // With more operands, words of 0 are no longer unused but read node 0.
-    let two_or_more = matches!(word, 17..=20 | 25..=28 | 33..=36);
+    let two_or_more = matches!(word, 17..=22 | 25..=30 | 33..=38);
     match place {
         0..=2 => word == [2, 2, 1][place],
         // Input ab may not become c, nor c become ab; port y may become either.

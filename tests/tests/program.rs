@@ -52,7 +52,7 @@ fn legal_texts() {
 
 #[test]
 fn spoiled_texts() {
-    for_texts(0..300, Size::SMALL, |random, text, _| {
+    for_texts(0..500, Size::SMALL, |random, text, _| {
         compare(&spoiled(random, text))
     });
     answered(&[0, 2, 4, 5, 9], 5);

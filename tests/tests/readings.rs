@@ -46,6 +46,13 @@ fn form_table() {
         ("(gate p (not 0)) \n", 16),
         ("(gate p (not (not 0))", 21),
         ("(gate p (nor 0))\n", 14),
+        ("(gate p (x", 10),
+        ("(gate p (xa", 10),
+        ("(gate p (xo", 11),
+        ("(gate p (xno ", 12),
+        ("(gate p (xor p))\n", 14),
+        ("(gate p (xor p p p p p))\n", 20),
+        ("(gate p (xnor p p p p p))\n", 21),
     ];
     for (text, detail) in rows {
         assert_eq!(refusal(text), (2, detail), "{text}");

@@ -24,7 +24,7 @@ pub fn has_arity(kind: usize, count: usize) -> bool
             1 => true,
             _ => false,
         },
-        1 | 2 | 3 | 4 => match count {
+        1 | 2 | 3 | 4 | 5 | 6 => match count {
             2..=4 => true,
             _ => false,
         },

@@ -23,18 +23,20 @@ use Rattle.encoding.proofs.Nodes.{nodeWord-operandOf, operandOf-nodeWor
 
 -- ---- kinds and counts
 
-pub kind-small : (k : ℕ) → isKind k ≡ true → k ≤ 4
+pub kind-small : (k : ℕ) → isKind k ≡ true → k ≤ 6
 unfolding isKind
-kind-small k h = leb-true k 4 h
+kind-small k h = leb-true k 6 h
 
 -- what holds of each kind holds of all
-pub by-kind : (P : ℕ → Type 0) → P 0 → P 1 → P 2 → P 3 → P 4 → (k : ℕ) → isKind k ≡ true → P k
-by-kind P not and or nand nor zero h = not
-by-kind P not and or nand nor (suc zero) h = and
-by-kind P not and or nand nor (suc (suc zero)) h = or
-by-kind P not and or nand nor (suc (suc (suc zero))) h = nand
-by-kind P not and or nand nor (suc (suc (suc (suc zero)))) h = nor
-by-kind P not and or nand nor (suc (suc (suc (suc (suc k))))) h = absurd (omega (arith, kind-small (suc (suc (suc (suc (suc k))))) h))
+pub by-kind : (P : ℕ → Type 0) → P 0 → P 1 → P 2 → P 3 → P 4 → P 5 → P 6 → (k : ℕ) → isKind k ≡ true → P k
+by-kind P not and or nand nor xor xnor zero h = not
+by-kind P not and or nand nor xor xnor (suc zero) h = and
+by-kind P not and or nand nor xor xnor (suc (suc zero)) h = or
+by-kind P not and or nand nor xor xnor (suc (suc (suc zero))) h = nand
+by-kind P not and or nand nor xor xnor (suc (suc (suc (suc zero)))) h = nor
+by-kind P not and or nand nor xor xnor (suc (suc (suc (suc (suc zero))))) h = xor
+by-kind P not and or nand nor xor xnor (suc (suc (suc (suc (suc (suc zero)))))) h = xnor
+by-kind P not and or nand nor xor xnor (suc (suc (suc (suc (suc (suc (suc k))))))) h = absurd (omega (arith, kind-small (suc (suc (suc (suc (suc (suc (suc k))))))) h))
 
 pub most-four : (k : ℕ) → mostOperands k ≤ operandWords
 unfolding mostOperands signatureOf
@@ -43,7 +45,9 @@ most-four (suc zero) = omega arith
 most-four (suc (suc zero)) = omega arith
 most-four (suc (suc (suc zero))) = omega arith
 most-four (suc (suc (suc (suc zero)))) = omega arith
-most-four (suc (suc (suc (suc (suc k))))) = omega arith
+most-four (suc (suc (suc (suc (suc zero))))) = omega arith
+most-four (suc (suc (suc (suc (suc (suc zero)))))) = omega arith
+most-four (suc (suc (suc (suc (suc (suc (suc k))))))) = omega arith
 
 -- no gate has more than four operands
 pub arity-four : (k count : ℕ) → arityFits k count ≡ true → count ≤ operandWords
@@ -58,7 +62,8 @@ arity-not count h = omega (arith, leb-true 1 count (and-left (leb 1 count) (leb 
 fewest-two : (k : ℕ) → isKind k ≡ true → 1 ≤ k → fewestOperands k ≡ 2
 unfolding fewestOperands signatureOf
 fewest-two =
-    by-kind (λ k. 1 ≤ k → fewestOperands k ≡ 2) (λ l. absurd (omega arith)) (λ _. refl) (λ _. refl) (λ _. refl) (λ _. refl)
+    by-kind (λ k. 1 ≤ k → fewestOperands k ≡ 2) (λ l. absurd (omega arith)) (λ _. refl) (λ _. refl) (λ _. refl) (λ _. refl) (λ _. refl)
+    (λ _. refl)
 
 -- the other kinds have two at least
 pub arity-others : (k count : ℕ) → isKind k ≡ true → 1 ≤ k → arityFits k count ≡ true → 2 ≤ count
@@ -167,7 +172,7 @@ gateAt-gateWords b ws at g few fits standing = λ i. record { kind = kind-is i; 
     n : ℕ
     n = inputCount b
 
-    small : g .kind ≤ 4
+    small : g .kind ≤ 6
     small = kind-small (g .kind) (fits-kind b g fits)
 
     kind-is : getD ws at 0 % 8 ≡ g .kind

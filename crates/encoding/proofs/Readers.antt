@@ -37,7 +37,7 @@ OperandWord nodes w = (w < nodes) ⊎ ((w ≡ 65534) ⊎ (w ≡ 65535))
 -- the gate whose first word is at `at`, of a block with so many nodes
 pub record GateWhole (ws : List ℕ) (nodes at : ℕ) : Type 0 where
   pub known : isKind (getD ws at 0 % 8) ≡ true
-  pub kind : getD ws at 0 % 8 ≤ 4
+  pub kind : getD ws at 0 % 8 ≤ 6
   pub arity : arityFits (getD ws at 0 % 8) (getD ws at 0 / 8) ≡ true
   pub count : getD ws at 0 / 8 ≤ operandWords
   pub notCount : getD ws at 0 % 8 ≡ 0 → getD ws at 0 / 8 ≡ 1

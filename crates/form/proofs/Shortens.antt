@@ -118,7 +118,10 @@ shortens-kind =
     shortens-if (is "t") (λ _. shortens-pure 0)
     (shortens-if (is "r") (λ _. shortens-pure 4) shortens-stop))
     shortens-stop))
-    shortens-stop))
+    (shortens-if (is "x") (λ _.
+    shortens-if (is "o") (λ _. shortens-expect (ascii "r") (shortens-pure 5))
+    (shortens-if (is "n") (λ _. shortens-expect (ascii "or") (shortens-pure 6)) shortens-stop))
+    shortens-stop)))
 
 shortens-spaced : {term : Reader Term} {others : Reader Terms} → Shortens term → Shortens others → Shortens (spaced term others)
 unfolding spaced

@@ -56,6 +56,10 @@ kindNo = ifNext (is "t") (λ _. pure 0) (ifNext (is "r") (λ _. pure 4) stop)
 unfoldable pub kindN : Reader ℕ
 kindN = ifNext (is "a") (λ _. kindWord (ascii "nd") 3) (ifNext (is "o") (λ _. kindNo) stop)
 
+-- behind `x`
+unfoldable pub kindX : Reader ℕ
+kindX = ifNext (is "o") (λ _. kindWord (ascii "r") 5) (ifNext (is "n") (λ _. kindWord (ascii "or") 6) stop)
+
 -- one line behind its opening bracket, without its tree, and what follows each of its parts
 abbrev pub closing : Reader ℕ
 closing = wordReader (ascii ")\n")

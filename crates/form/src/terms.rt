@@ -11,7 +11,7 @@ ghost use mathlib.Core.Path.{_≡_};
 ghost use Prim.Native.Nat.{_-_};
 ghost use Rattle.netlist.specs.Syntax.{Term, apply};
 ghost use Rattle.netlist.specs.Parse.{kindReader, termReader, termsReader, exprReader};
-ghost use Rattle.form.specs.Scan.{scanOf, kindOf, kindWord, kindN, kindNo};
+ghost use Rattle.form.specs.Scan.{scanOf, kindOf, kindWord, kindN, kindNo, kindX};
 
 // The kind `kind`, behind the rest of its word.
 fn kind_word(s: &[u8], bytes: &[u8], kind: usize) -> Kind
@@ -57,6 +57,20 @@ fn kind_n(s: &[u8]) -> Kind
     Kind::Bad(s.len())
 }
 
+// Behind `x`: `or`, or `nor`.
+fn kind_x(s: &[u8]) -> Kind
+    ensures { λ r. ⌜ r ≡ kindOf (kindX (now (s .entry))) ⌝ }
+{
+    let c = byte_at(s, 0);
+    if c == b'o' {
+        return kind_word(&s[1..], b"r", 5);
+    }
+    if c == b'n' {
+        return kind_word(&s[1..], b"or", 6);
+    }
+    Kind::Bad(s.len())
+}
+
 // The number of a kind; words go by common beginnings.
 fn kind(s: &[u8]) -> Kind
     ensures { λ r. ⌜ r ≡ kindOf (kindReader (now (s .entry))) ⌝ }
@@ -70,6 +84,9 @@ fn kind(s: &[u8]) -> Kind
     }
     if c == b'n' {
         return kind_n(&s[1..]);
+    }
+    if c == b'x' {
+        return kind_x(&s[1..]);
     }
     Kind::Bad(s.len())
 }

@@ -74,7 +74,7 @@ nameReader-back start (c ∷ cs) rest h e =
 
 kindReader-back : (rest : List ℕ) (k : ℕ) → isKind k ≡ true → kindReader (keyword k ++ rest) ≡ got k rest
 unfolding kindReader keyword ifNext onTest expect pure signatureOf
-kindReader-back rest = by-kind (λ k. kindReader (keyword k ++ rest) ≡ got k rest) refl refl refl refl refl
+kindReader-back rest = by-kind (λ k. kindReader (keyword k ++ rest) ≡ got k rest) refl refl refl refl refl refl refl
 
 module _ (inner : Reader Term) (rest : List ℕ) where
   leafOr-name : (x : Name) → isNodeName x ≡ true → Ends rest → leafOr inner (x ++ rest) ≡ got (name x) rest

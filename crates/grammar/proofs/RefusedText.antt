@@ -40,7 +40,9 @@ kindReader-good =
     (before-half (before-ifNext _ _ _ (λ _ _. before-ifNext _ _ _ (λ _ _. before-pure 0)
     (before-half (before-ifNext _ _ _ (λ _ _. before-pure 4) before-stop 114 refl)) 116 refl)
     before-stop 111 refl)) 97 refl)
-    before-stop 110 refl)) 111 refl)) 97 refl
+    (before-half (before-ifNext _ _ _ (λ _ _. before-ifNext _ _ _ (λ _ _. before-expect (ascii "r") _ (before-pure 5))
+    (before-half (before-ifNext _ _ _ (λ _ _. before-expect (ascii "or") _ (before-pure 6)) before-stop 110 refl)) 111 refl)
+    before-stop 120 refl)) 110 refl)) 111 refl)) 97 refl
 
 spaced-good : (term : Reader Term) (others : Reader Terms) → GoodBefore term → GoodBefore others → GoodBefore (spaced term others)
 unfolding spaced

@@ -116,7 +116,8 @@ exprReader-shorter depth make s =
 
 keyword-longer : (k : ℕ) → isKind k ≡ true → 0 < length (keyword k)
 unfolding keyword signatureOf
-keyword-longer = by-kind (λ k. 0 < length (keyword k)) (omega arith) (omega arith) (omega arith) (omega arith) (omega arith)
+keyword-longer =
+    by-kind (λ k. 0 < length (keyword k)) (omega arith) (omega arith) (omega arith) (omega arith) (omega arith) (omega arith) (omega arith)
 
 pub kindReader-shorter : (s : List ℕ) (k : ℕ) (rest : List ℕ) → kindReader s ≡ got k rest → length rest < length s
 kindReader-shorter s k rest e =

@@ -85,7 +85,11 @@ kindReader-sound s =
     gives-is _ _ _ u (λ v g. gives-pure 0 v (record { printed = cc; legal = refl }))
     (gives-is _ _ _ u (λ v g. gives-pure 4 v (record { printed = cc; legal = refl })) (gives-stop u)))
     (gives-stop t)))
-    (gives-stop s)))
+    (gives-is _ _ _ s (λ t e.
+    gives-is _ _ _ t (λ u f. gives-expect (ascii "r") _ u λ v g. gives-pure 5 v (record { printed = cc; legal = refl }))
+    (gives-is _ _ _ t (λ u f. gives-expect (ascii "or") _ u λ v g. gives-pure 6 v (record { printed = cc; legal = refl }))
+    (gives-stop t)))
+    (gives-stop s))))
 
 pub record TermRead (depth : ℕ) (s : List ℕ) (t : Term) (rest : List ℕ) : Type 0 where
   pub printed : printTerm t rest ≡ s
@@ -104,7 +108,8 @@ pub record ExprRead (depth : ℕ) (s : List ℕ) (k : ℕ) (ts : Terms) (rest : 
 
 pub fewest-most : (k : ℕ) → isKind k ≡ true → fewestOperands k ≤ mostOperands k
 unfolding fewestOperands mostOperands signatureOf
-fewest-most = by-kind (λ k. fewestOperands k ≤ mostOperands k) (omega arith) (omega arith) (omega arith) (omega arith) (omega arith)
+fewest-most =
+    by-kind (λ k. fewestOperands k ≤ mostOperands k) (omega arith) (omega arith) (omega arith) (omega arith) (omega arith) (omega arith) (omega arith)
 
 module _ (term : Reader Term) (depth : ℕ) (reads : (s : List ℕ) → Gives (TermRead depth s) (term s)) where
   spaced-sound : (others : Reader Terms) (most before needed : ℕ) → needed ≤ suc before → (s : List ℕ)

@@ -55,7 +55,8 @@ names-few m le =
 
 keyword-short : (k : ℕ) → isKind k ≡ true → length (keyword k) ≤ 4
 unfolding keyword signatureOf
-keyword-short = by-kind (λ k. length (keyword k) ≤ 4) (omega arith) (omega arith) (omega arith) (omega arith) (omega arith)
+keyword-short =
+    by-kind (λ k. length (keyword k) ≤ 4) (omega arith) (omega arith) (omega arith) (omega arith) (omega arith) (omega arith) (omega arith)
 
 inputs-length : (xs : List Name) (rest : List ℕ) → all isPlainName xs ≡ true
     → length (printLines printInput xs rest) ≤ 14 * length xs + length rest

@@ -8,19 +8,33 @@ use native.Mathlib.Numerals.{unary-clauses}
 use borrow.Author.Tests.{leb-true}
 use Rattle.netlist.specs.Kinds.{rowOf, signatureIn, signatureOf, signature, isKind, fewestOperands, mostOperands}
 
+-- a kind that is not `not`
+pub another : (k : ℕ) → (k ≡ 0 → ⊥) → 1 ≤ k
+another k h = omega arith
+
 pub signature-not : (k : ℕ) → k ≡ 0 → signature 1 1 "not\0" ≡ signatureOf k
 unfolding signatureOf
 signature-not k e = rw e
 
+pub signature-xor : (k : ℕ) → k ≡ 5 → signature 2 4 "xor\0" ≡ signatureOf k
+unfolding signatureOf
+signature-xor k e = rw e
+
+pub signature-xnor : (k : ℕ) → k ≡ 6 → signature 2 4 "xnor" ≡ signatureOf k
+unfolding signatureOf
+signature-xnor k e = rw e
+
 -- of a kind of the table: its row's; behind the last kind both are zero
-pub signature-row : (k : ℕ) → 1 ≤ k → signatureIn (rowOf k) ≡ signatureOf k
+pub signature-row : (k : ℕ) → 1 ≤ k → (k ≡ 5 → ⊥) → (k ≡ 6 → ⊥) → signatureIn (rowOf k) ≡ signatureOf k
 unfolding signatureOf rowOf
-signature-row zero h = absurd (omega arith)
-signature-row (suc zero) h = refl
-signature-row (suc (suc zero)) h = refl
-signature-row (suc (suc (suc zero))) h = refl
-signature-row (suc (suc (suc (suc zero)))) h = refl
-signature-row (suc (suc (suc (suc (suc k))))) h = simp unary-clauses refl
+signature-row zero h x y = absurd (omega arith)
+signature-row (suc zero) h x y = refl
+signature-row (suc (suc zero)) h x y = refl
+signature-row (suc (suc (suc zero))) h x y = refl
+signature-row (suc (suc (suc (suc zero)))) h x y = refl
+signature-row (suc (suc (suc (suc (suc zero))))) h x y = absurd (x refl)
+signature-row (suc (suc (suc (suc (suc (suc zero)))))) h x y = absurd (y refl)
+signature-row (suc (suc (suc (suc (suc (suc (suc k))))))) h x y = simp unary-clauses refl
 
 -- ---- operand counts
 
@@ -29,15 +43,17 @@ unfolding fewestOperands mostOperands signatureOf
 not-counts = (refl, refl)
 
 -- every other kind
-pub other-counts : (k : ℕ) → 1 ≤ k → k ≤ 4 → (fewestOperands k ≡ 2) × (mostOperands k ≡ 4)
+pub other-counts : (k : ℕ) → 1 ≤ k → k ≤ 6 → (fewestOperands k ≡ 2) × (mostOperands k ≡ 4)
 unfolding fewestOperands mostOperands signatureOf
 other-counts zero h l = absurd (omega arith)
 other-counts (suc zero) h l = (refl, refl)
 other-counts (suc (suc zero)) h l = (refl, refl)
 other-counts (suc (suc (suc zero))) h l = (refl, refl)
 other-counts (suc (suc (suc (suc zero)))) h l = (refl, refl)
-other-counts (suc (suc (suc (suc (suc k))))) h l = absurd (omega arith)
+other-counts (suc (suc (suc (suc (suc zero))))) h l = (refl, refl)
+other-counts (suc (suc (suc (suc (suc (suc zero)))))) h l = (refl, refl)
+other-counts (suc (suc (suc (suc (suc (suc (suc k))))))) h l = absurd (omega arith)
 
-pub kind-last : (k : ℕ) → isKind k ≡ true → k ≤ 4
+pub kind-last : (k : ℕ) → isKind k ≡ true → k ≤ 6
 unfolding isKind
-kind-last k h = leb-true k 4 h
+kind-last k h = leb-true k 6 h

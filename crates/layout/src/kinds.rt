@@ -37,11 +37,23 @@ pub const ROWS: [Row; 4] = [
     },
 ];
 
-// `not` has no controlling value.
+// `not`, `xor` and `xnor` have no controlling value.
 pub const NOT: Signature = Signature {
     fewest: 1,
     most: 1,
     keyword: [b'n', b'o', b't', 0],
+};
+
+pub const XOR: Signature = Signature {
+    fewest: 2, // xor
+    most: 4, // xor
+    keyword: [b'x', b'o', b'r', 0],
+};
+
+pub const XNOR: Signature = Signature {
+    fewest: 2,
+    most: 4,
+    keyword: [b'x', b'n', b'o', b'r'],
 };
 
 // The row of a kind other than `not`; all zero where it has none.
@@ -66,6 +78,12 @@ pub fn signature_of(kind: usize) -> Signature
 {
     if kind == 0 {
         return NOT;
+    }
+    if kind == 5 {
+        return XOR;
+    }
+    if kind == 6 {
+        return XNOR;
     }
     let row = row_of(kind);
     let keyword = row.keyword;

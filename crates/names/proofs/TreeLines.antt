@@ -47,7 +47,7 @@ times-name b l start s h = times-name-bytes b l s (name-bytes start s h)
 
 keyword-bytes : (k : ℕ) → isKind k ≡ true → all isNameByte (keyword k) ≡ true
 unfolding keyword isNameByte isLetter isDigit isUnderscore signatureOf
-keyword-bytes = by-kind (λ k. all isNameByte (keyword k) ≡ true) refl refl refl refl refl
+keyword-bytes = by-kind (λ k. all isNameByte (keyword k) ≡ true) refl refl refl refl refl refl refl
 
 -- ---- brackets and LFs of a term
 

@@ -1,8 +1,8 @@
 -- SPECIFICATION 3.2: the kinds, the table of controlling values, and one gate's value from its operands' values.
--- Kinds are numbers: 0 not, 1 and, 2 or, 3 nand, 4 nor.
-use Prim.Native.Nat.{ℕ, _-_, _≤_}
+-- Kinds are numbers: 0 not, 1 and, 2 or, 3 nand, 4 nor, 5 xor, 6 xnor.
+use Prim.Native.Nat.{ℕ, suc, _-_, _%_}
 use mathlib.Core.Bool.{Bool, true, false, cond, _&&_}
-use mathlib.Core.List.{List, [], _∷_, map}
+use mathlib.Core.List.{List, [], _∷_, _++_, map}
 use Prim.Native.String.{String}
 use lib.ListN.{getD}
 use lib.Dec.{eqb, leb}
@@ -20,16 +20,22 @@ row controlling forced word =
 unfoldable pub rows : List Row
 rows = row 0 0 "and\0" ∷ row 1 1 "or\0\0" ∷ row 0 1 "nand" ∷ row 1 0 "nor\0" ∷ []
 
--- the row of kind k, from 1 on; all zero behind the last. `not` is asked apart, so kind 0 never reads a row
+-- the row of kind k, from 1 on; all zero behind the last. `not`, `xor` and `xnor` are asked apart and never read a row
 unfoldable pub rowOf : ℕ → Row
 rowOf k = getD rows (k - 1) (record { fewest = 0; most = 0; controlling = 0; forced = 0; keyword = ascii "\0\0\0\0" })
 
--- `not` is no row of the table
+-- `not`, `xor` and `xnor` have no controlling value and no row
 unfoldable pub isNot : ℕ → Bool
 isNot k = eqb k 0
 
+unfoldable pub isXor : ℕ → Bool
+isXor k = eqb k 5
+
+unfoldable pub isXnor : ℕ → Bool
+isXnor k = eqb k 6
+
 unfoldable pub isKind : ℕ → Bool
-isKind k = leb k 4
+isKind k = leb k 6
 
 -- operand counts and keyword, of a row and of the kinds that have none
 unfoldable pub signatureIn : Row → Signature
@@ -40,7 +46,7 @@ signature fewest most word = record { fewest = fewest; most = most; keyword = as
 
 -- by the kind's number
 unfoldable pub signatures : List Signature
-signatures = signature 1 1 "not\0" ∷ map signatureIn rows
+signatures = signature 1 1 "not\0" ∷ (map signatureIn rows ++ (signature 2 4 "xor\0" ∷ signature 2 4 "xnor" ∷ []))
 
 unfoldable pub signatureOf : ℕ → Signature
 unfolding signatures signatureIn signature rows row
@@ -65,6 +71,18 @@ ruled r vs =
     cond (any (λ v. eqb (code v) (r .controlling)) vs) (valueOf (r .forced))
     (cond (all isDefined vs) (invert (valueOf (r .forced))) undefined)
 
+-- how many values are 1
+unfoldable pub ones : List Value → ℕ
+ones [] = 0
+ones (v ∷ vs) = cond (eqb (code v) 1) (suc (ones vs)) (ones vs)
+
+-- 1 if an odd number of operands is 1, 0 if an even number is; undefined if any operand is
+unfoldable pub parity : List Value → Value
+parity vs = cond (all isDefined vs) (valueOf (ones vs % 2)) undefined
+
 -- the value of a gate of kind k whose operands have the values vs
 unfoldable pub gateValue : ℕ → List Value → Value
-gateValue k vs = cond (isNot k) (invert (getD vs 0 undefined)) (ruled (rowOf k) vs)
+gateValue k vs =
+    cond (isNot k) (invert (getD vs 0 undefined))
+    (cond (isXor k) (parity vs)
+    (cond (isXnor k) (invert (parity vs)) (ruled (rowOf k) vs)))

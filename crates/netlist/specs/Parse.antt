@@ -77,7 +77,10 @@ kindReader =
     ifNext (is "t") (λ _. pure 0)
     (ifNext (is "r") (λ _. pure 4) stop))
     stop))
-    stop))
+    (ifNext (is "x") (λ _.
+    ifNext (is "o") (λ _. expect (ascii "r") (pure 5))
+    (ifNext (is "n") (λ _. expect (ascii "or") (pure 6)) stop))
+    stop)))
 
 -- an operand after its space, and then the others
 unfoldable pub spaced : Reader Term → Reader Terms → Reader Terms

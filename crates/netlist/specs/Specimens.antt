@@ -9,7 +9,8 @@ use lib.ListN.{replicate}
 use Rattle.laws.specs.Lists.{ascii, same, all, repeated, tab, joined}
 use Rattle.netlist.specs.Limits.{maxText}
 use Rattle.netlist.specs.Values.{code, valueOf, invert, isDefined}
-use Rattle.netlist.specs.Kinds.{row, rows, rowOf, isNot, isKind, signatureOf, fewestOperands, mostOperands, arityFits, keyword, ruled, gateValue}
+use Rattle.netlist.specs.Kinds.{row, rows, rowOf, isNot, isXor, isXnor, isKind, signatureOf, fewestOperands, mostOperands, arityFits, keyword}
+use Rattle.netlist.specs.Kinds.{ruled, ones, parity, gateValue}
 use Rattle.netlist.specs.StoredBlock.{gatesAt, outputsAt, isLetter, isDigit, isUnderscore, isNameByte, isNameStart, isLegalName, isPlainName}
 use Rattle.netlist.specs.StoredBlock.{isNodeName, nameWords, bytesAt, nameAt, nodeWord, operandOf, gateWords, gateAt, outputWords, outputAt, encode}
 use Rattle.netlist.specs.StoredBlock.{decode, isNode, isOperand, gateFits, isWellFormed, isTorn}
@@ -92,6 +93,14 @@ unfoldable pub rendered6 : String
 rendered6 =
     "(in a)\n(in b)\n(in c)\n(in d)\n(in x)\n(gate _0 (and x 0))\n(gate _1 (or a _0))\n(gate _2 (and b _1))\n(gate _3 (or x _2))\n(gate _4 (and c _3))\n(gate _5 (or d _4))\n(gate _6 (and x _5))\n(gate _7 (or a _6))\n(gate _8 (and b _7))\n(gate _9 (or x _8))\n(gate _10 (and c _9))\n(gate _11 (or d _10))\n(gate _12 (and x _11))\n(gate _13 (or a _12))\n(gate _14 (and b _13))\n(gate _15 (or x _14))\n(gate _16 (and c _15))\n(gate _17 (or d _16))\n(gate _18 (and x _17))\n(gate _19 (or a _18))\n(gate _20 (and b _19))\n(gate _21 (or x _20))\n(gate _22 (and c _21))\n(gate _23 (or d _22))\n(gate _24 (and x _23))\n(gate _25 (or a _24))\n(gate _26 (and b _25))\n(gate _27 (or x _26))\n(gate _28 (and c _27))\n(gate _29 (or d _28))\n(gate _30 (and x _29))\n(gate _31 (or a _30))\n(gate _32 (and b _31))\n(gate _33 (or x _32))\n(gate _34 (and c _33))\n(gate _35 (or d _34))\n"
 
+-- xor and xnor of two, three and four operands
+unfoldable pub parities : String
+parities = "(in a)\n(in b)\n(in c)\n(in d)\n(gate p (xor a b))\n(gate q (xnor a b))\n(gate r (xor a b c))\n(gate s (xnor a b c))\n(gate t (xor a b c d))\n(gate u (xnor a b c d))\n"
+
+-- xor in a loop that every setting opens: at s = 0 by p, at s = 1 by the inner `and`
+unfoldable pub parityLoop : String
+parityLoop = "(in a)\n(in s)\n(gate p (and s q))\n(gate q (xor a (and p (not s))))\n(out y q)\n"
+
 -- every row of the table of kinds, and `not`
 unfoldable pub kinds : String
 kinds =
@@ -146,6 +155,12 @@ specimens =
     ∷ (toRead (ascii "(gate p (not p p))\n") 99 ⇒ with 2 14)
     ∷ (toRead (ascii "(gate p (and p p p p p))\n") 99 ⇒ with 2 20)
     ∷ (toRead (ascii "(gate p (not p)\n") 99 ⇒ with 2 15)
+    ∷ (toRead (ascii "(gate p (x") 99 ⇒ with 2 10)
+    ∷ (toRead (ascii "(gate p (xa") 99 ⇒ with 2 10)
+    ∷ (toRead (ascii "(gate p (xo") 99 ⇒ with 2 11)
+    ∷ (toRead (ascii "(gate p (xno ") 99 ⇒ with 2 12)
+    ∷ (toRead (ascii "(gate p (xor p))\n") 99 ⇒ with 2 14)
+    ∷ (toRead (ascii "(gate p (xnor p p p p p))\n") 99 ⇒ with 2 21)
     ∷ (toRead (ascii "(gate p q)\n") 99 ⇒ with 2 8)
     ∷ (toRead (ascii "(gate p (not (not (not (not (not (not (not (not (") 99 ⇒ with 2 48)
     ∷ (toRead (ascii "(out _y a)\n") 99 ⇒ with 2 5)
@@ -171,6 +186,17 @@ specimens =
     ∷ (toSettle (blockWords kinds) (1 ∷ []) 7 ⇒ 0 ∷ 1 ∷ 0 ∷ 0 ∷ 1 ∷ 1 ∷ 0 ∷ 0 ∷ 0 ∷ 0 ∷ [])
     ∷ (toSettle (blockWords kinds) (0 ∷ []) 7 ⇒ 0 ∷ 1 ∷ 0 ∷ 0 ∷ 1 ∷ 1 ∷ 0 ∷ 1 ∷ 1 ∷ 1 ∷ [])
     ∷ (toPass (blockWords kinds) (2 ∷ []) 7 ⇒ 0 ∷ 7 ∷ 0 ∷ 0 ∷ 1 ∷ 1 ∷ 0 ∷ 2 ∷ 2 ∷ 2 ∷ [])
+    -- 9.6: xor and xnor at 0, 1 and undefined; of an undefined gate with itself
+    ∷ (toSettle (blockWords parities) (0 ∷ 0 ∷ 0 ∷ 0 ∷ []) 6 ⇒ 0 ∷ 1 ∷ 0 ∷ 0 ∷ 1 ∷ 0 ∷ 1 ∷ 0 ∷ 1 ∷ [])
+    ∷ (toSettle (blockWords parities) (1 ∷ 0 ∷ 0 ∷ 0 ∷ []) 6 ⇒ 0 ∷ 1 ∷ 0 ∷ 1 ∷ 0 ∷ 1 ∷ 0 ∷ 1 ∷ 0 ∷ [])
+    ∷ (toSettle (blockWords parities) (1 ∷ 1 ∷ 1 ∷ 0 ∷ []) 6 ⇒ 0 ∷ 1 ∷ 0 ∷ 0 ∷ 1 ∷ 1 ∷ 0 ∷ 1 ∷ 0 ∷ [])
+    ∷ (toSettle (blockWords parities) (1 ∷ 1 ∷ 1 ∷ 1 ∷ []) 6 ⇒ 0 ∷ 1 ∷ 0 ∷ 0 ∷ 1 ∷ 1 ∷ 0 ∷ 0 ∷ 1 ∷ [])
+    ∷ (toSettle (blockWords parities) (0 ∷ 1 ∷ 0 ∷ 2 ∷ []) 6 ⇒ 0 ∷ 1 ∷ 0 ∷ 1 ∷ 0 ∷ 1 ∷ 0 ∷ 2 ∷ 2 ∷ [])
+    ∷ (toSettle (blockWords parities) (2 ∷ 1 ∷ 1 ∷ 1 ∷ []) 6 ⇒ 0 ∷ 0 ∷ 0 ∷ 2 ∷ 2 ∷ 2 ∷ 2 ∷ 2 ∷ 2 ∷ [])
+    ∷ (toSettle (blockWords "(gate p (not p))\n(gate q (xor p p))\n(gate r (xnor p p))\n") [] 3 ⇒ 0 ∷ 0 ∷ 0 ∷ 2 ∷ 2 ∷ 2 ∷ [])
+    -- 9.7: a loop with xor, rendered whole
+    ∷ (toUnloop (ascii parityLoop)
+    ⇒ ascii "(in a)\n(in s)\n(gate _0 (not s))\n(gate _1 (and s 0))\n(gate _2 (and _1 _0))\n(gate _3 (xor a _2))\n(gate _4 (and s _3))\n(gate _5 (and _4 _0))\n(gate _6 (xor a _5))\n(gate _7 (and s _6))\n(gate _8 (and _7 _0))\n(gate _9 (xor a _8))\n(out y _9)\n")
     -- 9.4, 9.6, 9.7: the order of conditions: 6 before 7 before 11, 10 before 7, 8 before 9 before 11
     ∷ (toSettle [] (3 ∷ []) 0 ⇒ with 6 0)
     ∷ (toSettle (blockWords kinds) (3 ∷ []) 0 ⇒ with 7 0)
@@ -194,15 +220,18 @@ specimens =
     ⇒ ascii "(gate _0 (not 1))\n(gate _1 (not _0))\n(gate _2 (not _1))\n(gate _3 (not _2))\n(gate _4 (not _3))\n(gate _5 (not _4))\n(gate _6 (not _5))\n(gate _7 (not _6))\n")
     ∷ (toUnloop (ascii "(in _a)\n") ⇒ ascii "(refused 2 4)\n")
     -- 9.3, malformed: fewer than three words; one word too many; a zero byte inside a name; a name twice; an operand that is no node;
-    -- kind 5; a `not` of two; an operand behind the count; an output that shows a constant. Two that are whole stand between them
+    -- kind 7; an xor of one; a `not` of two; an operand behind the count; an output that shows a constant. Four that are whole stand between them
     ∷ (toWrite (0 ∷ 0 ∷ []) 99 ⇒ with 6 0)
     ∷ (toWrite (0 ∷ 0 ∷ 0 ∷ 0 ∷ []) 99 ⇒ with 6 0)
     ∷ (toWrite (1 ∷ 0 ∷ 0 ∷ 97 ∷ 0 ∷ 0 ∷ 0 ∷ []) 7 ⇒ 0 ∷ 7 ∷ 0 ∷ ascii "(in a)\n")
     ∷ (toWrite (1 ∷ 0 ∷ 0 ∷ 97 ∷ 98 ∷ 0 ∷ 0 ∷ []) 99 ⇒ with 6 0)
     ∷ (toWrite (2 ∷ 0 ∷ 0 ∷ 97 ∷ 0 ∷ 0 ∷ 0 ∷ 97 ∷ 0 ∷ 0 ∷ 0 ∷ []) 99 ⇒ with 6 0)
     ∷ (toWrite (0 ∷ 1 ∷ 0 ∷ 8 ∷ 0 ∷ 0 ∷ 0 ∷ 0 ∷ []) 99 ⇒ 0 ∷ 19 ∷ 0 ∷ ascii "(gate _0 (not _0))\n")
+    ∷ (toWrite (0 ∷ 1 ∷ 0 ∷ 21 ∷ 0 ∷ 0 ∷ 0 ∷ 0 ∷ []) 99 ⇒ 0 ∷ 22 ∷ 0 ∷ ascii "(gate _0 (xor _0 _0))\n")
+    ∷ (toWrite (0 ∷ 1 ∷ 0 ∷ 22 ∷ 0 ∷ 0 ∷ 0 ∷ 0 ∷ []) 99 ⇒ 0 ∷ 23 ∷ 0 ∷ ascii "(gate _0 (xnor _0 _0))\n")
     ∷ (toWrite (0 ∷ 1 ∷ 0 ∷ 8 ∷ 1 ∷ 0 ∷ 0 ∷ 0 ∷ []) 99 ⇒ with 6 0)
-    ∷ (toWrite (0 ∷ 1 ∷ 0 ∷ 21 ∷ 0 ∷ 0 ∷ 0 ∷ 0 ∷ []) 99 ⇒ with 6 0)
+    ∷ (toWrite (0 ∷ 1 ∷ 0 ∷ 23 ∷ 0 ∷ 0 ∷ 0 ∷ 0 ∷ []) 99 ⇒ with 6 0)
+    ∷ (toWrite (0 ∷ 1 ∷ 0 ∷ 13 ∷ 0 ∷ 0 ∷ 0 ∷ 0 ∷ []) 99 ⇒ with 6 0)
     ∷ (toWrite (0 ∷ 1 ∷ 0 ∷ 16 ∷ 0 ∷ 0 ∷ 0 ∷ 0 ∷ []) 99 ⇒ with 6 0)
     ∷ (toWrite (0 ∷ 1 ∷ 0 ∷ 8 ∷ 0 ∷ 65534 ∷ 0 ∷ 0 ∷ []) 99 ⇒ with 6 0)
     ∷ (toWrite (0 ∷ 0 ∷ 1 ∷ 97 ∷ 0 ∷ 0 ∷ 0 ∷ 65534 ∷ []) 99 ⇒ with 6 0)
@@ -215,5 +244,5 @@ specimens =
 
 -- All of them come out as stated.
 pub specimens-hold : all right specimens ≡ true
-unfolding code valueOf invert isDefined row rows rowOf isNot isKind signatureOf fewestOperands mostOperands arityFits keyword ruled gateValue gatesAt outputsAt isLetter isDigit isUnderscore isNameByte isNameStart isLegalName isPlainName isNodeName nameWords bytesAt nameAt nodeWord operandOf gateWords gateAt outputWords outputAt encode decode isNode isOperand gateFits isWellFormed isTorn operandValue evaluated round afterRounds isStable rounds settled bit settingOf settingCount settledUnder isSettled settledSettings lowestUnsettled fixes agrees isSoundUnder isSound without isMinimal isWithin assignmentsAt assignments cover coverEntries gateOperand readBy reads has grown grownTimes reach reaches sameGroup groupOf isReady mayBeNext groupsAfter groups groupNumber groupNumbers copyCount passes schedule noCopies copiedOperand copied copies newestAfter lastCopies rendering isStraight sweepFrom sweep printTerm printInput printGate printOutput printLines print pure stop onTest ifNext expect onParsed bind nameBytes nameAfter nameReader kindReader spaced termsReader exprReader leafOr termReader addInput addGate addOutput inputLine gateLine outputLine atEnd line outputsReader gatesReader textReader parse gatesIn lineGates isOverLimit mentions linesLength gateLinesAt outputLinesAt inputMention gateMention portMention shownMention termMentions operandMentions declaredNodes declaredPorts usedNames firstRepeat orElse firstDuplicate firstOutside firstUndeclared inputBindings gateBindings bindings lookup termNode termsNodes termGates linesGates blockOf digits decimal gateName nodeNameOf termOf termsOf flatLine flatTree writtenText clamped startBefore untilLf lineStart lineEnd lineLength lineAt refusalNumber refusalDetail numberOf countOf detailOf refuseIf refuseAt inRoom answerOf leftIn counted readTree readParsed readText read isBadSetting settleBlock settle verdict coverBlock coverOf groupsBlock groupsOf renderBlock renderWords render passBlock pass writeWords write chained refusalLine shown unloop report answered right blockWords _⇒_ with specimen4 specimen6 rendered6 kinds eleven ring specimens
+unfolding code valueOf invert isDefined row rows rowOf isNot isXor isXnor isKind signatureOf fewestOperands mostOperands arityFits keyword ruled ones parity gateValue gatesAt outputsAt isLetter isDigit isUnderscore isNameByte isNameStart isLegalName isPlainName isNodeName nameWords bytesAt nameAt nodeWord operandOf gateWords gateAt outputWords outputAt encode decode isNode isOperand gateFits isWellFormed isTorn operandValue evaluated round afterRounds isStable rounds settled bit settingOf settingCount settledUnder isSettled settledSettings lowestUnsettled fixes agrees isSoundUnder isSound without isMinimal isWithin assignmentsAt assignments cover coverEntries gateOperand readBy reads has grown grownTimes reach reaches sameGroup groupOf isReady mayBeNext groupsAfter groups groupNumber groupNumbers copyCount passes schedule noCopies copiedOperand copied copies newestAfter lastCopies rendering isStraight sweepFrom sweep printTerm printInput printGate printOutput printLines print pure stop onTest ifNext expect onParsed bind nameBytes nameAfter nameReader kindReader spaced termsReader exprReader leafOr termReader addInput addGate addOutput inputLine gateLine outputLine atEnd line outputsReader gatesReader textReader parse gatesIn lineGates isOverLimit mentions linesLength gateLinesAt outputLinesAt inputMention gateMention portMention shownMention termMentions operandMentions declaredNodes declaredPorts usedNames firstRepeat orElse firstDuplicate firstOutside firstUndeclared inputBindings gateBindings bindings lookup termNode termsNodes termGates linesGates blockOf digits decimal gateName nodeNameOf termOf termsOf flatLine flatTree writtenText clamped startBefore untilLf lineStart lineEnd lineLength lineAt refusalNumber refusalDetail numberOf countOf detailOf refuseIf refuseAt inRoom answerOf leftIn counted readTree readParsed readText read isBadSetting settleBlock settle verdict coverBlock coverOf groupsBlock groupsOf renderBlock renderWords render passBlock pass writeWords write chained refusalLine shown unloop report answered right blockWords _⇒_ with specimen4 specimen6 rendered6 kinds parities parityLoop eleven ring specimens
 specimens-hold = refl

@@ -3,7 +3,7 @@
 --   TwoValued                           a row whose controlling and forced values are 0 or 1
 --   gateValue-mono, gateValue-defined   the two laws
 -- Assumes nothing.
-use Prim.Native.Nat.{ℕ, zero, suc, _-_, _<_}
+use Prim.Native.Nat.{ℕ, zero, suc, _-_, _%_, _<_}
 use mathlib.Core.Path.{_≡_, refl, ap, _∙_}
 use mathlib.Core.Bool.{Bool, true, false, cond, _||_}
 use mathlib.Core.Logic.{_⊎_, inl, inr}
@@ -16,7 +16,7 @@ use Rattle.laws.specs.Lists.{all, any, ascii}
 use Rattle.laws.proofs.Tests.{and-left, and-right, or-cases, or-left, or-right}
 use Rattle.netlist.specs.Values.{Value, undefined, val, code, valueOf, invert, isDefined}
 use Rattle.netlist.specs.declared.Row.{Row}
-use Rattle.netlist.specs.Kinds.{row, rows, rowOf, isNot, ruled, gateValue}
+use Rattle.netlist.specs.Kinds.{row, rows, rowOf, isNot, isXor, isXnor, ruled, ones, parity, gateValue}
 use Rattle.rounds.specs.Order.{Below, BelowEach, none, more}
 use Rattle.rounds.proofs.Values.{undefined-not-val, below-defined, below-refl}
 
@@ -83,15 +83,27 @@ first-below : {vs ws : List Value} → BelowEach vs ws → Below (getD vs 0 unde
 first-below none = below-refl undefined
 first-below (more l ls) = l
 
+parity-mono : {vs ws : List Value} → BelowEach vs ws → Below (parity vs) (parity ws)
+unfolding parity
+parity-mono {vs} {ws} l b = go (all isDefined vs) refl
+  where
+    go : (d : Bool) → all isDefined vs ≡ d → cond d (valueOf (ones vs % 2)) undefined ≡ val b → parity ws ≡ val b
+    go true q e = rw (← each-below-defined l q, q) e
+    go false q e = absurd (undefined-not-val e)
+
 -- A gate's value grows with its operands' values.
 pub gateValue-mono : (k : ℕ) {vs ws : List Value} → BelowEach vs ws → Below (gateValue k vs) (gateValue k ws)
 unfolding gateValue
-gateValue-mono k {vs} {ws} l = go (isNot k)
+gateValue-mono k {vs} {ws} l = go (isNot k) (isXor k) (isXnor k)
   where
-    go : (t : Bool)
-        → Below (cond t (invert (getD vs 0 undefined)) (ruled (rowOf k) vs)) (cond t (invert (getD ws 0 undefined)) (ruled (rowOf k) ws))
-    go true = invert-mono (getD vs 0 undefined) (getD ws 0 undefined) (first-below l)
-    go false = ruled-mono (rowOf k) (rowOf-two-valued k .controlling) l
+    by : Bool → Bool → Bool → List Value → Value
+    by t x y us = cond t (invert (getD us 0 undefined)) (cond x (parity us) (cond y (invert (parity us)) (ruled (rowOf k) us)))
+
+    go : (t x y : Bool) → Below (by t x y vs) (by t x y ws)
+    go true x y = invert-mono (getD vs 0 undefined) (getD ws 0 undefined) (first-below l)
+    go false true y = parity-mono l
+    go false false true = invert-mono (parity vs) (parity ws) (parity-mono l)
+    go false false false = ruled-mono (rowOf k) (rowOf-two-valued k .controlling) l
 
 invert-defined : (v : Value) → isDefined v ≡ true → isDefined (invert v) ≡ true
 unfolding isDefined invert
@@ -112,12 +124,19 @@ ruled-defined r vs h d = rw d (go (any (λ v. eqb (code v) (r .controlling)) vs)
     go true = valueOf-defined (r .forced) h
     go false = invert-defined (valueOf (r .forced)) (valueOf-defined (r .forced) h)
 
+parity-defined : (vs : List Value) → all isDefined vs ≡ true → isDefined (parity vs) ≡ true
+unfolding parity
+parity-defined vs d = rw d (valueOf-defined (ones vs % 2) (omega arith))
+
 -- Operands that are each 0 or 1, at least one of them, give 0 or 1.
 pub gateValue-defined : (k : ℕ) (vs : List Value) → 0 < length vs → all isDefined vs ≡ true → isDefined (gateValue k vs) ≡ true
 unfolding gateValue
 gateValue-defined k [] h d = absurd (omega arith)
-gateValue-defined k (v ∷ vs) h d = go (isNot k)
+gateValue-defined k (v ∷ vs) h d = go (isNot k) (isXor k) (isXnor k)
   where
-    go : (t : Bool) → isDefined (cond t (invert v) (ruled (rowOf k) (v ∷ vs))) ≡ true
-    go true = invert-defined v (and-left (isDefined v) (all isDefined vs) d)
-    go false = ruled-defined (rowOf k) (v ∷ vs) (rowOf-two-valued k .forced) d
+    go : (t x y : Bool)
+        → isDefined (cond t (invert v) (cond x (parity (v ∷ vs)) (cond y (invert (parity (v ∷ vs))) (ruled (rowOf k) (v ∷ vs))))) ≡ true
+    go true x y = invert-defined v (and-left (isDefined v) (all isDefined vs) d)
+    go false true y = parity-defined (v ∷ vs) d
+    go false false true = invert-defined (parity (v ∷ vs)) (parity-defined (v ∷ vs) d)
+    go false false false = ruled-defined (rowOf k) (v ∷ vs) (rowOf-two-valued k .forced) d

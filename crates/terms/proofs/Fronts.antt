@@ -1,10 +1,11 @@
 -- What the functions of src/leaves answer, way by way, and what that is at the front of a print. Assumes nothing.
 use mathlib.Core.Path.{_≡_, refl, sym, ap, _∙_}
-use mathlib.Core.Bool.{true}
+use mathlib.Core.Bool.{true, cond}
 use mathlib.Core.List.{List, _++_}
 use Prim.Native.Nat.{ℕ, zero, suc, _+_, _-_, _≤_, _<_}
 use lib.ListN.{length, take, getD}
 use lib.Seq.{length-take-le}
+use lib.Dec.{eqb}
 use borrow.Author.Tests.{ne-eqb, lt-ltb, le-ltb}
 use Rattle.laws.specs.Lists.{trimmed}
 use Rattle.names.specs.Packed.{packed, nameFront}
@@ -12,7 +13,7 @@ use Rattle.names.specs.Search.{indexOf}
 use Rattle.terms.specs.declared.Leaf.{Leaf}
 use Rattle.netlist.specs.Kinds.{isKind, keyword, signatureOf}
 use Rattle.encoding.proofs.Gates.{by-kind}
-use Rattle.terms.specs.Leaves.{kindHere, wordLength, nameLength, indexHere, earlier, nameHere, constantHere, leafHere}
+use Rattle.terms.specs.Leaves.{kindBehindX, kindHere, wordLength, nameLength, indexHere, earlier, nameHere, constantHere, leafHere}
 
 pub earlier-first : (u v : ℕ) → (u ≡ 0 → ⊥) → u ≡ earlier u v
 unfolding earlier
@@ -40,23 +41,28 @@ module _ (s : List ℕ) where
   unfolding kindHere
   kind-or e = rw e
 
-  module _ (a : getD s 0 0 ≡ 97 → ⊥) (b : getD s 0 0 ≡ 111 → ⊥) where
-    pub kind-nand : getD s 1 0 ≡ 97 → 3 ≡ kindHere s
+  pub kind-x : getD s 0 0 ≡ 120 → kindBehindX (getD s 1 0) ≡ kindHere s
+  unfolding kindHere
+  kind-x e = rw e
+
+  module _ (a : getD s 0 0 ≡ 97 → ⊥) (b : getD s 0 0 ≡ 111 → ⊥) (x : getD s 0 0 ≡ 120 → ⊥) where
+    behind-n : cond (eqb (getD s 1 0) 97) 3 (cond (eqb (getD s 2 0) 116) 0 4) ≡ kindHere s
     unfolding kindHere
-    kind-nand e = rw (ne-eqb (getD s 0 0) 97 a, ne-eqb (getD s 0 0) 111 b, e)
+    behind-n = rw (ne-eqb (getD s 0 0) 97 a, ne-eqb (getD s 0 0) 111 b, ne-eqb (getD s 0 0) 120 x)
+
+    pub kind-nand : getD s 1 0 ≡ 97 → 3 ≡ kindHere s
+    kind-nand e = rw e at behind-n
 
     pub kind-not : (getD s 1 0 ≡ 97 → ⊥) → getD s 2 0 ≡ 116 → 0 ≡ kindHere s
-    unfolding kindHere
-    kind-not d e = rw (ne-eqb (getD s 0 0) 97 a, ne-eqb (getD s 0 0) 111 b, ne-eqb (getD s 1 0) 97 d, e)
+    kind-not d e = rw (ne-eqb (getD s 1 0) 97 d, e) at behind-n
 
     pub kind-nor : (getD s 1 0 ≡ 97 → ⊥) → (getD s 2 0 ≡ 116 → ⊥) → 4 ≡ kindHere s
-    unfolding kindHere
-    kind-nor d e = rw (ne-eqb (getD s 0 0) 97 a, ne-eqb (getD s 0 0) 111 b, ne-eqb (getD s 1 0) 97 d, ne-eqb (getD s 2 0) 116 e)
+    kind-nor d e = rw (ne-eqb (getD s 1 0) 97 d, ne-eqb (getD s 2 0) 116 e) at behind-n
 
 -- at a kind's word it is that kind
 pub kind-back : (rest : List ℕ) (k : ℕ) → isKind k ≡ true → kindHere (keyword k ++ rest) ≡ k
-unfolding kindHere keyword signatureOf
-kind-back rest = by-kind (λ k. kindHere (keyword k ++ rest) ≡ k) refl refl refl refl refl
+unfolding kindHere kindBehindX keyword signatureOf
+kind-back rest = by-kind (λ k. kindHere (keyword k ++ rest) ≡ k) refl refl refl refl refl refl refl
 
 pub word-back : (k : ℕ) → wordLength k ≡ length (keyword k)
 unfolding wordLength

@@ -69,7 +69,7 @@ module _ (s : List ℕ) (depth n : ℕ) (names words : List ℕ) (first : ℕ) (
       pub number : suc (l .gates) ≤ maxGates
       pub behind : first ≤ l .gates
       pub count : l .count ≤ 4
-      pub kind : k ≤ 4
+      pub kind : k ≤ 6
       pub room : 5 * maxGates ≤ length g₁
       pub inputs : n ≤ maxInputs
 

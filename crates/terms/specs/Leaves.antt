@@ -10,13 +10,18 @@ use Rattle.names.specs.Packed.{packed, nameFront}
 use Rattle.names.specs.Search.{indexOf}
 use Rattle.terms.specs.declared.Leaf.{Leaf}
 
--- the kind whose word stands here: `and`, `or`, `nand`, `not`, `nor`
+-- `xor` or `xnor`, by the byte behind `x`
+unfoldable pub kindBehindX : ℕ → ℕ
+kindBehindX c = cond (eqb c 111) 5 6
+
+-- the kind whose word stands here: `and`, `or`, `xor` and `xnor`, `nand`, `not`, `nor`
 unfoldable pub kindHere : List ℕ → ℕ
 kindHere s =
     cond (eqb (getD s 0 0) 97) 1
     (cond (eqb (getD s 0 0) 111) 2
+    (cond (eqb (getD s 0 0) 120) (kindBehindX (getD s 1 0))
     (cond (eqb (getD s 1 0) 97) 3
-    (cond (eqb (getD s 2 0) 116) 0 4)))
+    (cond (eqb (getD s 2 0) 116) 0 4))))
 
 -- the bytes of a kind's word
 unfoldable pub wordLength : ℕ → ℕ

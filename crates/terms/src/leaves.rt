@@ -10,12 +10,19 @@ use names::pack::pack;
 use names::search::find;
 ghost use mathlib.Core.Path.{_≡_};
 ghost use lib.ListN.{length};
-ghost use Rattle.terms.specs.Leaves.{kindHere, wordLength, nameLength, indexHere, earlier, nameHere, constantHere, leafHere};
+ghost use Rattle.terms.specs.Leaves.{kindBehindX, kindHere, wordLength, nameLength, indexHere, earlier, nameHere, constantHere, leafHere};
 
 // The words of the constants.
 const ZERO: u16 = CONSTANT_0 as u16;
 
 const ONE: u16 = CONSTANT_1 as u16;
+
+// The kind of a word of `x` and this byte.
+fn kind_behind_x(c: u8) -> usize
+    ensures { λ r. ⌜ r ≡ kindBehindX c ⌝ }
+{
+    if c == b'o' { 5 } else { 6 }
+}
 
 // The kind whose word stands here.
 pub fn kind_here(s: &[u8]) -> usize
@@ -27,6 +34,9 @@ pub fn kind_here(s: &[u8]) -> usize
     }
     if c == b'o' {
         return 2;
+    }
+    if c == b'x' {
+        return kind_behind_x(byte_at(s, 1));
     }
     if byte_at(s, 1) == b'a' {
         return 3;

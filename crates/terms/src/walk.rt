@@ -17,7 +17,7 @@ ghost use Rattle.terms.specs.Walk.{TermHere, TermRead, TermsHere, TermsR
 // Writes a gate's five words.
 fn put_gate(gates: &mut [u16], number: usize, kind: usize, count: usize, slots: &[u16])
     requires { ⌜ 5 * number + 5 ≤ length (now gates) ⌝ }
-    requires { ⌜ (kind ≤ 4) × (count ≤ 4) ⌝ }
+    requires { ⌜ (kind ≤ 6) × (count ≤ 4) ⌝ }
     requires { ⌜ length (now slots) ≡ 4 ⌝ }
     ensures { λ _. ⌜ now (gates .exit) ≡ sets (now (gates .entry)) (5 * number) ((kind + 8 * count) ∷ now (slots .entry)) ⌝ }
 {

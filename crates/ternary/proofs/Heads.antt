@@ -13,14 +13,14 @@ use Rattle.laws.specs.Lists.{tab}
 use Rattle.laws.proofs.Tab.{map-tab}
 use Rattle.laws.proofs.Tests.{and-left, and-right, lt-or-le}
 use Rattle.netlist.specs.Values.{valueOf, invert}
-use Rattle.netlist.specs.Kinds.{rowOf, isNot, fewestOperands, mostOperands, arityFits, ruled, gateValue}
+use Rattle.netlist.specs.Kinds.{rowOf, isNot, isXor, isXnor, fewestOperands, mostOperands, arityFits, ruled, parity, gateValue}
 use Rattle.netlist.specs.Rounds.{operandValue, evaluated}
 use Rattle.netlist.specs.StoredBlock.{operandOf, gateAt}
 use Rattle.layout.proofs.KindLaws.{not-counts, other-counts, kind-last}
 use Rattle.ternary.specs.Legal.{LegalHead, wordValue, valueFrom}
 
 module _ (words : List ℕ) (at : ℕ) (l : LegalHead words at) where
-  head-kind : getD words at 0 % 8 ≤ 4
+  head-kind : getD words at 0 % 8 ≤ 6
   head-kind = kind-last (getD words at 0 % 8) (l .kind)
 
   least-count : fewestOperands (getD words at 0 % 8) ≤ getD words at 0 / 8
@@ -38,7 +38,7 @@ module _ (words : List ℕ) (at : ℕ) (l : LegalHead words at) where
       let hi : getD words at 0 / 8 ≤ 1 = rw (e, not-counts .1) at most-count in
       omega arith
 
-  -- a kind of the table has two to four
+  -- any other kind has two to four
   head-row : 1 ≤ getD words at 0 % 8 → (2 ≤ getD words at 0 / 8) × (getD words at 0 / 8 ≤ 4)
   head-row h =
       let t = other-counts (getD words at 0 % 8) h head-kind in
@@ -57,7 +57,7 @@ module _ (words : List ℕ) (at : ℕ) (l : LegalHead words at) where
 -- what a legal head word h says
 pub record Head (words : List ℕ) (at h : ℕ) : Type 0 where
   pub inside : at < length words
-  pub kind : h % 8 ≤ 4
+  pub kind : h % 8 ≤ 6
   pub one : h % 8 ≡ 0 → h / 8 ≡ 1
   pub some : 1 ≤ h % 8 → (2 ≤ h / 8) × (h / 8 ≤ 4)
 
@@ -85,10 +85,24 @@ module _ (n : ℕ) (words : List ℕ) (at : ℕ) (inputs gates : List ℕ) where
   evaluated-not h word e f k c = rw (← e, k, c, add-zero, f)
 
   -- a gate of a kind of the table
-  pub evaluated-row : (h : ℕ) → h ≡ getD words at 0 → 1 ≤ h % 8
+  pub evaluated-row : (h : ℕ) → h ≡ getD words at 0 → 1 ≤ h % 8 → h % 8 ≤ 4
       → evaluated (map valueOf inputs) (map valueOf gates) (gateAt n words at)
       ≡ ruled (rowOf (h % 8)) (tab (valueFrom words n (at + 1) inputs gates) (h / 8))
-  unfolding evaluated gateValue isNot gateAt
-  evaluated-row h e k =
+  unfolding evaluated gateValue isNot isXor isXnor gateAt
+  evaluated-row h e k l =
       let z : eqb (getD words at 0 % 8) 0 ≡ false = ne-eqb (getD words at 0 % 8) 0 (omega arith) in
-      rw (e, z, operands-from)
+      let x : eqb (getD words at 0 % 8) 5 ≡ false = ne-eqb (getD words at 0 % 8) 5 (omega arith) in
+      let y : eqb (getD words at 0 % 8) 6 ≡ false = ne-eqb (getD words at 0 % 8) 6 (omega arith) in
+      rw (e, z, x, y, operands-from)
+
+  -- a gate `xor`, and a gate `xnor`
+  pub evaluated-xor : (h : ℕ) → h ≡ getD words at 0 → h % 8 ≡ 5
+      → evaluated (map valueOf inputs) (map valueOf gates) (gateAt n words at) ≡ parity (tab (valueFrom words n (at + 1) inputs gates) (h / 8))
+  unfolding evaluated gateValue isNot isXor gateAt
+  evaluated-xor h e k = rw (← e, k, e, operands-from)
+
+  pub evaluated-xnor : (h : ℕ) → h ≡ getD words at 0 → h % 8 ≡ 6
+      → evaluated (map valueOf inputs) (map valueOf gates) (gateAt n words at)
+      ≡ invert (parity (tab (valueFrom words n (at + 1) inputs gates) (h / 8)))
+  unfolding evaluated gateValue isNot isXor isXnor gateAt
+  evaluated-xnor h e k = rw (← e, k, e, operands-from)

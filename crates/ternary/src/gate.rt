@@ -10,7 +10,7 @@ ghost use mathlib.Core.List.{map};
 ghost use Prim.Native.Nat.{_<_, _^_};
 ghost use Rattle.laws.specs.Lists.{tab};
 ghost use Rattle.netlist.specs.Values.{code, valueOf, invert};
-ghost use Rattle.netlist.specs.Kinds.{ruled};
+ghost use Rattle.netlist.specs.Kinds.{ruled, parity};
 ghost use Rattle.netlist.specs.Rounds.{evaluated};
 ghost use Rattle.netlist.specs.StoredBlock.{gateAt};
 ghost use Rattle.ternary.specs.Legal.{LegalHead, wordValue, valueFrom};
@@ -79,6 +79,32 @@ fn ruled_value(
     if undefined { 2 } else { invert_value(forced) }
 }
 
+// The parity of the `count` operands whose words start at `from`; undefined if one of them is.
+fn parity_value(
+    words: &[u16],
+    n: usize,
+    from: usize,
+    count: usize,
+    inputs: &[u8],
+    gates: &[u8],
+) -> u8
+    requires { ⌜ from < 2 ^ 63 ⌝ }
+    requires { ⌜ count < 2 ^ 63 ⌝ }
+    ensures { λ r. ⌜ r ≡ code (parity (tab (valueFrom (now (words .entry)) n from (now (inputs .entry)) (now (gates .entry))) count)) ⌝ }
+{
+    let mut odd: u8 = 0;
+    let mut place = 0;
+    while place < count {
+        let value = operand_value(word_at(words, from + place), n, inputs, gates);
+        if value == 2 {
+            return 2;
+        }
+        odd = (odd + value) % 2;
+        place += 1;
+    }
+    odd
+}
+
 // The value of the gate whose words start at `at`.
 pub fn gate_value(words: &[u16], n: usize, at: usize, inputs: &[u8], gates: &[u8]) -> u8
     requires { ⌜ LegalHead (now words) at ⌝ }
@@ -93,6 +119,14 @@ pub fn gate_value(words: &[u16], n: usize, at: usize, inputs: &[u8], gates: &[u8
         },
         1 | 2 | 3 | 4 => match count {
             2..=4 => ruled_value(words, n, at + 1, count, row_of(head % 8), inputs, gates),
+            _ => 2,
+        },
+        5 => match count {
+            2..=4 => parity_value(words, n, at + 1, count, inputs, gates),
+            _ => 2,
+        },
+        6 => match count {
+            2..=4 => invert_value(parity_value(words, n, at + 1, count, inputs, gates)),
             _ => 2,
         },
         _ => 2,

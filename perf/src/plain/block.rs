@@ -7,11 +7,21 @@ pub enum Kind {
     Or,
     Nand,
     Nor,
+    Xor,
+    Xnor,
 }
 
 impl Kind {
     fn of(number: u16) -> Option<Kind> {
-        let kinds = [Kind::Not, Kind::And, Kind::Or, Kind::Nand, Kind::Nor];
+        let kinds = [
+            Kind::Not,
+            Kind::And,
+            Kind::Or,
+            Kind::Nand,
+            Kind::Nor,
+            Kind::Xor,
+            Kind::Xnor,
+        ];
         kinds.get(usize::from(number)).copied()
     }
 
@@ -22,6 +32,8 @@ impl Kind {
             Kind::Or => "or",
             Kind::Nand => "nand",
             Kind::Nor => "nor",
+            Kind::Xor => "xor",
+            Kind::Xnor => "xnor",
         }
     }
 
@@ -74,6 +86,8 @@ impl Gate {
             Kind::Or => self.or(values),
             Kind::Nand => not(self.and(values)),
             Kind::Nor => not(self.or(values)),
+            Kind::Xor => self.xor(values),
+            Kind::Xnor => not(self.xor(values)),
         }
     }
 
@@ -84,6 +98,17 @@ impl Gate {
                 0 => return 0,
                 1 => {}
                 _ => result = 2,
+            }
+        }
+        result
+    }
+
+    fn xor(&self, values: &[u8]) -> u8 {
+        let mut result = 0;
+        for &operand in self.operands() {
+            match values[operand] {
+                2 => return 2,
+                bit => result ^= bit,
             }
         }
         result

@@ -151,6 +151,8 @@ impl<'a> Parser<'a> {
         let (kind, rest): (Kind, &[u8]) = match self.text[self.place..] {
             [b'a', ..] => (Kind::And, b"and "),
             [b'o', ..] => (Kind::Or, b"or "),
+            [b'x', b'n', ..] => (Kind::Xnor, b"xnor "),
+            [b'x', ..] => (Kind::Xor, b"xor "),
             [b'n', b'a', ..] => (Kind::Nand, b"nand "),
             [b'n', b'o', b't', ..] => (Kind::Not, b"not "),
             // Where this is cut off or bad, it is so at the same place for `not`.

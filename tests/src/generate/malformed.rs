@@ -5,7 +5,7 @@ use crate::block::{Block, Gate, Kind, Output, Source, ONE_WORD, ZERO_WORD};
 use crate::limits::*;
 
 /// A `not`, and the other kinds with two, three and four operands.
-const ADDED_GATES: usize = 1 + 4 * 3;
+const ADDED_GATES: usize = 1 + Kind::MANY.len() * 3;
 
 /// The rule broken and the words, for each rule; made from a well-formed block.
 pub fn malformed(random: &mut Random, block: &Block) -> Vec<(&'static str, Vec<u16>)> {
@@ -142,8 +142,6 @@ fn gates(random: &mut Random, block: &Block) -> Vec<(&'static str, Vec<u16>)> {
     let last = at + usize::from(count);
     let used = at + random.between(1, usize::from(count));
     vec![
-        ("kind 5", with(&words, at, 5 + 8 * count)),
-        ("kind 6", with(&words, at, 6 + 8 * count)),
         ("kind 7", with(&words, at, 7 + 8 * count)),
         ("no operands", with(&words, at, kind)),
         ("five operands", with(&words, at, kind + 8 * 5)),
@@ -153,6 +151,8 @@ fn gates(random: &mut Random, block: &Block) -> Vec<(&'static str, Vec<u16>)> {
             with(&words, at, words[at] + 32_768),
         ),
         ("an and with one operand", with(&words, one_at, 1 + 8)),
+        ("an xor with one operand", with(&words, one_at, 5 + 8)),
+        ("an xnor with one operand", with(&words, one_at, 6 + 8)),
         ("a not with two operands", with(&words, at, 2 * 8)),
         ("a word after the operands", with(&words, one_at + 2, 1)),
         ("the last unused word", with(&words, one_at + 4, 65_535)),

@@ -9,7 +9,7 @@ use Rattle.form.proofs.First.{byte-taken, byte-left}
 use Rattle.laws.specs.Lists.{ascii}
 use Rattle.laws.proofs.Elements.{rest-is-drop, byte-there}
 use Rattle.netlist.specs.Parse.{stop, kindReader}
-use Rattle.form.specs.Scan.{kindOf, kindWord, kindNo, kindN}
+use Rattle.form.specs.Scan.{kindOf, kindWord, kindX, kindNo, kindN}
 
 byte-at-requires : tie.Need-byte-at-requires
 byte-at-requires c κs = search needs
@@ -82,11 +82,47 @@ returns-3 c = let b = c .before .before in
     (byte-left _ _ s 97 e (b .before .before .if1 .left) ∙ byte-left _ _ s 111 e (b .before .if2 .left)
     ∙ byte-taken _ _ s 110 e (b .if3 .taken) (omega arith)))
 
+sub-kind-x : tie.Need-sub-kind-x
+sub-kind-x c = let read = c .before .before .before .before in byte-there (read .before .before .args .s .now) (read .byte-at .ensures) (c .if4 .taken) (omega arith)
+
+part-kind-x-start : tie.Need-part-kind-x-start
+part-kind-x-start c = let read = c .before .before .before .before in byte-there (read .before .before .args .s .now) (read .byte-at .ensures) (c .if4 .taken) (omega arith)
+
+part-kind-x-end : tie.Need-part-kind-x-end
+part-kind-x-end c = search needs
+
+kind-x-requires : tie.Need-kind-x-requires
+kind-x-requires c κs = search needs
+
 returns-4 : tie.Need-returns-4
+unfolding kindReader kindWord kindN kindNo kindX
+returns-4 c =
+    let b = c .before .before in
+    let asked = b .before in
+    let read = asked .before .before .before in
+    let s = read .before .before .args .s .now in
+    let e = read .byte-at .ensures in
+    c .kind-x .ensures ∙ ap (λ t. kindOf (kindX t)) (rest-is-drop s 1)
+    ∙ sym
+    (ap kindOf
+    (byte-left _ _ s 97 e (asked .before .before .if1 .left)
+    ∙ byte-left _ _ s 111 e (asked .before .if2 .left)
+    ∙ byte-left _ _ s 110 e (asked .if3 .left)
+    ∙ byte-taken _ _ s 120 e (b .if4 .taken) (omega arith)))
+
+returns-5 : tie.Need-returns-5
 unfolding kindReader stop
-returns-4 c = let s = c .before .before .before .before .before .args .s .now in
-    let e = c .before .before .before .byte-at .ensures in
-    sym (ap kindOf (byte-left _ _ s 97 e (c .before .before .if1 .left) ∙ byte-left _ _ s 111 e (c .before .if2 .left) ∙ byte-left _ _ s 110 e (c .if3 .left)))
+returns-5 c =
+    let asked = c .before in
+    let read = asked .before .before .before in
+    let s = read .before .before .args .s .now in
+    let e = read .byte-at .ensures in
+    sym
+    (ap kindOf
+    (byte-left _ _ s 97 e (asked .before .before .if1 .left)
+    ∙ byte-left _ _ s 111 e (asked .before .if2 .left)
+    ∙ byte-left _ _ s 110 e (asked .if3 .left)
+    ∙ byte-left _ _ s 120 e (c .if4 .left)))
 
 pub kind-spec : {M : Type 1} → statement M
 kind-spec =
@@ -110,4 +146,9 @@ kind-spec =
     part-kind-n-end
     kind-n-requires
     returns-3
-    returns-4)
+    sub-kind-x
+    part-kind-x-start
+    part-kind-x-end
+    kind-x-requires
+    returns-4
+    returns-5)

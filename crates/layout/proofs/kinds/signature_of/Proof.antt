@@ -1,9 +1,8 @@
--- `layout::kinds::signature_of` meets its contract: `not`, or what the kind's row holds. Assumes nothing.
+-- `layout::kinds::signature_of` meets its contract: `not`, `xor`, `xnor`, or what the kind's row holds. Assumes nothing.
 use mathlib.Core.Path.{_∙_, ap}
 use borrow.Author.Needs.{needs}
-use native.Mathlib.Omega.{arith}
 use Rattle.netlist.specs.Kinds.{signature, signatureIn}
-use Rattle.layout.proofs.KindLaws.{signature-not, signature-row}
+use Rattle.layout.proofs.KindLaws.{another, signature-not, signature-xor, signature-xnor, signature-row}
 use Rattle.layout.proofs.kinds.signature_of.Statement.{statement}
 use Rattle.layout.proofs.kinds.signature_of.Tie as tie
 
@@ -11,14 +10,25 @@ returns : tie.Need-returns
 unfolding signature
 returns c = signature-not (c .before .args .kind) (c .if1 .taken)
 
+returns-2 : tie.Need-returns-2
+unfolding signature
+returns-2 c = signature-xor (c .before .before .args .kind) (c .if2 .taken)
+
+returns-3 : tie.Need-returns-3
+unfolding signature
+returns-3 c = signature-xnor (c .before .before .before .args .kind) (c .if3 .taken)
+
 row-of-requires : tie.Need-row-of-requires
 row-of-requires c κs = search needs
 
-returns-2 : tie.Need-returns-2
+returns-4 : tie.Need-returns-4
 unfolding signatureIn
-returns-2 c =
+returns-4 c =
     let read = c .before in
-    ap signatureIn (read .row-of .ensures (omega arith)) ∙ signature-row (read .before .before .args .kind) (omega arith)
+    let asked = read .before in
+    let kind = asked .before .before .before .args .kind in
+    let low = another kind (asked .before .before .if1 .left) in
+    ap signatureIn (read .row-of .ensures low) ∙ signature-row kind low (asked .before .if2 .left) (asked .if3 .left)
 
 pub signature-of-spec : {M : Type 1} → statement M
-signature-of-spec = tie.close (tie.spec returns row-of-requires returns-2)
+signature-of-spec = tie.close (tie.spec returns returns-2 returns-3 row-of-requires returns-4)

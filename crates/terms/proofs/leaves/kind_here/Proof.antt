@@ -1,6 +1,7 @@
--- `terms::leaves::kind_here` meets its contract. Assumes nothing.
-use mathlib.Core.Path.{sym, _∙_}
-use Rattle.terms.proofs.Fronts.{kind-and, kind-or, kind-nand, kind-not, kind-nor}
+-- `terms::leaves::kind_here` meets its contract: each way out is one side of the definition's choices. Assumes nothing.
+use mathlib.Core.Path.{sym, _∙_, ap}
+use Rattle.terms.specs.Leaves.{kindBehindX}
+use Rattle.terms.proofs.Fronts.{kind-and, kind-or, kind-x, kind-nand, kind-not, kind-nor}
 use borrow.Author.Needs.{needs}
 use Rattle.terms.proofs.leaves.kind_here.Statement.{statement}
 use Rattle.terms.proofs.leaves.kind_here.Tie as tie
@@ -9,36 +10,56 @@ byte-at-requires : tie.Need-byte-at-requires
 byte-at-requires c κs = search needs
 
 returns : tie.Need-returns
-returns c = kind-and (c .before .before .before .args .s .now) (sym (c .before .byte-at .ensures) ∙ c .if1 .taken)
+returns c = let read = c .before in kind-and (read .before .before .args .s .now) (sym (read .byte-at .ensures) ∙ c .if1 .taken)
 
 returns-2 : tie.Need-returns-2
-returns-2 c = kind-or (c .before .before .before .before .args .s .now) (sym (c .before .before .byte-at .ensures) ∙ c .if2 .taken)
+returns-2 c = let read = c .before .before in kind-or (read .before .before .args .s .now) (sym (read .byte-at .ensures) ∙ c .if2 .taken)
 
 byte-at-requires-2 : tie.Need-byte-at-requires-2
 byte-at-requires-2 c κs = search needs
 
+kind-behind-x-requires : tie.Need-kind-behind-x-requires
+kind-behind-x-requires c κs = search needs
+
 returns-3 : tie.Need-returns-3
 returns-3 c =
-    kind-nand (c .before .before .before .before .before .before .args .s .now)
-    (λ e. c .before .before .before .if1 .left (c .before .before .before .before .byte-at .ensures ∙ e))
-    (λ e. c .before .before .if2 .left (c .before .before .before .before .byte-at .ensures ∙ e)) (sym (c .before .byte-at2 .ensures) ∙ c .if3 .taken)
+    let asked = c .before .before in
+    let read = asked .before .before .before in
+    c .kind-behind-x .ensures
+    ∙ ap kindBehindX (c .before .byte-at2 .ensures)
+    ∙ kind-x (read .before .before .args .s .now) (sym (read .byte-at .ensures) ∙ asked .if3 .taken)
 
 byte-at-requires-3 : tie.Need-byte-at-requires-3
 byte-at-requires-3 c κs = search needs
 
 returns-4 : tie.Need-returns-4
 returns-4 c =
-    kind-not (c .before .before .before .before .before .before .before .before .args .s .now)
-    (λ e. c .before .before .before .before .before .if1 .left (c .before .before .before .before .before .before .byte-at .ensures ∙ e))
-    (λ e. c .before .before .before .before .if2 .left (c .before .before .before .before .before .before .byte-at .ensures ∙ e))
-    (λ e. c .before .before .if3 .left (c .before .before .before .byte-at2 .ensures ∙ e)) (sym (c .before .byte-at3 .ensures) ∙ c .if4 .taken)
+    let asked = c .before .before in
+    let read = asked .before .before .before in
+    let e = read .byte-at .ensures in
+    kind-nand (read .before .before .args .s .now) (λ z. asked .before .before .if1 .left (e ∙ z)) (λ z. asked .before .if2 .left (e ∙ z))
+    (λ z. asked .if3 .left (e ∙ z)) (sym (c .before .byte-at3 .ensures) ∙ c .if4 .taken)
+
+byte-at-requires-4 : tie.Need-byte-at-requires-4
+byte-at-requires-4 c κs = search needs
 
 returns-5 : tie.Need-returns-5
 returns-5 c =
-    kind-nor (c .before .before .before .before .before .before .before .before .args .s .now)
-    (λ e. c .before .before .before .before .before .if1 .left (c .before .before .before .before .before .before .byte-at .ensures ∙ e))
-    (λ e. c .before .before .before .before .if2 .left (c .before .before .before .before .before .before .byte-at .ensures ∙ e))
-    (λ e. c .before .before .if3 .left (c .before .before .before .byte-at2 .ensures ∙ e)) (λ e. c .if4 .left (c .before .byte-at3 .ensures ∙ e))
+    let second = c .before .before in
+    let asked = second .before .before in
+    let read = asked .before .before .before in
+    let e = read .byte-at .ensures in
+    kind-not (read .before .before .args .s .now) (λ z. asked .before .before .if1 .left (e ∙ z)) (λ z. asked .before .if2 .left (e ∙ z))
+    (λ z. asked .if3 .left (e ∙ z)) (λ z. second .if4 .left (second .before .byte-at3 .ensures ∙ z)) (sym (c .before .byte-at4 .ensures) ∙ c .if5 .taken)
+
+returns-6 : tie.Need-returns-6
+returns-6 c =
+    let second = c .before .before in
+    let asked = second .before .before in
+    let read = asked .before .before .before in
+    let e = read .byte-at .ensures in
+    kind-nor (read .before .before .args .s .now) (λ z. asked .before .before .if1 .left (e ∙ z)) (λ z. asked .before .if2 .left (e ∙ z))
+    (λ z. asked .if3 .left (e ∙ z)) (λ z. second .if4 .left (second .before .byte-at3 .ensures ∙ z)) (λ z. c .if5 .left (c .before .byte-at4 .ensures ∙ z))
 
 pub kind-here-spec : {M : Type 1} → statement M
 kind-here-spec =
@@ -48,7 +69,10 @@ kind-here-spec =
     returns
     returns-2
     byte-at-requires-2
+    kind-behind-x-requires
     returns-3
     byte-at-requires-3
     returns-4
-    returns-5)
+    byte-at-requires-4
+    returns-5
+    returns-6)

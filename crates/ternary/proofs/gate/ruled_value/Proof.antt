@@ -40,9 +40,10 @@ read c = rw (← c .before .word-at .ensures) (sym (c .operand-value .ensures))
 
 returns : tie.Need-returns Inv-loop μ-loop
 returns c =
-    let a = c .before .before .before .before .before .before .before .before .args in
+    let met = c .before .before .before .before in
+    let a = met .before .before .before .before .args in
     let v = valueFrom (now (a .words)) (a .n) (a .from) (now (a .inputs)) (now (a .gates)) in
-    ruled-forced (a .row) v (a .count) (c .before .before .before .before .loop .i) (omega arith) (read (c .before) ∙ c .if1 .taken) (omega arith)
+    ruled-forced (a .row) v (a .count) (met .loop .i) (omega arith) (read (c .before) ∙ c .if1 .taken) (omega arith)
 
 add-i : tie.Need-add-i Inv-loop μ-loop
 add-i c = omega arith
@@ -74,7 +75,8 @@ returns-3 : tie.Need-returns-3 Inv-loop μ-loop
 returns-3 c =
     let a = c .before .before .before .before .before .before .before .args in
     let v = valueFrom (now (a .words)) (a .n) (a .from) (now (a .inputs)) (now (a .gates)) in
-    c .invert-value .ensures ∙ ruled-opposite (a .row) v (a .count) (passed-all (c .before .before .before .loop .inv .1) (c .before .if3 .left) (omega arith))
+    c .invert-value .ensures
+    ∙ ruled-opposite (a .row) v (a .count) (passed-all (c .before .before .before .loop .inv .1) (c .before .if3 .left) (omega arith))
 
 pub ruled-value-spec : {M : Type 1} → statement M
 ruled-value-spec =

@@ -1,0 +1,88 @@
+-- `form::terms::kind_x` meets its contract: the next byte says which way the reader goes.
+-- Assumes nothing.
+use borrow.Author.Needs.{needs}
+use Rattle.form.proofs.terms.kind_x.Statement.{statement}
+use Rattle.form.proofs.terms.kind_x.Tie as tie
+use mathlib.Core.Path.{sym, ap, _∙_}
+use native.Mathlib.Omega.{arith}
+use Rattle.form.proofs.First.{byte-taken, byte-left}
+use Rattle.laws.specs.Lists.{ascii}
+use Rattle.laws.proofs.Elements.{rest-is-drop, byte-there}
+use Rattle.netlist.specs.Parse.{stop}
+use Rattle.form.specs.Scan.{kindOf, kindWord, kindX}
+
+byte-at-requires : tie.Need-byte-at-requires
+byte-at-requires c κs = search needs
+
+sub-kind-word : tie.Need-sub-kind-word
+sub-kind-word c = byte-there (c .before .before .before .args .s .now) (c .before .byte-at .ensures) (c .if1 .taken) (omega arith)
+
+part-kind-word-start : tie.Need-part-kind-word-start
+part-kind-word-start c = byte-there (c .before .before .before .args .s .now) (c .before .byte-at .ensures) (c .if1 .taken) (omega arith)
+
+part-kind-word-end : tie.Need-part-kind-word-end
+part-kind-word-end c = search needs
+
+slice-aggregate-kind-word : tie.Need-slice-aggregate-kind-word
+slice-aggregate-kind-word c = search needs
+
+kind-word-requires : tie.Need-kind-word-requires
+kind-word-requires c κs = search needs
+
+returns : tie.Need-returns
+unfolding kindX
+returns c =
+    let b = c .before .before .before in
+    let s = b .before .before .before .args .s .now in
+    c .kind-word .ensures ∙ ap (λ t. kindOf (kindWord (ascii "r") 5 t)) (rest-is-drop s 1)
+    ∙ sym (ap kindOf (byte-taken _ _ s 111 (b .before .byte-at .ensures) (b .if1 .taken) (omega arith)))
+
+sub-kind-word-2 : tie.Need-sub-kind-word-2
+sub-kind-word-2 c = byte-there (c .before .before .before .before .args .s .now) (c .before .before .byte-at .ensures) (c .if2 .taken) (omega arith)
+
+part-kind-word-start-2 : tie.Need-part-kind-word-start-2
+part-kind-word-start-2 c = byte-there (c .before .before .before .before .args .s .now) (c .before .before .byte-at .ensures) (c .if2 .taken) (omega arith)
+
+part-kind-word-end-2 : tie.Need-part-kind-word-end-2
+part-kind-word-end-2 c = search needs
+
+slice-aggregate-kind-word-2 : tie.Need-slice-aggregate-kind-word-2
+slice-aggregate-kind-word-2 c = search needs
+
+kind-word-requires-2 : tie.Need-kind-word-requires-2
+kind-word-requires-2 c κs = search needs
+
+returns-2 : tie.Need-returns-2
+unfolding kindX
+returns-2 c =
+    let b = c .before .before .before in
+    let s = b .before .before .before .before .args .s .now in
+    let e = b .before .before .byte-at .ensures in
+    c .kind-word2 .ensures ∙ ap (λ t. kindOf (kindWord (ascii "or") 6 t)) (rest-is-drop s 1)
+    ∙ sym (ap kindOf (byte-left _ _ s 111 e (b .before .if1 .left) ∙ byte-taken _ _ s 110 e (b .if2 .taken) (omega arith)))
+
+returns-3 : tie.Need-returns-3
+unfolding kindX stop
+returns-3 c =
+    let s = c .before .before .before .before .args .s .now in
+    let e = c .before .before .byte-at .ensures in
+    sym (ap kindOf (byte-left _ _ s 111 e (c .before .if1 .left) ∙ byte-left _ _ s 110 e (c .if2 .left)))
+
+pub kind-x-spec : {M : Type 1} → statement M
+kind-x-spec =
+    tie.close
+    (tie.spec
+    byte-at-requires
+    sub-kind-word
+    part-kind-word-start
+    part-kind-word-end
+    slice-aggregate-kind-word
+    kind-word-requires
+    returns
+    sub-kind-word-2
+    part-kind-word-start-2
+    part-kind-word-end-2
+    slice-aggregate-kind-word-2
+    kind-word-requires-2
+    returns-2
+    returns-3)
