@@ -1,6 +1,7 @@
 //! What the proved library does, written the straightforward way: plain safe Rust over the same words, texts and lent slices,
 //! with the same checks and refusals, and with vectors and the standard library's tables wherever they are handy.
 
+mod bench;
 pub mod block;
 mod cover;
 mod groups;
@@ -11,6 +12,7 @@ mod settle;
 mod verdict;
 mod write;
 
+pub use bench::bench;
 pub use cover::cover;
 pub use groups::groups;
 pub use read::read;

@@ -4,7 +4,7 @@ use std::io::Write;
 use std::path::{Path, PathBuf};
 use std::process::{Command, Output, Stdio};
 use std::sync::atomic::{AtomicUsize, Ordering};
-use std::{env, fs, process};
+use std::{env, fs, process, thread};
 
 /// The repository.
 pub fn root() -> PathBuf {
@@ -25,9 +25,12 @@ pub fn ended(command: &mut Command, input: &[u8]) -> Output {
     let pipes = command.stdin(Stdio::piped());
     let pipes = pipes.stdout(Stdio::piped()).stderr(Stdio::piped());
     let mut child = pipes.spawn().unwrap_or_else(|e| panic!("{command:?}: {e}"));
-    // A command may end without reading its input.
-    let _ = child.stdin.take().expect("piped").write_all(input);
-    child.wait_with_output().expect("it ends")
+    let mut stdin = child.stdin.take().expect("piped");
+    thread::scope(|scope| {
+        // A command may end without reading its input, and may write before it has read all of it.
+        scope.spawn(move || drop(stdin.write_all(input)));
+        child.wait_with_output().expect("it ends")
+    })
 }
 
 /// A folder of its own for a test, removed with all that is in it.

@@ -1,9 +1,10 @@
-//! A second, independent program for every operation of docs/SPECIFICATION.md, to compare the proved one with.
+//! A second, independent program for every operation of docs/SPECIFICATION.md and for the bench, to compare the proved one with.
 //! Written from the papers only, in plain safe Rust, and in other ways than the definitions go.
 //! A block is lent as its words; `room` is the length of the slice for the result.
 //! `generate` makes the input, `compare` compares the two programs on it; nothing else here calls the proved one.
 
 pub mod answer;
+pub mod bench;
 pub mod block;
 pub mod catalogue;
 pub mod compare;
@@ -27,6 +28,7 @@ pub mod verdict;
 pub mod write;
 
 pub use answer::Answer;
+pub use bench::bench;
 pub use cover::cover;
 pub use groups::groups;
 pub use line::line;

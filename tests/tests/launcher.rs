@@ -1,4 +1,4 @@
-//! What `bin/unloop` builds, and when: in a repository of its own, with stand-ins for `rt` and `cargo` that write down each call.
+//! What `bin/unloop` and `bin/bench` build, and when: in a repository of its own, with stand-ins for `rt` and `cargo` that write down each call.
 
 use simulator::executed::{ended, root, Scratch};
 use std::os::unix::fs::symlink;
@@ -8,9 +8,9 @@ use std::time::{Duration, SystemTime};
 use std::{env, fs, thread};
 
 /// The commands that the scripts use.
-const TOOLS: [&str; 13] = [
-    "bash", "cat", "chmod", "dirname", "env", "find", "flock", "mkdir", "mv", "readlink", "rm",
-    "sleep", "touch",
+const TOOLS: [&str; 15] = [
+    "bash", "cat", "chmod", "dirname", "env", "find", "flock", "grep", "mkdir", "mv", "readlink",
+    "rm", "sleep", "tail", "touch",
 ];
 
 const RESULTS: [&str; 3] = [
@@ -19,19 +19,21 @@ const RESULTS: [&str; 3] = [
     "target/driver/release/unloop-files",
 ];
 
-/// Makes its result unless it is up to date, which `rt check` tells by a stamp of its own. It takes a while, and would take the
-/// input too.
+/// Makes its result, a program that writes its input, unless it is up to date, which `rt check` tells by a stamp of its own. It takes a
+/// while, and would take the input too.
 const RT: &str = r#"#!/usr/bin/env bash
 echo "rt $*" >> calls
 cat > eaten
 sleep 0.1
 case $1 in
-  check) result=target/bin/unloop stamp=target/stamp/unloop ;;
+  check) result=target/bin/$2 stamp=target/stamp/$2 ;;
   staticlib) result=target/staticlib/libexports.a stamp=$result ;;
 esac
 [ -e "$stamp" ] && exit
 mkdir -p "${result%/*}" target/stamp
-touch "$stamp" "$result"
+touch "$stamp"
+printf '#!/usr/bin/env bash\ncat\n' > "$result"
+chmod +x "$result"
 "#;
 
 /// Makes a driver that writes its arguments, one a line, and its input.
@@ -67,8 +69,10 @@ fn repository() -> Scratch {
         age_all(&scratch.path(source));
     }
     scratch.put("calls", "");
-    let launcher = fs::read_to_string(root().join("bin/unloop")).unwrap();
-    scratch.put_script("bin/unloop", &launcher);
+    for script in ["bin/unloop", "bin/bench", "bin/building.sh"] {
+        let content = fs::read_to_string(root().join(script)).unwrap();
+        scratch.put_script(script, &content);
+    }
     scratch.put_script("tools/rt", RT);
     scratch.put_script("tools/cargo", CARGO);
     for tool in TOOLS {
@@ -104,7 +108,11 @@ fn set_age(path: &Path, seconds: u64) {
 }
 
 fn run(scratch: &Scratch, words: &[&str]) -> Output {
-    let mut command = Command::new(scratch.path("bin/unloop"));
+    run_command(scratch, "bin/unloop", words)
+}
+
+fn run_command(scratch: &Scratch, name: &str, words: &[&str]) -> Output {
+    let mut command = Command::new(scratch.path(name));
     let command = command.env_clear().env("PATH", scratch.path("tools"));
     ended(command.current_dir("/").args(words), b"the input\n")
 }
@@ -276,4 +284,56 @@ fn runs_at_once_build_once() {
         }
     });
     assert_eq!(scratch.get("calls"), ALL_BUILT);
+}
+
+/// The program gets the file, an empty line and the input.
+#[test]
+fn bench_joins_the_netlist_and_the_input() {
+    let scratch = repository();
+    scratch.put("a.net", "(in a)\n");
+    scratch.put("empty.net", "");
+    let building = "bench: building target/bin/bench (the first time this takes minutes)\n";
+    let bench = |file: &str| {
+        let path = scratch.path(file);
+        run_command(&scratch, "bin/bench", &[path.to_str().unwrap()])
+    };
+    let ended = bench("a.net");
+    told(&scratch, &ended, 0, building, "rt check bench\n");
+    assert_eq!(ended.stdout, b"(in a)\n\nthe input\n");
+    let ended = bench("empty.net");
+    told(&scratch, &ended, 0, "", "");
+    assert_eq!(ended.stdout, b"\nthe input\n");
+}
+
+/// A file that is cut off is all of the input: with an empty line behind it, it would be read as if it were whole.
+#[test]
+fn bench_on_a_netlist_that_is_cut_off() {
+    let scratch = repository();
+    scratch.put("cut.net", "(in a)\n(in b)");
+    let path = scratch.path("cut.net");
+    let ended = run_command(&scratch, "bin/bench", &[path.to_str().unwrap()]);
+    assert_eq!(ended.stdout, b"(in a)\n(in b)");
+}
+
+#[test]
+fn bench_on_what_is_no_netlist_file() {
+    let scratch = repository();
+    scratch.put("parted.net", "(in a)\n\n(out y a)\n");
+    for (file, why) in [
+        (
+            "parted.net",
+            "FILE: line 2 is empty; a netlist has no empty line",
+        ),
+        ("none.net", "can't read FILE"),
+    ] {
+        let path = scratch.path(file);
+        let path = path.to_str().unwrap();
+        let ended = run_command(&scratch, "bin/bench", &[path]);
+        let line = format!("bench: {}\n", why.replace("FILE", path));
+        told(&scratch, &ended, 2, &line, "");
+    }
+    let ended = run_command(&scratch, "bin/bench", &[]);
+    assert_eq!(ended.status.code(), Some(2));
+    let ended = run_command(&scratch, "bin/bench", &["--help"]);
+    assert!(ended.status.success() && ended.stdout.starts_with(b"usage"));
 }

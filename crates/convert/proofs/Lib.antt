@@ -1,5 +1,4 @@
--- Laws that the proofs of this crate cite: the length of a refusal's line, what an operation with enough room tells, the three operations.
+-- Laws that the proofs of this crate cite: the room that the operations need, and one operation after another.
 pub mod EndToEnd
-pub mod Lines
 pub mod Telling
 pub mod Sizes

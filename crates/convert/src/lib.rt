@@ -2,17 +2,16 @@
 use layout::limits::BLOCK_WORDS;
 use netlist::Answer;
 use reading::read;
-use refusal::tell;
 use render::render;
+use telling::tell;
 use writing::write;
 ghost use Prim.Native.Nat.{_≤_};
 ghost use lib.ListN.{length};
 ghost use Rattle.netlist.specs.Limits.{maxBlock, maxWritten};
 ghost use Rattle.netlist.specs.Operations.{renderWords, writeWords};
 ghost use Rattle.netlist.specs.Program.{chained};
-ghost use Rattle.convert.specs.Shown.{Shown, Converted};
-
-mod refusal;
+ghost use Rattle.telling.specs.Shown.{Shown};
+ghost use Rattle.convert.specs.Shown.{Converted};
 
 // Write, or its refusal.
 fn convert_rendered(words: &[u16], out: &mut [u8]) -> usize

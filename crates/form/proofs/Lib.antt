@@ -12,3 +12,4 @@ mod LineSteps
 mod LineChoice
 mod Phases
 mod Reached
+mod PairSteps

@@ -24,7 +24,7 @@ pub record Tail (s rest : List ℕ) : Type 0 where
   pub counts : taken + length rest ≡ length s
   pub is-end : rest ≡ drop taken s
 
-tail-refl : (s : List ℕ) → Tail s s
+pub tail-refl : (s : List ℕ) → Tail s s
 tail-refl s = record { taken = 0; counts = omega arith; is-end = refl }
 
 tail-cons : (c : ℕ) {s rest : List ℕ} → Tail s rest → Tail (c ∷ s) rest

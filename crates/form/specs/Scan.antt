@@ -9,21 +9,26 @@ use lib.Dec.{eqb, leb}
 use Rattle.laws.specs.Lists.{ascii, is}
 use Rattle.netlist.specs.StoredBlock.{isLetter, isNameStart}
 use Rattle.netlist.specs.Limits.{maxDepth}
-use Rattle.netlist.specs.Syntax.{Tree, apply}
-use Rattle.netlist.specs.Parse.{Parsed, got, stuck, Reader, pure, stop, ifNext, expect, bind, nameReader, exprReader, termReader, parse}
+use Rattle.netlist.specs.Syntax.{apply}
+use Rattle.netlist.specs.Parse.{Parsed, got, stuck, Reader, pure, stop, ifNext, expect, nothingBehind, bind, nameReader, exprReader, termReader, parse}
+use Rattle.netlist.specs.SetLine.{bitReader, setLineReader}
 use Rattle.form.specs.declared.Scan.{Scan}
 use Rattle.form.specs.declared.Scan.the-variants.{Next, Bad as Stuck}
 use Rattle.form.specs.declared.Kind.{Kind}
 use Rattle.form.specs.declared.Kind.the-variants.{Is, Bad as NoKind}
 
 -- the place is the number of bytes before the bad one
-abbrev pub badOf : List ℕ → Parsed Tree → Option ℕ
+abbrev pub badOf : {A : Type 0} → List ℕ → Parsed A → Option ℕ
 badOf text (got t rest) = none
 badOf text (stuck left) = some (length text - left)
 
 -- 2: the first byte that no legal text has behind that beginning, or the length where the text is cut off
 unfoldable pub firstBad : List ℕ → Option ℕ
 firstBad text = badOf text (parse text)
+
+-- the same of a set line of at most so many pairs
+unfoldable pub firstBadInSetLine : ℕ → List ℕ → Option ℕ
+firstBadInSetLine most line = badOf line (setLineReader most line)
 
 -- the bytes left of what a reader answers
 abbrev pub scanOf : {A : Type 0} → Parsed A → Scan
@@ -106,3 +111,20 @@ lineReader phase = expect (ascii "(") (lineBehind phase)
 -- the phase behind a line with this letter
 unfoldable pub phaseOf : ℕ → ℕ
 phaseOf c = cond (is "i" c) 0 (cond (is "g" c) 1 2)
+
+-- a pair behind its space, without its tree, and what follows each of its parts
+unfoldable pub bitEnd : Reader ℕ
+bitEnd = bind bitReader (λ _. wordReader (ascii ")"))
+
+unfoldable pub pairValue : Reader ℕ
+pairValue = expect (ascii " ") bitEnd
+
+unfoldable pub pairName : Reader ℕ
+pairName = bind (nameReader (firstByte true)) (λ _. pairValue)
+
+unfoldable pub pairScan : Reader ℕ
+pairScan = expect (ascii " (") pairName
+
+-- the LF that ends a set line
+unfoldable pub lineLast : Reader ℕ
+lineLast = expect (ascii "\n") (nothingBehind 0)

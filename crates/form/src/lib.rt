@@ -1,5 +1,5 @@
-// Does a text have the grammar's form, and where does it break (SPECIFICATION 1, and Read's 2 in 7.3). The readers below `form` take the
-// rest of the text as their slice and answer how many bytes are left. Nothing is written.
+// Does a text have the grammar's form, and where does it break (SPECIFICATION 1, and Read's 2 in 7.3). `pairs` asks it of lines of pairs.
+// The readers take the rest of the text as their slice and answer how many bytes are left. Nothing is written.
 use layout::bytes::byte_at;
 use netlist::Refusal;
 use netlist::Test;
@@ -11,6 +11,7 @@ ghost use Rattle.form.specs.Scan.{firstBad};
 mod bytes;
 mod lines;
 mod names;
+pub mod pairs;
 mod terms;
 
 // What a reader answers: the bytes left behind what it read, or the bytes left from the bad one on.

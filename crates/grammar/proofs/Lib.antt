@@ -8,7 +8,9 @@ pub mod Lengths
 pub mod CompleteTerms
 pub mod Complete
 pub mod Refusals
+pub mod FirstBad
 pub mod RefusedText
+pub mod SetLines
 pub mod Shorter
 pub mod Places
 pub mod Bound

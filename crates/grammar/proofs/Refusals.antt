@@ -5,7 +5,7 @@
 --   GoodBefore, HalfGoodBefore: the same of a reader with another behind it
 --   half-.., good-.., before-..: one law for each way to make a reader
 use Prim.Native.Nat.{ℕ, suc}
-use mathlib.Core.Path.{_≡_, refl, sym, _∙_, fun-ext}
+use mathlib.Core.Path.{_≡_, refl, sym, ap, _∙_, fun-ext}
 use mathlib.Core.Logic.{_⊎_, inl, inr}
 use mathlib.Core.Bool.{Bool, true, false, false≢true}
 use mathlib.Core.List.{List, [], _∷_}
@@ -13,42 +13,41 @@ use native.Mathlib.Omega.{arith}
 use lib.ListN.{length}
 use lib.Dec.{eqb}
 use borrow.Author.Tests.{eq-eqb}
-use Rattle.netlist.specs.Syntax.{Tree}
-use Rattle.netlist.specs.Parse.{Parsed, got, stuck, Reader, pure, stop, onTest, ifNext, expect, onParsed, bind}
+use Rattle.netlist.specs.Parse.{Parsed, got, stuck, Reader, pure, stop, onTest, ifNext, expect, nothingBehind, onParsed, bind}
 
 abbrev pub accepted : {A : Type 0} → Parsed A → Bool
 accepted (got a s) = true
 accepted (stuck n) = false
 
-abbrev pub Fails : Reader Tree → List ℕ → ℕ → Type 0
+abbrev pub Fails : {T : Type 0} → Reader T → List ℕ → ℕ → Type 0
 Fails r [] n = n ≡ 0
 Fails r (c ∷ s) n =
     ((n ≡ suc (length s)) × ((w : List ℕ) → accepted (r (c ∷ w)) ≡ true → ⊥))
     ⊎ (((w : List ℕ) × (accepted (r (c ∷ w)) ≡ true)) × Fails (λ w. r (c ∷ w)) s n)
 
-pub record HalfGood (r : Reader Tree) : Type 0 where
+pub record HalfGood {T : Type 0} (r : Reader T) : Type 0 where
   pub fails : (s : List ℕ) (n : ℕ) → r s ≡ stuck n → Fails r s n
 
-pub record Good (r : Reader Tree) : Type 0 where
+pub record Good {T : Type 0} (r : Reader T) : Type 0 where
   pub half : HalfGood r
   pub sample : List ℕ
   pub accepts : accepted (r sample) ≡ true
 
 -- `Fails` at a byte, over what is read behind it
-abbrev FailsBehind : Reader Tree → List ℕ → ℕ → Type 0
+abbrev FailsBehind : {T : Type 0} → Reader T → List ℕ → ℕ → Type 0
 FailsBehind r s n =
     ((n ≡ suc (length s)) × ((w : List ℕ) → accepted (r w) ≡ true → ⊥))
     ⊎ (((w : List ℕ) × (accepted (r w) ≡ true)) × Fails r s n)
 
-pub half-stop : HalfGood stop
+pub half-stop : {T : Type 0} → HalfGood {T = T} stop
 unfolding stop
-half-stop = record { fails = go }
+half-stop {T} = record { fails = go }
   where
-    go : (s : List ℕ) (n : ℕ) → stop {A = Tree} s ≡ stuck n → Fails stop s n
+    go : (s : List ℕ) (n : ℕ) → stop {A = T} s ≡ stuck n → Fails {T = T} stop s n
     go [] n e = cc
     go (c ∷ s) n e = inl (cc, λ w h. false≢true h)
 
-module _ (test : ℕ → Bool) (first : ℕ → Reader Tree) (second : Reader Tree) (hit : (c : ℕ) → test c ≡ true → Good (first c))
+module _ {T : Type 0} (test : ℕ → Bool) (first : ℕ → Reader T) (second : Reader T) (hit : (c : ℕ) → test c ≡ true → Good (first c))
     (miss : HalfGood second) where
   pub half-ifNext : HalfGood (ifNext test first second)
   unfolding ifNext onTest
@@ -67,18 +66,18 @@ module _ (test : ℕ → Bool) (first : ℕ → Reader Tree) (second : Reader Tr
   unfolding ifNext onTest
   good-ifNext c q = record { half = half-ifNext; sample = c ∷ hit c q .sample; accepts = rw q (hit c q .accepts) }
 
-pub good-expect : (cs : List ℕ) (next : Reader Tree) → Good next → Good (expect cs next)
+pub good-expect : {T : Type 0} (cs : List ℕ) (next : Reader T) → Good next → Good (expect cs next)
 unfolding expect
 good-expect [] next g = g
 good-expect (c ∷ cs) next g = good-ifNext (eqb c) (λ _. expect cs next) stop (λ d q. good-expect cs next g) half-stop c (eq-eqb c c refl)
 
 -- ---- a reader before any good one
 
-pub record GoodBefore {A : Type 0} (r : Reader A) : Type 0 where
-  pub good : (next : A → Reader Tree) → ((a : A) → Good (next a)) → Good (bind r next)
+pub record GoodBefore {A : Type 0} (r : Reader A) : Type 1 where
+  pub good : {T : Type 0} (next : A → Reader T) → ((a : A) → Good (next a)) → Good (bind r next)
 
-pub record HalfGoodBefore {A : Type 0} (r : Reader A) : Type 0 where
-  pub half : (next : A → Reader Tree) → ((a : A) → Good (next a)) → HalfGood (bind r next)
+pub record HalfGoodBefore {A : Type 0} (r : Reader A) : Type 1 where
+  pub half : {T : Type 0} (next : A → Reader T) → ((a : A) → Good (next a)) → HalfGood (bind r next)
 
 module _ {A : Type 0} where
   pub before-pure : (a : A) → GoodBefore (pure a)
@@ -89,7 +88,7 @@ module _ {A : Type 0} where
   unfolding stop bind onParsed
   before-stop = record { half = λ next g. half-stop }
 
-  module _ (test : ℕ → Bool) (first : ℕ → Reader A) (second : Reader A) (next : A → Reader Tree) where
+  module _ {T : Type 0} (test : ℕ → Bool) (first : ℕ → Reader A) (second : Reader A) (next : A → Reader T) where
     bind-ifNext : bind (ifNext test first second) next ≡ ifNext test (λ c. bind (first c) next) (bind second next)
     unfolding bind onParsed ifNext onTest
     bind-ifNext = fun-ext go
@@ -126,7 +125,7 @@ module _ {A : Type 0} where
   before-expect (c ∷ cs) r b = before-ifNext (eqb c) (λ _. expect cs r) stop (λ d q. before-expect cs r b) before-stop c (eq-eqb c c refl)
 
 module _ {A B : Type 0} where
-  bind-bind : (r : Reader A) (f : A → Reader B) (next : B → Reader Tree) → bind (bind r f) next ≡ bind r (λ a. bind (f a) next)
+  bind-bind : {T : Type 0} (r : Reader A) (f : A → Reader B) (next : B → Reader T) → bind (bind r f) next ≡ bind r (λ a. bind (f a) next)
   unfolding bind onParsed
   bind-bind r f next = fun-ext λ s. go (r s)
     where
@@ -139,24 +138,32 @@ module _ {A B : Type 0} where
 
 -- ---- a good reader, and then a value made of what it read
 
-same-fails : (r q : Reader Tree) → ((w : List ℕ) → accepted (r w) ≡ accepted (q w)) → (s : List ℕ) (n : ℕ) → Fails r s n → Fails q s n
+same-fails : {T U : Type 0} (r : Reader T) (q : Reader U) → ((w : List ℕ) → accepted (r w) ≡ accepted (q w)) → (s : List ℕ) (n : ℕ) → Fails r s n → Fails q s n
 same-fails r q same [] n f = f
 same-fails r q same (c ∷ s) n (inl f) = inl (f .0, λ w h. f .1 w (same (c ∷ w) ∙ h))
 same-fails r q same (c ∷ s) n (inr f) =
     inr ((f .0 .0, sym (same (c ∷ f .0 .0)) ∙ f .0 .1), same-fails (λ w. r (c ∷ w)) (λ w. q (c ∷ w)) (λ w. same (c ∷ w)) s n (f .1))
 
-pub good-made : (r : Reader Tree) (make : Tree → Tree) → Good r → Good (bind r (λ t. pure (make t)))
+pub good-made : {T U : Type 0} (r : Reader T) (make : T → U) → Good r → Good (bind r (λ t. pure (make t)))
 unfolding bind onParsed pure
-good-made r make g = record {
+good-made {T} r make g = record {
   half = record { fails = λ s n e. same-fails r _ (λ w. same (r w)) s n (g .half .fails s n (same-stuck (r s) n e)) };
   sample = g .sample;
   accepts = sym (same (r (g .sample))) ∙ g .accepts;
 }
   where
-    same : (p : Parsed Tree) → accepted p ≡ accepted (onParsed (λ t. pure (make t)) p)
+    same : (p : Parsed T) → accepted p ≡ accepted (onParsed (λ t. pure (make t)) p)
     same (got a s) = refl
     same (stuck n) = refl
 
-    same-stuck : (p : Parsed Tree) (n : ℕ) → onParsed (λ t. pure (make t)) p ≡ stuck n → p ≡ stuck n
+    same-stuck : (p : Parsed T) (n : ℕ) → onParsed (λ t. pure (make t)) p ≡ stuck n → p ≡ stuck n
     same-stuck (got a s) n e = let z : _≡_ {A = ℕ} 0 1 = cc in absurd (omega arith)
-    same-stuck (stuck m) n e = e
+    same-stuck (stuck m) n e = let f : m ≡ n = cc in ap stuck f
+
+-- the end of the text
+pub good-end : {T : Type 0} (t : T) → Good (nothingBehind t)
+good-end {T} t = record { half = record { fails = go }; sample = []; accepts = refl }
+  where
+    go : (s : List ℕ) (n : ℕ) → nothingBehind t s ≡ stuck n → Fails (nothingBehind t) s n
+    go [] n e = let z : _≡_ {A = ℕ} 0 1 = cc in absurd (omega arith)
+    go (c ∷ s) n e = inl (cc, λ w h. false≢true h)

@@ -2,19 +2,17 @@
 --   textReader-good: the reader of a whole text is good, with every bound on the lines
 use Prim.Native.Nat.{ℕ, zero, suc, _-_}
 use mathlib.Core.Path.{_≡_, refl}
-use mathlib.Core.Logic.{inl}
-use mathlib.Core.Bool.{Bool, true, false, false≢true}
-use mathlib.Core.List.{List, [], _∷_}
-use native.Mathlib.Omega.{arith}
+use mathlib.Core.Bool.{Bool, true, false}
+use mathlib.Core.List.{[], _∷_}
 use Rattle.laws.specs.Lists.{ascii}
 use Rattle.netlist.specs.Limits.{maxName, maxDepth}
 use Rattle.netlist.specs.Kinds.{fewestOperands, mostOperands}
 use Rattle.netlist.specs.StoredBlock.{isLetter, isNameByte, isNameStart}
 use Rattle.netlist.specs.Syntax.{Term, Terms, name, literal, apply, nil, cons, Tree}
-use Rattle.netlist.specs.Parse.{Reader, stuck, stop, nameBytes, nameAfter, nameReader, kindReader, spaced, termsReader, exprReader, leafOr, termReader}
+use Rattle.netlist.specs.Parse.{Reader, stop, nameBytes, nameAfter, nameReader, kindReader, spaced, termsReader, exprReader, leafOr, termReader}
 use Rattle.netlist.specs.Parse.{addInput, addGate, inputLine, gateLine, outputLine, atEnd, line, outputsReader, gatesReader, textReader}
-use Rattle.grammar.proofs.Refusals.{Fails, Good, HalfGood, GoodBefore, HalfGoodBefore, half-stop, good-ifNext, good-expect, before-pure}
-use Rattle.grammar.proofs.Refusals.{before-stop, before-ifNext, halfBefore-ifNext, before-half, before-expect, before-bind, good-made}
+use Rattle.grammar.proofs.Refusals.{Good, HalfGood, GoodBefore, HalfGoodBefore, half-stop, good-ifNext, good-expect, before-pure}
+use Rattle.grammar.proofs.Refusals.{before-stop, before-ifNext, halfBefore-ifNext, before-half, before-expect, before-bind, good-made, good-end}
 
 nameBytes-good : (most : ℕ) → GoodBefore (nameBytes most)
 unfolding nameBytes isNameByte isLetter
@@ -27,7 +25,7 @@ nameAfter-good : (c : ℕ) → GoodBefore (nameAfter c)
 unfolding nameAfter
 nameAfter-good c = before-bind (nameBytes (maxName - 1)) _ (nameBytes-good (maxName - 1)) λ cs. before-pure (c ∷ cs)
 
-nameReader-good : (start : ℕ → Bool) → start 97 ≡ true → GoodBefore (nameReader start)
+pub nameReader-good : (start : ℕ → Bool) → start 97 ≡ true → GoodBefore (nameReader start)
 unfolding nameReader
 nameReader-good start h = before-ifNext start _ _ (λ c q. nameAfter-good c) before-stop 97 h
 
@@ -96,11 +94,7 @@ module _ (others otherwise : Reader Tree) (g : Good others) (h : HalfGood otherw
 
 atEnd-good : Good atEnd
 unfolding atEnd
-atEnd-good = record { half = record { fails = go }; sample = []; accepts = refl }
-  where
-    go : (s : List ℕ) (n : ℕ) → atEnd s ≡ stuck n → Fails atEnd s n
-    go [] n e = let z : _≡_ {A = ℕ} 0 1 = cc in absurd (omega arith)
-    go (c ∷ s) n e = inl (cc, λ w h. false≢true h)
+atEnd-good = good-end _
 
 line-good : (behind : Reader Tree) → Good behind → Good (line behind)
 unfolding line

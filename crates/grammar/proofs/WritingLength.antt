@@ -24,7 +24,7 @@ use Rattle.encoding.proofs.WellFormed.{WellFormed, wellFormed-parts}
 use Rattle.grammar.proofs.WellFormed.{gate-facts}
 use Rattle.grammar.proofs.WritingTree.{node-legal}
 
-name-short : (start : ℕ → Bool) (x : Name) → isLegalName start x ≡ true → length x ≤ maxName
+pub name-short : (start : ℕ → Bool) (x : Name) → isLegalName start x ≡ true → length x ≤ maxName
 unfolding isLegalName
 name-short start x h =
     let a = and3 (leb 1 (length x) && leb (length x) maxName) (start (getD x 0 0)) (all isNameByte x) h in

@@ -55,7 +55,7 @@ flatTree-within b h =
 abbrev pub nameOf : Mention → Name
 nameOf d = d .name
 
-mention-names : {A : Type 0} (printed : A → List ℕ → List ℕ) (inLine : A → ℕ → List Mention) (named : A → Name)
+pub mention-names : {A : Type 0} (printed : A → List ℕ → List ℕ) (inLine : A → ℕ → List Mention) (named : A → Name)
     → ((x : A) (at : ℕ) → map nameOf (inLine x at) ≡ named x ∷ []) → (xs : List A) (at : ℕ)
     → map nameOf (mentions printed inLine xs at) ≡ map named xs
 unfolding mentions

@@ -50,7 +50,7 @@ index-same xs ys count x h =
     (λ i l. let le = least-le (isAt ys x) count in rw (h i (omega arith)) (least-below (isAt ys x) count i l))
     (λ l. rw (h (least (isAt ys x) count) l) (least-at (isAt ys x) count l))
 
-index-cons : (y : ℕ) (ys : List ℕ) (count x : ℕ) → indexOf (y ∷ ys) (suc count) x ≡ cond (eqb y x) 0 (suc (indexOf ys count x))
+pub index-cons : (y : ℕ) (ys : List ℕ) (count x : ℕ) → indexOf (y ∷ ys) (suc count) x ≡ cond (eqb y x) 0 (suc (indexOf ys count x))
 unfolding indexOf isAt
 index-cons y ys count x = ap (cond (eqb y x) 0) (leastFrom-suc (isAt (y ∷ ys) x) 0 count)
 

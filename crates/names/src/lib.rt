@@ -1,5 +1,5 @@
 // What a text in form declares: counts and limits, its names with their places and node numbers, repeats, and the search for a name.
-mod lines;
+pub mod lines;
 pub mod pack;
 pub mod search;
 pub mod table;

@@ -38,7 +38,7 @@ fn repeats(names: &[u64], i: usize) -> bool
 }
 
 // The index of the first name that is one of those before it, or the length.
-fn first_repeat(names: &[u64]) -> usize
+pub fn first_repeat(names: &[u64]) -> usize
     ensures { λ r. ⌜ r ≡ least (repeatsAt (now (names .entry))) (length (now (names .entry))) ⌝ }
 {
     let mut i = 0;

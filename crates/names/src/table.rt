@@ -47,7 +47,7 @@ fn fill_places(text: &[u8], lines: usize, places: &mut [usize])
 }
 
 // The number of the name at each of these places.
-fn fill_names(text: &[u8], places: &[usize], lines: usize, names: &mut [u64])
+pub fn fill_names(text: &[u8], places: &[usize], lines: usize, names: &mut [u64])
     requires { ⌜ (lines ≤ length (now places)) × (lines ≤ length (now names)) ⌝ }
     ensures { λ r. ⌜ now (names .exit) ≡ placed (tab (packedThrough (now (text .entry)) (now (places .entry))) lines) (now (names .entry)) ⌝ }
 {

@@ -16,4 +16,6 @@ pub mod Line
 pub mod Answers
 pub mod Operations
 pub mod Program
+pub mod SetLine
+pub mod Bench
 pub mod Specimens

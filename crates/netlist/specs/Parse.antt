@@ -19,7 +19,7 @@ pub data Parsed (A : Type 0) : Type 0 where
 abbrev pub Reader : Type 0 → Type 0
 Reader A = List ℕ → Parsed A
 
--- ---- five ways to make a reader
+-- ---- ways to make a reader
 
 module _ {A : Type 0} where
   -- reads nothing
@@ -43,6 +43,11 @@ module _ {A : Type 0} where
   unfoldable pub expect : List ℕ → Reader A → Reader A
   expect [] next = next
   expect (c ∷ cs) next = ifNext (eqb c) (λ _. expect cs next) stop
+
+  -- the text ends here
+  abbrev pub nothingBehind : A → Reader A
+  nothingBehind a [] = got a []
+  nothingBehind a (c ∷ s) = stuck (length (c ∷ s))
 
 module _ {A B : Type 0} where
   unfoldable pub onParsed : (A → Reader B) → Parsed A → Parsed B
@@ -144,8 +149,7 @@ outputLine others otherwise =
     otherwise
 
 unfoldable pub atEnd : Reader Tree
-atEnd [] = got (record { inputs = []; gates = []; outputs = [] }) []
-atEnd (c ∷ s) = stuck (length (c ∷ s))
+atEnd s = nothingBehind (record { inputs = []; gates = []; outputs = [] }) s
 
 -- the end of the text, or a line behind its opening bracket
 unfoldable pub line : Reader Tree → Reader Tree

@@ -1,5 +1,5 @@
 -- SPECIFICATION 9.1 to 9.8: the worked examples, among them those that tell the definitions from their near misses, as one claim over one
--- list, computed from the definitions.
+-- list, computed from the definitions; behind them worked examples of the bench.
 use Prim.Native.Nat.{ℕ, suc, _+_, _-_, _%_}
 use Prim.Native.String.{String}
 use mathlib.Core.Path.{_≡_, refl}
@@ -15,7 +15,7 @@ use Rattle.netlist.specs.StoredBlock.{gatesAt, outputsAt, isLetter, isDi
 use Rattle.netlist.specs.StoredBlock.{isNodeName, nameWords, bytesAt, nameAt, nodeWord, operandOf, gateWords, gateAt, outputWords, outputAt, encode}
 use Rattle.netlist.specs.StoredBlock.{decode, isNode, isOperand, gateFits, isWellFormed, isTorn}
 use Rattle.netlist.specs.Rounds.{operandValue, evaluated, round, afterRounds, isStable, rounds, settled, bit, settingOf, settingCount, settledUnder}
-use Rattle.netlist.specs.Rounds.{isSettled, settledSettings, lowestUnsettled}
+use Rattle.netlist.specs.Rounds.{isSettled, settledSettings, lowestUnsettled, outputValue}
 use Rattle.netlist.specs.Cover.{fixes, agrees, isSoundUnder, isSound, without, isMinimal, isWithin, assignmentsAt, assignments, cover, coverEntries}
 use Rattle.netlist.specs.Groups.{gateOperand, readBy, reads, has, grown, grownTimes, reach, reaches, sameGroup, groupOf, isReady, mayBeNext}
 use Rattle.netlist.specs.Groups.{groupsAfter, groups, groupNumber, groupNumbers, copyCount}
@@ -35,6 +35,10 @@ use Rattle.netlist.specs.Answers.{Outcome, refusalNumber, refusalDetail,
 use Rattle.netlist.specs.Operations.{counted, readTree, readParsed, readText, read, isBadSetting, settleBlock, settle, verdict, coverBlock, coverOf}
 use Rattle.netlist.specs.Operations.{groupsBlock, groupsOf, renderBlock, renderWords, render, passBlock, pass, writeWords, write}
 use Rattle.netlist.specs.Program.{chained, refusalLine, shown, unloop}
+use Rattle.netlist.specs.SetLine.{valueText, pairText, printPair, bitReader, pairReader, spacedPair, pairsReader, setLineReader}
+use Rattle.netlist.specs.Bench.{pairMention, givenNames, givenValue, givenValues, portText, showLine, pairsOutcome, parsedOutcome, lineOutcome}
+use Rattle.netlist.specs.Bench.{answerLine, lineAnswer, netlistFrom, settingsFrom, netlistPart, settingsPart, lastLine, linesFrom, linesOf}
+use Rattle.netlist.specs.Bench.{lineAnswers, benchAfter, bench}
 
 -- What is asked. Where an operation takes a block, the question gives the block's text or its words; `room` is the slice's length.
 pub data Question : Type 0 where
@@ -44,6 +48,8 @@ pub data Question : Type 0 where
   toCover toGroup toRender toWrite : List ℕ → (room : ℕ) → Question
   toShowLine : List ℕ → (place : ℕ) → Question
   toCountCopies toUnloop : List ℕ → Question
+  toAnswerLine : List ℕ → (line : List ℕ) → (room : ℕ) → Question
+  toBench : List ℕ → Question
 
 -- number, count and detail, and then the result
 unfoldable pub report : Outcome → List ℕ
@@ -62,6 +68,8 @@ answered (toWrite ws room) = report (write ws room)
 answered (toShowLine text place) = lineAt text place
 answered (toCountCopies ws) = copyCount (decode ws) ∷ []
 answered (toUnloop text) = unloop text
+answered (toAnswerLine ws line room) = report (answerLine ws line room)
+answered (toBench input) = bench input
 
 pub record Specimen : Type 0 where
   pub asked : Question
@@ -105,6 +113,10 @@ parityLoop = "(in a)\n(in s)\n(gate p (and s q))\n(gate q (xor a (and p (not s))
 unfoldable pub kinds : String
 kinds =
     "(in a)\n(gate p (and a 0))\n(gate q (or 1 a))\n(gate r (nand a 0))\n(gate s (nor a 1 1 1))\n(gate t (not a))\n(gate u (nand a 1 1))\n(gate v (nor 0 0 a 0))\n"
+
+-- two inputs, and ports whose order is neither that of the gates nor that of the letters
+unfoldable pub board : String
+board = "(in a)\n(in b)\n(gate g (and a b))\n(gate h (or a b))\n(out z h)\n(out y g)\n(out x a)\n"
 
 unfoldable pub eleven : List ℕ
 eleven = repeated 11 (ascii "(in a)\n")
@@ -240,9 +252,33 @@ specimens =
     ∷ (toShowLine (ascii "ab\ncd") 3 ⇒ ascii "cd")
     ∷ (toShowLine (ascii "ab\ncd") 99 ⇒ ascii "cd")
     ∷ (toShowLine (ascii "ab\n") 3 ⇒ [])
+    -- a set line: partial settings, ports in file order, and the order 6, 2, 4, 5, 11
+    ∷ (toAnswerLine (blockWords board) (ascii "(set (b 0))\n") 25 ⇒ 0 ∷ 25 ∷ 0 ∷ ascii "(show (z u) (y 0) (x u))\n")
+    ∷ (toAnswerLine (blockWords board) (ascii "(set (b 0))\n") 24 ⇒ with 11 0)
+    ∷ (toAnswerLine [] (ascii "(set") 0 ⇒ with 6 0)
+    ∷ (toAnswerLine (blockWords board) (ascii "(set (q 1) (q 1") 0 ⇒ with 2 15)
+    ∷ (toAnswerLine (blockWords board) (ascii "(set (q 1) (q 1))\n") 0 ⇒ with 4 12)
+    ∷ (toAnswerLine (blockWords board) (ascii "(set (a 1) (g 1))\n") 0 ⇒ with 5 12)
+    ∷ (toAnswerLine (blockWords board) (ascii "(set (_q 1))\n") 0 ⇒ with 5 6)
+    -- a pair more than inputs; an LF too early; bytes behind the LF; a byte that is no value
+    ∷ (toAnswerLine (blockWords board) (ascii "(set (a 1) (b 1) (a 1))\n") 0 ⇒ with 2 16)
+    ∷ (toAnswerLine (blockWords "") (ascii "(set (a 1))\n") 0 ⇒ with 2 4)
+    ∷ (toAnswerLine (blockWords board) (ascii "(set (a 1)\n") 0 ⇒ with 2 10)
+    ∷ (toAnswerLine (blockWords board) (ascii "(set)\n\n") 0 ⇒ with 2 6)
+    ∷ (toAnswerLine (blockWords board) (ascii "(set (a u))\n") 0 ⇒ with 2 8)
+    -- the bench: a refused line is answered and the next one read; a last line cut off; an empty line among the set lines
+    ∷ (toBench (ascii board ++ ascii "\n(set (b 1) (a 0))\n(set)\n(set (a 2))\n\n(set (a 1) (a 0))\n(set (h 1))\n(set (a 1))\n(set (a")
+    ⇒ ascii "(show (z 1) (y 0) (x 0))\n(show (z u) (y u) (x u))\n(refused 2 8)\n(refused 2 0)\n(refused 4 12)\n(refused 5 6)\n(show (z 1) (y u) (x 1))\n(refused 2 7)\n")
+    ∷ (toBench (ascii "(in a)\n\n(set (a 1))\n(set)") ⇒ ascii "(show)\n(refused 2 5)\n")
+    -- an empty netlist; a netlist alone; a refused one ends the run; the netlist ends at the first empty line
+    ∷ (toBench (ascii "\n(set)\n") ⇒ ascii "(show)\n")
+    ∷ (toBench (ascii board) ⇒ [])
+    ∷ (toBench [] ⇒ [])
+    ∷ (toBench (ascii "(in a)\n(in a)\n\n(set)\n") ⇒ ascii "(refused 4 11)\n")
+    ∷ (toBench (ascii "(in a)\n\n\n(set)\n") ⇒ ascii "(refused 2 0)\n(show)\n")
     ∷ []
 
 -- All of them come out as stated.
 pub specimens-hold : all right specimens ≡ true
-unfolding code valueOf invert isDefined row rows rowOf isNot isXor isXnor isKind signatureOf fewestOperands mostOperands arityFits keyword ruled ones parity gateValue gatesAt outputsAt isLetter isDigit isUnderscore isNameByte isNameStart isLegalName isPlainName isNodeName nameWords bytesAt nameAt nodeWord operandOf gateWords gateAt outputWords outputAt encode decode isNode isOperand gateFits isWellFormed isTorn operandValue evaluated round afterRounds isStable rounds settled bit settingOf settingCount settledUnder isSettled settledSettings lowestUnsettled fixes agrees isSoundUnder isSound without isMinimal isWithin assignmentsAt assignments cover coverEntries gateOperand readBy reads has grown grownTimes reach reaches sameGroup groupOf isReady mayBeNext groupsAfter groups groupNumber groupNumbers copyCount passes schedule noCopies copiedOperand copied copies newestAfter lastCopies rendering isStraight sweepFrom sweep printTerm printInput printGate printOutput printLines print pure stop onTest ifNext expect onParsed bind nameBytes nameAfter nameReader kindReader spaced termsReader exprReader leafOr termReader addInput addGate addOutput inputLine gateLine outputLine atEnd line outputsReader gatesReader textReader parse gatesIn lineGates isOverLimit mentions linesLength gateLinesAt outputLinesAt inputMention gateMention portMention shownMention termMentions operandMentions declaredNodes declaredPorts usedNames firstRepeat orElse firstDuplicate firstOutside firstUndeclared inputBindings gateBindings bindings lookup termNode termsNodes termGates linesGates blockOf digits decimal gateName nodeNameOf termOf termsOf flatLine flatTree writtenText clamped startBefore untilLf lineStart lineEnd lineLength lineAt refusalNumber refusalDetail numberOf countOf detailOf refuseIf refuseAt inRoom answerOf leftIn counted readTree readParsed readText read isBadSetting settleBlock settle verdict coverBlock coverOf groupsBlock groupsOf renderBlock renderWords render passBlock pass writeWords write chained refusalLine shown unloop report answered right blockWords _⇒_ with specimen4 specimen6 rendered6 kinds parities parityLoop eleven ring specimens
+unfolding code valueOf invert isDefined row rows rowOf isNot isXor isXnor isKind signatureOf fewestOperands mostOperands arityFits keyword ruled ones parity gateValue gatesAt outputsAt isLetter isDigit isUnderscore isNameByte isNameStart isLegalName isPlainName isNodeName nameWords bytesAt nameAt nodeWord operandOf gateWords gateAt outputWords outputAt encode decode isNode isOperand gateFits isWellFormed isTorn operandValue evaluated round afterRounds isStable rounds settled bit settingOf settingCount settledUnder isSettled settledSettings lowestUnsettled fixes agrees isSoundUnder isSound without isMinimal isWithin assignmentsAt assignments cover coverEntries gateOperand readBy reads has grown grownTimes reach reaches sameGroup groupOf isReady mayBeNext groupsAfter groups groupNumber groupNumbers copyCount passes schedule noCopies copiedOperand copied copies newestAfter lastCopies rendering isStraight sweepFrom sweep printTerm printInput printGate printOutput printLines print pure stop onTest ifNext expect onParsed bind nameBytes nameAfter nameReader kindReader spaced termsReader exprReader leafOr termReader addInput addGate addOutput inputLine gateLine outputLine atEnd line outputsReader gatesReader textReader parse gatesIn lineGates isOverLimit mentions linesLength gateLinesAt outputLinesAt inputMention gateMention portMention shownMention termMentions operandMentions declaredNodes declaredPorts usedNames firstRepeat orElse firstDuplicate firstOutside firstUndeclared inputBindings gateBindings bindings lookup termNode termsNodes termGates linesGates blockOf digits decimal gateName nodeNameOf termOf termsOf flatLine flatTree writtenText clamped startBefore untilLf lineStart lineEnd lineLength lineAt refusalNumber refusalDetail numberOf countOf detailOf refuseIf refuseAt inRoom answerOf leftIn counted readTree readParsed readText read isBadSetting settleBlock settle verdict coverBlock coverOf groupsBlock groupsOf renderBlock renderWords render passBlock pass writeWords write chained refusalLine shown unloop outputValue valueText pairText printPair bitReader pairReader spacedPair pairsReader setLineReader pairMention givenNames givenValue givenValues portText showLine pairsOutcome parsedOutcome lineOutcome answerLine lineAnswer netlistFrom settingsFrom netlistPart settingsPart lastLine linesFrom linesOf lineAnswers benchAfter bench report answered right blockWords _⇒_ with specimen4 specimen6 rendered6 kinds board parities parityLoop eleven ring specimens
 specimens-hold = refl

@@ -97,20 +97,30 @@ isLegalOutput o = isPlainName (o .port) && isNodeName (o .shown)
 unfoldable pub isLegalTree : Tree → Bool
 isLegalTree t = all isPlainName (t .inputs) && all isLegalGate (t .gates) && all isLegalOutput (t .outputs)
 
--- ---- which texts are legal
+-- ---- which texts are legal: for any sort of tree, by the test of a legal one and what each looks like
 
-pub record Legal (text : List ℕ) : Type 0 where
-  pub tree : Tree
+pub record LegalOf {A : Type 0} (isLegalTree : A → Bool) (print : A → List ℕ) (text : List ℕ) : Type 0 where
+  pub tree : A
   pub legal : isLegalTree tree ≡ true
   pub printed : print tree ≡ text
 
 -- some legal text begins so
-pub record Viable (beginning : List ℕ) : Type 0 where
+pub record ViableOf {A : Type 0} (isLegalTree : A → Bool) (print : A → List ℕ) (beginning : List ℕ) : Type 0 where
   pub rest : List ℕ
-  pub legal : Legal (beginning ++ rest)
+  pub legal : LegalOf isLegalTree print (beginning ++ rest)
 
 -- Refusal 2 at this place: some legal text begins as this one does up to it, none with one byte more, or the text ends there.
-pub record FirstBad (text : List ℕ) (place : ℕ) : Type 0 where
-  pub illegal : Legal text → ⊥
-  pub begins : Viable (take place text)
-  pub bad : (place ≡ length text) ⊎ (Viable (take (suc place) text) → ⊥)
+pub record FirstBadOf {A : Type 0} (isLegalTree : A → Bool) (print : A → List ℕ) (text : List ℕ) (place : ℕ) : Type 0 where
+  pub illegal : LegalOf isLegalTree print text → ⊥
+  pub begins : ViableOf isLegalTree print (take place text)
+  pub bad : (place ≡ length text) ⊎ (ViableOf isLegalTree print (take (suc place) text) → ⊥)
+
+-- of netlist texts
+abbrev pub Legal : List ℕ → Type 0
+Legal = LegalOf isLegalTree print
+
+abbrev pub Viable : List ℕ → Type 0
+Viable = ViableOf isLegalTree print
+
+abbrev pub FirstBad : List ℕ → ℕ → Type 0
+FirstBad = FirstBadOf isLegalTree print

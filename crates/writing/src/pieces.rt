@@ -54,7 +54,7 @@ fn put_trimmed(text: &mut [u8], at: usize, bytes: &[u8]) -> usize
 }
 
 // The eight bytes of the name at `from`: a word has two, the lower one first (SPECIFICATION 2.2).
-fn name_bytes(words: &[u16], from: usize) -> [u8; MAX_NAME]
+pub fn name_bytes(words: &[u16], from: usize) -> [u8; MAX_NAME]
     requires { ⌜ from ≤ 1000000 ⌝ }
     ensures { λ r. ⌜ r ≡ bytesAt (now (words .entry)) from ⌝ }
 {

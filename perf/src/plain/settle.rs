@@ -6,7 +6,7 @@ use std::mem::swap;
 use unloop::raw::Reply;
 
 /// The settled value of each gate; count: rounds.
-pub fn settle(words: &[u16], setting: &[u8], values: &mut [u8]) -> Reply {
+pub fn settle(words: &[u16], setting: &[u8], result: &mut [u8]) -> Reply {
     let Some(block) = Block::of(words) else {
         return refused(6, 0);
     };
@@ -14,6 +14,13 @@ pub fn settle(words: &[u16], setting: &[u8], values: &mut [u8]) -> Reply {
         return refused(7, 0);
     }
     let (n, m) = (block.inputs.len(), block.gates.len());
+    let (rounds, values) = settled_values(&block, setting);
+    handed_over(&values[n..n + m], rounds, result)
+}
+
+/// The rounds, and the settled values of inputs, gates and constants.
+pub fn settled_values(block: &Block, setting: &[u8]) -> (usize, Vec<u8>) {
+    let n = block.inputs.len();
     let mut before = block.undefined(setting);
     let mut after = before.clone();
     let mut rounds = 0;
@@ -22,7 +29,7 @@ pub fn settle(words: &[u16], setting: &[u8], values: &mut [u8]) -> Reply {
             *value = gate.value(&before);
         }
         if after == before {
-            return handed_over(&after[n..n + m], rounds, values);
+            return (rounds, after);
         }
         swap(&mut before, &mut after);
         rounds += 1;

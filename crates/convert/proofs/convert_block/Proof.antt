@@ -5,7 +5,8 @@ use Rattle.convert.proofs.convert_block.Statement.{statement}
 use Rattle.convert.proofs.convert_block.Tie as tie
 use lib.ListN.{length}
 use Rattle.netlist.specs.Operations.{render, renderWords, writeWords}
-use Rattle.convert.proofs.Telling.{told-refused, told-done, gave-within, chained-refused, chained-gave, shown-is}
+use Rattle.telling.proofs.Told.{told-refused, told-done, gave-within, shown-is}
+use Rattle.convert.proofs.Telling.{chained-refused, chained-gave}
 use Rattle.convert.proofs.Sizes.{render-fits}
 use lib.Seq.{length-take-le}
 

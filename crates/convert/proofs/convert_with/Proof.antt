@@ -5,8 +5,9 @@ use Rattle.convert.proofs.convert_with.Statement.{statement}
 use Rattle.convert.proofs.convert_with.Tie as tie
 use lib.ListN.{length}
 use Rattle.netlist.specs.Operations.{read, readText}
-use Rattle.convert.proofs.Telling.{told-refused, told-done, gave-within, unloop-refused, unloop-gave}
-use Rattle.convert.proofs.Sizes.{read-fits}
+use Rattle.telling.proofs.Told.{told-refused, told-done, gave-within}
+use Rattle.telling.proofs.Sizes.{read-fits}
+use Rattle.convert.proofs.Telling.{unloop-refused, unloop-gave}
 use lib.Seq.{length-take-le}
 
 -- the entry, and what Read told on each way

@@ -1,0 +1,48 @@
+# Sourced by the commands of this folder: builds what is missing or older than its sources. The command sets `command`, its own name, and
+# `root`, the repository, and before each `bring` the list `sources`.
+built=$root/target/built # stamps and logs of what is built here
+
+fail() {
+  printf '%s: %s\n' "$command" "$1" >&2
+  exit 2
+}
+
+# Whether a result is missing or older than one of the sources. A build that finds nothing to do leaves its result old, so
+# the stamp of the last build counts as well.
+is_stale() {
+  local result=$1 seen=$1 stamp=$built/${1##*/}
+  [[ -e $result ]] || return 0
+  if [[ $stamp -nt $result ]]; then seen=$stamp; fi
+  [[ -n $(find "${sources[@]}" -newer "$seen" -print -quit) ]]
+}
+
+# Makes a result by the command behind it, which is run in the root and has no input.
+make() {
+  local result=$1 stamp=$built/${1##*/} note=
+  shift
+  command -v "$1" >/dev/null || fail "'$1', which builds ${result#"$root/"}, is not on the PATH"
+  if [[ $1 == rt ]]; then note=' (the first time this takes minutes)'; fi
+  printf '%s: building %s%s\n' "$command" "${result#"$root/"}" "$note" >&2
+  touch "$stamp.begun"
+  (cd "$root" && "$@") </dev/null >"$stamp.log" 2>&1 9>&- || fail "'$*' failed: see $stamp.log"
+  [[ -e $result ]] || fail "'$*' made no $result: see $stamp.log"
+  mv "$stamp.begun" "$stamp"
+}
+
+# The same where the result is stale; another run may be making it already.
+bring() {
+  is_stale "$1" || return 0
+  mkdir -p "$built" 2>/dev/null || true
+  [[ -w $built ]] || fail "${1#"$root/"} has to be built, and $built can't be written"
+  exec 9>"$built/lock"
+  flock 9
+  if is_stale "$1"; then make "$@"; fi
+  exec 9>&-
+}
+
+# A program of the crate of this name.
+bring_program() {
+  sources=("$root/crates" "$root/crates.txt")
+  [[ -e $root/target/bin/$1 ]] || rm -f "$root/target/stamp/$1" # rt goes by this alone, and wouldn't link the program again
+  bring "$root/target/bin/$1" rt check "$1"
+}

@@ -1,0 +1,347 @@
+-- What Read gives is not torn: the block of a legal tree that is within the limits, declares nothing twice and uses nothing undeclared is
+-- well-formed. Assumes nothing.
+use Prim.Native.Nat.{ℕ, zero, suc, _+_, _≤_, _<_}
+use mathlib.Core.Path.{_≡_, refl, sym, ap, ap₂, _∙_}
+use mathlib.Core.Bool.{Bool, true, false, cond, not, _&&_, _||_, false≢true, true≢false}
+use mathlib.Core.Logic.{_⊎_, inl, inr}
+use mathlib.Core.Option.{Option, none, some}
+use mathlib.Core.List.{List, [], _∷_, _++_, map, map-append, map-id, map-map}
+use native.Mathlib.Omega.{arith}
+use lib.ListN.{length, length-append, length-map}
+use lib.Dec.{leb, ltb}
+use borrow.Author.Tests.{leb-true, not-false, lt-ltb}
+use Rattle.laws.specs.Lists.{all, any, same, memberList, distinct, sum}
+use Rattle.laws.proofs.Tests.{and-left, and-right, and-intro, or-cases}
+use Rattle.laws.proofs.Quantifiers.{all-append}
+use Rattle.laws.proofs.Same.{same-eq, same-refl}
+use Rattle.netlist.specs.Limits.{maxInputs, maxGates, maxOutputs, maxDepth}
+use Rattle.netlist.specs.Kinds.{isKind, arityFits}
+use Rattle.netlist.specs.Netlist.{Name, Operand, input, gate, constant, Gate, Output, Block, inputCount, gateCount, outputCount}
+use Rattle.netlist.specs.StoredBlock.{isPlainName, isNodeName, isNode, isOperand, gateFits, isWellFormed, encode, decode, isTorn}
+use Rattle.netlist.specs.Syntax.{Term, Terms, name, literal, apply, nil, cons, GateLine, OutputLine, Tree, printInput, printGate, printOutput, termCount, isLegalTerm, isLegalTerms, isLegalGate, isLegalOutput, isLegalTree}
+use Rattle.netlist.specs.Parse.{got, parse}
+use Rattle.netlist.specs.Reading.{gatesIn, gatesInside, lineGates, isOverLimit, Mention, mentions, inputMention, gateMention, portMention, shownMention, termMentions, termsMentions, operandMentions, gateLinesAt, outputLinesAt, declaredNodes, declaredPorts, usedNames, firstRepeat, orElse, firstDuplicate, firstOutside, firstUndeclared, Binding, inputBindings, gateBindings, bindings, lookup, termNode, termsNodes, termGates, termsGates, linesGates, blockOf}
+use Rattle.netlist.specs.Answers.{done}
+use Rattle.netlist.specs.Operations.{readText}
+use Rattle.encoding.proofs.WellFormed.{WellFormed, wellFormed-from}
+use Rattle.encoding.proofs.RoundTrip.{encode-whole}
+use Rattle.encoding.proofs.ListFacts.{all-map}
+use Rattle.grammar.proofs.Sound.{parse-sound}
+use Rattle.grammar.proofs.WritingRefusals.{nameOf, mention-names}
+use Rattle.runs.proofs.ReadBlocks.{Accepted, read-accepted}
+
+-- ---- nothing twice
+
+none-not-some : {A : Type 0} {p : ℕ} → some p ≡ none → A
+none-not-some e = let z : _≡_ {A = ℕ} 0 1 = cc in absurd (omega arith)
+
+-- a name given before is not given again
+not-again : (ds : List Mention) (before : List Name) (x : Name) → firstRepeat before ds ≡ none → memberList x before ≡ true
+    → memberList x (map nameOf ds) ≡ false
+unfolding firstRepeat
+not-again [] before x e m = refl
+not-again (d ∷ ds) before x e m = go (not-again ds (d .name ∷ before) x) (memberList (d .name) before) (same x (d .name)) refl refl e
+  where
+    go : (firstRepeat (d .name ∷ before) ds ≡ none → memberList x (d .name ∷ before) ≡ true → memberList x (map nameOf ds) ≡ false)
+        → (t s : Bool) → memberList (d .name) before ≡ t → same x (d .name) ≡ s
+        → cond t (some (d .place)) (firstRepeat (d .name ∷ before) ds) ≡ none → same x (d .name) || memberList x (map nameOf ds) ≡ false
+    go rec true s et es h = none-not-some h
+    go rec false true et es h = absurd (true≢false (sym m ∙ ap (λ (y : Name). memberList y before) (same-eq x (d .name) es) ∙ et))
+    go rec false false et es h = rw es (rec h (rw es m))
+
+pub no-repeat-distinct : (ds : List Mention) (before : List Name) → firstRepeat before ds ≡ none → distinct (map nameOf ds) ≡ true
+unfolding firstRepeat
+no-repeat-distinct [] before e = refl
+no-repeat-distinct (d ∷ ds) before e = go (no-repeat-distinct ds (d .name ∷ before)) (memberList (d .name) before) refl e
+  where
+    go : (firstRepeat (d .name ∷ before) ds ≡ none → distinct (map nameOf ds) ≡ true)
+        → (t : Bool) → memberList (d .name) before ≡ t → cond t (some (d .place)) (firstRepeat (d .name ∷ before) ds) ≡ none
+        → distinct (map nameOf (d ∷ ds)) ≡ true
+    go rec true et h = none-not-some h
+    go rec false et h = rw (not-again ds (d .name ∷ before) (d .name) h (rw (same-refl (d .name)) refl)) (rec h)
+
+-- what stands in front is not given twice either
+front-unrepeated : (ds es : List Mention) (before : List Name) → firstRepeat before (ds ++ es) ≡ none → firstRepeat before ds ≡ none
+unfolding firstRepeat
+front-unrepeated [] es before e = refl
+front-unrepeated (d ∷ ds) es before e = go (front-unrepeated ds es (d .name ∷ before)) (memberList (d .name) before) refl e
+  where
+    go : (firstRepeat (d .name ∷ before) (ds ++ es) ≡ none → firstRepeat (d .name ∷ before) ds ≡ none)
+        → (t : Bool) → memberList (d .name) before ≡ t → cond t (some (d .place)) (firstRepeat (d .name ∷ before) (ds ++ es)) ≡ none
+        → cond (memberList (d .name) before) (some (d .place)) (firstRepeat (d .name ∷ before) ds) ≡ none
+    go rec true et h = none-not-some h
+    go rec false et h = rw et (rec h)
+
+or-else-none : (a b : Option ℕ) → orElse a b ≡ none → (a ≡ none) × (b ≡ none)
+unfolding orElse
+or-else-none none b e = (refl, e)
+or-else-none (some p) b e = none-not-some e
+
+module _ (t : Tree) (unrepeated : firstDuplicate t ≡ none) where
+  inputs-distinct : distinct (t .inputs) ≡ true
+  unfolding firstDuplicate declaredNodes inputMention
+  inputs-distinct =
+      let e = or-else-none _ _ unrepeated .0 in
+      let f = front-unrepeated (mentions printInput inputMention (t .inputs) 0) _ [] e in
+      let named : map nameOf (mentions printInput inputMention (t .inputs) 0) ≡ map (λ x. x) (t .inputs) =
+      mention-names printInput inputMention (λ x. x) (λ x at. refl) (t .inputs) 0 in
+      rw (named, map-id) at (no-repeat-distinct _ [] f)
+
+  ports-distinct : distinct (map (λ (o : OutputLine). o .port) (t .outputs)) ≡ true
+  unfolding firstDuplicate declaredPorts portMention
+  ports-distinct =
+      let e = or-else-none _ _ unrepeated .1 in
+      let named : map nameOf (mentions printOutput portMention (t .outputs) (outputLinesAt t)) ≡ map (λ (o : OutputLine). o .port) (t .outputs) =
+      mention-names printOutput portMention (λ o. o .port) (λ o at. refl) (t .outputs) (outputLinesAt t) in
+      rw named at (no-repeat-distinct _ [] e)
+
+-- ---- every name stands for a node
+
+module _ (b : Block) where
+  BoundThere : List Binding → Type 0
+  BoundThere bs = all (λ (x : Binding). isNode b (x .node)) bs ≡ true
+
+  inputs-there : (ss : List Name) (i : ℕ) → i + length ss ≤ inputCount b → BoundThere (inputBindings ss i)
+  unfolding BoundThere inputBindings isNode
+  inputs-there [] i h = refl
+  inputs-there (s ∷ ss) i h = rw (lt-ltb i (inputCount b) (omega arith)) (inputs-there ss (suc i) (omega arith))
+
+  gates-there : (gs : List GateLine) (first : ℕ) → first + sum (map lineGates gs) ≤ gateCount b → BoundThere (gateBindings gs first)
+  unfolding BoundThere gateBindings isNode lineGates
+  gates-there [] first h = refl
+  gates-there (g ∷ gs) first h =
+      rw (lt-ltb (first + gatesInside (g .terms)) (gateCount b) (omega arith)) (gates-there gs (first + suc (gatesInside (g .terms))) (omega arith))
+
+  lookup-there : (bs : List Binding) (s : Name) → memberList s (map (λ (x : Binding). x .name) bs) ≡ true → BoundThere bs → isNode b (lookup bs s) ≡ true
+  unfolding BoundThere lookup
+  lookup-there [] s m h = absurd (false≢true m)
+  lookup-there (x ∷ xs) s m h =
+      go (lookup-there xs s) (same s (x .name)) m (and-left (isNode b (x .node)) (all (λ (y : Binding). isNode b (y .node)) xs) h)
+      (and-right (isNode b (x .node)) (all (λ (y : Binding). isNode b (y .node)) xs) h)
+    where
+      go : (memberList s (map (λ (y : Binding). y .name) xs) ≡ true → all (λ (y : Binding). isNode b (y .node)) xs ≡ true → isNode b (lookup xs s) ≡ true)
+          → (t : Bool) → t || memberList s (map (λ (y : Binding). y .name) xs) ≡ true → isNode b (x .node) ≡ true
+          → all (λ (y : Binding). isNode b (y .node)) xs ≡ true → isNode b (cond t (x .node) (lookup xs s)) ≡ true
+      go rec true m e f = e
+      go rec false m e f = rec m f
+
+  node-operand : (o : Operand) → isNode b o ≡ true → isOperand b o ≡ true
+  unfolding isNode isOperand
+  node-operand (input i) h = h
+  node-operand (gate j) h = h
+  node-operand (constant c) h = refl
+
+-- ---- every gate fits
+
+-- every name that is used is among these
+Known : List Name → List Mention → Type 0
+Known declared us = all (λ (u : Mention). memberList (u .name) declared) us ≡ true
+
+all-known : (declared : List Name) (us : List Mention) → firstOutside declared us ≡ none → Known declared us
+unfolding Known firstOutside
+all-known declared [] e = refl
+all-known declared (u ∷ us) e = go (memberList (u .name) declared) (all-known declared us) e
+  where
+    go : (t : Bool) → (firstOutside declared us ≡ none → all (λ (v : Mention). memberList (v .name) declared) us ≡ true)
+        → cond t (firstOutside declared us) (some (u .place)) ≡ none → t && all (λ (v : Mention). memberList (v .name) declared) us ≡ true
+    go true rec h = rec h
+    go false rec h = none-not-some h
+
+known-parts : (declared : List Name) (us vs : List Mention) → Known declared (us ++ vs) → Known declared us × Known declared vs
+unfolding Known
+known-parts declared us vs h =
+    let p : Mention → Bool = λ u. memberList (u .name) declared in
+    let e : all p us && all p vs ≡ true = sym (all-append p us vs) ∙ h in
+    (and-left (all p us) (all p vs) e, and-right (all p us) (all p vs) e)
+
+module _ (b : Block) (names : List Binding) (there : BoundThere b names) where
+  abbrev Declares : List Mention → Type 0
+  Declares = Known (map (λ (x : Binding). x .name) names)
+
+  term-operand : (t : Term) (at first : ℕ) → Declares (termMentions t at) → first + gatesIn t ≤ gateCount b
+      → isOperand b (termNode t names first) ≡ true
+  unfolding Known termMentions termNode gatesIn isOperand isNode
+  term-operand (name s) at first k h = node-operand b (lookup names s) (lookup-there b names s (and-left _ true k) there)
+  term-operand (literal v) at first k h = refl
+  term-operand (apply kind ts) at first k h = lt-ltb (first + gatesInside ts) (gateCount b) (omega arith)
+
+  terms-operands : (ts : Terms) (at first : ℕ) → Declares (termsMentions ts at) → first + gatesInside ts ≤ gateCount b
+      → all (isOperand b) (termsNodes ts names first) ≡ true
+  unfolding termsMentions termsNodes gatesInside
+  terms-operands nil at first k h = refl
+  terms-operands (cons t ts) at first k h =
+      let p = known-parts _ _ _ k in
+      and-intro _ _ (term-operand t _ first (p .0) (omega arith)) (terms-operands ts _ (first + gatesIn t) (p .1) (omega arith))
+
+  nodes-count : (ts : Terms) (first : ℕ) → length (termsNodes ts names first) ≡ termCount ts
+  unfolding termsNodes termCount
+  nodes-count nil first = refl
+  nodes-count (cons t ts) first = ap suc (nodes-count ts (first + gatesIn t))
+
+  mutual
+    unfolding termMentions termsMentions termGates termsGates gatesIn gatesInside isLegalTerm isLegalTerms gateFits
+
+    term-fits : (t : Term) (depth at first : ℕ) → isLegalTerm t depth ≡ true → Declares (termMentions t at) → first + gatesIn t ≤ gateCount b
+        → all (gateFits b) (termGates t names first) ≡ true
+    term-fits (name s) depth at first l k h = refl
+    term-fits (literal v) depth at first l k h = refl
+    term-fits (apply kind ts) zero at first l k h = absurd (false≢true l)
+    term-fits (apply kind ts) (suc depth) at first l k h =
+        let legal = and-left (isKind kind && arityFits kind (termCount ts)) (isLegalTerms ts depth) l in
+        let inner = terms-fit ts depth _ first (and-right (isKind kind && arityFits kind (termCount ts)) (isLegalTerms ts depth) l) k (omega arith) in
+        let own = terms-operands ts _ first k (omega arith) in
+        all-append (gateFits b) (termsGates ts names first) (record { kind = kind; operands = termsNodes ts names first } ∷ [])
+        ∙ rw (inner, nodes-count ts first, legal, own) refl
+
+    terms-fit : (ts : Terms) (depth at first : ℕ) → isLegalTerms ts depth ≡ true → Declares (termsMentions ts at) → first + gatesInside ts ≤ gateCount b
+        → all (gateFits b) (termsGates ts names first) ≡ true
+    terms-fit nil depth at first l k h = refl
+    terms-fit (cons t ts) depth at first l k h =
+        let p = known-parts _ _ _ k in
+        all-append (gateFits b) (termGates t names first) (termsGates ts names (first + gatesIn t))
+        ∙ and-intro _ _ (term-fits t depth _ first (and-left (isLegalTerm t depth) (isLegalTerms ts depth) l) (p .0) (omega arith))
+        (terms-fit ts depth _ (first + gatesIn t) (and-right (isLegalTerm t depth) (isLegalTerms ts depth) l) (p .1) (omega arith))
+
+  line-fits : (gs : List GateLine) (at first : ℕ) → all isLegalGate gs ≡ true → Declares (mentions printGate operandMentions gs at)
+      → first + sum (map lineGates gs) ≤ gateCount b → all (gateFits b) (linesGates gs names first) ≡ true
+  unfolding mentions operandMentions linesGates lineGates isLegalGate gatesIn
+  line-fits [] at first l k h = refl
+  line-fits (g ∷ gs) at first l k h =
+      let p = known-parts _ _ _ k in
+      let own = and-left (isLegalGate g) (all isLegalGate gs) l in
+      let term = and-right (isNodeName (g .name)) (isLegalTerm (apply (g .kind) (g .terms)) maxDepth) own in
+      all-append (gateFits b) (termGates (apply (g .kind) (g .terms)) names first) (linesGates gs names (first + lineGates g))
+      ∙ and-intro _ _ (term-fits (apply (g .kind) (g .terms)) maxDepth _ first term (p .0) (omega arith))
+      (line-fits gs _ (first + lineGates g) (and-right (isLegalGate g) (all isLegalGate gs) l) (p .1) (omega arith))
+
+  shown-there : (os : List OutputLine) (at : ℕ) → Declares (mentions printOutput shownMention os at)
+      → all (λ (o : OutputLine). isNode b (lookup names (o .shown))) os ≡ true
+  unfolding mentions shownMention Known
+  shown-there [] at k = refl
+  shown-there (o ∷ os) at k =
+      let p = known-parts (map (λ (x : Binding). x .name) names) (shownMention o at) (mentions printOutput shownMention os (at + length (printOutput o []))) k in
+      and-intro _ _ (lookup-there b names (o .shown) (and-left _ true (p .0)) there) (shown-there os (at + length (printOutput o [])) (p .1))
+
+-- ---- the number of gates
+
+mutual
+  unfolding termGates termsGates gatesIn gatesInside
+
+  gates-count : (t : Term) (names : List Binding) (first : ℕ) → length (termGates t names first) ≡ gatesIn t
+  gates-count (name s) names first = refl
+  gates-count (literal v) names first = refl
+  gates-count (apply k ts) names first =
+      omega (arith, gates-counts ts names first, length-append (termsGates ts names first) (record { kind = k; operands = termsNodes ts names first } ∷ []))
+
+  gates-counts : (ts : Terms) (names : List Binding) (first : ℕ) → length (termsGates ts names first) ≡ gatesInside ts
+  gates-counts nil names first = refl
+  gates-counts (cons t ts) names first =
+      omega (arith, gates-count t names first, gates-counts ts names (first + gatesIn t), length-append (termGates t names first) (termsGates ts names (first + gatesIn t)))
+
+lines-count : (gs : List GateLine) (names : List Binding) (first : ℕ) → length (linesGates gs names first) ≡ sum (map lineGates gs)
+unfolding linesGates lineGates gatesIn
+lines-count [] names first = refl
+lines-count (g ∷ gs) names first =
+    length-append (termGates (apply (g .kind) (g .terms)) names first) (linesGates gs names (first + lineGates g))
+    ∙ ap₂ (λ (a b : ℕ). a + b) (gates-count (apply (g .kind) (g .terms)) names first) (lines-count gs names (first + lineGates g))
+
+-- ---- the names that are bound are those that are declared
+
+bound-inputs : (ss : List Name) (i : ℕ) → map (λ (x : Binding). x .name) (inputBindings ss i) ≡ ss
+unfolding inputBindings
+bound-inputs [] i = refl
+bound-inputs (s ∷ ss) i = ap (λ (l : List Name). s ∷ l) (bound-inputs ss (suc i))
+
+bound-gates : (gs : List GateLine) (first : ℕ) → map (λ (x : Binding). x .name) (gateBindings gs first) ≡ map (λ (g : GateLine). g .name) gs
+unfolding gateBindings
+bound-gates [] first = refl
+bound-gates (g ∷ gs) first = ap (λ (l : List Name). g .name ∷ l) (bound-gates gs _)
+
+bound-names : (t : Tree) → map (λ (x : Binding). x .name) (bindings t) ≡ map nameOf (declaredNodes t)
+unfolding bindings declaredNodes inputMention gateMention
+bound-names t =
+    map-append (λ (x : Binding). x .name) (inputBindings (t .inputs) 0) (gateBindings (t .gates) 0)
+    ∙ ap₂ _++_ (bound-inputs (t .inputs) 0 ∙ sym (mention-names printInput inputMention (λ x. x) (λ x at. refl) (t .inputs) 0 ∙ map-id (t .inputs)))
+    (bound-gates (t .gates) 0 ∙ sym (mention-names printGate gateMention (λ g. g .name) (λ g at. refl) (t .gates) (gateLinesAt t)))
+    ∙ sym (map-append nameOf (mentions printInput inputMention (t .inputs) 0) (mentions printGate gateMention (t .gates) (gateLinesAt t)))
+
+-- ---- the theorem
+
+record Within (t : Tree) : Type 0 where
+  inputs : length (t .inputs) ≤ maxInputs
+  gates : sum (map lineGates (t .gates)) ≤ maxGates
+  outputs : length (t .outputs) ≤ maxOutputs
+
+within-limits : (t : Tree) → isOverLimit t ≡ false → Within t
+unfolding isOverLimit
+within-limits t h =
+    let i = leb (length (t .inputs)) maxInputs in
+    let g = leb (sum (map lineGates (t .gates))) maxGates in
+    let o = leb (length (t .outputs)) maxOutputs in
+    let e = not-false (i && g && o) h in
+    record {
+      inputs = leb-true _ _ (and-left i g (and-left (i && g) o e));
+      gates = leb-true _ _ (and-right i g (and-left (i && g) o e));
+      outputs = leb-true _ _ (and-right (i && g) o e);
+    }
+
+module _ (t : Tree) (legal : isLegalTree t ≡ true) (within : isOverLimit t ≡ false) (unrepeated : firstDuplicate t ≡ none)
+    (declared : firstUndeclared t ≡ none) where
+  legal-inputs : all isPlainName (t .inputs) ≡ true
+  unfolding isLegalTree
+  legal-inputs = and-left _ (all isLegalGate (t .gates)) (and-left _ (all isLegalOutput (t .outputs)) legal)
+
+  legal-gates : all isLegalGate (t .gates) ≡ true
+  unfolding isLegalTree
+  legal-gates = and-right (all isPlainName (t .inputs)) _ (and-left _ (all isLegalOutput (t .outputs)) legal)
+
+  legal-ports : all (λ (o : OutputLine). isPlainName (o .port)) (t .outputs) ≡ true
+  unfolding isLegalTree isLegalOutput
+  legal-ports = go (t .outputs) (and-right (all isPlainName (t .inputs) && all isLegalGate (t .gates)) (all isLegalOutput (t .outputs)) legal)
+    where
+      go : (os : List OutputLine) → all isLegalOutput os ≡ true → all (λ (o : OutputLine). isPlainName (o .port)) os ≡ true
+      go [] h = refl
+      go (o ∷ os) h =
+          and-intro _ _ (and-left (isPlainName (o .port)) (isNodeName (o .shown)) (and-left (isLegalOutput o) (all isLegalOutput os) h))
+          (go os (and-right (isLegalOutput o) (all isLegalOutput os) h))
+
+  count-is : gateCount (blockOf t) ≡ sum (map lineGates (t .gates))
+  unfolding blockOf
+  count-is = lines-count (t .gates) (bindings t) 0
+
+  bound-there : BoundThere (blockOf t) (bindings t)
+  unfolding bindings BoundThere blockOf
+  bound-there =
+      let p : Binding → Bool = λ x. isNode (blockOf t) (x .node) in
+      all-append p (inputBindings (t .inputs) 0) (gateBindings (t .gates) 0)
+      ∙ and-intro _ _ (inputs-there (blockOf t) (t .inputs) 0 (omega arith)) (gates-there (blockOf t) (t .gates) 0 (omega (arith, count-is)))
+
+  uses-known : Known (map (λ (x : Binding). x .name) (bindings t)) (usedNames t)
+  unfolding firstUndeclared
+  uses-known = rw (bound-names t) (all-known (map nameOf (declaredNodes t)) (usedNames t) declared)
+
+  pub block-wellFormed : WellFormed (blockOf t)
+  unfolding blockOf usedNames Known
+  block-wellFormed =
+      let w = within-limits t within in
+      let k = known-parts (map (λ (x : Binding). x .name) (bindings t)) (mentions printGate operandMentions (t .gates) (gateLinesAt t))
+      (mentions printOutput shownMention (t .outputs) (outputLinesAt t)) uses-known in
+      record {
+        fewInputs = w .inputs;
+        fewGates = omega (arith, w .gates, count-is);
+        fewOutputs = omega (arith, w .outputs, length-map {B = Output} (t .outputs) (λ (o : OutputLine). record { port = o .port; node = lookup (bindings t) (o .shown) }));
+        inputNames = legal-inputs;
+        inputsDistinct = inputs-distinct t unrepeated;
+        gatesFit = line-fits (blockOf t) (bindings t) bound-there (t .gates) _ 0 legal-gates (k .0) (omega (arith, count-is));
+        portNames = all-map _ _ (t .outputs) ∙ legal-ports;
+        portsDistinct = ap distinct (map-map _ _ (t .outputs)) ∙ ports-distinct t unrepeated;
+        nodesThere = all-map _ _ (t .outputs) ∙ shown-there (blockOf t) (bindings t) bound-there (t .outputs) _ (k .1);
+      }
+
+-- What Read gives is not torn.
+pub read-whole : (text ws : List ℕ) (count detail : ℕ) → readText text ≡ done ws count detail → isTorn ws ≡ false
+read-whole text ws count detail e =
+    let a = read-accepted text ws count detail e in
+    let legal = parse-sound text (a .tree) (a .rest) (a .parsed) .1 in
+    rw (a .words) (encode-whole (blockOf (a .tree))
+    (wellFormed-from (blockOf (a .tree)) (block-wellFormed (a .tree) legal (a .within) (a .unrepeated) (a .declared))))

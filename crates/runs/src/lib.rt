@@ -1,0 +1,1 @@
+// Theory only: the bench byte by byte.

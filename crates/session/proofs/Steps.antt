@@ -1,0 +1,206 @@
+-- One step of the code is one turn of the run: for each way through the code, what it leaves in the state and the buffers. Assumes nothing.
+use Prim.Native.Nat.{ℕ, zero, suc, _+_, _≤_, _<_}
+use mathlib.Core.Path.{_≡_, refl, sym, ap, ap₂, _∙_}
+use mathlib.Core.Bool.{Bool, true, false, _&&_}
+use mathlib.Core.Logic.{_⊎_, inl, inr}
+use mathlib.Core.List.{List, [], _∷_, _++_, append-nil}
+use native.Mathlib.Numerals.{add-one}
+use native.Mathlib.Omega.{arith}
+use lib.ListN.{length, take, set, length-append, length-set}
+use lib.Seq.{take-all, length-take-le, take-suc-set, take-append-le}
+use lib.Dec.{eqb, ltb}
+use borrow.Author.Tests.{lt-ltb, le-ltb}
+use Rattle.netlist.specs.declared.Refusal.{Refusal}
+use Rattle.netlist.specs.declared.Refusal.the-variants.{TextTooLong}
+use Rattle.netlist.specs.declared.Answer.{Answer}
+use Rattle.netlist.specs.declared.Answer.the-variants.{Done, Refused}
+use Rattle.netlist.specs.Limits.{maxText, maxBlock}
+use Rattle.netlist.specs.StoredBlock.{isTorn, decode}
+use Rattle.netlist.specs.Line.{lf}
+use Rattle.netlist.specs.Answers.{Outcome, done, refused, Promise}
+use Rattle.netlist.specs.Operations.{readText, read}
+use Rattle.netlist.specs.Program.{refusalLine, shown}
+use Rattle.netlist.specs.Bench.{lineAnswer, lineAnswers, lastLine, benchAfter}
+use Rattle.runs.specs.Runs.{heldBytes, Run, inNetlist, inLines, over, Turn, silent, ended, held, opened, turn, ending}
+use Rattle.runs.proofs.Whole.{read-whole}
+use Rattle.telling.specs.Shown.{Shown}
+use Rattle.telling.proofs.Told.{Fits, Gave, told-refused, told-done, gave-within}
+use Rattle.telling.proofs.Sizes.{read-fits}
+use Rattle.session.specs.declared.State.{State}
+use Rattle.session.specs.declared.State.the-variants.{Netlist, Lines, Ended}
+use Rattle.session.specs.Session.{runOf, Sound, Ready, Held, LineRoom, Written, Stepped}
+use Rattle.session.proofs.Answers.{shown-written, nothing-written}
+
+-- ---- the end of the netlist
+
+module _ (t entry exit : List ℕ) (room : maxBlock ≤ length entry) (a : Answer) (p : Promise (read t (length entry)) entry a exit) where
+  is-refused : (why : Refusal) → a ≡ Refused why → readText t ≡ refused why
+  unfolding read
+  is-refused why e = told-refused (readText t) a entry exit (read-fits (length entry) room t) p why e
+
+  is-done : (count detail : ℕ) → a ≡ Done count detail → Gave (readText t) entry exit count detail
+  unfolding read
+  is-done count detail e = told-done (readText t) a entry exit (read-fits (length entry) room t) p count detail e
+
+  pub read-refused : (why : Refusal) → a ≡ Refused why → (text line out final : List ℕ) (n : ℕ) → Shown (refused why) out final n
+      → Stepped (opened (readText t)) Ended text exit line final n
+  unfolding opened runOf Sound shown
+  read-refused why e text line out final n s =
+      rw (is-refused why e) (record { sound = tt; next = refl; output = shown-written s })
+
+  pub read-done : (count detail : ℕ) → a ≡ Done count detail → (text line out : List ℕ)
+      → Stepped (opened (readText t)) (Lines count 0) text exit line out 0
+  unfolding opened runOf Sound
+  read-done count detail e text line out =
+      let g = is-done count detail e in
+      rw (g .is)
+      (record {
+        sound = (omega arith, gave-within g, rw (g .front) (read-whole t (g .result) count detail (g .is)));
+        next = ap (λ (ws : List ℕ). inLines ws []) (g .front);
+        output = nothing-written out;
+      })
+
+  pub end-refused : (why : Refusal) → a ≡ Refused why → (out final : List ℕ) (n : ℕ) → Shown (refused why) out final n
+      → Written (benchAfter (readText t) []) final n
+  unfolding benchAfter shown
+  end-refused why e out final n s = rw (is-refused why e) (shown-written s)
+
+  pub end-done : (count detail : ℕ) → a ≡ Done count detail → (out : List ℕ) → Written (benchAfter (readText t) []) out 0
+  unfolding benchAfter lineAnswers
+  end-done count detail e out = rw (is-done count detail e .is) (nothing-written out)
+
+-- ---- a byte of the netlist
+
+module _ (kept : ℕ) (fresh : Bool) (c : ℕ) (text words line out : List ℕ) where
+  pub turn-opens : {state : State} {text′ words′ line′ out′ : List ℕ} {n : ℕ} → fresh && eqb c lf ≡ true
+      → Stepped (opened (readText (take kept text))) state text′ words′ line′ out′ n
+      → Stepped (turn (inNetlist fresh (take kept text)) c) state text′ words′ line′ out′ n
+  unfolding turn
+  turn-opens e s = rw e s
+
+  pub turn-keeps : fresh && eqb c lf ≡ false → kept < maxText → maxText ≤ length text
+      → Stepped (turn (inNetlist fresh (take kept text)) c) (Netlist (kept + 1) (eqb c lf)) (set text kept c) words line out 0
+  unfolding turn runOf Sound
+  turn-keeps e l room =
+      let m : length (take kept text) ≡ kept = length-take-le kept text (omega arith) in
+      let f : take (kept + 1) (set text kept c) ≡ take kept text ++ (c ∷ []) = rw add-one (take-suc-set text kept c (omega arith)) in
+      rw (e, m, lt-ltb kept maxText l)
+      (record { sound = omega arith; next = ap (inNetlist (eqb c lf)) f; output = nothing-written out })
+
+  pub turn-too-long : {final : List ℕ} {n : ℕ} → fresh && eqb c lf ≡ false → maxText ≤ kept → kept ≤ length text → Shown (refused TextTooLong) out final n
+      → Stepped (turn (inNetlist fresh (take kept text)) c) Ended text words line final n
+  unfolding turn runOf Sound shown
+  turn-too-long e l room s =
+      let m : length (take kept text) ≡ kept = length-take-le kept text room in
+      rw (e, m, le-ltb kept maxText l) (record { sound = tt; next = refl; output = shown-written s })
+
+-- ---- a byte of a line
+
+module _ (kept c : ℕ) (line : List ℕ) (few : kept ≤ heldBytes) (room : heldBytes ≤ length line) where
+  before-length : length (take kept line) ≡ kept
+  before-length = length-take-le kept line (omega arith)
+
+  pub held-stored : kept < heldBytes → Held (take kept line) c (set line kept c) (kept + 1)
+  held-stored l =
+      let f : take (kept + 1) (set line kept c) ≡ take kept line ++ (c ∷ []) = rw add-one (take-suc-set line kept c (omega arith)) in
+      let m : length (take kept line ++ (c ∷ [])) ≤ heldBytes = omega (arith, length-append (take kept line) (c ∷ []), before-length) in
+      record {
+        bytesAre = f ∙ sym (take-all heldBytes (take kept line ++ (c ∷ [])) m);
+        few = omega arith;
+        within = simp length-set (omega arith);
+      }
+
+  pub held-full : heldBytes ≤ kept → Held (take kept line) c line kept
+  held-full l =
+      let e : kept ≡ heldBytes = omega arith in
+      record {
+        bytesAre = sym (take-append-le heldBytes (take kept line) (c ∷ []) (omega (arith, before-length)) ∙ take-all heldBytes (take kept line) (omega (arith, before-length)));
+        few = few;
+        within = omega arith;
+      }
+
+module _ (count kept c : ℕ) (words line line′ : List ℕ) (r : ℕ) (h : Held (take kept line) c line′ r)
+    (there : count ≤ length words) (whole : isTorn (take count words) ≡ false) where
+  pub turn-holds : (text out : List ℕ) → eqb c lf ≡ false
+      → Stepped (turn (inLines (take count words) (take kept line)) c) (Lines count r) text words line′ out 0
+  unfolding turn runOf Sound
+  turn-holds text out e =
+      rw e (record {
+        sound = (h .few, there, whole);
+        next = ap (inLines (take count words)) (h .bytesAre);
+        output = nothing-written out;
+      })
+
+  pub turn-answers : (text out : List ℕ) (n : ℕ) → eqb c lf ≡ true → Written (lineAnswer (decode (take count words)) (take r line′)) out n
+      → Stepped (turn (inLines (take count words) (take kept line)) c) (Lines count 0) text words line′ out n
+  unfolding turn runOf Sound
+  turn-answers text out n e w =
+      rw e (record {
+        sound = (omega arith, there, whole);
+        next = refl;
+        output = rw (h .bytesAre) at w;
+      })
+
+-- ---- the end of a line
+
+pub no-last-line : (ws line out : List ℕ) → Written (lineAnswers (decode ws) (lastLine (take 0 line))) out 0
+unfolding lineAnswers lastLine
+no-last-line ws line out = nothing-written out
+
+pub last-line : (ws line out : List ℕ) (n : ℕ) → 0 < length line → Written (lineAnswer (decode ws) line) out n
+    → Written (lineAnswers (decode ws) (lastLine line)) out n
+unfolding lineAnswers lastLine
+last-line ws [] out n l w = absurd (omega arith)
+last-line ws (c ∷ line) out n l w = rw (append-nil (lineAnswer (decode ws) (c ∷ line))) w
+
+-- ---- the state's case
+
+module _ {state : State} (text words line : List ℕ) where
+  pub netlist-step : (c : ℕ) {kept : ℕ} {fresh : Bool} {s : State} {t w l o : List ℕ} {n : ℕ} → state ≡ Netlist kept fresh
+      → Stepped (turn (inNetlist fresh (take kept text)) c) s t w l o n → Stepped (turn (runOf state text words line) c) s t w l o n
+  unfolding runOf
+  netlist-step c e h = rw e h
+
+  pub line-step : (c : ℕ) {count kept : ℕ} {s : State} {t w l o : List ℕ} {n : ℕ} → state ≡ Lines count kept
+      → Stepped (turn (inLines (take count words) (take kept line)) c) s t w l o n → Stepped (turn (runOf state text words line) c) s t w l o n
+  unfolding runOf
+  line-step c e h = rw e h
+
+  pub over-step : (c : ℕ) (out : List ℕ) → state ≡ Ended → Stepped (turn (runOf state text words line) c) Ended text words line out 0
+  unfolding runOf turn Sound
+  over-step c out e = rw e (record { sound = tt; next = refl; output = nothing-written out })
+
+  pub netlist-ending : {kept : ℕ} {fresh : Bool} {out : List ℕ} {n : ℕ} → state ≡ Netlist kept fresh
+      → Written (benchAfter (readText (take kept text)) []) out n → Written (ending (runOf state text words line)) out n
+  unfolding runOf ending
+  netlist-ending e h = rw e h
+
+  pub line-ending : {count kept : ℕ} {out : List ℕ} {n : ℕ} → state ≡ Lines count kept
+      → Written (lineAnswers (decode (take count words)) (lastLine (take kept line))) out n → Written (ending (runOf state text words line)) out n
+  unfolding runOf ending
+  line-ending e h = rw e h
+
+  pub over-ending : (out : List ℕ) → state ≡ Ended → Written (ending (runOf state text words line)) out 0
+  unfolding runOf ending
+  over-ending out e = rw e (nothing-written out)
+
+module _ {state : State} {text words line out : List ℕ} (h : Ready state text words line out) where
+  pub netlist-ready : {kept : ℕ} {fresh : Bool} → state ≡ Netlist kept fresh → kept ≤ maxText
+  unfolding Sound
+  netlist-ready e = rw e at (h .sound)
+
+  pub line-ready : {count kept : ℕ} → state ≡ Lines count kept → LineRoom count kept words line out
+  unfolding Sound
+  line-ready {count} {kept} e =
+      let s : Sound (Lines count kept) words = rw e at (h .sound) in
+      record { wordsThere = s .1; whole = s .2; few = s .0; lineRoom = h .room .lineRoom; outRoom = h .room .outRoom }
+
+-- neither is both
+pub not-both : (a b : Bool) → (b ≡ false) ⊎ (a ≡ false) → a && b ≡ false
+not-both a b (inr e) = rw e refl
+not-both true b (inl e) = e
+not-both false b (inl e) = refl
+
+pub nonzero : (n : ℕ) → (n ≡ 0 → ⊥) → 0 < n
+nonzero zero h = absurd (h refl)
+nonzero (suc n) h = omega arith

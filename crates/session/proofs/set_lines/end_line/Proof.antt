@@ -1,0 +1,46 @@
+-- `session::set_lines::end_line` meets its contract: an empty rest is no line. Assumes nothing.
+use borrow.Author.Needs.{needs}
+use Rattle.session.proofs.set_lines.end_line.Statement.{statement}
+use Rattle.session.proofs.set_lines.end_line.Tie as tie
+use Rattle.session.proofs.Steps.{no-last-line, last-line, nonzero}
+use native.Mathlib.Omega.{arith}
+use lib.ListN.{take}
+use lib.Seq.{length-take-le}
+use mathlib.Core.Path.{sym}
+
+returns : tie.Need-returns
+returns c =
+    let x = c .before .before .before .before .args in
+    rw (c .if1 .taken) (no-last-line (take (x .count) (x .words .now)) (x .line .now) _)
+
+slice-aggregate-answer : tie.Need-slice-aggregate-answer
+slice-aggregate-answer c =
+    sym (length-take-le _ _ (c .before .before .before .before .before .pre .wordsThere))
+
+slice-aggregate-answer-2 : tie.Need-slice-aggregate-answer-2
+slice-aggregate-answer-2 c =
+    sym (length-take-le _ _ (omega arith))
+
+answer-requires : tie.Need-answer-requires
+answer-requires c κs = search needs
+
+same-length : tie.Need-same-length
+same-length c = search needs
+
+returns-2 : tie.Need-returns-2
+returns-2 c =
+    let s = c .before .before .before .before .before .before .before .before .before .before in
+    let some = nonzero (s .args .held) (c .before .before .before .before .before .before .if1 .left) in
+    let kept = length-take-le (s .args .held) (s .args .line .now) (omega (arith, s .pre .few, s .pre .lineRoom)) in
+    last-line _ _ _ _ (omega (arith, kept, some)) (c .before .before .answer .ensures)
+
+pub end-line-spec : {M : Type 1} → statement M
+end-line-spec =
+    tie.close
+    (tie.spec
+    returns
+    slice-aggregate-answer
+    slice-aggregate-answer-2
+    answer-requires
+    same-length
+    returns-2)

@@ -1,0 +1,129 @@
+// The bench in pieces of its input: the state goes in by value and comes back, the buffers are lent. `start` gives the first state, `feed`
+// takes a piece of input up to the first answer in it, `finish` answers what is left at the input's end. Whatever the pieces, what is
+// written is the bench's output (`pieces-bench` in crates/runs).
+use netlist_part::end_netlist;
+use netlist_part::netlist_byte;
+use set_lines::end_line;
+use set_lines::line_byte;
+ghost use mathlib.Core.Path.{_≡_};
+ghost use lib.ListN.{length};
+ghost use Rattle.runs.specs.Runs.{turn, ending};
+ghost use Rattle.session.specs.Session.{runOf, Ready, Fresh, Written, Stepped, Advanced};
+
+mod netlist_part;
+mod set_lines;
+
+// The bytes of a line that are held, and of the longest answer: room for the buffers `line` and `out`.
+pub const LINE_BYTES: usize = 137;
+
+pub const ANSWER_BYTES: usize = 215;
+
+// Where a run stands.
+pub enum State {
+    // In the netlist: the bytes of it that are held, and whether the next one stands at its beginning or behind an LF.
+    Netlist { length: usize, fresh: bool },
+    // In the set lines: the block's words, and the bytes of the line that are held.
+    Lines { words: usize, length: usize },
+    // Behind a refused netlist.
+    Ended,
+}
+
+// The next state, and how many bytes of an answer stand in the buffer.
+pub struct Fed {
+    pub state: State,
+    pub written: usize,
+}
+
+// The same, with how many bytes of the piece were taken.
+pub struct Progress {
+    pub state: State,
+    pub taken: usize,
+    pub written: usize,
+}
+
+// The state before the first byte.
+pub fn start() -> State
+    ensures { λ r. ⌜ Fresh r ⌝ }
+{
+    State::Netlist {
+        length: 0,
+        fresh: true,
+    }
+}
+
+// Whether the run is over before its input ends: behind a refused netlist nothing is written any more.
+pub fn is_over(state: State) -> bool {
+    if let State::Ended = state {
+        true
+    } else {
+        false
+    }
+}
+
+// One byte.
+fn feed_byte(
+    state: State,
+    byte: u8,
+    text: &mut [u8],
+    words: &mut [u16],
+    line: &mut [u8],
+    out: &mut [u8],
+) -> Fed
+    requires { ⌜ Ready state (now text) (now words) (now line) (now out) ⌝ }
+    ensures { λ r. ⌜ Stepped (turn (runOf state (now (text .entry)) (now (words .entry)) (now (line .entry))) byte) (r .state) (now (text .exit)) (now (words .exit)) (now (line .exit)) (now (out .exit)) (r .written) ⌝ }
+{
+    match state {
+        State::Netlist { length, fresh } => netlist_byte(length, fresh, byte, text, words, out),
+        State::Lines {
+            words: count,
+            length,
+        } => line_byte(count, length, byte, words, line, out),
+        State::Ended => Fed {
+            state: State::Ended,
+            written: 0,
+        },
+    }
+}
+
+// A piece of input, up to the first byte that is answered: how many bytes of it were taken, and the answer's bytes at the start of `out`.
+pub fn feed(
+    state: State,
+    piece: &[u8],
+    text: &mut [u8],
+    words: &mut [u16],
+    line: &mut [u8],
+    out: &mut [u8],
+) -> Progress
+    requires { ⌜ Ready state (now text) (now words) (now line) (now out) ⌝ }
+    ensures { λ r. ⌜ Advanced (runOf state (now (text .entry)) (now (words .entry)) (now (line .entry))) (now (piece .entry)) (r .state) (now (text .exit)) (now (words .exit)) (now (line .exit)) (now (out .exit)) (r .taken) (r .written) ⌝ }
+{
+    let mut state = state;
+    let mut taken = 0;
+    let mut written = 0;
+    while taken < piece.len() && written == 0 {
+        let fed = feed_byte(state, piece[taken], text, words, line, out);
+        state = fed.state;
+        written = fed.written;
+        taken += 1;
+    }
+    Progress {
+        state,
+        taken,
+        written,
+    }
+}
+
+// The end of the input: the answer's bytes at the start of `out`, and how many they are.
+pub fn finish(state: State, text: &[u8], words: &mut [u16], line: &[u8], out: &mut [u8]) -> usize
+    requires { ⌜ Ready state (now text) (now words) (now line) (now out) ⌝ }
+    ensures { λ r. ⌜ Written (ending (runOf state (now (text .entry)) (now (words .entry)) (now (line .entry)))) (now (out .exit)) r ⌝ }
+{
+    match state {
+        State::Netlist { length, fresh: _ } => end_netlist(length, text, words, out),
+        State::Lines {
+            words: count,
+            length,
+        } => end_line(count, length, words, line, out),
+        State::Ended => 0,
+    }
+}

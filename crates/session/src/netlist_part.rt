@@ -1,0 +1,85 @@
+// The netlist part of the bench's input: its bytes are held until an empty line ends it, and then the block is read.
+use crate::Fed;
+use crate::State;
+use layout::limits::MAX_TEXT;
+use netlist::Answer;
+use netlist::Refusal;
+use reading::read;
+use telling::tell;
+ghost use mathlib.Core.List.{List, []};
+ghost use Prim.Native.Nat.{ℕ, _≤_};
+ghost use lib.ListN.{length, take};
+ghost use Rattle.netlist.specs.Limits.{maxText, maxBlock};
+ghost use Rattle.netlist.specs.Operations.{readText};
+ghost use Rattle.netlist.specs.Bench.{benchAfter};
+ghost use Rattle.runs.specs.Runs.{inNetlist, opened, turn};
+ghost use Rattle.session.specs.Session.{maxAnswer, Stepped, Written};
+
+// Reads the block; a refusal ends the run.
+fn open(held: usize, text: &[u8], words: &mut [u16], out: &mut [u8]) -> Fed
+    requires { ⌜ (held ≤ length (now text)) × (maxBlock ≤ length (now words)) × (maxAnswer ≤ length (now out)) ⌝ }
+    ensures { λ r. ⌜ ((line : List ℕ) → Stepped (opened (readText (take held (now (text .entry))))) (r .state) (now (text .entry)) (now (words .exit)) line (now (out .exit)) (r .written)) ⌝ }
+{
+    match read(&text[..held], words) {
+        Answer::Refused(why) => {
+            let written = tell(why, out);
+            Fed {
+                state: State::Ended,
+                written,
+            }
+        }
+        Answer::Done { count, detail: _ } => Fed {
+            state: State::Lines {
+                words: count,
+                length: 0,
+            },
+            written: 0,
+        },
+    }
+}
+
+// One byte of the netlist: an empty line ends it; of a text that gets too long no more is held.
+pub fn netlist_byte(
+    held: usize,
+    fresh: bool,
+    byte: u8,
+    text: &mut [u8],
+    words: &mut [u16],
+    out: &mut [u8],
+) -> Fed
+    requires { ⌜ (held ≤ maxText) × (maxText ≤ length (now text)) × (maxBlock ≤ length (now words)) × (maxAnswer ≤ length (now out)) ⌝ }
+    ensures { λ r. ⌜ ((line : List ℕ) → Stepped (turn (inNetlist fresh (take held (now (text .entry)))) byte) (r .state) (now (text .exit)) (now (words .exit)) line (now (out .exit)) (r .written)) ⌝ }
+{
+    if fresh && byte == b'\n' {
+        return open(held, text, words, out);
+    }
+    if held < MAX_TEXT {
+        text[held] = byte;
+        return Fed {
+            state: State::Netlist {
+                length: held + 1,
+                fresh: byte == b'\n',
+            },
+            written: 0,
+        };
+    }
+    let written = tell(Refusal::TextTooLong, out);
+    Fed {
+        state: State::Ended,
+        written,
+    }
+}
+
+// The input ends in the netlist: a refusal is told, and a good netlist gives nothing.
+pub fn end_netlist(held: usize, text: &[u8], words: &mut [u16], out: &mut [u8]) -> usize
+    requires { ⌜ (held ≤ length (now text)) × (maxBlock ≤ length (now words)) × (maxAnswer ≤ length (now out)) ⌝ }
+    ensures { λ r. ⌜ Written (benchAfter (readText (take held (now (text .entry)))) []) (now (out .exit)) r ⌝ }
+{
+    match read(&text[..held], words) {
+        Answer::Refused(why) => tell(why, out),
+        Answer::Done {
+            count: _,
+            detail: _,
+        } => 0,
+    }
+}

@@ -1,0 +1,85 @@
+// The set lines of the bench's input: the bytes of a line are held, no more of them than tell that it is out of form, and at its LF the
+// line is answered.
+use crate::Fed;
+use crate::State;
+use netlist::Answer;
+use setline::answer_line;
+use telling::tell;
+ghost use mathlib.Core.Path.{_≡_};
+ghost use mathlib.Core.Bool.{false};
+ghost use mathlib.Core.List.{List};
+ghost use Prim.Native.Nat.{ℕ, _≤_};
+ghost use lib.ListN.{length, take};
+ghost use Rattle.netlist.specs.StoredBlock.{isTorn, decode};
+ghost use Rattle.netlist.specs.Bench.{lineAnswer, lineAnswers, lastLine};
+ghost use Rattle.runs.specs.Runs.{heldBytes, inLines, turn};
+ghost use Rattle.session.specs.Session.{maxAnswer, Held, LineRoom, Stepped, Written};
+
+// The bytes of a line that are held: one more than the longest line in form has.
+const HELD_BYTES: usize = 137;
+
+// The answer to a line.
+fn answer(words: &[u16], line: &[u8], out: &mut [u8]) -> usize
+    requires { ⌜ (isTorn (now words) ≡ false) × (maxAnswer ≤ length (now out)) ⌝ }
+    ensures { λ r. ⌜ Written (lineAnswer (decode (now (words .entry))) (now (line .entry))) (now (out .exit)) r ⌝ }
+{
+    match answer_line(words, line, out) {
+        Answer::Refused(why) => tell(why, out),
+        Answer::Done { count, detail: _ } => count,
+    }
+}
+
+// Holds a byte more where there is room for it; how many are held then.
+fn hold(line: &mut [u8], held: usize, byte: u8) -> usize
+    requires { ⌜ (held ≤ heldBytes) × (heldBytes ≤ length (now line)) ⌝ }
+    ensures { λ r. ⌜ Held (take held (now (line .entry))) byte (now (line .exit)) r ⌝ }
+{
+    if held < HELD_BYTES {
+        line[held] = byte;
+        return held + 1;
+    }
+    held
+}
+
+// One byte of a line.
+pub fn line_byte(
+    count: usize,
+    held: usize,
+    byte: u8,
+    words: &[u16],
+    line: &mut [u8],
+    out: &mut [u8],
+) -> Fed
+    requires { ⌜ LineRoom count held (now words) (now line) (now out) ⌝ }
+    ensures { λ r. ⌜ ((text : List ℕ) → Stepped (turn (inLines (take count (now (words .entry))) (take held (now (line .entry)))) byte) (r .state) text (now (words .entry)) (now (line .exit)) (now (out .exit)) (r .written)) ⌝ }
+{
+    let kept = hold(line, held, byte);
+    if byte != b'\n' {
+        return Fed {
+            state: State::Lines {
+                words: count,
+                length: kept,
+            },
+            written: 0,
+        };
+    }
+    let written = answer(&words[..count], &line[..kept], out);
+    Fed {
+        state: State::Lines {
+            words: count,
+            length: 0,
+        },
+        written,
+    }
+}
+
+// The input ends in a line: it is answered unless it is empty.
+pub fn end_line(count: usize, held: usize, words: &[u16], line: &[u8], out: &mut [u8]) -> usize
+    requires { ⌜ LineRoom count held (now words) (now line) (now out) ⌝ }
+    ensures { λ r. ⌜ Written (lineAnswers (decode (take count (now (words .entry)))) (lastLine (take held (now (line .entry))))) (now (out .exit)) r ⌝ }
+{
+    if held == 0 {
+        return 0;
+    }
+    answer(&words[..count], &line[..held], out)
+}

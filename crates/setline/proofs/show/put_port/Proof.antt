@@ -1,0 +1,138 @@
+-- `setline::show::put_port` meets its contract: its five pieces, one after the other. Assumes nothing.
+use borrow.Author.Needs.{needs}
+use Rattle.setline.proofs.show.put_port.Statement.{statement}
+use Rattle.setline.proofs.show.put_port.Tie as tie
+use Prim.Native.Nat.{_+_, _*_}
+use mathlib.Core.Path.{_≡_}
+use mathlib.Core.List.{[], _∷_}
+use native.Mathlib.Omega.{arith}
+use lib.ListN.{getD}
+use Rattle.laws.specs.Lists.{ascii}
+use Rattle.netlist.specs.StoredBlock.{nameSize, outputSize}
+use Rattle.netlist.specs.SetLine.{valueText, pairText}
+use Rattle.ternary.specs.Legal.{wordValue}
+use Rattle.writing.proofs.Appending.{appended-then, short-first, short-rest}
+use Rattle.setline.specs.Shown.{portPiece}
+use Rattle.setline.proofs.ShowLaws.{value-shown}
+
+-- the stages: the value is found, and then the pieces are put
+abbrev start : tie.After-operand-value → tie.Start
+start c = c .before .before .before .before .before .before .before
+
+abbrev asked : tie.After-put-all → tie.After-operand-value
+asked c = c .before .before .before
+
+abbrev opened : tie.After-put-name → tie.After-put-all
+opened c = c .before .before .before .before
+
+abbrev named : tie.After-put → tie.After-put-name
+named c = c .before .before .before .before
+
+abbrev spaced : tie.After-value-byte → tie.After-put
+spaced c = c .before .before .before .before
+
+byte-is : (c : tie.After-value-byte) → let a = start (asked (opened (named (spaced c)))) .args in
+    c .value-byte .result ∷ []
+    ≡ valueText (wordValue (getD (a .words .now) 0 0) (a .setting .now) (a .gates .now) (getD (a .words .now) (a .from + outputSize * a .o + nameSize) 0))
+byte-is c =
+    let q = asked (opened (named (spaced c))) in
+    rw (← q .before .inputs-of .ensures, ← q .before .before .word-at .ensures) (value-shown _ (q .operand-value .ensures) (c .value-byte .ensures))
+
+mul-port : tie.Need-mul-port
+mul-port c = search needs
+
+add-port : tie.Need-add-port
+add-port c = search needs
+
+add-word-at : tie.Need-add-word-at
+add-word-at c = search needs
+
+word-at-requires : tie.Need-word-at-requires
+word-at-requires c κs = search needs
+
+inputs-of-requires : tie.Need-inputs-of-requires
+inputs-of-requires c κs = search needs
+
+operand-value-requires : tie.Need-operand-value-requires
+operand-value-requires c κs = search needs
+
+slice-aggregate-put-all : tie.Need-slice-aggregate-put-all
+slice-aggregate-put-all c = search needs
+
+put-all-requires : tie.Need-put-all-requires
+unfolding portPiece pairText
+put-all-requires c κs = short-first {xs = ascii " ("} _ (c .before .before .before .before .before .before .before .before .before .pre .1)
+
+put-name-requires : tie.Need-put-name-requires
+unfolding portPiece pairText
+put-name-requires c κs =
+    let o = c .before .before .before in
+    let s = start (asked o) in
+    (omega (arith, s .pre .0), short-first _ (short-rest {xs = ascii " ("} _ (s .pre .1) (o .put-all .ensures)))
+
+put-requires : tie.Need-put-requires
+unfolding portPiece pairText
+put-requires c κs =
+    let n = c .before .before .before in
+    let o = opened n in
+    let a = short-rest {xs = ascii " ("} _ (start (asked o) .pre .1) (o .put-all .ensures) in
+    short-first {xs = ascii " "} _ (short-rest _ a (n .put-name .ensures))
+
+value-byte-requires : tie.Need-value-byte-requires
+value-byte-requires c κs = search needs
+
+put-requires-2 : tie.Need-put-requires-2
+unfolding portPiece pairText
+put-requires-2 c κs =
+    let s = spaced c in
+    let n = named s in
+    let o = opened n in
+    let a = short-rest {xs = ascii " ("} _ (start (asked o) .pre .1) (o .put-all .ensures) in
+    let b = short-rest _ a (n .put-name .ensures) in
+    rw (byte-is c) (short-first _ (short-rest {xs = ascii " "} _ b (s .put .ensures)))
+
+put-requires-3 : tie.Need-put-requires-3
+unfolding portPiece pairText
+put-requires-3 c κs =
+    let f = c .before .before .before in
+    let s = spaced (f .before) in
+    let n = named s in
+    let o = opened n in
+    let a = short-rest {xs = ascii " ("} _ (start (asked o) .pre .1) (o .put-all .ensures) in
+    let b = short-rest _ a (n .put-name .ensures) in
+    let d = short-rest {xs = ascii " "} _ b (s .put .ensures) in
+    short-rest _ d (rw (byte-is (f .before)) at (f .put2 .ensures))
+
+same-length : tie.Need-same-length
+same-length c = search needs
+
+returns : tie.Need-returns
+unfolding portPiece pairText
+returns c =
+    let closed = c .before .before in
+    let f = closed .before .before .before .before in
+    let s = spaced (f .before) in
+    let n = named s in
+    appended-then (opened n .put-all .ensures)
+    (appended-then (n .put-name .ensures)
+    (appended-then (s .put .ensures) (appended-then (rw (byte-is (f .before)) at (f .put2 .ensures)) (closed .put3 .ensures))))
+
+pub put-port-spec : {M : Type 1} → statement M
+put-port-spec =
+    tie.close
+    (tie.spec
+    mul-port
+    add-port
+    add-word-at
+    word-at-requires
+    inputs-of-requires
+    operand-value-requires
+    slice-aggregate-put-all
+    put-all-requires
+    put-name-requires
+    put-requires
+    value-byte-requires
+    put-requires-2
+    put-requires-3
+    same-length
+    returns)
