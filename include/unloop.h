@@ -32,7 +32,7 @@ enum unloop_refusal {
     UNLOOP_MALFORMED_BLOCK = 6,
     UNLOOP_BAD_SETTING = 7,
     UNLOOP_TOO_MANY_COPIES = 8,
-    UNLOOP_NOT_SETTLED = 9, /* detail: the lowest setting that is not settled */
+    UNLOOP_NOT_SETTLED = 9, /* detail: the lowest setting under which an output is undefined */
     UNLOOP_NOT_STRAIGHT = 10,
     UNLOOP_NO_ROOM = 11
 };
@@ -65,7 +65,7 @@ unloop_reply unloop_settle(const uint16_t *block, size_t block_length, const uin
 unloop_reply unloop_pass(const uint16_t *block, size_t block_length, const uint8_t *setting, size_t setting_length,
                          uint8_t *values, size_t values_length);
 
-/* Verdict: count: settled settings; detail: the lowest other, or 2^n if none. 6. */
+/* Verdict: count: settled settings, where every output is 0 or 1; detail: the lowest other, or 2^n if none. 6. */
 unloop_reply unloop_verdict(const uint16_t *block, size_t block_length);
 
 /* Cover: two words an entry; count: entries. 6, 11. */

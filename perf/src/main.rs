@@ -110,6 +110,7 @@ fn measure_searches(print: fn(&Line)) {
         "reversed-ring-of-1024",
         "shuffled-ring",
         "unbroken-ring-of-1024",
+        "half-unneeded",
     ];
     let verdict = Operation {
         name: "verdict",
@@ -143,6 +144,7 @@ fn measure_results(print: fn(&Line)) {
         "ring-of-32",
         "reversed-ring-of-32",
         "groups-of-5-and-lone",
+        "half-unneeded",
     ];
     measure(print, render, inputs::blocks(&worst));
     let cover = Operation {
@@ -158,6 +160,7 @@ fn measure_results(print: fn(&Line)) {
         "straight-fours",
         "reversed-ring-of-1024",
         "most-entries",
+        "half-unneeded",
     ];
     measure(print, cover, inputs::blocks(&worst));
 }

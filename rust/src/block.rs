@@ -1,6 +1,8 @@
 //! A block that owns its words, with the operations as methods.
 
-use crate::limits::{BLOCK_WORDS, COVER_WORDS, HEAD_WORDS, NAME_WORDS, WRITTEN_BYTES};
+use crate::limits::{
+    BLOCK_WORDS, COVER_WORDS, GATE_WORDS, HEAD_WORDS, NAME_WORDS, OUTPUT_WORDS, WRITTEN_BYTES,
+};
 use crate::raw::{self, Reply};
 use crate::{Assignment, Groups, Refusal, Settled, Value, Verdict};
 
@@ -80,6 +82,38 @@ impl Block {
         names.take(self.inputs()).map(name).collect()
     }
 
+    /// The ports of the outputs.
+    ///
+    /// ```
+    /// # use unloop::Block;
+    /// let block = Block::read("(in a)\n(out left a)\n(out right a)\n").unwrap();
+    /// assert_eq!(block.output_names(), ["left", "right"]);
+    /// ```
+    pub fn output_names(&self) -> Vec<String> {
+        let port = |output: &[u16]| name(&output[..NAME_WORDS]);
+        self.stored_outputs().map(port).collect()
+    }
+
+    /// The value that each output shows, from one value an input.
+    ///
+    /// ```
+    /// # use unloop::{Block, Refusal, Value};
+    /// let block = Block::read("(in a)\n(gate p (not p))\n(out y p)\n(out z a)\n")?;
+    /// assert_eq!(block.shown(&[Value::One])?, [Value::Undefined, Value::One]);
+    /// # Ok::<(), Refusal>(())
+    /// ```
+    pub fn shown(&self, setting: &[Value]) -> Result<Vec<Value>, Refusal> {
+        let mut nodes = setting.to_vec();
+        nodes.extend(self.settle(setting)?.values);
+        let node = |output: &[u16]| nodes[usize::from(output[NAME_WORDS])];
+        Ok(self.stored_outputs().map(node).collect())
+    }
+
+    fn stored_outputs(&self) -> impl Iterator<Item = &[u16]> {
+        let first = HEAD_WORDS + NAME_WORDS * self.inputs() + GATE_WORDS * self.gates();
+        self.words[first..].chunks(OUTPUT_WORDS)
+    }
+
     /// The values of the inputs in a setting, whose number has weight 2^i for input i.
     pub fn setting(&self, number: usize) -> Vec<Value> {
         let bits = (0..self.inputs()).map(|input| number >> input & 1 == 1);
@@ -92,11 +126,12 @@ impl Block {
         String::from_utf8(text.expect(NEVER_REFUSED)).expect("a written text is ASCII")
     }
 
-    /// How many settings are settled.
+    /// How many settings are settled: every output shows 0 or 1.
     ///
     /// ```
     /// # use unloop::{Block, Refusal};
-    /// let block = Block::read("(in a)\n(in b)\n(gate p (and a q))\n(gate q (or b p))\n")?;
+    /// let gates = "(gate p (and a q))\n(gate q (or b p))\n";
+    /// let block = Block::read(format!("(in a)\n(in b)\n{gates}(out y q)\n"))?;
     /// let verdict = block.verdict();
     /// assert_eq!((verdict.settled, verdict.lowest_unsettled), (3, Some(1)));
     /// # Ok::<(), Refusal>(())
@@ -113,7 +148,8 @@ impl Block {
     ///
     /// ```
     /// # use unloop::{Block, Refusal};
-    /// let block = Block::read("(in a)\n(in b)\n(gate p (and a q))\n(gate q (or b p))\n")?;
+    /// let gates = "(gate p (and a q))\n(gate q (or b p))\n";
+    /// let block = Block::read(format!("(in a)\n(in b)\n{gates}(out y q)\n"))?;
     /// let [first, second] = block.cover()[..] else { panic!() };
     /// assert_eq!((first.value(0), first.value(1)), (Some(false), None));
     /// assert_eq!((second.value(0), second.value(1)), (None, Some(true)));
@@ -180,7 +216,7 @@ impl Block {
     /// # use unloop::{Block, Refusal};
     /// let block = Block::read("(gate p (or p 1))\n")?;
     /// assert_eq!(block.render()?.write(), "(gate _0 (or 0 1))\n");
-    /// let unsound = Block::read("(gate p (or p (not p)))\n")?;
+    /// let unsound = Block::read("(gate p (or p (not p)))\n(out y p)\n")?;
     /// assert_eq!(unsound.render(), Err(Refusal::NotSettled { setting: 0 }));
     /// # Ok::<(), Refusal>(())
     /// ```

@@ -91,7 +91,7 @@ pub fn pass(block: &[u16], setting: &[u8], values: &mut [u8]) -> Reply {
     unsafe { unloop_pass(block, words, setting, inputs, values, room) }
 }
 
-/// Count: settled settings; detail: the lowest other, or 2^n if none.
+/// Count: settled settings, where every output is 0 or 1; detail: the lowest other, or 2^n if none.
 pub fn verdict(block: &[u16]) -> Reply {
     unsafe { unloop_verdict(block.as_ptr(), block.len()) }
 }

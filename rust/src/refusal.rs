@@ -73,7 +73,7 @@ refusals! {
     7 "setting" BadSetting => "the setting doesn't have one value (0, 1 or undefined) for each input",
     /// The rendering would have more than [`GATES`].
     8 "swollen" TooManyCopies => "the rendering would have more than {GATES} gates",
-    /// Some setting isn't settled; this is the lowest.
+    /// Some setting leaves an output undefined; this is the lowest.
     9 "undecided" NotSettled { setting } => "setting {setting} is not settled",
     /// Some gate reads itself or a gate behind it.
     10 "looped" NotStraight => "some gate reads itself or a gate behind it",

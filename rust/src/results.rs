@@ -2,7 +2,7 @@
 
 use crate::Value;
 
-/// How many settings of the inputs are settled, of all 2^n.
+/// How many settings of the inputs are settled, of all 2^n: under those every output shows 0 or 1.
 #[derive(Debug, Clone, Copy, PartialEq, Eq)]
 pub struct Verdict {
     /// The settled settings.

@@ -27,11 +27,11 @@ static const uint16_t looped[] = {1, 2, 1, 's', 0, 0, 0, 17, 0, 2, 0, 0, 18, 0, 
 static const char netlist[] = "(in s)\n(gate p (and s q))\n(gate q (or s p))\n(out y q)\n";
 static const char written[] = "(in s)\n(gate _0 (and s 0))\n(gate _1 (or s _0))\n(gate _2 (and s _1))\n(gate _3 (or s _2))\n(out y _3)\n";
 
-/* Specimen 5: (gate p (or p (not p))). */
-static const uint16_t unsettled[] = {0, 2, 0, 8, 1, 0, 0, 0, 18, 1, 0, 0, 0};
+/* Specimen 5: (gate p (or p (not p))) (out y p). */
+static const uint16_t unsettled[] = {0, 2, 1, 8, 1, 0, 0, 0, 18, 1, 0, 0, 0, 'y', 0, 0, 0, 1};
 
-/* Specimen 4: (in a) (in b) (gate p (and a q)) (gate q (or b p)). */
-static const uint16_t waiting[] = {2, 2, 0, 'a', 0, 0, 0, 'b', 0, 0, 0, 17, 0, 3, 0, 0, 18, 1, 2, 0, 0};
+/* Specimen 4: (in a) (in b) (gate p (and a q)) (gate q (or b p)) (out y q). */
+static const uint16_t waiting[] = {2, 2, 1, 'a', 0, 0, 0, 'b', 0, 0, 0, 17, 0, 3, 0, 0, 18, 1, 2, 0, 0, 'y', 0, 0, 0, 3};
 
 static void read_specimen(void)
 {

@@ -11,18 +11,18 @@ pub fn words_of(text: &str) -> Vec<u16> {
 }
 
 /// Specimen 4: two gates that wait for each other unless a = 0 or b = 1.
-pub const TWO_GATES: &str = "(in a)\n(in b)\n(gate p (and a q))\n(gate q (or b p))\n";
+pub const TWO_GATES: &str = "(in a)\n(in b)\n(gate p (and a q))\n(gate q (or b p))\n(out y q)\n";
 
 /// Specimen 5: a unique two-valued solution that isn't settled.
-pub const UNIQUE_SOLUTION: &str = "(gate p (or p (not p)))\n";
+pub const UNIQUE_SOLUTION: &str = "(gate p (or p (not p)))\n(out y p)\n";
 
 /// Specimen 5: a gate that reads itself and is settled.
-pub const SELF_READER: &str = "(gate p (or p 1))\n";
+pub const SELF_READER: &str = "(gate p (or p 1))\n(out y p)\n";
 
 /// Specimen 6: six gates after 003, Example 1.
 pub const SIX_GATES: &str = "(in a)\n(in b)\n(in c)\n(in d)\n(in x)\n\
     (gate g1 (and x g6))\n(gate g2 (or a g1))\n(gate g3 (and b g2))\n\
-    (gate g4 (or x g3))\n(gate g5 (and c g4))\n(gate g6 (or d g5))\n";
+    (gate g4 (or x g3))\n(gate g5 (and c g4))\n(gate g6 (or d g5))\n(out y g6)\n";
 
 /// Specimen 9: the input of `unloop`.
 pub const PROGRAM_INPUT: &str = "(in s)\n(gate p (and s q))\n(gate q (or s p))\n(out y q)\n";

@@ -81,10 +81,23 @@ impl<'a> Network<'a> {
         values
     }
 
-    /// For each setting, by number, whether it is settled.
+    /// The value that each output shows under a setting.
+    pub fn shown(&self, setting: &[u8]) -> Vec<u8> {
+        let values = self.settled(setting);
+        let outputs = self.block.outputs.iter();
+        outputs
+            .map(|output| match output.node {
+                Source::Constant(bit) => u8::from(bit),
+                Source::Input(input) => setting[input],
+                Source::Gate(gate) => values[gate],
+            })
+            .collect()
+    }
+
+    /// For each setting, by number, whether every output shows 0 or 1.
     pub fn settled_settings(&self) -> Vec<bool> {
         let n = self.block.inputs.len();
-        let defined = |setting: Vec<u8>| !self.settled(&setting).contains(&UNDEFINED);
+        let defined = |setting: Vec<u8>| !self.shown(&setting).contains(&UNDEFINED);
         (0..1 << n).map(|s| defined(setting_bytes(s, n))).collect()
     }
 }

@@ -222,6 +222,20 @@ fn arbiter_grants_the_first_request_from_the_token_on() {
     });
 }
 
+/// From each token the turn goes on to the first request; without a token nobody is granted anything but in turn.
+#[test]
+fn arbiter_without_a_token_grants_in_turn() {
+    for_settings("arbiter-lost-token", |pins, ports| {
+        let is = |pin: &str, i: usize| pins[&format!("{pin}{}", i % 3)] == 1;
+        for i in 0..3 {
+            // The token stands `back` cells before cell i, and none from there on asks for it.
+            let passed = |back: usize| (1..=back).all(|step| !is("r", i + 3 - step));
+            let turn = (0..3).any(|back| is("t", i + 3 - back) && passed(back));
+            assert_eq!(ports[&format!("g{i}")], usize::from(turn && is("r", i)));
+        }
+    });
+}
+
 /// The formulas of 003, Example 1.
 #[test]
 fn six_gates_compute_the_printed_functions() {

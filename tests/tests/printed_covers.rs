@@ -1,5 +1,6 @@
 //! The covers that source documents 000 and 004 print, of their circuits as far as the text gives them: docs/COVERS.md.
 //! Neither document's text holds its figures. Where it leaves a gate open, a test runs every reading that it names.
+//! Each circuit shows its last gate, which is defined exactly where all of them are.
 
 mod common;
 
@@ -115,7 +116,7 @@ fn readings_of_figure_2_of_000() -> Vec<String> {
         for u in ways_to_u {
             readings.push(format!(
                 "{inputs}(gate q ({q} a z))\n(gate r (and b q))\n{u}(gate v (or r u))\n\
-                 (gate w (nand e v))\n(gate x (or f g v))\n(gate y (nand g v))\n(gate z ({z} w x y))\n"
+                 (gate w (nand e v))\n(gate x (or f g v))\n(gate y (nand g v))\n(gate z ({z} w x y))\n(out z z)\n"
             ));
         }
     }
@@ -152,6 +153,15 @@ fn figure_2_of_000_and_11_of_004() {
     }
 }
 
+/// An output on a gate that a pin forces tells less than the documents ask: b = 0 is enough for r.
+#[test]
+fn figure_2_of_000_shown_at_r() {
+    for circuit in readings_of_figure_2_of_000() {
+        let shown = circuit.replace("(out z z)", "(out r r)");
+        listed(&shown, &[1, 0, 2, 0, 112, 32]);
+    }
+}
+
 /// A ring of the gates w, x, y, z with the inputs in this order; bit i of `negated` tells whether gate i negates.
 fn ring_of_four(order: &str, negated: usize) -> String {
     let gates = ['w', 'x', 'y', 'z'];
@@ -169,7 +179,7 @@ fn ring_of_four(order: &str, negated: usize) -> String {
             gates[(i + 3) % 4]
         );
     }
-    text
+    text + "(out z z)\n"
 }
 
 /// 004, Fig. 1. Printed: all four entries, and "every input pattern except 0101". Open: the order in the ring, which gates negate.
@@ -195,7 +205,7 @@ fn figure_2_of_004() {
     let rows = [("y = 0", 'c', 1, 'e'), ("z = 0", 'd', 1, 'e')];
     for (a, read) in [("and", "a"), ("and", "b"), ("nand", "a"), ("nand", "b")] {
         let gates = format!(
-            "(gate a ({a} x e))\n(gate b (not a))\n(gate c (nand y b))\n(gate d (nand z {read}))\n(gate e (and c d))\n"
+            "(gate a ({a} x e))\n(gate b (not a))\n(gate c (nand y b))\n(gate d (nand z {read}))\n(gate e (and c d))\n(out e e)\n"
         );
         let circuit = inputs(names) + &gates;
         first_step(&circuit, names, "abcde", &rows);
@@ -221,7 +231,7 @@ fn fewer_entries_than_by_the_first_step() {
 #[test]
 fn more_entries_than_are_needed() {
     let gates =
-        "(gate h (and s a))\n(gate k (and (not s) b))\n(gate p (or h k q))\n(gate q (or h k p))\n";
+        "(gate h (and s a))\n(gate k (and (not s) b))\n(gate p (or h k q))\n(gate q (or h k p))\n(out q q)\n";
     let circuit = inputs("sab") + gates;
     let list = printed_words("sab", &["s = 1, a = 1", "s = 0, b = 1", "a = 1, b = 1"]);
     assert_eq!(list, [3, 3, 5, 4, 6, 6]);

@@ -52,7 +52,7 @@ fn legal_texts() {
 
 #[test]
 fn spoiled_texts() {
-    for_texts(0..500, Size::SMALL, |random, text, _| {
+    for_texts(0..1000, Size::SMALL, |random, text, _| {
         compare(&spoiled(random, text))
     });
     answered(&[0, 2, 4, 5, 9], 5);
@@ -120,7 +120,7 @@ fn text_in_pieces() {
 fn specimens() {
     let ring_of_32 = ring(32, "(and LAST 0)");
     let lone = ring_of_32.clone() + "(gate lone (not 0))\n";
-    let ring_of_33 = ring(33, "(not LAST)");
+    let ring_of_33 = ring(33, "(not LAST)") + "(out y g32)\n";
     let texts = [
         TWO_GATES,
         UNIQUE_SOLUTION,

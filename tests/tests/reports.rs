@@ -70,7 +70,7 @@ fn declared_twice_and_not_at_all() {
 fn refusals_without_a_place() {
     let inputs: String = (0..11).map(|i| format!("(in a{i})\n")).collect();
     at_a_place(inputs.as_bytes(), "(refused 3 0)\n", "x.net: crowded\n");
-    let ring = simulator::specimens::ring(33, "(not LAST)");
+    let ring = simulator::specimens::ring(33, "(not LAST)") + "(out y g32)\n";
     at_a_place(ring.as_bytes(), "(refused 8 0)\n", "x.net: swollen\n");
 }
 
@@ -88,18 +88,19 @@ fn longest_texts() {
 
 #[test]
 fn undecided() {
-    let text = b"(gate p (or p (not p)))\n";
-    let report = "x.net: undecided\n  not settled\n  settles under no setting\n";
+    let text = b"(gate p (or p (not p)))\n(out y p)\n";
+    let report = "x.net: undecided\n  not settled: y undefined\n  settles under no setting\n";
     at_a_place(text, "(refused 9 0)\n", report);
-    let text = b"(in a)\n(in eight_88)\n(gate p (not p))\n";
+    let text = b"(in a)\n(in eight_88)\n(gate p (not p))\n(gate q (not a))\n\
+                 (out x a)\n(out y p)\n(out q q)\n(out z p)\n";
     let report =
-        "x.net: undecided\n  not settled with a = 0, eight_88 = 0\n  settles under no setting\n";
+        "x.net: undecided\n  not settled with a = 0, eight_88 = 0: y, z undefined\n  settles under no setting\n";
     at_a_place(text, "(refused 9 0)\n", report);
     // Two pins of three in each entry.
     let text = b"(in s)\n(in a)\n(in b)\n(gate h (and s a))\n(gate k (and (not s) b))\n\
-                 (gate p (or h k q))\n(gate q (or h k p))\n";
+                 (gate p (or h k q))\n(gate q (or h k p))\n(out y q)\n";
     let report =
-        "x.net: undecided\n  not settled with s = 0, a = 0, b = 0\n  settles with s = 1, a = 1\n\
+        "x.net: undecided\n  not settled with s = 0, a = 0, b = 0: y undefined\n  settles with s = 1, a = 1\n\
                   \x20 settles with s = 0, b = 1\n  settles with a = 1, b = 1\n";
     at_a_place(text, "(refused 9 0)\n", report);
 }
@@ -108,14 +109,18 @@ fn undecided() {
 fn open_by_any(pins: usize) -> String {
     let inputs = (0..pins).map(|i| format!("(in a{i})\n"));
     let gates = (0..pins).map(|i| format!("(gate g{i} (or a{i} g{}))\n", (i + 1) % pins));
-    inputs.chain(gates).collect()
+    let output = std::iter::once("(out y g0)\n".to_string());
+    inputs.chain(gates).chain(output).collect()
 }
 
 #[test]
 fn long_covers() {
     for (pins, more) in [(8, ""), (9, "  and 1 more\n"), (10, "  and 2 more\n")] {
         let all: Vec<String> = (0..pins).map(|i| format!("a{i} = 0")).collect();
-        let mut report = format!("x.net: undecided\n  not settled with {}\n", all.join(", "));
+        let mut report = format!(
+            "x.net: undecided\n  not settled with {}: y undefined\n",
+            all.join(", ")
+        );
         (0..8).for_each(|i| report += &format!("  settles with a{i} = 1\n"));
         report += more;
         at_a_place(open_by_any(pins).as_bytes(), "(refused 9 0)\n", &report);
@@ -127,9 +132,9 @@ fn summary_by_number() {
     let files = [
         ("1", "(in a)\n(in a)\n"),
         ("2", "x"),
-        ("3", "(in a)\n(gate p (and a p))\n"),
+        ("3", "(in a)\n(gate p (and a p))\n(out y p)\n"),
         ("4", "(in a)\n(out y a)\n"),
-        ("5", "(gate p (not p))\n"),
+        ("5", "(gate p (not p))\n(out y p)\n"),
         ("6", "x"),
         ("7", "y"),
     ];

@@ -68,11 +68,15 @@ fn specimen_4() {
 #[test]
 fn specimen_5() {
     let words = words_of(UNIQUE_SOLUTION);
-    assert_eq!(words, [0, 2, 0, 8, 1, 0, 0, 0, 18, 1, 0, 0, 0]);
+    let gates = [8, 1, 0, 0, 0, 18, 1, 0, 0, 0];
+    assert_eq!(words, [&[0, 2, 1][..], &gates, &[121, 0, 0, 0, 1]].concat());
     assert_eq!(render(&words, BLOCK_WORDS), (answer(9, 0, 0), vec![]));
     assert_eq!(verdict(&words), answer(0, 0, 0));
     assert_eq!(cover(&words, 0), (answer(0, 0, 0), vec![]));
-    assert_eq!(rendered_text(SELF_READER), "(gate _0 (or 0 1))\n");
+    assert_eq!(
+        rendered_text(SELF_READER),
+        "(gate _0 (or 0 1))\n(out y _0)\n"
+    );
 }
 
 #[test]
@@ -95,9 +99,39 @@ fn specimen_7() {
     let one_more = ring_of_32 + "(gate lone (not 0))\n";
     let told = render(&words_of(&one_more), BLOCK_WORDS);
     assert_eq!(told, (answer(8, 0, 0), vec![]));
-    let ring_of_33 = words_of(&ring(33, "(not LAST)"));
+    let ring_of_33 = words_of(&(ring(33, "(not LAST)") + "(out y g32)\n"));
     assert_eq!(verdict(&ring_of_33), answer(0, 0, 0));
     assert_eq!(render(&ring_of_33, 0), (answer(8, 0, 0), vec![]));
+}
+
+/// Paper 3: what no output shows may wait for ever.
+#[test]
+fn only_what_outputs_show() {
+    let loops = "(in a)\n(gate t (not t))\n(gate p (nand p a))\n";
+    let shown = |outputs: &str| words_of(&(loops.to_string() + outputs));
+    let sound = [
+        shown(""),
+        shown("(out z a)\n"),
+        shown("(out y a)\n(out z a)\n"),
+    ];
+    for words in sound {
+        assert_eq!(verdict(&words), answer(0, 2, 2));
+        assert_eq!(cover(&words, 2), (answer(0, 1, 0), vec![0, 0]));
+        assert_eq!(render(&words, BLOCK_WORDS).0.number, 0);
+    }
+    for outputs in ["(out y p)\n", "(out z a)\n(out y p)\n"] {
+        let words = shown(outputs);
+        assert_eq!(verdict(&words), answer(0, 1, 1));
+        assert_eq!(cover(&words, 2), (answer(0, 1, 0), vec![1, 0]));
+        assert_eq!(render(&words, BLOCK_WORDS), (answer(9, 0, 1), vec![]));
+    }
+    let undefined = shown("(out y p)\n(out z t)\n");
+    assert_eq!(verdict(&undefined), answer(0, 0, 0));
+    let spare = "(in a)\n(gate t (not t))\n(gate p (not a))\n(out y p)\n";
+    assert_eq!(
+        rendered_text(spare),
+        "(in a)\n(gate _0 (not 0))\n(gate _1 (not a))\n(out y _1)\n"
+    );
 }
 
 #[test]

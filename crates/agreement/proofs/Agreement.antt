@@ -6,7 +6,7 @@
 -- Assumes nothing.
 use Prim.Native.Nat.{ℕ, zero, suc, _≤_, _<_}
 use mathlib.Core.Path.{_≡_, refl, sym, ap, ap₂, _∙_}
-use mathlib.Core.Bool.{true, false, false≢true}
+use mathlib.Core.Bool.{Bool, true, false, false≢true}
 use mathlib.Core.List.{List, [], _∷_, _++_, map}
 use native.Mathlib.Omega.{arith}
 use borrow.Author.Tests.{ltb-true}
@@ -14,12 +14,11 @@ use lib.ListN.{length, getD, take, replicate, length-replicate}
 use lib.Seq.{take-suc, take-length}
 use Rattle.laws.specs.Lists.{all, joined}
 use Rattle.laws.proofs.Tests.{and-left, and-right}
-use Rattle.laws.proofs.Quantifiers.{all-at}
 use Rattle.laws.proofs.Lists.{joined-snoc, member-cases, member-right}
 use Rattle.netlist.specs.Values.{Value, undefined, val, isDefined}
 use Rattle.netlist.specs.Netlist.{Operand, input, gate, constant, Output, Block, inputCount, gateCount}
 use Rattle.netlist.specs.StoredBlock.{isNode, isWellFormed}
-use Rattle.netlist.specs.Rounds.{operandValue, outputValue, settled, settingOf, settingCount, settledUnder, isSettled}
+use Rattle.netlist.specs.Rounds.{operandValue, outputValue, settled, settingOf, settingCount, settledUnder, outputsUnder, isSettled}
 use Rattle.netlist.specs.Cover.{isSound}
 use Rattle.netlist.specs.Groups.{groups}
 use Rattle.netlist.specs.Rendering.{passes, schedule, copiedOperand, lastCopies, rendering, sweep}
@@ -27,7 +26,6 @@ use Rattle.encoding.proofs.WellFormed.{wellFormed-parts}
 use Rattle.rounds.specs.Order.{Below, BelowOn, Listed, Follows}
 use Rattle.rounds.specs.Steps.{run}
 use Rattle.rounds.proofs.Values.{below-of-eq, below-trans, below-defined}
-use Rattle.rounds.proofs.Rounds.{length-settled}
 use Rattle.rounds.proofs.AnyOrder.{length-run, run-append}
 use Rattle.rounds.proofs.Passes.{passes-above}
 use Rattle.reach.specs.Inside.{Inside}
@@ -81,20 +79,18 @@ module _ (b : Block) where
       below-trans (schedule-above x (replicate (gateCount b) (val false)) (length-replicate (gateCount b) (val false)) inside j l)
       (below-of-eq (sym (lastCopy-value b x inside j l)))
 
-  module _ (w : isWellFormed b ≡ true) (s : ℕ) (h : isSettled b s ≡ true) where
-    x : List Value
-    x = settingOf (inputCount b) s
-
-    node-agrees : (o : Operand) → isNode b o ≡ true
+  module _ (w : isWellFormed b ≡ true) (x : List Value) where
+    -- So has an output that shows 0 or 1: the gates that it does not show may be undefined.
+    node-agrees : (o : Operand) → isNode b o ≡ true → isDefined (operandValue x (settled b x) o) ≡ true
         → operandValue x (sweep (rendering b) x) (copiedOperand (lastCopies b) o) ≡ operandValue x (settled b x) o
-    unfolding operandValue copiedOperand isNode isSettled settledUnder x
-    node-agrees (input i) k = refl
-    node-agrees (constant c) k = refl
-    node-agrees (gate j) k =
+    unfolding operandValue copiedOperand isNode
+    node-agrees (input i) k d = refl
+    node-agrees (constant c) k d = refl
+    node-agrees (gate j) k d =
         let l : j < gateCount b = ltb-true j (gateCount b) k in
         sym
         (below-defined (getD (settled b x) j undefined) (operandValue x (sweep (rendering b) x) (getD (lastCopies b) j (constant false)))
-        (agreement (wellFormed-inside b w) x j l) (all-at isDefined (settled b x) j undefined h (rw (length-settled b x) l)))
+        (agreement (wellFormed-inside b w) x j l) d)
 
   -- what an output of the rendering shows
   shown : Output → Output
@@ -107,19 +103,25 @@ module _ (b : Block) where
   -- Under a settled setting the outputs' values, read from a sweep of the rendering, are the original's, output by output.
   pub outputs-agree : isWellFormed b ≡ true → (s : ℕ) → isSettled b s ≡ true → let x = settingOf (inputCount b) s in
       map (outputValue x (sweep (rendering b) x)) (rendering b .outputs) ≡ map (outputValue x (settled b x)) (b .outputs)
-  unfolding outputValue x shown
-  outputs-agree w s h =
-      ap (map (outputValue (settingOf (inputCount b) s) (sweep (rendering b) (settingOf (inputCount b) s)))) rendering-shown
-      ∙ go (b .outputs) (wellFormed-parts b w .nodesThere)
+  unfolding outputValue shown isSettled outputsUnder settledUnder
+  outputs-agree w s h = ap (map (outputValue x (sweep (rendering b) x))) rendering-shown ∙ go (b .outputs) (wellFormed-parts b w .nodesThere) h
     where
-      go : (os : List Output) → all (λ (o : Output). isNode b (o .node)) os ≡ true
-          → map (outputValue (settingOf (inputCount b) s) (sweep (rendering b) (settingOf (inputCount b) s))) (map shown os)
-          ≡ map (outputValue (settingOf (inputCount b) s) (settled b (settingOf (inputCount b) s))) os
-      go [] k = refl
-      go (o ∷ os) k =
+      x : List Value
+      x = settingOf (inputCount b) s
+
+      there : Output → Bool
+      there o = isNode b (o .node)
+
+      defined : Output → Value
+      defined o = outputValue x (settled b x) o
+
+      go : (os : List Output) → all there os ≡ true → all isDefined (map defined os) ≡ true
+          → map (outputValue x (sweep (rendering b) x)) (map shown os) ≡ map defined os
+      go [] k d = refl
+      go (o ∷ os) k d =
           ap₂ (λ (v : Value) (vs : List Value). v ∷ vs)
-          (node-agrees w s h (o .node) (and-left (isNode b (o .node)) (all (λ (o : Output). isNode b (o .node)) os) k))
-          (go os (and-right (isNode b (o .node)) (all (λ (o : Output). isNode b (o .node)) os) k))
+          (node-agrees w x (o .node) (and-left (there o) (all there os) k) (and-left (isDefined (defined o)) (all isDefined (map defined os)) d))
+          (go os (and-right (there o) (all there os) k) (and-right (isDefined (defined o)) (all isDefined (map defined os)) d))
 
   -- In a sound block they are under every setting.
   pub sound-outputs-agree : isWellFormed b ≡ true → isSound b ≡ true → (s : ℕ) → s < settingCount b → let x = settingOf (inputCount b) s in

@@ -11,7 +11,7 @@ use Prim.Native.Nat.{ℕ, _<_}
 use native.Mathlib.Omega.{arith}
 use lib.ListN.{length, getD}
 use Rattle.netlist.specs.StoredBlock.{gatesAt, decode, isTorn}
-use Rattle.encoding.proofs.Decoded.{decode-inputCount, decode-gateCount, decode-gate}
+use Rattle.encoding.proofs.Decoded.{decode-inputCount, decode-gateCount, decode-outputCount, decode-gate}
 use Rattle.encoding.proofs.Readers.{whole-parts, whole-gate}
 use Rattle.netlist.specs.Netlist.{gateCount}
 use Rattle.decide.specs.InPlace.{Legible, Visits, DecideReady}
@@ -46,6 +46,7 @@ whole-ready ws n m gates order inputs values h e f g v il vl =
       legible = rw (g, e) (legible ws h);
       visits = rw (← c) v;
       fewInputs = rw e (whole-parts ws h .fewInputs);
+      fewOutputs = rw (decode-outputCount ws) (whole-parts ws h .fewOutputs);
       inputRoom = il;
       valueRoom = vl ∙ c;
     }
@@ -58,6 +59,7 @@ ready-kept r e f =
       legible = r .legible;
       visits = r .visits;
       fewInputs = r .fewInputs;
+      fewOutputs = r .fewOutputs;
       inputRoom = e ∙ r .inputRoom;
       valueRoom = f ∙ r .valueRoom;
     }

@@ -7,10 +7,10 @@ use Prim.Native.Nat.{ℕ, _+_, _*_, _≤_, _<_}
 use lib.ListN.{length, getD}
 use Rattle.laws.specs.Lists.{same, member}
 use Rattle.netlist.specs.Values.{Value, code, valueOf}
-use Rattle.netlist.specs.Netlist.{Block, inputCount, gateCount, gateOf}
-use Rattle.netlist.specs.Limits.{maxInputs, maxGates}
+use Rattle.netlist.specs.Netlist.{Block, inputCount, gateCount, outputCount, gateOf}
+use Rattle.netlist.specs.Limits.{maxInputs, maxGates, maxOutputs}
 use Rattle.netlist.specs.StoredBlock.{gateSize, gateAt, decode}
-use Rattle.netlist.specs.Rounds.{settled}
+use Rattle.netlist.specs.Rounds.{settled, settingOf, settledUnder}
 use Rattle.rounds.specs.Order.{BelowAll}
 use Rattle.rounds.specs.Steps.{run, Rising}
 use Rattle.ternary.specs.Legal.{LegalHead}
@@ -45,5 +45,11 @@ pub record DecideReady (ws : List ℕ) (n gates : ℕ) (order inputs values : Li
   pub legible : Legible ws n gates
   pub visits : Visits (gateCount (decode ws)) order
   pub fewInputs : n ≤ maxInputs
+  pub fewOutputs : outputCount (decode ws) ≤ maxOutputs
   pub inputRoom : length inputs ≡ n
   pub valueRoom : length values ≡ gateCount (decode ws)
+
+-- the bytes of the inputs and of the gates under setting number s
+pub record SettledUnder (b : Block) (s : ℕ) (inputs values : List ℕ) : Type 0 where
+  pub setting : inputs ≡ map code (settingOf (inputCount b) s)
+  pub settledValues : values ≡ map code (settledUnder b s)

@@ -11,8 +11,8 @@ ghost use Rattle.netlist.specs.Limits.{maxInputs};
 ghost use Rattle.netlist.specs.Values.{code, valueOf};
 ghost use Rattle.netlist.specs.Netlist.{gateCount};
 ghost use Rattle.netlist.specs.StoredBlock.{decode};
-ghost use Rattle.netlist.specs.Rounds.{settled, settingOf, settledUnder};
-ghost use Rattle.decide.specs.InPlace.{Legible, Visits, Underway, Swept, DecideReady};
+ghost use Rattle.netlist.specs.Rounds.{settled, settingOf};
+ghost use Rattle.decide.specs.InPlace.{Legible, Visits, Underway, Swept, DecideReady, SettledUnder};
 
 // The bits of setting number `s`, the lowest first.
 pub fn set_inputs(s: usize, inputs: &mut [u8])
@@ -78,7 +78,7 @@ pub fn settle_in_place(
     while sweep_in_place(words, n, gates, order, inputs, values) {}
 }
 
-// The settled values under setting number `s`.
+// The inputs' values and the settled values under setting number `s`.
 pub fn settle_setting(
     words: &[u16],
     n: usize,
@@ -89,7 +89,7 @@ pub fn settle_setting(
     values: &mut [u8],
 )
     requires { ⌜ DecideReady (now words) n gates (now order) (now inputs) (now values) ⌝ }
-    ensures { λ r. ⌜ now (values .exit) ≡ map code (settledUnder (decode (now (words .entry))) s) ⌝ }
+    ensures { λ r. ⌜ SettledUnder (decode (now (words .entry))) s (now (inputs .exit)) (now (values .exit)) ⌝ }
 {
     set_inputs(s, inputs);
     settle_in_place(words, n, gates, order, inputs, values);

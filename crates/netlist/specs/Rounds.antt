@@ -54,9 +54,17 @@ settingCount b = 2 ^ inputCount b
 unfoldable pub settledUnder : Block → ℕ → List Value
 settledUnder b s = settled b (settingOf (inputCount b) s)
 
--- no gate stays undefined under setting number s
+-- the value of the input or gate that an output shows, in any state of the gates
+unfoldable pub outputValue : List Value → List Value → Output → Value
+outputValue x state o = operandValue x state (o .node)
+
+-- what the outputs show under setting number s
+unfoldable pub outputsUnder : Block → ℕ → List Value
+outputsUnder b s = map (outputValue (settingOf (inputCount b) s) (settledUnder b s)) (b .outputs)
+
+-- every output is 0 or 1 under setting number s, whatever the gates are that no output shows; so is every setting of a block without outputs
 unfoldable pub isSettled : Block → ℕ → Bool
-isSettled b s = all isDefined (settledUnder b s)
+isSettled b s = all isDefined (outputsUnder b s)
 
 -- how many settings are settled; and the lowest that is not, or the number of settings where all are
 unfoldable pub settledSettings : Block → ℕ
@@ -64,7 +72,3 @@ settledSettings b = countBelow (isSettled b) (settingCount b)
 
 unfoldable pub lowestUnsettled : Block → ℕ
 lowestUnsettled b = least (λ s. not (isSettled b s)) (settingCount b)
-
--- the value of the input or gate that an output shows, in any state of the gates; under a setting the state is that of its settled values
-unfoldable pub outputValue : List Value → List Value → Output → Value
-outputValue x state o = operandValue x state (o .node)

@@ -9,13 +9,13 @@ use lib.ListN.{replicate}
 use Rattle.laws.specs.Lists.{ascii, same, all, repeated, tab, joined}
 use Rattle.netlist.specs.Limits.{maxText}
 use Rattle.netlist.specs.Values.{code, valueOf, invert, isDefined}
-use Rattle.netlist.specs.Kinds.{row, rows, rowOf, isNot, isXor, isXnor, isKind, signatureOf, fewestOperands, mostOperands, arityFits, keyword}
-use Rattle.netlist.specs.Kinds.{ruled, ones, parity, gateValue}
+use Rattle.netlist.specs.Kinds.{row, rows, rowOf, isNot, isXor, isXnor, isKind, signatureOf, fewestOperands, mostOperands, arityFits, keyword, ruled}
+use Rattle.netlist.specs.Kinds.{ones, parity, gateValue}
 use Rattle.netlist.specs.StoredBlock.{gatesAt, outputsAt, isLetter, isDigit, isUnderscore, isNameByte, isNameStart, isLegalName, isPlainName}
 use Rattle.netlist.specs.StoredBlock.{isNodeName, nameWords, bytesAt, nameAt, nodeWord, operandOf, gateWords, gateAt, outputWords, outputAt, encode}
 use Rattle.netlist.specs.StoredBlock.{decode, isNode, isOperand, gateFits, isWellFormed, isTorn}
 use Rattle.netlist.specs.Rounds.{operandValue, evaluated, round, afterRounds, isStable, rounds, settled, bit, settingOf, settingCount, settledUnder}
-use Rattle.netlist.specs.Rounds.{isSettled, settledSettings, lowestUnsettled, outputValue}
+use Rattle.netlist.specs.Rounds.{isSettled, settledSettings, lowestUnsettled, outputValue, outputsUnder}
 use Rattle.netlist.specs.Cover.{fixes, agrees, isSoundUnder, isSound, without, isMinimal, isWithin, assignmentsAt, assignments, cover, coverEntries}
 use Rattle.netlist.specs.Groups.{gateOperand, readBy, reads, has, grown, grownTimes, reach, reaches, sameGroup, groupOf, isReady, mayBeNext}
 use Rattle.netlist.specs.Groups.{groupsAfter, groups, groupNumber, groupNumbers, copyCount}
@@ -91,19 +91,24 @@ unfoldable pub with : ℕ → ℕ → List ℕ
 with number detail = number ∷ 0 ∷ detail ∷ []
 
 unfoldable pub specimen4 : String
-specimen4 = "(in a)\n(in b)\n(gate p (and a q))\n(gate q (or b p))\n"
+specimen4 = "(in a)\n(in b)\n(gate p (and a q))\n(gate q (or b p))\n(out y q)\n"
 
 unfoldable pub specimen6 : String
 specimen6 =
-    "(in a)\n(in b)\n(in c)\n(in d)\n(in x)\n(gate g1 (and x g6))\n(gate g2 (or a g1))\n(gate g3 (and b g2))\n(gate g4 (or x g3))\n(gate g5 (and c g4))\n(gate g6 (or d g5))\n"
+    "(in a)\n(in b)\n(in c)\n(in d)\n(in x)\n(gate g1 (and x g6))\n(gate g2 (or a g1))\n(gate g3 (and b g2))\n(gate g4 (or x g3))\n(gate g5 (and c g4))\n(gate g6 (or d g5))\n(out y g6)\n"
 
 unfoldable pub rendered6 : String
 rendered6 =
-    "(in a)\n(in b)\n(in c)\n(in d)\n(in x)\n(gate _0 (and x 0))\n(gate _1 (or a _0))\n(gate _2 (and b _1))\n(gate _3 (or x _2))\n(gate _4 (and c _3))\n(gate _5 (or d _4))\n(gate _6 (and x _5))\n(gate _7 (or a _6))\n(gate _8 (and b _7))\n(gate _9 (or x _8))\n(gate _10 (and c _9))\n(gate _11 (or d _10))\n(gate _12 (and x _11))\n(gate _13 (or a _12))\n(gate _14 (and b _13))\n(gate _15 (or x _14))\n(gate _16 (and c _15))\n(gate _17 (or d _16))\n(gate _18 (and x _17))\n(gate _19 (or a _18))\n(gate _20 (and b _19))\n(gate _21 (or x _20))\n(gate _22 (and c _21))\n(gate _23 (or d _22))\n(gate _24 (and x _23))\n(gate _25 (or a _24))\n(gate _26 (and b _25))\n(gate _27 (or x _26))\n(gate _28 (and c _27))\n(gate _29 (or d _28))\n(gate _30 (and x _29))\n(gate _31 (or a _30))\n(gate _32 (and b _31))\n(gate _33 (or x _32))\n(gate _34 (and c _33))\n(gate _35 (or d _34))\n"
+    "(in a)\n(in b)\n(in c)\n(in d)\n(in x)\n(gate _0 (and x 0))\n(gate _1 (or a _0))\n(gate _2 (and b _1))\n(gate _3 (or x _2))\n(gate _4 (and c _3))\n(gate _5 (or d _4))\n(gate _6 (and x _5))\n(gate _7 (or a _6))\n(gate _8 (and b _7))\n(gate _9 (or x _8))\n(gate _10 (and c _9))\n(gate _11 (or d _10))\n(gate _12 (and x _11))\n(gate _13 (or a _12))\n(gate _14 (and b _13))\n(gate _15 (or x _14))\n(gate _16 (and c _15))\n(gate _17 (or d _16))\n(gate _18 (and x _17))\n(gate _19 (or a _18))\n(gate _20 (and b _19))\n(gate _21 (or x _20))\n(gate _22 (and c _21))\n(gate _23 (or d _22))\n(gate _24 (and x _23))\n(gate _25 (or a _24))\n(gate _26 (and b _25))\n(gate _27 (or x _26))\n(gate _28 (and c _27))\n(gate _29 (or d _28))\n(gate _30 (and x _29))\n(gate _31 (or a _30))\n(gate _32 (and b _31))\n(gate _33 (or x _32))\n(gate _34 (and c _33))\n(gate _35 (or d _34))\n(out y _35)\n"
+
+-- a loop for a probe, which no output needs
+unfoldable pub spare : String
+spare = "(in a)\n(gate t (not t))\n(gate p (not a))\n(out y p)\n(out z a)\n"
 
 -- xor and xnor of two, three and four operands
 unfoldable pub parities : String
-parities = "(in a)\n(in b)\n(in c)\n(in d)\n(gate p (xor a b))\n(gate q (xnor a b))\n(gate r (xor a b c))\n(gate s (xnor a b c))\n(gate t (xor a b c d))\n(gate u (xnor a b c d))\n"
+parities =
+    "(in a)\n(in b)\n(in c)\n(in d)\n(gate p (xor a b))\n(gate q (xnor a b))\n(gate r (xor a b c))\n(gate s (xnor a b c))\n(gate t (xor a b c d))\n(gate u (xnor a b c d))\n"
 
 -- xor in a loop that every setting opens: at s = 0 by p, at s = 1 by the inner `and`
 unfoldable pub parityLoop : String
@@ -121,10 +126,11 @@ board = "(in a)\n(in b)\n(gate g (and a b))\n(gate h (or a b))\n(out z h)\n(out 
 unfoldable pub eleven : List ℕ
 eleven = repeated 11 (ascii "(in a)\n")
 
--- a ring of n inverters, each reading the one before it
+-- a ring of n inverters, each reading the one before it, and the last one shown
 unfoldable pub ring : ℕ → List ℕ
 ring n =
     joined (tab (λ i. ascii "(gate g" ++ (decimal i ++ (ascii " (not g" ++ (decimal ((i + (n - 1)) % n) ++ ascii "))\n")))) n)
+    ++ (ascii "(out y g" ++ (decimal (n - 1) ++ ascii ")\n"))
 
 unfoldable pub specimens : List Specimen
 specimens =
@@ -144,8 +150,15 @@ specimens =
     ∷ (toCover (blockWords specimen4) 4 ⇒ 0 ∷ 2 ∷ 0 ∷ 1 ∷ 0 ∷ 2 ∷ 2 ∷ [])
     ∷ (toRender (blockWords specimen4) 99 ⇒ with 9 1)
     -- 9.4: a gate that reads itself
-    ∷ (toRender (blockWords "(gate p (or p (not p)))\n") 99 ⇒ with 9 0)
-    ∷ (toUnloop (ascii "(gate p (or p 1))\n") ⇒ ascii "(gate _0 (or 0 1))\n")
+    ∷ (toRender (blockWords "(gate p (or p (not p)))\n(out y p)\n") 99 ⇒ with 9 0)
+    ∷ (toUnloop (ascii "(gate p (or p 1))\n(out y p)\n") ⇒ ascii "(gate _0 (or 0 1))\n(out y _0)\n")
+    -- 9.4: a loop that no output needs, an output that shows an input, and no output at all
+    ∷ (toJudge (blockWords spare) ⇒ 0 ∷ 2 ∷ 2 ∷ [])
+    ∷ (toCover (blockWords spare) 2 ⇒ 0 ∷ 1 ∷ 0 ∷ 0 ∷ 0 ∷ [])
+    ∷ (toUnloop (ascii spare) ⇒ ascii "(in a)\n(gate _0 (not 0))\n(gate _1 (not a))\n(out y _1)\n(out z a)\n")
+    ∷ (toJudge (blockWords "(in a)\n(gate t (nand t a))\n") ⇒ 0 ∷ 2 ∷ 2 ∷ [])
+    ∷ (toCover (blockWords "(in a)\n(gate t (nand t a))\n") 2 ⇒ 0 ∷ 1 ∷ 0 ∷ 0 ∷ 0 ∷ [])
+    ∷ (toUnloop (ascii "(in a)\n(gate t (nand t a))\n") ⇒ ascii "(in a)\n(gate _0 (nand 0 a))\n")
     -- 9.5
     ∷ (toJudge (blockWords specimen6) ⇒ 0 ∷ 32 ∷ 32 ∷ [])
     ∷ (toSettle (blockWords specimen6) (0 ∷ 1 ∷ 1 ∷ 0 ∷ 0 ∷ []) 6 ⇒ 0 ∷ 6 ∷ 0 ∷ 0 ∷ 0 ∷ 0 ∷ 0 ∷ 0 ∷ 0 ∷ [])
@@ -280,5 +293,5 @@ specimens =
 
 -- All of them come out as stated.
 pub specimens-hold : all right specimens ≡ true
-unfolding code valueOf invert isDefined row rows rowOf isNot isXor isXnor isKind signatureOf fewestOperands mostOperands arityFits keyword ruled ones parity gateValue gatesAt outputsAt isLetter isDigit isUnderscore isNameByte isNameStart isLegalName isPlainName isNodeName nameWords bytesAt nameAt nodeWord operandOf gateWords gateAt outputWords outputAt encode decode isNode isOperand gateFits isWellFormed isTorn operandValue evaluated round afterRounds isStable rounds settled bit settingOf settingCount settledUnder isSettled settledSettings lowestUnsettled fixes agrees isSoundUnder isSound without isMinimal isWithin assignmentsAt assignments cover coverEntries gateOperand readBy reads has grown grownTimes reach reaches sameGroup groupOf isReady mayBeNext groupsAfter groups groupNumber groupNumbers copyCount passes schedule noCopies copiedOperand copied copies newestAfter lastCopies rendering isStraight sweepFrom sweep printTerm printInput printGate printOutput printLines print pure stop onTest ifNext expect onParsed bind nameBytes nameAfter nameReader kindReader spaced termsReader exprReader leafOr termReader addInput addGate addOutput inputLine gateLine outputLine atEnd line outputsReader gatesReader textReader parse gatesIn lineGates isOverLimit mentions linesLength gateLinesAt outputLinesAt inputMention gateMention portMention shownMention termMentions operandMentions declaredNodes declaredPorts usedNames firstRepeat orElse firstDuplicate firstOutside firstUndeclared inputBindings gateBindings bindings lookup termNode termsNodes termGates linesGates blockOf digits decimal gateName nodeNameOf termOf termsOf flatLine flatTree writtenText clamped startBefore untilLf lineStart lineEnd lineLength lineAt refusalNumber refusalDetail numberOf countOf detailOf refuseIf refuseAt inRoom answerOf leftIn counted readTree readParsed readText read isBadSetting settleBlock settle verdict coverBlock coverOf groupsBlock groupsOf renderBlock renderWords render passBlock pass writeWords write chained refusalLine shown unloop outputValue valueText pairText printPair bitReader pairReader spacedPair pairsReader setLineReader pairMention givenNames givenValue givenValues portText showLine pairsOutcome parsedOutcome lineOutcome answerLine lineAnswer netlistFrom settingsFrom netlistPart settingsPart lastLine linesFrom linesOf lineAnswers benchAfter bench report answered right blockWords _⇒_ with specimen4 specimen6 rendered6 kinds board parities parityLoop eleven ring specimens
+unfolding code valueOf invert isDefined row rows rowOf isNot isXor isXnor isKind signatureOf fewestOperands mostOperands arityFits keyword ruled ones parity gateValue gatesAt outputsAt isLetter isDigit isUnderscore isNameByte isNameStart isLegalName isPlainName isNodeName nameWords bytesAt nameAt nodeWord operandOf gateWords gateAt outputWords outputAt encode decode isNode isOperand gateFits isWellFormed isTorn operandValue evaluated round afterRounds isStable rounds settled bit settingOf settingCount settledUnder isSettled settledSettings lowestUnsettled fixes agrees isSoundUnder isSound without isMinimal isWithin assignmentsAt assignments cover coverEntries gateOperand readBy reads has grown grownTimes reach reaches sameGroup groupOf isReady mayBeNext groupsAfter groups groupNumber groupNumbers copyCount passes schedule noCopies copiedOperand copied copies newestAfter lastCopies rendering isStraight sweepFrom sweep printTerm printInput printGate printOutput printLines print pure stop onTest ifNext expect onParsed bind nameBytes nameAfter nameReader kindReader spaced termsReader exprReader leafOr termReader addInput addGate addOutput inputLine gateLine outputLine atEnd line outputsReader gatesReader textReader parse gatesIn lineGates isOverLimit mentions linesLength gateLinesAt outputLinesAt inputMention gateMention portMention shownMention termMentions operandMentions declaredNodes declaredPorts usedNames firstRepeat orElse firstDuplicate firstOutside firstUndeclared inputBindings gateBindings bindings lookup termNode termsNodes termGates linesGates blockOf digits decimal gateName nodeNameOf termOf termsOf flatLine flatTree writtenText clamped startBefore untilLf lineStart lineEnd lineLength lineAt refusalNumber refusalDetail numberOf countOf detailOf refuseIf refuseAt inRoom answerOf leftIn counted readTree readParsed readText read isBadSetting settleBlock settle verdict coverBlock coverOf groupsBlock groupsOf renderBlock renderWords render passBlock pass writeWords write chained refusalLine shown unloop outputValue outputsUnder valueText pairText printPair bitReader pairReader spacedPair pairsReader setLineReader pairMention givenNames givenValue givenValues portText showLine pairsOutcome parsedOutcome lineOutcome answerLine lineAnswer netlistFrom settingsFrom netlistPart settingsPart lastLine linesFrom linesOf lineAnswers benchAfter bench report answered right blockWords _⇒_ with specimen4 specimen6 rendered6 spare kinds board parities parityLoop eleven ring specimens
 specimens-hold = refl

@@ -1,58 +1,20 @@
--- Settled settings: what a setting's values say, the lowest that is not settled, and the count. Cited by this crate's functions. Assumes nothing.
-use mathlib.Core.Path.{_≡_, refl, sym, ap, _∙_}
+-- Settled settings: the lowest that is not settled, and the count. Cited by this crate's functions. Assumes nothing.
+use mathlib.Core.Path.{_≡_, refl, sym}
 use mathlib.Core.Bool.{Bool, true, false, cond, not}
-use mathlib.Core.List.{List, map}
+use mathlib.Core.List.{List}
 use Prim.Native.Nat.{ℕ, _+_, _^_, _≤_, _<_}
 use native.Mathlib.Omega.{arith}
 use native.Mathlib.Numerals.{add-one}
-use lib.ListN.{length, getD, set, length-map, List·getD-map}
+use lib.ListN.{length, set}
 use lib.Pow.{pow-mono}
 use Rattle.laws.specs.Lists.{countBelow, tab, placed}
 use Rattle.laws.proofs.Tab.{set-placed-tab}
-use Rattle.laws.proofs.Tests.{not-true-false, not-both}
-use Rattle.laws.proofs.Elements.{getD-defaults}
-use Rattle.laws.proofs.Quantifiers.{all-at, all-from}
 use Rattle.laws.proofs.Least.{least-le, least-below, least-is}
 use Rattle.laws.proofs.Counting.{countBelow-all, countBelow-le}
 use Rattle.netlist.specs.Limits.{maxInputs}
-use Rattle.netlist.specs.Values.{undefined, code, isDefined}
 use Rattle.netlist.specs.Netlist.{Block, inputCount}
-use Rattle.netlist.specs.Rounds.{settingCount, settledUnder, isSettled, settledSettings, lowestUnsettled}
-use Rattle.ternary.proofs.Codes.{defined-code, undefined-code}
+use Rattle.netlist.specs.Rounds.{settingCount, isSettled, settledSettings, lowestUnsettled}
 use Rattle.verdict.specs.Flags.{settledFlag}
-
-module _ (b : Block) (s : ℕ) (values : List ℕ) (are : values ≡ map code (settledUnder b s)) where
-  as-many : length values ≡ length (settledUnder b s)
-  as-many = ap length are ∙ length-map (settledUnder b s) code
-
-  value-at : (j : ℕ) → j < length values → getD values j 0 ≡ code (getD (settledUnder b s) j undefined)
-  unfolding code
-  value-at j l = getD-defaults values j 0 2 l ∙ rw are (List·getD-map code (settledUnder b s) j undefined)
-
-  -- a setting is settled where no byte is 2,
-  pub settled-when : ((j : ℕ) → j < length values → getD values j 0 ≡ 2 → ⊥) → isSettled b s ≡ true
-  unfolding isSettled
-  settled-when h =
-      all-from isDefined (settledUnder b s) undefined
-      (λ j l. let l′ : j < length values = rw as-many l in
-      defined-code (getD (settledUnder b s) j undefined) (λ e. h j l′ (value-at j l′ ∙ e)))
-
-  -- and not where one is
-  pub unsettled-when : (j : ℕ) → j < length values → getD values j 0 ≡ 2 → isSettled b s ≡ false
-  unfolding isSettled
-  unsettled-when j l e =
-      not-true-false (isSettled b s)
-      (λ t. not-both (all-at isDefined (settledUnder b s) j undefined t (rw as-many at l))
-      (undefined-code (getD (settledUnder b s) j undefined) (sym (value-at j l) ∙ e)))
-
-  -- the same of the flag
-  pub flag-settled : ((j : ℕ) → j < length values → getD values j 0 ≡ 2 → ⊥) → 1 ≡ settledFlag b s
-  unfolding settledFlag
-  flag-settled h = rw (settled-when h) refl
-
-  pub flag-unsettled : (j : ℕ) → j < length values → getD values j 0 ≡ 2 → 0 ≡ settledFlag b s
-  unfolding settledFlag
-  flag-unsettled j l e = rw (unsettled-when j l e) refl
 
 not-false-true : (a : Bool) → not a ≡ false → a ≡ true
 not-false-true true h = refl

@@ -1,7 +1,10 @@
 // Which settings are settled, for a block of n inputs whose gates' words start at `gates`. `inputs` and `values` have exactly one byte for
 // each input and each gate; the gates are evaluated along `order`.
 use decide::in_place::settle_setting;
+use layout::offsets::outputs_at;
+use layout::offsets::outputs_of;
 use netlist::Answer;
+use ternary::output::output_value;
 ghost use mathlib.Core.Path.{_≡_};
 ghost use Prim.Native.Nat.{_≤_, _^_};
 ghost use lib.ListN.{length};
@@ -13,6 +16,11 @@ ghost use Rattle.netlist.specs.Rounds.{settledSettings, lowestUnsettled};
 ghost use Rattle.decide.specs.InPlace.{DecideReady};
 ghost use Rattle.verdict.specs.Flags.{settledFlag};
 
+// The flags of a setting.
+const SETTLED: u8 = 1;
+
+const UNSETTLED: u8 = 0;
+
 // How many settings n inputs have.
 pub fn setting_count(n: usize) -> usize
     requires { ⌜ n ≤ maxInputs ⌝ }
@@ -21,7 +29,7 @@ pub fn setting_count(n: usize) -> usize
     1usize << n
 }
 
-// The lowest setting with an undefined gate, or 2^n.
+// The lowest setting with an undefined output, or 2^n.
 pub fn lowest_unsettled(
     words: &[u16],
     n: usize,
@@ -34,22 +42,24 @@ pub fn lowest_unsettled(
     ensures { λ r. ⌜ r ≡ lowestUnsettled (decode (now (words .entry))) ⌝ }
 {
     let count = setting_count(n);
+    let at = outputs_at(n, values.len());
+    let outputs = outputs_of(words);
     let mut s = 0;
     'settings: while s < count {
         settle_setting(words, n, gates, order, s, inputs, values);
-        let mut j = 0;
-        while j < values.len() {
-            if values[j] == 2 {
+        let mut o = 0;
+        while o < outputs {
+            if output_value(words, n, at, o, inputs, values) == 2 {
                 break 'settings;
             }
-            j += 1;
+            o += 1;
         }
         s += 1;
     }
     s
 }
 
-// 1 if no gate is undefined under setting number `s`, else 0.
+// The flag of setting number `s`: is no output undefined under it?
 pub fn settled_flag(
     words: &[u16],
     n: usize,
@@ -63,14 +73,16 @@ pub fn settled_flag(
     ensures { λ r. ⌜ r ≡ settledFlag (decode (now (words .entry))) s ⌝ }
 {
     settle_setting(words, n, gates, order, s, inputs, values);
-    let mut j = 0;
-    while j < values.len() {
-        if values[j] == 2 {
-            return 0;
+    let at = outputs_at(n, values.len());
+    let outputs = outputs_of(words);
+    let mut o = 0;
+    while o < outputs {
+        if output_value(words, n, at, o, inputs, values) == 2 {
+            return UNSETTLED;
         }
-        j += 1;
+        o += 1;
     }
-    1
+    SETTLED
 }
 
 // How many settings are settled, when `lowest` is the lowest other.
@@ -97,7 +109,7 @@ pub fn count_settled(
     settled
 }
 
-// 1 or 0 for each setting: is it settled?
+// A flag for each setting.
 pub fn fill_settled(
     words: &[u16],
     n: usize,

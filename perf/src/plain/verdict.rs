@@ -22,7 +22,7 @@ pub fn verdict(words: &[u16]) -> Reply {
     done(settled, lowest)
 }
 
-/// Whether every gate is defined under the setting of this number.
+/// Whether every output is defined under the setting of this number.
 pub fn is_settled(block: &Block, setting: usize) -> bool {
     let n = block.inputs.len();
     let inputs: Vec<u8> = (0..n).map(|i| (setting >> i & 1) as u8).collect();
@@ -37,7 +37,7 @@ pub fn is_settled(block: &Block, setting: usize) -> bool {
             }
         }
         if !changed {
-            return !values[n..].contains(&2);
+            return block.outputs.iter().all(|&(_, node)| values[node] != 2);
         }
     }
 }

@@ -23,6 +23,7 @@ pub fn large() -> Vec<(&'static str, Block)> {
         ("ring-of-32", full(ring(0, 32))),
         ("reversed-ring-of-32", full(reversed_ring(32))),
         ("groups-of-5-and-lone", full(groups_of_5(&mut random))),
+        ("half-unneeded", half_unneeded(&mut random)),
     ]
 }
 
@@ -55,6 +56,17 @@ fn full(gates: Vec<Gate>) -> Block {
         outputs: (0..OUTPUTS).map(output).collect(),
         gates,
     }
+}
+
+/// Straight, and every output shows a gate of the first half: no output needs the second.
+fn half_unneeded(random: &mut Random) -> Block {
+    let mut block = full(straight_fours(random, GATES));
+    for output in &mut block.outputs {
+        if let Source::Gate(gate) = &mut output.node {
+            *gate -= GATES / 2;
+        }
+    }
+    block
 }
 
 /// A `nand` of an input and another gate, or of two inputs.

@@ -36,11 +36,11 @@ pub fn typical(random: &mut Random, loops: Loops) -> Block {
     if loops != Loops::None {
         maker.loops(m);
     }
-    if loops == Loops::Latch {
-        maker.latch();
-    }
+    let held = (loops == Loops::Latch).then(|| maker.latch());
     let left = m.saturating_sub(maker.gates.len());
     maker.straight_gates(left);
+    // What it holds is shown, or the block would be sound.
+    maker.readable.extend(held);
     maker.finished()
 }
 

@@ -1,6 +1,6 @@
 //! How a refusal is told: as compilers do, with the line and a caret where there is a place.
 
-use unloop::{Assignment, Block, Location, Refusal};
+use unloop::{Assignment, Block, Location, Refusal, Value};
 
 /// The entries of a cover that are told.
 const ENTRIES_TOLD: usize = 8;
@@ -46,7 +46,7 @@ fn visible(byte: &u8) -> char {
     }
 }
 
-/// The setting that isn't settled, and what settles, by the names of the pins.
+/// The setting that isn't settled, the outputs undefined under it, and what settles, by the names of the pins.
 fn settings_told(text: &[u8], setting: usize) -> Vec<String> {
     let Ok(block) = Block::read(text) else {
         return Vec::new();
@@ -56,10 +56,14 @@ fn settings_told(text: &[u8], setting: usize) -> Vec<String> {
         fixed: u16::MAX,
         ones: setting as u16,
     };
-    let mut lines = vec![match pins.is_empty() {
-        true => "  not settled".to_string(),
-        false => format!("  not settled with {}", fixed(&pins, all)),
-    }];
+    let under = match pins.is_empty() {
+        true => String::new(),
+        false => format!(" with {}", fixed(&pins, all)),
+    };
+    let mut lines = vec![format!(
+        "  not settled{under}: {} undefined",
+        undefined(&block, setting).join(", ")
+    )];
     let cover = block.cover();
     let told = cover.iter().take(ENTRIES_TOLD);
     lines.extend(told.map(|&entry| format!("  settles with {}", fixed(&pins, entry))));
@@ -69,6 +73,16 @@ fn settings_told(text: &[u8], setting: usize) -> Vec<String> {
         _ => {}
     }
     lines
+}
+
+/// The outputs that show no value under a setting.
+fn undefined(block: &Block, setting: usize) -> Vec<String> {
+    let shown = block.shown(&block.setting(setting)).unwrap_or_default();
+    let ports = block.output_names().into_iter().zip(shown);
+    ports
+        .filter(|(_, value)| *value == Value::Undefined)
+        .map(|(port, _)| port)
+        .collect()
 }
 
 /// The pins that an assignment fixes, as `a = 1, b = 0`.

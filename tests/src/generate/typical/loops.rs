@@ -74,12 +74,13 @@ impl Maker<'_> {
         self.readable.extend((base..base + 6).map(Source::Gate));
     }
 
-    /// Two `nand` that hold each other where both inputs are 1.
-    pub(super) fn latch(&mut self) {
+    /// Two `nand` that hold each other where both inputs are 1; the gate whose value they hold.
+    pub(super) fn latch(&mut self) -> Source {
         let (set, reset) = (Source::Input(0), Source::Input(1));
         let other = self.later(1);
         let held = self.gate(Kind::Nand, &[set, other]);
         self.gate(Kind::Nand, &[reset, held]);
         self.readable.push(held);
+        held
     }
 }

@@ -25,8 +25,12 @@ returns c =
     let set = c .before .before .before .before .before .before .before in
     let s = set .before .before .before .before .before .before in
     let bits = set .set-inputs .ensures in
-    c .before .before .settle-in-place .ensures
-    ∙ rw (bits, values-codes (settingOf (length (s .args .inputs .now)) (s .args .s)), s .pre .inputRoom, s .pre .legible .inputs) refl
+    let many = s .pre .inputRoom ∙ s .pre .legible .inputs in
+    record {
+      setting = bits ∙ rw many refl;
+      settledValues =
+          c .before .before .settle-in-place .ensures ∙ rw (bits, values-codes (settingOf (length (s .args .inputs .now)) (s .args .s)), many) refl;
+    }
 
 pub settle-setting-spec : {M : Type 1} → statement M
 settle-setting-spec =

@@ -1,40 +1,71 @@
--- `verdict::settings::settled_flag` meets its contract: every gate passed is defined. Assumes nothing.
-use borrow.Author.Needs.{needs}
-use Rattle.verdict.proofs.Counting.{flag-settled, flag-unsettled}
+-- `verdict::settings::settled_flag` meets its contract: every output passed is defined. Assumes nothing.
 use Prim.Native.Nat.{ℕ, _-_, _≤_, _<_}
-use mathlib.Core.Path.{_≡_}
+use mathlib.Core.Path.{_≡_, sym, _∙_}
 use mathlib.Core.List.{List}
 use native.Mathlib.Omega.{arith}
+use borrow.Author.Needs.{needs}
 use borrow.Author.Count.{below-more}
-use lib.ListN.{length, getD}
-use Rattle.netlist.specs.StoredBlock.{decode}
+use Rattle.ternary.specs.Outputs.{shownCode}
+use Rattle.verdict.proofs.Outputs.{Found, near, few, flag-settled, flag-unsettled}
 use Rattle.verdict.proofs.settings.settled_flag.Statement.{statement}
 use Rattle.verdict.proofs.settings.settled_flag.Tie as tie
 
 abbrev Inv-loop : tie.InvT-loop
-Inv-loop words n gates order s inputs values j₀ j = (j ≤ length values) × ((k : ℕ) → k < j → getD values k 0 ≡ 2 → ⊥)
+Inv-loop words n gates order s inputs values at outputs o₀ o =
+    (o ≤ outputs) × ((k : ℕ) → k < o → shownCode words n at inputs values k ≡ 2 → ⊥)
 
 abbrev μ-loop : tie.MeasureT-loop
-μ-loop words n gates order s inputs values j₀ j = length values - j
+μ-loop words n gates order s inputs values at outputs o₀ o = outputs - o
 
--- the function's entry from the setting's values, and those from the loop's head
+-- the function's entry from the setting's values, those from the loop's head, and that from an output
 abbrev start : tie.After-settle-setting Inv-loop μ-loop → tie.Start Inv-loop μ-loop
 start v = v .before .before .before .before .before .before .before
 
 abbrev found : tie.At-loop Inv-loop μ-loop → tie.After-settle-setting Inv-loop μ-loop
-found l = l .before .before .before .before .before
+found l = l .before .before .before .before .before .before .before
+
+abbrev looked : tie.After-output-value Inv-loop μ-loop → tie.At-loop Inv-loop μ-loop
+looked o = o .before .before .before .before
+
+-- the inputs' values and the gates' under this setting
+abbrev inputsOf : tie.After-settle-setting Inv-loop μ-loop → List ℕ
+inputsOf v = v .settle-setting .last .1 .1 .1 .1 .1 .0
 
 abbrev valuesOf : tie.After-settle-setting Inv-loop μ-loop → List ℕ
 valuesOf v = v .settle-setting .last .1 .1 .1 .1 .1 .1 .0
 
+under : (l : tie.At-loop Inv-loop μ-loop) → let a = start (found l) .args in
+    Found (a .words .now) (a .n) (l .before .before .outputs-at .result) (l .before .outputs-of .result) (a .s) (inputsOf (found l)) (valuesOf (found l))
+under l =
+    let p = start (found l) .pre in
+    let e = found l .settle-setting in
+    record {
+      inputsAre = p .legible .inputs;
+      first = rw (e .kept .1 .1 .1 .1 .1 .1 .0 ∙ p .valueRoom) at (l .before .before .outputs-at .ensures);
+      outputsAre = l .before .outputs-of .ensures;
+      under = e .ensures;
+    }
+
 settle-setting-requires : tie.Need-settle-setting-requires Inv-loop μ-loop
 settle-setting-requires c κs = c .before .before .before .before .before .before .pre
+
+outputs-at-requires : tie.Need-outputs-at-requires Inv-loop μ-loop
+outputs-at-requires c κs =
+    let v = c .before .before .before .before in
+    let p = start v .pre in
+    (omega (arith, p .fewInputs), omega (arith, v .settle-setting .kept .1 .1 .1 .1 .1 .1 .0, p .valueRoom, p .legible .fewGates))
+
+outputs-of-requires : tie.Need-outputs-of-requires Inv-loop μ-loop
+outputs-of-requires c κs = search needs
 
 loop-holds : tie.Need-loop-holds Inv-loop μ-loop
 loop-holds c = (omega arith, λ k l. absurd (omega arith))
 
-slice-read-if1 : tie.Need-slice-read-if1 Inv-loop μ-loop
-slice-read-if1 c = omega arith
+output-value-requires : tie.Need-output-value-requires Inv-loop μ-loop
+output-value-requires c κs =
+    let l = c .before .before .before in
+    let p = start (found l) .pre in
+    (near (under l) (p .fewInputs) (p .legible .fewGates), few (under l) (l .loop .o) (p .fewOutputs) (omega arith))
 
 same-length : tie.Need-same-length Inv-loop μ-loop
 same-length c = search needs
@@ -44,22 +75,21 @@ same-length-2 c = search needs
 
 returns : tie.Need-returns Inv-loop μ-loop
 returns c =
-    let v = found (c .before .before .before) in
-    let s = start v in
-    flag-unsettled (decode (s .args .words .now)) (s .args .s) (valuesOf v) (v .settle-setting .ensures) (c .before .before .before .loop .j)
-    (c .before .before .loop-test .taken)
-    (c .if1 .taken)
+    let o = c .before in
+    flag-unsettled (under (looked o)) (looked o .loop .o) (o .before .before .before .loop-test .taken) (sym (o .output-value .ensures) ∙ c .if1 .taken)
 
-add-j : tie.Need-add-j Inv-loop μ-loop
-add-j c = omega arith
+add-o : tie.Need-add-o Inv-loop μ-loop
+add-o c = omega arith
 
 loop-less : tie.Need-loop-less Inv-loop μ-loop
 loop-less c = omega arith
 
 loop-again : tie.Need-loop-again Inv-loop μ-loop
 loop-again c =
-    let l = c .before .before .before .loop in
-    (omega arith, below-more (λ k. getD (valuesOf (found (c .before .before .before))) k 0 ≡ 2 → ⊥) (l .j) (l .inv .1) (c .if1 .left))
+    let l = looked (c .before) in
+    let a = start (found l) .args in
+    let shown : ℕ → ℕ = shownCode (a .words .now) (a .n) (l .before .before .outputs-at .result) (inputsOf (found l)) (valuesOf (found l)) in
+    (omega arith, below-more (λ k. shown k ≡ 2 → ⊥) (l .loop .o) (l .loop .inv .1) (λ e. c .if1 .left (c .before .output-value .ensures ∙ e)))
 
 same-length-3 : tie.Need-same-length-3 Inv-loop μ-loop
 same-length-3 c = search needs
@@ -68,10 +98,7 @@ same-length-4 : tie.Need-same-length-4 Inv-loop μ-loop
 same-length-4 c = search needs
 
 returns-2 : tie.Need-returns-2 Inv-loop μ-loop
-returns-2 c =
-    let v = found (c .before) in
-    let s = start v in
-    flag-settled (decode (s .args .words .now)) (s .args .s) (valuesOf v) (v .settle-setting .ensures) (λ k l. c .before .loop .inv .1 k (omega arith))
+returns-2 c = flag-settled (under (c .before)) (λ k l. c .before .loop .inv .1 k (omega arith))
 
 pub settled-flag-spec : {M : Type 1} → statement M
 settled-flag-spec =
@@ -80,12 +107,14 @@ settled-flag-spec =
     Inv-loop
     μ-loop
     settle-setting-requires
+    outputs-at-requires
+    outputs-of-requires
     loop-holds
-    slice-read-if1
+    output-value-requires
     same-length
     same-length-2
     returns
-    add-j
+    add-o
     loop-less
     loop-again
     same-length-3
