@@ -2,11 +2,11 @@
 use mathlib.Core.Path.{_≡_, refl}
 use mathlib.Core.Bool.{true, false}
 use mathlib.Core.List.{List}
-use Prim.Native.Nat.{ℕ, zero, suc, _-_, _≤_, _<_}
+use Prim.Native.Nat.{ℕ, zero, suc, _+_, _-_, _*_, _%_, _≤_, _<_}
 use native.Mathlib.Omega.{arith}
 use lib.ListN.{getD, List·getD-map}
 use borrow.Author.Tests.{lt-ltb, le-ltb, ne-eqb}
-use Rattle.netlist.specs.Values.{Value, undefined, val, code, valueOf, isDefined}
+use Rattle.netlist.specs.Values.{Value, undefined, val, code, valueOf, invert, isDefined}
 use Rattle.netlist.specs.Rounds.{operandValue}
 use Rattle.netlist.specs.StoredBlock.{operandOf}
 use Rattle.ternary.specs.Legal.{wordValue}
@@ -36,6 +36,20 @@ unfolding code isDefined
 undefined-code undefined h = refl
 undefined-code (val true) h = absurd (omega arith)
 undefined-code (val false) h = absurd (omega arith)
+
+-- a code is at most 2
+pub code-most : (v : Value) → code v ≤ 2
+unfolding code
+code-most undefined = omega arith
+code-most (val false) = omega arith
+code-most (val true) = omega arith
+
+-- inversion by arithmetic: the remainder of 2 × v + 1 by 3 swaps 0 and 1 and keeps 2
+pub remainder-swaps : (v : Value) → (2 * code v + 1) % 3 ≡ code (invert v)
+unfolding code invert
+remainder-swaps undefined = refl
+remainder-swaps (val false) = refl
+remainder-swaps (val true) = refl
 
 -- ---- an operand's value
 

@@ -15,22 +15,18 @@ ghost use Rattle.netlist.specs.Rounds.{evaluated};
 ghost use Rattle.netlist.specs.StoredBlock.{gateAt};
 ghost use Rattle.ternary.specs.Legal.{LegalHead, wordValue, valueFrom};
 
-// `not` of a value.
-pub fn invert_value(v: u8) -> u8
-    ensures { λ r. ⌜ r ≡ code (invert (valueOf v)) ⌝ }
-{
-    match v {
-        0 => 1,
-        1 => 0,
-        _ => 2,
-    }
-}
-
 // A byte that holds a value, as the value's code.
 fn coded(v: u8) -> u8
     ensures { λ r. ⌜ r ≡ code (valueOf v) ⌝ }
 {
     if v < 2 { v } else { 2 }
+}
+
+// `not` of a value: the remainder takes 0 to 1, 1 to 0 and 2 to 2.
+pub fn invert_value(v: u8) -> u8
+    ensures { λ r. ⌜ r ≡ code (invert (valueOf v)) ⌝ }
+{
+    (2 * coded(v) + 1) % 3
 }
 
 // The value of the operand that `word` stands for, in a block of n inputs.
