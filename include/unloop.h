@@ -45,6 +45,16 @@ enum unloop_room {
     UNLOOP_COVER_WORDS = 118098
 };
 
+/* A record of a sheet; bit i is for input or output i. The caller gives the mask of fixed inputs and the mask of those fixed at 1. The call
+   fills in the record's own number (0, or 7 with two zero masks), the mask of defined outputs and the mask of outputs at 1. */
+typedef struct unloop_record {
+    uint16_t fixed;
+    uint16_t ones;
+    uint16_t number;
+    uint16_t defined;
+    uint16_t values;
+} unloop_record;
+
 /* A part of a text. */
 typedef struct unloop_span {
     size_t start;
@@ -64,6 +74,10 @@ unloop_reply unloop_settle(const uint16_t *block, size_t block_length, const uin
 /* Pass: the values of a straight block in one sweep, equal to Settle's; count: gates. 6, 10, 7, 11. */
 unloop_reply unloop_pass(const uint16_t *block, size_t block_length, const uint8_t *setting, size_t setting_length,
                          uint8_t *values, size_t values_length);
+
+/* Sheet: each record's outputs under the values that Settle finds, an input that is not fixed being undefined; count: the records. 7 for a bit at
+   or above n, or a bit at 1 of an input that is not fixed. 6, and then no record changes. */
+unloop_reply unloop_sheet(const uint16_t *block, size_t block_length, unloop_record *records, size_t records_length);
 
 /* Verdict: count: settled settings, where every output is 0 or 1; detail: the lowest other, or 2^n if none. 6. */
 unloop_reply unloop_verdict(const uint16_t *block, size_t block_length);

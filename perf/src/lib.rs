@@ -4,3 +4,4 @@ mod clock;
 pub mod inputs;
 pub mod measure;
 pub mod plain;
+pub mod sheets;

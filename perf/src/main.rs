@@ -4,11 +4,12 @@
 use perf::inputs::{self, Set, UnderSetting};
 use perf::measure::{Line, Operation};
 use perf::plain;
+use perf::sheets::{self, SETTINGS};
 use simulator::limits::{BLOCK_WORDS, COVER_WORDS, GATES, WRITTEN_BYTES};
 use std::env;
 use std::fmt::Debug;
 use std::process::ExitCode;
-use unloop::raw;
+use unloop::raw::{self, Record};
 
 const USAGE: &str = "usage: perf/run [--lines]";
 
@@ -24,7 +25,8 @@ fn main() -> ExitCode {
     };
     if arguments.is_empty() {
         println!(
-            "Processor time of one call, best of several; `typical` is the sum over 20 blocks."
+            "Processor time of one call, best of several; `typical` is the sum over 20 blocks. \
+             For `sheet-of-40` plain is 40 calls of the library's Settle."
         );
         let [library, plain] = ["library ms", "plain ms"];
         println!("{:34} {library:>12} {plain:>12} {:>8}", "name", "ratio");
@@ -33,6 +35,7 @@ fn main() -> ExitCode {
     measure_values(print);
     measure_searches(print);
     measure_results(print);
+    measure_sheets(print);
     ExitCode::SUCCESS
 }
 
@@ -163,4 +166,17 @@ fn measure_results(print: fn(&Line)) {
         "half-unneeded",
     ];
     measure(print, cover, inputs::blocks(&worst));
+}
+
+/// Here the other program is the library's Settle, called for each setting.
+fn measure_sheets(print: fn(&Line)) {
+    let sheet = Operation {
+        name: "sheet-of-40",
+        room: SETTINGS,
+        filler: Record::default(),
+        library: sheets::in_one_call,
+        plain: sheets::in_many_calls,
+    };
+    let worst = ["reversed-chain", "straight-fours", "ring-of-1024"];
+    measure(print, sheet, sheets::pages(&worst));
 }

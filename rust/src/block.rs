@@ -259,7 +259,7 @@ fn counted<T: Clone + Default>(
 }
 
 /// A stored name; its unused bytes are zero.
-fn name(words: &[u16]) -> String {
+pub(crate) fn name(words: &[u16]) -> String {
     let bytes = words.iter().flat_map(|word| word.to_le_bytes());
     bytes.filter(|&byte| byte != 0).map(char::from).collect()
 }

@@ -28,6 +28,7 @@ mod location;
 pub mod raw;
 mod refusal;
 mod results;
+mod sheet;
 mod value;
 
 pub use block::Block;

@@ -10,6 +10,7 @@
 //! # Ok::<(), Refusal>(())
 //! ```
 
+pub use crate::sheet::Record;
 use crate::Refusal;
 
 /// The number (0, or which refusal), the count and the detail of an answer.
@@ -58,6 +59,7 @@ extern "C" {
         values: *mut u8,
         room: usize,
     ) -> Reply;
+    fn unloop_sheet(block: *const u16, words: usize, records: *mut Record, count: usize) -> Reply;
     fn unloop_verdict(block: *const u16, words: usize) -> Reply;
     fn unloop_cover(block: *const u16, words: usize, entries: *mut u16, room: usize) -> Reply;
     fn unloop_groups(block: *const u16, words: usize, numbers: *mut u16, room: usize) -> Reply;
@@ -89,6 +91,12 @@ pub fn pass(block: &[u16], setting: &[u8], values: &mut [u8]) -> Reply {
     let (words, inputs, room) = (block.len(), setting.len(), values.len());
     let (block, setting, values) = (block.as_ptr(), setting.as_ptr(), values.as_mut_ptr());
     unsafe { unloop_pass(block, words, setting, inputs, values, room) }
+}
+
+/// Each record's outputs from its two masks of inputs; count: the records.
+pub fn sheet(block: &[u16], records: &mut [Record]) -> Reply {
+    let (words, count) = (block.len(), records.len());
+    unsafe { unloop_sheet(block.as_ptr(), words, records.as_mut_ptr(), count) }
 }
 
 /// Count: settled settings, where every output is 0 or 1; detail: the lowest other, or 2^n if none.

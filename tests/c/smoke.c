@@ -45,6 +45,24 @@ static void read_specimen(void)
     answers(unloop_read(text, bytes, block, LENGTH(block) - 1), 11, 0, 0, "read, one word short");
 }
 
+/* The loop of specimen 4 with two outputs, under several settings in one call. */
+static void fill_sheet(void)
+{
+    static const char two[] = "(in a)\n(in b)\n(gate p (and a q))\n(gate q (or b p))\n(out y q)\n(out z a)\n";
+    unloop_record records[] = {{3, 2, 9, 9, 9}, {2, 2, 9, 9, 9}, {1, 3, 9, 9, 9}, {0, 0, 9, 9, 9}};
+    uint16_t block[UNLOOP_BLOCK_WORDS];
+    const size_t words = unloop_read((const uint8_t *)two, sizeof two - 1, block, LENGTH(block)).count;
+
+    answers(unloop_sheet(block, words, records, 3), 0, 3, 0, "sheet");
+    check(records[0].number == 0 && records[0].defined == 3 && records[0].values == 1, "a record of the sheet");
+    check(records[1].number == 0 && records[1].defined == 1 && records[1].values == 1, "a record with a free input");
+    check(records[2].number == 7 && records[2].defined == 0 && records[2].values == 0, "a record with 7");
+    check(records[2].fixed == 1 && records[2].ones == 3, "the masks of inputs");
+    check(records[3].number == 9 && records[3].defined == 9 && records[3].values == 9, "the record behind the sheet");
+    answers(unloop_sheet(block, words - 1, records, 4), 6, 0, 0, "sheet of torn words");
+    check(records[3].number == 9, "no record changes with 6");
+}
+
 int main(void)
 {
     static uint16_t rendered[UNLOOP_BLOCK_WORDS];
@@ -54,6 +72,7 @@ int main(void)
     const uint8_t one[] = {1}, bad[] = {3}, a_1_b_0[] = {1, 0};
 
     read_specimen();
+    fill_sheet();
     answers(unloop_render(looped, LENGTH(looped), rendered, LENGTH(rendered)), 0, 32, 0, "render");
     answers(unloop_write(rendered, 32, text, sizeof text), 0, sizeof written - 1, 0, "write");
     check(memcmp(text, written, sizeof written - 1) == 0, "the written text");

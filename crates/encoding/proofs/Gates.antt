@@ -36,7 +36,8 @@ by-kind P not and or nand nor xor xnor (suc (suc (suc zero))) h = nand
 by-kind P not and or nand nor xor xnor (suc (suc (suc (suc zero)))) h = nor
 by-kind P not and or nand nor xor xnor (suc (suc (suc (suc (suc zero))))) h = xor
 by-kind P not and or nand nor xor xnor (suc (suc (suc (suc (suc (suc zero)))))) h = xnor
-by-kind P not and or nand nor xor xnor (suc (suc (suc (suc (suc (suc (suc k))))))) h = absurd (omega (arith, kind-small (suc (suc (suc (suc (suc (suc (suc k))))))) h))
+by-kind P not and or nand nor xor xnor (suc (suc (suc (suc (suc (suc (suc k))))))) h =
+    absurd (omega (arith, kind-small (suc (suc (suc (suc (suc (suc (suc k))))))) h))
 
 pub most-four : (k : ℕ) → mostOperands k ≤ operandWords
 unfolding mostOperands signatureOf

@@ -1,33 +1,15 @@
--- What a reply shows of an answer, for the proofs of the functions. Assumes nothing.
-use mathlib.Core.Path.{_≡_, refl, sym, _∙_}
+-- An operation's promise, for the reply that shows its answer. Assumes nothing.
+use mathlib.Core.Path.{sym, _∙_}
 use mathlib.Core.List.{List}
 use Prim.Native.Nat.{ℕ}
 use Rattle.netlist.specs.declared.Answer.{Answer}
-use Rattle.netlist.specs.declared.Refusal.{Refusal}
-use Rattle.netlist.specs.declared.Answer.the-variants.{Done, Refused}
-use Rattle.netlist.specs.Answers.{refusalNumber, refusalDetail, numberOf, countOf, detailOf, Outcome, answerOf, Told, Promise}
+use Rattle.netlist.specs.declared.Reply.{Reply}
+use Rattle.netlist.specs.Answers.{Shows, Outcome, answerOf, Told, Promise}
+use Rattle.refusals.proofs.Shown.{shows-same}
 use Rattle.refusals.proofs.Promised.{told-answer, promise-answer}
 use Rattle.simulate.specs.Passed.{PassPromise}
 use Rattle.render.specs.Promise.{RenderPromise}
-use Rattle.exports.specs.declared.Reply.{Reply}
-use Rattle.exports.specs.Replies.{Shows, Replies, PassReply, RenderReply}
-
--- A reply that shows an answer shows an equal one.
-pub shows-same : {a b : Answer} {r : Reply} → a ≡ b → Shows a r → Shows b r
-shows-same e s = rw (← e) s
-
--- A refusal is shown by its number and its detail.
-pub shows-refusal : (a : Refusal) {number detail : ℕ} → number ≡ refusalNumber a → detail ≡ refusalDetail a
-    → Shows (Refused a) record { number = number; count = 0; detail = detail }
-unfolding numberOf countOf detailOf
-shows-refusal a p q = record { number = p; count = refl; detail = q }
-
--- A success is shown by 0, its count and its detail.
-pub shows-done : {a : Answer} {count detail : ℕ} → a ≡ Done count detail → Shows a record { number = 0; count = count; detail = detail }
-unfolding numberOf countOf detailOf
-shows-done p = rw p record { number = refl; count = refl; detail = refl }
-
--- ---- an operation's promise, for the reply
+use Rattle.exports.specs.Replies.{Replies, PassReply, RenderReply}
 
 pub replies : {o : Outcome} {entry exit : List ℕ} {a : Answer} {r : Reply} → Promise o entry a exit → Shows a r → Replies o entry r exit
 replies p s = record { shows = shows-same (promise-answer p) s; leaves = p .leaves }

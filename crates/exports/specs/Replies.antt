@@ -3,17 +3,10 @@ use mathlib.Core.Path.{_≡_}
 use mathlib.Core.List.{List}
 use Prim.Native.Nat.{ℕ}
 use lib.ListN.{length}
-use Rattle.netlist.specs.declared.Answer.{Answer}
-use Rattle.netlist.specs.Answers.{numberOf, countOf, detailOf, Outcome, answerOf, leftIn}
+use Rattle.netlist.specs.Answers.{Shows, Outcome, answerOf, leftIn}
 use Rattle.netlist.specs.Operations.{settle, pass, render}
 use Rattle.render.specs.Promise.{RenderPromise}
-use Rattle.exports.specs.declared.Reply.{Reply}
-
--- The reply has the three numbers of the answer.
-pub record Shows (a : Answer) (r : Reply) : Type 0 where
-  pub number : r .number ≡ numberOf a
-  pub count : r .count ≡ countOf a
-  pub detail : r .detail ≡ detailOf a
+use Rattle.netlist.specs.declared.Reply.{Reply}
 
 -- An operation's promise (netlist's `Promise`), for the reply.
 pub record Replies (o : Outcome) (entry : List ℕ) (r : Reply) (exit : List ℕ) : Type 0 where

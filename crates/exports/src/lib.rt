@@ -1,57 +1,23 @@
 // The operations as C functions (SPECIFICATION 7), for programs in other languages: include/unloop.h declares them. Each has its operation's
 // promise and no condition. A slice is a pointer and a length.
-use netlist::Answer;
-use netlist::Refusal;
-use refusals::detail_of;
-use refusals::number_of;
+use netlist::Record;
+use netlist::Reply;
+use refusals::reply_of;
+use sheet::record::answer_masks;
+use sheet::reply_to_sheet;
 ghost use mathlib.Core.Path.{_≡_};
 ghost use lib.ListN.{length};
-ghost use Rattle.netlist.specs.declared.Answer.the-variants.{Refused};
-ghost use Rattle.netlist.specs.Answers.{answerOf};
+ghost use Rattle.netlist.specs.Answers.{answerOf, Shows};
 ghost use Rattle.netlist.specs.Operations.{read, write, settle, verdict, coverOf, groupsOf};
+ghost use Rattle.netlist.specs.Sheet.{sheet, sheetRecords};
 ghost use Rattle.netlist.specs.Line.{lineStart, lineLength};
-ghost use Rattle.exports.specs.Replies.{Shows, Replies, PassReply, RenderReply};
-
-// An answer's number (0 on success), count and detail.
-#[repr(C)]
-pub struct Reply {
-    pub number: usize,
-    pub count: usize,
-    pub detail: usize,
-}
+ghost use Rattle.exports.specs.Replies.{Replies, PassReply, RenderReply};
 
 // Where a line starts, and how many bytes it has.
 #[repr(C)]
 pub struct Span {
     pub start: usize,
     pub length: usize,
-}
-
-// A refusal's three numbers: it counts nothing.
-fn reply_of_refusal(refusal: Refusal) -> Reply
-    ensures { λ r. ⌜ Shows (Refused refusal) r ⌝ }
-{
-    let number = number_of(refusal);
-    let detail = detail_of(refusal);
-    Reply {
-        number,
-        count: 0,
-        detail,
-    }
-}
-
-// The three numbers of an answer.
-fn reply_of(answer: Answer) -> Reply
-    ensures { λ r. ⌜ Shows answer r ⌝ }
-{
-    match answer {
-        Answer::Done { count, detail } => Reply {
-            number: 0,
-            count,
-            detail,
-        },
-        Answer::Refused(refusal) => reply_of_refusal(refusal),
-    }
 }
 
 // Read: text to block; count: words.
@@ -84,6 +50,22 @@ pub extern "C" fn unloop_pass(block: &[u16], setting: &[u8], values: &mut [u8]) 
     ensures { λ r. ⌜ PassReply (now (block .entry)) (now (setting .entry)) (now (values .entry)) r (now (values .exit)) ⌝ }
 {
     reply_of(simulate::pass::pass(block, setting, values))
+}
+
+// Sheet: each record's answer from its two masks of inputs; count: the records. A slice of structs is walked by hand: hence one loop, no branch.
+#[no_mangle]
+pub extern "C" fn unloop_sheet(block: &[u16], records: &mut [Record]) -> Reply
+    ensures answers { λ r. ⌜ Shows (answerOf (sheet (now (block .entry)) (length (now (records .entry))))) r ⌝ }
+    ensures leaves { λ r. ⌜ now (records .exit) ≡ sheetRecords (now (block .entry)) (now (records .entry)) ⌝ }
+{
+    let reply = reply_to_sheet(block, records.len());
+    let turns = reply.count;
+    let mut i = 0;
+    while i < turns {
+        records[i] = answer_masks(block, records[i].fixed, records[i].ones);
+        i += 1;
+    }
+    reply
 }
 
 // Verdict: count: settled settings; detail: the lowest other, or 2^n if none.

@@ -14,6 +14,7 @@ use Rattle.netlist.specs.declared.Test.{Test}
 use Rattle.netlist.specs.declared.Test.the-variants.{Passed, Failed}
 use Rattle.netlist.specs.declared.Answer.{Answer}
 use Rattle.netlist.specs.declared.Answer.the-variants.{Done, Refused}
+use Rattle.netlist.specs.declared.Reply.{Reply}
 
 -- the numbers of the table in SPECIFICATION 7.2
 unfoldable pub refusalNumber : Refusal → ℕ
@@ -56,6 +57,12 @@ countOf (Refused r) = 0
 unfoldable pub detailOf : Answer → ℕ
 detailOf (Done count detail) = detail
 detailOf (Refused r) = refusalDetail r
+
+-- The reply has the three numbers of the answer.
+pub record Shows (a : Answer) (r : Reply) : Type 0 where
+  pub number : r .number ≡ numberOf a
+  pub count : r .count ≡ countOf a
+  pub detail : r .detail ≡ detailOf a
 
 -- ---- The answer of a condition's test
 

@@ -15,6 +15,7 @@ pub mod Writing
 pub mod Line
 pub mod Answers
 pub mod Operations
+pub mod Sheet
 pub mod Program
 pub mod SetLine
 pub mod Bench

@@ -4,9 +4,10 @@ use Prim.Native.Nat.{ℕ, suc, _+_, _-_, _%_}
 use Prim.Native.String.{String}
 use mathlib.Core.Path.{_≡_, refl}
 use mathlib.Core.Bool.{Bool, true}
-use mathlib.Core.List.{List, [], _∷_, _++_}
-use lib.ListN.{replicate}
+use mathlib.Core.List.{List, [], _∷_, _++_, map}
+use lib.ListN.{length, replicate}
 use Rattle.laws.specs.Lists.{ascii, same, all, repeated, tab, joined}
+use Rattle.netlist.specs.declared.Record.{Record}
 use Rattle.netlist.specs.Limits.{maxText}
 use Rattle.netlist.specs.Values.{code, valueOf, invert, isDefined}
 use Rattle.netlist.specs.Kinds.{row, rows, rowOf, isNot, isXor, isXnor, isKind, signatureOf, fewestOperands, mostOperands, arityFits, keyword, ruled}
@@ -34,6 +35,8 @@ use Rattle.netlist.specs.Line.{clamped, startBefore, untilLf, lineStart,
 use Rattle.netlist.specs.Answers.{Outcome, refusalNumber, refusalDetail, numberOf, countOf, detailOf, refuseIf, refuseAt, inRoom, answerOf, leftIn}
 use Rattle.netlist.specs.Operations.{counted, readTree, readParsed, readText, read, isBadSetting, settleBlock, settle, verdict, coverBlock, coverOf}
 use Rattle.netlist.specs.Operations.{groupsBlock, groupsOf, renderBlock, renderWords, render, passBlock, pass, writeWords, write}
+use Rattle.netlist.specs.Sheet.{inputByte, settingBytes, isBadMasks, maskOf, isOne, outputValues, showing, refusedRecord, settledOutputs, recordOf}
+use Rattle.netlist.specs.Sheet.{answeredRecord, sheetRecords, sheet}
 use Rattle.netlist.specs.Program.{chained, refusalLine, shown, unloop}
 use Rattle.netlist.specs.SetLine.{valueText, pairText, printPair, bitReader, pairReader, spacedPair, pairsReader, setLineReader}
 use Rattle.netlist.specs.Bench.{pairMention, givenNames, givenValue, givenValues, portText, showLine, pairsOutcome, parsedOutcome, lineOutcome}
@@ -50,10 +53,18 @@ pub data Question : Type 0 where
   toCountCopies toUnloop : List ℕ → Question
   toAnswerLine : List ℕ → (line : List ℕ) → (room : ℕ) → Question
   toBench : List ℕ → Question
+  toFill : List ℕ → List Record → Question
 
 -- number, count and detail, and then the result
 unfoldable pub report : Outcome → List ℕ
 report o = numberOf (answerOf o) ∷ countOf (answerOf o) ∷ detailOf (answerOf o) ∷ leftIn o []
+
+-- a record whose answer is not asked yet: what stands there is the caller's
+unfoldable pub asks : ℕ → ℕ → Record
+asks fixed ones = record { fixed = fixed; ones = ones; number = 9; defined = 9; values = 9 }
+
+unfoldable pub fields : Record → List ℕ
+fields r = r .fixed ∷ r .ones ∷ r .number ∷ r .defined ∷ r .values ∷ []
 
 -- what the definitions answer
 unfoldable pub answered : Question → List ℕ
@@ -70,6 +81,7 @@ answered (toCountCopies ws) = copyCount (decode ws) ∷ []
 answered (toUnloop text) = unloop text
 answered (toAnswerLine ws line room) = report (answerLine ws line room)
 answered (toBench input) = bench input
+answered (toFill ws rs) = report (sheet ws (length rs)) ++ joined (map fields (sheetRecords ws rs))
 
 pub record Specimen : Type 0 where
   pub asked : Question
@@ -113,6 +125,10 @@ parities =
 -- xor in a loop that every setting opens: at s = 0 by p, at s = 1 by the inner `and`
 unfoldable pub parityLoop : String
 parityLoop = "(in a)\n(in s)\n(gate p (and s q))\n(gate q (xor a (and p (not s))))\n(out y q)\n"
+
+-- the loop of specimen 4, with outputs
+unfoldable pub shown4 : String
+shown4 = "(in a)\n(in b)\n(gate p (and a q))\n(gate q (or b p))\n(out y q)\n(out z a)\n"
 
 -- every row of the table of kinds, and `not`
 unfoldable pub kinds : String
@@ -289,9 +305,15 @@ specimens =
     ∷ (toBench [] ⇒ [])
     ∷ (toBench (ascii "(in a)\n(in a)\n\n(set)\n") ⇒ ascii "(refused 4 11)\n")
     ∷ (toBench (ascii "(in a)\n\n\n(set)\n") ⇒ ascii "(refused 2 0)\n(show)\n")
+    -- a sheet: settled outputs, inputs that are not fixed, a bit at n, a value bit on an input that is not fixed; and no records, and 6
+    ∷ (toFill (blockWords shown4) (asks 3 2 ∷ asks 3 1 ∷ asks 0 0 ∷ asks 2 2 ∷ asks 1 0 ∷ asks 4 0 ∷ asks 3 4 ∷ asks 1 3 ∷ [])
+    ⇒ 0 ∷ 8 ∷ 0 ∷ 3 ∷ 2 ∷ 0 ∷ 3 ∷ 1 ∷ 3 ∷ 1 ∷ 0 ∷ 2 ∷ 2 ∷ 0 ∷ 0 ∷ 0 ∷ 0 ∷ 0 ∷ 2 ∷ 2 ∷ 0 ∷ 1 ∷ 1 ∷ 1 ∷ 0 ∷ 0 ∷ 2 ∷ 0
+    ∷ 4 ∷ 0 ∷ 7 ∷ 0 ∷ 0 ∷ 3 ∷ 4 ∷ 7 ∷ 0 ∷ 0 ∷ 1 ∷ 3 ∷ 7 ∷ 0 ∷ 0 ∷ [])
+    ∷ (toFill (blockWords shown4) [] ⇒ 0 ∷ 0 ∷ 0 ∷ [])
+    ∷ (toFill [] (asks 1 3 ∷ []) ⇒ 6 ∷ 0 ∷ 0 ∷ 1 ∷ 3 ∷ 9 ∷ 9 ∷ 9 ∷ [])
     ∷ []
 
 -- All of them come out as stated.
 pub specimens-hold : all right specimens ≡ true
-unfolding code valueOf invert isDefined row rows rowOf isNot isXor isXnor isKind signatureOf fewestOperands mostOperands arityFits keyword ruled ones parity gateValue gatesAt outputsAt isLetter isDigit isUnderscore isNameByte isNameStart isLegalName isPlainName isNodeName nameWords bytesAt nameAt nodeWord operandOf gateWords gateAt outputWords outputAt encode decode isNode isOperand gateFits isWellFormed isTorn operandValue evaluated round afterRounds isStable rounds settled bit settingOf settingCount settledUnder isSettled settledSettings lowestUnsettled fixes agrees isSoundUnder isSound without isMinimal isWithin assignmentsAt assignments cover coverEntries gateOperand readBy reads has grown grownTimes reach reaches sameGroup groupOf isReady mayBeNext groupsAfter groups groupNumber groupNumbers copyCount passes schedule noCopies copiedOperand copied copies newestAfter lastCopies rendering isStraight sweepFrom sweep printTerm printInput printGate printOutput printLines print pure stop onTest ifNext expect onParsed bind nameBytes nameAfter nameReader kindReader spaced termsReader exprReader leafOr termReader addInput addGate addOutput inputLine gateLine outputLine atEnd line outputsReader gatesReader textReader parse gatesIn lineGates isOverLimit mentions linesLength gateLinesAt outputLinesAt inputMention gateMention portMention shownMention termMentions operandMentions declaredNodes declaredPorts usedNames firstRepeat orElse firstDuplicate firstOutside firstUndeclared inputBindings gateBindings bindings lookup termNode termsNodes termGates linesGates blockOf digits decimal gateName nodeNameOf termOf termsOf flatLine flatTree writtenText clamped startBefore untilLf lineStart lineEnd lineLength lineAt refusalNumber refusalDetail numberOf countOf detailOf refuseIf refuseAt inRoom answerOf leftIn counted readTree readParsed readText read isBadSetting settleBlock settle verdict coverBlock coverOf groupsBlock groupsOf renderBlock renderWords render passBlock pass writeWords write chained refusalLine shown unloop outputValue outputsUnder valueText pairText printPair bitReader pairReader spacedPair pairsReader setLineReader pairMention givenNames givenValue givenValues portText showLine pairsOutcome parsedOutcome lineOutcome answerLine lineAnswer netlistFrom settingsFrom netlistPart settingsPart lastLine linesFrom linesOf lineAnswers benchAfter bench report answered right blockWords _⇒_ with specimen4 specimen6 rendered6 spare kinds board parities parityLoop eleven ring specimens
+unfolding code valueOf invert isDefined row rows rowOf isNot isXor isXnor isKind signatureOf fewestOperands mostOperands arityFits keyword ruled ones parity gateValue gatesAt outputsAt isLetter isDigit isUnderscore isNameByte isNameStart isLegalName isPlainName isNodeName nameWords bytesAt nameAt nodeWord operandOf gateWords gateAt outputWords outputAt encode decode isNode isOperand gateFits isWellFormed isTorn operandValue evaluated round afterRounds isStable rounds settled bit settingOf settingCount settledUnder isSettled settledSettings lowestUnsettled fixes agrees isSoundUnder isSound without isMinimal isWithin assignmentsAt assignments cover coverEntries gateOperand readBy reads has grown grownTimes reach reaches sameGroup groupOf isReady mayBeNext groupsAfter groups groupNumber groupNumbers copyCount passes schedule noCopies copiedOperand copied copies newestAfter lastCopies rendering isStraight sweepFrom sweep printTerm printInput printGate printOutput printLines print pure stop onTest ifNext expect onParsed bind nameBytes nameAfter nameReader kindReader spaced termsReader exprReader leafOr termReader addInput addGate addOutput inputLine gateLine outputLine atEnd line outputsReader gatesReader textReader parse gatesIn lineGates isOverLimit mentions linesLength gateLinesAt outputLinesAt inputMention gateMention portMention shownMention termMentions operandMentions declaredNodes declaredPorts usedNames firstRepeat orElse firstDuplicate firstOutside firstUndeclared inputBindings gateBindings bindings lookup termNode termsNodes termGates linesGates blockOf digits decimal gateName nodeNameOf termOf termsOf flatLine flatTree writtenText clamped startBefore untilLf lineStart lineEnd lineLength lineAt refusalNumber refusalDetail numberOf countOf detailOf refuseIf refuseAt inRoom answerOf leftIn counted readTree readParsed readText read isBadSetting settleBlock settle verdict coverBlock coverOf groupsBlock groupsOf renderBlock renderWords render passBlock pass writeWords write inputByte settingBytes isBadMasks maskOf isOne outputValues showing refusedRecord settledOutputs recordOf answeredRecord sheetRecords sheet chained refusalLine shown unloop outputValue outputsUnder valueText pairText printPair bitReader pairReader spacedPair pairsReader setLineReader pairMention givenNames givenValue givenValues portText showLine pairsOutcome parsedOutcome lineOutcome answerLine lineAnswer netlistFrom settingsFrom netlistPart settingsPart lastLine linesFrom linesOf lineAnswers benchAfter bench report asks fields answered right blockWords _⇒_ with specimen4 shown4 specimen6 rendered6 spare kinds board parities parityLoop eleven ring specimens
 specimens-hold = refl

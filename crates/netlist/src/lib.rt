@@ -1,4 +1,4 @@
-// The declared types of the answers and of the table of kinds. specs/ says what each case means; nothing here runs.
+// The declared types of the answers, of a sheet's records and of the table of kinds. specs/ says what each case means; nothing here runs.
 
 // One of document 01's eleven refusals, with the place or the setting that it tells.
 pub enum Refusal {
@@ -53,4 +53,23 @@ pub struct Signature {
     pub fewest: usize,
     pub most: usize,
     pub keyword: [u8; 4],
+}
+
+// An answer for a caller in another language: its number (0 on success), count and detail.
+#[repr(C)]
+pub struct Reply {
+    pub number: usize,
+    pub count: usize,
+    pub detail: usize,
+}
+
+// A record of a sheet: the caller's mask of fixed inputs and of those at 1, and the answer's own refusal number (0 on success), mask
+// of defined outputs and mask of outputs at 1.
+#[repr(C)]
+pub struct Record {
+    pub fixed: u16,
+    pub ones: u16,
+    pub number: u16,
+    pub defined: u16,
+    pub values: u16,
 }

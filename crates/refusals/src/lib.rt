@@ -1,12 +1,14 @@
-// Refusals: the test of a condition and what an operation answers when it fails, and the numbers and details of the table of refusals
-// (SPECIFICATION 7.1, 7.2).
+// Refusals: the test of a condition and what an operation answers when it fails, the numbers and details of the table of refusals, and an
+// answer's three numbers for callers in other languages (SPECIFICATION 7.1, 7.2).
 use netlist::Answer;
 use netlist::Refusal;
+use netlist::Reply;
 use netlist::Test;
 ghost use mathlib.Core.Path.{_≡_};
 ghost use lib.Dec.{ltb};
+ghost use Rattle.netlist.specs.declared.Answer.the-variants.{Refused};
 ghost use Rattle.netlist.specs.declared.Refusal.the-variants.{NoRoom};
-ghost use Rattle.netlist.specs.Answers.{refusalNumber, refusalDetail, testOf, refusalOf};
+ghost use Rattle.netlist.specs.Answers.{refusalNumber, refusalDetail, testOf, refusalOf, Shows};
 
 // A condition that holds refuses.
 pub fn refuse_if(holds: bool, why: Refusal) -> Test
@@ -68,5 +70,32 @@ pub fn detail_of(why: Refusal) -> usize
         Refusal::UndeclaredName(place) => place,
         Refusal::NotSettled(setting) => setting,
         _ => 0,
+    }
+}
+
+// A refusal's three numbers: it counts nothing.
+fn reply_of_refusal(refusal: Refusal) -> Reply
+    ensures { λ r. ⌜ Shows (Refused refusal) r ⌝ }
+{
+    let number = number_of(refusal);
+    let detail = detail_of(refusal);
+    Reply {
+        number,
+        count: 0,
+        detail,
+    }
+}
+
+// The three numbers of an answer.
+pub fn reply_of(answer: Answer) -> Reply
+    ensures { λ r. ⌜ Shows answer r ⌝ }
+{
+    match answer {
+        Answer::Done { count, detail } => Reply {
+            number: 0,
+            count,
+            detail,
+        },
+        Answer::Refused(refusal) => reply_of_refusal(refusal),
     }
 }

@@ -20,7 +20,8 @@ use Rattle.netlist.specs.Operations.{readText}
 use Rattle.netlist.specs.Program.{refusalLine}
 use Rattle.netlist.specs.Line.{lf}
 use Rattle.netlist.specs.Bench.{lineAnswer, lineAnswers, lastLine, linesFrom, linesOf, netlistFrom, settingsFrom, netlistPart, settingsPart, benchAfter, bench}
-use Rattle.runs.specs.Runs.{heldBytes, Run, inNetlist, inLines, over, start, Turn, silent, ended, held, opened, turn, after, outputs, ending, afterAll, outputsAll}
+use Rattle.runs.specs.Runs.{heldBytes, Run, inNetlist, inLines, over, start, Turn, silent, ended, held, opened, turn, after, outputs, ending}
+use Rattle.runs.specs.Runs.{afterAll, outputsAll}
 use Rattle.runs.proofs.LongLines.{held-answer}
 use Rattle.runs.proofs.ReadBlocks.{read-few-inputs}
 
@@ -73,7 +74,8 @@ module _ (ws : List ℕ) (few : inputCount (decode ws) ≤ maxInputs) where
       step = turn (inLines ws (take heldBytes line)) c
 
       go : ((l : List ℕ) → from (inLines ws (take heldBytes l)) s ≡ lineAnswers (decode ws) (linesFrom l s)) → (t : Bool) → eqb c lf ≡ t
-          → step .output ++ from (step .next) s ≡ lineAnswers (decode ws) (cond (eqb c lf) ((line ++ (c ∷ [])) ∷ linesFrom [] s) (linesFrom (line ++ (c ∷ [])) s))
+          → step .output ++ from (step .next) s ≡ lineAnswers (decode ws)
+          (cond (eqb c lf) ((line ++ (c ∷ [])) ∷ linesFrom [] s) (linesFrom (line ++ (c ∷ [])) s))
       go rec true e =
           rw (e, held-held heldBytes line c, held-answer (decode ws) few (line ++ (c ∷ [])))
           (ap (λ (l : List ℕ). lineAnswer (decode ws) (line ++ (c ∷ [])) ++ l) (rec []))

@@ -18,9 +18,13 @@ use Rattle.netlist.specs.Limits.{maxInputs, maxGates, maxOutputs, maxDepth}
 use Rattle.netlist.specs.Kinds.{isKind, arityFits}
 use Rattle.netlist.specs.Netlist.{Name, Operand, input, gate, constant, Gate, Output, Block, inputCount, gateCount, outputCount}
 use Rattle.netlist.specs.StoredBlock.{isPlainName, isNodeName, isNode, isOperand, gateFits, isWellFormed, encode, decode, isTorn}
-use Rattle.netlist.specs.Syntax.{Term, Terms, name, literal, apply, nil, cons, GateLine, OutputLine, Tree, printInput, printGate, printOutput, termCount, isLegalTerm, isLegalTerms, isLegalGate, isLegalOutput, isLegalTree}
+use Rattle.netlist.specs.Syntax.{Term, Terms, name, literal, apply, nil, cons, GateLine, OutputLine, Tree, printInput, printGate, printOutput, termCount}
+use Rattle.netlist.specs.Syntax.{isLegalTerm, isLegalTerms, isLegalGate, isLegalOutput, isLegalTree}
 use Rattle.netlist.specs.Parse.{got, parse}
-use Rattle.netlist.specs.Reading.{gatesIn, gatesInside, lineGates, isOverLimit, Mention, mentions, inputMention, gateMention, portMention, shownMention, termMentions, termsMentions, operandMentions, gateLinesAt, outputLinesAt, declaredNodes, declaredPorts, usedNames, firstRepeat, orElse, firstDuplicate, firstOutside, firstUndeclared, Binding, inputBindings, gateBindings, bindings, lookup, termNode, termsNodes, termGates, termsGates, linesGates, blockOf}
+use Rattle.netlist.specs.Reading.{gatesIn, gatesInside, lineGates, isOverLimit, Mention, mentions, inputMention, gateMention, portMention, shownMention}
+use Rattle.netlist.specs.Reading.{termMentions, termsMentions, operandMentions, gateLinesAt, outputLinesAt, declaredNodes, declaredPorts, usedNames}
+use Rattle.netlist.specs.Reading.{firstRepeat, orElse, firstDuplicate, firstOutside, firstUndeclared, Binding, inputBindings, gateBindings, bindings}
+use Rattle.netlist.specs.Reading.{lookup, termNode, termsNodes, termGates, termsGates, linesGates, blockOf}
 use Rattle.netlist.specs.Answers.{done}
 use Rattle.netlist.specs.Operations.{readText}
 use Rattle.encoding.proofs.WellFormed.{WellFormed, wellFormed-from}
@@ -219,7 +223,8 @@ module _ (b : Block) (names : List Binding) (there : BoundThere b names) where
   unfolding mentions shownMention Known
   shown-there [] at k = refl
   shown-there (o ∷ os) at k =
-      let p = known-parts (map (λ (x : Binding). x .name) names) (shownMention o at) (mentions printOutput shownMention os (at + length (printOutput o []))) k in
+      let p = known-parts (map (λ (x : Binding). x .name) names) (shownMention o at) (mentions printOutput shownMention os (at + length (printOutput o [])))
+      k in
       and-intro _ _ (lookup-there b names (o .shown) (and-left _ true (p .0)) there) (shown-there os (at + length (printOutput o [])) (p .1))
 
 -- ---- the number of gates
@@ -236,7 +241,12 @@ mutual
   gates-counts : (ts : Terms) (names : List Binding) (first : ℕ) → length (termsGates ts names first) ≡ gatesInside ts
   gates-counts nil names first = refl
   gates-counts (cons t ts) names first =
-      omega (arith, gates-count t names first, gates-counts ts names (first + gatesIn t), length-append (termGates t names first) (termsGates ts names (first + gatesIn t)))
+      omega (
+        arith,
+        gates-count t names first,
+        gates-counts ts names (first + gatesIn t),
+        length-append (termGates t names first) (termsGates ts names (first + gatesIn t)),
+      )
 
 lines-count : (gs : List GateLine) (names : List Binding) (first : ℕ) → length (linesGates gs names first) ≡ sum (map lineGates gs)
 unfolding linesGates lineGates gatesIn
@@ -329,7 +339,13 @@ module _ (t : Tree) (legal : isLegalTree t ≡ true) (within : isOverLimit t ≡
       record {
         fewInputs = w .inputs;
         fewGates = omega (arith, w .gates, count-is);
-        fewOutputs = omega (arith, w .outputs, length-map {B = Output} (t .outputs) (λ (o : OutputLine). record { port = o .port; node = lookup (bindings t) (o .shown) }));
+        fewOutputs =
+            omega (
+              arith,
+              w .outputs,
+              length-map {B = Output} (t .outputs)
+                  (λ (o : OutputLine). record { port = o .port; node = lookup (bindings t) (o .shown) }),
+            );
         inputNames = legal-inputs;
         inputsDistinct = inputs-distinct t unrepeated;
         gatesFit = line-fits (blockOf t) (bindings t) bound-there (t .gates) _ 0 legal-gates (k .0) (omega (arith, count-is));

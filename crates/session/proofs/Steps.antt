@@ -114,7 +114,9 @@ module _ (kept c : ℕ) (line : List ℕ) (few : kept ≤ heldBytes) (room : hel
   held-full l =
       let e : kept ≡ heldBytes = omega arith in
       record {
-        bytesAre = sym (take-append-le heldBytes (take kept line) (c ∷ []) (omega (arith, before-length)) ∙ take-all heldBytes (take kept line) (omega (arith, before-length)));
+        bytesAre =
+            sym (take-append-le heldBytes (take kept line) (c ∷ []) (omega (arith, before-length))
+            ∙ take-all heldBytes (take kept line) (omega (arith, before-length)));
         few = few;
         within = omega arith;
       }

@@ -76,7 +76,8 @@ module _ (o : Outcome) (a : Answer) (entry exit : List ℕ) (f : Fits (length en
 
 -- ---- what is shown
 
-pub shown-refused : (o : Outcome) (r : Refusal) (entry mid exit : List ℕ) (n : ℕ) → o ≡ refused r → mid ≡ entry → Shown (refused r) mid exit n → Shown o entry exit n
+pub shown-refused : (o : Outcome) (r : Refusal) (entry mid exit : List ℕ) (n : ℕ) → o ≡ refused r → mid ≡ entry → Shown (refused r) mid exit n
+    → Shown o entry exit n
 shown-refused o r entry mid exit n e k s = rw (e, ← k) s
 
 pub shown-gave : {o : Outcome} {entry exit : List ℕ} {count detail : ℕ} → Gave o entry exit count detail → Shown o entry exit count

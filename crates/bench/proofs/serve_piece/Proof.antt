@@ -59,7 +59,8 @@ loop-less c =
     let l = c .before .before .before .before .before .before .before .before .before .before .before .before .before .before .before .before .before .before in
     let fed = c .before .before .before .before .before .before .before .before .before .before .before .feed in
     let part = part-length (l .before .before .before .before .before .before .args .piece .now) (l .loop .at) (l .loop .inv .0) in
-    let more = c .before .before .before .before .before .before .before .before .before .before .before .before .before .before .before .before .before .loop-test .taken in
+    let more = c .before .before .before .before .before .before .before .before .before .before .before .before .before .before .before .before .before
+    .loop-test .taken in
     let moved = fed .ensures .moves (omega (arith, part, more)) in
     omega (arith, part, more, moved, fed .ensures .progress .within)
 

@@ -38,8 +38,11 @@ loop-less c = omega arith
 loop-again : tie.Need-loop-again Inv-loop μ-loop
 loop-again c =
     let l = c .before .before .before .before .before .before .before .before .before .before .before .before .before .before .before .before in
-    let none = eqb-true (l .loop .written) 0 (c .before .before .before .before .before .before .before .before .before .before .before .before .before .before .if1 .taken) in (
-      one-byte (l .loop .inv .0) (c .before .before .before .before .before .before .before .before .before .before .before .before .before .before .before .loop-test .taken) none (c .before .before .before .before .before .before .before .before .feed-byte .ensures)
+    let none = eqb-true (l .loop .written) 0
+    (c .before .before .before .before .before .before .before .before .before .before .before .before .before .before .if1 .taken) in (
+      one-byte (l .loop .inv .0)
+          (c .before .before .before .before .before .before .before .before .before .before .before .before .before .before .before .loop-test .taken) none
+          (c .before .before .before .before .before .before .before .before .feed-byte .ensures)
           (record { textRoom = omega arith; wordRoom = omega arith; lineRoom = omega arith; outRoom = omega arith }),
       omega arith,
       omega arith,

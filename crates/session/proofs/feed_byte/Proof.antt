@@ -35,7 +35,9 @@ same-length-3 c = search needs
 returns : tie.Need-returns
 returns c =
     let x = c .before .before .before .before .before .before .before .before .before .before .before .before .before .before .before .before .before .args in
-    netlist-step (x .text .now) (x .words .now) (x .line .now) (x .byte) (c .before .before .before .before .before .before .before .before .before .before .before .state .given .1) (c .before .before .before .before .before .before .netlist-byte .ensures _)
+    netlist-step (x .text .now) (x .words .now) (x .line .now) (x .byte)
+    (c .before .before .before .before .before .before .before .before .before .before .before .state .given .1)
+    (c .before .before .before .before .before .before .netlist-byte .ensures _)
 
 same-length-4 : tie.Need-same-length-4
 same-length-4 c = search needs
@@ -49,7 +51,8 @@ same-length-6 c = search needs
 returns-2 : tie.Need-returns-2
 returns-2 c =
     let x = c .before .before .before .before .before .before .before .before .before .before .before .before .before .before .before .args in
-    line-step (x .text .now) (x .words .now) (x .line .now) (x .byte) (c .before .before .before .before .before .before .before .before .before .state2 .given .1) (c .before .before .before .before .line-byte .ensures _)
+    line-step (x .text .now) (x .words .now) (x .line .now) (x .byte)
+    (c .before .before .before .before .before .before .before .before .before .state2 .given .1) (c .before .before .before .before .line-byte .ensures _)
 
 returns-3 : tie.Need-returns-3
 returns-3 c =

@@ -34,7 +34,8 @@ same-length-2 c = search needs
 returns : tie.Need-returns
 returns c =
     let x = c .before .before .before .before .before .before .before .before .before .before .before .before .before .before .args in
-    netlist-ending (x .text .now) (x .words .now) (x .line .now) (c .before .before .before .before .before .before .before .before .state .given .1) (c .before .before .before .before .end-netlist .ensures)
+    netlist-ending (x .text .now) (x .words .now) (x .line .now) (c .before .before .before .before .before .before .before .before .state .given .1)
+    (c .before .before .before .before .end-netlist .ensures)
 
 same-length-3 : tie.Need-same-length-3
 same-length-3 c = search needs
@@ -45,7 +46,8 @@ same-length-4 c = search needs
 returns-2 : tie.Need-returns-2
 returns-2 c =
     let x = c .before .before .before .before .before .before .before .before .before .before .before .before .args in
-    line-ending (x .text .now) (x .words .now) (x .line .now) (c .before .before .before .before .before .before .state2 .given .1) (c .before .before .end-line .ensures)
+    line-ending (x .text .now) (x .words .now) (x .line .now) (c .before .before .before .before .before .before .state2 .given .1)
+    (c .before .before .end-line .ensures)
 
 returns-3 : tie.Need-returns-3
 returns-3 c =

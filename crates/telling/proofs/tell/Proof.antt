@@ -36,29 +36,75 @@ slice-aggregate-put-all-2 c = search needs
 put-all-requires-2 : tie.Need-put-all-requires-2
 put-all-requires-2 c κs =
     let few = digits (c .before .before .before .before .before .before .before .before .before .before .before) in
-    record { small = omega (arith, few .0, few .1, c .before .before .before .before .before .before .before .before .put-all .ensures .endIs, c .before .before .before .before .put-decimal .ensures .endIs) }
+    record {
+      small = omega (
+        arith,
+        few .0,
+        few .1,
+        c .before .before .before .before .before .before .before .before .put-all .ensures .endIs,
+        c .before .before .before .before .put-decimal .ensures .endIs,
+      );
+    }
 
 put-decimal-requires-2 : tie.Need-put-decimal-requires-2
 put-decimal-requires-2 c κs =
     let few = digits (c .before .before .before .before .before .before .before .before .before .before .before .before .before .before .before) in
-    record { small = omega (arith, few .0, few .1, c .before .before .before .before .before .before .before .before .before .before .before .before .put-all .ensures .endIs, c .before .before .before .before .before .before .before .before .put-decimal .ensures .endIs, c .before .before .before .put-all2 .ensures .endIs) }
+    record {
+      small = omega (
+        arith,
+        few .0,
+        few .1,
+        c .before .before .before .before .before .before .before .before .before .before .before .before .put-all .ensures .endIs,
+        c .before .before .before .before .before .before .before .before .put-decimal .ensures .endIs,
+        c .before .before .before .put-all2 .ensures .endIs,
+      );
+    }
 
 slice-aggregate-put-all-3 : tie.Need-slice-aggregate-put-all-3
 slice-aggregate-put-all-3 c = search needs
 
 put-all-requires-3 : tie.Need-put-all-requires-3
 put-all-requires-3 c κs =
-    let few = digits (c .before .before .before .before .before .before .before .before .before .before .before .before .before .before .before .before .before .before .before .before) in
-    record { small = omega (arith, few .0, few .1, c .before .before .before .before .before .before .before .before .before .before .before .before .before .before .before .before .before .put-all .ensures .endIs, c .before .before .before .before .before .before .before .before .before .before .before .before .before .put-decimal .ensures .endIs, c .before .before .before .before .before .before .before .before .put-all2 .ensures .endIs, c .before .before .before .before .put-decimal2 .ensures .endIs) }
+    let few = digits
+    (c .before .before .before .before .before .before .before .before .before .before .before .before .before .before .before .before .before .before
+    .before .before) in
+    record {
+      small = omega (
+        arith,
+        few .0,
+        few .1,
+        c .before .before .before .before .before .before .before .before .before .before .before .before .before .before .before
+            .before .before .put-all .ensures .endIs,
+        c .before .before .before .before .before .before .before .before .before .before .before .before .before
+            .put-decimal .ensures .endIs,
+        c .before .before .before .before .before .before .before .before .put-all2 .ensures .endIs,
+        c .before .before .before .before .put-decimal2 .ensures .endIs,
+      );
+    }
 
 same-length : tie.Need-same-length
 same-length c = search needs
 
 returns : tie.Need-returns
 unfolding toldLine
-returns c = let a = c .before .before .before .before .before .before .before .before .before .before .before .before .before .before .before .before .before .before .before .before .before .before .before .before .before .before .args in
-    line-told (a .why) (a .out .now) _ _ (c .before .before .before .before .before .before .before .before .before .before .before .before .before .before .before .before .before .before .before .before .before .before .before .before .before .before .pre) (c .before .before .before .before .before .before .before .before .before .before .before .before .before .before .before .before .before .before .before .before .before .before .before .before .number-of .ensures) (c .before .before .before .before .before .before .before .before .before .before .before .before .before .before .before .before .before .before .before .before .before .before .before .detail-of .ensures) (c .before .before .before .before .before .before .before .before .before .before .before .before .before .before .before .before .before .before .before .before .before .before .before .before .number-of .ok) (c .before .before .before .before .before .before .before .before .before .before .before .before .before .before .before .before .before .before .before .before .before .before .before .detail-of .ok)
-    (appended-then (c .before .before .before .before .before .before .before .before .before .before .before .before .before .before .before .before .before .before .before .before .put-all .ensures) (appended-then (c .before .before .before .before .before .before .before .before .before .before .before .before .before .before .before .before .put-decimal .ensures) (appended-then (c .before .before .before .before .before .before .before .before .before .before .before .put-all2 .ensures) (appended-then (c .before .before .before .before .before .before .before .put-decimal2 .ensures) (c .before .before .put-all3 .ensures)))))
+returns c =
+    let a = c .before .before .before .before .before .before .before .before .before .before .before .before .before .before .before .before .before
+    .before .before .before .before .before .before .before .before .before .args in
+    line-told (a .why) (a .out .now) _ _
+    (c .before .before .before .before .before .before .before .before .before .before .before .before .before .before .before .before .before .before
+    .before .before .before .before .before .before .before .before .pre) (c .before .before .before .before .before .before .before .before .before
+    .before .before .before .before .before .before .before .before .before .before .before .before .before .before .before .number-of .ensures) (c
+    .before .before .before .before .before .before .before .before .before .before .before .before .before .before .before .before .before .before
+    .before .before .before .before .before .detail-of .ensures) (c .before .before .before .before .before .before .before .before .before .before
+    .before .before .before .before .before .before .before .before .before .before .before .before .before .before .number-of .ok) (c .before .before
+    .before .before .before .before .before .before .before .before .before .before .before .before .before .before .before .before .before .before
+    .before .before .before .detail-of .ok)
+    (appended-then
+    (c .before .before .before .before .before .before .before .before .before .before .before .before .before .before .before .before .before .before
+    .before .before .put-all .ensures) (appended-then
+    (c .before .before .before .before .before .before .before .before .before .before .before .before .before .before .before .before .put-decimal
+    .ensures) (appended-then (c .before .before .before .before .before .before .before .before .before .before .before .put-all2 .ensures)
+    (appended-then (c .before .before .before .before .before .before .before .put-decimal2 .ensures) (c .before .before .put-all3 .ensures)))))
 
 pub tell-spec : {M : Type 1} → statement M
 tell-spec =

@@ -6,6 +6,7 @@ mod options;
 mod program;
 mod report;
 mod screen;
+mod sheet;
 mod source;
 mod tally;
 
@@ -13,6 +14,7 @@ use folder::Folder;
 use options::{Options, Request};
 use program::Program;
 use screen::Screen;
+use sheet::{Failure, Sheet};
 use source::Source;
 use std::io::{self, IsTerminal, Write};
 use std::process::ExitCode;
@@ -35,7 +37,27 @@ fn main() -> ExitCode {
             Ok(run) => run.all(),
             Err(reason) => failed(&reason),
         },
+        Ok(Request::Sheet(sheet)) => shown(sheet),
         Err(reason) => failed(&reason),
+    }
+}
+
+/// Writes a sheet's table, or tells why there is none.
+fn shown(sheet: Sheet) -> ExitCode {
+    match sheet.table() {
+        Ok(table) => match put(table.as_bytes()) {
+            Ok(()) => ExitCode::SUCCESS,
+            Err(Stopped) => ExitCode::from(tally::ERROR),
+        },
+        Err(Failure::Refused {
+            refusal,
+            name,
+            text,
+        }) => {
+            Screen::plain().say(&report::report(refusal, &name, &text));
+            ExitCode::from(tally::REFUSED)
+        }
+        Err(Failure::Error(reason)) => failed(&reason),
     }
 }
 

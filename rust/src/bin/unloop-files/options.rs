@@ -1,5 +1,6 @@
 //! The words of the command line.
 
+use crate::sheet::Sheet;
 use crate::source::shown;
 use std::ffi::OsString;
 use std::path::PathBuf;
@@ -15,11 +16,13 @@ pub struct Options {
 pub enum Request {
     Help,
     Run(Options),
+    Sheet(Sheet),
 }
 
 /// What is asked for, or what is wrong with it in one line.
 pub fn parse(mut words: impl Iterator<Item = OsString>) -> Result<Request, String> {
     let mut options = Options::default();
+    let mut settings = None;
     while let Some(word) = words.next() {
         match word.to_str() {
             Some("--help") => return Ok(Request::Help),
@@ -27,6 +30,10 @@ pub fn parse(mut words: impl Iterator<Item = OsString>) -> Result<Request, Strin
             Some("--into") => match words.next() {
                 Some(folder) => options.into = Some(folder.into()),
                 None => return Err(wrong("--into needs a DIR")),
+            },
+            Some("--sheet") => match words.next() {
+                Some(list) => settings = Some(PathBuf::from(list)),
+                None => return Err(wrong("--sheet needs SETTINGS")),
             },
             Some("--") => {
                 options.files.extend(words.map(PathBuf::from));
@@ -39,6 +46,9 @@ pub fn parse(mut words: impl Iterator<Item = OsString>) -> Result<Request, Strin
             _ => options.files.push(word.into()),
         }
     }
+    if let Some(settings) = settings {
+        return sheet(settings, options).map(Request::Sheet);
+    }
     if options.into.is_some() && options.files.is_empty() {
         return Err(wrong("--into needs a FILE: standard input has no name"));
     }
@@ -46,6 +56,17 @@ pub fn parse(mut words: impl Iterator<Item = OsString>) -> Result<Request, Strin
         return Err(wrong("--force needs --into DIR"));
     }
     Ok(Request::Run(options))
+}
+
+/// A sheet is of one file, and written to standard output.
+fn sheet(settings: PathBuf, options: Options) -> Result<Sheet, String> {
+    if options.into.is_some() || options.force {
+        return Err(wrong("--sheet goes with neither --into nor --force"));
+    }
+    match <[PathBuf; 1]>::try_from(options.files) {
+        Ok([file]) => Ok(Sheet { settings, file }),
+        Err(_) => Err(wrong("--sheet needs one FILE")),
+    }
 }
 
 fn wrong(what: &str) -> String {

@@ -4,8 +4,9 @@ use std::collections::BTreeMap;
 use std::fmt;
 use unloop::Refusal;
 
-/// The exit status of any error.
+/// The exit status of any error, and of a refusal.
 pub const ERROR: u8 = 2;
+pub const REFUSED: u8 = 1;
 
 #[derive(Debug, Clone, Copy)]
 pub enum Outcome {
@@ -74,7 +75,7 @@ impl Tally {
     pub fn status(&self) -> u8 {
         match (self.errors, self.refusals()) {
             (0, 0) => 0,
-            (0, _) => 1,
+            (0, _) => REFUSED,
             _ => ERROR,
         }
     }

@@ -83,10 +83,12 @@ returns-3 c = let b = c .before .before in
     ∙ byte-taken _ _ s 110 e (b .if3 .taken) (omega arith)))
 
 sub-kind-x : tie.Need-sub-kind-x
-sub-kind-x c = let read = c .before .before .before .before in byte-there (read .before .before .args .s .now) (read .byte-at .ensures) (c .if4 .taken) (omega arith)
+sub-kind-x c =
+    let read = c .before .before .before .before in byte-there (read .before .before .args .s .now) (read .byte-at .ensures) (c .if4 .taken) (omega arith)
 
 part-kind-x-start : tie.Need-part-kind-x-start
-part-kind-x-start c = let read = c .before .before .before .before in byte-there (read .before .before .args .s .now) (read .byte-at .ensures) (c .if4 .taken) (omega arith)
+part-kind-x-start c =
+    let read = c .before .before .before .before in byte-there (read .before .before .args .s .now) (read .byte-at .ensures) (c .if4 .taken) (omega arith)
 
 part-kind-x-end : tie.Need-part-kind-x-end
 part-kind-x-end c = search needs

@@ -33,7 +33,8 @@ returns : tie.Need-returns
 returns c =
     let s = c .before .before .before .before .before .before .before .before .before .before .before .before .before .before .before in
     let found = c .before .before .before .before .before .why .given in
-    end-refused (take (s .args .held) (s .args .text .now)) (s .args .words .now) _ (s .pre .1) _ (c .before .before .before .before .before .before .before .before .before .read .ensures) (found .0 .0) (found .1)
+    end-refused (take (s .args .held) (s .args .text .now)) (s .args .words .now) _ (s .pre .1) _
+    (c .before .before .before .before .before .before .before .before .before .read .ensures) (found .0 .0) (found .1)
     _ _ _ (c .before .before .tell .ensures)
 
 same-length-3 : tie.Need-same-length-3
@@ -43,7 +44,8 @@ returns-2 : tie.Need-returns-2
 returns-2 c =
     let s = c .before .before .before .before .before .before .before .before .before .before in
     let found = c .enum-told .given in
-    end-done (take (s .args .held) (s .args .text .now)) (s .args .words .now) _ (s .pre .1) _ (c .before .before .before .before .read .ensures) (found .0 .0) (found .0 .1 .0) (found .1) _
+    end-done (take (s .args .held) (s .args .text .now)) (s .args .words .now) _ (s .pre .1) _ (c .before .before .before .before .read .ensures)
+    (found .0 .0) (found .0 .1 .0) (found .1) _
 
 pub end-netlist-spec : {M : Type 1} → statement M
 end-netlist-spec =

@@ -25,7 +25,8 @@ returns : tie.Need-returns
 returns c =
     let x = c .before .before .before .before .before .before .before .before .before .before .before .before .before .args in
     λ line. turn-opens (x .held) (x .fresh) (x .byte) (x .text .now) (x .words .now) line (x .out .now)
-    (and-intro (x .fresh) (eqb (x .byte) lf) (c .before .before .before .before .before .before .before .before .before .if1 .taken) (c .before .before .before .before .before .before .before .before .if2 .taken)) (c .before .before .before .before .«open» .ensures line)
+    (and-intro (x .fresh) (eqb (x .byte) lf) (c .before .before .before .before .before .before .before .before .before .if1 .taken)
+    (c .before .before .before .before .before .before .before .before .if2 .taken)) (c .before .before .before .before .«open» .ensures line)
 
 slice-write-text : tie.Need-slice-write-text
 slice-write-text c = search needs
@@ -54,7 +55,8 @@ returns-3 c =
     let s = c .before .before .before .before .before .before .before .before .before in
     let x = s .args in
     λ line. turn-too-long (x .held) (x .fresh) (x .byte) (x .text .now) _ line _
-    (not-both (x .fresh) (eqb (x .byte) lf) (⊎-elim (λ p. inl (p .1 .left)) (λ q. inr (q .left)) (c .before .before .before .before .before .if1 .came))) (c .before .before .before .before .if3 .left) (omega arith)
+    (not-both (x .fresh) (eqb (x .byte) lf) (⊎-elim (λ p. inl (p .1 .left)) (λ q. inr (q .left)) (c .before .before .before .before .before .if1 .came)))
+    (c .before .before .before .before .if3 .left) (omega arith)
     (c .before .before .tell .ensures)
 
 pub netlist-byte-spec : {M : Type 1} → statement M

@@ -24,7 +24,9 @@ returns c =
     let s = c .before .before .before .before .before .before .before .before .before .before .before .before .before .before in
     let x = s .args in
     let found = c .before .before .before .before .before .why .given in
-    line-refused (x .words .now) (x .line .now) (s .pre .0) (x .out .now) _ (s .pre .1) _ (c .before .before .before .before .before .before .before .before .before .answer-line .ensures) (found .0 .0) _ _ (found .1) (c .before .before .tell .ensures)
+    line-refused (x .words .now) (x .line .now) (s .pre .0) (x .out .now) _ (s .pre .1) _
+    (c .before .before .before .before .before .before .before .before .before .answer-line .ensures) (found .0 .0) _ _ (found .1)
+    (c .before .before .tell .ensures)
 
 same-length-2 : tie.Need-same-length-2
 same-length-2 c = search needs
@@ -34,7 +36,8 @@ returns-2 c =
     let s = c .before .before .before .before .before .before .before .before .before .before in
     let x = s .args in
     let found = c .before .count .given in
-    line-done (x .words .now) (x .line .now) (s .pre .0) (x .out .now) _ (s .pre .1) _ (c .before .before .before .before .before .answer-line .ensures) (found .0 .0) (found .0 .1 .0) (found .1)
+    line-done (x .words .now) (x .line .now) (s .pre .0) (x .out .now) _ (s .pre .1) _ (c .before .before .before .before .before .answer-line .ensures)
+    (found .0 .0) (found .0 .1 .0) (found .1)
 
 pub answer-spec : {M : Type 1} → statement M
 answer-spec =

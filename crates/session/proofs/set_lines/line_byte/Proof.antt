@@ -18,7 +18,8 @@ returns : tie.Need-returns
 returns c =
     let s = c .before .before .before .before .before .before .before .before in
     let x = s .args in
-    λ text. turn-holds (x .count) (x .held) (x .byte) (x .words .now) (x .line .now) _ _ (c .before .before .before .hold .ensures) (s .pre .wordsThere) (s .pre .whole) text _
+    λ text. turn-holds (x .count) (x .held) (x .byte) (x .words .now) (x .line .now) _ _ (c .before .before .before .hold .ensures) (s .pre .wordsThere)
+    (s .pre .whole) text _
     (ne-eqb (x .byte) lf (c .if1 .taken))
 
 slice-aggregate-answer : tie.Need-slice-aggregate-answer
@@ -45,7 +46,8 @@ returns-2 : tie.Need-returns-2
 returns-2 c =
     let s = c .before .before .before .before .before .before .before .before .before .before .before .before .before .before in
     let x = s .args in
-    λ text. turn-answers (x .count) (x .held) (x .byte) (x .words .now) (x .line .now) _ _ (c .before .before .before .before .before .before .before .before .before .hold .ensures) (s .pre .wordsThere) (s .pre .whole) text _ _
+    λ text. turn-answers (x .count) (x .held) (x .byte) (x .words .now) (x .line .now) _ _
+    (c .before .before .before .before .before .before .before .before .before .hold .ensures) (s .pre .wordsThere) (s .pre .whole) text _ _
     (eq-eqb (x .byte) lf (c .before .before .before .before .before .before .if1 .left)) (c .before .before .answer .ensures)
 
 pub line-byte-spec : {M : Type 1} → statement M

@@ -55,7 +55,8 @@ abbrev valuesOf : tie.After-settle-setting Inv-loop μ-loop Inv-settings μ-sett
 valuesOf v = v .settle-setting .last .1 .1 .1 .1 .1 .1 .0
 
 under : (v : tie.After-settle-setting Inv-loop μ-loop Inv-settings μ-settings) → let a = start (counted (head v)) .args in
-    Found (a .words .now) (a .n) (head v .before .before .outputs-at .result) (head v .before .outputs-of .result) (head v .settings .s) (inputsOf v) (valuesOf v)
+    Found (a .words .now) (a .n) (head v .before .before .outputs-at .result) (head v .before .outputs-of .result) (head v .settings .s) (inputsOf v)
+    (valuesOf v)
 under v =
     let p = start (counted (head v)) .pre in
     record {
@@ -66,7 +67,8 @@ under v =
     }
 
 -- how many settings there are
-all-settings : (l : tie.At-settings Inv-loop μ-loop Inv-settings μ-settings) → counted l .setting-count .result ≡ settingCount (decode (start (counted l) .args .words .now))
+all-settings : (l : tie.At-settings Inv-loop μ-loop Inv-settings μ-settings)
+    → counted l .setting-count .result ≡ settingCount (decode (start (counted l) .args .words .now))
 all-settings l =
     let s = start (counted l) in
     setting-count (decode (s .args .words .now)) (s .args .n) _ (s .pre .legible .inputs) (counted l .setting-count .ensures)

@@ -1,9 +1,9 @@
--- `exports::reply_of` meets its contract, in both cases of an answer. Assumes nothing.
+-- `refusals::reply_of` meets its contract, in both cases of an answer. Assumes nothing.
 use mathlib.Core.Path.{sym}
-use Rattle.exports.proofs.Shown.{shows-done, shows-same}
+use Rattle.refusals.proofs.Shown.{shows-done, shows-same}
 use borrow.Author.Needs.{needs}
-use Rattle.exports.proofs.reply_of.Statement.{statement}
-use Rattle.exports.proofs.reply_of.Tie as tie
+use Rattle.refusals.proofs.reply_of.Statement.{statement}
+use Rattle.refusals.proofs.reply_of.Tie as tie
 
 enum-known-answer : tie.Need-enum-known-answer
 enum-known-answer c = search needs

@@ -1,8 +1,8 @@
--- `exports::reply_of_refusal` meets its contract. Assumes nothing.
+-- `refusals::reply_of_refusal` meets its contract. Assumes nothing.
 use borrow.Author.Needs.{needs}
-use Rattle.exports.proofs.Shown.{shows-refusal}
-use Rattle.exports.proofs.reply_of_refusal.Statement.{statement}
-use Rattle.exports.proofs.reply_of_refusal.Tie as tie
+use Rattle.refusals.proofs.Shown.{shows-refusal}
+use Rattle.refusals.proofs.reply_of_refusal.Statement.{statement}
+use Rattle.refusals.proofs.reply_of_refusal.Tie as tie
 
 number-of-requires : tie.Need-number-of-requires
 number-of-requires c κs = search needs

@@ -1,0 +1,6 @@
+-- The laws that the proofs of this crate cite, and the theorem on calls one after another.
+pub mod MaskLaws
+pub mod OutputLaws
+pub mod RecordLaws
+pub mod Turns
+pub mod OneByOne

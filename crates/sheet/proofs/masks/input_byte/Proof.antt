@@ -1,0 +1,27 @@
+-- `sheet::masks::input_byte` meets its contract. Assumes nothing.
+use borrow.Author.Needs.{needs}
+use borrow.Author.Tests.{eq-eqb, ne-eqb}
+use Rattle.netlist.specs.Rounds.{bit}
+use Rattle.netlist.specs.Sheet.{inputByte}
+use Rattle.sheet.proofs.masks.input_byte.Statement.{statement}
+use Rattle.sheet.proofs.masks.input_byte.Tie as tie
+
+shr-if1 : tie.Need-shr-if1
+shr-if1 c = search needs
+
+shr-result : tie.Need-shr-result
+shr-result c = search needs
+
+cast-result : tie.Need-cast-result
+cast-result c = search needs
+
+returns : tie.Need-returns
+unfolding inputByte bit
+returns c = simp (eq-eqb _ 1 (c .if1 .taken))
+
+returns-2 : tie.Need-returns-2
+unfolding inputByte bit
+returns-2 c = simp (ne-eqb _ 1 (c .if1 .left))
+
+pub input-byte-spec : {M : Type 1} → statement M
+input-byte-spec = tie.close (tie.spec shr-if1 shr-result cast-result returns returns-2)

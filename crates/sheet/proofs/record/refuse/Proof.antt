@@ -1,0 +1,25 @@
+-- `sheet::record::refuse` meets its contract. Assumes nothing.
+use mathlib.Core.Path.{_≡_, refl, ap}
+use Prim.Native.Nat.{ℕ}
+use native.Mathlib.Omega.{arith}
+use borrow.Author.Needs.{needs}
+use Rattle.netlist.specs.declared.Record.{Record}
+use Rattle.netlist.specs.declared.Refusal.the-variants.{BadSetting}
+use Rattle.netlist.specs.Answers.{refusalNumber}
+use Rattle.netlist.specs.Sheet.{refusedRecord}
+use Rattle.sheet.proofs.record.refuse.Statement.{statement}
+use Rattle.sheet.proofs.record.refuse.Tie as tie
+
+number-of-requires : tie.Need-number-of-requires
+number-of-requires c κs = search needs
+
+cast-t5 : tie.Need-cast-t5
+unfolding refusalNumber
+cast-t5 c = omega (arith, c .number-of .ensures)
+
+returns : tie.Need-returns
+unfolding refusedRecord
+returns c = rw (c .number-of .ensures)
+
+pub refuse-spec : {M : Type 1} → statement M
+refuse-spec = tie.close (tie.spec number-of-requires cast-t5 returns)

@@ -1,0 +1,56 @@
+-- `sheet::reply_to_sheet` meets its contract: 6, or the number of records. Assumes nothing.
+use mathlib.Core.Path.{sym}
+use mathlib.Core.List.{[]}
+use denote.Ref.{now}
+use borrow.Author.Needs.{needs}
+use Rattle.netlist.specs.declared.Refusal.the-variants.{MalformedBlock}
+use Rattle.refusals.proofs.Promised.{passed-false, failed, bare, keeps-bare, promise-answer}
+use Rattle.refusals.proofs.Shown.{shows-same}
+use Rattle.sheet.proofs.RecordLaws.{sheet-chain, sheet-done}
+use Rattle.sheet.proofs.reply_to_sheet.Statement.{statement}
+use Rattle.sheet.proofs.reply_to_sheet.Tie as tie
+
+check-words-requires : tie.Need-check-words-requires
+check-words-requires c κs = search needs
+
+enum-told : tie.Need-enum-told
+enum-told c = search needs
+
+enum-told-2 : tie.Need-enum-told-2
+enum-told-2 c = search needs
+
+refusal-requires : tie.Need-refusal-requires
+refusal-requires c κs = search needs
+
+reply-of-requires : tie.Need-reply-of-requires
+reply-of-requires c κs = search needs
+
+returns : tie.Need-returns
+returns c =
+    let t = c .before .before .before in
+    let told = failed bare keeps-bare _ _ MalformedBlock (sheet-chain _ _) (t .before .check-words .ensures) [] (t .match .keys2)
+    (c .before .refusal .ensures) in
+    shows-same (promise-answer told) (c .reply-of .ensures)
+
+reply-of-requires-2 : tie.Need-reply-of-requires-2
+reply-of-requires-2 c κs = search needs
+
+returns-2 : tie.Need-returns-2
+returns-2 c =
+    let t = c .before in
+    let a = t .before .before .before .before .args in
+    let whole = passed-false _ MalformedBlock (t .before .before .check-words .ensures) (t .enum-told .given .1) in
+    shows-same (sym (sheet-done (now (a .words)) (a .count) whole)) (c .reply-of2 .ensures)
+
+pub reply-to-sheet-spec : {M : Type 1} → statement M
+reply-to-sheet-spec =
+    tie.close
+    (tie.spec
+    check-words-requires
+    enum-told
+    enum-told-2
+    refusal-requires
+    reply-of-requires
+    returns
+    reply-of-requires-2
+    returns-2)

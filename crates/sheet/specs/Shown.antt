@@ -1,0 +1,31 @@
+-- What the functions on one record ask of a block's words, and what they find.
+use mathlib.Core.Path.{_≡_}
+use mathlib.Core.Bool.{false}
+use mathlib.Core.List.{List, [], map}
+use Prim.Native.Nat.{ℕ, _<_}
+use lib.ListN.{getD}
+use Rattle.netlist.specs.declared.Record.{Record}
+use Rattle.netlist.specs.Values.{code, valueOf}
+use Rattle.netlist.specs.Netlist.{Output, constant}
+use Rattle.netlist.specs.StoredBlock.{decode, isTorn}
+use Rattle.netlist.specs.Rounds.{outputValue}
+use Rattle.netlist.specs.Sheet.{settingBytes, settledOutputs, showing}
+
+-- output o of a block that is not torn, of n inputs and m gates
+pub record OfBlock (ws : List ℕ) (n m o : ℕ) : Type 0 where
+  pub whole : isTorn ws ≡ false
+  pub inputs : n ≡ getD ws 0 0
+  pub gates : m ≡ getD ws 1 0
+  pub below : o < getD ws 2 0
+
+-- past the end of the outputs
+abbrev pub noOutput : Output
+noOutput = record { port = []; node = constant false }
+
+-- the code of the value that output o shows
+unfoldable pub outputCode : List ℕ → List ℕ → List ℕ → ℕ → ℕ
+outputCode ws setting gates o = code (outputValue (map valueOf setting) (map valueOf gates) (getD (decode ws .outputs) o noOutput))
+
+-- the record of two legal masks
+unfoldable pub settledRecord : List ℕ → ℕ → ℕ → Record
+settledRecord ws fixed ones = showing fixed ones (settledOutputs (decode ws) (map valueOf (settingBytes (getD ws 0 0) fixed ones)))

@@ -1,0 +1,25 @@
+// A sheet of settings in one call: the call's reply, and the answer of one record, on numbers and slices. The function over the caller's
+// records, a walk by hand, is the C function in `exports`.
+mod masks;
+mod outputs;
+pub mod record;
+
+use block::check_words;
+use netlist::Answer;
+use netlist::Reply;
+use netlist::Test;
+use refusals::refusal;
+use refusals::reply_of;
+ghost use Rattle.netlist.specs.Answers.{answerOf, Shows};
+ghost use Rattle.netlist.specs.Sheet.{sheet};
+
+// The call's reply. Its count is also how many records are to be answered: none with 6.
+pub fn reply_to_sheet(words: &[u16], count: usize) -> Reply
+    ensures { λ r. ⌜ Shows (answerOf (sheet (now (words .entry)) count)) r ⌝ }
+{
+    let tested = check_words(words);
+    let Test::Passed = tested else {
+        return reply_of(refusal(tested));
+    };
+    reply_of(Answer::Done { count, detail: 0 })
+}

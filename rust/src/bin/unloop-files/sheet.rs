@@ -1,0 +1,108 @@
+//! `--sheet`: a table of a netlist's outputs, a row for each setting of a list.
+
+use crate::source::{reason, shown, Source};
+use std::fs;
+use std::path::{Path, PathBuf};
+use unloop::{Assignment, Block, Refusal, Value};
+
+/// What a table is made of.
+#[derive(Debug)]
+pub struct Sheet {
+    pub settings: PathBuf,
+    pub file: PathBuf,
+}
+
+/// Why there is no table.
+pub enum Failure {
+    Refused {
+        refusal: Refusal,
+        name: String,
+        text: Vec<u8>,
+    },
+    Error(String),
+}
+
+impl Sheet {
+    /// The lines of the table: the pins and the ports, and then a row for each setting.
+    pub fn table(self) -> Result<String, Failure> {
+        let source = Source::File(self.file);
+        let named = |why: &str| Failure::Error(format!("{}: {why}", source.name()));
+        let text = source.text().map_err(|error| named(&reason(&error)))?;
+        let block = Block::read(&text).map_err(|refusal| Failure::Refused {
+            refusal,
+            name: source.name(),
+            text,
+        })?;
+        let settings = settings(&self.settings, &block.input_names()).map_err(Failure::Error)?;
+        Ok(table(&block, &settings))
+    }
+}
+
+/// The settings of a list, one a line.
+fn settings(path: &Path, pins: &[String]) -> Result<Vec<Assignment>, String> {
+    let name = shown(path);
+    let text = fs::read_to_string(path).map_err(|error| format!("{name}: {}", reason(&error)))?;
+    let numbered = text.lines().zip(1..);
+    let setting = |(line, row)| setting(line, pins).map_err(|why| format!("{name}:{row}: {why}"));
+    numbered.map(setting).collect()
+}
+
+/// A setting as `a = 1, b = 0`; an empty line fixes nothing.
+fn setting(line: &str, pins: &[String]) -> Result<Assignment, String> {
+    let mut fixed = Assignment { fixed: 0, ones: 0 };
+    if line.trim().is_empty() {
+        return Ok(fixed);
+    }
+    for part in line.split(',') {
+        let wrong = || format!("not PIN = 0 or PIN = 1: {}", part.trim());
+        let (pin, value) = part.split_once('=').ok_or_else(wrong)?;
+        let value = match value.trim() {
+            "0" => 0,
+            "1" => 1,
+            _ => return Err(wrong()),
+        };
+        let input = pins.iter().position(|name| name == pin.trim());
+        let input = input.ok_or_else(|| format!("no input is named {}", pin.trim()))?;
+        if fixed.fixed >> input & 1 == 1 {
+            return Err(format!("{} is given twice", pin.trim()));
+        }
+        fixed.fixed |= 1 << input;
+        fixed.ones |= value << input;
+    }
+    Ok(fixed)
+}
+
+/// A free input is `-` and an undefined output `?`, each below its name.
+fn table(block: &Block, settings: &[Assignment]) -> String {
+    let (pins, ports) = (block.input_names(), block.ports());
+    let mut lines = row(&pins, &pins, &ports, &ports);
+    for (&setting, outputs) in settings.iter().zip(block.sheet(settings)) {
+        let given = (0..pins.len()).map(|input| match setting.value(input) {
+            Some(value) => u8::from(value).to_string(),
+            None => "-".to_string(),
+        });
+        let shown = outputs.expect("a line names inputs only").into_iter();
+        let shown = shown.map(|value| match value {
+            Value::Undefined => "?".to_string(),
+            value => (value as u8).to_string(),
+        });
+        lines += &row(
+            &pins,
+            &given.collect::<Vec<_>>(),
+            &ports,
+            &shown.collect::<Vec<_>>(),
+        );
+    }
+    lines
+}
+
+/// The cells of a row, each as wide as the name above it.
+fn row(pins: &[String], given: &[String], ports: &[String], shown: &[String]) -> String {
+    let side = |names: &[String], cells: &[String]| {
+        let cells = names.iter().zip(cells);
+        let cells = cells.map(|(name, cell)| format!("{cell:width$}", width = name.len()));
+        cells.collect::<Vec<String>>().join(" ")
+    };
+    let line = format!("{} | {}", side(pins, given), side(ports, shown));
+    line.trim_end().to_string() + "\n"
+}
