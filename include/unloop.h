@@ -34,7 +34,8 @@ enum unloop_refusal {
     UNLOOP_TOO_MANY_COPIES = 8,
     UNLOOP_NOT_SETTLED = 9, /* detail: the lowest setting under which an output is undefined */
     UNLOOP_NOT_STRAIGHT = 10,
-    UNLOOP_NO_ROOM = 11
+    UNLOOP_NO_ROOM = 11,
+    UNLOOP_INTERFACE_MISMATCH = 12
 };
 
 /* Enough room for every result: words of a block, bytes of a text, gates, words of a cover. */
@@ -90,6 +91,11 @@ unloop_reply unloop_groups(const uint16_t *block, size_t block_length, uint16_t 
 
 /* Render: the rendered block; count: words. 6, 8, 9, 11. */
 unloop_reply unloop_render(const uint16_t *block, size_t block_length, uint16_t *rendered, size_t rendered_length);
+
+/* Compare: is a straight block made elsewhere as good as ours? Accepted: count and detail 0. Else detail: the lowest
+   settled setting of ours under which an output shows another value; count: the lowest such output, from 0, plus 1.
+   6 (either block), 10 (theirs), 12 (other input names or ports, or another order). */
+unloop_reply unloop_compare(const uint16_t *ours, size_t ours_length, const uint16_t *theirs, size_t theirs_length);
 
 /* Line: the line that holds the place, without its LF. Never refuses. */
 unloop_span unloop_line(const uint8_t *text, size_t text_length, size_t place);

@@ -4,7 +4,7 @@ use crate::limits::{
     BLOCK_WORDS, COVER_WORDS, GATE_WORDS, HEAD_WORDS, NAME_WORDS, OUTPUT_WORDS, WRITTEN_BYTES,
 };
 use crate::raw::{self, Reply};
-use crate::{Assignment, Groups, Refusal, Settled, Value, Verdict};
+use crate::{Assignment, Disagreement, Groups, Refusal, Settled, Value, Verdict};
 
 /// A block of gates. Its words keep every rule of the stored block, so no method refuses with
 /// [`Refusal::MalformedBlock`], nor for want of room.
@@ -223,6 +223,29 @@ impl Block {
     pub fn render(&self) -> Result<Block, Refusal> {
         let words = counted(BLOCK_WORDS, |rendered| raw::render(&self.words, rendered))?;
         Ok(Block { words })
+    }
+
+    /// Whether a loop-free block made elsewhere is as good as this one: under every settled setting of this one all outputs must show the
+    /// same. `None`: it is accepted.
+    ///
+    /// ```
+    /// # use unloop::{Block, Disagreement, Refusal};
+    /// let block = Block::read("(in a)\n(in b)\n(gate p (and a q))\n(gate q (or b p))\n(out y q)\n")?;
+    /// let direct = Block::read("(in a)\n(in b)\n(out y b)\n")?;
+    /// assert_eq!(block.compare(&direct)?, None);
+    /// let other = Block::read("(in a)\n(in b)\n(out y a)\n")?;
+    /// assert_eq!(block.compare(&other)?, Some(Disagreement { setting: 2, output: 0 }));
+    /// let renamed = Block::read("(in a)\n(in c)\n(out y c)\n")?;
+    /// assert_eq!(block.compare(&renamed), Err(Refusal::InterfaceMismatch));
+    /// # Ok::<(), Refusal>(())
+    /// ```
+    pub fn compare(&self, theirs: &Block) -> Result<Option<Disagreement>, Refusal> {
+        let told = raw::compare(&self.words, &theirs.words).done()?;
+        let lowest = told.count.checked_sub(1);
+        Ok(lowest.map(|output| Disagreement {
+            setting: told.detail,
+            output,
+        }))
     }
 
     /// The gates' values and the count by Settle or Pass.

@@ -34,5 +34,5 @@ mod value;
 pub use block::Block;
 pub use location::Location;
 pub use refusal::Refusal;
-pub use results::{Assignment, Groups, Settled, Verdict};
+pub use results::{Assignment, Disagreement, Groups, Settled, Verdict};
 pub use value::Value;

@@ -64,6 +64,12 @@ extern "C" {
     fn unloop_cover(block: *const u16, words: usize, entries: *mut u16, room: usize) -> Reply;
     fn unloop_groups(block: *const u16, words: usize, numbers: *mut u16, room: usize) -> Reply;
     fn unloop_render(block: *const u16, words: usize, rendered: *mut u16, room: usize) -> Reply;
+    fn unloop_compare(
+        ours: *const u16,
+        our_words: usize,
+        theirs: *const u16,
+        their_words: usize,
+    ) -> Reply;
     fn unloop_line(text: *const u8, bytes: usize, place: usize) -> Span;
 }
 
@@ -120,6 +126,12 @@ pub fn groups(block: &[u16], numbers: &mut [u16]) -> Reply {
 pub fn render(block: &[u16], rendered: &mut [u16]) -> Reply {
     let (words, room) = (block.len(), rendered.len());
     unsafe { unloop_render(block.as_ptr(), words, rendered.as_mut_ptr(), room) }
+}
+
+/// Count and detail 0 where theirs is accepted; else the lowest settled setting of ours with another value at an output as detail, and
+/// the lowest such output, counted from 1, as count.
+pub fn compare(ours: &[u16], theirs: &[u16]) -> Reply {
+    unsafe { unloop_compare(ours.as_ptr(), ours.len(), theirs.as_ptr(), theirs.len()) }
 }
 
 /// The start and length of the line that holds `place`, without its LF.

@@ -79,6 +79,8 @@ refusals! {
     10 "looped" NotStraight => "some gate reads itself or a gate behind it",
     /// The slice for the result is too small. A [`Block`](crate::Block) has room for every result.
     11 "short" NoRoom => "the slice for the result is too small",
+    /// Two blocks that are compared have other input names or ports, or the same in another order.
+    12 "strangers" InterfaceMismatch => "the blocks do not have the same input names and ports in the same order",
 }
 
 /// What a row may have under the detail's name.

@@ -35,6 +35,15 @@ impl Assignment {
     }
 }
 
+/// Where a block made elsewhere shows another value than the original.
+#[derive(Debug, Clone, Copy, PartialEq, Eq)]
+pub struct Disagreement {
+    /// The lowest such setting that is settled in the original; input i has weight 2^i.
+    pub setting: usize,
+    /// The lowest such output there, from 0.
+    pub output: usize,
+}
+
 /// The strongly connected groups of a block's gates, in the order in which they can be rendered.
 #[derive(Debug, Clone, PartialEq, Eq)]
 pub struct Groups {

@@ -63,6 +63,20 @@ static void fill_sheet(void)
     check(records[3].number == 9, "no record changes with 6");
 }
 
+/* Specimen 9 and what may be sent for it: its rendering by hand, the output at 1, and another port. */
+static void compare_specimens(void)
+{
+    static const uint16_t shown[] = {1, 0, 1, 's', 0, 0, 0, 'y', 0, 0, 0, 0};
+    static const uint16_t one[] = {1, 1, 1, 's', 0, 0, 0, 18, 0, 65535, 0, 0, 'y', 0, 0, 0, 1};
+    static const uint16_t renamed[] = {1, 0, 1, 's', 0, 0, 0, 'z', 0, 0, 0, 0};
+
+    answers(unloop_compare(looped, LENGTH(looped), shown, LENGTH(shown)), 0, 0, 0, "compare, accepted");
+    answers(unloop_compare(looped, LENGTH(looped), one, LENGTH(one)), 0, 1, 0, "compare, another value");
+    answers(unloop_compare(looped, LENGTH(looped), renamed, LENGTH(renamed)), 12, 0, 0, "compare, another port");
+    answers(unloop_compare(looped, LENGTH(looped), looped, LENGTH(looped)), 10, 0, 0, "compare with a loop");
+    answers(unloop_compare(looped, LENGTH(looped) - 1, shown, LENGTH(shown)), 6, 0, 0, "compare of torn words");
+}
+
 int main(void)
 {
     static uint16_t rendered[UNLOOP_BLOCK_WORDS];
@@ -94,6 +108,7 @@ int main(void)
     check(words[0] == 0 && words[1] == 0, "the group numbers");
     answers(unloop_render(unsettled, LENGTH(unsettled), rendered, LENGTH(rendered)), 9, 0, 0, "render of specimen 5");
     answers(unloop_render(waiting, LENGTH(waiting), rendered, 0), 9, 0, 1, "render of specimen 4");
+    compare_specimens();
     unloop_span span = unloop_line((const uint8_t *)written, sizeof written - 1, 10);
     check(span.start == 7 && span.length == 19, "line");
     if (failures == 0)

@@ -30,6 +30,8 @@ pub const NOT_SETTLED: usize = 9;
 pub const NOT_STRAIGHT: usize = 10;
 /// The trade's word: short.
 pub const NO_ROOM: usize = 11;
+/// The trade's word: strangers.
+pub const INTERFACE_MISMATCH: usize = 12;
 
 impl Answer {
     /// Success, with a count.

@@ -115,6 +115,15 @@ pub fn compare_largest(words: &[u16]) {
     }
 }
 
+/// Compares Compare on two blocks, and gives its answer.
+pub fn compare_pair(ours: &[u16], theirs: &[u16]) -> Answer {
+    let _report = Report(|| format!("compare {ours:?} with {theirs:?}"));
+    let told = Answer::from(raw::compare(ours, theirs));
+    assert_eq!(told, crate::foreign::compared(ours, theirs), "compare");
+    count(|tally| tally.answered[told.number] += 1);
+    told
+}
+
 /// Compares Read with what is expected of it; a refusal also where there is room for every block.
 fn compare_read(text: &[u8], expected: (Answer, Vec<u16>)) {
     let _report = Report(|| format!("read of {}", text.escape_ascii()));

@@ -10,6 +10,7 @@ pub mod catalogue;
 pub mod compare;
 pub mod cover;
 pub mod executed;
+pub mod foreign;
 pub mod generate;
 pub mod groups;
 pub mod limits;

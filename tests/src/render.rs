@@ -24,6 +24,11 @@ fn rendered(words: &[u16]) -> Outcome<u16> {
     Ok((words.len(), words))
 }
 
+/// The passes of every group, whether or not the block is sound.
+pub fn copied(block: &Block) -> Block {
+    Layout::new(block).rendering(block)
+}
+
 /// Where a gate's copies stand.
 #[derive(Clone, Copy, Default)]
 struct Seat {

@@ -2,6 +2,7 @@
 
 use simulator::block::{Block, Source};
 use simulator::catalogue::{cover_lines, cover_of, out};
+use simulator::compare::compare_pair;
 use simulator::executed::{root, written_by_the_program};
 use simulator::generate::Report;
 use simulator::limits::{BLOCK_WORDS, COVER_WORDS};
@@ -274,5 +275,24 @@ fn full_adders_add_and_are_only_renamed() {
             assert_eq!(2 * ports["carry"] + ports["sum"], sum);
         });
         assert_eq!(words(&file(name, "net")), words(&file(name, "out")));
+    }
+}
+
+/// What README.md says of the renderings made elsewhere: one pass is caught, and five are accepted, though under the two settings that the
+/// cover of rate.net leaves out they show 0.
+#[test]
+fn renderings_made_elsewhere() {
+    let original = words(&file("rate", "net")).unwrap();
+    let told = |name: &str| compare_pair(&original, &words(&file(name, "net")).unwrap());
+    let told = ["rate-one-pass", "rate-all-passes"].map(told);
+    assert_eq!(told.map(|told| told.number), [0, 0]);
+    assert_eq!(told.map(|told| (told.count, told.detail)), [(1, 1), (0, 0)]);
+    let passes = block("rate-all-passes");
+    let unsettled = Network::new(&block("rate")).settled_settings();
+    let left: Vec<usize> = (0..16).filter(|&setting| !unsettled[setting]).collect();
+    assert_eq!(left, [8, 9]);
+    for setting in left {
+        let setting = setting_bytes(setting, 4);
+        assert_eq!(shown(&passes, &setting, &sweep(&passes, &setting)), [0]);
     }
 }

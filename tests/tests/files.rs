@@ -344,7 +344,7 @@ fn programs_that_fail() {
     let errors = "unloop: a: ./killed failed: signal: 9 (SIGKILL)\n";
     told(with_program(&scratch, "./killed"), 2, "", errors);
     for strange in [
-        "(refused 12 0)",
+        "(refused 99 0)",
         "(refused 2)",
         "(refused 2 0)x",
         "(refused 2 -1)",

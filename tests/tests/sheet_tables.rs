@@ -63,7 +63,7 @@ fn wrong_settings() {
 #[test]
 fn wrong_words() {
     let scratch = with(&[("n", NETLIST), ("list", "a = 1\n")]);
-    let wrong: [(&[&str], &str); 5] = [
+    let wrong: [(&[&str], &str); 6] = [
         (&["--sheet"], "--sheet needs SETTINGS (see --help)"),
         (&["--sheet", "list"], "--sheet needs one FILE (see --help)"),
         (
@@ -72,7 +72,11 @@ fn wrong_words() {
         ),
         (
             &["--sheet", "list", "--into", "d", "n"],
-            "--sheet goes with neither --into nor --force (see --help)",
+            "--sheet SETTINGS goes with no other option (see --help)",
+        ),
+        (
+            &["--sheet", "list", "--check", "n", "n"],
+            "--sheet SETTINGS goes with no other option (see --help)",
         ),
         (&["--sheet", "gone", "n"], "gone: No such file or directory"),
     ];

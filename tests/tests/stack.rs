@@ -35,6 +35,7 @@ fn blocks() {
             assert_ne!(raw::render(&words, &mut rendered).number, 6);
             assert_eq!(raw::cover(&words, &mut entries).number, 0);
             assert_eq!(raw::write(&words, &mut text).number, 0);
+            assert_ne!(raw::compare(&words, &words).number, 6);
         });
     }
 }

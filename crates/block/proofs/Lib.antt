@@ -1,5 +1,5 @@
-mod TestLaws
+pub mod TestLaws
 mod HeaderLaws
-mod NameLaws
+pub mod NameLaws
 mod GateLaws
 mod StraightLaws

@@ -177,41 +177,46 @@ nameAt-nameWords ws at s h stands = nameAt-legal isLetter s h ws at stands
 
 -- ---- names, not twice
 
--- the same words hold the same name
-pub nameAt-agrees : (ws : List ℕ) (at other : ℕ) → ((i : ℕ) → i < nameSize → getD ws (at + i) 0 ≡ getD ws (other + i) 0) → nameAt ws at ≡ nameAt ws other
+-- the same words hold the same name, in one block or in two
+pub nameAt-agrees : (ws vs : List ℕ) (at other : ℕ) → ((i : ℕ) → i < nameSize → getD ws (at + i) 0 ≡ getD vs (other + i) 0)
+    → nameAt ws at ≡ nameAt vs other
 unfolding nameAt bytesAt
-nameAt-agrees ws at other h =
+nameAt-agrees ws vs at other h =
     ap (λ (bs : List (List ℕ)). trimmed (joined bs))
-    (tab-ext (bytes at) (bytes other) nameSize (λ i l. ap (λ (w : ℕ). w % 256 ∷ w / 256 ∷ []) (h i l)))
+    (tab-ext (bytes ws at) (bytes vs other) nameSize (λ i l. ap (λ (w : ℕ). w % 256 ∷ w / 256 ∷ []) (h i l)))
   where
-    bytes : ℕ → ℕ → List ℕ
-    bytes at i = getD ws (at + i) 0 % 256 ∷ getD ws (at + i) 0 / 256 ∷ []
+    bytes : List ℕ → ℕ → ℕ → List ℕ
+    bytes us at i = getD us (at + i) 0 % 256 ∷ getD us (at + i) 0 / 256 ∷ []
 
 -- two names are the same when their words are
-pub sameName-same : (ws : List ℕ) (at other : ℕ) → sameName ws at other ≡ same (nameAt ws at) (nameAt ws other)
-unfolding sameName
-sameName-same ws at other = same-test (sameName ws at other) (same (nameAt ws at) (nameAt ws other)) forth back
+pub names-same : (ws vs : List ℕ) (at other : ℕ)
+    → all (λ i. eqb (getD ws (at + i) 0) (getD vs (other + i) 0)) (upTo nameSize) ≡ same (nameAt ws at) (nameAt vs other)
+names-same ws vs at other = same-test (all agree (upTo nameSize)) (same (nameAt ws at) (nameAt vs other)) forth back
   where
     agree : ℕ → Bool
-    agree i = eqb (getD ws (at + i) 0) (getD ws (other + i) 0)
+    agree i = eqb (getD ws (at + i) 0) (getD vs (other + i) 0)
 
-    words : ℕ → List ℕ
-    words at = tab (λ i. getD ws (at + i) 0) nameSize
+    words : List ℕ → ℕ → List ℕ
+    words us at = tab (λ i. getD us (at + i) 0) nameSize
 
-    forth : sameName ws at other ≡ true → same (nameAt ws at) (nameAt ws other) ≡ true
+    forth : all agree (upTo nameSize) ≡ true → same (nameAt ws at) (nameAt vs other) ≡ true
     forth h =
-        eq-same (nameAt ws at) (nameAt ws other)
-        (nameAt-agrees ws at other (λ i l. eqb-true (getD ws (at + i) 0) (getD ws (other + i) 0) (all-below agree nameSize i h l)))
+        eq-same (nameAt ws at) (nameAt vs other)
+        (nameAt-agrees ws vs at other (λ i l. eqb-true (getD ws (at + i) 0) (getD vs (other + i) 0) (all-below agree nameSize i h l)))
 
-    back : same (nameAt ws at) (nameAt ws other) ≡ true → sameName ws at other ≡ true
+    back : same (nameAt ws at) (nameAt vs other) ≡ true → all agree (upTo nameSize) ≡ true
     back h =
-        let e : words at ≡ words other =
-        sym (nameWords-nameAt ws at) ∙ ap nameWords (same-eq (nameAt ws at) (nameAt ws other) h) ∙ nameWords-nameAt ws other in
+        let e : words ws at ≡ words vs other =
+        sym (nameWords-nameAt ws at) ∙ ap nameWords (same-eq (nameAt ws at) (nameAt vs other) h) ∙ nameWords-nameAt vs other in
         below-all agree nameSize
-        (λ i l. eq-eqb (getD ws (at + i) 0) (getD ws (other + i) 0)
+        (λ i l. eq-eqb (getD ws (at + i) 0) (getD vs (other + i) 0)
         (sym (getD-tab (λ i. getD ws (at + i) 0) nameSize i 0 l)
         ∙ ap (λ (t : List ℕ). getD t i 0) e
-        ∙ getD-tab (λ i. getD ws (other + i) 0) nameSize i 0 l))
+        ∙ getD-tab (λ i. getD vs (other + i) 0) nameSize i 0 l))
+
+pub sameName-same : (ws : List ℕ) (at other : ℕ) → sameName ws at other ≡ same (nameAt ws at) (nameAt ws other)
+unfolding sameName
+sameName-same ws at other = names-same ws ws at other
 
 distinct-tab : (f : ℕ → Name) (n : ℕ) → distinct (tab f n) ≡ all (λ j. all (λ i. not (same (f i) (f j))) (upTo j)) (upTo n)
 distinct-tab f n = same-test (distinct (tab f n)) (all (λ j. all (λ i. not (same (f i) (f j))) (upTo j)) (upTo n)) forth back

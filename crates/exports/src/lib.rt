@@ -10,6 +10,7 @@ ghost use lib.ListN.{length};
 ghost use Rattle.netlist.specs.Answers.{answerOf, Shows};
 ghost use Rattle.netlist.specs.Operations.{read, write, settle, verdict, coverOf, groupsOf};
 ghost use Rattle.netlist.specs.Sheet.{sheet, sheetRecords};
+ghost use Rattle.netlist.specs.Compare.{compare};
 ghost use Rattle.netlist.specs.Line.{lineStart, lineLength};
 ghost use Rattle.exports.specs.Replies.{Replies, PassReply, RenderReply};
 
@@ -110,4 +111,12 @@ pub extern "C" fn unloop_line(text: &[u8], place: usize) -> Span
         start: line::line_start(text, place),
         length: line::line_length(text, place),
     }
+}
+
+// Compare: accepted with count and detail 0, or the lowest setting and output that differ.
+#[no_mangle]
+pub extern "C" fn unloop_compare(ours: &[u16], theirs: &[u16]) -> Reply
+    ensures { λ r. ⌜ Shows (answerOf (compare (now (ours .entry)) (now (theirs .entry)))) r ⌝ }
+{
+    reply_of(compare::compare(ours, theirs))
 }

@@ -16,7 +16,9 @@ pub mod Line
 pub mod Answers
 pub mod Operations
 pub mod Sheet
+pub mod Compare
 pub mod Program
 pub mod SetLine
 pub mod Bench
 pub mod Specimens
+pub mod Comparisons

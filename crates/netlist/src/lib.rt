@@ -1,6 +1,6 @@
 // The declared types of the answers, of a sheet's records and of the table of kinds. specs/ says what each case means; nothing here runs.
 
-// One of document 01's eleven refusals, with the place or the setting that it tells.
+// One of the twelve refusals (SPECIFICATION 7.2), with the place or the setting that it tells.
 pub enum Refusal {
     // 1, overlong
     TextTooLong,
@@ -24,6 +24,8 @@ pub enum Refusal {
     NotStraight,
     // 11, short
     NoRoom,
+    // 12, strangers
+    InterfaceMismatch,
 }
 
 // What a condition of an operation answers: the input passes, or the operation refuses.

@@ -57,6 +57,7 @@ pub fn number_of(why: Refusal) -> usize
         Refusal::NotSettled(_) => 9,
         Refusal::NotStraight => 10,
         Refusal::NoRoom => 11,
+        Refusal::InterfaceMismatch => 12,
     }
 }
 

@@ -14,7 +14,7 @@ ghost use Rattle.netlist.specs.declared.Answer.the-variants.{Done};
 ghost use Rattle.netlist.specs.StoredBlock.{decode};
 ghost use Rattle.netlist.specs.Rounds.{settledSettings, lowestUnsettled};
 ghost use Rattle.decide.specs.InPlace.{DecideReady};
-ghost use Rattle.verdict.specs.Flags.{settledFlag};
+ghost use Rattle.verdict.specs.Flags.{settledFlag, Flagged};
 
 // The flags of a setting.
 const SETTLED: u8 = 1;
@@ -70,7 +70,7 @@ pub fn settled_flag(
     values: &mut [u8],
 ) -> u8
     requires { ⌜ DecideReady (now words) n gates (now order) (now inputs) (now values) ⌝ }
-    ensures { λ r. ⌜ r ≡ settledFlag (decode (now (words .entry))) s ⌝ }
+    ensures { λ r. ⌜ Flagged (decode (now (words .entry))) s (now (values .exit)) r ⌝ }
 {
     settle_setting(words, n, gates, order, s, inputs, values);
     let at = outputs_at(n, values.len());

@@ -16,7 +16,7 @@ pub struct Tally {
     /// Places of texts in Line.
     pub places: usize,
     /// Answers by number, those of Verdict and Line apart.
-    pub answered: [usize; 12],
+    pub answered: [usize; 13],
 }
 
 thread_local! {
@@ -26,7 +26,7 @@ thread_local! {
             settings: 0,
             texts: 0,
             places: 0,
-            answered: [0; 12],
+            answered: [0; 13],
         })
     };
 }

@@ -1,6 +1,7 @@
 //! Runs the program `unloop` on files and reports what it refused; `bin/unloop` starts it with the program's path.
 //! What it does is in usage.txt.
 
+mod check;
 mod folder;
 mod options;
 mod program;
@@ -10,6 +11,7 @@ mod sheet;
 mod source;
 mod tally;
 
+use check::Finding;
 use folder::Folder;
 use options::{Options, Request};
 use program::Program;
@@ -38,6 +40,12 @@ fn main() -> ExitCode {
             Err(reason) => failed(&reason),
         },
         Ok(Request::Sheet(sheet)) => shown(sheet),
+        Ok(Request::Check { theirs, ours }) => {
+            match check::check(&Source::File(theirs), &Source::File(ours)) {
+                Ok(finding) => found(finding),
+                Err(reason) => failed(&reason),
+            }
+        }
         Err(reason) => failed(&reason),
     }
 }
@@ -58,6 +66,22 @@ fn shown(sheet: Sheet) -> ExitCode {
             ExitCode::from(tally::REFUSED)
         }
         Err(Failure::Error(reason)) => failed(&reason),
+    }
+}
+
+/// Tells what a check came to.
+fn found(finding: Finding) -> ExitCode {
+    let (lines, status) = match finding {
+        Finding::Accepted(line) => (vec![line], 0),
+        Finding::Rejected(lines) => (lines, tally::REFUSED),
+        Finding::Refused(lines) => {
+            Screen::plain().say(&lines);
+            return ExitCode::from(tally::REFUSED);
+        }
+    };
+    match put(format!("{}\n", lines.join("\n")).as_bytes()) {
+        Ok(()) => ExitCode::from(status),
+        Err(Stopped) => ExitCode::from(tally::ERROR),
     }
 }
 
@@ -98,7 +122,9 @@ struct Run {
 
 impl Run {
     fn new(program: Program, options: Options) -> Result<Run, String> {
-        let Options { files, into, force } = options;
+        let Options {
+            files, into, force, ..
+        } = options;
         let folder = match into {
             Some(path) => Some(Folder::open(path, force, &files)?),
             None => None,

@@ -10,6 +10,8 @@ pub struct Options {
     pub files: Vec<PathBuf>,
     pub into: Option<PathBuf>,
     pub force: bool,
+    /// The netlist that is checked against the only FILE.
+    pub check: Option<PathBuf>,
 }
 
 #[derive(Debug)]
@@ -17,6 +19,7 @@ pub enum Request {
     Help,
     Run(Options),
     Sheet(Sheet),
+    Check { theirs: PathBuf, ours: PathBuf },
 }
 
 /// What is asked for, or what is wrong with it in one line.
@@ -35,6 +38,10 @@ pub fn parse(mut words: impl Iterator<Item = OsString>) -> Result<Request, Strin
                 Some(list) => settings = Some(PathBuf::from(list)),
                 None => return Err(wrong("--sheet needs SETTINGS")),
             },
+            Some("--check") => match words.next() {
+                Some(theirs) => options.check = Some(theirs.into()),
+                None => return Err(wrong("--check needs THEIRS")),
+            },
             Some("--") => {
                 options.files.extend(words.map(PathBuf::from));
                 break;
@@ -49,6 +56,13 @@ pub fn parse(mut words: impl Iterator<Item = OsString>) -> Result<Request, Strin
     if let Some(settings) = settings {
         return sheet(settings, options).map(Request::Sheet);
     }
+    if let Some(theirs) = options.check {
+        return checked(
+            theirs,
+            options.files,
+            options.into.is_some() || options.force,
+        );
+    }
     if options.into.is_some() && options.files.is_empty() {
         return Err(wrong("--into needs a FILE: standard input has no name"));
     }
@@ -60,12 +74,19 @@ pub fn parse(mut words: impl Iterator<Item = OsString>) -> Result<Request, Strin
 
 /// A sheet is of one file, and written to standard output.
 fn sheet(settings: PathBuf, options: Options) -> Result<Sheet, String> {
-    if options.into.is_some() || options.force {
-        return Err(wrong("--sheet goes with neither --into nor --force"));
+    if options.into.is_some() || options.force || options.check.is_some() {
+        return Err(wrong("--sheet SETTINGS goes with no other option"));
     }
     match <[PathBuf; 1]>::try_from(options.files) {
         Ok([file]) => Ok(Sheet { settings, file }),
         Err(_) => Err(wrong("--sheet needs one FILE")),
+    }
+}
+
+fn checked(theirs: PathBuf, files: Vec<PathBuf>, renders: bool) -> Result<Request, String> {
+    match <[PathBuf; 1]>::try_from(files) {
+        Ok([ours]) if !renders => Ok(Request::Check { theirs, ours }),
+        _ => Err(wrong("--check THEIRS needs one FILE and no other option")),
     }
 }
 

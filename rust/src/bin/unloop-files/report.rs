@@ -52,13 +52,9 @@ fn settings_told(text: &[u8], setting: usize) -> Vec<String> {
         return Vec::new();
     };
     let pins = block.input_names();
-    let all = Assignment {
-        fixed: u16::MAX,
-        ones: setting as u16,
-    };
     let under = match pins.is_empty() {
         true => String::new(),
-        false => format!(" with {}", fixed(&pins, all)),
+        false => format!(" with {}", pins_of(&block, setting)),
     };
     let mut lines = vec![format!(
         "  not settled{under}: {} undefined",
@@ -83,6 +79,15 @@ fn undefined(block: &Block, setting: usize) -> Vec<String> {
         .filter(|(_, value)| *value == Value::Undefined)
         .map(|(port, _)| port)
         .collect()
+}
+
+/// The pins of a setting, as `a = 1, b = 0`.
+pub fn pins_of(block: &Block, setting: usize) -> String {
+    let all = Assignment {
+        fixed: u16::MAX,
+        ones: setting as u16,
+    };
+    fixed(&block.input_names(), all)
 }
 
 /// The pins that an assignment fixes, as `a = 1, b = 0`.

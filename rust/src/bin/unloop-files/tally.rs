@@ -4,9 +4,10 @@ use std::collections::BTreeMap;
 use std::fmt;
 use unloop::Refusal;
 
-/// The exit status of any error, and of a refusal.
-pub const ERROR: u8 = 2;
+/// The exit status where something was refused, or not accepted.
 pub const REFUSED: u8 = 1;
+/// The exit status of any error.
+pub const ERROR: u8 = 2;
 
 #[derive(Debug, Clone, Copy)]
 pub enum Outcome {

@@ -41,7 +41,7 @@ settled-flag-requires c κs = let l = c .before .before .before in ready-kept (s
 cast-settled : tie.Need-cast-settled Inv-loop μ-loop
 cast-settled c =
     let f = c .before .before .before .before in
-    omega (arith, f .settled-flag .ensures, flag-le (decode (start (head f) .args .words .now)) (head f .loop .s))
+    omega (arith, f .settled-flag .ensures .tells, flag-le (decode (start (head f) .args .words .now)) (head f .loop .s))
 
 add-settled : tie.Need-add-settled Inv-loop μ-loop
 add-settled c =
@@ -53,7 +53,7 @@ add-settled c =
       arith,
       l .inv .1,
       count-le block (l .s),
-      f .settled-flag .ensures,
+      f .settled-flag .ensures .tells,
       flag-le block (l .s),
       f .before .before .before .loop-test .taken,
       head f .before .setting-count .ensures,
@@ -72,7 +72,7 @@ loop-again c =
     let l = head f .loop in
     let e = f .settled-flag in (
       omega arith,
-      count-more (decode (start (head f) .args .words .now)) (l .s) (l .inv .1) (e .ensures),
+      count-more (decode (start (head f) .args .words .now)) (l .s) (l .inv .1) (e .ensures .tells),
       e .kept .1 .1 .1 .1 .1 .0 ∙ l .inv .2,
       e .kept .1 .1 .1 .1 .1 .1 .0 ∙ l .inv .3,
     )

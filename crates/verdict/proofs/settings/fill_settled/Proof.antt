@@ -55,7 +55,7 @@ loop-again c =
     let l = head f .loop in
     let e = f .settled-flag in (
       omega arith,
-      flags-more (decode (s .args .words .now)) (l .s) (s .args .settled .now) (room f) (l .inv .1) (e .ensures),
+      flags-more (decode (s .args .words .now)) (l .s) (s .args .settled .now) (room f) (l .inv .1) (e .ensures .tells),
       length-set (l .settled) (l .s) (e .result) ∙ l .inv .2,
       e .kept .1 .1 .1 .1 .1 .0 ∙ l .inv .3,
       e .kept .1 .1 .1 .1 .1 .1 .0 ∙ l .inv .4,

@@ -76,7 +76,11 @@ same-length-2 c = search needs
 returns : tie.Need-returns Inv-loop μ-loop
 returns c =
     let o = c .before in
-    flag-unsettled (under (looked o)) (looked o .loop .o) (o .before .before .before .loop-test .taken) (sym (o .output-value .ensures) ∙ c .if1 .taken)
+    record {
+      are = found (looked o) .settle-setting .ensures .settledValues;
+      tells =
+          flag-unsettled (under (looked o)) (looked o .loop .o) (o .before .before .before .loop-test .taken) (sym (o .output-value .ensures) ∙ c .if1 .taken);
+    }
 
 add-o : tie.Need-add-o Inv-loop μ-loop
 add-o c = omega arith
@@ -98,7 +102,11 @@ same-length-4 : tie.Need-same-length-4 Inv-loop μ-loop
 same-length-4 c = search needs
 
 returns-2 : tie.Need-returns-2 Inv-loop μ-loop
-returns-2 c = flag-settled (under (c .before)) (λ k l. c .before .loop .inv .1 k (omega arith))
+returns-2 c =
+    record {
+      are = found (c .before) .settle-setting .ensures .settledValues;
+      tells = flag-settled (under (c .before)) (λ k l. c .before .loop .inv .1 k (omega arith));
+    }
 
 pub settled-flag-spec : {M : Type 1} → statement M
 settled-flag-spec =

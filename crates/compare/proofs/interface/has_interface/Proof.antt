@@ -1,0 +1,142 @@
+-- `compare::interface::has_interface` meets its contract, by a law for each way through it. Assumes nothing.
+use mathlib.Core.Path.{_≡_, sym, _∙_}
+use denote.Ref.{now}
+use lib.ListN.{getD}
+use native.Mathlib.Omega.{arith}
+use borrow.Author.Needs.{needs}
+use Rattle.laws.specs.Lists.{all, upTo}
+use Rattle.netlist.specs.StoredBlock.{nameSize, inputsAt, gatesAt, outputsAt}
+use Rattle.encoding.proofs.Intact.{Intact}
+use Rattle.encoding.proofs.Readers.{whole-parts}
+use Rattle.compare.specs.Names.{sameNameAt}
+use Rattle.compare.proofs.Interfaces.{other-inputs, other-outputs, other-names, both-names, ports-told}
+use Rattle.compare.proofs.interface.has_interface.Statement.{statement}
+use Rattle.compare.proofs.interface.has_interface.Tie as tie
+
+-- the function's entry, our counts, and the tests that were passed
+abbrev start : tie.After-inputs-of → tie.Start
+start c = c .before .before .before
+
+abbrev counts : tie.After-inputs-of2 → tie.After-outputs-of
+counts c = c .before
+
+abbrev inputs-test : tie.After-outputs-of2 → tie.After-inputs-of2
+inputs-test c = c .before .before
+
+abbrev outputs-test : tie.After-are-same → tie.After-outputs-of2
+outputs-test c = c .before .before
+
+abbrev names-test : tie.After-gates-of → tie.After-are-same
+names-test c = c .before .before
+
+abbrev entry : tie.After-inputs-of2 → tie.Start
+entry c = start (counts c .before)
+
+-- as many inputs, as many outputs
+abbrev as-many-inputs : (c : tie.Else1) → getD (now (entry (c .before) .args .theirs)) 0 0 ≡ getD (now (entry (c .before) .args .ours)) 0 0
+as-many-inputs c = sym (c .before .inputs-of2 .ensures) ∙ c .if1 .left ∙ counts (c .before) .before .inputs-of .ensures
+
+abbrev as-many-outputs : (c : tie.Else2) → let a = entry (inputs-test (c .before)) .args in getD (now (a .theirs)) 2 0 ≡ getD (now (a .ours)) 2 0
+as-many-outputs c = sym (c .before .outputs-of2 .ensures) ∙ c .if2 .left ∙ counts (inputs-test (c .before)) .outputs-of .ensures
+
+-- both blocks are whole
+abbrev wholes : (c : tie.After-inputs-of2) → let a = entry c .args in
+    Intact (now (a .ours)) (getD (now (a .ours)) 0 0) (getD (now (a .ours)) 1 0) (getD (now (a .ours)) 2 0)
+    × Intact (now (a .theirs)) (getD (now (a .theirs)) 0 0) (getD (now (a .theirs)) 1 0) (getD (now (a .theirs)) 2 0)
+wholes c = (whole-parts (now (entry c .args .ours)) (entry c .pre .0), whole-parts (now (entry c .args .theirs)) (entry c .pre .1))
+
+-- what the test of the inputs' names says
+abbrev names-told : (c : tie.After-are-same) → let a = entry (inputs-test (outputs-test c)) .args in
+    c .are-same .result ≡ all (sameNameAt (now (a .ours)) inputsAt (now (a .theirs)) inputsAt nameSize) (upTo (getD (now (a .ours)) 0 0))
+names-told c = rw (counts (inputs-test (outputs-test c)) .before .inputs-of .ensures) at (c .are-same .ensures)
+
+inputs-of-requires : tie.Need-inputs-of-requires
+inputs-of-requires c κs = search needs
+
+outputs-of-requires : tie.Need-outputs-of-requires
+outputs-of-requires c κs = search needs
+
+inputs-of-requires-2 : tie.Need-inputs-of-requires-2
+inputs-of-requires-2 c κs = search needs
+
+returns : tie.Need-returns
+returns c =
+    let t = c .before in
+    other-inputs _ _ (λ e. c .if1 .taken (t .inputs-of2 .ensures ∙ e ∙ sym (counts t .before .inputs-of .ensures)))
+
+outputs-of-requires-2 : tie.Need-outputs-of-requires-2
+outputs-of-requires-2 c κs = search needs
+
+returns-2 : tie.Need-returns-2
+returns-2 c =
+    let t = c .before in
+    other-outputs _ _ (λ e. c .if2 .taken (t .outputs-of2 .ensures ∙ e ∙ sym (counts (inputs-test t) .outputs-of .ensures)))
+
+are-same-requires : tie.Need-are-same-requires
+are-same-requires c κs =
+    let t = inputs-test (c .before) in
+    (omega arith, (omega arith, (omega arith, omega (arith, counts t .before .inputs-of .ensures, wholes t .0 .fewInputs))))
+
+returns-3 : tie.Need-returns-3
+returns-3 c =
+    let t = c .before in
+    other-names _ _ (as-many-inputs (outputs-test t .before)) (names-told t) (c .if3 .taken)
+
+gates-of-requires : tie.Need-gates-of-requires
+gates-of-requires c κs = search needs
+
+outputs-at-requires : tie.Need-outputs-at-requires
+outputs-at-requires c κs =
+    let t = inputs-test (outputs-test (names-test c)) in
+    (omega (arith, counts t .before .inputs-of .ensures, wholes t .0 .fewInputs), omega (arith, c .gates-of .ensures, wholes t .0 .fewGates))
+
+gates-of-requires-2 : tie.Need-gates-of-requires-2
+gates-of-requires-2 c κs = search needs
+
+outputs-at-requires-2 : tie.Need-outputs-at-requires-2
+outputs-at-requires-2 c κs =
+    let t = inputs-test (outputs-test (names-test (c .before .before))) in
+    (omega (arith, counts t .before .inputs-of .ensures, wholes t .0 .fewInputs), omega (arith, c .gates-of2 .ensures, wholes t .1 .fewGates))
+
+are-same-requires-2 : tie.Need-are-same-requires-2
+unfolding outputsAt gatesAt
+are-same-requires-2 c κs =
+    let o = outputs-test (names-test (c .before .before .before)) in
+    let t = inputs-test o in
+    let n = counts t .before .inputs-of .ensures in (
+      omega (arith, c .before .before .outputs-at .ensures, n, wholes t .0 .fewInputs, c .before .before .before .gates-of .ensures, wholes t .0 .fewGates),
+      (
+        omega (arith, c .outputs-at2 .ensures, n, wholes t .0 .fewInputs, c .before .gates-of2 .ensures, wholes t .1 .fewGates),
+        (omega arith, omega (arith, counts t .outputs-of .ensures, wholes t .0 .fewOutputs)),
+      ),
+    )
+
+returns-4 : tie.Need-returns-4
+returns-4 c =
+    let at = c .before in
+    let names = names-test (at .before .before .before) in
+    let t = inputs-test (outputs-test names) in
+    both-names _ _ (as-many-inputs (outputs-test names .before)) (as-many-outputs (names .before)) (names-told names)
+    (at .before .before .before .before .if3 .left)
+    (ports-told (now (entry t .args .ours)) (now (entry t .args .theirs)) (c .are-same2 .ensures)
+    (counts t .before .inputs-of .ensures) (counts t .outputs-of .ensures)
+    (at .before .before .before .gates-of .ensures) (at .before .gates-of2 .ensures) (at .before .before .outputs-at .ensures) (at .outputs-at2 .ensures))
+
+pub has-interface-spec : {M : Type 1} → statement M
+has-interface-spec =
+    tie.close
+    (tie.spec
+    inputs-of-requires
+    outputs-of-requires
+    inputs-of-requires-2
+    returns
+    outputs-of-requires-2
+    returns-2
+    are-same-requires
+    returns-3
+    gates-of-requires
+    outputs-at-requires
+    gates-of-requires-2
+    outputs-at-requires-2
+    are-same-requires-2
+    returns-4)

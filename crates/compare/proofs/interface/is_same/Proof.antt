@@ -1,0 +1,78 @@
+-- `compare::interface::is_same` meets its contract: the words passed are the same. Assumes nothing.
+use mathlib.Core.Path.{_≡_, refl, sym}
+use mathlib.Core.Bool.{true, false}
+use Prim.Native.Nat.{_≤_, _-_}
+use borrow.Author.Needs.{needs}
+use Rattle.laws.specs.Lists.{all, upTo}
+use Rattle.laws.proofs.Quantifiers.{all-next, all-not}
+use borrow.Author.Tests.{eq-eqb, ne-eqb}
+use Rattle.block.proofs.TestLaws.{passed}
+use Rattle.compare.specs.Names.{sameWordAt}
+use Rattle.compare.proofs.interface.is_same.Statement.{statement}
+use Rattle.compare.proofs.interface.is_same.Tie as tie
+
+abbrev Inv-loop : tie.InvT-loop
+Inv-loop ours at theirs other i₀ i = (i ≤ 4) × (all (sameWordAt ours at theirs other) (upTo i) ≡ true)
+
+abbrev μ-loop : tie.MeasureT-loop
+μ-loop ours at theirs other i₀ i = 4 - i
+
+loop-holds : tie.Need-loop-holds Inv-loop μ-loop
+loop-holds c = (search needs, refl)
+
+add-word-at : tie.Need-add-word-at Inv-loop μ-loop
+add-word-at c = search needs
+
+word-at-requires : tie.Need-word-at-requires Inv-loop μ-loop
+word-at-requires c κs = search needs
+
+add-word-at-2 : tie.Need-add-word-at-2 Inv-loop μ-loop
+add-word-at-2 c = search needs
+
+word-at-requires-2 : tie.Need-word-at-requires-2 Inv-loop μ-loop
+word-at-requires-2 c κs = search needs
+
+returns : tie.Need-returns Inv-loop μ-loop
+returns c =
+    let a = c .before .before .before .before .before .before .before .args in
+    let l = c .before .before .before .before .loop in
+    let e : sameWordAt (a .ours .now) (a .at) (a .theirs .now) (a .other) (l .i) ≡ false =
+    rw (← c .before .before .word-at .ensures, ← c .before .word-at2 .ensures) (ne-eqb _ _ (c .if1 .taken)) in
+    sym (all-not (sameWordAt (a .ours .now) (a .at) (a .theirs .now) (a .other)) 4 (l .i) (c .before .before .before .loop-test .taken) e)
+
+add-i : tie.Need-add-i Inv-loop μ-loop
+add-i c = search needs
+
+loop-less : tie.Need-loop-less Inv-loop μ-loop
+loop-less c = search needs
+
+loop-again : tie.Need-loop-again Inv-loop μ-loop
+loop-again c =
+    let a = c .before .before .before .before .before .before .before .args in
+    let l = c .before .before .before .before .loop in
+    let e : sameWordAt (a .ours .now) (a .at) (a .theirs .now) (a .other) (l .i) ≡ true =
+    rw (← c .before .before .word-at .ensures, ← c .before .word-at2 .ensures) (eq-eqb _ _ (c .if1 .left)) in
+    (search needs, all-next (sameWordAt (a .ours .now) (a .at) (a .theirs .now) (a .other)) (l .i) (l .inv .1) e)
+
+returns-2 : tie.Need-returns-2 Inv-loop μ-loop
+returns-2 c =
+    let a = c .before .before .before .before .args in
+    let l = c .before .loop in
+    passed (sameWordAt (a .ours .now) (a .at) (a .theirs .now) (a .other)) 4 (l .i) (l .inv .0) (c .loop-test .left) (l .inv .1)
+
+pub is-same-spec : {M : Type 1} → statement M
+is-same-spec =
+    tie.close
+    (tie.spec
+    Inv-loop
+    μ-loop
+    loop-holds
+    add-word-at
+    word-at-requires
+    add-word-at-2
+    word-at-requires-2
+    returns
+    add-i
+    loop-less
+    loop-again
+    returns-2)

@@ -1,0 +1,94 @@
+// Refusal 12: do two blocks have the same input names and the same ports, in the same order? Names are compared word by word.
+use layout::offsets::INPUTS_AT;
+use layout::offsets::NAME_SIZE;
+use layout::offsets::OUTPUT_SIZE;
+use layout::offsets::gates_of;
+use layout::offsets::inputs_of;
+use layout::offsets::outputs_at;
+use layout::offsets::outputs_of;
+use layout::read::word_at;
+use netlist::Refusal;
+use netlist::Test;
+use refusals::refuse_if;
+ghost use mathlib.Core.Path.{_≡_};
+ghost use mathlib.Core.Bool.{false, not};
+ghost use Prim.Native.Nat.{_≤_};
+ghost use Rattle.laws.specs.Lists.{all, upTo};
+ghost use Rattle.netlist.specs.Limits.{maxGates};
+ghost use Rattle.netlist.specs.declared.Refusal.the-variants.{InterfaceMismatch};
+ghost use Rattle.netlist.specs.Answers.{testOf};
+ghost use Rattle.netlist.specs.StoredBlock.{nameSize, isTorn, decode};
+ghost use Rattle.netlist.specs.Compare.{sameInterface};
+ghost use Rattle.compare.specs.Names.{sameWordAt, sameNameAt};
+
+// Do the two places hold the same name?
+fn is_same(ours: &[u16], at: usize, theirs: &[u16], other: usize) -> bool
+    requires { ⌜ at ≤ 65535 ⌝ }
+    requires { ⌜ other ≤ 65535 ⌝ }
+    ensures { λ r. ⌜ r ≡ all (sameWordAt (now (ours .entry)) at (now (theirs .entry)) other) (upTo nameSize) ⌝ }
+{
+    let mut i = 0;
+    while i < NAME_SIZE {
+        if word_at(ours, at + i) != word_at(theirs, other + i) {
+            return false;
+        }
+        i += 1;
+    }
+    true
+}
+
+// Names `size` words apart: are the first `count` of ours those of theirs, one by one?
+fn are_same(
+    ours: &[u16],
+    at: usize,
+    theirs: &[u16],
+    other: usize,
+    size: usize,
+    count: usize,
+) -> bool
+    requires { ⌜ at ≤ 8192 ⌝ }
+    requires { ⌜ other ≤ 8192 ⌝ }
+    requires { ⌜ size ≤ 5 ⌝ }
+    requires { ⌜ count ≤ maxGates ⌝ }
+    ensures { λ r. ⌜ r ≡ all (sameNameAt (now (ours .entry)) at (now (theirs .entry)) other size) (upTo count) ⌝ }
+{
+    let mut i = 0;
+    while i < count {
+        if !is_same(ours, at + size * i, theirs, other + size * i) {
+            return false;
+        }
+        i += 1;
+    }
+    true
+}
+
+// The same number of inputs and of outputs, and the same names?
+fn has_interface(ours: &[u16], theirs: &[u16]) -> bool
+    requires { ⌜ isTorn (now ours) ≡ false ⌝ }
+    requires { ⌜ isTorn (now theirs) ≡ false ⌝ }
+    ensures { λ r. ⌜ r ≡ sameInterface (decode (now (ours .entry))) (decode (now (theirs .entry))) ⌝ }
+{
+    let n = inputs_of(ours);
+    let k = outputs_of(ours);
+    if inputs_of(theirs) != n {
+        return false;
+    }
+    if outputs_of(theirs) != k {
+        return false;
+    }
+    if !are_same(ours, INPUTS_AT, theirs, INPUTS_AT, NAME_SIZE, n) {
+        return false;
+    }
+    let our_ports = outputs_at(n, gates_of(ours));
+    let their_ports = outputs_at(n, gates_of(theirs));
+    are_same(ours, our_ports, theirs, their_ports, OUTPUT_SIZE, k)
+}
+
+// Refusal 12, of two blocks that are not torn.
+pub fn check_interface(ours: &[u16], theirs: &[u16]) -> Test
+    requires { ⌜ isTorn (now ours) ≡ false ⌝ }
+    requires { ⌜ isTorn (now theirs) ≡ false ⌝ }
+    ensures { λ r. ⌜ r ≡ testOf (not (sameInterface (decode (now (ours .entry))) (decode (now (theirs .entry))))) InterfaceMismatch ⌝ }
+{
+    refuse_if(!has_interface(ours, theirs), Refusal::InterfaceMismatch)
+}

@@ -1,0 +1,60 @@
+// Compare (SPECIFICATION 7.13): is a loop-free block that was made elsewhere as good as the original?
+use block::check_straight;
+use block::check_words;
+use layout::limits::MAX_GATES;
+use layout::limits::MAX_INPUTS;
+use netlist::Answer;
+use netlist::Test;
+use refusals::refusal;
+ghost use mathlib.Core.Path.{_≡_};
+ghost use Rattle.netlist.specs.StoredBlock.{decode};
+ghost use Rattle.netlist.specs.Answers.{answerOf, Told};
+ghost use Rattle.netlist.specs.Compare.{compareBlocks, compare as compareOf};
+ghost use Rattle.compare.specs.Ready.{Pair};
+
+pub mod interface;
+pub mod outputs;
+pub mod settings;
+
+// Both blocks passed the tests: room for an order of our gates, the inputs' values and both blocks' gates'.
+fn compare_pair(ours: &[u16], theirs: &[u16]) -> Answer
+    requires { ⌜ Pair (now ours) (now theirs) ⌝ }
+    ensures { λ r. ⌜ r ≡ answerOf (compareBlocks (decode (now (ours .entry))) (decode (now (theirs .entry)))) ⌝ }
+{
+    let mut order = [0u16; MAX_GATES];
+    let mut inputs = [0u8; MAX_INPUTS];
+    let mut values = [0u8; MAX_GATES];
+    let mut swept = [0u8; MAX_GATES];
+    settings::compare_with(
+        ours,
+        theirs,
+        &mut order,
+        &mut inputs,
+        &mut values,
+        &mut swept,
+    )
+}
+
+// Compare (6, 10, 12): accepted with count and detail 0, or the lowest settled setting with another value at an output, and the lowest such
+// output plus 1.
+pub fn compare(ours: &[u16], theirs: &[u16]) -> Answer
+    ensures { λ r. ⌜ Told (compareOf (now (ours .entry)) (now (theirs .entry))) r ⌝ }
+{
+    let tested = check_words(ours);
+    let Test::Passed = tested else {
+        return refusal(tested);
+    };
+    let tested = check_words(theirs);
+    let Test::Passed = tested else {
+        return refusal(tested);
+    };
+    let tested = check_straight(theirs);
+    let Test::Passed = tested else {
+        return refusal(tested);
+    };
+    let tested = interface::check_interface(ours, theirs);
+    let Test::Passed = tested else {
+        return refusal(tested);
+    };
+    compare_pair(ours, theirs)
+}

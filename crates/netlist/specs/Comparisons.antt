@@ -1,0 +1,74 @@
+-- SPECIFICATION 9.11: worked examples of Compare, among them those that tell its definition from near misses, as one claim.
+use mathlib.Core.Path.{_≡_, refl}
+use mathlib.Core.Bool.{Bool, true}
+use mathlib.Core.List.{List, [], _∷_}
+use Prim.Native.Nat.{ℕ}
+use Prim.Native.String.{String}
+use Rattle.laws.specs.Lists.{same, all}
+use Rattle.netlist.specs.Values.{code, valueOf, invert, isDefined}
+use Rattle.netlist.specs.Kinds.{row, rows, rowOf, isNot, isXor, isXnor, isKind, signatureOf, fewestOperands, mostOperands, arityFits, keyword, ruled, ones, parity, gateValue}
+use Rattle.netlist.specs.StoredBlock.{gatesAt, outputsAt, isLetter, isDigit, isUnderscore, isNameByte, isNameStart, isLegalName, isPlainName}
+use Rattle.netlist.specs.StoredBlock.{isNodeName, nameWords, bytesAt, nameAt, nodeWord, operandOf, gateWords, gateAt, outputWords, outputAt, encode}
+use Rattle.netlist.specs.StoredBlock.{decode, isNode, isOperand, gateFits, isWellFormed, isTorn}
+use Rattle.netlist.specs.Rounds.{operandValue, evaluated, round, afterRounds, isStable, rounds, settled, bit, settingOf, settingCount, settledUnder}
+use Rattle.netlist.specs.Rounds.{outputsUnder, isSettled, outputValue}
+use Rattle.netlist.specs.Groups.{gateOperand, readBy}
+use Rattle.netlist.specs.Rendering.{isStraight}
+use Rattle.netlist.specs.Parse.{pure, stop, onTest, ifNext, expect, onParsed, bind, nameBytes, nameAfter, nameReader, kindReader, spaced, termsReader}
+use Rattle.netlist.specs.Parse.{exprReader, leafOr, termReader, addInput, addGate, addOutput, inputLine, gateLine, outputLine, atEnd, line}
+use Rattle.netlist.specs.Parse.{outputsReader, gatesReader, textReader, parse}
+use Rattle.netlist.specs.Reading.{gatesIn, lineGates, isOverLimit, mentions, linesLength, gateLinesAt, outputLinesAt, inputMention, gateMention}
+use Rattle.netlist.specs.Reading.{portMention, shownMention, termMentions, operandMentions, declaredNodes, declaredPorts, usedNames, firstRepeat}
+use Rattle.netlist.specs.Reading.{orElse, firstDuplicate, firstOutside, firstUndeclared, inputBindings, gateBindings, bindings, lookup, termNode}
+use Rattle.netlist.specs.Reading.{termsNodes, termGates, linesGates, blockOf}
+use Rattle.netlist.specs.Answers.{refusalNumber, refusalDetail, numberOf, countOf, detailOf, refuseIf, refuseAt, answerOf, leftIn}
+use Rattle.netlist.specs.Operations.{counted, readTree, readParsed, readText}
+use Rattle.netlist.specs.Compare.{sameNames, ports, sameInterface, differs, disagrees, lowestDisagreement, lowestDiffering, judgedAt}
+use Rattle.netlist.specs.Compare.{compareBlocks, compare}
+use Rattle.netlist.specs.Specimens.{report, blockWords, with}
+
+-- ours and theirs as words, and the answer
+pub record Comparison : Type 0 where
+  pub ours : List ℕ
+  pub theirs : List ℕ
+  pub answer : List ℕ
+
+unfoldable pub holds : Comparison → Bool
+holds c = same (report (compare (c .ours) (c .theirs))) (c .answer)
+
+unfoldable pub texts : String → String → List ℕ → Comparison
+texts ours theirs answer = record { ours = blockWords ours; theirs = blockWords theirs; answer = answer }
+
+unfoldable pub accepted : List ℕ
+accepted = 0 ∷ 0 ∷ 0 ∷ []
+
+-- the loop of 9.4 with both gates shown; setting 1 is not settled, and under the others q is b and p is a
+unfoldable pub looped : String
+looped = "(in a)\n(in b)\n(gate p (and a q))\n(gate q (or b p))\n(out y q)\n(out z p)\n"
+
+unfoldable pub comparisons : List Comparison
+comparisons =
+    -- a setting that is not settled does not count, and a block that is not sound is compared all the same
+    texts looped "(in a)\n(in b)\n(out y b)\n(out z a)\n" accepted
+    ∷ texts looped "(in a)\n(in b)\n(gate n (not b))\n(out y n)\n(out z a)\n" (0 ∷ 1 ∷ 0 ∷ [])
+    -- the lowest setting, and there the lowest output, counted from 1
+    ∷ texts looped "(in a)\n(in b)\n(out y b)\n(out z b)\n" (0 ∷ 2 ∷ 2 ∷ [])
+    ∷ texts looped "(in a)\n(in b)\n(out y a)\n(out z b)\n" (0 ∷ 1 ∷ 2 ∷ [])
+    -- no setting is settled
+    ∷ texts "(gate p (not p))\n(out y p)\n" "(gate q (and 0 0))\n(out y q)\n" accepted
+    -- 12: a port in another place, another name, an input more
+    ∷ texts looped "(in a)\n(in b)\n(out z a)\n(out y b)\n" (with 12 0)
+    ∷ texts looped "(in a)\n(in c)\n(out y c)\n(out z a)\n" (with 12 0)
+    ∷ texts looped "(in a)\n(in b)\n(in c)\n(out y b)\n(out z a)\n" (with 12 0)
+    -- 10 before 12, and only of theirs
+    ∷ texts looped looped (with 10 0)
+    ∷ texts looped "(in c)\n(gate p (and c p))\n" (with 10 0)
+    -- 6 before both, of either block
+    ∷ record { ours = blockWords looped; theirs = 0 ∷ 0 ∷ []; answer = with 6 0 }
+    ∷ record { ours = []; theirs = blockWords looped; answer = with 6 0 }
+    ∷ []
+
+-- All of them come out as stated.
+pub comparisons-hold : all holds comparisons ≡ true
+unfolding code valueOf invert isDefined row rows rowOf isNot isXor isXnor isKind signatureOf fewestOperands mostOperands arityFits keyword ruled ones parity gateValue gatesAt outputsAt isLetter isDigit isUnderscore isNameByte isNameStart isLegalName isPlainName isNodeName nameWords bytesAt nameAt nodeWord operandOf gateWords gateAt outputWords outputAt encode decode isNode isOperand gateFits isWellFormed isTorn operandValue evaluated round afterRounds isStable rounds settled bit settingOf settingCount settledUnder isSettled outputValue gateOperand readBy isStraight pure stop onTest ifNext expect onParsed bind nameBytes nameAfter nameReader kindReader spaced termsReader exprReader leafOr termReader addInput addGate addOutput inputLine gateLine outputLine atEnd line outputsReader gatesReader textReader parse gatesIn lineGates isOverLimit mentions linesLength gateLinesAt outputLinesAt inputMention gateMention portMention shownMention termMentions operandMentions declaredNodes declaredPorts usedNames firstRepeat orElse firstDuplicate firstOutside firstUndeclared inputBindings gateBindings bindings lookup termNode termsNodes termGates linesGates blockOf refusalNumber refusalDetail numberOf countOf detailOf refuseIf refuseAt answerOf leftIn counted readTree readParsed readText report blockWords with sameNames ports sameInterface outputsUnder differs disagrees lowestDisagreement lowestDiffering judgedAt compareBlocks compare holds texts accepted looped comparisons
+comparisons-hold = refl
