@@ -1,6 +1,9 @@
 // The bench in pieces of its input: the state goes in by value and comes back, the buffers are lent. `start` gives the first state, `feed`
 // takes a piece of input up to the first answer in it, `finish` answers what is left at the input's end. Whatever the pieces, what is
 // written is the bench's output (`pieces-bench` in crates/runs).
+use layout::limits::MAX_INPUTS;
+use layout::limits::MAX_NAME;
+use layout::limits::MAX_OUTPUTS;
 use netlist_part::end_netlist;
 use netlist_part::netlist_byte;
 use set_lines::end_line;
@@ -13,10 +16,12 @@ ghost use Rattle.session.specs.Session.{runOf, Ready, Fresh, Written, St
 mod netlist_part;
 mod set_lines;
 
-// The bytes of a line that are held, and of the longest answer: room for the buffers `line` and `out`.
-pub const LINE_BYTES: usize = 137;
+// The bytes of a line that are held: `(set`, a pair for each input, `)`, LF, and one more, which shows that the line is longer. Room for the
+// buffer `line`.
+pub const LINE_BYTES: usize = 4 + (MAX_NAME + 5) * MAX_INPUTS + 2 + 1;
 
-pub const ANSWER_BYTES: usize = 215;
+// The bytes of the longest answer: `(show`, a pair for each output, `)` and LF. Room for the buffer `out`.
+pub const ANSWER_BYTES: usize = 5 + (MAX_NAME + 5) * MAX_OUTPUTS + 2;
 
 // Where a run stands.
 pub enum State {

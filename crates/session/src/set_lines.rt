@@ -1,6 +1,7 @@
 // The set lines of the bench's input: the bytes of a line are held, no more of them than tell that it is out of form, and at its LF the
 // line is answered.
 use crate::Fed;
+use crate::LINE_BYTES;
 use crate::State;
 use netlist::Answer;
 use setline::answer_line;
@@ -14,9 +15,6 @@ ghost use Rattle.netlist.specs.StoredBlock.{isTorn, decode};
 ghost use Rattle.netlist.specs.Bench.{lineAnswer, lineAnswers, lastLine};
 ghost use Rattle.runs.specs.Runs.{heldBytes, inLines, turn};
 ghost use Rattle.session.specs.Session.{maxAnswer, Held, LineRoom, Stepped, Written};
-
-// The bytes of a line that are held: one more than the longest line in form has.
-const HELD_BYTES: usize = 137;
 
 // The answer to a line.
 fn answer(words: &[u16], line: &[u8], out: &mut [u8]) -> usize
@@ -34,7 +32,7 @@ fn hold(line: &mut [u8], held: usize, byte: u8) -> usize
     requires { ⌜ (held ≤ heldBytes) × (heldBytes ≤ length (now line)) ⌝ }
     ensures { λ r. ⌜ Held (take held (now (line .entry))) byte (now (line .exit)) r ⌝ }
 {
-    if held < HELD_BYTES {
+    if held < LINE_BYTES {
         line[held] = byte;
         return held + 1;
     }
