@@ -10,8 +10,10 @@ use lib.Dec.{eqb}
 use Rattle.laws.proofs.Tests.{or-right}
 use Rattle.laws.proofs.Quantifiers.{all-below, below-all}
 use Rattle.netlist.specs.Netlist.{Block, inputCount}
-use Rattle.netlist.specs.Rounds.{bit, settingCount, isSettled}
-use Rattle.netlist.specs.Cover.{Assignment, fixes, agrees, isSoundUnder, isSound}
+use Rattle.netlist.specs.Assignments.{bit}
+use Rattle.netlist.specs.Rounds.{settingCount, isSettled}
+use Rattle.netlist.specs.Assignments.{Assignment, fixes, agrees}
+use Rattle.netlist.specs.Cover.{isSoundUnder, isSound}
 
 nothing : Assignment
 nothing = record { fixed = 0; ones = 0 }

@@ -9,7 +9,8 @@ use Rattle.laws.specs.Lists.{any}
 use Rattle.laws.proofs.Quantifiers.{all-ext}
 use Rattle.netlist.specs.Netlist.{Block, inputCount}
 use Rattle.netlist.specs.Rounds.{isSettled, settingCount, lowestUnsettled}
-use Rattle.netlist.specs.Cover.{Assignment, fixes, agrees, without, assignments, isSoundUnder, isSound, isMinimal, cover, coverEntries}
+use Rattle.netlist.specs.Assignments.{Assignment, fixes, agrees}
+use Rattle.netlist.specs.Cover.{without, assignments, isSoundUnder, isSound, isMinimal, cover, coverEntries}
 use Rattle.assignments.specs.Over.{soundOver, minimalOver, coverOver, assignmentWords, nothing, Listed, Before}
 use Rattle.assignments.specs.Tables.{settledBy}
 use Rattle.assignments.proofs.ListFacts.{keep-ext}

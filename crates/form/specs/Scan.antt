@@ -11,7 +11,8 @@ use Rattle.netlist.specs.StoredBlock.{isLetter, isNameStart}
 use Rattle.netlist.specs.Limits.{maxDepth}
 use Rattle.netlist.specs.Syntax.{apply}
 use Rattle.netlist.specs.Parse.{Parsed, got, stuck, Reader, pure, stop, ifNext, expect, nothingBehind, bind, nameReader, exprReader, termReader, parse}
-use Rattle.netlist.specs.SetLine.{bitReader, setLineReader}
+use Rattle.netlist.specs.Parse.{bitReader}
+use Rattle.netlist.specs.SetLine.{setLineReader}
 use Rattle.form.specs.declared.Scan.{Scan}
 use Rattle.form.specs.declared.Scan.the-variants.{Next, Bad as Stuck}
 use Rattle.form.specs.declared.Kind.{Kind}

@@ -8,7 +8,8 @@ use netlist::Test;
 ghost use mathlib.Core.Path.{_≡_};
 ghost use Rattle.netlist.specs.declared.Refusal.the-variants.{SyntaxError};
 ghost use Rattle.netlist.specs.Answers.{testAt};
-ghost use Rattle.netlist.specs.SetLine.{pairsReader, setLineReader};
+ghost use Rattle.netlist.specs.Parse.{pairsReader};
+ghost use Rattle.netlist.specs.SetLine.{setLineReader};
 ghost use Rattle.form.specs.Scan.{scanOf, bitEnd, pairScan, lineLast, firstBadInSetLine};
 
 // A pair's value, 0 or 1, and its closing bracket.

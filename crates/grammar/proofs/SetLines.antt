@@ -16,8 +16,11 @@ use Rattle.netlist.specs.Values.{val}
 use Rattle.netlist.specs.StoredBlock.{isLetter, isDigit, isUnderscore, isNameByte, isNameStart, isNodeName}
 use Rattle.netlist.specs.Syntax.{printLines}
 use Rattle.netlist.specs.Parse.{Parsed, Reader, got, stuck, pure, ifNext, onTest, nothingBehind, nameReader}
-use Rattle.netlist.specs.SetLine.{Pair, valueText, pairText, printPair, printSetLine, isLegalPair, isLegalSetLine, LegalLine, FirstBadInLine, bitReader}
-use Rattle.netlist.specs.SetLine.{pairReader, spacedPair, pairsReader, setLineReader}
+use Rattle.netlist.specs.Syntax.{Pair, valueText, pairText, printPair, isLegalPair}
+use Rattle.netlist.specs.Parse.{bitReader}
+use Rattle.netlist.specs.SetLine.{printSetLine, isLegalSetLine, LegalLine, FirstBadInLine}
+use Rattle.netlist.specs.Parse.{pairReader, spacedPair, pairsReader}
+use Rattle.netlist.specs.SetLine.{setLineReader}
 use Rattle.grammar.proofs.Equations.{ifNext-true, ifNext-false, expect-back, bind-got}
 use Rattle.grammar.proofs.Readings.{Gives, gives-got, gives-stuck, gives-pure, gives-stop, gives-is, gives-expect, gives-bind}
 use Rattle.grammar.proofs.SoundTerms.{nameReader-sound, nameStart-nameByte}

@@ -14,7 +14,7 @@ use Rattle.encoding.proofs.Readers.{whole-parts}
 use Rattle.netlist.specs.Values.{Value, undefined, val, code, valueOf}
 use Rattle.netlist.specs.StoredBlock.{nameSize, outputSize, outputsAt, bytesAt, nameAt, outputAt, decode, isTorn}
 use Rattle.netlist.specs.Rounds.{settled, outputValue}
-use Rattle.netlist.specs.SetLine.{valueText, pairText}
+use Rattle.netlist.specs.Syntax.{valueText, pairText}
 use Rattle.netlist.specs.Bench.{portText, showLine}
 use Rattle.ternary.specs.Legal.{wordValue}
 use Rattle.rounds.proofs.Rounds.{length-settled}

@@ -5,7 +5,7 @@ use mathlib.Core.List.{List, [], _++_}
 use lib.ListN.{getD}
 use Rattle.laws.specs.Lists.{ascii}
 use Rattle.netlist.specs.StoredBlock.{nameSize, outputSize, outputsAt, nameAt}
-use Rattle.netlist.specs.SetLine.{pairText}
+use Rattle.netlist.specs.Syntax.{pairText}
 use Rattle.ternary.specs.Legal.{wordValue}
 use Rattle.writing.specs.Pieces.{pieces}
 

@@ -11,8 +11,8 @@ use Rattle.laws.specs.Lists.{all, upTo}
 use Rattle.laws.proofs.Tab.{length-tab}
 use Rattle.laws.proofs.Quantifiers.{all-not}
 use Rattle.netlist.specs.Limits.{maxInputs}
-use Rattle.netlist.specs.Rounds.{bit}
-use Rattle.netlist.specs.Cover.{isWithin}
+use Rattle.netlist.specs.Assignments.{bit}
+use Rattle.netlist.specs.Assignments.{isWithin}
 use Rattle.netlist.specs.Sheet.{inputByte, settingBytes, isBadMasks}
 
 -- a shift of 1 by the number of inputs

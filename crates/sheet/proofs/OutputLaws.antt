@@ -14,7 +14,8 @@ use Rattle.netlist.specs.Limits.{maxOutputs}
 use Rattle.netlist.specs.Netlist.{Output}
 use Rattle.netlist.specs.StoredBlock.{nameSize, outputSize, gatesAt, outputsAt, operandOf, outputAt, decode, isTorn}
 use Rattle.netlist.specs.Rounds.{operandValue, outputValue}
-use Rattle.netlist.specs.Sheet.{maskOf, isOne, outputValues, showing}
+use Rattle.netlist.specs.Assignments.{maskOf, isOne}
+use Rattle.netlist.specs.Sheet.{outputValues, showing}
 use Rattle.laws.proofs.Elements.{getD-defaults}
 use Rattle.encoding.proofs.Decoded.{decode-outputCount, decode-output}
 use Rattle.encoding.proofs.Readers.{whole-parts}

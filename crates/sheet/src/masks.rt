@@ -4,7 +4,7 @@ ghost use Prim.Native.Nat.{_≤_, _<_};
 ghost use lib.ListN.{length};
 ghost use Rattle.laws.specs.Lists.{placed};
 ghost use Rattle.netlist.specs.Limits.{maxInputs};
-ghost use Rattle.netlist.specs.Cover.{isWithin};
+ghost use Rattle.netlist.specs.Assignments.{isWithin};
 ghost use Rattle.netlist.specs.Sheet.{inputByte, settingBytes, isBadMasks};
 
 // Below input n: does `ones` have a bit only where `fixed` has one?

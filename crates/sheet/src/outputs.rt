@@ -13,7 +13,8 @@ ghost use mathlib.Core.Bool.{false, cond};
 ghost use mathlib.Core.List.{map};
 ghost use Rattle.netlist.specs.Values.{code, valueOf, isDefined};
 ghost use Rattle.netlist.specs.StoredBlock.{decode, isTorn};
-ghost use Rattle.netlist.specs.Sheet.{isOne, outputValues, showing};
+ghost use Rattle.netlist.specs.Assignments.{isOne};
+ghost use Rattle.netlist.specs.Sheet.{outputValues, showing};
 ghost use Rattle.sheet.specs.Shown.{OfBlock, outputCode};
 
 // The bit of a value in the mask of defined outputs.

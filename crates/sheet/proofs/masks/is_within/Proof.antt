@@ -7,8 +7,8 @@ use borrow.Author.Tests.{le-leb}
 use lib.Dec.{leb}
 use Rattle.laws.specs.Lists.{all, upTo}
 use Rattle.laws.proofs.Quantifiers.{all-next}
-use Rattle.netlist.specs.Rounds.{bit}
-use Rattle.netlist.specs.Cover.{isWithin}
+use Rattle.netlist.specs.Assignments.{bit}
+use Rattle.netlist.specs.Assignments.{isWithin}
 use Rattle.sheet.proofs.MaskLaws.{not-within}
 use Rattle.sheet.proofs.masks.is_within.Statement.{statement}
 use Rattle.sheet.proofs.masks.is_within.Tie as tie

@@ -7,7 +7,7 @@ use denote.Ref.{now}
 use borrow.Author.Needs.{needs}
 use lib.ListN.{length, getD}
 use Rattle.netlist.specs.Values.{undefined, isDefined}
-use Rattle.netlist.specs.Sheet.{isOne}
+use Rattle.netlist.specs.Assignments.{isOne}
 use Rattle.sheet.proofs.OutputLaws.{shown, Gathered, gathered-none, gathered-next, defined-half, defined-fits, one-half, one-fits, length-shown}
 use Rattle.sheet.proofs.OutputLaws.{few-shown, bit-at, gathered-all}
 use Rattle.sheet.proofs.outputs.show_outputs.Statement.{statement}
