@@ -19,7 +19,7 @@ pub record Limits (n m k : ℕ) : Type 0 where
 pub header-limits : (ws : List ℕ) → headerRule ws ≡ true → Limits (getD ws 0 0) (getD ws 1 0) (getD ws 2 0)
 unfolding headerRule
 header-limits ws h =
-    let size = eqb (length ws) (outputsAt (getD ws 0 0) (getD ws 1 0) + outputSize * getD ws 2 0) in
+    let size = eqb (length ws) (outputsAt (getD ws 0 0) (getD ws 3 0) (getD ws 1 0) + outputSize * getD ws 2 0) in
     let long = leb inputsAt (length ws) in
     let n = leb (getD ws 0 0) maxInputs in
     let m = leb (getD ws 1 0) maxGates in

@@ -38,7 +38,7 @@ noOutput = record { port = []; node = constant false }
 
 -- the output's word tells what it shows
 shown-word : (ws inputs values : List ℕ) (o : ℕ) → o < getD ws 2 0
-    → code (wordValue (getD ws 0 0) inputs values (getD ws (outputsAt (getD ws 0 0) (getD ws 1 0) + outputSize * o + nameSize) 0))
+    → code (wordValue (getD ws 0 0) inputs values (getD ws (outputsAt (getD ws 0 0) (getD ws 3 0) (getD ws 1 0) + outputSize * o + nameSize) 0))
     ≡ shownCode ws inputs values o
 unfolding shownCode outputValue outputAt
 shown-word ws inputs values o l =

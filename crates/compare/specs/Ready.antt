@@ -22,7 +22,7 @@ pub record Pair (ours theirs : List ℕ) : Type 0 where
 -- ours can be settled in the slices, and theirs has a byte for each gate
 pub record CompareReady (ours theirs order inputs ourValues theirValues : List ℕ) : Type 0 where
   pub pair : Pair ours theirs
-  pub ready : DecideReady ours (getD ours 0 0) (gatesAt (getD ours 0 0)) order inputs ourValues
+  pub ready : DecideReady ours (getD ours 0 0) (gatesAt (getD ours 0 0) (getD ours 3 0)) order inputs ourValues
   pub room : length theirValues ≡ getD theirs 1 0
 
 -- the lowest output at which they disagree under setting number s, or the number of outputs

@@ -17,7 +17,7 @@ use Rattle.netlist.specs.Netlist.{gateCount}
 use Rattle.decide.specs.InPlace.{Legible, Visits, DecideReady}
 
 -- the words of a block, read from its first two words
-pub legible : (ws : List ℕ) → isTorn ws ≡ false → Legible ws (getD ws 0 0) (gatesAt (getD ws 0 0))
+pub legible : (ws : List ℕ) → isTorn ws ≡ false → Legible ws (getD ws 0 0) (gatesAt (getD ws 0 0) (getD ws 3 0))
 unfolding gatesAt
 legible ws h =
     record {

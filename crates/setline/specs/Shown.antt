@@ -18,4 +18,4 @@ portPiece ws from setting gates o =
 unfoldable pub showText : List ℕ → List ℕ → List ℕ → List ℕ
 showText ws setting gates =
     ascii "(show"
-    ++ (pieces (portPiece ws (outputsAt (getD ws 0 0) (getD ws 1 0)) setting gates) (getD ws 2 0) ++ ascii ")\n")
+    ++ (pieces (portPiece ws (outputsAt (getD ws 0 0) (getD ws 3 0) (getD ws 1 0)) setting gates) (getD ws 2 0) ++ ascii ")\n")

@@ -131,7 +131,7 @@ module _ (ws setting gates : List ℕ) where
 
     -- output o's value by its node's word
     pub code-at : outputCode ws setting gates o
-        ≡ code (wordValue (getD ws 0 0) setting gates (getD ws (outputsAt (getD ws 0 0) (getD ws 1 0) + outputSize * o + nameSize) 0))
+        ≡ code (wordValue (getD ws 0 0) setting gates (getD ws (outputsAt (getD ws 0 0) (getD ws 3 0) (getD ws 1 0) + outputSize * o + nameSize) 0))
     unfolding outputCode outputValue outputAt
     code-at = rw (decode-output ws o noOutput l)
 

@@ -77,10 +77,10 @@ module _ (ws : List ℕ) where
       rw (terms-pieces at (ascii ")" ++ rest), gateAt-kind (getD ws 0 0) ws at) (simp append-assoc refl)
 
   gate-piece : (j : ℕ) → j < getD ws 1 0 → (rest : List ℕ)
-      → printGate (flatLine (decode ws) j) rest ≡ gateText ws (gatesAt (getD ws 0 0)) j ++ rest
+      → printGate (flatLine (decode ws) j) rest ≡ gateText ws (gatesAt (getD ws 0 0) (getD ws 3 0)) j ++ rest
   unfolding printGate flatLine gateText
   gate-piece j l rest =
-      rw (decode-gate ws j l, expression-piece (gatesAt (getD ws 0 0) + gateSize * j) (ascii ")\n" ++ rest)) (simp append-assoc refl)
+      rw (decode-gate ws j l, expression-piece (gatesAt (getD ws 0 0) (getD ws 3 0) + gateSize * j) (ascii ")\n" ++ rest)) (simp append-assoc refl)
 
 -- an output shows no constant
 shown-term : (b : Block) (o : Operand) → isNode b o ≡ true → nodeNameOf b o ≡ printTerm (termOf b o) []
@@ -109,23 +109,23 @@ module _ (ws : List ℕ) (whole : isTorn ws ≡ false) where
   decoded-well = intact-wellFormed ws (whole-intact ws whole)
 
   shown-node : (o : ℕ) → o < getD ws 2 0
-      → isNode (decode ws) (outputAt (getD ws 0 0) ws (outputsAt (getD ws 0 0) (getD ws 1 0) + outputSize * o) .node) ≡ true
+      → isNode (decode ws) (outputAt (getD ws 0 0) ws (outputsAt (getD ws 0 0) (getD ws 3 0) (getD ws 1 0) + outputSize * o) .node) ≡ true
   shown-node o l =
       rw (decode-output ws o noOutput l) at (wellFormed-output (decode ws) decoded-well o noOutput (rw (decode-outputCount ws) l))
 
   outputs-pieces : (rest : List ℕ) → printLines printOutput (flatTree (decode ws) .outputs) rest
-      ≡ pieces (outputText ws (outputsAt (getD ws 0 0) (getD ws 1 0))) (getD ws 2 0) ++ rest
+      ≡ pieces (outputText ws (outputsAt (getD ws 0 0) (getD ws 3 0) (getD ws 1 0))) (getD ws 2 0) ++ rest
   unfolding flatTree decode outputLine
   outputs-pieces rest =
-      let at = outputsAt (getD ws 0 0) (getD ws 1 0) in
+      let at = outputsAt (getD ws 0 0) (getD ws 3 0) (getD ws 1 0) in
       rw map-tab
       (lines-pieces printOutput (outputLine ws at) (outputText ws at) (getD ws 2 0) (λ o l. output-piece ws at o (shown-node o l)) rest)
 
-  gates-pieces : (rest : List ℕ) → printLines printGate (flatTree (decode ws) .gates) rest ≡ pieces (gateText ws (gatesAt (getD ws 0 0))) (getD ws 1 0) ++ rest
+  gates-pieces : (rest : List ℕ) → printLines printGate (flatTree (decode ws) .gates) rest ≡ pieces (gateText ws (gatesAt (getD ws 0 0) (getD ws 3 0))) (getD ws 1 0) ++ rest
   unfolding flatTree
   gates-pieces rest =
       rw (decode-gateCount ws)
-      (lines-pieces printGate (flatLine (decode ws)) (gateText ws (gatesAt (getD ws 0 0))) (getD ws 1 0) (gate-piece ws) rest)
+      (lines-pieces printGate (flatLine (decode ws)) (gateText ws (gatesAt (getD ws 0 0) (getD ws 3 0))) (getD ws 1 0) (gate-piece ws) rest)
 
   inputs-pieces : (rest : List ℕ) → printLines printInput (flatTree (decode ws) .inputs) rest ≡ pieces (inputText ws) (getD ws 0 0) ++ rest
   unfolding flatTree decode

@@ -56,5 +56,5 @@ outputText ws at o =
 unfoldable pub blockText : List ℕ → List ℕ
 blockText ws =
     pieces (inputText ws) (getD ws 0 0)
-    ++ (pieces (gateText ws (gatesAt (getD ws 0 0))) (getD ws 1 0)
-    ++ pieces (outputText ws (outputsAt (getD ws 0 0) (getD ws 1 0))) (getD ws 2 0))
+    ++ (pieces (gateText ws (gatesAt (getD ws 0 0) (getD ws 3 0))) (getD ws 1 0)
+    ++ pieces (outputText ws (outputsAt (getD ws 0 0) (getD ws 3 0) (getD ws 1 0))) (getD ws 2 0))
