@@ -89,12 +89,12 @@ fn covers_by_the_simulator_and_the_library() {
     });
 }
 
-/// The settings that the cover has are those that settle, and 9 tells the lowest other.
+/// The settings that the cover has are those that settle or never come, and 9 tells the lowest other.
 #[test]
 fn covers_tell_which_settings_settle() {
     for_each(|name, text| {
         let Some(words) = words(text) else { return };
-        let settled = Network::new(&Block::from_words(&words)).settled_settings();
+        let settled = Network::new(&Block::from_words(&words)).sound_settings();
         let entries = cover(&words, usize::MAX).1;
         let agrees = |setting: usize| {
             let agree = |entry: &[u16]| setting as u16 & entry[0] == entry[1];
@@ -140,8 +140,10 @@ fn renderings_are_straight_and_say_what_the_originals_say() {
             block.outputs.iter().map(|o| o.port.clone()).collect()
         };
         assert_eq!(ports(&rendering), ports(&original));
+        assert_eq!(rendering.nevers, original.nevers);
         let network = Network::new(&original);
-        for number in 0..1 << original.inputs.len() {
+        let excluded = original.excluded_settings();
+        for number in (0..excluded.len()).filter(|&number| !excluded[number]) {
             let setting = setting_bytes(number, original.inputs.len());
             let said = shown(&original, &setting, &network.settled(&setting));
             let swept = shown(&rendering, &setting, &sweep(&rendering, &setting));

@@ -1,10 +1,14 @@
 //! Texts as long as can be, each the hardest of its kind for Read.
 
-use crate::limits::{GATES, INPUTS, OUTPUTS, TEXT_BYTES};
+use crate::limits::{GATES, INPUTS, NEVERS, OUTPUTS, TEXT_BYTES};
 
 /// The texts, by name.
 pub fn long_texts() -> Vec<(&'static str, Vec<u8>)> {
-    vec![("full", full()), ("crowded", crowded())]
+    vec![
+        ("full", full()),
+        ("crowded", crowded()),
+        ("crowded-pairs", crowded_pairs()),
+    ]
 }
 
 /// Every limit reached, names of eight bytes, four operands to a gate, each the name of one of the last gates.
@@ -13,10 +17,19 @@ fn full() -> Vec<u8> {
     let operands: Vec<String> = (0..4).map(last).collect();
     let operands = operands.join(" ");
     let inputs = (0..INPUTS).map(|i| format!("(in x{i:07})\n"));
+    let pairs = |value: usize| (0..INPUTS).map(move |i| format!(" (x{i:07} {})", value >> i & 1));
+    let nevers = (0..NEVERS).map(|line| format!("(never{})\n", pairs(line).collect::<String>()));
     let gates = (0..GATES).map(|i| format!("(gate g{i:07} (nand {operands}))\n"));
     let outputs = (0..OUTPUTS).map(|i| format!("(out y{i:07} {})\n", last(i)));
-    let text: String = inputs.chain(gates).chain(outputs).collect();
+    let text: String = inputs.chain(nevers).chain(gates).chain(outputs).collect();
     text.into_bytes()
+}
+
+/// About the greatest length: a never line of thousands of pairs, all of the same name.
+fn crowded_pairs() -> Vec<u8> {
+    let (front, pair, back) = ("(in a)\n(never", " (a 1)", ")\n");
+    let pairs = (TEXT_BYTES - front.len() - back.len()) / pair.len();
+    [front, &pair.repeat(pairs), back].concat().into_bytes()
 }
 
 /// The greatest length, of the grammar, and above the limit on gates.
