@@ -112,10 +112,8 @@ fn never_lines() {
     // 4 before 5, and the least place of all repeats, whatever is declared behind it.
     assert_eq!(refusal(&named("(never (q 1) (q 0))\n")), (4, 28));
     let twice = "(gate p (not 0))\n(out y p)\n(out y p)\n";
-    assert_eq!(
-        refusal(&named(&format!("(never (a 1) (a 0))\n{twice}"))),
-        (4, 28)
-    );
+    let given_again = format!("(in a)\n(never (a 1) (a 0))\n{twice}");
+    assert_eq!(refusal(&given_again), (4, 21));
     assert_eq!(refusal(&format!("(in a)\n(never (a 1))\n{twice}")), (4, 53));
     // More pairs than inputs are in form; 3 before 4.
     assert_eq!(

@@ -11,16 +11,16 @@ pub fn nevers(random: &mut Random, n: usize, most: usize) -> Vec<Never> {
     }
     let mut lines: Vec<Never> = Vec::new();
     for _ in 0..random.between(1, most) {
-        let line = match random.below(8) {
+        let line = match random.below(10) {
             0 if !lines.is_empty() => random.pick(&lines),
             1 if !lines.is_empty() => contrary(random.pick(&lines)),
-            2 | 3 => never(random, (1 << n) - 1),
-            4 => {
+            2..=4 => never(random, (1 << n) - 1),
+            5 => {
                 let input = random.below(n);
                 never(random, 1 << input)
             }
             _ => {
-                let fixed = random.between(1, (1 << n) - 1);
+                let fixed = random.between(1, (1 << n) - 1) | random.below(1 << n);
                 never(random, fixed)
             }
         };
