@@ -17,7 +17,8 @@ fn full() -> Vec<u8> {
     let operands: Vec<String> = (0..4).map(last).collect();
     let operands = operands.join(" ");
     let inputs = (0..INPUTS).map(|i| format!("(in x{i:07})\n"));
-    let pairs = |value: usize| (0..INPUTS).map(move |i| format!(" (x{i:07} {})", value >> i & 1));
+    // Three pairs a line: with all ten the text would be too long.
+    let pairs = |value: usize| (0..3).map(move |i| format!(" (x{i:07} {})", value >> i & 1));
     let nevers = (0..NEVERS).map(|line| format!("(never{})\n", pairs(line).collect::<String>()));
     let gates = (0..GATES).map(|i| format!("(gate g{i:07} (nand {operands}))\n"));
     let outputs = (0..OUTPUTS).map(|i| format!("(out y{i:07} {})\n", last(i)));
