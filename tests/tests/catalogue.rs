@@ -8,7 +8,7 @@ use simulator::generate::Report;
 use simulator::limits::{BLOCK_WORDS, COVER_WORDS};
 use simulator::settle::sweep;
 use simulator::values::{setting_bytes, Network, UNDEFINED};
-use simulator::{cover, read};
+use simulator::{cover, read, verdict};
 use std::collections::{BTreeMap, BTreeSet};
 use std::fs;
 use std::path::PathBuf;
@@ -210,6 +210,46 @@ fn scaler_with_parity_tells_a_wrong_word() {
 fn mended_rate_block_passes_the_sample_unless_muted() {
     for_settings("rate-mended", |pins, ports| {
         assert_eq!(ports["y"], pins["sample"] * (1 - pins["mute"]));
+    });
+}
+
+/// Both mode pins at 1 never come; the block without the line waits for itself there.
+#[test]
+fn mode_pins_pass_the_sample_on() {
+    for_settings("mode-pins", |pins, ports| {
+        if pins["fast"] + pins["slow"] < 2 {
+            assert_eq!(ports["z"], 1 - pins["sample"]);
+            assert_eq!(ports["y"], pins["sample"] ^ pins["fast"]);
+        }
+    });
+    let excluded = block("mode-pins").excluded_settings();
+    let settled = Network::new(&block("mode-pins-any")).settled_settings();
+    let which = |list: &[bool], is: bool| -> Vec<usize> {
+        (0..8).filter(|&setting| list[setting] == is).collect()
+    };
+    assert_eq!(which(&excluded, true), [6, 7]);
+    assert_eq!(which(&settled, false), [6, 7]);
+    assert_eq!(block("mode-pins").without_nevers(), block("mode-pins-any"));
+    let told = verdict(&words(&file("mode-pins", "net")).unwrap());
+    assert_eq!((told.count, told.detail), (6, 8));
+}
+
+/// The never line of rate-never-48.net excludes the settings that rate.net is refused for; what is rendered shows 0 there.
+#[test]
+fn a_never_line_hides_the_fault_of_the_rate_block() {
+    let hidden = block("rate-never-48");
+    assert_eq!(hidden.without_nevers(), block("rate"));
+    let excluded = hidden.excluded_settings();
+    let settled = Network::new(&hidden).settled_settings();
+    let unsettled: Vec<usize> = (0..16).filter(|&setting| !settled[setting]).collect();
+    assert_eq!(unsettled, [8, 9]);
+    assert!((0..16).all(|setting| excluded[setting] == (setting >= 8)));
+    for_settings("rate-never-48", |pins, ports| {
+        let passed = pins["sample"] * (1 - pins["mute"]);
+        match (pins["k48"], pins["k44"]) {
+            (1, 0) => assert_eq!(ports["y"], 0),
+            _ => assert_eq!(ports["y"], passed),
+        }
     });
 }
 
