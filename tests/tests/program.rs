@@ -3,7 +3,7 @@
 
 use simulator::executed::{root, written_by_the_program};
 use simulator::generate::{
-    for_texts, long_texts, near_a_limit, over_a_limit, spoiled, Random, Report, Size,
+    for_texts, long_texts, near_a_limit, over_a_limit, spoiled, strange_never, Random, Report, Size,
 };
 use simulator::limits::{GATES, INPUTS, OPERANDS, OUTPUTS, TEXT_BYTES, WRITTEN_BYTES};
 use simulator::specimens::*;
@@ -56,6 +56,14 @@ fn spoiled_texts() {
         compare(&spoiled(random, text))
     });
     answered(&[0, 2, 4, 5, 9], 5);
+}
+
+#[test]
+fn texts_with_a_strange_never() {
+    for_texts(0..400, Size::SMALL, |random, text, block| {
+        compare(&strange_never(random, text, block))
+    });
+    answered(&[0, 2, 3, 4, 5], 5);
 }
 
 #[test]

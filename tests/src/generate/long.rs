@@ -6,8 +6,8 @@ use crate::limits::{GATES, INPUTS, NEVERS, OUTPUTS, TEXT_BYTES};
 pub fn long_texts() -> Vec<(&'static str, Vec<u8>)> {
     vec![
         ("full", full()),
-        ("crowded", crowded()),
         ("crowded-pairs", crowded_pairs()),
+        ("crowded", crowded()),
     ]
 }
 
@@ -26,11 +26,17 @@ fn full() -> Vec<u8> {
     text.into_bytes()
 }
 
-/// About the greatest length: a never line of thousands of pairs, all of the same name.
+/// About the greatest length: one never line of thousands of names, of which only the last stands there before.
 fn crowded_pairs() -> Vec<u8> {
-    let (front, pair, back) = ("(in a)\n(never", " (a 1)", ")\n");
-    let pairs = (TEXT_BYTES - front.len() - back.len()) / pair.len();
-    [front, &pair.repeat(pairs), back].concat().into_bytes()
+    let mut text = "(in p0)\n(never".to_string();
+    for name in 0.. {
+        let pair = format!(" (p{name} 1)");
+        if text.len() + pair.len() + " (p0 1))\n".len() > TEXT_BYTES {
+            break;
+        }
+        text += &pair;
+    }
+    (text + " (p0 1))\n").into_bytes()
 }
 
 /// The greatest length, of the grammar, and above the limit on gates.
