@@ -33,6 +33,11 @@ impl Assignment {
         let bit = |mask: u16| usize::from(mask) >> input & 1 == 1;
         bit(self.fixed).then(|| bit(self.ones))
     }
+
+    /// Whether a setting has its values at the inputs that it fixes; input i has weight 2^i.
+    pub fn agrees(self, setting: usize) -> bool {
+        setting & usize::from(self.fixed) == usize::from(self.ones)
+    }
 }
 
 /// Where a block made elsewhere shows another value than the original.

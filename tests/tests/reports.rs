@@ -83,6 +83,10 @@ fn never_lines() {
     let report = "x.net: undecided\n  not settled with a = 0, b = 1: y undefined\n\
                   \x20 settles with a = 1\n  settles with b = 0\n";
     at_a_place(text, "(refused 9 2)\n", report);
+    let report = "x.net: undecided\n  not settled with a = 0, b = 0: y undefined\n\
+                  \x20 never comes with a = 1, b = 1\n  settles under no setting\n";
+    let text = simulator::specimens::NEVER_BOTH.as_bytes();
+    at_a_place(text, "(refused 9 0)\n", report);
 }
 
 #[test]
