@@ -110,6 +110,7 @@ fn largest_blocks() {
     for (name, block) in large() {
         let _report = Report(|| name.to_string());
         compare_largest(&block.to_words());
+        compare_brought(&block.to_old_words());
     }
     print_compared();
 }

@@ -31,9 +31,13 @@ pub fn malformed_before(random: &mut Random, block: &Block) -> Vec<(&'static str
     for (_, words) in &mut made {
         words.remove(OLD_HEAD_WORDS);
     }
-    made.push(("no words", vec![]));
-    made.push(("two words", vec![0, 0]));
+    let mut crowded = block.clone();
+    crowded.inputs = (0..=OLD_INPUTS).map(|i| format!("i{i}")).collect();
+    made.push(("an input more than there were", crowded.to_old_words()));
     made.push(("words of today", block.to_words()));
+    for (rule, length) in [("no words", 0), ("one word", 1), ("two words", 2)] {
+        made.push((rule, vec![0; length]));
+    }
     made
 }
 
@@ -90,12 +94,18 @@ fn lengths(random: &mut Random, block: &Block) -> Vec<(&'static str, Vec<u16>)> 
     let words = block.to_words();
     let cut = random.below(words.len());
     let longer = [words.clone(), vec![0]].concat();
+    let mut longest = words.clone();
+    longest.resize(random.between(BLOCK_WORDS, BLOCK_WORDS + 2), 0);
+    let mut far_longer = words.clone();
+    far_longer.resize(70_000, 0);
     vec![
         ("no words", Vec::new()),
         ("three words", vec![0, 0, 0]),
         ("cut off", words[..cut].to_vec()),
         ("one word short", words[..words.len() - 1].to_vec()),
         ("one word more", longer),
+        ("about as many words as a block may have", longest),
+        ("more words than a number of 16 bits", far_longer),
         (
             "an input too many in the head",
             with(&words, 0, words[0] + 1),

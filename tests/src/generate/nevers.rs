@@ -2,6 +2,7 @@
 
 use super::Random;
 use crate::block::{Block, Never};
+use crate::limits::INPUTS;
 
 /// At most so many lines over n inputs, none in a third of the cases; some are equal, some contradict each other, some exclude one
 /// setting alone, and now and then all settings are excluded.
@@ -36,7 +37,7 @@ pub fn nevers(random: &mut Random, n: usize, most: usize) -> Vec<Never> {
 
 /// A line that fixes these inputs.
 fn never(random: &mut Random, fixed: usize) -> Never {
-    let ones = random.below(1 << 10) & fixed;
+    let ones = random.below(1 << INPUTS) & fixed;
     Never {
         fixed: fixed as u16,
         ones: ones as u16,
