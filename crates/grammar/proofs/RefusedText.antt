@@ -72,6 +72,32 @@ termReader-good zero = leafOr-good stop before-stop
 termReader-good (suc depth) =
     leafOr-good _ (before-half (before-expect (ascii "(") _ (exprReader-good (termReader depth) apply (termReader-good depth))))
 
+-- ---- pairs
+
+bitReader-good : GoodBefore bitReader
+unfolding bitReader
+bitReader-good = before-ifNext _ _ _ (λ _ _. before-pure false) (before-half (before-ifNext _ _ _ (λ _ _. before-pure true) before-stop 49 refl)) 48 refl
+
+pairReader-good : GoodBefore pairReader
+unfolding pairReader isNameStart isLetter
+pairReader-good =
+    before-expect (ascii "(") _ (before-bind (nameReader isNameStart) _ (nameReader-good isNameStart refl) λ s. before-expect (ascii " ") _
+    (before-bind bitReader _ bitReader-good λ v. before-expect (ascii ")") _ (before-pure _)))
+
+spacedPair-good : (others : Reader (List Pair)) → GoodBefore others → GoodBefore (spacedPair others)
+unfolding spacedPair
+spacedPair-good others b =
+    before-expect (ascii " ") _ (before-bind pairReader _ pairReader-good λ p. before-bind others _ b λ ps. before-pure (p ∷ ps))
+
+pub pairsReader-good : (most needed : ℕ) → GoodBefore (pairsReader most needed)
+unfolding pairsReader
+pairsReader-good zero needed = before-expect (ascii ")") _ (before-pure [])
+pairsReader-good (suc most) zero =
+    before-ifNext _ _ _ (λ _ _. before-pure []) (before-half (spacedPair-good _ (pairsReader-good most zero))) 41 refl
+pairsReader-good (suc most) (suc needed) = spacedPair-good _ (pairsReader-good most needed)
+
+-- ---- lines
+
 module _ (others otherwise : Reader Tree) (g : Good others) (h : HalfGood otherwise) where
   inputLine-good : Good (inputLine others otherwise)
   unfolding inputLine isLetter
