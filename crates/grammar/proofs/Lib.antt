@@ -12,6 +12,7 @@ pub mod Shorter
 pub mod Bound
 pub mod Refusals
 pub mod FirstBad
+pub mod Bounded
 pub mod RefusedText
 pub mod SetLines
 pub mod Places
