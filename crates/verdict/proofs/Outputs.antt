@@ -26,7 +26,7 @@ use Rattle.verdict.specs.Flags.{settledFlag}
 -- the words' outputs start at `at`, there are `many`, and the bytes are those under setting number s
 pub record Found (ws : List ℕ) (n at many s : ℕ) (inputs values : List ℕ) : Type 0 where
   pub inputsAre : n ≡ inputCount (decode ws)
-  pub first : at ≡ outputsAt n (gateCount (decode ws))
+  pub first : at ≡ outputsAt (getD ws 0 0) (getD ws 3 0) (getD ws 1 0)
   pub outputsAre : many ≡ getD ws 2 0
   pub under : SettledUnder (decode ws) s inputs values
 
