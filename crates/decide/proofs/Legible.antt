@@ -11,7 +11,7 @@ use Prim.Native.Nat.{ℕ, _<_}
 use native.Mathlib.Omega.{arith}
 use lib.ListN.{length, getD}
 use Rattle.netlist.specs.StoredBlock.{neversAt, gatesAt, decode, isTorn}
-use Rattle.encoding.proofs.Decoded.{decode-inputCount, decode-gateCount, decode-outputCount, decode-gate}
+use Rattle.encoding.proofs.Decoded.{decode-inputCount, decode-gateCount, decode-outputCount, decode-neverCount, decode-gate}
 use Rattle.encoding.proofs.Readers.{whole-parts, whole-gate}
 use Rattle.netlist.specs.Netlist.{gateCount}
 use Rattle.decide.specs.InPlace.{Legible, Visits, DecideReady}
@@ -47,6 +47,7 @@ whole-ready ws n m gates order inputs values h e f g v il vl =
       visits = rw (← c) v;
       fewInputs = rw e (whole-parts ws h .fewInputs);
       fewOutputs = rw (decode-outputCount ws) (whole-parts ws h .fewOutputs);
+      fewNevers = rw (decode-neverCount ws) (whole-parts ws h .fewNevers);
       inputRoom = il;
       valueRoom = vl ∙ c;
     }
@@ -60,6 +61,7 @@ ready-kept r e f =
       visits = r .visits;
       fewInputs = r .fewInputs;
       fewOutputs = r .fewOutputs;
+      fewNevers = r .fewNevers;
       inputRoom = e ∙ r .inputRoom;
       valueRoom = f ∙ r .valueRoom;
     }

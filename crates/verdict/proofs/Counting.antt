@@ -5,7 +5,7 @@ use mathlib.Core.List.{List}
 use Prim.Native.Nat.{ℕ, _+_, _^_, _≤_, _<_}
 use native.Mathlib.Omega.{arith}
 use native.Mathlib.Numerals.{add-one}
-use lib.ListN.{length, set}
+use lib.ListN.{length, getD, set}
 use lib.Pow.{pow-mono}
 use Rattle.laws.specs.Lists.{countBelow, tab, placed}
 use Rattle.laws.proofs.Tab.{set-placed-tab}
@@ -14,6 +14,8 @@ use Rattle.laws.proofs.Counting.{countBelow-ext, countBelow-le}
 use Rattle.netlist.specs.Limits.{maxInputs}
 use Rattle.netlist.specs.Netlist.{Block, inputCount}
 use Rattle.netlist.specs.Rounds.{settingCount, isSettled, isExcluded, isCounted, isSoundAt, settledSettings, lowestUnsettled}
+use Rattle.netlist.specs.StoredBlock.{decode}
+use Rattle.encoding.proofs.Decoded.{decode-inputCount}
 use Rattle.verdict.specs.Flags.{settledFlag, countedFlag, soundFlag, mayCome}
 
 not-false-true : (a : Bool) → not a ≡ false → a ≡ true
@@ -38,20 +40,20 @@ module _ (b : Block) where
   unfolding lowestUnsettled
   lowest-le count e = rw e (least-le (λ s. not (isSoundAt b s)) (settingCount b))
 
+  sound-counted : (s : ℕ) → isSoundAt b s ≡ true → mayCome b s ≡ isCounted b s
+  unfolding isSoundAt isCounted mayCome
+  sound-counted s = go (isExcluded b s) (isSettled b s)
+    where
+      go : (e t : Bool) → e || t ≡ true → not e ≡ not e && t
+      go true t h = refl
+      go false t h = sym h
+
   -- below the lowest other, those that may come are settled
   pub count-lowest : countBelow (mayCome b) (lowestUnsettled b) ≡ countBelow (isCounted b) (lowestUnsettled b)
-  unfolding lowestUnsettled mayCome
+  unfolding lowestUnsettled
   count-lowest =
       countBelow-ext (mayCome b) (isCounted b) (lowestUnsettled b)
       (λ i l. sound-counted i (not-false-true (isSoundAt b i) (least-below (λ s. not (isSoundAt b s)) (settingCount b) i l)))
-    where
-      sound-counted : (s : ℕ) → isSoundAt b s ≡ true → not (isExcluded b s) ≡ isCounted b s
-      unfolding isSoundAt isCounted
-      sound-counted s = go (isExcluded b s) (isSettled b s)
-        where
-          go : (e t : Bool) → e || t ≡ true → not e ≡ not e && t
-          go true t h = refl
-          go false t h = sym h
 
   -- what is told of a setting by the two tests
   pub excluded-sound : (s : ℕ) → isExcluded b s ≡ true → isSoundAt b s ≡ true
@@ -70,14 +72,24 @@ module _ (b : Block) where
   unfolding countedFlag soundFlag settledFlag isCounted isSoundAt
   coming-flags s e = rw e (refl, refl)
 
-  pub coming-more : {coming : ℕ} (s : ℕ) {e : Bool} → coming ≡ countBelow (mayCome b) s → isExcluded b s ≡ e
-      → coming + cond e 0 1 ≡ countBelow (mayCome b) (s + 1)
+  pub excluded-coming : (s : ℕ) → isExcluded b s ≡ true → _≡_ {A = ℕ} 0 (cond (mayCome b s) 1 0)
   unfolding mayCome
-  coming-more s {e} c x = rw (c, x, add-one) (go e)
+  excluded-coming s e = rw e refl
+
+  pub coming-coming : (s : ℕ) → isExcluded b s ≡ false → _≡_ {A = ℕ} 1 (cond (mayCome b s) 1 0)
+  unfolding mayCome
+  coming-coming s e = rw e refl
+
+  -- one setting more that may come, or not
+  pub coming-more : {coming flag : ℕ} (s : ℕ) → coming ≡ countBelow (mayCome b) s → flag ≡ cond (mayCome b s) 1 0 → coming + flag ≡ countBelow (mayCome b) (s + 1)
+  coming-more s e f = rw (e, f, add-one) refl
+
+  pub coming-le : (s : ℕ) → (countBelow (mayCome b) s ≤ s) × (cond (mayCome b s) 1 0 ≤ 1)
+  coming-le s = (countBelow-le (mayCome b) s, go (mayCome b s))
     where
-      go : {k : ℕ} (e : Bool) → k + cond e 0 1 ≡ k + cond (not e) 1 0
-      go true = refl
-      go false = refl
+      go : (a : Bool) → cond a 1 0 ≤ 1
+      go true = omega arith
+      go false = omega arith
 
   pub flag-le : (s : ℕ) → countedFlag b s ≤ 1
   unfolding countedFlag
@@ -105,6 +117,10 @@ module _ (b : Block) where
   pub count-end : (s count : ℕ) → count ≡ settingCount b → s ≡ count → countBelow (isCounted b) s ≡ settledSettings b
   unfolding settledSettings
   count-end s count e f = rw (f, e) refl
+
+-- the inputs that the words count are few
+pub few-inputs : (ws : List ℕ) {n : ℕ} → n ≡ inputCount (decode ws) → n ≤ maxInputs → getD ws 0 0 ≤ maxInputs
+few-inputs ws e l = omega (arith, e, decode-inputCount ws, l)
 
 -- at most as many settings as the most inputs have
 pub few-settings : (n : ℕ) → n ≤ maxInputs → 2 ^ n ≤ 2 ^ maxInputs

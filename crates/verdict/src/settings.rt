@@ -7,6 +7,7 @@ use layout::offsets::outputs_of;
 use netlist::Answer;
 use ternary::output::output_value;
 ghost use mathlib.Core.Path.{_≡_};
+ghost use mathlib.Core.Bool.{cond};
 ghost use Prim.Native.Nat.{_≤_, _^_};
 ghost use lib.ListN.{length, getD};
 ghost use Rattle.laws.specs.Lists.{countBelow, tab, placed};
@@ -128,6 +129,14 @@ fn sound_flag(
     settled_flag(words, n, gates, order, s, inputs, values)
 }
 
+// 1 for a setting that may come.
+fn coming_flag(words: &[u16], s: usize) -> usize
+    requires { ⌜ getD (now words) 0 0 ≤ maxInputs ⌝ }
+    ensures { λ r. ⌜ r ≡ cond (mayCome (decode (now (words .entry))) s) 1 0 ⌝ }
+{
+    if is_excluded(words, s) { 0 } else { 1 }
+}
+
 // How many settings below `end` may come.
 fn count_coming(words: &[u16], end: usize) -> usize
     requires { ⌜ getD (now words) 0 0 ≤ maxInputs ⌝ }
@@ -136,9 +145,7 @@ fn count_coming(words: &[u16], end: usize) -> usize
     let mut coming = 0;
     let mut s = 0;
     while s < end {
-        if !is_excluded(words, s) {
-            coming += 1;
-        }
+        coming += coming_flag(words, s);
         s += 1;
     }
     coming
