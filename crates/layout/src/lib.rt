@@ -2,6 +2,7 @@
 // and the readers and fillers of slices (SPECIFICATION 1.5, 2 and 3.2).
 pub mod bytes;
 pub mod fill;
+pub mod gather;
 pub mod kinds;
 pub mod limits;
 pub mod nodes;
