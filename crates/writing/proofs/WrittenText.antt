@@ -174,7 +174,8 @@ module _ (ws : List ℕ) (whole : isTorn ws ≡ false) where
       rw map-tab
       (lines-pieces printOutput (outputLine ws at) (outputText ws at) (getD ws 2 0) (λ o l. output-piece ws at o (shown-node o l)) rest)
 
-  gates-pieces : (rest : List ℕ) → printLines printGate (flatTree (decode ws) .gates) rest ≡ pieces (gateText ws (gatesAt (getD ws 0 0) (getD ws 3 0))) (getD ws 1 0) ++ rest
+  gates-pieces : (rest : List ℕ) → printLines printGate (flatTree (decode ws) .gates) rest
+      ≡ pieces (gateText ws (gatesAt (getD ws 0 0) (getD ws 3 0))) (getD ws 1 0) ++ rest
   unfolding flatTree
   gates-pieces rest =
       rw (decode-gateCount ws)

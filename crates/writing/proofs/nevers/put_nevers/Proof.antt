@@ -30,7 +30,8 @@ put-never-requires c κs =
     let start = c .before .before .before .before .before in
     let a = start .args in
     let l = c .before .before .loop in
-    ((start .pre .0 .0, omega (arith, start .pre .0, l .inv .0)), short-turn (neverLineText (a .words .now) (a .from)) (l .i) (a .count) (c .before .loop-test .taken) (start .pre .1) (l .inv .1))
+    let short = short-turn (neverLineText (a .words .now) (a .from)) (l .i) (a .count) (c .before .loop-test .taken) (start .pre .1) (l .inv .1) in
+    ((start .pre .0 .0, omega (arith, start .pre .0, l .inv .0)), short)
 
 add-i : tie.Need-add-i Inv-loop μ-loop
 add-i c = omega (arith, c .before .before .before .before .before .before .before .before .pre .0)
