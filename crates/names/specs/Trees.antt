@@ -1,10 +1,14 @@
--- The lines of a tree's text.
+-- The lines of a tree without never lines.
 use Prim.Native.Nat.{ℕ}
 use mathlib.Core.Bool.{Bool, true, false, cond}
 use mathlib.Core.List.{List, [], _∷_, _++_, map}
 use lib.Dec.{eqb}
 use Rattle.netlist.specs.Netlist.{Name}
 use Rattle.netlist.specs.Syntax.{GateLine, OutputLine, Tree, printInput, printGate, printOutput}
+
+-- the tree without its never lines
+unfoldable pub plain : Tree → Tree
+plain t = record { inputs = t .inputs; nevers = []; gates = t .gates; outputs = t .outputs }
 
 unfoldable pub inputText : Name → List ℕ
 inputText s = printInput s []
