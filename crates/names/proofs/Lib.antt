@@ -12,3 +12,4 @@ pub mod TreeTable
 pub mod Lookup
 pub mod Repeats
 pub mod TreeSearch
+pub mod PlainPlaces

@@ -6,10 +6,6 @@ use lib.Dec.{eqb}
 use Rattle.netlist.specs.Netlist.{Name}
 use Rattle.netlist.specs.Syntax.{GateLine, OutputLine, Tree, printInput, printGate, printOutput}
 
--- the tree without its never lines
-unfoldable pub plain : Tree → Tree
-plain t = record { inputs = t .inputs; nevers = []; gates = t .gates; outputs = t .outputs }
-
 unfoldable pub inputText : Name → List ℕ
 inputText s = printInput s []
 
