@@ -1,4 +1,4 @@
-// Lines of pairs: a pair behind its space, pairs up to their closing bracket, and a whole set line.
+// Pairs, of never lines and set lines: one behind its space, pairs up to their closing bracket, and a whole set line.
 use crate::Scan;
 use crate::bytes;
 use crate::names;

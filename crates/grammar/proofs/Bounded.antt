@@ -2,13 +2,13 @@
 -- Cited for the pairs of a never line. Assumes nothing.
 --   good-bounded: the law
 use Prim.Native.Nat.{ℕ, suc, _+_, _≤_}
-use mathlib.Core.Path.{_≡_, sym, ap, _∙_}
-use mathlib.Core.Logic.{_⊎_, inl, inr}
+use mathlib.Core.Path.{_≡_, ap, _∙_}
+use mathlib.Core.Logic.{inl, inr}
 use mathlib.Core.Bool.{true}
 use mathlib.Core.List.{List, [], _∷_}
 use native.Mathlib.Omega.{arith}
 use lib.ListN.{length}
-use Rattle.netlist.specs.Parse.{Reader, stuck}
+use Rattle.netlist.specs.Parse.{Reader}
 use Rattle.grammar.proofs.Refusals.{accepted, Fails, Good}
 use Rattle.grammar.proofs.FirstBad.{fails-within}
 

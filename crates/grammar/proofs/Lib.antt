@@ -19,6 +19,8 @@ pub mod Places
 pub mod Adequacy
 pub mod WellFormed
 pub mod WritingNames
+pub mod Masks
+pub mod WritingNevers
 pub mod WritingTree
 pub mod WritingBlock
 pub mod WritingRefusals

@@ -3,7 +3,7 @@
 --   pairReader-sound, pairsReader-sound, neverPairs-sound: what is read is legal, and printed before the rest it is the text
 --   pairReader-back, pairsReader-back, neverPairs-back: the print of legal pairs is read
 --   pairs-few: no text has more pairs than bytes
-use Prim.Native.Nat.{ℕ, zero, suc, _≤_, _<_}
+use Prim.Native.Nat.{ℕ, zero, suc, _≤_}
 use mathlib.Core.Path.{_≡_, refl, ap, _∙_}
 use mathlib.Core.Bool.{Bool, true, false, and-eq-true-iff}
 use mathlib.Core.List.{List, [], _∷_, _++_}

@@ -63,7 +63,9 @@ module _ (Lacks : Tree → Type 0) where
       λ y z p. gives-pure (addNever ps y) z (record {
         ended = p .ended;
         legal = rw (g .legal) (p .legal);
-        printed = let r : print y ≡ printLines printNever (y .nevers) (printLines printGate (y .gates) (printLines printOutput (y .outputs) [])) = rw (p .lacks) in
+        printed =
+            let gates = printLines printGate (y .gates) (printLines printOutput (y .outputs) []) in
+            let r : print y ≡ printLines printNever (y .nevers) gates = rw (p .lacks) in
             rw (p .lacks) (cc);
         lacks = weaken ps y (p .lacks);
       })
