@@ -12,7 +12,7 @@ use Rattle.netlist.specs.Limits.{maxCopies}
 use Rattle.netlist.specs.Values.{Value, undefined}
 use Rattle.netlist.specs.Netlist.{Block, inputCount}
 use Rattle.netlist.specs.StoredBlock.{encode, decode, isWellFormed, isTorn}
-use Rattle.netlist.specs.Rounds.{settingOf, settledUnder, outputsUnder, isSettled, lowestUnsettled, outputValue}
+use Rattle.netlist.specs.Rounds.{settingOf, settledUnder, outputsUnder, isSettled, isExcluded, isCounted, lowestUnsettled, outputValue}
 use Rattle.netlist.specs.Cover.{isSound}
 use Rattle.netlist.specs.Groups.{copyCount}
 use Rattle.netlist.specs.Rendering.{rendering, isStraight, sweep}
@@ -39,9 +39,11 @@ module _ (b : Block) where
   unfolding outputsUnder settledUnder
   same-shown w s h = sym (rendering-shows s ∙ outputs-agree b w s h)
 
-  -- under every settled setting all outputs agree
+  -- under every settled setting that may come all outputs agree
   pub rendering-accepted : isWellFormed b ≡ true → Accepts b (rendering b)
-  rendering-accepted w s l h o k = ap (λ (vs : List Value). getD vs o undefined) (same-shown w s h)
+  unfolding isCounted
+  rendering-accepted w s l h o k =
+      ap (λ (vs : List Value). getD vs o undefined) (same-shown w s (and-right (not (isExcluded b s)) (isSettled b s) h))
 
   rendering-interface : sameInterface b (rendering b) ≡ true
   unfolding sameInterface ports

@@ -14,7 +14,7 @@ use Rattle.decide.proofs.Legible.{whole-ready, ready-kept}
 use Rattle.compare.specs.Ready.{Pair, CompareReady}
 
 pub ready-at : {ours order inputs values : List ℕ} {n gates : ℕ} → DecideReady ours (getD ours 0 0) (gatesAt (getD ours 0 0) (getD ours 3 0)) order inputs values
-    → n ≡ getD ours 0 0 → gates ≡ gatesAt n → DecideReady ours n gates order inputs values
+    → n ≡ getD ours 0 0 → gates ≡ gatesAt (getD ours 0 0) (getD ours 3 0) → DecideReady ours n gates order inputs values
 ready-at r e f = rw (f, e) r
 
 -- the bytes of a setting, in a slice with a byte for each input

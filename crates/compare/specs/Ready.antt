@@ -6,7 +6,7 @@ use mathlib.Core.List.{List}
 use lib.ListN.{length, getD}
 use Rattle.netlist.specs.Netlist.{Block, outputCount}
 use Rattle.netlist.specs.StoredBlock.{gatesAt, decode, isTorn}
-use Rattle.netlist.specs.Rounds.{isSettled}
+use Rattle.netlist.specs.Rounds.{isCounted}
 use Rattle.netlist.specs.Rendering.{isStraight}
 use Rattle.netlist.specs.Compare.{lowestDiffering}
 use Rattle.decide.specs.InPlace.{DecideReady}
@@ -27,4 +27,4 @@ pub record CompareReady (ours theirs order inputs ourValues theirValues : List �
 
 -- the lowest output at which they disagree under setting number s, or the number of outputs
 unfoldable pub foundAt : Block → Block → ℕ → ℕ
-foundAt ours theirs s = cond (isSettled ours s) (lowestDiffering ours theirs s) (outputCount ours)
+foundAt ours theirs s = cond (isCounted ours s) (lowestDiffering ours theirs s) (outputCount ours)

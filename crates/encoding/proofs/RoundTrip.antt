@@ -1,5 +1,6 @@
 -- Encode and decode undo each other: on words of the right length whose unused operand words are 0, and on well-formed blocks.
 -- Cited by Intact and by whoever writes or reads blocks. Assumes nothing.
+--   part-words, neverWords-neverAt: parts read from words at a fixed distance, and a never line, have those words
 --   encode-decode: on words of the right length whose unused operand words are 0
 --   decode-encode, encode-whole: on well-formed blocks, whose words are not torn
 --   whole-encode, whole-wellFormed: on words that are not torn, whose block is well-formed
@@ -30,7 +31,7 @@ use Rattle.encoding.proofs.Encoded.{encode-input, encode-never, encode-
 
 -- ---- one never line
 
-neverWords-neverAt : (ws : List ℕ) (at : ℕ) → neverWords (neverAt ws at) ≡ tab (λ i. getD ws (at + i) 0) neverSize
+pub neverWords-neverAt : (ws : List ℕ) (at : ℕ) → neverWords (neverAt ws at) ≡ tab (λ i. getD ws (at + i) 0) neverSize
 unfolding neverWords neverAt
 neverWords-neverAt ws at = rw (add-zero at)
 
@@ -42,10 +43,10 @@ neverAt-neverWords ws at a h =
 -- ---- words, a block, and the words again
 
 -- parts read from words at a fixed distance are those words
-part : {A : Type 0} (ws : List ℕ) (g : A → List ℕ) (f : ℕ → A) (at size count : ℕ)
+pub part-words : {A : Type 0} (ws : List ℕ) (g : A → List ℕ) (f : ℕ → A) (at size count : ℕ)
     → ((j : ℕ) → j < count → g (f j) ≡ tab (λ i. getD ws (at + size * j + i) 0) size)
     → joined (map g (tab f count)) ≡ tab (λ i. getD ws (at + i) 0) (size * count)
-part ws g f at size count h =
+part-words ws g f at size count h =
     ap joined
     (map-tab g f count
     ∙ tab-ext (λ j. g (f j)) (λ j. tab (λ i. getD ws (at + (size * j + i)) 0) size) count
@@ -77,16 +78,16 @@ encode-decode ws n m k lines en em ek el size unused =
     from at size = tab (λ i. getD ws (at + i) 0) size
 
     names : joined (map nameWords (tab name n)) ≡ from inputsAt (nameSize * n)
-    names = part ws nameWords name inputsAt nameSize n (λ j l. nameWords-nameAt ws (inputsAt + nameSize * j))
+    names = part-words ws nameWords name inputsAt nameSize n (λ j l. nameWords-nameAt ws (inputsAt + nameSize * j))
 
     nevers : joined (map neverWords (tab never lines)) ≡ from (neversAt n) (neverSize * lines)
-    nevers = part ws neverWords never (neversAt n) neverSize lines (λ i l. neverWords-neverAt ws (neversAt n + neverSize * i))
+    nevers = part-words ws neverWords never (neversAt n) neverSize lines (λ i l. neverWords-neverAt ws (neversAt n + neverSize * i))
 
     gates : joined (map (gateWords n) (tab the-gate m)) ≡ from (gatesAt n lines) (gateSize * m)
-    gates = part ws (gateWords n) the-gate (gatesAt n lines) gateSize m (λ j l. gateWords-gateAt n ws (gatesAt n lines + gateSize * j) (unused j l))
+    gates = part-words ws (gateWords n) the-gate (gatesAt n lines) gateSize m (λ j l. gateWords-gateAt n ws (gatesAt n lines + gateSize * j) (unused j l))
 
     outputs : joined (map (outputWords n) (tab output k)) ≡ from (outputsAt n lines m) (outputSize * k)
-    outputs = part ws (outputWords n) output (outputsAt n lines m) outputSize k (λ o l. outputWords-outputAt n ws (outputsAt n lines m + outputSize * o))
+    outputs = part-words ws (outputWords n) output (outputsAt n lines m) outputSize k (λ o l. outputWords-outputAt n ws (outputsAt n lines m + outputSize * o))
 
     whole : tab (λ i. getD ws i 0) (outputsAt n lines m + outputSize * k)
         ≡ n ∷ m ∷ k ∷ lines ∷ from inputsAt (nameSize * n) ++ from (neversAt n) (neverSize * lines) ++ from (gatesAt n lines) (gateSize * m) ++ from (outputsAt n lines m) (outputSize * k)

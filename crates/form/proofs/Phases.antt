@@ -142,9 +142,12 @@ module _ (more : ℕ) (t : List ℕ) where
 
 -- what may stand behind an opening bracket
 unfoldable behindOf : ℕ → ℕ → Reader Tree
-behindOf zero more = inputLine (λ r. textReader more r) (behindOf 1 more)
-behindOf (suc zero) more = neverLine (λ r. neversReader more r) (behindOf 2 more)
-behindOf (suc (suc zero)) more = gateLine (λ r. gatesReader more r) (behindOf 3 more)
+behindOf zero more =
+    inputLine (λ r. textReader more r)
+    (neverLine (λ r. neversReader more r) (gateLine (λ r. gatesReader more r) (outputLine (λ r. outputsReader more r) stop)))
+behindOf (suc zero) more =
+    neverLine (λ r. neversReader more r) (gateLine (λ r. gatesReader more r) (outputLine (λ r. outputsReader more r) stop))
+behindOf (suc (suc zero)) more = gateLine (λ r. gatesReader more r) (outputLine (λ r. outputsReader more r) stop)
 behindOf (suc (suc (suc p))) more = outputLine (λ r. outputsReader more r) stop
 
 lines-one : (phase more : ℕ) (s : List ℕ) → linesReader phase (suc more) s ≡ line (behindOf phase more) s
@@ -172,7 +175,7 @@ module _ (more : ℕ) (t : List ℕ) where
       own e = rw (chosen-gate 2 t refl (λ _ h. omega arith) (λ _ h. omega arith) e (omega arith)) (gate-step more t _ e)
 
       later : (getD t 0 0 ≡ 103 → ⊥) → Step 2 more t
-      later n = rw (behind-gates t 0 n) (ap scanOf (gate-other _ _ t n) ∙ outputs-step 0)
+      later n = rw (behind-gates t n) (ap scanOf (gate-other _ _ t n) ∙ outputs-step 0)
 
   nevers-step : Step 1 more t
   unfolding behindOf

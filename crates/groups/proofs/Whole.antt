@@ -9,7 +9,7 @@ use lib.ListN.{length, getD}
 use Rattle.laws.specs.Lists.{joined}
 use Rattle.laws.proofs.Tests.{lt-or-le}
 use Rattle.laws.proofs.Tab.{map-tab, tab-ext}
-use Rattle.netlist.specs.StoredBlock.{gatesAt, gateSize, operandOf, gateAt, decode, isTorn}
+use Rattle.netlist.specs.StoredBlock.{neversAt, gatesAt, gateSize, operandOf, gateAt, decode, isTorn}
 use Rattle.netlist.specs.Groups.{gateOperand, readBy}
 use Rattle.encoding.proofs.Nodes.{operandOf-input, operandOf-zero, operandOf-one, operandOf-gate}
 use Rattle.encoding.proofs.Readers.{OperandWord, whole-parts, whole-gate, whole-reads}
@@ -54,8 +54,8 @@ module _ (ws : List ℕ) (whole : isTorn ws ≡ false) where
       (λ k kl. word-operand (getD ws 0 0) (getD ws 1 0) (getD ws (gatesAt (getD ws 0 0) (getD ws 3 0) + 5 * i + 1 + k) 0) nodes (w .operands k kl))))
 
   near : gatesAt (getD ws 0 0) (getD ws 3 0) ≤ 1024
-  unfolding gatesAt
-  near = omega (arith, whole-parts ws whole .fewInputs)
+  unfolding gatesAt neversAt
+  near = omega (arith, whole-parts ws whole .fewInputs, whole-parts ws whole .fewNevers)
 
   gates-ready : GatesReady ws (getD ws 0 0) (getD ws 1 0) (gatesAt (getD ws 0 0) (getD ws 3 0))
   unfolding gateReads

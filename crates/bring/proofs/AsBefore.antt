@@ -1,0 +1,1 @@
+-- What is brought over is the block as it was.
