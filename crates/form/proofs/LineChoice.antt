@@ -3,7 +3,7 @@ use mathlib.Core.Path.{_≡_, refl, sym, ap, _∙_}
 use mathlib.Core.Logic.{⊎-elim}
 use mathlib.Core.Bool.{Bool, true, false, cond, _&&_}
 use mathlib.Core.List.{List}
-use Prim.Native.Nat.{ℕ, _+_, _-_, _≤_, _<_}
+use Prim.Native.Nat.{ℕ, _-_, _≤_, _<_}
 use native.Mathlib.Omega.{arith}
 use lib.ListN.{length, drop, getD, length-drop}
 use lib.Seq.{getD-drop}
@@ -72,15 +72,9 @@ module _ (t : List ℕ) where
   unfolding lineBehind
   behind-nevers n = rw (ne-eqb 110 (getD t 0 0) (λ h. n (sym h)))
 
-<<<<<<< HEAD
-  pub behind-gates : (phase : ℕ) → (getD t 0 0 ≡ 103 → ⊥) → lineBehind 2 t ≡ lineBehind (3 + phase) t
-  unfolding lineBehind
-  behind-gates phase n = rw (ne-eqb 103 (getD t 0 0) (λ h. n (sym h)))
-=======
   pub behind-gates : (getD t 0 0 ≡ 103 → ⊥) → lineBehind 2 t ≡ lineBehind 3 t
   unfolding lineBehind
   behind-gates n = rw (ne-eqb 103 (getD t 0 0) (λ h. n (sym h)))
->>>>>>> p7b
 
 -- ---- by the opening bracket
 

@@ -2,3 +2,4 @@
 pub mod TrimmedLaws
 pub mod KindLaws
 pub mod MaskLaws
+pub mod Gathered

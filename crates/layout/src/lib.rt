@@ -2,6 +2,7 @@
 // the test of masks, and the readers and fillers of slices (SPECIFICATION 1.5, 2, 3.2 and 4.1).
 pub mod bytes;
 pub mod fill;
+pub mod gather;
 pub mod kinds;
 pub mod limits;
 pub mod masks;

@@ -92,7 +92,7 @@ fn put_show(text: &mut [u8], words: &[u16], setting: &[u8], gates: &[u8]) -> usi
     requires { ⌜ Short (showText (now words) (now setting) (now gates)) 0 ⌝ }
     ensures { λ r. ⌜ Appended (showText (now (words .entry)) (now (setting .entry)) (now (gates .entry))) (now (text .entry)) 0 (now (text .exit)) r ⌝ }
 {
-    let from = outputs_at(inputs_of(words), gates_of(words));
+    let from = outputs_at(words);
     let k = outputs_of(words);
     let opened = put_all(text, 0, b"(show");
     let filled = put_ports(text, opened, words, from, k, setting, gates);
