@@ -78,7 +78,7 @@ module _ (why : ℕ → Refusal) (tells : (q : ℕ) → refusalDetail (why q) �
       other-first l p q e f =
           rw (some-told p e first, some-told q f second, ← x, ← y, lt-leb a b l) (ap Failed (why-told q f second) ∙ rw y)
 
--- ---- near
+  -- ---- near
 
   abbrev pub Inside : ℕ → Option ℕ → Type 0
   Inside bound p = (q : ℕ) → p ≡ some q → q ≤ bound

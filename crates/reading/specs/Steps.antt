@@ -86,9 +86,9 @@ pub record Written (t : Tree) (gates gates′ outputs outputs′ : List ℕ) : T
 
 -- and the answer is 5's
 pub record Known (text : List ℕ) (from to lines : ℕ) (rest : List ℕ) (c : Counts) (names nodes gates gates′ outputs outputs′ : List ℕ) (r : Test) : Type 0
-    where
-  pub done : (t : Tree) → Limited t text from to lines rest → TreeAt (plain t) rest c names nodes
-      → Written t gates gates′ outputs outputs′ × (r ≡ testAt (firstUndeclared t) UndeclaredName)
+  where
+    pub done : (t : Tree) → Limited t text from to lines rest → TreeAt (plain t) rest c names nodes
+        → Written t gates gates′ outputs outputs′ × (r ≡ testAt (firstUndeclared t) UndeclaredName)
 
 -- nothing is unknown, and the words of never lines, gates and outputs stand
 pub record WriteReady (text : List ℕ) (lines : ℕ) (c : Counts) (names masks gates outputs : List ℕ) : Type 0 where
