@@ -40,10 +40,10 @@ enum unloop_refusal {
 
 /* Enough room for every result: words of a block, bytes of a text, gates, words of a cover. */
 enum unloop_room {
-    UNLOOP_BLOCK_WORDS = 5243,
+    UNLOOP_BLOCK_WORDS = 5251,
     UNLOOP_TEXT_BYTES = 61440,
     UNLOOP_GATES = 1024,
-    UNLOOP_COVER_WORDS = 118098
+    UNLOOP_COVER_WORDS = 1062882
 };
 
 /* A record of a sheet; bit i is for input or output i. The caller gives the mask of fixed inputs and the mask of those fixed at 1. The call

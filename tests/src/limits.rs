@@ -3,7 +3,7 @@
 /// The longest text, in bytes.
 pub const TEXT_BYTES: usize = 61_440;
 /// The most inputs of a block.
-pub const INPUTS: usize = 10;
+pub const INPUTS: usize = 12;
 /// The most gates of a block, and the most copies of a rendering.
 pub const GATES: usize = 1_024;
 /// The most outputs of a block.
@@ -24,8 +24,13 @@ pub const OUTPUT_WORDS: usize = NAME_WORDS + 1;
 pub const HEAD_WORDS: usize = 3;
 /// The longest stored block, in words.
 pub const BLOCK_WORDS: usize = block_words(INPUTS, GATES, OUTPUTS);
-/// The longest text of Write, in bytes.
-pub const WRITTEN_BYTES: usize = 56_758;
+/// The bytes of the gates' names in a written text, `_0` to `_1023`.
+const GATE_NAMES: usize = 10 * 2 + 90 * 3 + 900 * 4 + 24 * 5;
+/// The longest text of Write, in bytes: the lines of inputs, of gates and of outputs.
+pub const WRITTEN_BYTES: usize = (6 + NAME_BYTES) * INPUTS
+    + (15 + OPERANDS * (1 + NAME_BYTES)) * GATES
+    + GATE_NAMES
+    + (8 + 2 * NAME_BYTES) * OUTPUTS;
 /// Two words for each partial assignment, enough for any cover.
 pub const COVER_WORDS: usize = 2 * 3_usize.pow(INPUTS as u32);
 

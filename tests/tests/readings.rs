@@ -106,14 +106,14 @@ fn room() {
 #[test]
 fn largest_block() {
     let words = longest_written().to_words();
-    assert_eq!((words.len(), BLOCK_WORDS), (5_243, 5_243));
+    assert_eq!((words.len(), BLOCK_WORDS), (5_251, 5_251));
     let (told, text) = write(&words, WRITTEN_BYTES);
-    assert_eq!(told, answer(0, 56_758, 0));
+    assert_eq!(told, answer(0, 56_786, 0));
     assert_eq!(
         read(&text, BLOCK_WORDS),
-        (answer(0, 5_243, 0), words.clone())
+        (answer(0, 5_251, 0), words.clone())
     );
-    assert_eq!(verdict(&words), answer(0, 1024, 1024));
+    assert_eq!(verdict(&words), answer(0, 4096, 4096));
     assert_eq!(render(&words, BLOCK_WORDS).1, words);
 }
 

@@ -12,6 +12,7 @@ use Rattle.laws.proofs.Tab.{tab-ext, map-tab, length-tab}
 use Rattle.laws.proofs.Lists.{joined-snoc}
 use Rattle.laws.proofs.Stores.{sets-append, length-joined-tab}
 use Rattle.laws.proofs.Slices.{sets-placed}
+use Rattle.netlist.specs.Limits.{maxInputs, maxGates, maxOutputs}
 use Rattle.netlist.specs.Netlist.{Operand, gate, constant, Gate, Output, Block, inputCount, gateCount, outputCount, gateOf}
 use Rattle.netlist.specs.StoredBlock.{gateSize, outputSize, gatesAt, outputsAt, nameWords, nameAt, nodeWord, gateWords, gateAt, outputWords, outputAt}
 use Rattle.netlist.specs.StoredBlock.{encode, decode, isTorn}
@@ -176,9 +177,9 @@ four-sets entry a b c d i j k ei ej ek =
 
 -- The numbers that the code computes with are small, and the slices long enough.
 pub record Sizes (ws : List ℕ) (n m k total : ℕ) (out : List ℕ) : Type 0 where
-  pub fewInputs : n ≤ 10
-  pub fewGates : m ≤ 1024
-  pub fewOutputs : k ≤ 16
+  pub fewInputs : n ≤ maxInputs
+  pub fewGates : m ≤ maxGates
+  pub fewOutputs : k ≤ maxOutputs
   pub words : length ws ≡ 3 + 4 * n + 5 * m + 5 * k
   pub room : 3 + 4 * n + 5 * total + 5 * k ≤ length out
 

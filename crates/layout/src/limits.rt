@@ -7,7 +7,7 @@ use crate::offsets::OUTPUT_SIZE;
 // The bytes of a text.
 pub const MAX_TEXT: usize = 61440;
 
-pub const MAX_INPUTS: usize = 10;
+pub const MAX_INPUTS: usize = 12;
 
 pub const MAX_GATES: usize = 1024;
 
@@ -25,7 +25,7 @@ pub const MAX_DEPTH: usize = 8;
 pub const MAX_SETTINGS: usize = 1 << MAX_INPUTS;
 
 // The partial assignments of MAX_INPUTS inputs: 3^MAX_INPUTS.
-pub const MAX_ASSIGNMENTS: usize = 59049;
+pub const MAX_ASSIGNMENTS: usize = 531441;
 
 // The words of the largest block: counts, names, gates, outputs.
 pub const BLOCK_WORDS: usize = INPUTS_AT

@@ -149,7 +149,7 @@ impl Block<'_> {
             return None;
         };
         let [n, m, k] = [n, m, k].map(|&count| usize::from(count));
-        if n > 10 || m > 1_024 || k > 16 || rest.len() != 4 * n + 5 * m + 5 * k {
+        if n > 12 || m > 1_024 || k > 16 || rest.len() != 4 * n + 5 * m + 5 * k {
             return None;
         }
         let (names, rest) = rest.split_at(4 * n);

@@ -23,7 +23,7 @@ fn words_of(text: &[u8]) -> Result<Vec<u16>, Refusal> {
     let mut parser = Parser::new(text);
     parser.lines().map_err(|place| (2, place))?;
     let netlist = parser.netlist;
-    if netlist.inputs.len() > 10 || netlist.gates.len() > 1_024 || netlist.outputs.len() > 16 {
+    if netlist.inputs.len() > 12 || netlist.gates.len() > 1_024 || netlist.outputs.len() > 16 {
         return Err((3, 0));
     }
     let nodes = netlist.declared().map_err(|place| (4, place))?;
