@@ -4,8 +4,8 @@
 --   orElse-passed, orElse-failed: a test of the first line and one of the others
 --   RepeatLeft, OutsideLeft, WordsLeft: what is still to be said, in the three loops, with their turns
 --   words-placed: the words stand in the beginning of the slice
-use Prim.Native.Nat.{ℕ, zero, suc, _+_, _-_, _*_, _≤_, _<_}
-use mathlib.Core.Path.{_≡_, refl, sym, ap, _∙_}
+use Prim.Native.Nat.{ℕ, suc, _+_, _-_, _*_, _≤_, _<_}
+use mathlib.Core.Path.{_≡_, refl, sym, _∙_}
 use mathlib.Core.Bool.{Bool, true, false, cond}
 use mathlib.Core.List.{List, [], _∷_, _++_, map}
 use mathlib.Core.Option.{Option, none, some}
@@ -13,7 +13,7 @@ use native.Mathlib.Omega.{arith}
 use types.Run.{miss}
 use lib.ListN.{length, set, drop}
 use lib.Seq.{drop-at, drop-drop, sets, sets-eq}
-use Rattle.laws.specs.Lists.{all, memberList, joined, placed}
+use Rattle.laws.specs.Lists.{all, memberList, placed}
 use Rattle.laws.proofs.Tests.{and-left, and-right}
 use Rattle.netlist.specs.declared.Refusal.{Refusal}
 use Rattle.netlist.specs.declared.Refusal.the-variants.{DuplicateDeclaration, UndeclaredName}

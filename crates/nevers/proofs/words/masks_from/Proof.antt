@@ -1,5 +1,4 @@
 -- `nevers::words::masks_from` meets its contract: two words a line, for the lines that are left. Assumes nothing.
-use borrow.Author.Needs.{needs}
 use mathlib.Core.Path.{_≡_, refl, _∙_}
 use mathlib.Core.List.{List}
 use Prim.Native.Nat.{_+_, _-_, _*_, _<_, _≤_}
