@@ -81,7 +81,7 @@ module _ (t : Tree) (legal : isLegalTree t ≡ true) (names : List ℕ) (is : ta
   number : Mention → ℕ
   number d = packed (d .name)
 
-  first-numbers : take (length (t .inputs)) names ≡ map packed (t .inputs)
+  pub first-numbers : take (length (t .inputs)) names ≡ map packed (t .inputs)
   unfolding declared packedNames declaredNodes number
   first-numbers =
       let n = length (t .inputs) in
@@ -145,7 +145,7 @@ module _ {text : List ℕ} {lines : ℕ} {c : Counts} {names masks gates outputs
 
   input-names : tab (nameOf names) n ≡ map nameWords (t .inputs)
   unfolding plain
-  input-names = input-words (plain t) (plain-legal t (w .whole .legal)) names (w .numbersAre)
+  input-names = input-words (plain t) (plain-legal t (w .is .legal)) names (w .numbersAre)
 
   -- the words are the block's
   pub words-are : blockWords c lines names masks gates outputs ≡ encode (blockOf t)

@@ -27,6 +27,10 @@ use Rattle.reading.specs.Places.{Near}
 abbrev IsPassed : Test → Type 0
 IsPassed t = OneOf (0 ∷ []) (tagOf the-type t)
 
+-- a place, if there is one, is at most this
+abbrev pub Inside : ℕ → Option ℕ → Type 0
+Inside bound p = (q : ℕ) → p ≡ some q → q ≤ bound
+
 module _ (why : ℕ → Refusal) (tells : (q : ℕ) → refusalDetail (why q) ≡ q) where
   none-told : (p : Option ℕ) {t : Test} → t ≡ testAt p why → IsPassed t → p ≡ none
   unfolding testAt
@@ -78,10 +82,7 @@ module _ (why : ℕ → Refusal) (tells : (q : ℕ) → refusalDetail (why q) �
       other-first l p q e f =
           rw (some-told p e first, some-told q f second, ← x, ← y, lt-leb a b l) (ap Failed (why-told q f second) ∙ rw y)
 
--- ---- near
-
-  abbrev pub Inside : ℕ → Option ℕ → Type 0
-  Inside bound p = (q : ℕ) → p ≡ some q → q ≤ bound
+  -- ---- near
 
   pub near : (p : Option ℕ) {t : Test} → t ≡ testAt p why → Inside maxText p → Near t
   near p e h = record { place = λ r f. h (refusalDetail r) (some-told p e f) }
