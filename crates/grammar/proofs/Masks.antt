@@ -1,5 +1,7 @@
 -- Masks by their bits. Cited for the never lines of a written block. Assumes nothing.
 --   mask-of-bits: a number below 2^n is the mask of its n bits
+--   mask-bit: bit i of a mask says whether value i passes the test
+--   mask-some: a mask is not 0 where some value passes
 --   bit-below: a bit is 0 or 1
 use Prim.Native.Nat.{ℕ, zero, suc, _+_, _*_, _/_, _%_, _^_, _<_}
 use mathlib.Core.Path.{_≡_, refl, ap, _∙_}
@@ -38,3 +40,23 @@ mask-of-bits test (v ∷ vs) m l h =
     low zero k e t = let f : test v ≡ false = t ∙ ap (λ x. eqb x 1) e in rw f (omega arith)
     low (suc zero) k e t = let f : test v ≡ true = t ∙ ap (λ x. eqb x 1) e in rw f (omega arith)
     low (suc (suc r)) k e t = absurd (omega arith)
+
+pub mask-bit : (test : Value → Bool) (vs : List Value) (i : ℕ) → i < length vs → bit (maskOf test vs) i ≡ cond (test (getD vs i undefined)) 1 0
+unfolding maskOf
+mask-bit test [] i l = absurd (omega arith)
+mask-bit test (v ∷ vs) zero l = bit-first _ ∙ low (test v)
+  where
+    low : (t : Bool) → (cond t 1 0 + 2 * maskOf test vs) % 2 ≡ cond t 1 0
+    low true = omega arith
+    low false = omega arith
+mask-bit test (v ∷ vs) (suc i) l = bit-rest _ i ∙ ap (λ m. bit m i) (high (test v)) ∙ mask-bit test vs i (omega arith)
+  where
+    high : (t : Bool) → (cond t 1 0 + 2 * maskOf test vs) / 2 ≡ maskOf test vs
+    high true = omega arith
+    high false = omega arith
+
+pub mask-some : (test : Value → Bool) (vs : List Value) (i : ℕ) → i < length vs → test (getD vs i undefined) ≡ true → 0 < maskOf test vs
+unfolding maskOf
+mask-some test [] i l e = absurd (omega arith)
+mask-some test (v ∷ vs) zero l e = rw e (omega arith)
+mask-some test (v ∷ vs) (suc i) l e = omega (arith, mask-some test vs i (omega arith) e)

@@ -149,7 +149,7 @@ gate-line g h =
 
 -- ---- the whole text
 
-printed-lines : {A : Type 0} (line : A → List ℕ → List ℕ) → ((x : A) (rest : List ℕ) → line x rest ≡ line x [] ++ rest) → (xs : List A) (rest : List ℕ)
+pub printed-lines : {A : Type 0} (line : A → List ℕ → List ℕ) → ((x : A) (rest : List ℕ) → line x rest ≡ line x [] ++ rest) → (xs : List A) (rest : List ℕ)
     → printLines line xs rest ≡ joined (map (λ x. line x []) xs) ++ rest
 unfolding printLines
 printed-lines line h [] rest = refl
@@ -166,7 +166,7 @@ print-lines t bare =
     (joined-append (map inputText (t .inputs)) (map gateText (t .gates) ++ map outputText (t .outputs))
     ∙ ap (λ r. joined (map inputText (t .inputs)) ++ r) (joined-append (map gateText (t .gates)) (map outputText (t .outputs))))))
 
-all-lines : {A : Type 0} (legal : A → Bool) (line : A → List ℕ) → ((x : A) → legal x ≡ true → isLine (line x) ≡ true) → (xs : List A) → all legal xs ≡ true
+pub all-lines : {A : Type 0} (legal : A → Bool) (line : A → List ℕ) → ((x : A) → legal x ≡ true → isLine (line x) ≡ true) → (xs : List A) → all legal xs ≡ true
     → all isLine (map line xs) ≡ true
 all-lines legal line f [] h = refl
 all-lines legal line f (x ∷ xs) h =

@@ -189,7 +189,8 @@ blank m n most k l = getD-replicate n k 0 0 (omega arith)
 
 -- arrays of that many elements have room for a whole block's gates
 pub whole-room : (ws : List ℕ) {n m gates : ℕ} {flags stack order : List ℕ} → isTorn ws ≡ false → n ≡ getD ws 0 0 → m ≡ getD ws 1 0
-    → gates ≡ gatesAt (getD ws 0 0) (getD ws 3 0) → maxGates ≤ length flags → maxGates ≤ length stack → getD ws 1 0 ≤ length order → Room n m gates flags stack order
+    → gates ≡ gatesAt (getD ws 0 0) (getD ws 3 0) → maxGates ≤ length flags → maxGates ≤ length stack → getD ws 1 0 ≤ length order
+    → Room n m gates flags stack order
 unfolding gatesAt neversAt
 whole-room ws whole inputs gates first f s o =
     let parts = whole-parts ws whole in

@@ -67,11 +67,13 @@ fit-requires-3 c κs =
 
 returns-4 : tie.Need-returns-4
 returns-4 c =
+    let gates = c .before .before .before in
+    let front = gates .before .before .before in
     rw (
-      sym (c .before .before .before .before .before .before .before .front-fits .ensures) ∙ not-false _ (c .before .before .before .before .before .before .if1 .left),
-      ← c .before .before .before .before .before .gates-behind .ensures,
-      sym (c .before .before .before .before .fit .ensures) ∙ not-false _ (c .before .before .before .if2 .left),
-      ← c .before .before .before .before .before .before .before .before .outputs-behind .ensures,
+      sym (front .before .front-fits .ensures) ∙ not-false _ (front .if1 .left),
+      ← gates .before .before .gates-behind .ensures,
+      sym (gates .before .fit .ensures) ∙ not-false _ (gates .if2 .left),
+      ← front .before .before .outputs-behind .ensures,
       sym (c .before .before .fit2 .ensures) ∙ not-false _ (c .before .if3 .left),
     )
     (c .fit3 .ensures)

@@ -46,7 +46,8 @@ returns-2 c =
     let a = tested .before .before .before .args in
     settling .settle-masks .ensures
     ∙ record-settled (now (a .words)) (a .fixed) (a .ones)
-    (bad-as (now (a .words)) (a .fixed) (a .ones) (tested .before .inputs-of .ensures) (tested .are-masks .ensures) (settling .before .before .before .if1 .left))
+    (bad-as (now (a .words)) (a .fixed) (a .ones) (tested .before .inputs-of .ensures) (tested .are-masks .ensures)
+    (settling .before .before .before .if1 .left))
 
 pub answer-masks-spec : {M : Type 1} → statement M
 answer-masks-spec =
