@@ -1,8 +1,8 @@
 -- The places of 4 and 5 of a tree without never lines are inside its text.
 --   duplicate-inside, undeclared-inside: of the first repeated and the first undeclared name
 -- Assumes nothing.
-use Prim.Native.Nat.{ℕ, _≤_}
-use mathlib.Core.Path.{_≡_, refl}
+use Prim.Native.Nat.{ℕ}
+use mathlib.Core.Path.{_≡_}
 use mathlib.Core.Bool.{Bool, true, false, cond}
 use mathlib.Core.List.{List, [], _∷_, map}
 use mathlib.Core.Option.{Option, none, some}

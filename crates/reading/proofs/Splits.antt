@@ -5,8 +5,7 @@
 --   too-many, few-enough: 3 from the number of never lines and from the text without them
 -- Assumes nothing.
 use Prim.Native.Nat.{ℕ, _+_, _-_, _≤_}
-use mathlib.Core.Path.{_≡_, refl, sym, ap, _∙_}
-use mathlib.Core.Bool.{true, false}
+use mathlib.Core.Path.{_≡_, sym, ap, _∙_}
 use mathlib.Core.List.{List, _++_}
 use native.Mathlib.Omega.{arith}
 use lib.ListN.{length, take, drop, length-append, length-drop, take-append-drop}
@@ -80,9 +79,8 @@ module _ {text : List ℕ} (a : TreeText text) (lines : NeverLines) (stand : (t 
         split = record { is = a .is; short = a .short; stand = stand (a .tree) (a .is); without = rw e (sym (take-append-drop (lines .end) text)) };
       }
 
-  pub copy-ready : (room : List ℕ) → length room ≡ maxText → (lines .at ≤ lines .end) × (lines .end ≤ length text) × (length text ≤ length room)
-  copy-ready room r =
-      (ordered (a .is) (stand (a .tree) (a .is)), end-inside (a .is) (stand (a .tree) (a .is)), omega (arith, a .short))
+  pub copy-ready : (lines .at ≤ lines .end) × (lines .end ≤ length text) × (length text ≤ maxText)
+  copy-ready = (ordered (a .is) (stand (a .tree) (a .is)), end-inside (a .is) (stand (a .tree) (a .is)), a .short)
 
   pub split-copied : (rest : List ℕ) → rest ≡ take (lines .at) text ++ drop (lines .end) text → SplitText text lines rest
   split-copied rest e =

@@ -18,14 +18,14 @@ use Rattle.netlist.specs.declared.Answer.{Answer}
 use Rattle.netlist.specs.declared.Answer.the-variants.{Done}
 use Rattle.netlist.specs.declared.Refusal.the-variants.{DuplicateDeclaration, UndeclaredName, NoRoom}
 use Rattle.netlist.specs.declared.Test.{Test}
-use Rattle.netlist.specs.declared.Test.the-variants.{Passed, Failed}
+use Rattle.netlist.specs.declared.Test.the-variants.{Passed}
 use Rattle.netlist.specs.Limits.{maxText, maxInputs, maxNevers, maxGates, maxOutputs}
 use Rattle.netlist.specs.Netlist.{Name}
 use Rattle.netlist.specs.StoredBlock.{isNameByte, isPlainName, neverWords, gateWords, outputWords, encode}
 use Rattle.netlist.specs.Syntax.{Tree, isLegalTree}
-use Rattle.netlist.specs.Reading.{neverLinesAt, gateLinesAt, lesser, orElse, firstRepeatIn, excludedNames, firstOutside, declaredNodes, declaredPorts, bindings}
+use Rattle.netlist.specs.Reading.{neverLinesAt, lesser, orElse, firstRepeatIn, excludedNames, firstOutside, declaredNodes, declaredPorts, bindings}
 use Rattle.netlist.specs.Reading.{isOverLimit, firstDuplicate, firstUndeclared, blockOf}
-use Rattle.netlist.specs.Answers.{refusalDetail, testOf, testAt, refusalOf, done, refuseIf, inRoom, Promise}
+use Rattle.netlist.specs.Answers.{testOf, testAt, refusalOf, done, refuseIf, inRoom, Promise}
 use Rattle.netlist.specs.Operations.{read}
 use Rattle.names.specs.declared.Counts.{Counts}
 use Rattle.names.specs.Plain.{plain, moved}
@@ -43,20 +43,12 @@ use Rattle.terms.specs.Resolution.{TreeAt, ResolveReady, Resolved}
 use Rattle.refusals.proofs.Promised.{IsFailed, passed-none, passed-false, failed, failed-at, passed, keeps-room, bare, keeps-bare, finished}
 use Rattle.reading.specs.Places.{Near}
 use Rattle.reading.specs.Words.{blockWords, wordCount, PutReady}
-use Rattle.reading.specs.Steps.{Split, Limited, ReadReady, TablesReady, Tabled, Resolving, TermsReady, Written, Known, WriteReady}
-use Rattle.reading.proofs.TestPlaces.{near}
+use Rattle.reading.specs.Steps.{Split, Limited, ReadReady, TablesReady, Tabled, Resolving, TermsReady, Known, WriteReady}
+use Rattle.reading.proofs.TestPlaces.{repeat-tells, unknown-tells, near}
 use Rattle.reading.proofs.PlacesInside.{duplicate-inside, undeclared-inside}
 use Rattle.reading.proofs.Splits.{at-is, end-is, count-is, ordered, end-inside, rest-prints, rest-short}
 use Rattle.reading.proofs.Outcomes.{read-within, read-single, read-known}
 use Rattle.reading.proofs.BlockWords.{first-numbers, block-length, masks-length, gates-length, outputs-length, words-are}
-
-repeat-tells : (q : ℕ) → refusalDetail (DuplicateDeclaration q) ≡ q
-unfolding refusalDetail
-repeat-tells q = refl
-
-unknown-tells : (q : ℕ) → refusalDetail (UndeclaredName q) ≡ q
-unfolding refusalDetail
-unknown-tells q = refl
 
 -- without never lines a tree is within the limits where the whole is
 plain-within : (t : Tree) → isOverLimit t ≡ false → isOverLimit (plain t) ≡ false
@@ -93,7 +85,8 @@ pub room-for : {text : List ℕ} {lines : NeverLines} {rest : List ℕ} {c : Cou
     → TablesReady text lines rest c names places nodes → TableRoom c rest names places nodes
 room-for {text} {lines} {rest} {c} {names} {places} {nodes} a =
     let s = a .limited .split in
-    table-room (rest-prints s) (plain-within (a .tree) (a .limited .within)) c (a .counted) names places nodes (rest-short s) (a .nameRoom) (a .placeRoom) (a .nodeRoom)
+    table-room (rest-prints s) (plain-within (a .tree) (a .limited .within)) c (a .counted) names places nodes (rest-short s)
+    (a .nameRoom) (a .placeRoom) (a .nodeRoom)
 
 module _ (text : List ℕ) (lines : NeverLines) (rest : List ℕ) (c : Counts) (names places nodes : List ℕ) (r : Test)
     (d : (t : Tree) → Prints t rest → c ≡ treeCounts t → Declared t names places nodes)
@@ -143,7 +136,8 @@ module _ {text : List ℕ} {lines : NeverLines} {rest names places nodes masks g
     twice entry k e =
         let s = a .limited .split in
         let d = h .done (a .tree) (a .limited) counted .1 in
-        failed-at (inRoom _) (keeps-room _) _ _ DuplicateDeclaration (read-within (a .tree) text (length entry) (s .is) (s .short) (a .limited .within)) d entry k e
+        failed-at (inRoom _) (keeps-room _) _ _ DuplicateDeclaration
+        (read-within (a .tree) text (length entry) (s .is) (s .short) (a .limited .within)) d entry k e
 
     pub terms-ready : r ≡ Passed → TermsReady text lines rest c names′ nodes′ masks gates outputs
     terms-ready e =

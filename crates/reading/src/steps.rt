@@ -86,7 +86,11 @@ fn undeclared(
     let Test::Passed = tested else {
         return tested;
     };
-    moved_unknown(resolve(rest, c, names, nodes, gates, outputs), lines.at, lines.end)
+    moved_unknown(
+        resolve(rest, c, names, nodes, gates, outputs),
+        lines.at,
+        lines.end,
+    )
 }
 
 // 11, and the block's words.
@@ -157,5 +161,16 @@ pub fn read_with(
     let Test::Passed = tested else {
         return refusal(tested);
     };
-    read_terms(text, lines, rest, c, names, nodes, masks, gates, outputs, block)
+    read_terms(
+        text,
+        lines,
+        rest,
+        c,
+        names,
+        nodes,
+        masks,
+        gates,
+        outputs,
+        block,
+    )
 }

@@ -84,5 +84,10 @@ pub fn put_block(
     put_names(names, n, block);
     put_words(masks, NEVER_SIZE * lines, block, nevers_at(n));
     put_words(gates, GATE_SIZE * m, block, gates_behind(n, lines));
-    put_words(outputs, OUTPUT_SIZE * c.outputs, block, outputs_behind(n, lines, m));
+    put_words(
+        outputs,
+        OUTPUT_SIZE * c.outputs,
+        block,
+        outputs_behind(n, lines, m),
+    );
 }

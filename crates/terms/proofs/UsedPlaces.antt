@@ -13,7 +13,8 @@ use Rattle.laws.proofs.Tests.{and-left, and-right, and-intro}
 use Rattle.laws.proofs.Quantifiers.{all-append}
 use Rattle.netlist.specs.Kinds.{keyword}
 use Rattle.netlist.specs.Netlist.{Name}
-use Rattle.netlist.specs.Syntax.{Term, Terms, name, literal, apply, nil, cons, GateLine, OutputLine, Tree, printTerm, printTerms, printInput, printGate, printOutput, print}
+use Rattle.netlist.specs.Syntax.{Term, Terms, name, literal, apply, nil, cons, GateLine, OutputLine, Tree, printTerm, printTerms, printInput, printGate}
+use Rattle.netlist.specs.Syntax.{printOutput, print}
 use Rattle.netlist.specs.Reading.{Mention, mentions, linesLength, gateLinesAt, outputLinesAt, termMentions, termsMentions, operandMentions, shownMention}
 use Rattle.netlist.specs.Reading.{neverLinesAt, inputMention, gateMention, portMention, declaredNodes, declaredPorts, usedNames, firstOutside}
 use Rattle.grammar.proofs.Shorter.{printTerms-append}

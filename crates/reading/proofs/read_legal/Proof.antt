@@ -1,53 +1,53 @@
+-- `reading::read_legal` meets its contract: the text itself where it has no never lines, and else its copy without them. Assumes nothing.
+use mathlib.Core.Path.{sym}
+use native.Mathlib.Omega.{arith}
+use lib.Seq.{length-take-le}
+use Rattle.reading.proofs.Splits.{split-same, copy-ready, split-copied}
 use borrow.Author.Needs.{needs}
 use Rattle.reading.proofs.read_legal.Statement.{statement}
 use Rattle.reading.proofs.read_legal.Tie as tie
-use Rattle.reading.proofs.read_legal.Reads as reads
-use Rattle.reading.proofs.read_legal.Lts as lts
-use Rattle.reading.proofs.plain.copy_plain.Reads as copy-plain-reads
-use Rattle.reading.proofs.read_split.Reads as read-split-reads
-use Rattle.reading.proofs.stub.never_lines.Reads as never-lines-reads
 
--- src/lib.rt:71:9
+abbrev entry : tie.After-never-lines → tie.Start
+entry c = c .before .before .before
+
 never-lines-requires : tie.Need-never-lines-requires
 never-lines-requires c κs = search needs
 
--- src/lib.rt:73:9
 read-split-requires : tie.Need-read-split-requires
-read-split-requires c κs = ?
+read-split-requires c κs =
+    let found = c .before .before .before in
+    split-same (entry found .pre) _ (found .never-lines .ensures) (c .before .if1 .taken)
 
--- src/lib.rt:73:9
 same-length : tie.Need-same-length
 same-length c = search needs
 
--- src/lib.rt:73:9
 returns : tie.Need-returns
 returns c = search needs
 
--- src/lib.rt:76:56
 slice-aggregate-copy-plain : tie.Need-slice-aggregate-copy-plain
 slice-aggregate-copy-plain c = search needs
 
--- src/lib.rt:76:9
 copy-plain-requires : tie.Need-copy-plain-requires
-copy-plain-requires c κs = ?
+copy-plain-requires c κs =
+    let found = c .before .before .before in
+    let r = copy-ready (entry found .pre) _ (found .never-lines .ensures) in (r .0, r .1, omega (arith, r .2))
 
--- src/lib.rt:77:29
 array-share-prefix-copy : tie.Need-array-share-prefix-copy
 array-share-prefix-copy c = search needs
 
--- src/lib.rt:77:29
 slice-aggregate-read-split : tie.Need-slice-aggregate-read-split
-slice-aggregate-read-split c = ?
+slice-aggregate-read-split c =
+    let copied = c .before .before in sym (length-take-le (copied .copy-plain .result) _ (copied .copy-plain .ensures .0))
 
--- src/lib.rt:77:5
 read-split-requires-2 : tie.Need-read-split-requires-2
-read-split-requires-2 c κs = ?
+read-split-requires-2 c κs =
+    let copied = c .before .before .before in
+    let found = copied .before .before .before .before in
+    split-copied (entry found .pre) _ (found .never-lines .ensures) _ (copied .copy-plain .ensures .1)
 
--- src/lib.rt:67:1
 same-length-2 : tie.Need-same-length-2
 same-length-2 c = search needs
 
--- src/lib.rt:67:1
 returns-2 : tie.Need-returns-2
 returns-2 c = search needs
 

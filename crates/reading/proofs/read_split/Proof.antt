@@ -1,64 +1,82 @@
+-- `reading::read_split` meets its contract: 3, and then the steps with room for every table. Assumes nothing.
+use native.Mathlib.Omega.{arith}
+use lib.ListN.{length}
+use Rattle.netlist.specs.declared.Refusal.the-variants.{OverLimit}
+use Rattle.netlist.specs.Answers.{inRoom}
+use Rattle.refusals.proofs.Promised.{passed-false, failed, keeps-room}
+use Rattle.reading.proofs.Splits.{count-is, rest-prints, rest-short}
+use Rattle.reading.proofs.Outcomes.{read-tree}
 use borrow.Author.Needs.{needs}
 use Rattle.reading.proofs.read_split.Statement.{statement}
 use Rattle.reading.proofs.read_split.Tie as tie
-use Rattle.reading.proofs.read_split.Reads as reads
-use Rattle.reading.proofs.read_split.Lts as lts
-use Rattle.reading.proofs.steps.read_with.Reads as read-with-reads
-use Rattle.reading.proofs.steps.test_limits.Reads as test-limits-reads
-use Rattle.refusals.proofs.refusal.Reads as refusal-reads
 
--- src/lib.rt:42:9
+abbrev entry : tie.After-test-limits → tie.Start
+entry c = c .before .before .before .before
+
 test-limits-requires : tie.Need-test-limits-requires
-test-limits-requires c κs = ?
+test-limits-requires c κs = rest-short (c .before .before .before .pre .split)
 
 enum-told : tie.Need-enum-told
 enum-told c = search needs
 
--- src/lib.rt:44:9
 enum-told-2 : tie.Need-enum-told-2
 enum-told-2 c = search needs
 
--- src/lib.rt:44:9
 refusal-requires : tie.Need-refusal-requires
 refusal-requires c κs = search needs
 
--- src/lib.rt:44:9
 returns : tie.Need-returns
-returns c = ?
+returns c =
+    let t = c .before .before .before in
+    let a = entry t .args in
+    let p = entry t .pre in
+    let s = p .split in
+    failed (inRoom _) (keeps-room _) _ _ OverLimit (read-tree (p .tree) (a .text .now) (length (a .block .now)) (s .is) (s .short))
+    (t .test-limits .ensures (p .tree) (rest-prints s) (count-is (s .is) (s .stand))) (a .block .now) (c .before .before .match .keys2) (c .refusal .ensures)
 
--- src/lib.rt:56:9
 slice-aggregate-read-with : tie.Need-slice-aggregate-read-with
 slice-aggregate-read-with c = search needs
 
--- src/lib.rt:57:9
 slice-aggregate-read-with-2 : tie.Need-slice-aggregate-read-with-2
 slice-aggregate-read-with-2 c = search needs
 
--- src/lib.rt:58:9
 slice-aggregate-read-with-3 : tie.Need-slice-aggregate-read-with-3
 slice-aggregate-read-with-3 c = search needs
 
--- src/lib.rt:59:9
 slice-aggregate-read-with-4 : tie.Need-slice-aggregate-read-with-4
 slice-aggregate-read-with-4 c = search needs
 
--- src/lib.rt:60:9
 slice-aggregate-read-with-5 : tie.Need-slice-aggregate-read-with-5
 slice-aggregate-read-with-5 c = search needs
 
--- src/lib.rt:61:9
 slice-aggregate-read-with-6 : tie.Need-slice-aggregate-read-with-6
 slice-aggregate-read-with-6 c = search needs
 
--- src/lib.rt:52:5
 read-with-requires : tie.Need-read-with-requires
-read-with-requires c κs = ?
+read-with-requires c κs =
+    let e = c .before .before .before .before .before .before .before in
+    let t = e .before .before in
+    let p = entry t .pre in
+    let s = p .split in
+    record {
+      tree = p .tree;
+      limited =
+          record {
+            split = s;
+            within =
+                passed-false _ OverLimit (t .test-limits .ensures (p .tree) (rest-prints s) (count-is (s .is) (s .stand))) (e .enum-told .given .1);
+          };
+      nameRoom = omega arith;
+      placeRoom = omega arith;
+      nodeRoom = omega arith;
+      maskRoom = omega arith;
+      gateRoom = omega arith;
+      outputRoom = omega arith;
+    }
 
--- src/lib.rt:38:1
 same-length : tie.Need-same-length
 same-length c = search needs
 
--- src/lib.rt:38:1
 returns-2 : tie.Need-returns-2
 returns-2 c = search needs
 

@@ -1,55 +1,67 @@
+-- `reading::steps::finish` meets its contract: 11, and then all words. Assumes nothing.
+use native.Mathlib.Omega.{arith}
+use Rattle.netlist.specs.StoredBlock.{neversAt, gatesAt, outputsAt}
+use Rattle.reading.specs.Words.{wordCount}
+use Rattle.reading.proofs.Stages.{few, put-ready, no-room, fits, all-written}
 use borrow.Author.Needs.{needs}
 use Rattle.reading.proofs.steps.finish.Statement.{statement}
 use Rattle.reading.proofs.steps.finish.Tie as tie
-use Rattle.reading.proofs.steps.finish.Reads as reads
-use Rattle.reading.proofs.steps.finish.Lts as lts
-use Rattle.layout.proofs.offsets.outputs_behind.Reads as outputs-behind-reads
-use Rattle.reading.proofs.words.put_block.Reads as put-block-reads
-use Rattle.refusals.proofs.refusal.Reads as refusal-reads
-use Rattle.refusals.proofs.test_room.Reads as test-room-reads
 
--- src/steps.rt:106:17
+abbrev entry : tie.After-struct-known → tie.Start
+entry c = c .before .before .before .before .before .before .before .before
+
 outputs-behind-requires : tie.Need-outputs-behind-requires
-outputs-behind-requires c κs = ?
+outputs-behind-requires c κs =
+    let f = few (c .before .before .before .before .before .before .pre) in
+    (omega (arith, f .inputs), (omega (arith, f .nevers), omega (arith, f .gates)))
 
--- src/steps.rt:106:60
 mul-count : tie.Need-mul-count
-mul-count c = ?
+mul-count c = omega (arith, few (entry c .pre))
 
--- src/steps.rt:106:17
 add-count : tie.Need-add-count
-add-count c = ?
+unfolding outputsAt gatesAt neversAt
+add-count c = omega (arith, few (entry c .pre), c .before .outputs-behind .ensures)
 
--- src/steps.rt:107:9
 test-room-requires : tie.Need-test-room-requires
 test-room-requires c κs = search needs
 
 enum-told : tie.Need-enum-told
 enum-told c = search needs
 
--- src/steps.rt:109:9
 enum-told-2 : tie.Need-enum-told-2
 enum-told-2 c = search needs
 
--- src/steps.rt:109:9
 refusal-requires : tie.Need-refusal-requires
 refusal-requires c κs = search needs
 
--- src/steps.rt:109:9
 returns : tie.Need-returns
-returns c = ?
+unfolding wordCount
+returns c =
+    let t = c .before .before .before in
+    let s = entry (t .before) in
+    no-room (s .pre) (s .args .block .now) (rw (t .before .before .outputs-behind .ensures) at (t .test-room .ensures)) (c .before .before .match .keys2)
+    (c .refusal .ensures)
 
--- src/steps.rt:111:5
 put-block-requires : tie.Need-put-block-requires
-put-block-requires c κs = ?
+unfolding wordCount
+put-block-requires c κs =
+    let t = c .before .before .before in
+    let s = entry (t .before) in
+    put-ready (s .pre) (s .args .block .now)
+    (fits (s .pre) (s .args .block .now) (rw (t .before .before .outputs-behind .ensures) at (t .test-room .ensures)) (c .before .enum-told .given .1))
 
--- src/steps.rt:93:1
 same-length : tie.Need-same-length
 same-length c = search needs
 
--- src/steps.rt:93:1
 returns-2 : tie.Need-returns-2
-returns-2 c = ?
+unfolding wordCount
+returns-2 c =
+    let e = c .before .before .before .before in
+    let t = e .before .before in
+    let s = entry (t .before) in
+    let behind = t .before .before .outputs-behind .ensures in
+    rw behind
+    (all-written (s .pre) (s .args .block .now) (rw behind at (t .test-room .ensures)) (e .enum-told .given .1) _ (c .before .before .put-block .ensures))
 
 pub finish-spec : {M : Type 1} → statement M
 finish-spec =

@@ -1,46 +1,51 @@
+-- `reading::steps::undeclared` meets its contract: 5 in never lines, and then elsewhere. Assumes nothing.
+use Rattle.names.specs.Plain.{plain}
+use Rattle.reading.proofs.Splits.{nevers-form}
+use Rattle.reading.proofs.Stages.{inputs-ready, unknown-inside, unknown-near, part-near, unknown-outside}
 use borrow.Author.Needs.{needs}
 use Rattle.reading.proofs.steps.undeclared.Statement.{statement}
 use Rattle.reading.proofs.steps.undeclared.Tie as tie
-use Rattle.reading.proofs.steps.undeclared.Reads as reads
-use Rattle.reading.proofs.steps.undeclared.Lts as lts
-use Rattle.reading.proofs.plain.moved_unknown.Reads as moved-unknown-reads
-use Rattle.reading.proofs.stub.test_outsiders.Reads as test-outsiders-reads
-use Rattle.terms.proofs.resolve.Reads as resolve-reads
 
--- src/steps.rt:85:9
 test-outsiders-requires : tie.Need-test-outsiders-requires
-test-outsiders-requires c κs = ?
+test-outsiders-requires c κs =
+    let start = c .before .before .before .before .before .before in
+    (nevers-form (start .pre .limited .split), inputs-ready (start .pre))
 
 enum-told : tie.Need-enum-told
 enum-told c = search needs
 
--- src/steps.rt:87:9
 enum-told-2 : tie.Need-enum-told-2
 enum-told-2 c = search needs
 
--- src/steps.rt:87:9
 returns : tie.Need-returns
-returns c = ?
+returns c =
+    let tested = c .before .before in
+    λ t l h. unknown-inside _ (tested .test-outsiders .ensures) t l h (c .before .match .keys2) _ _
 
--- src/steps.rt:89:19
 resolve-requires : tie.Need-resolve-requires
 resolve-requires c κs = search needs
 
--- src/steps.rt:89:5
 moved-unknown-requires : tie.Need-moved-unknown-requires
-moved-unknown-requires c κs = ?
+moved-unknown-requires c κs =
+    let resolved = c .before .before .before .before in
+    let start = resolved .before .before .before .before .before .before .before .before .before .before .before .before in
+    let s = start .pre .limited .split in
+    let answer = resolved .resolve .ensures .done (plain (start .pre .tree)) (start .pre .here) .answer in
+    (unknown-near s answer, part-near s .0, part-near s .1)
 
--- src/steps.rt:72:1
 same-length : tie.Need-same-length
 same-length c = search needs
 
--- src/steps.rt:72:1
 same-length-2 : tie.Need-same-length-2
 same-length-2 c = search needs
 
--- src/steps.rt:72:1
 returns-2 : tie.Need-returns-2
-returns-2 c = ?
+returns-2 c =
+    let resolved = c .before .before .before .before .before in
+    let passed = resolved .before .before .before in
+    let tested = passed .before .before in
+    λ t l h.
+    unknown-outside _ (tested .test-outsiders .ensures) t l h (passed .enum-told .given .1) _ _ _ _ _ _ (resolved .resolve .ensures) (c .moved-unknown .ensures)
 
 pub undeclared-spec : {M : Type 1} → statement M
 undeclared-spec =
