@@ -12,7 +12,7 @@ use Rattle.encoding.proofs.ListFacts.{length-trimmed}
 use Rattle.encoding.proofs.Decoded.{decode-gateCount}
 use Rattle.encoding.proofs.Readers.{whole-parts}
 use Rattle.netlist.specs.Values.{Value, undefined, val, code, valueOf}
-use Rattle.netlist.specs.StoredBlock.{nameSize, outputSize, outputsAt, bytesAt, nameAt, outputAt, decode, isTorn}
+use Rattle.netlist.specs.StoredBlock.{nameSize, outputSize, neversAt, gatesAt, outputsAt, bytesAt, nameAt, outputAt, decode, isTorn}
 use Rattle.netlist.specs.Rounds.{settled, outputValue}
 use Rattle.netlist.specs.Syntax.{valueText, pairText}
 use Rattle.netlist.specs.Bench.{portText, showLine}
@@ -85,10 +85,18 @@ show-short ws setting gates whole =
     record { small = omega arith }
 
 -- the line from the header's words
-pub show-of : (ws setting gates : List ℕ) {n m k from : ℕ} → n ≡ getD ws 0 0 → m ≡ getD ws 1 0 → k ≡ getD ws 2 0 → from ≡ outputsAt n m
+pub show-of : (ws setting gates : List ℕ) {k from : ℕ} → k ≡ getD ws 2 0 → from ≡ outputsAt (getD ws 0 0) (getD ws 3 0) (getD ws 1 0)
     → showText ws setting gates ≡ ascii "(show" ++ (pieces (portPiece ws from setting gates) k ++ ascii ")\n")
 unfolding showText
-show-of ws setting gates en em ek ef = rw (ef, en, em, ek) refl
+show-of ws setting gates ek ef = rw (ef, ek) refl
+
+-- where the outputs' words stand
+pub ports-near : (ws : List ℕ) → isTorn ws ≡ false → {k from : ℕ} → from ≡ outputsAt (getD ws 0 0) (getD ws 3 0) (getD ws 1 0) → k ≡ getD ws 2 0
+    → (from ≤ 600000) × (k ≤ 65535)
+unfolding neversAt gatesAt outputsAt
+ports-near ws whole e f =
+    let w = whole-parts ws whole in
+    (omega (arith, w .fewInputs, w .fewNevers, w .fewGates), omega (arith, w .fewOutputs))
 
 pub gates-few : (ws : List ℕ) → isTorn ws ≡ false → getD ws 1 0 ≤ 1024
 gates-few ws whole = whole-parts ws whole .fewGates

@@ -89,7 +89,7 @@ fn put_ports(
 
 // `(show`, the ports and LF.
 fn put_show(text: &mut [u8], words: &[u16], setting: &[u8], gates: &[u8]) -> usize
-    requires { ⌜ Short (showText (now words) (now setting) (now gates)) 0 ⌝ }
+    requires { ⌜ isTorn (now words) ≡ false ⌝ }
     ensures { λ r. ⌜ Appended (showText (now (words .entry)) (now (setting .entry)) (now (gates .entry))) (now (text .entry)) 0 (now (text .exit)) r ⌝ }
 {
     let from = outputs_at(words);
