@@ -1,12 +1,13 @@
 -- Whatever Render makes of a block is accepted for it. Assumes nothing.
 use mathlib.Core.Path.{_≡_, refl, sym, ap, _∙_}
-use mathlib.Core.Bool.{Bool, true, false, not}
+use mathlib.Core.Bool.{not, Bool, true, false, not}
 use mathlib.Core.List.{List, [], map}
 use Prim.Native.Nat.{ℕ, _≤_}
 use native.Mathlib.Omega.{arith}
 use lib.ListN.{length, getD}
 use lib.Dec.{ltb}
 use borrow.Author.Tests.{ltb-false}
+use Rattle.laws.proofs.Tests.{and-right}
 use Rattle.netlist.specs.declared.Refusal.the-variants.{MalformedBlock, TooManyCopies, NotSettled}
 use Rattle.netlist.specs.Limits.{maxCopies}
 use Rattle.netlist.specs.Values.{Value, undefined}

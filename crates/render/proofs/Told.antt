@@ -24,8 +24,8 @@ use Rattle.netlist.specs.Rendering.{rendering, schedule}
 use Rattle.netlist.specs.Answers.{testOf}
 use Rattle.encoding.proofs.Readers.{whole-parts}
 use Rattle.encoding.proofs.Encoded.{length-encode}
-use Rattle.encoding.proofs.Decoded.{decode-inputCount, decode-outputCount}
-use Rattle.agreement.proofs.Block.{rendering-count, rendering-inputs, length-rendering-outputs, length-schedule-is}
+use Rattle.encoding.proofs.Decoded.{decode-inputCount, decode-outputCount, decode-neverCount}
+use Rattle.agreement.proofs.Block.{rendering-count, rendering-inputs, rendering-nevers, length-rendering-outputs, length-schedule-is}
 use Rattle.assignments.proofs.Blocks.{sound-lowest, lowest-sound}
 use Rattle.schedule.specs.Listing.{Numbers, Appended, planOf}
 use Rattle.schedule.proofs.Blocks.{plan-schedule, front}
