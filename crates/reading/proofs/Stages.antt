@@ -4,15 +4,13 @@ use mathlib.Core.Bool.{true, false}
 use mathlib.Core.List.{List, [], _∷_, map}
 use types.Run.{miss}
 use mathlib.Core.Option.{Option, none, some}
-use Prim.Native.Nat.{ℕ, _*_, _≤_}
-use native.Mathlib.Nat.{min-le-right}
+use Prim.Native.Nat.{ℕ, _+_, _*_, _≤_}
 use native.Mathlib.Omega.{arith}
-use lib.ListN.{length, take, length-append, length-map, length-take}
+use lib.ListN.{length, take}
 use lib.Seq.{sets}
 use lib.Dec.{ltb}
 use borrow.Author.Tests.{ltb-false}
-use Rattle.laws.specs.Lists.{all, placed, joined}
-use Rattle.laws.proofs.Tests.{and-left, and-right, and-intro}
+use Rattle.laws.specs.Lists.{placed, joined}
 use Rattle.laws.proofs.Slices.{sets-placed, placed-room}
 use Rattle.netlist.specs.declared.Answer.{Answer}
 use Rattle.netlist.specs.declared.Answer.the-variants.{Done}
@@ -20,22 +18,21 @@ use Rattle.netlist.specs.declared.Refusal.the-variants.{DuplicateDeclaration, U
 use Rattle.netlist.specs.declared.Test.{Test}
 use Rattle.netlist.specs.declared.Test.the-variants.{Passed}
 use Rattle.netlist.specs.Limits.{maxText, maxInputs, maxNevers, maxGates, maxOutputs}
-use Rattle.netlist.specs.Netlist.{Name}
-use Rattle.netlist.specs.StoredBlock.{isNameByte, isPlainName, neverWords, gateWords, outputWords, encode}
+use Rattle.netlist.specs.StoredBlock.{outputsAt, neverWords, gateWords, outputWords, encode}
 use Rattle.netlist.specs.Syntax.{Tree, isLegalTree}
-use Rattle.netlist.specs.Reading.{neverLinesAt, lesser, orElse, firstRepeatIn, excludedNames, firstOutside, declaredNodes, declaredPorts, bindings}
+use Rattle.netlist.specs.Reading.{neverLinesAt, lesser, orElse, firstRepeatIn, excludedNames, firstOutside, bindings}
 use Rattle.netlist.specs.Reading.{isOverLimit, firstDuplicate, firstUndeclared, blockOf}
 use Rattle.netlist.specs.Answers.{testOf, testAt, refusalOf, done, refuseIf, inRoom, Promise}
 use Rattle.netlist.specs.Operations.{read}
 use Rattle.names.specs.declared.Counts.{Counts}
 use Rattle.names.specs.Plain.{plain, moved}
 use Rattle.names.specs.Results.{Prints, treeCounts, declared, packedNames, NameTable, Declared, TableRoom}
-use Rattle.names.proofs.TreeLines.{legal-parts, name-bytes}
+use Rattle.names.proofs.TreeLines.{legal-parts}
 use Rattle.names.proofs.TreeCounts.{limits-within, table-room}
-use Rattle.names.proofs.TreeSearch.{nodes-length}
-use Rattle.names.proofs.PlainTree.{nevers-few}
+use Rattle.names.proofs.PlainTree.{plain-legal, nevers-few}
 use Rattle.names.proofs.PlainPlaces.{duplicate-whole, undeclared-whole}
 use Rattle.pairs.specs.Tables.{InputsAre}
+use Rattle.pairs.proofs.TableLaws.{inputs-room, plain-bytes}
 use Rattle.nevers.specs.declared.NeverLines.{NeverLines}
 use Rattle.nevers.specs.Places.{TextOf, neverLines, linesWords}
 use Rattle.nevers.specs.Ready.{InputsReady}
@@ -150,23 +147,21 @@ module _ {text : List ℕ} {lines : NeverLines} {rest names places nodes masks g
 
 -- ---- 5
 
-plain-bytes : (ss : List Name) → all isPlainName ss ≡ true → all (all isNameByte) ss ≡ true
-unfolding isPlainName
-plain-bytes [] h = refl
-plain-bytes (s ∷ ss) h =
-    and-intro (all isNameByte s) (all (all isNameByte) ss) (name-bytes _ s (and-left (isPlainName s) (all isPlainName ss) h))
-    (plain-bytes ss (and-right (isPlainName s) (all isPlainName ss) h))
-
 -- the table begins with the inputs
-inputs-are : (t : Tree) {rest : List ℕ} {c : Counts} {names nodes : List ℕ} → TreeAt (plain t) rest c names nodes → InputsAre (t .inputs) (c .inputs) names
+inputs-in : (t : Tree) (c : Counts) (names : List ℕ) → isLegalTree (plain t) ≡ true → c ≡ treeCounts (plain t)
+    → take (length (declared (plain t))) names ≡ packedNames (plain t)
+    → InputsAre (t .inputs) (c .inputs) names
 unfolding treeCounts plain
-inputs-are t {rest} {c} {names} h =
-    let n : c .inputs ≡ length (t .inputs) = ap (λ (d : Counts). d .inputs) (h .counted) in
+inputs-in t c names legal e numbers =
+    let n : c .inputs ≡ length (t .inputs) = ap (λ (d : Counts). d .inputs) e in
     record {
       counted = sym n;
-      bytes = plain-bytes (t .inputs) (legal-parts (plain t) (h .prints .legal) .inputs);
-      numbers = rw n (first-numbers (plain t) (h .prints .legal) names (h .numbersAre));
+      bytes = plain-bytes (t .inputs) (legal-parts (plain t) legal .inputs);
+      numbers = rw n (first-numbers (plain t) legal names numbers);
     }
+
+inputs-are : (t : Tree) {rest : List ℕ} {c : Counts} {names nodes : List ℕ} → TreeAt (plain t) rest c names nodes → InputsAre (t .inputs) (c .inputs) names
+inputs-are t {rest} {c} {names} h = inputs-in t c names (h .prints .legal) (h .counted) (h .numbersAre)
 
 module _ {text : List ℕ} {lines : NeverLines} {rest : List ℕ} {c : Counts} {names nodes gates outputs : List ℕ}
     (a : Resolving text lines rest c names nodes gates outputs) where
@@ -285,17 +280,6 @@ module _ {text : List ℕ} {lines : ℕ} {c : Counts} {names masks gates outputs
   size : length (encode (blockOf (w .tree))) ≡ wordCount c lines
   size = block-length (w .tree) c lines (w .counted) (w .neverCount)
 
-  -- the names of the inputs are in the table
-  names-there : c .inputs ≤ length names
-  unfolding declared packedNames treeCounts plain
-  names-there =
-      let t = plain (w .tree) in
-      let k = length (declared t) in
-      let e : length (take k names) ≡ k = ap length (w .numbersAre) ∙ length-map (declared t) _ in
-      let l : length (take k names) ≤ length names = rw (length-take k names) (min-le-right k (length names)) in
-      let i : c .inputs ≡ length (t .inputs) = ap (λ (d : Counts). d .inputs) (w .counted) in
-      omega (arith, e, l, i, length-append (declaredNodes t) (declaredPorts t), nodes-length t)
-
   pub put-ready : (block : List ℕ) → wordCount c lines ≤ length block → PutReady c lines names masks gates outputs block
   put-ready block r =
       let n = length (w .tree .inputs) in
@@ -305,28 +289,33 @@ module _ {text : List ℕ} {lines : ℕ} {c : Counts} {names masks gates outputs
         fewNevers = few .nevers;
         fewGates = few .gates;
         fewOutputs = few .outputs;
-        named = names-there;
+        named = inputs-room (inputs-in (w .tree) c names (plain-legal (w .tree) (w .is .legal)) (w .counted) (w .numbersAre));
         maskRoom = rw (w .masksWritten) (placed-room (joined (map neverWords (b .nevers))) (w .masks₀) (masks-length w));
         gateRoom = rw (w .written .gatesWritten) (placed-room (joined (map (gateWords n) (b .gates))) (w .gates₀) (gates-length w));
         outputRoom = rw (w .written .outputsWritten) (placed-room (joined (map (outputWords n) (b .outputs))) (w .outputs₀) (outputs-length w));
         room = r;
       }
 
+  -- the number of words, behind the outputs
+  pub all-words : {at : ℕ} → at ≡ outputsAt (c .inputs) lines (c .gates) → at + 5 * c .outputs ≡ wordCount c lines
+  unfolding wordCount
+  all-words e = rw e
+
   -- 11's condition, on the number of words
-  module _ (entry : List ℕ) {r : Test} (tested : r ≡ testOf (ltb (length entry) (wordCount c lines)) NoRoom) where
-    chain : read text (length entry) ≡ refuseIf (ltb (length entry) (wordCount c lines)) NoRoom (done (encode (blockOf (w .tree))) (wordCount c lines) 0)
+  module _ (entry : List ℕ) {count : ℕ} (all′ : count ≡ wordCount c lines) {r : Test} (tested : r ≡ testOf (ltb (length entry) count) NoRoom) where
+    chain : read text (length entry) ≡ refuseIf (ltb (length entry) count) NoRoom (done (encode (blockOf (w .tree))) count 0)
     chain =
         read-known (w .tree) text (length entry) (w .is) (w .short) (w .within) (w .single) (w .known)
-        ∙ ap (λ (n : ℕ). refuseIf (ltb (length entry) n) NoRoom (done (encode (blockOf (w .tree))) n 0)) size
+        ∙ ap (λ (n : ℕ). refuseIf (ltb (length entry) n) NoRoom (done (encode (blockOf (w .tree))) n 0)) (size ∙ sym all′)
 
     pub no-room : IsFailed r → {answer : Answer} → answer ≡ refusalOf r → Promise (read text (length entry)) entry answer entry
     no-room k e = failed bare keeps-bare _ _ NoRoom chain tested entry k e
 
     pub fits : r ≡ Passed → wordCount c lines ≤ length entry
-    fits e = ltb-false _ _ (passed-false _ NoRoom tested e)
+    fits e = rw (← all′) (ltb-false _ _ (passed-false _ NoRoom tested e))
 
     pub all-written : r ≡ Passed → (exit : List ℕ) → exit ≡ sets entry 0 (blockWords c lines names masks gates outputs)
-        → Promise (read text (length entry)) entry (Done (wordCount c lines) 0) exit
+        → Promise (read text (length entry)) entry (Done count 0) exit
     all-written e exit x =
         finished (passed bare keeps-bare _ _ NoRoom chain tested e) refl
         (x ∙ rw (words-are w) (sets-placed (encode (blockOf (w .tree))) entry (rw size (fits e))))

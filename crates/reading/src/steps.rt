@@ -86,11 +86,8 @@ fn undeclared(
     let Test::Passed = tested else {
         return tested;
     };
-    moved_unknown(
-        resolve(rest, c, names, nodes, gates, outputs),
-        lines.at,
-        lines.end,
-    )
+    let found = resolve(rest, c, names, nodes, gates, outputs);
+    moved_unknown(found, lines.at, lines.end)
 }
 
 // 11, and the block's words.

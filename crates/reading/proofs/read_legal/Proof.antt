@@ -30,7 +30,7 @@ slice-aggregate-copy-plain c = search needs
 copy-plain-requires : tie.Need-copy-plain-requires
 copy-plain-requires c κs =
     let found = c .before .before .before in
-    let r = copy-ready (entry found .pre) _ (found .never-lines .ensures) in (r .0, r .1, omega (arith, r .2))
+    let r = copy-ready (entry found .pre) _ (found .never-lines .ensures) in (omega (arith, r .0), omega (arith, r .0, r .1), omega (arith, r .2))
 
 array-share-prefix-copy : tie.Need-array-share-prefix-copy
 array-share-prefix-copy c = search needs

@@ -1,8 +1,7 @@
 -- `reading::steps::finish` meets its contract: 11, and then all words. Assumes nothing.
 use native.Mathlib.Omega.{arith}
 use Rattle.netlist.specs.StoredBlock.{neversAt, gatesAt, outputsAt}
-use Rattle.reading.specs.Words.{wordCount}
-use Rattle.reading.proofs.Stages.{few, put-ready, no-room, fits, all-written}
+use Rattle.reading.proofs.Stages.{few, put-ready, all-words, no-room, fits, all-written}
 use borrow.Author.Needs.{needs}
 use Rattle.reading.proofs.steps.finish.Statement.{statement}
 use Rattle.reading.proofs.steps.finish.Tie as tie
@@ -35,33 +34,30 @@ refusal-requires : tie.Need-refusal-requires
 refusal-requires c κs = search needs
 
 returns : tie.Need-returns
-unfolding wordCount
 returns c =
     let t = c .before .before .before in
     let s = entry (t .before) in
-    no-room (s .pre) (s .args .block .now) (rw (t .before .before .outputs-behind .ensures) at (t .test-room .ensures)) (c .before .before .match .keys2)
-    (c .refusal .ensures)
+    no-room (s .pre) (s .args .block .now) (all-words (s .pre) (t .before .before .outputs-behind .ensures)) (t .test-room .ensures)
+    (c .before .before .match .keys2) (c .refusal .ensures)
 
 put-block-requires : tie.Need-put-block-requires
-unfolding wordCount
 put-block-requires c κs =
     let t = c .before .before .before in
     let s = entry (t .before) in
     put-ready (s .pre) (s .args .block .now)
-    (fits (s .pre) (s .args .block .now) (rw (t .before .before .outputs-behind .ensures) at (t .test-room .ensures)) (c .before .enum-told .given .1))
+    (fits (s .pre) (s .args .block .now) (all-words (s .pre) (t .before .before .outputs-behind .ensures)) (t .test-room .ensures)
+    (c .before .enum-told .given .1))
 
 same-length : tie.Need-same-length
 same-length c = search needs
 
 returns-2 : tie.Need-returns-2
-unfolding wordCount
 returns-2 c =
     let e = c .before .before .before .before in
     let t = e .before .before in
     let s = entry (t .before) in
-    let behind = t .before .before .outputs-behind .ensures in
-    rw behind
-    (all-written (s .pre) (s .args .block .now) (rw behind at (t .test-room .ensures)) (e .enum-told .given .1) _ (c .before .before .put-block .ensures))
+    all-written (s .pre) (s .args .block .now) (all-words (s .pre) (t .before .before .outputs-behind .ensures)) (t .test-room .ensures)
+    (e .enum-told .given .1) _ (c .before .before .put-block .ensures)
 
 pub finish-spec : {M : Type 1} → statement M
 finish-spec =

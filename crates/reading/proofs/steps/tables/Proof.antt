@@ -28,7 +28,7 @@ moved-repeat-requires c κs =
     let l = start .pre .limited in
     let answer = outside-repeat (a .text .now) (a .lines) (a .rest .now) (a .c) _ _ _ _ (declared .declare .ensures) (c .duplicate .ensures)
     (start .pre .tree) l (start .pre .counted) in
-    (repeat-near (l .split) answer, part-near (l .split) .0, part-near (l .split) .1)
+    let part = part-near (l .split) in (repeat-near (l .split) answer, omega (arith, part .0), omega (arith, part .0, part .1))
 
 earlier-repeat-requires : tie.Need-earlier-repeat-requires
 earlier-repeat-requires c κs = search needs

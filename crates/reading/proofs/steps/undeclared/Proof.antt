@@ -1,4 +1,5 @@
 -- `reading::steps::undeclared` meets its contract: 5 in never lines, and then elsewhere. Assumes nothing.
+use native.Mathlib.Omega.{arith}
 use Rattle.names.specs.Plain.{plain}
 use Rattle.reading.proofs.Splits.{nevers-form}
 use Rattle.reading.proofs.Stages.{inputs-ready, unknown-inside, unknown-near, part-near, unknown-outside}
@@ -31,7 +32,7 @@ moved-unknown-requires c κs =
     let start = resolved .before .before .before .before .before .before .before .before .before .before .before .before in
     let s = start .pre .limited .split in
     let answer = resolved .resolve .ensures .done (plain (start .pre .tree)) (start .pre .here) .answer in
-    (unknown-near s answer, part-near s .0, part-near s .1)
+    let part = part-near s in (unknown-near s answer, omega (arith, part .0), omega (arith, part .1))
 
 same-length : tie.Need-same-length
 same-length c = search needs
