@@ -6,10 +6,12 @@ use simulator::limits::{BLOCK_WORDS, COVER_WORDS, GATES, WRITTEN_BYTES};
 use std::thread::Builder;
 use unloop::raw;
 
-/// An eighth of the MiB that Groups may use; the other operations but Cover keep within it too.
+/// An eighth of the MiB that Groups may use; the other operations on blocks but Cover keep within it too.
 const STACK_BYTES: usize = 128 * 1_024;
 /// Cover's table has a byte for each of the 3^12 partial assignments; all of Cover keeps within a MiB.
 const COVER_STACK_BYTES: usize = 640 * 1_024;
+/// Read has a copy of the text without its never lines, and tables of the pairs of one of them.
+const READ_STACK_BYTES: usize = 320 * 1_024;
 
 /// Runs all of it in a thread with this stack.
 fn with_stack(bytes: usize, run: impl FnOnce() + Send) {
@@ -51,7 +53,7 @@ fn blocks() {
 fn texts() {
     for (_, text) in long_texts() {
         let mut block = vec![0; BLOCK_WORDS];
-        with_stack(STACK_BYTES, || {
+        with_stack(READ_STACK_BYTES, || {
             raw::read(&text, &mut block);
             raw::line(&text, text.len());
         });

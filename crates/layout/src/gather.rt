@@ -15,7 +15,7 @@ pub struct Masks {
 }
 
 // The bit of a value in the mask of those that are defined.
-fn defined_bit(v: u8) -> u16
+pub fn defined_bit(v: u8) -> u16
     ensures { λ r. ⌜ r ≡ cond (isDefined (valueOf v)) 1 0 ⌝ }
 {
     match v {
@@ -26,7 +26,7 @@ fn defined_bit(v: u8) -> u16
 }
 
 // Its bit in the mask of those at 1.
-fn one_bit(v: u8) -> u16
+pub fn one_bit(v: u8) -> u16
     ensures { λ r. ⌜ r ≡ cond (isOne (valueOf v)) 1 0 ⌝ }
 {
     match v {

@@ -14,7 +14,7 @@ use borrow.Author.Tests.{lt-ltb, le-ltb}
 use Rattle.laws.specs.Lists.{ascii, memberList}
 use Rattle.netlist.specs.Kinds.{keyword}
 use Rattle.netlist.specs.Netlist.{Name}
-use Rattle.netlist.specs.Syntax.{Term, Terms, name, literal, apply, nil, cons, GateLine, OutputLine, Tree, printTerm, printInput, printGate, printOutput}
+use Rattle.netlist.specs.Syntax.{name, literal, apply, nil, cons, Tree, printTerm, printInput, printGate, printOutput}
 use Rattle.netlist.specs.Reading.{Mention, mentions, linesLength, neverLinesAt, gateLinesAt, outputLinesAt, inputMention, gateMention, portMention}
 use Rattle.netlist.specs.Reading.{shownMention, termMentions, termsMentions, operandMentions, declaredNodes, declaredPorts, excludedNames, usedNames}
 use Rattle.netlist.specs.Reading.{firstRepeat, orElse, lesser, firstRepeatIn, firstDuplicate, firstOutside, firstUndeclared}

@@ -45,7 +45,9 @@ module _ (t : Tree) where
 
   pub nevers-many : maxNevers < length (t .nevers) → isOverLimit t ≡ true
   unfolding isOverLimit
-  nevers-many l = rw (lt-leb (length (t .nevers)) maxNevers l) (go (leb (length (t .inputs)) maxInputs) (leb (sum (map lineGates (t .gates))) maxGates) (leb (length (t .outputs)) maxOutputs))
+  nevers-many l =
+      rw (lt-leb (length (t .nevers)) maxNevers l)
+      (go (leb (length (t .inputs)) maxInputs) (leb (sum (map lineGates (t .gates))) maxGates) (leb (length (t .outputs)) maxOutputs))
     where
       go : (a b c : Bool) → not (a && false && b && c) ≡ true
       go true b c = refl

@@ -15,18 +15,18 @@ use Rattle.laws.proofs.Quantifiers.{all-append}
 use Rattle.netlist.specs.Netlist.{Name}
 use Rattle.netlist.specs.StoredBlock.{isNameByte, isPlainName, isNodeName, nodeWord}
 use Rattle.netlist.specs.Syntax.{GateLine, OutputLine, Tree, apply, printInput, printGate, printOutput, isLegalTerm, isLegalGate, isLegalOutput}
-use Rattle.netlist.specs.Syntax.{isLegalTree, print}
-use Rattle.netlist.specs.Reading.{Mention, mentions, inputMention, gateMention, portMention, neverLinesAt, gateLinesAt, outputLinesAt, declaredNodes, declaredPorts}
+use Rattle.netlist.specs.Syntax.{isLegalTree}
+use Rattle.netlist.specs.Reading.{Mention, mentions, inputMention, gateMention, portMention, neverLinesAt, gateLinesAt, outputLinesAt, declaredNodes}
+use Rattle.netlist.specs.Reading.{declaredPorts}
 use Rattle.netlist.specs.Reading.{firstRepeat, orElse, lesser, firstRepeatIn, firstDuplicate, Binding, inputBindings, gateBindings, bindings, lookup}
 use Rattle.names.specs.Packed.{packed}
 use Rattle.names.specs.Search.{indexOf, repeatsAt}
-use Rattle.names.specs.Results.{Prints, treeCounts, declared, packedNames, namePlaces, nodeWords, NameTable, Declared}
+use Rattle.names.specs.Results.{treeCounts, declared, packedNames, namePlaces, nodeWords, NameTable, Declared}
 use Rattle.names.specs.declared.Counts.{Counts}
 use Rattle.netlist.specs.declared.Refusal.the-variants.{DuplicateDeclaration}
 use Rattle.netlist.specs.declared.Test.the-variants.{Passed, Failed}
 use Rattle.netlist.specs.Answers.{testAt}
 use Rattle.names.proofs.TreeLines.{legal-parts, name-bytes}
-use Rattle.names.proofs.TreeTable.{declared-length}
 use Rattle.names.proofs.Lookup.{Bytes, index-same, index-member, index-lookup}
 use Rattle.names.proofs.Repeats.{repeat-found, repeat-none}
 
@@ -148,8 +148,8 @@ module _ (t : Tree) (f : Mention → ℕ) (xs : List ℕ) (held : take (length (
 
 -- ---- 4: the earliest repeated declaration
 
-module _ (t : Tree) (legal : isLegalTree t ≡ true) (bare : t .nevers ≡ []) (c : Counts) (counted : c ≡ treeCounts t) (names places : List ℕ) (table : NameTable t names places)
-    (nameRoom : c .inputs + c .named + c .outputs ≤ length names) (placeRoom : c .inputs + c .named + c .outputs ≤ length places) where
+module _ (t : Tree) (legal : isLegalTree t ≡ true) (bare : t .nevers ≡ []) (c : Counts) (counted : c ≡ treeCounts t) (names places : List ℕ)
+    (table : NameTable t names places) (nameRoom : c .inputs + c .named + c .outputs ≤ length names) (placeRoom : c .inputs + c .named + c .outputs ≤ length places) where
   abbrev nodes : ℕ
   nodes = c .inputs + c .named
 

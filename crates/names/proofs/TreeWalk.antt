@@ -14,7 +14,8 @@ use Rattle.laws.proofs.Tests.{and-left, and-right}
 use Rattle.netlist.specs.Netlist.{Name}
 use Rattle.netlist.specs.StoredBlock.{isLegalName, isLetter, isDigit, isUnderscore, isNameByte, isPlainName, isNodeName}
 use Rattle.netlist.specs.Syntax.{GateLine, OutputLine, Tree, apply, printInput, printGate, printOutput, isLegalTerm, isLegalGate, isLegalOutput, isLegalTree}
-use Rattle.netlist.specs.Reading.{Mention, mentions, linesLength, neverLinesAt, gateLinesAt, outputLinesAt, inputMention, gateMention, portMention, declaredNodes}
+use Rattle.netlist.specs.Reading.{Mention, mentions, linesLength, neverLinesAt, gateLinesAt, outputLinesAt, inputMention, gateMention, portMention}
+use Rattle.netlist.specs.Reading.{declaredNodes}
 use Rattle.netlist.specs.Reading.{declaredPorts}
 use Rattle.names.specs.Lines.{lineOffset, nameOffset}
 use Rattle.names.specs.Packed.{packed, nameFront, nameHere, packedAt}

@@ -4,8 +4,8 @@
 --   orElse-passed, orElse-failed: a test of the first line and one of the others
 --   RepeatLeft, OutsideLeft, WordsLeft: what is still to be said, in the three loops, with their turns
 --   words-placed: the words stand in the beginning of the slice
-use Prim.Native.Nat.{ℕ, zero, suc, _+_, _-_, _*_, _≤_, _<_}
-use mathlib.Core.Path.{_≡_, refl, sym, ap, _∙_}
+use Prim.Native.Nat.{ℕ, suc, _+_, _-_, _*_, _≤_, _<_}
+use mathlib.Core.Path.{_≡_, refl, sym, _∙_}
 use mathlib.Core.Bool.{Bool, true, false, cond}
 use mathlib.Core.List.{List, [], _∷_, _++_, map}
 use mathlib.Core.Option.{Option, none, some}
@@ -13,7 +13,7 @@ use native.Mathlib.Omega.{arith}
 use types.Run.{miss}
 use lib.ListN.{length, set, drop}
 use lib.Seq.{drop-at, drop-drop, sets, sets-eq}
-use Rattle.laws.specs.Lists.{all, memberList, joined, placed}
+use Rattle.laws.specs.Lists.{all, memberList, placed}
 use Rattle.laws.proofs.Tests.{and-left, and-right}
 use Rattle.netlist.specs.declared.Refusal.{Refusal}
 use Rattle.netlist.specs.declared.Refusal.the-variants.{DuplicateDeclaration, UndeclaredName}
@@ -186,7 +186,8 @@ outside-passed l z = rw (left-none l z .same)
 pub record WordsLeft (known : List Name) (ns : List (List Pair)) (entry out : List ℕ) (i : ℕ) (lines : List (List Pair)) : Type 0 where
   pub same : sets entry 0 (linesWords known ns) ≡ sets out (2 * i) (linesWords known lines)
 
-module _ {known : List Name} {ns : List (List Pair)} {entry out : List ℕ} {i at left : ℕ} {text : List ℕ} (l : Left text at left (WordsLeft known ns entry out i))
+module _ {known : List Name} {ns : List (List Pair)} {entry out : List ℕ} {i at left : ℕ} {text : List ℕ}
+    (l : Left text at left (WordsLeft known ns entry out i))
     (pos : 0 < left) {m : Masks} (told : (ps : List Pair) → NeverAt at ps text → m ≡ masksOf (map (givenValue ps) known)) where
   pub words-next : {next rest : ℕ} → next ≡ at + lengthWithLf (drop at text) → rest ≡ left - 1
       → Left text next rest (WordsLeft known ns entry (set (set out (2 * i) (m .defined)) (2 * i + 1) (m .ones)) (i + 1))
@@ -206,7 +207,8 @@ module _ {known : List Name} {ns : List (List Pair)} {entry out : List ℕ} {i a
 
 pub words-start : {known : List Name} {ns : List (List Pair)} {entry : List ℕ} {from count : ℕ} {text : List ℕ} → NeversAt from count ns text
     → Left text from (count - 0) (WordsLeft known ns entry entry 0)
-words-start {known} {ns} {entry} {from} {count} is = let e : count - 0 ≡ count = omega arith in rw e (record { lines = ns; is = is; holds = record { same = refl } })
+words-start {known} {ns} {entry} {from} {count} is =
+    let e : count - 0 ≡ count = omega arith in rw e (record { lines = ns; is = is; holds = record { same = refl } })
 
 pub words-done : {known : List Name} {ns : List (List Pair)} {entry out : List ℕ} {i at left : ℕ} {text : List ℕ}
     → Left text at left (WordsLeft known ns entry out i) → left ≤ 0

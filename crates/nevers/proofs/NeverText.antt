@@ -26,7 +26,7 @@ use Rattle.names.proofs.TreeLines.{times-name}
 use Rattle.pairs.specs.Tables.{PairsAt, PairRoom}
 use Rattle.pairs.proofs.PairPlaces.{count-is, pairs-length}
 use Rattle.nevers.specs.Places.{NeverAt}
-use Rattle.nevers.specs.Ready.{Room, LineReady}
+use Rattle.nevers.specs.Ready.{LineReady}
 
 -- ---- an LF stands at its end alone
 

@@ -1,12 +1,12 @@
 -- Lines with one letter: the turns of the loop that passes them. Assumes nothing.
 --   lettered-byte: the letter as the code reads it
 --   RunLeft, run-start, run-next, run-done: the lines that are left
-use Prim.Native.Nat.{ℕ, zero, suc, _+_, _-_, _≤_, _<_}
-use mathlib.Core.Path.{_≡_, refl, sym, ap, _∙_}
-use mathlib.Core.Bool.{Bool, true, false, false≢true, true≢false}
+use Prim.Native.Nat.{ℕ, _+_, _≤_, _<_}
+use mathlib.Core.Path.{_≡_, refl, sym, _∙_}
+use mathlib.Core.Bool.{true, false, false≢true, true≢false}
 use mathlib.Core.List.{List, [], _∷_, _++_, append-assoc}
 use native.Mathlib.Omega.{arith}
-use lib.ListN.{length, getD, drop, length-append, length-drop, drop-of-length-le}
+use lib.ListN.{length, getD, drop, length-append, length-drop}
 use lib.Seq.{drop-at, drop-drop, getD-drop}
 use lib.Dec.{eqb}
 use borrow.Author.Tests.{eq-eqb, ne-eqb}
@@ -16,7 +16,7 @@ use Rattle.names.specs.Lines.{lengthWithLf}
 use Rattle.names.specs.Trees.{isLine}
 use Rattle.names.proofs.Scanning.{lineLength-le}
 use Rattle.names.proofs.JoinedLines.{one-line}
-use Rattle.nevers.specs.Runs.{lettered, RunAt, Ran}
+use Rattle.nevers.specs.Runs.{lettered, RunAt}
 
 -- ---- the letter of a line
 

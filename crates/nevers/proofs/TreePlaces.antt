@@ -4,20 +4,19 @@
 --   inputs-are: a table of the inputs' numbers
 --   lines-ready: a text in form can be read
 use Prim.Native.Nat.{ℕ, _+_, _≤_}
-use mathlib.Core.Path.{_≡_, refl, sym, ap, _∙_}
-use mathlib.Core.Bool.{Bool, true, false}
-use mathlib.Core.List.{List, [], _∷_, _++_, map}
+use mathlib.Core.Path.{_≡_, refl, sym, _∙_}
+use mathlib.Core.Bool.{true, false}
+use mathlib.Core.List.{List, [], _∷_, map}
 use native.Mathlib.Omega.{arith}
 use lib.ListN.{length, take, drop, length-append, length-map}
 use Rattle.laws.specs.Lists.{ascii, all, joined, sum}
-use Rattle.laws.proofs.Tests.{and-left, and-right, and-intro}
-use Rattle.netlist.specs.Netlist.{Name}
+use Rattle.laws.proofs.Tests.{and-intro}
 use Rattle.netlist.specs.StoredBlock.{isPlainName}
-use Rattle.netlist.specs.Syntax.{Pair, GateLine, OutputLine, Tree, isLegalNever, printInput, printNever, printGate, printOutput, printLines, print}
+use Rattle.netlist.specs.Syntax.{Pair, Tree, isLegalNever, printInput, printNever, printGate, printOutput, printLines, print}
 use Rattle.netlist.specs.Reading.{linesLength, neverLinesAt, gateLinesAt}
 use Rattle.grammar.proofs.Places.{printInput-split, printNever-split, nevers-at}
 use Rattle.names.specs.Packed.{packed}
-use Rattle.names.specs.Trees.{inputText, isLine}
+use Rattle.names.specs.Trees.{inputText}
 use Rattle.names.proofs.TreeLines.{printed-lines, all-lines, legal-parts, input-line}
 use Rattle.pairs.specs.Tables.{InputsAre}
 use Rattle.pairs.proofs.TableLaws.{plain-bytes}

@@ -25,7 +25,7 @@ use Rattle.names.specs.Lines.{lineOpens}
 use Rattle.names.specs.Packed.{packed, packedAt, packedThrough}
 use Rattle.names.proofs.TreeLines.{name-bytes}
 use Rattle.pairs.specs.PairBytes.{pairPlace, codeAt, codeThrough, inputCode}
-use Rattle.pairs.specs.Tables.{PairsAt, NamesAre, PlacesAre, CodesAre, Tabled, InputsAre}
+use Rattle.pairs.specs.Tables.{PairsAt, Tabled, InputsAre}
 use Rattle.pairs.proofs.GivenValues.{values-given}
 use Rattle.pairs.proofs.PairPlaces.{noPair, places-length, count-is, places-are, each-legal, stands-at, number-stands, code-stands}
 

@@ -81,7 +81,7 @@ module _ (t : Tree) (legal : isLegalTree t ≡ true) (names : List ℕ) (is : ta
   number : Mention → ℕ
   number d = packed (d .name)
 
-  first-numbers : take (length (t .inputs)) names ≡ map packed (t .inputs)
+  pub first-numbers : take (length (t .inputs)) names ≡ map packed (t .inputs)
   unfolding declared packedNames declaredNodes number
   first-numbers =
       let n = length (t .inputs) in
@@ -145,7 +145,7 @@ module _ {text : List ℕ} {lines : ℕ} {c : Counts} {names masks gates outputs
 
   input-names : tab (nameOf names) n ≡ map nameWords (t .inputs)
   unfolding plain
-  input-names = input-words (plain t) (plain-legal t (w .whole .legal)) names (w .numbersAre)
+  input-names = input-words (plain t) (plain-legal t (w .is .legal)) names (w .numbersAre)
 
   -- the words are the block's
   pub words-are : blockWords c lines names masks gates outputs ≡ encode (blockOf t)
@@ -180,7 +180,8 @@ block-written c lines names masks gates outputs block a b d e f p q m r s =
     let os = tab (wordOf outputs) (5 * c .outputs) in
     let x : length (head ++ ns) ≡ 4 + 4 * c .inputs = omega
     (arith, length-append head ns, length-joined-tab (nameOf names) 4 (name-size names) (c .inputs)) in
-    let y : length (head ++ ns ++ ms) ≡ 4 + 4 * c .inputs + 2 * lines = omega (arith, length-append (head ++ ns) ms, x, length-tab (wordOf masks) (2 * lines)) in
+    let y : length (head ++ ns ++ ms) ≡ 4 + 4 * c .inputs + 2 * lines = omega
+    (arith, length-append (head ++ ns) ms, x, length-tab (wordOf masks) (2 * lines)) in
     let z : length (head ++ ns ++ ms ++ gs) ≡ 4 + 4 * c .inputs + 2 * lines + 5 * c .gates = omega
     (arith, length-append (head ++ ns ++ ms) gs, y, length-tab (wordOf gates) (5 * c .gates)) in
     let u : b ≡ sets block 0 (head ++ ns) = q ∙ rw p (sets-append head block 0 4 ns (omega arith)) in

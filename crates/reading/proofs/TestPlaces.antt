@@ -1,19 +1,19 @@
 -- Tests that tell a place: a place moved, and the lesser of two. Every such condition has the place as its detail.
---   near: a place inside the text is near
+--   repeat-tells, unknown-tells: the place is the detail
+--   near: a test with a place inside the longest text is near
 --   passed-moved, failed-moved: the test with its place moved
 --   other-alone, one-alone, one-first, other-first: the test with the lesser place
 -- Assumes nothing.
 use Prim.Native.Nat.{ℕ, _≤_, _<_}
 use mathlib.Core.Path.{_≡_, refl, sym, ap, _∙_}
-use mathlib.Core.Bool.{cond}
-use mathlib.Core.List.{List, [], _∷_}
+use mathlib.Core.List.{[], _∷_}
 use mathlib.Core.Option.{Option, none, some}
 use native.Mathlib.Omega.{arith}
 use types.Run.{OneOf, miss}
 use denote.Enum.Declared.{tagOf}
-use lib.Dec.{leb}
 use borrow.Author.Tests.{le-leb, lt-leb}
 use Rattle.netlist.specs.declared.Refusal.{Refusal}
+use Rattle.netlist.specs.declared.Refusal.the-variants.{DuplicateDeclaration, UndeclaredName}
 use Rattle.netlist.specs.declared.Test.{Test}
 use Rattle.netlist.proofs.Test.{the-type}
 use Rattle.netlist.specs.declared.Test.the-variants.{Passed, Failed}
@@ -26,6 +26,18 @@ use Rattle.reading.specs.Places.{Near}
 -- the way behind `let Test::Failed(why) = t else`: t is not `Failed`, whose tag is 1
 abbrev IsPassed : Test → Type 0
 IsPassed t = OneOf (0 ∷ []) (tagOf the-type t)
+
+pub repeat-tells : (q : ℕ) → refusalDetail (DuplicateDeclaration q) ≡ q
+unfolding refusalDetail
+repeat-tells q = refl
+
+pub unknown-tells : (q : ℕ) → refusalDetail (UndeclaredName q) ≡ q
+unfolding refusalDetail
+unknown-tells q = refl
+
+-- a place, if there is one, is at most this
+abbrev pub Inside : ℕ → Option ℕ → Type 0
+Inside bound p = (q : ℕ) → p ≡ some q → q ≤ bound
 
 module _ (why : ℕ → Refusal) (tells : (q : ℕ) → refusalDetail (why q) ≡ q) where
   none-told : (p : Option ℕ) {t : Test} → t ≡ testAt p why → IsPassed t → p ≡ none
@@ -79,9 +91,6 @@ module _ (why : ℕ → Refusal) (tells : (q : ℕ) → refusalDetail (why q) �
           rw (some-told p e first, some-told q f second, ← x, ← y, lt-leb a b l) (ap Failed (why-told q f second) ∙ rw y)
 
   -- ---- near
-
-  abbrev pub Inside : ℕ → Option ℕ → Type 0
-  Inside bound p = (q : ℕ) → p ≡ some q → q ≤ bound
 
   pub near : (p : Option ℕ) {t : Test} → t ≡ testAt p why → Inside maxText p → Near t
   near p e h = record { place = λ r f. h (refusalDetail r) (some-told p e f) }

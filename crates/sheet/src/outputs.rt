@@ -1,4 +1,6 @@
 // A record's two masks of outputs, from the values of the inputs and of the gates.
+use layout::gather::defined_bit;
+use layout::gather::one_bit;
 use layout::offsets::NAME_SIZE;
 use layout::offsets::OUTPUT_SIZE;
 use layout::offsets::inputs_of;
@@ -8,34 +10,12 @@ use layout::read::word_at;
 use netlist::Record;
 use ternary::gate::operand_value;
 ghost use mathlib.Core.Path.{_≡_};
-ghost use mathlib.Core.Bool.{false, cond};
+ghost use mathlib.Core.Bool.{false};
 ghost use mathlib.Core.List.{map};
-ghost use Rattle.netlist.specs.Values.{code, valueOf, isDefined};
+ghost use Rattle.netlist.specs.Values.{code, valueOf};
 ghost use Rattle.netlist.specs.StoredBlock.{decode, isTorn};
-ghost use Rattle.netlist.specs.Assignments.{isOne};
 ghost use Rattle.netlist.specs.Sheet.{outputValues, showing};
 ghost use Rattle.sheet.specs.Shown.{OfBlock, outputCode};
-
-// The bit of a value in the mask of defined outputs.
-fn defined_bit(v: u8) -> u16
-    ensures { λ r. ⌜ r ≡ cond (isDefined (valueOf v)) 1 0 ⌝ }
-{
-    match v {
-        0 => 1,
-        1 => 1,
-        _ => 0,
-    }
-}
-
-// Its bit in the mask of outputs at 1.
-fn one_bit(v: u8) -> u16
-    ensures { λ r. ⌜ r ≡ cond (isOne (valueOf v)) 1 0 ⌝ }
-{
-    match v {
-        1 => 1,
-        _ => 0,
-    }
-}
 
 // The value that output o shows.
 fn output_value(words: &[u16], n: usize, o: usize, setting: &[u8], gates: &[u8]) -> u8

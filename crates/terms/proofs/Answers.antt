@@ -13,7 +13,8 @@ use Rattle.netlist.specs.Limits.{maxGates, maxOutputs}
 use Rattle.netlist.specs.Netlist.{Output}
 use Rattle.netlist.specs.StoredBlock.{gateWords, outputWords}
 use Rattle.netlist.specs.Syntax.{GateLine, OutputLine, Tree, apply, printNever, printGate, printOutput}
-use Rattle.netlist.specs.Reading.{Mention, mentions, declaredNodes, neverMentions, excludedNames, neverLinesAt, orElse, Binding, lineGates, bindings, gateLinesAt, outputLinesAt, operandMentions, shownMention, usedNames}
+use Rattle.netlist.specs.Reading.{Mention, mentions, declaredNodes, neverMentions, excludedNames, neverLinesAt, orElse, Binding, lineGates, bindings}
+use Rattle.netlist.specs.Reading.{gateLinesAt, outputLinesAt, operandMentions, shownMention, usedNames}
 use Rattle.netlist.specs.Reading.{firstOutside, firstUndeclared, lookup, termGates, linesGates, blockOf}
 use Rattle.grammar.proofs.Places.{printGate-split, printOutput-split, lines-measure, print-measure}
 use Rattle.names.specs.declared.Counts.{Counts}

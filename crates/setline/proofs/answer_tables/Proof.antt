@@ -54,7 +54,8 @@ inputs-of-requires : tie.Need-inputs-of-requires
 inputs-of-requires c κs = search needs
 
 test-repeat-requires : tie.Need-test-repeat-requires
-test-repeat-requires c κs = let f = c .before .before .before .before .before .before .before .before .pre .for in (names-room (f .tabled), places-room (f .tabled))
+test-repeat-requires c κs = let f = c .before .before .before .before .before .before .before .before .pre .for in
+    (names-room (f .tabled), places-room (f .tabled))
 
 enum-told : tie.Need-enum-told
 enum-told c = search needs
@@ -74,7 +75,9 @@ returns c =
 
 test-outside-requires : tie.Need-test-outside-requires
 test-outside-requires c κs =
-    let t = c .before .before in let f = start t .pre .for in (names-room (f .tabled), places-room (f .tabled), rw (t .before .inputs-of .ensures) (inputs-room (f .inputsAre)))
+    let t = c .before .before in
+    let f = start t .pre .for in
+    (names-room (f .tabled), places-room (f .tabled), rw (t .before .inputs-of .ensures) (inputs-room (f .inputsAre)))
 
 enum-told-3 : tie.Need-enum-told-3
 enum-told-3 c = search needs
@@ -97,8 +100,12 @@ fill-setting-requires c κs =
     let t = first (c .before .before .before) in
     let p = start t .pre in
     let f = p .for in
-    let n = inputs-few (start t .args .words .now) (f .whole) in
-    (names-room (f .tabled), codes-room (f .tabled), rw (t .before .inputs-of .ensures) (inputs-room (f .inputsAre)), omega (arith, n, t .before .inputs-of .ensures, p .settingRoom))
+    let n = inputs-few (start t .args .words .now) (f .whole) in (
+      names-room (f .tabled),
+      codes-room (f .tabled),
+      rw (t .before .inputs-of .ensures) (inputs-room (f .inputsAre)),
+      omega (arith, n, t .before .inputs-of .ensures, p .settingRoom),
+    )
 
 slice-reshare-prefix-show : tie.Need-slice-reshare-prefix-show
 slice-reshare-prefix-show c = filled-room _ _ _ (c .before .before .fill-setting .ensures)

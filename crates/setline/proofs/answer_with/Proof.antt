@@ -60,7 +60,8 @@ returns c =
     λ ps f.
     let filled = c .before .before .before .before .before .before .before .before .before .before .before .before .before in
     c .before .before .before .before .answer-tables .ensures ps
-    (tables-for f _ (pairs-filled filled .fill-pairs .ensures ps (pairs-at (f .is))) (filled .before .before .inputs-of .ensures) (filled .fill-inputs .ensures))
+    (tables-for f _ (pairs-filled filled .fill-pairs .ensures ps (pairs-at (f .is))) (filled .before .before .inputs-of .ensures)
+    (filled .fill-inputs .ensures))
 
 pub answer-with-spec : {M : Type 1} → statement M
 answer-with-spec =

@@ -3,7 +3,7 @@ use borrow.Author.Needs.{needs}
 use mathlib.Core.Path.{_≡_, sym}
 use mathlib.Core.Bool.{cond}
 use mathlib.Core.List.{map}
-use Prim.Native.Nat.{_-_, _≤_, _<_}
+use Prim.Native.Nat.{_-_, _<_}
 use native.Mathlib.Omega.{arith}
 use lib.ListN.{length, getD, length-map}
 use Rattle.netlist.specs.Values.{undefined, valueOf, isDefined}
@@ -42,11 +42,13 @@ defined-bit-requires c κs = search needs
 -- the bits that a turn adds
 defined-is : (c : tie.After-defined-bit Inv-loop μ-loop) → let t = c .before .before in
     c .defined-bit .result ≡ cond (isDefined (getD (map valueOf (t .before .before .before .args .values .now)) (t .before .loop .i - 1) undefined)) 1 0
-defined-is c = let t = c .before .before in bit-at isDefined (t .before .before .before .args .values .now) (t .before .loop .i - 1) (there t) (c .defined-bit .ensures)
+defined-is c =
+    let t = c .before .before in bit-at isDefined (t .before .before .before .args .values .now) (t .before .loop .i - 1) (there t) (c .defined-bit .ensures)
 
 one-is : (c : tie.After-one-bit Inv-loop μ-loop) → let t = c .before .before .before in
     c .one-bit .result ≡ cond (isOne (getD (map valueOf (t .before .before .before .args .values .now)) (t .before .loop .i - 1) undefined)) 1 0
-one-is c = let t = c .before .before .before in bit-at isOne (t .before .before .before .args .values .now) (t .before .loop .i - 1) (there t) (c .one-bit .ensures)
+one-is c =
+    let t = c .before .before .before in bit-at isOne (t .before .before .before .args .values .now) (t .before .loop .i - 1) (there t) (c .one-bit .ensures)
 
 add-defined : tie.Need-add-defined Inv-loop μ-loop
 add-defined c = record { fits = defined-fits (c .before .before .before .loop .inv) (omega arith) (defined-is c) }

@@ -1,14 +1,14 @@
 -- `nevers::lines::run_of` meets its contract: the lines that are left, of those that stand there, are passed one by one. Each has bytes of its
 -- own, so the place and the count stay within the text. Assumes nothing.
 use borrow.Author.Needs.{needs}
-use mathlib.Core.Path.{_≡_, ap, _∙_}
-use mathlib.Core.Bool.{true, false}
+use mathlib.Core.Path.{_≡_}
+use mathlib.Core.Bool.{true}
 use mathlib.Core.List.{List}
 use Prim.Native.Nat.{ℕ, _+_, _-_, _≤_}
 use native.Mathlib.Omega.{arith}
 use lib.ListN.{length, drop}
 use Rattle.nevers.specs.Runs.{lettered, RunAt}
-use Rattle.nevers.proofs.RunLaws.{RunLeft, run-start, run-next, run-ends, run-counts, letter-there, no-letter, line-there, next-inside, next-further}
+use Rattle.nevers.proofs.RunLaws.{RunLeft, run-start, run-next, run-ends, run-counts, letter-there, no-letter, next-inside, next-further}
 use Rattle.nevers.proofs.lines.run_of.Statement.{statement}
 use Rattle.nevers.proofs.lines.run_of.Tie as tie
 

@@ -1,11 +1,8 @@
 -- `nevers::tests::line_repeat` meets its contract: the tables are those of the line's pairs. Assumes nothing.
 use borrow.Author.Needs.{needs}
 use native.Mathlib.Omega.{arith}
-use Rattle.netlist.specs.Syntax.{Pair}
 use Rattle.netlist.specs.Reading.{neverMentions}
-use Rattle.pairs.specs.Tables.{Tabled}
 use Rattle.pairs.proofs.TableLaws.{names-room, places-room}
-use Rattle.nevers.specs.Places.{NeverAt}
 use Rattle.nevers.proofs.NeverText.{pairs-here, line-inside, pair-room}
 use Rattle.nevers.proofs.tests.line_repeat.Statement.{statement}
 use Rattle.nevers.proofs.tests.line_repeat.Tie as tie

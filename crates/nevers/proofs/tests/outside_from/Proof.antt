@@ -2,7 +2,6 @@
 use borrow.Author.Needs.{needs}
 use mathlib.Core.Path.{_≡_, refl, _∙_}
 use mathlib.Core.List.{List}
-use Prim.Native.Nat.{_+_, _<_, _≤_}
 use native.Mathlib.Omega.{arith}
 use lib.ListN.{length}
 use Rattle.netlist.specs.Netlist.{Name}
@@ -30,16 +29,21 @@ loop-holds c = (λ ns known is are. record { lines = ns; is = is; holds = record
 abbrev start : tie.At-loop Inv-loop μ-loop → tie.Start Inv-loop μ-loop
 start c = c .before .before .before .before .before .before
 
+abbrev loop : tie.After-line-outside Inv-loop μ-loop → tie.At-loop Inv-loop μ-loop
+loop c = c .before .before .before .before .before
+
 abbrev line : tie.After-enum-told Inv-loop μ-loop → tie.After-line-outside Inv-loop μ-loop
 line c = c .before .before .before .before .before .before .before .before
 
 -- the line of a turn can be read
-ready : (c : tie.In-loop Inv-loop μ-loop) → let l = c .before in LineReady (l .loop .at) (start l .args .text .now) (l .loop .names) (l .loop .places) (l .loop .codes)
+ready : (c : tie.In-loop Inv-loop μ-loop) → let l = c .before in
+    LineReady (l .loop .at) (start l .args .text .now) (l .loop .names) (l .loop .places) (l .loop .codes)
 ready c =
     let l = c .before in
     let s = start l in
     let r = s .pre .0 in
-    ready-line (l .loop .inv .0 (r .lines) (s .pre .1 .known) (r .is) (s .pre .1 .are)) (omega arith) (r .room) (l .loop .inv .1) (l .loop .inv .2) (l .loop .inv .3)
+    let v = l .loop .inv in
+    ready-line (v .0 (r .lines) (s .pre .1 .known) (r .is) (s .pre .1 .are)) (omega arith) (r .room) (v .1) (v .2) (v .3)
 
 line-outside-requires : tie.Need-line-outside-requires Inv-loop μ-loop
 line-outside-requires c κs = (ready (c .before .before .before), start (c .before .before .before .before) .pre .1)
@@ -51,19 +55,19 @@ enum-told-2 : tie.Need-enum-told-2 Inv-loop μ-loop
 enum-told-2 c = search needs
 
 same-length : tie.Need-same-length Inv-loop μ-loop
-same-length c = let t = c .before .before .before .before .before .before .before .before in t .line-outside .kept .1 .1 .1 .1 .0 ∙ t .before .before .before .before .before .loop .inv .1
+same-length c = let t = c .before .before .before .before .before .before .before .before in t .line-outside .kept .1 .1 .1 .1 .0 ∙ loop t .loop .inv .1
 
 same-length-2 : tie.Need-same-length-2 Inv-loop μ-loop
-same-length-2 c = let t = c .before .before .before .before .before .before .before .before in t .line-outside .kept .1 .1 .1 .1 .1 .0 ∙ t .before .before .before .before .before .loop .inv .2
+same-length-2 c = let t = c .before .before .before .before .before .before .before .before in t .line-outside .kept .1 .1 .1 .1 .1 .0 ∙ loop t .loop .inv .2
 
 same-length-3 : tie.Need-same-length-3 Inv-loop μ-loop
-same-length-3 c = let t = c .before .before .before .before .before .before .before .before in t .line-outside .kept .1 .1 .1 .1 .1 .1 .0 ∙ t .before .before .before .before .before .loop .inv .3
+same-length-3 c = let t = c .before .before .before .before .before .before .before .before in t .line-outside .kept .1 .1 .1 .1 .1 .1 .0 ∙ loop t .loop .inv .3
 
 returns : tie.Need-returns Inv-loop μ-loop
 returns c =
     λ ns known is are.
     let t = c .before .before .before .before .before .before .before .before in
-    let l = t .before .before .before .before .before in
+    let l = loop t in
     outside-failed (l .loop .inv .0 ns known is are) (omega arith) (λ ps h. t .line-outside .ensures ps known h are) (c .before .match .keys2)
 
 next-line-requires : tie.Need-next-line-requires Inv-loop μ-loop
@@ -78,8 +82,10 @@ loop-less c = omega arith
 loop-again : tie.Need-loop-again Inv-loop μ-loop
 loop-again c =
     let t = line (c .before) in
-    let l = t .before .before .before .before .before in (
-      λ ns known is are. outside-next (l .loop .inv .0 ns known is are) (omega arith) (λ ps h. t .line-outside .ensures ps known h are) (c .next-line .ensures) (c .before .enum-told .given .1),
+    let l = loop t in (
+      λ ns known is are.
+          outside-next (l .loop .inv .0 ns known is are) (omega arith) (λ ps h. t .line-outside .ensures ps known h are) (c .next-line .ensures)
+          (c .before .enum-told .given .1),
       t .line-outside .kept .1 .1 .1 .1 .0 ∙ l .loop .inv .1,
       t .line-outside .kept .1 .1 .1 .1 .1 .0 ∙ l .loop .inv .2,
       t .line-outside .kept .1 .1 .1 .1 .1 .1 .0 ∙ l .loop .inv .3,

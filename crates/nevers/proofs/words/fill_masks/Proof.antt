@@ -35,7 +35,8 @@ returns c =
     let s = c .before .before .before .before .before .before .before .before .before .before .before .before .before .before .before in
     let stand = nevers-stand is e in
     let room : 2 * length (t .nevers) ≤ length (s .args .out .now) = omega (arith, stand .counted, s .pre .1 .2) in
-    c .before .before .before .before .before .before .masks-from .ensures (t .nevers) (t .inputs) stand are ∙ words-placed (t .inputs) (t .nevers) (s .args .out .now) room
+    c .before .before .before .before .before .before .masks-from .ensures (t .nevers) (t .inputs) stand are
+    ∙ words-placed (t .inputs) (t .nevers) (s .args .out .now) room
 
 pub fill-masks-spec : {M : Type 1} → statement M
 fill-masks-spec =

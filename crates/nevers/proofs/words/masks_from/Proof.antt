@@ -1,5 +1,4 @@
 -- `nevers::words::masks_from` meets its contract: two words a line, for the lines that are left. Assumes nothing.
-use borrow.Author.Needs.{needs}
 use mathlib.Core.Path.{_≡_, refl, _∙_}
 use mathlib.Core.List.{List}
 use Prim.Native.Nat.{_+_, _-_, _*_, _<_, _≤_}
@@ -17,7 +16,8 @@ use Rattle.nevers.proofs.words.masks_from.Tie as tie
 
 abbrev Inv-loop : tie.InvT-loop
 Inv-loop text from count inputs n names₀ places₀ codes₀ setting₀ out₀ at₀ i₀ names places codes setting out at i =
-    ((ns : List (List Pair)) (known : List Name) → NeversAt from count ns text → InputsAre known n inputs → Left text at (count - i) (WordsLeft known ns out₀ out i))
+    ((ns : List (List Pair)) (known : List Name) → NeversAt from count ns text → InputsAre known n inputs
+    → Left text at (count - i) (WordsLeft known ns out₀ out i))
     × (i ≤ count) × (length out ≡ length out₀) × (length names ≡ length names₀) × (length places ≡ length places₀) × (length codes ≡ length codes₀)
     × (length setting ≡ length setting₀)
 

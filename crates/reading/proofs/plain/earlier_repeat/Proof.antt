@@ -1,9 +1,6 @@
 -- `reading::plain::earlier_repeat` meets its contract. Assumes nothing.
-use Prim.Native.Nat.{ℕ}
-use mathlib.Core.Path.{_≡_, refl}
 use Rattle.netlist.specs.declared.Refusal.the-variants.{DuplicateDeclaration}
-use Rattle.netlist.specs.Answers.{refusalDetail}
-use Rattle.reading.proofs.TestPlaces.{other-alone, one-alone, one-first, other-first}
+use Rattle.reading.proofs.TestPlaces.{repeat-tells, other-alone, one-alone, one-first, other-first}
 use borrow.Author.Needs.{needs}
 use Rattle.reading.proofs.plain.earlier_repeat.Statement.{statement}
 use Rattle.reading.proofs.plain.earlier_repeat.Tie as tie
@@ -14,12 +11,8 @@ enum-known-one c = search needs
 enum-told : tie.Need-enum-told
 enum-told c = search needs
 
-tells : (q : ℕ) → refusalDetail (DuplicateDeclaration q) ≡ q
-unfolding refusalDetail
-tells q = refl
-
 returns : tie.Need-returns
-returns c = other-alone DuplicateDeclaration tells (c .before .match .keys2)
+returns c = other-alone DuplicateDeclaration repeat-tells (c .before .match .keys2)
 
 enum-known-other : tie.Need-enum-known-other
 enum-known-other c = search needs
@@ -28,7 +21,7 @@ enum-told-2 : tie.Need-enum-told-2
 enum-told-2 c = search needs
 
 returns-2 : tie.Need-returns-2
-returns-2 c = one-alone DuplicateDeclaration tells (c .before .before .before .one .given .1) (c .before .match2 .keys2)
+returns-2 c = one-alone DuplicateDeclaration repeat-tells (c .before .before .before .one .given .1) (c .before .match2 .keys2)
 
 detail-of-requires : tie.Need-detail-of-requires
 detail-of-requires c κs = search needs
@@ -41,16 +34,16 @@ returns-3 c =
     let details = c .before in
     let other = details .before .before .before in
     let one = other .before .before .before in
-    one-first DuplicateDeclaration tells (one .one .given .1) (other .other .given .1) (details .before .detail-of .ensures) (details .detail-of2 .ensures)
-    (c .if1 .taken)
+    one-first DuplicateDeclaration repeat-tells (one .one .given .1) (other .other .given .1) (details .before .detail-of .ensures)
+    (details .detail-of2 .ensures) (c .if1 .taken)
 
 returns-4 : tie.Need-returns-4
 returns-4 c =
     let details = c .before in
     let other = details .before .before .before in
     let one = other .before .before .before in
-    other-first DuplicateDeclaration tells (one .one .given .1) (other .other .given .1) (details .before .detail-of .ensures) (details .detail-of2 .ensures)
-    (c .if1 .left)
+    other-first DuplicateDeclaration repeat-tells (one .one .given .1) (other .other .given .1) (details .before .detail-of .ensures)
+    (details .detail-of2 .ensures) (c .if1 .left)
 
 pub earlier-repeat-spec : {M : Type 1} → statement M
 earlier-repeat-spec =

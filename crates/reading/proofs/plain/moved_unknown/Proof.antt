@@ -1,10 +1,7 @@
 -- `reading::plain::moved_unknown` meets its contract. Assumes nothing.
-use Prim.Native.Nat.{ℕ}
 use native.Mathlib.Omega.{arith}
-use mathlib.Core.Path.{_≡_, refl}
 use Rattle.netlist.specs.declared.Refusal.the-variants.{UndeclaredName}
-use Rattle.netlist.specs.Answers.{refusalDetail}
-use Rattle.reading.proofs.TestPlaces.{passed-moved, failed-moved}
+use Rattle.reading.proofs.TestPlaces.{unknown-tells, passed-moved, failed-moved}
 use borrow.Author.Needs.{needs}
 use Rattle.reading.proofs.plain.moved_unknown.Statement.{statement}
 use Rattle.reading.proofs.plain.moved_unknown.Tie as tie
@@ -15,12 +12,8 @@ enum-known-tested c = search needs
 enum-told : tie.Need-enum-told
 enum-told c = search needs
 
-tells : (q : ℕ) → refusalDetail (UndeclaredName q) ≡ q
-unfolding refusalDetail
-tells q = refl
-
 returns : tie.Need-returns
-returns c = passed-moved UndeclaredName tells _ _ (c .before .match .keys2)
+returns c = passed-moved UndeclaredName unknown-tells _ _ (c .before .match .keys2)
 
 detail-of-requires : tie.Need-detail-of-requires
 detail-of-requires c κs = search needs
@@ -32,7 +25,9 @@ moved-place-requires c κs =
     let near = start .pre .0 .place _ (found .tested .given .1) in (omega (arith, near, c .detail-of .ensures), start .pre .1, start .pre .2)
 
 returns-2 : tie.Need-returns-2
-returns-2 c = failed-moved UndeclaredName tells _ _ (c .before .before .before .tested .given .1) (c .before .detail-of .ensures) (c .moved-place .ensures)
+returns-2 c =
+    failed-moved UndeclaredName unknown-tells _ _ (c .before .before .before .tested .given .1) (c .before .detail-of .ensures)
+    (c .moved-place .ensures)
 
 pub moved-unknown-spec : {M : Type 1} → statement M
 moved-unknown-spec =

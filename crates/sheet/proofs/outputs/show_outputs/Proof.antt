@@ -8,8 +8,8 @@ use borrow.Author.Needs.{needs}
 use lib.ListN.{length, getD}
 use Rattle.netlist.specs.Values.{undefined, isDefined}
 use Rattle.netlist.specs.Assignments.{isOne}
-use Rattle.sheet.proofs.OutputLaws.{shown, Gathered, gathered-none, gathered-next, defined-half, defined-fits, one-half, one-fits, length-shown}
-use Rattle.sheet.proofs.OutputLaws.{few-shown, bit-at, gathered-all}
+use Rattle.layout.proofs.Gathered.{Gathered, gathered-none, gathered-next, defined-half, defined-fits, one-half, one-fits}
+use Rattle.sheet.proofs.OutputLaws.{shown, length-shown, few-shown, output-bit, gathered-record}
 use Rattle.sheet.proofs.outputs.show_outputs.Statement.{statement}
 use Rattle.sheet.proofs.outputs.show_outputs.Tie as tie
 
@@ -58,7 +58,7 @@ defined-is : (c : tie.After-defined-bit Inv-loop μ-loop)
     c .defined-bit .result ≡ cond (isDefined (getD (shown (now (a .words)) (now (a .setting)) (now (a .gates))) (t .before .loop .o - 1) undefined)) 1 0
 defined-is c =
     let a = entry (c .before .before) .args in
-    bit-at isDefined (now (a .words)) (now (a .setting)) (now (a .gates)) (c .before .before .before .loop .o - 1) (there (c .before .before))
+    output-bit isDefined (now (a .words)) (now (a .setting)) (now (a .gates)) (c .before .before .before .loop .o - 1) (there (c .before .before))
     (c .before .output-value .ensures) (c .defined-bit .ensures)
 
 one-is : (c : tie.After-one-bit Inv-loop μ-loop)
@@ -67,7 +67,7 @@ one-is : (c : tie.After-one-bit Inv-loop μ-loop)
 one-is c =
     let t = c .before .before .before in
     let a = entry t .args in
-    bit-at isOne (now (a .words)) (now (a .setting)) (now (a .gates)) (t .before .loop .o - 1) (there (c .before .before .before))
+    output-bit isOne (now (a .words)) (now (a .setting)) (now (a .gates)) (t .before .loop .o - 1) (there (c .before .before .before))
     (c .before .before .output-value .ensures) (c .one-bit .ensures)
 
 mul-defined : tie.Need-mul-defined Inv-loop μ-loop
@@ -98,7 +98,7 @@ loop-again c =
     (i .0, gathered-next (i .1) (omega arith) (defined-is (c .before)) (one-is c))
 
 returns : tie.Need-returns Inv-loop μ-loop
-returns c = gathered-all _ _ (c .before .loop .inv .1) (omega arith)
+returns c = gathered-record _ _ (c .before .loop .inv .1) (omega arith)
 
 pub show-outputs-spec : {M : Type 1} → statement M
 show-outputs-spec =
