@@ -1,4 +1,5 @@
 -- The table of all gates: what stands at each index, and which entry a gate reads.
+--   table-is                an array that passes the test is the table
 --   table-at                what the table holds at an index
 --   operand-code-le, operand-code-at, operand-code-past   the code of an operand: its bound, a present one's, an absent one's
 --   gate-entry              the entry of a gate is its value by the three-valued rule, over the kind and the operand count
@@ -6,16 +7,17 @@
 -- Assumes nothing.
 use mathlib.Core.Path.{_≡_, refl, sym, ap, _∙_}
 use mathlib.Core.Logic.{⊎-elim}
-use mathlib.Core.Bool.{true, false}
+use mathlib.Core.Bool.{Bool, true, false, _&&_}
 use mathlib.Core.List.{List, [], _∷_, map}
 use Prim.Native.Nat.{ℕ, zero, suc, _+_, _*_, _/_, _%_, _≤_, _<_}
-use native.Mathlib.Nat.{not-suc-le-zero, le-of-suc-le-suc}
+use native.Mathlib.Nat.{add-zero, zero-add, not-suc-le-zero, le-of-suc-le-suc}
 use native.Mathlib.Omega.{arith}
 use lib.ListN.{length, getD, List·getD-eq-default}
+use lib.Seq.{ext-getD}
 use lib.Dec.{eqb, leb}
-use borrow.Author.Tests.{leb-true, ne-eqb}
+use borrow.Author.Tests.{eqb-true, leb-true, ne-eqb}
 use Rattle.laws.specs.Lists.{any, keep, tab}
-use Rattle.laws.proofs.Tests.{and-right, eq-or-ne}
+use Rattle.laws.proofs.Tests.{and-left, and-right, eq-or-ne}
 use Rattle.laws.proofs.Tab.{length-tab, getD-tab, map-tab}
 use Rattle.netlist.specs.Values.{Value, undefined, val, code, valueOf, invert}
 use Rattle.netlist.specs.Kinds.{rowOf, isNot, isXor, isXnor, fewestOperands, mostOperands, arityFits, ruled, gateValue}
@@ -24,7 +26,28 @@ use Rattle.layout.proofs.KindLaws.{not-counts, other-counts}
 use Rattle.rounds.proofs.Values.{values-codes}
 use Rattle.ternary.proofs.Codes.{code-most, remainder-swaps}
 
--- ---- the table, index by index
+-- ---- the table, by one test of all its entries
+
+-- the numbers are f i, f (i + 1), and so on
+abbrev pub holds : (ℕ → ℕ) → ℕ → List ℕ → Bool
+holds f i [] = true
+holds f i (x ∷ xs) = eqb x (f i) && holds f (suc i) xs
+
+holds-at : (f : ℕ → ℕ) (i : ℕ) (xs : List ℕ) → holds f i xs ≡ true → (k : ℕ) → k < length xs → getD xs k 0 ≡ f (i + k)
+holds-at f i [] t k h = absurd (not-suc-le-zero h)
+holds-at f i (x ∷ xs) t zero h = rw (add-zero i) (eqb-true x (f i) (and-left (eqb x (f i)) _ t))
+holds-at f i (x ∷ xs) t (suc k) h =
+    holds-at f (suc i) xs (and-right (eqb x (f i)) _ t) k (le-of-suc-le-suc h) ∙ ap f (omega arith)
+
+holds-tab : (f : ℕ → ℕ) (xs : List ℕ) (n : ℕ) → length xs ≡ n → holds f 0 xs ≡ true → xs ≡ tab f n
+holds-tab f xs n l t =
+    ext-getD 0 xs (tab f n) (l ∙ sym (length-tab f n))
+    (λ k h. holds-at f 0 xs t k h ∙ rw (zero-add k, getD-tab f n k 0 (rw l at h)))
+
+-- an array that passes the test is the table
+pub table-is : (xs : List ℕ) → length xs ≡ tableSize → holds tableEntry 0 xs ≡ true → xs ≡ gateTable
+unfolding gateTable
+table-is xs l t = holds-tab tableEntry xs tableSize l t
 
 pub table-at : (i : ℕ) → i < tableSize → getD gateTable i 0 ≡ tableEntry i
 unfolding gateTable
