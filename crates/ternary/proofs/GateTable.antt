@@ -21,7 +21,8 @@ use Rattle.laws.proofs.Tests.{and-left, and-right, eq-or-ne}
 use Rattle.laws.proofs.Tab.{length-tab, getD-tab, map-tab}
 use Rattle.netlist.specs.Values.{Value, undefined, val, code, valueOf, invert}
 use Rattle.netlist.specs.Kinds.{rowOf, isNot, isXor, isXnor, fewestOperands, mostOperands, arityFits, ruled, gateValue}
-use Rattle.netlist.specs.GateTable.{absent, tableIndex, kindAt, codesAt, tableSize, isPresent, hasGap, presentValues, entryOf, tableEntry, gateTable, operandCode, gateIndex}
+use Rattle.netlist.specs.GateTable.{absent, tableIndex, kindAt, codesAt, tableSize, isPresent, hasGap, presentValues, entryOf, tableEntry}
+use Rattle.netlist.specs.GateTable.{gateTable, operandCode, gateIndex}
 use Rattle.layout.proofs.KindLaws.{not-counts, other-counts}
 use Rattle.rounds.proofs.Values.{values-codes}
 use Rattle.ternary.proofs.Codes.{code-most, remainder-swaps}

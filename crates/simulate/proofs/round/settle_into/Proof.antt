@@ -22,8 +22,13 @@ settle-with-requires : tie.Need-settle-with-requires
 settle-with-requires c κs =
     let s = c .before .before .before .before .before .before .before .before .before in
     let i = whole-parts (now (s .args .words)) (s .pre .0) in
-    let m = c .before .before .gates-of .ensures in
-    (c .before .before .before .before .before .gate-table .ensures, (record { whole = s .pre .0; inputs = c .before .before .before .inputs-of .ensures; gates = m; fits = omega arith }, omega (arith, i .fewGates)))
+    let m = c .before .before .gates-of .ensures in (
+      c .before .before .before .before .before .gate-table .ensures,
+      (
+        record { whole = s .pre .0; inputs = c .before .before .before .inputs-of .ensures; gates = m; fits = omega arith },
+        omega (arith, i .fewGates),
+      ),
+    )
 
 same-length : tie.Need-same-length
 same-length c = search needs

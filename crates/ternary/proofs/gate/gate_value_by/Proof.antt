@@ -94,13 +94,19 @@ returns c =
     let start = w .before .before .before .before in
     let a = start .args in
     let h = w .word-at .result in
-    let vs = tab (valueFrom (now (a .words)) (a .n) (a .at + 1) (now (a .inputs)) (now (a .gates))) (h / 8) in
+    let v = valueFrom (now (a .words)) (a .n) (a .at + 1) (now (a .inputs)) (now (a .gates)) in
+    let vs = tab v (h / 8) in
     let k = head w in
     let few = codes o in
-    let fits : arityFits (h % 8) (length vs) ≡ true = rw (length-tab (valueFrom (now (a .words)) (a .n) (a .at + 1) (now (a .inputs)) (now (a .gates))) (h / 8)) (k .count) in
+    let fits : arityFits (h % 8) (length vs) ≡ true = rw (length-tab v (h / 8)) (k .count) in
     rw (start .pre .0)
     (table-at _ (omega (arith, k .kind))
-    ∙ rw (o .before .before .before .operand-code .ensures, o .before .before .operand-code2 .ensures, o .before .operand-code3 .ensures, o .operand-code4 .ensures)
+    ∙ rw (
+      o .before .before .before .operand-code .ensures,
+      o .before .before .operand-code2 .ensures,
+      o .before .operand-code3 .ensures,
+      o .operand-code4 .ensures,
+    )
     (gate-entry (h % 8) vs (k .kind) fits)
     ∙ ap code (sym (evaluated-gate (a .n) (now (a .words)) (a .at) (now (a .inputs)) (now (a .gates)) h (w .word-at .ensures))))
 
