@@ -27,6 +27,8 @@ fn blocks() {
         let mut rendered = vec![0; BLOCK_WORDS];
         let mut entries = vec![0; COVER_WORDS];
         let mut text = vec![0; WRITTEN_BYTES];
+        let old = block.to_old_words();
+        let mut brought = vec![0; BLOCK_WORDS];
         with_stack(STACK_BYTES, || {
             assert_eq!(raw::verdict(&words).number, 0);
             assert_eq!(raw::groups(&words, &mut numbers).number, 0);
@@ -36,6 +38,7 @@ fn blocks() {
             assert_eq!(raw::cover(&words, &mut entries).number, 0);
             assert_eq!(raw::write(&words, &mut text).number, 0);
             assert_ne!(raw::compare(&words, &words).number, 6);
+            assert_eq!(raw::bring(&old, &mut brought).number, 0);
         });
     }
 }

@@ -16,8 +16,8 @@ use Rattle.encoding.proofs.ListFacts.{tab-is, getD-map}
 use Rattle.netlist.specs.Values.{code, val, valueOf}
 use Rattle.netlist.specs.Netlist.{Name}
 use Rattle.netlist.specs.StoredBlock.{isNameByte}
-use Rattle.netlist.specs.SetLine.{Pair, isLegalPair}
-use Rattle.netlist.specs.Bench.{givenValue}
+use Rattle.netlist.specs.Syntax.{Pair, isLegalPair}
+use Rattle.netlist.specs.Reading.{givenValue}
 use Rattle.names.specs.Packed.{packed}
 use Rattle.names.specs.Search.{indexOf}
 use Rattle.names.proofs.Lookup.{same-packed, index-same, index-cons}

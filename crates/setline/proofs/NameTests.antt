@@ -21,8 +21,9 @@ use Rattle.netlist.specs.Netlist.{Name}
 use Rattle.netlist.specs.StoredBlock.{isNameByte, isNameStart, isNodeName}
 use Rattle.netlist.specs.Reading.{Mention, mentions, firstRepeat, firstOutside}
 use Rattle.netlist.specs.Answers.{testAt}
-use Rattle.netlist.specs.SetLine.{Pair, printPair, isLegalPair}
-use Rattle.netlist.specs.Bench.{pairMention, givenNames}
+use Rattle.netlist.specs.Syntax.{Pair, printPair, isLegalPair}
+use Rattle.netlist.specs.Reading.{pairMention}
+use Rattle.netlist.specs.Bench.{givenNames}
 use Rattle.names.specs.Packed.{packed}
 use Rattle.names.specs.Search.{indexOf, repeatsAt}
 use Rattle.names.proofs.Lookup.{Bytes, index-same, index-member}

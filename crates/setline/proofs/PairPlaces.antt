@@ -16,8 +16,10 @@ use Rattle.netlist.specs.Values.{code, val}
 use Rattle.netlist.specs.StoredBlock.{isNameByte, isLetter, isDigit, isUnderscore, isNameStart, isNodeName}
 use Rattle.netlist.specs.Syntax.{printLines}
 use Rattle.netlist.specs.Reading.{Mention, mentions}
-use Rattle.netlist.specs.SetLine.{Pair, valueText, pairText, printPair, printSetLine, isLegalPair}
-use Rattle.netlist.specs.Bench.{pairMention, givenNames}
+use Rattle.netlist.specs.Syntax.{Pair, valueText, pairText, printPair, isLegalPair}
+use Rattle.netlist.specs.SetLine.{printSetLine}
+use Rattle.netlist.specs.Reading.{pairMention}
+use Rattle.netlist.specs.Bench.{givenNames}
 use Rattle.names.specs.Lines.{times}
 use Rattle.names.specs.Packed.{packed, nameFront, nameHere, packedAt}
 use Rattle.names.proofs.Packing.{front-length}

@@ -22,7 +22,8 @@ use Rattle.netlist.specs.Limits.{maxInputs}
 use Rattle.netlist.specs.Values.{code, val, valueOf}
 use Rattle.netlist.specs.Netlist.{Name}
 use Rattle.netlist.specs.StoredBlock.{nameSize, inputsAt, isNameByte, isLetter, isDigit, isUnderscore, isPlainName, bytesAt, nameAt, decode, isTorn}
-use Rattle.netlist.specs.SetLine.{Pair, printSetLine, isLegalPair, isLegalSetLine}
+use Rattle.netlist.specs.Syntax.{Pair, isLegalPair}
+use Rattle.netlist.specs.SetLine.{printSetLine, isLegalSetLine}
 use Rattle.netlist.specs.Bench.{givenNames, givenValues}
 use Rattle.names.specs.Packed.{packed, nameFront, packedAt, packedThrough}
 use Rattle.names.proofs.TreeLines.{name-bytes}

@@ -11,7 +11,8 @@ use Rattle.netlist.specs.Values.{code, val}
 use Rattle.netlist.specs.Netlist.{Name}
 use Rattle.netlist.specs.StoredBlock.{nameSize, inputsAt, isNameByte, bytesAt, decode, isTorn}
 use Rattle.netlist.specs.Reading.{Mention}
-use Rattle.netlist.specs.SetLine.{Pair, printSetLine, isLegalPair, isLegalSetLine}
+use Rattle.netlist.specs.Syntax.{Pair, isLegalPair}
+use Rattle.netlist.specs.SetLine.{printSetLine, isLegalSetLine}
 use Rattle.netlist.specs.Bench.{givenNames}
 use Rattle.names.specs.Packed.{packed, nameFront}
 use Rattle.names.specs.Search.{indexOf}

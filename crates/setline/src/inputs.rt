@@ -17,7 +17,7 @@ ghost use Rattle.netlist.specs.declared.Refusal.the-variants.{DuplicateDeclarat
 ghost use Rattle.netlist.specs.Answers.{testAt};
 ghost use Rattle.netlist.specs.Reading.{firstRepeat, firstOutside};
 ghost use Rattle.netlist.specs.Netlist.{Name};
-ghost use Rattle.netlist.specs.SetLine.{Pair, isLegalPair};
+ghost use Rattle.netlist.specs.Syntax.{Pair, isLegalPair};
 ghost use Rattle.netlist.specs.Bench.{givenNames};
 ghost use Rattle.setline.specs.PairBytes.{givenCode, inputCode};
 ghost use Rattle.setline.specs.Tables.{inputKey, isOutside, NamesAre, PlacesAre, InputsAre};

@@ -16,7 +16,7 @@ ghost use mathlib.Core.List.{List};
 ghost use lib.ListN.{length};
 ghost use Rattle.netlist.specs.StoredBlock.{decode};
 ghost use Rattle.netlist.specs.Answers.{inRoom, Promise};
-ghost use Rattle.netlist.specs.SetLine.{Pair};
+ghost use Rattle.netlist.specs.Syntax.{Pair};
 ghost use Rattle.netlist.specs.Bench.{pairsOutcome, answerLine};
 ghost use Rattle.setline.specs.Tables.{LineFor, InForm, TableRoom, TablesFor, TablesReady};
 

@@ -9,7 +9,7 @@ ghost use lib.ListN.{length};
 ghost use Rattle.laws.specs.Lists.{tab, placed};
 ghost use Rattle.names.specs.Packed.{nameHere};
 ghost use mathlib.Core.List.{List};
-ghost use Rattle.netlist.specs.SetLine.{Pair};
+ghost use Rattle.netlist.specs.Syntax.{Pair};
 ghost use Rattle.setline.specs.PairBytes.{pairCount, pairPlace, codeFront, codeAt, codeThrough};
 ghost use Rattle.setline.specs.Tables.{PairRoom, SetLineOf, Tabled};
 

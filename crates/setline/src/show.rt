@@ -25,7 +25,7 @@ ghost use Rattle.netlist.specs.Values.{valueOf};
 ghost use Rattle.netlist.specs.StoredBlock.{isTorn, decode};
 ghost use Rattle.netlist.specs.Answers.{inRoom, Promise};
 ghost use Rattle.netlist.specs.Operations.{counted};
-ghost use Rattle.netlist.specs.SetLine.{valueText};
+ghost use Rattle.netlist.specs.Syntax.{valueText};
 ghost use Rattle.netlist.specs.Bench.{showLine};
 ghost use Rattle.writing.specs.Pieces.{Appended, Short, pieces};
 ghost use Rattle.setline.specs.Shown.{portPiece, showText};

@@ -12,9 +12,10 @@ use Rattle.netlist.specs.declared.Record.{Record}
 use Rattle.netlist.specs.Values.{Value, undefined, code, valueOf, isDefined}
 use Rattle.netlist.specs.Limits.{maxOutputs}
 use Rattle.netlist.specs.Netlist.{Output}
-use Rattle.netlist.specs.StoredBlock.{nameSize, outputSize, gatesAt, outputsAt, operandOf, outputAt, decode, isTorn}
+use Rattle.netlist.specs.StoredBlock.{nameSize, outputSize, neversAt, gatesAt, outputsAt, operandOf, outputAt, decode, isTorn}
 use Rattle.netlist.specs.Rounds.{operandValue, outputValue}
-use Rattle.netlist.specs.Sheet.{maskOf, isOne, outputValues, showing}
+use Rattle.netlist.specs.Assignments.{maskOf, isOne}
+use Rattle.netlist.specs.Sheet.{outputValues, showing}
 use Rattle.laws.proofs.Elements.{getD-defaults}
 use Rattle.encoding.proofs.Decoded.{decode-outputCount, decode-output}
 use Rattle.encoding.proofs.Readers.{whole-parts}
@@ -130,16 +131,16 @@ module _ (ws setting gates : List ℕ) where
 
     -- output o's value by its node's word
     pub code-at : outputCode ws setting gates o
-        ≡ code (wordValue (getD ws 0 0) setting gates (getD ws (outputsAt (getD ws 0 0) (getD ws 1 0) + outputSize * o + nameSize) 0))
+        ≡ code (wordValue (getD ws 0 0) setting gates (getD ws (outputsAt (getD ws 0 0) (getD ws 3 0) (getD ws 1 0) + outputSize * o + nameSize) 0))
     unfolding outputCode outputValue outputAt
     code-at = rw (decode-output ws o noOutput l)
 
 -- no word of an output stands far out
-pub output-near : {ws : List ℕ} {n m o : ℕ} → OfBlock ws n m o → (o ≤ maxOutputs) × (outputsAt n m ≤ 8192)
-unfolding outputsAt gatesAt
+pub output-near : {ws : List ℕ} {n o : ℕ} → OfBlock ws n o → (o ≤ maxOutputs) × (outputsAt (getD ws 0 0) (getD ws 3 0) (getD ws 1 0) ≤ 8192)
+unfolding outputsAt gatesAt neversAt
 output-near {ws} h =
     let i = whole-parts ws (h .whole) in
-    (omega (arith, h .below, i .fewOutputs), omega (arith, h .inputs, h .gates, i .fewInputs, i .fewGates))
+    (omega (arith, h .below, i .fewOutputs), omega (arith, i .fewInputs, i .fewNevers, i .fewGates))
 
 -- the bit of a test, of the code that was found for output o
 pub bit-at : (test : Value → Bool) (ws setting gates : List ℕ) (o : ℕ) {v b : ℕ} → o < getD ws 2 0 → v ≡ outputCode ws setting gates o
@@ -157,6 +158,6 @@ gathered-all {vs} {o} fixed ones g z =
     rw (g .defineds, g .ones, p)
 
 -- the code that is found at the place of output o's node
-pub output-code : (ws setting gates : List ℕ) {n m o at w : ℕ} → OfBlock ws n m o → at ≡ outputsAt n m → w ≡ getD ws (at + outputSize * o + nameSize) 0
-    → code (wordValue n setting gates w) ≡ outputCode ws setting gates o
-output-code ws setting gates {n} {m} {o} h e f = rw (f, e, h .inputs, h .gates) (sym (code-at ws setting gates o (h .below)))
+pub output-code : (ws setting gates : List ℕ) {n o at w : ℕ} → OfBlock ws n o → at ≡ outputsAt (getD ws 0 0) (getD ws 3 0) (getD ws 1 0)
+    → w ≡ getD ws (at + outputSize * o + nameSize) 0 → code (wordValue n setting gates w) ≡ outputCode ws setting gates o
+output-code ws setting gates {n} {o} h e f = rw (f, e, h .inputs) (sym (code-at ws setting gates o (h .below)))

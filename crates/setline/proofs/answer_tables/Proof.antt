@@ -13,7 +13,7 @@ use Rattle.netlist.specs.StoredBlock.{decode}
 use Rattle.netlist.specs.Reading.{firstRepeat, firstOutside}
 use Rattle.netlist.specs.Answers.{testAt, refuseAt, inRoom}
 use Rattle.netlist.specs.Operations.{counted}
-use Rattle.netlist.specs.SetLine.{Pair}
+use Rattle.netlist.specs.Syntax.{Pair}
 use Rattle.netlist.specs.Bench.{givenNames, givenValues, showLine, pairsOutcome}
 use Rattle.refusals.proofs.Promised.{passed-at, failed-at, keeps-room}
 use Rattle.setline.specs.Tables.{TablesFor}

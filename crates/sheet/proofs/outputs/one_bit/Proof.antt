@@ -2,7 +2,7 @@
 use mathlib.Core.Path.{sym}
 use native.Mathlib.Omega.{arith}
 use Rattle.netlist.specs.Values.{valueOf}
-use Rattle.netlist.specs.Sheet.{isOne}
+use Rattle.netlist.specs.Assignments.{isOne}
 use Rattle.sheet.proofs.OutputLaws.{other-bit}
 use Rattle.sheet.proofs.outputs.one_bit.Statement.{statement}
 use Rattle.sheet.proofs.outputs.one_bit.Tie as tie

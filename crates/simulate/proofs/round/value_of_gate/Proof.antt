@@ -2,7 +2,8 @@
 use mathlib.Core.Path.{_∙_}
 use native.Mathlib.Omega.{arith}
 use denote.Ref.{now}
-use Rattle.netlist.specs.StoredBlock.{gatesAt}
+use borrow.Author.Needs.{needs}
+use Rattle.netlist.specs.StoredBlock.{neversAt, gatesAt}
 use Rattle.encoding.proofs.Decoded.{decode-gate}
 use Rattle.encoding.proofs.Readers.{whole-parts}
 use Rattle.simulate.specs.Rounded.{gateCode}
@@ -11,9 +12,7 @@ use Rattle.simulate.proofs.round.value_of_gate.Statement.{statement}
 use Rattle.simulate.proofs.round.value_of_gate.Tie as tie
 
 gates-at-requires : tie.Need-gates-at-requires
-gates-at-requires c κs =
-    let s = c .before .before .before in
-    omega (arith, whole-parts (now (s .args .words)) (s .pre .1 .whole))
+gates-at-requires c κs = search needs
 
 mul-gate-value-by : tie.Need-mul-gate-value-by
 mul-gate-value-by c =
@@ -21,7 +20,7 @@ mul-gate-value-by c =
     omega (arith, whole-parts (now (s .args .words)) (s .pre .1 .whole))
 
 add-gate-value-by : tie.Need-add-gate-value-by
-unfolding gatesAt
+unfolding gatesAt neversAt
 add-gate-value-by c =
     let s = c .before .before .before .before in
     omega (arith, whole-parts (now (s .args .words)) (s .pre .1 .whole))
@@ -29,7 +28,7 @@ add-gate-value-by c =
 gate-value-by-requires : tie.Need-gate-value-by-requires
 gate-value-by-requires c κs =
     let s = c .before .before .before .before in
-    (s .pre .0, rw (c .gates-at .ensures, s .pre .1 .inputs) (legal-head (now (s .args .words)) (s .args .j) (s .pre .1 .whole) (s .pre .1 .below)))
+    (s .pre .0, rw (c .gates-at .ensures) (legal-head (now (s .args .words)) (s .args .j) (s .pre .1 .whole) (s .pre .1 .below)))
 
 returns : tie.Need-returns
 unfolding gateCode

@@ -1,4 +1,4 @@
--- `sheet::masks::is_within` meets its contract: a value bit on an input that is not fixed decides at once. Assumes nothing.
+-- `layout::masks::is_within` meets its contract: a value bit on an input that is not fixed decides at once. Assumes nothing.
 use mathlib.Core.Path.{_≡_, refl, sym}
 use mathlib.Core.Bool.{true}
 use Prim.Native.Nat.{_≤_, _-_}
@@ -7,11 +7,10 @@ use borrow.Author.Tests.{le-leb}
 use lib.Dec.{leb}
 use Rattle.laws.specs.Lists.{all, upTo}
 use Rattle.laws.proofs.Quantifiers.{all-next}
-use Rattle.netlist.specs.Rounds.{bit}
-use Rattle.netlist.specs.Cover.{isWithin}
-use Rattle.sheet.proofs.MaskLaws.{not-within}
-use Rattle.sheet.proofs.masks.is_within.Statement.{statement}
-use Rattle.sheet.proofs.masks.is_within.Tie as tie
+use Rattle.netlist.specs.Assignments.{bit, isWithin}
+use Rattle.layout.proofs.MaskLaws.{not-within}
+use Rattle.layout.proofs.masks.is_within.Statement.{statement}
+use Rattle.layout.proofs.masks.is_within.Tie as tie
 
 abbrev Inv-loop : tie.InvT-loop
 Inv-loop n fixed ones i₀ i = (i ≤ n) × (all (λ i. leb (bit ones i) (bit fixed i)) (upTo i) ≡ true)

@@ -1,4 +1,4 @@
--- `verdict::settings::fill_settled` meets its contract: after s turns the first s bytes are flags. Assumes nothing.
+-- `verdict::settings::fill_sound` meets its contract: after s turns the first s bytes are flags. Assumes nothing.
 use lib.ListN.{length-set, length}
 use Rattle.verdict.proofs.Counting.{flags-more}
 use Prim.Native.Nat.{_-_, _^_, _≤_, _<_}
@@ -6,14 +6,14 @@ use mathlib.Core.Path.{_≡_, refl, _∙_}
 use native.Mathlib.Omega.{arith}
 use Rattle.netlist.specs.StoredBlock.{decode}
 use Rattle.decide.proofs.Legible.{ready-kept}
-use Rattle.verdict.specs.Flags.{settledFlag}
+use Rattle.verdict.specs.Flags.{soundFlag}
 use Rattle.laws.specs.Lists.{tab, placed}
-use Rattle.verdict.proofs.settings.fill_settled.Statement.{statement}
-use Rattle.verdict.proofs.settings.fill_settled.Tie as tie
+use Rattle.verdict.proofs.settings.fill_sound.Statement.{statement}
+use Rattle.verdict.proofs.settings.fill_sound.Tie as tie
 
 abbrev Inv-loop : tie.InvT-loop
 Inv-loop words n gates order inputs₀ values₀ settled₀ count s₀ inputs values settled s =
-    (s ≤ count) × (settled ≡ placed (tab (settledFlag (decode words)) s) settled₀) × (length settled ≡ length settled₀) × (length inputs ≡ length inputs₀)
+    (s ≤ count) × (settled ≡ placed (tab (soundFlag (decode words)) s) settled₀) × (length settled ≡ length settled₀) × (length inputs ≡ length inputs₀)
     × (length values ≡ length values₀)
 
 abbrev μ-loop : tie.MeasureT-loop
@@ -23,11 +23,11 @@ abbrev μ-loop : tie.MeasureT-loop
 abbrev start : tie.At-loop Inv-loop μ-loop → tie.Start Inv-loop μ-loop
 start l = l .before .before .before .before .before .before .before
 
-abbrev head : tie.After-settled-flag Inv-loop μ-loop → tie.At-loop Inv-loop μ-loop
+abbrev head : tie.After-sound-flag Inv-loop μ-loop → tie.At-loop Inv-loop μ-loop
 head f = f .before .before .before .before
 
 -- a byte for this setting
-room : (f : tie.After-settled-flag Inv-loop μ-loop) → head f .loop .s < length (start (head f) .args .settled .now)
+room : (f : tie.After-sound-flag Inv-loop μ-loop) → head f .loop .s < length (start (head f) .args .sound .now)
 room f = omega (arith, f .before .before .before .loop-test .taken, head f .before .setting-count .ensures, start (head f) .pre .1)
 
 setting-count-requires : tie.Need-setting-count-requires Inv-loop μ-loop
@@ -36,11 +36,11 @@ setting-count-requires c κs = c .before .before .before .before .before .pre .0
 loop-holds : tie.Need-loop-holds Inv-loop μ-loop
 loop-holds c = (omega arith, refl, refl, refl, refl)
 
-settled-flag-requires : tie.Need-settled-flag-requires Inv-loop μ-loop
-settled-flag-requires c κs = let l = c .before .before .before in ready-kept (start l .pre .0) (l .loop .inv .3) (l .loop .inv .4)
+sound-flag-requires : tie.Need-sound-flag-requires Inv-loop μ-loop
+sound-flag-requires c κs = let l = c .before .before .before in ready-kept (start l .pre .0) (l .loop .inv .3) (l .loop .inv .4)
 
-slice-write-settled : tie.Need-slice-write-settled Inv-loop μ-loop
-slice-write-settled c = let f = c .before .before .before .before in omega (arith, head f .loop .inv .2, room f)
+slice-write-sound : tie.Need-slice-write-sound Inv-loop μ-loop
+slice-write-sound c = let f = c .before .before .before .before in omega (arith, head f .loop .inv .2, room f)
 
 add-s : tie.Need-add-s Inv-loop μ-loop
 add-s c = omega arith
@@ -53,10 +53,10 @@ loop-again c =
     let f = c .before .before .before .before in
     let s = start (head f) in
     let l = head f .loop in
-    let e = f .settled-flag in (
+    let e = f .sound-flag in (
       omega arith,
-      flags-more (decode (s .args .words .now)) (l .s) (s .args .settled .now) (room f) (l .inv .1) (e .ensures .tells),
-      length-set (l .settled) (l .s) (e .result) ∙ l .inv .2,
+      flags-more (decode (s .args .words .now)) (l .s) (s .args .sound .now) (room f) (l .inv .1) (e .ensures),
+      length-set (l .sound) (l .s) (e .result) ∙ l .inv .2,
       e .kept .1 .1 .1 .1 .1 .0 ∙ l .inv .3,
       e .kept .1 .1 .1 .1 .1 .1 .0 ∙ l .inv .4,
     )
@@ -77,16 +77,16 @@ returns c =
     let all : l .s ≡ 2 ^ start (c .before) .args .n = omega (arith, count .ensures) in
     rw (← all) (l .inv .1)
 
-pub fill-settled-spec : {M : Type 1} → statement M
-fill-settled-spec =
+pub fill-sound-spec : {M : Type 1} → statement M
+fill-sound-spec =
     tie.close
     (tie.spec
     Inv-loop
     μ-loop
     setting-count-requires
     loop-holds
-    settled-flag-requires
-    slice-write-settled
+    sound-flag-requires
+    slice-write-sound
     add-s
     loop-less
     loop-again
