@@ -2,7 +2,7 @@
 // exactly one byte for each input and each gate.
 use layout::fill::fill_bytes;
 use layout::offsets::GATE_SIZE;
-use ternary::gate::gate_value_by;
+use ternary::gate::gate_value;
 use ternary::table::gate_table;
 ghost use mathlib.Core.Path.{_≡_};
 ghost use mathlib.Core.List.{[], _∷_, map};
@@ -43,7 +43,7 @@ fn step(
     ensures { λ r. ⌜ Swept (decode (now (words .entry))) (map valueOf (now (inputs .entry))) (j ∷ []) (now (values .entry)) (now (values .exit)) r ⌝ }
 {
     let was = values[j];
-    let value = gate_value_by(table, words, n, gates + GATE_SIZE * j, inputs, values);
+    let value = gate_value(table, words, n, gates + GATE_SIZE * j, inputs, values);
     values[j] = value;
     value != was
 }

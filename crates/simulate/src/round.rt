@@ -5,7 +5,7 @@ use layout::offsets::GATE_SIZE;
 use layout::offsets::gates_at;
 use layout::offsets::gates_of;
 use layout::offsets::inputs_of;
-use ternary::gate::gate_value_by;
+use ternary::gate::gate_value;
 use ternary::table::gate_table;
 ghost use mathlib.Core.Path.{_≡_};
 ghost use mathlib.Core.Bool.{false, not};
@@ -29,7 +29,7 @@ pub fn value_of_gate(
     requires { ⌜ InBlock (now words) n j ⌝ }
     ensures { λ r. ⌜ r ≡ gateCode (now (words .entry)) (now (setting .entry)) (now (gates .entry)) j ⌝ }
 {
-    gate_value_by(
+    gate_value(
         table,
         words,
         n,

@@ -1,7 +1,6 @@
 // One gate's value from its words and the values of the inputs and gates: the operands' codes, and one read of the table of all gates.
 // It is found once for each gate, round and setting.
 use crate::table::ABSENT;
-use crate::table::gate_table;
 use layout::nodes::CONSTANT_0;
 use layout::nodes::CONSTANT_1;
 use layout::read::value_at;
@@ -59,7 +58,7 @@ fn operand_code(
 }
 
 // The value of the gate whose words start at `at`: the operands' codes, and one read of the table.
-pub fn gate_value_by(
+pub fn gate_value(
     table: &[u8; 1792],
     words: &[u16],
     n: usize,
@@ -79,13 +78,4 @@ pub fn gate_value_by(
     let c = operand_code(words, n, from, count, 2, inputs, gates);
     let d = operand_code(words, n, from, count, 3, inputs, gates);
     table[256 * (head % 8) + a + 4 * b + 16 * c + 64 * d]
-}
-
-// The same for a caller that has no table at hand.
-pub fn gate_value(words: &[u16], n: usize, at: usize, inputs: &[u8], gates: &[u8]) -> u8
-    requires { ⌜ LegalHead (now words) at ⌝ }
-    ensures { λ r. ⌜ r ≡ code (evaluated (map valueOf (now (inputs .entry))) (map valueOf (now (gates .entry))) (gateAt n (now (words .entry)) at)) ⌝ }
-{
-    let table = gate_table();
-    gate_value_by(&table, words, n, at, inputs, gates)
 }

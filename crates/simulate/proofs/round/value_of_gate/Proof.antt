@@ -14,19 +14,19 @@ use Rattle.simulate.proofs.round.value_of_gate.Tie as tie
 gates-at-requires : tie.Need-gates-at-requires
 gates-at-requires c κs = search needs
 
-mul-gate-value-by : tie.Need-mul-gate-value-by
-mul-gate-value-by c =
+mul-gate-value : tie.Need-mul-gate-value
+mul-gate-value c =
     let s = c .before .before .before .before in
     omega (arith, whole-parts (now (s .args .words)) (s .pre .1 .whole))
 
-add-gate-value-by : tie.Need-add-gate-value-by
+add-gate-value : tie.Need-add-gate-value
 unfolding gatesAt neversAt
-add-gate-value-by c =
+add-gate-value c =
     let s = c .before .before .before .before in
     omega (arith, whole-parts (now (s .args .words)) (s .pre .1 .whole))
 
-gate-value-by-requires : tie.Need-gate-value-by-requires
-gate-value-by-requires c κs =
+gate-value-requires : tie.Need-gate-value-requires
+gate-value-requires c κs =
     let s = c .before .before .before .before in
     (s .pre .0, rw (c .gates-at .ensures) (legal-head (now (s .args .words)) (s .args .j) (s .pre .1 .whole) (s .pre .1 .below)))
 
@@ -34,10 +34,10 @@ returns : tie.Need-returns
 unfolding gateCode
 returns c =
     let s = c .before .before .before .before .before in
-    c .gate-value-by .ensures
+    c .gate-value .ensures
     ∙ rw (c .before .gates-at .ensures, s .pre .1 .inputs, decode-gate (now (s .args .words)) (s .args .j) (s .pre .1 .below))
 
 pub value-of-gate-spec : {M : Type 1} → statement M
 value-of-gate-spec =
     tie.close
-    (tie.spec gates-at-requires mul-gate-value-by add-gate-value-by gate-value-by-requires returns)
+    (tie.spec gates-at-requires mul-gate-value add-gate-value gate-value-requires returns)

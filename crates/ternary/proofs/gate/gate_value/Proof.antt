@@ -1,4 +1,4 @@
--- `ternary::gate::gate_value_by` meets its contract: the codes are the digits of the gate's index, and its entry is the gate's value
+-- `ternary::gate::gate_value` meets its contract: the codes are the digits of the gate's index, and its entry is the gate's value
 -- (`gate-entry`). Assumes nothing.
 use mathlib.Core.Path.{_≡_, sym, ap, _∙_}
 use mathlib.Core.List.{List}
@@ -16,8 +16,8 @@ use Rattle.netlist.specs.GateTable.{tableIndex, gateIndex, operandCode}
 use Rattle.ternary.specs.Legal.{valueFrom}
 use Rattle.ternary.proofs.Heads.{Head, headOf, evaluated-gate}
 use Rattle.ternary.proofs.GateTable.{table-at, operand-code-le, gate-entry}
-use Rattle.ternary.proofs.gate.gate_value_by.Statement.{statement}
-use Rattle.ternary.proofs.gate.gate_value_by.Tie as tie
+use Rattle.ternary.proofs.gate.gate_value.Statement.{statement}
+use Rattle.ternary.proofs.gate.gate_value.Tie as tie
 
 -- what is known of the head word
 head : (c : tie.After-word-at) →
@@ -110,8 +110,8 @@ returns c =
     (gate-entry (h % 8) vs (k .kind) fits)
     ∙ ap code (sym (evaluated-gate (a .n) (now (a .words)) (a .at) (now (a .inputs)) (now (a .gates)) h (w .word-at .ensures))))
 
-pub gate-value-by-spec : {M : Type 1} → statement M
-gate-value-by-spec =
+pub gate-value-spec : {M : Type 1} → statement M
+gate-value-spec =
     tie.close
     (tie.spec
     word-at-requires
