@@ -7,7 +7,7 @@ use common::answer;
 use simulator::compare::tally::{answered_often, print_compared, Tally};
 use simulator::compare::*;
 use simulator::generate::{for_blocks, large, long_texts, widest_cover, Random, Report, Size};
-use simulator::limits::{INPUTS, TEXT_BYTES};
+use simulator::limits::{INPUTS, NEVERS, TEXT_BYTES};
 use simulator::specimens::*;
 use simulator::Answer;
 
@@ -98,6 +98,7 @@ fn malformed_old_words() {
 fn most_inputs() {
     let size = Size {
         inputs: INPUTS,
+        nevers: NEVERS,
         gates: 40,
         outputs: 4,
     };
