@@ -27,21 +27,22 @@ enum unloop_refusal {
     UNLOOP_TEXT_TOO_LONG = 1,
     UNLOOP_SYNTAX_ERROR = 2, /* detail: the offset of the first byte that no legal text has there; of a text cut off, its length */
     UNLOOP_OVER_A_LIMIT = 3,
-    UNLOOP_DUPLICATE_DECLARATION = 4, /* detail: the offset of the repeated name */
-    UNLOOP_UNDECLARED_NAME = 5,       /* detail: the offset of the name */
+    UNLOOP_DUPLICATE_DECLARATION = 4, /* detail: the offset of the repeated name, which may be one in a never line */
+    UNLOOP_UNDECLARED_NAME = 5,       /* detail: the offset of the name, which may be one in a never line that is no input's */
     UNLOOP_MALFORMED_BLOCK = 6,
     UNLOOP_BAD_SETTING = 7,
     UNLOOP_TOO_MANY_COPIES = 8,
-    UNLOOP_NOT_SETTLED = 9, /* detail: the lowest setting under which an output is undefined */
+    UNLOOP_NOT_SETTLED = 9, /* detail: the lowest setting that may come under which an output is undefined */
     UNLOOP_NOT_STRAIGHT = 10,
     UNLOOP_NO_ROOM = 11,
     UNLOOP_INTERFACE_MISMATCH = 12
 };
 
-/* Enough room for every result: words of a block, bytes of a text, gates, words of a cover. */
+/* Enough room for every result: words of a block, bytes of a text, bytes of a written text, gates, words of a cover. */
 enum unloop_room {
-    UNLOOP_BLOCK_WORDS = 5243,
+    UNLOOP_BLOCK_WORDS = 5260,
     UNLOOP_TEXT_BYTES = 61440,
+    UNLOOP_WRITTEN_BYTES = 57862,
     UNLOOP_GATES = 1024,
     UNLOOP_COVER_WORDS = 118098
 };
@@ -80,7 +81,8 @@ unloop_reply unloop_pass(const uint16_t *block, size_t block_length, const uint8
    or above n, or a bit at 1 of an input that is not fixed. 6, and then no record changes. */
 unloop_reply unloop_sheet(const uint16_t *block, size_t block_length, unloop_record *records, size_t records_length);
 
-/* Verdict: count: settled settings, where every output is 0 or 1; detail: the lowest other, or 2^n if none. 6. */
+/* Verdict: count: settled settings, where every output is 0 or 1; detail: the lowest other, or 2^n if none. A setting that a never line
+   excludes is neither counted nor told. 6. */
 unloop_reply unloop_verdict(const uint16_t *block, size_t block_length);
 
 /* Cover: two words an entry; count: entries. 6, 11. */
@@ -94,8 +96,13 @@ unloop_reply unloop_render(const uint16_t *block, size_t block_length, uint16_t 
 
 /* Compare: is a straight block made elsewhere as good as ours? Accepted: count and detail 0. Else detail: the lowest
    settled setting of ours under which an output shows another value; count: the lowest such output, from 0, plus 1.
+   Settings that ours excludes do not count; the never lines of theirs play no part.
    6 (either block), 10 (theirs), 12 (other input names or ports, or another order). */
 unloop_reply unloop_compare(const uint16_t *ours, size_t ours_length, const uint16_t *theirs, size_t theirs_length);
+
+/* Bring: a block stored before there were never lines, with three counts and at most 10 inputs, to one of today; count:
+   words. 6 (by the rules of then), 11. */
+unloop_reply unloop_bring(const uint16_t *old, size_t old_length, uint16_t *block, size_t block_length);
 
 /* Line: the line that holds the place, without its LF. Never refuses. */
 unloop_span unloop_line(const uint8_t *text, size_t text_length, size_t place);

@@ -23,6 +23,13 @@ pub fn blocks(largest: &[&str]) -> Vec<Set<Vec<u16>>> {
         .collect()
 }
 
+/// The same as they were stored before there were never lines.
+pub fn old_blocks(largest: &[&str]) -> Vec<Set<Vec<u16>>> {
+    let old = |words: Vec<u16>| Block::from_words(&words).to_old_words();
+    let set = |(name, words): Set<Vec<u16>>| (name, words.into_iter().map(old).collect());
+    blocks(largest).into_iter().map(set).collect()
+}
+
 /// The same with a setting each, all inputs 1.
 pub fn settings(largest: &[&str]) -> Vec<Set<UnderSetting>> {
     let ones = |words: Vec<u16>| {

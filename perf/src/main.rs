@@ -36,6 +36,7 @@ fn main() -> ExitCode {
     measure_searches(print);
     measure_results(print);
     measure_sheets(print);
+    measure_brought(print);
     ExitCode::SUCCESS
 }
 
@@ -78,6 +79,17 @@ fn measure_texts(print: fn(&Line)) {
     measure(print, write, inputs::blocks(&["longest"]));
 }
 
+fn measure_brought(print: fn(&Line)) {
+    let bring = Operation {
+        name: "bring",
+        room: BLOCK_WORDS,
+        filler: 9_999,
+        library: |old: &Vec<u16>, block| raw::bring(old, block),
+        plain: |old, block| plain::bring(old, block),
+    };
+    measure(print, bring, inputs::old_blocks(&["longest"]));
+}
+
 fn measure_values(print: fn(&Line)) {
     let settle = Operation {
         name: "settle",
@@ -114,6 +126,7 @@ fn measure_searches(print: fn(&Line)) {
         "shuffled-ring",
         "unbroken-ring-of-1024",
         "half-unneeded",
+        "half-excluded",
     ];
     let verdict = Operation {
         name: "verdict",
@@ -148,6 +161,7 @@ fn measure_results(print: fn(&Line)) {
         "reversed-ring-of-32",
         "groups-of-5-and-lone",
         "half-unneeded",
+        "half-excluded",
     ];
     measure(print, render, inputs::blocks(&worst));
     let cover = Operation {
@@ -164,6 +178,7 @@ fn measure_results(print: fn(&Line)) {
         "reversed-ring-of-1024",
         "most-entries",
         "half-unneeded",
+        "half-excluded",
     ];
     measure(print, cover, inputs::blocks(&worst));
 }

@@ -3,6 +3,7 @@
 
 mod bench;
 pub mod block;
+mod bring;
 mod cover;
 mod groups;
 mod parse;
@@ -13,6 +14,7 @@ mod verdict;
 mod write;
 
 pub use bench::bench;
+pub use bring::bring;
 pub use cover::cover;
 pub use groups::groups;
 pub use read::read;

@@ -1,7 +1,9 @@
 //! Forty settings of a block in one call, and in forty calls of Settle, as the catalogue page asks for them.
 
 use crate::inputs::{blocks, Set};
-use simulator::limits::{GATES, GATE_WORDS, HEAD_WORDS, INPUTS, NAME_WORDS, OUTPUT_WORDS};
+use simulator::limits::{
+    GATES, GATE_WORDS, HEAD_WORDS, INPUTS, NAME_WORDS, NEVER_WORDS, OUTPUT_WORDS,
+};
 use unloop::raw::{self, Record, Reply};
 
 /// The settings of a page.
@@ -53,7 +55,7 @@ pub fn in_many_calls((words, asked): &Page, records: &mut [Record]) -> Reply {
 }
 
 fn settled(words: &[u16], asked: Record) -> Record {
-    let [n, m, k] = [0, 1, 2].map(|place| usize::from(words[place]));
+    let [n, m, k, l] = [0, 1, 2, 3].map(|place| usize::from(words[place]));
     let bit = |mask: u16, place: usize| (mask >> place & 1) as u8;
     let mut setting = [2; INPUTS];
     for (input, value) in setting.iter_mut().enumerate().take(n) {
@@ -69,7 +71,7 @@ fn settled(words: &[u16], asked: Record) -> Record {
         values: 0,
         ..asked
     };
-    let first = HEAD_WORDS + NAME_WORDS * n + GATE_WORDS * m;
+    let first = HEAD_WORDS + NAME_WORDS * n + NEVER_WORDS * l + GATE_WORDS * m;
     for output in 0..k {
         let node = usize::from(words[first + OUTPUT_WORDS * output + NAME_WORDS]);
         let value = if node < n {

@@ -2,8 +2,8 @@
 
 use perf::plain;
 use simulator::generate::{
-    for_blocks, for_texts, for_typical_blocks, large, long_texts, malformed, near_a_limit, spoiled,
-    widest_cover, Random, Report, Size,
+    for_blocks, for_texts, for_typical_blocks, large, long_texts, malformed, malformed_before,
+    near_a_limit, spoiled, strange_never, widest_cover, Random, Report, Size,
 };
 use simulator::limits::{BLOCK_WORDS, COVER_WORDS, GATES, WRITTEN_BYTES};
 use std::fmt::Debug;
@@ -75,6 +75,17 @@ fn same_results(words: &[u16]) {
     );
 }
 
+/// Of words as they are, and as they were before there were never lines.
+fn same_brought(words: &[u16]) {
+    same(
+        "bring",
+        BLOCK_WORDS,
+        9_999,
+        |block| raw::bring(words, block),
+        |block| plain::bring(words, block),
+    );
+}
+
 fn same_searches(words: &[u16]) {
     assert_eq!(raw::verdict(words), plain::verdict(words), "verdict");
     same(
@@ -89,6 +100,7 @@ fn same_searches(words: &[u16]) {
 fn same_block(random: &mut Random, words: &[u16]) {
     same_results(words);
     same_searches(words);
+    same_brought(words);
     let n = words.first().map_or(0, |&n| usize::from(n).min(10));
     same_values(words, &vec![3; n]);
     same_values(words, &vec![1; n + 1]);
@@ -112,6 +124,9 @@ fn same_text(text: &[u8]) {
 #[test]
 fn blocks() {
     for_blocks(0..600, Size::SMALL, |random, _, w| same_block(random, w));
+    for_blocks(0..600, Size::SMALL, |_, block, _| {
+        same_brought(&block.to_old_words())
+    });
     for_blocks(0..20, Size::MIDDLE, |random, _, w| same_block(random, w));
     for_typical_blocks(0..20, |random, _, words| same_block(random, words));
     same_block(&mut Random::new(0), &widest_cover().to_words());
@@ -136,13 +151,18 @@ fn malformed_blocks() {
             let _report = Report(|| format!("{rule}, {words:?}"));
             same_block(random, &words);
         }
+        for (rule, words) in malformed_before(random, block) {
+            let _report = Report(|| format!("{rule}, {words:?}"));
+            same_brought(&words);
+        }
     });
 }
 
 #[test]
 fn texts() {
-    for_texts(0..600, Size::SMALL, |random, text, _| {
+    for_texts(0..600, Size::SMALL, |random, text, block| {
         same_text(text);
+        same_text(&strange_never(random, text, block));
         for _ in 0..10 {
             same_text(&spoiled(random, text));
         }

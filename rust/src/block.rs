@@ -1,7 +1,8 @@
 //! A block that owns its words, with the operations as methods.
 
 use crate::limits::{
-    BLOCK_WORDS, COVER_WORDS, GATE_WORDS, HEAD_WORDS, NAME_WORDS, OUTPUT_WORDS, WRITTEN_BYTES,
+    BLOCK_WORDS, COVER_WORDS, GATE_WORDS, HEAD_WORDS, NAME_WORDS, NEVER_WORDS, OUTPUT_WORDS,
+    WRITTEN_BYTES,
 };
 use crate::raw::{self, Reply};
 use crate::{Assignment, Disagreement, Groups, Refusal, Settled, Value, Verdict};
@@ -21,7 +22,7 @@ impl Block {
     ///
     /// ```
     /// # use unloop::{Block, Refusal};
-    /// assert_eq!(Block::read("")?.words(), [0, 0, 0]);
+    /// assert_eq!(Block::read("")?.words(), [0, 0, 0, 0]);
     /// let again = Block::read("(in a)\n(in a)\n");
     /// assert_eq!(again, Err(Refusal::DuplicateDeclaration { place: 11 }));
     /// # Ok::<(), Refusal>(())
@@ -38,7 +39,7 @@ impl Block {
     /// # use unloop::{Block, Refusal};
     /// let stored = Block::read("(in a)\n(gate p (not a))\n")?.words().to_vec();
     /// assert_eq!(Block::from_words(stored)?.write(), "(in a)\n(gate _0 (not a))\n");
-    /// assert_eq!(Block::from_words([1, 0, 0]), Err(Refusal::MalformedBlock));
+    /// assert_eq!(Block::from_words([1, 0, 0, 0]), Err(Refusal::MalformedBlock));
     /// # Ok::<(), Refusal>(())
     /// ```
     pub fn from_words(words: impl Into<Vec<u16>>) -> Result<Block, Refusal> {
@@ -48,6 +49,24 @@ impl Block {
             Err(Refusal::MalformedBlock) => Err(Refusal::MalformedBlock),
             _ => Ok(Block { words }),
         }
+    }
+
+    /// The block of words that were stored before there were never lines: with three counts in front and at most 10 inputs. It has no
+    /// never line, and every answer that it had.
+    ///
+    /// ```
+    /// # use unloop::{Block, Refusal};
+    /// let old = [1, 1, 0, 97, 0, 0, 0, 8, 0, 0, 0, 0];
+    /// let block = Block::bring(old)?;
+    /// assert_eq!(block.write(), "(in a)\n(gate _0 (not a))\n");
+    /// assert_eq!(block.words()[..4], [1, 1, 0, 0]);
+    /// assert_eq!(Block::bring(block.words()), Err(Refusal::MalformedBlock));
+    /// # Ok::<(), Refusal>(())
+    /// ```
+    pub fn bring(old: impl AsRef<[u16]>) -> Result<Block, Refusal> {
+        let old = old.as_ref();
+        let words = counted(BLOCK_WORDS, |block| raw::bring(old, block))?;
+        Ok(Block { words })
     }
 
     /// The stored words.
@@ -68,6 +87,25 @@ impl Block {
     /// How many outputs it has.
     pub fn outputs(&self) -> usize {
         self.words[2].into()
+    }
+
+    /// Its never lines: a setting that agrees with one of them never comes.
+    ///
+    /// ```
+    /// # use unloop::{Block, Refusal};
+    /// let block = Block::read("(in a)\n(in b)\n(never (b 1) (a 0))\n")?;
+    /// let [line] = block.never_lines()[..] else { panic!() };
+    /// assert_eq!((line.value(0), line.value(1)), (Some(false), Some(true)));
+    /// assert_eq!(block.write(), "(in a)\n(in b)\n(never (a 0) (b 1))\n");
+    /// # Ok::<(), Refusal>(())
+    /// ```
+    pub fn never_lines(&self) -> Vec<Assignment> {
+        let lines = self.words[HEAD_WORDS + NAME_WORDS * self.inputs()..].chunks(NEVER_WORDS);
+        let line = |masks: &[u16]| Assignment {
+            fixed: masks[0],
+            ones: masks[1],
+        };
+        lines.take(self.words[3].into()).map(line).collect()
     }
 
     /// The names of the inputs.
@@ -109,8 +147,9 @@ impl Block {
         Ok(self.stored_outputs().map(node).collect())
     }
 
-    fn stored_outputs(&self) -> impl Iterator<Item = &[u16]> {
-        let first = HEAD_WORDS + NAME_WORDS * self.inputs() + GATE_WORDS * self.gates();
+    pub(crate) fn stored_outputs(&self) -> impl Iterator<Item = &[u16]> {
+        let nevers = NEVER_WORDS * usize::from(self.words[3]);
+        let first = HEAD_WORDS + NAME_WORDS * self.inputs() + nevers + GATE_WORDS * self.gates();
         self.words[first..].chunks(OUTPUT_WORDS)
     }
 
@@ -126,7 +165,7 @@ impl Block {
         String::from_utf8(text.expect(NEVER_REFUSED)).expect("a written text is ASCII")
     }
 
-    /// How many settings are settled: every output shows 0 or 1.
+    /// How many settings are settled: every output shows 0 or 1. Settings that never come are neither counted nor told.
     ///
     /// ```
     /// # use unloop::{Block, Refusal};
@@ -134,6 +173,9 @@ impl Block {
     /// let block = Block::read(format!("(in a)\n(in b)\n{gates}(out y q)\n"))?;
     /// let verdict = block.verdict();
     /// assert_eq!((verdict.settled, verdict.lowest_unsettled), (3, Some(1)));
+    /// let block = Block::read(format!("(in a)\n(in b)\n(never (a 1) (b 0))\n{gates}(out y q)\n"))?;
+    /// let verdict = block.verdict();
+    /// assert_eq!((verdict.settled, verdict.lowest_unsettled), (3, None));
     /// # Ok::<(), Refusal>(())
     /// ```
     pub fn verdict(&self) -> Verdict {
@@ -144,7 +186,7 @@ impl Block {
         }
     }
 
-    /// The minimal partial assignments under which every setting is settled, ascending.
+    /// The minimal partial assignments under which every setting that may come is settled, ascending.
     ///
     /// ```
     /// # use unloop::{Block, Refusal};
@@ -210,7 +252,7 @@ impl Block {
         Ok(self.valued(setting, raw::pass)?.0)
     }
 
-    /// The loop-free block with the same outputs under every setting.
+    /// The loop-free block with the same outputs under every setting that may come, and the same never lines.
     ///
     /// ```
     /// # use unloop::{Block, Refusal};
@@ -225,8 +267,8 @@ impl Block {
         Ok(Block { words })
     }
 
-    /// Whether a loop-free block made elsewhere is as good as this one: under every settled setting of this one all outputs must show the
-    /// same. `None`: it is accepted.
+    /// Whether a loop-free block made elsewhere is as good as this one: under every settled setting of this one that may come all outputs
+    /// must show the same. Its own never lines play no part. `None`: it is accepted.
     ///
     /// ```
     /// # use unloop::{Block, Disagreement, Refusal};

@@ -4,24 +4,31 @@
 pub const TEXT_BYTES: usize = 61_440;
 /// The most inputs of a block.
 pub const INPUTS: usize = 10;
+/// The most never lines of a block.
+pub const NEVERS: usize = 8;
 /// The most gates of a block, and so of a rendering.
 pub const GATES: usize = 1_024;
 /// The most outputs of a block.
 pub const OUTPUTS: usize = 16;
 
-/// The words that a stored block begins with: the counts of inputs, gates and outputs.
-pub const HEAD_WORDS: usize = 3;
+/// The words that a stored block begins with: the counts of inputs, gates, outputs and never lines.
+pub const HEAD_WORDS: usize = 4;
 /// The words of a stored name, two bytes each.
 pub const NAME_WORDS: usize = 4;
+/// The words of a stored never line: the mask of the inputs that it fixes, and of those at 1.
+pub const NEVER_WORDS: usize = 2;
 /// The words of a stored gate: its kind and operand count, and four operands.
 pub const GATE_WORDS: usize = 5;
 /// The words of a stored output: its port's name and its node.
 pub const OUTPUT_WORDS: usize = NAME_WORDS + 1;
 
 /// The longest stored block, in words.
-pub const BLOCK_WORDS: usize =
-    HEAD_WORDS + NAME_WORDS * INPUTS + GATE_WORDS * GATES + OUTPUT_WORDS * OUTPUTS;
+pub const BLOCK_WORDS: usize = HEAD_WORDS
+    + NAME_WORDS * INPUTS
+    + NEVER_WORDS * NEVERS
+    + GATE_WORDS * GATES
+    + OUTPUT_WORDS * OUTPUTS;
 /// The longest text that is written, in bytes.
-pub const WRITTEN_BYTES: usize = 56_758;
+pub const WRITTEN_BYTES: usize = 57_862;
 /// Room for every cover, in words: two for each partial assignment, where an input is free, 0 or 1.
 pub const COVER_WORDS: usize = 2 * 3_usize.pow(INPUTS as u32);

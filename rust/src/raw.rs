@@ -70,6 +70,7 @@ extern "C" {
         theirs: *const u16,
         their_words: usize,
     ) -> Reply;
+    fn unloop_bring(old: *const u16, words: usize, block: *mut u16, room: usize) -> Reply;
     fn unloop_line(text: *const u8, bytes: usize, place: usize) -> Span;
 }
 
@@ -105,7 +106,8 @@ pub fn sheet(block: &[u16], records: &mut [Record]) -> Reply {
     unsafe { unloop_sheet(block.as_ptr(), words, records.as_mut_ptr(), count) }
 }
 
-/// Count: settled settings, where every output is 0 or 1; detail: the lowest other, or 2^n if none.
+/// Count: settled settings, where every output is 0 or 1; detail: the lowest other, or 2^n if none. A setting that a never line excludes is
+/// neither counted nor told.
 pub fn verdict(block: &[u16]) -> Reply {
     unsafe { unloop_verdict(block.as_ptr(), block.len()) }
 }
@@ -129,9 +131,15 @@ pub fn render(block: &[u16], rendered: &mut [u16]) -> Reply {
 }
 
 /// Count and detail 0 where theirs is accepted; else the lowest settled setting of ours with another value at an output as detail, and
-/// the lowest such output, counted from 1, as count.
+/// the lowest such output, counted from 1, as count. Settings that ours excludes don't count; the never lines of theirs play no part.
 pub fn compare(ours: &[u16], theirs: &[u16]) -> Reply {
     unsafe { unloop_compare(ours.as_ptr(), ours.len(), theirs.as_ptr(), theirs.len()) }
+}
+
+/// A block stored before there were never lines, with three counts, to one of today; count: words.
+pub fn bring(old: &[u16], block: &mut [u16]) -> Reply {
+    let (words, room) = (old.len(), block.len());
+    unsafe { unloop_bring(old.as_ptr(), words, block.as_mut_ptr(), room) }
 }
 
 /// The start and length of the line that holds `place`, without its LF.

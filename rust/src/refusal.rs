@@ -1,6 +1,6 @@
 //! The refusals: one table has the number, word, name, detail and message of each.
 
-use crate::limits::{GATES, INPUTS, OUTPUTS, TEXT_BYTES};
+use crate::limits::{GATES, INPUTS, NEVERS, OUTPUTS, TEXT_BYTES};
 use std::fmt;
 
 /// A row: when it is given; number, word, name, the detail's name if it has one; message.
@@ -61,19 +61,19 @@ refusals! {
     1 "overlong" TextTooLong => "the text has more than {TEXT_BYTES} bytes",
     /// The text isn't of the grammar; the place is the first byte's that no legal text has there, or the end of a text cut off.
     2 "form" SyntaxError { place } => "syntax error at byte {place}",
-    /// The text has more than [`INPUTS`], [`GATES`] or [`OUTPUTS`].
-    3 "crowded" OverALimit => "more than {INPUTS} inputs, {GATES} gates or {OUTPUTS} outputs",
-    /// A name or a port is declared again, first at this place.
-    4 "twice" DuplicateDeclaration { place } => "the name at byte {place} is declared already",
-    /// A name is used and not declared, first at this place.
-    5 "unknown" UndeclaredName { place } => "the name at byte {place} is not declared",
+    /// The text has more than [`INPUTS`], [`NEVERS`], [`GATES`] or [`OUTPUTS`].
+    3 "crowded" OverALimit => "more than {INPUTS} inputs, {NEVERS} never lines, {GATES} gates or {OUTPUTS} outputs",
+    /// A name or a port is declared again, or a name given again in a never line, first at this place.
+    4 "twice" DuplicateDeclaration { place } => "the name at byte {place} is declared or given already",
+    /// A name is used and not declared, or stands in a never line and is no input's, first at this place.
+    5 "unknown" UndeclaredName { place } => "the name at byte {place} is not declared, or not an input's in a never line",
     /// The words break a rule of the stored block.
     6 "torn" MalformedBlock => "the words are no stored block",
     /// Not one value for each input, or, of bytes, one above 2.
     7 "setting" BadSetting => "the setting doesn't have one value (0, 1 or undefined) for each input",
     /// The rendering would have more than [`GATES`].
     8 "swollen" TooManyCopies => "the rendering would have more than {GATES} gates",
-    /// Some setting leaves an output undefined; this is the lowest.
+    /// Some setting that may come leaves an output undefined; this is the lowest.
     9 "undecided" NotSettled { setting } => "setting {setting} is not settled",
     /// Some gate reads itself or a gate behind it.
     10 "looped" NotStraight => "some gate reads itself or a gate behind it",

@@ -2,17 +2,17 @@
 
 use crate::Value;
 
-/// How many settings of the inputs are settled, of all 2^n: under those every output shows 0 or 1.
+/// How many settings of the inputs are settled, of those of the 2^n that may come: under those every output shows 0 or 1.
 #[derive(Debug, Clone, Copy, PartialEq, Eq)]
 pub struct Verdict {
     /// The settled settings.
     pub settled: usize,
-    /// The lowest setting that isn't settled; input i has weight 2^i.
+    /// The lowest setting that may come and isn't settled; input i has weight 2^i.
     pub lowest_unsettled: Option<usize>,
 }
 
 impl Verdict {
-    /// Whether every setting is settled.
+    /// Whether every setting that may come is settled.
     pub fn is_sound(self) -> bool {
         self.lowest_unsettled.is_none()
     }
@@ -33,12 +33,17 @@ impl Assignment {
         let bit = |mask: u16| usize::from(mask) >> input & 1 == 1;
         bit(self.fixed).then(|| bit(self.ones))
     }
+
+    /// Whether a setting has its values at the inputs that it fixes; input i has weight 2^i.
+    pub fn agrees(self, setting: usize) -> bool {
+        setting & usize::from(self.fixed) == usize::from(self.ones)
+    }
 }
 
 /// Where a block made elsewhere shows another value than the original.
 #[derive(Debug, Clone, Copy, PartialEq, Eq)]
 pub struct Disagreement {
-    /// The lowest such setting that is settled in the original; input i has weight 2^i.
+    /// The lowest such setting that may come and is settled in the original; input i has weight 2^i.
     pub setting: usize,
     /// The lowest such output there, from 0.
     pub output: usize,

@@ -1,6 +1,6 @@
 //! Many settings of one block in one call.
 
-use crate::limits::{GATE_WORDS, HEAD_WORDS, NAME_WORDS, OUTPUT_WORDS};
+use crate::limits::NAME_WORDS;
 use crate::{raw, Assignment, Block, Refusal, Value};
 
 /// A record of a sheet; bit i is for input or output i.
@@ -48,9 +48,7 @@ impl Block {
     /// assert_eq!(block.ports(), ["on", "lamp"]);
     /// ```
     pub fn ports(&self) -> Vec<String> {
-        let first = HEAD_WORDS + NAME_WORDS * self.inputs() + GATE_WORDS * self.gates();
-        let outputs = self.words()[first..].chunks(OUTPUT_WORDS);
-        outputs
+        self.stored_outputs()
             .map(|output| crate::block::name(&output[..NAME_WORDS]))
             .collect()
     }

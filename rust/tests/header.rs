@@ -44,6 +44,7 @@ fn rooms() {
     let rooms = [
         ("BLOCK_WORDS", limits::BLOCK_WORDS),
         ("TEXT_BYTES", limits::TEXT_BYTES),
+        ("WRITTEN_BYTES", limits::WRITTEN_BYTES),
         ("GATES", limits::GATES),
         ("COVER_WORDS", limits::COVER_WORDS),
     ];

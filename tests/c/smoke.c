@@ -23,15 +23,15 @@ static void answers(unloop_reply reply, size_t number, size_t count, size_t deta
 #define LENGTH(a) (sizeof(a) / sizeof((a)[0]))
 
 /* Specimen 9: its words, its text, and the text of its rendering. */
-static const uint16_t looped[] = {1, 2, 1, 's', 0, 0, 0, 17, 0, 2, 0, 0, 18, 0, 1, 0, 0, 'y', 0, 0, 0, 2};
+static const uint16_t looped[] = {1, 2, 1, 0, 's', 0, 0, 0, 17, 0, 2, 0, 0, 18, 0, 1, 0, 0, 'y', 0, 0, 0, 2};
 static const char netlist[] = "(in s)\n(gate p (and s q))\n(gate q (or s p))\n(out y q)\n";
 static const char written[] = "(in s)\n(gate _0 (and s 0))\n(gate _1 (or s _0))\n(gate _2 (and s _1))\n(gate _3 (or s _2))\n(out y _3)\n";
 
 /* Specimen 5: (gate p (or p (not p))) (out y p). */
-static const uint16_t unsettled[] = {0, 2, 1, 8, 1, 0, 0, 0, 18, 1, 0, 0, 0, 'y', 0, 0, 0, 1};
+static const uint16_t unsettled[] = {0, 2, 1, 0, 8, 1, 0, 0, 0, 18, 1, 0, 0, 0, 'y', 0, 0, 0, 1};
 
 /* Specimen 4: (in a) (in b) (gate p (and a q)) (gate q (or b p)) (out y q). */
-static const uint16_t waiting[] = {2, 2, 1, 'a', 0, 0, 0, 'b', 0, 0, 0, 17, 0, 3, 0, 0, 18, 1, 2, 0, 0, 'y', 0, 0, 0, 3};
+static const uint16_t waiting[] = {2, 2, 1, 0, 'a', 0, 0, 0, 'b', 0, 0, 0, 17, 0, 3, 0, 0, 18, 1, 2, 0, 0, 'y', 0, 0, 0, 3};
 
 static void read_specimen(void)
 {
@@ -66,15 +66,31 @@ static void fill_sheet(void)
 /* Specimen 9 and what may be sent for it: its rendering by hand, the output at 1, and another port. */
 static void compare_specimens(void)
 {
-    static const uint16_t shown[] = {1, 0, 1, 's', 0, 0, 0, 'y', 0, 0, 0, 0};
-    static const uint16_t one[] = {1, 1, 1, 's', 0, 0, 0, 18, 0, 65535, 0, 0, 'y', 0, 0, 0, 1};
-    static const uint16_t renamed[] = {1, 0, 1, 's', 0, 0, 0, 'z', 0, 0, 0, 0};
+    static const uint16_t shown[] = {1, 0, 1, 0, 's', 0, 0, 0, 'y', 0, 0, 0, 0};
+    static const uint16_t one[] = {1, 1, 1, 0, 's', 0, 0, 0, 18, 0, 65535, 0, 0, 'y', 0, 0, 0, 1};
+    static const uint16_t renamed[] = {1, 0, 1, 0, 's', 0, 0, 0, 'z', 0, 0, 0, 0};
 
     answers(unloop_compare(looped, LENGTH(looped), shown, LENGTH(shown)), 0, 0, 0, "compare, accepted");
     answers(unloop_compare(looped, LENGTH(looped), one, LENGTH(one)), 0, 1, 0, "compare, another value");
     answers(unloop_compare(looped, LENGTH(looped), renamed, LENGTH(renamed)), 12, 0, 0, "compare, another port");
     answers(unloop_compare(looped, LENGTH(looped), looped, LENGTH(looped)), 10, 0, 0, "compare with a loop");
     answers(unloop_compare(looped, LENGTH(looped) - 1, shown, LENGTH(shown)), 6, 0, 0, "compare of torn words");
+}
+
+/* The words of specimen 4 as they were before there were never lines, brought over; then with a never line on their one unsettled setting. */
+static void bring_specimen(void)
+{
+    static const char never[] = "(in a)\n(in b)\n(never (a 1) (b 0))\n(gate p (and a q))\n(gate q (or b p))\n(out y q)\n";
+    uint16_t old[LENGTH(waiting) - 1], block[LENGTH(waiting) + 2];
+
+    memcpy(old, waiting, 3 * sizeof *old);
+    memcpy(old + 3, waiting + 4, (LENGTH(waiting) - 4) * sizeof *old);
+    answers(unloop_bring(old, LENGTH(old), block, LENGTH(waiting)), 0, LENGTH(waiting), 0, "bring");
+    check(memcmp(block, waiting, sizeof waiting) == 0, "the words brought over");
+    answers(unloop_bring(old, LENGTH(old), block, LENGTH(old)), 11, 0, 0, "bring, one word short");
+    answers(unloop_bring(waiting, LENGTH(waiting), block, LENGTH(block)), 6, 0, 0, "bring of words of today");
+    answers(unloop_read((const uint8_t *)never, sizeof never - 1, block, LENGTH(block)), 0, LENGTH(block), 0, "read of a never line");
+    answers(unloop_verdict(block, LENGTH(block)), 0, 3, 4, "verdict with a never line");
 }
 
 int main(void)
@@ -87,11 +103,11 @@ int main(void)
 
     read_specimen();
     fill_sheet();
-    answers(unloop_render(looped, LENGTH(looped), rendered, LENGTH(rendered)), 0, 32, 0, "render");
-    answers(unloop_write(rendered, 32, text, sizeof text), 0, sizeof written - 1, 0, "write");
+    answers(unloop_render(looped, LENGTH(looped), rendered, LENGTH(rendered)), 0, 33, 0, "render");
+    answers(unloop_write(rendered, 33, text, sizeof text), 0, sizeof written - 1, 0, "write");
     check(memcmp(text, written, sizeof written - 1) == 0, "the written text");
-    answers(unloop_write(rendered, 32, text, sizeof written - 2), 11, 0, 0, "write, one byte short");
-    answers(unloop_pass(rendered, 32, one, 1, values, 4), 0, 4, 0, "pass");
+    answers(unloop_write(rendered, 33, text, sizeof written - 2), 11, 0, 0, "write, one byte short");
+    answers(unloop_pass(rendered, 33, one, 1, values, 4), 0, 4, 0, "pass");
     check(values[0] == 0 && values[1] == 1 && values[2] == 1 && values[3] == 1, "the values of pass");
     answers(unloop_pass(looped, LENGTH(looped), one, 1, values, 4), 10, 0, 0, "pass on a loop");
     answers(unloop_settle(looped, LENGTH(looped), one, 1, values, 4), 0, 2, 0, "settle");
@@ -109,6 +125,7 @@ int main(void)
     answers(unloop_render(unsettled, LENGTH(unsettled), rendered, LENGTH(rendered)), 9, 0, 0, "render of specimen 5");
     answers(unloop_render(waiting, LENGTH(waiting), rendered, 0), 9, 0, 1, "render of specimen 4");
     compare_specimens();
+    bring_specimen();
     unloop_span span = unloop_line((const uint8_t *)written, sizeof written - 1, 10);
     check(span.start == 7 && span.length == 19, "line");
     if (failures == 0)

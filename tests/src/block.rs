@@ -1,6 +1,8 @@
 //! A block as lists of inputs, gates and outputs, and its form as 16-bit words.
 
-use crate::limits::{block_words, GATE_WORDS, HEAD_WORDS, NAME_WORDS, OPERANDS, OUTPUT_WORDS};
+use crate::limits::{
+    block_words, GATE_WORDS, HEAD_WORDS, NAME_WORDS, NEVER_WORDS, OPERANDS, OUTPUT_WORDS,
+};
 
 /// The operand word of constant 0.
 pub const ZERO_WORD: u16 = 65_534;
@@ -80,6 +82,13 @@ impl Gate {
     }
 }
 
+/// A never line: the masks of the inputs that it fixes and of those at 1.
+#[derive(Debug, Clone, Copy, PartialEq, Eq)]
+pub struct Never {
+    pub fixed: u16,
+    pub ones: u16,
+}
+
 /// An output: its port and the input or gate it shows.
 #[derive(Debug, Clone, PartialEq, Eq)]
 pub struct Output {
@@ -91,6 +100,7 @@ pub struct Output {
 #[derive(Debug, Clone, PartialEq, Eq, Default)]
 pub struct Block {
     pub inputs: Vec<String>,
+    pub nevers: Vec<Never>,
     pub gates: Vec<Gate>,
     pub outputs: Vec<Output>,
 }
@@ -98,15 +108,35 @@ pub struct Block {
 impl Block {
     /// The stored words of the block. No rule is checked.
     pub fn to_words(&self) -> Vec<u16> {
-        let n = self.inputs.len();
-        let counts = [n, self.gates.len(), self.outputs.len()];
-        let mut words: Vec<u16> = counts.iter().map(|&count| count as u16).collect();
+        let lists = [self.gates.len(), self.outputs.len(), self.nevers.len()];
+        let mut words = self.counted(&lists);
         for name in &self.inputs {
             words.extend(name_words(name));
         }
-        for gate in &self.gates {
-            words.extend(gate_words(gate, n));
+        for never in &self.nevers {
+            words.extend([never.fixed, never.ones]);
         }
+        words.extend(self.gates_and_outputs());
+        words
+    }
+
+    /// The words that the block had before there were never lines, which are left out. No rule is checked.
+    pub fn to_old_words(&self) -> Vec<u16> {
+        let mut words = self.counted(&[self.gates.len(), self.outputs.len()]);
+        words.extend(self.inputs.iter().flat_map(|name| name_words(name)));
+        words.extend(self.gates_and_outputs());
+        words
+    }
+
+    fn counted(&self, lists: &[usize]) -> Vec<u16> {
+        let counts = [&[self.inputs.len()], lists].concat();
+        counts.iter().map(|&count| count as u16).collect()
+    }
+
+    fn gates_and_outputs(&self) -> Vec<u16> {
+        let n = self.inputs.len();
+        let gates = self.gates.iter();
+        let mut words: Vec<u16> = gates.flat_map(|gate| gate_words(gate, n)).collect();
         for output in &self.outputs {
             words.extend(name_words(&output.port));
             words.push(source_word(output.node, n));
@@ -116,17 +146,50 @@ impl Block {
 
     /// The block that well-formed words store.
     pub fn from_words(words: &[u16]) -> Block {
-        let [n, m, k] = [0, 1, 2].map(|i| usize::from(words[i]));
-        let (names, rest) = words[HEAD_WORDS..block_words(n, m, k)].split_at(NAME_WORDS * n);
+        let [n, m, k, l] = [0, 1, 2, 3].map(|i| usize::from(words[i]));
+        let (names, rest) = words[HEAD_WORDS..block_words(n, l, m, k)].split_at(NAME_WORDS * n);
+        let (nevers, rest) = rest.split_at(NEVER_WORDS * l);
         let (gates, outputs) = rest.split_at(GATE_WORDS * m);
+        let never = |w: &[u16]| Never {
+            fixed: w[0],
+            ones: w[1],
+        };
         Block {
             inputs: names.chunks(NAME_WORDS).map(name_of).collect(),
+            nevers: nevers.chunks(NEVER_WORDS).map(never).collect(),
             gates: gates.chunks(GATE_WORDS).map(|w| gate_of(w, n)).collect(),
             outputs: outputs
                 .chunks(OUTPUT_WORDS)
                 .map(|w| output_of(w, n))
                 .collect(),
         }
+    }
+
+    /// The block without its never lines.
+    pub fn without_nevers(&self) -> Block {
+        Block {
+            nevers: Vec::new(),
+            ..self.clone()
+        }
+    }
+
+    /// For each setting, by number, whether it agrees with a never line: line by line, every part of the inputs that the line leaves
+    /// free is added to its ones.
+    pub fn excluded_settings(&self) -> Vec<bool> {
+        let settings = 1 << self.inputs.len();
+        let mut excluded = vec![false; settings];
+        for never in &self.nevers {
+            let free = (settings - 1) & !usize::from(never.fixed);
+            let mut part = free;
+            loop {
+                excluded[usize::from(never.ones) | part] = true;
+                if part == 0 {
+                    break;
+                }
+                part = (part - 1) & free;
+            }
+        }
+        excluded
     }
 
     /// Whether each gate reads only inputs, constants and lower gates.

@@ -4,8 +4,10 @@
 pub mod seeded;
 pub mod tally;
 
+use crate::block::Block;
 use crate::generate::{Random, Report};
 use crate::limits::{BLOCK_WORDS, INPUTS, WRITTEN_BYTES};
+use crate::malformed::is_malformed;
 use crate::Answer;
 use std::fmt::Debug;
 use tally::count;
@@ -71,6 +73,7 @@ pub fn compare_values(words: &[u16], setting: &[u8]) {
 fn compare_words(words: &[u16]) {
     let all = usize::MAX;
     count(|tally| tally.words += 1);
+    count_lines(words);
     let told = Answer::from(raw::verdict(words));
     assert_eq!(told, crate::verdict(words), "verdict");
     compare("write", 9, crate::write(words, all), |text| {
@@ -84,6 +87,29 @@ fn compare_words(words: &[u16]) {
     });
     compare("cover", 9_999, crate::cover(words, all), |entries| {
         raw::cover(words, entries)
+    });
+    compare_brought(words);
+}
+
+/// Compares Bring on words, whether or not they are as they were before there were never lines.
+pub fn compare_brought(old: &[u16]) {
+    let _report = Report(|| format!("bring of {old:?}"));
+    count(|tally| tally.brought += 1);
+    compare("bring", 9_999, crate::bring(old, usize::MAX), |block| {
+        raw::bring(old, block)
+    });
+}
+
+/// Counts a well-formed block by its never lines.
+fn count_lines(words: &[u16]) {
+    if is_malformed(words) {
+        return;
+    }
+    let block = Block::from_words(words);
+    let excluded = block.excluded_settings();
+    count(|tally| {
+        tally.lines[block.nevers.len()] += 1;
+        tally.all_excluded += usize::from(excluded.iter().all(|&excluded| excluded));
     });
 }
 

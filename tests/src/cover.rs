@@ -11,15 +11,15 @@ pub fn cover(block: &[u16], room: usize) -> (Answer, Vec<u16>) {
 
 fn covered(words: &[u16]) -> Outcome<u16> {
     let block = well_formed(words)?;
-    let entries = entries(&Network::new(&block).settled_settings());
+    let entries = entries(&Network::new(&block).sound_settings());
     let words = entries.iter().flat_map(|&(mask, ones)| [mask, ones]);
     Ok((entries.len(), words.map(|word| word as u16).collect()))
 }
 
-/// The cover of a list that tells which settings are settled, ascending.
-pub fn entries(settled: &[bool]) -> Vec<(usize, usize)> {
-    let sound = soundness(settled);
-    let mut entries = assignments(settled.len());
+/// The cover of a list that tells which settings are settled or excluded, ascending.
+pub fn entries(good: &[bool]) -> Vec<(usize, usize)> {
+    let sound = soundness(good);
+    let mut entries = assignments(good.len());
     entries.retain(|&(mask, ones)| sound[mask][ones]);
     entries.retain(|&(mask, ones)| {
         let fixed = (0..usize::BITS).map(|i| 1 << i);
@@ -37,12 +37,12 @@ fn assignments(settings: usize) -> Vec<(usize, usize)> {
     masks.flat_map(below).filter(part).collect()
 }
 
-/// For each assignment, whether every setting that agrees with it is settled.
-fn soundness(settled: &[bool]) -> Vec<Vec<bool>> {
-    let mut sound = vec![vec![false; settled.len()]; settled.len()];
-    for (mask, ones) in assignments(settled.len()) {
-        let mut agreeing = (0..settled.len()).filter(|setting| setting & mask == ones);
-        sound[mask][ones] = agreeing.all(|setting| settled[setting]);
+/// For each assignment, whether every setting that agrees with it is settled or excluded.
+fn soundness(good: &[bool]) -> Vec<Vec<bool>> {
+    let mut sound = vec![vec![false; good.len()]; good.len()];
+    for (mask, ones) in assignments(good.len()) {
+        let mut agreeing = (0..good.len()).filter(|setting| setting & mask == ones);
+        sound[mask][ones] = agreeing.all(|setting| good[setting]);
     }
     sound
 }

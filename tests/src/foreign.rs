@@ -1,4 +1,4 @@
-//! Compare: is a straight block that was made elsewhere as good as the original?
+//! Compare: is a straight block that was made elsewhere as good as the original? Only the original's never lines play a part.
 
 use crate::answer::*;
 use crate::block::{Block, Source};
@@ -18,8 +18,8 @@ fn judged(ours: &[u16], theirs: &[u16]) -> Result<Answer, Answer> {
     refuse_if(!theirs.is_straight(), NOT_STRAIGHT)?;
     refuse_if(interface(&ours) != interface(&theirs), INTERFACE_MISMATCH)?;
     let network = Network::new(&ours);
-    let settled = network.settled_settings();
-    let counted = (0..settled.len()).filter(|&number| settled[number]);
+    let counts = network.counted_settings();
+    let counted = (0..counts.len()).filter(|&number| counts[number]);
     let found = counted.filter_map(|number| {
         let setting = setting_bytes(number, ours.inputs.len());
         let (values, swept) = (network.settled(&setting), sweep(&theirs, &setting));

@@ -5,6 +5,7 @@ pub mod large;
 pub mod long;
 pub mod malformed;
 pub mod mutants;
+pub mod nevers;
 pub mod set_lines;
 pub mod spoiled;
 pub mod texts;
@@ -14,8 +15,9 @@ pub mod wide;
 pub use blocks::{block, Shape};
 pub use large::{large, longest_written};
 pub use long::long_texts;
-pub use malformed::malformed;
+pub use malformed::{malformed, malformed_before};
 pub use mutants::{mutant, stranger, Change};
+pub use nevers::{nevers, strange_never};
 pub use set_lines::{bench_input, long_bench_inputs, odd_bench_input, set_line};
 pub use spoiled::{near_a_limit, over_a_limit, spoiled};
 pub use texts::text;
@@ -91,10 +93,11 @@ impl Random {
     }
 }
 
-/// The most inputs, gates (or gate lines) and outputs to generate.
+/// The most inputs, never lines, gates (or gate lines) and outputs to generate.
 #[derive(Debug, Clone, Copy)]
 pub struct Size {
     pub inputs: usize,
+    pub nevers: usize,
     pub gates: usize,
     pub outputs: usize,
 }
@@ -103,6 +106,7 @@ impl Size {
     /// Blocks small enough to try every setting often.
     pub const SMALL: Size = Size {
         inputs: 5,
+        nevers: crate::limits::NEVERS,
         gates: 9,
         outputs: 4,
     };
@@ -114,6 +118,7 @@ impl Size {
     /// Blocks up to every limit.
     pub const LARGE: Size = Size {
         inputs: crate::limits::INPUTS,
+        nevers: crate::limits::NEVERS,
         gates: crate::limits::GATES,
         outputs: crate::limits::OUTPUTS,
     };

@@ -6,6 +6,7 @@
 pub mod answer;
 pub mod bench;
 pub mod block;
+pub mod bring;
 pub mod catalogue;
 pub mod compare;
 pub mod cover;
@@ -31,6 +32,7 @@ pub mod write;
 
 pub use answer::Answer;
 pub use bench::bench;
+pub use bring::bring;
 pub use cover::cover;
 pub use groups::groups;
 pub use line::line;

@@ -4,6 +4,8 @@
 pub const TEXT_BYTES: usize = 61_440;
 /// The most inputs of a block.
 pub const INPUTS: usize = 10;
+/// The most never lines of a block.
+pub const NEVERS: usize = 8;
 /// The most gates of a block, and the most copies of a rendering.
 pub const GATES: usize = 1_024;
 /// The most outputs of a block.
@@ -16,20 +18,27 @@ pub const DEPTH: usize = 8;
 pub const OPERANDS: usize = 4;
 /// The words of a stored name.
 pub const NAME_WORDS: usize = NAME_BYTES / 2;
+/// The words of a stored never line: its two masks.
+pub const NEVER_WORDS: usize = 2;
 /// The words of a stored gate: its kind and count, and its operands.
 pub const GATE_WORDS: usize = 1 + OPERANDS;
 /// The words of a stored output: its port and its node.
 pub const OUTPUT_WORDS: usize = NAME_WORDS + 1;
 /// The words before the first input's name.
-pub const HEAD_WORDS: usize = 3;
+pub const HEAD_WORDS: usize = 4;
 /// The longest stored block, in words.
-pub const BLOCK_WORDS: usize = block_words(INPUTS, GATES, OUTPUTS);
+pub const BLOCK_WORDS: usize = block_words(INPUTS, NEVERS, GATES, OUTPUTS);
 /// The longest text of Write, in bytes.
-pub const WRITTEN_BYTES: usize = 56_758;
+pub const WRITTEN_BYTES: usize = 57_862;
 /// Two words for each partial assignment, enough for any cover.
 pub const COVER_WORDS: usize = 2 * 3_usize.pow(INPUTS as u32);
 
-/// The length of a stored block with n inputs, m gates and k outputs.
-pub const fn block_words(n: usize, m: usize, k: usize) -> usize {
-    HEAD_WORDS + NAME_WORDS * n + GATE_WORDS * m + OUTPUT_WORDS * k
+/// The length of a stored block with n inputs, l never lines, m gates and k outputs.
+pub const fn block_words(n: usize, l: usize, m: usize, k: usize) -> usize {
+    HEAD_WORDS + NAME_WORDS * n + NEVER_WORDS * l + GATE_WORDS * m + OUTPUT_WORDS * k
 }
+
+/// The words before the first input's name in a block stored before there were never lines.
+pub const OLD_HEAD_WORDS: usize = 3;
+/// The most inputs of such a block.
+pub const OLD_INPUTS: usize = 10;

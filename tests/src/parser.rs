@@ -26,10 +26,11 @@ pub enum Operand {
     Inner(Expression),
 }
 
-/// A whole text: its inputs, its gate lines, and its outputs as port and node.
+/// A whole text: its inputs, its never lines as names with values, its gate lines, and its outputs as port and node.
 #[derive(Debug, Clone, PartialEq, Eq, Default)]
 pub struct Netlist {
     pub inputs: Vec<Name>,
+    pub nevers: Vec<Vec<(Name, bool)>>,
     pub gates: Vec<(Name, Expression)>,
     pub outputs: Vec<(Name, Name)>,
 }
@@ -40,6 +41,10 @@ pub fn parse(text: &[u8]) -> Option<Netlist> {
     let mut netlist = Netlist::default();
     while cursor.eat("(in ") {
         netlist.inputs.push(cursor.outside_name()?);
+        cursor.demand(")\n")?;
+    }
+    while cursor.eat("(never ") {
+        netlist.nevers.push(cursor.pairs()?);
         cursor.demand(")\n")?;
     }
     while cursor.eat("(gate ") {
@@ -94,6 +99,25 @@ impl Cursor<'_> {
         let digit_first = text.starts_with(|c: char| c.is_ascii_digit());
         let good = (1..=NAME_BYTES).contains(&text.len()) && !digit_first;
         good.then_some(Name { place, text })
+    }
+
+    /// Pairs with a space between two.
+    fn pairs(&mut self) -> Option<Vec<(Name, bool)>> {
+        let mut pairs = vec![self.pair()?];
+        while self.eat(" ") {
+            pairs.push(self.pair()?);
+        }
+        Some(pairs)
+    }
+
+    fn pair(&mut self) -> Option<(Name, bool)> {
+        self.demand("(")?;
+        let name = self.name()?;
+        let value = self.eat(" 1)");
+        if !value {
+            self.demand(" 0)")?;
+        }
+        Some((name, value))
     }
 
     fn expression(&mut self, depth: usize) -> Option<Expression> {

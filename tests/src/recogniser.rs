@@ -21,11 +21,11 @@ enum Move {
     Close,
 }
 
-/// A move for each state and byte; a text may end in the first three states, the line starts.
+/// A move for each state and byte; a text may end in the first four states, the line starts.
 struct Table(Vec<[Move; 256]>);
 
-/// The line starts: inputs may still come, gates may still come, only outputs may come.
-const LINE_STARTS: [State; 3] = [0, 1, 2];
+/// The line starts: inputs may still come, never lines may still come, gates may still come, only outputs may come.
+const LINE_STARTS: [State; 4] = [0, 1, 2, 3];
 
 /// The offset of the first byte that no legal text has there, the length if cut off, or none if legal.
 pub fn first_error(text: &[u8]) -> Option<usize> {
@@ -55,13 +55,13 @@ impl Table {
     fn build() -> Table {
         let mut table = Table(Vec::new());
         let starts = LINE_STARTS.map(|_| table.state());
-        let [input, gate, output] = [
-            table.input_line(starts[0]),
-            table.gate_line(starts[1]),
-            table.output_line(starts[2]),
+        let lines = [
+            ("(in ", table.input_line(starts[0])),
+            ("(never ", table.never_line(starts[1])),
+            ("(gate ", table.gate_line(starts[2])),
+            ("(out ", table.output_line(starts[3])),
         ];
         for (section, &start) in starts.iter().enumerate() {
-            let lines = [("(in ", input), ("(gate ", gate), ("(out ", output)];
             for (word, rest) in &lines[section..] {
                 table.word(start, word, Move::Go(*rest));
             }
@@ -74,6 +74,17 @@ impl Table {
         let [name] = self.states();
         self.name(name, LETTERS, &[(b')', Move::Go(end))]);
         name
+    }
+
+    fn never_line(&mut self, next_line: State) -> State {
+        let end = self.bracket_and_line_end(next_line);
+        let [pair, name, value, close, after] = self.states();
+        self.on(pair, b"(", Move::Go(name));
+        self.name(name, LETTERS_AND_BAR, &[(b' ', Move::Go(value))]);
+        self.on(value, b"01", Move::Go(close));
+        self.on(close, b")", Move::Go(after));
+        self.all(after, &[(b' ', Move::Go(pair)), (b')', Move::Go(end))]);
+        pair
     }
 
     fn gate_line(&mut self, next_line: State) -> State {

@@ -16,8 +16,8 @@ fn rendered(words: &[u16]) -> Outcome<u16> {
     let block = well_formed(words)?;
     let layout = Layout::new(&block);
     refuse_if(layout.copies > limits::GATES, TOO_MANY_COPIES)?;
-    let settled = Network::new(&block).settled_settings();
-    if let Some(lowest) = settled.iter().position(|&settled| !settled) {
+    let sound = Network::new(&block).sound_settings();
+    if let Some(lowest) = sound.iter().position(|&sound| !sound) {
         return Err(Answer::refusal(NOT_SETTLED, lowest));
     }
     let words = layout.rendering(&block).to_words();
@@ -99,6 +99,7 @@ impl Layout {
         };
         Block {
             inputs: block.inputs.clone(),
+            nevers: block.nevers.clone(),
             gates,
             outputs: block.outputs.iter().map(output).collect(),
         }

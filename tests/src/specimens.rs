@@ -31,6 +31,17 @@ pub const PROGRAM_INPUT: &str = "(in s)\n(gate p (and s q))\n(gate q (or s p))\n
 pub const PROGRAM_OUTPUT: &str = "(in s)\n(gate _0 (and s 0))\n(gate _1 (or s _0))\n\
     (gate _2 (and s _1))\n(gate _3 (or s _2))\n(out y _3)\n";
 
+/// A loop that never settles, and two inputs that are never both 1.
+pub const NEVER_BOTH: &str = "(in a)\n(in b)\n(never (a 1) (b 1))\n(gate p (not p))\n(out y p)\n";
+
+/// The loop of specimen 4, whose one unsettled setting never comes.
+pub const NEVER_UNSETTLED: &str =
+    "(in a)\n(in b)\n(never (b 0) (a 1))\n(gate p (and a q))\n(gate q (or b p))\n(out y q)\n";
+
+/// Every setting excluded, one of them twice.
+pub const NEVER_ANY: &str =
+    "(in a)\n(never (a 0))\n(never (a 1))\n(never (a 0))\n(gate p (not p))\n(out y p)\n";
+
 /// Specimen 7: a ring of `size` gates; gate 0 is `first` of the last, each other `not` of the one before.
 pub fn ring(size: usize, first: &str) -> String {
     let last = size - 1;

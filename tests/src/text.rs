@@ -1,7 +1,7 @@
 //! Read: from a text to the words of its block.
 
 use crate::answer::*;
-use crate::block::{Block, Gate, Output, Source};
+use crate::block::{Block, Gate, Never, Output, Source};
 use crate::limits;
 use crate::parser::{self, Expression, Name, Netlist, Operand};
 use crate::recogniser;
@@ -48,6 +48,7 @@ fn by_closing_bracket(netlist: &Netlist) -> Vec<&Expression> {
 
 fn over_a_limit(netlist: &Netlist, gates: usize) -> bool {
     netlist.inputs.len() > limits::INPUTS
+        || netlist.nevers.len() > limits::NEVERS
         || gates > limits::GATES
         || netlist.outputs.len() > limits::OUTPUTS
 }
@@ -58,20 +59,23 @@ fn nodes(netlist: &Netlist) -> impl Iterator<Item = &Name> {
     netlist.inputs.iter().chain(gates)
 }
 
-/// The least place of a declaration that has an equal one before it.
+/// The least place of a name that has an equal one before it in its set: nodes are a set, ports another, and each never line one.
 fn first_repeat(netlist: &Netlist) -> Option<usize> {
-    let ports = netlist.outputs.iter().map(|(port, _)| (true, port));
-    let nodes = nodes(netlist).map(|node| (false, node));
-    let mut sorted: Vec<(bool, &str, usize)> = nodes
+    let nodes = nodes(netlist).map(|node| (0, node));
+    let ports = netlist.outputs.iter().map(|(port, _)| (1, port));
+    let lines = netlist.nevers.iter().enumerate();
+    let nevers = lines.flat_map(|(i, pairs)| pairs.iter().map(move |(name, _)| (2 + i, name)));
+    let mut sorted: Vec<(usize, &str, usize)> = nodes
         .chain(ports)
-        .map(|(is_port, name)| (is_port, name.text.as_str(), name.place))
+        .chain(nevers)
+        .map(|(set, name)| (set, name.text.as_str(), name.place))
         .collect();
     sorted.sort_unstable();
-    let equal = |pair: &&[(bool, &str, usize)]| (pair[0].0, pair[0].1) == (pair[1].0, pair[1].1);
+    let equal = |pair: &&[(usize, &str, usize)]| (pair[0].0, pair[0].1) == (pair[1].0, pair[1].1);
     sorted.windows(2).filter(equal).map(|pair| pair[1].2).min()
 }
 
-/// The least place of a name used but not declared.
+/// The least place of a name used but not declared, or in a never line and no input's.
 fn first_undeclared(netlist: &Netlist, expressions: &[&Expression]) -> Option<usize> {
     let declared: BTreeSet<&str> = nodes(netlist).map(|name| name.text.as_str()).collect();
     let operands = expressions.iter().flat_map(|e| &e.operands);
@@ -81,8 +85,12 @@ fn first_undeclared(netlist: &Netlist, expressions: &[&Expression]) -> Option<us
     });
     let shown = netlist.outputs.iter().map(|(_, node)| node);
     let unknown = |name: &&Name| !declared.contains(name.text.as_str());
+    let inputs: BTreeSet<&str> = netlist.inputs.iter().map(|n| n.text.as_str()).collect();
+    let named = netlist.nevers.iter().flatten().map(|(name, _)| name);
+    let strange = named.filter(|name| !inputs.contains(name.text.as_str()));
     read.chain(shown)
         .filter(unknown)
+        .chain(strange)
         .map(|name| name.place)
         .min()
 }
@@ -104,12 +112,21 @@ fn assembled(netlist: &Netlist, expressions: &[&Expression]) -> Block {
         kind: e.kind,
         operands: e.operands.iter().map(source).collect(),
     };
+    let bit = |(name, _): &(Name, bool)| match sources[name.text.as_str()] {
+        Source::Input(input) => 1 << input,
+        _ => unreachable!("refused before"),
+    };
+    let never = |pairs: &Vec<(Name, bool)>| Never {
+        fixed: pairs.iter().map(bit).sum(),
+        ones: pairs.iter().filter(|pair| pair.1).map(bit).sum(),
+    };
     let output = |(port, node): &(Name, Name)| Output {
         port: port.text.clone(),
         node: sources[node.text.as_str()],
     };
     Block {
         inputs: netlist.inputs.iter().map(|n| n.text.clone()).collect(),
+        nevers: netlist.nevers.iter().map(never).collect(),
         gates: expressions.iter().map(gate).collect(),
         outputs: netlist.outputs.iter().map(output).collect(),
     }

@@ -100,6 +100,22 @@ impl<'a> Network<'a> {
         let defined = |setting: Vec<u8>| !self.shown(&setting).contains(&UNDEFINED);
         (0..1 << n).map(|s| defined(setting_bytes(s, n))).collect()
     }
+
+    /// For each setting, by number, whether it is in no one's way: settled, or excluded by a never line.
+    pub fn sound_settings(&self) -> Vec<bool> {
+        let excluded = self.block.excluded_settings().into_iter();
+        let both = self.settled_settings().into_iter().zip(excluded);
+        both.map(|(settled, excluded)| settled || excluded)
+            .collect()
+    }
+
+    /// For each setting, by number, whether it counts: settled, and not excluded.
+    pub fn counted_settings(&self) -> Vec<bool> {
+        let excluded = self.block.excluded_settings().into_iter();
+        let both = self.settled_settings().into_iter().zip(excluded);
+        both.map(|(settled, excluded)| settled && !excluded)
+            .collect()
+    }
 }
 
 /// The bytes of a setting's number: input i has weight 2^i.

@@ -1,4 +1,4 @@
-//! Verdict: how many settings are settled, and the lowest that isn't.
+//! Verdict: how many settings are settled, and the lowest that isn't, of those that no never line excludes.
 
 use crate::answer::Answer;
 use crate::malformed::well_formed;
@@ -10,11 +10,12 @@ pub fn verdict(block: &[u16]) -> Answer {
         Ok(block) => block,
         Err(refusal) => return refusal,
     };
-    let settled = Network::new(&block).settled_settings();
-    let lowest = settled.iter().position(|&settled| !settled);
+    let network = Network::new(&block);
+    let (counted, sound) = (network.counted_settings(), network.sound_settings());
+    let lowest = sound.iter().position(|&sound| !sound);
     Answer {
         number: 0,
-        count: settled.iter().filter(|&&settled| settled).count(),
-        detail: lowest.unwrap_or(settled.len()),
+        count: counted.iter().filter(|&&counted| counted).count(),
+        detail: lowest.unwrap_or(sound.len()),
     }
 }

@@ -1,7 +1,7 @@
 //! Write: from a block to its text.
 
 use crate::answer::{told, Answer, Outcome};
-use crate::block::{Block, Source};
+use crate::block::{Block, Never, Source};
 use crate::malformed::well_formed;
 
 /// Block to text, gates flat and named `_` and their number; count: bytes.
@@ -22,6 +22,14 @@ fn lines(block: &Block) -> Vec<String> {
         Source::Gate(gate) => format!("_{gate}"),
     };
     let inputs = block.inputs.iter().map(|name| format!("(in {name})\n"));
+    let pair = |never: &Never, i: usize| match never.fixed >> i & 1 {
+        0 => String::new(),
+        _ => format!(" ({} {})", block.inputs[i], never.ones >> i & 1),
+    };
+    let nevers = block.nevers.iter().map(|never| {
+        let pairs: String = (0..block.inputs.len()).map(|i| pair(never, i)).collect();
+        format!("(never{pairs})\n")
+    });
     let gates = block.gates.iter().enumerate().map(|(number, gate)| {
         let operands: Vec<String> = gate.operands.iter().map(show).collect();
         let keyword = gate.kind.keyword();
@@ -29,5 +37,5 @@ fn lines(block: &Block) -> Vec<String> {
     });
     let outputs = block.outputs.iter();
     let outputs = outputs.map(|o| format!("(out {} {})\n", o.port, show(&o.node)));
-    inputs.chain(gates).chain(outputs).collect()
+    inputs.chain(nevers).chain(gates).chain(outputs).collect()
 }

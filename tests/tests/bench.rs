@@ -45,6 +45,20 @@ fn worked_examples() {
     answers("(set (abcdefghi 1))\n", "(refused 2 14)\n");
 }
 
+/// A setting that never comes is answered as any other.
+#[test]
+fn never_lines_play_no_part() {
+    let (inputs, rest) = BLOCK.split_at("(in a)\n(in b)\n".len());
+    let lines =
+        "(set (a 1) (b 0))\n(set (b 1))\n(set (a 0) (b 1))\n(set)\n(set (a 1) (b 1) (a 1))\n";
+    let plain = bench(format!("{inputs}{rest}\n{lines}").as_bytes());
+    let nevers = "(never (b 0) (a 1))\n(never (b 1))\n";
+    let told = bench(format!("{inputs}{nevers}{rest}\n{lines}").as_bytes());
+    assert_eq!(told, plain);
+    let refused = bench(format!("{inputs}(never (y 1))\n{rest}\n{lines}").as_bytes());
+    assert_eq!(refused, b"(refused 5 22)\n");
+}
+
 #[test]
 fn where_the_netlist_ends() {
     for (input, netlist, rest) in [

@@ -8,7 +8,7 @@ use simulator::generate::Report;
 use simulator::limits::{BLOCK_WORDS, COVER_WORDS};
 use simulator::settle::sweep;
 use simulator::values::{setting_bytes, Network, UNDEFINED};
-use simulator::{cover, read};
+use simulator::{cover, read, verdict};
 use std::collections::{BTreeMap, BTreeSet};
 use std::fs;
 use std::path::PathBuf;
@@ -89,12 +89,12 @@ fn covers_by_the_simulator_and_the_library() {
     });
 }
 
-/// The settings that the cover has are those that settle, and 9 tells the lowest other.
+/// The settings that the cover has are those that settle or never come, and 9 tells the lowest other.
 #[test]
 fn covers_tell_which_settings_settle() {
     for_each(|name, text| {
         let Some(words) = words(text) else { return };
-        let settled = Network::new(&Block::from_words(&words)).settled_settings();
+        let settled = Network::new(&Block::from_words(&words)).sound_settings();
         let entries = cover(&words, usize::MAX).1;
         let agrees = |setting: usize| {
             let agree = |entry: &[u16]| setting as u16 & entry[0] == entry[1];
@@ -140,8 +140,10 @@ fn renderings_are_straight_and_say_what_the_originals_say() {
             block.outputs.iter().map(|o| o.port.clone()).collect()
         };
         assert_eq!(ports(&rendering), ports(&original));
+        assert_eq!(rendering.nevers, original.nevers);
         let network = Network::new(&original);
-        for number in 0..1 << original.inputs.len() {
+        let excluded = original.excluded_settings();
+        for number in (0..excluded.len()).filter(|&number| !excluded[number]) {
             let setting = setting_bytes(number, original.inputs.len());
             let said = shown(&original, &setting, &network.settled(&setting));
             let swept = shown(&rendering, &setting, &sweep(&rendering, &setting));
@@ -208,6 +210,46 @@ fn scaler_with_parity_tells_a_wrong_word() {
 fn mended_rate_block_passes_the_sample_unless_muted() {
     for_settings("rate-mended", |pins, ports| {
         assert_eq!(ports["y"], pins["sample"] * (1 - pins["mute"]));
+    });
+}
+
+/// Both mode pins at 1 never come; the block without the line waits for itself there.
+#[test]
+fn mode_pins_pass_the_sample_on() {
+    for_settings("mode-pins", |pins, ports| {
+        if pins["fast"] + pins["slow"] < 2 {
+            assert_eq!(ports["z"], 1 - pins["sample"]);
+            assert_eq!(ports["y"], pins["sample"] ^ pins["fast"]);
+        }
+    });
+    let excluded = block("mode-pins").excluded_settings();
+    let settled = Network::new(&block("mode-pins-any")).settled_settings();
+    let which = |list: &[bool], is: bool| -> Vec<usize> {
+        (0..8).filter(|&setting| list[setting] == is).collect()
+    };
+    assert_eq!(which(&excluded, true), [6, 7]);
+    assert_eq!(which(&settled, false), [6, 7]);
+    assert_eq!(block("mode-pins").without_nevers(), block("mode-pins-any"));
+    let told = verdict(&words(&file("mode-pins", "net")).unwrap());
+    assert_eq!((told.count, told.detail), (6, 8));
+}
+
+/// The never line of rate-never-48.net excludes the settings that rate.net is refused for; what is rendered shows 0 there.
+#[test]
+fn a_never_line_hides_the_fault_of_the_rate_block() {
+    let hidden = block("rate-never-48");
+    assert_eq!(hidden.without_nevers(), block("rate"));
+    let excluded = hidden.excluded_settings();
+    let settled = Network::new(&hidden).settled_settings();
+    let unsettled: Vec<usize> = (0..16).filter(|&setting| !settled[setting]).collect();
+    assert_eq!(unsettled, [8, 9]);
+    assert!((0..16).all(|setting| excluded[setting] == (setting >= 8)));
+    for_settings("rate-never-48", |pins, ports| {
+        let passed = pins["sample"] * (1 - pins["mute"]);
+        match (pins["k48"], pins["k44"]) {
+            (1, 0) => assert_eq!(ports["y"], 0),
+            _ => assert_eq!(ports["y"], passed),
+        }
     });
 }
 

@@ -4,7 +4,7 @@
 mod common;
 
 use common::answer;
-use simulator::compare::tally::{answered_often, print_compared};
+use simulator::compare::tally::{answered_often, print_compared, Tally};
 use simulator::compare::*;
 use simulator::generate::{large, long_texts, widest_cover, Random, Report, Size};
 use simulator::limits::TEXT_BYTES;
@@ -23,6 +23,12 @@ fn spoiled_texts() {
     seeded::spoiled_texts(0..40_000, Size::SMALL);
     seeded::spoiled_texts(0..400, Size::LARGE);
     answered_often(&[0, 2, 4, 5, 11], 1_000);
+}
+
+#[test]
+fn texts_with_a_strange_never() {
+    seeded::texts_with_a_strange_never(0..20_000);
+    answered_often(&[0, 2, 3, 4, 5, 11], 300);
 }
 
 #[test]
@@ -64,6 +70,27 @@ fn generated_blocks() {
     seeded::blocks(20_000..20_100, Size::MIDDLE);
     seeded::blocks(30_000..30_024, Size::LARGE);
     answered_often(&[0, 7, 8, 9, 10, 11], 20);
+    let Tally {
+        lines,
+        all_excluded,
+        ..
+    } = Tally::so_far();
+    assert!(lines.iter().all(|&blocks| blocks > 500), "{lines:?}");
+    assert!(all_excluded > 500, "{all_excluded}");
+}
+
+/// Blocks from before there were never lines have the answers that they had.
+#[test]
+fn brought_blocks() {
+    seeded::brought_blocks(0..6_000, Size::SMALL);
+    seeded::brought_blocks(20_000..20_030, Size::MIDDLE);
+    answered_often(&[0, 6, 7, 9, 10, 11], 100);
+}
+
+#[test]
+fn malformed_old_words() {
+    seeded::malformed_old_words(0..1_000);
+    answered_often(&[6], 50_000);
 }
 
 #[test]
@@ -83,6 +110,7 @@ fn largest_blocks() {
     for (name, block) in large() {
         let _report = Report(|| name.to_string());
         compare_largest(&block.to_words());
+        compare_brought(&block.to_old_words());
     }
     print_compared();
 }
@@ -119,6 +147,9 @@ fn specimens() {
         &inputs,
         PROGRAM_INPUT,
         PROGRAM_OUTPUT,
+        NEVER_BOTH,
+        NEVER_UNSETTLED,
+        NEVER_ANY,
     ];
     for text in texts {
         let _report = Report(|| text.to_string());
@@ -130,8 +161,8 @@ fn specimens() {
             compare_values(&words_of(text), &(0..n).map(digit).collect::<Vec<u8>>());
         }
     }
-    let render = |text: &str| Answer::from(unloop::raw::render(&words_of(text), &mut [0; 5_243]));
-    assert_eq!(render(&ring_of_32), answer(0, 3 + 5 * 1_024, 0));
+    let render = |text: &str| Answer::from(unloop::raw::render(&words_of(text), &mut [0; 5_260]));
+    assert_eq!(render(&ring_of_32), answer(0, 4 + 5 * 1_024, 0));
     assert_eq!(render(&lone), answer(8, 0, 0));
     assert_eq!(render(&ring_of_33), answer(8, 0, 0));
     print_compared();

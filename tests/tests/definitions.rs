@@ -1,11 +1,11 @@
 //! The simulator's own ways against plain transcriptions of the definitions of docs/SPECIFICATION.md.
 
-use simulator::block::{Block, Gate, Kind, Output, Source};
+use simulator::block::{Block, Gate, Kind, Never, Output, Source};
 use simulator::generate::{for_blocks, Random, Size};
-use simulator::limits::{BLOCK_WORDS, COVER_WORDS, GATES};
+use simulator::limits::{BLOCK_WORDS, COVER_WORDS, GATES, NEVERS};
 use simulator::rounds::stated_value;
 use simulator::values::{gate_value, Network};
-use simulator::{cover, groups, line, render};
+use simulator::{cover, groups, line, render, verdict};
 use std::collections::BTreeSet;
 
 /// A group's number for each gate, straight from the definition.
@@ -94,6 +94,7 @@ fn stated_rendering(block: &Block) -> Block {
     };
     Block {
         inputs: block.inputs.clone(),
+        nevers: block.nevers.clone(),
         outputs: block.outputs.iter().map(output).collect(),
         gates,
     }
@@ -115,7 +116,7 @@ fn renderings_as_stated() {
     for_blocks(0..400, middle, check);
 }
 
-/// The prime implicants of the settled settings, by merging pairs that differ in one fixed input.
+/// The prime implicants of the settings that are settled or excluded, by merging pairs that differ in one fixed input.
 fn merged_cover(settled: &[bool]) -> Vec<u16> {
     let full = settled.len() as u16 - 1;
     let minterms = (0..=full).filter(|&s| settled[usize::from(s)]);
@@ -144,9 +145,14 @@ fn merged_cover(settled: &[bool]) -> Vec<u16> {
 #[test]
 fn covers_are_prime_implicants() {
     let check = |_: &mut Random, block: &Block, words: &[u16]| {
-        let settled = Network::new(block).settled_settings();
+        let excluded = stated_exclusions(block).into_iter();
+        let settled = Network::new(block).settled_settings().into_iter();
+        let sound = settled
+            .zip(excluded)
+            .map(|(settled, excluded)| settled || excluded);
+        let sound: Vec<bool> = sound.collect();
         let (told, entries) = cover(words, COVER_WORDS);
-        assert_eq!((told.number, entries), (0, merged_cover(&settled)));
+        assert_eq!((told.number, entries), (0, merged_cover(&sound)));
     };
     for_blocks(0..8_000, Size::SMALL, check);
     let many_inputs = Size {
@@ -154,6 +160,44 @@ fn covers_are_prime_implicants() {
         ..Size::LARGE
     };
     for_blocks(0..60, many_inputs, check);
+}
+
+/// Whether each setting agrees with some never line, input by input.
+fn stated_exclusions(block: &Block) -> Vec<bool> {
+    let n = block.inputs.len();
+    let bit = |mask: u16, i: usize| usize::from(mask) >> i & 1;
+    let agrees = |setting: usize, never: &Never| {
+        let mut fixed = (0..n).filter(|&i| bit(never.fixed, i) == 1);
+        fixed.all(|i| setting >> i & 1 == bit(never.ones, i))
+    };
+    let excluded = |setting| block.nevers.iter().any(|never| agrees(setting, never));
+    (0..1 << n).map(excluded).collect()
+}
+
+#[test]
+fn exclusions_as_stated() {
+    let mut lines = [0; NEVERS + 1];
+    let mut all = 0;
+    for_blocks(0..8_000, Size::SMALL, |_, block, words| {
+        let excluded = block.excluded_settings();
+        assert_eq!(excluded, stated_exclusions(block));
+        let settled = Network::new(block).settled_settings();
+        let is =
+            |setting: usize, is_settled: bool| !excluded[setting] && settled[setting] == is_settled;
+        let mut told = verdict(words);
+        assert_eq!(
+            told.count,
+            (0..settled.len()).filter(|&s| is(s, true)).count()
+        );
+        told.detail = (0..settled.len())
+            .find(|&s| is(s, false))
+            .unwrap_or(settled.len());
+        assert_eq!(told, verdict(words));
+        lines[block.nevers.len()] += 1;
+        all += usize::from(!excluded.contains(&false));
+    });
+    println!("blocks by never lines {lines:?}, {all} with every setting excluded");
+    assert!(lines.iter().all(|&blocks| blocks > 100) && all > 100);
 }
 
 #[test]

@@ -5,9 +5,10 @@ use simulator::block::Block;
 use simulator::compare::compare_pair;
 use simulator::compare::tally::answered_often;
 use simulator::generate::{
-    for_blocks, for_typical_blocks, large, malformed, mutant, stranger, Change, Random, Size,
+    for_blocks, for_typical_blocks, large, malformed, mutant, nevers, stranger, Change, Random,
+    Size,
 };
-use simulator::limits::GATES;
+use simulator::limits::{GATES, NEVERS};
 use simulator::render::{copied, render};
 
 const ACCEPTED: Answer = Answer {
@@ -21,6 +22,8 @@ const ACCEPTED: Answer = Answer {
 struct Mutants {
     caught: [usize; 3],
     equal: [usize; 3],
+    /// Those accepted that would be caught without the never lines of ours.
+    hidden: usize,
 }
 
 impl Mutants {
@@ -31,11 +34,20 @@ impl Mutants {
             return;
         }
         assert_eq!(compare_pair(words, &rendering.to_words()), ACCEPTED);
+        let mut other_lines = rendering.clone();
+        other_lines.nevers = nevers(random, block.inputs.len(), NEVERS);
+        assert_eq!(compare_pair(words, &other_lines.to_words()), ACCEPTED);
         for change in Change::ALL {
             let mutants = (0..each).filter_map(|_| mutant(random, &rendering, change));
-            for mutant in mutants.collect::<Vec<Block>>() {
+            for mut mutant in mutants.collect::<Vec<Block>>() {
                 let told = compare_pair(words, &mutant.to_words());
                 assert_eq!(told.number, 0);
+                // The never lines of theirs play no part, and without ours no fewer settings count.
+                mutant.nevers = nevers(random, block.inputs.len(), NEVERS);
+                assert_eq!(compare_pair(words, &mutant.to_words()), told);
+                let all = compare_pair(&block.without_nevers().to_words(), &mutant.to_words());
+                assert!(told == ACCEPTED || all != ACCEPTED);
+                self.hidden += usize::from(told == ACCEPTED && all != ACCEPTED);
                 let counted = match told == ACCEPTED {
                     true => &mut self.equal,
                     false => &mut self.caught,
@@ -50,6 +62,8 @@ impl Mutants {
             let (caught, equal) = (self.caught[change as usize], self.equal[change as usize]);
             println!("{blocks}, {change:?} changed: {caught} caught, {equal} equal under every settled setting");
         }
+        let hidden = self.hidden;
+        println!("{blocks}: {hidden} of the equal ones differ under settings that never come");
     }
 }
 
@@ -62,6 +76,7 @@ fn mutants_of_small_renderings() {
     mutants.print("small blocks");
     let all = |counts: [usize; 3]| counts.iter().sum::<usize>();
     assert!(all(mutants.caught) > 10_000 && all(mutants.equal) > 10_000);
+    assert!(mutants.hidden > 1_000);
 }
 
 #[test]

@@ -7,8 +7,9 @@ use std::collections::BTreeSet;
 use std::sync::OnceLock;
 
 /// Whole lines but for their closing brackets; every suffix of one is tried as an ending.
-const LINES: [&str; 9] = [
+const LINES: [&str; 10] = [
     "(in a",
+    "(never (a 1",
     "(gate p (not 0",
     "(gate p (and 0 0",
     "(gate p (or 0 0",
@@ -76,6 +77,7 @@ fn check(text: &[u8]) {
 
 const SHORT: Size = Size {
     inputs: 1,
+    nevers: 2,
     gates: 2,
     outputs: 1,
 };
@@ -104,6 +106,7 @@ fn every_byte_after_every_beginning() {
         "(in a)\n(gate p (nand a 0 b 1))\n(out y p)\n",
         "(gate _ (nor _1234567 (and 1 (not 0)) _))\n(out abcdefgh abcdefgh)\n",
         "(in abcdefgh)\n(out in in)\n",
+        "(in a)\n(never (a 1) (_b 0))\n(never (abcdefgh 1))\n(gate p (not a))\n",
     ];
     for text in texts {
         for end in 0..=text.len() {
@@ -129,7 +132,8 @@ fn short_junk() {
     for seed in 0..3_000 {
         let mut random = Random::new(seed);
         let length = random.below(6);
-        let junk: Vec<u8> = (0..length).map(|_| random.pick(b"() \nigo0a")).collect();
-        check(&[b"(gate p (and"[..random.below(13)].to_vec(), junk].concat());
+        let junk: Vec<u8> = (0..length).map(|_| random.pick(b"() \nigno0a")).collect();
+        let line = random.pick(&[&b"(gate p (and"[..], b"(never (a 1)"]);
+        check(&[line[..random.below(13)].to_vec(), junk].concat());
     }
 }

@@ -83,11 +83,13 @@ fn check_rendering(block: &Block, words: &[u16], copies: usize) {
     assert!(rendered.is_straight());
     assert_eq!(rendered.gates.len(), copies);
     assert_eq!(rendered.inputs, block.inputs);
+    assert_eq!(rendered.nevers, block.nevers);
     let ports =
         |block: &Block| -> Vec<String> { block.outputs.iter().map(|o| o.port.clone()).collect() };
     assert_eq!(ports(&rendered), ports(block));
     let network = Network::new(block);
-    for number in 0..1 << block.inputs.len() {
+    let excluded = block.excluded_settings();
+    for number in (0..excluded.len()).filter(|&number| !excluded[number]) {
         let setting = setting_bytes(number, block.inputs.len());
         let (settled, swept) = (network.settled(&setting), sweep(&rendered, &setting));
         for (output, copy) in block.outputs.iter().zip(&rendered.outputs) {
@@ -145,11 +147,17 @@ fn covers() {
         let (told, entries) = cover(words, COVER_WORDS);
         assert_eq!(told, answer(0, entries.len() / 2, 0));
         let contained = |setting: u16| entries.chunks(2).any(|e| setting & e[0] == e[1]);
-        let settled = Network::new(block).settled_settings();
+        let (settled, excluded) = (
+            Network::new(block).settled_settings(),
+            block.excluded_settings(),
+        );
+        let is_excluded = |setting: u16| excluded[usize::from(setting)];
         for setting in 0..settings {
-            assert_eq!(contained(setting), settled[usize::from(setting)]);
+            let sound = settled[usize::from(setting)] || is_excluded(setting);
+            assert_eq!(contained(setting), sound);
         }
-        let count = (0..settings).filter(|&setting| contained(setting)).count();
+        let counted = (0..settings).filter(|&setting| !is_excluded(setting));
+        let count = counted.filter(|&setting| contained(setting)).count();
         let lowest = (0..settings).find(|&setting| !contained(setting));
         let detail = lowest.unwrap_or(settings).into();
         assert_eq!(verdict(words), answer(0, count, detail));
@@ -179,6 +187,8 @@ fn room() {
         check_room(|room| cover(words, room));
         check_room(|room| groups(words, room));
         check_room(|room| render(words, room));
+        let old = block.to_old_words();
+        check_room(|room| bring(&old, room));
     };
     for_blocks(0..2_000, Size::SMALL, check);
     for_blocks(0..8, Size::LARGE, check);

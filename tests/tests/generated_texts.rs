@@ -3,8 +3,8 @@
 mod common;
 
 use common::answer;
-use simulator::generate::{for_texts, over_a_limit, spoiled, Random, Report, Size};
-use simulator::limits::{BLOCK_WORDS, GATES, INPUTS, OUTPUTS};
+use simulator::generate::{for_texts, over_a_limit, spoiled, strange_never, Random, Report, Size};
+use simulator::limits::{BLOCK_WORDS, GATES, INPUTS, NEVERS, OUTPUTS};
 use simulator::parser::parse;
 use simulator::recogniser::first_error;
 use simulator::{read, Answer};
@@ -48,16 +48,23 @@ fn tokens(text: &[u8]) -> Vec<Token<'_>> {
 struct Names<'a> {
     declared: Vec<(bool, &'a [u8], usize)>,
     used: Vec<(&'a [u8], usize)>,
+    /// In never lines, with the place of the line's word.
+    excluded: Vec<(usize, &'a [u8], usize)>,
 }
 
 fn names(text: &[u8]) -> Names<'_> {
-    let (mut declared, mut used) = (Vec::new(), Vec::new());
+    let (mut declared, mut used, mut excluded) = (Vec::new(), Vec::new(), Vec::new());
     let mut line_word: &[u8] = b"";
+    let mut line = 0;
     let mut first = false;
     for token in tokens(text) {
         let starts_line = token.place == 1 || text[token.place - 2] == b'\n';
         if starts_line {
-            (line_word, first) = (token.text, true);
+            (line_word, line, first) = (token.text, token.place, true);
+        } else if line_word == b"never" {
+            if token.before == b'(' {
+                excluded.push((line, token.text, token.place));
+            }
         } else if first {
             declared.push((line_word == b"out", token.text, token.place));
             first = false;
@@ -65,7 +72,11 @@ fn names(text: &[u8]) -> Names<'_> {
             used.push((token.text, token.place));
         }
     }
-    Names { declared, used }
+    Names {
+        declared,
+        used,
+        excluded,
+    }
 }
 
 /// What Read answers to a text of the grammar, by counting lines and brackets and comparing all pairs.
@@ -77,18 +88,34 @@ fn stated_refusal(text: &[u8]) -> Option<Answer> {
     };
     let brackets = text.iter().filter(|&&b| b == b'(').count();
     let (inputs, gate_lines, outputs) = (lines(b"(in "), lines(b"(gate "), lines(b"(out "));
-    let gates = brackets - inputs - gate_lines - outputs;
-    if inputs > INPUTS || gates > GATES || outputs > OUTPUTS {
+    let nevers = lines(b"(never ");
+    let Names {
+        declared,
+        used,
+        excluded,
+    } = names(text);
+    let gates = brackets - inputs - nevers - excluded.len() - gate_lines - outputs;
+    if inputs > INPUTS || nevers > NEVERS || gates > GATES || outputs > OUTPUTS {
         return Some(answer(3, 0, 0));
     }
-    let Names { declared, used } = names(text);
     let repeated = declared.iter().enumerate().find(|(i, (is_port, name, _))| {
         declared[..*i]
             .iter()
             .any(|(p, n, _)| (p, n) == (is_port, name))
     });
-    if let Some((_, &(_, _, place))) = repeated {
+    let given_again = excluded.iter().enumerate().find(|(i, (line, name, _))| {
+        excluded[..*i]
+            .iter()
+            .any(|(l, n, _)| (l, n) == (line, name))
+    });
+    let repeated = repeated.map(|(_, &(_, _, place))| place);
+    let given_again = given_again.map(|(_, &(_, _, place))| place);
+    if let Some(place) = repeated.into_iter().chain(given_again).min() {
         return Some(answer(4, 0, place));
+    }
+    let is_input = |name: &[u8]| declared[..inputs].iter().any(|(_, n, _)| *n == name);
+    if let Some(&(_, _, place)) = excluded.iter().find(|(_, name, _)| !is_input(name)) {
+        return Some(answer(5, 0, place));
     }
     let known = |name: &[u8]| {
         declared
@@ -121,6 +148,19 @@ fn spoiled_texts() {
         answered[check(&text)] += 1;
     });
     assert!([0, 2, 4, 5].iter().all(|&number| answered[number] > 500));
+}
+
+#[test]
+fn texts_with_a_strange_never() {
+    let mut answered = [0; 12];
+    for_texts(0..20_000, Size::SMALL, |random, text, block| {
+        let text = strange_never(random, text, block);
+        let _report = Report(|| format!("with a never line {}", text.escape_ascii()));
+        answered[check(&text)] += 1;
+    });
+    println!("answers by number {answered:?}");
+    let often = |&number: &usize| answered[number] > 200;
+    assert!([0, 2, 3, 4, 5].iter().all(often), "{answered:?}");
 }
 
 #[test]

@@ -1,10 +1,10 @@
 //! The Rust package's `Block` tells what the simulator tells, on generated texts and blocks.
 
 use simulator::generate::{
-    for_blocks, for_texts, for_typical_blocks, large, malformed, spoiled, widest_cover, Random,
-    Report, Size,
+    for_blocks, for_texts, for_typical_blocks, large, malformed, malformed_before, spoiled,
+    widest_cover, Random, Report, Size,
 };
-use simulator::{cover, groups, pass, read, render, settle, verdict, write, Answer};
+use simulator::{bring, cover, groups, pass, read, render, settle, verdict, write, Answer};
 use unloop::{Block, Refusal, Value};
 
 /// As the simulator tells a count and a result, or a refusal.
@@ -34,11 +34,15 @@ fn same_verdict(block: &Block) {
         ..Answer::success(found.settled)
     };
     assert_eq!(answer, verdict(block.words()));
-    assert_eq!(found.is_sound(), found.settled == all);
+    assert_eq!(found.is_sound(), answer.detail == all);
 }
 
 fn same_results(block: &Block) {
     let words = block.words();
+    let lines = block.never_lines();
+    let masks = lines.iter().map(|line| (line.fixed, line.ones));
+    let stored = simulator::block::Block::from_words(words).nevers;
+    assert!(masks.eq(stored.iter().map(|line| (line.fixed, line.ones))));
     let text = block.write().into_bytes();
     assert_eq!(told(Ok((text.len(), text))), write(words, usize::MAX));
     let entries = block.cover();
@@ -96,6 +100,22 @@ fn blocks() {
         let block = Block::from_words(block.to_words()).unwrap();
         same_values(&block, &block.setting(0));
     }
+}
+
+#[test]
+fn old_blocks() {
+    for_blocks(0..200, Size::SMALL, |random, block, words| {
+        let brought = |old: &[u16]| Block::bring(old).map(|block| block.words().to_vec());
+        let told_of = |old: &[u16]| told(brought(old).map(|words| (words.len(), words)));
+        let old = block.to_old_words();
+        assert_eq!(told_of(&old), bring(&old, usize::MAX));
+        assert_eq!(told_of(words), bring(words, usize::MAX));
+        same_words(random, &brought(&old).unwrap());
+        for (rule, words) in malformed_before(random, block) {
+            let _report = Report(|| format!("{rule}, {words:?}"));
+            assert_eq!(told_of(&words), bring(&words, usize::MAX));
+        }
+    });
 }
 
 #[test]

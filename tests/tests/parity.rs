@@ -59,7 +59,7 @@ fn a_loop_is_rendered_whole() {
 
 #[test]
 fn words_that_are_gates_and_words_that_are_not() {
-    let gate = |head: u16| [0, 1, 0, head, 0, 0, 0, 0];
+    let gate = |head: u16| [0, 1, 0, 0, head, 0, 0, 0, 0];
     let written = |head: u16| write(&gate(head), WRITTEN_BYTES);
     let text = b"(gate _0 (xor _0 _0))\n".to_vec();
     assert_eq!(written(5 + 8 * 2), (answer(0, 22, 0), text));

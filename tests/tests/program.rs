@@ -3,9 +3,9 @@
 
 use simulator::executed::{root, written_by_the_program};
 use simulator::generate::{
-    for_texts, long_texts, near_a_limit, over_a_limit, spoiled, Random, Report, Size,
+    for_texts, long_texts, near_a_limit, over_a_limit, spoiled, strange_never, Random, Report, Size,
 };
-use simulator::limits::{GATES, INPUTS, OPERANDS, OUTPUTS, TEXT_BYTES, WRITTEN_BYTES};
+use simulator::limits::{GATES, INPUTS, NEVERS, OPERANDS, OUTPUTS, TEXT_BYTES, WRITTEN_BYTES};
 use simulator::specimens::*;
 use simulator::unloop;
 use std::cell::Cell;
@@ -59,6 +59,14 @@ fn spoiled_texts() {
 }
 
 #[test]
+fn texts_with_a_strange_never() {
+    for_texts(0..400, Size::SMALL, |random, text, block| {
+        compare(&strange_never(random, text, block))
+    });
+    answered(&[0, 2, 3, 4, 5], 5);
+}
+
+#[test]
 fn texts_near_a_limit() {
     for seed in 0..40 {
         let mut random = Random::new(seed);
@@ -91,10 +99,12 @@ fn empty_and_longest_texts() {
 #[test]
 fn longest_rendering() {
     let inputs = (0..INPUTS).map(|i| format!("(in x{i:07})\n"));
+    let pairs = |line: usize| (0..INPUTS).map(move |i| format!(" (x{i:07} {})", line >> i & 1));
+    let nevers = (0..NEVERS).map(|line| format!("(never{})\n", pairs(line).collect::<String>()));
     let operands = ["x0000009"; OPERANDS].join(" ");
     let gates = (0..GATES).map(|i| format!("(gate _{i} (nand {operands}))\n"));
     let outputs = (0..OUTPUTS).map(|i| format!("(out y{i:07} x0000009)\n"));
-    let text: String = inputs.chain(gates).chain(outputs).collect();
+    let text: String = inputs.chain(nevers).chain(gates).chain(outputs).collect();
     assert_eq!(text.len(), WRITTEN_BYTES);
     compare(text.as_bytes());
     answered(&[0], 1);

@@ -53,6 +53,24 @@ fn form_table() {
         ("(gate p (xor p))\n", 14),
         ("(gate p (xor p p p p p))\n", 20),
         ("(gate p (xnor p p p p p))\n", 21),
+        ("(n", 2),
+        ("(no", 2),
+        ("(never", 6),
+        ("(never)", 6),
+        ("(never )", 7),
+        ("(never (", 8),
+        ("(never (0 1))\n", 8),
+        ("(never (_ 0", 11),
+        ("(never (a  1))\n", 10),
+        ("(never (a 1 0))\n", 11),
+        ("(never (a 1)(a 1))\n", 12),
+        ("(never (a 1) )\n", 13),
+        ("(never (a 1)) \n", 13),
+        ("(never (a 1))", 13),
+        ("(never (abcdefghi 1))\n", 16),
+        ("(never a)\n", 7),
+        ("(never (a 1))\n(in a)\n", 15),
+        ("(out y a)\n(never (a 1))\n", 11),
     ];
     for (text, detail) in rows {
         assert_eq!(refusal(text), (2, detail), "{text}");
@@ -83,6 +101,32 @@ fn crowded_twice_unknown() {
 }
 
 #[test]
+fn never_lines() {
+    let named = |lines: &str| format!("(in a)\n(in b)\n{lines}(gate p (not 0))\n");
+    // A name may stand in two lines, a gate's may not stand in one, and a port declares no input.
+    words_of(&named(
+        "(never (a 1))\n(never (a 1))\n(never (b 0) (a 0))\n",
+    ));
+    assert_eq!(refusal(&named("(never (p 1))\n")), (5, 22));
+    assert_eq!(refusal("(in a)\n(never (y 1))\n(out y a)\n"), (5, 15));
+    // 4 before 5, and the least place of all repeats, whatever is declared behind it.
+    assert_eq!(refusal(&named("(never (q 1) (q 0))\n")), (4, 28));
+    let twice = "(gate p (not 0))\n(out y p)\n(out y p)\n";
+    let given_again = format!("(in a)\n(never (a 1) (a 0))\n{twice}");
+    assert_eq!(refusal(&given_again), (4, 21));
+    assert_eq!(refusal(&format!("(in a)\n(never (a 1))\n{twice}")), (4, 53));
+    // More pairs than inputs are in form; 3 before 4.
+    assert_eq!(
+        refusal(&format!("(in a)\n(never{})\n", " (a 1)".repeat(99))),
+        (4, 21)
+    );
+    assert_eq!(refusal(&"(never (a 1) (a 1))\n".repeat(9)), (3, 0));
+    assert_eq!(refusal(&"(never (a 1) (a 1))\n".repeat(8)), (4, 14));
+    let long = "(never (a 1) (a 1))\n".repeat(4_000);
+    assert_eq!(refusal(&long), (1, 0));
+}
+
+#[test]
 fn longest_text() {
     let junk = "x".repeat(61_441);
     assert_eq!(refusal(&junk), (1, 0));
@@ -98,7 +142,7 @@ fn room() {
     let text = "(in a)\n(gate p (not a))\n";
     let words = words_of(text);
     let told = read(text.as_bytes(), words.len());
-    assert_eq!(told, (answer(0, 12, 0), words.clone()));
+    assert_eq!(told, (answer(0, 13, 0), words.clone()));
     let told = read(text.as_bytes(), words.len() - 1);
     assert_eq!(told, (answer(11, 0, 0), vec![]));
 }
@@ -106,14 +150,14 @@ fn room() {
 #[test]
 fn largest_block() {
     let words = longest_written().to_words();
-    assert_eq!((words.len(), BLOCK_WORDS), (5_243, 5_243));
+    assert_eq!((words.len(), BLOCK_WORDS), (5_260, 5_260));
     let (told, text) = write(&words, WRITTEN_BYTES);
-    assert_eq!(told, answer(0, 56_758, 0));
+    assert_eq!(told, answer(0, 57_862, 0));
     assert_eq!(
         read(&text, BLOCK_WORDS),
-        (answer(0, 5_243, 0), words.clone())
+        (answer(0, 5_260, 0), words.clone())
     );
-    assert_eq!(verdict(&words), answer(0, 1024, 1024));
+    assert_eq!(verdict(&words), answer(0, 1016, 1024));
     assert_eq!(render(&words, BLOCK_WORDS).1, words);
 }
 

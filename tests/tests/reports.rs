@@ -67,6 +67,29 @@ fn declared_twice_and_not_at_all() {
 }
 
 #[test]
+fn never_lines() {
+    let report = "x.net:2:7: form\n(never)\n      ^\n";
+    at_a_place(b"(in a)\n(never)\n", "(refused 2 13)\n", report);
+    let report = "x.net:2:15: twice\n(never (a 1) (a 0))\n              ^\n";
+    let text = b"(in a)\n(never (a 1) (a 0))\n(gate a (not 0))\n";
+    at_a_place(text, "(refused 4 21)\n", report);
+    let report = "x.net:2:9: unknown\n(never (p 1))\n        ^\n";
+    let text = b"(in a)\n(never (p 1))\n(gate p (not a))\n";
+    at_a_place(text, "(refused 5 15)\n", report);
+    let lines = "(in a)\n".to_string() + &"(never (a 1))\n".repeat(9);
+    at_a_place(lines.as_bytes(), "(refused 3 0)\n", "x.net: crowded\n");
+    // The lowest setting that may come, and what settles or never comes.
+    let text = b"(in a)\n(in b)\n(never (a 0) (b 0))\n(gate p (or a p))\n(out y p)\n";
+    let report = "x.net: undecided\n  not settled with a = 0, b = 1: y undefined\n\
+                  \x20 settles with a = 1\n  settles with b = 0\n";
+    at_a_place(text, "(refused 9 2)\n", report);
+    let report = "x.net: undecided\n  not settled with a = 0, b = 0: y undefined\n\
+                  \x20 never comes with a = 1, b = 1\n  settles under no setting\n";
+    let text = simulator::specimens::NEVER_BOTH.as_bytes();
+    at_a_place(text, "(refused 9 0)\n", report);
+}
+
+#[test]
 fn refusals_without_a_place() {
     let inputs: String = (0..11).map(|i| format!("(in a{i})\n")).collect();
     at_a_place(inputs.as_bytes(), "(refused 3 0)\n", "x.net: crowded\n");

@@ -42,7 +42,7 @@ fn compare(words: &[u16], records: &[Record]) {
 
 /// The record by a call of Settle, read off the stored words of the outputs.
 fn one_call(words: &[u16], asked: Record) -> Record {
-    let [n, m, k] = [0, 1, 2].map(|place| usize::from(words[place]));
+    let [n, m, k, l] = [0, 1, 2, 3].map(|place| usize::from(words[place]));
     let fixes = |input: usize| asked.fixed >> input & 1 == 1;
     let is_one = |input: usize| asked.ones >> input & 1 == 1;
     // What stands for no setting is a setting that Settle refuses.
@@ -62,7 +62,7 @@ fn one_call(words: &[u16], asked: Record) -> Record {
         ..asked
     };
     for output in (0..k).filter(|_| told.number == 0) {
-        let node = usize::from(words[3 + 4 * n + 5 * m + 5 * output + 4]);
+        let node = usize::from(words[4 + 4 * n + 2 * l + 5 * m + 5 * output + 4]);
         let value = if node < n {
             setting[node]
         } else {

@@ -1,11 +1,11 @@
-//! Specimens 1 to 9 (SPECIFICATION 9), starred or not, whole.
+//! Specimens 1 to 9 (SPECIFICATION 9), starred or not, whole, and the worked examples of never lines (9.13).
 
 mod common;
 
 use common::answer;
 use simulator::limits::{BLOCK_WORDS, WRITTEN_BYTES};
 use simulator::specimens::*;
-use simulator::{cover, groups, pass, read, render, settle, unloop, verdict, write};
+use simulator::{bring, cover, groups, pass, read, render, settle, unloop, verdict, write};
 
 /// Read refuses the text so, whatever the room.
 fn refused(text: &str, number: usize, detail: usize) {
@@ -25,14 +25,14 @@ fn rendered_text(text: &str) -> String {
 #[test]
 fn specimen_1() {
     let words = words_of("");
-    assert_eq!(words, [0, 0, 0]);
+    assert_eq!(words, [0, 0, 0, 0]);
     assert_eq!(verdict(&words), answer(0, 1, 1));
     assert_eq!(cover(&words, 2), (answer(0, 1, 0), vec![0, 0]));
     assert_eq!(cover(&words, 1), (answer(11, 0, 0), vec![]));
     assert_eq!(groups(&words, 0), (answer(0, 0, 0), vec![]));
     assert_eq!(settle(&words, &[], 0), (answer(0, 0, 0), vec![]));
     assert_eq!(pass(&words, &[], 0), (answer(0, 0, 0), vec![]));
-    assert_eq!(render(&words, 3), (answer(0, 3, 0), words.clone()));
+    assert_eq!(render(&words, 4), (answer(0, 4, 0), words.clone()));
     assert_eq!(write(&words, 0), (answer(0, 0, 0), vec![]));
     assert_eq!(unloop(b""), b"");
 }
@@ -69,7 +69,10 @@ fn specimen_4() {
 fn specimen_5() {
     let words = words_of(UNIQUE_SOLUTION);
     let gates = [8, 1, 0, 0, 0, 18, 1, 0, 0, 0];
-    assert_eq!(words, [&[0, 2, 1][..], &gates, &[121, 0, 0, 0, 1]].concat());
+    assert_eq!(
+        words,
+        [&[0, 2, 1, 0][..], &gates, &[121, 0, 0, 0, 1]].concat()
+    );
     assert_eq!(render(&words, BLOCK_WORDS), (answer(9, 0, 0), vec![]));
     assert_eq!(verdict(&words), answer(0, 0, 0));
     assert_eq!(cover(&words, 0), (answer(0, 0, 0), vec![]));
@@ -95,7 +98,7 @@ fn specimen_6() {
 fn specimen_7() {
     let ring_of_32 = ring(32, "(and LAST 0)");
     let (told, words) = render(&words_of(&ring_of_32), BLOCK_WORDS);
-    assert_eq!((told, words[1]), (answer(0, 3 + 5 * 1024, 0), 1024));
+    assert_eq!((told, words[1]), (answer(0, 4 + 5 * 1024, 0), 1024));
     let one_more = ring_of_32 + "(gate lone (not 0))\n";
     let told = render(&words_of(&one_more), BLOCK_WORDS);
     assert_eq!(told, (answer(8, 0, 0), vec![]));
@@ -150,14 +153,14 @@ fn specimen_8_depth() {
         let (open, close) = ("(not ".repeat(depth), ")".repeat(depth));
         format!("(gate p {open}0{close})\n")
     };
-    assert_eq!(words_of(&nested(8)).len(), 3 + 5 * 8);
+    assert_eq!(words_of(&nested(8)).len(), 4 + 5 * 8);
     refused(&nested(9), 2, 48);
 }
 
 #[test]
 fn specimen_8_inputs() {
     let inputs = |count: usize| -> String { (0..count).map(|i| format!("(in a{i})\n")).collect() };
-    assert_eq!(words_of(&inputs(10))[..3], [10, 0, 0]);
+    assert_eq!(words_of(&inputs(10))[..4], [10, 0, 0, 0]);
     refused(&inputs(11), 3, 0);
 }
 
@@ -169,5 +172,81 @@ fn specimen_9() {
     let name = |letter: u8| [u16::from(letter), 0, 0, 0];
     let [s, y] = [name(b's'), name(b'y')];
     let gates = [[17, 0, 2, 0, 0], [18, 0, 1, 0, 0]].concat();
-    assert_eq!(words, [&[1, 2, 1], &s[..], &gates, &y, &[2]].concat());
+    assert_eq!(words, [&[1, 2, 1, 0], &s[..], &gates, &y, &[2]].concat());
+}
+
+#[test]
+fn never_lines_are_read() {
+    let words = words_of("(in a)\n(in b)\n(never (b 1) (a 0))\n");
+    let [a, b] = [b'a', b'b'].map(|letter| [u16::from(letter), 0, 0, 0]);
+    assert_eq!(words, [&[2, 0, 0, 1], &a[..], &b, &[3, 2]].concat());
+    let lines = |count: usize| "(in a)\n".to_string() + &"(never (a 1))\n".repeat(count);
+    assert_eq!(words_of(&lines(8))[3], 8);
+    refused(&lines(9), 3, 0);
+    refused("(in a)\n(never (a 1) (a 0))\n(gate a (not q))\n", 4, 21);
+    refused("(in a)\n(in a)\n(never (a 1) (a 1))\n", 4, 11);
+    refused("(in a)\n(never (a 1) (p 1))\n(gate p (not q))\n", 5, 21);
+    refused("(in a)\n(never (a 1))\n(gate p (not q))\n", 5, 34);
+    refused("(never (_a 1) (b 1))\n", 5, 8);
+}
+
+#[test]
+fn never_lines_out_of_form() {
+    refused("(never)\n", 2, 6);
+    refused("(never (a u))\n", 2, 10);
+    refused("(never (a 1))\n(in a)\n", 2, 15);
+    refused("(gate p (not 0))\n(never (a 1))\n", 2, 18);
+    refused("(na", 2, 2);
+    refused("(never (a 1)", 2, 12);
+}
+
+#[test]
+fn never_lines_of_torn_blocks() {
+    let words = |fixed: u16, ones: u16| [1, 0, 0, 1, 97, 0, 0, 0, fixed, ones];
+    for (fixed, ones) in [(0, 0), (3, 1), (1, 2)] {
+        let told = write(&words(fixed, ones), 99);
+        assert_eq!(told, (answer(6, 0, 0), vec![]));
+    }
+    let text = b"(in a)\n(never (a 1))\n".to_vec();
+    assert_eq!(write(&words(1, 1), 99), (answer(0, 21, 0), text));
+}
+
+#[test]
+fn settings_that_never_come() {
+    let both = words_of(NEVER_BOTH);
+    assert_eq!(verdict(&both), answer(0, 0, 0));
+    assert_eq!(cover(&both, 2), (answer(0, 1, 0), vec![3, 3]));
+    let unsettled = words_of(NEVER_UNSETTLED);
+    assert_eq!(verdict(&unsettled), answer(0, 3, 4));
+    assert_eq!(cover(&unsettled, 2), (answer(0, 1, 0), vec![0, 0]));
+    let rendered =
+        "(in a)\n(in b)\n(never (a 1) (b 0))\n(gate _0 (and a 0))\n(gate _1 (or b _0))\n\
+        (gate _2 (and a _1))\n(gate _3 (or b _2))\n(out y _3)\n";
+    assert_eq!(unloop(NEVER_UNSETTLED.as_bytes()), rendered.as_bytes());
+    let told = settle(&unsettled, &[1, 0], 2);
+    assert_eq!(told, (answer(0, 0, 0), vec![2, 2]));
+    let zero = words_of("(in a)\n(never (a 0))\n(gate p (not a))\n(out y p)\n");
+    assert_eq!(verdict(&zero), answer(0, 1, 2));
+}
+
+#[test]
+fn every_setting_excluded() {
+    let any = words_of(NEVER_ANY);
+    assert_eq!(verdict(&any), answer(0, 0, 2));
+    assert_eq!(cover(&any, 2), (answer(0, 1, 0), vec![0, 0]));
+    let rendered =
+        "(in a)\n(never (a 0))\n(never (a 1))\n(never (a 0))\n(gate _0 (not 0))\n(out y _0)\n";
+    assert_eq!(unloop(NEVER_ANY.as_bytes()), rendered.as_bytes());
+}
+
+#[test]
+fn old_blocks() {
+    let brought = vec![1, 0, 0, 0, 97, 0, 0, 0];
+    let old = [1, 0, 0, 97, 0, 0, 0];
+    assert_eq!(bring(&old, 8), (answer(0, 8, 0), brought.clone()));
+    assert_eq!(bring(&old, 7), (answer(11, 0, 0), vec![]));
+    assert_eq!(bring(&[0, 0, 0], 3), (answer(11, 0, 0), vec![]));
+    for torn in [&[0, 0, 0, 0][..], &[0, 0], &brought] {
+        assert_eq!(bring(torn, 0), (answer(6, 0, 0), vec![]));
+    }
 }

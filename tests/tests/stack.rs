@@ -6,8 +6,10 @@ use simulator::limits::{BLOCK_WORDS, COVER_WORDS, GATES, WRITTEN_BYTES};
 use std::thread::Builder;
 use unloop::raw;
 
-/// An eighth of the MiB that Groups may use; the other operations keep within it too.
+/// An eighth of the MiB that Groups may use; the other operations on blocks keep within it too.
 const STACK_BYTES: usize = 128 * 1_024;
+/// Read has a copy of the text without its never lines, and tables of the pairs of one of them.
+const READ_STACK_BYTES: usize = 320 * 1_024;
 
 /// Runs all of it in a thread with this stack.
 fn with_stack(bytes: usize, run: impl FnOnce() + Send) {
@@ -27,6 +29,8 @@ fn blocks() {
         let mut rendered = vec![0; BLOCK_WORDS];
         let mut entries = vec![0; COVER_WORDS];
         let mut text = vec![0; WRITTEN_BYTES];
+        let old = block.to_old_words();
+        let mut brought = vec![0; BLOCK_WORDS];
         with_stack(STACK_BYTES, || {
             assert_eq!(raw::verdict(&words).number, 0);
             assert_eq!(raw::groups(&words, &mut numbers).number, 0);
@@ -36,6 +40,7 @@ fn blocks() {
             assert_eq!(raw::cover(&words, &mut entries).number, 0);
             assert_eq!(raw::write(&words, &mut text).number, 0);
             assert_ne!(raw::compare(&words, &words).number, 6);
+            assert_eq!(raw::bring(&old, &mut brought).number, 0);
         });
     }
 }
@@ -44,7 +49,7 @@ fn blocks() {
 fn texts() {
     for (_, text) in long_texts() {
         let mut block = vec![0; BLOCK_WORDS];
-        with_stack(STACK_BYTES, || {
+        with_stack(READ_STACK_BYTES, || {
             raw::read(&text, &mut block);
             raw::line(&text, text.len());
         });

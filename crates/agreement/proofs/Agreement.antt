@@ -2,7 +2,7 @@
 --   schedule-above        after a run along the schedule every gate is above its settled value
 --   agreement             a gate whose settled value is 0 or 1 has it at its last copy, in every block and under every setting
 --   outputs-agree         under a settled setting the outputs' values are the original's
---   sound-outputs-agree   in a sound block under every setting
+--   sound-outputs-agree   in a sound block under every setting that may come
 -- Assumes nothing.
 use Prim.Native.Nat.{ℕ, zero, suc, _≤_, _<_}
 use mathlib.Core.Path.{_≡_, refl, sym, ap, ap₂, _∙_}
@@ -18,7 +18,7 @@ use Rattle.laws.proofs.Lists.{joined-snoc, member-cases, member-right}
 use Rattle.netlist.specs.Values.{Value, undefined, val, isDefined}
 use Rattle.netlist.specs.Netlist.{Operand, input, gate, constant, Output, Block, inputCount, gateCount}
 use Rattle.netlist.specs.StoredBlock.{isNode, isWellFormed}
-use Rattle.netlist.specs.Rounds.{operandValue, outputValue, settled, settingOf, settingCount, settledUnder, outputsUnder, isSettled}
+use Rattle.netlist.specs.Rounds.{operandValue, outputValue, settled, settingOf, settingCount, settledUnder, outputsUnder, isSettled, isExcluded}
 use Rattle.netlist.specs.Cover.{isSound}
 use Rattle.netlist.specs.Groups.{groups}
 use Rattle.netlist.specs.Rendering.{passes, schedule, copiedOperand, lastCopies, rendering, sweep}
@@ -123,8 +123,9 @@ module _ (b : Block) where
           (node-agrees w x (o .node) (and-left (there o) (all there os) k) (and-left (isDefined (defined o)) (all isDefined (map defined os)) d))
           (go os (and-right (there o) (all there os) k) (and-right (isDefined (defined o)) (all isDefined (map defined os)) d))
 
-  -- In a sound block they are under every setting.
-  pub sound-outputs-agree : isWellFormed b ≡ true → isSound b ≡ true → (s : ℕ) → s < settingCount b → let x = settingOf (inputCount b) s in
+  -- In a sound block they are under every setting that may come.
+  pub sound-outputs-agree : isWellFormed b ≡ true → isSound b ≡ true → (s : ℕ) → s < settingCount b → isExcluded b s ≡ false
+      → let x = settingOf (inputCount b) s in
       map (outputValue x (sweep (rendering b) x)) (rendering b .outputs) ≡ map (outputValue x (settledUnder b s)) (b .outputs)
   unfolding settledUnder
-  sound-outputs-agree w h s l = outputs-agree w s (sound-settledAt b h s l)
+  sound-outputs-agree w h s l e = outputs-agree w s (sound-settledAt b h s l e)

@@ -1,6 +1,6 @@
 -- The rendering as a block: it is straight, has as many gates as there are copies, the original's inputs and ports, and is well-formed where
 -- the original is and there is room. Render's code cites it.
---   rendering-count, rendering-inputs, rendering-ports   gates are copies; names are kept
+--   rendering-count, rendering-inputs, rendering-nevers, rendering-ports   gates are copies; names and never lines are kept
 --   rendering-straight             it is straight
 --   lastCopies-*, rendering-node   what stands for each gate in the end, and what outputs show
 --   rendering-wellFormed           it is well-formed
@@ -44,6 +44,11 @@ module _ (b : Block) where
   pub rendering-inputs : rendering b .inputs ≡ b .inputs
   unfolding rendering
   rendering-inputs = refl
+
+  -- its never lines,
+  pub rendering-nevers : rendering b .nevers ≡ b .nevers
+  unfolding rendering
+  rendering-nevers = refl
 
   -- and its ports, in order.
   pub rendering-ports : map (λ (o : Output). o .port) (rendering b .outputs) ≡ map (λ (o : Output). o .port) (b .outputs)
@@ -161,7 +166,7 @@ module _ (b : Block) where
   -- The rendering of a well-formed block is well-formed, if there are not too many copies.
   pub rendering-wellFormed : isWellFormed b ≡ true → copyCount b ≤ maxCopies → isWellFormed (rendering b) ≡ true
   rendering-wellFormed w few =
-      wellFormed-interface b (rendering b) w rendering-inputs rendering-ports (rw rendering-count few)
+      wellFormed-interface b (rendering b) w rendering-inputs rendering-nevers rendering-ports (rw rendering-count few)
       (λ j l.
       let s : j < length (schedule b) = rw length-schedule-is l in
       rw (gateOf-rendering j l)

@@ -98,8 +98,8 @@ module _ (b : Block) where
     pub rendering-itself-of : all (λ o. isNode b (o .node)) (b .outputs) ≡ true → rendering b ≡ b
     unfolding rendering
     rendering-itself-of h =
-        ap (λ (gs : List Gate). record { inputs = b .inputs; gates = gs; outputs = rendering b .outputs }) gates-kept
-        ∙ ap (λ (os : List Output). record { inputs = b .inputs; gates = b .gates; outputs = os }) (outputs-kept (b .outputs) h)
+        ap (λ (gs : List Gate). record { inputs = b .inputs; nevers = b .nevers; gates = gs; outputs = rendering b .outputs }) gates-kept
+        ∙ ap (λ (os : List Output). record { inputs = b .inputs; nevers = b .nevers; gates = b .gates; outputs = os }) (outputs-kept (b .outputs) h)
 
   -- A straight block renders to itself,
   pub rendering-itself : isWellFormed b ≡ true → isStraight b ≡ true → rendering b ≡ b

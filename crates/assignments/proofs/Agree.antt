@@ -12,8 +12,9 @@ use lib.Dec.{eqb, leb}
 use borrow.Author.Tests.{eq-eqb, eqb-true, le-leb, leb-true}
 use Rattle.laws.proofs.Tests.{eq-or-ne}
 use Rattle.laws.proofs.Quantifiers.{all-below, below-all}
-use Rattle.netlist.specs.Rounds.{bit}
-use Rattle.netlist.specs.Cover.{Assignment, fixes, agrees, without, isWithin}
+use Rattle.netlist.specs.Assignments.{bit}
+use Rattle.netlist.specs.Assignments.{Assignment, fixes, agrees, isWithin}
+use Rattle.netlist.specs.Cover.{without}
 use Rattle.assignments.specs.Digits.{ternaryDigit}
 use Rattle.assignments.specs.Over.{soundOver, Consistent}
 use Rattle.assignments.proofs.Digits.{numeral-ext, numeral-digit, digit-lt, digit-lowered, digit-kept, lowered-le}

@@ -16,8 +16,9 @@ use Rattle.laws.specs.Lists.{all, keep, upTo, least}
 use Rattle.laws.proofs.Tests.{lt-or-le, and-left, and-right, and-intro}
 use Rattle.laws.proofs.Quantifiers.{all-below, below-all}
 use Rattle.laws.proofs.Least.{least-at, least-below}
-use Rattle.netlist.specs.Rounds.{bit}
-use Rattle.netlist.specs.Cover.{Assignment, fixes, agrees, without, isWithin}
+use Rattle.netlist.specs.Assignments.{bit}
+use Rattle.netlist.specs.Assignments.{Assignment, fixes, agrees, isWithin}
+use Rattle.netlist.specs.Cover.{without}
 use Rattle.assignments.specs.Over.{soundOver, minimalOver, coverOver, Consistent, Listed, Before}
 use Rattle.assignments.specs.Entries.{pairAt, isEntry, entryAt}
 use Rattle.assignments.proofs.ListFacts.{implies-use, kept-passes, kept-ascend, kept-has}

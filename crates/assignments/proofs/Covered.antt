@@ -15,8 +15,9 @@ use Rattle.laws.specs.Lists.{any, least}
 use Rattle.laws.proofs.Tests.{eq-or-ne, lt-or-le, same-test, not-both}
 use Rattle.laws.proofs.Quantifiers.{any-at, any-from}
 use Rattle.laws.proofs.Least.{least-below, least-is}
-use Rattle.netlist.specs.Rounds.{bit}
-use Rattle.netlist.specs.Cover.{Assignment, agrees, without}
+use Rattle.netlist.specs.Assignments.{bit}
+use Rattle.netlist.specs.Assignments.{Assignment, agrees}
+use Rattle.netlist.specs.Cover.{without}
 use Rattle.assignments.specs.Digits.{ternaryDigit, numeral}
 use Rattle.assignments.specs.Over.{soundOver, coverOver, nothing, Consistent, Listed, Before}
 use Rattle.assignments.proofs.Digits.{numeral-lt, digit-numeral}

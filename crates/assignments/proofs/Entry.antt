@@ -14,8 +14,9 @@ use borrow.Author.Tests.{eq-eqb, ne-eqb}
 use Rattle.laws.proofs.Tests.{not-true-false}
 use Rattle.laws.proofs.Quantifiers.{all-not}
 use Rattle.netlist.specs.Limits.{maxInputs}
-use Rattle.netlist.specs.Rounds.{bit}
-use Rattle.netlist.specs.Cover.{Assignment, fixes, without, isWithin}
+use Rattle.netlist.specs.Assignments.{bit}
+use Rattle.netlist.specs.Assignments.{Assignment, fixes, isWithin}
+use Rattle.netlist.specs.Cover.{without}
 use Rattle.assignments.specs.Over.{masks, Consistent}
 use Rattle.assignments.specs.Tables.{ternaryNumber}
 use Rattle.assignments.specs.Entries.{pairAt, soundBy, neededBy, minimalBy, entryBy, Numbered, Weighed}

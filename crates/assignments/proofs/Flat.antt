@@ -9,7 +9,8 @@ use lib.Arith.{digits-div, digits-mod}
 use Rattle.laws.specs.Lists.{keep, tab, upTo, joined}
 use Rattle.laws.proofs.Tab.{tab-ext, map-tab, tab-add}
 use Rattle.laws.proofs.Lists.{joined-append, keep-append}
-use Rattle.netlist.specs.Cover.{Assignment, isWithin, assignments, assignmentsAt}
+use Rattle.netlist.specs.Assignments.{Assignment, isWithin}
+use Rattle.netlist.specs.Cover.{assignments, assignmentsAt}
 use Rattle.assignments.specs.Over.{soundOver, minimalOver, coverOver, masks}
 use Rattle.assignments.specs.Entries.{pairAt, isEntry, entryAt}
 use Rattle.assignments.proofs.ListFacts.{keep-keep, keep-map}

@@ -11,7 +11,7 @@ use Rattle.laws.specs.Lists.{keep, upTo, joined, placed, tab}
 use Rattle.laws.proofs.Tab.{length-tab, tab-add}
 use Rattle.laws.proofs.Lists.{joined-append, keep-append}
 use Rattle.laws.proofs.Slices.{set-placed}
-use Rattle.netlist.specs.Cover.{Assignment}
+use Rattle.netlist.specs.Assignments.{Assignment}
 use Rattle.assignments.specs.Entries.{pairAt, entryBy, entriesBelow, entriesBy, EntriesWritten}
 use Rattle.assignments.specs.Over.{assignmentWords}
 use Rattle.assignments.proofs.ListFacts.{keep-le, keep-upTo-suc}

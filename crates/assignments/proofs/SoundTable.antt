@@ -10,8 +10,8 @@ use lib.Dec.{eqb}
 use borrow.Author.Tests.{eq-eqb, eqb-true, ne-eqb}
 use Rattle.laws.proofs.Tests.{eq-or-ne, same-test, or-cases, or-left, or-right, and-left, and-right, and-intro}
 use Rattle.laws.proofs.Quantifiers.{all-below, below-all, all-ext}
-use Rattle.netlist.specs.Rounds.{bit}
-use Rattle.netlist.specs.Cover.{Assignment, agrees, fixes}
+use Rattle.netlist.specs.Assignments.{bit}
+use Rattle.netlist.specs.Assignments.{Assignment, agrees, fixes}
 use Rattle.assignments.specs.Digits.{ternaryDigit, numeral}
 use Rattle.assignments.specs.Over.{soundOver}
 use Rattle.assignments.specs.Tables.{digitOf, ternaryNumber, agreesDigits, soundDigits, soundByte, byteOf}

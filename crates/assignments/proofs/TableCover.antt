@@ -9,7 +9,8 @@ use Rattle.laws.specs.Lists.{upTo, placed}
 use Rattle.laws.proofs.Tab.{placed-tab}
 use Rattle.laws.proofs.Quantifiers.{all-ext}
 use Rattle.netlist.specs.Limits.{maxInputs}
-use Rattle.netlist.specs.Cover.{Assignment, fixes, without}
+use Rattle.netlist.specs.Assignments.{Assignment, fixes}
+use Rattle.netlist.specs.Cover.{without}
 use Rattle.assignments.specs.Over.{soundOver, minimalOver, coverOver}
 use Rattle.assignments.specs.Tables.{ternaryNumber, soundByte, soundTable, byteOf, weightOf, weightTable}
 use Rattle.assignments.specs.Entries.{pairAt, isEntry, entryAt, soundBy, neededBy, minimalBy, entryBy, entriesBelow, entriesBy, Weighed, EntriesWritten}

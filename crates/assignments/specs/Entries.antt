@@ -8,7 +8,8 @@ use lib.ListN.{length, getD}
 use lib.Dec.{eqb, leb}
 use Rattle.laws.specs.Lists.{all, upTo, keep, placed}
 use Rattle.netlist.specs.Limits.{maxInputs}
-use Rattle.netlist.specs.Cover.{Assignment, fixes, without, isWithin}
+use Rattle.netlist.specs.Assignments.{Assignment, fixes, isWithin}
+use Rattle.netlist.specs.Cover.{without}
 use Rattle.assignments.specs.Over.{soundOver, minimalOver, masks, assignmentWords, Consistent}
 use Rattle.assignments.specs.Tables.{ternaryNumber, weightOf}
 

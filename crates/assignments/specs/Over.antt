@@ -6,7 +6,8 @@ use mathlib.Core.Logic.{_⊎_}
 use mathlib.Core.Bool.{Bool, true, not, _&&_, _||_}
 use mathlib.Core.List.{List, [], _∷_, map}
 use Rattle.laws.specs.Lists.{all, upTo, keep, joined}
-use Rattle.netlist.specs.Cover.{Assignment, fixes, agrees, without, isWithin, assignments}
+use Rattle.netlist.specs.Assignments.{Assignment, fixes, agrees, isWithin}
+use Rattle.netlist.specs.Cover.{without, assignments}
 
 -- every setting that agrees with the assignment passes
 unfoldable pub soundOver : (ℕ → Bool) → ℕ → Assignment → Bool

@@ -7,8 +7,8 @@ use lib.ListN.{length, getD}
 use lib.Dec.{eqb}
 use Rattle.laws.specs.Lists.{all, upTo, tab}
 use Rattle.netlist.specs.Limits.{maxInputs}
-use Rattle.netlist.specs.Rounds.{bit}
-use Rattle.netlist.specs.Cover.{Assignment, fixes}
+use Rattle.netlist.specs.Assignments.{bit}
+use Rattle.netlist.specs.Assignments.{Assignment, fixes}
 use Rattle.assignments.specs.Digits.{ternaryDigit, numeral}
 
 -- the settings at which the table has a 1

@@ -106,10 +106,10 @@ gate-operands ws nodes all-nodes at h =
     unused i l g = rw (le-ltb i count g) (eq-eqb (getD ws (at + 1 + i) 0) 0 (w .unused i g l))
 
 -- the test of the words says "straight"
-pub straight-is : (ws : List ℕ) → isTorn ws ≡ false → lowerRule ws (getD ws 0 0) (getD ws 1 0) ≡ isStraight (decode ws)
+pub straight-is : (ws : List ℕ) → isTorn ws ≡ false → lowerRule ws (getD ws 0 0) (gatesAt (getD ws 0 0) (getD ws 3 0)) (getD ws 1 0) ≡ isStraight (decode ws)
 unfolding isStraight readBy lower
 straight-is ws h =
-    all-ext (lowerRuleAt ws n) reads-lower m agree ∙ sym (ap (λ (k : ℕ). all reads-lower (upTo k)) (decode-gateCount ws))
+    all-ext (lowerRuleAt ws n first) reads-lower m agree ∙ sym (ap (λ (k : ℕ). all reads-lower (upTo k)) (decode-gateCount ws))
   where
     n : ℕ
     n = getD ws 0 0
@@ -117,11 +117,14 @@ straight-is ws h =
     m : ℕ
     m = getD ws 1 0
 
+    first : ℕ
+    first = gatesAt n (getD ws 3 0)
+
     reads-lower : ℕ → Bool
     reads-lower j = all (lower j) (readBy (decode ws) j)
 
-    agree : (j : ℕ) → j < m → lowerRuleAt ws n j ≡ reads-lower j
+    agree : (j : ℕ) → j < m → lowerRuleAt ws n first j ≡ reads-lower j
     agree j l =
-        gate-operands ws (n + j) (n + m) (gatesAt n + gateSize * j) (whole-parts ws h .gates j l)
-        ∙ sym (lower-gate n j ws (gatesAt n + gateSize * j))
+        gate-operands ws (n + j) (n + m) (first + gateSize * j) (whole-parts ws h .gates j l)
+        ∙ sym (lower-gate n j ws (first + gateSize * j))
         ∙ rw (decode-gate ws j l)

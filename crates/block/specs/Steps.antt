@@ -5,8 +5,8 @@ use mathlib.Core.List.{List}
 use lib.ListN.{getD, drop}
 use lib.Dec.{eqb, ltb}
 use Rattle.laws.specs.Lists.{all, upTo}
-use Rattle.netlist.specs.StoredBlock.{nameSize, gateSize, outputSize, inputsAt, gatesAt, outputsAt}
-use Rattle.encoding.specs.Rules.{nameRule, sameName, namesRule, nodeRule, operandRule, gateRule}
+use Rattle.netlist.specs.StoredBlock.{nameSize, neverSize, gateSize, outputSize, inputsAt, neversAt, gatesAt, outputsAt}
+use Rattle.encoding.specs.Rules.{nameRule, sameName, namesRule, neverRule, nodeRule, operandRule, gateRule}
 
 -- from byte i on only zeros
 abbrev pub zerosFrom : List ℕ → ℕ → Bool
@@ -26,23 +26,30 @@ othersBefore ws at size j = all (otherName ws at size j) (upTo j)
 abbrev pub newName : List ℕ → ℕ → ℕ → ℕ → Bool
 newName ws at size j = nameRule ws (at + size * j) && othersBefore ws at size j
 
+-- never line i of those from `at` on, in a block of n inputs
+abbrev pub neverRuleAt : List ℕ → ℕ → ℕ → ℕ → Bool
+neverRuleAt ws n at i = neverRule ws n (at + neverSize * i)
+
+abbrev pub neversRule : List ℕ → ℕ → ℕ → ℕ → Bool
+neversRule ws n at lines = all (neverRuleAt ws n at) (upTo lines)
+
 -- operand word i of the gate at `at`
 abbrev pub slotRule : List ℕ → ℕ → ℕ → ℕ → ℕ → Bool
 slotRule ws nodes at count i = cond (ltb i count) (operandRule nodes (getD ws (at + 1 + i) 0)) (eqb (getD ws (at + 1 + i) 0) 0)
 
--- gate j of a block of n inputs
+-- gate j of those from `at` on
 abbrev pub gateRuleAt : List ℕ → ℕ → ℕ → ℕ → Bool
-gateRuleAt ws nodes n j = gateRule ws nodes (gatesAt n + gateSize * j)
+gateRuleAt ws nodes at j = gateRule ws nodes (at + gateSize * j)
 
 abbrev pub gatesRule : List ℕ → ℕ → ℕ → ℕ → Bool
-gatesRule ws nodes n m = all (gateRuleAt ws nodes n) (upTo m)
+gatesRule ws nodes at m = all (gateRuleAt ws nodes at) (upTo m)
 
 -- gate j with the inputs and the gates below it as nodes
-abbrev pub lowerRuleAt : List ℕ → ℕ → ℕ → Bool
-lowerRuleAt ws n j = gateRuleAt ws (n + j) n j
+abbrev pub lowerRuleAt : List ℕ → ℕ → ℕ → ℕ → Bool
+lowerRuleAt ws n at j = gateRuleAt ws (n + j) at j
 
-abbrev pub lowerRule : List ℕ → ℕ → ℕ → Bool
-lowerRule ws n m = all (lowerRuleAt ws n) (upTo m)
+abbrev pub lowerRule : List ℕ → ℕ → ℕ → ℕ → Bool
+lowerRule ws n at m = all (lowerRuleAt ws n at) (upTo m)
 
 -- output o of those from `at` on
 abbrev pub shownRule : List ℕ → ℕ → ℕ → ℕ → Bool
@@ -51,10 +58,14 @@ shownRule ws nodes at o = nodeRule nodes (getD ws (at + outputSize * o + nameSiz
 abbrev pub shownRules : List ℕ → ℕ → ℕ → ℕ → Bool
 shownRules ws nodes at k = all (shownRule ws nodes at) (upTo k)
 
--- the parts behind a header of n inputs, m gates and k outputs
-abbrev pub partsRule : List ℕ → ℕ → ℕ → ℕ → Bool
-partsRule ws n m k =
-    namesRule ws inputsAt nameSize n
-    && gatesRule ws (n + m) n m
-    && namesRule ws (outputsAt n m) outputSize k
-    && shownRules ws (n + m) (outputsAt n m) k
+-- the parts in front of the gates, behind a header of n inputs and so many never lines
+abbrev pub frontRule : List ℕ → ℕ → ℕ → Bool
+frontRule ws n lines = namesRule ws inputsAt nameSize n && neversRule ws n (neversAt n) lines
+
+-- all parts, of a header of m gates and k outputs as well
+abbrev pub partsRule : List ℕ → ℕ → ℕ → ℕ → ℕ → Bool
+partsRule ws n lines m k =
+    frontRule ws n lines
+    && gatesRule ws (n + m) (gatesAt n lines) m
+    && namesRule ws (outputsAt n lines m) outputSize k
+    && shownRules ws (n + m) (outputsAt n lines m) k

@@ -3,7 +3,6 @@ use layout::nodes::CONSTANT_0;
 use layout::nodes::CONSTANT_1;
 use layout::offsets::GATE_SIZE;
 use layout::offsets::OPERAND_WORDS;
-use layout::offsets::gates_at;
 use layout::read::word_at;
 ghost use mathlib.Core.Path.{_≡_};
 ghost use mathlib.Core.Bool.{_&&_};
@@ -51,7 +50,7 @@ fn is_operand(nodes: usize, word: usize) -> bool
 
 // Operand word i of the gate at `at`: an operand below the count, 0 from there on.
 fn slot_fits(words: &[u16], nodes: usize, at: usize, count: usize, i: usize) -> bool
-    requires { ⌜ at ≤ 8192 ⌝ }
+    requires { ⌜ at ≤ 65535 ⌝ }
     requires { ⌜ i < operandWords ⌝ }
     ensures { λ r. ⌜ r ≡ slotRule (now (words .entry)) nodes at count i ⌝ }
 {
@@ -65,7 +64,7 @@ fn slot_fits(words: &[u16], nodes: usize, at: usize, count: usize, i: usize) -> 
 
 // The four operand words of the gate at `at`.
 fn slots_fit(words: &[u16], nodes: usize, at: usize, count: usize) -> bool
-    requires { ⌜ at ≤ 8192 ⌝ }
+    requires { ⌜ at ≤ 65535 ⌝ }
     ensures { λ r. ⌜ r ≡ all (slotRule (now (words .entry)) nodes at count) (upTo operandWords) ⌝ }
 {
     let mut i = 0;
@@ -80,31 +79,31 @@ fn slots_fit(words: &[u16], nodes: usize, at: usize, count: usize) -> bool
 
 // The gate whose first word is at `at`.
 fn fits(words: &[u16], nodes: usize, at: usize) -> bool
-    requires { ⌜ at ≤ 8192 ⌝ }
+    requires { ⌜ at ≤ 65535 ⌝ }
     ensures { λ r. ⌜ r ≡ gateRule (now (words .entry)) nodes at ⌝ }
 {
     let head = word_at(words, at);
     has_arity(head % 8, head / 8) && slots_fit(words, nodes, at, head / 8)
 }
 
-// Gate j of a block of n inputs.
-fn fits_at(words: &[u16], nodes: usize, n: usize, j: usize) -> bool
-    requires { ⌜ n ≤ maxInputs ⌝ }
+// Gate j of those from `at` on.
+fn fits_at(words: &[u16], nodes: usize, at: usize, j: usize) -> bool
+    requires { ⌜ at ≤ 8192 ⌝ }
     requires { ⌜ j ≤ maxGates ⌝ }
-    ensures { λ r. ⌜ r ≡ gateRuleAt (now (words .entry)) nodes n j ⌝ }
+    ensures { λ r. ⌜ r ≡ gateRuleAt (now (words .entry)) nodes at j ⌝ }
 {
-    fits(words, nodes, gates_at(n) + GATE_SIZE * j)
+    fits(words, nodes, at + GATE_SIZE * j)
 }
 
 // All m gates.
-pub fn fit(words: &[u16], nodes: usize, n: usize, m: usize) -> bool
-    requires { ⌜ n ≤ maxInputs ⌝ }
+pub fn fit(words: &[u16], nodes: usize, at: usize, m: usize) -> bool
+    requires { ⌜ at ≤ 8192 ⌝ }
     requires { ⌜ m ≤ maxGates ⌝ }
-    ensures { λ r. ⌜ r ≡ gatesRule (now (words .entry)) nodes n m ⌝ }
+    ensures { λ r. ⌜ r ≡ gatesRule (now (words .entry)) nodes at m ⌝ }
 {
     let mut j = 0;
     while j < m {
-        if !fits_at(words, nodes, n, j) {
+        if !fits_at(words, nodes, at, j) {
             return false;
         }
         j += 1;
@@ -113,14 +112,15 @@ pub fn fit(words: &[u16], nodes: usize, n: usize, m: usize) -> bool
 }
 
 // Does each gate keep its rule with only the inputs and the lower gates as nodes?
-pub fn read_lower(words: &[u16], n: usize, m: usize) -> bool
+pub fn read_lower(words: &[u16], n: usize, at: usize, m: usize) -> bool
     requires { ⌜ n ≤ maxInputs ⌝ }
+    requires { ⌜ at ≤ 8192 ⌝ }
     requires { ⌜ m ≤ maxGates ⌝ }
-    ensures { λ r. ⌜ r ≡ lowerRule (now (words .entry)) n m ⌝ }
+    ensures { λ r. ⌜ r ≡ lowerRule (now (words .entry)) n at m ⌝ }
 {
     let mut j = 0;
     while j < m {
-        if !fits_at(words, n + j, n, j) {
+        if !fits_at(words, n + j, at, j) {
             return false;
         }
         j += 1;

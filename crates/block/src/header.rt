@@ -1,12 +1,14 @@
 // The rule of a block's head: its length and the limits (SPECIFICATION 2.4).
 use layout::limits::MAX_GATES;
 use layout::limits::MAX_INPUTS;
+use layout::limits::MAX_NEVERS;
 use layout::limits::MAX_OUTPUTS;
 use layout::offsets::INPUTS_AT;
 use layout::offsets::OUTPUT_SIZE;
 use layout::offsets::gates_of;
 use layout::offsets::inputs_of;
-use layout::offsets::outputs_at;
+use layout::offsets::nevers_of;
+use layout::offsets::outputs_behind;
 use layout::offsets::outputs_of;
 ghost use mathlib.Core.Path.{_≡_};
 ghost use Rattle.encoding.specs.Rules.{headerRule};
@@ -18,6 +20,7 @@ pub fn fits(words: &[u16]) -> bool
     let n = inputs_of(words);
     let m = gates_of(words);
     let k = outputs_of(words);
+    let l = nevers_of(words);
     let length = words.len();
     if length < INPUTS_AT {
         return false;
@@ -31,5 +34,8 @@ pub fn fits(words: &[u16]) -> bool
     if MAX_OUTPUTS < k {
         return false;
     }
-    length == outputs_at(n, m) + OUTPUT_SIZE * k
+    if MAX_NEVERS < l {
+        return false;
+    }
+    length == outputs_behind(n, l, m) + OUTPUT_SIZE * k
 }

@@ -10,28 +10,42 @@ ghost use Prim.Native.Nat.{_≤_};
 ghost use Rattle.encoding.specs.Rules.{intact};
 ghost use Rattle.netlist.specs.declared.Refusal.the-variants.{MalformedBlock, NotStraight};
 ghost use Rattle.netlist.specs.Answers.{testOf};
-ghost use Rattle.netlist.specs.Limits.{maxInputs, maxGates, maxOutputs};
+ghost use Rattle.netlist.specs.Limits.{maxInputs, maxNevers, maxGates, maxOutputs};
 ghost use Rattle.netlist.specs.StoredBlock.{isTorn, decode};
 ghost use Rattle.netlist.specs.Rendering.{isStraight};
-ghost use Rattle.block.specs.Steps.{partsRule};
+ghost use Rattle.block.specs.Steps.{frontRule, partsRule};
 
 pub mod gates;
 mod header;
 mod names;
+mod nevers;
 mod outputs;
 
-// The rules of the parts behind a header of n inputs, m gates and k outputs.
-fn parts_fit(words: &[u16], n: usize, m: usize, k: usize) -> bool
+// The rules of the names and the never lines behind a header of n inputs and l lines.
+fn front_fits(words: &[u16], n: usize, l: usize) -> bool
     requires { ⌜ n ≤ maxInputs ⌝ }
-    requires { ⌜ m ≤ maxGates ⌝ }
-    requires { ⌜ k ≤ maxOutputs ⌝ }
-    ensures { λ r. ⌜ r ≡ partsRule (now (words .entry)) n m k ⌝ }
+    requires { ⌜ l ≤ maxNevers ⌝ }
+    ensures { λ r. ⌜ r ≡ frontRule (now (words .entry)) n l ⌝ }
 {
-    let outputs_at = offsets::outputs_at(n, m);
     if !names::fit(words, offsets::INPUTS_AT, offsets::NAME_SIZE, n) {
         return false;
     }
-    if !gates::fit(words, n + m, n, m) {
+    nevers::fit(words, n, offsets::nevers_at(n), l)
+}
+
+// The rules of all parts, behind a header of m gates and k outputs as well.
+fn parts_fit(words: &[u16], n: usize, l: usize, m: usize, k: usize) -> bool
+    requires { ⌜ n ≤ maxInputs ⌝ }
+    requires { ⌜ l ≤ maxNevers ⌝ }
+    requires { ⌜ m ≤ maxGates ⌝ }
+    requires { ⌜ k ≤ maxOutputs ⌝ }
+    ensures { λ r. ⌜ r ≡ partsRule (now (words .entry)) n l m k ⌝ }
+{
+    let outputs_at = offsets::outputs_behind(n, l, m);
+    if !front_fits(words, n, l) {
+        return false;
+    }
+    if !gates::fit(words, n + m, offsets::gates_behind(n, l), m) {
         return false;
     }
     if !names::fit(words, outputs_at, offsets::OUTPUT_SIZE, k) {
@@ -50,7 +64,8 @@ fn is_intact(words: &[u16]) -> bool
     let n = offsets::inputs_of(words);
     let m = offsets::gates_of(words);
     let k = offsets::outputs_of(words);
-    parts_fit(words, n, m, k)
+    let l = offsets::nevers_of(words);
+    parts_fit(words, n, l, m, k)
 }
 
 // Refusal 6: a slice of any length and content.
@@ -67,5 +82,6 @@ pub fn check_straight(words: &[u16]) -> Test
 {
     let n = offsets::inputs_of(words);
     let m = offsets::gates_of(words);
-    refuse_if(!gates::read_lower(words, n, m), Refusal::NotStraight)
+    let at = offsets::gates_at(words);
+    refuse_if(!gates::read_lower(words, n, at, m), Refusal::NotStraight)
 }

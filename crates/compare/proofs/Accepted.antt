@@ -15,7 +15,7 @@ use Rattle.laws.proofs.Quantifiers.{any-below, below-any}
 use Rattle.laws.proofs.Least.{least-le, least-below, least-at, least-is}
 use Rattle.netlist.specs.Values.{undefined, code}
 use Rattle.netlist.specs.Netlist.{Block, outputCount}
-use Rattle.netlist.specs.Rounds.{settingCount, outputsUnder, isSettled}
+use Rattle.netlist.specs.Rounds.{settingCount, outputsUnder, isCounted}
 use Rattle.netlist.specs.Answers.{Outcome, done}
 use Rattle.netlist.specs.Compare.{differs, disagrees, lowestDisagreement, lowestDiffering, judgedAt, compareBlocks, Agree, Accepts, Disagreement}
 use Rattle.rounds.proofs.Values.{code-injective}
@@ -34,19 +34,19 @@ module _ (a b : Block) where
       let theirs = getD (outputsUnder b s) o undefined in
       code-injective ours theirs (eqb-true (code ours) (code theirs) (not-false (eqb (code ours) (code theirs)) h))
 
-  quiet-agrees : (s : ℕ) → disagrees a b s ≡ false → isSettled a s ≡ true → (o : ℕ) → o < outputCount a → Agree a b s o
+  quiet-agrees : (s : ℕ) → disagrees a b s ≡ false → isCounted a s ≡ true → (o : ℕ) → o < outputCount a → Agree a b s o
   unfolding disagrees
   quiet-agrees s h t o l =
       differs-agree s o
       (not-true-false (differs a b s o)
       (λ d. not-both (below-any (differs a b s) (outputCount a) o l d) (rw t at h)))
 
-  agrees-quiet : (s : ℕ) → (isSettled a s ≡ true → (o : ℕ) → o < outputCount a → Agree a b s o) → disagrees a b s ≡ false
+  agrees-quiet : (s : ℕ) → (isCounted a s ≡ true → (o : ℕ) → o < outputCount a → Agree a b s o) → disagrees a b s ≡ false
   unfolding disagrees
   agrees-quiet s h =
       not-true-false (disagrees a b s)
-      (λ t. let found = and-left (isSettled a s) (any (differs a b s) (upTo (outputCount a))) t in
-      let (o, l, d) = any-below (differs a b s) (outputCount a) (and-right (isSettled a s) (any (differs a b s) (upTo (outputCount a))) t) in
+      (λ t. let found = and-left (isCounted a s) (any (differs a b s) (upTo (outputCount a))) t in
+      let (o, l, d) = any-below (differs a b s) (outputCount a) (and-right (isCounted a s) (any (differs a b s) (upTo (outputCount a))) t) in
       not-both d (agree-differs s o (h found o l)))
 
   -- ---- Accepted exactly when
@@ -70,14 +70,14 @@ module _ (a b : Block) where
   unfolding lowestDiffering disagrees
   lowest-disagrees l =
       let t = least-at (disagrees a b) (settingCount a) l in
-      let some = and-right (isSettled a lowest) (any (differs a b lowest) (upTo (outputCount a))) t in
+      let some = and-right (isCounted a lowest) (any (differs a b lowest) (upTo (outputCount a))) t in
       let (o, m, d) = any-below (differs a b lowest) (outputCount a) some in
       let low = least (differs a b lowest) (outputCount a) in
       let below : low < outputCount a =
       ⊎-elim (λ k. k) (λ k. not-both d (least-below (differs a b lowest) (outputCount a) o (omega arith))) (lt-or-le low (outputCount a)) in
       record {
         setting = l;
-        counts = and-left (isSettled a lowest) (any (differs a b lowest) (upTo (outputCount a))) t;
+        counts = and-left (isCounted a lowest) (any (differs a b lowest) (upTo (outputCount a))) t;
         output = below;
         other = λ e. not-both (least-at (differs a b lowest) (outputCount a) below) (agree-differs lowest low e);
         lowerOutputs = λ p k. differs-agree lowest p (least-below (differs a b lowest) (outputCount a) p k);

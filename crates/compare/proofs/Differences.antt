@@ -18,7 +18,7 @@ use Rattle.netlist.specs.declared.Answer.the-variants.{Done}
 use Rattle.netlist.specs.Values.{Value, undefined, code, valueOf}
 use Rattle.netlist.specs.Netlist.{Output, constant, Block, inputCount, gateCount, outputCount}
 use Rattle.netlist.specs.StoredBlock.{nameSize, outputSize, outputsAt, operandOf, outputAt, decode}
-use Rattle.netlist.specs.Rounds.{settled, settingOf, settingCount, settledUnder, outputsUnder, isSettled, operandValue, outputValue}
+use Rattle.netlist.specs.Rounds.{settled, settingOf, settingCount, settledUnder, outputsUnder, isCounted, operandValue, outputValue}
 use Rattle.netlist.specs.Rendering.{isStraight, sweep}
 use Rattle.netlist.specs.Answers.{done, answerOf}
 use Rattle.netlist.specs.Compare.{differs, disagrees, lowestDisagreement, lowestDiffering, judgedAt, compareBlocks}
@@ -27,7 +27,7 @@ use Rattle.rounds.proofs.Values.{values-codes}
 use Rattle.rounds.proofs.Sweep.{length-sweep, sweep-settled}
 use Rattle.ternary.specs.Legal.{wordValue}
 use Rattle.simulate.specs.Rounded.{sweepCodes}
-use Rattle.verdict.specs.Flags.{settledFlag}
+use Rattle.verdict.specs.Flags.{countedFlag}
 use Rattle.compare.specs.Shows.{shownCode, otherShown}
 use Rattle.compare.specs.Ready.{Pair, foundAt}
 
@@ -38,7 +38,7 @@ noOutput = record { port = []; node = constant false }
 
 -- the output's word tells what it shows
 shown-word : (ws inputs values : List ℕ) (o : ℕ) → o < getD ws 2 0
-    → code (wordValue (getD ws 0 0) inputs values (getD ws (outputsAt (getD ws 0 0) (getD ws 1 0) + outputSize * o + nameSize) 0))
+    → code (wordValue (getD ws 0 0) inputs values (getD ws (outputsAt (getD ws 0 0) (getD ws 3 0) (getD ws 1 0) + outputSize * o + nameSize) 0))
     ≡ shownCode ws inputs values o
 unfolding shownCode outputValue outputAt
 shown-word ws inputs values o l =
@@ -51,9 +51,10 @@ shown-word ws inputs values o l =
     ∙ ap f (decode-output ws o noOutput l)))
 
 -- the same of counts, a place and a word that were read
-pub shown-read : (ws inputs values : List ℕ) (o : ℕ) → o < getD ws 2 0 → {n m place w : ℕ} → n ≡ getD ws 0 0 → m ≡ getD ws 1 0 → place ≡ outputsAt n m
+pub shown-read : (ws inputs values : List ℕ) (o : ℕ) → o < getD ws 2 0 → {n place w : ℕ} → n ≡ getD ws 0 0
+    → place ≡ outputsAt (getD ws 0 0) (getD ws 3 0) (getD ws 1 0)
     → w ≡ getD ws (place + outputSize * o + nameSize) 0 → code (wordValue n inputs values w) ≡ shownCode ws inputs values o
-shown-read ws inputs values o l e f g h = rw (h, g, e, f) (shown-word ws inputs values o l)
+shown-read ws inputs values o l e g h = rw (h, g, e) (shown-word ws inputs values o l)
 
 -- two values that were read differ, or not
 module _ (ours theirs inputs values swept : List ℕ) (o : ℕ) {v w : ℕ} (e : v ≡ shownCode ours inputs values o) (f : w ≡ shownCode theirs inputs swept o) where
@@ -73,18 +74,18 @@ shown-state : (ws : List ℕ) (x state : List Value) (o : ℕ)
 unfolding shownCode
 shown-state ws x state o = rw (values-codes x, values-codes state) refl
 
--- the flag tells whether the setting is settled
-flag-zero : (b : Block) (s : ℕ) → settledFlag b s ≡ 0 → isSettled b s ≡ false
-unfolding settledFlag
-flag-zero b s = go (isSettled b s)
+-- the flag tells whether the setting may come and is settled
+flag-zero : (b : Block) (s : ℕ) → countedFlag b s ≡ 0 → isCounted b s ≡ false
+unfolding countedFlag
+flag-zero b s = go (isCounted b s)
   where
     go : (t : Bool) → _≡_ {A = ℕ} (cond t 1 0) 0 → t ≡ false
     go true e = absurd (omega arith)
     go false e = refl
 
-flag-one : (b : Block) (s : ℕ) → (settledFlag b s ≡ 0 → ⊥) → isSettled b s ≡ true
-unfolding settledFlag
-flag-one b s = go (isSettled b s)
+flag-one : (b : Block) (s : ℕ) → (countedFlag b s ≡ 0 → ⊥) → isCounted b s ≡ true
+unfolding countedFlag
+flag-one b s = go (isCounted b s)
   where
     go : (t : Bool) → (_≡_ {A = ℕ} (cond t 1 0) 0 → ⊥) → t ≡ true
     go true h = refl
@@ -119,19 +120,19 @@ module _ (ours theirs : List ℕ) (pair : Pair ours theirs) (s : ℕ) where
       let m : inputCount b ≡ getD ours 0 0 = decode-inputCount theirs ∙ pair .inputs in
       rw (i, v, w, shown-state ours x (settledUnder a s) o, shown-state theirs x (settled b x) o, n, m) refl
 
-  -- a setting that is settled: the lowest output found is the lowest that differs
+  -- a setting that counts: the lowest output found is the lowest that differs
   pub found-settled : {inputs ourValues theirValues : List ℕ} {r : ℕ} → inputs ≡ map code x → ourValues ≡ map code (settledUnder a s)
-      → theirValues ≡ map code (settled b x) → {f : ℕ} → f ≡ settledFlag a s → (f ≡ 0 → ⊥)
+      → theirValues ≡ map code (settled b x) → {f : ℕ} → f ≡ countedFlag a s → (f ≡ 0 → ⊥)
       → r ≡ least (otherShown ours theirs inputs ourValues theirValues) (getD ours 2 0) → r ≡ foundAt a b s
   unfolding foundAt lowestDiffering
   found-settled {inputs} {ourValues} {theirValues} i v w t q e =
-      let h : isSettled a s ≡ true = flag-one a s (λ z. q (t ∙ z)) in
+      let h : isCounted a s ≡ true = flag-one a s (λ z. q (t ∙ z)) in
       rw (h, decode-outputCount ours) (e ∙ ap (λ (p : ℕ → Bool). least p (getD ours 2 0)) (fun-ext (otherShown-differs i v w)))
 
-  -- one that is not
-  pub found-unsettled : {r f : ℕ} → f ≡ settledFlag a s → f ≡ 0 → r ≡ getD ours 2 0 → r ≡ foundAt a b s
+  -- one that does not
+  pub found-unsettled : {r f : ℕ} → f ≡ countedFlag a s → f ≡ 0 → r ≡ getD ours 2 0 → r ≡ foundAt a b s
   unfolding foundAt
-  found-unsettled t q e = let h : isSettled a s ≡ false = flag-zero a s (sym t ∙ q) in rw (h, decode-outputCount ours) e
+  found-unsettled t q e = let h : isCounted a s ≡ false = flag-zero a s (sym t ∙ q) in rw (h, decode-outputCount ours) e
 
 -- ---- all settings
 
@@ -146,17 +147,17 @@ module _ (a b : Block) where
     -- no output found: the setting does not disagree
     pub found-none : k ≤ r → disagrees a b s ≡ false
     unfolding foundAt disagrees
-    found-none l = go (isSettled a s) refl
+    found-none l = go (isCounted a s) refl
       where
-        go : (t : Bool) → isSettled a s ≡ t → t && any (differs a b s) (upTo (outputCount a)) ≡ false
+        go : (t : Bool) → isCounted a s ≡ t → t && any (differs a b s) (upTo (outputCount a)) ≡ false
         go false h = refl
         go true h = let g : r ≡ lowestDiffering a b s = rw h at e in none-differs s (omega arith)
 
-    found-lowest : r < k → (isSettled a s ≡ true) × (r ≡ lowestDiffering a b s)
+    found-lowest : r < k → (isCounted a s ≡ true) × (r ≡ lowestDiffering a b s)
     unfolding foundAt
-    found-lowest l = go (isSettled a s) refl
+    found-lowest l = go (isCounted a s) refl
       where
-        go : (t : Bool) → isSettled a s ≡ t → (isSettled a s ≡ true) × (r ≡ lowestDiffering a b s)
+        go : (t : Bool) → isCounted a s ≡ t → (isCounted a s ≡ true) × (r ≡ lowestDiffering a b s)
         go false h = let g : r ≡ outputCount a = rw h at e in absurd (omega arith)
         go true h = (h, rw h at e)
 

@@ -67,7 +67,7 @@ module _ (ours theirs : List ℕ) where
   unfolding decode
   inputs-are ws = refl
 
-  ports-are : (ws : List ℕ) → ports (decode ws) ≡ tab (λ o. nameAt ws (outputsAt (getD ws 0 0) (getD ws 1 0) + outputSize * o)) (getD ws 2 0)
+  ports-are : (ws : List ℕ) → ports (decode ws) ≡ tab (λ o. nameAt ws (outputsAt (getD ws 0 0) (getD ws 3 0) (getD ws 1 0) + outputSize * o)) (getD ws 2 0)
   unfolding ports
   ports-are ws = decode-ports ws
 
@@ -112,7 +112,7 @@ module _ (ours theirs : List ℕ) where
 
     module _ (f : getD theirs 2 0 ≡ getD ours 2 0) where
       abbrev portsAt : List ℕ → ℕ
-      portsAt ws = outputsAt (getD ours 0 0) (getD ws 1 0)
+      portsAt ws = outputsAt (getD ours 0 0) (getD ws 3 0) (getD ws 1 0)
 
       ports-rule : port-names ≡ all (sameNameAt ours (portsAt ours) theirs (portsAt theirs) outputSize) (upTo (getD ours 2 0))
       unfolding port-names
@@ -127,8 +127,9 @@ module _ (ours theirs : List ℕ) where
           rw i (b ∙ sym ports-rule)
 
 -- the test of the ports, from counts and places that were read
-pub ports-told : (ours theirs : List ℕ) {n k m l at other : ℕ} {q : Bool} → q ≡ all (sameNameAt ours at theirs other outputSize) (upTo k)
-    → n ≡ getD ours 0 0 → k ≡ getD ours 2 0 → m ≡ getD ours 1 0 → l ≡ getD theirs 1 0 → at ≡ outputsAt n m → other ≡ outputsAt n l
-    → q ≡ all (sameNameAt ours (outputsAt (getD ours 0 0) (getD ours 1 0)) theirs (outputsAt (getD ours 0 0) (getD theirs 1 0)) outputSize)
+pub ports-told : (ours theirs : List ℕ) {k at other : ℕ} {q : Bool} → q ≡ all (sameNameAt ours at theirs other outputSize) (upTo k)
+    → k ≡ getD ours 2 0 → at ≡ outputsAt (getD ours 0 0) (getD ours 3 0) (getD ours 1 0)
+    → other ≡ outputsAt (getD theirs 0 0) (getD theirs 3 0) (getD theirs 1 0) → getD theirs 0 0 ≡ getD ours 0 0
+    → q ≡ all (sameNameAt ours (outputsAt (getD ours 0 0) (getD ours 3 0) (getD ours 1 0)) theirs (outputsAt (getD ours 0 0) (getD theirs 3 0) (getD theirs 1 0)) outputSize)
     (upTo (getD ours 2 0))
-ports-told ours theirs e n k m l a o = e ∙ rw (a, o, n, k, m, l) refl
+ports-told ours theirs e k a o n = e ∙ rw (a, o, n, k) refl

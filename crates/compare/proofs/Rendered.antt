@@ -1,18 +1,19 @@
 -- Whatever Render makes of a block is accepted for it. Assumes nothing.
 use mathlib.Core.Path.{_≡_, refl, sym, ap, _∙_}
-use mathlib.Core.Bool.{Bool, true, false, not}
+use mathlib.Core.Bool.{not, Bool, true, false, not}
 use mathlib.Core.List.{List, [], map}
 use Prim.Native.Nat.{ℕ, _≤_}
 use native.Mathlib.Omega.{arith}
 use lib.ListN.{length, getD}
 use lib.Dec.{ltb}
 use borrow.Author.Tests.{ltb-false}
+use Rattle.laws.proofs.Tests.{and-right}
 use Rattle.netlist.specs.declared.Refusal.the-variants.{MalformedBlock, TooManyCopies, NotSettled}
 use Rattle.netlist.specs.Limits.{maxCopies}
 use Rattle.netlist.specs.Values.{Value, undefined}
 use Rattle.netlist.specs.Netlist.{Block, inputCount}
 use Rattle.netlist.specs.StoredBlock.{encode, decode, isWellFormed, isTorn}
-use Rattle.netlist.specs.Rounds.{settingOf, settledUnder, outputsUnder, isSettled, lowestUnsettled, outputValue}
+use Rattle.netlist.specs.Rounds.{settingOf, settledUnder, outputsUnder, isSettled, isExcluded, isCounted, lowestUnsettled, outputValue}
 use Rattle.netlist.specs.Cover.{isSound}
 use Rattle.netlist.specs.Groups.{copyCount}
 use Rattle.netlist.specs.Rendering.{rendering, isStraight, sweep}
@@ -39,9 +40,11 @@ module _ (b : Block) where
   unfolding outputsUnder settledUnder
   same-shown w s h = sym (rendering-shows s ∙ outputs-agree b w s h)
 
-  -- under every settled setting all outputs agree
+  -- under every settled setting that may come all outputs agree
   pub rendering-accepted : isWellFormed b ≡ true → Accepts b (rendering b)
-  rendering-accepted w s l h o k = ap (λ (vs : List Value). getD vs o undefined) (same-shown w s h)
+  unfolding isCounted
+  rendering-accepted w s l h o k =
+      ap (λ (vs : List Value). getD vs o undefined) (same-shown w s (and-right (not (isExcluded b s)) (isSettled b s) h))
 
   rendering-interface : sameInterface b (rendering b) ≡ true
   unfolding sameInterface ports

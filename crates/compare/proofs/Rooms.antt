@@ -13,8 +13,8 @@ use Rattle.decide.specs.InPlace.{Visits, DecideReady}
 use Rattle.decide.proofs.Legible.{whole-ready, ready-kept}
 use Rattle.compare.specs.Ready.{Pair, CompareReady}
 
-pub ready-at : {ours order inputs values : List ℕ} {n gates : ℕ} → DecideReady ours (getD ours 0 0) (gatesAt (getD ours 0 0)) order inputs values
-    → n ≡ getD ours 0 0 → gates ≡ gatesAt n → DecideReady ours n gates order inputs values
+pub ready-at : {ours order inputs values : List ℕ} {n gates : ℕ} → DecideReady ours (getD ours 0 0) (gatesAt (getD ours 0 0) (getD ours 3 0)) order inputs values
+    → n ≡ getD ours 0 0 → gates ≡ gatesAt (getD ours 0 0) (getD ours 3 0) → DecideReady ours n gates order inputs values
 ready-at r e f = rw (f, e) r
 
 -- the bytes of a setting, in a slice with a byte for each input
@@ -34,7 +34,7 @@ pub compare-ready : (ours theirs order inputs values swept : List ℕ) {n m othe
 compare-ready ours theirs order inputs values swept p e f g v a b c =
     record {
       pair = p;
-      ready = whole-ready ours (getD ours 0 0) (getD ours 1 0) (gatesAt (getD ours 0 0)) _ _ _ (p .our-whole) refl refl refl
+      ready = whole-ready ours (getD ours 0 0) (getD ours 1 0) (gatesAt (getD ours 0 0) (getD ours 3 0)) _ _ _ (p .our-whole) refl refl refl
           (rw f v) (length-take-le _ inputs a ∙ e) (length-take-le _ values b ∙ f);
       room = length-take-le _ swept c ∙ g;
     }

@@ -2,7 +2,6 @@
 use layout::offsets::INPUTS_AT;
 use layout::offsets::NAME_SIZE;
 use layout::offsets::OUTPUT_SIZE;
-use layout::offsets::gates_of;
 use layout::offsets::inputs_of;
 use layout::offsets::outputs_at;
 use layout::offsets::outputs_of;
@@ -79,8 +78,8 @@ fn has_interface(ours: &[u16], theirs: &[u16]) -> bool
     if !are_same(ours, INPUTS_AT, theirs, INPUTS_AT, NAME_SIZE, n) {
         return false;
     }
-    let our_ports = outputs_at(n, gates_of(ours));
-    let their_ports = outputs_at(n, gates_of(theirs));
+    let our_ports = outputs_at(ours);
+    let their_ports = outputs_at(theirs);
     are_same(ours, our_ports, theirs, their_ports, OUTPUT_SIZE, k)
 }
 

@@ -1,7 +1,6 @@
 // What the outputs of two blocks show, from the values of the inputs and of each block's gates.
 use layout::offsets::NAME_SIZE;
 use layout::offsets::OUTPUT_SIZE;
-use layout::offsets::gates_of;
 use layout::offsets::inputs_of;
 use layout::offsets::outputs_at;
 use layout::offsets::outputs_of;
@@ -23,7 +22,7 @@ fn value_shown(words: &[u16], o: usize, inputs: &[u8], values: &[u8]) -> u8
     ensures { λ r. ⌜ r ≡ shownCode (now (words .entry)) (now (inputs .entry)) (now (values .entry)) o ⌝ }
 {
     let n = inputs_of(words);
-    let at = outputs_at(n, gates_of(words)) + OUTPUT_SIZE * o + NAME_SIZE;
+    let at = outputs_at(words) + OUTPUT_SIZE * o + NAME_SIZE;
     operand_value(word_at(words, at), n, inputs, values)
 }
 

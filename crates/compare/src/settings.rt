@@ -7,8 +7,8 @@ use layout::offsets::inputs_of;
 use layout::offsets::outputs_of;
 use netlist::Answer;
 use simulate::sweep::sweep_into;
+use verdict::settings::counted_flag;
 use verdict::settings::setting_count;
-use verdict::settings::settled_flag;
 use visiting::order_gates;
 ghost use mathlib.Core.Path.{_≡_};
 ghost use lib.ListN.{length};
@@ -19,7 +19,7 @@ ghost use Rattle.netlist.specs.Compare.{compareBlocks};
 ghost use Rattle.compare.specs.Ready.{Pair, CompareReady, foundAt};
 
 // The lowest output at which the blocks disagree under setting number `s`; the number of outputs where there is none, and where the setting is
-// not settled.
+// not settled or never comes.
 fn disagreement_at(
     ours: &[u16],
     theirs: &[u16],
@@ -33,7 +33,7 @@ fn disagreement_at(
     ensures { λ r. ⌜ r ≡ foundAt (decode (now (ours .entry))) (decode (now (theirs .entry))) s ⌝ }
 {
     let n = inputs_of(ours);
-    if settled_flag(ours, n, gates_at(n), order, s, inputs, values) == 0 {
+    if counted_flag(ours, n, gates_at(ours), order, s, inputs, values) == 0 {
         return outputs_of(ours);
     }
     set_inputs(s, inputs);

@@ -8,8 +8,8 @@ use lib.ListN.{length}
 use lib.Dec.{ltb}
 use borrow.Author.Tests.{ltb-false}
 use Rattle.netlist.specs.Limits.{maxCopies, maxBlock, maxWritten}
-use Rattle.netlist.specs.Netlist.{inputCount}
-use Rattle.netlist.specs.StoredBlock.{gatesAt, outputsAt, encode, decode, isTorn}
+use Rattle.netlist.specs.Netlist.{inputCount, neverCount}
+use Rattle.netlist.specs.StoredBlock.{neversAt, gatesAt, outputsAt, encode, decode, isTorn}
 use Rattle.netlist.specs.Cover.{isSound}
 use Rattle.netlist.specs.Groups.{copyCount}
 use Rattle.netlist.specs.Rendering.{rendering}
@@ -19,7 +19,7 @@ use Rattle.encoding.proofs.Encoded.{length-encode}
 use Rattle.encoding.proofs.RoundTrip.{whole-wellFormed}
 use Rattle.encoding.proofs.WellFormed.{wellFormed-parts}
 use Rattle.grammar.proofs.WritingLength.{written-length}
-use Rattle.agreement.proofs.Block.{rendering-count, rendering-inputs, length-rendering-outputs}
+use Rattle.agreement.proofs.Block.{rendering-count, rendering-inputs, rendering-nevers, length-rendering-outputs}
 use Rattle.telling.proofs.Told.{Fits}
 use Rattle.telling.proofs.Sizes.{counted-fits, if-fits}
 
@@ -32,12 +32,13 @@ module _ (room : ℕ) where
 
   module _ (h : maxBlock ≤ room) where
     rendered-length : (ws : List ℕ) → isTorn ws ≡ false → copyCount (decode ws) ≤ maxCopies → length (encode (rendering (decode ws))) ≤ room
-    unfolding outputsAt gatesAt
+    unfolding outputsAt gatesAt neversAt
     rendered-length ws whole few =
         let b = decode ws in
         let w = wellFormed-parts b (whole-wellFormed ws whole) in
         let i : inputCount (rendering b) ≡ inputCount b = ap {B = ℕ} length (rendering-inputs b) in
-        omega (arith, h, length-encode (rendering b), i, rendering-count b, length-rendering-outputs b, w .fewInputs, few, w .fewOutputs)
+        let l : neverCount (rendering b) ≡ neverCount b = ap {B = ℕ} length (rendering-nevers b) in
+        omega (arith, h, length-encode (rendering b), i, l, rendering-count b, length-rendering-outputs b, w .fewInputs, w .fewNevers, few, w .fewOutputs)
 
     pub render-fits : (ws : List ℕ) → Fits room (renderWords ws)
     unfolding renderWords renderBlock

@@ -1,4 +1,4 @@
-// The rendering's words (SPECIFICATION 6): head, input names, a copy of each scheduled gate, outputs at last copies.
+// The rendering's words (SPECIFICATION 6): head, input names and never lines, a copy of each scheduled gate, outputs at last copies.
 use crate::entry::copy_entry;
 use crate::entry::copy_words;
 use layout::fill::fill_words;
@@ -7,25 +7,28 @@ use layout::offsets::GATE_SIZE;
 use layout::offsets::INPUTS_AT;
 use layout::offsets::NAME_SIZE;
 use layout::offsets::OUTPUT_SIZE;
+use layout::offsets::gates_at;
+use layout::offsets::nevers_of;
 ghost use mathlib.Core.Path.{_≡_};
 ghost use mathlib.Core.List.{[], _∷_};
 ghost use Prim.Native.Nat.{_+_, _*_, _≤_, _<_};
 ghost use lib.ListN.{length, set};
 ghost use lib.Seq.{sets};
 ghost use Rattle.laws.specs.Lists.{tab, joined, placed};
-ghost use Rattle.netlist.specs.Limits.{maxInputs, maxGates, maxOutputs};
+ghost use Rattle.netlist.specs.Limits.{maxInputs, maxNevers, maxGates, maxOutputs};
 ghost use Rattle.netlist.specs.StoredBlock.{decode, encode};
 ghost use Rattle.netlist.specs.Rendering.{rendering};
 ghost use Rattle.copying.specs.Words.{tableAfter, copyWords, copyAt, shownAt, EntryRoom, GateRoom, Order, CopyReady};
 
-// Writes the head: the three counts.
-fn write_header(n: usize, total: usize, k: usize, out: &mut [u16])
-    requires { ⌜ (n ≤ maxInputs) × (total ≤ maxGates) × (k ≤ maxOutputs) × (3 ≤ length (now out)) ⌝ }
-    ensures { λ r. ⌜ now (out .exit) ≡ sets (now (out .entry)) 0 (n ∷ total ∷ k ∷ []) ⌝ }
+// Writes the head: the four counts.
+fn write_header(n: usize, total: usize, k: usize, l: usize, out: &mut [u16])
+    requires { ⌜ (n ≤ maxInputs) × (total ≤ maxGates) × (k ≤ maxOutputs) × (l ≤ maxNevers) × (4 ≤ length (now out)) ⌝ }
+    ensures { λ r. ⌜ now (out .exit) ≡ sets (now (out .entry)) 0 (n ∷ total ∷ k ∷ l ∷ []) ⌝ }
 {
     out[0] = n as u16;
     out[1] = total as u16;
     out[2] = k as u16;
+    out[3] = l as u16;
 }
 
 // Writes copy `t`, which is of gate `j`, and makes it the newest of its gate. The first gate's words stand at `gates`.
@@ -126,9 +129,10 @@ pub fn write_rendering(
     requires { ⌜ CopyReady (now words) n m k (now order) total (now newest) (now out) ⌝ }
     ensures { λ r. ⌜ now (out .exit) ≡ placed (encode (rendering (decode (now (words .entry))))) (now (out .entry)) ⌝ }
 {
-    let gates = INPUTS_AT + NAME_SIZE * n;
-    write_header(n, total, k, out);
-    copy_words(words, INPUTS_AT, NAME_SIZE * n, out);
+    let gates = gates_at(words);
+    write_header(n, total, k, nevers_of(words), out);
+    // The names and the never lines.
+    copy_words(words, INPUTS_AT, gates - INPUTS_AT, out);
     // No gate has a copy: constant 0 stands for each.
     fill_words(newest, m, CONSTANT_0 as u16);
     copy_gates(words, gates, n, m, order, total, newest, out);

@@ -1,11 +1,11 @@
--- The arrays that Cover lends to its inner functions, and the table of settled settings. Cited by the contracts of this crate. Assumes nothing.
+-- The arrays that Cover lends to its inner functions, and the table of settings that never come or are settled. Cited by the contracts of this crate. Assumes nothing.
 use mathlib.Core.Path.{_≡_}
 use mathlib.Core.List.{List}
 use Prim.Native.Nat.{ℕ, _^_, _≤_, _<_}
 use lib.ListN.{length}
 use Rattle.netlist.specs.Limits.{maxInputs, maxGates}
 use Rattle.netlist.specs.Netlist.{Block}
-use Rattle.netlist.specs.Rounds.{settingCount, isSettled}
+use Rattle.netlist.specs.Rounds.{settingCount, isSoundAt}
 use Rattle.assignments.specs.Tables.{settledBy}
 
 -- room for the gates' order and values, the inputs' values, and a byte for each setting of the most inputs
@@ -15,7 +15,7 @@ pub record CoverRoom (order inputs values settled : List ℕ) : Type 0 where
   pub valueRoom : length values ≡ maxGates
   pub settledRoom : length settled ≡ 2 ^ maxInputs
 
--- the table has a byte for each setting, 1 exactly where it is settled
+-- the table has a byte for each setting, 1 exactly where it never comes or is settled
 pub record Tabulated (b : Block) (table : List ℕ) : Type 0 where
   pub long : settingCount b ≤ length table
-  pub right : (s : ℕ) → s < settingCount b → settledBy table s ≡ isSettled b s
+  pub right : (s : ℕ) → s < settingCount b → settledBy table s ≡ isSoundAt b s

@@ -1,13 +1,13 @@
-// Which settings are settled: each is simulated once, along the order of `visiting`.
+// Which settings never come or are settled: each of the others is simulated once, along the order of `visiting`.
 use layout::offsets;
-use verdict::settings::fill_settled;
+use verdict::settings::fill_sound;
 use visiting::order_gates;
 ghost use mathlib.Core.Path.{_≡_};
 ghost use mathlib.Core.Bool.{false};
 ghost use Rattle.netlist.specs.StoredBlock.{decode, isTorn};
 ghost use Rattle.cover.specs.Table.{CoverRoom, Tabulated};
 
-// For each setting of a block that is not torn: 1 where it is settled, else 0.
+// For each setting of a block that is not torn: 1 where it never comes or is settled, else 0.
 pub fn tabulate(
     words: &[u16],
     order: &mut [u16],
@@ -21,9 +21,9 @@ pub fn tabulate(
 {
     let n = offsets::inputs_of(words);
     let m = offsets::gates_of(words);
-    let gates = offsets::gates_at(n);
+    let gates = offsets::gates_at(words);
     order_gates(words, order);
-    fill_settled(
+    fill_sound(
         words,
         n,
         gates,

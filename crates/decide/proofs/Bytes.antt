@@ -7,7 +7,8 @@ use lib.Dec.{eqb}
 use Rattle.laws.specs.Lists.{tab}
 use Rattle.laws.proofs.Tab.{tab-ext, map-tab}
 use Rattle.netlist.specs.Values.{val, code}
-use Rattle.netlist.specs.Rounds.{bit, settingOf}
+use Rattle.netlist.specs.Assignments.{bit}
+use Rattle.netlist.specs.Rounds.{settingOf}
 
 low-code : (k : ℕ) → k < 2 → code (val (eqb k 1)) ≡ k
 unfolding code

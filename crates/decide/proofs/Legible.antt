@@ -10,18 +10,18 @@ use mathlib.Core.List.{List}
 use Prim.Native.Nat.{ℕ, _<_}
 use native.Mathlib.Omega.{arith}
 use lib.ListN.{length, getD}
-use Rattle.netlist.specs.StoredBlock.{gatesAt, decode, isTorn}
-use Rattle.encoding.proofs.Decoded.{decode-inputCount, decode-gateCount, decode-outputCount, decode-gate}
+use Rattle.netlist.specs.StoredBlock.{neversAt, gatesAt, decode, isTorn}
+use Rattle.encoding.proofs.Decoded.{decode-inputCount, decode-gateCount, decode-outputCount, decode-neverCount, decode-gate}
 use Rattle.encoding.proofs.Readers.{whole-parts, whole-gate}
 use Rattle.netlist.specs.Netlist.{gateCount}
 use Rattle.decide.specs.InPlace.{Legible, Visits, DecideReady}
 
--- the words of a block, read from its first two words
-pub legible : (ws : List ℕ) → isTorn ws ≡ false → Legible ws (getD ws 0 0) (gatesAt (getD ws 0 0))
-unfolding gatesAt
+-- the words of a block, read from its counts
+pub legible : (ws : List ℕ) → isTorn ws ≡ false → Legible ws (getD ws 0 0) (gatesAt (getD ws 0 0) (getD ws 3 0))
+unfolding gatesAt neversAt
 legible ws h =
     record {
-      near = omega (arith, whole-parts ws h .fewInputs);
+      near = omega (arith, whole-parts ws h .fewInputs, whole-parts ws h .fewNevers);
       fewGates = rw (decode-gateCount ws) (whole-parts ws h .fewGates);
       inputs = sym (decode-inputCount ws);
       legal = λ j l. let g = whole-gate ws h j (rw (decode-gateCount ws) at l) in record { kind = g .known; count = g .arity };
@@ -38,7 +38,7 @@ ascending-visits m =
 
 -- whole words, an order over all gates, and slices of n and m bytes are what deciding a setting asks
 pub whole-ready : (ws : List ℕ) (n m gates : ℕ) (order inputs values : List ℕ) → isTorn ws ≡ false
-    → n ≡ getD ws 0 0 → m ≡ getD ws 1 0 → gates ≡ gatesAt n → Visits m order → length inputs ≡ n → length values ≡ m
+    → n ≡ getD ws 0 0 → m ≡ getD ws 1 0 → gates ≡ gatesAt (getD ws 0 0) (getD ws 3 0) → Visits m order → length inputs ≡ n → length values ≡ m
     → DecideReady ws n gates order inputs values
 whole-ready ws n m gates order inputs values h e f g v il vl =
     let c : m ≡ gateCount (decode ws) = f ∙ sym (decode-gateCount ws) in
@@ -47,6 +47,7 @@ whole-ready ws n m gates order inputs values h e f g v il vl =
       visits = rw (← c) v;
       fewInputs = rw e (whole-parts ws h .fewInputs);
       fewOutputs = rw (decode-outputCount ws) (whole-parts ws h .fewOutputs);
+      fewNevers = rw (decode-neverCount ws) (whole-parts ws h .fewNevers);
       inputRoom = il;
       valueRoom = vl ∙ c;
     }
@@ -60,6 +61,7 @@ ready-kept r e f =
       visits = r .visits;
       fewInputs = r .fewInputs;
       fewOutputs = r .fewOutputs;
+      fewNevers = r .fewNevers;
       inputRoom = e ∙ r .inputRoom;
       valueRoom = f ∙ r .valueRoom;
     }

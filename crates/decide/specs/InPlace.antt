@@ -7,8 +7,8 @@ use Prim.Native.Nat.{ℕ, _+_, _*_, _≤_, _<_}
 use lib.ListN.{length, getD}
 use Rattle.laws.specs.Lists.{same, member}
 use Rattle.netlist.specs.Values.{Value, code, valueOf}
-use Rattle.netlist.specs.Netlist.{Block, inputCount, gateCount, outputCount, gateOf}
-use Rattle.netlist.specs.Limits.{maxInputs, maxGates, maxOutputs}
+use Rattle.netlist.specs.Netlist.{Block, inputCount, gateCount, outputCount, neverCount, gateOf}
+use Rattle.netlist.specs.Limits.{maxInputs, maxNevers, maxGates, maxOutputs}
 use Rattle.netlist.specs.StoredBlock.{gateSize, gateAt, decode}
 use Rattle.netlist.specs.Rounds.{settled, settingOf, settledUnder}
 use Rattle.rounds.specs.Order.{BelowAll}
@@ -46,6 +46,7 @@ pub record DecideReady (ws : List ℕ) (n gates : ℕ) (order inputs values : Li
   pub visits : Visits (gateCount (decode ws)) order
   pub fewInputs : n ≤ maxInputs
   pub fewOutputs : outputCount (decode ws) ≤ maxOutputs
+  pub fewNevers : neverCount (decode ws) ≤ maxNevers
   pub inputRoom : length inputs ≡ n
   pub valueRoom : length values ≡ gateCount (decode ws)
 

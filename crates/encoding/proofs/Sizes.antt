@@ -5,7 +5,8 @@ use mathlib.Core.Path.{_≡_, refl, subst, _∙_}
 use mathlib.Core.Logic.{⊎-elim}
 use mathlib.Core.Bool.{Bool, true, false, _&&_}
 use mathlib.Core.List.{List, [], _∷_, _++_, map}
-use Prim.Native.Nat.{ℕ, _+_, _*_, _≤_, _<_}
+use Prim.Native.Nat.{ℕ, _+_, _*_, _^_, _≤_, _<_}
+use lib.Pow.{pow-mono}
 use native.Mathlib.Omega.{arith}
 use lib.ListN.{length, getD, List·getD-eq-default}
 use lib.Dec.{ltb}
@@ -14,22 +15,24 @@ use Rattle.laws.specs.Lists.{all, tab, joined}
 use Rattle.laws.proofs.Tests.{and-intro, lt-or-le}
 use Rattle.laws.proofs.Quantifiers.{all-at, all-from, all-append, all-tab-from}
 use Rattle.laws.proofs.Lists.{all-joined}
-use Rattle.netlist.specs.Limits.{maxBlock}
-use Rattle.netlist.specs.Netlist.{Name, constant, Gate, Output, Block, inputCount, gateCount, outputCount}
-use Rattle.netlist.specs.StoredBlock.{operandWords, gatesAt, outputsAt, isLetter, isPlainName, nameWords, nodeWord, gateWords, outputWords, isNode}
+use Rattle.netlist.specs.Limits.{maxInputs, maxBlock}
+use Rattle.netlist.specs.Assignments.{Assignment, isWithin, areMasks}
+use Rattle.netlist.specs.Netlist.{Name, constant, Gate, Output, Block, inputCount, gateCount, outputCount, neverCount}
+use Rattle.netlist.specs.StoredBlock.{operandWords, neversAt, gatesAt, outputsAt, neverWords, neverFits, isLetter, isPlainName, nameWords, nodeWord, gateWords, outputWords, isNode}
 use Rattle.netlist.specs.StoredBlock.{isOperand, gateFits, encode, decode, isWellFormed, isTorn}
-use Rattle.encoding.proofs.ListFacts.{all-map, getD-map}
+use Rattle.encoding.proofs.ListFacts.{and-parts, all-map, getD-map}
 use Rattle.encoding.proofs.Names.{length-nameWords, legal-words}
 use Rattle.encoding.proofs.Nodes.{nodeWord-small, isNode-isOperand}
 use Rattle.encoding.proofs.Gates.{no-operand-word, kind-small, arity-four, fits-kind, fits-arity, fits-operands}
-use Rattle.encoding.proofs.WellFormed.{noGate, noOutput, WellFormed, wellFormed-parts, few-nodes}
+use Rattle.encoding.proofs.WellFormed.{noGate, noNever, noOutput, WellFormed, wellFormed-parts, few-nodes}
 use Rattle.encoding.proofs.Encoded.{length-encode}
 use Rattle.encoding.proofs.RoundTrip.{whole-encode, whole-wellFormed}
 
 -- the longest block has as many of everything as the limits allow
 pub encode-longest : (b : Block) → isWellFormed b ≡ true → length (encode b) ≤ maxBlock
-unfolding outputsAt gatesAt
-encode-longest b h = let w = wellFormed-parts b h in rw (length-encode b) (omega (arith, w .fewInputs, w .fewGates, w .fewOutputs))
+unfolding outputsAt gatesAt neversAt
+encode-longest b h =
+    let w = wellFormed-parts b h in rw (length-encode b) (omega (arith, w .fewInputs, w .fewNevers, w .fewGates, w .fewOutputs))
 
 -- a 16-bit word
 small : ℕ → Bool
@@ -38,6 +41,18 @@ small w = ltb w 65536
 name-small : (s : Name) → isPlainName s ≡ true → all small (nameWords s) ≡ true
 unfolding isPlainName small
 name-small s h = all-from small (nameWords s) 0 (λ i l. lt-ltb (getD (nameWords s) i 0) 65536 (legal-words isLetter s h i (rw (length-nameWords s) at l)))
+
+-- masks of so few inputs are small
+never-small : (b : Block) (a : Assignment) → inputCount b ≤ maxInputs → neverFits b a ≡ true → all small (neverWords a) ≡ true
+unfolding neverWords neverFits areMasks small
+never-small b a few fits =
+    let n = inputCount b in
+    let fit = and-parts (ltb 0 (a .fixed)) (areMasks n (a .fixed) (a .ones)) fits .1 in
+    let masks = and-parts _ _ (and-parts (ltb (a .fixed) (2 ^ n) && ltb (a .ones) (2 ^ n)) (isWithin n (a .fixed) (a .ones)) fit .0) in
+    rw (lt-ltb (a .fixed) 65536 (below (ltb-true _ _ (masks .0))), lt-ltb (a .ones) 65536 (below (ltb-true _ _ (masks .1))))
+  where
+    below : {x : ℕ} → x < 2 ^ inputCount b → x < 65536
+    below l = let g : 2 ^ inputCount b ≤ 2 ^ 16 = pow-mono {i = inputCount b} {j = 16} (omega (arith, few)) in omega (arith, l, g)
 
 gate-small : (b : Block) (g : Gate) → inputCount b + gateCount b ≤ 65534 → gateFits b g ≡ true → all small (gateWords (inputCount b) g) ≡ true
 unfolding gateWords small
@@ -75,20 +90,28 @@ parts-small g xs d h = all-joined small (map g xs) ∙ all-map (all small) g xs 
 all-small : (b : Block) → isWellFormed b ≡ true → all small (encode b) ≡ true
 unfolding encode small
 all-small b h =
-    and-intro (small (inputCount b)) (small (gateCount b) && (small (outputCount b) && all small (names ++ gates ++ outputs)))
-    (lt-ltb (inputCount b) 65536 (omega (arith, w .fewInputs)))
-    (and-intro (small (gateCount b)) (small (outputCount b) && all small (names ++ gates ++ outputs)) (lt-ltb (gateCount b) 65536 (omega (arith, w .fewGates)))
-    (and-intro (small (outputCount b)) (all small (names ++ gates ++ outputs)) (lt-ltb (outputCount b) 65536 (omega (arith, w .fewOutputs)))
-    (all-append small (names ++ gates) outputs
-    ∙ and-intro (all small (names ++ gates)) (all small outputs)
-    (all-append small names gates ∙ and-intro (all small names) (all small gates) names-small gates-small)
-    outputs-small)))
+    rw (
+      lt-ltb (inputCount b) 65536 (omega (arith, w .fewInputs)),
+      lt-ltb (gateCount b) 65536 (omega (arith, w .fewGates)),
+      lt-ltb (outputCount b) 65536 (omega (arith, w .fewOutputs)),
+      lt-ltb (neverCount b) 65536 (omega (arith, w .fewNevers)),
+      all-append small (names ++ nevers ++ gates) outputs,
+      all-append small (names ++ nevers) gates,
+      all-append small names nevers,
+      names-small,
+      nevers-small,
+      gates-small,
+    )
+    outputs-small
   where
     w : WellFormed b
     w = wellFormed-parts b h
 
     names : List ℕ
     names = joined (map nameWords (b .inputs))
+
+    nevers : List ℕ
+    nevers = joined (map neverWords (b .nevers))
 
     gates : List ℕ
     gates = joined (map (gateWords (inputCount b)) (b .gates))
@@ -98,6 +121,11 @@ all-small b h =
 
     names-small : all small names ≡ true
     names-small = parts-small nameWords (b .inputs) [] (λ i l. name-small (getD (b .inputs) i []) (all-at isPlainName (b .inputs) i [] (w .inputNames) l))
+
+    nevers-small : all small nevers ≡ true
+    nevers-small =
+        parts-small neverWords (b .nevers) noNever
+        (λ i l. never-small b (getD (b .nevers) i noNever) (w .fewInputs) (all-at (neverFits b) (b .nevers) i noNever (w .neversFit) l))
 
     gates-small : all small gates ≡ true
     gates-small =

@@ -13,14 +13,18 @@ use lib.ListN.{getD, length-map}
 use borrow.Author.Tests.{leb-true, le-leb}
 use Rattle.laws.specs.Lists.{all, distinct}
 use Rattle.laws.proofs.Quantifiers.{all-from}
-use Rattle.netlist.specs.Limits.{maxInputs, maxGates, maxOutputs}
-use Rattle.netlist.specs.Netlist.{Name, constant, Gate, Output, Block, inputCount, gateCount, outputCount, gateOf}
-use Rattle.netlist.specs.StoredBlock.{isPlainName, gateFits, isNode, isWellFormed}
+use Rattle.netlist.specs.Limits.{maxInputs, maxNevers, maxGates, maxOutputs}
+use Rattle.netlist.specs.Assignments.{Assignment}
+use Rattle.netlist.specs.Netlist.{Name, constant, Gate, Output, Block, inputCount, gateCount, outputCount, neverCount, gateOf}
+use Rattle.netlist.specs.StoredBlock.{isPlainName, neverFits, gateFits, isNode, isWellFormed}
 use Rattle.encoding.proofs.ListFacts.{and-parts, all-map}
 
--- what a list of gates and a list of outputs hold past their end
+-- what a list of gates, of never lines and of outputs holds past its end
 abbrev pub noGate : Gate
 noGate = record { kind = 0; operands = [] }
+
+abbrev pub noNever : Assignment
+noNever = record { fixed = 0; ones = 0 }
 
 abbrev pub noOutput : Output
 noOutput = record { port = []; node = constant false }
@@ -30,8 +34,10 @@ pub record WellFormed (b : Block) : Type 0 where
   pub fewInputs : inputCount b ≤ maxInputs
   pub fewGates : gateCount b ≤ maxGates
   pub fewOutputs : outputCount b ≤ maxOutputs
+  pub fewNevers : neverCount b ≤ maxNevers
   pub inputNames : all isPlainName (b .inputs) ≡ true
   pub inputsDistinct : distinct (b .inputs) ≡ true
+  pub neversFit : all (neverFits b) (b .nevers) ≡ true
   pub gatesFit : all (gateFits b) (b .gates) ≡ true
   pub portNames : all (λ o. isPlainName (o .port)) (b .outputs) ≡ true
   pub portsDistinct : distinct (map (λ (o : Output). o .port) (b .outputs)) ≡ true
@@ -44,13 +50,16 @@ wellFormed-from b w =
     let inputs = le-leb (inputCount b) maxInputs (w .fewInputs) in
     let gates = le-leb (gateCount b) maxGates (w .fewGates) in
     let outputs = le-leb (outputCount b) maxOutputs (w .fewOutputs) in
-    rw (inputs, gates, outputs, w .inputNames, w .inputsDistinct, w .gatesFit, w .portNames, w .portsDistinct, w .nodesThere)
+    let nevers = le-leb (neverCount b) maxNevers (w .fewNevers) in
+    rw (inputs, gates, outputs, nevers, w .inputNames, w .inputsDistinct, w .neversFit, w .gatesFit, w .portNames, w .portsDistinct, w .nodesThere)
 
 -- what "well-formed" says, rule by rule
 pub wellFormed-parts : (b : Block) → isWellFormed b ≡ true → WellFormed b
 unfolding isWellFormed
 wellFormed-parts b h =
-    let h8 = and-parts _ _ h in
+    let h10 = and-parts _ _ h in
+    let h9 = and-parts _ _ (h10 .0) in
+    let h8 = and-parts _ _ (h9 .0) in
     let h7 = and-parts _ _ (h8 .0) in
     let h6 = and-parts _ _ (h7 .0) in
     let h5 = and-parts _ _ (h6 .0) in
@@ -62,35 +71,41 @@ wellFormed-parts b h =
       fewInputs = leb-true (inputCount b) maxInputs (h1 .0);
       fewGates = leb-true (gateCount b) maxGates (h1 .1);
       fewOutputs = leb-true (outputCount b) maxOutputs (h2 .1);
-      inputNames = h3 .1;
-      inputsDistinct = h4 .1;
-      gatesFit = h5 .1;
-      portNames = h6 .1;
-      portsDistinct = h7 .1;
-      nodesThere = h8 .1;
+      fewNevers = leb-true (neverCount b) maxNevers (h3 .1);
+      inputNames = h4 .1;
+      inputsDistinct = h5 .1;
+      neversFit = h6 .1;
+      gatesFit = h7 .1;
+      portNames = h8 .1;
+      portsDistinct = h9 .1;
+      nodesThere = h10 .1;
     }
 
 -- the numbers of nodes are below those of the constants
 pub few-nodes : (b : Block) → WellFormed b → inputCount b + gateCount b ≤ 65534
 few-nodes b w = omega (arith, w .fewInputs, w .fewGates)
 
--- A block with the inputs and the ports of a well-formed one is well-formed, if it has no more gates than allowed, its gates fit and its outputs show
+-- A block with the inputs, the never lines and the ports of a well-formed one is well-formed, if it has no more gates than allowed, its gates fit and its outputs show
 -- nodes that are there.
 pub wellFormed-interface : (b c : Block) → isWellFormed b ≡ true
     → c .inputs ≡ b .inputs
+    → c .nevers ≡ b .nevers
     → map (λ (o : Output). o .port) (c .outputs) ≡ map (λ (o : Output). o .port) (b .outputs)
     → gateCount c ≤ maxGates
     → ((j : ℕ) → j < gateCount c → gateFits c (gateOf c j) ≡ true)
     → ((i : ℕ) (d : Output) → i < outputCount c → isNode c (getD (c .outputs) i d .node) ≡ true)
     → isWellFormed c ≡ true
-wellFormed-interface b c h inputs ports few fit there =
+unfolding neverFits
+wellFormed-interface b c h inputs nevers ports few fit there =
     wellFormed-from c
     (record {
       fewInputs = rw inputs (w .fewInputs);
       fewGates = few;
       fewOutputs = rw (sym (length-map (c .outputs) port-of), ports, length-map (b .outputs) port-of) (w .fewOutputs);
+      fewNevers = rw nevers (w .fewNevers);
       inputNames = rw inputs (w .inputNames);
       inputsDistinct = rw inputs (w .inputsDistinct);
+      neversFit = rw (nevers, inputs) (w .neversFit);
       gatesFit = all-from (gateFits c) (c .gates) noGate fit;
       portNames = sym (all-map isPlainName port-of (c .outputs)) ∙ ap (all isPlainName) ports ∙ all-map isPlainName port-of (b .outputs) ∙ w .portNames;
       portsDistinct = rw ports (w .portsDistinct);

@@ -5,9 +5,10 @@ use mathlib.Core.List.{List, [], _∷_}
 use lib.ListN.{length, getD}
 use lib.Dec.{eqb, leb, ltb}
 use Rattle.laws.specs.Lists.{all, upTo}
-use Rattle.netlist.specs.Limits.{maxInputs, maxGates, maxOutputs}
+use Rattle.netlist.specs.Limits.{maxInputs, maxNevers, maxGates, maxOutputs}
+use Rattle.netlist.specs.Assignments.{areMasks}
 use Rattle.netlist.specs.Kinds.{isKind, arityFits}
-use Rattle.netlist.specs.StoredBlock.{nameSize, gateSize, outputSize, operandWords, inputsAt, gatesAt, outputsAt, isLetter, isNameByte, bytesAt}
+use Rattle.netlist.specs.StoredBlock.{nameSize, neverSize, gateSize, outputSize, operandWords, inputsAt, neversAt, gatesAt, outputsAt, isLetter, isNameByte, bytesAt}
 
 -- name bytes, and then only zeros
 unfoldable pub padded : List ℕ → Bool
@@ -26,6 +27,10 @@ unfoldable pub namesRule : List ℕ → ℕ → ℕ → ℕ → Bool
 namesRule ws at size count =
     all (λ j. nameRule ws (at + size * j) && all (λ i. not (sameName ws (at + size * i) (at + size * j))) (upTo j)) (upTo count)
 
+-- the never line whose two masks are at `at`, in a block of n inputs
+unfoldable pub neverRule : List ℕ → ℕ → ℕ → Bool
+neverRule ws n at = ltb 0 (getD ws at 0) && areMasks n (getD ws at 0) (getD ws (at + 1) 0)
+
 -- an input or a gate; `nodes` is n + m
 unfoldable pub nodeRule : ℕ → ℕ → Bool
 nodeRule nodes w = ltb w nodes
@@ -43,16 +48,18 @@ gateRule ws nodes at =
 unfoldable pub headerRule : List ℕ → Bool
 headerRule ws =
     leb inputsAt (length ws)
-    && leb (getD ws 0 0) maxInputs && leb (getD ws 1 0) maxGates && leb (getD ws 2 0) maxOutputs
-    && eqb (length ws) (outputsAt (getD ws 0 0) (getD ws 1 0) + outputSize * getD ws 2 0)
+    && leb (getD ws 0 0) maxInputs && leb (getD ws 1 0) maxGates && leb (getD ws 2 0) maxOutputs && leb (getD ws 3 0) maxNevers
+    && eqb (length ws) (outputsAt (getD ws 0 0) (getD ws 3 0) (getD ws 1 0) + outputSize * getD ws 2 0)
 
 unfoldable pub intact : List ℕ → Bool
 intact ws =
     let n = getD ws 0 0 in
     let m = getD ws 1 0 in
     let k = getD ws 2 0 in
+    let l = getD ws 3 0 in
     headerRule ws
     && namesRule ws inputsAt nameSize n
-    && all (λ j. gateRule ws (n + m) (gatesAt n + gateSize * j)) (upTo m)
-    && namesRule ws (outputsAt n m) outputSize k
-    && all (λ o. nodeRule (n + m) (getD ws (outputsAt n m + outputSize * o + nameSize) 0)) (upTo k)
+    && all (λ i. neverRule ws n (neversAt n + neverSize * i)) (upTo l)
+    && all (λ j. gateRule ws (n + m) (gatesAt n l + gateSize * j)) (upTo m)
+    && namesRule ws (outputsAt n l m) outputSize k
+    && all (λ o. nodeRule (n + m) (getD ws (outputsAt n l m + outputSize * o + nameSize) 0)) (upTo k)

@@ -9,6 +9,7 @@ ghost use mathlib.Core.Path.{_≡_};
 ghost use lib.ListN.{length};
 ghost use Rattle.netlist.specs.Answers.{answerOf, Shows};
 ghost use Rattle.netlist.specs.Operations.{read, write, settle, verdict, coverOf, groupsOf};
+ghost use Rattle.netlist.specs.Bring.{bring};
 ghost use Rattle.netlist.specs.Sheet.{sheet, sheetRecords};
 ghost use Rattle.netlist.specs.Compare.{compare};
 ghost use Rattle.netlist.specs.Line.{lineStart, lineLength};
@@ -35,6 +36,14 @@ pub extern "C" fn unloop_write(block: &[u16], text: &mut [u8]) -> Reply
     ensures { λ r. ⌜ Replies (write (now (block .entry)) (length (now (text .entry)))) (now (text .entry)) r (now (text .exit)) ⌝ }
 {
     reply_of(writing::write(block, text))
+}
+
+// Bring: the words of a block stored before there were never lines, as words of today; count: words.
+#[no_mangle]
+pub extern "C" fn unloop_bring(old: &[u16], block: &mut [u16]) -> Reply
+    ensures { λ r. ⌜ Replies (bring (now (old .entry)) (length (now (block .entry)))) (now (block .entry)) r (now (block .exit)) ⌝ }
+{
+    reply_of(bring::bring(old, block))
 }
 
 // Settle: the settled value of each gate; count: rounds.

@@ -8,8 +8,8 @@ mod Words
 mod KindWords
 mod Operands
 mod OperandLists
+mod PairSteps
 mod LineSteps
 mod LineChoice
 mod Phases
 mod Reached
-mod PairSteps

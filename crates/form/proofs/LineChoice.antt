@@ -8,19 +8,19 @@ use native.Mathlib.Omega.{arith}
 use lib.ListN.{length, drop, getD, length-drop}
 use lib.Seq.{getD-drop}
 use lib.Dec.{eqb, leb}
-use borrow.Author.Tests.{eq-eqb, eqb-true, le-leb, leb-true}
+use borrow.Author.Tests.{eq-eqb, ne-eqb, eqb-true, le-leb, leb-true}
 use Rattle.laws.proofs.Tests.{not-true-false, and-left, and-right, and-intro, eq-or-ne}
 use Rattle.laws.specs.Lists.{ascii, is}
 use Rattle.netlist.specs.Limits.{maxDepth}
 use Rattle.netlist.specs.Syntax.{apply}
 use Rattle.netlist.specs.Parse.{stuck, stop, expect}
 use Rattle.form.specs.declared.Scan.the-variants.{Next, Bad}
-use Rattle.form.specs.Scan.{scanOf, firstByte, inputName, inputReader, gateExpression, gateBracket, gateNaming, gateReader, outputShown, outputSpace}
-use Rattle.form.specs.Scan.{outputPort, outputReader, lineBehind, lineReader}
+use Rattle.form.specs.Scan.{scanOf, firstByte, inputName, inputReader, neverEnd, neverReader, gateExpression, gateBracket, gateNaming, gateReader}
+use Rattle.form.specs.Scan.{outputShown, outputSpace, outputPort, outputReader, lineBehind, lineReader}
 use Rattle.form.proofs.First.{byte-taken, byte-left}
 use Rattle.form.proofs.Shortens.{Leaves, Shortens, shortens-expect, shortens-bind, shortens-name, shortens-expr, shortens-term}
 use Rattle.form.proofs.Continues.{left-short}
-use Rattle.form.proofs.LineSteps.{shortens-word}
+use Rattle.form.proofs.LineSteps.{shortens-word, shortens-never-pairs}
 
 -- ---- by the letter
 
@@ -36,19 +36,45 @@ module _ (phase : ℕ) (t : List ℕ) {c : ℕ} (e : c ≡ getD t 0 0) where
         (λ h. n (e ∙ sym (eqb-true 105 (getD t 0 0) (and-left (is "i" (getD t 0 0)) (eqb phase 0) h)))
         (eqb-true phase 0 (and-right (is "i" (getD t 0 0)) (eqb phase 0) h)))
 
-    pub chosen-gate : c ≡ 103 → phase ≤ 1 → lineBehind phase t ≡ gateReader t
+    pub chosen-never : c ≡ 110 → phase ≤ 1 → lineBehind phase t ≡ neverReader t
     unfolding lineBehind
-    chosen-gate g p = rw (no-input, and-intro (is "g" (getD t 0 0)) (leb phase 1) (eq-eqb 103 (getD t 0 0) (sym g ∙ e)) (le-leb phase 1 p))
+    chosen-never g p = rw (no-input, and-intro (is "n" (getD t 0 0)) (leb phase 1) (eq-eqb 110 (getD t 0 0) (sym g ∙ e)) (le-leb phase 1 p))
 
-    pub chosen-output : (c ≡ 103 → phase ≤ 1 → ⊥) → lineBehind phase t ≡ outputReader t
-    unfolding lineBehind
-    chosen-output g =
-        let m : is "g" (getD t 0 0) && leb phase 1 ≡ false =
-        not-true-false (is "g" (getD t 0 0) && leb phase 1)
-        (λ h. g (e ∙ sym (eqb-true 103 (getD t 0 0) (and-left (is "g" (getD t 0 0)) (leb phase 1) h)))
-        (leb-true phase 1 (and-right (is "g" (getD t 0 0)) (leb phase 1) h)))
-        in
-        rw (no-input, m)
+    module _ (m : c ≡ 110 → phase ≤ 1 → ⊥) where
+      no-never : is "n" (getD t 0 0) && leb phase 1 ≡ false
+      no-never =
+          not-true-false (is "n" (getD t 0 0) && leb phase 1)
+          (λ h. m (e ∙ sym (eqb-true 110 (getD t 0 0) (and-left (is "n" (getD t 0 0)) (leb phase 1) h)))
+          (leb-true phase 1 (and-right (is "n" (getD t 0 0)) (leb phase 1) h)))
+
+      pub chosen-gate : c ≡ 103 → phase ≤ 2 → lineBehind phase t ≡ gateReader t
+      unfolding lineBehind
+      chosen-gate g p =
+          rw (no-input, no-never, and-intro (is "g" (getD t 0 0)) (leb phase 2) (eq-eqb 103 (getD t 0 0) (sym g ∙ e)) (le-leb phase 2 p))
+
+      pub chosen-output : (c ≡ 103 → phase ≤ 2 → ⊥) → lineBehind phase t ≡ outputReader t
+      unfolding lineBehind
+      chosen-output g =
+          let k : is "g" (getD t 0 0) && leb phase 2 ≡ false =
+          not-true-false (is "g" (getD t 0 0) && leb phase 2)
+          (λ h. g (e ∙ sym (eqb-true 103 (getD t 0 0) (and-left (is "g" (getD t 0 0)) (leb phase 2) h)))
+          (leb-true phase 2 (and-right (is "g" (getD t 0 0)) (leb phase 2) h)))
+          in
+          rw (no-input, no-never, k)
+
+-- where a line of the phase's own sort does not come, it is one of the next phase's
+module _ (t : List ℕ) where
+  pub behind-inputs : (getD t 0 0 ≡ 105 → ⊥) → lineBehind 0 t ≡ lineBehind 1 t
+  unfolding lineBehind
+  behind-inputs n = rw (ne-eqb 105 (getD t 0 0) (λ h. n (sym h)))
+
+  pub behind-nevers : (getD t 0 0 ≡ 110 → ⊥) → lineBehind 1 t ≡ lineBehind 2 t
+  unfolding lineBehind
+  behind-nevers n = rw (ne-eqb 110 (getD t 0 0) (λ h. n (sym h)))
+
+  pub behind-gates : (getD t 0 0 ≡ 103 → ⊥) → lineBehind 2 t ≡ lineBehind 3 t
+  unfolding lineBehind
+  behind-gates n = rw (ne-eqb 103 (getD t 0 0) (λ h. n (sym h)))
 
 -- ---- by the opening bracket
 
@@ -71,6 +97,10 @@ shortens-input-line : Shortens inputReader
 unfolding inputReader inputName
 shortens-input-line = shortens-expect (ascii "in ") (shortens-bind (shortens-name (firstByte false)) (λ _. shortens-word (ascii ")\n")))
 
+shortens-never-line : Shortens neverReader
+unfolding neverReader neverEnd
+shortens-never-line = shortens-expect (ascii "never") (shortens-bind shortens-never-pairs (λ _. shortens-word (ascii "\n")))
+
 shortens-gate-line : Shortens gateReader
 unfolding gateReader gateNaming gateBracket gateExpression
 shortens-gate-line =
@@ -87,12 +117,15 @@ shortens-output-line =
 
 shortens-behind : (phase : ℕ) → Shortens (lineBehind phase)
 unfolding lineBehind
-shortens-behind phase = record { leaves = λ s. go s (is "i" (getD s 0 0) && eqb phase 0) (is "g" (getD s 0 0) && leb phase 1) }
+shortens-behind phase = record {
+  leaves = λ s. go s (is "i" (getD s 0 0) && eqb phase 0) (is "n" (getD s 0 0) && leb phase 1) (is "g" (getD s 0 0) && leb phase 2);
+}
   where
-    go : (s : List ℕ) (i g : Bool) → Leaves s (cond i (inputReader s) (cond g (gateReader s) (outputReader s)))
-    go s true g = shortens-input-line .leaves s
-    go s false true = shortens-gate-line .leaves s
-    go s false false = shortens-output-line .leaves s
+    go : (s : List ℕ) (i n g : Bool) → Leaves s (cond i (inputReader s) (cond n (neverReader s) (cond g (gateReader s) (outputReader s))))
+    go s true n g = shortens-input-line .leaves s
+    go s false true g = shortens-never-line .leaves s
+    go s false false true = shortens-gate-line .leaves s
+    go s false false false = shortens-output-line .leaves s
 
 pub shortens-line : (phase : ℕ) → Shortens (lineReader phase)
 unfolding lineReader

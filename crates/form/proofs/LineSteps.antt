@@ -3,14 +3,18 @@
 use Prim.Native.Nat.{ℕ, _-_}
 use mathlib.Core.Bool.{true, false}
 use mathlib.Core.List.{List}
+use mathlib.Core.Path.{_≡_}
+use lib.ListN.{length}
 use Rattle.laws.specs.Lists.{ascii}
 use Rattle.netlist.specs.Limits.{maxDepth}
 use Rattle.netlist.specs.Syntax.{Term, apply}
-use Rattle.netlist.specs.Parse.{nameReader, exprReader, termReader}
-use Rattle.form.specs.Scan.{scanOf, wordReader, firstByte, closing, inputName, inputReader, gateExpression, gateBracket, gateNaming, gateReader}
-use Rattle.form.specs.Scan.{outputShown, outputSpace, outputPort, outputReader}
+use Rattle.netlist.specs.Parse.{nameReader, exprReader, termReader, pairsReader, neverPairs}
+use Rattle.form.specs.declared.Scan.{Scan}
+use Rattle.form.specs.Scan.{scanOf, wordReader, firstByte, closing, inputName, inputReader, neverEnd, neverReader, gateExpression, gateBracket}
+use Rattle.form.specs.Scan.{gateNaming, gateReader, outputShown, outputSpace, outputPort, outputReader}
 use Rattle.form.proofs.Shortens.{Shortens, shortens-expect, shortens-pure}
 use Rattle.form.proofs.Continues.{Continues, continues-word, continues-skip}
+use Rattle.form.proofs.PairSteps.{shortens-pairs}
 
 pub shortens-word : (w : List ℕ) → Shortens (wordReader w)
 unfolding wordReader
@@ -23,6 +27,23 @@ input-word = continues-word (ascii "in ") inputName
 pub input-name : Continues inputName (nameReader (firstByte false)) (λ t. scanOf (closing t))
 unfolding inputName
 input-name = continues-skip (nameReader (firstByte false)) closing
+
+pub never-word : Continues neverReader (wordReader (ascii "never")) (λ t. scanOf (neverEnd t))
+unfolding neverReader
+never-word = continues-word (ascii "never") neverEnd
+
+pub never-pairs : Continues neverEnd neverPairs (λ t. scanOf (wordReader (ascii "\n") t))
+unfolding neverEnd
+never-pairs = continues-skip neverPairs (wordReader (ascii "\n"))
+
+pub shortens-never-pairs : Shortens neverPairs
+unfolding neverPairs
+shortens-never-pairs = record { leaves = λ s. shortens-pairs (length s) 1 .leaves s }
+
+-- the code's bound is the number of bytes left
+pub never-bound : (t : List ℕ) (n : ℕ) → length t ≡ n → {r : Scan} → r ≡ scanOf (pairsReader n 1 t) → r ≡ scanOf (neverPairs t)
+unfolding neverPairs
+never-bound t n l e = rw l e
 
 pub gate-word : Continues gateReader (wordReader (ascii "gate ")) (λ t. scanOf (gateNaming t))
 unfolding gateReader

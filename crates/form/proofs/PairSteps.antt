@@ -11,7 +11,9 @@ use Rattle.laws.specs.Lists.{ascii, is}
 use Rattle.laws.proofs.Elements.{byte-there}
 use Rattle.netlist.specs.StoredBlock.{isNameStart}
 use Rattle.netlist.specs.Parse.{Parsed, Reader, got, stuck, pure, stop, onTest, ifNext, expect, nothingBehind, onParsed, bind, nameReader}
-use Rattle.netlist.specs.SetLine.{Pair, bitReader, pairReader, spacedPair, pairsReader, setLineReader}
+use Rattle.netlist.specs.Syntax.{Pair}
+use Rattle.netlist.specs.Parse.{bitReader, pairReader, spacedPair, pairsReader}
+use Rattle.netlist.specs.SetLine.{setLineReader}
 use Rattle.netlist.specs.declared.Refusal.the-variants.{SyntaxError}
 use Rattle.netlist.specs.declared.Test.the-variants.{Passed, Failed}
 use Rattle.netlist.specs.Answers.{testAt}

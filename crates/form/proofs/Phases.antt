@@ -13,23 +13,24 @@ use Rattle.netlist.specs.Kinds.{mostOperands, fewestOperands}
 use Rattle.netlist.specs.StoredBlock.{isLetter, isNameStart}
 use Rattle.netlist.specs.Syntax.{Term, Terms, Tree, apply}
 use Rattle.netlist.specs.Parse.{Parsed, got, stuck, Reader, pure, stop, ifNext, expect, onParsed, bind, nameReader, kindReader, termsReader, exprReader}
-use Rattle.netlist.specs.Parse.{termReader, addInput, addGate, addOutput, inputLine, gateLine, outputLine, atEnd, line, outputsReader, gatesReader}
-use Rattle.netlist.specs.Parse.{textReader}
+use Rattle.netlist.specs.Parse.{termReader, neverPairs, addInput, addNever, addGate, addOutput, inputLine, neverLine, gateLine, outputLine, atEnd, line}
+use Rattle.netlist.specs.Parse.{outputsReader, gatesReader, neversReader, textReader}
 use Rattle.form.specs.declared.Scan.{Scan}
 use Rattle.form.specs.declared.Scan.the-variants.{Next, Bad}
-use Rattle.form.specs.Scan.{scanOf, firstByte, closing, inputName, inputReader, gateExpression, gateBracket, gateNaming, gateReader, outputShown}
-use Rattle.form.specs.Scan.{outputSpace, outputPort, outputReader, lineBehind, lineReader, phaseOf}
+use Rattle.form.specs.Scan.{scanOf, wordReader, firstByte, inputName, inputReader, neverEnd, neverReader, gateExpression, gateBracket, gateNaming}
+use Rattle.form.specs.Scan.{gateReader, outputShown, outputSpace, outputPort, outputReader, lineBehind, lineReader, phaseOf}
 use Rattle.form.proofs.First.{byte-taken, byte-left}
 use Rattle.form.proofs.Continues.{Continues, thenOf, continues-after-bind, continues-after-expect, continues-word, continues-same, scan-map}
 use Rattle.form.proofs.OperandLists.{afterKind}
-use Rattle.form.proofs.LineChoice.{chosen-input, chosen-gate, chosen-output, line-bracket, line-none, letter-at}
+use Rattle.form.proofs.LineChoice.{chosen-input, chosen-never, chosen-gate, chosen-output, behind-inputs, behind-nevers, behind-gates, line-bracket}
+use Rattle.form.proofs.LineChoice.{line-none, letter-at}
 
 -- ---- one line, and then the others
 
 -- the end of a line, and then the others
-continues-end : (others : Reader Tree) (add : Tree → Tree)
-    → Continues (expect (ascii ")\n") (bind others (λ t. pure (add t)))) closing (λ t. scanOf (others t))
-continues-end others add = continues-same (continues-word (ascii ")\n") (bind others (λ t. pure (add t)))) (λ t. scan-map others add t)
+continues-end : (w : List ℕ) (others : Reader Tree) (add : Tree → Tree)
+    → Continues (expect w (bind others (λ t. pure (add t)))) (wordReader w) (λ t. scanOf (others t))
+continues-end w others add = continues-same (continues-word w (bind others (λ t. pure (add t)))) (λ t. scan-map others add t)
 
 -- an expression's value plays no part
 continues-expression : {A B C D : Type 0} (term : Reader Term) (make : ℕ → Terms → A) (make₀ : ℕ → Terms → B)
@@ -50,19 +51,23 @@ continues-expression term make make₀ {next} {next₀} {k} h = record { goes-on
 module _ (others : Reader Tree) where
   input-then : Continues (inputLine others stop) inputReader (λ t. scanOf (others t))
   unfolding inputLine inputReader inputName firstByte expect
-  input-then = continues-after-expect (ascii "in ") (continues-after-bind (nameReader isLetter) (λ s. continues-end others (addInput s)))
+  input-then = continues-after-expect (ascii "in ") (continues-after-bind (nameReader isLetter) (λ s. continues-end (ascii ")\n") others (addInput s)))
+
+  never-then : Continues (neverLine others stop) neverReader (λ t. scanOf (others t))
+  unfolding neverLine neverReader neverEnd expect
+  never-then = continues-after-expect (ascii "never") (continues-after-bind neverPairs (λ ps. continues-end (ascii "\n") others (addNever ps)))
 
   gate-then : Continues (gateLine others stop) gateReader (λ t. scanOf (others t))
   unfolding gateLine gateReader gateNaming gateBracket gateExpression firstByte expect
   gate-then =
       continues-after-expect (ascii "gate ") (continues-after-bind (nameReader isNameStart) (λ s. continues-after-expect (ascii " (")
-      (continues-expression (termReader (maxDepth - 1)) _ apply (λ g. continues-end others (addGate g)))))
+      (continues-expression (termReader (maxDepth - 1)) _ apply (λ g. continues-end (ascii ")\n") others (addGate g)))))
 
   output-then : Continues (outputLine others stop) outputReader (λ t. scanOf (others t))
   unfolding outputLine outputReader outputPort outputSpace outputShown firstByte expect
   output-then =
       continues-after-expect (ascii "out ") (continues-after-bind (nameReader isLetter) (λ p. continues-after-expect (ascii " ")
-      (continues-after-bind (nameReader isNameStart) (λ s. continues-end others (addOutput (record { port = p; shown = s }))))))
+      (continues-after-bind (nameReader isNameStart) (λ s. continues-end (ascii ")\n") others (addOutput (record { port = p; shown = s }))))))
 
 -- ---- by the letter: where it is another, the line is something else
 
@@ -74,6 +79,14 @@ module _ (others otherwise : Reader Tree) (t : List ℕ) where
   input-other : (getD t 0 0 ≡ 105 → ⊥) → inputLine others otherwise t ≡ otherwise t
   unfolding inputLine
   input-other e = byte-left _ _ t 105 refl e
+
+  never-only : getD t 0 0 ≡ 110 → neverLine others otherwise t ≡ neverLine others stop t
+  unfolding neverLine
+  never-only e = byte-taken _ _ t 110 (sym e) refl (omega arith) ∙ sym (byte-taken _ _ t 110 (sym e) refl (omega arith))
+
+  never-other : (getD t 0 0 ≡ 110 → ⊥) → neverLine others otherwise t ≡ otherwise t
+  unfolding neverLine
+  never-other e = byte-left _ _ t 110 refl e
 
   gate-only : getD t 0 0 ≡ 103 → gateLine others otherwise t ≡ gateLine others stop t
   unfolding gateLine
@@ -89,11 +102,12 @@ no-output t e = byte-left _ _ t 111 refl e
 
 -- ---- the lines of a phase
 
--- netlist's readers of the lines that may come: 0 all, 1 gates and outputs, 2 outputs
+-- netlist's readers of the lines that may come: 0 all, 1 no inputs, 2 gates and outputs, 3 outputs
 unfoldable pub linesReader : ℕ → ℕ → Reader Tree
 linesReader zero = textReader
-linesReader (suc zero) = gatesReader
-linesReader (suc (suc p)) = outputsReader
+linesReader (suc zero) = neversReader
+linesReader (suc (suc zero)) = gatesReader
+linesReader (suc (suc (suc p))) = outputsReader
 
 -- behind a line with the letter c
 abbrev onward : ℕ → ℕ → List ℕ → Scan
@@ -104,6 +118,12 @@ module _ (more : ℕ) (t : List ℕ) where
       → scanOf (inputLine (λ r. textReader more r) otherwise t) ≡ thenOf (inputReader t) (onward (getD t 0 0) more)
   unfolding linesReader phaseOf
   input-step otherwise e = rw e (ap scanOf (input-only (λ r. textReader more r) otherwise t e) ∙ input-then (λ r. textReader more r) .goes-on t)
+
+  never-step : (otherwise : Reader Tree) → getD t 0 0 ≡ 110
+      → scanOf (neverLine (λ r. neversReader more r) otherwise t) ≡ thenOf (neverReader t) (onward (getD t 0 0) more)
+  unfolding linesReader phaseOf
+  never-step otherwise e =
+      rw e (ap scanOf (never-only (λ r. neversReader more r) otherwise t e) ∙ never-then (λ r. neversReader more r) .goes-on t)
 
   gate-step : (otherwise : Reader Tree) → getD t 0 0 ≡ 103
       → scanOf (gateLine (λ r. gatesReader more r) otherwise t) ≡ thenOf (gateReader t) (onward (getD t 0 0) more)
@@ -122,43 +142,66 @@ module _ (more : ℕ) (t : List ℕ) where
 
 -- what may stand behind an opening bracket
 unfoldable behindOf : ℕ → ℕ → Reader Tree
-behindOf zero more = inputLine (λ r. textReader more r) (gateLine (λ r. gatesReader more r) (outputLine (λ r. outputsReader more r) stop))
-behindOf (suc zero) more = gateLine (λ r. gatesReader more r) (outputLine (λ r. outputsReader more r) stop)
-behindOf (suc (suc p)) more = outputLine (λ r. outputsReader more r) stop
+behindOf zero more =
+    inputLine (λ r. textReader more r)
+    (neverLine (λ r. neversReader more r) (gateLine (λ r. gatesReader more r) (outputLine (λ r. outputsReader more r) stop)))
+behindOf (suc zero) more =
+    neverLine (λ r. neversReader more r) (gateLine (λ r. gatesReader more r) (outputLine (λ r. outputsReader more r) stop))
+behindOf (suc (suc zero)) more = gateLine (λ r. gatesReader more r) (outputLine (λ r. outputsReader more r) stop)
+behindOf (suc (suc (suc p))) more = outputLine (λ r. outputsReader more r) stop
 
 lines-one : (phase more : ℕ) (s : List ℕ) → linesReader phase (suc more) s ≡ line (behindOf phase more) s
-unfolding linesReader behindOf textReader gatesReader outputsReader
+unfolding linesReader behindOf textReader neversReader gatesReader outputsReader
 lines-one zero more s = refl
 lines-one (suc zero) more s = refl
-lines-one (suc (suc p)) more s = refl
+lines-one (suc (suc zero)) more s = refl
+lines-one (suc (suc (suc p))) more s = refl
 
-behind-step : (phase more : ℕ) (t : List ℕ) → scanOf (behindOf phase more t) ≡ thenOf (lineBehind phase t) (onward (getD t 0 0) more)
-unfolding behindOf
-behind-step zero more t = ⊎-elim input (λ i. ⊎-elim (gate i) (output i) (eq-or-ne (getD t 0 0) 103)) (eq-or-ne (getD t 0 0) 105)
-  where
-    input : getD t 0 0 ≡ 105 → scanOf (behindOf zero more t) ≡ thenOf (lineBehind zero t) (onward (getD t 0 0) more)
-    input e = rw (chosen-input 0 t refl e refl) (input-step more t _ e)
+-- a line of the phase's own sort, or else of the next phase's
+abbrev Step : ℕ → ℕ → List ℕ → Type 0
+Step phase more t = scanOf (behindOf phase more t) ≡ thenOf (lineBehind phase t) (onward (getD t 0 0) more)
 
-    gate : (getD t 0 0 ≡ 105 → ⊥) → getD t 0 0 ≡ 103 → scanOf (behindOf zero more t) ≡ thenOf (lineBehind zero t) (onward (getD t 0 0) more)
-    gate i e =
-        rw (chosen-gate 0 t refl (λ h _. i h) e (omega arith))
-        (ap scanOf (input-other _ _ t i) ∙ gate-step more t _ e)
+module _ (more : ℕ) (t : List ℕ) where
+  outputs-step : (p : ℕ) → Step (suc (suc (suc p))) more t
+  unfolding behindOf
+  outputs-step p =
+      rw (chosen-output (suc (suc (suc p))) t refl (λ _ h. omega arith) (λ _ h. omega arith) (λ _ h. omega arith)) (output-step more t)
 
-    output : (getD t 0 0 ≡ 105 → ⊥) → (getD t 0 0 ≡ 103 → ⊥) → scanOf (behindOf zero more t) ≡ thenOf (lineBehind zero t) (onward (getD t 0 0) more)
-    output i g =
-        rw (chosen-output 0 t refl (λ h _. i h) (λ h _. g h))
-        (ap scanOf (input-other _ _ t i ∙ gate-other _ _ t g) ∙ output-step more t)
-behind-step (suc zero) more t = ⊎-elim gate output (eq-or-ne (getD t 0 0) 103)
-  where
-    gate : getD t 0 0 ≡ 103 → scanOf (behindOf (suc zero) more t) ≡ thenOf (lineBehind (suc zero) t) (onward (getD t 0 0) more)
-    gate e = rw (chosen-gate 1 t refl (λ _ h. omega arith) e (omega arith)) (gate-step more t _ e)
+  gates-step : Step 2 more t
+  unfolding behindOf
+  gates-step = ⊎-elim own later (eq-or-ne (getD t 0 0) 103)
+    where
+      own : getD t 0 0 ≡ 103 → Step 2 more t
+      own e = rw (chosen-gate 2 t refl (λ _ h. omega arith) (λ _ h. omega arith) e (omega arith)) (gate-step more t _ e)
 
-    output : (getD t 0 0 ≡ 103 → ⊥) → scanOf (behindOf (suc zero) more t) ≡ thenOf (lineBehind (suc zero) t) (onward (getD t 0 0) more)
-    output g =
-        rw (chosen-output 1 t refl (λ _ h. omega arith) (λ h _. g h))
-        (ap scanOf (gate-other _ _ t g) ∙ output-step more t)
-behind-step (suc (suc p)) more t =
-    rw (chosen-output (suc (suc p)) t refl (λ _ h. omega arith) (λ _ h. omega arith)) (output-step more t)
+      later : (getD t 0 0 ≡ 103 → ⊥) → Step 2 more t
+      later n = rw (behind-gates t n) (ap scanOf (gate-other _ _ t n) ∙ outputs-step 0)
+
+  nevers-step : Step 1 more t
+  unfolding behindOf
+  nevers-step = ⊎-elim own later (eq-or-ne (getD t 0 0) 110)
+    where
+      own : getD t 0 0 ≡ 110 → Step 1 more t
+      own e = rw (chosen-never 1 t refl (λ _ h. omega arith) e (omega arith)) (never-step more t _ e)
+
+      later : (getD t 0 0 ≡ 110 → ⊥) → Step 1 more t
+      later n = rw (behind-nevers t n) (ap scanOf (never-other _ _ t n) ∙ gates-step)
+
+  inputs-step : Step 0 more t
+  unfolding behindOf
+  inputs-step = ⊎-elim own later (eq-or-ne (getD t 0 0) 105)
+    where
+      own : getD t 0 0 ≡ 105 → Step 0 more t
+      own e = rw (chosen-input 0 t refl e refl) (input-step more t _ e)
+
+      later : (getD t 0 0 ≡ 105 → ⊥) → Step 0 more t
+      later n = rw (behind-inputs t n) (ap scanOf (input-other _ _ t n) ∙ nevers-step)
+
+  behind-step : (phase : ℕ) → Step phase more t
+  behind-step zero = inputs-step
+  behind-step (suc zero) = nevers-step
+  behind-step (suc (suc zero)) = gates-step
+  behind-step (suc (suc (suc p))) = outputs-step p
 
 no-end : (s : List ℕ) → 0 < length s → scanOf (atEnd s) ≡ Bad (length s)
 unfolding atEnd
@@ -173,17 +216,19 @@ lines-step phase more s h = ap scanOf (lines-one phase more s) ∙ ⊎-elim brac
     bracket : getD s 0 0 ≡ 40 → scanOf (line (behindOf phase more) s) ≡ thenOf (lineReader phase s) (onward (getD s 1 0) more)
     bracket e =
         rw (line-bracket phase s refl e, ← letter-at s)
-        (ap scanOf (byte-taken _ _ s 40 refl e (omega arith)) ∙ behind-step phase more (drop 1 s))
+        (ap scanOf (byte-taken _ _ s 40 refl e (omega arith)) ∙ behind-step more (drop 1 s) phase)
 
     other : (getD s 0 0 ≡ 40 → ⊥) → scanOf (line (behindOf phase more) s) ≡ thenOf (lineReader phase s) (onward (getD s 1 0) more)
     other e = rw (line-none phase s refl e) (ap scanOf (byte-left _ _ s 40 refl e) ∙ no-end s h)
 
 -- where none are left, the text is over
 pub lines-over : (phase more : ℕ) → scanOf (linesReader phase more []) ≡ Next 0
-unfolding linesReader textReader gatesReader outputsReader line ifNext atEnd
+unfolding linesReader textReader neversReader gatesReader outputsReader line ifNext atEnd
 lines-over zero zero = refl
 lines-over zero (suc more) = refl
 lines-over (suc zero) zero = refl
 lines-over (suc zero) (suc more) = refl
-lines-over (suc (suc p)) zero = refl
-lines-over (suc (suc p)) (suc more) = refl
+lines-over (suc (suc zero)) zero = refl
+lines-over (suc (suc zero)) (suc more) = refl
+lines-over (suc (suc (suc p))) zero = refl
+lines-over (suc (suc (suc p))) (suc more) = refl

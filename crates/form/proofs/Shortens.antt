@@ -9,13 +9,12 @@ use lib.ListN.{length, drop}
 use lib.Seq.{drop-drop}
 use lib.Dec.{eqb}
 use Rattle.laws.specs.Lists.{ascii, is}
-use Rattle.netlist.specs.Limits.{maxName, maxDepth}
-use Rattle.netlist.specs.StoredBlock.{isLetter, isNameByte, isNameStart}
+use Rattle.netlist.specs.Limits.{maxName}
+use Rattle.netlist.specs.StoredBlock.{isNameByte, isNameStart}
 use Rattle.netlist.specs.Kinds.{mostOperands, fewestOperands}
-use Rattle.netlist.specs.Syntax.{Term, Terms, Tree, name, literal, apply, nil, cons}
+use Rattle.netlist.specs.Syntax.{Term, Terms, name, literal, apply, nil, cons}
 use Rattle.netlist.specs.Parse.{Parsed, got, stuck, Reader, pure, stop, onTest, ifNext, expect, onParsed, bind, nameBytes, nameAfter, nameReader}
-use Rattle.netlist.specs.Parse.{kindReader, spaced, termsReader, exprReader, leafOr, termReader, addInput, addGate, addOutput, inputLine, gateLine}
-use Rattle.netlist.specs.Parse.{outputLine}
+use Rattle.netlist.specs.Parse.{kindReader, spaced, termsReader, exprReader, leafOr, termReader}
 use Rattle.form.proofs.ListFacts.{lastOnes}
 
 -- the second text is the end of the first
@@ -150,31 +149,3 @@ pub shortens-term : (depth : ℕ) → Shortens (termReader depth)
 unfolding termReader
 shortens-term zero = shortens-leaf shortens-stop
 shortens-term (suc depth) = let r = shortens-term depth in shortens-leaf (shortens-expect (ascii "(") (shortens-expr apply r))
-
--- a line, where what follows and what else may stand there leave the end
-module _ {others otherwise : Reader Tree} (o : Shortens others) (e : Shortens otherwise) where
-  pub shortens-input : Shortens (inputLine others otherwise)
-  unfolding inputLine
-  shortens-input =
-      shortens-if (is "i") (λ _. shortens-expect (ascii "n ")
-      (shortens-bind (shortens-name isLetter) (λ s. shortens-expect (ascii ")\n")
-      (shortens-bind o (λ t. shortens-pure (addInput s t))))))
-      e
-
-  pub shortens-gate : Shortens (gateLine others otherwise)
-  unfolding gateLine
-  shortens-gate =
-      shortens-if (is "g") (λ _. shortens-expect (ascii "ate ")
-      (shortens-bind (shortens-name isNameStart) (λ s. shortens-expect (ascii " (")
-      (shortens-bind (shortens-expr _ (shortens-term (maxDepth - 1))) (λ g. shortens-expect (ascii ")\n")
-      (shortens-bind o (λ t. shortens-pure (addGate g t))))))))
-      e
-
-  pub shortens-output : Shortens (outputLine others otherwise)
-  unfolding outputLine
-  shortens-output =
-      shortens-if (is "o") (λ _. shortens-expect (ascii "ut ")
-      (shortens-bind (shortens-name isLetter) (λ p. shortens-expect (ascii " ")
-      (shortens-bind (shortens-name isNameStart) (λ s. shortens-expect (ascii ")\n")
-      (shortens-bind o (λ t. shortens-pure (addOutput (record { port = p; shown = s }) t))))))))
-      e

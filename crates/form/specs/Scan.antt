@@ -10,8 +10,9 @@ use Rattle.laws.specs.Lists.{ascii, is}
 use Rattle.netlist.specs.StoredBlock.{isLetter, isNameStart}
 use Rattle.netlist.specs.Limits.{maxDepth}
 use Rattle.netlist.specs.Syntax.{apply}
-use Rattle.netlist.specs.Parse.{Parsed, got, stuck, Reader, pure, stop, ifNext, expect, nothingBehind, bind, nameReader, exprReader, termReader, parse}
-use Rattle.netlist.specs.SetLine.{bitReader, setLineReader}
+use Rattle.netlist.specs.Parse.{Parsed, got, stuck, Reader, pure, stop, ifNext, expect, nothingBehind, bind, nameReader, exprReader, termReader, bitReader}
+use Rattle.netlist.specs.Parse.{neverPairs, parse}
+use Rattle.netlist.specs.SetLine.{setLineReader}
 use Rattle.form.specs.declared.Scan.{Scan}
 use Rattle.form.specs.declared.Scan.the-variants.{Next, Bad as Stuck}
 use Rattle.form.specs.declared.Kind.{Kind}
@@ -75,6 +76,12 @@ inputName = bind (nameReader (firstByte false)) (λ _. closing)
 unfoldable pub inputReader : Reader ℕ
 inputReader = expect (ascii "in ") inputName
 
+unfoldable pub neverEnd : Reader ℕ
+neverEnd = bind neverPairs (λ _. wordReader (ascii "\n"))
+
+unfoldable pub neverReader : Reader ℕ
+neverReader = expect (ascii "never") neverEnd
+
 unfoldable pub gateExpression : Reader ℕ
 gateExpression = bind (exprReader (termReader (maxDepth - 1)) apply) (λ _. closing)
 
@@ -99,18 +106,19 @@ outputPort = bind (nameReader (firstByte false)) (λ _. outputSpace)
 unfoldable pub outputReader : Reader ℕ
 outputReader = expect (ascii "out ") outputPort
 
--- one line by its letter, of those that may come in a phase: 0 all, 1 gates and outputs, 2 outputs
+-- one line by its letter, of those that may come in a phase: 0 all, 1 no inputs, 2 gates and outputs, 3 outputs
 unfoldable pub lineBehind : ℕ → Reader ℕ
 lineBehind phase s =
     cond (is "i" (getD s 0 0) && eqb phase 0) (inputReader s)
-    (cond (is "g" (getD s 0 0) && leb phase 1) (gateReader s) (outputReader s))
+    (cond (is "n" (getD s 0 0) && leb phase 1) (neverReader s)
+    (cond (is "g" (getD s 0 0) && leb phase 2) (gateReader s) (outputReader s)))
 
 unfoldable pub lineReader : ℕ → Reader ℕ
 lineReader phase = expect (ascii "(") (lineBehind phase)
 
 -- the phase behind a line with this letter
 unfoldable pub phaseOf : ℕ → ℕ
-phaseOf c = cond (is "i" c) 0 (cond (is "g" c) 1 2)
+phaseOf c = cond (is "i" c) 0 (cond (is "n" c) 1 (cond (is "g" c) 2 3))
 
 -- a pair behind its space, without its tree, and what follows each of its parts
 unfoldable pub bitEnd : Reader ℕ

@@ -1,4 +1,4 @@
-// Does a text have the grammar's form, and where does it break (SPECIFICATION 1, and Read's 2 in 7.3). `pairs` asks it of lines of pairs.
+// Does a text have the grammar's form, and where does it break (SPECIFICATION 1, and Read's 2 in 7.3). `pairs` asks it of set lines too.
 // The readers take the rest of the text as their slice and answer how many bytes are left. Nothing is written.
 use layout::bytes::byte_at;
 use netlist::Refusal;

@@ -2,10 +2,11 @@
 use crate::Scan;
 use crate::bytes;
 use crate::names;
+use crate::pairs;
 use crate::terms;
 use layout::bytes::byte_at;
 ghost use mathlib.Core.Path.{_≡_};
-ghost use Rattle.form.specs.Scan.{scanOf, inputReader, gateReader, outputReader, lineReader, phaseOf};
+ghost use Rattle.form.specs.Scan.{scanOf, inputReader, neverReader, gateReader, outputReader, lineReader, phaseOf};
 
 // `in NAME)` and its LF.
 fn input_line(s: &[u8]) -> Scan
@@ -22,6 +23,23 @@ fn input_line(s: &[u8]) -> Scan
     };
     let at = s.len() - left;
     bytes::word(&s[at..], b")\n")
+}
+
+// `never`, at least one pair, and `)` with its LF. No more pairs stand there than bytes are left.
+fn never_line(s: &[u8]) -> Scan
+    ensures { λ r. ⌜ r ≡ scanOf (neverReader (now (s .entry))) ⌝ }
+{
+    let found = bytes::word(s, b"never");
+    let Scan::Next(left) = found else {
+        return found;
+    };
+    let at = s.len() - left;
+    let found = pairs::pairs(&s[at..], left, 1);
+    let Scan::Next(left) = found else {
+        return found;
+    };
+    let at = s.len() - left;
+    bytes::word(&s[at..], b"\n")
 }
 
 // `gate NAME EXPR)` and its LF.
@@ -78,17 +96,20 @@ fn output_line(s: &[u8]) -> Scan
     bytes::word(&s[at..], b")\n")
 }
 
-// Which lines may come behind a line with this letter: 0 all, 1 gates and outputs, 2 outputs.
+// Which lines may come behind a line with this letter: 0 all, 1 no inputs, 2 gates and outputs, 3 outputs.
 pub fn phase_of(letter: u8) -> usize
     ensures { λ r. ⌜ r ≡ phaseOf letter ⌝ }
 {
     if letter == b'i' {
         return 0;
     }
-    if letter == b'g' {
+    if letter == b'n' {
         return 1;
     }
-    2
+    if letter == b'g' {
+        return 2;
+    }
+    3
 }
 
 // One line, of those that may come in this phase.
@@ -104,8 +125,13 @@ pub fn line(s: &[u8], phase: usize) -> Scan
             return input_line(&s[1..]);
         }
     }
-    if c == b'g' {
+    if c == b'n' {
         if phase <= 1 {
+            return never_line(&s[1..]);
+        }
+    }
+    if c == b'g' {
+        if phase <= 2 {
             return gate_line(&s[1..]);
         }
     }

@@ -1,4 +1,4 @@
-// Lines of pairs: a pair behind its space, pairs up to their closing bracket, and a whole set line.
+// Pairs, of never lines and set lines: one behind its space, pairs up to their closing bracket, and a whole set line.
 use crate::Scan;
 use crate::bytes;
 use crate::names;
@@ -8,7 +8,8 @@ use netlist::Test;
 ghost use mathlib.Core.Path.{_≡_};
 ghost use Rattle.netlist.specs.declared.Refusal.the-variants.{SyntaxError};
 ghost use Rattle.netlist.specs.Answers.{testAt};
-ghost use Rattle.netlist.specs.SetLine.{pairsReader, setLineReader};
+ghost use Rattle.netlist.specs.Parse.{pairsReader};
+ghost use Rattle.netlist.specs.SetLine.{setLineReader};
 ghost use Rattle.form.specs.Scan.{scanOf, bitEnd, pairScan, lineLast, firstBadInSetLine};
 
 // A pair's value, 0 or 1, and its closing bracket.

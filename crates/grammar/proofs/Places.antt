@@ -1,8 +1,8 @@
 -- Where the lines of a printed tree stand: a print is its own bytes and then what follows, and lengths add up. Cited for places of names.
 -- Assumes nothing.
---   printInput-split, printGate-split, printOutput-split, lines-split: a print is its own bytes and then what follows
+--   printInput-split, printPair-split, printNever-split, printGate-split, printOutput-split, lines-split: a print is its own bytes and then what follows
 --   term-measure, lines-measure, print-measure: lengths add up
---   gates-at, outputs-at, lines-drop: where the lines stand
+--   nevers-at, gates-at, outputs-at, lines-drop: where the lines stand
 use Prim.Native.Nat.{ℕ, _+_}
 use mathlib.Core.Path.{_≡_, refl, sym, ap, _∙_}
 use mathlib.Core.List.{List, [], _∷_, _++_, append-assoc}
@@ -11,8 +11,9 @@ use lib.ListN.{length, drop, length-append}
 use lib.Seq.{drop-at, drop-drop}
 use Rattle.laws.specs.Lists.{ascii}
 use Rattle.netlist.specs.Netlist.{Name}
-use Rattle.netlist.specs.Syntax.{Term, apply, GateLine, OutputLine, Tree, printTerm, printInput, printGate, printOutput, printLines, print}
-use Rattle.netlist.specs.Reading.{linesLength, gateLinesAt, outputLinesAt}
+use Rattle.netlist.specs.Syntax.{Term, apply, GateLine, OutputLine, Pair, Tree, printTerm, printInput, pairText, printPair, printNever, printGate, printOutput}
+use Rattle.netlist.specs.Syntax.{printLines, print}
+use Rattle.netlist.specs.Reading.{linesLength, neverLinesAt, gateLinesAt, outputLinesAt}
 use Rattle.grammar.proofs.Shorter.{printTerm-append}
 
 pub term-measure : (t : Term) (rest : List ℕ) → length (printTerm t rest) ≡ length (printTerm t []) + length rest
@@ -21,6 +22,10 @@ term-measure t rest = ap length (printTerm-append t [] rest) ∙ length-append (
 pub printInput-split : (x : Name) (rest : List ℕ) → printInput x rest ≡ printInput x [] ++ rest
 unfolding printInput
 printInput-split x rest = simp append-assoc
+
+pub printPair-split : (p : Pair) (rest : List ℕ) → printPair p rest ≡ printPair p [] ++ rest
+unfolding printPair pairText
+printPair-split p rest = simp append-assoc
 
 pub printOutput-split : (o : OutputLine) (rest : List ℕ) → printOutput o rest ≡ printOutput o [] ++ rest
 unfolding printOutput
@@ -53,11 +58,21 @@ module _ {A : Type 0} (line : A → List ℕ → List ℕ) (split : (x : A) (res
       let l : length (printLines line xs []) ≡ linesLength line xs = omega (arith, lines-measure xs []) in
       rw (lines-split xs rest) (drop-at (printLines line xs []) rest (linesLength line xs) l)
 
--- The gates' lines, the outputs' lines and the end of a printed tree stand where the definitions say.
+pub printNever-split : (ps : List Pair) (rest : List ℕ) → printNever ps rest ≡ printNever ps [] ++ rest
+unfolding printNever
+printNever-split ps rest =
+    rw (lines-split printPair printPair-split ps (ascii ")\n" ++ rest), lines-split printPair printPair-split ps (ascii ")\n")) (simp append-assoc)
+
+-- The lines of a printed tree, sort by sort, and its end stand where the definitions say.
 module _ (t : Tree) where
+  pub nevers-at : drop (neverLinesAt t) (print t) ≡ printLines printNever (t .nevers) (printLines printGate (t .gates) (printLines printOutput (t .outputs) []))
+  unfolding print neverLinesAt
+  nevers-at = lines-drop printInput printInput-split (t .inputs) _
+
   pub gates-at : drop (gateLinesAt t) (print t) ≡ printLines printGate (t .gates) (printLines printOutput (t .outputs) [])
-  unfolding print gateLinesAt
-  gates-at = lines-drop printInput printInput-split (t .inputs) _
+  unfolding gateLinesAt
+  gates-at = sym (drop-drop (linesLength printNever (t .nevers)) (neverLinesAt t) (print t))
+      ∙ rw nevers-at (lines-drop printNever printNever-split (t .nevers) _)
 
   pub outputs-at : drop (outputLinesAt t) (print t) ≡ printLines printOutput (t .outputs) []
   unfolding outputLinesAt
@@ -65,9 +80,12 @@ module _ (t : Tree) where
       ∙ rw gates-at (lines-drop printGate printGate-split (t .gates) _)
 
   pub print-measure : length (print t) ≡ outputLinesAt t + linesLength printOutput (t .outputs)
-  unfolding print outputLinesAt gateLinesAt
+  unfolding print outputLinesAt gateLinesAt neverLinesAt
   print-measure =
+      let outputs = printLines printOutput (t .outputs) [] in
+      let gates = printLines printGate (t .gates) outputs in
       let a = lines-measure printOutput printOutput-split (t .outputs) [] in
-      let b = lines-measure printGate printGate-split (t .gates) (printLines printOutput (t .outputs) []) in
-      let c = lines-measure printInput printInput-split (t .inputs) (printLines printGate (t .gates) (printLines printOutput (t .outputs) [])) in
+      let b = lines-measure printGate printGate-split (t .gates) outputs in
+      let c = lines-measure printNever printNever-split (t .nevers) gates in
+      let d = lines-measure printInput printInput-split (t .inputs) (printLines printNever (t .nevers) gates) in
       omega arith

@@ -1,17 +1,24 @@
 -- Every reader of the grammar is good: it refuses at the first byte that no accepted text has there. Assumes nothing.
+--   nameReader-good, pairsReader-good: names, and pairs up to their closing bracket
 --   textReader-good: the reader of a whole text is good, with every bound on the lines
 use Prim.Native.Nat.{ℕ, zero, suc, _-_}
-use mathlib.Core.Path.{_≡_, refl}
-use mathlib.Core.Bool.{Bool, true, false}
-use mathlib.Core.List.{[], _∷_}
+use mathlib.Core.Path.{_≡_, refl, ap}
+use mathlib.Core.Bool.{Bool, true, false, false≢true}
+use mathlib.Core.List.{List, [], _∷_}
+use native.Mathlib.Omega.{arith}
+use lib.ListN.{length}
 use Rattle.laws.specs.Lists.{ascii}
 use Rattle.netlist.specs.Limits.{maxName, maxDepth}
 use Rattle.netlist.specs.Kinds.{fewestOperands, mostOperands}
 use Rattle.netlist.specs.StoredBlock.{isLetter, isNameByte, isNameStart}
-use Rattle.netlist.specs.Syntax.{Term, Terms, name, literal, apply, nil, cons, Tree}
-use Rattle.netlist.specs.Parse.{Reader, stop, nameBytes, nameAfter, nameReader, kindReader, spaced, termsReader, exprReader, leafOr, termReader}
-use Rattle.netlist.specs.Parse.{addInput, addGate, inputLine, gateLine, outputLine, atEnd, line, outputsReader, gatesReader, textReader}
-use Rattle.grammar.proofs.Refusals.{Good, HalfGood, GoodBefore, HalfGoodBefore, half-stop, good-ifNext, good-expect, before-pure}
+use Rattle.netlist.specs.Syntax.{Term, Terms, name, literal, apply, nil, cons, Pair, Tree}
+use Rattle.netlist.specs.Parse.{Parsed, Reader, got, stuck, stop, onParsed, bind, nameBytes, nameAfter, nameReader, kindReader, spaced, termsReader}
+use Rattle.netlist.specs.Parse.{exprReader, leafOr, termReader, bitReader, pairReader, spacedPair, pairsReader, neverPairs, addInput, addNever, addGate}
+use Rattle.netlist.specs.Parse.{inputLine, neverLine, gateLine, outputLine, atEnd, line, outputsReader, gatesReader, neversReader, textReader}
+use Rattle.grammar.proofs.Pairs.{pairs-got}
+use Rattle.grammar.proofs.Bound.{pairsReader-bound}
+use Rattle.grammar.proofs.Bounded.{good-bounded}
+use Rattle.grammar.proofs.Refusals.{accepted, Good, HalfGood, GoodBefore, HalfGoodBefore, half-stop, good-ifNext, good-expect, before-pure}
 use Rattle.grammar.proofs.Refusals.{before-stop, before-ifNext, halfBefore-ifNext, before-half, before-expect, before-bind, good-made, good-end}
 
 nameBytes-good : (most : ℕ) → GoodBefore (nameBytes most)
@@ -72,12 +79,60 @@ termReader-good zero = leafOr-good stop before-stop
 termReader-good (suc depth) =
     leafOr-good _ (before-half (before-expect (ascii "(") _ (exprReader-good (termReader depth) apply (termReader-good depth))))
 
+-- ---- pairs
+
+bitReader-good : GoodBefore bitReader
+unfolding bitReader
+bitReader-good = before-ifNext _ _ _ (λ _ _. before-pure false) (before-half (before-ifNext _ _ _ (λ _ _. before-pure true) before-stop 49 refl)) 48 refl
+
+pairReader-good : GoodBefore pairReader
+unfolding pairReader isNameStart isLetter
+pairReader-good =
+    before-expect (ascii "(") _ (before-bind (nameReader isNameStart) _ (nameReader-good isNameStart refl) λ s. before-expect (ascii " ") _
+    (before-bind bitReader _ bitReader-good λ v. before-expect (ascii ")") _ (before-pure _)))
+
+spacedPair-good : (others : Reader (List Pair)) → GoodBefore others → GoodBefore (spacedPair others)
+unfolding spacedPair
+spacedPair-good others b =
+    before-expect (ascii " ") _ (before-bind pairReader _ pairReader-good λ p. before-bind others _ b λ ps. before-pure (p ∷ ps))
+
+pub pairsReader-good : (most needed : ℕ) → GoodBefore (pairsReader most needed)
+unfolding pairsReader
+pairsReader-good zero needed = before-expect (ascii ")") _ (before-pure [])
+pairsReader-good (suc most) zero =
+    before-ifNext _ _ _ (λ _ _. before-pure []) (before-half (spacedPair-good _ (pairsReader-good most zero))) 41 refl
+pairsReader-good (suc most) (suc needed) = spacedPair-good _ (pairsReader-good most needed)
+
+-- the bound is the text's length: any larger one gives the same
+neverPairs-good : GoodBefore neverPairs
+unfolding neverPairs bind onParsed
+neverPairs-good = record { good = good }
+  where
+    good : {T : Type 0} (next : List Pair → Reader T) → ((ps : List Pair) → Good (next ps)) → Good (bind neverPairs next)
+    good next g =
+        good-bounded (λ n. bind (pairsReader (suc n) 1) next) (bind neverPairs next) (λ n. pairsReader-good (suc n) 1 .good next g)
+        (λ n s le. ap (onParsed next) (pairsReader-bound (suc n) (length s) 1 s (omega arith) (omega arith)))
+        λ n s h. more n s (pairsReader (suc n) 1 s) refl h
+      where
+        more : (n : ℕ) (s : List ℕ) (p : Parsed (List Pair)) → pairsReader (suc n) 1 s ≡ p → accepted (onParsed next p) ≡ true
+            → accepted (bind neverPairs next s) ≡ true
+        more n s (got ps rest) e h = rw (pairs-got n s ps rest e) h
+        more n s (stuck left) e h = absurd (false≢true h)
+
+-- ---- lines
+
 module _ (others otherwise : Reader Tree) (g : Good others) (h : HalfGood otherwise) where
   inputLine-good : Good (inputLine others otherwise)
   unfolding inputLine isLetter
   inputLine-good =
       good-ifNext _ _ _ (λ _ _. good-expect (ascii "n ") _
       (nameReader-good isLetter refl .good _ λ s. good-expect (ascii ")\n") _ (good-made others (addInput s) g))) h 105 refl
+
+  neverLine-good : Good (neverLine others otherwise)
+  unfolding neverLine
+  neverLine-good =
+      good-ifNext _ _ _ (λ _ _. good-expect (ascii "ever") _
+      (neverPairs-good .good _ λ ps. good-expect (ascii "\n") _ (good-made others (addNever ps) g))) h 110 refl
 
   outputLine-good : Good (outputLine others otherwise)
   unfolding outputLine isNameStart isLetter
@@ -110,10 +165,17 @@ unfolding gatesReader
 gatesReader-good zero = atEnd-good
 gatesReader-good (suc n) = line-good _ (gateLine-good _ _ (gatesReader-good n) (outputLine-good _ _ (outputsReader-good n) half-stop .half))
 
+neversReader-good : (n : ℕ) → Good (neversReader n)
+unfolding neversReader
+neversReader-good zero = atEnd-good
+neversReader-good (suc n) =
+    line-good _ (neverLine-good _ _ (neversReader-good n)
+    (gateLine-good _ _ (gatesReader-good n) (outputLine-good _ _ (outputsReader-good n) half-stop .half) .half))
+
 -- With every bound on the lines, what is refused cannot go on, and what was read before can.
 pub textReader-good : (n : ℕ) → Good (textReader n)
 unfolding textReader
 textReader-good zero = atEnd-good
 textReader-good (suc n) =
-    line-good _ (inputLine-good _ _ (textReader-good n)
-    (gateLine-good _ _ (gatesReader-good n) (outputLine-good _ _ (outputsReader-good n) half-stop .half) .half))
+    line-good _ (inputLine-good _ _ (textReader-good n) (neverLine-good _ _ (neversReader-good n)
+    (gateLine-good _ _ (gatesReader-good n) (outputLine-good _ _ (outputsReader-good n) half-stop .half) .half) .half))

@@ -12,15 +12,17 @@ use Rattle.laws.proofs.Quantifiers.{all-at}
 use Rattle.laws.proofs.Same.{same-refl}
 use Rattle.laws.proofs.Tab.{tab-getD, getD-tab, length-tab}
 use Rattle.netlist.specs.Limits.{maxGates}
+use Rattle.netlist.specs.Assignments.{Assignment}
 use Rattle.netlist.specs.Netlist.{Name, Operand, input, gate, constant, Output, Block, inputCount, gateCount, gateOf}
-use Rattle.netlist.specs.StoredBlock.{isPlainName, isNode, isOperand, isWellFormed}
+use Rattle.netlist.specs.StoredBlock.{isPlainName, isNode, isOperand, neverFits, isWellFormed}
 use Rattle.netlist.specs.Syntax.{OutputLine}
 use Rattle.netlist.specs.Reading.{gatesIn, gatesInside, lineGates, Binding, inputBindings, gateBindings, bindings, lookup, termNode, termsNodes, termGates}
-use Rattle.netlist.specs.Reading.{termsGates, linesGates, blockOf}
-use Rattle.netlist.specs.Writing.{gateName, nodeNameOf, termOf, termsOf, flatLine, flatTree}
+use Rattle.netlist.specs.Reading.{termsGates, linesGates, assignmentOf, blockOf}
+use Rattle.netlist.specs.Writing.{gateName, nodeNameOf, termOf, termsOf, flatLine, pairsOf, flatTree}
 use Rattle.grammar.proofs.ListFacts.{ne-same, distinct-apart, distinct-parts, tab-map}
 use Rattle.encoding.proofs.WellFormed.{WellFormed, wellFormed-parts}
 use Rattle.grammar.proofs.WellFormed.{gate-facts}
+use Rattle.grammar.proofs.WritingNevers.{assignmentOf-pairsOf}
 use Rattle.grammar.proofs.WritingNames.{gateName-injective, gateName-no-input}
 
 -- ---- flat expressions have no gates inside
@@ -138,6 +140,12 @@ module _ (b : Block) (w : WellFormed b) where
       let f = and-eq-true-iff (isNode b (o .node)) (all (λ o. isNode b (o .node)) os) .0 h in
       rw (found (o .node) (f .0), outputs-shown os (f .1))
 
+  written-nevers : (ns : List Assignment) → all (neverFits b) ns ≡ true → map (assignmentOf (b .inputs)) (map (pairsOf b) ns) ≡ ns
+  written-nevers [] h = refl
+  written-nevers (a ∷ ns) h =
+      let f = and-eq-true-iff (neverFits b a) (all (neverFits b) ns) .0 h in
+      ap₂ _∷_ (assignmentOf-pairsOf b a (w .inputsDistinct) (f .0)) (written-nevers ns (f .1))
+
   written-gates : linesGates (tab (flatLine b) (gateCount b)) (bindings (flatTree b)) 0 ≡ b .gates
   written-gates =
       rw (tab-map (flatLine b) (gateCount b), lines-gates (upTo (gateCount b)) 0, ← tab-map (gateOf b) (gateCount b))
@@ -148,4 +156,9 @@ pub blockOf-flatTree : (b : Block) → isWellFormed b ≡ true → blockOf (flat
 unfolding blockOf flatTree
 blockOf-flatTree b h =
     let w = wellFormed-parts b h in
-    λ i. record { inputs = b .inputs; gates = written-gates b w i; outputs = outputs-shown b w (b .outputs) (w .nodesThere) i }
+    λ i. record {
+      inputs = b .inputs;
+      nevers = written-nevers b w (b .nevers) (w .neversFit) i;
+      gates = written-gates b w i;
+      outputs = outputs-shown b w (b .outputs) (w .nodesThere) i;
+    }

@@ -1,5 +1,5 @@
--- A written text has at most 56,758 bytes: 14 for each of 10 inputs, 51 and the name for each of 1,024 gates, 24 for each of 16 outputs.
--- Assumes nothing.
+-- A written text has at most 57,862 bytes: 14 for each of 10 inputs, 138 for each of 8 never lines, 51 and the name for each of 1,024 gates, 24
+-- for each of 16 outputs. Assumes nothing.
 use Prim.Native.Nat.{ℕ, zero, suc, _+_, _-_, _*_, _≤_}
 use mathlib.Core.Path.{_≡_, refl}
 use mathlib.Core.Bool.{Bool, true, false, _&&_, and-eq-true-iff}
@@ -7,21 +7,26 @@ use mathlib.Core.List.{List, [], _∷_, _++_, map}
 use native.Mathlib.Omega.{arith}
 use lib.ListN.{length, getD, length-append}
 use lib.Dec.{leb}
-use borrow.Author.Tests.{leb-true}
+use borrow.Author.Tests.{leb-true, le-leb}
 use Rattle.laws.specs.Lists.{ascii, all, tab, upTo, sum}
+use Rattle.laws.proofs.Quantifiers.{all-at}
 use Rattle.laws.proofs.Tab.{length-tab}
 use Rattle.laws.proofs.Lists.{sum-map-append}
 use Rattle.encoding.proofs.Gates.{most-four}
-use Rattle.netlist.specs.Limits.{maxName, maxGates, maxWritten}
+use Rattle.netlist.specs.Limits.{maxName, maxGates, maxNeverLine, maxWritten}
+use Rattle.netlist.specs.Values.{val}
+use Rattle.netlist.specs.Assignments.{Assignment}
 use Rattle.netlist.specs.Kinds.{isKind, keyword, signatureOf}
 use Rattle.netlist.specs.Netlist.{Name, Operand, input, gate, constant, Output, Block, gateCount, gateOf}
 use Rattle.netlist.specs.StoredBlock.{isNameByte, isLegalName, isPlainName, isNodeName, isNode, isOperand, isWellFormed}
-use Rattle.netlist.specs.Syntax.{printTerm, printTerms, printInput, printGate, printOutput, printLines, print}
-use Rattle.netlist.specs.Writing.{digits, decimal, gateName, nodeNameOf, termOf, termsOf, flatLine, flatTree, writtenText}
+use Rattle.netlist.specs.Syntax.{Pair, valueText, pairText, printTerm, printTerms, printInput, printPair, printNever, printGate, printOutput, printLines}
+use Rattle.netlist.specs.Syntax.{print}
+use Rattle.netlist.specs.Writing.{digits, decimal, gateName, nodeNameOf, termOf, termsOf, flatLine, pairsOf, flatTree, writtenText}
 use Rattle.grammar.proofs.ListFacts.{and3, tab-map}
 use Rattle.encoding.proofs.Gates.{by-kind}
 use Rattle.encoding.proofs.WellFormed.{WellFormed, wellFormed-parts}
 use Rattle.grammar.proofs.WellFormed.{gate-facts}
+use Rattle.grammar.proofs.WritingNevers.{pairs-all, pairs-few}
 use Rattle.grammar.proofs.WritingTree.{node-legal}
 
 pub name-short : (start : ℕ → Bool) (x : Name) → isLegalName start x ≡ true → length x ≤ maxName
@@ -68,7 +73,38 @@ inputs-length (x ∷ xs) rest h =
     let r = inputs-length xs rest (f .1) in
     simp length-append (omega arith)
 
+pairs-short : (ps : List Pair) (rest : List ℕ) → all (λ p. leb (length (p .name)) maxName) ps ≡ true
+    → length (printLines printPair ps rest) ≤ 13 * length ps + length rest
+unfolding printLines printPair pairText valueText
+pairs-short [] rest h = omega arith
+pairs-short (p ∷ ps) rest h =
+    let f = and-eq-true-iff (leb (length (p .name)) maxName) (all (λ p. leb (length (p .name)) maxName) ps) .0 h in
+    let s = leb-true (length (p .name)) maxName (f .0) in
+    let v = value-short (p .value) in
+    let r = pairs-short ps rest (f .1) in
+    simp length-append (omega arith)
+  where
+    value-short : (v : Bool) → length (valueText (val v)) ≡ 1
+    value-short true = refl
+    value-short false = refl
+
 module _ (b : Block) (w : WellFormed b) where
+  never-short : (a : Assignment) (rest : List ℕ) → length (printNever (pairsOf b a) rest) ≤ maxNeverLine + length rest
+  unfolding printNever isPlainName
+  never-short a rest =
+      let h = pairs-all b a (λ p. leb (length (p .name)) maxName)
+      (λ j l. le-leb _ maxName (name-short _ (getD (b .inputs) j []) (all-at isPlainName (b .inputs) j [] (w .inputNames) l))) in
+      omega (arith, pairs-short (pairsOf b a) (ascii ")\n" ++ rest) h, pairs-few b a, w .fewInputs)
+
+  nevers-length : (ns : List Assignment) (rest : List ℕ)
+      → length (printLines printNever (map (pairsOf b) ns) rest) ≤ maxNeverLine * length ns + length rest
+  unfolding printLines
+  nevers-length [] rest = omega arith
+  nevers-length (a ∷ ns) rest =
+      let s = never-short a (printLines printNever (map (pairsOf b) ns) rest) in
+      let r = nevers-length ns rest in
+      omega arith
+
   node-short : (o : Operand) → isNode b o ≡ true → length (nodeNameOf b o) ≤ 8
   unfolding isNodeName
   node-short o h = name-short _ (nodeNameOf b o) (node-legal b w o h)
@@ -139,5 +175,7 @@ written-length b h =
     let o = outputs-length b w (b .outputs) [] (w .portNames) (w .nodesThere) in
     let shown = printLines printOutput (map (λ (o : Output). record { port = o .port; shown = nodeNameOf b (o .node) }) (b .outputs)) [] in
     let g = tab-length b w (gateCount b) (w .fewGates) shown in
-    let i = inputs-length (b .inputs) (printLines printGate (tab (flatLine b) (gateCount b)) shown) (w .inputNames) in
-    omega (arith, w .fewInputs, w .fewGates, w .fewOutputs)
+    let gates = printLines printGate (tab (flatLine b) (gateCount b)) shown in
+    let l = nevers-length b w (b .nevers) gates in
+    let i = inputs-length (b .inputs) (printLines printNever (map (pairsOf b) (b .nevers)) gates) (w .inputNames) in
+    omega (arith, w .fewInputs, w .fewNevers, w .fewGates, w .fewOutputs)

@@ -1,7 +1,7 @@
 -- What Write prints is refused for no limit, no repeated and no undeclared name. Assumes nothing.
 --   flatTree-within: within the limits
---   flatTree-unrepeated: nothing declared twice
---   flatTree-declared: nothing used that is not declared
+--   flatTree-unrepeated: nothing declared twice, and no name twice in a never line
+--   flatTree-declared: nothing used that is not declared, and only inputs in never lines
 use Prim.Native.Nat.{ℕ, suc, _+_, _<_}
 use mathlib.Core.Path.{_≡_, refl, sym, ap₂, _∙_}
 use mathlib.Core.Bool.{Bool, true, false, and-eq-true-iff, false≢true}
@@ -11,20 +11,22 @@ use native.Mathlib.Omega.{arith}
 use lib.ListN.{length, getD, length-map, length-append, List·getD-append}
 use lib.Seq.{getD-append-add}
 use borrow.Author.Tests.{ltb-true, le-leb}
-use Rattle.laws.specs.Lists.{all, tab, upTo, memberList, sum}
+use Rattle.laws.specs.Lists.{all, tab, upTo, memberList, distinct, sum}
 use Rattle.laws.proofs.Quantifiers.{all-at, all-append}
 use Rattle.laws.proofs.Tab.{getD-tab, length-tab, map-tab}
-use Rattle.netlist.specs.Limits.{maxInputs, maxGates, maxOutputs}
-use Rattle.netlist.specs.Netlist.{Name, Operand, input, gate, constant, Output, Block, inputCount, gateCount, outputCount, gateOf}
+use Rattle.netlist.specs.Limits.{maxInputs, maxNevers, maxGates, maxOutputs}
+use Rattle.netlist.specs.Assignments.{Assignment}
+use Rattle.netlist.specs.Netlist.{Name, Operand, input, gate, constant, Output, Block, inputCount, gateCount, outputCount, neverCount, gateOf}
 use Rattle.netlist.specs.StoredBlock.{isPlainName, isNode, isOperand, isWellFormed}
-use Rattle.netlist.specs.Syntax.{name, GateLine, OutputLine, printInput, printGate, printOutput}
+use Rattle.netlist.specs.Syntax.{name, GateLine, OutputLine, Pair, printInput, printPair, printNever, printGate, printOutput}
 use Rattle.netlist.specs.Reading.{lineGates, isOverLimit, Mention, mentions, inputMention, gateMention, portMention, shownMention, termMentions}
 use Rattle.netlist.specs.Reading.{termsMentions, operandMentions, declaredNodes, declaredPorts, usedNames, firstRepeat, orElse, firstDuplicate}
-use Rattle.netlist.specs.Reading.{firstOutside, firstUndeclared}
-use Rattle.netlist.specs.Writing.{gateName, nodeNameOf, termOf, termsOf, flatLine, flatTree}
+use Rattle.netlist.specs.Reading.{firstOutside, firstUndeclared, neverLinesAt, pairMention, neverMentions, excludedNames, lesser, firstRepeatIn}
+use Rattle.netlist.specs.Writing.{gateName, nodeNameOf, termOf, termsOf, flatLine, pairsOf, flatTree}
 use Rattle.grammar.proofs.ListFacts.{ne-same, memberList-from, distinct-apart, tab-map, Apart, apart-append}
 use Rattle.encoding.proofs.WellFormed.{WellFormed, wellFormed-parts}
 use Rattle.grammar.proofs.WellFormed.{gate-facts}
+use Rattle.grammar.proofs.WritingNevers.{pairs-all, pairs-distinct}
 use Rattle.grammar.proofs.WritingNames.{gateName-injective, gateName-no-input}
 use Rattle.grammar.proofs.WritingBlock.{flat-lineGates}
 
@@ -42,6 +44,8 @@ flatTree-within b h =
     let e : length (upTo (gateCount b)) ≡ gateCount b = length-tab (λ k. k) (gateCount b) in
     rw (
       le-leb (inputCount b) maxInputs (w .fewInputs),
+      length-map (b .nevers) (pairsOf b),
+      le-leb (neverCount b) maxNevers (w .fewNevers),
       tab-map (flatLine b) (gateCount b),
       lines-sum b (upTo (gateCount b)),
       e,
@@ -109,15 +113,33 @@ unfolding declaredPorts flatTree portMention
 written-ports b =
     mention-names printOutput portMention (λ o. o .port) (λ o at. refl) _ _ ∙ map-map _ _ (b .outputs)
 
+-- no name stands twice in a written never line
+never-apart : (b : Block) (a : Assignment) → distinct (b .inputs) ≡ true → (at : ℕ) → Apart (map nameOf (neverMentions (pairsOf b a) at))
+unfolding neverMentions pairMention
+never-apart b a names at =
+    rw (mention-names printPair pairMention (λ p. p .name) (λ p at. refl) (pairsOf b a) (at + 6))
+    (distinct-apart (map (λ (p : Pair). p .name) (pairsOf b a)) (pairs-distinct b a names))
+
+nevers-unrepeated : (b : Block) → distinct (b .inputs) ≡ true → (ns : List Assignment) (at : ℕ) → firstRepeatIn (map (pairsOf b) ns) at ≡ none
+unfolding firstRepeatIn orElse
+nevers-unrepeated b names [] at = refl
+nevers-unrepeated b names (a ∷ ns) at =
+    rw (no-repeat (neverMentions (pairsOf b a) at) [] (never-apart b a names at) (λ j l. refl))
+    (nevers-unrepeated b names ns (at + length (printNever (pairsOf b a) [])))
+
 -- A written block declares no name and no port twice.
 pub flatTree-unrepeated : (b : Block) → isWellFormed b ≡ true → firstDuplicate (flatTree b) ≡ none
-unfolding firstDuplicate orElse
+unfolding firstDuplicate orElse lesser flatTree
 flatTree-unrepeated b h =
     let w = wellFormed-parts b h in
     let nodes : Apart (map nameOf (declaredNodes (flatTree b))) = rw (written-names b) (names-apart b w) in
     let ports : Apart (map nameOf (declaredPorts (flatTree b))) =
     rw (written-ports b) (distinct-apart (map (λ (o : Output). o .port) (b .outputs)) (w .portsDistinct)) in
-    rw (no-repeat (declaredNodes (flatTree b)) [] nodes (λ j l. refl), no-repeat (declaredPorts (flatTree b)) [] ports (λ j l. refl))
+    rw (
+      nevers-unrepeated b (w .inputsDistinct) (b .nevers) (neverLinesAt (flatTree b)),
+      no-repeat (declaredNodes (flatTree b)) [] nodes (λ j l. refl),
+      no-repeat (declaredPorts (flatTree b)) [] ports (λ j l. refl),
+    )
 
 -- ---- undeclared names
 
@@ -183,7 +205,34 @@ module _ (b : Block) (w : WellFormed b) where
       all-append declared (mentions printGate operandMentions (tab (flatLine b) (gateCount b)) _) _
       ∙ rw (gates-declared (gateCount b)) (outputs-declared (b .outputs) _ (w .nodesThere))
 
+  -- the names in never lines are those of inputs
+  abbrev excluded : Mention → Bool
+  excluded u = memberList (u .name) (b .inputs)
+
+  pairs-excluded : (ps : List Pair) (at : ℕ) → all (λ p. memberList (p .name) (b .inputs)) ps ≡ true
+      → all excluded (mentions printPair pairMention ps at) ≡ true
+  unfolding mentions pairMention
+  pairs-excluded [] at h = refl
+  pairs-excluded (p ∷ ps) at h =
+      let f = and-eq-true-iff (memberList (p .name) (b .inputs)) (all (λ p. memberList (p .name) (b .inputs)) ps) .0 h in
+      rw (f .0) (pairs-excluded ps _ (f .1))
+
+  nevers-excluded : (ns : List Assignment) (at : ℕ) → all excluded (mentions printNever neverMentions (map (pairsOf b) ns) at) ≡ true
+  unfolding mentions neverMentions
+  nevers-excluded [] at = refl
+  nevers-excluded (a ∷ ns) at =
+      all-append excluded (neverMentions (pairsOf b a) at) _
+      ∙ rw (pairs-excluded (pairsOf b a) _ (pairs-all b a (λ p. memberList (p .name) (b .inputs))
+      (λ j l. memberList-from (getD (b .inputs) j []) (b .inputs) j l refl))) (nevers-excluded ns _)
+
+  excluded-inputs : all excluded (excludedNames (flatTree b)) ≡ true
+  unfolding excludedNames flatTree
+  excluded-inputs = nevers-excluded (b .nevers) _
+
 -- A written block uses no name that it does not declare.
 pub flatTree-declared : (b : Block) → isWellFormed b ≡ true → firstUndeclared (flatTree b) ≡ none
-unfolding firstUndeclared
-flatTree-declared b h = rw (written-names b) (none-outside (writtenNames b) (usedNames (flatTree b)) (used-declared b (wellFormed-parts b h)))
+unfolding firstUndeclared orElse flatTree
+flatTree-declared b h =
+    let w = wellFormed-parts b h in
+    rw (none-outside (b .inputs) (excludedNames (flatTree b)) (excluded-inputs b w), written-names b)
+    (none-outside (writtenNames b) (usedNames (flatTree b)) (used-declared b w))

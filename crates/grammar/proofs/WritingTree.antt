@@ -7,18 +7,21 @@ use mathlib.Core.List.{List, [], _∷_, map}
 use native.Mathlib.Omega.{arith}
 use lib.ListN.{length, getD}
 use lib.Dec.{leb}
-use borrow.Author.Tests.{ltb-true}
+use borrow.Author.Tests.{ltb-true, le-leb}
 use Rattle.laws.specs.Lists.{all}
 use Rattle.laws.proofs.Quantifiers.{all-at, all-tab-from}
 use Rattle.netlist.specs.Limits.{maxName, maxDepth}
 use Rattle.netlist.specs.Kinds.{isKind, arityFits}
+use Rattle.netlist.specs.Assignments.{Assignment}
 use Rattle.netlist.specs.Netlist.{Name, Operand, input, gate, constant, Output, Block, inputCount, gateCount, gateOf}
-use Rattle.netlist.specs.StoredBlock.{isLetter, isNameByte, isNameStart, isLegalName, isPlainName, isNodeName, isNode, isOperand, gateFits, isWellFormed}
-use Rattle.netlist.specs.Syntax.{termCount, isLegalTerm, isLegalTerms, isLegalGate, isLegalOutput, isLegalTree}
-use Rattle.netlist.specs.Writing.{nodeNameOf, termOf, termsOf, flatLine, flatTree}
+use Rattle.netlist.specs.StoredBlock.{isLetter, isNameByte, isNameStart, isLegalName, isPlainName, isNodeName, isNode, isOperand, neverFits}
+use Rattle.netlist.specs.StoredBlock.{gateFits, isWellFormed}
+use Rattle.netlist.specs.Syntax.{termCount, isLegalTerm, isLegalTerms, isLegalPair, isLegalNever, isLegalGate, isLegalOutput, isLegalTree}
+use Rattle.netlist.specs.Writing.{nodeNameOf, termOf, termsOf, flatLine, pairsOf, flatTree}
 use Rattle.grammar.proofs.ListFacts.{and3}
 use Rattle.encoding.proofs.WellFormed.{WellFormed, wellFormed-parts}
 use Rattle.grammar.proofs.WritingNames.{gateName-legal}
+use Rattle.grammar.proofs.WritingNevers.{pairs-some, pairs-all}
 
 pub plain-node : (x : Name) → isPlainName x ≡ true → isNodeName x ≡ true
 unfolding isPlainName isNodeName isLegalName isNameStart
@@ -68,10 +71,22 @@ module _ (b : Block) (w : WellFormed b) where
       let g = and-eq-true-iff (isNode b (o .node)) (all (λ o. isNode b (o .node)) os) .0 n in
       rw (f .0, node-legal (o .node) (g .0)) (outputs-legal os (f .1) (g .1))
 
+  never-legal : (a : Assignment) → neverFits b a ≡ true → isLegalNever (pairsOf b a) ≡ true
+  unfolding isLegalNever isLegalPair
+  never-legal a h =
+      rw (le-leb 1 (length (pairsOf b a)) (pairs-some b a (w .inputsDistinct) h))
+      (pairs-all b a isLegalPair (λ j l. plain-node _ (all-at isPlainName (b .inputs) j [] (w .inputNames) l)))
+
+  nevers-legal : (ns : List Assignment) → all (neverFits b) ns ≡ true → all isLegalNever (map (pairsOf b) ns) ≡ true
+  nevers-legal [] h = refl
+  nevers-legal (a ∷ ns) h =
+      let f = and-eq-true-iff (neverFits b a) (all (neverFits b) ns) .0 h in
+      rw (never-legal a (f .0)) (nevers-legal ns (f .1))
+
 -- The tree that a well-formed block is written as is legal.
 pub flatTree-legal : (b : Block) → isWellFormed b ≡ true → isLegalTree (flatTree b) ≡ true
 unfolding isLegalTree flatTree
 flatTree-legal b h =
     let w = wellFormed-parts b h in
-    rw (w .inputNames, all-tab-from isLegalGate (flatLine b) (gateCount b) (line-legal b w))
+    rw (w .inputNames, nevers-legal b w (b .nevers) (w .neversFit), all-tab-from isLegalGate (flatLine b) (gateCount b) (line-legal b w))
     (outputs-legal b w (b .outputs) (w .portNames) (w .nodesThere))

@@ -9,7 +9,7 @@ use lib.ListN.{length, getD}
 use Rattle.laws.specs.Lists.{joined}
 use Rattle.laws.proofs.Tests.{lt-or-le}
 use Rattle.laws.proofs.Tab.{map-tab, tab-ext}
-use Rattle.netlist.specs.StoredBlock.{gatesAt, gateSize, operandOf, gateAt, decode, isTorn}
+use Rattle.netlist.specs.StoredBlock.{neversAt, gatesAt, gateSize, operandOf, gateAt, decode, isTorn}
 use Rattle.netlist.specs.Groups.{gateOperand, readBy}
 use Rattle.encoding.proofs.Nodes.{operandOf-input, operandOf-zero, operandOf-one, operandOf-gate}
 use Rattle.encoding.proofs.Readers.{OperandWord, whole-parts, whole-gate, whole-reads}
@@ -37,27 +37,27 @@ module _ (ws : List ℕ) (whole : isTorn ws ≡ false) where
   nodes = omega (arith, whole-parts ws whole .fewInputs, whole-parts ws whole .fewGates)
 
   -- a whole gate's words are read as the gate's operands
-  operands : (i : ℕ) → i < getD ws 1 0 → wordGates ws (getD ws 0 0) (getD ws 1 0) (gatesAt (getD ws 0 0) + 5 * i)
-      (getD ws (gatesAt (getD ws 0 0) + 5 * i) 0 / 8) ≡ readBy (decode ws) i
+  operands : (i : ℕ) → i < getD ws 1 0 → wordGates ws (getD ws 0 0) (getD ws 1 0) (gatesAt (getD ws 0 0) (getD ws 3 0) + 5 * i)
+      (getD ws (gatesAt (getD ws 0 0) (getD ws 3 0) + 5 * i) 0 / 8) ≡ readBy (decode ws) i
   unfolding wordGates readBy gateAt
   operands i l =
       let w = whole-gate ws whole i l in
       rw (
         decode-gate ws i l,
-        map-tab gateOperand (λ k. operandOf (getD ws 0 0) (getD ws (gatesAt (getD ws 0 0) + gateSize * i + 1 + k) 0))
-            (getD ws (gatesAt (getD ws 0 0) + gateSize * i) 0 / 8),
+        map-tab gateOperand (λ k. operandOf (getD ws 0 0) (getD ws (gatesAt (getD ws 0 0) (getD ws 3 0) + gateSize * i + 1 + k) 0))
+            (getD ws (gatesAt (getD ws 0 0) (getD ws 3 0) + gateSize * i) 0 / 8),
       )
       (ap joined
-      (tab-ext (λ k. wordGate (getD ws 0 0) (getD ws 1 0) (getD ws (gatesAt (getD ws 0 0) + 5 * i + 1 + k) 0))
-      (λ k. gateOperand (operandOf (getD ws 0 0) (getD ws (gatesAt (getD ws 0 0) + gateSize * i + 1 + k) 0)))
-      (getD ws (gatesAt (getD ws 0 0) + 5 * i) 0 / 8)
-      (λ k kl. word-operand (getD ws 0 0) (getD ws 1 0) (getD ws (gatesAt (getD ws 0 0) + 5 * i + 1 + k) 0) nodes (w .operands k kl))))
+      (tab-ext (λ k. wordGate (getD ws 0 0) (getD ws 1 0) (getD ws (gatesAt (getD ws 0 0) (getD ws 3 0) + 5 * i + 1 + k) 0))
+      (λ k. gateOperand (operandOf (getD ws 0 0) (getD ws (gatesAt (getD ws 0 0) (getD ws 3 0) + gateSize * i + 1 + k) 0)))
+      (getD ws (gatesAt (getD ws 0 0) (getD ws 3 0) + 5 * i) 0 / 8)
+      (λ k kl. word-operand (getD ws 0 0) (getD ws 1 0) (getD ws (gatesAt (getD ws 0 0) (getD ws 3 0) + 5 * i + 1 + k) 0) nodes (w .operands k kl))))
 
-  near : gatesAt (getD ws 0 0) ≤ 1024
-  unfolding gatesAt
-  near = omega (arith, whole-parts ws whole .fewInputs)
+  near : gatesAt (getD ws 0 0) (getD ws 3 0) ≤ 1024
+  unfolding gatesAt neversAt
+  near = omega (arith, whole-parts ws whole .fewInputs, whole-parts ws whole .fewNevers)
 
-  gates-ready : GatesReady ws (getD ws 0 0) (getD ws 1 0) (gatesAt (getD ws 0 0))
+  gates-ready : GatesReady ws (getD ws 0 0) (getD ws 1 0) (gatesAt (getD ws 0 0) (getD ws 3 0))
   unfolding gateReads
   gates-ready =
       record {
@@ -69,9 +69,9 @@ module _ (ws : List ℕ) (whole : isTorn ws ≡ false) where
       }
 
   pub search-ready : (flags queue : List ℕ) → getD ws 1 0 ≤ length flags → getD ws 1 0 ≤ length queue
-      → LeadReady ws (getD ws 0 0) (getD ws 1 0) (gatesAt (getD ws 0 0)) flags queue
+      → LeadReady ws (getD ws 0 0) (getD ws 1 0) (gatesAt (getD ws 0 0) (getD ws 3 0)) flags queue
   search-ready flags queue f q = record { search = record { whole = gates-ready; flagRoom = f; queueRoom = q }; gatesAre = sym (decode-gateCount ws) }
 
   pub number-ready : (leaders : List ℕ) → ((j : ℕ) → j < getD ws 1 0 → getD leaders j 0 ≡ leaderOf (decode ws) j)
-      → NumberReady ws (getD ws 0 0) (getD ws 1 0) (gatesAt (getD ws 0 0)) leaders
+      → NumberReady ws (getD ws 0 0) (getD ws 1 0) (gatesAt (getD ws 0 0) (getD ws 3 0)) leaders
   number-ready leaders h = record { whole = gates-ready; gatesAre = sym (decode-gateCount ws); inside = whole-reads ws whole; leads = h }

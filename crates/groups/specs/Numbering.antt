@@ -85,7 +85,7 @@ pub record AssignReady (ws : List ℕ) (n m gates : ℕ) (numbers leaders queue 
   pub whole : isTorn ws ≡ false
   pub inputsAre : n ≡ getD ws 0 0
   pub gatesAre : m ≡ getD ws 1 0
-  pub firstIs : gates ≡ gatesAt n
+  pub firstIs : gates ≡ gatesAt (getD ws 0 0) (getD ws 3 0)
   pub numberRoom : m ≤ length numbers
   pub leaderRoom : m ≤ length leaders
   pub queueRoom : m ≤ length queue

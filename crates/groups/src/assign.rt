@@ -37,7 +37,7 @@ pub fn assign(words: &[u16], numbers: &mut [u16]) -> usize
 {
     let n = inputs_of(words);
     let m = gates_of(words);
-    let gates = gates_at(n);
+    let gates = gates_at(words);
     let mut leaders = [0u16; MAX_GATES];
     let mut queue = [0u16; MAX_GATES];
     let mut flags = [0u8; MAX_GATES];

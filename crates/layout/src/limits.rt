@@ -5,6 +5,9 @@ pub const MAX_TEXT: usize = 61440;
 
 pub const MAX_INPUTS: usize = 10;
 
+// The never lines of a block.
+pub const MAX_NEVERS: usize = 8;
+
 pub const MAX_GATES: usize = 1024;
 
 pub const MAX_OUTPUTS: usize = 16;
@@ -19,7 +22,7 @@ pub const MAX_DEPTH: usize = 8;
 pub const MAX_SETTINGS: usize = 1024;
 
 // The words of the largest block.
-pub const BLOCK_WORDS: usize = 5243;
+pub const BLOCK_WORDS: usize = 5260;
 
 // The bytes of the longest written text.
-pub const WRITTEN_BYTES: usize = 56758;
+pub const WRITTEN_BYTES: usize = 57862;

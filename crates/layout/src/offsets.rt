@@ -1,16 +1,18 @@
-// Where the parts of a stored block stand (SPECIFICATION 2.1): the head's three counts, the inputs' names, the gates, the outputs. Callers
-// read counts and offsets here and nowhere else.
+// Where the parts of a stored block stand (SPECIFICATION 2.1): the head's four counts, the inputs' names, the never lines, the gates, the
+// outputs. Callers read counts and offsets here and nowhere else.
 use crate::read::word_at;
 ghost use mathlib.Core.Path.{_≡_};
 ghost use Prim.Native.Nat.{_≤_};
 ghost use lib.ListN.{getD};
-ghost use Rattle.netlist.specs.StoredBlock.{gatesAt, outputsAt};
+ghost use Rattle.netlist.specs.StoredBlock.{neversAt, gatesAt, outputsAt};
 
 // The first input's name, behind the head.
-pub const INPUTS_AT: usize = 3;
+pub const INPUTS_AT: usize = 4;
 
-// The words of a name, of a gate, of a gate's operands, and of an output.
+// The words of a name, of a never line, of a gate, of a gate's operands, and of an output.
 pub const NAME_SIZE: usize = 4;
+
+pub const NEVER_SIZE: usize = 2;
 
 pub const GATE_SIZE: usize = 5;
 
@@ -39,19 +41,50 @@ pub fn outputs_of(words: &[u16]) -> usize
     word_at(words, 2)
 }
 
-// The first gate's first word.
-pub fn gates_at(n: usize) -> usize
+// The number of never lines.
+pub fn nevers_of(words: &[u16]) -> usize
+    ensures { λ r. ⌜ r ≡ getD (now (words .entry)) 3 0 ⌝ }
+{
+    word_at(words, 3)
+}
+
+// Behind the names of n inputs: the first never line's first word.
+pub fn nevers_at(n: usize) -> usize
     requires { ⌜ n ≤ 65535 ⌝ }
-    ensures { λ r. ⌜ r ≡ gatesAt n ⌝ }
+    ensures { λ r. ⌜ r ≡ neversAt n ⌝ }
 {
     INPUTS_AT + NAME_SIZE * n
 }
 
-// The first output's first word.
-pub fn outputs_at(n: usize, m: usize) -> usize
+// Behind n names and l never lines: the first gate's first word.
+pub fn gates_behind(n: usize, l: usize) -> usize
     requires { ⌜ n ≤ 65535 ⌝ }
-    requires { ⌜ m ≤ 65535 ⌝ }
-    ensures { λ r. ⌜ r ≡ outputsAt n m ⌝ }
+    requires { ⌜ l ≤ 65535 ⌝ }
+    ensures { λ r. ⌜ r ≡ gatesAt n l ⌝ }
 {
-    gates_at(n) + GATE_SIZE * m
+    nevers_at(n) + NEVER_SIZE * l
+}
+
+// Behind n names, l never lines and m gates: the first output's first word.
+pub fn outputs_behind(n: usize, l: usize, m: usize) -> usize
+    requires { ⌜ n ≤ 65535 ⌝ }
+    requires { ⌜ l ≤ 65535 ⌝ }
+    requires { ⌜ m ≤ 65535 ⌝ }
+    ensures { λ r. ⌜ r ≡ outputsAt n l m ⌝ }
+{
+    gates_behind(n, l) + GATE_SIZE * m
+}
+
+// The first gate's first word in a block.
+pub fn gates_at(words: &[u16]) -> usize
+    ensures { λ r. ⌜ r ≡ gatesAt (getD (now (words .entry)) 0 0) (getD (now (words .entry)) 3 0) ⌝ }
+{
+    gates_behind(inputs_of(words), nevers_of(words))
+}
+
+// The first output's first word in a block.
+pub fn outputs_at(words: &[u16]) -> usize
+    ensures { λ r. ⌜ r ≡ outputsAt (getD (now (words .entry)) 0 0) (getD (now (words .entry)) 3 0) (getD (now (words .entry)) 1 0) ⌝ }
+{
+    outputs_behind(inputs_of(words), nevers_of(words), gates_of(words))
 }

@@ -33,12 +33,12 @@ line-append (x ∷ xs) ys h = go (eqb x 10) h (line-append xs ys)
     go false h f = f (omega arith)
 
 -- what is read of a line that something follows
-record OneLine (l rest : List ℕ) : Type 0 where
-  size : lengthWithLf (l ++ rest) ≡ length l
-  opens : lineOpens (l ++ rest) ≡ times 40 l
-  ends : times 10 l ≡ 1
+pub record OneLine (l rest : List ℕ) : Type 0 where
+  pub size : lengthWithLf (l ++ rest) ≡ length l
+  pub opens : lineOpens (l ++ rest) ≡ times 40 l
+  pub ends : times 10 l ≡ 1
 
-one-line : (l rest : List ℕ) → isLine l ≡ true → OneLine l rest
+pub one-line : (l rest : List ℕ) → isLine l ≡ true → OneLine l rest
 one-line [] rest h = absurd (false≢true h)
 one-line (x ∷ xs) rest h = go (eqb x 10) refl xs h (one-line xs rest)
   where

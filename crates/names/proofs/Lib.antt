@@ -12,3 +12,5 @@ pub mod TreeTable
 pub mod Lookup
 pub mod Repeats
 pub mod TreeSearch
+pub mod PlainTree
+pub mod PlainPlaces

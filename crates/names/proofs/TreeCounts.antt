@@ -1,20 +1,20 @@
 -- The counts that the bytes of a tree's text give are the tree's, and so are the limits. Assumes nothing.
 use Prim.Native.Nat.{ℕ, zero, suc, _+_, _-_, _≤_}
 use mathlib.Core.Path.{_≡_, refl, sym, _∙_}
-use mathlib.Core.Bool.{Bool, true, false, cond, not, _&&_, true≢false}
+use mathlib.Core.Bool.{Bool, true, false, not, _&&_}
 use mathlib.Core.List.{List, [], _∷_, _++_, map, map-append}
 use native.Mathlib.Omega.{arith}
 use lib.ListN.{length, replicate, length-append, length-map}
 use lib.Seq.{getD-drop}
 use lib.Dec.{eqb, leb}
-use borrow.Author.Tests.{leb-true}
+use borrow.Author.Tests.{leb-true, not-false}
 use Rattle.laws.specs.Lists.{all, joined, sum, tab}
 use Rattle.laws.proofs.Tests.{and-left, and-right}
 use Rattle.laws.proofs.Tab.{tab-ext}
 use Rattle.laws.proofs.Lists.{sum-append}
-use Rattle.netlist.specs.Limits.{maxText, maxInputs, maxGates, maxOutputs}
+use Rattle.netlist.specs.Limits.{maxText, maxInputs, maxNevers, maxGates, maxOutputs}
 use Rattle.netlist.specs.StoredBlock.{isPlainName}
-use Rattle.netlist.specs.Syntax.{Legal, GateLine, Tree, isLegalGate, isLegalOutput}
+use Rattle.netlist.specs.Syntax.{GateLine, Tree, isLegalGate, isLegalOutput}
 use Rattle.netlist.specs.Reading.{lineGates, isOverLimit}
 use Rattle.names.specs.Lines.{times, lineOffset, letterAt, linesWith}
 use Rattle.names.specs.Trees.{inputText, gateText, outputText, treeLines}
@@ -25,13 +25,9 @@ use Rattle.names.proofs.JoinedLines.{line-count, times-joined}
 use Rattle.names.proofs.TreeLines.{TreeLine, legal-parts, tree-lines, print-lines, input-line, gate-line, output-line}
 use Rattle.names.proofs.TreeWalk.{letters-walk}
 
--- a legal text is the print of its tree
-pub legal-prints : {text : List ℕ} (l : Legal text) → Prints (l .tree) text
-legal-prints l = record { legal = l .legal; printed = l .printed }
-
 -- the text of a tree is its lines
 pub text-is : {t : Tree} {text : List ℕ} → Prints t text → text ≡ joined (treeLines t)
-text-is {t} p = sym (p .printed) ∙ print-lines t
+text-is {t} p = sym (p .printed) ∙ print-lines t (p .bare)
 
 pub line-total : (t : Tree) → length (treeLines t) ≡ length (t .inputs) + (length (t .gates) + length (t .outputs))
 unfolding treeLines
@@ -99,6 +95,11 @@ pub sum-none : {A : Type 0} (xs : List A) → sum (map (λ x. 0) xs) ≡ 0
 sum-none [] = refl
 sum-none (x ∷ xs) = let h = sum-none xs in omega arith
 
+-- no never lines are not too many
+no-nevers : (a b c : Bool) → not (a && b && c) ≡ not (a && true && b && c)
+no-nevers true b c = refl
+no-nevers false b c = refl
+
 module _ {t : Tree} {text : List ℕ} (p : Prints t text) where
   all-opens : times 40 text ≡ length (t .inputs) + ((length (t .gates) + sum (map lineGates (t .gates))) + length (t .outputs))
   unfolding treeLines
@@ -129,26 +130,31 @@ module _ {t : Tree} {text : List ℕ} (p : Prints t text) where
   -- 3: the limits, from the counts
   pub limits-are : isOver (countsOf text) ≡ isOverLimit t
   unfolding isOver treeCounts isOverLimit
-  limits-are = rw counts-are
+  limits-are = rw (counts-are, p .bare) (no-nevers (leb (length (t .inputs)) maxInputs) _ _)
 
 -- ---- within the limits there is room
 
 pub record WithinLimits (t : Tree) : Type 0 where
   pub inputs : length (t .inputs) ≤ maxInputs
+  pub nevers : length (t .nevers) ≤ maxNevers
   pub gates : sum (map lineGates (t .gates)) ≤ maxGates
   pub outputs : length (t .outputs) ≤ maxOutputs
 
 pub limits-within : (t : Tree) → isOverLimit t ≡ false → WithinLimits t
 unfolding isOverLimit
 limits-within t h =
-    go (leb (length (t .inputs)) maxInputs) (leb (sum (map lineGates (t .gates))) maxGates) (leb (length (t .outputs)) maxOutputs) refl refl refl h
-  where
-    go : (a b c : Bool) → leb (length (t .inputs)) maxInputs ≡ a → leb (sum (map lineGates (t .gates))) maxGates ≡ b → leb (length (t .outputs)) maxOutputs ≡ c
-        → not (a && b && c) ≡ false → WithinLimits t
-    go true true true p q r h = record { inputs = leb-true _ _ p; gates = leb-true _ _ q; outputs = leb-true _ _ r }
-    go true true false p q r h = absurd (true≢false h)
-    go true false c p q r h = absurd (true≢false h)
-    go false b c p q r h = absurd (true≢false h)
+    let a = leb (length (t .inputs)) maxInputs in
+    let l = leb (length (t .nevers)) maxNevers in
+    let b = leb (sum (map lineGates (t .gates))) maxGates in
+    let c = leb (length (t .outputs)) maxOutputs in
+    let all′ : a && l && b && c ≡ true = not-false _ h in
+    let front = and-left (a && l && b) c all′ in
+    record {
+      inputs = leb-true _ _ (and-left a l (and-left (a && l) b front));
+      nevers = leb-true _ _ (and-right a l (and-left (a && l) b front));
+      gates = leb-true _ _ (and-right (a && l) b front);
+      outputs = leb-true _ _ (and-right (a && l && b) c all′);
+    }
 
 -- a named gate is a gate
 pub named-le : (gs : List GateLine) → length gs ≤ sum (map lineGates gs)

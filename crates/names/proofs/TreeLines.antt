@@ -17,7 +17,7 @@ use Rattle.netlist.specs.Kinds.{isKind, arityFits, keyword, signatureOf}
 use Rattle.netlist.specs.Netlist.{Name}
 use Rattle.netlist.specs.StoredBlock.{isLegalName, isLetter, isDigit, isUnderscore, isNameByte, isPlainName, isNodeName}
 use Rattle.netlist.specs.Syntax.{Term, Terms, name, literal, apply, nil, cons, GateLine, OutputLine, Tree, printTerm, printTerms, printInput, printGate}
-use Rattle.netlist.specs.Syntax.{printOutput, printLines, print, termCount, isLegalTerm, isLegalTerms, isLegalGate, isLegalOutput, isLegalTree}
+use Rattle.netlist.specs.Syntax.{printOutput, printLines, print, termCount, isLegalTerm, isLegalTerms, isLegalNever, isLegalGate, isLegalOutput, isLegalTree}
 use Rattle.netlist.specs.Reading.{gatesIn, gatesInside, lineGates}
 use Rattle.encoding.proofs.Gates.{by-kind}
 use Rattle.grammar.proofs.Shorter.{printTerm-append}
@@ -149,23 +149,24 @@ gate-line g h =
 
 -- ---- the whole text
 
-printed-lines : {A : Type 0} (line : A → List ℕ → List ℕ) → ((x : A) (rest : List ℕ) → line x rest ≡ line x [] ++ rest) → (xs : List A) (rest : List ℕ)
+pub printed-lines : {A : Type 0} (line : A → List ℕ → List ℕ) → ((x : A) (rest : List ℕ) → line x rest ≡ line x [] ++ rest) → (xs : List A) (rest : List ℕ)
     → printLines line xs rest ≡ joined (map (λ x. line x []) xs) ++ rest
 unfolding printLines
 printed-lines line h [] rest = refl
 printed-lines line h (x ∷ xs) rest = h x (printLines line xs rest) ∙ rw (printed-lines line h xs rest, append-assoc)
 
--- a tree's text is its lines one after the other
-pub print-lines : (t : Tree) → print t ≡ joined (treeLines t)
-unfolding print treeLines inputText gateText outputText
-print-lines t =
-    printed-lines printInput printInput-split (t .inputs) _
+-- the text of a tree without never lines is its lines one after the other
+pub print-lines : (t : Tree) → t .nevers ≡ [] → print t ≡ joined (treeLines t)
+unfolding print printLines treeLines inputText gateText outputText
+print-lines t bare =
+    rw bare
+    (printed-lines printInput printInput-split (t .inputs) _
     ∙ rw (printed-lines printGate printGate-split (t .gates) _, printed-lines printOutput printOutput-split (t .outputs) [], append-nil)
     (sym
     (joined-append (map inputText (t .inputs)) (map gateText (t .gates) ++ map outputText (t .outputs))
-    ∙ ap (λ r. joined (map inputText (t .inputs)) ++ r) (joined-append (map gateText (t .gates)) (map outputText (t .outputs)))))
+    ∙ ap (λ r. joined (map inputText (t .inputs)) ++ r) (joined-append (map gateText (t .gates)) (map outputText (t .outputs))))))
 
-all-lines : {A : Type 0} (legal : A → Bool) (line : A → List ℕ) → ((x : A) → legal x ≡ true → isLine (line x) ≡ true) → (xs : List A) → all legal xs ≡ true
+pub all-lines : {A : Type 0} (legal : A → Bool) (line : A → List ℕ) → ((x : A) → legal x ≡ true → isLine (line x) ≡ true) → (xs : List A) → all legal xs ≡ true
     → all isLine (map line xs) ≡ true
 all-lines legal line f [] h = refl
 all-lines legal line f (x ∷ xs) h =
@@ -175,17 +176,21 @@ all-lines legal line f (x ∷ xs) h =
 -- the parts of a legal tree are legal
 pub record Parts (t : Tree) : Type 0 where
   pub inputs : all isPlainName (t .inputs) ≡ true
+  pub nevers : all isLegalNever (t .nevers) ≡ true
   pub gates : all isLegalGate (t .gates) ≡ true
   pub outputs : all isLegalOutput (t .outputs) ≡ true
 
 pub legal-parts : (t : Tree) → isLegalTree t ≡ true → Parts t
 unfolding isLegalTree
 legal-parts t h =
-    let a = and-left (all isPlainName (t .inputs) && all isLegalGate (t .gates)) (all isLegalOutput (t .outputs)) h in
+    let front = all isPlainName (t .inputs) && all isLegalNever (t .nevers) in
+    let a = and-left (front && all isLegalGate (t .gates)) (all isLegalOutput (t .outputs)) h in
+    let b = and-left front (all isLegalGate (t .gates)) a in
     record {
-      inputs = and-left (all isPlainName (t .inputs)) (all isLegalGate (t .gates)) a;
-      gates = and-right (all isPlainName (t .inputs)) (all isLegalGate (t .gates)) a;
-      outputs = and-right (all isPlainName (t .inputs) && all isLegalGate (t .gates)) (all isLegalOutput (t .outputs)) h;
+      inputs = and-left (all isPlainName (t .inputs)) (all isLegalNever (t .nevers)) b;
+      nevers = and-right (all isPlainName (t .inputs)) (all isLegalNever (t .nevers)) b;
+      gates = and-right front (all isLegalGate (t .gates)) a;
+      outputs = and-right (front && all isLegalGate (t .gates)) (all isLegalOutput (t .outputs)) h;
     }
 
 -- every line of a legal tree is a line

@@ -15,18 +15,18 @@ use Rattle.laws.proofs.Quantifiers.{all-append}
 use Rattle.netlist.specs.Netlist.{Name}
 use Rattle.netlist.specs.StoredBlock.{isNameByte, isPlainName, isNodeName, nodeWord}
 use Rattle.netlist.specs.Syntax.{GateLine, OutputLine, Tree, apply, printInput, printGate, printOutput, isLegalTerm, isLegalGate, isLegalOutput}
-use Rattle.netlist.specs.Syntax.{isLegalTree, print}
-use Rattle.netlist.specs.Reading.{Mention, mentions, inputMention, gateMention, portMention, gateLinesAt, outputLinesAt, declaredNodes, declaredPorts}
-use Rattle.netlist.specs.Reading.{firstRepeat, orElse, firstDuplicate, Binding, inputBindings, gateBindings, bindings, lookup}
+use Rattle.netlist.specs.Syntax.{isLegalTree}
+use Rattle.netlist.specs.Reading.{Mention, mentions, inputMention, gateMention, portMention, neverLinesAt, gateLinesAt, outputLinesAt, declaredNodes}
+use Rattle.netlist.specs.Reading.{declaredPorts}
+use Rattle.netlist.specs.Reading.{firstRepeat, orElse, lesser, firstRepeatIn, firstDuplicate, Binding, inputBindings, gateBindings, bindings, lookup}
 use Rattle.names.specs.Packed.{packed}
 use Rattle.names.specs.Search.{indexOf, repeatsAt}
-use Rattle.names.specs.Results.{Prints, treeCounts, declared, packedNames, namePlaces, nodeWords, NameTable, Declared}
+use Rattle.names.specs.Results.{treeCounts, declared, packedNames, namePlaces, nodeWords, NameTable, Declared}
 use Rattle.names.specs.declared.Counts.{Counts}
 use Rattle.netlist.specs.declared.Refusal.the-variants.{DuplicateDeclaration}
 use Rattle.netlist.specs.declared.Test.the-variants.{Passed, Failed}
 use Rattle.netlist.specs.Answers.{testAt}
 use Rattle.names.proofs.TreeLines.{legal-parts, name-bytes}
-use Rattle.names.proofs.TreeTable.{declared-length, bindings-length}
 use Rattle.names.proofs.Lookup.{Bytes, index-same, index-member, index-lookup}
 use Rattle.names.proofs.Repeats.{repeat-found, repeat-none}
 
@@ -103,18 +103,26 @@ module _ (t : Tree) (legal : isLegalTree t ≡ true) where
 
 -- ---- the parts of the tables that hold nodes and ports
 
-module _ (t : Tree) (legal : isLegalTree t ≡ true) where
-  prints : Prints t (print t)
-  prints = record { legal = legal; printed = refl }
-
+module _ (t : Tree) where
   pub nodes-length : length (declaredNodes t) ≡ length (t .inputs) + length (t .gates)
   nodes-length =
-      sym (length-map (declaredNodes t) (λ (d : Mention). d .name)) ∙ ap length (sym (bound-names t))
-      ∙ length-map (bindings t) (λ (b : Binding). b .name) ∙ bindings-length prints
+      sym (length-map (declaredNodes t) (λ (d : Mention). d .name))
+      ∙ rw (node-names t) (omega (
+        arith,
+        length-append (map (λ (s : Name). s) (t .inputs)) (map (λ (g : GateLine). g .name) (t .gates)),
+        length-map (t .inputs) (λ (s : Name). s),
+        length-map (t .gates) (λ (g : GateLine). g .name),
+      ))
 
   pub ports-length : length (declaredPorts t) ≡ length (t .outputs)
-  unfolding declared
-  ports-length = omega (arith, length-append (declaredNodes t) (declaredPorts t), nodes-length, declared-length prints)
+  ports-length =
+      sym (length-map (declaredPorts t) (λ (d : Mention). d .name))
+      ∙ rw (port-names t) (length-map (t .outputs) (λ (o : OutputLine). o .port))
+
+  bound-length : length (bindings t) ≡ length (declaredNodes t)
+  bound-length =
+      sym (length-map (bindings t) (λ (b : Binding). b .name))
+      ∙ rw (bound-names t) (length-map (declaredNodes t) (λ (d : Mention). d .name))
 
 -- a table of the whole: its first part, and what follows
 module _ (t : Tree) (f : Mention → ℕ) (xs : List ℕ) (held : take (length (declared t)) xs ≡ map f (declared t)) where
@@ -140,8 +148,8 @@ module _ (t : Tree) (f : Mention → ℕ) (xs : List ℕ) (held : take (length (
 
 -- ---- 4: the earliest repeated declaration
 
-module _ (t : Tree) (legal : isLegalTree t ≡ true) (c : Counts) (counted : c ≡ treeCounts t) (names places : List ℕ) (table : NameTable t names places)
-    (nameRoom : c .inputs + c .named + c .outputs ≤ length names) (placeRoom : c .inputs + c .named + c .outputs ≤ length places) where
+module _ (t : Tree) (legal : isLegalTree t ≡ true) (bare : t .nevers ≡ []) (c : Counts) (counted : c ≡ treeCounts t) (names places : List ℕ)
+    (table : NameTable t names places) (nameRoom : c .inputs + c .named + c .outputs ≤ length names) (placeRoom : c .inputs + c .named + c .outputs ≤ length places) where
   abbrev nodes : ℕ
   nodes = c .inputs + c .named
 
@@ -150,11 +158,11 @@ module _ (t : Tree) (legal : isLegalTree t ≡ true) (c : Counts) (counted : c �
 
   node-count : nodes ≡ length (declaredNodes t)
   unfolding treeCounts
-  node-count = rw (counted, nodes-length t legal)
+  node-count = rw (counted, nodes-length t)
 
   port-count : ports ≡ length (declaredPorts t)
   unfolding treeCounts
-  port-count = rw (counted, ports-length t legal)
+  port-count = rw (counted, ports-length t)
 
   node-keys : take nodes names ≡ map (λ (d : Mention). packed (d .name)) (declaredNodes t)
   unfolding packedNames
@@ -183,6 +191,11 @@ module _ (t : Tree) (legal : isLegalTree t ≡ true) (c : Counts) (counted : c �
         node-count,
       )
 
+  bare-duplicate : firstDuplicate t ≡ orElse (firstRepeat [] (declaredNodes t)) (firstRepeat [] (declaredPorts t))
+  unfolding firstDuplicate firstRepeatIn lesser
+  bare-duplicate =
+      ap (λ ns. lesser (firstRepeatIn ns (neverLinesAt t)) (orElse (firstRepeat [] (declaredNodes t)) (firstRepeat [] (declaredPorts t)))) bare
+
   -- the first repeat among the first names, and among the rest
   abbrev firstOf : List ℕ → ℕ
   firstOf keys = least (repeatsAt keys) (length keys)
@@ -196,10 +209,10 @@ module _ (t : Tree) (legal : isLegalTree t ≡ true) (c : Counts) (counted : c �
     at-node = among (declaredNodes t) (take nodes names) i node-keys found
 
     pub node-repeats : i < nodes → Failed (DuplicateDeclaration (getD places i 0)) ≡ testAt (firstDuplicate t) DuplicateDeclaration
-    unfolding firstDuplicate orElse testAt
+    unfolding orElse testAt
     node-repeats l =
         let r = repeat-found (declaredNodes t) (node-bytes t legal) (rw (← at-node, ← node-count) l) in
-        rw (node-places i l, r, ← at-node)
+        rw (bare-duplicate, node-places i l, r, ← at-node)
 
     module _ (over : nodes ≤ i) (j : ℕ) (found-port : j ≡ firstOf (take (nodes + ports - nodes) (drop nodes names))) where
       no-node : firstRepeat [] (declaredNodes t) ≡ none
@@ -209,14 +222,14 @@ module _ (t : Tree) (legal : isLegalTree t ≡ true) (c : Counts) (counted : c �
       at-port = among (declaredPorts t) (take (nodes + ports - nodes) (drop nodes names)) j port-keys found-port
 
       pub port-repeats : j < ports → Failed (DuplicateDeclaration (getD places (nodes + j) 0)) ≡ testAt (firstDuplicate t) DuplicateDeclaration
-      unfolding firstDuplicate orElse testAt
+      unfolding orElse testAt
       port-repeats l =
           let r = repeat-found (declaredPorts t) (port-bytes t legal) (rw (← at-port, ← port-count) l) in
-          rw (port-places j l, no-node, r, ← at-port)
+          rw (bare-duplicate, port-places j l, no-node, r, ← at-port)
 
       pub none-repeats : ports ≤ j → Passed ≡ testAt (firstDuplicate t) DuplicateDeclaration
-      unfolding firstDuplicate orElse testAt
-      none-repeats l = rw (no-node, repeat-none (declaredPorts t) (port-bytes t legal) (rw (← at-port, ← port-count) l))
+      unfolding orElse testAt
+      none-repeats l = rw (bare-duplicate, no-node, repeat-none (declaredPorts t) (port-bytes t legal) (rw (← at-port, ← port-count) l))
 
 -- ---- a name and its node
 
@@ -249,7 +262,7 @@ module _ (t : Tree) (legal : isLegalTree t ≡ true) (names places words : List 
   unfolding nodeWords
   found-node m =
       let within : index < length (declaredNodes t) = ltb-true index (length (declaredNodes t)) (declared-found ∙ m) in
-      let size : length (bindings t) ≡ length (declaredNodes t) = bindings-length (prints t legal) ∙ sym (nodes-length t legal) in
+      let size : length (bindings t) ≡ length (declaredNodes t) = bound-length t in
       let l : index < length (bindings t) = rw size within in
       let at-index = index-lookup (nodeWord (length (t .inputs))) s (bindings t) name-ok (rw (bound-names t) (node-bytes t legal)) (rw (bound-names t) m) in
       sym (getD-take (length (bindings t)) words index 0 l)

@@ -43,7 +43,7 @@ module _ (text : List ℕ) (i : ℕ) where
 
 module _ {t : Tree} {text : List ℕ} (p : Prints t text) where
   pub declared-are : tab (mentionIn text) (times 10 text) ≡ declared t
-  declared-are = rw (text-is p, line-count (treeLines t) (tree-lines t (p .legal))) (declared-walk t (p .legal))
+  declared-are = rw (text-is p, line-count (treeLines t) (tree-lines t (p .legal))) (declared-walk t (p .legal) (p .bare))
 
   -- The places in the table are those of the declared names.
   pub places-are : tab (placeAt text) (times 10 text) ≡ namePlaces t

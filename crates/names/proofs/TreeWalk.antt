@@ -14,7 +14,8 @@ use Rattle.laws.proofs.Tests.{and-left, and-right}
 use Rattle.netlist.specs.Netlist.{Name}
 use Rattle.netlist.specs.StoredBlock.{isLegalName, isLetter, isDigit, isUnderscore, isNameByte, isPlainName, isNodeName}
 use Rattle.netlist.specs.Syntax.{GateLine, OutputLine, Tree, apply, printInput, printGate, printOutput, isLegalTerm, isLegalGate, isLegalOutput, isLegalTree}
-use Rattle.netlist.specs.Reading.{Mention, mentions, linesLength, gateLinesAt, outputLinesAt, inputMention, gateMention, portMention, declaredNodes}
+use Rattle.netlist.specs.Reading.{Mention, mentions, linesLength, neverLinesAt, gateLinesAt, outputLinesAt, inputMention, gateMention, portMention}
+use Rattle.netlist.specs.Reading.{declaredNodes}
 use Rattle.netlist.specs.Reading.{declaredPorts}
 use Rattle.names.specs.Lines.{lineOffset, nameOffset}
 use Rattle.names.specs.Packed.{packed, nameFront, nameHere, packedAt}
@@ -124,21 +125,29 @@ unfolding mentions
 mentions-walk printed inLine m e [] at = refl
 mentions-walk printed inLine m e (x ∷ xs) at = rw (e x at, mentions-walk printed inLine m e xs (at + length (printed x [])))
 
+-- without never lines the gates' lines stand behind the inputs'
+bare-gates : (t : Tree) → t .nevers ≡ [] → gateLinesAt t ≡ size inputText (t .inputs)
+unfolding gateLinesAt neverLinesAt linesLength inputText
+bare-gates t bare = rw bare (add-zero _)
+
 -- line by line the text has the tree's declarations
-pub declared-walk : (t : Tree) → isLegalTree t ≡ true
+pub declared-walk : (t : Tree) → isLegalTree t ≡ true → t .nevers ≡ []
     → tab (λ i. mentionAt (lineOffset (joined (treeLines t)) i) (drop (lineOffset (joined (treeLines t)) i) (joined (treeLines t)))) (length (treeLines t))
     ≡ declared t
-unfolding declared declaredNodes declaredPorts gateLinesAt outputLinesAt linesLength inputText gateText outputText inputMention gateMention portMention
-declared-walk t h =
+unfolding declared declaredNodes declaredPorts outputLinesAt linesLength inputText gateText outputText inputMention gateMention portMention
+declared-walk t h bare =
     let i = walk {B = Mention} inputText (λ s at. record { name = s; place = at + length (ascii "(in ") }) (t .inputs) 0 in
-    let g = walk {B = Mention} gateText (λ x at. record { name = x .name; place = at + length (ascii "(gate ") }) (t .gates) (gateLinesAt t) in
-    let o = walk {B = Mention} outputText (λ x at. record { name = x .port; place = at + length (ascii "(out ") }) (t .outputs) (outputLinesAt t) in
+    let a = size inputText (t .inputs) in
+    let b = a + size gateText (t .gates) in
+    let g = walk {B = Mention} gateText (λ x at. record { name = x .name; place = at + length (ascii "(gate ") }) (t .gates) a in
+    let o = walk {B = Mention} outputText (λ x at. record { name = x .port; place = at + length (ascii "(out ") }) (t .outputs) b in
     tree-walk mentionAt _ _ _ (λ x at rest l. input-mention at rest x l) (λ x at rest l. gate-mention at rest x l) (λ x at rest l. port-mention at rest x l) t h
     ∙ sym
     (rw (
+      bare-gates t bare,
       mentions-walk printInput inputMention _ (λ x at. refl) (t .inputs) 0,
-      mentions-walk printGate gateMention _ (λ x at. refl) (t .gates) (gateLinesAt t),
-      mentions-walk printOutput portMention _ (λ x at. refl) (t .outputs) (outputLinesAt t),
+      mentions-walk printGate gateMention _ (λ x at. refl) (t .gates) a,
+      mentions-walk printOutput portMention _ (λ x at. refl) (t .outputs) b,
     )
     (append-assoc i g o))
 

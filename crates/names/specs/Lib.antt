@@ -3,3 +3,4 @@ pub mod Packed
 pub mod Search
 pub mod Trees
 pub mod Results
+pub mod Plain

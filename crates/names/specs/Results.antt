@@ -1,8 +1,8 @@
--- What the functions of src/ answer, in terms of the tree that a text prints.
+-- What the functions of src/ answer, in terms of the tree that a text prints. Texts here have no never lines: Read leaves those out.
 use Prim.Native.Nat.{ℕ, _+_, _-_, _≤_}
 use mathlib.Core.Path.{_≡_}
 use mathlib.Core.Bool.{Bool, true, not, _&&_}
-use mathlib.Core.List.{List, _++_, map}
+use mathlib.Core.List.{List, [], _++_, map}
 use lib.ListN.{length, take}
 use lib.Dec.{leb}
 use Rattle.laws.specs.Lists.{sum}
@@ -14,9 +14,10 @@ use Rattle.names.specs.Packed.{packed}
 use Rattle.names.specs.Lines.{times, linesWith}
 use Rattle.names.specs.declared.Counts.{Counts}
 
--- the text is this tree's, which is legal
+-- the text is this tree's, which is legal and has no never lines
 pub record Prints (t : Tree) (text : List ℕ) : Type 0 where
   pub legal : isLegalTree t ≡ true
+  pub bare : t .nevers ≡ []
   pub printed : print t ≡ text
 
 -- the counts as the bytes give them

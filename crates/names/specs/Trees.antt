@@ -1,4 +1,4 @@
--- The lines of a tree's text.
+-- The lines of a tree without never lines.
 use Prim.Native.Nat.{ℕ}
 use mathlib.Core.Bool.{Bool, true, false, cond}
 use mathlib.Core.List.{List, [], _∷_, _++_, map}

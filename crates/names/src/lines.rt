@@ -51,7 +51,7 @@ pub fn next_line(text: &[u8], at: usize) -> usize
 }
 
 // The opening brackets before the first LF.
-fn opens(s: &[u8]) -> usize
+pub fn opens(s: &[u8]) -> usize
     ensures { λ r. ⌜ r ≡ lineOpens (now (s .entry)) ⌝ }
 {
     let mut n = 0;

@@ -4,6 +4,7 @@ use netlist::Refusal;
 use netlist::Test;
 ghost use mathlib.Core.Path.{_≡_};
 ghost use mathlib.Core.Bool.{true};
+ghost use mathlib.Core.List.{[]};
 ghost use Prim.Native.Nat.{_+_, _≤_, _<_};
 ghost use lib.ListN.{length};
 ghost use Rattle.laws.specs.Lists.{least};
@@ -54,7 +55,7 @@ pub fn first_repeat(names: &[u64]) -> usize
 // 4: the place of the earliest declaration that repeats another. Inputs and gates share one set of names, ports have another (SPECIFICATION 1.4).
 pub fn duplicate(c: Counts, names: &[u64], places: &[usize]) -> Test
     requires { ⌜ (c .inputs + c .named + c .outputs ≤ length (now names)) × (c .inputs + c .named + c .outputs ≤ length (now places)) ⌝ }
-    ensures { λ r. ⌜ ((t : Tree) → isLegalTree t ≡ true → c ≡ treeCounts t → NameTable t (now (names .entry)) (now (places .entry)) → r ≡ testAt (firstDuplicate t) DuplicateDeclaration) ⌝ }
+    ensures { λ r. ⌜ ((t : Tree) → isLegalTree t ≡ true → t .nevers ≡ [] → c ≡ treeCounts t → NameTable t (now (names .entry)) (now (places .entry)) → r ≡ testAt (firstDuplicate t) DuplicateDeclaration) ⌝ }
 {
     let nodes = c.inputs + c.named;
     let ports = c.outputs;

@@ -12,27 +12,20 @@ use Rattle.netlist.specs.Netlist.{Name, Output, Block, inputCount}
 use Rattle.netlist.specs.StoredBlock.{decode, isTorn}
 use Rattle.netlist.specs.Rounds.{settled, outputValue}
 use Rattle.netlist.specs.Parse.{Parsed, got, stuck}
-use Rattle.netlist.specs.Reading.{Mention, mentions, firstRepeat, firstOutside}
+use Rattle.netlist.specs.Reading.{Mention, mentions, pairMention, firstRepeat, firstOutside, givenValue}
 use Rattle.netlist.specs.Line.{lf}
-use Rattle.netlist.specs.SetLine.{Pair, pairText, printPair, setLineReader}
+use Rattle.netlist.specs.Syntax.{Pair, pairText, printPair}
+use Rattle.netlist.specs.SetLine.{setLineReader}
 use Rattle.netlist.specs.Answers.{Outcome, done, refused, refuseIf, refuseAt, inRoom}
 use Rattle.netlist.specs.Operations.{counted, readText}
 use Rattle.netlist.specs.Program.{refusalLine, shown}
 
 -- ---- the names of a set line, with their places in that line
 
-unfoldable pub pairMention : Pair → ℕ → List Mention
-pairMention p at = record { name = p .name; place = at + length (ascii " (") } ∷ []
-
 unfoldable pub givenNames : List Pair → List Mention
 givenNames ps = mentions printPair pairMention ps (length (ascii "(set"))
 
 -- ---- what it gives the inputs, and what the ports show of it
-
--- undefined where it is not named
-unfoldable pub givenValue : List Pair → Name → Value
-givenValue [] s = undefined
-givenValue (p ∷ ps) s = cond (same s (p .name)) (val (p .value)) (givenValue ps s)
 
 unfoldable pub givenValues : Block → List Pair → List Value
 givenValues b ps = map (givenValue ps) (b .inputs)

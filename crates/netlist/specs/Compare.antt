@@ -1,5 +1,5 @@
 -- SPECIFICATION 7.13: Compare. Is a loop-free block that was made elsewhere ("theirs") as good as the original ("ours")? Nothing is assumed of
--- how it was made; settings of ours that are not settled do not count.
+-- how it was made; settings of ours that are not settled, or never come, do not count. The never lines of theirs play no part.
 use Prim.Native.Nat.{ℕ, _+_, _<_}
 use mathlib.Core.Path.{_≡_}
 use mathlib.Core.Bool.{Bool, true, false, cond, not, _&&_}
@@ -11,7 +11,7 @@ use Rattle.netlist.specs.declared.Refusal.the-variants.{MalformedBlock, 
 use Rattle.netlist.specs.Values.{undefined, code}
 use Rattle.netlist.specs.Netlist.{Name, Output, Block, outputCount}
 use Rattle.netlist.specs.StoredBlock.{decode, isTorn}
-use Rattle.netlist.specs.Rounds.{settingCount, outputsUnder, isSettled}
+use Rattle.netlist.specs.Rounds.{settingCount, outputsUnder, isCounted}
 use Rattle.netlist.specs.Rendering.{isStraight}
 use Rattle.netlist.specs.Answers.{Outcome, done, refuseIf}
 
@@ -37,7 +37,7 @@ differs ours theirs s o = not (eqb (code (getD (outputsUnder ours s) o undefined
 
 -- setting number s counts, and some output shows another value
 unfoldable pub disagrees : Block → Block → ℕ → Bool
-disagrees ours theirs s = isSettled ours s && any (differs ours theirs s) (upTo (outputCount ours))
+disagrees ours theirs s = isCounted ours s && any (differs ours theirs s) (upTo (outputCount ours))
 
 -- the lowest such setting, or the number of settings where there is none; and the lowest such output under a setting
 unfoldable pub lowestDisagreement : Block → Block → ℕ
@@ -70,15 +70,15 @@ compare ours theirs =
 abbrev pub Agree : Block → Block → ℕ → ℕ → Type 0
 Agree ours theirs s o = getD (outputsUnder ours s) o undefined ≡ getD (outputsUnder theirs s) o undefined
 
--- theirs is accepted: under every settled setting of ours all outputs agree
+-- theirs is accepted: under every settled setting of ours that may come all outputs agree
 abbrev pub Accepts : Block → Block → Type 0
-Accepts ours theirs = (s : ℕ) → s < settingCount ours → isSettled ours s ≡ true → (o : ℕ) → o < outputCount ours → Agree ours theirs s o
+Accepts ours theirs = (s : ℕ) → s < settingCount ours → isCounted ours s ≡ true → (o : ℕ) → o < outputCount ours → Agree ours theirs s o
 
 -- it is not, and this is the lowest setting, and there the lowest output
 pub record Disagreement (ours theirs : Block) (s o : ℕ) : Type 0 where
   pub setting : s < settingCount ours
-  pub counts : isSettled ours s ≡ true
+  pub counts : isCounted ours s ≡ true
   pub output : o < outputCount ours
   pub other : Agree ours theirs s o → ⊥
   pub lowerOutputs : (p : ℕ) → p < o → Agree ours theirs s p
-  pub lowerSettings : (t : ℕ) → t < s → isSettled ours t ≡ true → (p : ℕ) → p < outputCount ours → Agree ours theirs t p
+  pub lowerSettings : (t : ℕ) → t < s → isCounted ours t ≡ true → (p : ℕ) → p < outputCount ours → Agree ours theirs t p

@@ -10,7 +10,8 @@ use Rattle.netlist.specs.Kinds.{row, rows, rowOf, isNot, isXor, isXnor, 
 use Rattle.netlist.specs.StoredBlock.{gatesAt, outputsAt, isLetter, isDigit, isUnderscore, isNameByte, isNameStart, isLegalName, isPlainName}
 use Rattle.netlist.specs.StoredBlock.{isNodeName, nameWords, bytesAt, nameAt, nodeWord, operandOf, gateWords, gateAt, outputWords, outputAt, encode}
 use Rattle.netlist.specs.StoredBlock.{decode, isNode, isOperand, gateFits, isWellFormed, isTorn}
-use Rattle.netlist.specs.Rounds.{operandValue, evaluated, round, afterRounds, isStable, rounds, settled, bit, settingOf, settingCount, settledUnder}
+use Rattle.netlist.specs.Assignments.{bit}
+use Rattle.netlist.specs.Rounds.{operandValue, evaluated, round, afterRounds, isStable, rounds, settled, settingOf, settingCount, settledUnder}
 use Rattle.netlist.specs.Rounds.{outputsUnder, isSettled, outputValue}
 use Rattle.netlist.specs.Groups.{gateOperand, readBy}
 use Rattle.netlist.specs.Rendering.{isStraight}
@@ -26,6 +27,16 @@ use Rattle.netlist.specs.Operations.{counted, readTree, readParsed, read
 use Rattle.netlist.specs.Compare.{sameNames, ports, sameInterface, differs, disagrees, lowestDisagreement, lowestDiffering, judgedAt}
 use Rattle.netlist.specs.Compare.{compareBlocks, compare}
 use Rattle.netlist.specs.Specimens.{report, blockWords, with}
+use Rattle.netlist.specs.StoredBlock.{neversAt, neverWords, neverAt, neverFits}
+use Rattle.netlist.specs.Assignments.{areMasks}
+use Rattle.netlist.specs.Rounds.{isExcluded, isCounted, isSoundAt}
+use Rattle.netlist.specs.Syntax.{printNever}
+use Rattle.netlist.specs.Parse.{neverPairs, addNever, neverLine, neversReader}
+use Rattle.netlist.specs.Reading.{neverLinesAt, neverMentions, excludedNames, lesser, firstRepeatIn, assignmentOf}
+use Rattle.netlist.specs.Assignments.{fixes, agrees, isWithin, maskOf, isOne}
+use Rattle.netlist.specs.Syntax.{valueText, pairText, printPair, printLines, printInput, printGate, printOutput, printTerm}
+use Rattle.netlist.specs.Parse.{bitReader, pairReader, spacedPair, pairsReader}
+use Rattle.netlist.specs.Reading.{pairMention, givenValue}
 
 -- ours and theirs as words, and the answer
 pub record Comparison : Type 0 where
@@ -56,6 +67,9 @@ comparisons =
     ∷ texts looped "(in a)\n(in b)\n(out y a)\n(out z b)\n" (0 ∷ 1 ∷ 2 ∷ [])
     -- no setting is settled
     ∷ texts "(gate p (not p))\n(out y p)\n" "(gate q (and 0 0))\n(out y q)\n" accepted
+    -- a setting that ours excludes does not count; what theirs excludes does
+    ∷ texts "(in a)\n(in b)\n(never (a 0))\n(gate p (and a q))\n(gate q (or b p))\n(out y q)\n(out z p)\n" "(in a)\n(in b)\n(out y b)\n(out z b)\n" accepted
+    ∷ texts looped "(in a)\n(in b)\n(never (a 0))\n(out y b)\n(out z b)\n" (0 ∷ 2 ∷ 2 ∷ [])
     -- 12: a port in another place, another name, an input more
     ∷ texts looped "(in a)\n(in b)\n(out z a)\n(out y b)\n" (with 12 0)
     ∷ texts looped "(in a)\n(in c)\n(out y c)\n(out z a)\n" (with 12 0)
@@ -70,5 +84,5 @@ comparisons =
 
 -- All of them come out as stated.
 pub comparisons-hold : all holds comparisons ≡ true
-unfolding code valueOf invert isDefined row rows rowOf isNot isXor isXnor isKind signatureOf fewestOperands mostOperands arityFits keyword ruled ones parity gateValue gatesAt outputsAt isLetter isDigit isUnderscore isNameByte isNameStart isLegalName isPlainName isNodeName nameWords bytesAt nameAt nodeWord operandOf gateWords gateAt outputWords outputAt encode decode isNode isOperand gateFits isWellFormed isTorn operandValue evaluated round afterRounds isStable rounds settled bit settingOf settingCount settledUnder isSettled outputValue gateOperand readBy isStraight pure stop onTest ifNext expect onParsed bind nameBytes nameAfter nameReader kindReader spaced termsReader exprReader leafOr termReader addInput addGate addOutput inputLine gateLine outputLine atEnd line outputsReader gatesReader textReader parse gatesIn lineGates isOverLimit mentions linesLength gateLinesAt outputLinesAt inputMention gateMention portMention shownMention termMentions operandMentions declaredNodes declaredPorts usedNames firstRepeat orElse firstDuplicate firstOutside firstUndeclared inputBindings gateBindings bindings lookup termNode termsNodes termGates linesGates blockOf refusalNumber refusalDetail numberOf countOf detailOf refuseIf refuseAt answerOf leftIn counted readTree readParsed readText report blockWords with sameNames ports sameInterface outputsUnder differs disagrees lowestDisagreement lowestDiffering judgedAt compareBlocks compare holds texts accepted looped comparisons
+unfolding code valueOf invert isDefined row rows rowOf isNot isXor isXnor isKind signatureOf fewestOperands mostOperands arityFits keyword ruled ones parity gateValue gatesAt outputsAt isLetter isDigit isUnderscore isNameByte isNameStart isLegalName isPlainName isNodeName nameWords bytesAt nameAt nodeWord operandOf gateWords gateAt outputWords outputAt encode decode isNode isOperand gateFits isWellFormed isTorn operandValue evaluated round afterRounds isStable rounds settled bit settingOf settingCount settledUnder isSettled outputValue gateOperand readBy isStraight pure stop onTest ifNext expect onParsed bind nameBytes nameAfter nameReader kindReader spaced termsReader exprReader leafOr termReader addInput addGate addOutput inputLine gateLine outputLine atEnd line outputsReader gatesReader textReader parse gatesIn lineGates isOverLimit mentions linesLength gateLinesAt outputLinesAt inputMention gateMention portMention shownMention termMentions operandMentions declaredNodes declaredPorts usedNames firstRepeat orElse firstDuplicate firstOutside firstUndeclared inputBindings gateBindings bindings lookup termNode termsNodes termGates linesGates blockOf refusalNumber refusalDetail numberOf countOf detailOf refuseIf refuseAt answerOf leftIn counted readTree readParsed readText report blockWords with sameNames ports sameInterface outputsUnder differs disagrees lowestDisagreement lowestDiffering judgedAt compareBlocks compare holds texts accepted looped comparisons neversAt neverWords neverAt neverFits areMasks isExcluded isCounted isSoundAt printNever neverPairs addNever neverLine neversReader neverLinesAt neverMentions excludedNames lesser firstRepeatIn assignmentOf fixes agrees isWithin maskOf isOne valueText pairText printPair bitReader pairReader spacedPair pairsReader pairMention givenValue printLines printInput printGate printOutput printTerm
 comparisons-hold = refl

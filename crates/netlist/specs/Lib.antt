@@ -2,6 +2,7 @@
 pub mod Limits
 pub mod Values
 pub mod Kinds
+pub mod Assignments
 pub mod Netlist
 pub mod StoredBlock
 pub mod Rounds
@@ -15,6 +16,7 @@ pub mod Writing
 pub mod Line
 pub mod Answers
 pub mod Operations
+pub mod Bring
 pub mod Sheet
 pub mod Compare
 pub mod Program

@@ -3,6 +3,7 @@ use Prim.Native.Nat.{ℕ}
 use mathlib.Core.Bool.{Bool, true, false}
 use mathlib.Core.List.{List, []}
 use lib.ListN.{length, getD}
+use Rattle.netlist.specs.Assignments.{Assignment}
 
 -- a name's bytes
 abbrev pub Name : Type 0
@@ -22,12 +23,14 @@ pub record Output : Type 0 where
   pub port : Name
   pub node : Operand
 
+-- its never lines are assignments of its inputs: the settings that agree with one of them never come
 pub record Block : Type 0 where
   pub inputs : List Name
+  pub nevers : List Assignment
   pub gates : List Gate
   pub outputs : List Output
 
--- n, m and k
+-- n, m, k and the number of never lines
 abbrev pub inputCount : Block → ℕ
 inputCount b = length (b .inputs)
 
@@ -36,6 +39,9 @@ gateCount b = length (b .gates)
 
 abbrev pub outputCount : Block → ℕ
 outputCount b = length (b .outputs)
+
+abbrev pub neverCount : Block → ℕ
+neverCount b = length (b .nevers)
 
 -- gate j; past the end a gate that reads nothing
 abbrev pub gateOf : Block → ℕ → Gate

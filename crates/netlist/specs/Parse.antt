@@ -10,7 +10,7 @@ use Rattle.netlist.specs.Limits.{maxName, maxDepth}
 use Rattle.netlist.specs.Kinds.{fewestOperands, mostOperands}
 use Rattle.netlist.specs.Netlist.{Name}
 use Rattle.netlist.specs.StoredBlock.{isLetter, isNameByte, isNameStart}
-use Rattle.netlist.specs.Syntax.{Term, Terms, name, literal, apply, nil, cons, GateLine, OutputLine, Tree}
+use Rattle.netlist.specs.Syntax.{Term, Terms, name, literal, apply, nil, cons, GateLine, OutputLine, Pair, Tree}
 
 pub data Parsed (A : Type 0) : Type 0 where
   got : A → List ℕ → Parsed A
@@ -114,22 +114,58 @@ unfoldable pub termReader : ℕ → Reader Term
 termReader zero = leafOr stop
 termReader (suc depth) = leafOr (expect (ascii "(") (exprReader (termReader depth) apply))
 
+-- ---- pairs, of never lines and of the bench's set lines
+
+unfoldable pub bitReader : Reader Bool
+bitReader = ifNext (is "0") (λ _. pure false) (ifNext (is "1") (λ _. pure true) stop)
+
+-- a pair behind its space
+unfoldable pub pairReader : Reader Pair
+pairReader =
+    expect (ascii "(")
+    (bind (nameReader isNameStart) (λ s. expect (ascii " ")
+    (bind bitReader (λ v. expect (ascii ")") (pure (record { name = s; value = v }))))))
+
+-- a pair after its space, and then the others
+unfoldable pub spacedPair : Reader (List Pair) → Reader (List Pair)
+spacedPair others = expect (ascii " ") (bind pairReader (λ p. bind others (λ ps. pure (p ∷ ps))))
+
+-- at most this many pairs, of which this many are needed, and the closing bracket
+unfoldable pub pairsReader : ℕ → ℕ → Reader (List Pair)
+pairsReader zero needed = expect (ascii ")") (pure [])
+pairsReader (suc most) zero = ifNext (is ")") (λ _. pure []) (spacedPair (pairsReader most zero))
+pairsReader (suc most) (suc needed) = spacedPair (pairsReader most needed)
+
+-- the pairs of a never line, at least one; no text has more pairs than bytes
+unfoldable pub neverPairs : Reader (List Pair)
+neverPairs s = pairsReader (length s) 1 s
+
 -- ---- lines; each is given the reader of what follows, and what else may stand behind its opening bracket
 
 unfoldable pub addInput : Name → Tree → Tree
-addInput s t = record { inputs = s ∷ t .inputs; gates = t .gates; outputs = t .outputs }
+addInput s t = record { inputs = s ∷ t .inputs; nevers = t .nevers; gates = t .gates; outputs = t .outputs }
+
+unfoldable pub addNever : List Pair → Tree → Tree
+addNever ps t = record { inputs = t .inputs; nevers = ps ∷ t .nevers; gates = t .gates; outputs = t .outputs }
 
 unfoldable pub addGate : GateLine → Tree → Tree
-addGate g t = record { inputs = t .inputs; gates = g ∷ t .gates; outputs = t .outputs }
+addGate g t = record { inputs = t .inputs; nevers = t .nevers; gates = g ∷ t .gates; outputs = t .outputs }
 
 unfoldable pub addOutput : OutputLine → Tree → Tree
-addOutput o t = record { inputs = t .inputs; gates = t .gates; outputs = o ∷ t .outputs }
+addOutput o t = record { inputs = t .inputs; nevers = t .nevers; gates = t .gates; outputs = o ∷ t .outputs }
 
 unfoldable pub inputLine : Reader Tree → Reader Tree → Reader Tree
 inputLine others otherwise =
     ifNext (is "i") (λ _. expect (ascii "n ")
     (bind (nameReader isLetter) (λ s. expect (ascii ")\n")
     (bind others (λ t. pure (addInput s t))))))
+    otherwise
+
+unfoldable pub neverLine : Reader Tree → Reader Tree → Reader Tree
+neverLine others otherwise =
+    ifNext (is "n") (λ _. expect (ascii "ever")
+    (bind neverPairs (λ ps. expect (ascii "\n")
+    (bind others (λ t. pure (addNever ps t))))))
     otherwise
 
 unfoldable pub gateLine : Reader Tree → Reader Tree → Reader Tree
@@ -149,13 +185,13 @@ outputLine others otherwise =
     otherwise
 
 unfoldable pub atEnd : Reader Tree
-atEnd s = nothingBehind (record { inputs = []; gates = []; outputs = [] }) s
+atEnd s = nothingBehind (record { inputs = []; nevers = []; gates = []; outputs = [] }) s
 
 -- the end of the text, or a line behind its opening bracket
 unfoldable pub line : Reader Tree → Reader Tree
 line behind = ifNext (is "(") (λ _. behind) atEnd
 
--- Behind an output only outputs go on, behind a gate no input. The number bounds the lines.
+-- Behind an output only outputs go on, behind a gate no input and no never line, behind a never line no input. The number bounds the lines.
 unfoldable pub outputsReader : ℕ → Reader Tree
 outputsReader zero s = atEnd s
 outputsReader (suc more) s = line (outputLine (λ r. outputsReader more r) stop) s
@@ -164,10 +200,18 @@ unfoldable pub gatesReader : ℕ → Reader Tree
 gatesReader zero s = atEnd s
 gatesReader (suc more) s = line (gateLine (λ r. gatesReader more r) (outputLine (λ r. outputsReader more r) stop)) s
 
+unfoldable pub neversReader : ℕ → Reader Tree
+neversReader zero s = atEnd s
+neversReader (suc more) s =
+    line (neverLine (λ r. neversReader more r) (gateLine (λ r. gatesReader more r) (outputLine (λ r. outputsReader more r) stop))) s
+
 unfoldable pub textReader : ℕ → Reader Tree
 textReader zero s = atEnd s
 textReader (suc more) s =
-    line (inputLine (λ r. textReader more r) (gateLine (λ r. gatesReader more r) (outputLine (λ r. outputsReader more r) stop))) s
+    line
+    (inputLine (λ r. textReader more r)
+    (neverLine (λ r. neversReader more r) (gateLine (λ r. gatesReader more r) (outputLine (λ r. outputsReader more r) stop))))
+    s
 
 -- no text has more lines than bytes
 unfoldable pub parse : List ℕ → Parsed Tree

@@ -7,12 +7,15 @@ use mathlib.Core.Option.{Option, none, some}
 use lib.ListN.{length}
 use lib.Dec.{leb}
 use Rattle.laws.specs.Lists.{ascii, same, memberList, sum}
-use Rattle.netlist.specs.Limits.{maxInputs, maxGates, maxOutputs}
+use Rattle.netlist.specs.Limits.{maxInputs, maxNevers, maxGates, maxOutputs}
+use Rattle.netlist.specs.Values.{Value, undefined, val, isDefined}
+use Rattle.netlist.specs.Assignments.{Assignment, maskOf, isOne}
 use Rattle.netlist.specs.Kinds.{keyword}
 use Rattle.netlist.specs.Netlist.{Name, Operand, input, gate, constant, Gate, Output, Block}
-use Rattle.netlist.specs.Syntax.{Term, Terms, name, literal, apply, nil, cons, GateLine, OutputLine, Tree, printTerm, printInput, printGate, printOutput}
+use Rattle.netlist.specs.Syntax.{Term, Terms, name, literal, apply, nil, cons, GateLine, OutputLine, Pair, Tree}
+use Rattle.netlist.specs.Syntax.{printTerm, printPair, printInput, printNever, printGate, printOutput}
 
--- ---- 3: too many inputs, gates (an inner expression is one) or outputs
+-- ---- 3: too many inputs, never lines, gates (an inner expression is one) or outputs
 
 unfoldable mutual
   pub gatesIn : Term → ℕ
@@ -29,7 +32,9 @@ lineGates g = suc (gatesInside (g .terms))
 
 unfoldable pub isOverLimit : Tree → Bool
 isOverLimit t =
-    not (leb (length (t .inputs)) maxInputs && leb (sum (map lineGates (t .gates))) maxGates && leb (length (t .outputs)) maxOutputs)
+    not
+    (leb (length (t .inputs)) maxInputs && leb (length (t .nevers)) maxNevers
+    && leb (sum (map lineGates (t .gates))) maxGates && leb (length (t .outputs)) maxOutputs)
 
 -- ---- names with their places: the number of bytes before a name's first
 
@@ -45,14 +50,24 @@ mentions printed inLine (x ∷ xs) at = inLine x at ++ mentions printed inLine x
 unfoldable pub linesLength : {A : Type 0} → (A → List ℕ → List ℕ) → List A → ℕ
 linesLength printed xs = sum (map (λ x. length (printed x [])) xs)
 
+unfoldable pub neverLinesAt : Tree → ℕ
+neverLinesAt t = linesLength printInput (t .inputs)
+
 unfoldable pub gateLinesAt : Tree → ℕ
-gateLinesAt t = linesLength printInput (t .inputs)
+gateLinesAt t = neverLinesAt t + linesLength printNever (t .nevers)
 
 unfoldable pub outputLinesAt : Tree → ℕ
 outputLinesAt t = gateLinesAt t + linesLength printGate (t .gates)
 
 unfoldable pub inputMention : Name → ℕ → List Mention
 inputMention s at = record { name = s; place = at + length (ascii "(in ") } ∷ []
+
+-- of a pair whose space is at `at`
+unfoldable pub pairMention : Pair → ℕ → List Mention
+pairMention p at = record { name = p .name; place = at + length (ascii " (") } ∷ []
+
+unfoldable pub neverMentions : List Pair → ℕ → List Mention
+neverMentions ps at = mentions printPair pairMention ps (at + length (ascii "(never"))
 
 unfoldable pub gateMention : GateLine → ℕ → List Mention
 gateMention g at = record { name = g .name; place = at + length (ascii "(gate ") } ∷ []
@@ -84,12 +99,16 @@ declaredNodes t = mentions printInput inputMention (t .inputs) 0 ++ mentions pri
 unfoldable pub declaredPorts : Tree → List Mention
 declaredPorts t = mentions printOutput portMention (t .outputs) (outputLinesAt t)
 
+-- the names in never lines, which must be those of inputs
+unfoldable pub excludedNames : Tree → List Mention
+excludedNames t = mentions printNever neverMentions (t .nevers) (neverLinesAt t)
+
 unfoldable pub usedNames : Tree → List Mention
 usedNames t =
     mentions printGate operandMentions (t .gates) (gateLinesAt t)
     ++ mentions printOutput shownMention (t .outputs) (outputLinesAt t)
 
--- ---- 4: the least place of a declaration that has an equal one of its set before it
+-- ---- 4: the least place of a declaration that has an equal one of its set before it, or of a name that stands before it in its never line
 
 unfoldable pub firstRepeat : List Name → List Mention → Option ℕ
 firstRepeat before [] = none
@@ -99,18 +118,34 @@ unfoldable pub orElse : Option ℕ → Option ℕ → Option ℕ
 orElse (some p) other = some p
 orElse none other = other
 
+-- the lesser of two places
+unfoldable pub lesser : Option ℕ → Option ℕ → Option ℕ
+lesser none other = other
+lesser (some p) none = some p
+lesser (some p) (some q) = some (cond (leb p q) p q)
+
+-- in never lines, the first of which starts at `at`; a name may stand in two of them
+unfoldable pub firstRepeatIn : List (List Pair) → ℕ → Option ℕ
+firstRepeatIn [] at = none
+firstRepeatIn (ps ∷ rest) at = orElse (firstRepeat [] (neverMentions ps at)) (firstRepeatIn rest (at + length (printNever ps [])))
+
 -- every node is declared before every port
 unfoldable pub firstDuplicate : Tree → Option ℕ
-firstDuplicate t = orElse (firstRepeat [] (declaredNodes t)) (firstRepeat [] (declaredPorts t))
+firstDuplicate t =
+    lesser (firstRepeatIn (t .nevers) (neverLinesAt t))
+    (orElse (firstRepeat [] (declaredNodes t)) (firstRepeat [] (declaredPorts t)))
 
--- ---- 5: the least place of a use of a name that no input or gate declares
+-- ---- 5: the least place of a name in a never line that no input declares, or of a use of one that no input or gate declares
 
 unfoldable pub firstOutside : List Name → List Mention → Option ℕ
 firstOutside declared [] = none
 firstOutside declared (u ∷ us) = cond (memberList (u .name) declared) (firstOutside declared us) (some (u .place))
 
+-- never lines stand before all uses
 unfoldable pub firstUndeclared : Tree → Option ℕ
-firstUndeclared t = firstOutside (map (λ (d : Mention). d .name) (declaredNodes t)) (usedNames t)
+firstUndeclared t =
+    orElse (firstOutside (t .inputs) (excludedNames t))
+    (firstOutside (map (λ (d : Mention). d .name) (declaredNodes t)) (usedNames t))
 
 -- ---- 1.4, the netlist: inputs are numbered by line, gates by closing bracket
 
@@ -163,10 +198,23 @@ linesGates [] names first = []
 linesGates (g ∷ gs) names first =
     termGates (apply (g .kind) (g .terms)) names first ++ linesGates gs names (first + lineGates g)
 
+-- ---- 1.3, the assignment of a never line
+
+-- what pairs give an input of this name: undefined where none names it
+unfoldable pub givenValue : List Pair → Name → Value
+givenValue [] s = undefined
+givenValue (p ∷ ps) s = cond (same s (p .name)) (val (p .value)) (givenValue ps s)
+
+-- the inputs that the pairs name are fixed, at their values
+unfoldable pub assignmentOf : List Name → List Pair → Assignment
+assignmentOf inputs ps =
+    record { fixed = maskOf isDefined (map (givenValue ps) inputs); ones = maskOf isOne (map (givenValue ps) inputs) }
+
 unfoldable pub blockOf : Tree → Block
 blockOf t =
     record {
       inputs = t .inputs;
+      nevers = map (assignmentOf (t .inputs)) (t .nevers);
       gates = linesGates (t .gates) (bindings t) 0;
       outputs = map (λ (o : OutputLine). record { port = o .port; node = lookup (bindings t) (o .shown) }) (t .outputs);
     }

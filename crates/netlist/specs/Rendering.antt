@@ -43,11 +43,12 @@ newestAfter newest t (j ∷ js) = newestAfter (set newest j (gate t)) (suc t) js
 unfoldable pub lastCopies : Block → List Operand
 lastCopies b = newestAfter (noCopies b) 0 (schedule b)
 
--- the copies as gates; outputs show last copies, or the input that they showed
+-- the copies as gates; names and never lines stay, outputs show last copies, or the input that they showed
 unfoldable pub rendering : Block → Block
 rendering b =
     record {
       inputs = b .inputs;
+      nevers = b .nevers;
       gates = copies b (noCopies b) 0 (schedule b);
       outputs = map (λ (o : Output). record { port = o .port; node = copiedOperand (lastCopies b) (o .node) }) (b .outputs);
     }

@@ -1,11 +1,12 @@
 -- SPECIFICATION 3.3, 3.4: rounds, settled values, settings. The last two counts are those of Verdict (7.6).
-use Prim.Native.Nat.{ℕ, zero, suc, _/_, _%_, _^_}
-use mathlib.Core.Bool.{Bool, not}
+use Prim.Native.Nat.{ℕ, zero, suc, _^_}
+use mathlib.Core.Bool.{Bool, not, _&&_, _||_}
 use mathlib.Core.List.{List, [], _∷_, map}
 use lib.ListN.{length, getD, replicate}
 use lib.Dec.{eqb}
-use Rattle.laws.specs.Lists.{same, all, tab, countBelow, least}
+use Rattle.laws.specs.Lists.{same, all, any, tab, countBelow, least}
 use Rattle.netlist.specs.Values.{Value, undefined, val, code, isDefined}
+use Rattle.netlist.specs.Assignments.{bit, agrees}
 use Rattle.netlist.specs.Kinds.{gateValue}
 use Rattle.netlist.specs.Netlist.{Operand, input, gate, constant, Gate, Output, Block, inputCount, gateCount}
 
@@ -39,10 +40,6 @@ rounds b x = least (isStable b x) (gateCount b)
 unfoldable pub settled : Block → List Value → List Value
 settled b x = afterRounds b x (rounds b x)
 
--- input i in setting number s
-unfoldable pub bit : ℕ → ℕ → ℕ
-bit s i = s / 2 ^ i % 2
-
 -- the values of n inputs in setting number s
 unfoldable pub settingOf : ℕ → ℕ → List Value
 settingOf n s = tab (λ i. val (eqb (bit s i) 1)) n
@@ -66,9 +63,21 @@ outputsUnder b s = map (outputValue (settingOf (inputCount b) s) (settledUnder b
 unfoldable pub isSettled : Block → ℕ → Bool
 isSettled b s = all isDefined (outputsUnder b s)
 
--- how many settings are settled; and the lowest that is not, or the number of settings where all are
+-- setting number s never comes: it agrees with a never line
+unfoldable pub isExcluded : Block → ℕ → Bool
+isExcluded b s = any (λ a. agrees (inputCount b) a s) (b .nevers)
+
+-- it may come, and is settled
+unfoldable pub isCounted : Block → ℕ → Bool
+isCounted b s = not (isExcluded b s) && isSettled b s
+
+-- it never comes, or is settled
+unfoldable pub isSoundAt : Block → ℕ → Bool
+isSoundAt b s = isExcluded b s || isSettled b s
+
+-- how many settings that may come are settled; and the lowest of them that is not, or the number of settings where there is none
 unfoldable pub settledSettings : Block → ℕ
-settledSettings b = countBelow (isSettled b) (settingCount b)
+settledSettings b = countBelow (isCounted b) (settingCount b)
 
 unfoldable pub lowestUnsettled : Block → ℕ
-lowestUnsettled b = least (λ s. not (isSettled b s)) (settingCount b)
+lowestUnsettled b = least (λ s. not (isSoundAt b s)) (settingCount b)

@@ -9,8 +9,8 @@ use Rattle.netlist.specs.declared.Record.{Record}
 use Rattle.netlist.specs.Values.{Value, undefined, val, valueOf, isDefined}
 use Rattle.netlist.specs.Netlist.{Block, inputCount}
 use Rattle.netlist.specs.StoredBlock.{decode, isTorn}
-use Rattle.netlist.specs.Rounds.{bit, settled, outputValue}
-use Rattle.netlist.specs.Cover.{isWithin}
+use Rattle.netlist.specs.Assignments.{bit, maskOf, isOne, areMasks}
+use Rattle.netlist.specs.Rounds.{settled, outputValue}
 use Rattle.netlist.specs.Answers.{Outcome, done, refuseIf, refusalNumber}
 
 -- ---- what the two masks of inputs stand for
@@ -24,18 +24,9 @@ settingBytes n fixed ones = tab (inputByte fixed ones) n
 
 -- 7: a bit at or above n, or a value bit on an input that is not fixed
 unfoldable pub isBadMasks : ℕ → ℕ → ℕ → Bool
-isBadMasks n fixed ones = not (ltb fixed (2 ^ n) && ltb ones (2 ^ n) && isWithin n fixed ones)
+isBadMasks n fixed ones = not (areMasks n fixed ones)
 
 -- ---- the two masks of outputs
-
--- bit o is 1 where value o passes the test
-unfoldable pub maskOf : (Value → Bool) → List Value → ℕ
-maskOf test [] = 0
-maskOf test (v ∷ vs) = cond (test v) 1 0 + 2 * maskOf test vs
-
-unfoldable pub isOne : Value → Bool
-isOne undefined = false
-isOne (val b) = b
 
 -- what the outputs show, from the values of the inputs and of the gates
 unfoldable pub outputValues : Block → List Value → List Value → List Value

@@ -1,4 +1,4 @@
--- SPECIFICATION 9.1 to 9.8: the worked examples, among them those that tell the definitions from their near misses, as one claim over one
+-- SPECIFICATION 9.1 to 9.10 and 9.13: the worked examples, among them those that tell the definitions from their near misses, as one claim over one
 -- list, computed from the definitions; behind them worked examples of the bench.
 use Prim.Native.Nat.{ℕ, suc, _+_, _-_, _%_}
 use Prim.Native.String.{String}
@@ -15,9 +15,11 @@ use Rattle.netlist.specs.Kinds.{ones, parity, gateValue}
 use Rattle.netlist.specs.StoredBlock.{gatesAt, outputsAt, isLetter, isDigit, isUnderscore, isNameByte, isNameStart, isLegalName, isPlainName}
 use Rattle.netlist.specs.StoredBlock.{isNodeName, nameWords, bytesAt, nameAt, nodeWord, operandOf, gateWords, gateAt, outputWords, outputAt, encode}
 use Rattle.netlist.specs.StoredBlock.{decode, isNode, isOperand, gateFits, isWellFormed, isTorn}
-use Rattle.netlist.specs.Rounds.{operandValue, evaluated, round, afterRounds, isStable, rounds, settled, bit, settingOf, settingCount, settledUnder}
+use Rattle.netlist.specs.Assignments.{bit}
+use Rattle.netlist.specs.Rounds.{operandValue, evaluated, round, afterRounds, isStable, rounds, settled, settingOf, settingCount, settledUnder}
 use Rattle.netlist.specs.Rounds.{isSettled, settledSettings, lowestUnsettled, outputValue, outputsUnder}
-use Rattle.netlist.specs.Cover.{fixes, agrees, isSoundUnder, isSound, without, isMinimal, isWithin, assignmentsAt, assignments, cover, coverEntries}
+use Rattle.netlist.specs.Assignments.{fixes, agrees, isWithin}
+use Rattle.netlist.specs.Cover.{isSoundUnder, isSound, without, isMinimal, assignmentsAt, assignments, cover, coverEntries}
 use Rattle.netlist.specs.Groups.{gateOperand, readBy, reads, has, grown, grownTimes, reach, reaches, sameGroup, groupOf, isReady, mayBeNext}
 use Rattle.netlist.specs.Groups.{groupsAfter, groups, groupNumber, groupNumbers, copyCount}
 use Rattle.netlist.specs.Rendering.{passes, schedule, noCopies, copiedOperand, copied, copies, newestAfter, lastCopies, rendering, isStraight}
@@ -35,20 +37,32 @@ use Rattle.netlist.specs.Line.{clamped, startBefore, untilLf, lineStart,
 use Rattle.netlist.specs.Answers.{Outcome, refusalNumber, refusalDetail, numberOf, countOf, detailOf, refuseIf, refuseAt, inRoom, answerOf, leftIn}
 use Rattle.netlist.specs.Operations.{counted, readTree, readParsed, readText, read, isBadSetting, settleBlock, settle, verdict, coverBlock, coverOf}
 use Rattle.netlist.specs.Operations.{groupsBlock, groupsOf, renderBlock, renderWords, render, passBlock, pass, writeWords, write}
-use Rattle.netlist.specs.Sheet.{inputByte, settingBytes, isBadMasks, maskOf, isOne, outputValues, showing, refusedRecord, settledOutputs, recordOf}
+use Rattle.netlist.specs.Assignments.{maskOf, isOne}
+use Rattle.netlist.specs.Sheet.{inputByte, settingBytes, isBadMasks, outputValues, showing, refusedRecord, settledOutputs, recordOf}
 use Rattle.netlist.specs.Sheet.{answeredRecord, sheetRecords, sheet}
 use Rattle.netlist.specs.Program.{chained, refusalLine, shown, unloop}
-use Rattle.netlist.specs.SetLine.{valueText, pairText, printPair, bitReader, pairReader, spacedPair, pairsReader, setLineReader}
-use Rattle.netlist.specs.Bench.{pairMention, givenNames, givenValue, givenValues, portText, showLine, pairsOutcome, parsedOutcome, lineOutcome}
+use Rattle.netlist.specs.Syntax.{valueText, pairText, printPair}
+use Rattle.netlist.specs.Parse.{bitReader, pairReader, spacedPair, pairsReader}
+use Rattle.netlist.specs.SetLine.{setLineReader}
+use Rattle.netlist.specs.Reading.{pairMention, givenValue}
+use Rattle.netlist.specs.Bench.{givenNames, givenValues, portText, showLine, pairsOutcome, parsedOutcome, lineOutcome}
 use Rattle.netlist.specs.Bench.{answerLine, lineAnswer, netlistFrom, settingsFrom, netlistPart, settingsPart, lastLine, linesFrom, linesOf}
 use Rattle.netlist.specs.Bench.{lineAnswers, benchAfter, bench}
+use Rattle.netlist.specs.StoredBlock.{neversAt, neverWords, neverAt, neverFits}
+use Rattle.netlist.specs.Assignments.{areMasks}
+use Rattle.netlist.specs.Rounds.{isExcluded, isCounted, isSoundAt}
+use Rattle.netlist.specs.Syntax.{printNever}
+use Rattle.netlist.specs.Parse.{neverPairs, addNever, neverLine, neversReader}
+use Rattle.netlist.specs.Reading.{neverLinesAt, neverMentions, excludedNames, lesser, firstRepeatIn, assignmentOf}
+use Rattle.netlist.specs.Writing.{pairsOf}
+use Rattle.netlist.specs.Bring.{encodeBefore, brought, isTornBefore, bringWords, bring}
 
 -- What is asked. Where an operation takes a block, the question gives the block's text or its words; `room` is the slice's length.
 pub data Question : Type 0 where
   toRead : List ℕ → (room : ℕ) → Question
   toSettle toPass : List ℕ → (setting : List ℕ) → (room : ℕ) → Question
   toJudge : List ℕ → Question
-  toCover toGroup toRender toWrite : List ℕ → (room : ℕ) → Question
+  toCover toGroup toRender toWrite toBring : List ℕ → (room : ℕ) → Question
   toShowLine : List ℕ → (place : ℕ) → Question
   toCountCopies toUnloop : List ℕ → Question
   toAnswerLine : List ℕ → (line : List ℕ) → (room : ℕ) → Question
@@ -76,6 +90,7 @@ answered (toCover ws room) = report (coverOf ws room)
 answered (toGroup ws room) = report (groupsOf ws room)
 answered (toRender ws room) = report (render ws room)
 answered (toWrite ws room) = report (write ws room)
+answered (toBring ws room) = report (bring ws room)
 answered (toShowLine text place) = lineAt text place
 answered (toCountCopies ws) = copyCount (decode ws) ∷ []
 answered (toUnloop text) = unloop text
@@ -139,6 +154,18 @@ kinds =
 unfoldable pub board : String
 board = "(in a)\n(in b)\n(gate g (and a b))\n(gate h (or a b))\n(out z h)\n(out y g)\n(out x a)\n"
 
+-- a loop that never settles, and two inputs that are never both 1
+unfoldable pub never11 : String
+never11 = "(in a)\n(in b)\n(never (a 1) (b 1))\n(gate p (not p))\n(out y p)\n"
+
+-- the loop of specimen 4, whose one unsettled setting never comes
+unfoldable pub never4 : String
+never4 = "(in a)\n(in b)\n(never (b 0) (a 1))\n(gate p (and a q))\n(gate q (or b p))\n(out y q)\n"
+
+-- every setting excluded, one of them twice
+unfoldable pub neverAny : String
+neverAny = "(in a)\n(never (a 0))\n(never (a 1))\n(never (a 0))\n(gate p (not p))\n(out y p)\n"
+
 unfoldable pub eleven : List ℕ
 eleven = repeated 11 (ascii "(in a)\n")
 
@@ -151,10 +178,10 @@ ring n =
 unfoldable pub specimens : List Specimen
 specimens =
     -- 9.1
-    (toRead (ascii "") 3 ⇒ 0 ∷ 3 ∷ 0 ∷ 0 ∷ 0 ∷ 0 ∷ [])
+    (toRead (ascii "") 4 ⇒ 0 ∷ 4 ∷ 0 ∷ 0 ∷ 0 ∷ 0 ∷ 0 ∷ [])
     ∷ (toJudge (blockWords "") ⇒ 0 ∷ 1 ∷ 1 ∷ [])
     ∷ (toCover (blockWords "") 2 ⇒ 0 ∷ 1 ∷ 0 ∷ 0 ∷ 0 ∷ [])
-    ∷ (toRender (blockWords "") 3 ⇒ 0 ∷ 3 ∷ 0 ∷ 0 ∷ 0 ∷ 0 ∷ [])
+    ∷ (toRender (blockWords "") 4 ⇒ 0 ∷ 4 ∷ 0 ∷ 0 ∷ 0 ∷ 0 ∷ 0 ∷ [])
     -- 9.2
     ∷ (toRead (ascii "(in a)") 99 ⇒ with 2 6)
     ∷ (toRead (ascii "(in _a)\n") 99 ⇒ with 2 4)
@@ -216,10 +243,10 @@ specimens =
     ∷ (toRead (ascii "(in a)\n(out a p)\n(out a a)\n(out a a)\n") 0 ⇒ with 4 22)
     ∷ (toRead (ascii "(in a)\n(gate p (and q (not r)))\n(out q p)\n") 0 ⇒ with 5 20)
     ∷ (toRead (ascii "(gate p (not 0))\n(out y _a)\n") 0 ⇒ with 5 24)
-    ∷ (toRead (ascii "(in a)\n") 6 ⇒ with 11 0)
+    ∷ (toRead (ascii "(in a)\n") 7 ⇒ with 11 0)
     -- 9.3: gates are numbered by their closing bracket, and a name may be used before its line; no word is reserved
-    ∷ (toRead (ascii "(in in)\n(gate gate (and (not in) (or gate _ 1)))\n(gate _ (not in))\n(out in gate)\n") 32
-    ⇒ 0 ∷ 32 ∷ 0 ∷ 1 ∷ 4 ∷ 1 ∷ 28265 ∷ 0 ∷ 0 ∷ 0
+    ∷ (toRead (ascii "(in in)\n(gate gate (and (not in) (or gate _ 1)))\n(gate _ (not in))\n(out in gate)\n") 33
+    ⇒ 0 ∷ 33 ∷ 0 ∷ 1 ∷ 4 ∷ 1 ∷ 0 ∷ 28265 ∷ 0 ∷ 0 ∷ 0
     ∷ 8 ∷ 0 ∷ 0 ∷ 0 ∷ 0 ∷ 26 ∷ 3 ∷ 4 ∷ 65535 ∷ 0 ∷ 17 ∷ 1 ∷ 2 ∷ 0 ∷ 0 ∷ 8 ∷ 0 ∷ 0 ∷ 0 ∷ 0
     ∷ 28265 ∷ 0 ∷ 0 ∷ 0 ∷ 3 ∷ [])
     -- 9.6: the table of kinds, at 2, 1 and 0; Pass gives Settle's values
@@ -247,7 +274,7 @@ specimens =
     ∷ (toPass (blockWords kinds) [] 0 ⇒ with 7 0)
     ∷ (toUnloop (ring 33) ⇒ ascii "(refused 8 0)\n")
     ∷ (toRender (blockWords specimen4) 0 ⇒ with 9 1)
-    ∷ (toRender (blockWords kinds) 41 ⇒ with 11 0)
+    ∷ (toRender (blockWords kinds) 42 ⇒ with 11 0)
     -- 9.7: the next group is the one with the lowest gate among those ready
     ∷ (toGroup (blockWords "(gate a (not d))\n(gate b (not 0))\n(gate c (and a 1))\n(gate d (not 1))\n") 4
     ⇒ 0 ∷ 4 ∷ 0 ∷ 2 ∷ 0 ∷ 3 ∷ 1 ∷ [])
@@ -260,27 +287,67 @@ specimens =
     ∷ (toUnloop (ascii "(gate p (not (not (not (not (not (not (not (not 1)))))))))\n")
     ⇒ ascii "(gate _0 (not 1))\n(gate _1 (not _0))\n(gate _2 (not _1))\n(gate _3 (not _2))\n(gate _4 (not _3))\n(gate _5 (not _4))\n(gate _6 (not _5))\n(gate _7 (not _6))\n")
     ∷ (toUnloop (ascii "(in _a)\n") ⇒ ascii "(refused 2 4)\n")
-    -- 9.3, malformed: fewer than three words; one word too many; a zero byte inside a name; a name twice; an operand that is no node;
+    -- 9.3, malformed: fewer than four words; one word too many; a zero byte inside a name; a name twice; an operand that is no node;
     -- kind 7; an xor of one; a `not` of two; an operand behind the count; an output that shows a constant. Four that are whole stand between them
-    ∷ (toWrite (0 ∷ 0 ∷ []) 99 ⇒ with 6 0)
-    ∷ (toWrite (0 ∷ 0 ∷ 0 ∷ 0 ∷ []) 99 ⇒ with 6 0)
-    ∷ (toWrite (1 ∷ 0 ∷ 0 ∷ 97 ∷ 0 ∷ 0 ∷ 0 ∷ []) 7 ⇒ 0 ∷ 7 ∷ 0 ∷ ascii "(in a)\n")
-    ∷ (toWrite (1 ∷ 0 ∷ 0 ∷ 97 ∷ 98 ∷ 0 ∷ 0 ∷ []) 99 ⇒ with 6 0)
-    ∷ (toWrite (2 ∷ 0 ∷ 0 ∷ 97 ∷ 0 ∷ 0 ∷ 0 ∷ 97 ∷ 0 ∷ 0 ∷ 0 ∷ []) 99 ⇒ with 6 0)
-    ∷ (toWrite (0 ∷ 1 ∷ 0 ∷ 8 ∷ 0 ∷ 0 ∷ 0 ∷ 0 ∷ []) 99 ⇒ 0 ∷ 19 ∷ 0 ∷ ascii "(gate _0 (not _0))\n")
-    ∷ (toWrite (0 ∷ 1 ∷ 0 ∷ 21 ∷ 0 ∷ 0 ∷ 0 ∷ 0 ∷ []) 99 ⇒ 0 ∷ 22 ∷ 0 ∷ ascii "(gate _0 (xor _0 _0))\n")
-    ∷ (toWrite (0 ∷ 1 ∷ 0 ∷ 22 ∷ 0 ∷ 0 ∷ 0 ∷ 0 ∷ []) 99 ⇒ 0 ∷ 23 ∷ 0 ∷ ascii "(gate _0 (xnor _0 _0))\n")
-    ∷ (toWrite (0 ∷ 1 ∷ 0 ∷ 8 ∷ 1 ∷ 0 ∷ 0 ∷ 0 ∷ []) 99 ⇒ with 6 0)
-    ∷ (toWrite (0 ∷ 1 ∷ 0 ∷ 23 ∷ 0 ∷ 0 ∷ 0 ∷ 0 ∷ []) 99 ⇒ with 6 0)
-    ∷ (toWrite (0 ∷ 1 ∷ 0 ∷ 13 ∷ 0 ∷ 0 ∷ 0 ∷ 0 ∷ []) 99 ⇒ with 6 0)
-    ∷ (toWrite (0 ∷ 1 ∷ 0 ∷ 16 ∷ 0 ∷ 0 ∷ 0 ∷ 0 ∷ []) 99 ⇒ with 6 0)
-    ∷ (toWrite (0 ∷ 1 ∷ 0 ∷ 8 ∷ 0 ∷ 65534 ∷ 0 ∷ 0 ∷ []) 99 ⇒ with 6 0)
-    ∷ (toWrite (0 ∷ 0 ∷ 1 ∷ 97 ∷ 0 ∷ 0 ∷ 0 ∷ 65534 ∷ []) 99 ⇒ with 6 0)
+    ∷ (toWrite (0 ∷ 0 ∷ 0 ∷ []) 99 ⇒ with 6 0)
+    ∷ (toWrite (0 ∷ 0 ∷ 0 ∷ 0 ∷ 0 ∷ []) 99 ⇒ with 6 0)
+    ∷ (toWrite (1 ∷ 0 ∷ 0 ∷ 0 ∷ 97 ∷ 0 ∷ 0 ∷ 0 ∷ []) 7 ⇒ 0 ∷ 7 ∷ 0 ∷ ascii "(in a)\n")
+    ∷ (toWrite (1 ∷ 0 ∷ 0 ∷ 0 ∷ 97 ∷ 98 ∷ 0 ∷ 0 ∷ []) 99 ⇒ with 6 0)
+    ∷ (toWrite (2 ∷ 0 ∷ 0 ∷ 0 ∷ 97 ∷ 0 ∷ 0 ∷ 0 ∷ 97 ∷ 0 ∷ 0 ∷ 0 ∷ []) 99 ⇒ with 6 0)
+    ∷ (toWrite (0 ∷ 1 ∷ 0 ∷ 0 ∷ 8 ∷ 0 ∷ 0 ∷ 0 ∷ 0 ∷ []) 99 ⇒ 0 ∷ 19 ∷ 0 ∷ ascii "(gate _0 (not _0))\n")
+    ∷ (toWrite (0 ∷ 1 ∷ 0 ∷ 0 ∷ 21 ∷ 0 ∷ 0 ∷ 0 ∷ 0 ∷ []) 99 ⇒ 0 ∷ 22 ∷ 0 ∷ ascii "(gate _0 (xor _0 _0))\n")
+    ∷ (toWrite (0 ∷ 1 ∷ 0 ∷ 0 ∷ 22 ∷ 0 ∷ 0 ∷ 0 ∷ 0 ∷ []) 99 ⇒ 0 ∷ 23 ∷ 0 ∷ ascii "(gate _0 (xnor _0 _0))\n")
+    ∷ (toWrite (0 ∷ 1 ∷ 0 ∷ 0 ∷ 8 ∷ 1 ∷ 0 ∷ 0 ∷ 0 ∷ []) 99 ⇒ with 6 0)
+    ∷ (toWrite (0 ∷ 1 ∷ 0 ∷ 0 ∷ 23 ∷ 0 ∷ 0 ∷ 0 ∷ 0 ∷ []) 99 ⇒ with 6 0)
+    ∷ (toWrite (0 ∷ 1 ∷ 0 ∷ 0 ∷ 13 ∷ 0 ∷ 0 ∷ 0 ∷ 0 ∷ []) 99 ⇒ with 6 0)
+    ∷ (toWrite (0 ∷ 1 ∷ 0 ∷ 0 ∷ 16 ∷ 0 ∷ 0 ∷ 0 ∷ 0 ∷ []) 99 ⇒ with 6 0)
+    ∷ (toWrite (0 ∷ 1 ∷ 0 ∷ 0 ∷ 8 ∷ 0 ∷ 65534 ∷ 0 ∷ 0 ∷ []) 99 ⇒ with 6 0)
+    ∷ (toWrite (0 ∷ 0 ∷ 1 ∷ 0 ∷ 97 ∷ 0 ∷ 0 ∷ 0 ∷ 65534 ∷ []) 99 ⇒ with 6 0)
     -- 9.8: an LF belongs to the line it ends; a place past the end
     ∷ (toShowLine (ascii "ab\ncd") 2 ⇒ ascii "ab")
     ∷ (toShowLine (ascii "ab\ncd") 3 ⇒ ascii "cd")
     ∷ (toShowLine (ascii "ab\ncd") 99 ⇒ ascii "cd")
     ∷ (toShowLine (ascii "ab\n") 3 ⇒ [])
+    -- 9.13, never lines: their words; one more than fits, a name again in one line and in two, and the least place of all repeats
+    ∷ (toRead (ascii "(in a)\n(in b)\n(never (b 1) (a 0))\n") 14 ⇒ 0 ∷ 14 ∷ 0 ∷ 2 ∷ 0 ∷ 0 ∷ 1 ∷ 97 ∷ 0 ∷ 0 ∷ 0 ∷ 98 ∷ 0 ∷ 0 ∷ 0 ∷ 3 ∷ 2 ∷ [])
+    ∷ (toRead (ascii "(in a)\n" ++ repeated 8 (ascii "(never (a 1))\n")) 0 ⇒ with 11 0)
+    ∷ (toRead (ascii "(in a)\n" ++ repeated 9 (ascii "(never (a 1))\n")) 0 ⇒ with 3 0)
+    ∷ (toRead (ascii "(in a)\n(never (a 1) (a 0))\n(gate a (not q))\n") 0 ⇒ with 4 21)
+    ∷ (toRead (ascii "(in a)\n(in a)\n(never (a 1) (a 1))\n") 0 ⇒ with 4 11)
+    -- a name that no input declares, also where a gate does
+    ∷ (toRead (ascii "(in a)\n(never (a 1) (p 1))\n(gate p (not q))\n") 0 ⇒ with 5 21)
+    ∷ (toRead (ascii "(in a)\n(never (a 1))\n(gate p (not q))\n") 0 ⇒ with 5 34)
+    ∷ (toRead (ascii "(never (_a 1) (b 1))\n") 0 ⇒ with 5 8)
+    -- out of form: no pair; a value that is none; before an input, behind a gate; cut off
+    ∷ (toRead (ascii "(never)\n") 0 ⇒ with 2 6)
+    ∷ (toRead (ascii "(never (a u))\n") 0 ⇒ with 2 10)
+    ∷ (toRead (ascii "(never (a 1))\n(in a)\n") 0 ⇒ with 2 15)
+    ∷ (toRead (ascii "(gate p (not 0))\n(never (a 1))\n") 0 ⇒ with 2 18)
+    ∷ (toRead (ascii "(na") 0 ⇒ with 2 2)
+    ∷ (toRead (ascii "(never (a 1)") 0 ⇒ with 2 12)
+    -- malformed: no input fixed; a bit at n; a value bit outside; one that is whole
+    ∷ (toWrite (1 ∷ 0 ∷ 0 ∷ 1 ∷ 97 ∷ 0 ∷ 0 ∷ 0 ∷ 0 ∷ 0 ∷ []) 99 ⇒ with 6 0)
+    ∷ (toWrite (1 ∷ 0 ∷ 0 ∷ 1 ∷ 97 ∷ 0 ∷ 0 ∷ 0 ∷ 3 ∷ 1 ∷ []) 99 ⇒ with 6 0)
+    ∷ (toWrite (1 ∷ 0 ∷ 0 ∷ 1 ∷ 97 ∷ 0 ∷ 0 ∷ 0 ∷ 1 ∷ 2 ∷ []) 99 ⇒ with 6 0)
+    ∷ (toWrite (1 ∷ 0 ∷ 0 ∷ 1 ∷ 97 ∷ 0 ∷ 0 ∷ 0 ∷ 1 ∷ 1 ∷ []) 99 ⇒ 0 ∷ 21 ∷ 0 ∷ ascii "(in a)\n(never (a 1))\n")
+    -- a setting that never comes is neither counted nor reported, and is in no assignment's way; pairs are written by ascending input
+    ∷ (toJudge (blockWords never11) ⇒ 0 ∷ 0 ∷ 0 ∷ [])
+    ∷ (toCover (blockWords never11) 2 ⇒ 0 ∷ 1 ∷ 0 ∷ 3 ∷ 3 ∷ [])
+    ∷ (toJudge (blockWords never4) ⇒ 0 ∷ 3 ∷ 4 ∷ [])
+    ∷ (toCover (blockWords never4) 2 ⇒ 0 ∷ 1 ∷ 0 ∷ 0 ∷ 0 ∷ [])
+    ∷ (toUnloop (ascii never4)
+    ⇒ ascii "(in a)\n(in b)\n(never (a 1) (b 0))\n(gate _0 (and a 0))\n(gate _1 (or b _0))\n(gate _2 (and a _1))\n(gate _3 (or b _2))\n(out y _3)\n")
+    ∷ (toSettle (blockWords never4) (1 ∷ 0 ∷ []) 2 ⇒ 0 ∷ 0 ∷ 0 ∷ 2 ∷ 2 ∷ [])
+    ∷ (toJudge (blockWords "(in a)\n(never (a 0))\n(gate p (not a))\n(out y p)\n") ⇒ 0 ∷ 1 ∷ 2 ∷ [])
+    -- all settings excluded
+    ∷ (toJudge (blockWords neverAny) ⇒ 0 ∷ 0 ∷ 2 ∷ [])
+    ∷ (toCover (blockWords neverAny) 2 ⇒ 0 ∷ 1 ∷ 0 ∷ 0 ∷ 0 ∷ [])
+    ∷ (toUnloop (ascii neverAny) ⇒ ascii "(in a)\n(never (a 0))\n(never (a 1))\n(never (a 0))\n(gate _0 (not 0))\n(out y _0)\n")
+    -- 9.13, Bring: a fourth count, 0; the words of today, or of more inputs than there were, are malformed to it
+    ∷ (toBring (1 ∷ 0 ∷ 0 ∷ 97 ∷ 0 ∷ 0 ∷ 0 ∷ []) 8 ⇒ 0 ∷ 8 ∷ 0 ∷ 1 ∷ 0 ∷ 0 ∷ 0 ∷ 97 ∷ 0 ∷ 0 ∷ 0 ∷ [])
+    ∷ (toBring (0 ∷ 0 ∷ 0 ∷ []) 3 ⇒ with 11 0)
+    ∷ (toBring (0 ∷ 0 ∷ 0 ∷ 0 ∷ []) 0 ⇒ with 6 0)
+    ∷ (toBring (0 ∷ 0 ∷ []) 0 ⇒ with 6 0)
     -- a set line: partial settings, ports in file order, and the order 6, 2, 4, 5, 11
     ∷ (toAnswerLine (blockWords board) (ascii "(set (b 0))\n") 25 ⇒ 0 ∷ 25 ∷ 0 ∷ ascii "(show (z u) (y 0) (x u))\n")
     ∷ (toAnswerLine (blockWords board) (ascii "(set (b 0))\n") 24 ⇒ with 11 0)
@@ -315,5 +382,5 @@ specimens =
 
 -- All of them come out as stated.
 pub specimens-hold : all right specimens ≡ true
-unfolding code valueOf invert isDefined row rows rowOf isNot isXor isXnor isKind signatureOf fewestOperands mostOperands arityFits keyword ruled ones parity gateValue gatesAt outputsAt isLetter isDigit isUnderscore isNameByte isNameStart isLegalName isPlainName isNodeName nameWords bytesAt nameAt nodeWord operandOf gateWords gateAt outputWords outputAt encode decode isNode isOperand gateFits isWellFormed isTorn operandValue evaluated round afterRounds isStable rounds settled bit settingOf settingCount settledUnder isSettled settledSettings lowestUnsettled fixes agrees isSoundUnder isSound without isMinimal isWithin assignmentsAt assignments cover coverEntries gateOperand readBy reads has grown grownTimes reach reaches sameGroup groupOf isReady mayBeNext groupsAfter groups groupNumber groupNumbers copyCount passes schedule noCopies copiedOperand copied copies newestAfter lastCopies rendering isStraight sweepFrom sweep printTerm printInput printGate printOutput printLines print pure stop onTest ifNext expect onParsed bind nameBytes nameAfter nameReader kindReader spaced termsReader exprReader leafOr termReader addInput addGate addOutput inputLine gateLine outputLine atEnd line outputsReader gatesReader textReader parse gatesIn lineGates isOverLimit mentions linesLength gateLinesAt outputLinesAt inputMention gateMention portMention shownMention termMentions operandMentions declaredNodes declaredPorts usedNames firstRepeat orElse firstDuplicate firstOutside firstUndeclared inputBindings gateBindings bindings lookup termNode termsNodes termGates linesGates blockOf digits decimal gateName nodeNameOf termOf termsOf flatLine flatTree writtenText clamped startBefore untilLf lineStart lineEnd lineLength lineAt refusalNumber refusalDetail numberOf countOf detailOf refuseIf refuseAt inRoom answerOf leftIn counted readTree readParsed readText read isBadSetting settleBlock settle verdict coverBlock coverOf groupsBlock groupsOf renderBlock renderWords render passBlock pass writeWords write inputByte settingBytes isBadMasks maskOf isOne outputValues showing refusedRecord settledOutputs recordOf answeredRecord sheetRecords sheet chained refusalLine shown unloop outputValue outputsUnder valueText pairText printPair bitReader pairReader spacedPair pairsReader setLineReader pairMention givenNames givenValue givenValues portText showLine pairsOutcome parsedOutcome lineOutcome answerLine lineAnswer netlistFrom settingsFrom netlistPart settingsPart lastLine linesFrom linesOf lineAnswers benchAfter bench report asks fields answered right blockWords _⇒_ with specimen4 shown4 specimen6 rendered6 spare kinds board parities parityLoop eleven ring specimens
+unfolding code valueOf invert isDefined row rows rowOf isNot isXor isXnor isKind signatureOf fewestOperands mostOperands arityFits keyword ruled ones parity gateValue gatesAt outputsAt isLetter isDigit isUnderscore isNameByte isNameStart isLegalName isPlainName isNodeName nameWords bytesAt nameAt nodeWord operandOf gateWords gateAt outputWords outputAt encode decode isNode isOperand gateFits isWellFormed isTorn operandValue evaluated round afterRounds isStable rounds settled bit settingOf settingCount settledUnder isSettled settledSettings lowestUnsettled fixes agrees isSoundUnder isSound without isMinimal isWithin assignmentsAt assignments cover coverEntries gateOperand readBy reads has grown grownTimes reach reaches sameGroup groupOf isReady mayBeNext groupsAfter groups groupNumber groupNumbers copyCount passes schedule noCopies copiedOperand copied copies newestAfter lastCopies rendering isStraight sweepFrom sweep printTerm printInput printGate printOutput printLines print pure stop onTest ifNext expect onParsed bind nameBytes nameAfter nameReader kindReader spaced termsReader exprReader leafOr termReader addInput addGate addOutput inputLine gateLine outputLine atEnd line outputsReader gatesReader textReader parse gatesIn lineGates isOverLimit mentions linesLength gateLinesAt outputLinesAt inputMention gateMention portMention shownMention termMentions operandMentions declaredNodes declaredPorts usedNames firstRepeat orElse firstDuplicate firstOutside firstUndeclared inputBindings gateBindings bindings lookup termNode termsNodes termGates linesGates blockOf digits decimal gateName nodeNameOf termOf termsOf flatLine flatTree writtenText clamped startBefore untilLf lineStart lineEnd lineLength lineAt refusalNumber refusalDetail numberOf countOf detailOf refuseIf refuseAt inRoom answerOf leftIn counted readTree readParsed readText read isBadSetting settleBlock settle verdict coverBlock coverOf groupsBlock groupsOf renderBlock renderWords render passBlock pass writeWords write inputByte settingBytes isBadMasks maskOf isOne outputValues showing refusedRecord settledOutputs recordOf answeredRecord sheetRecords sheet chained refusalLine shown unloop outputValue outputsUnder valueText pairText printPair bitReader pairReader spacedPair pairsReader setLineReader pairMention givenNames givenValue givenValues portText showLine pairsOutcome parsedOutcome lineOutcome answerLine lineAnswer netlistFrom settingsFrom netlistPart settingsPart lastLine linesFrom linesOf lineAnswers benchAfter bench report asks fields answered right blockWords _⇒_ with specimen4 shown4 specimen6 rendered6 spare kinds board parities parityLoop eleven ring specimens neversAt neverWords neverAt neverFits areMasks isExcluded isCounted isSoundAt printNever neverPairs addNever neverLine neversReader neverLinesAt neverMentions excludedNames lesser firstRepeatIn assignmentOf pairsOf encodeBefore brought isTornBefore bringWords bring never11 never4 neverAny
 specimens-hold = refl

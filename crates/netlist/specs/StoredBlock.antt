@@ -5,14 +5,19 @@ use mathlib.Core.List.{List, [], _∷_, _++_, map}
 use lib.ListN.{length, getD}
 use lib.Dec.{eqb, leb, ltb}
 use Rattle.laws.specs.Lists.{same, all, tab, joined, trimmed, distinct}
-use Rattle.netlist.specs.Limits.{maxInputs, maxGates, maxOutputs, maxName}
+use Rattle.netlist.specs.Limits.{maxInputs, maxNevers, maxGates, maxOutputs, maxName}
+use Rattle.netlist.specs.Assignments.{Assignment, areMasks}
 use Rattle.netlist.specs.Kinds.{isKind, arityFits}
-use Rattle.netlist.specs.Netlist.{Name, Operand, input, gate, constant, Gate, Output, Block, inputCount, gateCount, outputCount}
+use Rattle.netlist.specs.Netlist.{Name, Operand, input, gate, constant, Gate, Output, Block, inputCount, gateCount, outputCount, neverCount}
 
--- ---- 2.1, where the parts stand: three counts, the names of inputs, the gates, the outputs; an output is its port and a node
+-- ---- 2.1, where the parts stand: four counts, the names of inputs, the never lines, the gates, the outputs; a never line is two masks, an output
+-- its port and a node
 
 abbrev pub nameSize : ℕ
 nameSize = 4
+
+abbrev pub neverSize : ℕ
+neverSize = 2
 
 abbrev pub gateSize : ℕ
 gateSize = 5
@@ -24,13 +29,17 @@ abbrev pub operandWords : ℕ
 operandWords = 4
 
 abbrev pub inputsAt : ℕ
-inputsAt = 3
+inputsAt = 4
 
-unfoldable pub gatesAt : ℕ → ℕ
-gatesAt n = inputsAt + nameSize * n
+-- behind n names, l never lines and m gates
+unfoldable pub neversAt : ℕ → ℕ
+neversAt n = inputsAt + nameSize * n
 
-unfoldable pub outputsAt : ℕ → ℕ → ℕ
-outputsAt n m = gatesAt n + gateSize * m
+unfoldable pub gatesAt : ℕ → ℕ → ℕ
+gatesAt n l = neversAt n + neverSize * l
+
+unfoldable pub outputsAt : ℕ → ℕ → ℕ → ℕ
+outputsAt n l m = gatesAt n l + gateSize * m
 
 -- ---- 1.2, names: letters, digits and `_`, no digit in front
 
@@ -72,6 +81,14 @@ bytesAt ws at = joined (tab (λ i. getD ws (at + i) 0 % 256 ∷ getD ws (at + i)
 unfoldable pub nameAt : List ℕ → ℕ → Name
 nameAt ws at = trimmed (bytesAt ws at)
 
+-- ---- 2.2, never lines: the mask of fixed inputs, and that of those at 1
+
+unfoldable pub neverWords : Assignment → List ℕ
+neverWords a = a .fixed ∷ a .ones ∷ []
+
+unfoldable pub neverAt : List ℕ → ℕ → Assignment
+neverAt ws at = record { fixed = getD ws at 0; ones = getD ws (at + 1) 0 }
+
 -- ---- 1.4, 2.3, nodes: inputs first, then gates; the two highest words are the constants
 
 unfoldable pub nodeWord : ℕ → Operand → ℕ
@@ -106,8 +123,9 @@ outputAt n ws at = record { port = nameAt ws at; node = operandOf n (getD ws (at
 
 unfoldable pub encode : Block → List ℕ
 encode b =
-    inputCount b ∷ gateCount b ∷ outputCount b
+    inputCount b ∷ gateCount b ∷ outputCount b ∷ neverCount b
     ∷ joined (map nameWords (b .inputs))
+    ++ joined (map neverWords (b .nevers))
     ++ joined (map (gateWords (inputCount b)) (b .gates))
     ++ joined (map (outputWords (inputCount b)) (b .outputs))
 
@@ -116,10 +134,12 @@ decode ws =
     let n = getD ws 0 0 in
     let m = getD ws 1 0 in
     let k = getD ws 2 0 in
+    let l = getD ws 3 0 in
     record {
       inputs = tab (λ i. nameAt ws (inputsAt + nameSize * i)) n;
-      gates = tab (λ j. gateAt n ws (gatesAt n + gateSize * j)) m;
-      outputs = tab (λ o. outputAt n ws (outputsAt n m + outputSize * o)) k;
+      nevers = tab (λ i. neverAt ws (neversAt n + neverSize * i)) l;
+      gates = tab (λ j. gateAt n ws (gatesAt n l + gateSize * j)) m;
+      outputs = tab (λ o. outputAt n ws (outputsAt n l m + outputSize * o)) k;
     }
 
 -- ---- 2.4, the rules
@@ -138,10 +158,15 @@ isOperand b (constant c) = true
 unfoldable pub gateFits : Block → Gate → Bool
 gateFits b g = isKind (g .kind) && arityFits (g .kind) (length (g .operands)) && all (isOperand b) (g .operands)
 
+-- a never line fixes some input, and only inputs that are there
+unfoldable pub neverFits : Block → Assignment → Bool
+neverFits b a = ltb 0 (a .fixed) && areMasks (inputCount b) (a .fixed) (a .ones)
+
 unfoldable pub isWellFormed : Block → Bool
 isWellFormed b =
-    leb (inputCount b) maxInputs && leb (gateCount b) maxGates && leb (outputCount b) maxOutputs
+    leb (inputCount b) maxInputs && leb (gateCount b) maxGates && leb (outputCount b) maxOutputs && leb (neverCount b) maxNevers
     && all isPlainName (b .inputs) && distinct (b .inputs)
+    && all (neverFits b) (b .nevers)
     && all (gateFits b) (b .gates)
     && all (λ o. isPlainName (o .port)) (b .outputs) && distinct (map (λ (o : Output). o .port) (b .outputs))
     && all (λ o. isNode b (o .node)) (b .outputs)

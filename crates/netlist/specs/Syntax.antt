@@ -6,7 +6,9 @@ use mathlib.Core.Bool.{Bool, true, false, _&&_}
 use mathlib.Core.List.{List, [], _∷_, _++_}
 use lib.ListN.{length, take}
 use Rattle.laws.specs.Lists.{ascii, all}
+use lib.Dec.{leb}
 use Rattle.netlist.specs.Limits.{maxDepth}
+use Rattle.netlist.specs.Values.{Value, undefined, val}
 use Rattle.netlist.specs.Kinds.{isKind, arityFits, keyword}
 use Rattle.netlist.specs.Netlist.{Name}
 use Rattle.netlist.specs.StoredBlock.{isPlainName, isNodeName}
@@ -31,9 +33,15 @@ pub record OutputLine : Type 0 where
   pub port : Name
   pub shown : Name
 
--- the lines of a text, in this order; each of the three may be empty
+-- an input's name and the value it is given
+pub record Pair : Type 0 where
+  pub name : Name
+  pub value : Bool
+
+-- the lines of a text, in this order; each of the four may be empty; a never line is its pairs
 pub record Tree : Type 0 where
   pub inputs : List Name
+  pub nevers : List (List Pair)
   pub gates : List GateLine
   pub outputs : List OutputLine
 
@@ -54,6 +62,19 @@ unfoldable mutual
 unfoldable pub printInput : Name → List ℕ → List ℕ
 printInput s rest = ascii "(in " ++ (s ++ (ascii ")\n" ++ rest))
 
+-- `u` stands in the bench's show lines alone
+unfoldable pub valueText : Value → List ℕ
+valueText (val false) = ascii "0"
+valueText (val true) = ascii "1"
+valueText undefined = ascii "u"
+
+-- a pair behind its space, in never lines and in the bench's set and show lines
+unfoldable pub pairText : Name → Value → List ℕ → List ℕ
+pairText s v rest = ascii " (" ++ (s ++ (ascii " " ++ (valueText v ++ (ascii ")" ++ rest))))
+
+unfoldable pub printPair : Pair → List ℕ → List ℕ
+printPair p rest = pairText (p .name) (val (p .value)) rest
+
 -- of a gate
 unfoldable pub printGate : GateLine → List ℕ → List ℕ
 printGate g rest = ascii "(gate " ++ (g .name ++ (ascii " " ++ printTerm (apply (g .kind) (g .terms)) (ascii ")\n" ++ rest)))
@@ -66,8 +87,14 @@ unfoldable pub printLines : {A : Type 0} → (A → List ℕ → List ℕ) → L
 printLines line [] rest = rest
 printLines line (x ∷ xs) rest = line x (printLines line xs rest)
 
+-- the line of settings that never come
+unfoldable pub printNever : List Pair → List ℕ → List ℕ
+printNever ps rest = ascii "(never" ++ printLines printPair ps (ascii ")\n" ++ rest)
+
 unfoldable pub print : Tree → List ℕ
-print t = printLines printInput (t .inputs) (printLines printGate (t .gates) (printLines printOutput (t .outputs) []))
+print t =
+    printLines printInput (t .inputs)
+    (printLines printNever (t .nevers) (printLines printGate (t .gates) (printLines printOutput (t .outputs) [])))
 
 -- ---- which trees are legal
 
@@ -94,8 +121,17 @@ isLegalGate g = isNodeName (g .name) && isLegalTerm (apply (g .kind) (g .terms))
 unfoldable pub isLegalOutput : OutputLine → Bool
 isLegalOutput o = isPlainName (o .port) && isNodeName (o .shown)
 
+-- the name of any node: whether it is an input's is asked later
+unfoldable pub isLegalPair : Pair → Bool
+isLegalPair p = isNodeName (p .name)
+
+-- at least one pair
+unfoldable pub isLegalNever : List Pair → Bool
+isLegalNever ps = leb 1 (length ps) && all isLegalPair ps
+
 unfoldable pub isLegalTree : Tree → Bool
-isLegalTree t = all isPlainName (t .inputs) && all isLegalGate (t .gates) && all isLegalOutput (t .outputs)
+isLegalTree t =
+    all isPlainName (t .inputs) && all isLegalNever (t .nevers) && all isLegalGate (t .gates) && all isLegalOutput (t .outputs)
 
 -- ---- which texts are legal: for any sort of tree, by the test of a legal one and what each looks like
 

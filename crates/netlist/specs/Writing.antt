@@ -3,10 +3,11 @@ use Prim.Native.Nat.{ℕ, zero, suc, _+_, _/_, _%_}
 use mathlib.Core.Bool.{cond}
 use mathlib.Core.List.{List, [], _∷_, _++_, map}
 use lib.ListN.{getD}
-use lib.Dec.{ltb}
-use Rattle.laws.specs.Lists.{ascii, tab}
-use Rattle.netlist.specs.Netlist.{Name, Operand, input, gate, constant, Gate, Output, Block, gateCount, gateOf}
-use Rattle.netlist.specs.Syntax.{Term, Terms, name, literal, apply, nil, cons, GateLine, OutputLine, Tree, print}
+use lib.Dec.{eqb, ltb}
+use Rattle.laws.specs.Lists.{ascii, keep, upTo, tab}
+use Rattle.netlist.specs.Assignments.{bit, Assignment, fixes}
+use Rattle.netlist.specs.Netlist.{Name, Operand, input, gate, constant, Gate, Output, Block, inputCount, gateCount, gateOf}
+use Rattle.netlist.specs.Syntax.{Term, Terms, name, literal, apply, nil, cons, GateLine, OutputLine, Pair, Tree, print}
 
 -- the decimal digits of a number, at most this many
 unfoldable pub digits : ℕ → ℕ → List ℕ
@@ -41,10 +42,16 @@ termsOf b (o ∷ os) = cons (termOf b o) (termsOf b os)
 unfoldable pub flatLine : Block → ℕ → GateLine
 flatLine b j = record { name = gateName j; kind = gateOf b j .kind; terms = termsOf b (gateOf b j .operands) }
 
+-- the pairs of a never line, by ascending input
+unfoldable pub pairsOf : Block → Assignment → List Pair
+pairsOf b a =
+    map (λ i. record { name = getD (b .inputs) i []; value = eqb (bit (a .ones) i) 1 }) (keep (fixes a) (upTo (inputCount b)))
+
 unfoldable pub flatTree : Block → Tree
 flatTree b =
     record {
       inputs = b .inputs;
+      nevers = map (pairsOf b) (b .nevers);
       gates = tab (flatLine b) (gateCount b);
       outputs = map (λ (o : Output). record { port = o .port; shown = nodeNameOf b (o .node) }) (b .outputs);
     }

@@ -12,10 +12,10 @@ use borrow.Author.Tests.{ltb-true}
 use Rattle.laws.specs.Lists.{all, joined, member, distinct}
 use Rattle.laws.proofs.Tests.{and-left, and-right}
 use Rattle.laws.proofs.Lists.{member-cases, member-one}
-use Rattle.netlist.specs.Limits.{maxInputs, maxGates, maxOutputs}
-use Rattle.netlist.specs.Netlist.{Operand, input, gate, constant, Gate, Output, Block, inputCount, gateCount, outputCount}
+use Rattle.netlist.specs.Limits.{maxInputs, maxNevers, maxGates, maxOutputs}
+use Rattle.netlist.specs.Netlist.{Operand, input, gate, constant, Gate, Output, Block, inputCount, gateCount, outputCount, neverCount}
 use Rattle.netlist.specs.Kinds.{isKind, arityFits}
-use Rattle.netlist.specs.StoredBlock.{isPlainName, isNode, isOperand, gateFits, isWellFormed}
+use Rattle.netlist.specs.StoredBlock.{isPlainName, isNode, isOperand, gateFits, neverFits, isWellFormed}
 use Rattle.netlist.specs.Groups.{gateOperand, readBy, reads}
 use Rattle.reach.specs.Inside.{Inside}
 
@@ -57,7 +57,8 @@ unfolding isWellFormed
 wellFormed-inside b h =
     fits-inside b
     (second
-    (leb (inputCount b) maxInputs && leb (gateCount b) maxGates && leb (outputCount b) maxOutputs && all isPlainName (b .inputs) && distinct (b .inputs))
+    (leb (inputCount b) maxInputs && leb (gateCount b) maxGates && leb (outputCount b) maxOutputs && leb (neverCount b) maxNevers
+    && all isPlainName (b .inputs) && distinct (b .inputs) && all (neverFits b) (b .nevers))
     (all (gateFits b) (b .gates))
     (all (λ o. isPlainName (o .port)) (b .outputs))
     (distinct (map (λ (o : Output). o .port) (b .outputs)))

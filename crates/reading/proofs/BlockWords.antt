@@ -10,9 +10,9 @@ use Rattle.laws.specs.Lists.{all, tab, joined, sum}
 use Rattle.laws.proofs.Tests.{and-left, and-right}
 use Rattle.laws.proofs.Tab.{length-tab, tab-ext, tab-getD, map-tab}
 use Rattle.laws.proofs.Stores.{sets-append, length-joined-tab}
-use Rattle.netlist.specs.Netlist.{Name, gateCount, outputCount}
-use Rattle.netlist.specs.StoredBlock.{isPlainName, nameWords, gateWords, outputWords, gatesAt, outputsAt, encode}
-use Rattle.netlist.specs.Syntax.{name, apply, GateLine, Tree, isLegalTree, print, printInput, printGate}
+use Rattle.netlist.specs.Netlist.{Name, gateCount, outputCount, neverCount}
+use Rattle.netlist.specs.StoredBlock.{isPlainName, inputsAt, neversAt, gatesAt, outputsAt, nameWords, neverWords, gateWords, outputWords, encode}
+use Rattle.netlist.specs.Syntax.{name, apply, GateLine, Tree, isLegalTree, printInput, printGate}
 use Rattle.netlist.specs.Reading.{Mention, mentions, inputMention, gateMention, gateLinesAt, declaredNodes, declaredPorts, gatesIn, lineGates, Binding}
 use Rattle.netlist.specs.Reading.{bindings, termGates, linesGates, blockOf}
 use Rattle.encoding.proofs.Encoded.{length-encode}
@@ -21,9 +21,11 @@ use Rattle.encoding.proofs.Gates.{length-gateWords}
 use Rattle.encoding.proofs.Outputs.{length-outputWords}
 use Rattle.names.specs.declared.Counts.{Counts}
 use Rattle.names.specs.Packed.{packed}
-use Rattle.names.specs.Results.{Prints, treeCounts, declared, packedNames}
+use Rattle.names.specs.Plain.{plain}
+use Rattle.names.specs.Results.{treeCounts, declared, packedNames}
 use Rattle.names.proofs.TreeLines.{name-bytes, legal-parts}
-use Rattle.names.proofs.TreeTable.{declared-length}
+use Rattle.names.proofs.TreeSearch.{nodes-length}
+use Rattle.names.proofs.PlainTree.{plain-legal}
 use Rattle.terms.specs.Ports.{portWords}
 use Rattle.terms.proofs.PortNames.{port-words}
 use Rattle.terms.proofs.Closings.{gates-count}
@@ -53,9 +55,13 @@ module _ (t : Tree) where
   unfolding blockOf
   block-inputs = refl
 
-  pub block-length : (c : Counts) → c ≡ treeCounts t → length (encode (blockOf t)) ≡ wordCount c
-  unfolding wordCount treeCounts outputsAt gatesAt
-  block-length c e = length-encode (blockOf t) ∙ rw (e, block-inputs, block-gates, block-outputs) refl
+  pub block-nevers : neverCount (blockOf t) ≡ length (t .nevers)
+  unfolding blockOf
+  block-nevers = length-map (t .nevers) _
+
+  pub block-length : (c : Counts) (lines : ℕ) → c ≡ treeCounts (plain t) → lines ≡ length (t .nevers) → length (encode (blockOf t)) ≡ wordCount c lines
+  unfolding wordCount treeCounts plain
+  block-length c lines e f = length-encode (blockOf t) ∙ rw (e, f, block-inputs, block-gates, block-outputs, block-nevers) refl
 
 -- ---- the names of the inputs
 
@@ -72,13 +78,10 @@ names-words (s ∷ ss) h =
     (names-words ss (and-right (isPlainName s) (all isPlainName ss) h))
 
 module _ (t : Tree) (legal : isLegalTree t ≡ true) (names : List ℕ) (is : take (length (declared t)) names ≡ packedNames t) where
-  prints : Prints t (print t)
-  prints = record { legal = legal; printed = refl }
-
   number : Mention → ℕ
   number d = packed (d .name)
 
-  first-numbers : take (length (t .inputs)) names ≡ map packed (t .inputs)
+  pub first-numbers : take (length (t .inputs)) names ≡ map packed (t .inputs)
   unfolding declared packedNames declaredNodes number
   first-numbers =
       let n = length (t .inputs) in
@@ -89,7 +92,7 @@ module _ (t : Tree) (legal : isLegalTree t ≡ true) (names : List ℕ) (is : ta
       ∙ ap (λ (r : List ℕ). r ++ map number (declaredPorts t))
       (map-append number ins gs ∙ ap (λ (r : List ℕ). r ++ map number gs) (input-numbers (t .inputs) 0))
       ∙ append-assoc (map packed (t .inputs)) (map number gs) (map number (declaredPorts t)) in
-      let l : n ≤ length (declared t) = rw (declared-length prints) (omega arith) in
+      let l : n ≤ length (declared t) = omega (arith, length-append (declaredNodes t) (declaredPorts t), nodes-length t) in
       sym (take-take n (length (declared t)) names l) ∙ ap (take n) (is ∙ e) ∙ take-at (map packed (t .inputs)) _ n (length-map (t .inputs) packed)
 
   input-words : tab (nameOf names) (length (t .inputs)) ≡ map nameWords (t .inputs)
@@ -104,11 +107,11 @@ module _ (t : Tree) (legal : isLegalTree t ≡ true) (names : List ℕ) (is : ta
       ∙ map-map portWords packed (t .inputs)
       ∙ names-words (t .inputs) (legal-parts t legal .inputs)
 
-four-parts : {i g o i′ g′ o′ : ℕ} {N G O N′ G′ O′ : List ℕ} → i ≡ i′ → g ≡ g′ → o ≡ o′ → N ≡ N′ → G ≡ G′ → O ≡ O′
-    → _≡_ {A = List ℕ} ((i ∷ g ∷ o ∷ []) ++ N ++ G ++ O) ((i′ ∷ g′ ∷ o′ ∷ []) ++ N′ ++ G′ ++ O′)
-four-parts p q r x y z = rw (p, q, r, x, y, z)
+five-parts : {i g o l i′ g′ o′ l′ : ℕ} {N M G O N′ M′ G′ O′ : List ℕ} → i ≡ i′ → g ≡ g′ → o ≡ o′ → l ≡ l′ → N ≡ N′ → M ≡ M′ → G ≡ G′ → O ≡ O′
+    → _≡_ {A = List ℕ} ((i ∷ g ∷ o ∷ l ∷ []) ++ N ++ M ++ G ++ O) ((i′ ∷ g′ ∷ o′ ∷ l′ ∷ []) ++ N′ ++ M′ ++ G′ ++ O′)
+five-parts p q r k x m y z = rw (p, q, r, k, x, m, y, z)
 
-module _ {text : List ℕ} {c : Counts} {names gates outputs : List ℕ} (w : WriteReady text c names gates outputs) where
+module _ {text : List ℕ} {lines : ℕ} {c : Counts} {names masks gates outputs : List ℕ} (w : WriteReady text lines c names masks gates outputs) where
   abbrev t : Tree
   t = w .tree
 
@@ -116,16 +119,23 @@ module _ {text : List ℕ} {c : Counts} {names gates outputs : List ℕ} (w : Wr
   n = length (t .inputs)
 
   inputs-are : c .inputs ≡ n
-  unfolding treeCounts
+  unfolding treeCounts plain
   inputs-are = ap (λ (d : Counts). d .inputs) (w .counted)
 
+  nevers-are : lines ≡ neverCount (blockOf t)
+  nevers-are = w .neverCount ∙ sym (block-nevers t)
+
   gates-are : c .gates ≡ gateCount (blockOf t)
-  unfolding treeCounts
+  unfolding treeCounts plain
   gates-are = ap (λ (d : Counts). d .gates) (w .counted) ∙ sym (block-gates t)
 
   outputs-are : c .outputs ≡ outputCount (blockOf t)
-  unfolding treeCounts
+  unfolding treeCounts plain
   outputs-are = ap (λ (d : Counts). d .outputs) (w .counted) ∙ sym (block-outputs t)
+
+  pub masks-length : length (joined (map neverWords (blockOf t .nevers))) ≡ 2 * lines
+  unfolding neverWords
+  masks-length = length-joined neverWords 2 (λ _. refl) (blockOf t .nevers) ∙ ap (λ (k : ℕ). 2 * k) (sym nevers-are)
 
   pub gates-length : length (joined (map (gateWords n) (blockOf t .gates))) ≡ 5 * c .gates
   gates-length = length-joined (gateWords n) 5 (length-gateWords n) (blockOf t .gates) ∙ ap (λ (k : ℕ). 5 * k) (sym gates-are)
@@ -133,36 +143,49 @@ module _ {text : List ℕ} {c : Counts} {names gates outputs : List ℕ} (w : Wr
   pub outputs-length : length (joined (map (outputWords n) (blockOf t .outputs))) ≡ 5 * c .outputs
   outputs-length = length-joined (outputWords n) 5 (length-outputWords n) (blockOf t .outputs) ∙ ap (λ (k : ℕ). 5 * k) (sym outputs-are)
 
+  input-names : tab (nameOf names) n ≡ map nameWords (t .inputs)
+  unfolding plain
+  input-names = input-words (plain t) (plain-legal t (w .is .legal)) names (w .numbersAre)
+
   -- the words are the block's
-  pub words-are : blockWords c names gates outputs ≡ encode (blockOf t)
+  pub words-are : blockWords c lines names masks gates outputs ≡ encode (blockOf t)
   unfolding blockWords encode wordOf blockOf
   words-are =
-      four-parts inputs-are gates-are outputs-are
-      (ap (λ (k : ℕ). joined (tab (nameOf names) k)) inputs-are ∙ ap joined (input-words t (w .limited .prints .legal) names (w .numbersAre)))
-      (ap (λ (r : List ℕ). tab (wordOf r) (5 * c .gates)) (w .gatesWritten) ∙ placed-front 0 _ (w .gates₀) (5 * c .gates) gates-length)
-      (ap (λ (r : List ℕ). tab (wordOf r) (5 * c .outputs)) (w .outputsWritten) ∙ placed-front 0 _ (w .outputs₀) (5 * c .outputs) outputs-length)
+      five-parts inputs-are gates-are outputs-are nevers-are
+      (ap (λ (k : ℕ). joined (tab (nameOf names) k)) inputs-are ∙ ap joined input-names)
+      (ap (λ (r : List ℕ). tab (wordOf r) (2 * lines)) (w .masksWritten) ∙ placed-front 0 _ (w .masks₀) (2 * lines) masks-length)
+      (ap (λ (r : List ℕ). tab (wordOf r) (5 * c .gates)) (w .written .gatesWritten) ∙ placed-front 0 _ (w .gates₀) (5 * c .gates) gates-length)
+      (ap (λ (r : List ℕ). tab (wordOf r) (5 * c .outputs)) (w .written .outputsWritten)
+      ∙ placed-front 0 _ (w .outputs₀) (5 * c .outputs) outputs-length)
 
--- ---- writing the four parts
+-- ---- writing the five parts
 
 pub name-size : (names : List ℕ) (i : ℕ) → length (nameOf names i) ≡ 4
 unfolding nameOf portWords
 name-size names i = refl
 
-pub block-written : (c : Counts) (names gates outputs block a b d e : List ℕ) → a ≡ sets block 0 (c .inputs ∷ c .gates ∷ c .outputs ∷ [])
-    → b ≡ sets a 3 (joined (tab (nameOf names) (c .inputs)))
-    → d ≡ sets b (3 + 4 * c .inputs) (tab (wordOf gates) (5 * c .gates))
-    → e ≡ sets d (3 + 4 * c .inputs + 5 * c .gates) (tab (wordOf outputs) (5 * c .outputs))
-    → e ≡ sets block 0 (blockWords c names gates outputs)
-unfolding blockWords
-block-written c names gates outputs block a b d e p q r s =
-    let head = c .inputs ∷ c .gates ∷ c .outputs ∷ [] in
+pub block-written : (c : Counts) (lines : ℕ) (names masks gates outputs block a b d e f : List ℕ)
+    → a ≡ sets block 0 (c .inputs ∷ c .gates ∷ c .outputs ∷ lines ∷ [])
+    → b ≡ sets a inputsAt (joined (tab (nameOf names) (c .inputs)))
+    → d ≡ sets b (neversAt (c .inputs)) (tab (wordOf masks) (2 * lines))
+    → e ≡ sets d (gatesAt (c .inputs) lines) (tab (wordOf gates) (5 * c .gates))
+    → f ≡ sets e (outputsAt (c .inputs) lines (c .gates)) (tab (wordOf outputs) (5 * c .outputs))
+    → f ≡ sets block 0 (blockWords c lines names masks gates outputs)
+unfolding blockWords neversAt gatesAt outputsAt
+block-written c lines names masks gates outputs block a b d e f p q m r s =
+    let head = c .inputs ∷ c .gates ∷ c .outputs ∷ lines ∷ [] in
     let ns = joined (tab (nameOf names) (c .inputs)) in
+    let ms = tab (wordOf masks) (2 * lines) in
     let gs = tab (wordOf gates) (5 * c .gates) in
     let os = tab (wordOf outputs) (5 * c .outputs) in
-    let l : length ns ≡ 4 * c .inputs = length-joined-tab (nameOf names) 4 (name-size names) (c .inputs) in
-    let m : length (head ++ ns) ≡ 3 + 4 * c .inputs = omega (arith, length-append head ns, l) in
-    let k : length (head ++ ns ++ gs) ≡ 3 + 4 * c .inputs + 5 * c .gates = omega
-    (arith, length-append (head ++ ns) gs, m, length-tab (wordOf gates) (5 * c .gates)) in
-    let u : b ≡ sets block 0 (head ++ ns) = q ∙ rw p (sets-append head block 0 3 ns (omega arith)) in
-    let v : d ≡ sets block 0 (head ++ ns ++ gs) = r ∙ rw u (sets-append (head ++ ns) block 0 (3 + 4 * c .inputs) gs (omega (arith, m))) in
-    s ∙ rw v (sets-append (head ++ ns ++ gs) block 0 (3 + 4 * c .inputs + 5 * c .gates) os (omega (arith, k)))
+    let x : length (head ++ ns) ≡ 4 + 4 * c .inputs = omega
+    (arith, length-append head ns, length-joined-tab (nameOf names) 4 (name-size names) (c .inputs)) in
+    let y : length (head ++ ns ++ ms) ≡ 4 + 4 * c .inputs + 2 * lines = omega
+    (arith, length-append (head ++ ns) ms, x, length-tab (wordOf masks) (2 * lines)) in
+    let z : length (head ++ ns ++ ms ++ gs) ≡ 4 + 4 * c .inputs + 2 * lines + 5 * c .gates = omega
+    (arith, length-append (head ++ ns ++ ms) gs, y, length-tab (wordOf gates) (5 * c .gates)) in
+    let u : b ≡ sets block 0 (head ++ ns) = q ∙ rw p (sets-append head block 0 4 ns (omega arith)) in
+    let v : d ≡ sets block 0 (head ++ ns ++ ms) = m ∙ rw u (sets-append (head ++ ns) block 0 (4 + 4 * c .inputs) ms (omega (arith, x))) in
+    let w : e ≡ sets block 0 (head ++ ns ++ ms ++ gs) = r
+    ∙ rw v (sets-append (head ++ ns ++ ms) block 0 (4 + 4 * c .inputs + 2 * lines) gs (omega (arith, y))) in
+    s ∙ rw w (sets-append (head ++ ns ++ ms ++ gs) block 0 (4 + 4 * c .inputs + 2 * lines + 5 * c .gates) os (omega (arith, z)))

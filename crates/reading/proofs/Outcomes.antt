@@ -6,7 +6,7 @@
 use mathlib.Core.Path.{_≡_, refl, _∙_}
 use mathlib.Core.Bool.{false}
 use mathlib.Core.List.{List}
-use mathlib.Core.Option.{Option, none, some}
+use mathlib.Core.Option.{none}
 use Prim.Native.Nat.{ℕ, _≤_}
 use native.Mathlib.Omega.{arith}
 use lib.ListN.{length}
@@ -22,10 +22,9 @@ use Rattle.netlist.specs.Answers.{Outcome, done, refused, refuseIf, refuseAt, i
 use Rattle.netlist.specs.Operations.{counted, readTree, readParsed, readText, read}
 use Rattle.grammar.proofs.Adequacy.{legal-parses, parsed-legal}
 use Rattle.form.specs.Scan.{badOf, firstBad}
-use Rattle.names.specs.Results.{Prints}
-use Rattle.names.proofs.TreeCounts.{legal-prints}
+use Rattle.nevers.specs.Places.{TextOf}
 use Rattle.refusals.proofs.Promised.{room-last}
-use Rattle.reading.specs.Steps.{InForm, Limited}
+use Rattle.reading.specs.Steps.{TreeText}
 
 -- ---- 1 and 2
 
@@ -48,12 +47,16 @@ pub read-form : (text : List ℕ) (room : ℕ) → read text room ≡ inRoom roo
 unfolding firstBad
 read-form text room e = e ∙ rw (read-parsed text (parse text)) refl
 
-pub in-form : (text : List ℕ) → length text ≤ maxText → firstBad text ≡ none → InForm text
+pub in-form : (text : List ℕ) → length text ≤ maxText → firstBad text ≡ none → TreeText text
 unfolding firstBad
 in-form text s e = go (parse text) refl e
   where
-    go : (p : Parsed Tree) → parse text ≡ p → badOf text p ≡ none → InForm text
-    go (got t rest) q h = let l = parsed-legal text t rest q in record { tree = l .tree; prints = legal-prints l; short = s }
+    go : (p : Parsed Tree) → parse text ≡ p → badOf text p ≡ none → TreeText text
+    go (got t rest) q h = let l = parsed-legal text t rest q in record {
+      tree = l .tree;
+      is = record { legal = l .legal; printed = l .printed };
+      short = s;
+    }
     go (stuck left) q h = let z : _≡_ {A = ℕ} 0 1 = cc in absurd (omega arith)
 
 -- ---- 3, 4, 5 and 11
@@ -69,16 +72,16 @@ module _ (t : Tree) (text : List ℕ) (room : ℕ) where
   abbrev afterLimits : Outcome
   afterLimits = refuseAt (firstDuplicate t) DuplicateDeclaration afterRepeats
 
-  pub read-tree : Prints t text → length text ≤ maxText → read text room ≡ inRoom room (refuseIf (isOverLimit t) OverLimit afterLimits)
+  pub read-tree : TextOf t text → length text ≤ maxText → read text room ≡ inRoom room (refuseIf (isOverLimit t) OverLimit afterLimits)
   unfolding read readText readParsed readTree refuseIf
   read-tree p s =
       let l : Legal text = record { tree = t; legal = p .legal; printed = p .printed } in
       rw (le-ltb maxText (length text) s, legal-parses text l) refl
 
-  module _ (l : Limited t text) where
+  module _ (is : TextOf t text) (short : length text ≤ maxText) (within : isOverLimit t ≡ false) where
     pub read-within : read text room ≡ inRoom room afterLimits
     unfolding refuseIf
-    read-within = rw (l .within) at read-tree (l .prints) (l .short)
+    read-within = rw within at read-tree is short
 
     module _ (single : firstDuplicate t ≡ none) where
       pub read-single : read text room ≡ inRoom room afterRepeats

@@ -1,73 +1,109 @@
--- What the steps of Read need and tell, of the legal tree that the text prints. Assumes nothing.
+-- What the steps of Read need and tell, of the legal tree that the text prints. Its names are read from the text without never lines.
+-- Assumes nothing.
 use Prim.Native.Nat.{ℕ, _+_, _*_, _≤_}
 use mathlib.Core.Path.{_≡_}
 use mathlib.Core.Bool.{false}
-use mathlib.Core.List.{List, map}
+use mathlib.Core.List.{List, _++_, map}
 use mathlib.Core.Option.{none}
-use lib.ListN.{length, take}
+use lib.ListN.{length, take, drop}
 use Rattle.laws.specs.Lists.{placed, joined}
-use Rattle.netlist.specs.declared.Refusal.the-variants.{DuplicateDeclaration}
+use Rattle.netlist.specs.declared.Refusal.the-variants.{DuplicateDeclaration, UndeclaredName}
 use Rattle.netlist.specs.declared.Test.{Test}
-use Rattle.netlist.specs.Limits.{maxText, maxInputs, maxGates, maxOutputs}
-use Rattle.netlist.specs.StoredBlock.{gateSize, outputSize, gateWords, outputWords}
+use Rattle.netlist.specs.declared.Test.the-variants.{Passed}
+use Rattle.netlist.specs.Limits.{maxText, maxInputs, maxNevers, maxGates, maxOutputs}
+use Rattle.netlist.specs.StoredBlock.{neverSize, gateSize, outputSize, neverWords, gateWords, outputWords}
 use Rattle.netlist.specs.Syntax.{Tree}
 use Rattle.netlist.specs.Reading.{isOverLimit, firstDuplicate, firstUndeclared, blockOf}
 use Rattle.netlist.specs.Answers.{testAt}
 use Rattle.names.specs.declared.Counts.{Counts}
-use Rattle.names.specs.Results.{Prints, treeCounts, declared, packedNames}
+use Rattle.names.specs.Plain.{plain}
+use Rattle.names.specs.Results.{treeCounts, declared, packedNames}
 use Rattle.terms.specs.Resolution.{TreeAt}
+use Rattle.nevers.specs.declared.NeverLines.{NeverLines}
+use Rattle.nevers.specs.Places.{TextOf, neverLines}
 
 -- the text is short enough and a legal tree's
-pub record InForm (text : List ℕ) : Type 0 where
+pub record TreeText (text : List ℕ) : Type 0 where
   pub tree : Tree
-  pub prints : Prints tree text
+  pub is : TextOf tree text
   pub short : length text ≤ maxText
 
--- and within the limits
-pub record Limited (t : Tree) (text : List ℕ) : Type 0 where
-  pub prints : Prints t text
+-- its never lines stand there, and this is the text without them
+pub record Split (t : Tree) (text : List ℕ) (lines : NeverLines) (rest : List ℕ) : Type 0 where
+  pub is : TextOf t text
   pub short : length text ≤ maxText
+  pub stand : lines ≡ neverLines t
+  pub without : rest ≡ take (lines .at) text ++ drop (lines .end) text
+
+pub record SplitText (text : List ℕ) (lines : NeverLines) (rest : List ℕ) : Type 0 where
+  pub tree : Tree
+  pub split : Split tree text lines rest
+
+-- and the tree is within the limits
+pub record Limited (t : Tree) (text : List ℕ) (lines : NeverLines) (rest : List ℕ) : Type 0 where
+  pub split : Split t text lines rest
   pub within : isOverLimit t ≡ false
 
-pub record ReadReady (text names places nodes gates outputs : List ℕ) : Type 0 where
+pub record ReadReady (text : List ℕ) (lines : NeverLines) (rest names places nodes masks gates outputs : List ℕ) : Type 0 where
   pub tree : Tree
-  pub limited : Limited tree text
+  pub limited : Limited tree text lines rest
   pub nameRoom : maxInputs + maxGates + maxOutputs ≤ length names
   pub placeRoom : maxInputs + maxGates + maxOutputs ≤ length places
   pub nodeRoom : maxInputs + maxGates ≤ length nodes
+  pub maskRoom : neverSize * maxNevers ≤ length masks
   pub gateRoom : gateSize * maxGates ≤ length gates
   pub outputRoom : outputSize * maxOutputs ≤ length outputs
 
-pub record TablesReady (text : List ℕ) (c : Counts) (names places nodes : List ℕ) : Type 0 where
+pub record TablesReady (text : List ℕ) (lines : NeverLines) (rest : List ℕ) (c : Counts) (names places nodes : List ℕ) : Type 0 where
   pub tree : Tree
-  pub limited : Limited tree text
-  pub counted : c ≡ treeCounts tree
+  pub limited : Limited tree text lines rest
+  pub counted : c ≡ treeCounts (plain tree)
   pub nameRoom : maxInputs + maxGates + maxOutputs ≤ length names
   pub placeRoom : maxInputs + maxGates + maxOutputs ≤ length places
   pub nodeRoom : maxInputs + maxGates ≤ length nodes
 
 -- the tables are the tree's, and the answer is 4's
-pub record Tabled (text : List ℕ) (c : Counts) (names nodes : List ℕ) (r : Test) : Type 0 where
-  pub done : (t : Tree) → Limited t text → c ≡ treeCounts t → TreeAt t text c names nodes × (r ≡ testAt (firstDuplicate t) DuplicateDeclaration)
+pub record Tabled (text : List ℕ) (lines : NeverLines) (rest : List ℕ) (c : Counts) (names nodes : List ℕ) (r : Test) : Type 0 where
+  pub done : (t : Tree) → Limited t text lines rest → c ≡ treeCounts (plain t)
+      → TreeAt (plain t) rest c names nodes × (r ≡ testAt (firstDuplicate t) DuplicateDeclaration)
 
--- nothing repeats
-pub record Resolving (text : List ℕ) (c : Counts) (names nodes gates outputs : List ℕ) : Type 0 where
+-- the tables stand
+pub record Resolving (text : List ℕ) (lines : NeverLines) (rest : List ℕ) (c : Counts) (names nodes gates outputs : List ℕ) : Type 0 where
   pub tree : Tree
-  pub limited : Limited tree text
-  pub here : TreeAt tree text c names nodes
-  pub single : firstDuplicate tree ≡ none
+  pub limited : Limited tree text lines rest
+  pub here : TreeAt (plain tree) rest c names nodes
   pub gateRoom : gateSize * maxGates ≤ length gates
   pub outputRoom : outputSize * maxOutputs ≤ length outputs
 
--- nothing is unknown, and the words of gates and outputs stand
-pub record WriteReady (text : List ℕ) (c : Counts) (names gates outputs : List ℕ) : Type 0 where
+-- nothing repeats
+pub record TermsReady (text : List ℕ) (lines : NeverLines) (rest : List ℕ) (c : Counts) (names nodes masks gates outputs : List ℕ) : Type 0 where
+  pub resolving : Resolving text lines rest c names nodes gates outputs
+  pub single : firstDuplicate (resolving .tree) ≡ none
+  pub maskRoom : neverSize * maxNevers ≤ length masks
+
+-- the words of gates and outputs stand
+pub record Written (t : Tree) (gates gates′ outputs outputs′ : List ℕ) : Type 0 where
+  pub gatesWritten : gates′ ≡ placed (joined (map (gateWords (length (t .inputs))) (blockOf t .gates))) gates
+  pub outputsWritten : outputs′ ≡ placed (joined (map (outputWords (length (t .inputs))) (blockOf t .outputs))) outputs
+
+-- the answer is 5's; where it passes, the words stand
+pub record Known (t : Tree) (gates gates′ outputs outputs′ : List ℕ) (r : Test) : Type 0 where
+  pub answer : r ≡ testAt (firstUndeclared t) UndeclaredName
+  pub written : r ≡ Passed → Written t gates gates′ outputs outputs′
+
+-- nothing is unknown, and the words of never lines, gates and outputs stand
+pub record WriteReady (text : List ℕ) (lines : ℕ) (c : Counts) (names masks gates outputs : List ℕ) : Type 0 where
   pub tree : Tree
-  pub limited : Limited tree text
-  pub counted : c ≡ treeCounts tree
-  pub numbersAre : take (length (declared tree)) names ≡ packedNames tree
+  pub is : TextOf tree text
+  pub short : length text ≤ maxText
+  pub within : isOverLimit tree ≡ false
+  pub neverCount : lines ≡ length (tree .nevers)
+  pub counted : c ≡ treeCounts (plain tree)
+  pub numbersAre : take (length (declared (plain tree))) names ≡ packedNames (plain tree)
   pub single : firstDuplicate tree ≡ none
   pub known : firstUndeclared tree ≡ none
+  pub masks₀ : List ℕ
   pub gates₀ : List ℕ
   pub outputs₀ : List ℕ
-  pub gatesWritten : gates ≡ placed (joined (map (gateWords (length (tree .inputs))) (blockOf tree .gates))) gates₀
-  pub outputsWritten : outputs ≡ placed (joined (map (outputWords (length (tree .inputs))) (blockOf tree .outputs))) outputs₀
+  pub masksWritten : masks ≡ placed (joined (map neverWords (blockOf tree .nevers))) masks₀
+  pub written : Written tree gates₀ gates outputs₀ outputs

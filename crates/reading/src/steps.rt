@@ -1,96 +1,173 @@
-// The steps of Read on a text that is a legal tree's and within the limits: declare, look for repeats, resolve, write.
+// The steps of Read on a text that is a legal tree's: 3, declare, look for repeats, resolve, write. Never lines are read from the text, all else
+// from the text without them.
+use crate::plain::earlier_repeat;
+use crate::plain::moved_repeat;
+use crate::plain::moved_unknown;
 use crate::words::put_block;
-use layout::offsets::GATE_SIZE;
-use layout::offsets::INPUTS_AT;
-use layout::offsets::NAME_SIZE;
+use layout::limits::MAX_NEVERS;
 use layout::offsets::OUTPUT_SIZE;
+use layout::offsets::outputs_behind;
 use names::Counts;
 use names::search::duplicate;
 use names::table::declare;
 use names::tally::counts;
+use names::tally::limits;
 use netlist::Answer;
+use netlist::Refusal;
 use netlist::Test;
+use nevers::NeverLines;
+use nevers::tests::test_outsiders;
+use nevers::tests::test_repeats;
+use nevers::words::fill_masks;
 use refusals::refusal;
+use refusals::refuse_if;
 use refusals::test_room;
 use terms::resolve;
+ghost use mathlib.Core.Path.{_≡_};
+ghost use Prim.Native.Nat.{_≤_};
 ghost use lib.ListN.{length};
-ghost use Rattle.netlist.specs.Answers.{Promise};
+ghost use Rattle.netlist.specs.declared.Refusal.the-variants.{OverLimit};
+ghost use Rattle.netlist.specs.Limits.{maxText};
+ghost use Rattle.netlist.specs.Syntax.{Tree};
+ghost use Rattle.netlist.specs.Reading.{isOverLimit};
+ghost use Rattle.netlist.specs.Answers.{testOf, Promise};
 ghost use Rattle.netlist.specs.Operations.{read};
-ghost use Rattle.reading.specs.Steps.{ReadReady, Tabled, TablesReady, Resolving, WriteReady};
+ghost use Rattle.names.specs.Plain.{plain};
+ghost use Rattle.names.specs.Results.{Prints};
+ghost use Rattle.terms.specs.Resolution.{TreeAt};
+ghost use Rattle.reading.specs.Steps.{Limited, ReadReady, Tabled, TablesReady, Resolving, Known, TermsReady, WriteReady};
+
+// 3, of a text with so many never lines.
+pub fn test_limits(rest: &[u8], lines: usize) -> Test
+    requires { ⌜ length (now rest) ≤ maxText ⌝ }
+    ensures { λ r. ⌜ ((t : Tree) → Prints (plain t) (now (rest .entry)) → lines ≡ length (t .nevers) → r ≡ testOf (isOverLimit t) OverLimit) ⌝ }
+{
+    let tested = refuse_if(MAX_NEVERS < lines, Refusal::OverLimit);
+    let Test::Passed = tested else {
+        return tested;
+    };
+    limits(rest)
+}
 
 // The tables of the declared names, and 4.
 fn tables(
     text: &[u8],
+    lines: NeverLines,
+    rest: &[u8],
     c: Counts,
     names: &mut [u64],
     places: &mut [usize],
     nodes: &mut [u16],
 ) -> Test
-    requires { ⌜ TablesReady (now text) c (now names) (now places) (now nodes) ⌝ }
-    ensures { λ r. ⌜ Tabled (now (text .entry)) c (now (names .exit)) (now (nodes .exit)) r ⌝ }
+    requires { ⌜ TablesReady (now text) lines (now rest) c (now names) (now places) (now nodes) ⌝ }
+    ensures { λ r. ⌜ Tabled (now (text .entry)) lines (now (rest .entry)) c (now (names .exit)) (now (nodes .exit)) r ⌝ }
 {
-    declare(text, c, names, places, nodes);
-    duplicate(c, names, places)
+    declare(rest, c, names, places, nodes);
+    let inside = test_repeats(text, lines);
+    let outside = moved_repeat(duplicate(c, names, places), lines.at, lines.end);
+    earlier_repeat(inside, outside)
+}
+
+// 5, and the words of gates and outputs.
+fn undeclared(
+    text: &[u8],
+    lines: NeverLines,
+    rest: &[u8],
+    c: Counts,
+    names: &[u64],
+    nodes: &[u16],
+    gates: &mut [u16],
+    outputs: &mut [u16],
+) -> Test
+    requires { ⌜ Resolving (now text) lines (now rest) c (now names) (now nodes) (now gates) (now outputs) ⌝ }
+    ensures { λ r. ⌜ ((t : Tree) → Limited t (now (text .entry)) lines (now (rest .entry)) → TreeAt (plain t) (now (rest .entry)) c (now (names .entry)) (now (nodes .entry)) → Known t (now (gates .entry)) (now (gates .exit)) (now (outputs .entry)) (now (outputs .exit)) r) ⌝ }
+{
+    let tested = test_outsiders(text, lines, names, c.inputs);
+    let Test::Passed = tested else {
+        return tested;
+    };
+    let found = resolve(rest, c, names, nodes, gates, outputs);
+    moved_unknown(found, lines.at, lines.end)
 }
 
 // 11, and the block's words.
 fn finish(
     text: &[u8],
+    lines: usize,
     c: Counts,
     names: &[u64],
+    masks: &[u16],
     gates: &[u16],
     outputs: &[u16],
     block: &mut [u16],
 ) -> Answer
-    requires { ⌜ WriteReady (now text) c (now names) (now gates) (now outputs) ⌝ }
+    requires { ⌜ WriteReady (now text) lines c (now names) (now masks) (now gates) (now outputs) ⌝ }
     ensures { λ r. ⌜ Promise (read (now (text .entry)) (length (now (block .entry)))) (now (block .entry)) r (now (block .exit)) ⌝ }
 {
-    let count = INPUTS_AT + NAME_SIZE * c.inputs + GATE_SIZE * c.gates + OUTPUT_SIZE * c.outputs;
+    let count = outputs_behind(c.inputs, lines, c.gates) + OUTPUT_SIZE * c.outputs;
     let tested = test_room(block.len(), count);
     let Test::Passed = tested else {
         return refusal(tested);
     };
-    put_block(c, names, gates, outputs, block);
+    put_block(c, lines, names, masks, gates, outputs, block);
     Answer::Done { count, detail: 0 }
 }
 
 // 5, then the rest.
 fn read_terms(
     text: &[u8],
+    lines: NeverLines,
+    rest: &[u8],
     c: Counts,
     names: &[u64],
     nodes: &[u16],
+    masks: &mut [u16],
     gates: &mut [u16],
     outputs: &mut [u16],
     block: &mut [u16],
 ) -> Answer
-    requires { ⌜ Resolving (now text) c (now names) (now nodes) (now gates) (now outputs) ⌝ }
+    requires { ⌜ TermsReady (now text) lines (now rest) c (now names) (now nodes) (now masks) (now gates) (now outputs) ⌝ }
     ensures { λ r. ⌜ Promise (read (now (text .entry)) (length (now (block .entry)))) (now (block .entry)) r (now (block .exit)) ⌝ }
 {
-    let tested = resolve(text, c, names, nodes, gates, outputs);
+    let tested = undeclared(text, lines, rest, c, names, nodes, gates, outputs);
     let Test::Passed = tested else {
         return refusal(tested);
     };
-    finish(text, c, names, gates, outputs, block)
+    fill_masks(text, lines, names, c.inputs, masks);
+    finish(text, lines.count, c, names, masks, gates, outputs, block)
 }
 
 // 4, then 5 and the rest.
 pub fn read_with(
     text: &[u8],
+    lines: NeverLines,
+    rest: &[u8],
     names: &mut [u64],
     places: &mut [usize],
     nodes: &mut [u16],
+    masks: &mut [u16],
     gates: &mut [u16],
     outputs: &mut [u16],
     block: &mut [u16],
 ) -> Answer
-    requires { ⌜ ReadReady (now text) (now names) (now places) (now nodes) (now gates) (now outputs) ⌝ }
+    requires { ⌜ ReadReady (now text) lines (now rest) (now names) (now places) (now nodes) (now masks) (now gates) (now outputs) ⌝ }
     ensures { λ r. ⌜ Promise (read (now (text .entry)) (length (now (block .entry)))) (now (block .entry)) r (now (block .exit)) ⌝ }
 {
-    let c = counts(text);
-    let tested = tables(text, c, names, places, nodes);
+    let c = counts(rest);
+    let tested = tables(text, lines, rest, c, names, places, nodes);
     let Test::Passed = tested else {
         return refusal(tested);
     };
-    read_terms(text, c, names, nodes, gates, outputs, block)
+    read_terms(
+        text,
+        lines,
+        rest,
+        c,
+        names,
+        nodes,
+        masks,
+        gates,
+        outputs,
+        block,
+    )
 }

@@ -1,8 +1,12 @@
-// The block's words: the counts, the names of the inputs, and the words of gates and outputs that are there already.
+// The block's words: the counts, the names of the inputs, and the words of never lines, gates and outputs that are there already.
 use layout::offsets::GATE_SIZE;
 use layout::offsets::INPUTS_AT;
 use layout::offsets::NAME_SIZE;
+use layout::offsets::NEVER_SIZE;
 use layout::offsets::OUTPUT_SIZE;
+use layout::offsets::gates_behind;
+use layout::offsets::nevers_at;
+use layout::offsets::outputs_behind;
 use names::Counts;
 ghost use mathlib.Core.Path.{_≡_};
 ghost use mathlib.Core.List.{[], _∷_};
@@ -10,19 +14,20 @@ ghost use Prim.Native.Nat.{_+_, _*_, _≤_};
 ghost use lib.ListN.{length};
 ghost use lib.Seq.{sets};
 ghost use Rattle.laws.specs.Lists.{tab, joined};
-ghost use Rattle.netlist.specs.Limits.{maxInputs, maxGates, maxOutputs};
+ghost use Rattle.netlist.specs.Limits.{maxInputs, maxNevers, maxGates, maxOutputs};
 ghost use Rattle.netlist.specs.StoredBlock.{nameSize, inputsAt};
 ghost use Rattle.terms.specs.Ports.{portWords};
 ghost use Rattle.reading.specs.Words.{nameOf, wordOf, blockWords, PutReady};
 
-// Writes the three counts.
-fn put_counts(c: Counts, block: &mut [u16])
-    requires { ⌜ (c .inputs ≤ maxInputs) × (c .gates ≤ maxGates) × (c .outputs ≤ maxOutputs) × (inputsAt ≤ length (now block)) ⌝ }
-    ensures { λ r. ⌜ now (block .exit) ≡ sets (now (block .entry)) 0 (c .inputs ∷ c .gates ∷ c .outputs ∷ []) ⌝ }
+// Writes the four counts.
+fn put_counts(c: Counts, lines: usize, block: &mut [u16])
+    requires { ⌜ (c .inputs ≤ maxInputs) × (c .gates ≤ maxGates) × (c .outputs ≤ maxOutputs) × (lines ≤ maxNevers) × (inputsAt ≤ length (now block)) ⌝ }
+    ensures { λ r. ⌜ now (block .exit) ≡ sets (now (block .entry)) 0 (c .inputs ∷ c .gates ∷ c .outputs ∷ lines ∷ []) ⌝ }
 {
     block[0] = c.inputs as u16;
     block[1] = c.gates as u16;
     block[2] = c.outputs as u16;
+    block[3] = lines as u16;
 }
 
 // Writes the four words of the name with this number.
@@ -60,15 +65,29 @@ fn put_words(words: &[u16], count: usize, block: &mut [u16], at: usize)
     }
 }
 
-// Writes a whole block.
-pub fn put_block(c: Counts, names: &[u64], gates: &[u16], outputs: &[u16], block: &mut [u16])
-    requires { ⌜ PutReady c (now names) (now gates) (now outputs) (now block) ⌝ }
-    ensures { λ r. ⌜ now (block .exit) ≡ sets (now (block .entry)) 0 (blockWords c (now (names .entry)) (now (gates .entry)) (now (outputs .entry))) ⌝ }
+// Writes a whole block with so many never lines.
+pub fn put_block(
+    c: Counts,
+    lines: usize,
+    names: &[u64],
+    masks: &[u16],
+    gates: &[u16],
+    outputs: &[u16],
+    block: &mut [u16],
+)
+    requires { ⌜ PutReady c lines (now names) (now masks) (now gates) (now outputs) (now block) ⌝ }
+    ensures { λ r. ⌜ now (block .exit) ≡ sets (now (block .entry)) 0 (blockWords c lines (now (names .entry)) (now (masks .entry)) (now (gates .entry)) (now (outputs .entry))) ⌝ }
 {
-    let first = INPUTS_AT + NAME_SIZE * c.inputs;
-    let last = first + GATE_SIZE * c.gates;
-    put_counts(c, block);
-    put_names(names, c.inputs, block);
-    put_words(gates, GATE_SIZE * c.gates, block, first);
-    put_words(outputs, OUTPUT_SIZE * c.outputs, block, last);
+    let n = c.inputs;
+    let m = c.gates;
+    put_counts(c, lines, block);
+    put_names(names, n, block);
+    put_words(masks, NEVER_SIZE * lines, block, nevers_at(n));
+    put_words(gates, GATE_SIZE * m, block, gates_behind(n, lines));
+    put_words(
+        outputs,
+        OUTPUT_SIZE * c.outputs,
+        block,
+        outputs_behind(n, lines, m),
+    );
 }

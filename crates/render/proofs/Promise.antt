@@ -1,8 +1,8 @@
 -- The definition of Render meets its whole promise: from the theory of rendering (crate `agreement`) and of the stored block (`encoding`).
 -- Assumes nothing.
-use mathlib.Core.Path.{_≡_, refl}
+use mathlib.Core.Path.{_≡_, refl, sym}
 use mathlib.Core.Logic.{⊎-elim}
-use mathlib.Core.Bool.{Bool, true, false, cond, not}
+use mathlib.Core.Bool.{Bool, true, false, cond, not, _||_, false≢true}
 use mathlib.Core.List.{List}
 use Prim.Native.Nat.{ℕ, _≤_, _<_}
 use native.Mathlib.Nat.{le-antisymm}
@@ -18,7 +18,7 @@ use Rattle.netlist.specs.declared.Answer.{Answer}
 use Rattle.netlist.specs.Limits.{maxCopies}
 use Rattle.netlist.specs.Netlist.{Block}
 use Rattle.netlist.specs.StoredBlock.{encode, decode, isTorn, isWellFormed}
-use Rattle.netlist.specs.Rounds.{settingCount, isSettled, lowestUnsettled}
+use Rattle.netlist.specs.Rounds.{settingCount, isSettled, isExcluded, isSoundAt, lowestUnsettled}
 use Rattle.netlist.specs.Cover.{isSound}
 use Rattle.netlist.specs.Groups.{copyCount}
 use Rattle.netlist.specs.Rendering.{rendering}
@@ -26,7 +26,7 @@ use Rattle.netlist.specs.Answers.{Outcome, refusalNumber, refusalDetail, number
 use Rattle.netlist.specs.Operations.{render}
 use Rattle.refusals.proofs.Promised.{promise, promise-answer}
 use Rattle.encoding.proofs.RoundTrip.{whole-wellFormed, decode-encode, encode-whole}
-use Rattle.agreement.proofs.Block.{rendering-straight, rendering-count, rendering-inputs, rendering-ports, rendering-wellFormed}
+use Rattle.agreement.proofs.Block.{rendering-straight, rendering-count, rendering-inputs, rendering-nevers, rendering-ports, rendering-wellFormed}
 use Rattle.agreement.proofs.Agreement.{sound-outputs-agree}
 use Rattle.assignments.proofs.Blocks.{lowest-sound}
 use Rattle.render.specs.Promise.{portOf, Renders, LowestOf, renderNumber, RenderPromise}
@@ -46,14 +46,28 @@ rendered-so ws t m s =
       straightened = rw back (rendering-straight (decode ws));
       gatesAreTheSum = rw back (rendering-count (decode ws));
       sameInputs = rw back (rendering-inputs (decode ws));
+      sameNevers = rw back (rendering-nevers (decode ws));
       samePorts = rw back (rendering-ports (decode ws));
-      sameOutputs = λ n l. rw back (sound-outputs-agree (decode ws) w s n l);
+      sameOutputs = λ n l e. rw back (sound-outputs-agree (decode ws) w s n l e);
     }
 
--- the lowest setting that is not settled
+-- the lowest setting that may come and is not settled
 module _ (b : Block) where
   unsettled : ℕ → Bool
-  unsettled s = not (isSettled b s)
+  unsettled s = not (isSoundAt b s)
+
+  -- the two parts of the test
+  unsound : (s : ℕ) → isSoundAt b s ≡ false → (isExcluded b s ≡ false) × (isSettled b s ≡ false)
+  unfolding isSoundAt
+  unsound s = go (isExcluded b s) (isSettled b s)
+    where
+      go : (e t : Bool) → e || t ≡ false → (e ≡ false) × (t ≡ false)
+      go true t h = (h, absurd (false≢true (sym h)))
+      go false t h = (refl, h)
+
+  sound-settled : (s : ℕ) → isSoundAt b s ≡ true → isExcluded b s ≡ false → isSettled b s ≡ true
+  unfolding isSoundAt
+  sound-settled s h e = rw e at h
 
   lowest-so : isSound b ≡ false → LowestOf b (lowestUnsettled b)
   unfolding lowestUnsettled unsettled
@@ -62,10 +76,12 @@ module _ (b : Block) where
       → isSound b ≡ true = λ ge. lowest-sound b (le-antisymm (least-le unsettled (settingCount b)) ge) in
       let lt : least unsettled (settingCount b) < settingCount b =
       ⊎-elim (λ l. l) (λ ge. not-both (all ge) h) (lt-or-le (least unsettled (settingCount b)) (settingCount b)) in
+      let found = unsound _ (not-true (isSoundAt b (least unsettled (settingCount b))) (least-at unsettled (settingCount b) lt)) in
       record {
         within = lt;
-        unsettled = not-true (isSettled b (least unsettled (settingCount b))) (least-at unsettled (settingCount b) lt);
-        below = λ s l. not-false (isSettled b s) (least-below unsettled (settingCount b) s l);
+        comes = found .0;
+        unsettled = found .1;
+        below = λ s l e. sound-settled s (not-false (isSoundAt b s) (least-below unsettled (settingCount b) s l)) e;
       }
 
 no-number : {A : Type 0} (n : ℕ) → n ≡ 0 → 0 < n → A

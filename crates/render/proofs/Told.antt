@@ -17,15 +17,15 @@ use Rattle.netlist.specs.declared.Refusal.the-variants.{NotSettled}
 use Rattle.netlist.specs.Limits.{maxGates, maxCopies}
 use Rattle.netlist.specs.Netlist.{Block}
 use Rattle.netlist.specs.StoredBlock.{outputsAt, encode, decode, isTorn}
-use Rattle.netlist.specs.Rounds.{settingCount, isSettled, lowestUnsettled}
+use Rattle.netlist.specs.Rounds.{settingCount, isSoundAt, lowestUnsettled}
 use Rattle.netlist.specs.Cover.{isSound}
 use Rattle.netlist.specs.Groups.{copyCount}
 use Rattle.netlist.specs.Rendering.{rendering, schedule}
 use Rattle.netlist.specs.Answers.{testOf}
 use Rattle.encoding.proofs.Readers.{whole-parts}
 use Rattle.encoding.proofs.Encoded.{length-encode}
-use Rattle.encoding.proofs.Decoded.{decode-inputCount, decode-outputCount}
-use Rattle.agreement.proofs.Block.{rendering-count, rendering-inputs, length-rendering-outputs, length-schedule-is}
+use Rattle.encoding.proofs.Decoded.{decode-inputCount, decode-outputCount, decode-neverCount}
+use Rattle.agreement.proofs.Block.{rendering-count, rendering-inputs, rendering-nevers, length-rendering-outputs, length-schedule-is}
 use Rattle.assignments.proofs.Blocks.{sound-lowest, lowest-sound}
 use Rattle.schedule.specs.Listing.{Numbers, Appended, planOf}
 use Rattle.schedule.proofs.Blocks.{plan-schedule, front}
@@ -38,7 +38,7 @@ settings-count ws n e = rw (decode-inputCount ws, e) refl
 
 lowest-within : (b : Block) → lowestUnsettled b ≤ settingCount b
 unfolding lowestUnsettled
-lowest-within b = least-le (λ s. not (isSettled b s)) (settingCount b)
+lowest-within b = least-le (λ s. not (isSoundAt b s)) (settingCount b)
 
 -- a setting below 2 ^ n was found, exactly where the block is not sound
 pub settings-tested : (ws : List ℕ) {n lowest count : ℕ} {t : Test} → n ≡ getD ws 0 0 → lowest ≡ lowestUnsettled (decode ws) → count ≡ 2 ^ n
@@ -58,18 +58,21 @@ settings-tested ws {n} {lowest} {count} e is c h = h ∙ rw (go (isSound (decode
 -- ---- writing
 
 -- the rendered block's length
-pub rendered-size : (ws : List ℕ) (n k total size : ℕ) → n ≡ getD ws 0 0 → k ≡ getD ws 2 0 → total ≡ copyCount (decode ws)
-    → size ≡ outputsAt n total → length (encode (rendering (decode ws))) ≡ size + 5 * k
-rendered-size ws n k total size en ek et es =
+pub rendered-size : (ws : List ℕ) (n lines k total size : ℕ) → n ≡ getD ws 0 0 → lines ≡ getD ws 3 0 → k ≡ getD ws 2 0 → total ≡ copyCount (decode ws)
+    → size ≡ outputsAt n lines total → length (encode (rendering (decode ws))) ≡ size + 5 * k
+rendered-size ws n lines k total size en el ek et es =
     length-encode (rendering (decode ws))
     ∙ rw (
       ap {B = ℕ} length (rendering-inputs (decode ws)),
       decode-inputCount ws,
+      ap {B = ℕ} length (rendering-nevers (decode ws)),
+      decode-neverCount ws,
       rendering-count (decode ws),
       length-rendering-outputs (decode ws),
       decode-outputCount ws,
       es,
       en,
+      el,
       ek,
       et,
     ) refl

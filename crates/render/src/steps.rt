@@ -6,7 +6,8 @@ use layout::offsets::OUTPUT_SIZE;
 use layout::offsets::gates_at;
 use layout::offsets::gates_of;
 use layout::offsets::inputs_of;
-use layout::offsets::outputs_at;
+use layout::offsets::nevers_of;
+use layout::offsets::outputs_behind;
 use layout::offsets::outputs_of;
 use netlist::Answer;
 use netlist::Refusal;
@@ -30,14 +31,14 @@ ghost use Rattle.netlist.specs.Answers.{testOf, Promise};
 ghost use Rattle.netlist.specs.Operations.{render};
 ghost use Rattle.render.specs.Tests.{LowestReady, SearchReady, WriteReady, ArrayRoom};
 
-// The lowest setting that is not settled, or 2^n; the gates are evaluated along `order`.
+// The lowest setting that may come and is not settled, or 2^n; the gates are evaluated along `order`.
 fn lowest_along(words: &[u16], order: &[u16], inputs: &mut [u8], values: &mut [u8]) -> usize
     requires { ⌜ LowestReady (now words) (now order) (now inputs) (now values) ⌝ }
     ensures { λ r. ⌜ r ≡ lowestUnsettled (decode (now (words .entry))) ⌝ }
 {
     let n = inputs_of(words);
     let m = gates_of(words);
-    let gates = gates_at(n);
+    let gates = gates_at(words);
     lowest_unsettled(
         words,
         n,
@@ -48,7 +49,7 @@ fn lowest_along(words: &[u16], order: &[u16], inputs: &mut [u8], values: &mut [u
     )
 }
 
-// 9: is some setting not settled? Tells the lowest.
+// 9: is some setting that may come not settled? Tells the lowest.
 fn find_unsettled(words: &[u16], order: &mut [u16], inputs: &mut [u8], values: &mut [u8]) -> Test
     requires { ⌜ SearchReady (now words) (now order) (now inputs) (now values) ⌝ }
     ensures { λ r. ⌜ r ≡ testOf (not (isSound (decode (now (words .entry))))) (NotSettled (lowestUnsettled (decode (now (words .entry))))) ⌝ }
@@ -75,7 +76,7 @@ fn finish(
     let n = inputs_of(words);
     let m = gates_of(words);
     let k = outputs_of(words);
-    let size = outputs_at(n, total) + OUTPUT_SIZE * k;
+    let size = outputs_behind(n, nevers_of(words), total) + OUTPUT_SIZE * k;
     let tested = test_room(rendered.len(), size);
     let Test::Passed = tested else {
         return refusal(tested);

@@ -2,5 +2,6 @@
 -- pieces, joined, are `bench` of the pieces joined.
 pub mod LongLines
 pub mod ReadBlocks
+pub mod ReadNevers
 pub mod Whole
 pub mod Pieces

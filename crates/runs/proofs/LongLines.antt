@@ -18,7 +18,8 @@ use Rattle.netlist.specs.Netlist.{Name, Block, inputCount}
 use Rattle.netlist.specs.StoredBlock.{isNodeName, isLegalName}
 use Rattle.netlist.specs.Syntax.{printLines, LegalOf, ViableOf, FirstBadOf}
 use Rattle.netlist.specs.Parse.{Parsed, got, stuck}
-use Rattle.netlist.specs.SetLine.{Pair, valueText, pairText, printPair, printSetLine, isLegalPair, isLegalSetLine, LegalLine, ViableLine, FirstBadInLine}
+use Rattle.netlist.specs.Syntax.{Pair, valueText, pairText, printPair, isLegalPair}
+use Rattle.netlist.specs.SetLine.{printSetLine, isLegalSetLine, LegalLine, ViableLine, FirstBadInLine}
 use Rattle.netlist.specs.SetLine.{setLineReader}
 use Rattle.netlist.specs.Answers.{Outcome, refused}
 use Rattle.netlist.specs.Bench.{lineOutcome, parsedOutcome, lineAnswer}

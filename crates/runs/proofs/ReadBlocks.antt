@@ -1,7 +1,7 @@
 -- What is known of a text that was read: it is a tree's, the tree passed every test, and the words are its block's. Assumes nothing.
 use Prim.Native.Nat.{ℕ, _≤_}
-use mathlib.Core.Path.{_≡_, refl, sym, ap, _∙_}
-use mathlib.Core.Bool.{Bool, true, false, not, _&&_}
+use mathlib.Core.Path.{_≡_, refl}
+use mathlib.Core.Bool.{Bool, true, false, _&&_}
 use mathlib.Core.Option.{Option, none, some}
 use mathlib.Core.List.{List, map}
 use native.Mathlib.Omega.{arith}
@@ -13,13 +13,13 @@ use Rattle.laws.proofs.Tests.{and-left}
 use Rattle.laws.proofs.Tab.{length-tab}
 use Rattle.netlist.specs.declared.Refusal.{Refusal}
 use Rattle.netlist.specs.declared.Refusal.the-variants.{TextTooLong, OverLimit, DuplicateDeclaration, UndeclaredName}
-use Rattle.netlist.specs.Limits.{maxText, maxInputs, maxGates, maxOutputs}
+use Rattle.netlist.specs.Limits.{maxText, maxInputs, maxNevers, maxGates, maxOutputs}
 use Rattle.netlist.specs.Netlist.{inputCount}
 use Rattle.netlist.specs.StoredBlock.{encode, decode}
 use Rattle.netlist.specs.Syntax.{Tree}
 use Rattle.netlist.specs.Parse.{Parsed, got, stuck, parse}
 use Rattle.netlist.specs.Reading.{lineGates, isOverLimit, firstDuplicate, firstUndeclared, blockOf}
-use Rattle.netlist.specs.Answers.{Outcome, done, refused, refuseIf, refuseAt}
+use Rattle.netlist.specs.Answers.{done, refused, refuseIf, refuseAt}
 use Rattle.netlist.specs.Operations.{counted, readTree, readParsed, readText}
 
 pub record Accepted (text ws : List ℕ) : Type 0 where
@@ -65,8 +65,9 @@ few-inputs : (t : Tree) → isOverLimit t ≡ false → length (t .inputs) ≤ m
 unfolding isOverLimit
 few-inputs t h =
     let i = leb (length (t .inputs)) maxInputs in
+    let l = leb (length (t .nevers)) maxNevers in
     let g = leb (sum (map lineGates (t .gates))) maxGates in
-    leb-true _ _ (and-left i g (and-left (i && g) (leb (length (t .outputs)) maxOutputs) (not-false _ h)))
+    leb-true _ _ (and-left i l (and-left (i && l) g (and-left (i && l && g) (leb (length (t .outputs)) maxOutputs) (not-false _ h))))
 
 -- A block that was read has few enough inputs.
 pub read-few-inputs : (text ws : List ℕ) (count detail : ℕ) → readText text ≡ done ws count detail → inputCount (decode ws) ≤ maxInputs

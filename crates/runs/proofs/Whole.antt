@@ -1,29 +1,28 @@
 -- What Read gives is not torn: the block of a legal tree that is within the limits, declares nothing twice and uses nothing undeclared is
 -- well-formed. Assumes nothing.
-use Prim.Native.Nat.{ℕ, zero, suc, _+_, _≤_, _<_}
+use Prim.Native.Nat.{ℕ, zero, suc, _+_, _≤_}
 use mathlib.Core.Path.{_≡_, refl, sym, ap, ap₂, _∙_}
-use mathlib.Core.Bool.{Bool, true, false, cond, not, _&&_, _||_, false≢true, true≢false}
-use mathlib.Core.Logic.{_⊎_, inl, inr}
+use mathlib.Core.Bool.{Bool, true, false, cond, _&&_, _||_, false≢true, true≢false}
 use mathlib.Core.Option.{Option, none, some}
 use mathlib.Core.List.{List, [], _∷_, _++_, map, map-append, map-id, map-map}
 use native.Mathlib.Omega.{arith}
 use lib.ListN.{length, length-append, length-map}
-use lib.Dec.{leb, ltb}
+use lib.Dec.{leb}
 use borrow.Author.Tests.{leb-true, not-false, lt-ltb}
-use Rattle.laws.specs.Lists.{all, any, same, memberList, distinct, sum}
-use Rattle.laws.proofs.Tests.{and-left, and-right, and-intro, or-cases}
+use Rattle.laws.specs.Lists.{all, same, memberList, distinct, sum}
+use Rattle.laws.proofs.Tests.{and-left, and-right, and-intro}
 use Rattle.laws.proofs.Quantifiers.{all-append}
 use Rattle.laws.proofs.Same.{same-eq, same-refl}
-use Rattle.netlist.specs.Limits.{maxInputs, maxGates, maxOutputs, maxDepth}
+use Rattle.netlist.specs.Limits.{maxInputs, maxNevers, maxGates, maxOutputs, maxDepth}
 use Rattle.netlist.specs.Kinds.{isKind, arityFits}
-use Rattle.netlist.specs.Netlist.{Name, Operand, input, gate, constant, Gate, Output, Block, inputCount, gateCount, outputCount}
-use Rattle.netlist.specs.StoredBlock.{isPlainName, isNodeName, isNode, isOperand, gateFits, isWellFormed, encode, decode, isTorn}
-use Rattle.netlist.specs.Syntax.{Term, Terms, name, literal, apply, nil, cons, GateLine, OutputLine, Tree, printInput, printGate, printOutput, termCount}
-use Rattle.netlist.specs.Syntax.{isLegalTerm, isLegalTerms, isLegalGate, isLegalOutput, isLegalTree}
-use Rattle.netlist.specs.Parse.{got, parse}
+use Rattle.netlist.specs.Netlist.{Name, Operand, input, gate, constant, Output, Block, inputCount, gateCount}
+use Rattle.netlist.specs.StoredBlock.{isPlainName, isNodeName, isNode, isOperand, gateFits, isTorn}
+use Rattle.netlist.specs.Syntax.{Term, Terms, name, literal, apply, nil, cons, GateLine, OutputLine, Pair, Tree, printInput, printPair, printNever, printGate}
+use Rattle.netlist.specs.Syntax.{printOutput, termCount, isLegalNever, isLegalTerm, isLegalTerms, isLegalGate, isLegalOutput, isLegalTree}
 use Rattle.netlist.specs.Reading.{gatesIn, gatesInside, lineGates, isOverLimit, Mention, mentions, inputMention, gateMention, portMention, shownMention}
 use Rattle.netlist.specs.Reading.{termMentions, termsMentions, operandMentions, gateLinesAt, outputLinesAt, declaredNodes, declaredPorts, usedNames}
 use Rattle.netlist.specs.Reading.{firstRepeat, orElse, firstDuplicate, firstOutside, firstUndeclared, Binding, inputBindings, gateBindings, bindings}
+use Rattle.netlist.specs.Reading.{neverLinesAt, pairMention, neverMentions, excludedNames, lesser, assignmentOf}
 use Rattle.netlist.specs.Reading.{lookup, termNode, termsNodes, termGates, termsGates, linesGates, blockOf}
 use Rattle.netlist.specs.Answers.{done}
 use Rattle.netlist.specs.Operations.{readText}
@@ -32,7 +31,8 @@ use Rattle.encoding.proofs.RoundTrip.{encode-whole}
 use Rattle.encoding.proofs.ListFacts.{all-map}
 use Rattle.grammar.proofs.Sound.{parse-sound}
 use Rattle.grammar.proofs.WritingRefusals.{nameOf, mention-names}
-use Rattle.runs.proofs.ReadBlocks.{Accepted, read-accepted}
+use Rattle.runs.proofs.ReadBlocks.{read-accepted}
+use Rattle.runs.proofs.ReadNevers.{nevers-fit}
 
 -- ---- nothing twice
 
@@ -81,20 +81,30 @@ unfolding orElse
 or-else-none none b e = (refl, e)
 or-else-none (some p) b e = none-not-some e
 
+lesser-none : (a b : Option ℕ) → lesser a b ≡ none → (a ≡ none) × (b ≡ none)
+unfolding lesser
+lesser-none none b e = (refl, e)
+lesser-none (some p) none e = none-not-some e
+lesser-none (some p) (some q) e = none-not-some e
+
 module _ (t : Tree) (unrepeated : firstDuplicate t ≡ none) where
+  declared-once : orElse (firstRepeat [] (declaredNodes t)) (firstRepeat [] (declaredPorts t)) ≡ none
+  unfolding firstDuplicate
+  declared-once = lesser-none _ _ unrepeated .1
+
   inputs-distinct : distinct (t .inputs) ≡ true
-  unfolding firstDuplicate declaredNodes inputMention
+  unfolding declaredNodes inputMention
   inputs-distinct =
-      let e = or-else-none _ _ unrepeated .0 in
+      let e = or-else-none _ _ declared-once .0 in
       let f = front-unrepeated (mentions printInput inputMention (t .inputs) 0) _ [] e in
       let named : map nameOf (mentions printInput inputMention (t .inputs) 0) ≡ map (λ x. x) (t .inputs) =
       mention-names printInput inputMention (λ x. x) (λ x at. refl) (t .inputs) 0 in
       rw (named, map-id) at (no-repeat-distinct _ [] f)
 
   ports-distinct : distinct (map (λ (o : OutputLine). o .port) (t .outputs)) ≡ true
-  unfolding firstDuplicate declaredPorts portMention
+  unfolding declaredPorts portMention
   ports-distinct =
-      let e = or-else-none _ _ unrepeated .1 in
+      let e = or-else-none _ _ declared-once .1 in
       let named : map nameOf (mentions printOutput portMention (t .outputs) (outputLinesAt t)) ≡ map (λ (o : OutputLine). o .port) (t .outputs) =
       mention-names printOutput portMention (λ o. o .port) (λ o at. refl) (t .outputs) (outputLinesAt t) in
       rw named at (no-repeat-distinct _ [] e)
@@ -157,6 +167,23 @@ known-parts declared us vs h =
     let p : Mention → Bool = λ u. memberList (u .name) declared in
     let e : all p us && all p vs ≡ true = sym (all-append p us vs) ∙ h in
     (and-left (all p us) (all p vs) e, and-right (all p us) (all p vs) e)
+
+-- the names in never lines, pair by pair
+module _ (inputs : List Name) where
+  pair-names : (ps : List Pair) (at : ℕ) → Known inputs (mentions printPair pairMention ps at) → all (λ (p : Pair). memberList (p .name) inputs) ps ≡ true
+  unfolding Known mentions pairMention
+  pair-names [] at k = refl
+  pair-names (p ∷ ps) at k =
+      let h = known-parts inputs (pairMention p at) (mentions printPair pairMention ps (at + length (printPair p []))) k in
+      and-intro _ _ (and-left (memberList (p .name) inputs) true (h .0)) (pair-names ps (at + length (printPair p [])) (h .1))
+
+  never-names : (ns : List (List Pair)) (at : ℕ) → Known inputs (mentions printNever neverMentions ns at)
+      → all (all (λ (p : Pair). memberList (p .name) inputs)) ns ≡ true
+  unfolding mentions neverMentions
+  never-names [] at k = refl
+  never-names (ps ∷ ns) at k =
+      let h = known-parts inputs (neverMentions ps at) (mentions printNever neverMentions ns (at + length (printNever ps []))) k in
+      and-intro _ _ (pair-names ps _ (h .0)) (never-names ns (at + length (printNever ps [])) (h .1))
 
 module _ (b : Block) (names : List Binding) (there : BoundThere b names) where
   abbrev Declares : List Mention → Type 0
@@ -279,6 +306,7 @@ bound-names t =
 
 record Within (t : Tree) : Type 0 where
   inputs : length (t .inputs) ≤ maxInputs
+  nevers : length (t .nevers) ≤ maxNevers
   gates : sum (map lineGates (t .gates)) ≤ maxGates
   outputs : length (t .outputs) ≤ maxOutputs
 
@@ -288,26 +316,40 @@ within-limits t h =
     let i = leb (length (t .inputs)) maxInputs in
     let g = leb (sum (map lineGates (t .gates))) maxGates in
     let o = leb (length (t .outputs)) maxOutputs in
-    let e = not-false (i && g && o) h in
+    let l = leb (length (t .nevers)) maxNevers in
+    let e = not-false (i && l && g && o) h in
+    let d = and-left (i && l && g) o e in
+    let c = and-left (i && l) g d in
     record {
-      inputs = leb-true _ _ (and-left i g (and-left (i && g) o e));
-      gates = leb-true _ _ (and-right i g (and-left (i && g) o e));
-      outputs = leb-true _ _ (and-right (i && g) o e);
+      inputs = leb-true _ _ (and-left i l c);
+      nevers = leb-true _ _ (and-right i l c);
+      gates = leb-true _ _ (and-right (i && l) g d);
+      outputs = leb-true _ _ (and-right (i && l && g) o e);
     }
 
 module _ (t : Tree) (legal : isLegalTree t ≡ true) (within : isOverLimit t ≡ false) (unrepeated : firstDuplicate t ≡ none)
     (declared : firstUndeclared t ≡ none) where
-  legal-inputs : all isPlainName (t .inputs) ≡ true
+  -- the lines before the outputs, and before the gates
+  legal-front : all isPlainName (t .inputs) && all isLegalNever (t .nevers) && all isLegalGate (t .gates) ≡ true
   unfolding isLegalTree
-  legal-inputs = and-left _ (all isLegalGate (t .gates)) (and-left _ (all isLegalOutput (t .outputs)) legal)
+  legal-front = and-left _ (all isLegalOutput (t .outputs)) legal
+
+  legal-first : all isPlainName (t .inputs) && all isLegalNever (t .nevers) ≡ true
+  legal-first = and-left _ (all isLegalGate (t .gates)) legal-front
+
+  legal-inputs : all isPlainName (t .inputs) ≡ true
+  legal-inputs = and-left _ (all isLegalNever (t .nevers)) legal-first
+
+  legal-nevers : all isLegalNever (t .nevers) ≡ true
+  legal-nevers = and-right (all isPlainName (t .inputs)) _ legal-first
 
   legal-gates : all isLegalGate (t .gates) ≡ true
-  unfolding isLegalTree
-  legal-gates = and-right (all isPlainName (t .inputs)) _ (and-left _ (all isLegalOutput (t .outputs)) legal)
+  legal-gates = and-right (all isPlainName (t .inputs) && all isLegalNever (t .nevers)) _ legal-front
 
   legal-ports : all (λ (o : OutputLine). isPlainName (o .port)) (t .outputs) ≡ true
   unfolding isLegalTree isLegalOutput
-  legal-ports = go (t .outputs) (and-right (all isPlainName (t .inputs) && all isLegalGate (t .gates)) (all isLegalOutput (t .outputs)) legal)
+  legal-ports = go (t .outputs) (and-right (all isPlainName (t .inputs) && all isLegalNever (t .nevers) && all isLegalGate (t .gates))
+      (all isLegalOutput (t .outputs)) legal)
     where
       go : (os : List OutputLine) → all isLegalOutput os ≡ true → all (λ (o : OutputLine). isPlainName (o .port)) os ≡ true
       go [] h = refl
@@ -328,7 +370,11 @@ module _ (t : Tree) (legal : isLegalTree t ≡ true) (within : isOverLimit t ≡
 
   uses-known : Known (map (λ (x : Binding). x .name) (bindings t)) (usedNames t)
   unfolding firstUndeclared
-  uses-known = rw (bound-names t) (all-known (map nameOf (declaredNodes t)) (usedNames t) declared)
+  uses-known = rw (bound-names t) (all-known (map nameOf (declaredNodes t)) (usedNames t) (or-else-none _ _ declared .1))
+
+  nevers-known : all (all (λ (p : Pair). memberList (p .name) (t .inputs))) (t .nevers) ≡ true
+  unfolding firstUndeclared excludedNames
+  nevers-known = never-names (t .inputs) (t .nevers) (neverLinesAt t) (all-known (t .inputs) (excludedNames t) (or-else-none _ _ declared .0))
 
   pub block-wellFormed : WellFormed (blockOf t)
   unfolding blockOf usedNames Known
@@ -346,8 +392,10 @@ module _ (t : Tree) (legal : isLegalTree t ≡ true) (within : isOverLimit t ≡
               length-map {B = Output} (t .outputs)
                   (λ (o : OutputLine). record { port = o .port; node = lookup (bindings t) (o .shown) }),
             );
+        fewNevers = omega (arith, w .nevers, length-map (t .nevers) (assignmentOf (t .inputs)));
         inputNames = legal-inputs;
         inputsDistinct = inputs-distinct t unrepeated;
+        neversFit = nevers-fit (blockOf t) (t .nevers) legal-nevers nevers-known;
         gatesFit = line-fits (blockOf t) (bindings t) bound-there (t .gates) _ 0 legal-gates (k .0) (omega (arith, count-is));
         portNames = all-map _ _ (t .outputs) ∙ legal-ports;
         portsDistinct = ap distinct (map-map _ _ (t .outputs)) ∙ ports-distinct t unrepeated;

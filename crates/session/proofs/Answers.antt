@@ -17,7 +17,8 @@ use Rattle.netlist.specs.Netlist.{Output, Block, inputCount, outputCount}
 use Rattle.netlist.specs.StoredBlock.{isPlainName, isTorn, decode}
 use Rattle.netlist.specs.Rounds.{settled, outputValue}
 use Rattle.netlist.specs.Parse.{Parsed, got, stuck}
-use Rattle.netlist.specs.SetLine.{Pair, valueText, pairText, setLineReader}
+use Rattle.netlist.specs.Syntax.{Pair, valueText, pairText}
+use Rattle.netlist.specs.SetLine.{setLineReader}
 use Rattle.netlist.specs.Answers.{Outcome, done, refused, refuseIf, refuseAt, inRoom, answerOf, leftIn, Promise}
 use Rattle.netlist.specs.Operations.{counted}
 use Rattle.netlist.specs.Program.{refusalLine, shown}

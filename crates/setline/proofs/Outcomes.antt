@@ -14,7 +14,8 @@ use Rattle.netlist.specs.Parse.{Parsed, got, stuck}
 use Rattle.netlist.specs.Reading.{firstRepeat, firstOutside}
 use Rattle.netlist.specs.Answers.{Outcome, done, refused, refuseIf, refuseAt, inRoom}
 use Rattle.netlist.specs.Operations.{counted}
-use Rattle.netlist.specs.SetLine.{Pair, setLineReader}
+use Rattle.netlist.specs.Syntax.{Pair}
+use Rattle.netlist.specs.SetLine.{setLineReader}
 use Rattle.netlist.specs.Bench.{givenNames, givenValues, showLine, pairsOutcome, parsedOutcome, lineOutcome, answerLine}
 use Rattle.encoding.proofs.Decoded.{decode-inputCount}
 use Rattle.grammar.proofs.SetLines.{setLine-sound}

@@ -12,9 +12,9 @@ use Rattle.encoding.proofs.ListFacts.{length-trimmed}
 use Rattle.encoding.proofs.Decoded.{decode-gateCount}
 use Rattle.encoding.proofs.Readers.{whole-parts}
 use Rattle.netlist.specs.Values.{Value, undefined, val, code, valueOf}
-use Rattle.netlist.specs.StoredBlock.{nameSize, outputSize, outputsAt, bytesAt, nameAt, outputAt, decode, isTorn}
+use Rattle.netlist.specs.StoredBlock.{nameSize, outputSize, neversAt, gatesAt, outputsAt, bytesAt, nameAt, outputAt, decode, isTorn}
 use Rattle.netlist.specs.Rounds.{settled, outputValue}
-use Rattle.netlist.specs.SetLine.{valueText, pairText}
+use Rattle.netlist.specs.Syntax.{valueText, pairText}
 use Rattle.netlist.specs.Bench.{portText, showLine}
 use Rattle.ternary.specs.Legal.{wordValue}
 use Rattle.rounds.proofs.Rounds.{length-settled}
@@ -77,7 +77,7 @@ ports-length ws from setting gates (suc k) =
 pub show-short : (ws setting gates : List ℕ) → isTorn ws ≡ false → Short (showText ws setting gates) 0
 unfolding showText
 show-short ws setting gates whole =
-    let from = outputsAt (getD ws 0 0) (getD ws 1 0) in
+    let from = outputsAt (getD ws 0 0) (getD ws 3 0) (getD ws 1 0) in
     let p = pieces (portPiece ws from setting gates) (getD ws 2 0) in
     let a = ports-length ws from setting gates (getD ws 2 0) in
     let b = length-append p (ascii ")\n") in
@@ -85,10 +85,18 @@ show-short ws setting gates whole =
     record { small = omega arith }
 
 -- the line from the header's words
-pub show-of : (ws setting gates : List ℕ) {n m k from : ℕ} → n ≡ getD ws 0 0 → m ≡ getD ws 1 0 → k ≡ getD ws 2 0 → from ≡ outputsAt n m
+pub show-of : (ws setting gates : List ℕ) {k from : ℕ} → k ≡ getD ws 2 0 → from ≡ outputsAt (getD ws 0 0) (getD ws 3 0) (getD ws 1 0)
     → showText ws setting gates ≡ ascii "(show" ++ (pieces (portPiece ws from setting gates) k ++ ascii ")\n")
 unfolding showText
-show-of ws setting gates en em ek ef = rw (ef, en, em, ek) refl
+show-of ws setting gates ek ef = rw (ef, ek) refl
+
+-- where the outputs' words stand
+pub ports-near : (ws : List ℕ) → isTorn ws ≡ false → {k from : ℕ} → from ≡ outputsAt (getD ws 0 0) (getD ws 3 0) (getD ws 1 0) → k ≡ getD ws 2 0
+    → (from ≤ 600000) × (k ≤ 65535)
+unfolding neversAt gatesAt outputsAt
+ports-near ws whole e f =
+    let w = whole-parts ws whole in
+    (omega (arith, w .fewInputs, w .fewNevers, w .fewGates), omega (arith, w .fewOutputs))
 
 pub gates-few : (ws : List ℕ) → isTorn ws ≡ false → getD ws 1 0 ≤ 1024
 gates-few ws whole = whole-parts ws whole .fewGates
@@ -104,12 +112,12 @@ settled-front ws setting entry {gates} {m} n e =
 
 -- port by port
 show-ports : (ws setting gates : List ℕ)
-    → tab (portPiece ws (outputsAt (getD ws 0 0) (getD ws 1 0)) setting gates) (getD ws 2 0)
+    → tab (portPiece ws (outputsAt (getD ws 0 0) (getD ws 3 0) (getD ws 1 0)) setting gates) (getD ws 2 0)
     ≡ map (portText (map valueOf setting) (map valueOf gates)) (decode ws .outputs)
 unfolding decode portPiece portText outputAt outputValue
 show-ports ws setting gates =
     sym (map-tab (portText (map valueOf setting) (map valueOf gates))
-    (λ o. outputAt (getD ws 0 0) ws (outputsAt (getD ws 0 0) (getD ws 1 0) + outputSize * o)) (getD ws 2 0))
+    (λ o. outputAt (getD ws 0 0) ws (outputsAt (getD ws 0 0) (getD ws 3 0) (getD ws 1 0) + outputSize * o)) (getD ws 2 0))
 
 -- with the settled values the line is the definition's
 pub show-is : (ws setting gates : List ℕ) → gates ≡ map code (settled (decode ws) (map valueOf setting))
@@ -122,6 +130,6 @@ show-is ws setting gates e =
     ap (λ (r : List ℕ). ascii "(show" ++ (r ++ ascii ")\n")) (ap joined (ports v))
   where
     ports : map valueOf gates ≡ settled (decode ws) (map valueOf setting)
-        → tab (portPiece ws (outputsAt (getD ws 0 0) (getD ws 1 0)) setting gates) (getD ws 2 0)
+        → tab (portPiece ws (outputsAt (getD ws 0 0) (getD ws 3 0) (getD ws 1 0)) setting gates) (getD ws 2 0)
         ≡ map (portText (map valueOf setting) (settled (decode ws) (map valueOf setting))) (decode ws .outputs)
     ports v = rw (← v) (show-ports ws setting gates)

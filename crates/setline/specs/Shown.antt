@@ -5,7 +5,7 @@ use mathlib.Core.List.{List, [], _++_}
 use lib.ListN.{getD}
 use Rattle.laws.specs.Lists.{ascii}
 use Rattle.netlist.specs.StoredBlock.{nameSize, outputSize, outputsAt, nameAt}
-use Rattle.netlist.specs.SetLine.{pairText}
+use Rattle.netlist.specs.Syntax.{pairText}
 use Rattle.ternary.specs.Legal.{wordValue}
 use Rattle.writing.specs.Pieces.{pieces}
 
@@ -18,4 +18,4 @@ portPiece ws from setting gates o =
 unfoldable pub showText : List ℕ → List ℕ → List ℕ → List ℕ
 showText ws setting gates =
     ascii "(show"
-    ++ (pieces (portPiece ws (outputsAt (getD ws 0 0) (getD ws 1 0)) setting gates) (getD ws 2 0) ++ ascii ")\n")
+    ++ (pieces (portPiece ws (outputsAt (getD ws 0 0) (getD ws 3 0) (getD ws 1 0)) setting gates) (getD ws 2 0) ++ ascii ")\n")

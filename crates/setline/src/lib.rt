@@ -2,27 +2,29 @@
 use block::check_words;
 use form::pairs::test_set_line;
 use inputs::fill_inputs;
-use inputs::fill_setting;
-use inputs::test_outside;
-use inputs::test_repeat;
 use layout::limits::MAX_INPUTS;
 use layout::offsets::inputs_of;
 use netlist::Answer;
 use netlist::Test;
-use pairs::fill_pairs;
+use pairs::given::fill_setting;
+use pairs::given::test_outside;
+use pairs::given::test_repeat;
+use pairs::tables::fill_pairs;
 use refusals::refusal;
 use show::show;
 ghost use mathlib.Core.List.{List};
 ghost use lib.ListN.{length};
 ghost use Rattle.netlist.specs.StoredBlock.{decode};
 ghost use Rattle.netlist.specs.Answers.{inRoom, Promise};
-ghost use Rattle.netlist.specs.SetLine.{Pair};
+ghost use Rattle.netlist.specs.Syntax.{Pair};
 ghost use Rattle.netlist.specs.Bench.{pairsOutcome, answerLine};
 ghost use Rattle.setline.specs.Tables.{LineFor, InForm, TableRoom, TablesFor, TablesReady};
 
 mod inputs;
-mod pairs;
 mod show;
+
+// The bytes of `(set`, behind which the pairs stand.
+const PAIRS_AT: usize = 4;
 
 // 4 and 5, and then the show line under what the line gives the inputs.
 fn answer_tables(
@@ -66,7 +68,7 @@ fn answer_with(
     requires { ⌜ TableRoom (now names) (now places) (now codes) (now inputs) (now setting) ⌝ }
     ensures { λ r. ⌜ ((ps : List Pair) → LineFor (now (words .entry)) ps (now (line .entry)) → Promise (inRoom (length (now (out .entry))) (pairsOutcome (decode (now (words .entry))) ps)) (now (out .entry)) r (now (out .exit))) ⌝ }
 {
-    let count = fill_pairs(line, names, places, codes);
+    let count = fill_pairs(line, PAIRS_AT, names, places, codes);
     fill_inputs(words, inputs_of(words), inputs);
     answer_tables(words, names, places, codes, count, inputs, setting, out)
 }

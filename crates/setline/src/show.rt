@@ -20,12 +20,12 @@ ghost use mathlib.Core.Path.{_≡_};
 ghost use mathlib.Core.Bool.{false};
 ghost use mathlib.Core.List.{[], _∷_, map};
 ghost use Prim.Native.Nat.{_≤_};
-ghost use lib.ListN.{length, getD};
+ghost use lib.ListN.{length};
 ghost use Rattle.netlist.specs.Values.{valueOf};
 ghost use Rattle.netlist.specs.StoredBlock.{isTorn, decode};
 ghost use Rattle.netlist.specs.Answers.{inRoom, Promise};
 ghost use Rattle.netlist.specs.Operations.{counted};
-ghost use Rattle.netlist.specs.SetLine.{valueText};
+ghost use Rattle.netlist.specs.Syntax.{valueText};
 ghost use Rattle.netlist.specs.Bench.{showLine};
 ghost use Rattle.writing.specs.Pieces.{Appended, Short, pieces};
 ghost use Rattle.setline.specs.Shown.{portPiece, showText};
@@ -89,10 +89,10 @@ fn put_ports(
 
 // `(show`, the ports and LF.
 fn put_show(text: &mut [u8], words: &[u16], setting: &[u8], gates: &[u8]) -> usize
-    requires { ⌜ Short (showText (now words) (now setting) (now gates)) 0 ⌝ }
+    requires { ⌜ isTorn (now words) ≡ false ⌝ }
     ensures { λ r. ⌜ Appended (showText (now (words .entry)) (now (setting .entry)) (now (gates .entry))) (now (text .entry)) 0 (now (text .exit)) r ⌝ }
 {
-    let from = outputs_at(inputs_of(words), gates_of(words));
+    let from = outputs_at(words);
     let k = outputs_of(words);
     let opened = put_all(text, 0, b"(show");
     let filled = put_ports(text, opened, words, from, k, setting, gates);

@@ -14,7 +14,8 @@ use Rattle.netlist.specs.declared.Record.{Record}
 use Rattle.netlist.specs.Values.{Value, code, valueOf}
 use Rattle.netlist.specs.Netlist.{Block, inputCount, gateCount}
 use Rattle.netlist.specs.StoredBlock.{decode, isTorn}
-use Rattle.netlist.specs.Rounds.{bit, rounds, settled}
+use Rattle.netlist.specs.Assignments.{bit}
+use Rattle.netlist.specs.Rounds.{rounds, settled}
 use Rattle.netlist.specs.Answers.{Outcome, done, refused, refuseIf, refusalNumber}
 use Rattle.netlist.specs.Operations.{isBadSetting, settle}
 use Rattle.netlist.specs.Sheet.{inputByte, settingBytes, isBadMasks, outputValues, showing, settledOutputs, refusedRecord, recordOf, answeredRecord}

@@ -1,6 +1,6 @@
 -- One record's answer from the parts that the functions find, and the call's own answer. Assumes nothing.
 use mathlib.Core.Path.{_≡_, refl, sym, ap, _∙_}
-use mathlib.Core.Bool.{Bool, true, false}
+use mathlib.Core.Bool.{Bool, true, false, not}
 use mathlib.Core.List.{List, [], map}
 use Prim.Native.Nat.{ℕ, _≤_}
 use native.Mathlib.Omega.{arith}
@@ -12,6 +12,7 @@ use Rattle.netlist.specs.declared.Record.{Record}
 use Rattle.netlist.specs.Values.{Value, code, valueOf}
 use Rattle.netlist.specs.Netlist.{inputCount}
 use Rattle.netlist.specs.StoredBlock.{decode, isTorn}
+use Rattle.netlist.specs.Assignments.{areMasks}
 use Rattle.netlist.specs.Rounds.{settled}
 use Rattle.netlist.specs.Answers.{done, refuseIf, answerOf}
 use Rattle.netlist.specs.Sheet.{settingBytes, isBadMasks, outputValues, showing, settledOutputs, refusedRecord, recordOf, sheet}
@@ -42,9 +43,10 @@ module _ (ws : List ℕ) (count : ℕ) where
 -- ---- one record
 
 -- what a test of the masks came to, of the number of inputs that was read
-pub bad-as : (ws : List ℕ) (fixed ones : ℕ) {n : ℕ} {r t : Bool} → n ≡ getD ws 0 0 → r ≡ isBadMasks n fixed ones → r ≡ t
+pub bad-as : (ws : List ℕ) (fixed ones : ℕ) {n : ℕ} {r t : Bool} → n ≡ getD ws 0 0 → r ≡ areMasks n fixed ones → not r ≡ t
     → isBadMasks (getD ws 0 0) fixed ones ≡ t
-bad-as ws fixed ones e p q = ap (λ (k : ℕ). isBadMasks k fixed ones) (sym e) ∙ sym p ∙ q
+unfolding isBadMasks
+bad-as ws fixed ones e p q = ap (λ (k : ℕ). not (areMasks k fixed ones)) (sym e) ∙ ap not (sym p) ∙ q
 
 module _ (ws : List ℕ) (fixed ones : ℕ) where
   pub record-refused : isBadMasks (getD ws 0 0) fixed ones ≡ true → refusedRecord fixed ones ≡ recordOf (decode ws) fixed ones

@@ -11,11 +11,10 @@ use Rattle.netlist.specs.StoredBlock.{decode, isTorn}
 use Rattle.netlist.specs.Rounds.{outputValue}
 use Rattle.netlist.specs.Sheet.{settingBytes, settledOutputs, showing}
 
--- output o of a block that is not torn, of n inputs and m gates
-pub record OfBlock (ws : List ℕ) (n m o : ℕ) : Type 0 where
+-- output o of a block that is not torn, of n inputs
+pub record OfBlock (ws : List ℕ) (n o : ℕ) : Type 0 where
   pub whole : isTorn ws ≡ false
   pub inputs : n ≡ getD ws 0 0
-  pub gates : m ≡ getD ws 1 0
   pub below : o < getD ws 2 0
 
 -- past the end of the outputs

@@ -1,41 +1,10 @@
-// A record's two masks of inputs: whether they are legal, and the setting's bytes that they stand for.
+// The setting's bytes that a record's two masks of inputs stand for.
 ghost use mathlib.Core.Path.{_≡_};
 ghost use Prim.Native.Nat.{_≤_, _<_};
 ghost use lib.ListN.{length};
 ghost use Rattle.laws.specs.Lists.{placed};
 ghost use Rattle.netlist.specs.Limits.{maxInputs};
-ghost use Rattle.netlist.specs.Cover.{isWithin};
-ghost use Rattle.netlist.specs.Sheet.{inputByte, settingBytes, isBadMasks};
-
-// Below input n: does `ones` have a bit only where `fixed` has one?
-fn is_within(n: usize, fixed: usize, ones: usize) -> bool
-    requires { ⌜ n ≤ maxInputs ⌝ }
-    ensures { λ r. ⌜ r ≡ isWithin n fixed ones ⌝ }
-{
-    let mut i = 0;
-    while i < n {
-        if (fixed >> i) % 2 < (ones >> i) % 2 {
-            return false;
-        }
-        i += 1;
-    }
-    true
-}
-
-// Refusal 7 of a record.
-pub fn are_bad(n: usize, fixed: usize, ones: usize) -> bool
-    requires { ⌜ n ≤ maxInputs ⌝ }
-    ensures { λ r. ⌜ r ≡ isBadMasks n fixed ones ⌝ }
-{
-    let limit = 1usize << n;
-    if limit <= fixed {
-        return true;
-    }
-    if limit <= ones {
-        return true;
-    }
-    !is_within(n, fixed, ones)
-}
+ghost use Rattle.netlist.specs.Sheet.{inputByte, settingBytes};
 
 // 0 or 1 for an input that is fixed, 2 for any other.
 fn input_byte(fixed: usize, ones: usize, i: usize) -> u8

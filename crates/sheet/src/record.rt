@@ -1,9 +1,9 @@
 // The answer of one record, from its two masks of inputs.
-use crate::masks::are_bad;
 use crate::masks::fill_setting;
 use crate::outputs::show_outputs;
 use layout::limits::MAX_GATES;
 use layout::limits::MAX_INPUTS;
+use layout::masks::are_masks;
 use layout::offsets::gates_of;
 use layout::offsets::inputs_of;
 use netlist::Record;
@@ -67,7 +67,7 @@ pub fn answer_masks(words: &[u16], fixed: u16, ones: u16) -> Record
     requires { ⌜ isTorn (now words) ≡ false ⌝ }
     ensures { λ r. ⌜ r ≡ recordOf (decode (now (words .entry))) fixed ones ⌝ }
 {
-    if are_bad(inputs_of(words), fixed as usize, ones as usize) {
+    if !are_masks(inputs_of(words), fixed as usize, ones as usize) {
         return refuse(fixed, ones);
     }
     let mut setting = [0u8; MAX_INPUTS];

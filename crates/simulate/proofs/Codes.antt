@@ -17,7 +17,7 @@ use Rattle.ternary.specs.Legal.{LegalHead}
 use Rattle.simulate.specs.Rounded.{gateCode, roundCodes}
 
 -- the gates of a block that is not torn have legal head words
-pub legal-head : (ws : List ℕ) (j : ℕ) → isTorn ws ≡ false → j < getD ws 1 0 → LegalHead ws (gatesAt (getD ws 0 0) + gateSize * j)
+pub legal-head : (ws : List ℕ) (j : ℕ) → isTorn ws ≡ false → j < getD ws 1 0 → LegalHead ws (gatesAt (getD ws 0 0) (getD ws 3 0) + gateSize * j)
 legal-head ws j h l = let head = whole-gate ws h j l in record { kind = head .known; count = head .arity }
 
 module _ (ws setting values : List ℕ) where

@@ -19,7 +19,7 @@ pub fn value_of_gate(words: &[u16], n: usize, j: usize, setting: &[u8], gates: &
     requires { ⌜ InBlock (now words) n j ⌝ }
     ensures { λ r. ⌜ r ≡ gateCode (now (words .entry)) (now (setting .entry)) (now (gates .entry)) j ⌝ }
 {
-    gate_value(words, n, gates_at(n) + GATE_SIZE * j, setting, gates)
+    gate_value(words, n, gates_at(words) + GATE_SIZE * j, setting, gates)
 }
 
 // A round (SPECIFICATION 3.3): every gate from the values of the round before, into the first bytes of `next`.

@@ -9,12 +9,13 @@ use lib.ListN.{length}
 use lib.Dec.{ltb}
 use Rattle.netlist.specs.declared.Refusal.{Refusal}
 use Rattle.netlist.specs.Limits.{maxText, maxBlock}
-use Rattle.netlist.specs.StoredBlock.{encode}
+use Rattle.netlist.specs.StoredBlock.{neversAt, gatesAt, outputsAt, encode}
 use Rattle.netlist.specs.Syntax.{Tree}
 use Rattle.netlist.specs.Parse.{Parsed, got, stuck, parse}
 use Rattle.netlist.specs.Reading.{isOverLimit, firstDuplicate, firstUndeclared, blockOf}
 use Rattle.netlist.specs.Answers.{Outcome, refused, refuseIf, refuseAt}
 use Rattle.netlist.specs.Operations.{counted, readTree, readParsed, readText}
+use Rattle.names.specs.Plain.{plain}
 use Rattle.names.specs.Results.{treeCounts}
 use Rattle.names.proofs.TreeCounts.{limits-within}
 use Rattle.reading.specs.Words.{wordCount}
@@ -48,10 +49,10 @@ module _ (room : ℕ) where
 
   module _ (h : maxBlock ≤ room) where
     read-length : (t : Tree) → isOverLimit t ≡ false → length (encode (blockOf t)) ≤ room
-    unfolding wordCount treeCounts
+    unfolding wordCount treeCounts plain outputsAt gatesAt neversAt
     read-length t o =
         let l = limits-within t o in
-        omega (arith, h, block-length t (treeCounts t) refl, l .inputs, l .gates, l .outputs)
+        omega (arith, h, block-length t (treeCounts (plain t)) (length (t .nevers)) refl refl, l .inputs, l .nevers, l .gates, l .outputs)
 
     parsed-fits : (text : List ℕ) (p : Parsed Tree) → Fits room (readParsed text p)
     unfolding readParsed readTree

@@ -12,8 +12,9 @@ use Rattle.laws.proofs.Slices.{sets-placed}
 use Rattle.netlist.specs.Limits.{maxGates, maxOutputs}
 use Rattle.netlist.specs.Netlist.{Output}
 use Rattle.netlist.specs.StoredBlock.{gateWords, outputWords}
-use Rattle.netlist.specs.Syntax.{GateLine, OutputLine, Tree, apply, printGate, printOutput}
-use Rattle.netlist.specs.Reading.{mentions, Binding, lineGates, bindings, gateLinesAt, outputLinesAt, operandMentions, shownMention, usedNames}
+use Rattle.netlist.specs.Syntax.{GateLine, OutputLine, Tree, apply, printNever, printGate, printOutput}
+use Rattle.netlist.specs.Reading.{Mention, mentions, declaredNodes, neverMentions, excludedNames, neverLinesAt, orElse, Binding, lineGates, bindings}
+use Rattle.netlist.specs.Reading.{gateLinesAt, outputLinesAt, operandMentions, shownMention, usedNames}
 use Rattle.netlist.specs.Reading.{firstOutside, firstUndeclared, lookup, termGates, linesGates, blockOf}
 use Rattle.grammar.proofs.Places.{printGate-split, printOutput-split, lines-measure, print-measure}
 use Rattle.names.specs.declared.Counts.{Counts}
@@ -86,8 +87,15 @@ module _ (t : Tree) (text : List ℕ) (c : Counts) (names words : List ℕ) (w :
       e .words ∙ sets-placed (linesWords outputForm (c .inputs) (bindings t) (t .outputs) 0) outputs (omega arith)
       ∙ ap (λ (xs : List ℕ). placed xs outputs) (output-words (c .inputs) (bindings t) (t .outputs) 0 ∙ ap (λ k. joined (map (outputWords k) os)) n)
 
-  found : last .unknown ≡ leftOf (length text) (firstUndeclared t)
-  unfolding firstUndeclared usedNames unknownAfter earlier declaredNames gateForm outputForm outputLinesAt
+  -- without never lines only uses can be undeclared
+  bare-undeclared : firstUndeclared t ≡ firstOutside (map (λ (d : Mention). d .name) (declaredNodes t)) (usedNames t)
+  unfolding firstUndeclared excludedNames mentions firstOutside orElse
+  bare-undeclared =
+      ap (λ ns. orElse (firstOutside (t .inputs) (mentions printNever neverMentions ns (neverLinesAt t)))
+      (firstOutside (map (λ (d : Mention). d .name) (declaredNodes t)) (usedNames t))) (w .prints .bare)
+
+  found : last .unknown ≡ leftOf (length text) (firstOutside (map (λ (d : Mention). d .name) (declaredNodes t)) (usedNames t))
+  unfolding usedNames unknownAfter earlier declaredNames gateForm outputForm outputLinesAt
   found =
       let a = lines-measure printOutput printOutput-split (t .outputs) [] in
       let b = lines-measure printGate printGate-split (t .gates) (outputsText t text c names words w) in
@@ -107,10 +115,9 @@ module _ (t : Tree) (text : List ℕ) (c : Counts) (names words : List ℕ) (w :
 
   -- every used name is declared
   pub known-done : last .unknown ≡ 0 → 5 * maxGates ≤ length gates → 5 * maxOutputs ≤ length outputs → TreeDone t gates gates′ outputs outputs′ Passed
-  unfolding firstUndeclared
   known-done z r s =
       record {
-        answer = place-back (length text) _ (usedNames t) (last .unknown) placed-inside found .0 z;
+        answer = rw bare-undeclared (place-back (length text) _ (usedNames t) (last .unknown) placed-inside found .0 z);
         gatesWritten = gates-written r;
         outputsWritten = outputs-written s;
       }
@@ -118,17 +125,16 @@ module _ (t : Tree) (text : List ℕ) (c : Counts) (names words : List ℕ) (w :
   -- one is not
   pub undeclared-done : (last .unknown ≡ 0 → ⊥) → 5 * maxGates ≤ length gates → 5 * maxOutputs ≤ length outputs
       → TreeDone t gates gates′ outputs outputs′ (Failed (UndeclaredName (length text + 1 - last .unknown)))
-  unfolding firstUndeclared
   undeclared-done z r s =
       record {
-        answer = place-back (length text) _ (usedNames t) (last .unknown) placed-inside found .1 z;
+        answer = rw bare-undeclared (place-back (length text) _ (usedNames t) (last .unknown) placed-inside found .1 z);
         gatesWritten = gates-written r;
         outputsWritten = outputs-written s;
       }
 
   pub unknown-short : last .unknown ≤ length text + 1
   unfolding leftOf
-  unknown-short = rw found (left-short (firstUndeclared t))
+  unknown-short = rw found (left-short (firstOutside (map (λ (d : Mention). d .name) (declaredNodes t)) (usedNames t)))
     where
       left-short : (o : Option ℕ) → leftOf (length text) o ≤ length text + 1
       left-short none = omega arith

@@ -1,4 +1,4 @@
--- Every name that a tree uses stands inside its print, so a place is known from the bytes left. Assumes nothing.
+-- Every name that a tree declares or uses stands inside its print; so a used name's place is known from the bytes left. Assumes nothing.
 use mathlib.Core.Path.{_≡_, refl, ap, _∙_}
 use mathlib.Core.Bool.{Bool, true, false, cond}
 use mathlib.Core.List.{List, [], _∷_, _++_}
@@ -13,9 +13,10 @@ use Rattle.laws.proofs.Tests.{and-left, and-right, and-intro}
 use Rattle.laws.proofs.Quantifiers.{all-append}
 use Rattle.netlist.specs.Kinds.{keyword}
 use Rattle.netlist.specs.Netlist.{Name}
-use Rattle.netlist.specs.Syntax.{Term, Terms, name, literal, apply, nil, cons, GateLine, OutputLine, Tree, printTerm, printTerms, printGate, printOutput, print}
+use Rattle.netlist.specs.Syntax.{Term, Terms, name, literal, apply, nil, cons, GateLine, OutputLine, Tree, printTerm, printTerms, printInput, printGate}
+use Rattle.netlist.specs.Syntax.{printOutput, print}
 use Rattle.netlist.specs.Reading.{Mention, mentions, linesLength, gateLinesAt, outputLinesAt, termMentions, termsMentions, operandMentions, shownMention}
-use Rattle.netlist.specs.Reading.{usedNames, firstOutside}
+use Rattle.netlist.specs.Reading.{neverLinesAt, inputMention, gateMention, portMention, declaredNodes, declaredPorts, usedNames, firstOutside}
 use Rattle.grammar.proofs.Shorter.{printTerms-append}
 use Rattle.grammar.proofs.Places.{term-measure, print-measure}
 use Rattle.netlist.specs.declared.Refusal.the-variants.{UndeclaredName}
@@ -58,6 +59,18 @@ module _ (bound : ℕ) where
       term-inside o (at + 6 + length (g .name) + 1)
       (omega (arith, term-measure o (ascii ")\n"), length-append (ascii "(gate ") (g .name ++ (32 ∷ inner)), length-append (g .name) (32 ∷ inner)))
 
+  named-inside : (g : GateLine) (at : ℕ) → at + length (printGate g []) ≤ bound → all inside (gateMention g at) ≡ true
+  unfolding gateMention printGate
+  named-inside g at h = one (record { name = g .name; place = at + 6 }) (omega arith)
+
+  input-inside : (s : Name) (at : ℕ) → at + length (printInput s []) ≤ bound → all inside (inputMention s at) ≡ true
+  unfolding inputMention printInput
+  input-inside s at h = one (record { name = s; place = at + 4 }) (omega arith)
+
+  port-inside : (o : OutputLine) (at : ℕ) → at + length (printOutput o []) ≤ bound → all inside (portMention o at) ≡ true
+  unfolding portMention printOutput
+  port-inside o at h = one (record { name = o .port; place = at + 5 }) (omega arith)
+
   output-inside : (o : OutputLine) (at : ℕ) → at + length (printOutput o []) ≤ bound → all inside (shownMention o at) ≡ true
   unfolding shownMention printOutput
   output-inside o at h =
@@ -91,6 +104,21 @@ module _ (bound : ℕ) where
       go false e r =
           let l = leb-true (m .place) bound (and-left (inside m) (all inside ms) h) in
           (λ z. absurd (omega arith), λ z. let k : bound + 1 - u ≡ m .place = omega arith in rw k)
+
+-- the names that a tree declares
+pub nodes-inside : (t : Tree) → all (inside (length (print t))) (declaredNodes t) ≡ true
+unfolding declaredNodes outputLinesAt gateLinesAt neverLinesAt
+nodes-inside t =
+    let m = print-measure t in
+    both (length (print t)) (mentions printInput inputMention (t .inputs) 0) (mentions printGate gateMention (t .gates) (gateLinesAt t))
+    (lines-inside (length (print t)) printInput inputMention (input-inside (length (print t))) (t .inputs) 0 (omega arith))
+    (lines-inside (length (print t)) printGate gateMention (named-inside (length (print t))) (t .gates) (gateLinesAt t) (omega arith))
+
+pub ports-inside : (t : Tree) → all (inside (length (print t))) (declaredPorts t) ≡ true
+unfolding declaredPorts
+ports-inside t =
+    let m = print-measure t in
+    lines-inside (length (print t)) printOutput portMention (port-inside (length (print t))) (t .outputs) (outputLinesAt t) (omega arith)
 
 -- the names that a tree uses
 pub used-inside : (t : Tree) → all (inside (length (print t))) (usedNames t) ≡ true

@@ -15,7 +15,8 @@ use Rattle.grammar.proofs.WritingTree.{plain-node}
 use Rattle.netlist.specs.Limits.{maxInputs, maxGates, maxOutputs, maxDepth}
 use Rattle.netlist.specs.Netlist.{Name}
 use Rattle.netlist.specs.StoredBlock.{isPlainName, isNodeName, nodeWord}
-use Rattle.netlist.specs.Syntax.{GateLine, Tree, apply, printInput, printGate, printOutput, printLines, print, isLegalTerm, isLegalGate, isLegalTree}
+use Rattle.netlist.specs.Syntax.{GateLine, Tree, apply, printInput, printNever, printGate, printOutput, printLines, print, isLegalTerm, isLegalGate}
+use Rattle.netlist.specs.Syntax.{isLegalTree}
 use Rattle.netlist.specs.Reading.{Mention, Binding, lineGates, inputBindings, gateBindings, bindings, declaredNodes, declaredPorts, gateLinesAt, outputLinesAt}
 use Rattle.grammar.proofs.Shorter.{Ending, ending}
 use Rattle.grammar.proofs.Places.{printInput-split, printGate-split, lines-split}
@@ -63,7 +64,7 @@ nodes-named t h =
 module _ (t : Tree) (text : List ℕ) (c : Counts) (names words : List ℕ) (w : TreeAt t text c names words) where
   node-count : c .inputs + c .named ≡ length (declaredNodes t)
   unfolding treeCounts
-  node-count = rw (w .counted) (sym (nodes-length t (w .prints .legal)))
+  node-count = rw (w .counted) (sym (nodes-length t))
 
   pub input-count : c .inputs ≡ length (t .inputs)
   unfolding treeCounts
@@ -129,9 +130,13 @@ module _ (t : Tree) (text : List ℕ) (c : Counts) (names words : List ℕ) (w :
   abbrev pub gatesText : List ℕ
   gatesText = printLines printGate (t .gates) outputsText
 
+  printed-bare : printLines printInput (t .inputs) gatesText ≡ text
+  unfolding print printLines
+  printed-bare = ap (λ ns. printLines printInput (t .inputs) (printLines printNever ns gatesText)) (sym (w .prints .bare)) ∙ w .prints .printed
+
   inputs-at : LinesAt inputForm (t .inputs) gatesText text
-  unfolding inputForm print
-  inputs-at = record { legal = legal-parts t (w .prints .legal) .inputs; printed = w .prints .printed }
+  unfolding inputForm
+  inputs-at = record { legal = legal-parts t (w .prints .legal) .inputs; printed = printed-bare }
 
   gates-at : LinesAt gateForm (t .gates) outputsText gatesText
   unfolding gateForm
@@ -142,8 +147,7 @@ module _ (t : Tree) (text : List ℕ) (c : Counts) (names words : List ℕ) (w :
   outputs-at = record { legal = legal-parts t (w .prints .legal) .outputs; printed = refl }
 
   behind-inputs : printLines printInput (t .inputs) [] ++ gatesText ≡ text
-  unfolding print
-  behind-inputs = sym (lines-split printInput printInput-split (t .inputs) gatesText) ∙ w .prints .printed
+  behind-inputs = sym (lines-split printInput printInput-split (t .inputs) gatesText) ∙ printed-bare
 
   pub gates-end : Ending gatesText text
   gates-end = ending (printLines printInput (t .inputs) []) gatesText text behind-inputs

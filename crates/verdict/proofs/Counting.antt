@@ -1,20 +1,22 @@
--- Settled settings: the lowest that is not settled, and the count. Cited by this crate's functions. Assumes nothing.
+-- Settled settings: the lowest that may come and is not settled, and the count. Cited by this crate's functions. Assumes nothing.
 use mathlib.Core.Path.{_≡_, refl, sym}
-use mathlib.Core.Bool.{Bool, true, false, cond, not}
+use mathlib.Core.Bool.{Bool, true, false, cond, not, _&&_, _||_}
 use mathlib.Core.List.{List}
 use Prim.Native.Nat.{ℕ, _+_, _^_, _≤_, _<_}
 use native.Mathlib.Omega.{arith}
 use native.Mathlib.Numerals.{add-one}
-use lib.ListN.{length, set}
+use lib.ListN.{length, getD, set}
 use lib.Pow.{pow-mono}
 use Rattle.laws.specs.Lists.{countBelow, tab, placed}
 use Rattle.laws.proofs.Tab.{set-placed-tab}
 use Rattle.laws.proofs.Least.{least-le, least-below, least-is}
-use Rattle.laws.proofs.Counting.{countBelow-all, countBelow-le}
+use Rattle.laws.proofs.Counting.{countBelow-ext, countBelow-le}
 use Rattle.netlist.specs.Limits.{maxInputs}
 use Rattle.netlist.specs.Netlist.{Block, inputCount}
-use Rattle.netlist.specs.Rounds.{settingCount, isSettled, settledSettings, lowestUnsettled}
-use Rattle.verdict.specs.Flags.{settledFlag}
+use Rattle.netlist.specs.Rounds.{settingCount, isSettled, isExcluded, isCounted, isSoundAt, settledSettings, lowestUnsettled}
+use Rattle.netlist.specs.StoredBlock.{decode}
+use Rattle.encoding.proofs.Decoded.{decode-inputCount}
+use Rattle.verdict.specs.Flags.{settledFlag, countedFlag, soundFlag, mayCome}
 
 not-false-true : (a : Bool) → not a ≡ false → a ≡ true
 not-false-true true h = refl
@@ -26,51 +28,99 @@ module _ (b : Block) where
   unfolding settingCount
   setting-count n count e f = rw (f, e) refl
 
-  -- the first that is not settled, with all below it settled, is the lowest
-  pub lowest-found : (r count : ℕ) → count ≡ settingCount b → r ≤ count → ((i : ℕ) → i < r → isSettled b i ≡ true)
-      → (r < count → isSettled b r ≡ false) → r ≡ lowestUnsettled b
+  -- the first that may come and is not settled, with no such below it, is the lowest
+  pub lowest-found : (r count : ℕ) → count ≡ settingCount b → r ≤ count → ((i : ℕ) → i < r → isSoundAt b i ≡ true)
+      → (r < count → isSoundAt b r ≡ false) → r ≡ lowestUnsettled b
   unfolding lowestUnsettled
   lowest-found r count e l before at =
-      sym (least-is (λ s. not (isSettled b s)) (settingCount b) r (rw (← e) l) (λ i m. rw (before i m) refl)
+      sym (least-is (λ s. not (isSoundAt b s)) (settingCount b) r (rw (← e) l) (λ i m. rw (before i m) refl)
       (λ m. rw (at (rw e m)) refl))
 
   pub lowest-le : (count : ℕ) → count ≡ settingCount b → lowestUnsettled b ≤ count
   unfolding lowestUnsettled
-  lowest-le count e = rw e (least-le (λ s. not (isSettled b s)) (settingCount b))
+  lowest-le count e = rw e (least-le (λ s. not (isSoundAt b s)) (settingCount b))
 
-  -- all below the lowest other are settled
-  pub count-lowest : lowestUnsettled b ≡ countBelow (isSettled b) (lowestUnsettled b)
+  sound-counted : (s : ℕ) → isSoundAt b s ≡ true → mayCome b s ≡ isCounted b s
+  unfolding isSoundAt isCounted mayCome
+  sound-counted s = go (isExcluded b s) (isSettled b s)
+    where
+      go : (e t : Bool) → e || t ≡ true → not e ≡ not e && t
+      go true t h = refl
+      go false t h = sym h
+
+  -- below the lowest other, those that may come are settled
+  pub count-lowest : countBelow (mayCome b) (lowestUnsettled b) ≡ countBelow (isCounted b) (lowestUnsettled b)
   unfolding lowestUnsettled
   count-lowest =
-      sym (countBelow-all (isSettled b) (lowestUnsettled b)
-      (λ i l. not-false-true (isSettled b i) (least-below (λ s. not (isSettled b s)) (settingCount b) i l)))
+      countBelow-ext (mayCome b) (isCounted b) (lowestUnsettled b)
+      (λ i l. sound-counted i (not-false-true (isSoundAt b i) (least-below (λ s. not (isSoundAt b s)) (settingCount b) i l)))
 
-  pub flag-le : (s : ℕ) → settledFlag b s ≤ 1
-  unfolding settledFlag
-  flag-le s = go (isSettled b s)
+  -- what is told of a setting by the two tests
+  pub excluded-sound : (s : ℕ) → isExcluded b s ≡ true → isSoundAt b s ≡ true
+  unfolding isSoundAt
+  excluded-sound s e = rw e refl
+
+  pub coming-sound : (s : ℕ) {t : Bool} → isExcluded b s ≡ false → isSettled b s ≡ t → isSoundAt b s ≡ t
+  unfolding isSoundAt
+  coming-sound s e t = rw e t
+
+  pub excluded-flags : (s : ℕ) → isExcluded b s ≡ true → (0 ≡ countedFlag b s) × (1 ≡ soundFlag b s)
+  unfolding countedFlag soundFlag isCounted isSoundAt
+  excluded-flags s e = rw e (refl, refl)
+
+  pub coming-flags : (s : ℕ) → isExcluded b s ≡ false → (settledFlag b s ≡ countedFlag b s) × (settledFlag b s ≡ soundFlag b s)
+  unfolding countedFlag soundFlag settledFlag isCounted isSoundAt
+  coming-flags s e = rw e (refl, refl)
+
+  pub excluded-coming : (s : ℕ) → isExcluded b s ≡ true → _≡_ {A = ℕ} 0 (cond (mayCome b s) 1 0)
+  unfolding mayCome
+  excluded-coming s e = rw e refl
+
+  pub coming-coming : (s : ℕ) → isExcluded b s ≡ false → _≡_ {A = ℕ} 1 (cond (mayCome b s) 1 0)
+  unfolding mayCome
+  coming-coming s e = rw e refl
+
+  -- one setting more that may come, or not
+  pub coming-more : {coming flag : ℕ} (s : ℕ) → coming ≡ countBelow (mayCome b) s → flag ≡ cond (mayCome b s) 1 0 → coming + flag ≡ countBelow (mayCome b) (s + 1)
+  coming-more s e f = rw (e, f, add-one) refl
+
+  pub coming-le : (s : ℕ) → (countBelow (mayCome b) s ≤ s) × (cond (mayCome b s) 1 0 ≤ 1)
+  coming-le s = (countBelow-le (mayCome b) s, go (mayCome b s))
     where
       go : (a : Bool) → cond a 1 0 ≤ 1
       go true = omega arith
       go false = omega arith
 
-  pub count-le : (s : ℕ) → countBelow (isSettled b) s ≤ s
-  count-le s = countBelow-le (isSettled b) s
+  pub flag-le : (s : ℕ) → countedFlag b s ≤ 1
+  unfolding countedFlag
+  flag-le s = go (isCounted b s)
+    where
+      go : (a : Bool) → cond a 1 0 ≤ 1
+      go true = omega arith
+      go false = omega arith
+
+  pub count-le : (s : ℕ) → countBelow (isCounted b) s ≤ s
+  count-le s = countBelow-le (isCounted b) s
 
   -- one setting more
-  pub count-more : {count flag : ℕ} (s : ℕ) → count ≡ countBelow (isSettled b) s → flag ≡ settledFlag b s → count + flag ≡ countBelow (isSettled b) (s + 1)
-  unfolding settledFlag
+  pub count-more : {count flag : ℕ} (s : ℕ) → count ≡ countBelow (isCounted b) s → flag ≡ countedFlag b s → count + flag ≡ countBelow (isCounted b) (s + 1)
+  unfolding countedFlag
   count-more s e f = rw (e, f, add-one) refl
 
   -- one flag more
-  pub flags-more : {flags : List ℕ} {flag : ℕ} (s : ℕ) (entry : List ℕ) → s < length entry → flags ≡ placed (tab (settledFlag b) s) entry
-      → flag ≡ settledFlag b s
-      → set flags s flag ≡ placed (tab (settledFlag b) (s + 1)) entry
-  flags-more s entry l e f = rw (e, f, add-one) (set-placed-tab (settledFlag b) s entry l)
+  pub flags-more : {flags : List ℕ} {flag : ℕ} (s : ℕ) (entry : List ℕ) → s < length entry → flags ≡ placed (tab (soundFlag b) s) entry
+      → flag ≡ soundFlag b s
+      → set flags s flag ≡ placed (tab (soundFlag b) (s + 1)) entry
+  flags-more s entry l e f = rw (e, f, add-one) (set-placed-tab (soundFlag b) s entry l)
 
   -- all settings
-  pub count-end : (s count : ℕ) → count ≡ settingCount b → s ≡ count → countBelow (isSettled b) s ≡ settledSettings b
+  pub count-end : (s count : ℕ) → count ≡ settingCount b → s ≡ count → countBelow (isCounted b) s ≡ settledSettings b
   unfolding settledSettings
   count-end s count e f = rw (f, e) refl
+
+-- the inputs that the words count are few
+pub few-inputs : (ws : List ℕ) {n : ℕ} → n ≡ inputCount (decode ws) → n ≤ maxInputs → getD ws 0 0 ≤ maxInputs
+few-inputs ws e l = omega (arith, e, decode-inputCount ws, l)
 
 -- at most as many settings as the most inputs have
 pub few-settings : (n : ℕ) → n ≤ maxInputs → 2 ^ n ≤ 2 ^ maxInputs

@@ -11,12 +11,12 @@ use lib.ListN.{length, getD, length-map, List·getD-map}
 use Rattle.laws.proofs.Tests.{not-true-false, not-both}
 use Rattle.laws.proofs.Elements.{getD-defaults}
 use Rattle.laws.proofs.Quantifiers.{all-at, all-from}
-use Rattle.netlist.specs.Limits.{maxInputs, maxGates, maxOutputs}
+use Rattle.netlist.specs.Limits.{maxInputs, maxNevers, maxGates, maxOutputs}
 use Rattle.netlist.specs.Values.{Value, undefined, code, isDefined}
-use Rattle.netlist.specs.Netlist.{constant, Output, inputCount, gateCount, outputCount}
-use Rattle.netlist.specs.StoredBlock.{outputSize, gatesAt, outputsAt, outputAt, decode}
+use Rattle.netlist.specs.Netlist.{constant, Output, inputCount, gateCount, outputCount, neverCount}
+use Rattle.netlist.specs.StoredBlock.{outputSize, neversAt, gatesAt, outputsAt, outputAt, decode}
 use Rattle.netlist.specs.Rounds.{settingOf, settledUnder, outputValue, outputsUnder, isSettled}
-use Rattle.encoding.proofs.Decoded.{decode-inputCount, decode-gateCount, decode-outputCount, decode-output}
+use Rattle.encoding.proofs.Decoded.{decode-inputCount, decode-gateCount, decode-outputCount, decode-neverCount, decode-output}
 use Rattle.rounds.proofs.Values.{values-codes}
 use Rattle.ternary.specs.Outputs.{shownCode}
 use Rattle.ternary.proofs.Codes.{defined-code, undefined-code}
@@ -26,15 +26,15 @@ use Rattle.verdict.specs.Flags.{settledFlag}
 -- the words' outputs start at `at`, there are `many`, and the bytes are those under setting number s
 pub record Found (ws : List ℕ) (n at many s : ℕ) (inputs values : List ℕ) : Type 0 where
   pub inputsAre : n ≡ inputCount (decode ws)
-  pub first : at ≡ outputsAt n (gateCount (decode ws))
+  pub first : at ≡ outputsAt (getD ws 0 0) (getD ws 3 0) (getD ws 1 0)
   pub outputsAre : many ≡ getD ws 2 0
   pub under : SettledUnder (decode ws) s inputs values
 
 module _ {ws : List ℕ} {n at many s : ℕ} {inputs values : List ℕ} (f : Found ws n at many s inputs values) where
   -- where they stand, and how many there are
-  pub near : n ≤ maxInputs → gateCount (decode ws) ≤ maxGates → at < 2 ^ 32
-  unfolding outputsAt gatesAt
-  near h k = rw (f .first) (omega arith)
+  pub near : n ≤ maxInputs → gateCount (decode ws) ≤ maxGates → neverCount (decode ws) ≤ maxNevers → at < 2 ^ 32
+  unfolding outputsAt gatesAt neversAt
+  near h k l = omega (arith, f .first, f .inputsAre, decode-inputCount ws, decode-gateCount ws, decode-neverCount ws)
 
   pub few : (o : ℕ) → outputCount (decode ws) ≤ maxOutputs → o < many → o < 2 ^ 32
   few o h l = omega (arith, f .outputsAre, decode-outputCount ws)
@@ -47,7 +47,7 @@ module _ {ws : List ℕ} {n at many s : ℕ} {inputs values : List ℕ} (f : Fou
   output-there : (o : ℕ) (d : Output) → o < many → outputAt n ws (at + outputSize * o) ≡ getD (decode ws .outputs) o d
   output-there o d l =
       let inputs-are : n ≡ getD ws 0 0 = f .inputsAre ∙ decode-inputCount ws in
-      rw (f .first, inputs-are, decode-gateCount ws) (sym (decode-output ws o d (rw (f .outputsAre) at l)))
+      rw (f .first, inputs-are) (sym (decode-output ws o d (rw (f .outputsAre) at l)))
 
   shown-at : (o : ℕ) → o < many → shownCode ws n at inputs values o ≡ code (getD (outputsUnder (decode ws) s) o undefined)
   unfolding shownCode outputsUnder

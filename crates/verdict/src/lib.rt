@@ -27,7 +27,7 @@ fn whole_verdict(words: &[u16], order: &mut [u16], inputs: &mut [u8], values: &m
 {
     let n = offsets::inputs_of(words);
     let m = offsets::gates_of(words);
-    let gates = offsets::gates_at(n);
+    let gates = offsets::gates_at(words);
     order_gates(words, order);
     settings::search_settings(
         words,
@@ -39,7 +39,7 @@ fn whole_verdict(words: &[u16], order: &mut [u16], inputs: &mut [u8], values: &m
     )
 }
 
-// Verdict (6): how many settings are settled; detail: the lowest other, or 2^n where there is none.
+// Verdict (6): how many settings that may come are settled; detail: the lowest other of them, or 2^n where there is none.
 pub fn verdict(words: &[u16]) -> Answer
     ensures { λ r. ⌜ Told (verdictOf (now (words .entry))) r ⌝ }
 {

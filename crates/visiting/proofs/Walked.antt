@@ -14,7 +14,7 @@ use Rattle.laws.proofs.Tests.{eq-or-ne}
 use Rattle.laws.proofs.Quantifiers.{member-from}
 use Rattle.laws.proofs.Counting.{countBelow-le, countBelow-all}
 use Rattle.netlist.specs.Limits.{maxGates}
-use Rattle.netlist.specs.StoredBlock.{isTorn, gatesAt}
+use Rattle.netlist.specs.StoredBlock.{isTorn, neversAt, gatesAt}
 use Rattle.encoding.proofs.Readers.{whole-parts}
 use Rattle.search.specs.Search.{Queued, setFlags}
 use Rattle.search.proofs.Marking.{set-new}
@@ -188,15 +188,16 @@ pub blank : (m n : ℕ) → m ≤ n → Blank m (replicate n 0)
 blank m n most k l = getD-replicate n k 0 0 (omega arith)
 
 -- arrays of that many elements have room for a whole block's gates
-pub whole-room : (ws : List ℕ) {n m gates : ℕ} {flags stack order : List ℕ} → isTorn ws ≡ false → n ≡ getD ws 0 0 → m ≡ getD ws 1 0 → gates ≡ gatesAt n
-    → maxGates ≤ length flags → maxGates ≤ length stack → getD ws 1 0 ≤ length order → Room n m gates flags stack order
-unfolding gatesAt
+pub whole-room : (ws : List ℕ) {n m gates : ℕ} {flags stack order : List ℕ} → isTorn ws ≡ false → n ≡ getD ws 0 0 → m ≡ getD ws 1 0
+    → gates ≡ gatesAt (getD ws 0 0) (getD ws 3 0) → maxGates ≤ length flags → maxGates ≤ length stack → getD ws 1 0 ≤ length order
+    → Room n m gates flags stack order
+unfolding gatesAt neversAt
 whole-room ws whole inputs gates first f s o =
     let parts = whole-parts ws whole in
     record {
       fewInputs = omega (arith, parts .fewInputs);
       fewGates = omega (arith, parts .fewGates);
-      near = omega (arith, parts .fewInputs);
+      near = omega (arith, parts .fewInputs, parts .fewNevers);
       flagRoom = omega (arith, parts .fewGates);
       stackRoom = omega (arith, parts .fewGates);
       orderRoom = rw gates o;

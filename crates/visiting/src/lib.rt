@@ -18,7 +18,7 @@ pub fn order_gates(words: &[u16], order: &mut [u16])
 {
     let n = offsets::inputs_of(words);
     let m = offsets::gates_of(words);
-    let gates = offsets::gates_at(n);
+    let gates = offsets::gates_at(words);
     let mut flags = [0u8; MAX_GATES];
     let mut stack = [0u16; MAX_GATES];
     postorder::write_postorder(words, n, m, gates, &mut flags, &mut stack, order);

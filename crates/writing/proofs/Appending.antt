@@ -25,6 +25,10 @@ appended-then {xs} {ys} {text} {at} a b =
       endIs = b .endIs ∙ rw (a .endIs, length-append) (add-assoc at (length xs) (length ys));
     }
 
+-- the same piece in other words
+pub appended-is : {xs ys text : List ℕ} {at : ℕ} {text₁ : List ℕ} {end₁ : ℕ} → xs ≡ ys → Appended xs text at text₁ end₁ → Appended ys text at text₁ end₁
+appended-is e a = rw (← e) a
+
 -- one byte past the end of the text
 pub appended-out : (byte : ℕ) (text : List ℕ) (at : ℕ) → length text ≤ at → Appended (byte ∷ []) text at text (at + 1)
 appended-out byte text at h = record { textIs = sym (set-out text at byte h); endIs = refl }

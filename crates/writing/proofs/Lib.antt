@@ -3,5 +3,6 @@ pub mod Appending
 pub mod DecimalLaws
 pub mod NameLaws
 pub mod OperandLaws
+pub mod NeverLaws
 pub mod WrittenText
 pub mod Outcomes

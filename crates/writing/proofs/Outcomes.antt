@@ -1,28 +1,47 @@
 -- The conditions of `write` one after the other, and that what it writes is short. Cited by `write`. Assumes nothing.
-use Prim.Native.Nat.{ℕ}
+use Prim.Native.Nat.{ℕ, _≤_}
 use mathlib.Core.Path.{_≡_, refl}
 use mathlib.Core.Bool.{false}
-use mathlib.Core.List.{List, _++_}
+use mathlib.Core.List.{List}
 use native.Mathlib.Omega.{arith}
 use lib.ListN.{length, getD}
 use lib.Dec.{ltb}
-use Rattle.netlist.specs.StoredBlock.{gatesAt, outputsAt, decode, isTorn}
+use Rattle.netlist.specs.Limits.{maxInputs}
+use Rattle.netlist.specs.StoredBlock.{neversAt, gatesAt, outputsAt, decode, isTorn}
 use Rattle.netlist.specs.Answers.{done, refuseIf, inRoom}
 use Rattle.netlist.specs.declared.Refusal.the-variants.{MalformedBlock, NoRoom}
 use Rattle.netlist.specs.Writing.{writtenText}
 use Rattle.netlist.specs.Operations.{counted, writeWords, write}
+use Rattle.encoding.proofs.Decoded.{decode-inputCount}
+use Rattle.encoding.proofs.WellFormed.{wellFormed-parts}
 use Rattle.grammar.proofs.WritingLength.{written-length}
-use Rattle.writing.specs.Pieces.{Short, pieces, inputText, gateText, outputText, blockText}
+use Rattle.writing.specs.Pieces.{Short, pieces, inputText, neverLineText, gateText, outputText, blockText}
 use Rattle.writing.proofs.WrittenText.{decoded-well, written-pieces}
 
--- the three parts, from the header's words
-pub block-of : (ws : List ℕ) (n m k gates outputs : ℕ) → n ≡ getD ws 0 0 → m ≡ getD ws 1 0 → k ≡ getD ws 2 0
-    → gates ≡ gatesAt n → outputs ≡ outputsAt n m
-    → blockText ws ≡ pieces (inputText ws) n ++ (pieces (gateText ws gates) m ++ pieces (outputText ws outputs) k)
-unfolding blockText
-block-of ws n m k gates outputs en em ek eg eo = rw (eg, eo, en, em, ek) refl
+-- ---- the parts, from the header's words
 
--- what is written is short
+module _ (ws : List ℕ) (n : ℕ) (isInputs : n ≡ getD ws 0 0) where
+  pub inputs-part : pieces (inputText ws) n ≡ pieces (inputText ws) (getD ws 0 0)
+  inputs-part = rw isInputs refl
+
+  pub nevers-part : (from count : ℕ) → from ≡ neversAt n → count ≡ getD ws 3 0
+      → pieces (neverLineText ws from) count ≡ pieces (neverLineText ws (neversAt (getD ws 0 0))) (getD ws 3 0)
+  nevers-part from count e k = rw (e, isInputs, k) refl
+
+pub gates-part : (ws : List ℕ) (from m : ℕ) → from ≡ gatesAt (getD ws 0 0) (getD ws 3 0) → m ≡ getD ws 1 0
+    → pieces (gateText ws from) m ≡ pieces (gateText ws (gatesAt (getD ws 0 0) (getD ws 3 0))) (getD ws 1 0)
+gates-part ws from m e k = rw (e, k) refl
+
+pub outputs-part : (ws : List ℕ) (from k : ℕ) → from ≡ outputsAt (getD ws 0 0) (getD ws 3 0) (getD ws 1 0) → k ≡ getD ws 2 0
+    → pieces (outputText ws from) k ≡ pieces (outputText ws (outputsAt (getD ws 0 0) (getD ws 3 0) (getD ws 1 0))) (getD ws 2 0)
+outputs-part ws from k e d = rw (e, d) refl
+
+-- ---- the length
+
+-- a block that is not torn has few inputs, and what is written is short
+pub few-inputs : (ws : List ℕ) → isTorn ws ≡ false → getD ws 0 0 ≤ maxInputs
+few-inputs ws whole = omega (arith, wellFormed-parts (decode ws) (decoded-well ws whole) .fewInputs, decode-inputCount ws)
+
 pub block-short : (ws : List ℕ) → isTorn ws ≡ false → Short (blockText ws) 0
 block-short ws whole =
     record { small = rw (← written-pieces ws whole) (omega (arith, written-length (decode ws) (decoded-well ws whole))) }

@@ -1,23 +1,31 @@
 -- The lines of the written text of `netlist`, piece by piece, and the whole of it. Cited by `write`. Assumes nothing.
 use Prim.Native.Nat.{ℕ, zero, suc, _+_, _*_, _/_, _<_}
 use mathlib.Core.Path.{_≡_, refl, sym, ap, _∙_}
-use mathlib.Core.Bool.{true, false, false≢true}
-use mathlib.Core.List.{List, [], _∷_, _++_, append-assoc, append-nil}
+use mathlib.Core.Bool.{Bool, true, false, cond, false≢true}
+use mathlib.Core.List.{List, [], _∷_, _++_, map, map-append, append-assoc, append-nil}
 use native.Mathlib.Omega.{arith}
 use lib.ListN.{getD}
-use Rattle.laws.specs.Lists.{ascii, tab}
+use lib.Dec.{eqb}
+use Rattle.laws.specs.Lists.{ascii, keep, tab, upTo}
 use Rattle.laws.proofs.Tab.{map-tab}
+use Rattle.laws.proofs.Lists.{keep-append}
+use Rattle.netlist.specs.Values.{val}
+use Rattle.netlist.specs.Assignments.{bit, fixes}
 use Rattle.netlist.specs.Netlist.{Operand, input, gate, constant, Block}
-use Rattle.netlist.specs.StoredBlock.{nameSize, gateSize, outputSize, inputsAt, gatesAt, outputsAt, nameAt, operandOf, gateAt, outputAt, isNode, decode}
-use Rattle.netlist.specs.StoredBlock.{isWellFormed, isTorn}
-use Rattle.netlist.specs.Syntax.{apply, printTerm, printTerms, printInput, printGate, printOutput, printLines, print, OutputLine}
-use Rattle.netlist.specs.Writing.{nodeNameOf, termOf, termsOf, flatLine, flatTree, writtenText}
+use Rattle.netlist.specs.StoredBlock.{nameSize, neverSize, gateSize, outputSize, inputsAt, neversAt, gatesAt, outputsAt, nameAt, neverAt, operandOf, gateAt}
+use Rattle.netlist.specs.StoredBlock.{outputAt, isNode, decode, isWellFormed, isTorn}
+use Rattle.netlist.specs.Syntax.{apply, valueText, pairText, printTerm, printTerms, printInput, printPair, printNever, printGate, printOutput, printLines}
+use Rattle.netlist.specs.Syntax.{print, OutputLine}
+use Rattle.netlist.specs.Writing.{nodeNameOf, termOf, termsOf, flatLine, pairsOf, flatTree, writtenText}
+use Rattle.grammar.proofs.Masks.{bit-below}
+use Rattle.grammar.proofs.WritingNevers.{pairAt}
 use Rattle.grammar.proofs.Shorter.{printTerm-append}
-use Rattle.encoding.proofs.Decoded.{decode-gate, decode-gateCount, decode-output, decode-outputCount, gateAt-kind}
+use Rattle.encoding.proofs.Decoded.{decode-inputCount, decode-input, decode-gate, decode-gateCount, decode-output, decode-outputCount, gateAt-kind}
 use Rattle.encoding.proofs.Intact.{intact-wellFormed}
 use Rattle.encoding.proofs.Readers.{whole-intact, wellFormed-output}
 use Rattle.encoding.proofs.WellFormed.{noOutput}
-use Rattle.writing.specs.Pieces.{pieces, operandText, itemText, expressionText, inputText, gateText, outputText, blockText}
+use Rattle.writing.specs.Pieces.{pieces, pairPiece, operandText, itemText, expressionText, inputText, fixedText, neverText, neverLineText, gateText}
+use Rattle.writing.specs.Pieces.{outputText, blockText}
 use Rattle.writing.proofs.Appending.{pieces-more, pieces-none}
 
 -- ---- lines one after the other
@@ -38,6 +46,23 @@ lines-pieces line f piece (suc count) h rest =
     lines-append line (tab f count) (f count ∷ []) rest
     ∙ lines-pieces line f piece count (λ i l. h i (omega arith)) (line (f count) rest)
     ∙ rw (pieces-more piece count, h count (omega arith) rest) (sym (append-assoc (pieces piece count) (piece count) rest))
+
+-- the same, where only those that pass a test are lines, and the other pieces are empty
+kept-pieces : {A : Type 0} (line : A → List ℕ → List ℕ) (f : ℕ → A) (test : ℕ → Bool) (piece : ℕ → List ℕ) (count : ℕ)
+    → ((i : ℕ) → i < count → test i ≡ true → (rest : List ℕ) → line (f i) rest ≡ piece i ++ rest)
+    → ((i : ℕ) → i < count → test i ≡ false → piece i ≡ [])
+    → (rest : List ℕ) → printLines line (map f (keep test (upTo count))) rest ≡ pieces piece count ++ rest
+unfolding printLines
+kept-pieces line f test piece zero h n rest = rw (pieces-none piece) refl
+kept-pieces line f test piece (suc count) h n rest =
+    rw (keep-append test (upTo count) (count ∷ []), map-append f (keep test (upTo count)) (keep test (count ∷ [])))
+    (lines-append line (map f (keep test (upTo count))) (map f (keep test (count ∷ []))) rest
+    ∙ kept-pieces line f test piece count (λ i l. h i (omega arith)) (λ i l. n i (omega arith)) _
+    ∙ rw (pieces-more piece count, last (test count) refl) (sym (append-assoc (pieces piece count) (piece count) rest)))
+  where
+    last : (t : Bool) → test count ≡ t → printLines line (map f (cond t (count ∷ []) [])) rest ≡ piece count ++ rest
+    last true e = h count (omega arith) e rest
+    last false e = rw (n count (omega arith) e) refl
 
 -- ---- operands
 
@@ -69,6 +94,30 @@ module _ (ws : List ℕ) where
   unfolding printInput inputText
   input-piece i rest = simp append-assoc refl
 
+  -- the byte of a value is that of its bit
+  value-piece : (m i : ℕ) → valueText (val (eqb (bit m i) 1)) ≡ (48 + bit m i) ∷ []
+  unfolding valueText
+  value-piece m i = go (bit m i) (bit-below m i)
+    where
+      go : (v : ℕ) → v < 2 → valueText (val (eqb v 1)) ≡ (48 + v) ∷ []
+      go zero l = refl
+      go (suc zero) l = refl
+      go (suc (suc v)) l = absurd (omega arith)
+
+  pair-piece : (at i : ℕ) → i < getD ws 0 0 → (rest : List ℕ)
+      → printPair (pairAt (decode ws) (neverAt ws at) i) rest ≡ pairPiece ws (inputsAt + nameSize * i) (48 + bit (getD ws (at + 1) 0) i) ++ rest
+  unfolding printPair pairText pairPiece neverAt
+  pair-piece at i l rest = rw (decode-input ws i [] l, value-piece (getD ws (at + 1) 0) i) (simp append-assoc refl)
+
+  never-piece : (at : ℕ) (rest : List ℕ) → printNever (pairsOf (decode ws) (neverAt ws at)) rest ≡ neverText ws at ++ rest
+  unfolding printNever pairsOf neverText fixedText fixes neverAt
+  never-piece at rest =
+      rw (decode-inputCount ws)
+      (ap (λ (r : List ℕ). ascii "(never" ++ r)
+      (kept-pieces printPair (pairAt (decode ws) (neverAt ws at)) (fixes (neverAt ws at)) (fixedText ws (getD ws at 0) (getD ws (at + 1) 0)) (getD ws 0 0)
+      (λ i l t r. rw t (pair-piece at i l r)) (λ i l t. rw t refl) (ascii ")\n" ++ rest))
+      ∙ simp append-assoc refl)
+
   expression-piece : (at : ℕ) (rest : List ℕ)
       → printTerm (apply (gateAt (getD ws 0 0) ws at .kind) (termsOf (decode ws) (gateAt (getD ws 0 0) ws at .operands))) rest
       ≡ expressionText ws at ++ rest
@@ -77,10 +126,10 @@ module _ (ws : List ℕ) where
       rw (terms-pieces at (ascii ")" ++ rest), gateAt-kind (getD ws 0 0) ws at) (simp append-assoc refl)
 
   gate-piece : (j : ℕ) → j < getD ws 1 0 → (rest : List ℕ)
-      → printGate (flatLine (decode ws) j) rest ≡ gateText ws (gatesAt (getD ws 0 0)) j ++ rest
+      → printGate (flatLine (decode ws) j) rest ≡ gateText ws (gatesAt (getD ws 0 0) (getD ws 3 0)) j ++ rest
   unfolding printGate flatLine gateText
   gate-piece j l rest =
-      rw (decode-gate ws j l, expression-piece (gatesAt (getD ws 0 0) + gateSize * j) (ascii ")\n" ++ rest)) (simp append-assoc refl)
+      rw (decode-gate ws j l, expression-piece (gatesAt (getD ws 0 0) (getD ws 3 0) + gateSize * j) (ascii ")\n" ++ rest)) (simp append-assoc refl)
 
 -- an output shows no constant
 shown-term : (b : Block) (o : Operand) → isNode b o ≡ true → nodeNameOf b o ≡ printTerm (termOf b o) []
@@ -103,29 +152,44 @@ unfolding printOutput outputLine outputText outputAt operandText
 output-piece ws at o h rest =
     rw (shown-term (decode ws) (operandOf (getD ws 0 0) (getD ws (at + outputSize * o + nameSize) 0)) h) (simp append-assoc refl)
 
+decoded-nevers : (ws : List ℕ) → decode ws .nevers ≡ tab (λ i. neverAt ws (neversAt (getD ws 0 0) + neverSize * i)) (getD ws 3 0)
+unfolding decode
+decoded-nevers ws = refl
+
 -- The pieces are the written text.
 module _ (ws : List ℕ) (whole : isTorn ws ≡ false) where
   pub decoded-well : isWellFormed (decode ws) ≡ true
   decoded-well = intact-wellFormed ws (whole-intact ws whole)
 
   shown-node : (o : ℕ) → o < getD ws 2 0
-      → isNode (decode ws) (outputAt (getD ws 0 0) ws (outputsAt (getD ws 0 0) (getD ws 1 0) + outputSize * o) .node) ≡ true
+      → isNode (decode ws) (outputAt (getD ws 0 0) ws (outputsAt (getD ws 0 0) (getD ws 3 0) (getD ws 1 0) + outputSize * o) .node) ≡ true
   shown-node o l =
       rw (decode-output ws o noOutput l) at (wellFormed-output (decode ws) decoded-well o noOutput (rw (decode-outputCount ws) l))
 
   outputs-pieces : (rest : List ℕ) → printLines printOutput (flatTree (decode ws) .outputs) rest
-      ≡ pieces (outputText ws (outputsAt (getD ws 0 0) (getD ws 1 0))) (getD ws 2 0) ++ rest
+      ≡ pieces (outputText ws (outputsAt (getD ws 0 0) (getD ws 3 0) (getD ws 1 0))) (getD ws 2 0) ++ rest
   unfolding flatTree decode outputLine
   outputs-pieces rest =
-      let at = outputsAt (getD ws 0 0) (getD ws 1 0) in
+      let at = outputsAt (getD ws 0 0) (getD ws 3 0) (getD ws 1 0) in
       rw map-tab
       (lines-pieces printOutput (outputLine ws at) (outputText ws at) (getD ws 2 0) (λ o l. output-piece ws at o (shown-node o l)) rest)
 
-  gates-pieces : (rest : List ℕ) → printLines printGate (flatTree (decode ws) .gates) rest ≡ pieces (gateText ws (gatesAt (getD ws 0 0))) (getD ws 1 0) ++ rest
+  gates-pieces : (rest : List ℕ) → printLines printGate (flatTree (decode ws) .gates) rest
+      ≡ pieces (gateText ws (gatesAt (getD ws 0 0) (getD ws 3 0))) (getD ws 1 0) ++ rest
   unfolding flatTree
   gates-pieces rest =
       rw (decode-gateCount ws)
-      (lines-pieces printGate (flatLine (decode ws)) (gateText ws (gatesAt (getD ws 0 0))) (getD ws 1 0) (gate-piece ws) rest)
+      (lines-pieces printGate (flatLine (decode ws)) (gateText ws (gatesAt (getD ws 0 0) (getD ws 3 0))) (getD ws 1 0) (gate-piece ws) rest)
+
+  nevers-pieces : (rest : List ℕ)
+      → printLines printNever (flatTree (decode ws) .nevers) rest ≡ pieces (neverLineText ws (neversAt (getD ws 0 0))) (getD ws 3 0) ++ rest
+  unfolding flatTree neverLineText
+  nevers-pieces rest =
+      let at = neversAt (getD ws 0 0) in
+      ap (λ ls. printLines printNever ls rest)
+      (ap (map (pairsOf (decode ws))) (decoded-nevers ws) ∙ map-tab (pairsOf (decode ws)) (λ i. neverAt ws (at + neverSize * i)) (getD ws 3 0))
+      ∙ (lines-pieces printNever (λ i. pairsOf (decode ws) (neverAt ws (at + neverSize * i))) (neverLineText ws at) (getD ws 3 0)
+      (λ i l r. never-piece ws (at + neverSize * i) r) rest)
 
   inputs-pieces : (rest : List ℕ) → printLines printInput (flatTree (decode ws) .inputs) rest ≡ pieces (inputText ws) (getD ws 0 0) ++ rest
   unfolding flatTree decode
@@ -134,4 +198,4 @@ module _ (ws : List ℕ) (whole : isTorn ws ≡ false) where
 
   pub written-pieces : writtenText (decode ws) ≡ blockText ws
   unfolding writtenText print blockText
-  written-pieces = rw (inputs-pieces, gates-pieces, outputs-pieces, append-nil) refl
+  written-pieces = rw (inputs-pieces, nevers-pieces, gates-pieces, outputs-pieces, append-nil) refl

@@ -2,12 +2,15 @@
 -- written text of `netlist`.
 use Prim.Native.Nat.{ℕ, _+_, _*_, _/_, _%_, _≤_}
 use mathlib.Core.Path.{_≡_}
-use mathlib.Core.List.{List, [], _++_}
+use mathlib.Core.Bool.{cond}
+use mathlib.Core.List.{List, [], _∷_, _++_}
 use lib.ListN.{length, getD}
 use lib.Seq.{sets}
+use lib.Dec.{eqb}
 use Rattle.laws.specs.Lists.{ascii, tab, joined}
+use Rattle.netlist.specs.Assignments.{bit}
 use Rattle.netlist.specs.Kinds.{keyword}
-use Rattle.netlist.specs.StoredBlock.{nameSize, gateSize, outputSize, inputsAt, gatesAt, outputsAt, nameAt, operandOf, decode}
+use Rattle.netlist.specs.StoredBlock.{nameSize, neverSize, gateSize, outputSize, inputsAt, neversAt, gatesAt, outputsAt, nameAt, operandOf, decode}
 use Rattle.netlist.specs.Syntax.{printTerm}
 use Rattle.netlist.specs.Writing.{gateName, termOf}
 
@@ -28,6 +31,10 @@ pieces f count = joined (tab f count)
 unfoldable pub operandText : List ℕ → ℕ → List ℕ
 operandText ws at = printTerm (termOf (decode ws) (operandOf (getD ws 0 0) (getD ws at 0))) []
 
+-- ` (NAME VALUE)`: the name whose words are at `at`, and the byte of its value
+unfoldable pub pairPiece : List ℕ → ℕ → ℕ → List ℕ
+pairPiece ws at byte = ascii " (" ++ (nameAt ws at ++ (ascii " " ++ (byte ∷ ascii ")")))
+
 -- operand i of the gate whose first word is at `at`, with the space before it
 unfoldable pub itemText : List ℕ → ℕ → ℕ → List ℕ
 itemText ws at i = ascii " " ++ operandText ws (at + 1 + i)
@@ -41,6 +48,18 @@ expressionText ws at = ascii "(" ++ (keyword (getD ws at 0 % 8) ++ (pieces (item
 unfoldable pub inputText : List ℕ → ℕ → List ℕ
 inputText ws i = ascii "(in " ++ (nameAt ws (inputsAt + nameSize * i) ++ ascii ")\n")
 
+-- the pair of input i where the mask `fixed` has it: its value is the bit of `ones`
+unfoldable pub fixedText : List ℕ → ℕ → ℕ → ℕ → List ℕ
+fixedText ws fixed ones i = cond (eqb (bit fixed i) 1) (pairPiece ws (inputsAt + nameSize * i) (48 + bit ones i)) []
+
+-- the never line whose masks are at `at`
+unfoldable pub neverText : List ℕ → ℕ → List ℕ
+neverText ws at = ascii "(never" ++ (pieces (fixedText ws (getD ws at 0) (getD ws (at + 1) 0)) (getD ws 0 0) ++ ascii ")\n")
+
+-- never line i of those from `at` on
+unfoldable pub neverLineText : List ℕ → ℕ → ℕ → List ℕ
+neverLineText ws at i = neverText ws (at + neverSize * i)
+
 -- gate j of those from `at` on
 unfoldable pub gateText : List ℕ → ℕ → ℕ → List ℕ
 gateText ws at j = ascii "(gate " ++ (gateName j ++ (ascii " " ++ (expressionText ws (at + gateSize * j) ++ ascii ")\n")))
@@ -52,9 +71,10 @@ outputText ws at o =
     ++ (nameAt ws (at + outputSize * o)
     ++ (ascii " " ++ (operandText ws (at + outputSize * o + nameSize) ++ ascii ")\n")))
 
--- the three parts
+-- the four parts
 unfoldable pub blockText : List ℕ → List ℕ
 blockText ws =
     pieces (inputText ws) (getD ws 0 0)
-    ++ (pieces (gateText ws (gatesAt (getD ws 0 0))) (getD ws 1 0)
-    ++ pieces (outputText ws (outputsAt (getD ws 0 0) (getD ws 1 0))) (getD ws 2 0))
+    ++ (pieces (neverLineText ws (neversAt (getD ws 0 0))) (getD ws 3 0)
+    ++ (pieces (gateText ws (gatesAt (getD ws 0 0) (getD ws 3 0))) (getD ws 1 0)
+    ++ pieces (outputText ws (outputsAt (getD ws 0 0) (getD ws 3 0) (getD ws 1 0))) (getD ws 2 0)))

@@ -10,6 +10,7 @@ ghost use Rattle.netlist.specs.Answers.{Promise};
 ghost use Rattle.netlist.specs.Operations.{write};
 
 mod lines;
+mod nevers;
 pub mod pieces;
 
 // Write (6, 11). The first pass is over a text of one byte, and only measures.

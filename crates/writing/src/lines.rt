@@ -1,4 +1,5 @@
-// The lines of a text, those of inputs, gates and outputs, appended as in `pieces` (SPECIFICATION 1).
+// The lines of a text, those of inputs, gates and outputs, appended as in `pieces`, and the whole of it (SPECIFICATION 1).
+use crate::nevers::put_nevers;
 use crate::pieces::put;
 use crate::pieces::put_all;
 use crate::pieces::put_gate_name;
@@ -12,10 +13,14 @@ use layout::offsets::OUTPUT_SIZE;
 use layout::offsets::gates_at;
 use layout::offsets::gates_of;
 use layout::offsets::inputs_of;
+use layout::offsets::nevers_at;
+use layout::offsets::nevers_of;
 use layout::offsets::outputs_at;
 use layout::offsets::outputs_of;
 use layout::read::word_at;
 ghost use Prim.Native.Nat.{_≤_};
+ghost use lib.ListN.{getD};
+ghost use Rattle.netlist.specs.Limits.{maxInputs};
 ghost use Rattle.writing.specs.Pieces.{Appended, Short, pieces, itemText, expressionText, inputText, gateText, outputText, blockText};
 
 // A space and operand i of the gate whose first word is at `from`.
@@ -135,17 +140,15 @@ fn put_outputs(text: &mut [u8], at: usize, words: &[u16], from: usize, k: usize)
     end
 }
 
-// All inputs, all gates, all outputs.
+// All inputs, all never lines, all gates, all outputs.
 pub fn put_block(text: &mut [u8], at: usize, words: &[u16]) -> usize
+    requires { ⌜ getD (now words) 0 0 ≤ maxInputs ⌝ }
     requires { ⌜ Short (blockText (now words)) at ⌝ }
     ensures { λ r. ⌜ Appended (blockText (now (words .entry))) (now (text .entry)) at (now (text .exit)) r ⌝ }
 {
     let n = inputs_of(words);
-    let m = gates_of(words);
-    let k = outputs_of(words);
-    let gates = gates_at(n);
-    let outputs = outputs_at(n, m);
     let first = put_inputs(text, at, words, n);
-    let second = put_gates(text, first, words, gates, m);
-    put_outputs(text, second, words, outputs, k)
+    let second = put_nevers(text, first, words, nevers_at(n), nevers_of(words));
+    let third = put_gates(text, second, words, gates_at(words), gates_of(words));
+    put_outputs(text, third, words, outputs_at(words), outputs_of(words))
 }

@@ -16,7 +16,7 @@ ghost use Rattle.laws.specs.Lists.{trimmed};
 ghost use Rattle.netlist.specs.Kinds.{keyword};
 ghost use Rattle.netlist.specs.StoredBlock.{bytesAt, nameAt};
 ghost use Rattle.netlist.specs.Writing.{decimal, gateName};
-ghost use Rattle.writing.specs.Pieces.{Appended, Short, operandText};
+ghost use Rattle.writing.specs.Pieces.{Appended, Short, pairPiece, operandText};
 
 // One byte.
 pub fn put(text: &mut [u8], at: usize, byte: u8) -> usize
@@ -82,6 +82,19 @@ pub fn put_name(text: &mut [u8], at: usize, words: &[u16], from: usize) -> usize
 {
     let bytes = name_bytes(words, from);
     put_trimmed(text, at, &bytes)
+}
+
+// ` (NAME VALUE)`: the name whose words start at `from`, and the byte of its value.
+pub fn put_pair(text: &mut [u8], at: usize, words: &[u16], from: usize, byte: u8) -> usize
+    requires { ⌜ from ≤ 1000000 ⌝ }
+    requires { ⌜ Short (pairPiece (now words) from byte) at ⌝ }
+    ensures { λ r. ⌜ Appended (pairPiece (now (words .entry)) from byte) (now (text .entry)) at (now (text .exit)) r ⌝ }
+{
+    let opened = put_all(text, at, b" (");
+    let named = put_name(text, opened, words, from);
+    let spaced = put(text, named, b' ');
+    let filled = put(text, spaced, byte);
+    put(text, filled, b')')
 }
 
 // The decimal digits of a number.

@@ -138,6 +138,8 @@ fn not(value: u8) -> u8 {
 /// Words that keep every rule.
 pub struct Block<'a> {
     pub inputs: Vec<&'a [u16]>,
+    /// The two masks of each never line.
+    pub nevers: Vec<&'a [u16]>,
     pub gates: Vec<Gate>,
     pub outputs: Vec<(&'a [u16], usize)>,
 }
@@ -145,14 +147,21 @@ pub struct Block<'a> {
 impl Block<'_> {
     /// The block, or nothing where the words break a rule.
     pub fn of(words: &[u16]) -> Option<Block<'_>> {
-        let [n, m, k, rest @ ..] = words else {
+        let [n, m, k, l, rest @ ..] = words else {
             return None;
         };
-        let [n, m, k] = [n, m, k].map(|&count| usize::from(count));
-        if n > 10 || m > 1_024 || k > 16 || rest.len() != 4 * n + 5 * m + 5 * k {
+        let [n, m, k, l] = [n, m, k, l].map(|&count| usize::from(count));
+        let crowded = n > 10 || m > 1_024 || k > 16 || l > 8;
+        if crowded || rest.len() != 4 * n + 2 * l + 5 * m + 5 * k {
             return None;
         }
         let (names, rest) = rest.split_at(4 * n);
+        let (nevers, rest) = rest.split_at(2 * l);
+        let nevers: Vec<&[u16]> = nevers.chunks(2).collect();
+        let legal = |never: &&[u16]| (1..1 << n).contains(&never[0]) && never[1] & !never[0] == 0;
+        if !nevers.iter().all(legal) {
+            return None;
+        }
         let (gates, outputs) = rest.split_at(5 * m);
         let inputs: Vec<&[u16]> = names.chunks(4).collect();
         let ports: Vec<&[u16]> = outputs.chunks(5).map(|output| &output[..4]).collect();
@@ -164,9 +173,16 @@ impl Block<'_> {
         let gates = gates.chunks(5).map(|gate| Gate::of(gate, nodes));
         Some(Block {
             inputs,
+            nevers,
             gates: gates.collect::<Option<Vec<Gate>>>()?,
             outputs: ports.into_iter().zip(shown).collect(),
         })
+    }
+
+    /// Whether a never line excludes the setting of this number.
+    pub fn is_excluded(&self, setting: usize) -> bool {
+        let agrees = |never: &&[u16]| setting as u16 & never[0] == never[1];
+        self.nevers.iter().any(agrees)
     }
 
     /// The values before the first round.

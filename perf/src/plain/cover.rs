@@ -50,7 +50,7 @@ impl Table {
             for ones in parts(mask) {
                 let at = table.at(mask, ones);
                 table.sound[at] = match mask == full {
-                    true => is_settled(block, ones),
+                    true => block.is_excluded(ones) || is_settled(block, ones),
                     false => table.is_sound_by_cases(mask, ones),
                 };
             }

@@ -18,6 +18,8 @@ pub enum Operand<'a> {
 #[derive(Default)]
 pub struct Netlist<'a> {
     pub inputs: Vec<Name<'a>>,
+    /// The names and values of each never line.
+    pub nevers: Vec<Vec<(Name<'a>, bool)>>,
     /// The kind and the operands of each gate, by closing bracket.
     pub gates: Vec<(Kind, Vec<Operand<'a>>)>,
     /// The gate lines' names and gates.
@@ -32,9 +34,10 @@ pub struct Parser<'a> {
     pub netlist: Netlist<'a>,
 }
 
-#[derive(PartialEq)]
+#[derive(PartialEq, PartialOrd)]
 enum Section {
     Inputs,
+    Nevers,
     Gates,
     Outputs,
 }
@@ -68,6 +71,10 @@ impl<'a> Parser<'a> {
             self.expect(b"(")?;
             match self.peek() {
                 Some(b'i') if section == Section::Inputs => self.input()?,
+                Some(b'n') if section <= Section::Nevers => {
+                    section = Section::Nevers;
+                    self.never()?;
+                }
                 Some(b'g') if section != Section::Outputs => {
                     section = Section::Gates;
                     self.gate_line()?;
@@ -88,6 +95,29 @@ impl<'a> Parser<'a> {
         let name = self.name(false)?;
         self.netlist.inputs.push(name);
         Ok(())
+    }
+
+    fn never(&mut self) -> Result<(), usize> {
+        self.expect(b"never ")?;
+        let mut pairs = vec![self.pair()?];
+        while self.peek() == Some(b' ') {
+            self.place += 1;
+            pairs.push(self.pair()?);
+        }
+        self.netlist.nevers.push(pairs);
+        Ok(())
+    }
+
+    fn pair(&mut self) -> Result<(Name<'a>, bool), usize> {
+        self.expect(b"(")?;
+        let name = self.name(true)?;
+        self.expect(b" ")?;
+        let Some(value @ (b'0' | b'1')) = self.peek() else {
+            return Err(self.place);
+        };
+        self.place += 1;
+        self.expect(b")")?;
+        Ok((name, value == b'1'))
     }
 
     fn gate_line(&mut self) -> Result<(), usize> {

@@ -23,10 +23,19 @@ fn words_of(text: &[u8]) -> Result<Vec<u16>, Refusal> {
     let mut parser = Parser::new(text);
     parser.lines().map_err(|place| (2, place))?;
     let netlist = parser.netlist;
-    if netlist.inputs.len() > 10 || netlist.gates.len() > 1_024 || netlist.outputs.len() > 16 {
+    let crowded = netlist.inputs.len() > 10
+        || netlist.nevers.len() > 8
+        || netlist.gates.len() > 1_024
+        || netlist.outputs.len() > 16;
+    if crowded {
         return Err((3, 0));
     }
-    let nodes = netlist.declared().map_err(|place| (4, place))?;
+    let declared = netlist.declared();
+    let again = declared.as_ref().err().copied();
+    if let Some(place) = again.into_iter().chain(netlist.given_again()).min() {
+        return Err((4, place));
+    }
+    let nodes = declared.map_err(|place| (4, place))?;
     netlist.words(&nodes).map_err(|place| (5, place))
 }
 
@@ -49,6 +58,34 @@ impl<'a> Netlist<'a> {
         }
     }
 
+    /// The place of the first name that its never line has given already.
+    fn given_again(&self) -> Option<usize> {
+        self.nevers.iter().find_map(|pairs| {
+            let mut seen = HashSet::new();
+            let again = pairs.iter().find(|(name, _)| !seen.insert(name.bytes));
+            again.map(|(name, _)| name.place)
+        })
+    }
+
+    /// The two masks of each never line, or the place of the first name that is no input's.
+    fn masks(&self, nodes: &HashMap<&[u8], usize>) -> Result<Vec<u16>, usize> {
+        let mut masks = Vec::with_capacity(2 * self.nevers.len());
+        for pairs in &self.nevers {
+            let (mut fixed, mut ones) = (0, 0);
+            for (name, value) in pairs {
+                match nodes.get(name.bytes) {
+                    Some(&node) if node < self.inputs.len() => {
+                        fixed |= 1 << node;
+                        ones |= u16::from(*value) << node;
+                    }
+                    _ => return Err(name.place),
+                }
+            }
+            masks.extend([fixed, ones]);
+        }
+        Ok(masks)
+    }
+
     /// The stored block, or the earliest place of a name that isn't declared.
     fn words(&self, nodes: &HashMap<&[u8], usize>) -> Result<Vec<u16>, usize> {
         let n = self.inputs.len();
@@ -60,11 +97,13 @@ impl<'a> Netlist<'a> {
                 0
             }
         };
-        let counts = [n, self.gates.len(), self.outputs.len()];
+        let [m, k, l] = [self.gates.len(), self.outputs.len(), self.nevers.len()];
+        let counts = [n, m, k, l];
         let mut words: Vec<u16> = counts.iter().map(|&count| count as u16).collect();
         for input in &self.inputs {
             words.extend(name_words(input.bytes));
         }
+        words.extend(self.masks(nodes)?);
         for (kind, operands) in &self.gates {
             words.push(*kind as u16 + 8 * operands.len() as u16);
             words.extend(operands.iter().map(|operand| match operand {

@@ -17,7 +17,8 @@ pub fn render(words: &[u16], rendered: &mut [u16]) -> Reply {
         return refused(8, 0);
     }
     let mut settings = 0..1 << block.inputs.len();
-    if let Some(setting) = settings.find(|&setting| !is_settled(&block, setting)) {
+    let fails = |&setting: &usize| !block.is_excluded(setting) && !is_settled(&block, setting);
+    if let Some(setting) = settings.find(fails) {
         return refused(9, setting);
     }
     let result = rendering(words, &block, &groups, copies);
@@ -26,7 +27,7 @@ pub fn render(words: &[u16], rendered: &mut [u16]) -> Reply {
 
 fn rendering(words: &[u16], block: &Block, groups: &[Vec<usize>], copies: usize) -> Vec<u16> {
     let (n, m) = (block.inputs.len(), block.gates.len());
-    let (head, rest) = words.split_at(3 + 4 * n);
+    let (head, rest) = words.split_at(4 + 4 * n + 2 * block.nevers.len());
     let (gates, outputs) = rest.split_at(5 * m);
     let mut result = head.to_vec();
     result[1] = copies as u16;

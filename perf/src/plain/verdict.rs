@@ -12,7 +12,7 @@ pub fn verdict(words: &[u16]) -> Reply {
     let settings = 1 << block.inputs.len();
     let mut settled = 0;
     let mut lowest = settings;
-    for setting in 0..settings {
+    for setting in (0..settings).filter(|&setting| !block.is_excluded(setting)) {
         if is_settled(&block, setting) {
             settled += 1;
         } else {

@@ -21,6 +21,17 @@ fn lines(block: &Block) -> std::io::Result<Vec<u8>> {
         push_name(&mut text, name);
         text.extend(b")\n");
     }
+    for never in &block.nevers {
+        text.extend(b"(never");
+        for (i, name) in block.inputs.iter().enumerate() {
+            if never[0] >> i & 1 == 1 {
+                text.extend(b" (");
+                push_name(&mut text, name);
+                write!(text, " {})", never[1] >> i & 1)?;
+            }
+        }
+        text.extend(b")\n");
+    }
     for (number, gate) in block.gates.iter().enumerate() {
         write!(text, "(gate _{number} ({}", gate.kind.keyword())?;
         for &operand in gate.operands() {

@@ -36,7 +36,7 @@ const fn kind(name: &'static str, every: u64, compare: fn(Range<u64>)) -> Kind {
     }
 }
 
-const KINDS: [Kind; 15] = [
+const KINDS: [Kind; 19] = [
     kind("small blocks", 1, |s| seeded::blocks(s, Size::SMALL)),
     kind("middle blocks", 101, |s| seeded::blocks(s, Size::MIDDLE)),
     kind("large blocks", 2_001, |s| seeded::blocks(s, Size::LARGE)),
@@ -49,6 +49,18 @@ const KINDS: [Kind; 15] = [
     }),
     kind("malformed blocks", 11, seeded::malformed_words),
     kind("mangled blocks", 1, seeded::mangled_words),
+    kind("small blocks brought over", 1, |s| {
+        seeded::brought_blocks(s, Size::SMALL)
+    }),
+    kind("middle blocks brought over", 301, |s| {
+        seeded::brought_blocks(s, Size::MIDDLE)
+    }),
+    kind("malformed old blocks", 11, seeded::malformed_old_words),
+    kind(
+        "texts with a strange never line",
+        1,
+        seeded::texts_with_a_strange_never,
+    ),
     kind("legal small texts", 1, |s| {
         seeded::legal_texts(s, Size::SMALL)
     }),

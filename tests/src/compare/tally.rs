@@ -1,5 +1,6 @@
 //! How much was compared on this thread; each test has a thread of its own.
 
+use crate::limits::NEVERS;
 use std::cell::Cell;
 use std::fmt::{self, Display, Formatter};
 use std::thread;
@@ -9,6 +10,12 @@ use std::thread;
 pub struct Tally {
     /// Lists of words, each in every operation on a block.
     pub words: usize,
+    /// Blocks among them, by how many never lines they have.
+    pub lines: [usize; NEVERS + 1],
+    /// Blocks among them of which every setting is excluded.
+    pub all_excluded: usize,
+    /// Lists of words in Bring.
+    pub brought: usize,
     /// Settings, each with a list of words in Settle and Pass.
     pub settings: usize,
     /// Texts in Read.
@@ -23,6 +30,9 @@ thread_local! {
     static TALLY: Cell<Tally> = const {
         Cell::new(Tally {
             words: 0,
+            lines: [0; NEVERS + 1],
+            all_excluded: 0,
+            brought: 0,
             settings: 0,
             texts: 0,
             places: 0,
@@ -49,12 +59,20 @@ impl Display for Tally {
     fn fmt(&self, f: &mut Formatter<'_>) -> fmt::Result {
         let Tally {
             words,
+            lines,
+            all_excluded,
+            brought,
             settings,
             texts,
             places,
             answered,
         } = self;
         write!(f, "{words} lists of words, {settings} settings, ")?;
+        write!(f, "blocks by never lines {lines:?}, ")?;
+        write!(
+            f,
+            "{all_excluded} with every setting excluded, {brought} in Bring, "
+        )?;
         write!(f, "{texts} texts, {places} places of lines, ")?;
         write!(f, "answers by number {answered:?}")
     }

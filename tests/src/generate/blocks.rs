@@ -1,6 +1,6 @@
 //! Random blocks.
 
-use super::{Random, Size};
+use super::{nevers, Random, Size};
 use crate::block::{Block, Gate, Kind, Output, Source};
 
 /// What the gates may read.
@@ -35,6 +35,7 @@ pub fn block(random: &mut Random, shape: Shape, size: Size) -> Block {
     Block {
         inputs,
         outputs: outputs(random, n, gates.len(), size.outputs),
+        nevers: nevers(random, n, size.nevers),
         gates,
     }
 }

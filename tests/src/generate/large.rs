@@ -2,8 +2,8 @@
 
 use super::blocks::shuffled;
 use super::Random;
-use crate::block::{Block, Gate, Kind, Output, Source};
-use crate::limits::{GATES, INPUTS, OUTPUTS};
+use crate::block::{Block, Gate, Kind, Never, Output, Source};
+use crate::limits::{GATES, INPUTS, NEVERS, OUTPUTS};
 
 /// The blocks, by name.
 pub fn large() -> Vec<(&'static str, Block)> {
@@ -24,6 +24,7 @@ pub fn large() -> Vec<(&'static str, Block)> {
         ("reversed-ring-of-32", full(reversed_ring(32))),
         ("groups-of-5-and-lone", full(groups_of_5(&mut random))),
         ("half-unneeded", half_unneeded(&mut random)),
+        ("half-excluded", half_excluded(&mut random)),
     ]
 }
 
@@ -38,8 +39,13 @@ pub fn longest_written() -> Block {
         port: name("y", i),
         node: Source::Input(0),
     };
+    let never = |i| Never {
+        fixed: (1 << INPUTS) - 1,
+        ones: i as u16,
+    };
     Block {
         inputs: (0..INPUTS).map(|i| name("x", i)).collect(),
+        nevers: (0..NEVERS).map(never).collect(),
         gates: vec![gate; GATES],
         outputs: (0..OUTPUTS).map(output).collect(),
     }
@@ -53,6 +59,7 @@ fn full(gates: Vec<Gate>) -> Block {
     };
     Block {
         inputs: (0..INPUTS).map(|i| format!("i{i}")).collect(),
+        nevers: Vec::new(),
         outputs: (0..OUTPUTS).map(output).collect(),
         gates,
     }
@@ -66,6 +73,13 @@ fn half_unneeded(random: &mut Random) -> Block {
             *gate -= GATES / 2;
         }
     }
+    block
+}
+
+/// Straight, and half of the settings never come: those with the first input at 1.
+fn half_excluded(random: &mut Random) -> Block {
+    let mut block = full(straight_fours(random, GATES));
+    block.nevers.push(Never { fixed: 1, ones: 1 });
     block
 }
 

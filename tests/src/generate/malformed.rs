@@ -1,7 +1,7 @@
 //! Blocks that break one rule of the stored block each.
 
 use super::Random;
-use crate::block::{Block, Gate, Kind, Output, Source, ONE_WORD, ZERO_WORD};
+use crate::block::{Block, Gate, Kind, Never, Output, Source, ONE_WORD, ZERO_WORD};
 use crate::limits::*;
 
 /// A `not`, and the other kinds with two, three and four operands.
@@ -13,12 +13,35 @@ pub fn malformed(random: &mut Random, block: &Block) -> Vec<(&'static str, Vec<u
     let mut made = lengths(random, &block);
     made.extend(limits(&block));
     made.extend(names(random, &block));
+    made.extend(nevers(random, &block));
     made.extend(gates(random, &block));
     made.extend(outputs(random, &block));
     made
 }
 
-/// The block with two inputs, a gate of each kind and count, and two outputs at least.
+/// The same of the rules from before there were never lines, on words as they were then.
+pub fn malformed_before(random: &mut Random, block: &Block) -> Vec<(&'static str, Vec<u16>)> {
+    let block = filled(random, block).without_nevers();
+    let mut made = lengths(random, &block);
+    made.extend(limits(&block));
+    made.extend(names(random, &block));
+    made.extend(gates(random, &block));
+    made.extend(outputs(random, &block));
+    made.retain(|(_, words)| words.get(OLD_HEAD_WORDS) == Some(&0));
+    for (_, words) in &mut made {
+        words.remove(OLD_HEAD_WORDS);
+    }
+    let mut crowded = block.clone();
+    crowded.inputs = (0..=OLD_INPUTS).map(|i| format!("i{i}")).collect();
+    made.push(("an input more than there were", crowded.to_old_words()));
+    made.push(("words of today", block.to_words()));
+    for (rule, length) in [("no words", 0), ("one word", 1), ("two words", 2)] {
+        made.push((rule, vec![0; length]));
+    }
+    made
+}
+
+/// The block with two inputs, a never line, a gate of each kind and count, and two outputs at least.
 fn filled(random: &mut Random, block: &Block) -> Block {
     let mut block = block.clone();
     let mut used = block.inputs.clone();
@@ -26,6 +49,9 @@ fn filled(random: &mut Random, block: &Block) -> Block {
     block.outputs.clear();
     while block.inputs.len() < 2 {
         block.inputs.push(random.fresh_name(&mut used));
+    }
+    if block.nevers.is_empty() {
+        block.nevers.push(Never { fixed: 3, ones: 1 });
     }
     let (n, m) = (block.inputs.len(), block.gates.len());
     for operand in block.gates.iter_mut().flat_map(|gate| &mut gate.operands) {
@@ -68,18 +94,29 @@ fn lengths(random: &mut Random, block: &Block) -> Vec<(&'static str, Vec<u16>)> 
     let words = block.to_words();
     let cut = random.below(words.len());
     let longer = [words.clone(), vec![0]].concat();
+    let mut longest = words.clone();
+    longest.resize(random.between(BLOCK_WORDS, BLOCK_WORDS + 2), 0);
+    let mut far_longer = words.clone();
+    far_longer.resize(70_000, 0);
     vec![
         ("no words", Vec::new()),
-        ("two words", vec![0, 0]),
+        ("three words", vec![0, 0, 0]),
         ("cut off", words[..cut].to_vec()),
         ("one word short", words[..words.len() - 1].to_vec()),
         ("one word more", longer),
+        ("about as many words as a block may have", longest),
+        ("more words than a number of 16 bits", far_longer),
         (
             "an input too many in the head",
             with(&words, 0, words[0] + 1),
         ),
         ("a gate too few in the head", with(&words, 1, words[1] - 1)),
         ("65,535 outputs in the head", with(&words, 2, 65_535)),
+        (
+            "a never line too many in the head",
+            with(&words, 3, words[3] + 1),
+        ),
+        ("65,535 never lines in the head", with(&words, 3, 65_535)),
     ]
 }
 
@@ -132,10 +169,41 @@ fn names(random: &mut Random, block: &Block) -> Vec<(&'static str, Vec<u16>)> {
     made
 }
 
+fn nevers(random: &mut Random, block: &Block) -> Vec<(&'static str, Vec<u16>)> {
+    let words = block.to_words();
+    let n = block.inputs.len();
+    let line = random.below(block.nevers.len());
+    let at = HEAD_WORDS + NAME_WORDS * n + NEVER_WORDS * line;
+    let Never { fixed, ones } = block.nevers[line];
+    let (beyond, last) = (1 << n, 32_768);
+    let masks = |fixed: u16, ones: u16| with(&with(&words, at, fixed), at + 1, ones);
+    let mut nine = block.clone();
+    nine.nevers.resize(NEVERS + 1, block.nevers[line]);
+    let mut made = vec![
+        ("a never line that fixes nothing", masks(0, 0)),
+        ("ones of no fixed input", masks(0, 1)),
+        ("a fixed bit at n", masks(fixed | beyond, ones)),
+        ("only a fixed bit at n", masks(beyond, 0)),
+        (
+            "a fixed bit at n and at 1",
+            masks(fixed | beyond, ones | beyond),
+        ),
+        ("the top fixed bit", masks(fixed | last, ones)),
+        ("a value bit at n", masks(fixed, ones | beyond)),
+        ("the top value bit", masks(fixed, ones | last)),
+        ("nine never lines", nine.to_words()),
+    ];
+    let free = (0..n).map(|i| 1 << i).find(|bit| fixed & bit == 0);
+    made.extend(free.map(|bit| ("a value bit outside", masks(fixed, ones | bit))));
+    made.push(("a value bit outside, alone", masks(1, 2)));
+    made
+}
+
 fn gates(random: &mut Random, block: &Block) -> Vec<(&'static str, Vec<u16>)> {
     let words = block.to_words();
     let nodes = (block.inputs.len() + block.gates.len()) as u16;
-    let place = |gate: usize| HEAD_WORDS + NAME_WORDS * block.inputs.len() + GATE_WORDS * gate;
+    let gates_at = HEAD_WORDS + NAME_WORDS * block.inputs.len() + NEVER_WORDS * block.nevers.len();
+    let place = |gate: usize| gates_at + GATE_WORDS * gate;
     let at = place(random.below(block.gates.len()));
     let one_at = place(block.gates.len() - ADDED_GATES);
     let (kind, count) = (words[at] % 8, words[at] / 8);

@@ -16,7 +16,7 @@ fn change(random: &mut Random, text: &mut Vec<u8>) {
     let place = random.below(text.len() + 1);
     let byte = match random.below(8) {
         0 => random.below(256) as u8,
-        _ => random.pick(b"() \n01_abdeginoprtuxyz9"),
+        _ => random.pick(b"() \n01_abdeginoprtuvxyz9"),
     };
     match random.below(6) {
         0 => text.truncate(place),
@@ -60,12 +60,18 @@ pub fn near_a_limit(random: &mut Random, more: usize) -> Vec<u8> {
         |count: usize, line: &dyn Fn(usize) -> String| -> String { (0..count).map(line).collect() };
     let repeated = random.chance(50);
     let number = |i: usize| if repeated { 0 } else { i };
-    let text = match random.below(4) {
+    let text = match random.below(5) {
         0 => lines(limits::INPUTS + more, &|i| format!("(in a{})\n", number(i))),
         1 => lines(limits::GATES + more, &|i| {
             format!("(gate a{} (not 0))\n", number(i))
         }),
-        2 => lines(limits::OUTPUTS + more, &|i| {
+        2 => {
+            "(in a0)\n".to_string()
+                + &lines(limits::NEVERS + more, &|i| {
+                    format!("(never (a{} 1))\n", number(i))
+                })
+        }
+        3 => lines(limits::OUTPUTS + more, &|i| {
             format!("(out a{} b)\n", number(i))
         }),
         _ => lines((limits::GATES + more) / 5, &|i| {

@@ -1,7 +1,8 @@
 //! Random texts that Read takes, with the block they stand for.
 
+use super::nevers::{never_text, nevers};
 use super::{Random, Size};
-use crate::block::{Block, Gate, Kind, Output, Source};
+use crate::block::{Block, Gate, Kind, Never, Output, Source};
 use crate::limits;
 
 /// A text that Read takes, and its block, numbered while the text is made.
@@ -14,6 +15,7 @@ pub fn text(random: &mut Random, size: Size) -> (Vec<u8>, Block) {
         .map(|_| gate_name(random, &mut used))
         .collect();
     let mut maker = Maker::new(random, inputs, lines);
+    maker.never_lines(size.nevers);
     maker.gate_lines();
     maker.output_lines(size.outputs);
     maker.finished()
@@ -42,6 +44,7 @@ struct Maker<'a> {
     inputs: Vec<String>,
     lines: Vec<String>,
     text: String,
+    nevers: Vec<Never>,
     gates: Vec<(Kind, Vec<Pending>)>,
     /// The gate number of each gate line so far.
     numbers: Vec<usize>,
@@ -56,9 +59,17 @@ impl Maker<'_> {
             inputs,
             lines,
             text,
+            nevers: Vec::new(),
             gates: Vec::new(),
             numbers: Vec::new(),
             outputs: Vec::new(),
+        }
+    }
+
+    fn never_lines(&mut self, most: usize) {
+        self.nevers = nevers(self.random, self.inputs.len(), most);
+        for &line in &self.nevers {
+            self.text += &never_text(self.random, &self.inputs, line);
         }
     }
 
@@ -152,6 +163,7 @@ impl Maker<'_> {
         };
         let block = Block {
             inputs: self.inputs,
+            nevers: self.nevers,
             gates: self.gates.into_iter().map(gate).collect(),
             outputs: self.outputs.into_iter().map(node).collect(),
         };

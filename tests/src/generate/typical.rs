@@ -125,6 +125,7 @@ impl Maker<'_> {
         };
         Block {
             inputs: (0..self.n).map(|i| format!("x{i}")).collect(),
+            nevers: Vec::new(),
             outputs: shown.map(output).collect(),
             gates: renumbered(self.gates, &number),
         }

@@ -23,6 +23,7 @@ pub fn widest_cover() -> Block {
     let port = "y".to_string();
     Block {
         inputs: (0..INPUTS).map(|i| format!("x{i}")).collect(),
+        nevers: Vec::new(),
         gates,
         outputs: vec![Output { port, node }],
     }

@@ -1,6 +1,8 @@
 -- `block::check_straight` meets its contract: a block is straight exactly when each gate keeps its rule with only the inputs and the lower gates
 -- as nodes (`straight-is`). Assumes nothing.
 use borrow.Author.Needs.{needs}
+use native.Mathlib.Omega.{arith}
+use Rattle.netlist.specs.StoredBlock.{neversAt, gatesAt}
 use Rattle.encoding.proofs.Readers.{whole-parts}
 use Rattle.block.proofs.StraightLaws.{straight-is}
 use Rattle.block.proofs.check_straight.Statement.{statement}
@@ -12,26 +14,32 @@ inputs-of-requires c κs = search needs
 gates-of-requires : tie.Need-gates-of-requires
 gates-of-requires c κs = search needs
 
+gates-at-requires : tie.Need-gates-at-requires
+gates-at-requires c κs = search needs
+
 read-lower-requires : tie.Need-read-lower-requires
+unfolding gatesAt neversAt
 read-lower-requires c κs =
-    let s = c .before .before .before in
+    let s = c .before .before .before .before in
     let w = whole-parts (s .args .words .now) (s .pre) in
-    rw (c .before .inputs-of .ensures, c .gates-of .ensures) (w .fewInputs, w .fewGates)
+    rw (c .before .before .inputs-of .ensures, c .before .gates-of .ensures, c .gates-at .ensures)
+    (w .fewInputs, (omega (arith, w .fewInputs, w .fewNevers), w .fewGates))
 
 refuse-if-requires : tie.Need-refuse-if-requires
 refuse-if-requires c κs = search needs
 
 returns : tie.Need-returns
 returns c =
-    let s = c .before .before .before .before .before in
+    let s = c .before .before .before .before .before .before in
     rw (
       ← straight-is (s .args .words .now) (s .pre),
-      ← c .before .before .before .inputs-of .ensures,
-      ← c .before .before .gates-of .ensures,
+      ← c .before .before .gates-at .ensures,
+      ← c .before .before .before .before .inputs-of .ensures,
+      ← c .before .before .before .gates-of .ensures,
       ← c .before .read-lower .ensures,
     )
     (c .refuse-if .ensures)
 
 pub check-straight-spec : {M : Type 1} → statement M
 check-straight-spec =
-    tie.close (tie.spec inputs-of-requires gates-of-requires read-lower-requires refuse-if-requires returns)
+    tie.close (tie.spec inputs-of-requires gates-of-requires gates-at-requires read-lower-requires refuse-if-requires returns)

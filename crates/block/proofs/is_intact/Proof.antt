@@ -24,22 +24,28 @@ gates-of-requires c κs = search needs
 outputs-of-requires : tie.Need-outputs-of-requires
 outputs-of-requires c κs = search needs
 
+nevers-of-requires : tie.Need-nevers-of-requires
+nevers-of-requires c κs = search needs
+
 parts-fit-requires : tie.Need-parts-fit-requires
 parts-fit-requires c κs =
-    let ws = c .before .before .before .before .before .before .args .words .now in
-    let l : Limits (getD ws 0 0) (getD ws 1 0) (getD ws 2 0) = header-limits ws
-    (sym (c .before .before .before .before .fits2 .ensures) ∙ not-false _ (c .before .before .before .if1 .left)) in
-    rw (c .before .before .inputs-of .ensures, c .before .gates-of .ensures, c .outputs-of .ensures) (l .inputs, (l .gates, l .outputs))
+    let ws = c .before .before .before .before .before .before .before .args .words .now in
+    let l : Limits (getD ws 0 0) (getD ws 1 0) (getD ws 2 0) (getD ws 3 0) = header-limits ws
+    (sym (c .before .before .before .before .before .fits2 .ensures) ∙ not-false _ (c .before .before .before .before .if1 .left)) in
+    rw (c .before .before .before .inputs-of .ensures, c .before .before .gates-of .ensures, c .before .outputs-of .ensures, c .nevers-of .ensures)
+    (l .inputs, (l .nevers, (l .gates, l .outputs)))
 
 returns-2 : tie.Need-returns-2
 unfolding intact
 returns-2 c =
     rw (
-      sym (c .before .before .before .before .before .fits2 .ensures) ∙ not-false _ (c .before .before .before .before .if1 .left),
-      ← c .before .before .before .inputs-of .ensures,
-      ← c .before .before .gates-of .ensures,
-      ← c .before .outputs-of .ensures,
-    ) (c .parts-fit .ensures)
+      sym (c .before .before .before .before .before .before .fits2 .ensures) ∙ not-false _ (c .before .before .before .before .before .if1 .left),
+      ← c .before .before .before .before .inputs-of .ensures,
+      ← c .before .before .before .gates-of .ensures,
+      ← c .before .before .outputs-of .ensures,
+      ← c .before .nevers-of .ensures,
+    )
+    (c .parts-fit .ensures)
 
 pub is-intact-spec : {M : Type 1} → statement M
 is-intact-spec =
@@ -50,5 +56,6 @@ is-intact-spec =
     inputs-of-requires
     gates-of-requires
     outputs-of-requires
+    nevers-of-requires
     parts-fit-requires
     returns-2)

@@ -13,11 +13,12 @@ use Rattle.netlist.specs.StoredBlock.{decode}
 use Rattle.netlist.specs.Reading.{firstRepeat, firstOutside}
 use Rattle.netlist.specs.Answers.{testAt, refuseAt, inRoom}
 use Rattle.netlist.specs.Operations.{counted}
-use Rattle.netlist.specs.SetLine.{Pair}
+use Rattle.netlist.specs.Syntax.{Pair}
 use Rattle.netlist.specs.Bench.{givenNames, givenValues, showLine, pairsOutcome}
 use Rattle.refusals.proofs.Promised.{passed-at, failed-at, keeps-room}
-use Rattle.setline.specs.Tables.{TablesFor}
-use Rattle.setline.proofs.TableLaws.{inputs-few, inputs-counted, names-room, places-room, codes-room, inputs-room, filled-room, setting-given}
+use Rattle.setline.specs.Tables.{pairsAt, TablesFor}
+use Rattle.pairs.proofs.TableLaws.{names-room, places-room, codes-room, inputs-room, filled-room}
+use Rattle.setline.proofs.TableLaws.{inputs-few, inputs-counted, line-setting}
 use Rattle.setline.proofs.Outcomes.{pairs-chain}
 
 -- the function's entry, and the test that was passed first
@@ -32,12 +33,14 @@ For c ps = let a = start c .args in TablesFor (a .words .now) ps (a .names .now)
 
 repeat-told : (c : tie.After-test-repeat) (ps : List Pair) → For c ps
     → c .test-repeat .result ≡ testAt (firstRepeat [] (givenNames ps)) DuplicateDeclaration
-repeat-told c ps f = c .test-repeat .ensures ps (f .legal) (f .tabled .counted) (f .tabled .namesAre) (f .tabled .placesAre)
+unfolding givenNames
+repeat-told c ps f = c .test-repeat .ensures ps pairsAt (f .legal) (f .tabled .counted) (f .tabled .namesAre) (f .tabled .placesAre)
 
 outside-told : (c : tie.After-test-outside) (ps : List Pair) → For (first c) ps
     → c .test-outside .result ≡ testAt (firstOutside (decode (start (first c) .args .words .now) .inputs) (givenNames ps)) UndeclaredName
+unfolding givenNames
 outside-told c ps f =
-    c .test-outside .ensures ps (decode (start (first c) .args .words .now) .inputs) (f .legal) (f .tabled .counted) (f .tabled .namesAre)
+    c .test-outside .ensures ps pairsAt (decode (start (first c) .args .words .now) .inputs) (f .legal) (f .tabled .counted) (f .tabled .namesAre)
     (f .tabled .placesAre) (inputs-counted (first c .before .inputs-of .ensures) (f .inputsAre))
 
 -- what is left of the chain behind 4
@@ -51,7 +54,8 @@ inputs-of-requires : tie.Need-inputs-of-requires
 inputs-of-requires c κs = search needs
 
 test-repeat-requires : tie.Need-test-repeat-requires
-test-repeat-requires c κs = let f = c .before .before .before .before .before .before .before .before .pre .for in (names-room f, places-room f)
+test-repeat-requires c κs = let f = c .before .before .before .before .before .before .before .before .pre .for in
+    (names-room (f .tabled), places-room (f .tabled))
 
 enum-told : tie.Need-enum-told
 enum-told c = search needs
@@ -71,7 +75,9 @@ returns c =
 
 test-outside-requires : tie.Need-test-outside-requires
 test-outside-requires c κs =
-    let t = c .before .before in let f = start t .pre .for in (names-room f, places-room f, rw (t .before .inputs-of .ensures) (inputs-room f))
+    let t = c .before .before in
+    let f = start t .pre .for in
+    (names-room (f .tabled), places-room (f .tabled), rw (t .before .inputs-of .ensures) (inputs-room (f .inputsAre)))
 
 enum-told-3 : tie.Need-enum-told-3
 enum-told-3 c = search needs
@@ -94,8 +100,12 @@ fill-setting-requires c κs =
     let t = first (c .before .before .before) in
     let p = start t .pre in
     let f = p .for in
-    let n = inputs-few (start t .args .words .now) (f .whole) in
-    (names-room f, codes-room f, rw (t .before .inputs-of .ensures) (inputs-room f), omega (arith, n, t .before .inputs-of .ensures, p .settingRoom))
+    let n = inputs-few (start t .args .words .now) (f .whole) in (
+      names-room (f .tabled),
+      codes-room (f .tabled),
+      rw (t .before .inputs-of .ensures) (inputs-room (f .inputsAre)),
+      omega (arith, n, t .before .inputs-of .ensures, p .settingRoom),
+    )
 
 slice-reshare-prefix-show : tie.Need-slice-reshare-prefix-show
 slice-reshare-prefix-show c = filled-room _ _ _ (c .before .before .fill-setting .ensures)
@@ -118,7 +128,7 @@ returns-3 c =
     let told = c .before .before .before .before .before .before .before .before .before in
     let t = told .before .before in
     let shown = passed-at (inRoom _) (keeps-room _) _ _ UndeclaredName (behind-repeat t ps f) (outside-told t ps f) (told .enum-told3 .given .1) in
-    rw (shown, ← setting-given f _ (first t .before .inputs-of .ensures) (c .before .before .before .before .before .before .before .fill-setting .ensures))
+    rw (shown, ← line-setting f _ (first t .before .inputs-of .ensures) (c .before .before .before .before .before .before .before .fill-setting .ensures))
     (c .before .before .show .ensures)
 
 pub answer-tables-spec : {M : Type 1} → statement M

@@ -3,7 +3,7 @@ use borrow.Author.Needs.{needs}
 use Rattle.setline.proofs.answer_with.Statement.{statement}
 use Rattle.setline.proofs.answer_with.Tie as tie
 use native.Mathlib.Omega.{arith}
-use Rattle.setline.proofs.TableLaws.{inputs-few, pair-room, tables-for}
+use Rattle.setline.proofs.TableLaws.{pairs-at, inputs-few, pair-room, tables-for}
 
 -- the function's entry, from where the pairs' tables are filled, and from where the inputs' table is
 abbrev start : tie.After-fill-pairs → tie.Start
@@ -32,7 +32,7 @@ answer-tables-requires c κs =
     let f = s .pre .0 in
     record {
       pairs = f .pairs;
-      for = tables-for (f .for) _ (pairs-filled filled .fill-pairs .ensures _ (f .pairs) (f .for .is)) (filled .before .before .inputs-of .ensures)
+      for = tables-for (f .for) _ (pairs-filled filled .fill-pairs .ensures (f .pairs) (pairs-at (f .for .is))) (filled .before .before .inputs-of .ensures)
           (filled .fill-inputs .ensures);
       settingRoom = s .pre .1 .settingRoom;
     }
@@ -60,7 +60,8 @@ returns c =
     λ ps f.
     let filled = c .before .before .before .before .before .before .before .before .before .before .before .before .before in
     c .before .before .before .before .answer-tables .ensures ps
-    (tables-for f _ (pairs-filled filled .fill-pairs .ensures _ ps (f .is)) (filled .before .before .inputs-of .ensures) (filled .fill-inputs .ensures))
+    (tables-for f _ (pairs-filled filled .fill-pairs .ensures ps (pairs-at (f .is))) (filled .before .before .inputs-of .ensures)
+    (filled .fill-inputs .ensures))
 
 pub answer-with-spec : {M : Type 1} → statement M
 answer-with-spec =

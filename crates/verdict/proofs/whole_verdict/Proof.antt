@@ -42,9 +42,7 @@ gates-of-requires : tie.Need-gates-of-requires
 gates-of-requires c κs = search needs
 
 gates-at-requires : tie.Need-gates-at-requires
-gates-at-requires c κs =
-    let s = start c in
-    rw (c .before .inputs-of .ensures) (omega (arith, whole-parts (s .args .words .now) (s .pre .0) .fewInputs))
+gates-at-requires c κs = search needs
 
 order-gates-requires : tie.Need-order-gates-requires
 order-gates-requires c κs =

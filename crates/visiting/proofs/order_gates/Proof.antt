@@ -19,9 +19,7 @@ gates-of-requires : tie.Need-gates-of-requires
 gates-of-requires c κs = search needs
 
 gates-at-requires : tie.Need-gates-at-requires
-gates-at-requires c κs =
-    let s = c .before .before .before .before in
-    omega (arith, c .before .inputs-of .ensures, whole-parts (s .args .words .now) (s .pre .0) .fewInputs)
+gates-at-requires c κs = search needs
 
 slice-aggregate-write-postorder : tie.Need-slice-aggregate-write-postorder
 slice-aggregate-write-postorder c = search needs

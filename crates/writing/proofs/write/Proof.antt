@@ -14,7 +14,7 @@ use Rattle.netlist.specs.StoredBlock.{isTorn}
 use Rattle.netlist.specs.Answers.{testOf, inRoom}
 use Rattle.refusals.proofs.Promised.{passed, passed-false, failed, keeps-room, bare, keeps-bare, finished}
 use Rattle.writing.specs.Pieces.{blockText}
-use Rattle.writing.proofs.Outcomes.{block-short, write-start, write-room}
+use Rattle.writing.proofs.Outcomes.{few-inputs, block-short, write-start, write-room}
 use Rattle.writing.proofs.write.Statement.{statement}
 use Rattle.writing.proofs.write.Tie as tie
 
@@ -67,7 +67,9 @@ slice-aggregate-put-block : tie.Need-slice-aggregate-put-block
 slice-aggregate-put-block c = search needs
 
 put-block-requires : tie.Need-put-block-requires
-put-block-requires c κs = block-short (start (words-test (c .before)) .args .words .now) (whole (c .before))
+put-block-requires c κs =
+    let ws = start (words-test (c .before)) .args .words .now in
+    (few-inputs ws (whole (c .before)), block-short ws (whole (c .before)))
 
 test-room-requires : tie.Need-test-room-requires
 test-room-requires c κs = search needs
@@ -92,7 +94,8 @@ returns-2 c =
 put-block-requires-2 : tie.Need-put-block-requires-2
 put-block-requires-2 c κs =
     let w = whole-block (measured (c .before .before .before)) in
-    block-short (start (words-test w) .args .words .now) (whole w)
+    let ws = start (words-test w) .args .words .now in
+    (few-inputs ws (whole w), block-short ws (whole w))
 
 same-length : tie.Need-same-length
 same-length c = search needs

@@ -62,13 +62,27 @@ fn settings_told(text: &[u8], setting: usize) -> Vec<String> {
     )];
     let cover = block.cover();
     let told = cover.iter().take(ENTRIES_TOLD);
-    lines.extend(told.map(|&entry| format!("  settles with {}", fixed(&pins, entry))));
-    match cover.len() {
-        0 => lines.push("  settles under no setting".to_string()),
-        count if count > ENTRIES_TOLD => lines.push(format!("  and {} more", count - ENTRIES_TOLD)),
-        _ => {}
+    lines.extend(told.map(|&entry| {
+        let what = match may_come(&block, entry) {
+            true => "settles",
+            false => "never comes",
+        };
+        format!("  {what} with {}", fixed(&pins, entry))
+    }));
+    if cover.len() > ENTRIES_TOLD {
+        lines.push(format!("  and {} more", cover.len() - ENTRIES_TOLD));
+    }
+    if !cover.iter().any(|&entry| may_come(&block, entry)) {
+        lines.push("  settles under no setting".to_string());
     }
     lines
+}
+
+/// Whether some setting that agrees with an assignment is not excluded by a never line.
+fn may_come(block: &Block, assignment: Assignment) -> bool {
+    let nevers = block.never_lines();
+    let mut settings = (0..1 << block.inputs()).filter(|&setting| assignment.agrees(setting));
+    settings.any(|setting| !nevers.iter().any(|never| never.agrees(setting)))
 }
 
 /// The outputs that show no value under a setting.

@@ -10,10 +10,10 @@ use Rattle.block.proofs.gates.fit.Statement.{statement}
 use Rattle.block.proofs.gates.fit.Tie as tie
 
 abbrev Inv-loop : tie.InvT-loop
-Inv-loop words nodes n m j₀ j = (j ≤ m) × (all (gateRuleAt words nodes n) (upTo j) ≡ true)
+Inv-loop words nodes at m j₀ j = (j ≤ m) × (all (gateRuleAt words nodes at) (upTo j) ≡ true)
 
 abbrev μ-loop : tie.MeasureT-loop
-μ-loop words nodes n m j₀ j = m - j
+μ-loop words nodes at m j₀ j = m - j
 
 loop-holds : tie.Need-loop-holds Inv-loop μ-loop
 loop-holds c = (search needs, refl)
@@ -25,7 +25,7 @@ returns : tie.Need-returns Inv-loop μ-loop
 returns c =
     let a = c .before .before .before .before .before .args in
     let l = c .before .before .before .loop in
-    fails (gateRuleAt (a .words .now) (a .nodes) (a .n)) (a .m) (l .j) (search needs) (c .before .fits-at .ensures) (c .if1 .taken)
+    fails (gateRuleAt (a .words .now) (a .nodes) (a .at)) (a .m) (l .j) (search needs) (c .before .fits-at .ensures) (c .if1 .taken)
 
 add-j : tie.Need-add-j Inv-loop μ-loop
 add-j c = search needs
@@ -37,13 +37,13 @@ loop-again : tie.Need-loop-again Inv-loop μ-loop
 loop-again c =
     let a = c .before .before .before .before .before .args in
     let l = c .before .before .before .loop in
-    (search needs, passes (gateRuleAt (a .words .now) (a .nodes) (a .n)) (l .j) (l .inv .1) (c .before .fits-at .ensures) (c .if1 .left))
+    (search needs, passes (gateRuleAt (a .words .now) (a .nodes) (a .at)) (l .j) (l .inv .1) (c .before .fits-at .ensures) (c .if1 .left))
 
 returns-2 : tie.Need-returns-2 Inv-loop μ-loop
 returns-2 c =
     let a = c .before .before .before .args in
     let l = c .before .loop in
-    passed (gateRuleAt (a .words .now) (a .nodes) (a .n)) (a .m) (l .j) (l .inv .0) (c .loop-test .left) (l .inv .1)
+    passed (gateRuleAt (a .words .now) (a .nodes) (a .at)) (a .m) (l .j) (l .inv .0) (c .loop-test .left) (l .inv .1)
 
 pub fit-spec : {M : Type 1} → statement M
 fit-spec =

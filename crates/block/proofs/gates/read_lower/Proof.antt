@@ -10,10 +10,10 @@ use Rattle.block.proofs.gates.read_lower.Statement.{statement}
 use Rattle.block.proofs.gates.read_lower.Tie as tie
 
 abbrev Inv-loop : tie.InvT-loop
-Inv-loop words n m j₀ j = (j ≤ m) × (all (lowerRuleAt words n) (upTo j) ≡ true)
+Inv-loop words n at m j₀ j = (j ≤ m) × (all (lowerRuleAt words n at) (upTo j) ≡ true)
 
 abbrev μ-loop : tie.MeasureT-loop
-μ-loop words n m j₀ j = m - j
+μ-loop words n at m j₀ j = m - j
 
 loop-holds : tie.Need-loop-holds Inv-loop μ-loop
 loop-holds c = (search needs, refl)
@@ -28,7 +28,7 @@ returns : tie.Need-returns Inv-loop μ-loop
 returns c =
     let a = c .before .before .before .before .before .args in
     let l = c .before .before .before .loop in
-    fails (lowerRuleAt (a .words .now) (a .n)) (a .m) (l .j) (search needs) (c .before .fits-at .ensures) (c .if1 .taken)
+    fails (lowerRuleAt (a .words .now) (a .n) (a .at)) (a .m) (l .j) (search needs) (c .before .fits-at .ensures) (c .if1 .taken)
 
 add-j : tie.Need-add-j Inv-loop μ-loop
 add-j c = search needs
@@ -40,13 +40,13 @@ loop-again : tie.Need-loop-again Inv-loop μ-loop
 loop-again c =
     let a = c .before .before .before .before .before .args in
     let l = c .before .before .before .loop in
-    (search needs, passes (lowerRuleAt (a .words .now) (a .n)) (l .j) (l .inv .1) (c .before .fits-at .ensures) (c .if1 .left))
+    (search needs, passes (lowerRuleAt (a .words .now) (a .n) (a .at)) (l .j) (l .inv .1) (c .before .fits-at .ensures) (c .if1 .left))
 
 returns-2 : tie.Need-returns-2 Inv-loop μ-loop
 returns-2 c =
     let a = c .before .before .before .args in
     let l = c .before .loop in
-    passed (lowerRuleAt (a .words .now) (a .n)) (a .m) (l .j) (l .inv .0) (c .loop-test .left) (l .inv .1)
+    passed (lowerRuleAt (a .words .now) (a .n) (a .at)) (a .m) (l .j) (l .inv .0) (c .loop-test .left) (l .inv .1)
 
 pub read-lower-spec : {M : Type 1} → statement M
 read-lower-spec =

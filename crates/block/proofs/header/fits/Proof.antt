@@ -2,8 +2,8 @@
 use borrow.Author.Needs.{needs}
 use native.Mathlib.Omega.{arith}
 use borrow.Author.Tests.{le-leb, lt-leb}
-use Rattle.netlist.specs.Limits.{maxInputs, maxGates, maxOutputs}
-use Rattle.netlist.specs.StoredBlock.{inputsAt, gatesAt, outputsAt}
+use Rattle.netlist.specs.Limits.{maxInputs, maxNevers, maxGates, maxOutputs}
+use Rattle.netlist.specs.StoredBlock.{inputsAt, neversAt, gatesAt, outputsAt}
 use Rattle.encoding.specs.Rules.{headerRule}
 use Rattle.block.proofs.header.fits.Statement.{statement}
 use Rattle.block.proofs.header.fits.Tie as tie
@@ -17,21 +17,25 @@ gates-of-requires c κs = search needs
 outputs-of-requires : tie.Need-outputs-of-requires
 outputs-of-requires c κs = search needs
 
+nevers-of-requires : tie.Need-nevers-of-requires
+nevers-of-requires c κs = search needs
+
 returns : tie.Need-returns
 unfolding headerRule
 returns c = rw (lt-leb inputsAt _ (c .if1 .taken))
 
 returns-2 : tie.Need-returns-2
 unfolding headerRule
-returns-2 c = rw (le-leb inputsAt _ (c .before .if1 .left), ← c .before .before .before .before .inputs-of .ensures, lt-leb _ maxInputs (c .if2 .taken))
+returns-2 c =
+    rw (le-leb inputsAt _ (c .before .if1 .left), ← c .before .before .before .before .before .inputs-of .ensures, lt-leb _ maxInputs (c .if2 .taken))
 
 returns-3 : tie.Need-returns-3
 unfolding headerRule
 returns-3 c =
     rw (
       le-leb inputsAt _ (c .before .before .if1 .left),
-      ← c .before .before .before .before .before .inputs-of .ensures,
-      ← c .before .before .before .before .gates-of .ensures,
+      ← c .before .before .before .before .before .before .inputs-of .ensures,
+      ← c .before .before .before .before .before .gates-of .ensures,
       le-leb _ maxInputs (c .before .if2 .left),
       lt-leb _ maxGates (c .if3 .taken),
     )
@@ -41,36 +45,53 @@ unfolding headerRule
 returns-4 c =
     rw (
       le-leb inputsAt _ (c .before .before .before .if1 .left),
-      ← c .before .before .before .before .before .before .inputs-of .ensures,
-      ← c .before .before .before .before .before .gates-of .ensures,
-      ← c .before .before .before .before .outputs-of .ensures,
+      ← c .before .before .before .before .before .before .before .inputs-of .ensures,
+      ← c .before .before .before .before .before .before .gates-of .ensures,
+      ← c .before .before .before .before .before .outputs-of .ensures,
       le-leb _ maxInputs (c .before .before .if2 .left),
       le-leb _ maxGates (c .before .if3 .left),
       lt-leb _ maxOutputs (c .if4 .taken),
     )
-
-outputs-at-requires : tie.Need-outputs-at-requires
-outputs-at-requires c κs = search needs
-
-mul-result : tie.Need-mul-result
-mul-result c = search needs
-
-add-result : tie.Need-add-result
-unfolding gatesAt outputsAt
-add-result c = omega arith
 
 returns-5 : tie.Need-returns-5
 unfolding headerRule
 returns-5 c =
     rw (
       le-leb inputsAt _ (c .before .before .before .before .if1 .left),
-      ← c .before .before .before .before .before .before .before .inputs-of .ensures,
-      ← c .before .before .before .before .before .before .gates-of .ensures,
-      ← c .before .before .before .before .before .outputs-of .ensures,
+      ← c .before .before .before .before .before .before .before .before .inputs-of .ensures,
+      ← c .before .before .before .before .before .before .before .gates-of .ensures,
+      ← c .before .before .before .before .before .before .outputs-of .ensures,
+      ← c .before .before .before .before .before .nevers-of .ensures,
       le-leb _ maxInputs (c .before .before .before .if2 .left),
       le-leb _ maxGates (c .before .before .if3 .left),
       le-leb _ maxOutputs (c .before .if4 .left),
-      ← c .outputs-at .ensures,
+      lt-leb _ maxNevers (c .if5 .taken),
+    )
+
+outputs-behind-requires : tie.Need-outputs-behind-requires
+outputs-behind-requires c κs = search needs
+
+mul-result : tie.Need-mul-result
+mul-result c = search needs
+
+add-result : tie.Need-add-result
+unfolding neversAt gatesAt outputsAt
+add-result c = omega arith
+
+returns-6 : tie.Need-returns-6
+unfolding headerRule
+returns-6 c =
+    rw (
+      le-leb inputsAt _ (c .before .before .before .before .before .if1 .left),
+      ← c .before .before .before .before .before .before .before .before .before .inputs-of .ensures,
+      ← c .before .before .before .before .before .before .before .before .gates-of .ensures,
+      ← c .before .before .before .before .before .before .before .outputs-of .ensures,
+      ← c .before .before .before .before .before .before .nevers-of .ensures,
+      le-leb _ maxInputs (c .before .before .before .before .if2 .left),
+      le-leb _ maxGates (c .before .before .before .if3 .left),
+      le-leb _ maxOutputs (c .before .before .if4 .left),
+      le-leb _ maxNevers (c .before .if5 .left),
+      ← c .outputs-behind .ensures,
     )
 
 pub fits-spec : {M : Type 1} → statement M
@@ -80,11 +101,13 @@ fits-spec =
     inputs-of-requires
     gates-of-requires
     outputs-of-requires
+    nevers-of-requires
     returns
     returns-2
     returns-3
     returns-4
-    outputs-at-requires
+    returns-5
+    outputs-behind-requires
     mul-result
     add-result
-    returns-5)
+    returns-6)

@@ -5,7 +5,7 @@ use lib.ListN.{getD}
 use native.Mathlib.Omega.{arith}
 use borrow.Author.Needs.{needs}
 use Rattle.laws.specs.Lists.{all, upTo}
-use Rattle.netlist.specs.StoredBlock.{nameSize, inputsAt, gatesAt, outputsAt}
+use Rattle.netlist.specs.StoredBlock.{nameSize, inputsAt, neversAt, gatesAt, outputsAt}
 use Rattle.encoding.proofs.Intact.{Intact}
 use Rattle.encoding.proofs.Readers.{whole-parts}
 use Rattle.compare.specs.Names.{sameNameAt}
@@ -26,7 +26,7 @@ inputs-test c = c .before .before
 abbrev outputs-test : tie.After-are-same → tie.After-outputs-of2
 outputs-test c = c .before .before
 
-abbrev names-test : tie.After-gates-of → tie.After-are-same
+abbrev names-test : tie.After-outputs-at → tie.After-are-same
 names-test c = c .before .before
 
 abbrev entry : tie.After-inputs-of2 → tie.Start
@@ -82,45 +82,33 @@ returns-3 c =
     let t = c .before in
     other-names _ _ (as-many-inputs (outputs-test t .before)) (names-told t) (c .if3 .taken)
 
-gates-of-requires : tie.Need-gates-of-requires
-gates-of-requires c κs = search needs
-
 outputs-at-requires : tie.Need-outputs-at-requires
-outputs-at-requires c κs =
-    let t = inputs-test (outputs-test (names-test c)) in
-    (omega (arith, counts t .before .inputs-of .ensures, wholes t .0 .fewInputs), omega (arith, c .gates-of .ensures, wholes t .0 .fewGates))
-
-gates-of-requires-2 : tie.Need-gates-of-requires-2
-gates-of-requires-2 c κs = search needs
+outputs-at-requires c κs = search needs
 
 outputs-at-requires-2 : tie.Need-outputs-at-requires-2
-outputs-at-requires-2 c κs =
-    let t = inputs-test (outputs-test (names-test (c .before .before))) in
-    (omega (arith, counts t .before .inputs-of .ensures, wholes t .0 .fewInputs), omega (arith, c .gates-of2 .ensures, wholes t .1 .fewGates))
+outputs-at-requires-2 c κs = search needs
 
 are-same-requires-2 : tie.Need-are-same-requires-2
-unfolding outputsAt gatesAt
+unfolding outputsAt gatesAt neversAt
 are-same-requires-2 c κs =
-    let o = outputs-test (names-test (c .before .before .before)) in
-    let t = inputs-test o in
-    let n = counts t .before .inputs-of .ensures in (
-      omega (arith, c .before .before .outputs-at .ensures, n, wholes t .0 .fewInputs, c .before .before .before .gates-of .ensures, wholes t .0 .fewGates),
+    let t = inputs-test (outputs-test (names-test (c .before))) in
+    let (a, b) = wholes t in (
+      omega (arith, c .before .outputs-at .ensures, a .fewInputs, a .fewNevers, a .fewGates),
       (
-        omega (arith, c .outputs-at2 .ensures, n, wholes t .0 .fewInputs, c .before .gates-of2 .ensures, wholes t .1 .fewGates),
-        (omega arith, omega (arith, counts t .outputs-of .ensures, wholes t .0 .fewOutputs)),
+        omega (arith, c .outputs-at2 .ensures, b .fewInputs, b .fewNevers, b .fewGates),
+        (omega arith, omega (arith, counts t .outputs-of .ensures, a .fewOutputs)),
       ),
     )
 
 returns-4 : tie.Need-returns-4
 returns-4 c =
     let at = c .before in
-    let names = names-test (at .before .before .before) in
+    let names = names-test (at .before) in
     let t = inputs-test (outputs-test names) in
     both-names _ _ (as-many-inputs (outputs-test names .before)) (as-many-outputs (names .before)) (names-told names)
-    (at .before .before .before .before .if3 .left)
-    (ports-told (now (entry t .args .ours)) (now (entry t .args .theirs)) (c .are-same2 .ensures)
-    (counts t .before .inputs-of .ensures) (counts t .outputs-of .ensures)
-    (at .before .before .before .gates-of .ensures) (at .before .gates-of2 .ensures) (at .before .before .outputs-at .ensures) (at .outputs-at2 .ensures))
+    (at .before .before .if3 .left)
+    (ports-told (now (entry t .args .ours)) (now (entry t .args .theirs)) (c .are-same2 .ensures) (counts t .outputs-of .ensures)
+    (at .before .outputs-at .ensures) (at .outputs-at2 .ensures) (as-many-inputs (outputs-test names .before)))
 
 pub has-interface-spec : {M : Type 1} → statement M
 has-interface-spec =
@@ -134,9 +122,7 @@ has-interface-spec =
     returns-2
     are-same-requires
     returns-3
-    gates-of-requires
     outputs-at-requires
-    gates-of-requires-2
     outputs-at-requires-2
     are-same-requires-2
     returns-4)

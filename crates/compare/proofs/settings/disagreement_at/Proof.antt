@@ -1,4 +1,4 @@
--- `compare::settings::disagreement_at` meets its contract: a setting that is not settled is passed over, under another both blocks are compared.
+-- `compare::settings::disagreement_at` meets its contract: a setting that is not settled or never comes is passed over, under another both blocks are compared.
 -- Assumes nothing.
 use mathlib.Core.Path.{_≡_, _∙_, ap}
 use mathlib.Core.List.{map}
@@ -15,14 +15,14 @@ use Rattle.compare.proofs.settings.disagreement_at.Tie as tie
 abbrev start : tie.After-inputs-of → tie.Start
 start c = c .before .before .before .before .before .before .before
 
-abbrev places : tie.After-settled-flag → tie.After-gates-at
+abbrev places : tie.After-counted-flag → tie.After-gates-at
 places c = c .before .before .before
 
-abbrev decided : tie.After-slice-known5 → tie.After-settled-flag
+abbrev decided : tie.After-slice-known5 → tie.After-counted-flag
 decided c = c .before .before .before .before
 
 -- the setting stored again for theirs, and theirs swept
-abbrev settled : tie.After-set-inputs → tie.After-settled-flag
+abbrev settled : tie.After-set-inputs → tie.After-counted-flag
 settled c = decided (c .before .before .before)
 
 abbrev stored : tie.After-sweep-into → tie.After-set-inputs
@@ -35,10 +35,10 @@ inputs-of-requires : tie.Need-inputs-of-requires
 inputs-of-requires c κs = search needs
 
 gates-at-requires : tie.Need-gates-at-requires
-gates-at-requires c κs = omega (arith, c .inputs-of .ensures, start c .pre .ready .fewInputs)
+gates-at-requires c κs = search needs
 
-settled-flag-requires : tie.Need-settled-flag-requires
-settled-flag-requires c κs =
+counted-flag-requires : tie.Need-counted-flag-requires
+counted-flag-requires c κs =
     let g = c .before .before in
     ready-at (start (g .before) .pre .ready) (g .before .inputs-of .ensures) (g .gates-at .ensures)
 
@@ -55,13 +55,13 @@ returns : tie.Need-returns
 returns c =
     let d = decided (c .before .before) in
     let s = start (places d .before) in
-    found-unsettled _ _ (s .pre .pair) (s .args .s) (d .settled-flag .ensures .tells) (c .before .if1 .taken) (c .outputs-of .ensures)
+    found-unsettled _ _ (s .pre .pair) (s .args .s) (d .counted-flag .ensures .tells) (c .before .if1 .taken) (c .outputs-of .ensures)
 
 set-inputs-requires : tie.Need-set-inputs-requires
 set-inputs-requires c κs =
     let d = decided (c .before .before) in
     let s = start (places d .before) in
-    omega (arith, d .settled-flag .kept .1 .1 .1 .1 .1 .0, s .pre .ready .inputRoom, s .pre .ready .fewInputs)
+    omega (arith, d .counted-flag .kept .1 .1 .1 .1 .1 .0, s .pre .ready .inputRoom, s .pre .ready .fewInputs)
 
 sweep-into-requires : tie.Need-sweep-into-requires
 sweep-into-requires c κs =
@@ -86,10 +86,10 @@ returns-2 c =
     let i = stored sweep in
     let d = settled i in
     let s = entry i in
-    let bytes = setting-bytes (s .args .s) (i .set-inputs .ensures) (d .settled-flag .kept .1 .1 .1 .1 .1 .0 ∙ s .pre .ready .inputRoom) in
-    found-settled _ _ (s .pre .pair) (s .args .s) bytes (d .settled-flag .ensures .are)
+    let bytes = setting-bytes (s .args .s) (i .set-inputs .ensures) (d .counted-flag .kept .1 .1 .1 .1 .1 .0 ∙ s .pre .ready .inputRoom) in
+    found-settled _ _ (s .pre .pair) (s .args .s) bytes (d .counted-flag .ensures .are (i .before .before .if1 .left))
     (swept _ _ (s .pre .pair) (s .args .s) _ bytes (s .pre .room) (sweep .sweep-into .ensures .0))
-    (d .settled-flag .ensures .tells) (i .before .before .if1 .left) (c .lowest-differing .ensures)
+    (d .counted-flag .ensures .tells) (i .before .before .if1 .left) (c .lowest-differing .ensures)
 
 pub disagreement-at-spec : {M : Type 1} → statement M
 disagreement-at-spec =
@@ -97,7 +97,7 @@ disagreement-at-spec =
     (tie.spec
     inputs-of-requires
     gates-at-requires
-    settled-flag-requires
+    counted-flag-requires
     outputs-of-requires
     same-length
     same-length-2

@@ -21,7 +21,13 @@ cast-out-3 : tie.Need-cast-out-3
 cast-out-3 c = search needs
 
 slice-write-out-3 : tie.Need-slice-write-out-3
-slice-write-out-3 c = search needs
+slice-write-out-3 c = simp length-set (omega arith)
+
+cast-out-4 : tie.Need-cast-out-4
+cast-out-4 c = search needs
+
+slice-write-out-4 : tie.Need-slice-write-out-4
+slice-write-out-4 c = search needs
 
 same-length : tie.Need-same-length
 same-length c = search needs
@@ -39,5 +45,7 @@ write-header-spec =
     slice-write-out-2
     cast-out-3
     slice-write-out-3
+    cast-out-4
+    slice-write-out-4
     same-length
     returns)

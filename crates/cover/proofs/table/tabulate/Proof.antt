@@ -1,4 +1,4 @@
--- `cover::table::tabulate` meets its contract: whole words are what `fill_settled` asks. Assumes nothing.
+-- `cover::table::tabulate` meets its contract: whole words are what `fill_sound` asks. Assumes nothing.
 use lib.ListN.{length}
 use Prim.Native.Nat.{_^_, _≤_}
 use mathlib.Core.Path.{sym, _∙_}
@@ -51,35 +51,33 @@ gates-of-requires : tie.Need-gates-of-requires
 gates-of-requires c κs = search needs
 
 gates-at-requires : tie.Need-gates-at-requires
-gates-at-requires c κs =
-    let s = start c in
-    rw (c .before .inputs-of .ensures) (omega (arith, whole-parts (s .args .words .now) (s .pre .0) .fewInputs))
+gates-at-requires c κs = search needs
 
 order-gates-requires : tie.Need-order-gates-requires
 order-gates-requires c κs =
     let s = start (c .before .before) in
     (s .pre .0, omega (arith, whole-parts (s .args .words .now) (s .pre .0) .fewGates, s .pre .1 .orderRoom))
 
-slice-reshare-prefix-fill-settled : tie.Need-slice-reshare-prefix-fill-settled
-slice-reshare-prefix-fill-settled c = order-room (c .before .before)
+slice-reshare-prefix-fill-sound : tie.Need-slice-reshare-prefix-fill-sound
+slice-reshare-prefix-fill-sound c = order-room (c .before .before)
 
-slice-aggregate-fill-settled : tie.Need-slice-aggregate-fill-settled
-slice-aggregate-fill-settled c = sym (length-take-le _ _ (order-room (c .before .before .before)))
+slice-aggregate-fill-sound : tie.Need-slice-aggregate-fill-sound
+slice-aggregate-fill-sound c = sym (length-take-le _ _ (order-room (c .before .before .before)))
 
-slice-relend-prefix-fill-settled : tie.Need-slice-relend-prefix-fill-settled
-slice-relend-prefix-fill-settled c = input-room (c .before .before .before)
+slice-relend-prefix-fill-sound : tie.Need-slice-relend-prefix-fill-sound
+slice-relend-prefix-fill-sound c = input-room (c .before .before .before)
 
-slice-aggregate-fill-settled-2 : tie.Need-slice-aggregate-fill-settled-2
-slice-aggregate-fill-settled-2 c = sym (length-take-le _ _ (input-room (c .before .before .before .before)))
+slice-aggregate-fill-sound-2 : tie.Need-slice-aggregate-fill-sound-2
+slice-aggregate-fill-sound-2 c = sym (length-take-le _ _ (input-room (c .before .before .before .before)))
 
-slice-relend-prefix-fill-settled-2 : tie.Need-slice-relend-prefix-fill-settled-2
-slice-relend-prefix-fill-settled-2 c = value-room (c .before .before .before .before)
+slice-relend-prefix-fill-sound-2 : tie.Need-slice-relend-prefix-fill-sound-2
+slice-relend-prefix-fill-sound-2 c = value-room (c .before .before .before .before)
 
-slice-aggregate-fill-settled-3 : tie.Need-slice-aggregate-fill-settled-3
-slice-aggregate-fill-settled-3 c = sym (length-take-le _ _ (value-room (c .before .before .before .before .before)))
+slice-aggregate-fill-sound-3 : tie.Need-slice-aggregate-fill-sound-3
+slice-aggregate-fill-sound-3 c = sym (length-take-le _ _ (value-room (c .before .before .before .before .before)))
 
-fill-settled-requires : tie.Need-fill-settled-requires
-fill-settled-requires c κs =
+fill-sound-requires : tie.Need-fill-sound-requires
+fill-sound-requires c κs =
     let o = c .before .before .before .before .before .before in
     let s = start (counted o) in
     let m = counted o .gates-of in
@@ -108,7 +106,7 @@ returns c =
     let o = filled .before .before .before .before .before .before .before in
     let s = start (counted o) in
     let n = counted o .before .inputs-of in
-    let e = filled .fill-settled in
+    let e = filled .fill-sound in
     tabulated (decode (s .args .words .now)) (n .result) (s .args .settled .now) (e .last .1 .1 .1 .1 .1 .1 .0)
     (n .ensures ∙ sym (decode-inputCount (s .args .words .now))) (rw (e .kept .1 .1 .1 .1 .1 .1 .0) (table-room o)) (e .ensures)
 
@@ -120,13 +118,13 @@ tabulate-spec =
     gates-of-requires
     gates-at-requires
     order-gates-requires
-    slice-reshare-prefix-fill-settled
-    slice-aggregate-fill-settled
-    slice-relend-prefix-fill-settled
-    slice-aggregate-fill-settled-2
-    slice-relend-prefix-fill-settled-2
-    slice-aggregate-fill-settled-3
-    fill-settled-requires
+    slice-reshare-prefix-fill-sound
+    slice-aggregate-fill-sound
+    slice-relend-prefix-fill-sound
+    slice-aggregate-fill-sound-2
+    slice-relend-prefix-fill-sound-2
+    slice-aggregate-fill-sound-3
+    fill-sound-requires
     same-length
     same-length-2
     same-length-3

@@ -6,7 +6,7 @@ use native.Mathlib.Numerals.{add-one}
 use lib.ListN.{length, length-set}
 use Rattle.laws.specs.Lists.{tab, placed}
 use Rattle.laws.proofs.Tab.{set-placed-tab, length-tab, placed-all}
-use Rattle.netlist.specs.Rounds.{bit}
+use Rattle.netlist.specs.Assignments.{bit}
 use Rattle.decide.proofs.Bytes.{setting-bytes}
 use Rattle.decide.proofs.in_place.set_inputs.Statement.{statement}
 use Rattle.decide.proofs.in_place.set_inputs.Tie as tie

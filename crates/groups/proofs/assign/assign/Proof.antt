@@ -13,9 +13,7 @@ gates-of-requires : tie.Need-gates-of-requires
 gates-of-requires c κs = search needs
 
 gates-at-requires : tie.Need-gates-at-requires
-gates-at-requires c κs =
-    let at-start = c .before .before .before .before in
-    omega (arith, c .before .inputs-of .ensures, whole-parts (at-start .args .words .now) (at-start .pre .0) .fewInputs)
+gates-at-requires c κs = search needs
 
 slice-aggregate-assign-with : tie.Need-slice-aggregate-assign-with
 slice-aggregate-assign-with c = search needs

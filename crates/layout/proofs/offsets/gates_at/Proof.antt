@@ -1,19 +1,23 @@
 -- `layout::offsets::gates_at` meets its contract. Assumes nothing.
 use borrow.Author.Needs.{needs}
-use mathlib.Core.Path.{refl}
-use Rattle.netlist.specs.StoredBlock.{gatesAt}
+use native.Mathlib.Omega.{arith}
+use Rattle.netlist.specs.StoredBlock.{neversAt, gatesAt}
 use Rattle.layout.proofs.offsets.gates_at.Statement.{statement}
 use Rattle.layout.proofs.offsets.gates_at.Tie as tie
 
-mul-result : tie.Need-mul-result
-mul-result c = search needs
+inputs-of-requires : tie.Need-inputs-of-requires
+inputs-of-requires c κs = search needs
 
-add-result : tie.Need-add-result
-add-result c = search needs
+nevers-of-requires : tie.Need-nevers-of-requires
+nevers-of-requires c κs = search needs
+
+gates-behind-requires : tie.Need-gates-behind-requires
+gates-behind-requires c κs = let known = c .before .before .shared-slice-known in (omega (arith, known .given 0), omega (arith, known .given 3))
 
 returns : tie.Need-returns
-unfolding gatesAt
-returns c = refl
+unfolding gatesAt neversAt
+returns c = search needs
 
 pub gates-at-spec : {M : Type 1} → statement M
-gates-at-spec = tie.close (tie.spec mul-result add-result returns)
+gates-at-spec =
+    tie.close (tie.spec inputs-of-requires nevers-of-requires gates-behind-requires returns)

@@ -1,23 +1,32 @@
--- `layout::offsets::outputs_at` meets its contract: the outputs stand behind the gates. Assumes nothing.
+-- `layout::offsets::outputs_at` meets its contract. Assumes nothing.
 use borrow.Author.Needs.{needs}
 use native.Mathlib.Omega.{arith}
-use Rattle.netlist.specs.StoredBlock.{gatesAt, outputsAt}
+use Rattle.netlist.specs.StoredBlock.{neversAt, gatesAt, outputsAt}
 use Rattle.layout.proofs.offsets.outputs_at.Statement.{statement}
 use Rattle.layout.proofs.offsets.outputs_at.Tie as tie
 
-gates-at-requires : tie.Need-gates-at-requires
-gates-at-requires c κs = search needs
+inputs-of-requires : tie.Need-inputs-of-requires
+inputs-of-requires c κs = search needs
 
-mul-result : tie.Need-mul-result
-mul-result c = search needs
+nevers-of-requires : tie.Need-nevers-of-requires
+nevers-of-requires c κs = search needs
 
-add-result : tie.Need-add-result
-unfolding gatesAt
-add-result c = omega arith
+gates-of-requires : tie.Need-gates-of-requires
+gates-of-requires c κs = search needs
+
+outputs-behind-requires : tie.Need-outputs-behind-requires
+outputs-behind-requires c κs = let known = c .before .before .before .shared-slice-known in (omega (arith, known .given 0), (omega (arith, known .given 3), omega (arith, known .given 1)))
 
 returns : tie.Need-returns
-unfolding outputsAt
-returns c = omega arith
+unfolding outputsAt gatesAt neversAt
+returns c = search needs
 
 pub outputs-at-spec : {M : Type 1} → statement M
-outputs-at-spec = tie.close (tie.spec gates-at-requires mul-result add-result returns)
+outputs-at-spec =
+    tie.close
+    (tie.spec
+    inputs-of-requires
+    nevers-of-requires
+    gates-of-requires
+    outputs-behind-requires
+    returns)

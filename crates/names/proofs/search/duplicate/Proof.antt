@@ -28,9 +28,9 @@ shared-slice-read-place c = search needs
 returns : tie.Need-returns
 returns c =
     let stage = c .before .before .before .before .before .before .before in
-    λ t legal counted table.
+    λ t legal bare counted table.
     let s = stage in
-    node-repeats t legal (s .args .c) counted (s .args .names .now) (s .args .places .now) table (s .pre .0) (s .pre .1)
+    node-repeats t legal bare (s .args .c) counted (s .args .names .now) (s .args .places .now) table (s .pre .0) (s .pre .1)
     (c .before .before .first-repeat .result) (c .before .before .first-repeat .ensures) (c .before .if1 .taken)
 
 add-first-repeat : tie.Need-add-first-repeat
@@ -65,9 +65,9 @@ returns-2 c =
     let at-if1 = c .before .before .before .before in
     let at-first-repeat = at-if1 .before in
     let stage = at-first-repeat .before .before .before .before .before in
-    λ t legal counted table.
+    λ t legal bare counted table.
     let s = stage in
-    port-repeats t legal (s .args .c) counted (s .args .names .now) (s .args .places .now) table (s .pre .0) (s .pre .1)
+    port-repeats t legal bare (s .args .c) counted (s .args .names .now) (s .args .places .now) table (s .pre .0) (s .pre .1)
     (at-first-repeat .first-repeat .result) (at-first-repeat .first-repeat .ensures) (at-if1 .if1 .left) (c .before .before .first-repeat2 .result)
     (c .before .before .first-repeat2 .ensures) (c .before .if2 .taken)
 
@@ -76,9 +76,9 @@ returns-3 c =
     let at-if1 = c .before .before .before in
     let at-first-repeat = at-if1 .before in
     let stage = at-first-repeat .before .before .before .before .before in
-    λ t legal counted table.
+    λ t legal bare counted table.
     let s = stage in
-    none-repeats t legal (s .args .c) counted (s .args .names .now) (s .args .places .now) table (s .pre .0) (s .pre .1)
+    none-repeats t legal bare (s .args .c) counted (s .args .names .now) (s .args .places .now) table (s .pre .0) (s .pre .1)
     (at-first-repeat .first-repeat .result) (at-first-repeat .first-repeat .ensures) (at-if1 .if1 .left) (c .before .first-repeat2 .result)
     (c .before .first-repeat2 .ensures) (c .if2 .left)
 

@@ -1,35 +1,25 @@
 -- `reading::steps::finish` meets its contract: 11, and then all words. Assumes nothing.
 use native.Mathlib.Omega.{arith}
+use Rattle.netlist.specs.StoredBlock.{neversAt, gatesAt, outputsAt}
+use Rattle.reading.proofs.Stages.{few, put-ready, all-words, no-room, fits, all-written}
 use borrow.Author.Needs.{needs}
-use Rattle.reading.specs.Words.{wordCount}
-use Rattle.reading.proofs.Stages.{few, put-ready, no-room, fits, all-written}
 use Rattle.reading.proofs.steps.finish.Statement.{statement}
 use Rattle.reading.proofs.steps.finish.Tie as tie
 
--- the entry, and the counts that are read there
-abbrev start : tie.After-struct-known → tie.Start
-start c = c .before .before .before .before .before .before
+abbrev entry : tie.After-struct-known → tie.Start
+entry c = c .before .before .before .before .before .before .before .before
 
-abbrev counted : tie.After-test-room → tie.After-struct-known
-counted c = c .before .before .before
+outputs-behind-requires : tie.Need-outputs-behind-requires
+outputs-behind-requires c κs =
+    let f = few (c .before .before .before .before .before .before .pre) in
+    (omega (arith, f .inputs), (omega (arith, f .nevers), omega (arith, f .gates)))
 
 mul-count : tie.Need-mul-count
-mul-count c = omega (arith, few (start c .pre))
+mul-count c = omega (arith, few (entry c .pre))
 
 add-count : tie.Need-add-count
-add-count c = omega (arith, few (start c .pre))
-
-mul-count-2 : tie.Need-mul-count-2
-mul-count-2 c = omega (arith, few (start (c .before) .pre))
-
-add-count-2 : tie.Need-add-count-2
-add-count-2 c = omega (arith, few (start (c .before) .pre))
-
-mul-count-3 : tie.Need-mul-count-3
-mul-count-3 c = omega (arith, few (start (c .before .before) .pre))
-
-add-count-3 : tie.Need-add-count-3
-add-count-3 c = omega (arith, few (start (c .before .before) .pre))
+unfolding outputsAt gatesAt neversAt
+add-count c = omega (arith, few (entry c .pre), c .before .outputs-behind .ensures)
 
 test-room-requires : tie.Need-test-room-requires
 test-room-requires c κs = search needs
@@ -44,40 +34,38 @@ refusal-requires : tie.Need-refusal-requires
 refusal-requires c κs = search needs
 
 returns : tie.Need-returns
-unfolding wordCount
 returns c =
     let t = c .before .before .before in
-    let s = start (counted t) in
-    no-room (s .pre) (s .args .block .now) (t .test-room .ensures) (c .before .before .match .keys2) (c .refusal .ensures)
+    let s = entry (t .before) in
+    no-room (s .pre) (s .args .block .now) (all-words (s .pre) (t .before .before .outputs-behind .ensures)) (t .test-room .ensures)
+    (c .before .before .match .keys2) (c .refusal .ensures)
 
 put-block-requires : tie.Need-put-block-requires
-unfolding wordCount
 put-block-requires c κs =
     let t = c .before .before .before in
-    let s = start (counted t) in
-    put-ready (s .pre) (s .args .block .now) (fits (s .pre) (s .args .block .now) (t .test-room .ensures) (c .before .enum-told .given .1))
+    let s = entry (t .before) in
+    put-ready (s .pre) (s .args .block .now)
+    (fits (s .pre) (s .args .block .now) (all-words (s .pre) (t .before .before .outputs-behind .ensures)) (t .test-room .ensures)
+    (c .before .enum-told .given .1))
 
 same-length : tie.Need-same-length
 same-length c = search needs
 
 returns-2 : tie.Need-returns-2
-unfolding wordCount
 returns-2 c =
     let e = c .before .before .before .before in
     let t = e .before .before in
-    let s = start (counted t) in
-    all-written (s .pre) (s .args .block .now) (t .test-room .ensures) (e .enum-told .given .1) _ (c .before .before .put-block .ensures)
+    let s = entry (t .before) in
+    all-written (s .pre) (s .args .block .now) (all-words (s .pre) (t .before .before .outputs-behind .ensures)) (t .test-room .ensures)
+    (e .enum-told .given .1) _ (c .before .before .put-block .ensures)
 
 pub finish-spec : {M : Type 1} → statement M
 finish-spec =
     tie.close
     (tie.spec
+    outputs-behind-requires
     mul-count
     add-count
-    mul-count-2
-    add-count-2
-    mul-count-3
-    add-count-3
     test-room-requires
     enum-told
     enum-told-2

@@ -1,21 +1,15 @@
--- `reading::steps::read_terms` meets its contract: 5, and then the words. Assumes nothing.
+-- `reading::steps::read_terms` meets its contract: 5, the masks, and then the rest. Assumes nothing.
+use Rattle.reading.proofs.Splits.{nevers-form}
+use Rattle.reading.proofs.Stages.{inputs-ready, masks-ready, unknown, write-ready}
 use borrow.Author.Needs.{needs}
-use Rattle.reading.proofs.Stages.{resolve-ready, unknown, write-ready}
 use Rattle.reading.proofs.steps.read_terms.Statement.{statement}
 use Rattle.reading.proofs.steps.read_terms.Tie as tie
 
--- the entry, and the call of `resolve`
-abbrev start : tie.After-slice-known3 → tie.Start
-start c = c .before .before .before .before .before .before
+abbrev entry : tie.After-undeclared → tie.Start
+entry c = c .before .before .before .before .before .before .before .before .before .before .before
 
-abbrev resolved : tie.After-slice-known5 → tie.After-resolve
-resolved c = c .before .before .before .before
-
-abbrev known : tie.After-resolve → tie.After-slice-known3
-known c = c .before .before .before
-
-resolve-requires : tie.Need-resolve-requires
-resolve-requires c κs = resolve-ready (start (c .before .before) .pre)
+undeclared-requires : tie.Need-undeclared-requires
+undeclared-requires c κs = search needs
 
 enum-told : tie.Need-enum-told
 enum-told c = search needs
@@ -34,15 +28,23 @@ same-length-2 c = search needs
 
 returns : tie.Need-returns
 returns c =
-    let t = resolved (c .before .before .before) in
-    let s = start (known t) in
-    unknown (s .pre) _ _ _ (t .resolve .ensures) (s .args .block .now) (c .before .before .match .keys2) (c .refusal .ensures)
+    let u = c .before .before .before .before .before .before .before in
+    let s = entry u in
+    unknown (s .pre) _ _ _ (u .undeclared .ensures) (s .args .block .now) (c .before .before .match .keys2) (c .refusal .ensures)
+
+fill-masks-requires : tie.Need-fill-masks-requires
+fill-masks-requires c κs =
+    let s = entry (c .before .before .before .before .before .before .before) in
+    let m = masks-ready (s .pre) in
+    (nevers-form (s .pre .resolving .limited .split), (inputs-ready (s .pre .resolving), m .0, m .1))
 
 finish-requires : tie.Need-finish-requires
 finish-requires c κs =
-    let e = c .before .before .before in
-    let t = resolved (e .before .before) in
-    write-ready (start (known t) .pre) _ _ _ (t .resolve .ensures) (e .enum-told .given .1)
+    let filled = c .before .before .before .before .before .before in
+    let passed = filled .before .before in
+    let u = passed .before .before .before .before .before .before in
+    let s = entry u in
+    write-ready (s .pre) _ _ _ (u .undeclared .ensures) (passed .enum-told .given .1) _ (filled .fill-masks .ensures)
 
 same-length-3 : tie.Need-same-length-3
 same-length-3 c = search needs
@@ -53,6 +55,9 @@ same-length-4 c = search needs
 same-length-5 : tie.Need-same-length-5
 same-length-5 c = search needs
 
+same-length-6 : tie.Need-same-length-6
+same-length-6 c = search needs
+
 returns-2 : tie.Need-returns-2
 returns-2 c = search needs
 
@@ -60,15 +65,17 @@ pub read-terms-spec : {M : Type 1} → statement M
 read-terms-spec =
     tie.close
     (tie.spec
-    resolve-requires
+    undeclared-requires
     enum-told
     enum-told-2
     refusal-requires
     same-length
     same-length-2
     returns
+    fill-masks-requires
     finish-requires
     same-length-3
     same-length-4
     same-length-5
+    same-length-6
     returns-2)

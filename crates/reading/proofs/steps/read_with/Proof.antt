@@ -1,24 +1,21 @@
--- `reading::steps::read_with` meets its contract: 4 before 5. Assumes nothing.
+-- `reading::steps::read_with` meets its contract: the counts, 4, and then the rest. Assumes nothing.
+use Rattle.reading.proofs.Splits.{rest-short}
+use Rattle.reading.proofs.Stages.{tables-ready, twice, terms-ready}
 use borrow.Author.Needs.{needs}
-use Rattle.reading.proofs.Stages.{tables-ready, twice, resolving}
 use Rattle.reading.proofs.steps.read_with.Statement.{statement}
 use Rattle.reading.proofs.steps.read_with.Tie as tie
 
--- the entry, the counts, and the tables
-abbrev start : tie.After-slice-known6 → tie.Start
-start c = c .before .before .before .before .before .before .before
+abbrev entry : tie.After-counts → tie.Start
+entry c = c .before .before .before .before .before .before .before .before .before .before
 
-abbrev counted : tie.After-tables → tie.After-counts
-counted c = c .before .before .before .before
-
-abbrev tabled : tie.After-slice-known9 → tie.After-tables
-tabled c = c .before .before .before .before .before .before
+abbrev counted-at : tie.After-tables → tie.After-counts
+counted-at c = c .before .before .before .before
 
 counts-requires : tie.Need-counts-requires
-counts-requires c κs = search needs
+counts-requires c κs = rest-short (c .before .before .before .before .before .before .before .before .before .pre .limited .split)
 
 tables-requires : tie.Need-tables-requires
-tables-requires c κs = let counts = c .before .before .before in tables-ready (start (counts .before) .pre) _ (counts .counts .ensures)
+tables-requires c κs = let counted = c .before .before .before in tables-ready (entry counted .pre) _ (counted .counts .ensures)
 
 enum-told : tie.Need-enum-told
 enum-told c = search needs
@@ -40,15 +37,17 @@ same-length-3 c = search needs
 
 returns : tie.Need-returns
 returns c =
-    let t = tabled (c .before .before .before) in
-    let s = start (counted t .before) in
-    twice (s .pre) _ (counted t .counts .ensures) _ _ _ (t .tables .ensures) (s .args .block .now) (c .before .before .match .keys2) (c .refusal .ensures)
+    let t = c .before .before .before .before .before .before .before .before .before in
+    let counted = counted-at t in
+    let s = entry counted in
+    twice (s .pre) _ (counted .counts .ensures) _ _ _ (t .tables .ensures) (s .args .block .now) (c .before .before .match .keys2) (c .refusal .ensures)
 
 read-terms-requires : tie.Need-read-terms-requires
 read-terms-requires c κs =
-    let e = c .before .before .before .before .before in
-    let t = tabled (e .before .before) in
-    resolving (start (counted t .before) .pre) _ (counted t .counts .ensures) _ _ _ (t .tables .ensures) (e .enum-told .given .1)
+    let passed = c .before .before .before .before .before .before in
+    let t = passed .before .before .before .before .before .before .before .before in
+    let counted = counted-at t in
+    terms-ready (entry counted .pre) _ (counted .counts .ensures) _ _ _ (t .tables .ensures) (passed .enum-told .given .1)
 
 same-length-4 : tie.Need-same-length-4
 same-length-4 c = search needs
@@ -67,6 +66,9 @@ same-length-8 c = search needs
 
 same-length-9 : tie.Need-same-length-9
 same-length-9 c = search needs
+
+same-length-10 : tie.Need-same-length-10
+same-length-10 c = search needs
 
 returns-2 : tie.Need-returns-2
 returns-2 c = search needs
@@ -91,4 +93,5 @@ read-with-spec =
     same-length-7
     same-length-8
     same-length-9
+    same-length-10
     returns-2)

@@ -1,21 +1,37 @@
--- `reading::steps::tables` meets its contract. Assumes nothing.
+-- `reading::steps::tables` meets its contract: 4 in never lines and elsewhere, and the earlier of the two. Assumes nothing.
 use native.Mathlib.Omega.{arith}
+use Rattle.reading.proofs.Stages.{room-for, outside-repeat, repeat-near, part-near, tabled}
 use borrow.Author.Needs.{needs}
 use Rattle.reading.proofs.steps.tables.Statement.{statement}
 use Rattle.reading.proofs.steps.tables.Tie as tie
-use Rattle.reading.proofs.Stages.{room-for, tabled}
+
+abbrev entry : tie.After-declare → tie.Start
+entry c = c .before .before .before .before .before .before .before .before .before
 
 declare-requires : tie.Need-declare-requires
-declare-requires c κs = room-for (c .before .before .before .before .before .before .before .pre)
+declare-requires c κs = room-for (c .before .before .before .before .before .before .before .before .pre)
+
+test-repeats-requires : tie.Need-test-repeats-requires
+test-repeats-requires c κs = search needs
 
 duplicate-requires : tie.Need-duplicate-requires
 duplicate-requires c κs =
-    let earlier = c .before .before .before .before .before .before .before in
-    let at-declare = earlier .before in
-    let earlier-15 = at-declare .before .before .before .before .before .before .before in
-    let start = earlier-15 .before in
-    let r = room-for (start .pre)
-    in (omega (arith, r .numberRoom, at-declare .declare .kept .1 .1 .0), omega (arith, r .placeRoom, at-declare .declare .kept .1 .1 .1 .0))
+    let declared = c .before .before .before .before .before .before .before .before .before in
+    let r = room-for (entry declared .pre) in
+    (omega (arith, r .numberRoom, declared .declare .kept .1 .1 .0), omega (arith, r .placeRoom, declared .declare .kept .1 .1 .1 .0))
+
+moved-repeat-requires : tie.Need-moved-repeat-requires
+moved-repeat-requires c κs =
+    let declared = c .before .before .before .before .before .before .before .before .before .before in
+    let start = entry declared in
+    let a = start .args in
+    let l = start .pre .limited in
+    let answer = outside-repeat (a .text .now) (a .lines) (a .rest .now) (a .c) _ _ _ _ (declared .declare .ensures) (c .duplicate .ensures)
+    (start .pre .tree) l (start .pre .counted) in
+    let part = part-near (l .split) in (repeat-near (l .split) answer, omega (arith, part .0), omega (arith, part .0, part .1))
+
+earlier-repeat-requires : tie.Need-earlier-repeat-requires
+earlier-repeat-requires c κs = search needs
 
 same-length : tie.Need-same-length
 same-length c = search needs
@@ -28,13 +44,23 @@ same-length-3 c = search needs
 
 returns : tie.Need-returns
 returns c =
-    let earlier = c .before .before .before .before .before .before .before in
-    let at-declare = earlier .before .before in
-    let earlier-16 = at-declare .before .before .before .before .before .before .before in
-    let start = earlier-16 .before in
-    let a = start .args in tabled (a .text .now) (a .c) _ _ _ _ (at-declare .declare .ensures) (c .duplicate .ensures)
+    let found = c .before .before in
+    let repeats = found .before .before .before in
+    let declared = repeats .before .before .before .before .before .before .before in
+    let a = entry declared .args in
+    tabled (a .text .now) (a .lines) (a .rest .now) (a .c) _ _ _ _ (declared .declare .ensures) (found .duplicate .ensures) _ _ _
+    (repeats .test-repeats .ensures) (c .before .moved-repeat .ensures) (c .earlier-repeat .ensures)
 
 pub tables-spec : {M : Type 1} → statement M
 tables-spec =
     tie.close
-    (tie.spec declare-requires duplicate-requires same-length same-length-2 same-length-3 returns)
+    (tie.spec
+    declare-requires
+    test-repeats-requires
+    duplicate-requires
+    moved-repeat-requires
+    earlier-repeat-requires
+    same-length
+    same-length-2
+    same-length-3
+    returns)

@@ -1,66 +1,84 @@
--- `reading::words::put_block` meets its contract: the four parts, one after the other. Assumes nothing.
+-- `reading::words::put_block` meets its contract: the five parts, one after the other. Assumes nothing.
 use borrow.Author.Needs.{needs}
 use Rattle.reading.proofs.words.put_block.Statement.{statement}
 use Rattle.reading.proofs.words.put_block.Tie as tie
+use Rattle.netlist.specs.StoredBlock.{neversAt, gatesAt, outputsAt}
+use Rattle.reading.specs.Words.{wordCount}
 use Rattle.reading.proofs.BlockWords.{block-written}
 
-mul-first : tie.Need-mul-first
-mul-first c = search needs
-
-add-first : tie.Need-add-first
-add-first c = search needs
-
-mul-last : tie.Need-mul-last
-mul-last c = search needs
-
-add-last : tie.Need-add-last
-add-last c = search needs
-
 put-counts-requires : tie.Need-put-counts-requires
+unfolding wordCount outputsAt gatesAt neversAt
 put-counts-requires c κs = search needs
 
 put-names-requires : tie.Need-put-names-requires
+unfolding wordCount outputsAt gatesAt neversAt
 put-names-requires c κs = search needs
 
 mul-put-words : tie.Need-mul-put-words
 mul-put-words c = search needs
 
+nevers-at-requires : tie.Need-nevers-at-requires
+nevers-at-requires c κs = search needs
+
 put-words-requires : tie.Need-put-words-requires
+unfolding wordCount outputsAt gatesAt neversAt
 put-words-requires c κs = search needs
 
 mul-put-words-2 : tie.Need-mul-put-words-2
 mul-put-words-2 c = search needs
 
+gates-behind-requires : tie.Need-gates-behind-requires
+gates-behind-requires c κs = search needs
+
 put-words-requires-2 : tie.Need-put-words-requires-2
+unfolding wordCount outputsAt gatesAt neversAt
 put-words-requires-2 c κs = search needs
+
+mul-put-words-3 : tie.Need-mul-put-words-3
+mul-put-words-3 c = search needs
+
+outputs-behind-requires : tie.Need-outputs-behind-requires
+outputs-behind-requires c κs = search needs
+
+put-words-requires-3 : tie.Need-put-words-requires-3
+unfolding wordCount outputsAt gatesAt neversAt
+put-words-requires-3 c κs = search needs
 
 same-length : tie.Need-same-length
 same-length c = search needs
 
 returns : tie.Need-returns
 returns c =
-    let at-put-words = c .before .before .before .before .before .before .before in
-    let at-put-names = at-put-words .before .before .before .before .before in
+    let at-put-words3 = c .before .before in
+    let at-outputs = at-put-words3 .before in
+    let at-put-words2 = at-outputs .before .before .before .before .before in
+    let at-gates = at-put-words2 .before in
+    let at-put-words = at-gates .before .before .before .before in
+    let at-nevers = at-put-words .before in
+    let at-put-names = at-nevers .before .before .before .before in
     let at-put-counts = at-put-names .before .before .before .before in
-    let earlier-23 = at-put-counts .before .before .before .before .before .before .before in
-    let start = earlier-23 .before in
+    let start = at-put-counts .before .before .before .before .before .before .before in
     let a = start .args in
-    block-written (a .c) (a .names .now) (a .gates .now) (a .outputs .now) (a .block .now) _ _ _ _
-    (at-put-counts .put-counts .ensures) (at-put-names .put-names .ensures) (at-put-words .put-words .ensures) (c .before .before .put-words2 .ensures)
+    block-written (a .c) (a .lines) (a .names .now) (a .masks .now) (a .gates .now) (a .outputs .now) (a .block .now) _ _ _ _ _
+    (at-put-counts .put-counts .ensures) (at-put-names .put-names .ensures)
+    (rw (at-nevers .nevers-at .ensures) at (at-put-words .put-words .ensures))
+    (rw (at-gates .gates-behind .ensures) at (at-put-words2 .put-words2 .ensures))
+    (rw (at-outputs .outputs-behind .ensures) at (at-put-words3 .put-words3 .ensures))
 
 pub put-block-spec : {M : Type 1} → statement M
 put-block-spec =
     tie.close
     (tie.spec
-    mul-first
-    add-first
-    mul-last
-    add-last
     put-counts-requires
     put-names-requires
     mul-put-words
+    nevers-at-requires
     put-words-requires
     mul-put-words-2
+    gates-behind-requires
     put-words-requires-2
+    mul-put-words-3
+    outputs-behind-requires
+    put-words-requires-3
     same-length
     returns)

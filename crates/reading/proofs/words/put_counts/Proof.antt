@@ -21,7 +21,13 @@ cast-block-3 : tie.Need-cast-block-3
 cast-block-3 c = search needs
 
 slice-write-block-3 : tie.Need-slice-write-block-3
-slice-write-block-3 c = search needs
+slice-write-block-3 c = simp length-set (omega arith)
+
+cast-block-4 : tie.Need-cast-block-4
+cast-block-4 c = search needs
+
+slice-write-block-4 : tie.Need-slice-write-block-4
+slice-write-block-4 c = simp length-set (omega arith)
 
 same-length : tie.Need-same-length
 same-length c = search needs
@@ -39,5 +45,7 @@ put-counts-spec =
     slice-write-block-2
     cast-block-3
     slice-write-block-3
+    cast-block-4
+    slice-write-block-4
     same-length
     returns)

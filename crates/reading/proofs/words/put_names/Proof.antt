@@ -12,7 +12,7 @@ use Rattle.reading.specs.Words.{nameOf}
 use Rattle.reading.proofs.BlockWords.{name-size}
 
 abbrev Inv-loop : tie.InvT-loop
-Inv-loop names n block₀ i₀ block i = (i ≤ n) × (block ≡ sets block₀ 3 (joined (tab (nameOf names) i))) × (length block ≡ length block₀)
+Inv-loop names n block₀ i₀ block i = (i ≤ n) × (block ≡ sets block₀ 4 (joined (tab (nameOf names) i))) × (length block ≡ length block₀)
 
 abbrev μ-loop : tie.MeasureT-loop
 μ-loop names n block₀ i₀ block i = n - i
@@ -49,7 +49,7 @@ loop-again c =
     let a = start .args in
     let l = at-loop .loop in (
       omega arith,
-      sets-joined-next (nameOf (a .names .now)) 4 (name-size (a .names .now)) (a .block .now) (l .block) _ 3 (l .i) (l .inv .1)
+      sets-joined-next (nameOf (a .names .now)) 4 (name-size (a .names .now)) (a .block .now) (l .block) _ 4 (l .i) (l .inv .1)
           (c .before .before .put-name .ensures),
       c .before .before .put-name .kept .0 ∙ l .inv .2,
     )

@@ -8,7 +8,7 @@ use denote.Ref.{now}
 use borrow.Author.Needs.{needs}
 use borrow.Author.Tests.{ltb-false}
 use Rattle.netlist.specs.declared.Refusal.the-variants.{NoRoom}
-use Rattle.netlist.specs.StoredBlock.{gatesAt, outputsAt, encode, decode}
+use Rattle.netlist.specs.StoredBlock.{neversAt, gatesAt, outputsAt, encode, decode}
 use Rattle.netlist.specs.Rendering.{rendering}
 use Rattle.netlist.specs.Answers.{testOf}
 use Rattle.netlist.specs.Operations.{render}
@@ -24,8 +24,8 @@ use Rattle.render.proofs.steps.finish.Tie as tie
 abbrev start : tie.After-inputs-of → tie.Start
 start c = c .before .before .before .before .before .before
 
-abbrev counting : tie.After-outputs-at → tie.After-inputs-of
-counting c = c .before .before .before
+abbrev counting : tie.After-outputs-behind → tie.After-inputs-of
+counting c = c .before .before .before .before
 
 abbrev testing : tie.After-enum-told → tie.After-test-room
 testing c = c .before .before
@@ -34,13 +34,14 @@ abbrev entry : tie.After-test-room → tie.Start
 entry c = start (counting (c .before))
 
 -- the rendered block's length
-size-is : (c : tie.After-outputs-at)
-    → length (encode (rendering (decode (now (start (counting c) .args .words))))) ≡ c .outputs-at .result + 5 * c .before .outputs-of .result
+size-is : (c : tie.After-outputs-behind)
+    → length (encode (rendering (decode (now (start (counting c) .args .words))))) ≡ c .outputs-behind .result + 5 * c .before .before .outputs-of .result
 size-is c =
     let n = counting c in
     let s = start n in
-    rendered-size (now (s .args .words)) (n .inputs-of .result) (c .before .outputs-of .result) (s .args .total) (c .outputs-at .result)
-    (n .inputs-of .ensures) (c .before .outputs-of .ensures) (s .pre .totalIs) (c .outputs-at .ensures)
+    rendered-size (now (s .args .words)) (n .inputs-of .result) (c .before .nevers-of .result) (c .before .before .outputs-of .result) (s .args .total)
+    (c .outputs-behind .result) (n .inputs-of .ensures) (c .before .nevers-of .ensures) (c .before .before .outputs-of .ensures) (s .pre .totalIs)
+    (c .outputs-behind .ensures)
 
 -- nothing but the room is left to refuse for, and that is what is tested
 left-is : (c : tie.After-test-room) → let a = entry c .args in
@@ -60,24 +61,40 @@ gates-of-requires c κs = search needs
 outputs-of-requires : tie.Need-outputs-of-requires
 outputs-of-requires c κs = search needs
 
-outputs-at-requires : tie.Need-outputs-at-requires
-outputs-at-requires c κs =
-    let n = c .before .before in
+nevers-of-requires : tie.Need-nevers-of-requires
+nevers-of-requires c κs = search needs
+
+outputs-behind-requires : tie.Need-outputs-behind-requires
+outputs-behind-requires c κs =
+    let n = c .before .before .before in
     let s = start n in
-    (omega (arith, n .inputs-of .ensures, whole-parts (now (s .args .words)) (s .pre .whole) .fewInputs), omega (arith, s .pre .fits))
+    let p = whole-parts (now (s .args .words)) (s .pre .whole) in (
+      omega (arith, n .inputs-of .ensures, p .fewInputs),
+      (omega (arith, c .nevers-of .ensures, p .fewNevers), omega (arith, s .pre .fits)),
+    )
 
 mul-size : tie.Need-mul-size
 mul-size c =
     let s = start (counting c) in
-    omega (arith, c .before .outputs-of .ensures, whole-parts (now (s .args .words)) (s .pre .whole) .fewOutputs)
+    omega (arith, c .before .before .outputs-of .ensures, whole-parts (now (s .args .words)) (s .pre .whole) .fewOutputs)
 
 add-size : tie.Need-add-size
-unfolding gatesAt outputsAt
+unfolding neversAt gatesAt outputsAt
 add-size c =
     let n = counting c in
     let s = start n in
     let p = whole-parts (now (s .args .words)) (s .pre .whole) in
-    omega (arith, c .outputs-at .ensures, c .before .outputs-of .ensures, p .fewOutputs, n .inputs-of .ensures, p .fewInputs, s .pre .fits)
+    omega (
+      arith,
+      c .outputs-behind .ensures,
+      c .before .nevers-of .ensures,
+      c .before .before .outputs-of .ensures,
+      p .fewOutputs,
+      p .fewNevers,
+      n .inputs-of .ensures,
+      p .fewInputs,
+      s .pre .fits,
+    )
 
 test-room-requires : tie.Need-test-room-requires
 test-room-requires c κs = search needs
@@ -101,7 +118,7 @@ fill-schedule-requires c κs =
     let t = testing (c .before) in
     let s = entry t in
     let a = s .pre .numbersAre in
-    rw (t .before .before .before .gates-of .ensures) (
+    rw (t .before .before .before .before .gates-of .ensures) (
       a .few,
       count-few a,
       rw (plan-schedule a, schedule-length (now (s .args .words)) (s .args .total) (s .pre .totalIs)) (omega (arith, s .pre .fits, s .pre .orderRoom)),
@@ -112,7 +129,7 @@ write-rendering-requires c κs =
     let f = c .before .before .before .before .before in
     let p = f .before .before in
     let t = testing p in
-    let o = t .before .before in
+    let o = t .before .before .before in
     let s = entry t in
     let written = rw (o .before .gates-of .ensures) at (f .fill-schedule .ensures) in
     record {
@@ -153,7 +170,8 @@ finish-spec =
     inputs-of-requires
     gates-of-requires
     outputs-of-requires
-    outputs-at-requires
+    nevers-of-requires
+    outputs-behind-requires
     mul-size
     add-size
     test-room-requires

@@ -15,9 +15,7 @@ gates-of-requires : tie.Need-gates-of-requires
 gates-of-requires c κs = search needs
 
 gates-at-requires : tie.Need-gates-at-requires
-gates-at-requires c κs =
-    let at-start = c .before .before .before .before .before .before in
-    let s = at-start in omega (arith, c .before .inputs-of .ensures, whole-parts (s .args .words .now) (s .pre .whole) .fewInputs)
+gates-at-requires c κs = search needs
 
 slice-aggregate-lowest-unsettled : tie.Need-slice-aggregate-lowest-unsettled
 slice-aggregate-lowest-unsettled c =

@@ -9,7 +9,7 @@ use native.Mathlib.Omega.{arith}
 use lib.ListN.{getD}
 use Rattle.laws.specs.Lists.{ascii}
 use Rattle.netlist.specs.StoredBlock.{nameSize, outputSize}
-use Rattle.netlist.specs.SetLine.{valueText, pairText}
+use Rattle.netlist.specs.Syntax.{valueText, pairText}
 use Rattle.ternary.specs.Legal.{wordValue}
 use Rattle.writing.proofs.Appending.{appended-then, short-first, short-rest}
 use Rattle.setline.specs.Shown.{portPiece}

@@ -13,7 +13,6 @@ use Rattle.laws.proofs.Slices.{sets-placed}
 use Rattle.netlist.specs.declared.Refusal.the-variants.{NoRoom}
 use Rattle.refusals.proofs.Promised.{passed, passed-false, failed, bare, keeps-bare, finished}
 use Rattle.setline.specs.Shown.{showText}
-use Rattle.setline.proofs.ShowLaws.{show-short}
 use Rattle.setline.proofs.Outcomes.{show-room}
 
 -- the function's entry, the line, and its length where the room is tested
@@ -30,8 +29,7 @@ slice-aggregate-put-show : tie.Need-slice-aggregate-put-show
 slice-aggregate-put-show c = search needs
 
 put-show-requires : tie.Need-put-show-requires
-put-show-requires c κs =
-    let s = c .before .before .before .before .before in show-short (s .args .words .now) (s .args .setting .now) (s .args .gates .now) (s .pre)
+put-show-requires c κs = c .before .before .before .before .before .pre
 
 test-room-requires : tie.Need-test-room-requires
 test-room-requires c κs = search needs
@@ -52,7 +50,7 @@ returns c =
     (c .before .before .match .keys2) (c .refusal .ensures)
 
 put-show-requires-2 : tie.Need-put-show-requires-2
-put-show-requires-2 c κs = let s = start (c .before .before .before) in show-short (s .args .words .now) (s .args .setting .now) (s .args .gates .now) (s .pre)
+put-show-requires-2 c κs = start (c .before .before .before) .pre
 
 same-length : tie.Need-same-length
 same-length c = search needs

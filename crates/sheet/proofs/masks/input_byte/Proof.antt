@@ -1,7 +1,7 @@
 -- `sheet::masks::input_byte` meets its contract. Assumes nothing.
 use borrow.Author.Needs.{needs}
 use borrow.Author.Tests.{eq-eqb, ne-eqb}
-use Rattle.netlist.specs.Rounds.{bit}
+use Rattle.netlist.specs.Assignments.{bit}
 use Rattle.netlist.specs.Sheet.{inputByte}
 use Rattle.sheet.proofs.masks.input_byte.Statement.{statement}
 use Rattle.sheet.proofs.masks.input_byte.Tie as tie

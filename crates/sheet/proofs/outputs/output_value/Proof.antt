@@ -1,23 +1,14 @@
 -- `sheet::outputs::output_value` meets its contract: the word of the output's node is read. Assumes nothing.
-use mathlib.Core.Path.{_≡_, sym, ap, _∙_}
-use Prim.Native.Nat.{ℕ, _+_, _*_, _≤_, _<_}
+use mathlib.Core.Path.{_∙_}
 use native.Mathlib.Omega.{arith}
 use denote.Ref.{now}
-use lib.ListN.{getD}
 use borrow.Author.Needs.{needs}
-use Rattle.netlist.specs.Limits.{maxInputs, maxGates, maxOutputs}
-use Rattle.netlist.specs.StoredBlock.{nameSize, gateSize, outputSize, inputsAt, gatesAt, outputsAt}
-use Rattle.encoding.proofs.Readers.{whole-parts}
-use Rattle.sheet.specs.Shown.{OfBlock}
 use Rattle.sheet.proofs.OutputLaws.{output-code, output-near}
 use Rattle.sheet.proofs.outputs.output_value.Statement.{statement}
 use Rattle.sheet.proofs.outputs.output_value.Tie as tie
 
 outputs-at-requires : tie.Need-outputs-at-requires
-outputs-at-requires c κs =
-    let s = c .before .before .before in
-    let i = whole-parts (now (s .args .words)) (s .pre .whole) in
-    (omega (arith, s .pre .inputs, i .fewInputs), omega (arith, s .pre .gates, i .fewGates))
+outputs-at-requires c κs = search needs
 
 mul-at : tie.Need-mul-at
 mul-at c =

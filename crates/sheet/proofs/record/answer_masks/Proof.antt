@@ -11,8 +11,8 @@ use Rattle.sheet.proofs.record.answer_masks.Tie as tie
 inputs-of-requires : tie.Need-inputs-of-requires
 inputs-of-requires c κs = search needs
 
-are-bad-requires : tie.Need-are-bad-requires
-are-bad-requires c κs =
+are-masks-requires : tie.Need-are-masks-requires
+are-masks-requires c κs =
     let s = c .before .before in
     omega (arith, c .inputs-of .ensures, whole-parts (now (s .args .words)) (s .pre) .fewInputs)
 
@@ -25,7 +25,7 @@ returns c =
     let a = tested .before .before .before .args in
     c .refuse .ensures
     ∙ record-refused (now (a .words)) (a .fixed) (a .ones)
-    (bad-as (now (a .words)) (a .fixed) (a .ones) (tested .before .inputs-of .ensures) (tested .are-bad .ensures) (c .before .if1 .taken))
+    (bad-as (now (a .words)) (a .fixed) (a .ones) (tested .before .inputs-of .ensures) (tested .are-masks .ensures) (c .before .if1 .taken))
 
 slice-aggregate-settle-masks : tie.Need-slice-aggregate-settle-masks
 slice-aggregate-settle-masks c = search needs
@@ -46,14 +46,15 @@ returns-2 c =
     let a = tested .before .before .before .args in
     settling .settle-masks .ensures
     ∙ record-settled (now (a .words)) (a .fixed) (a .ones)
-    (bad-as (now (a .words)) (a .fixed) (a .ones) (tested .before .inputs-of .ensures) (tested .are-bad .ensures) (settling .before .before .before .if1 .left))
+    (bad-as (now (a .words)) (a .fixed) (a .ones) (tested .before .inputs-of .ensures) (tested .are-masks .ensures)
+    (settling .before .before .before .if1 .left))
 
 pub answer-masks-spec : {M : Type 1} → statement M
 answer-masks-spec =
     tie.close
     (tie.spec
     inputs-of-requires
-    are-bad-requires
+    are-masks-requires
     refuse-requires
     returns
     slice-aggregate-settle-masks

@@ -2,7 +2,8 @@
 use mathlib.Core.Path.{_∙_}
 use native.Mathlib.Omega.{arith}
 use denote.Ref.{now}
-use Rattle.netlist.specs.StoredBlock.{gatesAt}
+use borrow.Author.Needs.{needs}
+use Rattle.netlist.specs.StoredBlock.{neversAt, gatesAt}
 use Rattle.encoding.proofs.Decoded.{decode-gate}
 use Rattle.encoding.proofs.Readers.{whole-parts}
 use Rattle.simulate.specs.Rounded.{gateCode}
@@ -11,9 +12,7 @@ use Rattle.simulate.proofs.round.value_of_gate.Statement.{statement}
 use Rattle.simulate.proofs.round.value_of_gate.Tie as tie
 
 gates-at-requires : tie.Need-gates-at-requires
-gates-at-requires c κs =
-    let s = c .before .before .before in
-    omega (arith, whole-parts (now (s .args .words)) (s .pre .whole))
+gates-at-requires c κs = search needs
 
 mul-gate-value : tie.Need-mul-gate-value
 mul-gate-value c =
@@ -21,7 +20,7 @@ mul-gate-value c =
     omega (arith, whole-parts (now (s .args .words)) (s .pre .whole))
 
 add-gate-value : tie.Need-add-gate-value
-unfolding gatesAt
+unfolding gatesAt neversAt
 add-gate-value c =
     let s = c .before .before .before .before in
     omega (arith, whole-parts (now (s .args .words)) (s .pre .whole))
@@ -29,7 +28,7 @@ add-gate-value c =
 gate-value-requires : tie.Need-gate-value-requires
 gate-value-requires c κs =
     let s = c .before .before .before .before in
-    rw (c .gates-at .ensures, s .pre .inputs) (legal-head (now (s .args .words)) (s .args .j) (s .pre .whole) (s .pre .below))
+    rw (c .gates-at .ensures) (legal-head (now (s .args .words)) (s .args .j) (s .pre .whole) (s .pre .below))
 
 returns : tie.Need-returns
 unfolding gateCode

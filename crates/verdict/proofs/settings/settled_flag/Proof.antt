@@ -41,7 +41,7 @@ under l =
     let e = found l .settle-setting in
     record {
       inputsAre = p .legible .inputs;
-      first = rw (e .kept .1 .1 .1 .1 .1 .1 .0 ∙ p .valueRoom) at (l .before .before .outputs-at .ensures);
+      first = l .before .before .outputs-at .ensures;
       outputsAre = l .before .outputs-of .ensures;
       under = e .ensures;
     }
@@ -50,10 +50,7 @@ settle-setting-requires : tie.Need-settle-setting-requires Inv-loop μ-loop
 settle-setting-requires c κs = c .before .before .before .before .before .before .pre
 
 outputs-at-requires : tie.Need-outputs-at-requires Inv-loop μ-loop
-outputs-at-requires c κs =
-    let v = c .before .before .before .before in
-    let p = start v .pre in
-    (omega (arith, p .fewInputs), omega (arith, v .settle-setting .kept .1 .1 .1 .1 .1 .1 .0, p .valueRoom, p .legible .fewGates))
+outputs-at-requires c κs = search needs
 
 outputs-of-requires : tie.Need-outputs-of-requires Inv-loop μ-loop
 outputs-of-requires c κs = search needs
@@ -65,7 +62,7 @@ output-value-requires : tie.Need-output-value-requires Inv-loop μ-loop
 output-value-requires c κs =
     let l = c .before .before .before in
     let p = start (found l) .pre in
-    (near (under l) (p .fewInputs) (p .legible .fewGates), few (under l) (l .loop .o) (p .fewOutputs) (omega arith))
+    (near (under l) (p .fewInputs) (p .legible .fewGates) (p .fewNevers), few (under l) (l .loop .o) (p .fewOutputs) (omega arith))
 
 same-length : tie.Need-same-length Inv-loop μ-loop
 same-length c = search needs

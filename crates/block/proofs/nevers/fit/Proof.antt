@@ -1,0 +1,60 @@
+-- `block::nevers::fit` meets its contract: all lines passed keep their rule. Assumes nothing.
+use mathlib.Core.Path.{_≡_, refl}
+use mathlib.Core.Bool.{true}
+use Prim.Native.Nat.{_≤_, _-_}
+use borrow.Author.Needs.{needs}
+use Rattle.laws.specs.Lists.{all, upTo}
+use Rattle.block.proofs.TestLaws.{passes, fails, passed}
+use Rattle.block.specs.Steps.{neverRuleAt}
+use Rattle.block.proofs.nevers.fit.Statement.{statement}
+use Rattle.block.proofs.nevers.fit.Tie as tie
+
+abbrev Inv-loop : tie.InvT-loop
+Inv-loop words n at l i₀ i = (i ≤ l) × (all (neverRuleAt words n at) (upTo i) ≡ true)
+
+abbrev μ-loop : tie.MeasureT-loop
+μ-loop words n at l i₀ i = l - i
+
+loop-holds : tie.Need-loop-holds Inv-loop μ-loop
+loop-holds c = (search needs, refl)
+
+fits-at-requires : tie.Need-fits-at-requires Inv-loop μ-loop
+fits-at-requires c κs = search needs
+
+returns : tie.Need-returns Inv-loop μ-loop
+returns c =
+    let a = c .before .before .before .before .before .args in
+    let l = c .before .before .before .loop in
+    fails (neverRuleAt (a .words .now) (a .n) (a .at)) (a .l) (l .i) (search needs) (c .before .fits-at .ensures) (c .if1 .taken)
+
+add-i : tie.Need-add-i Inv-loop μ-loop
+add-i c = search needs
+
+loop-less : tie.Need-loop-less Inv-loop μ-loop
+loop-less c = search needs
+
+loop-again : tie.Need-loop-again Inv-loop μ-loop
+loop-again c =
+    let a = c .before .before .before .before .before .args in
+    let l = c .before .before .before .loop in
+    (search needs, passes (neverRuleAt (a .words .now) (a .n) (a .at)) (l .i) (l .inv .1) (c .before .fits-at .ensures) (c .if1 .left))
+
+returns-2 : tie.Need-returns-2 Inv-loop μ-loop
+returns-2 c =
+    let a = c .before .before .before .args in
+    let l = c .before .loop in
+    passed (neverRuleAt (a .words .now) (a .n) (a .at)) (a .l) (l .i) (l .inv .0) (c .loop-test .left) (l .inv .1)
+
+pub fit-spec : {M : Type 1} → statement M
+fit-spec =
+    tie.close
+    (tie.spec
+    Inv-loop
+    μ-loop
+    loop-holds
+    fits-at-requires
+    returns
+    add-i
+    loop-less
+    loop-again
+    returns-2)

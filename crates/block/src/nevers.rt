@@ -1,0 +1,46 @@
+// The never lines: each fixes some input, and only inputs that are there (SPECIFICATION 2.4).
+use layout::masks::are_masks;
+use layout::offsets::NEVER_SIZE;
+use layout::read::word_at;
+ghost use mathlib.Core.Path.{_≡_};
+ghost use Prim.Native.Nat.{_≤_};
+ghost use Rattle.netlist.specs.Limits.{maxInputs, maxNevers};
+ghost use Rattle.encoding.specs.Rules.{neverRule};
+ghost use Rattle.block.specs.Steps.{neverRuleAt, neversRule};
+
+// The line whose two masks are at `at`.
+fn fits(words: &[u16], n: usize, at: usize) -> bool
+    requires { ⌜ n ≤ maxInputs ⌝ }
+    requires { ⌜ at ≤ 65535 ⌝ }
+    ensures { λ r. ⌜ r ≡ neverRule (now (words .entry)) n at ⌝ }
+{
+    let fixed = word_at(words, at);
+    0 < fixed && are_masks(n, fixed, word_at(words, at + 1))
+}
+
+// Line i of those from `at` on.
+fn fits_at(words: &[u16], n: usize, at: usize, i: usize) -> bool
+    requires { ⌜ n ≤ maxInputs ⌝ }
+    requires { ⌜ at ≤ 8192 ⌝ }
+    requires { ⌜ i ≤ maxNevers ⌝ }
+    ensures { λ r. ⌜ r ≡ neverRuleAt (now (words .entry)) n at i ⌝ }
+{
+    fits(words, n, at + NEVER_SIZE * i)
+}
+
+// All l lines.
+pub fn fit(words: &[u16], n: usize, at: usize, l: usize) -> bool
+    requires { ⌜ n ≤ maxInputs ⌝ }
+    requires { ⌜ at ≤ 8192 ⌝ }
+    requires { ⌜ l ≤ maxNevers ⌝ }
+    ensures { λ r. ⌜ r ≡ neversRule (now (words .entry)) n at l ⌝ }
+{
+    let mut i = 0;
+    while i < l {
+        if !fits_at(words, n, at, i) {
+            return false;
+        }
+        i += 1;
+    }
+    true
+}

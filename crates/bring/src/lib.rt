@@ -1,0 +1,92 @@
+// Bring (SPECIFICATION 7.14): a block that was stored before there were never lines, as a block of today.
+use block::check_words;
+use layout::limits::BLOCK_WORDS;
+use layout::offsets::inputs_of;
+use netlist::Answer;
+use netlist::Refusal;
+use netlist::Test;
+use refusals::refusal;
+use refusals::test_room;
+ghost use mathlib.Core.Path.{_≡_};
+ghost use Prim.Native.Nat.{_≤_, _<_};
+ghost use lib.ListN.{length, getD};
+ghost use Rattle.laws.specs.Lists.{placed};
+ghost use Rattle.netlist.specs.declared.Refusal.the-variants.{MalformedBlock};
+ghost use Rattle.netlist.specs.Answers.{testOf, Promise};
+ghost use Rattle.netlist.specs.Bring.{maxInputsBefore, brought, isTornBefore, bring as bringOf};
+
+// The counts at the head of such a block, and the most inputs that it had.
+const COUNTS_BEFORE: usize = 3;
+
+const MAX_INPUTS_BEFORE: usize = 10;
+
+// Word p of the block of today.
+fn brought_word(old: &[u16], p: usize) -> u16
+    requires { ⌜ (3 ≤ length (now old)) × (p ≤ length (now old)) ⌝ }
+    ensures { λ r. ⌜ r ≡ getD (brought (now (old .entry))) p 0 ⌝ }
+{
+    if p < COUNTS_BEFORE {
+        return old[p];
+    }
+    if p == COUNTS_BEFORE {
+        return 0;
+    }
+    old[p - 1]
+}
+
+// All of them.
+fn put_brought(old: &[u16], block: &mut [u16])
+    requires { ⌜ (3 ≤ length (now old)) × (length (now old) < length (now block)) ⌝ }
+    ensures { λ r. ⌜ now (block .exit) ≡ placed (brought (now (old .entry))) (now (block .entry)) ⌝ }
+{
+    let count = old.len() + 1;
+    let mut p = 0;
+    while p < count {
+        block[p] = brought_word(old, p);
+        p += 1;
+    }
+}
+
+// 6 of words that fit, by the rules of today for the words of today.
+fn check_brought(old: &[u16], words: &mut [u16]) -> Test
+    requires { ⌜ (3 ≤ length (now old)) × (length (now old) < length (now words)) ⌝ }
+    requires { ⌜ getD (now old) 0 0 ≤ maxInputsBefore ⌝ }
+    ensures { λ r. ⌜ r ≡ testOf (isTornBefore (now (old .entry))) MalformedBlock ⌝ }
+{
+    put_brought(old, words);
+    check_words(&words[..old.len() + 1])
+}
+
+// 6, by the rules that held before.
+fn check_before(old: &[u16]) -> Test
+    ensures { λ r. ⌜ r ≡ testOf (isTornBefore (now (old .entry))) MalformedBlock ⌝ }
+{
+    if old.len() < COUNTS_BEFORE {
+        return Test::Failed(Refusal::MalformedBlock);
+    }
+    if BLOCK_WORDS <= old.len() {
+        return Test::Failed(Refusal::MalformedBlock);
+    }
+    if MAX_INPUTS_BEFORE < inputs_of(old) {
+        return Test::Failed(Refusal::MalformedBlock);
+    }
+    let mut words = [0u16; BLOCK_WORDS];
+    check_brought(old, &mut words)
+}
+
+// Bring (6, 11): the words with a fourth count, 0; count: words.
+pub fn bring(old: &[u16], block: &mut [u16]) -> Answer
+    ensures { λ r. ⌜ Promise (bringOf (now (old .entry)) (length (now (block .entry)))) (now (block .entry)) r (now (block .exit)) ⌝ }
+{
+    let tested = check_before(old);
+    let Test::Passed = tested else {
+        return refusal(tested);
+    };
+    let count = old.len() + 1;
+    let tested = test_room(block.len(), count);
+    let Test::Passed = tested else {
+        return refusal(tested);
+    };
+    put_brought(old, block);
+    Answer::Done { count, detail: 0 }
+}

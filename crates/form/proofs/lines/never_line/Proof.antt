@@ -1,0 +1,130 @@
+-- `form::lines::never_line` meets its contract: a chain of calls, each on what the one before left.
+-- Assumes nothing.
+use borrow.Author.Needs.{needs}
+use Rattle.form.proofs.lines.never_line.Statement.{statement}
+use Rattle.form.proofs.lines.never_line.Tie as tie
+use mathlib.Core.Path.{_≡_}
+use mathlib.Core.List.{List}
+use Prim.Native.Nat.{ℕ, _-_}
+use lib.ListN.{length, take, drop}
+use Rattle.laws.specs.Lists.{ascii}
+use Rattle.form.specs.Scan.{scanOf, wordReader, neverReader, neverEnd}
+use Rattle.form.proofs.Chain.{At, lent-last, lent-last-length, first-bad, first-next, then-bad, then-next, then-last}
+use Rattle.form.proofs.LineSteps.{shortens-word, shortens-never-pairs, never-word, never-pairs, never-bound}
+
+-- the text at each stage
+abbrev text-1 : tie.After-known-told → List ℕ
+text-1 c = c .before .before .before .before .before .before .args .s .now
+
+abbrev text-2 : tie.After-known-told2 → List ℕ
+text-2 c = text-1 (c .before .before .before .before .before)
+
+-- what is left behind the word and behind the pairs
+left-1 : (c : tie.After-known-told) → At (scanOf (neverReader (text-1 c))) (text-1 c) (c .before .found .given .0 .0) (λ t. scanOf (neverEnd t))
+left-1 c = first-next never-word (shortens-word (ascii "never")) (text-1 c) (c .before .before .before .word .ensures) (c .before .found .given .1)
+
+-- the pairs' bound is the length of what is lent
+lent-is : (c : tie.After-known-told) →
+    let n = c .before .found .given .0 .0 in
+    let at = length (text-1 c) - n in
+    length (take (length (text-1 c) - at) (drop at (text-1 c))) ≡ n
+lent-is c = lent-last-length (c .before .found .given .0 .0) (text-1 c) (left-1 c .within)
+
+left-2 : (c : tie.After-known-told2)
+    → At (scanOf (neverReader (text-2 c))) (text-2 c) (c .before .found2 .given .0 .0) (λ t. scanOf (wordReader (ascii "\n") t))
+left-2 c =
+    let b = c .before .before .before .before .before in
+    then-next never-pairs shortens-never-pairs (left-1 b) (lent-last (b .before .found .given .0 .0) (text-1 b))
+    (never-bound _ (b .before .found .given .0 .0) (lent-is b) (c .before .before .before .pairs .ensures)) (c .before .found2 .given .1)
+
+slice-aggregate-word : tie.Need-slice-aggregate-word
+slice-aggregate-word c = search needs
+
+word-requires : tie.Need-word-requires
+word-requires c κs = search needs
+
+enum-known-found : tie.Need-enum-known-found
+enum-known-found c = search needs
+
+enum-told : tie.Need-enum-told
+enum-told c = search needs
+
+returns : tie.Need-returns
+returns c =
+    first-bad never-word (c .before .before .before .before .before .args .s .now)
+    (c .before .before .word .ensures) (c .enum-told .given .1)
+
+sub-at : tie.Need-sub-at
+sub-at c = left-1 c .within
+
+sub-pairs : tie.Need-sub-pairs
+sub-pairs c = search needs
+
+part-pairs-start : tie.Need-part-pairs-start
+part-pairs-start c = search needs
+
+part-pairs-end : tie.Need-part-pairs-end
+part-pairs-end c = search needs
+
+pairs-requires : tie.Need-pairs-requires
+pairs-requires c κs = search needs
+
+enum-known-found-2 : tie.Need-enum-known-found-2
+enum-known-found-2 c = search needs
+
+enum-told-2 : tie.Need-enum-told-2
+enum-told-2 c = search needs
+
+returns-2 : tie.Need-returns-2
+returns-2 c =
+    let b = c .before .before .before .before in
+    then-bad never-pairs (left-1 b) (lent-last (b .before .found .given .0 .0) (text-1 b))
+    (never-bound _ (b .before .found .given .0 .0) (lent-is b) (c .before .before .pairs .ensures)) (c .enum-told2 .given .1)
+
+sub-at-2 : tie.Need-sub-at-2
+sub-at-2 c = left-2 c .within
+
+sub-word : tie.Need-sub-word
+sub-word c = search needs
+
+part-word-start : tie.Need-part-word-start
+part-word-start c = search needs
+
+part-word-end : tie.Need-part-word-end
+part-word-end c = search needs
+
+slice-aggregate-word-2 : tie.Need-slice-aggregate-word-2
+slice-aggregate-word-2 c = search needs
+
+word-requires-2 : tie.Need-word-requires-2
+word-requires-2 c κs = search needs
+
+returns-3 : tie.Need-returns-3
+returns-3 c =
+    let b = c .before .before .before in
+    then-last (wordReader (ascii "\n")) (left-2 b) (lent-last (b .before .found2 .given .0 .0) (text-2 b)) (c .word2 .ensures)
+
+pub never-line-spec : {M : Type 1} → statement M
+never-line-spec =
+    tie.close
+    (tie.spec
+    slice-aggregate-word
+    word-requires
+    enum-known-found
+    enum-told
+    returns
+    sub-at
+    sub-pairs
+    part-pairs-start
+    part-pairs-end
+    pairs-requires
+    enum-known-found-2
+    enum-told-2
+    returns-2
+    sub-at-2
+    sub-word
+    part-word-start
+    part-word-end
+    slice-aggregate-word-2
+    word-requires-2
+    returns-3)

@@ -1,0 +1,17 @@
+-- `nevers::lines::never_lines` meets its contract: a legal text has its lines of inputs first, and then its never lines. Assumes nothing.
+use borrow.Author.Needs.{needs}
+use Rattle.nevers.proofs.TreePlaces.{runs-are}
+use Rattle.nevers.proofs.lines.never_lines.Statement.{statement}
+use Rattle.nevers.proofs.lines.never_lines.Tie as tie
+
+run-of-requires : tie.Need-run-of-requires
+run-of-requires c κs = search needs
+
+run-of-requires-2 : tie.Need-run-of-requires-2
+run-of-requires-2 c κs = search needs
+
+returns : tie.Need-returns
+returns c = λ t is. runs-are is (c .before .run-of .ensures) (c .run-of2 .ensures)
+
+pub never-lines-spec : {M : Type 1} → statement M
+never-lines-spec = tie.close (tie.spec run-of-requires run-of-requires-2 returns)

@@ -1,0 +1,53 @@
+-- `nevers::tests::line_repeat` meets its contract: the tables are those of the line's pairs. Assumes nothing.
+use borrow.Author.Needs.{needs}
+use native.Mathlib.Omega.{arith}
+use Rattle.netlist.specs.Reading.{neverMentions}
+use Rattle.pairs.proofs.TableLaws.{names-room, places-room}
+use Rattle.nevers.proofs.NeverText.{pairs-here, line-inside, pair-room}
+use Rattle.nevers.proofs.tests.line_repeat.Statement.{statement}
+use Rattle.nevers.proofs.tests.line_repeat.Tie as tie
+
+-- the function's entry, from where the tables are filled
+abbrev start : tie.After-fill-pairs → tie.Start
+start c = c .before .before .before .before .before .before .before .before
+
+add-fill-pairs : tie.Need-add-fill-pairs
+add-fill-pairs c = omega (arith, line-inside (c .before .before .before .before .pre .is))
+
+fill-pairs-requires : tie.Need-fill-pairs-requires
+fill-pairs-requires c κs = pair-room (c .before .before .before .before .before .before .before .pre)
+
+test-repeat-requires : tie.Need-test-repeat-requires
+test-repeat-requires c κs =
+    let filled = c .before .before .before .before .before .before .before .before in
+    let r = start filled .pre in
+    let t = filled .fill-pairs .ensures (r .pairs) (pairs-here (r .is)) in
+    (names-room t, places-room t)
+
+same-length : tie.Need-same-length
+same-length c = search needs
+
+same-length-2 : tie.Need-same-length-2
+same-length-2 c = search needs
+
+same-length-3 : tie.Need-same-length-3
+same-length-3 c = search needs
+
+returns : tie.Need-returns
+unfolding neverMentions
+returns c =
+    λ ps is.
+    let t = c .before .before .before .before .before .before .before .before .before .fill-pairs .ensures ps (pairs-here is) in
+    c .test-repeat .ensures ps _ (pairs-here is .legal) (t .counted) (t .namesAre) (t .placesAre)
+
+pub line-repeat-spec : {M : Type 1} → statement M
+line-repeat-spec =
+    tie.close
+    (tie.spec
+    add-fill-pairs
+    fill-pairs-requires
+    test-repeat-requires
+    same-length
+    same-length-2
+    same-length-3
+    returns)

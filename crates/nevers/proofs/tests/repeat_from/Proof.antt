@@ -1,0 +1,122 @@
+-- `nevers::tests::repeat_from` meets its contract: the lines that are left are tested one by one. Assumes nothing.
+use borrow.Author.Needs.{needs}
+use mathlib.Core.Path.{_≡_, refl, _∙_}
+use mathlib.Core.List.{List}
+use native.Mathlib.Omega.{arith}
+use lib.ListN.{length}
+use Rattle.netlist.specs.Syntax.{Pair}
+use Rattle.nevers.specs.Places.{NeversAt}
+use Rattle.nevers.specs.Ready.{LineReady}
+use Rattle.nevers.proofs.NeverText.{line-inside}
+use Rattle.nevers.proofs.LineWalk.{Left, ready-line, RepeatLeft, repeat-next, repeat-failed, repeat-passed}
+use Rattle.nevers.proofs.tests.repeat_from.Statement.{statement}
+use Rattle.nevers.proofs.tests.repeat_from.Tie as tie
+
+abbrev Inv-loop : tie.InvT-loop
+Inv-loop text from count names₀ places₀ codes₀ at₀ left₀ names places codes at left =
+    ((ns : List (List Pair)) → NeversAt from count ns text → Left text at left (RepeatLeft ns from at))
+    × (length names ≡ length names₀) × (length places ≡ length places₀) × (length codes ≡ length codes₀)
+
+abbrev μ-loop : tie.MeasureT-loop
+μ-loop text from count names₀ places₀ codes₀ at₀ left₀ names places codes at left = left
+
+loop-holds : tie.Need-loop-holds Inv-loop μ-loop
+loop-holds c = (λ ns is. record { lines = ns; is = is; holds = record { same = refl } }, refl, refl, refl)
+
+-- the function's entry, the loop's test, and the test of a line
+abbrev start : tie.At-loop Inv-loop μ-loop → tie.Start Inv-loop μ-loop
+start c = c .before .before .before .before .before
+
+abbrev loop : tie.After-line-repeat Inv-loop μ-loop → tie.At-loop Inv-loop μ-loop
+loop c = c .before .before .before .before .before
+
+abbrev line : tie.After-enum-told Inv-loop μ-loop → tie.After-line-repeat Inv-loop μ-loop
+line c = c .before .before .before .before .before .before .before .before
+
+-- the line of a turn can be read
+ready : (c : tie.In-loop Inv-loop μ-loop) → let l = c .before in
+    LineReady (l .loop .at) (start l .args .text .now) (l .loop .names) (l .loop .places) (l .loop .codes)
+ready c =
+    let l = c .before in
+    let s = start l in
+    let r = s .pre in
+    ready-line (l .loop .inv .0 (r .lines) (r .is)) (omega arith) (r .room) (l .loop .inv .1) (l .loop .inv .2) (l .loop .inv .3)
+
+line-repeat-requires : tie.Need-line-repeat-requires Inv-loop μ-loop
+line-repeat-requires c κs = ready (c .before .before .before)
+
+enum-told : tie.Need-enum-told Inv-loop μ-loop
+enum-told c = search needs
+
+enum-told-2 : tie.Need-enum-told-2 Inv-loop μ-loop
+enum-told-2 c = search needs
+
+same-length : tie.Need-same-length Inv-loop μ-loop
+same-length c = let t = c .before .before .before .before .before .before .before .before in t .line-repeat .kept .1 .1 .0 ∙ loop t .loop .inv .1
+
+same-length-2 : tie.Need-same-length-2 Inv-loop μ-loop
+same-length-2 c = let t = c .before .before .before .before .before .before .before .before in t .line-repeat .kept .1 .1 .1 .0 ∙ loop t .loop .inv .2
+
+same-length-3 : tie.Need-same-length-3 Inv-loop μ-loop
+same-length-3 c = let t = c .before .before .before .before .before .before .before .before in t .line-repeat .kept .1 .1 .1 .1 .0 ∙ loop t .loop .inv .3
+
+returns : tie.Need-returns Inv-loop μ-loop
+returns c =
+    λ ns is.
+    let t = c .before .before .before .before .before .before .before .before in
+    let l = loop t in
+    repeat-failed (l .loop .inv .0 ns is) (omega arith) (t .line-repeat .ensures) (c .before .match .keys2)
+
+next-line-requires : tie.Need-next-line-requires Inv-loop μ-loop
+next-line-requires c κs = omega (arith, line-inside (ready (line c .before .before .before .before) .is))
+
+sub-left : tie.Need-sub-left Inv-loop μ-loop
+sub-left c = omega arith
+
+loop-less : tie.Need-loop-less Inv-loop μ-loop
+loop-less c = omega arith
+
+loop-again : tie.Need-loop-again Inv-loop μ-loop
+loop-again c =
+    let t = line (c .before) in
+    let l = loop t in (
+      λ ns is. repeat-next (l .loop .inv .0 ns is) (omega arith) (t .line-repeat .ensures) (c .next-line .ensures) (c .before .enum-told .given .1),
+      t .line-repeat .kept .1 .1 .0 ∙ l .loop .inv .1,
+      t .line-repeat .kept .1 .1 .1 .0 ∙ l .loop .inv .2,
+      t .line-repeat .kept .1 .1 .1 .1 .0 ∙ l .loop .inv .3,
+    )
+
+same-length-4 : tie.Need-same-length-4 Inv-loop μ-loop
+same-length-4 c = c .before .loop .inv .1
+
+same-length-5 : tie.Need-same-length-5 Inv-loop μ-loop
+same-length-5 c = c .before .loop .inv .2
+
+same-length-6 : tie.Need-same-length-6 Inv-loop μ-loop
+same-length-6 c = c .before .loop .inv .3
+
+returns-2 : tie.Need-returns-2 Inv-loop μ-loop
+returns-2 c = λ ns is. repeat-passed (c .before .loop .inv .0 ns is) (omega arith)
+
+pub repeat-from-spec : {M : Type 1} → statement M
+repeat-from-spec =
+    tie.close
+    (tie.spec
+    Inv-loop
+    μ-loop
+    loop-holds
+    line-repeat-requires
+    enum-told
+    enum-told-2
+    same-length
+    same-length-2
+    same-length-3
+    returns
+    next-line-requires
+    sub-left
+    loop-less
+    loop-again
+    same-length-4
+    same-length-5
+    same-length-6
+    returns-2)

@@ -1,0 +1,98 @@
+// The words of never lines in a stored block: two masks a line.
+use crate::MAX_PAIRS;
+use crate::NeverLines;
+use crate::PAIRS_AT;
+use layout::gather::Masks;
+use layout::gather::masks_of;
+use layout::limits::MAX_INPUTS;
+use names::lines::next_line;
+use pairs::given::fill_setting;
+use pairs::tables::fill_pairs;
+ghost use mathlib.Core.Path.{_≡_};
+ghost use mathlib.Core.List.{List, map};
+ghost use Prim.Native.Nat.{_*_, _≤_};
+ghost use lib.ListN.{length};
+ghost use lib.Seq.{sets};
+ghost use Rattle.laws.specs.Lists.{placed};
+ghost use Rattle.netlist.specs.Limits.{maxInputs};
+ghost use Rattle.netlist.specs.Netlist.{Name};
+ghost use Rattle.netlist.specs.Syntax.{Pair, Tree};
+ghost use Rattle.netlist.specs.Reading.{givenValue};
+ghost use Rattle.layout.specs.Masks.{masksOf};
+ghost use Rattle.pairs.specs.Tables.{InputsAre};
+ghost use Rattle.nevers.specs.Places.{TextOf, neverLines, NeverAt, NeversAt, linesWords};
+ghost use Rattle.nevers.specs.Ready.{InForm, LineReady, LinesReady, InputsReady, ValueRoom};
+
+// The masks of what one line gives the inputs.
+fn line_masks(
+    text: &[u8],
+    at: usize,
+    inputs: &[u64],
+    n: usize,
+    names: &mut [u64],
+    places: &mut [usize],
+    codes: &mut [u8],
+    setting: &mut [u8],
+) -> Masks
+    requires { ⌜ LineReady at (now text) (now names) (now places) (now codes) ⌝ }
+    requires { ⌜ InputsReady n (now inputs) × ValueRoom n (now setting) ⌝ }
+    ensures { λ r. ⌜ ((ps : List Pair) (known : List Name) → NeverAt at ps (now (text .entry)) → InputsAre known n (now (inputs .entry)) → r ≡ masksOf (map (givenValue ps) known)) ⌝ }
+{
+    let count = fill_pairs(text, at + PAIRS_AT, names, places, codes);
+    fill_setting(names, codes, count, inputs, n, setting);
+    masks_of(&setting[..n])
+}
+
+// The words of so many lines.
+fn masks_from(
+    text: &[u8],
+    from: usize,
+    count: usize,
+    inputs: &[u64],
+    n: usize,
+    names: &mut [u64],
+    places: &mut [usize],
+    codes: &mut [u8],
+    setting: &mut [u8],
+    out: &mut [u16],
+)
+    requires { ⌜ LinesReady from count (now text) (now names) (now places) (now codes) ⌝ }
+    requires { ⌜ InputsReady n (now inputs) × ValueRoom n (now setting) × (2 * count ≤ length (now out)) ⌝ }
+    ensures { λ r. ⌜ ((ns : List (List Pair)) (known : List Name) → NeversAt from count ns (now (text .entry)) → InputsAre known n (now (inputs .entry)) → now (out .exit) ≡ sets (now (out .entry)) 0 (linesWords known ns)) ⌝ }
+{
+    let mut at = from;
+    let mut i = 0;
+    while i < count {
+        let masks = line_masks(text, at, inputs, n, names, places, codes, setting);
+        out[2 * i] = masks.defined;
+        out[2 * i + 1] = masks.ones;
+        at = next_line(text, at);
+        i += 1;
+    }
+}
+
+// The words of all lines into the beginning of `out`.
+pub fn fill_masks(text: &[u8], lines: NeverLines, inputs: &[u64], n: usize, out: &mut [u16])
+    requires { ⌜ InForm (now text) lines ⌝ }
+    requires { ⌜ InputsReady n (now inputs) × (n ≤ maxInputs) × (2 * lines .count ≤ length (now out)) ⌝ }
+    ensures { λ r. ⌜ ((t : Tree) → TextOf t (now (text .entry)) → lines ≡ neverLines t → InputsAre (t .inputs) n (now (inputs .entry)) → now (out .exit) ≡ placed (linesWords (t .inputs) (t .nevers)) (now (out .entry))) ⌝ }
+{
+    let at = lines.at;
+    let count = lines.count;
+    let mut names = [0u64; MAX_PAIRS];
+    let mut places = [0usize; MAX_PAIRS];
+    let mut codes = [0u8; MAX_PAIRS];
+    let mut setting = [0u8; MAX_INPUTS];
+    masks_from(
+        text,
+        at,
+        count,
+        inputs,
+        n,
+        &mut names,
+        &mut places,
+        &mut codes,
+        &mut setting,
+        out,
+    )
+}

@@ -1,0 +1,28 @@
+-- `pairs::given::test_outside` meets its contract. Assumes nothing.
+use borrow.Author.Needs.{needs}
+use Rattle.pairs.proofs.given.test_outside.Statement.{statement}
+use Rattle.pairs.proofs.given.test_outside.Tie as tie
+use Rattle.pairs.proofs.NameTests.{outside-failed, outside-passed}
+
+first-outside-requires : tie.Need-first-outside-requires
+first-outside-requires c κs = search needs
+
+mul-place : tie.Need-mul-place
+mul-place c = search needs
+
+shared-slice-read-place : tie.Need-shared-slice-read-place
+shared-slice-read-place c = search needs
+
+returns : tie.Need-returns
+returns c =
+    λ ps at known legal counted named placed inputs.
+    outside-failed ps legal at named placed inputs (rw counted at (c .before .before .first-outside .ensures)) (rw counted at (c .before .if1 .taken))
+
+returns-2 : tie.Need-returns-2
+returns-2 c =
+    λ ps at known legal counted named placed inputs.
+    outside-passed ps legal at named placed inputs (rw counted at (c .before .first-outside .ensures)) (rw counted at (c .if1 .left))
+
+pub test-outside-spec : {M : Type 1} → statement M
+test-outside-spec =
+    tie.close (tie.spec first-outside-requires mul-place shared-slice-read-place returns returns-2)

@@ -1,0 +1,72 @@
+-- `pairs::tables::fill_codes` meets its contract: one value a turn. Assumes nothing.
+use borrow.Author.Needs.{needs}
+use Rattle.pairs.proofs.tables.fill_codes.Statement.{statement}
+use Rattle.pairs.proofs.tables.fill_codes.Tie as tie
+use Prim.Native.Nat.{_-_, _≤_}
+use mathlib.Core.Path.{_≡_, refl, _∙_}
+use native.Mathlib.Omega.{arith}
+use lib.ListN.{length, length-set}
+use Rattle.laws.specs.Lists.{tab, placed}
+use Rattle.laws.proofs.Tab.{fill-next}
+use Rattle.pairs.specs.PairBytes.{codeThrough}
+
+abbrev Inv-loop : tie.InvT-loop
+Inv-loop text places count codes₀ i₀ codes i = (i ≤ count) × (codes ≡ placed (tab (codeThrough text places) i) codes₀) × (length codes ≡ length codes₀)
+
+abbrev μ-loop : tie.MeasureT-loop
+μ-loop text places count codes₀ i₀ codes i = count - i
+
+loop-holds : tie.Need-loop-holds Inv-loop μ-loop
+loop-holds c = (omega arith, refl, refl)
+
+mul-code-at : tie.Need-mul-code-at Inv-loop μ-loop
+mul-code-at c = omega arith
+
+shared-slice-read-code-at : tie.Need-shared-slice-read-code-at Inv-loop μ-loop
+shared-slice-read-code-at c = omega arith
+
+code-at-requires : tie.Need-code-at-requires Inv-loop μ-loop
+code-at-requires c κs = search needs
+
+slice-write-codes : tie.Need-slice-write-codes Inv-loop μ-loop
+slice-write-codes c = omega arith
+
+add-i : tie.Need-add-i Inv-loop μ-loop
+add-i c = omega arith
+
+loop-less : tie.Need-loop-less Inv-loop μ-loop
+loop-less c = omega arith
+
+loop-again : tie.Need-loop-again Inv-loop μ-loop
+unfolding codeThrough
+loop-again c =
+    let a = c .before .before .before .before .before .before .before .args in
+    let l = c .before .before .before .loop in (
+      omega arith,
+      fill-next (codeThrough (a .text .now) (a .places .now)) (l .i) (a .codes .now) (l .codes) (c .code-at .result) (l .inv .1) (omega arith)
+          (c .code-at .ensures),
+      length-set (l .codes) (l .i) (c .code-at .result) ∙ l .inv .2,
+    )
+
+same-length : tie.Need-same-length Inv-loop μ-loop
+same-length c = c .before .loop .inv .2
+
+returns : tie.Need-returns Inv-loop μ-loop
+returns c = let l = c .before .loop in let e : l .i ≡ c .before .before .before .before .before .args .count = omega arith in rw (← e) (l .inv .1)
+
+pub fill-codes-spec : {M : Type 1} → statement M
+fill-codes-spec =
+    tie.close
+    (tie.spec
+    Inv-loop
+    μ-loop
+    loop-holds
+    mul-code-at
+    shared-slice-read-code-at
+    code-at-requires
+    slice-write-codes
+    add-i
+    loop-less
+    loop-again
+    same-length
+    returns)

@@ -1,0 +1,100 @@
+-- `reading::read_split` meets its contract: 3, and then the steps with room for every table. Assumes nothing.
+use native.Mathlib.Omega.{arith}
+use lib.ListN.{length}
+use Rattle.netlist.specs.declared.Refusal.the-variants.{OverLimit}
+use Rattle.netlist.specs.Answers.{inRoom}
+use Rattle.refusals.proofs.Promised.{passed-false, failed, keeps-room}
+use Rattle.reading.proofs.Splits.{count-is, rest-prints, rest-short}
+use Rattle.reading.proofs.Outcomes.{read-tree}
+use borrow.Author.Needs.{needs}
+use Rattle.reading.proofs.read_split.Statement.{statement}
+use Rattle.reading.proofs.read_split.Tie as tie
+
+abbrev entry : tie.After-test-limits → tie.Start
+entry c = c .before .before .before .before
+
+test-limits-requires : tie.Need-test-limits-requires
+test-limits-requires c κs = rest-short (c .before .before .before .pre .split)
+
+enum-told : tie.Need-enum-told
+enum-told c = search needs
+
+enum-told-2 : tie.Need-enum-told-2
+enum-told-2 c = search needs
+
+refusal-requires : tie.Need-refusal-requires
+refusal-requires c κs = search needs
+
+returns : tie.Need-returns
+returns c =
+    let t = c .before .before .before in
+    let a = entry t .args in
+    let p = entry t .pre in
+    let s = p .split in
+    failed (inRoom _) (keeps-room _) _ _ OverLimit (read-tree (p .tree) (a .text .now) (length (a .block .now)) (s .is) (s .short))
+    (t .test-limits .ensures (p .tree) (rest-prints s) (count-is (s .is) (s .stand))) (a .block .now) (c .before .before .match .keys2) (c .refusal .ensures)
+
+slice-aggregate-read-with : tie.Need-slice-aggregate-read-with
+slice-aggregate-read-with c = search needs
+
+slice-aggregate-read-with-2 : tie.Need-slice-aggregate-read-with-2
+slice-aggregate-read-with-2 c = search needs
+
+slice-aggregate-read-with-3 : tie.Need-slice-aggregate-read-with-3
+slice-aggregate-read-with-3 c = search needs
+
+slice-aggregate-read-with-4 : tie.Need-slice-aggregate-read-with-4
+slice-aggregate-read-with-4 c = search needs
+
+slice-aggregate-read-with-5 : tie.Need-slice-aggregate-read-with-5
+slice-aggregate-read-with-5 c = search needs
+
+slice-aggregate-read-with-6 : tie.Need-slice-aggregate-read-with-6
+slice-aggregate-read-with-6 c = search needs
+
+read-with-requires : tie.Need-read-with-requires
+read-with-requires c κs =
+    let e = c .before .before .before .before .before .before .before in
+    let t = e .before .before in
+    let p = entry t .pre in
+    let s = p .split in
+    record {
+      tree = p .tree;
+      limited =
+          record {
+            split = s;
+            within =
+                passed-false _ OverLimit (t .test-limits .ensures (p .tree) (rest-prints s) (count-is (s .is) (s .stand))) (e .enum-told .given .1);
+          };
+      nameRoom = omega arith;
+      placeRoom = omega arith;
+      nodeRoom = omega arith;
+      maskRoom = omega arith;
+      gateRoom = omega arith;
+      outputRoom = omega arith;
+    }
+
+same-length : tie.Need-same-length
+same-length c = search needs
+
+returns-2 : tie.Need-returns-2
+returns-2 c = search needs
+
+pub read-split-spec : {M : Type 1} → statement M
+read-split-spec =
+    tie.close
+    (tie.spec
+    test-limits-requires
+    enum-told
+    enum-told-2
+    refusal-requires
+    returns
+    slice-aggregate-read-with
+    slice-aggregate-read-with-2
+    slice-aggregate-read-with-3
+    slice-aggregate-read-with-4
+    slice-aggregate-read-with-5
+    slice-aggregate-read-with-6
+    read-with-requires
+    same-length
+    returns-2)

@@ -1,0 +1,89 @@
+-- `writing::nevers::put_never` meets its contract: its three pieces, one after the other. Assumes nothing.
+use mathlib.Core.List.{_++_}
+use mathlib.Core.Path.{_≡_}
+use borrow.Author.Needs.{needs}
+use Rattle.laws.specs.Lists.{ascii}
+use Rattle.writing.specs.Pieces.{pieces, fixedText, neverText}
+use Rattle.writing.proofs.NeverLaws.{never-of}
+use Rattle.writing.proofs.Appending.{appended-then, short-first, short-rest}
+use Rattle.writing.proofs.nevers.put_never.Statement.{statement}
+use Rattle.writing.proofs.nevers.put_never.Tie as tie
+
+-- the entry, and the pass over the first piece
+abbrev start : tie.After-put-all → tie.Start
+start c = c .before .before .before .before .before .before .before
+
+abbrev opened : tie.After-inputs-of → tie.After-put-all
+opened c = c .before .before .before .before
+
+-- the three pieces, from the words that were read
+parts : (c : tie.After-inputs-of) → let a = start (opened c) .args in
+    neverText (a .words .now) (a .from)
+    ≡ ascii "(never"
+    ++ (pieces (fixedText (a .words .now) (opened c .before .before .before .before .word-at .result) (opened c .before .before .before .word-at2 .result))
+    (c .inputs-of .result) ++ ascii ")\n")
+parts c =
+    let a = start (opened c) .args in
+    let ones = opened c .before .before .before in
+    never-of (a .words .now) (a .from) (ones .before .word-at .result) (ones .word-at2 .result) (c .inputs-of .result)
+    (ones .before .word-at .ensures) (ones .word-at2 .ensures) (c .inputs-of .ensures)
+
+word-at-requires : tie.Need-word-at-requires
+word-at-requires c κs = search needs
+
+add-word-at : tie.Need-add-word-at
+add-word-at c = search needs
+
+word-at-requires-2 : tie.Need-word-at-requires-2
+word-at-requires-2 c κs = search needs
+
+slice-aggregate-put-all : tie.Need-slice-aggregate-put-all
+slice-aggregate-put-all c = search needs
+
+put-all-requires : tie.Need-put-all-requires
+unfolding neverText
+put-all-requires c κs = short-first {xs = ascii "(never"} _ (c .before .before .before .before .before .before .pre .1)
+
+inputs-of-requires : tie.Need-inputs-of-requires
+inputs-of-requires c κs = search needs
+
+put-pairs-requires : tie.Need-put-pairs-requires
+put-pairs-requires c κs =
+    let p = start (opened c) .pre in
+    (rw (c .inputs-of .ensures) (p .0 .0), short-first _ (short-rest _ (rw (parts c) at (p .1)) (opened c .put-all .ensures)))
+
+slice-aggregate-put-all-2 : tie.Need-slice-aggregate-put-all-2
+slice-aggregate-put-all-2 c = search needs
+
+put-all-requires-2 : tie.Need-put-all-requires-2
+put-all-requires-2 c κs =
+    let filled = c .before .before .before .before in
+    let head = filled .before in
+    short-rest _ (short-rest _ (rw (parts head) at (start (opened head) .pre .1)) (opened head .put-all .ensures)) (filled .put-pairs .ensures)
+
+same-length : tie.Need-same-length
+same-length c = search needs
+
+returns : tie.Need-returns
+returns c =
+    let closed = c .before .before in
+    let filled = closed .before .before .before .before .before in
+    let head = filled .before in
+    rw (parts head)
+    (appended-then (opened head .put-all .ensures) (appended-then (filled .put-pairs .ensures) (closed .put-all2 .ensures)))
+
+pub put-never-spec : {M : Type 1} → statement M
+put-never-spec =
+    tie.close
+    (tie.spec
+    word-at-requires
+    add-word-at
+    word-at-requires-2
+    slice-aggregate-put-all
+    put-all-requires
+    inputs-of-requires
+    put-pairs-requires
+    slice-aggregate-put-all-2
+    put-all-requires-2
+    same-length
+    returns)
