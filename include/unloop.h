@@ -40,11 +40,11 @@ enum unloop_refusal {
 
 /* Enough room for every result: words of a block, bytes of a text, bytes of a written text, gates, words of a cover. */
 enum unloop_room {
-    UNLOOP_BLOCK_WORDS = 5260,
+    UNLOOP_BLOCK_WORDS = 5268,
     UNLOOP_TEXT_BYTES = 61440,
-    UNLOOP_WRITTEN_BYTES = 57862,
+    UNLOOP_WRITTEN_BYTES = 58098,
     UNLOOP_GATES = 1024,
-    UNLOOP_COVER_WORDS = 118098
+    UNLOOP_COVER_WORDS = 1062882
 };
 
 /* A record of a sheet; bit i is for input or output i. The caller gives the mask of fixed inputs and the mask of those fixed at 1. The call

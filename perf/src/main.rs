@@ -166,7 +166,7 @@ fn measure_results(print: fn(&Line)) {
     measure(print, render, inputs::blocks(&worst));
     let cover = Operation {
         name: "cover",
-        // Two words for each partial assignment of ten inputs.
+        // Two words for each partial assignment.
         room: COVER_WORDS,
         filler: 9_999,
         library: |words: &Vec<u16>, entries| raw::cover(words, entries),

@@ -3,7 +3,7 @@
 /// The longest text, in bytes.
 pub const TEXT_BYTES: usize = 61_440;
 /// The most inputs of a block.
-pub const INPUTS: usize = 10;
+pub const INPUTS: usize = 12;
 /// The most never lines of a block.
 pub const NEVERS: usize = 8;
 /// The most gates of a block, and so of a rendering.
@@ -28,7 +28,17 @@ pub const BLOCK_WORDS: usize = HEAD_WORDS
     + NEVER_WORDS * NEVERS
     + GATE_WORDS * GATES
     + OUTPUT_WORDS * OUTPUTS;
-/// The longest text that is written, in bytes.
-pub const WRITTEN_BYTES: usize = 57_862;
+/// The bytes of the gates' names in a written text, `_0` to `_1023`.
+const GATE_NAMES: usize = 4_010;
+/// The longest name, in bytes.
+const NAME_BYTES: usize = 2 * NAME_WORDS;
+/// The longest never line, in bytes: `(never`, a pair for each input, `)` and LF.
+const NEVER_BYTES: usize = 8 + (5 + NAME_BYTES) * INPUTS;
+/// The longest text that is written, in bytes: `(in NAME)`, never lines, a gate with a longest word and four names, `(out PORT NAME)`.
+pub const WRITTEN_BYTES: usize = (6 + NAME_BYTES) * INPUTS
+    + NEVER_BYTES * NEVERS
+    + (15 + 4 * (1 + NAME_BYTES)) * GATES
+    + GATE_NAMES
+    + (8 + 2 * NAME_BYTES) * OUTPUTS;
 /// Room for every cover, in words: two for each partial assignment, where an input is free, 0 or 1.
 pub const COVER_WORDS: usize = 2 * 3_usize.pow(INPUTS as u32);

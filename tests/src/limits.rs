@@ -3,7 +3,7 @@
 /// The longest text, in bytes.
 pub const TEXT_BYTES: usize = 61_440;
 /// The most inputs of a block.
-pub const INPUTS: usize = 10;
+pub const INPUTS: usize = 12;
 /// The most never lines of a block.
 pub const NEVERS: usize = 8;
 /// The most gates of a block, and the most copies of a rendering.
@@ -28,8 +28,16 @@ pub const OUTPUT_WORDS: usize = NAME_WORDS + 1;
 pub const HEAD_WORDS: usize = 4;
 /// The longest stored block, in words.
 pub const BLOCK_WORDS: usize = block_words(INPUTS, NEVERS, GATES, OUTPUTS);
-/// The longest text of Write, in bytes.
-pub const WRITTEN_BYTES: usize = 57_862;
+/// The bytes of the gates' names in a written text, `_0` to `_1023`.
+const GATE_NAMES: usize = 10 * 2 + 90 * 3 + 900 * 4 + 24 * 5;
+/// The longest never line, in bytes: its keyword, a pair for each input, a bracket and an LF.
+const NEVER_BYTES: usize = 8 + (5 + NAME_BYTES) * INPUTS;
+/// The longest text of Write, in bytes: the lines of inputs, never lines, the lines of gates and of outputs.
+pub const WRITTEN_BYTES: usize = (6 + NAME_BYTES) * INPUTS
+    + NEVER_BYTES * NEVERS
+    + (15 + OPERANDS * (1 + NAME_BYTES)) * GATES
+    + GATE_NAMES
+    + (8 + 2 * NAME_BYTES) * OUTPUTS;
 /// Two words for each partial assignment, enough for any cover.
 pub const COVER_WORDS: usize = 2 * 3_usize.pow(INPUTS as u32);
 

@@ -6,8 +6,8 @@ mod common;
 use common::answer;
 use simulator::compare::tally::{answered_often, print_compared, Tally};
 use simulator::compare::*;
-use simulator::generate::{large, long_texts, widest_cover, Random, Report, Size};
-use simulator::limits::TEXT_BYTES;
+use simulator::generate::{for_blocks, large, long_texts, widest_cover, Random, Report, Size};
+use simulator::limits::{INPUTS, NEVERS, TEXT_BYTES};
 use simulator::specimens::*;
 use simulator::Answer;
 
@@ -93,6 +93,32 @@ fn malformed_old_words() {
     answered_often(&[6], 50_000);
 }
 
+/// 11 and 12 inputs, in every operation on a block.
+#[test]
+fn most_inputs() {
+    let size = Size {
+        inputs: INPUTS,
+        nevers: NEVERS,
+        gates: 40,
+        outputs: 4,
+    };
+    let mut met = [0; INPUTS + 1];
+    for_blocks(40_000..40_160, size, |random, block, words| {
+        let n = block.inputs.len();
+        if INPUTS <= n + 1 {
+            met[n] += 1;
+            compare_block(random, words);
+            compare_pair(words, words);
+            compare_written(words);
+        }
+    });
+    assert!(
+        met[INPUTS - 1..].iter().all(|&blocks| 5 <= blocks),
+        "{met:?}"
+    );
+    print_compared();
+}
+
 #[test]
 fn typical_blocks() {
     seeded::typical_blocks(0..200);
@@ -132,7 +158,7 @@ fn specimens() {
     let ring_of_32 = ring(32, "(and LAST 0)");
     let lone = ring_of_32.clone() + "(gate lone (not 0))\n";
     let names = "(in abcdefgh)\n(gate _2345678 (not abcdefgh))\n(out a_000000 _2345678)\n";
-    let inputs: String = (0..10).map(|i| format!("(in a{i})\n")).collect();
+    let inputs: String = (0..INPUTS).map(|i| format!("(in a{i})\n")).collect();
     let ring_of_33 = ring(33, "(not LAST)");
     let texts = [
         "",
@@ -161,7 +187,7 @@ fn specimens() {
             compare_values(&words_of(text), &(0..n).map(digit).collect::<Vec<u8>>());
         }
     }
-    let render = |text: &str| Answer::from(unloop::raw::render(&words_of(text), &mut [0; 5_260]));
+    let render = |text: &str| Answer::from(unloop::raw::render(&words_of(text), &mut [0; 5_268]));
     assert_eq!(render(&ring_of_32), answer(0, 4 + 5 * 1_024, 0));
     assert_eq!(render(&lone), answer(8, 0, 0));
     assert_eq!(render(&ring_of_33), answer(8, 0, 0));

@@ -2,7 +2,7 @@
 
 use simulator::block::{Block, Gate, Kind, Never, Output, Source};
 use simulator::generate::{for_blocks, Random, Size};
-use simulator::limits::{BLOCK_WORDS, COVER_WORDS, GATES, NEVERS};
+use simulator::limits::{BLOCK_WORDS, COVER_WORDS, GATES, INPUTS, NEVERS};
 use simulator::rounds::stated_value;
 use simulator::values::{gate_value, Network};
 use simulator::{cover, groups, line, render, verdict};
@@ -126,7 +126,7 @@ fn merged_cover(settled: &[bool]) -> Vec<u16> {
         let mut merged = BTreeSet::new();
         let mut used = BTreeSet::new();
         for &(mask, ones) in &level {
-            for bit in (0..10).map(|i| 1 << i).filter(|bit| mask & bit != 0) {
+            for bit in (0..INPUTS).map(|i| 1 << i).filter(|bit| mask & bit != 0) {
                 if level.contains(&(mask, ones ^ bit)) {
                     merged.insert((mask & !bit, ones & !bit));
                     used.insert((mask, ones));

@@ -150,14 +150,14 @@ fn room() {
 #[test]
 fn largest_block() {
     let words = longest_written().to_words();
-    assert_eq!((words.len(), BLOCK_WORDS), (5_260, 5_260));
+    assert_eq!((words.len(), BLOCK_WORDS), (5_268, 5_268));
     let (told, text) = write(&words, WRITTEN_BYTES);
-    assert_eq!(told, answer(0, 57_862, 0));
+    assert_eq!(told, answer(0, 58_098, 0));
     assert_eq!(
         read(&text, BLOCK_WORDS),
-        (answer(0, 5_260, 0), words.clone())
+        (answer(0, 5_268, 0), words.clone())
     );
-    assert_eq!(verdict(&words), answer(0, 1016, 1024));
+    assert_eq!(verdict(&words), answer(0, 4088, 4096));
     assert_eq!(render(&words, BLOCK_WORDS).1, words);
 }
 

@@ -5,7 +5,7 @@ mod session;
 use session::{command, run, told, with};
 use simulator::executed::{ended, Scratch};
 use simulator::generate::long_texts;
-use simulator::limits::TEXT_BYTES;
+use simulator::limits::{INPUTS, TEXT_BYTES};
 use std::ffi::OsStr;
 use std::os::unix::ffi::OsStrExt;
 
@@ -91,7 +91,7 @@ fn never_lines() {
 
 #[test]
 fn refusals_without_a_place() {
-    let inputs: String = (0..11).map(|i| format!("(in a{i})\n")).collect();
+    let inputs: String = (0..=INPUTS).map(|i| format!("(in a{i})\n")).collect();
     at_a_place(inputs.as_bytes(), "(refused 3 0)\n", "x.net: crowded\n");
     let ring = simulator::specimens::ring(33, "(not LAST)") + "(out y g32)\n";
     at_a_place(ring.as_bytes(), "(refused 8 0)\n", "x.net: swollen\n");

@@ -160,8 +160,8 @@ fn specimen_8_depth() {
 #[test]
 fn specimen_8_inputs() {
     let inputs = |count: usize| -> String { (0..count).map(|i| format!("(in a{i})\n")).collect() };
-    assert_eq!(words_of(&inputs(10))[..4], [10, 0, 0, 0]);
-    refused(&inputs(11), 3, 0);
+    assert_eq!(words_of(&inputs(12))[..4], [12, 0, 0, 0]);
+    refused(&inputs(13), 3, 0);
 }
 
 #[test]

@@ -1,28 +1,24 @@
 -- Why `number_of`, `is_minimal` and `is_entry` are right: laws over plain lists and numbers, one for each way through the code.
 -- Assumes nothing.
-use mathlib.Core.Path.{_≡_, refl, sym, _∙_}
+use mathlib.Core.Path.{_≡_, sym, _∙_}
 use mathlib.Core.Bool.{Bool, true, false, not, _&&_}
 use mathlib.Core.List.{List}
 use Prim.Native.Nat.{ℕ, _+_, _-_, _*_, _/_, _%_, _^_, _≤_, _<_}
-use native.Mathlib.Nat.{mod-lt, div-lt-iff-lt-mul}
 use native.Mathlib.Omega.{arith}
 use lib.Dec.{eqb}
-use lib.Bits.{bitAnd}
-use lib.Pow.{pow-pos}
 use lib.ListN.{length, getD}
 use borrow.Author.Tests.{eq-eqb, ne-eqb}
-use Rattle.laws.proofs.Tests.{not-true-false}
 use Rattle.laws.proofs.Quantifiers.{all-not}
 use Rattle.netlist.specs.Limits.{maxInputs}
-use Rattle.netlist.specs.Assignments.{bit}
-use Rattle.netlist.specs.Assignments.{Assignment, fixes, isWithin}
+use Rattle.netlist.specs.Assignments.{bit, Assignment, fixes}
 use Rattle.netlist.specs.Cover.{without}
 use Rattle.assignments.specs.Over.{masks, Consistent}
 use Rattle.assignments.specs.Tables.{ternaryNumber}
-use Rattle.assignments.specs.Entries.{pairAt, soundBy, neededBy, minimalBy, entryBy, Numbered, Weighed}
-use Rattle.assignments.proofs.Agree.{within-at, within-and, and-within}
+use Rattle.assignments.specs.Entries.{pairAt, withinAt, PairBelow, soundBy, neededBy, minimalBy, entryBy, Numbered, Weighed}
+use Rattle.assignments.proofs.Agree.{within-at}
 use Rattle.assignments.proofs.Numbers.{number-lt, number-weights, number-without, weight-lt}
 use Rattle.assignments.proofs.Bounds.{three-fits}
+use Rattle.assignments.proofs.PairWalk.{parts}
 
 -- `number_of`: the sums fit, and the difference is the number
 pub record Sums (weights : List ℕ) (n size fixed ones : ℕ) : Type 0 where
@@ -85,56 +81,38 @@ module _ {sound : List ℕ} {n fixed ones number : ℕ} (d : Numbered sound n fi
     not-minimal e =
         sym (all-not (neededBy sound n entry) n i l (needed-is ∙ rw (eq-eqb (getD sound (number + (2 - ones / 2 ^ i % 2) * power) 0) 1 e)))
 
--- `is_entry`, at pair number q of masks of n bits
-pub record Pair (sound : List ℕ) (n q fixed ones : ℕ) : Type 0 where
-  pub few : n ≤ maxInputs
-  pub room : 3 ^ n ≤ length sound
-  pub below : q < 2 ^ n * 2 ^ n
-  pub fixed-is : fixed ≡ q / 2 ^ n
-  pub ones-is : ones ≡ q % 2 ^ n
-
-module _ {sound : List ℕ} {n q fixed ones : ℕ} (pair : Pair sound n q fixed ones) where
+-- `is_entry`, at pair number q, whose masks are these
+module _ {n q fixed ones : ℕ} (p : PairBelow n q) (f : fixed ≡ q / 2 ^ n) (o : ones ≡ q % 2 ^ n) where
   pair-is : pairAt n q ≡ masks fixed ones
   unfolding pairAt
-  pair-is = rw (pair .fixed-is, pair .ones-is)
+  pair-is = rw (f, o)
 
-  ones-small : ones < 2 ^ n
-  ones-small = rw (pair .ones-is) (mod-lt q (pow-pos n))
+  pub pair-legal : Consistent n (masks fixed ones)
+  unfolding withinAt pairAt
+  pair-legal =
+      let m = parts p f o in
+      record { fixed-lt = m .fixed-lt; ones-lt = m .ones-lt; inside = rw (f, o) (p .within) }
 
-  pub pair-legal : bitAnd ones fixed ≡ ones → Consistent n (masks fixed ones)
-  pair-legal e = record {
-    fixed-lt = rw (pair .fixed-is) (div-lt-iff-lt-mul (pow-pos n) .1 (pair .below));
-    ones-lt = ones-small;
-    inside = within-and n fixed ones e;
-  }
-
-  pub not-within : (bitAnd ones fixed ≡ ones → ⊥) → false ≡ entryBy sound n q
+  -- it is an entry when it is sound and minimal
+  entry-is : (sound : List ℕ) → entryBy sound n q ≡ soundBy sound n (masks fixed ones) && minimalBy sound n (masks fixed ones)
   unfolding entryBy
-  not-within ne = sym (rw (pair-is, not-true-false (isWithin n fixed ones) (λ h. ne (and-within n fixed ones ones-small h))))
+  entry-is sound = rw (p .within, pair-is)
 
-  module _ {number : ℕ} (e : number ≡ ternaryNumber n (masks fixed ones)) where
+  module _ (sound : List ℕ) {number : ℕ} (e : number ≡ ternaryNumber n (masks fixed ones)) where
     pub not-sound : (getD sound number 0 ≡ 1 → ⊥) → false ≡ entryBy sound n q
-    unfolding entryBy soundBy
+    unfolding soundBy
     not-sound ne =
         let s : eqb (getD sound (ternaryNumber n (masks fixed ones)) 0) 1 ≡ false = rw (← e) (ne-eqb (getD sound number 0) 1 ne) in
-        sym (rw (pair-is, s) (none (isWithin n fixed ones)))
-      where
-        none : (b : Bool) → b && false ≡ false
-        none true = refl
-        none false = refl
+        sym (entry-is sound ∙ rw s)
 
-    pub minimal-entry : bitAnd ones fixed ≡ ones → getD sound number 0 ≡ 1 → {r : Bool} → r ≡ minimalBy sound n (masks fixed ones)
-        → r ≡ entryBy sound n q
-    unfolding entryBy soundBy
-    minimal-entry w h m =
+    pub minimal-entry : getD sound number 0 ≡ 1 → {r : Bool} → r ≡ minimalBy sound n (masks fixed ones) → r ≡ entryBy sound n q
+    unfolding soundBy
+    minimal-entry h m =
         let s : eqb (getD sound (ternaryNumber n (masks fixed ones)) 0) 1 ≡ true = rw (← e) (eq-eqb (getD sound number 0) 1 h) in
-        m ∙ sym (rw (pair-is, within-and n fixed ones w, s))
+        m ∙ sym (entry-is sound ∙ rw s)
 
-    pub number-below : number < length sound
-    number-below =
-        let l : ternaryNumber n (masks fixed ones) < 3 ^ n = number-lt n (masks fixed ones) in
-        let r : 3 ^ n ≤ length sound = pair .room in
-        omega arith
+    pub number-below : 3 ^ n ≤ length sound → number < length sound
+    number-below r = let l : ternaryNumber n (masks fixed ones) < 3 ^ n = number-lt n (masks fixed ones) in omega arith
 
-    pub numbered : bitAnd ones fixed ≡ ones → Numbered sound n fixed ones number
-    numbered w = record { few = pair .few; room = pair .room; legal = pair-legal w; is = e }
+    pub numbered : n ≤ maxInputs → 3 ^ n ≤ length sound → Numbered sound n fixed ones number
+    numbered h r = record { few = h; room = r; legal = pair-legal; is = e }

@@ -9,6 +9,8 @@ pub mod Covered
 pub mod Blocks
 pub mod Numbers
 pub mod SoundTable
+mod Subsets
+mod PairWalk
 mod Bounds
 mod Scan
 mod Entry

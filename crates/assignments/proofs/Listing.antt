@@ -2,7 +2,7 @@
 use mathlib.Core.Path.{_≡_, refl, sym, ap, _∙_}
 use mathlib.Core.Bool.{true, false}
 use mathlib.Core.List.{List, [], _∷_, _++_, map, append-nil, append-assoc, map-append}
-use Prim.Native.Nat.{ℕ, _+_, _-_, _*_, _/_, _%_, _^_, _≤_, _<_}
+use Prim.Native.Nat.{ℕ, zero, suc, _+_, _-_, _*_, _/_, _%_, _^_, _≤_, _<_}
 use native.Mathlib.Numerals.{add-one}
 use native.Mathlib.Omega.{arith}
 use lib.ListN.{length, set, length-append, length-set, length-map}
@@ -12,9 +12,10 @@ use Rattle.laws.proofs.Tab.{length-tab, tab-add}
 use Rattle.laws.proofs.Lists.{joined-append, keep-append}
 use Rattle.laws.proofs.Slices.{set-placed}
 use Rattle.netlist.specs.Assignments.{Assignment}
-use Rattle.assignments.specs.Entries.{pairAt, entryBy, entriesBelow, entriesBy, EntriesWritten}
+use Rattle.assignments.specs.Entries.{pairAt, withinAt, PairBelow, NextPair, entryBy, entriesBelow, entriesBy, EntriesWritten}
 use Rattle.assignments.specs.Over.{assignmentWords}
 use Rattle.assignments.proofs.ListFacts.{keep-le, keep-upTo-suc}
+use Rattle.assignments.proofs.PairWalk.{first-pair}
 
 module _ (table : List ℕ) (n q : ℕ) where
   -- one pair more: an entry, or none
@@ -44,6 +45,25 @@ module _ (table : List ℕ) (n q : ℕ) where
         length-append,
       ) (omega arith)
 
+-- the pairs passed over on the way to the next assignment are no entries
+module _ (table : List ℕ) (n : ℕ) where
+  over : (k d : ℕ) → ((x : ℕ) → k ≤ x → x < k + d → entryBy table n x ≡ false) → entriesBelow table n (k + d) ≡ entriesBelow table n k
+  over k zero h = ap (entriesBelow table n) (omega arith)
+  over k (suc d) h =
+      ap (entriesBelow table n) (omega arith)
+      ∙ entries-skip table n (k + d) (h (k + d) (omega arith) (omega arith))
+      ∙ over k d (λ x a b. h x a (omega arith))
+
+  not-within : (x : ℕ) → withinAt n x ≡ false → entryBy table n x ≡ false
+  unfolding entryBy
+  not-within x e = rw e
+
+  pub entries-jump : {q r : ℕ} → NextPair n q r → entriesBelow table n r ≡ entriesBelow table n (q + 1)
+  entries-jump {q} {r} x =
+      let l : q < r = x .above in
+      ap (entriesBelow table n) (omega arith)
+      ∙ over (q + 1) (r - (q + 1)) (λ y a b. not-within y (x .least y (omega arith) (omega arith)))
+
 -- no more entries than pairs
 pub entries-few : (table : List ℕ) (n : ℕ) → length (entriesBy table n) ≤ 2 ^ n * 2 ^ n
 unfolding entriesBy entriesBelow
@@ -66,27 +86,29 @@ length-words (x ∷ xs) = let i : length (assignmentWords xs) ≡ 2 * length xs 
 pub record Written (sound entry out : List ℕ) (n q pairs at : ℕ) : Type 0 where
   pub within : q ≤ 2 ^ n * 2 ^ n
   pub pairs-is : pairs ≡ 2 ^ n * 2 ^ n
+  pub legal : q < 2 ^ n * 2 ^ n → withinAt n q ≡ true
   pub same-length : length out ≡ length entry
   pub at-is : at ≡ 2 * length (entriesBelow sound n q)
   pub words : out ≡ placed (assignmentWords (entriesBelow sound n q)) entry
 
 pub written-none : (sound entry : List ℕ) (n pairs : ℕ) → pairs ≡ 2 ^ n * 2 ^ n → Written sound entry entry n 0 pairs 0
 unfolding entriesBelow assignmentWords
-written-none sound entry n pairs e = record { within = omega arith; pairs-is = e; same-length = refl; at-is = refl; words = refl }
+written-none sound entry n pairs e = record { within = omega arith; pairs-is = e; legal = λ l. first-pair n; same-length = refl; at-is = refl; words = refl }
 
 module _ {sound entry out : List ℕ} {n q pairs at : ℕ} (w : Written sound entry out n q pairs at) (l : q < pairs) where
-  pub pair-below : q < 2 ^ n * 2 ^ n
-  pair-below = rw (w .pairs-is) at l
+  pub pair-below : PairBelow n q
+  pair-below = let b : q < 2 ^ n * 2 ^ n = rw (w .pairs-is) at l in record { below = b; within = w .legal b }
 
-  pub written-skip : entryBy sound n q ≡ false → Written sound entry out n (q + 1) pairs at
-  written-skip e =
-      let b : q < 2 ^ n * 2 ^ n = pair-below in
+  pub written-skip : {r : ℕ} → NextPair n q r → entryBy sound n q ≡ false → Written sound entry out n r pairs at
+  written-skip {r} x e =
+      let s : entriesBelow sound n r ≡ entriesBelow sound n q = entries-jump sound n x ∙ entries-skip sound n q e in
       record {
-        within = omega arith;
+        within = x .end;
         pairs-is = w .pairs-is;
+        legal = x .legal;
         same-length = w .same-length;
-        at-is = rw (entries-skip sound n q e) (w .at-is);
-        words = rw (entries-skip sound n q e) (w .words);
+        at-is = rw s (w .at-is);
+        words = rw s (w .words);
       }
 
   -- there is room at an entry; afterwards it is written
@@ -94,7 +116,7 @@ module _ {sound entry out : List ℕ} {n q pairs at : ℕ} (w : Written sound en
     one-more : length (entriesBelow sound n q) + 1 ≤ length (entriesBy sound n)
     unfolding entriesBy
     one-more =
-        let b : q < 2 ^ n * 2 ^ n = pair-below in
+        let b : q < 2 ^ n * 2 ^ n = pair-below .below in
         let k : q + 1 + (2 ^ n * 2 ^ n - (q + 1)) ≡ 2 ^ n * 2 ^ n = omega arith in
         let le : length (entriesBelow sound n (q + 1)) ≤ length (entriesBelow sound n (2 ^ n * 2 ^ n)) =
         rw k at (count-le sound n (q + 1) (2 ^ n * 2 ^ n - (q + 1))) in
@@ -117,25 +139,27 @@ module _ {sound entry out : List ℕ} {n q pairs at : ℕ} (w : Written sound en
         ap assignmentWords (entries-add sound n q e) ∙ wordsOf-append (entriesBelow sound n q) (pairAt n q ∷ [])
         ∙ sym (append-assoc so-far (q / 2 ^ n ∷ []) (q % 2 ^ n ∷ []))
 
-    pub written-add : {ones : ℕ} → ones ≡ q % 2 ^ n → Written sound entry (set (set out at (q / 2 ^ n)) (at + 1) ones) n (q + 1) pairs (at + 2)
+    pub written-add : {r ones : ℕ} → NextPair n q r → ones ≡ q % 2 ^ n
+        → Written sound entry (set (set out at (q / 2 ^ n)) (at + 1) ones) n r pairs (at + 2)
     unfolding so-far
-    written-add {ones} o =
-        let b : q < 2 ^ n * 2 ^ n = pair-below in
-        let r : at + 2 ≤ length entry = at-room in
+    written-add {r} {ones} x o =
+        let j : entriesBelow sound n r ≡ entriesBelow sound n (q + 1) = entries-jump sound n x in
+        let m : at + 2 ≤ length entry = at-room in
         let a : length so-far ≡ at = at-words in
         let c : length (entriesBelow sound n (q + 1)) ≡ length (entriesBelow sound n q) + 1 = count-add sound n q e in
         let first : set out at (q / 2 ^ n) ≡ placed (so-far ++ (q / 2 ^ n ∷ [])) entry =
         rw (w .words, ← a) (set-placed so-far entry (length so-far) (q / 2 ^ n) refl (omega arith)) in
         let here : length (so-far ++ (q / 2 ^ n ∷ [])) ≡ at + 1 = length-append so-far (q / 2 ^ n ∷ []) ∙ omega arith in
         record {
-          within = omega arith;
+          within = x .end;
           pairs-is = w .pairs-is;
+          legal = x .legal;
           same-length = simp length-set (w .same-length);
-          at-is = omega (arith, w .at-is);
+          at-is = rw j (omega (arith, w .at-is));
           words =
               rw (first, o, ← here)
               (set-placed (so-far ++ (q / 2 ^ n ∷ [])) entry (length (so-far ++ (q / 2 ^ n ∷ []))) (q % 2 ^ n) refl (rw here (omega arith)))
-              ∙ ap (λ (xs : List ℕ). placed xs entry) (sym next-words);
+              ∙ ap (λ (xs : List ℕ). placed xs entry) (sym (ap assignmentWords j ∙ next-words));
         }
 
 -- after the last pair all entries are written

@@ -13,7 +13,8 @@ use Rattle.netlist.specs.Assignments.{Assignment, fixes}
 use Rattle.netlist.specs.Cover.{without}
 use Rattle.assignments.specs.Over.{soundOver, minimalOver, coverOver}
 use Rattle.assignments.specs.Tables.{ternaryNumber, soundByte, soundTable, byteOf, weightOf, weightTable}
-use Rattle.assignments.specs.Entries.{pairAt, isEntry, entryAt, soundBy, neededBy, minimalBy, entryBy, entriesBelow, entriesBy, Weighed, EntriesWritten}
+use Rattle.assignments.specs.Entries.{pairAt, withinAt, isEntry, entryAt, soundBy, neededBy, minimalBy, entryBy, entriesBelow, entriesBy}
+use Rattle.assignments.specs.Entries.{Weighed, EntriesWritten}
 use Rattle.assignments.proofs.ListFacts.{keep-ext}
 use Rattle.assignments.proofs.Numbers.{number-lt}
 use Rattle.assignments.proofs.SoundTable.{byte-number}
@@ -53,7 +54,7 @@ module _ (p : ℕ → Bool) (n : ℕ) (entry : List ℕ) where
       (λ i l. ap (λ (b : Bool). not (fixes a i) || not b) (sound-by (without a i)))
 
   entry-by : (q : ℕ) → entryBy table n q ≡ entryAt p n q
-  unfolding entryBy entryAt isEntry
+  unfolding entryBy withinAt entryAt isEntry
   entry-by q = rw (sound-by (pairAt n q), minimal-by (pairAt n q))
 
   pub entries-cover : entriesBy table n ≡ coverOver p n

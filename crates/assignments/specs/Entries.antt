@@ -2,7 +2,7 @@
 -- crate. Assumes nothing.
 use Prim.Native.Nat.{ℕ, _*_, _/_, _%_, _^_, _≤_, _<_}
 use mathlib.Core.Path.{_≡_}
-use mathlib.Core.Bool.{Bool, cond, not, _&&_, _||_}
+use mathlib.Core.Bool.{Bool, true, false, cond, not, _&&_, _||_}
 use mathlib.Core.List.{List, map}
 use lib.ListN.{length, getD}
 use lib.Dec.{eqb, leb}
@@ -16,6 +16,22 @@ use Rattle.assignments.specs.Tables.{ternaryNumber, weightOf}
 -- pair number q of two masks of n bits
 unfoldable pub pairAt : ℕ → ℕ → Assignment
 pairAt n q = record { fixed = q / 2 ^ n; ones = q % 2 ^ n }
+
+-- its inputs at 1 are fixed ones
+unfoldable pub withinAt : ℕ → ℕ → Bool
+withinAt n q = isWithin n (pairAt n q .fixed) (pairAt n q .ones)
+
+-- a pair that is an assignment
+pub record PairBelow (n q : ℕ) : Type 0 where
+  pub below : q < 2 ^ n * 2 ^ n
+  pub within : withinAt n q ≡ true
+
+-- the next such pair, or the end
+pub record NextPair (n q r : ℕ) : Type 0 where
+  pub above : q < r
+  pub least : (x : ℕ) → q < x → x < r → withinAt n x ≡ false
+  pub end : r ≤ 2 ^ n * 2 ^ n
+  pub legal : r < 2 ^ n * 2 ^ n → withinAt n r ≡ true
 
 -- the pair is an entry of the cover
 unfoldable pub isEntry : (ℕ → Bool) → ℕ → Assignment → Bool
@@ -36,8 +52,7 @@ unfoldable pub minimalBy : List ℕ → ℕ → Assignment → Bool
 minimalBy table n a = all (neededBy table n a) (upTo n)
 
 unfoldable pub entryBy : List ℕ → ℕ → ℕ → Bool
-entryBy table n q =
-    isWithin n (pairAt n q .fixed) (pairAt n q .ones) && (soundBy table n (pairAt n q) && minimalBy table n (pairAt n q))
+entryBy table n q = withinAt n q && (soundBy table n (pairAt n q) && minimalBy table n (pairAt n q))
 
 -- the entries among the first q pairs
 unfoldable pub entriesBelow : List ℕ → ℕ → ℕ → List Assignment

@@ -1,9 +1,10 @@
 // The entries of the cover: the pairs of masks that the table of soundness shows to be sound and minimal, in ascending order.
+use crate::pairs::next_pair;
 ghost use mathlib.Core.Path.{_≡_};
-ghost use Prim.Native.Nat.{_*_, _^_, _≤_, _<_};
+ghost use Prim.Native.Nat.{_*_, _^_, _≤_};
 ghost use lib.ListN.{length};
 ghost use Rattle.laws.specs.Lists.{placed};
-ghost use Rattle.assignments.specs.Entries.{minimalBy, entryBy, entriesBy, Numbered, Weighed, EntriesWritten};
+ghost use Rattle.assignments.specs.Entries.{minimalBy, entryBy, entriesBy, Numbered, Weighed, PairBelow, EntriesWritten};
 ghost use Rattle.assignments.specs.Over.{masks, assignmentWords, Consistent};
 ghost use Rattle.assignments.specs.Tables.{ternaryNumber};
 
@@ -28,23 +29,20 @@ fn is_minimal(sound: &[u8], n: usize, fixed: usize, ones: usize, number: usize) 
 }
 
 // The number of an assignment, from the weights of its two masks.
-fn number_of(weights: &[u16], n: usize, size: usize, fixed: usize, ones: usize) -> usize
+fn number_of(weights: &[u32], n: usize, size: usize, fixed: usize, ones: usize) -> usize
     requires { ⌜ Weighed (now weights) n size × Consistent n (masks fixed ones) ⌝ }
     ensures { λ r. ⌜ r ≡ ternaryNumber n (masks fixed ones) ⌝ }
 {
     size - 1 + weights[ones] as usize - 2 * weights[fixed] as usize
 }
 
-// Whether pair number q of masks is an entry.
-fn is_entry(sound: &[u8], weights: &[u16], n: usize, size: usize, q: usize) -> bool
-    requires { ⌜ Weighed (now weights) n size × (3 ^ n ≤ length (now sound)) × (q < 2 ^ n * 2 ^ n) ⌝ }
+// Whether pair number q of masks, whose inputs at 1 are fixed ones, is an entry.
+fn is_entry(sound: &[u8], weights: &[u32], n: usize, size: usize, q: usize) -> bool
+    requires { ⌜ Weighed (now weights) n size × (3 ^ n ≤ length (now sound)) × PairBelow n q ⌝ }
     ensures { λ r. ⌜ r ≡ entryBy (now (sound .entry)) n q ⌝ }
 {
     let fixed = q >> n;
     let ones = q & ((1usize << n) - 1);
-    if ones & fixed != ones {
-        return false;
-    }
     let number = number_of(weights, n, size, fixed, ones);
     if sound[number] != 1 {
         return false;
@@ -53,7 +51,7 @@ fn is_entry(sound: &[u8], weights: &[u16], n: usize, size: usize, q: usize) -> b
 }
 
 // How many entries there are.
-fn count_entries(sound: &[u8], weights: &[u16], n: usize, size: usize) -> usize
+fn count_entries(sound: &[u8], weights: &[u32], n: usize, size: usize) -> usize
     requires { ⌜ Weighed (now weights) n size × (3 ^ n ≤ length (now sound)) ⌝ }
     ensures { λ r. ⌜ r ≡ length (entriesBy (now (sound .entry)) n) ⌝ }
 {
@@ -64,13 +62,13 @@ fn count_entries(sound: &[u8], weights: &[u16], n: usize, size: usize) -> usize
         if is_entry(sound, weights, n, size, q) {
             count += 1;
         }
-        q += 1;
+        q = next_pair(n, q);
     }
     count
 }
 
 // The entries' words into the beginning of `out`.
-fn list_entries(sound: &[u8], weights: &[u16], n: usize, size: usize, out: &mut [u16])
+fn list_entries(sound: &[u8], weights: &[u32], n: usize, size: usize, out: &mut [u16])
     requires { ⌜ Weighed (now weights) n size × (3 ^ n ≤ length (now sound)) × (2 * length (entriesBy (now sound) n) ≤ length (now out)) ⌝ }
     ensures { λ _. ⌜ now (out .exit) ≡ placed (assignmentWords (entriesBy (now (sound .entry)) n)) (now (out .entry)) ⌝ }
 {
@@ -83,12 +81,12 @@ fn list_entries(sound: &[u8], weights: &[u16], n: usize, size: usize, out: &mut 
             out[at + 1] = (q & ((1usize << n) - 1)) as u16;
             at += 2;
         }
-        q += 1;
+        q = next_pair(n, q);
     }
 }
 
 // How many entries there are, and their words where `out` has room for all of them.
-pub fn write_entries(sound: &[u8], weights: &[u16], n: usize, size: usize, out: &mut [u16]) -> usize
+pub fn write_entries(sound: &[u8], weights: &[u32], n: usize, size: usize, out: &mut [u16]) -> usize
     requires { ⌜ Weighed (now weights) n size × (3 ^ n ≤ length (now sound)) ⌝ }
     ensures { λ r. ⌜ EntriesWritten (entriesBy (now (sound .entry)) n) (now (out .entry)) (now (out .exit)) r ⌝ }
 {

@@ -1,6 +1,7 @@
 // Cover's core (SPECIFICATION 4), over a table that says which settings are settled: the sound and minimal partial assignments of n inputs, in order.
 // The operation Cover simulates each setting once, and then calls `cover_entries`.
 use entries::write_entries;
+use layout::limits::MAX_ASSIGNMENTS;
 use layout::limits::MAX_SETTINGS;
 use tables::fill_sound;
 use tables::fill_weights;
@@ -13,18 +14,17 @@ ghost use Rattle.assignments.specs.Tables.{settledBy};
 ghost use Rattle.assignments.specs.Entries.{EntriesWritten};
 
 mod entries;
+mod pairs;
 mod tables;
 
-// The most assignments: 3^MAX_INPUTS. There are as many masks as settings.
-const ASSIGNMENTS: usize = 59049;
-
 // The number of entries; their words, two an entry, where `out` has room for all of them. `settled` has a 1 for each settled setting.
+// There are as many masks as settings.
 pub fn cover_entries(settled: &[u8], n: usize, out: &mut [u16]) -> usize
     requires { ⌜ (n ≤ maxInputs) × (2 ^ n ≤ length (now settled)) ⌝ }
     ensures { λ r. ⌜ EntriesWritten (coverOver (settledBy (now (settled .entry))) n) (now (out .entry)) (now (out .exit)) r ⌝ }
 {
-    let mut sound = [0u8; ASSIGNMENTS];
-    let mut weights = [0u16; MAX_SETTINGS];
+    let mut sound = [0u8; MAX_ASSIGNMENTS];
+    let mut weights = [0u32; MAX_SETTINGS];
     cover_within(settled, n, &mut sound, &mut weights, out)
 }
 
@@ -33,7 +33,7 @@ fn cover_within(
     settled: &[u8],
     n: usize,
     sound: &mut [u8],
-    weights: &mut [u16],
+    weights: &mut [u32],
     out: &mut [u16],
 ) -> usize
     requires { ⌜ (n ≤ maxInputs) × (2 ^ n ≤ length (now settled)) × (3 ^ n ≤ length (now sound)) × (2 ^ n ≤ length (now weights)) ⌝ }

@@ -39,14 +39,14 @@ fn weight_of(n: usize, mask: usize) -> usize
 }
 
 // The weight of each mask of n bits.
-pub fn fill_weights(n: usize, weights: &mut [u16])
+pub fn fill_weights(n: usize, weights: &mut [u32])
     requires { ⌜ (n ≤ maxInputs) × (2 ^ n ≤ length (now weights)) ⌝ }
     ensures { λ _. ⌜ now (weights .exit) ≡ placed (weightTable n) (now (weights .entry)) ⌝ }
 {
     let count = 1usize << n;
     let mut mask = 0;
     while mask < count {
-        weights[mask] = weight_of(n, mask) as u16;
+        weights[mask] = weight_of(n, mask) as u32;
         mask += 1;
     }
 }

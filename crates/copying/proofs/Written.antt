@@ -12,6 +12,7 @@ use Rattle.laws.proofs.Tab.{tab-ext, tab-add, map-tab, length-tab}
 use Rattle.laws.proofs.Lists.{joined-snoc}
 use Rattle.laws.proofs.Stores.{sets-append, length-joined-tab}
 use Rattle.laws.proofs.Slices.{sets-placed}
+use Rattle.netlist.specs.Limits.{maxInputs, maxNevers, maxGates, maxOutputs}
 use Rattle.netlist.specs.Netlist.{Operand, gate, constant, Gate, Output, Block, inputCount, gateCount, outputCount, neverCount, gateOf}
 use Rattle.netlist.specs.StoredBlock.{gateSize, outputSize, neversAt, gatesAt, outputsAt, nameWords, nameAt, neverWords, neverAt, nodeWord}
 use Rattle.netlist.specs.StoredBlock.{gateWords, gateAt, outputWords, outputAt, encode, decode, isTorn}
@@ -192,10 +193,10 @@ four-sets entry a b c d i j k ei ej ek =
 
 -- The numbers that the code computes with are small, and the slices long enough.
 pub record Sizes (ws : List ℕ) (n m k total : ℕ) (out : List ℕ) : Type 0 where
-  pub fewInputs : n ≤ 10
-  pub fewGates : m ≤ 1024
-  pub fewOutputs : k ≤ 16
-  pub fewNevers : getD ws 3 0 ≤ 8
+  pub fewInputs : n ≤ maxInputs
+  pub fewGates : m ≤ maxGates
+  pub fewOutputs : k ≤ maxOutputs
+  pub fewNevers : getD ws 3 0 ≤ maxNevers
   pub words : length ws ≡ 4 + 4 * n + 2 * getD ws 3 0 + 5 * m + 5 * k
   pub room : 4 + 4 * n + 2 * getD ws 3 0 + 5 * total + 5 * k ≤ length out
   pub first : gatesAt (getD ws 0 0) (getD ws 3 0) ≡ 4 + 4 * n + 2 * getD ws 3 0

@@ -1,4 +1,4 @@
--- A written text has at most 57,862 bytes: 14 for each of 10 inputs, 138 for each of 8 never lines, 51 and the name for each of 1,024 gates, 24
+-- A written text has at most 58,098 bytes: 14 for each of 12 inputs, 164 for each of 8 never lines, 51 and the name for each of 1,024 gates, 24
 -- for each of 16 outputs. Assumes nothing.
 use Prim.Native.Nat.{ℕ, zero, suc, _+_, _-_, _*_, _≤_}
 use mathlib.Core.Path.{_≡_, refl}

@@ -7,7 +7,7 @@ maxText = 61440
 
 -- inputs, gates (inner ones too) and outputs of a block
 abbrev pub maxInputs : ℕ
-maxInputs = 10
+maxInputs = 12
 
 abbrev pub maxGates : ℕ
 maxGates = 1024

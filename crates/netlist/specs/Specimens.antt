@@ -8,7 +8,7 @@ use mathlib.Core.List.{List, [], _∷_, _++_, map}
 use lib.ListN.{length, replicate}
 use Rattle.laws.specs.Lists.{ascii, same, all, repeated, tab, joined}
 use Rattle.netlist.specs.declared.Record.{Record}
-use Rattle.netlist.specs.Limits.{maxText}
+use Rattle.netlist.specs.Limits.{maxText, maxInputs}
 use Rattle.netlist.specs.Values.{code, valueOf, invert, isDefined}
 use Rattle.netlist.specs.Kinds.{row, rows, rowOf, isNot, isXor, isXnor, isKind, signatureOf, fewestOperands, mostOperands, arityFits, keyword, ruled}
 use Rattle.netlist.specs.Kinds.{ones, parity, gateValue}
@@ -166,8 +166,12 @@ never4 = "(in a)\n(in b)\n(never (b 0) (a 1))\n(gate p (and a q))\n(gate q (or b
 unfoldable pub neverAny : String
 neverAny = "(in a)\n(never (a 0))\n(never (a 1))\n(never (a 0))\n(gate p (not p))\n(out y p)\n"
 
-unfoldable pub eleven : List ℕ
-eleven = repeated 11 (ascii "(in a)\n")
+-- n inputs with names of their own, and one input line more than the limit with the same name each
+unfoldable pub inputLines : ℕ → List ℕ
+inputLines n = joined (tab (λ i. ascii "(in a" ++ (decimal i ++ ascii ")\n")) n)
+
+unfoldable pub tooManyInputs : List ℕ
+tooManyInputs = repeated (suc maxInputs) (ascii "(in a)\n")
 
 -- a ring of n inverters, each reading the one before it, and the last one shown
 unfoldable pub ring : ℕ → List ℕ
@@ -237,8 +241,10 @@ specimens =
     -- 9.2: the order of Read's conditions
     ∷ (toRead (replicate (suc maxText) 0) 0 ⇒ with 1 0)
     ∷ (toRead (replicate maxText 0) 0 ⇒ with 2 0)
-    ∷ (toRead (eleven ++ ascii "(in") 0 ⇒ with 2 80)
-    ∷ (toRead eleven 0 ⇒ with 3 0)
+    ∷ (toRead (tooManyInputs ++ ascii "(in") 0 ⇒ with 2 94)
+    ∷ (toRead tooManyInputs 0 ⇒ with 3 0)
+    ∷ (toRead (inputLines maxInputs) 0 ⇒ with 11 0)
+    ∷ (toRead (inputLines (suc maxInputs)) 0 ⇒ with 3 0)
     ∷ (toRead (ascii "(in a)\n(in b)\n(in b)\n(in a)\n(gate p (not q))\n") 0 ⇒ with 4 18)
     ∷ (toRead (ascii "(in a)\n(out a p)\n(out a a)\n(out a a)\n") 0 ⇒ with 4 22)
     ∷ (toRead (ascii "(in a)\n(gate p (and q (not r)))\n(out q p)\n") 0 ⇒ with 5 20)
@@ -382,5 +388,5 @@ specimens =
 
 -- All of them come out as stated.
 pub specimens-hold : all right specimens ≡ true
-unfolding code valueOf invert isDefined row rows rowOf isNot isXor isXnor isKind signatureOf fewestOperands mostOperands arityFits keyword ruled ones parity gateValue gatesAt outputsAt isLetter isDigit isUnderscore isNameByte isNameStart isLegalName isPlainName isNodeName nameWords bytesAt nameAt nodeWord operandOf gateWords gateAt outputWords outputAt encode decode isNode isOperand gateFits isWellFormed isTorn operandValue evaluated round afterRounds isStable rounds settled bit settingOf settingCount settledUnder isSettled settledSettings lowestUnsettled fixes agrees isSoundUnder isSound without isMinimal isWithin assignmentsAt assignments cover coverEntries gateOperand readBy reads has grown grownTimes reach reaches sameGroup groupOf isReady mayBeNext groupsAfter groups groupNumber groupNumbers copyCount passes schedule noCopies copiedOperand copied copies newestAfter lastCopies rendering isStraight sweepFrom sweep printTerm printInput printGate printOutput printLines print pure stop onTest ifNext expect onParsed bind nameBytes nameAfter nameReader kindReader spaced termsReader exprReader leafOr termReader addInput addGate addOutput inputLine gateLine outputLine atEnd line outputsReader gatesReader textReader parse gatesIn lineGates isOverLimit mentions linesLength gateLinesAt outputLinesAt inputMention gateMention portMention shownMention termMentions operandMentions declaredNodes declaredPorts usedNames firstRepeat orElse firstDuplicate firstOutside firstUndeclared inputBindings gateBindings bindings lookup termNode termsNodes termGates linesGates blockOf digits decimal gateName nodeNameOf termOf termsOf flatLine flatTree writtenText clamped startBefore untilLf lineStart lineEnd lineLength lineAt refusalNumber refusalDetail numberOf countOf detailOf refuseIf refuseAt inRoom answerOf leftIn counted readTree readParsed readText read isBadSetting settleBlock settle verdict coverBlock coverOf groupsBlock groupsOf renderBlock renderWords render passBlock pass writeWords write inputByte settingBytes isBadMasks maskOf isOne outputValues showing refusedRecord settledOutputs recordOf answeredRecord sheetRecords sheet chained refusalLine shown unloop outputValue outputsUnder valueText pairText printPair bitReader pairReader spacedPair pairsReader setLineReader pairMention givenNames givenValue givenValues portText showLine pairsOutcome parsedOutcome lineOutcome answerLine lineAnswer netlistFrom settingsFrom netlistPart settingsPart lastLine linesFrom linesOf lineAnswers benchAfter bench report asks fields answered right blockWords _⇒_ with specimen4 shown4 specimen6 rendered6 spare kinds board parities parityLoop eleven ring specimens neversAt neverWords neverAt neverFits areMasks isExcluded isCounted isSoundAt printNever neverPairs addNever neverLine neversReader neverLinesAt neverMentions excludedNames lesser firstRepeatIn assignmentOf pairsOf encodeBefore brought isTornBefore bringWords bring never11 never4 neverAny
+unfolding code valueOf invert isDefined row rows rowOf isNot isXor isXnor isKind signatureOf fewestOperands mostOperands arityFits keyword ruled ones parity gateValue gatesAt outputsAt isLetter isDigit isUnderscore isNameByte isNameStart isLegalName isPlainName isNodeName nameWords bytesAt nameAt nodeWord operandOf gateWords gateAt outputWords outputAt encode decode isNode isOperand gateFits isWellFormed isTorn operandValue evaluated round afterRounds isStable rounds settled bit settingOf settingCount settledUnder isSettled settledSettings lowestUnsettled fixes agrees isSoundUnder isSound without isMinimal isWithin assignmentsAt assignments cover coverEntries gateOperand readBy reads has grown grownTimes reach reaches sameGroup groupOf isReady mayBeNext groupsAfter groups groupNumber groupNumbers copyCount passes schedule noCopies copiedOperand copied copies newestAfter lastCopies rendering isStraight sweepFrom sweep printTerm printInput printGate printOutput printLines print pure stop onTest ifNext expect onParsed bind nameBytes nameAfter nameReader kindReader spaced termsReader exprReader leafOr termReader addInput addGate addOutput inputLine gateLine outputLine atEnd line outputsReader gatesReader textReader parse gatesIn lineGates isOverLimit mentions linesLength gateLinesAt outputLinesAt inputMention gateMention portMention shownMention termMentions operandMentions declaredNodes declaredPorts usedNames firstRepeat orElse firstDuplicate firstOutside firstUndeclared inputBindings gateBindings bindings lookup termNode termsNodes termGates linesGates blockOf digits decimal gateName nodeNameOf termOf termsOf flatLine flatTree writtenText clamped startBefore untilLf lineStart lineEnd lineLength lineAt refusalNumber refusalDetail numberOf countOf detailOf refuseIf refuseAt inRoom answerOf leftIn counted readTree readParsed readText read isBadSetting settleBlock settle verdict coverBlock coverOf groupsBlock groupsOf renderBlock renderWords render passBlock pass writeWords write inputByte settingBytes isBadMasks maskOf isOne outputValues showing refusedRecord settledOutputs recordOf answeredRecord sheetRecords sheet chained refusalLine shown unloop outputValue outputsUnder valueText pairText printPair bitReader pairReader spacedPair pairsReader setLineReader pairMention givenNames givenValue givenValues portText showLine pairsOutcome parsedOutcome lineOutcome answerLine lineAnswer netlistFrom settingsFrom netlistPart settingsPart lastLine linesFrom linesOf lineAnswers benchAfter bench report asks fields answered right blockWords _⇒_ with specimen4 shown4 specimen6 rendered6 spare kinds board parities parityLoop ring specimens neversAt neverWords neverAt neverFits areMasks isExcluded isCounted isSoundAt printNever neverPairs addNever neverLine neversReader neverLinesAt neverMentions excludedNames lesser firstRepeatIn assignmentOf pairsOf encodeBefore brought isTornBefore bringWords bring never11 never4 neverAny inputLines tooManyInputs
 specimens-hold = refl

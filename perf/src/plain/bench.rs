@@ -8,7 +8,7 @@ use std::io::{self, BufRead, Write};
 /// Reads the whole input and writes each answer as soon as its line is read.
 pub fn bench(mut input: impl BufRead, mut output: impl Write) -> io::Result<()> {
     let netlist = netlist(&mut input)?;
-    let mut words = vec![0; 5_260];
+    let mut words = vec![0; 5_268];
     let told = read(&netlist, &mut words);
     if told.number != 0 {
         writeln!(output, "(refused {} {})", told.number, told.detail)?;

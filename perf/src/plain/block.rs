@@ -151,7 +151,7 @@ impl Block<'_> {
             return None;
         };
         let [n, m, k, l] = [n, m, k, l].map(|&count| usize::from(count));
-        let crowded = n > 10 || m > 1_024 || k > 16 || l > 8;
+        let crowded = n > 12 || m > 1_024 || k > 16 || l > 8;
         if crowded || rest.len() != 4 * n + 2 * l + 5 * m + 5 * k {
             return None;
         }

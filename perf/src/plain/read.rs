@@ -23,7 +23,7 @@ fn words_of(text: &[u8]) -> Result<Vec<u16>, Refusal> {
     let mut parser = Parser::new(text);
     parser.lines().map_err(|place| (2, place))?;
     let netlist = parser.netlist;
-    let crowded = netlist.inputs.len() > 10
+    let crowded = netlist.inputs.len() > 12
         || netlist.nevers.len() > 8
         || netlist.gates.len() > 1_024
         || netlist.outputs.len() > 16;

@@ -8,7 +8,7 @@ use crate::generate::{
     for_blocks, for_texts, for_typical_blocks, long_texts, malformed, malformed_before,
     near_a_limit, spoiled, strange_never, Random, Report, Size,
 };
-use crate::limits::{BLOCK_WORDS, COVER_WORDS, GATES, TEXT_BYTES};
+use crate::limits::{BLOCK_WORDS, COVER_WORDS, GATES, OLD_INPUTS, TEXT_BYTES};
 use crate::render::copied;
 use crate::rounds::rounds;
 use crate::values::Network;
@@ -73,6 +73,11 @@ pub fn brought_blocks(seeds: Range<u64>, size: Size) {
         compare_brought(&old);
         let mut words = vec![9_999; BLOCK_WORDS];
         let told = raw::bring(&old, &mut words);
+        if OLD_INPUTS < block.inputs.len() {
+            // No block had so many inputs then.
+            assert_eq!((told.number, told.count), (6, 0));
+            return;
+        }
         assert_eq!((told.number, told.count), (0, old.len() + 1));
         words.truncate(told.count);
         assert_eq!(words, block.to_words());

@@ -4,10 +4,10 @@ use crate::block::{Block, Gate, Kind, Output, Source};
 use crate::limits::INPUTS;
 
 /// How many inputs are 1 where the block is settled, from and to.
-const SETTLED: [(usize, usize); 3] = [(1, 1), (3, 6), (8, 9)];
+const SETTLED: [(usize, usize); 3] = [(1, 2), (4, 8), (10, 11)];
 
-/// The entries of its cover: of every set of counts of ten inputs, none has more.
-pub const WIDEST_COVER: usize = 4_300;
+/// The entries of its cover: of every set of counts of twelve inputs, none has more.
+pub const WIDEST_COVER: usize = 34_914;
 
 /// A gate that reads itself, and is broken where the number of inputs that are 1 is in `SETTLED`.
 pub fn widest_cover() -> Block {
@@ -29,7 +29,7 @@ pub fn widest_cover() -> Block {
     }
 }
 
-/// For each number from 0 to 10, whether at least so many inputs are 1.
+/// For each number up to that of the inputs, whether at least so many inputs are 1.
 fn counted(gates: &mut Vec<Gate>) -> [Source; INPUTS + 1] {
     let mut least = [Source::Constant(false); INPUTS + 1];
     least[0] = Source::Constant(true);

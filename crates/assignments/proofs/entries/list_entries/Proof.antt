@@ -4,7 +4,6 @@ use Prim.Native.Nat.{_+_, _-_, _*_, _/_, _%_, _^_, _≤_, _<_}
 use mathlib.Core.Path.{sym, _∙_}
 use mathlib.Core.Logic.{⊎-elim}
 use native.Mathlib.Omega.{arith}
-use borrow.Author.Needs.{needs}
 use lib.ListN.{length, length-set}
 use lib.Pow.{pow-pos}
 use Rattle.netlist.specs.Limits.{maxInputs}
@@ -33,7 +32,7 @@ words-fit : (c : tie.Then1 Inv-loop μ-loop)
     × (c .before .before .before .loop .q % 2 ^ (start c .args .n) < 2 ^ maxInputs)
 words-fit c =
     masks-fit (c .before .before .before .loop .q) (start c .pre .0 .few)
-    (pair-below (c .before .before .before .loop .inv) (c .before .before .loop-test .taken))
+    (pair-below (c .before .before .before .loop .inv) (c .before .before .loop-test .taken) .below)
 
 mul-pairs : tie.Need-mul-pairs Inv-loop μ-loop
 mul-pairs c = omega (arith, c .before .before .before .pre .0 .few)
@@ -84,22 +83,25 @@ slice-write-out-2 c = simp length-set (omega (arith, room c, c .before .before .
 add-at : tie.Need-add-at Inv-loop μ-loop
 add-at c = omega (arith, room c, start c .good)
 
-add-q : tie.Need-add-q Inv-loop μ-loop
-add-q c = search needs
+next-pair-requires : tie.Need-next-pair-requires Inv-loop μ-loop
+next-pair-requires c κs =
+    let start = c .before .before .before .before .before .before .before in
+    (start .pre .0 .few, pair-below (c .before .before .before .loop .inv) (c .before .before .loop-test .taken))
 
 loop-less : tie.Need-loop-less Inv-loop μ-loop
-loop-less c = search needs
+loop-less c = omega (arith, c .next-pair .ensures .above)
 
 loop-again : tie.Need-loop-again Inv-loop μ-loop
 loop-again c =
-    let w = c .before .before .before .loop .inv in
-    let l = c .before .before .loop-test .taken in
-    let pre = c .before .before .before .before .before .before .before .pre in
+    let entry = c .before .before .is-entry in
+    let loop = c .before .before .before .before .loop in
+    let l = c .before .before .before .loop-test .taken in
+    let pre = c .before .before .before .before .before .before .before .before .pre in
+    let x = c .next-pair .ensures in
     ⊎-elim
-    (λ t. rw (t .1, t .2)
-    (written-add w l (pre .2) (sym (c .before .is-entry .ensures) ∙ t .0 .taken) (masked (c .before .before .before .loop .q) (pre .0 .few))))
-    (λ t. rw (t .1, t .2) (written-skip w l (sym (c .before .is-entry .ensures) ∙ t .0 .left)))
-    (c .if1 .came)
+    (λ t. rw (t .1, t .2) (written-add (loop .inv) l (pre .2) (sym (entry .ensures) ∙ t .0 .taken) x (masked (loop .q) (pre .0 .few))))
+    (λ t. rw (t .1, t .2) (written-skip (loop .inv) l x (sym (entry .ensures) ∙ t .0 .left)))
+    (c .before .if1 .came)
 
 same-length : tie.Need-same-length Inv-loop μ-loop
 same-length c = c .before .loop .inv .same-length
@@ -128,7 +130,7 @@ list-entries-spec =
     mul-out-2
     slice-write-out-2
     add-at
-    add-q
+    next-pair-requires
     loop-less
     loop-again
     same-length
