@@ -124,6 +124,6 @@ module _ (n base : ℕ) where
 
     -- Paper 10: the two representations are equal for every gate, setting and round.
     pub batch-rounds : (b : Block) → LegalGates b → (r : ℕ)
-        → map (lane s) (afterPairRounds b (lanesOf n) (inputPairs n base) r) ≡ afterRounds b (settingOf n (base + s)) r
+        → map (lane s) (afterPairRounds b (full (lanesOf n)) (inputPairs n base) r) ≡ afterRounds b (settingOf n (base + s)) r
     batch-rounds b legal r =
         afterPairRounds-lane b inputPairs-proper legal s l r ∙ ap (λ (x : List Value). afterRounds b x r) inputPairs-lane

@@ -128,7 +128,7 @@ nothing-holds : (s : ℕ) → Holds s nothing undefined
 unfolding nothing
 nothing-holds s = rw (bit-zero s) unset
 
-always-holds : (lanes s : ℕ) (b : Bool) → s < lanes → Holds s (always lanes b) (val b)
+always-holds : (lanes s : ℕ) (b : Bool) → s < lanes → Holds s (always (full lanes) b) (val b)
 unfolding always
 always-holds lanes s false l = rw (bit-full lanes s l, bit-zero s) zeroSet
 always-holds lanes s true l = rw (bit-full lanes s l, bit-zero s) oneSet
@@ -147,7 +147,7 @@ nothing-proper lanes =
       onesWithin = pow-pos lanes;
     }
 
-pub always-proper : (lanes : ℕ) (b : Bool) → Proper lanes (always lanes b)
+pub always-proper : (lanes : ℕ) (b : Bool) → Proper lanes (always (full lanes) b)
 unfolding always full
 always-proper lanes false =
     record {
@@ -201,27 +201,27 @@ module _ {lanes : ℕ} where
           }
       go false = h
 
-  folded-proper : (k : ℕ) (ps : List Pair) → AllProper lanes ps → Proper lanes (folded lanes k ps)
+  folded-proper : (k : ℕ) (ps : List Pair) → AllProper lanes ps → Proper lanes (folded (full lanes) k ps)
   unfolding folded neutral
   folded-proper k [] h = always-proper lanes (isConjunction k)
   folded-proper k (p ∷ ps) h = combined-proper k (h .each 0) (folded-proper k ps (rest-proper h))
 
-  pub pairOf-proper : (k : ℕ) (ps : List Pair) → AllProper lanes ps → Proper lanes (pairOf lanes k ps)
+  pub pairOf-proper : (k : ℕ) (ps : List Pair) → AllProper lanes ps → Proper lanes (pairOf (full lanes) k ps)
   unfolding pairOf
   pairOf-proper k ps h = finished-proper k (folded-proper k ps h)
 
   -- ---- one gate, lane by lane
 
-  folded-holds : (k s : ℕ) (ps : List Pair) → s < lanes → AllProper lanes ps → Holds s (folded lanes k ps) (foldedValue k (map (lane s) ps))
+  folded-holds : (k s : ℕ) (ps : List Pair) → s < lanes → AllProper lanes ps → Holds s (folded (full lanes) k ps) (foldedValue k (map (lane s) ps))
   unfolding folded neutral foldedValue
   folded-holds k s [] l h = always-holds lanes s (isConjunction k) l
-  folded-holds k s (p ∷ ps) l h = combined-holds k s p (folded lanes k ps) (holds s (h .each 0)) (folded-holds k s ps l (rest-proper h))
+  folded-holds k s (p ∷ ps) l h = combined-holds k s p (folded (full lanes) k ps) (holds s (h .each 0)) (folded-holds k s ps l (rest-proper h))
 
   pub pairOf-lane : (k s : ℕ) (ps : List Pair) → s < lanes → AllProper lanes ps → k ≤ 6 → (k ≡ 0 → length ps ≡ 1)
-      → lane s (pairOf lanes k ps) ≡ gateValue k (map (lane s) ps)
+      → lane s (pairOf (full lanes) k ps) ≡ gateValue k (map (lane s) ps)
   unfolding pairOf lane
   pairOf-lane k s ps l h few one =
-      marks-value (finished-holds k s (folded lanes k ps) (folded-holds k s ps l h))
+      marks-value (finished-holds k s (folded (full lanes) k ps) (folded-holds k s ps l h))
       ∙ sym (gateValue-folded k (map (lane s) ps) few (λ e. length-map ps (lane s) ∙ one e))
 
 -- ---- constants
@@ -230,6 +230,6 @@ pub nothing-lane : (s : ℕ) → lane s nothing ≡ undefined
 unfolding lane
 nothing-lane s = marks-value (nothing-holds s)
 
-pub always-lane : (lanes s : ℕ) (b : Bool) → s < lanes → lane s (always lanes b) ≡ val b
+pub always-lane : (lanes s : ℕ) (b : Bool) → s < lanes → lane s (always (full lanes) b) ≡ val b
 unfolding lane
 always-lane lanes s b l = marks-value (always-holds lanes s b l)

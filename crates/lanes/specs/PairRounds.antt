@@ -10,20 +10,21 @@ use Rattle.netlist.specs.Netlist.{Operand, input, gate, constant, Gate, Block, 
 use Rattle.lanes.specs.declared.Pair.{Pair}
 use Rattle.lanes.specs.Pairs.{Proper, nothing, always, pairOf}
 
+-- `used` has a bit at each lane in use
 unfoldable pub operandPair : ℕ → List Pair → List Pair → Operand → Pair
-operandPair lanes x state (input i) = getD x i nothing
-operandPair lanes x state (gate j) = getD state j nothing
-operandPair lanes x state (constant b) = always lanes b
+operandPair used x state (input i) = getD x i nothing
+operandPair used x state (gate j) = getD state j nothing
+operandPair used x state (constant b) = always used b
 
 unfoldable pub evaluatedPair : ℕ → List Pair → List Pair → Gate → Pair
-evaluatedPair lanes x state g = pairOf lanes (g .kind) (map (operandPair lanes x state) (g .operands))
+evaluatedPair used x state g = pairOf used (g .kind) (map (operandPair used x state) (g .operands))
 
 unfoldable pub pairRound : Block → ℕ → List Pair → List Pair → List Pair
-pairRound b lanes x state = map (evaluatedPair lanes x state) (b .gates)
+pairRound b used x state = map (evaluatedPair used x state) (b .gates)
 
 unfoldable pub afterPairRounds : Block → ℕ → List Pair → ℕ → List Pair
-afterPairRounds b lanes x zero = replicate (gateCount b) nothing
-afterPairRounds b lanes x (suc r) = pairRound b lanes x (afterPairRounds b lanes x r)
+afterPairRounds b used x zero = replicate (gateCount b) nothing
+afterPairRounds b used x (suc r) = pairRound b used x (afterPairRounds b used x r)
 
 -- the gate is of a kind, with as many operands as the kind allows
 pub record LegalGate (g : Gate) : Type 0 where

@@ -28,15 +28,18 @@ pub record Proper (lanes : ℕ) (p : Pair) : Type 0 where
   pub zerosWithin : p .zeros < 2 ^ lanes
   pub onesWithin : p .ones < 2 ^ lanes
 
+-- a bit at each lane in use
 unfoldable pub full : ℕ → ℕ
 full lanes = 2 ^ lanes - 1
 
+-- undefined at every lane
 unfoldable pub nothing : Pair
 nothing = record { zeros = 0; ones = 0 }
 
+-- a constant, where `used` has a bit at each lane in use
 unfoldable pub always : ℕ → Bool → Pair
-always lanes false = record { zeros = full lanes; ones = 0 }
-always lanes true = record { zeros = 0; ones = full lanes }
+always used false = record { zeros = used; ones = 0 }
+always used true = record { zeros = 0; ones = used }
 
 -- `and` and `nand`; `xor` and `xnor`; any other kind is `or` of its operands, or that inverted
 unfoldable pub isConjunction : ℕ → Bool
@@ -67,11 +70,11 @@ combined k p q = cond (isConjunction k) (bothPair p q) (cond (isParity k) (parit
 
 -- of no operand
 unfoldable pub neutral : ℕ → ℕ → Pair
-neutral lanes k = always lanes (isConjunction k)
+neutral used k = always used (isConjunction k)
 
 unfoldable pub folded : ℕ → ℕ → List Pair → Pair
-folded lanes k [] = neutral lanes k
-folded lanes k (p ∷ ps) = combined k p (folded lanes k ps)
+folded used k [] = neutral used k
+folded used k (p ∷ ps) = combined k p (folded used k ps)
 
 unfoldable pub swapped : Pair → Pair
 swapped p = record { zeros = p .ones; ones = p .zeros }
@@ -81,4 +84,4 @@ finished k p = cond (inverts k) (swapped p) p
 
 -- the pair of a gate of kind k whose operands have the pairs ps
 unfoldable pub pairOf : ℕ → ℕ → List Pair → Pair
-pairOf lanes k ps = finished k (folded lanes k ps)
+pairOf used k ps = finished k (folded used k ps)
