@@ -3,20 +3,21 @@
 --   pattern-bit                     bit s of an input's pattern is the input under setting base + s
 --   inputPair-lane, -proper         one input
 --   inputPairs-lane, -proper        all of them: the setting
+--   all-lanes, shifted-*, *-pattern the words as the code finds them
 --   batch-rounds                    rounds on pairs from there are rounds under each setting
 -- Assumes nothing.
 use mathlib.Core.Path.{_≡_, refl, sym, ap, _∙_}
 use mathlib.Core.Logic.{⊎-elim}
 use mathlib.Core.Bool.{Bool, true, false, cond}
 use mathlib.Core.List.{List, map}
-use Prim.Native.Nat.{ℕ, zero, suc, _+_, _%_, _^_, _≤_, _<_, min}
-use native.Mathlib.Nat.{min-le-right, lt-of-lt-of-le}
+use Prim.Native.Nat.{ℕ, zero, suc, _+_, _-_, _*_, _%_, _^_, _≤_, _<_, min}
+use native.Mathlib.Nat.{min-le-right, min-eq-left, min-eq-right}
 use native.Mathlib.Omega.{arith}
-use borrow.Author.Tests.{lt-ltb, le-ltb, eqb-true, eqb-false}
+use borrow.Author.Tests.{lt-ltb, le-ltb, ne-eqb, eqb-true, eqb-false}
 use lib.Bits.{bitAnd, bitXor, differ, and-lt, xor-lt, and-le-r}
 use lib.Dec.{eqb, ltb}
 use lib.ListN.{getD, List·getD-eq-default}
-use lib.Pow.{pow-mono, ones-lt}
+use lib.Pow.{pow-mono, pow-lt, pow-pos, ones-lt}
 use Rattle.laws.specs.Lists.{all, tab, upTo}
 use Rattle.laws.proofs.Tests.{lt-or-le}
 use Rattle.laws.proofs.Quantifiers.{all-below}
@@ -127,3 +128,38 @@ module _ (n base : ℕ) where
         → map (lane s) (afterPairRounds b (full (lanesOf n)) (inputPairs n base) r) ≡ afterRounds b (settingOf n (base + s)) r
     batch-rounds b legal r =
         afterPairRounds-lane b inputPairs-proper legal s l r ∙ ap (λ (x : List Value). afterRounds b x r) inputPairs-lane
+
+-- ---- the word of the lanes in use, as the code finds it
+
+pub all-lanes : (n : ℕ) → 6 ≤ n → 2 ^ 64 - 1 ≡ full (lanesOf n)
+unfolding full lanesOf
+all-lanes n h = rw (min-eq-right {n = 6} {m = n} h)
+
+-- the number of lanes, by a shift of 1
+pub shifted-lanes : (n : ℕ) → n < 6 → (1 * 2 ^ n % 2 ^ 64 ≡ lanesOf n) × (lanesOf n < 64)
+unfolding lanesOf
+shifted-lanes n h =
+    let f : 2 ^ n < 2 ^ 6 = pow-lt {i = n} {j = 6} h in
+    rw (min-eq-left {n = n} {m = 6} (omega arith)) (omega arith, omega arith)
+
+-- and the word that has so many bits
+pub shifted-full : (k : ℕ) → k < 64 → (1 ≤ 1 * 2 ^ k % 2 ^ 64) × (1 * 2 ^ k % 2 ^ 64 - 1 ≡ full k)
+unfolding full
+shifted-full k h =
+    let f : 2 ^ k < 2 ^ 64 = pow-lt {i = k} {j = 64} h in
+    let p : 0 < 2 ^ k = pow-pos k in
+    (omega arith, omega arith)
+
+-- ---- a pattern, as the code finds it
+
+pub low-pattern : (base i : ℕ) → i < 6 → getD patterns i 0 ≡ pattern base i
+unfolding pattern
+low-pattern base i h = rw (lt-ltb i 6 h)
+
+pub set-pattern : (base i : ℕ) → 6 ≤ i → bit base i ≡ 1 → 2 ^ 64 - 1 ≡ pattern base i
+unfolding pattern full
+set-pattern base i h e = rw (le-ltb i 6 h, e)
+
+pub clear-pattern : (base i : ℕ) → 6 ≤ i → (bit base i ≡ 1 → ⊥) → 0 ≡ pattern base i
+unfolding pattern
+clear-pattern base i h n = rw (le-ltb i 6 h, ne-eqb (bit base i) 1 n)

@@ -4,3 +4,5 @@ pub mod Folding
 pub mod LaneLaws
 pub mod RoundLaws
 pub mod InputLaws
+pub mod KindTests
+pub mod NodeLaws

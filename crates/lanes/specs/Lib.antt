@@ -2,3 +2,4 @@
 pub mod Pairs
 pub mod PairRounds
 pub mod Batches
+pub mod Nodes
