@@ -7,20 +7,23 @@
 use mathlib.Core.Path.{_≡_, refl, sym, ap, _∙_}
 use mathlib.Core.Bool.{Bool, true, false, cond}
 use mathlib.Core.List.{List, [], _∷_, map}
-use Prim.Native.Nat.{ℕ, zero, suc, _+_, _^_, _≤_, _<_, min, max}
+use Prim.Native.Nat.{ℕ, zero, suc, _+_, _^_, _≤_, _<_, min, max, zero-le}
 use native.Mathlib.Omega.{arith}
 use lib.Bits.{bitAnd, bitOr, and-lt, or-lt}
 use lib.Dec.{eqb}
 use lib.ListN.{length, getD, length-map}
 use lib.Pow.{pow-pos, ones-lt}
-use Rattle.laws.proofs.Tests.{bool-cases}
+use mathlib.Core.Logic.{⊎-elim}
+use Rattle.laws.proofs.Tests.{lt-or-le}
+use Rattle.rounds.specs.Order.{Below}
+use Rattle.rounds.proofs.Values.{undefined-not-val}
 use Rattle.netlist.specs.Values.{Value, undefined, val, invert}
 use Rattle.netlist.specs.Kinds.{gateValue}
 use Rattle.netlist.specs.Rounds.{bit}
 use Rattle.lanes.specs.declared.Pair.{Pair}
 use Rattle.lanes.specs.Pairs.{marked, lane, Proper, full, nothing, always, isConjunction, isParity, inverts, bothPair, eitherPair, parityPair, combined, neutral, folded, swapped, finished, pairOf}
 use Rattle.lanes.specs.PairRounds.{AllProper}
-use Rattle.lanes.proofs.BitLaws.{bit-low, bit-zero, bit-high, bit-and, bit-or, bit-full}
+use Rattle.lanes.proofs.BitLaws.{bit-low, bit-zero, bit-high, bit-and, bit-or, bit-full, le-by-bits}
 use Rattle.lanes.proofs.Folding.{both, either, differing, combinedValue, foldedValue, finishedValue, gateValue-folded}
 
 -- the three ways that two bits of a lane can stand, and the value that they mark
@@ -233,3 +236,43 @@ nothing-lane s = marks-value (nothing-holds s)
 pub always-lane : (lanes s : ℕ) (b : Bool) → s < lanes → lane s (always (full lanes) b) ≡ val b
 unfolding lane
 always-lane lanes s b l = marks-value (always-holds lanes s b l)
+
+-- ---- pairs that say more
+
+true-not-false : val true ≡ val false → ⊥
+true-not-false e = let z : _≡_ {A = ℕ} 0 1 = cc in omega arith
+
+invert-below : (v w : Value) → Below v w → Below (invert v) (invert w)
+unfolding invert
+invert-below undefined w h b e = absurd (undefined-not-val e)
+invert-below (val c) w h b e = rw (h c refl) e
+
+zeros-below : {z o z′ o′ : ℕ} {v w : Value} → Marks z o v → Marks z′ o′ w → Below v w → z ≤ z′
+zeros-below unset h l = zero-le
+zeros-below oneSet h l = zero-le
+zeros-below zeroSet unset l = absurd (undefined-not-val (l false refl))
+zeros-below zeroSet zeroSet l = omega arith
+zeros-below zeroSet oneSet l = absurd (true-not-false (l false refl))
+
+ones-below : {z o z′ o′ : ℕ} {v w : Value} → Marks z o v → Marks z′ o′ w → Below v w → o ≤ o′
+ones-below {v = v} {w = w} h l k = zeros-below (swapped-marks h) (swapped-marks l) (invert-below v w k)
+
+-- a pair that says at every lane no less has no smaller words
+pub below-words : {lanes : ℕ} {p q : Pair} → Proper lanes p → Proper lanes q → ((s : ℕ) → s < lanes → Below (lane s p) (lane s q))
+    → (p .zeros ≤ q .zeros) × (p .ones ≤ q .ones)
+below-words {lanes} {p} {q} h k below = (
+  le-by-bits (p .zeros) (q .zeros) (λ s. ⊎-elim (zeros-in s) (zeros-out s) (lt-or-le s lanes)),
+  le-by-bits (p .ones) (q .ones) (λ s. ⊎-elim (ones-in s) (ones-out s) (lt-or-le s lanes)),
+)
+  where
+    zeros-in : (s : ℕ) → s < lanes → bit (p .zeros) s ≤ bit (q .zeros) s
+    zeros-in s l = zeros-below (holds s h) (holds s k) (below s l)
+
+    zeros-out : (s : ℕ) → lanes ≤ s → bit (p .zeros) s ≤ bit (q .zeros) s
+    zeros-out s l = rw (bit-high (p .zeros) lanes s (h .zerosWithin) l) zero-le
+
+    ones-in : (s : ℕ) → s < lanes → bit (p .ones) s ≤ bit (q .ones) s
+    ones-in s l = ones-below (holds s h) (holds s k) (below s l)
+
+    ones-out : (s : ℕ) → lanes ≤ s → bit (p .ones) s ≤ bit (q .ones) s
+    ones-out s l = rw (bit-high (p .ones) lanes s (h .onesWithin) l) zero-le

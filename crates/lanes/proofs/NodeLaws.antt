@@ -10,16 +10,19 @@ use mathlib.Core.Bool.{Bool, true, false, cond}
 use mathlib.Core.List.{List, [], _∷_, map}
 use Prim.Native.Nat.{ℕ, zero, suc, _+_, _-_, _/_, _%_, _≤_, _<_}
 use native.Mathlib.Omega.{arith}
-use lib.ListN.{length, getD, drop, set, List·getD-eq-default}
-use lib.Seq.{drop-cons, drop-length}
+use lib.Dec.{eqb}
+use lib.ListN.{length, getD, drop, set, length-set, List·getD-eq-default}
+use borrow.Author.Tests.{lt-ltb, le-ltb, ne-eqb}
+use lib.Seq.{drop-cons, drop-length, ext-getD, getD-set-same, getD-set-other}
 use Rattle.laws.specs.Lists.{tab}
 use Rattle.laws.proofs.Tab.{length-tab, getD-tab, map-tab, tab-ext}
 use Rattle.laws.proofs.Tests.{lt-or-le, eq-or-ne}
-use Rattle.netlist.specs.Netlist.{Operand}
+use Rattle.netlist.specs.Netlist.{gate, constant}
 use Rattle.netlist.specs.StoredBlock.{operandOf, gateAt}
+use Rattle.ternary.specs.Legal.{LegalHead}
 use Rattle.lanes.specs.declared.Pair.{Pair}
 use Rattle.lanes.specs.Pairs.{nothing, always, neutral, combined, folded, pairOf}
-use Rattle.lanes.specs.PairRounds.{operandPair, evaluatedPair}
+use Rattle.lanes.specs.PairRounds.{operandPair, evaluatedPair, LegalGate}
 use Rattle.lanes.specs.Nodes.{pairAt, inputsIn, gatesIn, wordPair, operandsAt, gatePairAt}
 
 module _ (used : ℕ) (zeros ones words : List ℕ) (at : ℕ) where
@@ -52,3 +55,105 @@ module _ (used : ℕ) (zeros ones words : List ℕ) (at : ℕ) where
       let ops = tab f (getD words at 0 / 8) in
       let none : drop (getD words at 0 / 8) ops ≡ [] = rw (length-tab f (getD words at 0 / 8)) at (drop-length ops) in
       h ∙ rw (e, none)
+
+-- ---- what the words of a block read
+
+module _ (used n m : ℕ) (zeros ones : List ℕ) (few : n ≤ 65534) (zerosLong : length zeros ≡ n + m) (onesLong : length ones ≡ n + m) where
+  -- past the last gate
+  pairAt-past : (k : ℕ) → n + m ≤ k → pairAt zeros ones k ≡ nothing
+  unfolding pairAt nothing
+  pairAt-past k l =
+      let z : getD zeros k 0 ≡ 0 = List·getD-eq-default zeros 0 (omega arith) in
+      let o : getD ones k 0 ≡ 0 = List·getD-eq-default ones 0 (omega arith) in
+      rw (z, o)
+
+  gate-there : (word : ℕ) → n ≤ word → pairAt zeros ones word ≡ getD (gatesIn n m zeros ones) (word - n) nothing
+  unfolding gatesIn
+  gate-there word h = ⊎-elim inside past (lt-or-le (word - n) m)
+    where
+      f : ℕ → Pair
+      f = λ j. pairAt zeros ones (n + j)
+
+      inside : word - n < m → pairAt zeros ones word ≡ getD (tab f m) (word - n) nothing
+      inside l = let e : n + (word - n) ≡ word = omega arith in rw (getD-tab f m (word - n) nothing l, e)
+
+      past : m ≤ word - n → pairAt zeros ones word ≡ getD (tab f m) (word - n) nothing
+      past l =
+          let e : getD (tab f m) (word - n) nothing ≡ nothing = List·getD-eq-default (tab f m) nothing (rw (length-tab f m) l) in
+          pairAt-past word (omega arith) ∙ sym e
+
+  pub wordPair-operand : (word : ℕ) → wordPair used zeros ones word ≡ operandPair used (inputsIn n zeros ones) (gatesIn n m zeros ones) (operandOf n word)
+  unfolding wordPair operandPair operandOf inputsIn
+  wordPair-operand word = ⊎-elim is-input other (lt-or-le word n)
+    where
+      is-input : word < n
+          → wordPair used zeros ones word ≡ operandPair used (tab (pairAt zeros ones) n) (gatesIn n m zeros ones) (operandOf n word)
+      is-input l =
+          rw (lt-ltb word n l, ne-eqb word 65534 (omega arith), ne-eqb word 65535 (omega arith), getD-tab (pairAt zeros ones) n word nothing l)
+
+      constant-or-gate : (t u : Bool) → eqb word 65534 ≡ t → eqb word 65535 ≡ u → n ≤ word
+          → cond t (always used false) (cond u (always used true) (pairAt zeros ones word))
+          ≡ operandPair used (tab (pairAt zeros ones) n) (gatesIn n m zeros ones) (cond t (constant false) (cond u (constant true) (gate (word - n))))
+      constant-or-gate true u e f h = refl
+      constant-or-gate false true e f h = refl
+      constant-or-gate false false e f h = gate-there word h
+
+      other : n ≤ word
+          → wordPair used zeros ones word ≡ operandPair used (tab (pairAt zeros ones) n) (gatesIn n m zeros ones) (operandOf n word)
+      other h = rw (le-ltb word n h) (constant-or-gate (eqb word 65534) (eqb word 65535) refl refl h)
+
+  pub gatePairAt-evaluated : (words : List ℕ) (at : ℕ)
+      → gatePairAt used zeros ones words at ≡ evaluatedPair used (inputsIn n zeros ones) (gatesIn n m zeros ones) (gateAt n words at)
+  unfolding gatePairAt operandsAt evaluatedPair gateAt
+  gatePairAt-evaluated words at =
+      ap (pairOf used (getD words at 0 % 8))
+      (tab-ext (λ i. wordPair used zeros ones (getD words (at + 1 + i) 0))
+      (λ i. operandPair used (inputsIn n zeros ones) (gatesIn n m zeros ones) (operandOf n (getD words (at + 1 + i) 0))) (getD words at 0 / 8)
+      (λ i l. wordPair-operand (getD words (at + 1 + i) 0))
+      ∙ sym
+      (map-tab (operandPair used (inputsIn n zeros ones) (gatesIn n m zeros ones)) (λ i. operandOf n (getD words (at + 1 + i) 0)) (getD words at 0 / 8)))
+
+-- ---- a gate's pair stored
+
+module _ (n m : ℕ) (zeros ones : List ℕ) (j : ℕ) (p : Pair) where
+  pub set-inputs : inputsIn n (set zeros (n + j) (p .zeros)) (set ones (n + j) (p .ones)) ≡ inputsIn n zeros ones
+  unfolding inputsIn pairAt
+  set-inputs =
+      tab-ext (pairAt (set zeros (n + j) (p .zeros)) (set ones (n + j) (p .ones))) (pairAt zeros ones) n
+      (λ i l.
+      rw (getD-set-other zeros (n + j) i (p .zeros) 0 (omega arith), getD-set-other ones (n + j) i (p .ones) 0 (omega arith)))
+
+  pub set-gates : j < m → length zeros ≡ n + m → length ones ≡ n + m
+      → gatesIn n m (set zeros (n + j) (p .zeros)) (set ones (n + j) (p .ones)) ≡ set (gatesIn n m zeros ones) j p
+  unfolding gatesIn pairAt
+  set-gates l zerosLong onesLong =
+      ext-getD nothing (tab new m) (set (tab old m) j p)
+      (length-tab new m ∙ sym (length-set (tab old m) j p ∙ length-tab old m))
+      (λ i h. let h′ : i < m = rw (length-tab new m) at h in
+      getD-tab new m i nothing h′ ∙ ⊎-elim (same i) (other i h′) (eq-or-ne i j))
+    where
+      old : ℕ → Pair
+      old = λ i. pairAt zeros ones (n + i)
+
+      new : ℕ → Pair
+      new = λ i. pairAt (set zeros (n + j) (p .zeros)) (set ones (n + j) (p .ones)) (n + i)
+
+      same : (i : ℕ) → i ≡ j → new i ≡ getD (set (tab old m) j p) i nothing
+      same i e =
+          rw (e, getD-set-same zeros (n + j) (p .zeros) 0 (omega arith), getD-set-same ones (n + j) (p .ones) 0 (omega arith))
+          (sym (getD-set-same (tab old m) j p nothing (rw (length-tab old m) l)))
+
+      other : (i : ℕ) → i < m → (i ≡ j → ⊥) → new i ≡ getD (set (tab old m) j p) i nothing
+      other i h d =
+          rw (getD-set-other zeros (n + j) (n + i) (p .zeros) 0 (omega arith), getD-set-other ones (n + j) (n + i) (p .ones) 0 (omega arith))
+          (sym (getD-set-other (tab old m) j i p nothing d ∙ getD-tab old m i nothing h))
+
+-- ---- a legal head word is that of a legal gate
+
+pub head-legal : (n : ℕ) (words : List ℕ) (at : ℕ) → LegalHead words at → LegalGate (gateAt n words at)
+unfolding gateAt
+head-legal n words at h =
+    record {
+      kind = h .kind;
+      count = rw (length-tab (λ i. operandOf n (getD words (at + 1 + i) 0)) (getD words at 0 / 8)) (h .count);
+    }

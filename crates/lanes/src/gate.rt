@@ -31,12 +31,12 @@ pub fn operand_pair(word: usize, used: u64, zeros: &[u64], ones: &[u64]) -> Pair
 {
     match word {
         CONSTANT_0 => Pair {
-            zeros: used,
+            zeros: used, // constant 0
             ones: 0,
         },
         CONSTANT_1 => Pair {
             zeros: 0,
-            ones: used,
+            ones: used, // constant 1
         },
         _ => pair_at(zeros, ones, word),
     }
@@ -101,7 +101,11 @@ pub fn gate_pair(words: &[u16], at: usize, used: u64, zeros: &[u64], ones: &[u64
     let mut pair = first_pair(kind, used);
     let mut i = head / 8;
     while 0 < i {
-        pair = combine(kind, operand_pair(word_at(words, at + i), used, zeros, ones), pair);
+        pair = combine(
+            kind,
+            operand_pair(word_at(words, at + i), used, zeros, ones),
+            pair,
+        );
         i -= 1;
     }
     finish(kind, pair)

@@ -65,7 +65,7 @@ loop-again c =
       omega arith,
       c .combine .ensures
           ∙ folded-next (a .used) (now (a .zeros)) (now (a .ones)) (now (a .words)) (a .at) _ (l .loop .i) (w .before .loop-test .taken) few
-              (c .before .operand-pair .ensures ∙ rw (w .word-at2 .ensures)) (l .loop .inv .1),
+          (c .before .operand-pair .ensures ∙ rw (w .word-at2 .ensures)) (l .loop .inv .1),
     )
 
 finish-requires : tie.Need-finish-requires Inv-loop μ-loop
