@@ -136,10 +136,11 @@ torn-when ws = go (isTornBefore ws)
 pub whole-before : (ws : List ℕ) → isTornBefore ws ≡ false → (inputCount (blockOf ws) ≤ maxInputsBefore) × (encodeBefore (blockOf ws) ≡ ws)
 unfolding isTornBefore
 whole-before ws h =
-    let all = not-false (leb (inputCount (blockOf ws)) maxInputsBefore && isWellFormed (blockOf ws) && same (encodeBefore (blockOf ws)) ws) h in
-    (leb-true _ _ (and-left (leb (inputCount (blockOf ws)) maxInputsBefore) (isWellFormed (blockOf ws))
-    (and-left (leb (inputCount (blockOf ws)) maxInputsBefore && isWellFormed (blockOf ws)) (same (encodeBefore (blockOf ws)) ws) all)),
-    same-eq _ _ (and-right (leb (inputCount (blockOf ws)) maxInputsBefore && isWellFormed (blockOf ws)) (same (encodeBefore (blockOf ws)) ws) all))
+    let all = not-false (leb (inputCount (blockOf ws)) maxInputsBefore && isWellFormed (blockOf ws) && same (encodeBefore (blockOf ws)) ws) h in (
+      leb-true _ _ (and-left (leb (inputCount (blockOf ws)) maxInputsBefore) (isWellFormed (blockOf ws))
+          (and-left (leb (inputCount (blockOf ws)) maxInputsBefore && isWellFormed (blockOf ws)) (same (encodeBefore (blockOf ws)) ws) all)),
+      same-eq _ _ (and-right (leb (inputCount (blockOf ws)) maxInputsBefore && isWellFormed (blockOf ws)) (same (encodeBefore (blockOf ws)) ws) all),
+    )
 
 pub torn-short : (ws : List ℕ) → length ws < 3 → isTornBefore ws ≡ true
 torn-short ws l =

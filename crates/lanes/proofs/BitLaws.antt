@@ -13,7 +13,7 @@ use native.Mathlib.Omega.{arith}
 use lib.Arith.{digits-mod, bin-ind}
 use lib.Pow.{pow-mono, pow-pos, shr-shr, field, mod-mod-pow, ones-split, high, ones-lt}
 use lib.Bits.{bitAnd, bitOr, bitXor, differ, and-shr, or-shr, xor-shr, and-step, or-step, xor-step}
-use Rattle.netlist.specs.Rounds.{bit}
+use Rattle.netlist.specs.Assignments.{bit}
 use Rattle.lanes.specs.Pairs.{full}
 
 -- a bit is 0 or 1

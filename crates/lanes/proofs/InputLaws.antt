@@ -24,7 +24,8 @@ use Rattle.laws.proofs.Quantifiers.{all-below}
 use Rattle.laws.proofs.Tab.{map-tab, tab-ext, length-tab, getD-tab}
 use Rattle.netlist.specs.Values.{Value, val}
 use Rattle.netlist.specs.Netlist.{Block, inputCount}
-use Rattle.netlist.specs.Rounds.{bit, settingOf, afterRounds}
+use Rattle.netlist.specs.Assignments.{bit}
+use Rattle.netlist.specs.Rounds.{settingOf, afterRounds}
 use Rattle.lanes.specs.declared.Pair.{Pair}
 use Rattle.lanes.specs.Pairs.{marked, lane, Proper, full, nothing}
 use Rattle.lanes.specs.PairRounds.{afterPairRounds, AllProper}

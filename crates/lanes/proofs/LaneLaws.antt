@@ -19,7 +19,7 @@ use Rattle.rounds.specs.Order.{Below}
 use Rattle.rounds.proofs.Values.{undefined-not-val}
 use Rattle.netlist.specs.Values.{Value, undefined, val, invert}
 use Rattle.netlist.specs.Kinds.{gateValue}
-use Rattle.netlist.specs.Rounds.{bit}
+use Rattle.netlist.specs.Assignments.{bit}
 use Rattle.lanes.specs.declared.Pair.{Pair}
 use Rattle.lanes.specs.Pairs.{marked, lane, Proper, full, nothing, always, isConjunction, isParity, inverts, bothPair, eitherPair, parityPair, combined, neutral, folded, swapped, finished, pairOf}
 use Rattle.lanes.specs.PairRounds.{AllProper}

@@ -6,7 +6,7 @@ use lib.Bits.{bitAnd, bitXor}
 use lib.Dec.{eqb, ltb}
 use lib.ListN.{getD}
 use Rattle.laws.specs.Lists.{tab}
-use Rattle.netlist.specs.Rounds.{bit}
+use Rattle.netlist.specs.Assignments.{bit}
 use Rattle.lanes.specs.declared.Pair.{Pair}
 use Rattle.lanes.specs.Pairs.{full}
 

@@ -12,7 +12,7 @@ use lib.Bits.{bitAnd, bitOr}
 use lib.Dec.{eqb}
 use Rattle.netlist.specs.Values.{Value, undefined, val}
 use Rattle.netlist.specs.Kinds.{isNot, isXor, isXnor}
-use Rattle.netlist.specs.Rounds.{bit}
+use Rattle.netlist.specs.Assignments.{bit}
 use Rattle.lanes.specs.declared.Pair.{Pair}
 
 -- the value that the two bits of a lane mark

@@ -1,6 +1,6 @@
 -- `lanes::inputs::pattern_of` meets its contract. Assumes nothing.
 use borrow.Author.Needs.{needs}
-use Rattle.netlist.specs.Rounds.{bit}
+use Rattle.netlist.specs.Assignments.{bit}
 use Rattle.lanes.specs.Batches.{patterns}
 use Rattle.lanes.proofs.InputLaws.{low-pattern, set-pattern, clear-pattern}
 use Rattle.lanes.proofs.inputs.pattern_of.Statement.{statement}
