@@ -2,6 +2,7 @@
 --   output-proper, output-lane      an output's pair
 --   undefined-tells                 where it is undefined
 --   unsettled-tells                 where one of them is
+--   undefined-some, undefined-unsettled   a setting is not settled where an output is undefined
 -- Assumes nothing.
 use mathlib.Core.Path.{_≡_, refl, sym, ap, _∙_}
 use mathlib.Core.Logic.{⊎-elim}
@@ -146,6 +147,15 @@ unsettled-all ws s =
     let shows : Output → Value = outputValue (settingOf (inputCount b) s) (settledUnder b s) in
     let many : length (map shows (b .outputs)) ≡ getD ws 2 0 = length-map (b .outputs) shows ∙ decode-outputCount ws in
     rw many at (any-not-all isDefined (map shows (b .outputs)) undefined)
+
+-- a setting is not settled exactly where an output is undefined
+pub undefined-some : (ws : List ℕ) (s : ℕ) → isUnsettled (decode ws) s ≡ true → (o : ℕ) × (o < getD ws 2 0) × (isUndefinedAt (decode ws) o s ≡ true)
+unfolding unsettledBy
+undefined-some ws s h = any-below (λ o. isUndefinedAt (decode ws) o s) (getD ws 2 0) (unsettled-all ws s ∙ h)
+
+pub undefined-unsettled : (ws : List ℕ) (s o : ℕ) → o < getD ws 2 0 → isUndefinedAt (decode ws) o s ≡ true → isUnsettled (decode ws) s ≡ true
+unfolding unsettledBy
+undefined-unsettled ws s o l h = sym (unsettled-all ws s) ∙ below-any (λ o. isUndefinedAt (decode ws) o s) (getD ws 2 0) o l h
 
 module _ {ws : List ℕ} {n base : ℕ} {zeros ones : List ℕ} (j : Judged ws n base zeros ones) {at : ℕ}
     (first : at ≡ outputsAt (getD ws 0 0) (getD ws 3 0) (getD ws 1 0)) where

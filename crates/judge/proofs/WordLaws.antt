@@ -1,7 +1,8 @@
 -- Words of lanes.
 --   tells-all, tells-none, tells-and, tells-or, tells-not, tells-as   words and tests put together
---   tells-lane, tells-no-lane       a lane that passes is marked; a word that is 0 marks none
+--   tells-no-lane, tells-some       a word that is 0 marks no lane, another some
 --   trailing-least, ones-count      what the machine's operations find
+--   lane-bit                        a lane's bit as a number
 --   tells-lowest, tells-count       the lowest lane, and how many
 -- Assumes nothing.
 use mathlib.Core.Path.{_≡_, refl, sym, ap, _∙_}
@@ -107,6 +108,14 @@ module _ {lanes base : ℕ} {p : ℕ → Bool} {w : ℕ} (t : Tells lanes base p
   none-zero : ((s : ℕ) → s < lanes → p (base + s) ≡ false) → w ≡ 0
   none-zero h = eq-by-bits w 0 (λ s. no-bit w s (⊎-elim (λ l. t .each s l ∙ h s l) (past-lanes s) (lt-or-le s lanes)) ∙ sym (bit-zero s))
 
+  -- a word that is not 0 marks a lane
+  pub tells-some : (w ≡ 0 → ⊥) → (s : ℕ) × (s < lanes) × (p (base + s) ≡ true)
+  tells-some h =
+      let r = least (hasLane w) lanes in
+      ⊎-elim (λ l. (r, l, sym (t .each r l) ∙ least-at (hasLane w) lanes l))
+      (λ m. absurd (h (none-zero (λ s l. sym (t .each s l) ∙ least-below (hasLane w) lanes s (omega arith)))))
+      (lt-or-le r lanes)
+
   -- the lowest lane of a word that is not 0
   pub tells-lowest : lanes ≤ 64 → (s : ℕ) → s < lanes → p (base + s) ≡ true → let r = least (hasLane w) 64 in
       (r < lanes) × (p (base + r) ≡ true) × ((i : ℕ) → i < r → p (base + i) ≡ false)
@@ -164,6 +173,11 @@ low-one : (d : ℕ) → d < 2 → d ≡ cond (eqb d 1) 1 0
 low-one zero h = refl
 low-one (suc zero) h = refl
 low-one (suc (suc d)) h = absurd (omega arith)
+
+-- a lane's bit, as a number
+pub lane-bit : (a s : ℕ) → bit a s ≡ cond (hasLane a s) 1 0
+unfolding hasLane
+lane-bit a s = low-one (bit a s) (bit-low a s)
 
 pub ones-count : (k a : ℕ) → a < 2 ^ k → ones a ≡ countBelow (hasLane a) k
 unfolding ones hasLane

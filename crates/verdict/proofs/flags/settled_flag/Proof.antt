@@ -1,4 +1,4 @@
--- `verdict::settings::settled_flag` meets its contract: every output passed is defined. Assumes nothing.
+-- `verdict::flags::settled_flag` meets its contract: every output passed is defined. Assumes nothing.
 use Prim.Native.Nat.{ℕ, _-_, _≤_, _<_}
 use mathlib.Core.Path.{_≡_, sym, _∙_}
 use mathlib.Core.List.{List}
@@ -7,8 +7,8 @@ use borrow.Author.Needs.{needs}
 use borrow.Author.Count.{below-more}
 use Rattle.ternary.specs.Outputs.{shownCode}
 use Rattle.verdict.proofs.Outputs.{Found, near, few, flag-settled, flag-unsettled}
-use Rattle.verdict.proofs.settings.settled_flag.Statement.{statement}
-use Rattle.verdict.proofs.settings.settled_flag.Tie as tie
+use Rattle.verdict.proofs.flags.settled_flag.Statement.{statement}
+use Rattle.verdict.proofs.flags.settled_flag.Tie as tie
 
 abbrev Inv-loop : tie.InvT-loop
 Inv-loop words n gates order s inputs values at outputs o₀ o =
