@@ -12,6 +12,7 @@ pub mod compare;
 pub mod cover;
 pub mod executed;
 pub mod foreign;
+pub mod gate_table;
 pub mod generate;
 pub mod groups;
 pub mod limits;

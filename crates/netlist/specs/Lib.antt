@@ -3,6 +3,7 @@ pub mod Limits
 pub mod Values
 pub mod Kinds
 pub mod Assignments
+pub mod GateTable
 pub mod Netlist
 pub mod StoredBlock
 pub mod Rounds

@@ -6,30 +6,56 @@ use layout::offsets::gates_at;
 use layout::offsets::gates_of;
 use layout::offsets::inputs_of;
 use ternary::gate::gate_value;
+use ternary::table::gate_table;
 ghost use mathlib.Core.Path.{_≡_};
 ghost use mathlib.Core.Bool.{false, not};
 ghost use Prim.Native.Nat.{_≤_};
 ghost use lib.ListN.{length, getD, take};
 ghost use Rattle.laws.specs.Lists.{same, placed};
 ghost use Rattle.netlist.specs.StoredBlock.{isTorn};
+ghost use Rattle.netlist.specs.GateTable.{gateTable};
 ghost use Rattle.simulate.specs.Rounded.{InBlock, ForRounds, gateCode, roundCodes, Rounded, Settled};
 
 // The value of gate j, from the setting and the gates' values.
-pub fn value_of_gate(words: &[u16], n: usize, j: usize, setting: &[u8], gates: &[u8]) -> u8
+pub fn value_of_gate(
+    table: &[u8; 1792],
+    words: &[u16],
+    n: usize,
+    j: usize,
+    setting: &[u8],
+    gates: &[u8],
+) -> u8
+    requires { ⌜ now table ≡ gateTable ⌝ }
     requires { ⌜ InBlock (now words) n j ⌝ }
     ensures { λ r. ⌜ r ≡ gateCode (now (words .entry)) (now (setting .entry)) (now (gates .entry)) j ⌝ }
 {
-    gate_value(words, n, gates_at(words) + GATE_SIZE * j, setting, gates)
+    gate_value(
+        table,
+        words,
+        n,
+        gates_at(words) + GATE_SIZE * j,
+        setting,
+        gates,
+    )
 }
 
 // A round (SPECIFICATION 3.3): every gate from the values of the round before, into the first bytes of `next`.
-fn round_into(words: &[u16], n: usize, m: usize, setting: &[u8], values: &[u8], next: &mut [u8])
+fn round_into(
+    table: &[u8; 1792],
+    words: &[u16],
+    n: usize,
+    m: usize,
+    setting: &[u8],
+    values: &[u8],
+    next: &mut [u8],
+)
+    requires { ⌜ now table ≡ gateTable ⌝ }
     requires { ⌜ ForRounds (now words) n m (length (now next)) ⌝ }
     ensures { λ r. ⌜ now (next .exit) ≡ placed (roundCodes (now (words .entry)) (now (setting .entry)) (now (values .entry))) (now (next .entry)) ⌝ }
 {
     let mut j = 0;
     while j < m {
-        next[j] = value_of_gate(words, n, j, setting, values);
+        next[j] = value_of_gate(table, words, n, j, setting, values);
         j += 1;
     }
 }
@@ -56,6 +82,7 @@ fn copy_changed(next: &[u8], m: usize, values: &mut [u8]) -> bool
 
 // One round over the first m bytes of `values`: did it change something?
 fn next_round(
+    table: &[u8; 1792],
     words: &[u16],
     n: usize,
     m: usize,
@@ -63,16 +90,18 @@ fn next_round(
     values: &mut [u8],
     next: &mut [u8],
 ) -> bool
+    requires { ⌜ now table ≡ gateTable ⌝ }
     requires { ⌜ ForRounds (now words) n m (length (now values)) ⌝ }
     requires { ⌜ m ≤ length (now next) ⌝ }
     ensures { λ r. ⌜ Rounded (now (words .entry)) (now (setting .entry)) m (now (values .entry)) (now (values .exit)) r ⌝ }
 {
-    round_into(words, n, m, setting, &values[..m], next);
+    round_into(table, words, n, m, setting, &values[..m], next);
     copy_changed(next, m, values)
 }
 
 // Rounds from all gates undefined until one changes nothing; how many changed something. `next` is spare room.
 fn settle_with(
+    table: &[u8; 1792],
     words: &[u16],
     n: usize,
     m: usize,
@@ -80,13 +109,14 @@ fn settle_with(
     values: &mut [u8],
     next: &mut [u8],
 ) -> usize
+    requires { ⌜ now table ≡ gateTable ⌝ }
     requires { ⌜ ForRounds (now words) n m (length (now values)) ⌝ }
     requires { ⌜ m ≤ length (now next) ⌝ }
     ensures { λ r. ⌜ Settled (now (words .entry)) (now (setting .entry)) (now (values .entry)) (now (values .exit)) r ⌝ }
 {
     fill_bytes(values, m, 2);
     let mut count = 0;
-    while next_round(words, n, m, setting, values, next) {
+    while next_round(table, words, n, m, setting, values, next) {
         count += 1;
     }
     count
@@ -98,8 +128,10 @@ pub fn settle_into(words: &[u16], setting: &[u8], values: &mut [u8]) -> usize
     requires { ⌜ getD (now words) 1 0 ≤ length (now values) ⌝ }
     ensures { λ r. ⌜ Settled (now (words .entry)) (now (setting .entry)) (now (values .entry)) (now (values .exit)) r ⌝ }
 {
+    let table = gate_table();
     let mut next = [0u8; MAX_GATES];
     settle_with(
+        &table,
         words,
         inputs_of(words),
         gates_of(words),

@@ -13,10 +13,13 @@ use Rattle.decide.proofs.in_place.settle_in_place.Statement.{statement}
 use Rattle.decide.proofs.in_place.settle_in_place.Tie as tie
 
 abbrev Inv-loop : tie.InvT-loop
-Inv-loop words n gates order inputs values₀ m values = Underway (decode words) (map valueOf inputs) values
+Inv-loop words n gates order inputs values₀ table m values = Underway (decode words) (map valueOf inputs) values
 
 abbrev μ-loop : tie.MeasureT-loop
-μ-loop words n gates order inputs values₀ m values = undefinedCount (gateCount (decode words)) values
+μ-loop words n gates order inputs values₀ table m values = undefinedCount (gateCount (decode words)) values
+
+gate-table-requires : tie.Need-gate-table-requires Inv-loop μ-loop
+gate-table-requires c κs = search needs
 
 fill-bytes-requires : tie.Need-fill-bytes-requires Inv-loop μ-loop
 fill-bytes-requires c κs = search needs
@@ -26,10 +29,10 @@ abbrev filled : tie.At-loop Inv-loop μ-loop → tie.After-fill-bytes Inv-loop �
 filled l = l .before .before .before
 
 abbrev start : tie.After-fill-bytes Inv-loop μ-loop → tie.Start Inv-loop μ-loop
-start f = f .before .before .before .before .before .before
+start f = f .before .before .before .before .before .before .before
 
 abbrev head : tie.After-sweep-in-place Inv-loop μ-loop → tie.At-loop Inv-loop μ-loop
-head d = d .before .before
+head d = d .before .before .before
 
 loop-holds : tie.Need-loop-holds Inv-loop μ-loop
 loop-holds c =
@@ -40,7 +43,10 @@ loop-holds c =
     rw (undefined, s .pre .2) (start-underway (decode (s .args .words .now)) (map valueOf (s .args .inputs .now)))
 
 sweep-in-place-requires : tie.Need-sweep-in-place-requires Inv-loop μ-loop
-sweep-in-place-requires c κs = let s = start (filled (c .before)) in ((s .pre .0, s .pre .1), c .before .loop .inv)
+sweep-in-place-requires c κs =
+    let l = c .before .before in
+    let s = start (filled l) in
+    (filled l .before .before .gate-table .ensures, ((s .pre .0, s .pre .1), l .loop .inv))
 
 loop-less : tie.Need-loop-less Inv-loop μ-loop
 loop-less c = let d = c .before .before .before in swept-more (head d .loop .inv) (d .sweep-in-place .ensures) (c .if1 .taken)
@@ -64,6 +70,7 @@ settle-in-place-spec =
     (tie.spec
     Inv-loop
     μ-loop
+    gate-table-requires
     fill-bytes-requires
     loop-holds
     sweep-in-place-requires

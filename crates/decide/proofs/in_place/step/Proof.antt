@@ -16,7 +16,7 @@ add-gate-value : tie.Need-add-gate-value
 add-gate-value c = search needs
 
 gate-value-requires : tie.Need-gate-value-requires
-gate-value-requires c κs = let s = c .before .before .before .before .before in s .pre .1 .legal (s .args .j) (s .pre .0)
+gate-value-requires c κs = let s = c .before .before .before .before .before in (s .pre .0, s .pre .1 .1 .legal (s .args .j) (s .pre .1 .0))
 
 slice-write-values : tie.Need-slice-write-values
 slice-write-values c = search needs
@@ -28,7 +28,7 @@ returns : tie.Need-returns
 returns c =
     let s = c .before .before .before .before .before .before in
     let g = gateAt (s .args .n) (s .args .words .now) (s .args .gates + 5 * s .args .j) in
-    swept-one g (s .args .j) (c .gate-value .result) (s .pre .2) (s .pre .0) (s .pre .1 .gateIs (s .args .j) (s .pre .0)) (c .gate-value .ensures)
+    swept-one g (s .args .j) (c .gate-value .result) (s .pre .1 .2) (s .pre .1 .0) (s .pre .1 .1 .gateIs (s .args .j) (s .pre .1 .0)) (c .gate-value .ensures)
 
 pub step-spec : {M : Type 1} → statement M
 step-spec =

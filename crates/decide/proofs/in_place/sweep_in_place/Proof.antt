@@ -14,18 +14,18 @@ use Rattle.decide.proofs.in_place.sweep_in_place.Statement.{statement}
 use Rattle.decide.proofs.in_place.sweep_in_place.Tie as tie
 
 abbrev Inv-loop : tie.InvT-loop
-Inv-loop words n gates order inputs values₀ changed₀ i₀ values changed i =
+Inv-loop table words n gates order inputs values₀ changed₀ i₀ values changed i =
     (i ≤ length order) × Swept (decode words) (map valueOf inputs) (take i order) values₀ values changed
 
 abbrev μ-loop : tie.MeasureT-loop
-μ-loop words n gates order inputs values₀ changed₀ i₀ values changed i = length order - i
+μ-loop table words n gates order inputs values₀ changed₀ i₀ values changed i = length order - i
 
 -- the function's entry, from the loop's head
 abbrev start : tie.At-loop Inv-loop μ-loop → tie.Start Inv-loop μ-loop
 start l = l .before .before .before .before .before
 
 loop-holds : tie.Need-loop-holds Inv-loop μ-loop
-loop-holds c = let s = c .before .before .before .before in (omega arith, swept-none (s .args .values .now) (s .pre .1))
+loop-holds c = let s = c .before .before .before .before in (omega arith, swept-none (s .args .values .now) (s .pre .1 .1))
 
 mul-step : tie.Need-mul-step Inv-loop μ-loop
 mul-step c = omega arith
@@ -40,7 +40,7 @@ step-requires : tie.Need-step-requires Inv-loop μ-loop
 step-requires c κs =
     let s = start (c .before .before .before) in
     let l = c .before .before .before .loop in
-    (s .pre .0 .1 .inside (l .i) (c .before .before .loop-test .taken), s .pre .0 .0, swept-underway (s .pre .1) (l .inv .1))
+    (s .pre .0, (s .pre .1 .0 .1 .inside (l .i) (c .before .before .loop-test .taken), s .pre .1 .0 .0, swept-underway (s .pre .1 .1) (l .inv .1)))
 
 add-i : tie.Need-add-i Inv-loop μ-loop
 add-i c = omega arith
@@ -55,7 +55,7 @@ loop-again c =
     let order = s .args .order .now in
     let lt = c .before .before .before .before .before .loop-test .taken in (
       omega arith,
-      rw (add-one, take-suc order (l .i) 0 lt) (swept-then (getD order (l .i) 0) (s .pre .1) (l .inv .1) (c .before .before .step .ensures)),
+      rw (add-one, take-suc order (l .i) 0 lt) (swept-then (getD order (l .i) 0) (s .pre .1 .1) (l .inv .1) (c .before .before .step .ensures)),
     )
 
 same-length : tie.Need-same-length Inv-loop μ-loop

@@ -34,7 +34,7 @@ returns c =
     let made = c .before .before .before .before .before .before .before in
     let stepped = made .round-into in
     let s = made .before .before .before .before .before .before .before in
-    rounded (now (s .args .words)) (now (s .args .setting)) (s .args .m) (now (s .args .values)) _ _ (now (s .args .next)) _ (s .pre .0 .gates)
+    rounded (now (s .args .words)) (now (s .args .setting)) (s .args .m) (now (s .args .values)) _ _ (now (s .args .next)) _ (s .pre .1 .0 .gates)
     (stepped .ensures) (copied .ensures .0) (copied .ensures .1)
 
 pub next-round-spec : {M : Type 1} → statement M

@@ -13,10 +13,10 @@ use Rattle.simulate.proofs.round.round_into.Statement.{statement}
 use Rattle.simulate.proofs.round.round_into.Tie as tie
 
 abbrev Inv-loop : tie.InvT-loop
-Inv-loop words n m setting values next₀ j₀ next j = (j ≤ m) × Filling next₀ next (tab (gateCode words setting values) j) j
+Inv-loop table words n m setting values next₀ j₀ next j = (j ≤ m) × Filling next₀ next (tab (gateCode words setting values) j) j
 
 abbrev μ-loop : tie.MeasureT-loop
-μ-loop words n m setting values next₀ j₀ next j = m - j
+μ-loop table words n m setting values next₀ j₀ next j = m - j
 
 loop-holds : tie.Need-loop-holds Inv-loop μ-loop
 loop-holds c = (omega arith, filling-none _)
@@ -24,7 +24,7 @@ loop-holds c = (omega arith, filling-none _)
 value-of-gate-requires : tie.Need-value-of-gate-requires Inv-loop μ-loop
 value-of-gate-requires c κs =
     let p = c .before .before .before .before .before .before .pre in
-    record { whole = p .whole; inputs = p .inputs; below = omega arith }
+    (p .0, record { whole = p .1 .whole; inputs = p .1 .inputs; below = omega arith })
 
 slice-write-next : tie.Need-slice-write-next Inv-loop μ-loop
 slice-write-next c = omega arith

@@ -6,6 +6,9 @@ use borrow.Author.Needs.{needs}
 use Rattle.simulate.proofs.round.settle_into.Statement.{statement}
 use Rattle.simulate.proofs.round.settle_into.Tie as tie
 
+gate-table-requires : tie.Need-gate-table-requires
+gate-table-requires c κs = search needs
+
 inputs-of-requires : tie.Need-inputs-of-requires
 inputs-of-requires c κs = search needs
 
@@ -17,10 +20,15 @@ slice-aggregate-settle-with c = search needs
 
 settle-with-requires : tie.Need-settle-with-requires
 settle-with-requires c κs =
-    let s = c .before .before .before .before .before .before .before in
+    let s = c .before .before .before .before .before .before .before .before .before in
     let i = whole-parts (now (s .args .words)) (s .pre .0) in
-    let m = c .before .before .gates-of .ensures in
-    (record { whole = s .pre .0; inputs = c .before .before .before .inputs-of .ensures; gates = m; fits = omega arith }, omega (arith, i .fewGates))
+    let m = c .before .before .gates-of .ensures in (
+      c .before .before .before .before .before .gate-table .ensures,
+      (
+        record { whole = s .pre .0; inputs = c .before .before .before .inputs-of .ensures; gates = m; fits = omega arith },
+        omega (arith, i .fewGates),
+      ),
+    )
 
 same-length : tie.Need-same-length
 same-length c = search needs
@@ -32,6 +40,7 @@ pub settle-into-spec : {M : Type 1} → statement M
 settle-into-spec =
     tie.close
     (tie.spec
+    gate-table-requires
     inputs-of-requires
     gates-of-requires
     slice-aggregate-settle-with

@@ -18,11 +18,11 @@ use Rattle.simulate.proofs.round.settle_with.Statement.{statement}
 use Rattle.simulate.proofs.round.settle_with.Tie as tie
 
 abbrev Inv-loop : tie.InvT-loop
-Inv-loop words n m setting values₀ next₀ count₀ values next count =
+Inv-loop table words n m setting values₀ next₀ count₀ values next count =
     Rounding words setting values₀ values count × (length values ≡ length values₀) × (length next ≡ length next₀)
 
 abbrev μ-loop : tie.MeasureT-loop
-μ-loop words n m setting values₀ next₀ count₀ values next count = getD words 1 0 - count
+μ-loop table words n m setting values₀ next₀ count₀ values next count = getD words 1 0 - count
 
 fill-bytes-requires : tie.Need-fill-bytes-requires Inv-loop μ-loop
 fill-bytes-requires c κs = search needs
@@ -44,20 +44,20 @@ loop-holds : tie.Need-loop-holds Inv-loop μ-loop
 loop-holds c =
     let s = entry (c .before .before) in
     let cleared = c .before .before .fill-bytes in
-    (rounding-none _ _ (s .args .m) (now (s .args .values)) (cleared .last .0) (s .pre .0 .gates) (cleared .ensures), refl, refl)
+    (rounding-none _ _ (s .args .m) (now (s .args .values)) (cleared .last .0) (s .pre .1 .0 .gates) (cleared .ensures), refl, refl)
 
 next-round-requires : tie.Need-next-round-requires Inv-loop μ-loop
 next-round-requires c κs =
     let l = c .before .before in
-    let p = start l .pre .0 in
+    let p = start l .pre .1 .0 in
     let k = clearing l .fill-bytes .kept in
-    (record { whole = p .whole; inputs = p .inputs; gates = p .gates; fits = omega arith }, omega arith)
+    (start l .pre .0, (record { whole = p .whole; inputs = p .inputs; gates = p .gates; fits = omega arith }, omega arith))
 
 -- a round that changed something
 more : (d : tie.After-next-round Inv-loop μ-loop) → d .next-round .result ≡ true
     → Rounding (now (start (head d) .args .words)) (now (start (head d) .args .setting)) (clearing (head d) .fill-bytes .last .0)
-    (d .next-round .last .1 .1 .1 .1 .0) (head d .loop .count + 1)
-more d t = rounding-more _ _ _ (start (head d) .pre .0 .gates) (head d .loop .inv .0) (rw t at (d .next-round .ensures))
+    (d .next-round .last .1 .1 .1 .1 .1 .0) (head d .loop .count + 1)
+more d t = rounding-more _ _ _ (start (head d) .pre .1 .0 .gates) (head d .loop .inv .0) (rw t at (d .next-round .ensures))
 
 -- so the count before it is below the number of gates
 below : (d : tie.After-next-round Inv-loop μ-loop) → d .next-round .result ≡ true → head d .loop .count < getD (now (start (head d) .args .words)) 1 0
@@ -66,17 +66,17 @@ below d t =
     omega (arith, more d t .reached, rounds-le (decode (now (a .words))) (map valueOf (now (a .setting))), decode-gateCount (now (a .words)))
 
 -- the slices keep their lengths
-values-kept : (d : tie.After-next-round Inv-loop μ-loop) → length (d .next-round .last .1 .1 .1 .1 .0) ≡ length (clearing (head d) .fill-bytes .last .0)
-values-kept d = d .next-round .kept .1 .1 .1 .1 .0 ∙ head d .loop .inv .1
+values-kept : (d : tie.After-next-round Inv-loop μ-loop) → length (d .next-round .last .1 .1 .1 .1 .1 .0) ≡ length (clearing (head d) .fill-bytes .last .0)
+values-kept d = d .next-round .kept .1 .1 .1 .1 .1 .0 ∙ head d .loop .inv .1
 
-next-kept : (d : tie.After-next-round Inv-loop μ-loop) → length (d .next-round .last .1 .1 .1 .1 .1 .0) ≡ length (now (start (head d) .args .next))
-next-kept d = d .next-round .kept .1 .1 .1 .1 .1 .0 ∙ head d .loop .inv .2
+next-kept : (d : tie.After-next-round Inv-loop μ-loop) → length (d .next-round .last .1 .1 .1 .1 .1 .1 .0) ≡ length (now (start (head d) .args .next))
+next-kept d = d .next-round .kept .1 .1 .1 .1 .1 .1 .0 ∙ head d .loop .inv .2
 
 add-count : tie.Need-add-count Inv-loop μ-loop
 add-count c =
     let d = c .before .before .before .before .before in
     let s = start (head d) in
-    omega (arith, below d (c .if1 .taken), whole-parts (now (s .args .words)) (s .pre .0 .whole) .fewGates)
+    omega (arith, below d (c .if1 .taken), whole-parts (now (s .args .words)) (s .pre .1 .0 .whole) .fewGates)
 
 loop-less : tie.Need-loop-less Inv-loop μ-loop
 loop-less c = omega (arith, below (c .before .before .before .before .before) (c .if1 .taken))
@@ -94,8 +94,8 @@ returns : tie.Need-returns Inv-loop μ-loop
 returns c =
     let d = c .before .before .before .before .before in
     let s = start (head d) in
-    settled-over _ _ (s .args .m) (now (s .args .values)) (s .pre .0 .gates) (clearing (head d) .fill-bytes .ensures)
-    (rounding-end _ _ _ (s .pre .0 .gates) (head d .loop .inv .0) (rw (c .if1 .left) at (d .next-round .ensures)))
+    settled-over _ _ (s .args .m) (now (s .args .values)) (s .pre .1 .0 .gates) (clearing (head d) .fill-bytes .ensures)
+    (rounding-end _ _ _ (s .pre .1 .0 .gates) (head d .loop .inv .0) (rw (c .if1 .left) at (d .next-round .ensures)))
 
 pub settle-with-spec : {M : Type 1} → statement M
 settle-with-spec =

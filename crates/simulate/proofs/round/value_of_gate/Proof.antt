@@ -17,25 +17,25 @@ gates-at-requires c κs = search needs
 mul-gate-value : tie.Need-mul-gate-value
 mul-gate-value c =
     let s = c .before .before .before .before in
-    omega (arith, whole-parts (now (s .args .words)) (s .pre .whole))
+    omega (arith, whole-parts (now (s .args .words)) (s .pre .1 .whole))
 
 add-gate-value : tie.Need-add-gate-value
 unfolding gatesAt neversAt
 add-gate-value c =
     let s = c .before .before .before .before in
-    omega (arith, whole-parts (now (s .args .words)) (s .pre .whole))
+    omega (arith, whole-parts (now (s .args .words)) (s .pre .1 .whole))
 
 gate-value-requires : tie.Need-gate-value-requires
 gate-value-requires c κs =
     let s = c .before .before .before .before in
-    rw (c .gates-at .ensures) (legal-head (now (s .args .words)) (s .args .j) (s .pre .whole) (s .pre .below))
+    (s .pre .0, rw (c .gates-at .ensures) (legal-head (now (s .args .words)) (s .args .j) (s .pre .1 .whole) (s .pre .1 .below)))
 
 returns : tie.Need-returns
 unfolding gateCode
 returns c =
     let s = c .before .before .before .before .before in
     c .gate-value .ensures
-    ∙ rw (c .before .gates-at .ensures, s .pre .inputs, decode-gate (now (s .args .words)) (s .args .j) (s .pre .below))
+    ∙ rw (c .before .gates-at .ensures, s .pre .1 .inputs, decode-gate (now (s .args .words)) (s .args .j) (s .pre .1 .below))
 
 pub value-of-gate-spec : {M : Type 1} → statement M
 value-of-gate-spec =

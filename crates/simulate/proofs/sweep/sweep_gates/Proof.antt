@@ -11,10 +11,10 @@ use Rattle.simulate.proofs.sweep.sweep_gates.Statement.{statement}
 use Rattle.simulate.proofs.sweep.sweep_gates.Tie as tie
 
 abbrev Inv-loop : tie.InvT-loop
-Inv-loop words n m setting values₀ j₀ values j = (j ≤ m) × Filling values₀ values (swept words setting j) j
+Inv-loop table words n m setting values₀ j₀ values j = (j ≤ m) × Filling values₀ values (swept words setting j) j
 
 abbrev μ-loop : tie.MeasureT-loop
-μ-loop words n m setting values₀ j₀ values j = m - j
+μ-loop table words n m setting values₀ j₀ values j = m - j
 
 loop-holds : tie.Need-loop-holds Inv-loop μ-loop
 loop-holds c = (omega arith, filling-none _)
@@ -28,7 +28,7 @@ slice-aggregate-value-of-gate c = sym (length-take-le _ (c .before .before .loop
 value-of-gate-requires : tie.Need-value-of-gate-requires Inv-loop μ-loop
 value-of-gate-requires c κs =
     let p = c .before .before .before .before .before .before .pre in
-    record { whole = p .whole; inputs = p .inputs; below = omega arith }
+    (p .0, record { whole = p .1 .whole; inputs = p .1 .inputs; below = omega arith })
 
 slice-write-values : tie.Need-slice-write-values Inv-loop μ-loop
 slice-write-values c = omega arith
