@@ -23,7 +23,7 @@ add-if1 c =
 coming-lanes-requires : tie.Need-coming-lanes-requires
 coming-lanes-requires c κs =
     let p = c .before .before .before .before .before .before .pre .0 in
-    (p .0 .fewInputs, p .1, p .0 .legible .inputs ∙ decode-inputCount _)
+    (p .0 .fewInputs, omega (arith, p .1), p .0 .legible .inputs ∙ decode-inputCount _)
 
 count-lanes-requires : tie.Need-count-lanes-requires
 count-lanes-requires c κs = search needs

@@ -72,7 +72,7 @@ write-flags-requires c κs =
     let d = c .before .before .before .before .before .before .before .before in
     let r = room d in
     let e = head d .before .lane-count .ensures in
-    (omega (arith, e, lanesOf-most (start (head d) .args .n)), r .1, omega (arith, e, r .0, head d .loop .inv .2))
+    (omega (arith, e, lanesOf-most (start (head d) .args .n)), omega (arith, r .1), omega (arith, e, r .0, head d .loop .inv .2))
 
 add-base : tie.Need-add-base Inv-loop μ-loop
 add-base c =

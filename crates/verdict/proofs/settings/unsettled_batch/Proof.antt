@@ -98,7 +98,7 @@ undefined-lanes-requires c κs =
     let h = head (found l) in
     let known = h .before .before .before .before .before .before .before .before .before .shared-slice-known in
     let s = found l .decide-batch .ensures in (
-      omega (arith, h .before .before .outputs-at .ensures, known .given 0, known .given 1, known .given 3),
+      omega (arith, h .before .before .outputs-at .ensures, known .given 0, known .given 1, known .given 3, start h .pre .legible .near),
       omega (arith, h .before .outputs-of .ensures, known .given 2, l .loop .inv .0),
       s .zerosLong ∙ sym (s .onesLong),
     )
