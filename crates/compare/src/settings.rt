@@ -7,7 +7,7 @@ use layout::offsets::inputs_of;
 use layout::offsets::outputs_of;
 use netlist::Answer;
 use simulate::sweep::sweep_into;
-use verdict::settings::counted_flag;
+use verdict::flags::counted_flag;
 use verdict::settings::setting_count;
 use visiting::order_gates;
 ghost use mathlib.Core.Path.{_≡_};

@@ -1,18 +1,18 @@
 -- The arrays that Cover lends to its inner functions, and the table of settings that never come or are settled. Cited by the contracts of this crate. Assumes nothing.
 use mathlib.Core.Path.{_≡_}
 use mathlib.Core.List.{List}
-use Prim.Native.Nat.{ℕ, _^_, _≤_, _<_}
+use Prim.Native.Nat.{ℕ, _+_, _^_, _≤_, _<_}
 use lib.ListN.{length}
 use Rattle.netlist.specs.Limits.{maxInputs, maxGates}
 use Rattle.netlist.specs.Netlist.{Block}
 use Rattle.netlist.specs.Rounds.{settingCount, isSoundAt}
 use Rattle.assignments.specs.Tables.{settledBy}
 
--- room for the gates' order and values, the inputs' values, and a byte for each setting of the most inputs
-pub record CoverRoom (order inputs values settled : List ℕ) : Type 0 where
+-- room for the gates' order, two words for each input and each gate, and a byte for each setting of the most inputs
+pub record CoverRoom (order zeros ones settled : List ℕ) : Type 0 where
   pub orderRoom : length order ≡ maxGates
-  pub inputRoom : length inputs ≡ maxInputs
-  pub valueRoom : length values ≡ maxGates
+  pub zeroRoom : length zeros ≡ maxInputs + maxGates
+  pub oneRoom : length ones ≡ maxInputs + maxGates
   pub settledRoom : length settled ≡ 2 ^ maxInputs
 
 -- the table has a byte for each setting, 1 exactly where it never comes or is settled

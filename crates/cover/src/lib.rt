@@ -20,21 +20,21 @@ ghost use Rattle.cover.specs.Table.{CoverRoom};
 
 mod table;
 
-// Cover of a block that is not torn, with arrays for an order of the gates, the inputs' values, the gates' values, and a byte a setting.
+// Cover of a block that is not torn, with arrays for an order of the gates, two words an input and a gate, and a byte a setting.
 // `cover_entries` alters nothing where the entries' words, two an entry, do not fit.
 fn whole_cover(
     words: &[u16],
     order: &mut [u16],
-    inputs: &mut [u8],
-    values: &mut [u8],
+    zeros: &mut [u64],
+    ones: &mut [u64],
     settled: &mut [u8],
     entries: &mut [u16],
 ) -> Answer
     requires { ⌜ isTorn (now words) ≡ false ⌝ }
-    requires { ⌜ CoverRoom (now order) (now inputs) (now values) (now settled) ⌝ }
+    requires { ⌜ CoverRoom (now order) (now zeros) (now ones) (now settled) ⌝ }
     ensures { λ r. ⌜ Promise (coverOf (now (words .entry)) (length (now (entries .entry)))) (now (entries .entry)) r (now (entries .exit)) ⌝ }
 {
-    tabulate(words, order, inputs, values, settled);
+    tabulate(words, order, zeros, ones, settled);
     let n = offsets::inputs_of(words);
     let count = cover_entries(settled, n, entries);
     let tested = test_room(entries.len() / 2, count);
@@ -53,14 +53,14 @@ pub fn cover(words: &[u16], entries: &mut [u16]) -> Answer
         return refusal(tested);
     };
     let mut order = [0u16; MAX_GATES];
-    let mut inputs = [0u8; MAX_INPUTS];
-    let mut values = [0u8; MAX_GATES];
+    let mut zeros = [0u64; MAX_INPUTS + MAX_GATES];
+    let mut ones = [0u64; MAX_INPUTS + MAX_GATES];
     let mut settled = [0u8; MAX_SETTINGS];
     whole_cover(
         words,
         &mut order,
-        &mut inputs,
-        &mut values,
+        &mut zeros,
+        &mut ones,
         &mut settled,
         entries,
     )

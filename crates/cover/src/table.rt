@@ -1,4 +1,4 @@
-// Which settings never come or are settled: each of the others is simulated once, along the order of `visiting`.
+// Which settings never come or are settled: they are decided up to 64 at a time, along the order of `visiting`.
 use layout::offsets;
 use verdict::settings::fill_sound;
 use visiting::order_gates;
@@ -11,12 +11,12 @@ ghost use Rattle.cover.specs.Table.{CoverRoom, Tabulated};
 pub fn tabulate(
     words: &[u16],
     order: &mut [u16],
-    inputs: &mut [u8],
-    values: &mut [u8],
+    zeros: &mut [u64],
+    ones: &mut [u64],
     settled: &mut [u8],
 )
     requires { ⌜ isTorn (now words) ≡ false ⌝ }
-    requires { ⌜ CoverRoom (now order) (now inputs) (now values) (now settled) ⌝ }
+    requires { ⌜ CoverRoom (now order) (now zeros) (now ones) (now settled) ⌝ }
     ensures { λ _. ⌜ Tabulated (decode (now (words .entry))) (now (settled .exit)) ⌝ }
 {
     let n = offsets::inputs_of(words);
@@ -28,8 +28,8 @@ pub fn tabulate(
         n,
         gates,
         &order[..m],
-        &mut inputs[..n],
-        &mut values[..m],
+        &mut zeros[..n + m],
+        &mut ones[..n + m],
         settled,
     );
 }

@@ -1,5 +1,5 @@
 -- What Render's inner functions need.
-use Prim.Native.Nat.{ℕ, _≤_}
+use Prim.Native.Nat.{ℕ, _+_, _≤_}
 use mathlib.Core.Path.{_≡_}
 use mathlib.Core.Bool.{true, false}
 use mathlib.Core.List.{List}
@@ -12,19 +12,19 @@ use Rattle.decide.specs.InPlace.{Visits}
 use Rattle.schedule.specs.Listing.{Numbers}
 
 -- what the search for the lowest setting asks
-pub record LowestReady (ws order inputs values : List ℕ) : Type 0 where
+pub record LowestReady (ws order zeros ones : List ℕ) : Type 0 where
   pub whole : isTorn ws ≡ false
   pub visits : Visits (getD ws 1 0) (take (getD ws 1 0) order)
   pub orderRoom : getD ws 1 0 ≤ length order
-  pub inputRoom : getD ws 0 0 ≤ length inputs
-  pub valueRoom : getD ws 1 0 ≤ length values
+  pub zeroRoom : getD ws 0 0 + getD ws 1 0 ≤ length zeros
+  pub oneRoom : getD ws 0 0 + getD ws 1 0 ≤ length ones
 
 -- what the search for an unsettled setting asks
-pub record SearchReady (ws order inputs values : List ℕ) : Type 0 where
+pub record SearchReady (ws order zeros ones : List ℕ) : Type 0 where
   pub whole : isTorn ws ≡ false
   pub orderRoom : getD ws 1 0 ≤ length order
-  pub inputRoom : getD ws 0 0 ≤ length inputs
-  pub valueRoom : getD ws 1 0 ≤ length values
+  pub zeroRoom : getD ws 0 0 + getD ws 1 0 ≤ length zeros
+  pub oneRoom : getD ws 0 0 + getD ws 1 0 ≤ length ones
 
 -- nothing can refuse any more but the room
 pub record WriteReady (ws numbers : List ℕ) (count total : ℕ) (order newest : List ℕ) : Type 0 where
@@ -37,10 +37,10 @@ pub record WriteReady (ws numbers : List ℕ) (count total : ℕ) (order newest 
   pub tableRoom : getD ws 1 0 ≤ length newest
 
 -- arrays with room for every gate, input and copy
-pub record ArrayRoom (ws numbers order newest inputs values : List ℕ) : Type 0 where
+pub record ArrayRoom (ws numbers order newest zeros ones : List ℕ) : Type 0 where
   pub whole : isTorn ws ≡ false
   pub numberRoom : getD ws 1 0 ≤ length numbers
   pub orderRoom : maxGates ≤ length order
   pub tableRoom : getD ws 1 0 ≤ length newest
-  pub inputRoom : getD ws 0 0 ≤ length inputs
-  pub valueRoom : getD ws 1 0 ≤ length values
+  pub zeroRoom : getD ws 0 0 + getD ws 1 0 ≤ length zeros
+  pub oneRoom : getD ws 0 0 + getD ws 1 0 ≤ length ones

@@ -20,15 +20,15 @@ pub fn render(words: &[u16], rendered: &mut [u16]) -> Answer
     let mut numbers = [0u16; MAX_GATES];
     let mut order = [0u16; MAX_GATES];
     let mut newest = [0u16; MAX_GATES];
-    let mut inputs = [0u8; MAX_INPUTS];
-    let mut values = [0u8; MAX_GATES];
+    let mut zeros = [0u64; MAX_INPUTS + MAX_GATES];
+    let mut ones = [0u64; MAX_INPUTS + MAX_GATES];
     steps::render_with(
         words,
         &mut numbers,
         &mut order,
         &mut newest,
-        &mut inputs,
-        &mut values,
+        &mut zeros,
+        &mut ones,
         rendered,
     )
 }

@@ -32,8 +32,8 @@ ghost use Rattle.netlist.specs.Operations.{render};
 ghost use Rattle.render.specs.Tests.{LowestReady, SearchReady, WriteReady, ArrayRoom};
 
 // The lowest setting that may come and is not settled, or 2^n; the gates are evaluated along `order`.
-fn lowest_along(words: &[u16], order: &[u16], inputs: &mut [u8], values: &mut [u8]) -> usize
-    requires { ⌜ LowestReady (now words) (now order) (now inputs) (now values) ⌝ }
+fn lowest_along(words: &[u16], order: &[u16], zeros: &mut [u64], ones: &mut [u64]) -> usize
+    requires { ⌜ LowestReady (now words) (now order) (now zeros) (now ones) ⌝ }
     ensures { λ r. ⌜ r ≡ lowestUnsettled (decode (now (words .entry))) ⌝ }
 {
     let n = inputs_of(words);
@@ -44,18 +44,18 @@ fn lowest_along(words: &[u16], order: &[u16], inputs: &mut [u8], values: &mut [u
         n,
         gates,
         &order[..m],
-        &mut inputs[..n],
-        &mut values[..m],
+        &mut zeros[..n + m],
+        &mut ones[..n + m],
     )
 }
 
 // 9: is some setting that may come not settled? Tells the lowest.
-fn find_unsettled(words: &[u16], order: &mut [u16], inputs: &mut [u8], values: &mut [u8]) -> Test
-    requires { ⌜ SearchReady (now words) (now order) (now inputs) (now values) ⌝ }
+fn find_unsettled(words: &[u16], order: &mut [u16], zeros: &mut [u64], ones: &mut [u64]) -> Test
+    requires { ⌜ SearchReady (now words) (now order) (now zeros) (now ones) ⌝ }
     ensures { λ r. ⌜ r ≡ testOf (not (isSound (decode (now (words .entry))))) (NotSettled (lowestUnsettled (decode (now (words .entry))))) ⌝ }
 {
     order_gates(words, order);
-    let lowest = lowest_along(words, order, inputs, values);
+    let lowest = lowest_along(words, order, zeros, ones);
     let count = setting_count(inputs_of(words));
     refuse_if(lowest < count, Refusal::NotSettled(lowest))
 }
@@ -95,11 +95,11 @@ pub fn render_with(
     numbers: &mut [u16],
     order: &mut [u16],
     newest: &mut [u16],
-    inputs: &mut [u8],
-    values: &mut [u8],
+    zeros: &mut [u64],
+    ones: &mut [u64],
     rendered: &mut [u16],
 ) -> Answer
-    requires { ⌜ ArrayRoom (now words) (now numbers) (now order) (now newest) (now inputs) (now values) ⌝ }
+    requires { ⌜ ArrayRoom (now words) (now numbers) (now order) (now newest) (now zeros) (now ones) ⌝ }
     ensures { λ r. ⌜ Promise (render (now (words .entry)) (length (now (rendered .entry)))) (now (rendered .entry)) r (now (rendered .exit)) ⌝ }
 {
     let count = assign(words, numbers);
@@ -108,7 +108,7 @@ pub fn render_with(
     let Test::Passed = tested else {
         return refusal(tested);
     };
-    let tested = find_unsettled(words, order, inputs, values);
+    let tested = find_unsettled(words, order, zeros, ones);
     let Test::Passed = tested else {
         return refusal(tested);
     };

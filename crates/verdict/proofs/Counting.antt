@@ -16,7 +16,8 @@ use Rattle.netlist.specs.Netlist.{Block, inputCount}
 use Rattle.netlist.specs.Rounds.{settingCount, isSettled, isExcluded, isCounted, isSoundAt, settledSettings, lowestUnsettled}
 use Rattle.netlist.specs.StoredBlock.{decode}
 use Rattle.encoding.proofs.Decoded.{decode-inputCount}
-use Rattle.verdict.specs.Flags.{settledFlag, countedFlag, soundFlag, mayCome}
+use Rattle.judge.specs.Lanes.{mayCome}
+use Rattle.verdict.specs.Flags.{settledFlag, countedFlag, soundFlag}
 
 not-false-true : (a : Bool) → not a ≡ false → a ≡ true
 not-false-true true h = refl
@@ -49,21 +50,11 @@ module _ (b : Block) where
       go false t h = sym h
 
   -- below the lowest other, those that may come are settled
-  pub count-lowest : countBelow (mayCome b) (lowestUnsettled b) ≡ countBelow (isCounted b) (lowestUnsettled b)
+  pub below-lowest : (s : ℕ) → s < lowestUnsettled b → mayCome b s ≡ isCounted b s
   unfolding lowestUnsettled
-  count-lowest =
-      countBelow-ext (mayCome b) (isCounted b) (lowestUnsettled b)
-      (λ i l. sound-counted i (not-false-true (isSoundAt b i) (least-below (λ s. not (isSoundAt b s)) (settingCount b) i l)))
+  below-lowest s l = sound-counted s (not-false-true (isSoundAt b s) (least-below (λ s. not (isSoundAt b s)) (settingCount b) s l))
 
   -- what is told of a setting by the two tests
-  pub excluded-sound : (s : ℕ) → isExcluded b s ≡ true → isSoundAt b s ≡ true
-  unfolding isSoundAt
-  excluded-sound s e = rw e refl
-
-  pub coming-sound : (s : ℕ) {t : Bool} → isExcluded b s ≡ false → isSettled b s ≡ t → isSoundAt b s ≡ t
-  unfolding isSoundAt
-  coming-sound s e t = rw e t
-
   pub excluded-flags : (s : ℕ) → isExcluded b s ≡ true → (0 ≡ countedFlag b s) × (1 ≡ soundFlag b s)
   unfolding countedFlag soundFlag isCounted isSoundAt
   excluded-flags s e = rw e (refl, refl)
@@ -72,46 +63,8 @@ module _ (b : Block) where
   unfolding countedFlag soundFlag settledFlag isCounted isSoundAt
   coming-flags s e = rw e (refl, refl)
 
-  pub excluded-coming : (s : ℕ) → isExcluded b s ≡ true → _≡_ {A = ℕ} 0 (cond (mayCome b s) 1 0)
-  unfolding mayCome
-  excluded-coming s e = rw e refl
-
-  pub coming-coming : (s : ℕ) → isExcluded b s ≡ false → _≡_ {A = ℕ} 1 (cond (mayCome b s) 1 0)
-  unfolding mayCome
-  coming-coming s e = rw e refl
-
-  -- one setting more that may come, or not
-  pub coming-more : {coming flag : ℕ} (s : ℕ) → coming ≡ countBelow (mayCome b) s → flag ≡ cond (mayCome b s) 1 0 → coming + flag ≡ countBelow (mayCome b) (s + 1)
-  coming-more s e f = rw (e, f, add-one) refl
-
-  pub coming-le : (s : ℕ) → (countBelow (mayCome b) s ≤ s) × (cond (mayCome b s) 1 0 ≤ 1)
-  coming-le s = (countBelow-le (mayCome b) s, go (mayCome b s))
-    where
-      go : (a : Bool) → cond a 1 0 ≤ 1
-      go true = omega arith
-      go false = omega arith
-
-  pub flag-le : (s : ℕ) → countedFlag b s ≤ 1
-  unfolding countedFlag
-  flag-le s = go (isCounted b s)
-    where
-      go : (a : Bool) → cond a 1 0 ≤ 1
-      go true = omega arith
-      go false = omega arith
-
   pub count-le : (s : ℕ) → countBelow (isCounted b) s ≤ s
   count-le s = countBelow-le (isCounted b) s
-
-  -- one setting more
-  pub count-more : {count flag : ℕ} (s : ℕ) → count ≡ countBelow (isCounted b) s → flag ≡ countedFlag b s → count + flag ≡ countBelow (isCounted b) (s + 1)
-  unfolding countedFlag
-  count-more s e f = rw (e, f, add-one) refl
-
-  -- one flag more
-  pub flags-more : {flags : List ℕ} {flag : ℕ} (s : ℕ) (entry : List ℕ) → s < length entry → flags ≡ placed (tab (soundFlag b) s) entry
-      → flag ≡ soundFlag b s
-      → set flags s flag ≡ placed (tab (soundFlag b) (s + 1)) entry
-  flags-more s entry l e f = rw (e, f, add-one) (set-placed-tab (soundFlag b) s entry l)
 
   -- all settings
   pub count-end : (s count : ℕ) → count ≡ settingCount b → s ≡ count → countBelow (isCounted b) s ≡ settledSettings b

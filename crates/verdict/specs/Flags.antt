@@ -1,11 +1,11 @@
 -- Whether a setting is settled or never comes, as a number. Cited by the contracts of this crate, of `cover` and of `compare`. Assumes nothing.
 use Prim.Native.Nat.{ℕ}
 use mathlib.Core.Path.{_≡_}
-use mathlib.Core.Bool.{Bool, cond, not}
+use mathlib.Core.Bool.{cond}
 use mathlib.Core.List.{List, map}
 use Rattle.netlist.specs.Values.{code}
 use Rattle.netlist.specs.Netlist.{Block}
-use Rattle.netlist.specs.Rounds.{settledUnder, isSettled, isExcluded, isCounted, isSoundAt}
+use Rattle.netlist.specs.Rounds.{settledUnder, isSettled, isCounted, isSoundAt}
 
 -- 1 for a settled setting, 0 for another
 unfoldable pub settledFlag : Block → ℕ → ℕ
@@ -17,9 +17,6 @@ countedFlag b s = cond (isCounted b s) 1 0
 
 unfoldable pub soundFlag : Block → ℕ → ℕ
 soundFlag b s = cond (isSoundAt b s) 1 0
-
-unfoldable pub mayCome : Block → ℕ → Bool
-mayCome b s = not (isExcluded b s)
 
 -- setting number s was looked at: the bytes are its settled values, and r is its flag
 pub record Flagged (b : Block) (s : ℕ) (values : List ℕ) (r : ℕ) : Type 0 where

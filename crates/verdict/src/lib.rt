@@ -9,20 +9,22 @@ use refusals::refusal;
 use visiting::order_gates;
 ghost use mathlib.Core.Path.{_≡_};
 ghost use mathlib.Core.Bool.{false};
+ghost use Prim.Native.Nat.{_+_};
 ghost use lib.ListN.{length};
 ghost use Rattle.netlist.specs.Limits.{maxInputs, maxGates};
 ghost use Rattle.netlist.specs.Answers.{Told};
 ghost use Rattle.netlist.specs.StoredBlock.{isTorn};
 ghost use Rattle.netlist.specs.Operations.{verdict as verdictOf};
 
+pub mod flags;
 pub mod settings;
 
-// Verdict of a block that is not torn, with room for an order, the inputs' values and the gates'.
-fn whole_verdict(words: &[u16], order: &mut [u16], inputs: &mut [u8], values: &mut [u8]) -> Answer
+// Verdict of a block that is not torn, with room for an order, and for two words an input and a gate.
+fn whole_verdict(words: &[u16], order: &mut [u16], zeros: &mut [u64], ones: &mut [u64]) -> Answer
     requires { ⌜ isTorn (now words) ≡ false ⌝ }
     requires { ⌜ length (now order) ≡ maxGates ⌝ }
-    requires { ⌜ length (now inputs) ≡ maxInputs ⌝ }
-    requires { ⌜ length (now values) ≡ maxGates ⌝ }
+    requires { ⌜ length (now zeros) ≡ maxInputs + maxGates ⌝ }
+    requires { ⌜ length (now ones) ≡ maxInputs + maxGates ⌝ }
     ensures { λ r. ⌜ Told (verdictOf (now (words .entry))) r ⌝ }
 {
     let n = offsets::inputs_of(words);
@@ -34,8 +36,8 @@ fn whole_verdict(words: &[u16], order: &mut [u16], inputs: &mut [u8], values: &m
         n,
         gates,
         &order[..m],
-        &mut inputs[..n],
-        &mut values[..m],
+        &mut zeros[..n + m],
+        &mut ones[..n + m],
     )
 }
 
@@ -48,7 +50,7 @@ pub fn verdict(words: &[u16]) -> Answer
         return refusal(tested);
     };
     let mut order = [0u16; MAX_GATES];
-    let mut inputs = [0u8; MAX_INPUTS];
-    let mut values = [0u8; MAX_GATES];
-    whole_verdict(words, &mut order, &mut inputs, &mut values)
+    let mut zeros = [0u64; MAX_INPUTS + MAX_GATES];
+    let mut ones = [0u64; MAX_INPUTS + MAX_GATES];
+    whole_verdict(words, &mut order, &mut zeros, &mut ones)
 }

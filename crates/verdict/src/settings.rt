@@ -1,27 +1,30 @@
-// Which settings are settled and which never come, for a block of n inputs whose gates' words start at `gates`. `inputs` and `values` have exactly one byte for
-// each input and each gate; the gates are evaluated along `order`.
-use decide::in_place::settle_setting;
-use excluded::is_excluded;
+// Which settings are settled and which never come, for a block of n inputs whose gates' words start at `gates`, a batch of up to 64 at a time.
+// `zeros` and `ones` have exactly one word for each input and each gate; the gates are evaluated along `order`.
+use batch::in_place::decide_batch;
+use judge::nevers::coming_lanes;
+use judge::outputs::undefined_lanes;
+use judge::settled::counted_lanes;
+use judge::settled::sound_lanes;
+use judge::settled::unsound_lanes;
+use judge::words::count_lanes;
+use judge::words::lane_count;
+use judge::words::lowest_lane;
+use lanes::inputs::used_lanes;
 use layout::offsets::outputs_at;
 use layout::offsets::outputs_of;
 use netlist::Answer;
-use ternary::output::output_value;
 ghost use mathlib.Core.Path.{_≡_};
-ghost use mathlib.Core.Bool.{cond};
-ghost use Prim.Native.Nat.{_≤_, _^_};
-ghost use lib.ListN.{length, getD};
+ghost use Prim.Native.Nat.{_+_, _%_, _^_, _≤_, _<_};
+ghost use lib.ListN.{length};
 ghost use Rattle.laws.specs.Lists.{countBelow, tab, placed};
 ghost use Rattle.netlist.specs.Limits.{maxInputs};
 ghost use Rattle.netlist.specs.declared.Answer.the-variants.{Done};
 ghost use Rattle.netlist.specs.StoredBlock.{decode};
 ghost use Rattle.netlist.specs.Rounds.{settledSettings, lowestUnsettled};
-ghost use Rattle.decide.specs.InPlace.{DecideReady};
-ghost use Rattle.verdict.specs.Flags.{mayCome, soundFlag, Flagged, Counted};
-
-// The flags of a setting.
-const SETTLED: u8 = 1;
-
-const UNSETTLED: u8 = 0;
+ghost use Rattle.lanes.specs.Batches.{lanesOf};
+ghost use Rattle.batch.specs.Batch.{Decidable};
+ghost use Rattle.verdict.specs.Flags.{soundFlag};
+ghost use Rattle.verdict.specs.Batches.{FirstBatch, countedFrom, flagged};
 
 // How many settings n inputs have.
 pub fn setting_count(n: usize) -> usize
@@ -31,124 +34,79 @@ pub fn setting_count(n: usize) -> usize
     1usize << n
 }
 
-// The lowest setting that may come and has an undefined output, or 2^n.
+// The first batch that has a setting which may come and is not settled, or 2^n; the slices hold its settled values.
+fn unsettled_batch(
+    words: &[u16],
+    n: usize,
+    gates: usize,
+    order: &[u16],
+    zeros: &mut [u64],
+    ones: &mut [u64],
+) -> usize
+    requires { ⌜ Decidable (now words) n gates (now order) (now zeros) (now ones) ⌝ }
+    ensures { λ r. ⌜ FirstBatch (decode (now (words .entry))) n r (now (zeros .exit)) (now (ones .exit)) ⌝ }
+{
+    let count = setting_count(n);
+    let lanes = lane_count(n);
+    let used = used_lanes(n);
+    let at = outputs_at(words);
+    let outputs = outputs_of(words);
+    let mut base = 0;
+    'batches: while base < count {
+        decide_batch(words, n, gates, order, base, zeros, ones);
+        let coming = coming_lanes(words, n, base);
+        let mut o = 0;
+        while o < outputs {
+            if coming & undefined_lanes(words, at, o, used, zeros, ones) != 0 {
+                break 'batches;
+            }
+            o += 1;
+        }
+        base += lanes;
+    }
+    base
+}
+
+// The lowest setting that may come and has an undefined output, or 2^n: in the first batch with such a setting, the lowest lane at which any output is
+// undefined.
 pub fn lowest_unsettled(
     words: &[u16],
     n: usize,
     gates: usize,
     order: &[u16],
-    inputs: &mut [u8],
-    values: &mut [u8],
+    zeros: &mut [u64],
+    ones: &mut [u64],
 ) -> usize
-    requires { ⌜ DecideReady (now words) n gates (now order) (now inputs) (now values) ⌝ }
+    requires { ⌜ Decidable (now words) n gates (now order) (now zeros) (now ones) ⌝ }
     ensures { λ r. ⌜ r ≡ lowestUnsettled (decode (now (words .entry))) ⌝ }
 {
-    let count = setting_count(n);
-    let at = outputs_at(words);
-    let outputs = outputs_of(words);
-    let mut s = 0;
-    'settings: while s < count {
-        if is_excluded(words, s) {
-            s += 1;
-            continue 'settings;
-        }
-        settle_setting(words, n, gates, order, s, inputs, values);
-        let mut o = 0;
-        while o < outputs {
-            if output_value(words, n, at, o, inputs, values) == 2 {
-                break 'settings;
-            }
-            o += 1;
-        }
-        s += 1;
+    let base = unsettled_batch(words, n, gates, order, zeros, ones);
+    if base < setting_count(n) {
+        return base + lowest_lane(unsound_lanes(words, n, base, zeros, ones));
     }
-    s
+    base
 }
 
-// The flag of setting number `s`: is no output undefined under it?
-fn settled_flag(
+// How many settings of the batch at `base` may come and are settled, when `lowest` is the lowest that may come and is not: below it none is decided.
+fn count_batch(
     words: &[u16],
     n: usize,
     gates: usize,
     order: &[u16],
-    s: usize,
-    inputs: &mut [u8],
-    values: &mut [u8],
-) -> u8
-    requires { ⌜ DecideReady (now words) n gates (now order) (now inputs) (now values) ⌝ }
-    ensures { λ r. ⌜ Flagged (decode (now (words .entry))) s (now (values .exit)) r ⌝ }
+    base: usize,
+    lowest: usize,
+    zeros: &mut [u64],
+    ones: &mut [u64],
+) -> usize
+    requires { ⌜ Decidable (now words) n gates (now order) (now zeros) (now ones) × (base % 64 ≡ 0) × (base < 2 ^ 32) ⌝ }
+    requires { ⌜ lowest ≡ lowestUnsettled (decode (now words)) ⌝ }
+    ensures { λ r. ⌜ r ≡ countBelow (countedFrom (decode (now (words .entry))) base) (lanesOf n) ⌝ }
 {
-    settle_setting(words, n, gates, order, s, inputs, values);
-    let at = outputs_at(words);
-    let outputs = outputs_of(words);
-    let mut o = 0;
-    while o < outputs {
-        if output_value(words, n, at, o, inputs, values) == 2 {
-            return UNSETTLED;
-        }
-        o += 1;
+    if base + lane_count(n) <= lowest {
+        return count_lanes(coming_lanes(words, n, base));
     }
-    SETTLED
-}
-
-// The same of settings that may come alone; `values` are its settled values unless the flag is 0.
-pub fn counted_flag(
-    words: &[u16],
-    n: usize,
-    gates: usize,
-    order: &[u16],
-    s: usize,
-    inputs: &mut [u8],
-    values: &mut [u8],
-) -> u8
-    requires { ⌜ DecideReady (now words) n gates (now order) (now inputs) (now values) ⌝ }
-    ensures { λ r. ⌜ Counted (decode (now (words .entry))) s (now (values .exit)) r ⌝ }
-{
-    if is_excluded(words, s) {
-        return UNSETTLED;
-    }
-    settled_flag(words, n, gates, order, s, inputs, values)
-}
-
-// The same where a setting that never comes counts as settled.
-fn sound_flag(
-    words: &[u16],
-    n: usize,
-    gates: usize,
-    order: &[u16],
-    s: usize,
-    inputs: &mut [u8],
-    values: &mut [u8],
-) -> u8
-    requires { ⌜ DecideReady (now words) n gates (now order) (now inputs) (now values) ⌝ }
-    ensures { λ r. ⌜ r ≡ soundFlag (decode (now (words .entry))) s ⌝ }
-{
-    if is_excluded(words, s) {
-        return SETTLED;
-    }
-    settled_flag(words, n, gates, order, s, inputs, values)
-}
-
-// 1 for a setting that may come.
-fn coming_flag(words: &[u16], s: usize) -> usize
-    requires { ⌜ getD (now words) 0 0 ≤ maxInputs ⌝ }
-    ensures { λ r. ⌜ r ≡ cond (mayCome (decode (now (words .entry))) s) 1 0 ⌝ }
-{
-    if is_excluded(words, s) { 0 } else { 1 }
-}
-
-// How many settings below `end` may come.
-fn count_coming(words: &[u16], end: usize) -> usize
-    requires { ⌜ getD (now words) 0 0 ≤ maxInputs ⌝ }
-    ensures { λ r. ⌜ r ≡ countBelow (mayCome (decode (now (words .entry)))) end ⌝ }
-{
-    let mut coming = 0;
-    let mut s = 0;
-    while s < end {
-        coming += coming_flag(words, s);
-        s += 1;
-    }
-    coming
+    decide_batch(words, n, gates, order, base, zeros, ones);
+    count_lanes(counted_lanes(words, n, base, zeros, ones))
 }
 
 // How many settings that may come are settled, when `lowest` is the lowest other.
@@ -158,21 +116,34 @@ pub fn count_settled(
     gates: usize,
     order: &[u16],
     lowest: usize,
-    inputs: &mut [u8],
-    values: &mut [u8],
+    zeros: &mut [u64],
+    ones: &mut [u64],
 ) -> usize
-    requires { ⌜ DecideReady (now words) n gates (now order) (now inputs) (now values) ⌝ }
+    requires { ⌜ Decidable (now words) n gates (now order) (now zeros) (now ones) ⌝ }
     requires { ⌜ lowest ≡ lowestUnsettled (decode (now words)) ⌝ }
     ensures { λ r. ⌜ r ≡ settledSettings (decode (now (words .entry))) ⌝ }
 {
     let count = setting_count(n);
-    let mut settled = count_coming(words, lowest);
-    let mut s = lowest;
-    while s < count {
-        settled += counted_flag(words, n, gates, order, s, inputs, values) as usize;
-        s += 1;
+    let lanes = lane_count(n);
+    let mut settled = 0;
+    let mut base = 0;
+    while base < count {
+        settled += count_batch(words, n, gates, order, base, lowest, zeros, ones);
+        base += lanes;
     }
     settled
+}
+
+// A byte for each of the first `lanes` bits of a word, from `base` on.
+fn write_flags(word: u64, base: usize, lanes: usize, flags: &mut [u8])
+    requires { ⌜ (lanes ≤ 64) × (base < 2 ^ 32) × (base + lanes ≤ length (now flags)) ⌝ }
+    ensures { λ r. ⌜ now (flags .exit) ≡ flagged word base lanes (now (flags .entry)) ⌝ }
+{
+    let mut s = 0;
+    while s < lanes {
+        flags[base + s] = ((word >> s) % 2) as u8;
+        s += 1;
+    }
 }
 
 // A flag for each setting: does it never come, or is it settled?
@@ -181,19 +152,22 @@ pub fn fill_sound(
     n: usize,
     gates: usize,
     order: &[u16],
-    inputs: &mut [u8],
-    values: &mut [u8],
+    zeros: &mut [u64],
+    ones: &mut [u64],
     sound: &mut [u8],
 )
-    requires { ⌜ DecideReady (now words) n gates (now order) (now inputs) (now values) ⌝ }
+    requires { ⌜ Decidable (now words) n gates (now order) (now zeros) (now ones) ⌝ }
     requires { ⌜ 2 ^ n ≤ length (now sound) ⌝ }
     ensures { λ r. ⌜ now (sound .exit) ≡ placed (tab (soundFlag (decode (now (words .entry)))) (2 ^ n)) (now (sound .entry)) ⌝ }
 {
     let count = setting_count(n);
-    let mut s = 0;
-    while s < count {
-        sound[s] = sound_flag(words, n, gates, order, s, inputs, values);
-        s += 1;
+    let lanes = lane_count(n);
+    let mut base = 0;
+    while base < count {
+        decide_batch(words, n, gates, order, base, zeros, ones);
+        let word = sound_lanes(words, n, base, zeros, ones);
+        write_flags(word, base, lanes, sound);
+        base += lanes;
     }
 }
 
@@ -203,14 +177,14 @@ pub fn search_settings(
     n: usize,
     gates: usize,
     order: &[u16],
-    inputs: &mut [u8],
-    values: &mut [u8],
+    zeros: &mut [u64],
+    ones: &mut [u64],
 ) -> Answer
-    requires { ⌜ DecideReady (now words) n gates (now order) (now inputs) (now values) ⌝ }
+    requires { ⌜ Decidable (now words) n gates (now order) (now zeros) (now ones) ⌝ }
     ensures { λ r. ⌜ r ≡ Done (settledSettings (decode (now (words .entry)))) (lowestUnsettled (decode (now (words .entry)))) ⌝ }
 {
-    let lowest = lowest_unsettled(words, n, gates, order, inputs, values);
-    let count = count_settled(words, n, gates, order, lowest, inputs, values);
+    let lowest = lowest_unsettled(words, n, gates, order, zeros, ones);
+    let count = count_settled(words, n, gates, order, lowest, zeros, ones);
     Answer::Done {
         count: count,
         detail: lowest,

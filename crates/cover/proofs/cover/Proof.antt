@@ -44,7 +44,7 @@ whole-cover-requires : tie.Need-whole-cover-requires
 whole-cover-requires c κs =
     let told = c .before .before .before .before .before in (
       passed-false _ MalformedBlock (told .before .before .check-words .ensures) (told .enum-told .given .1),
-      record { orderRoom = refl; inputRoom = refl; valueRoom = refl; settledRoom = refl },
+      record { orderRoom = refl; zeroRoom = refl; oneRoom = refl; settledRoom = refl },
     )
 
 same-length : tie.Need-same-length

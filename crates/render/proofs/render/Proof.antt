@@ -5,7 +5,7 @@ use denote.Ref.{now}
 use lib.ListN.{getD}
 use borrow.Author.Needs.{needs}
 use Rattle.netlist.specs.declared.Refusal.the-variants.{MalformedBlock}
-use Rattle.netlist.specs.Limits.{maxGates}
+use Rattle.netlist.specs.Limits.{maxInputs, maxGates}
 use Rattle.netlist.specs.Answers.{inRoom}
 use Rattle.encoding.proofs.Readers.{whole-parts}
 use Rattle.refusals.proofs.Promised.{passed-false, failed, keeps-room}
@@ -63,13 +63,14 @@ render-with-requires c κs =
     let ws = now (start t .args .words) in
     let whole = passed-false _ MalformedBlock (t .check-words .ensures) (p .enum-told .given .1) in
     let few : getD ws 1 0 ≤ maxGates = whole-parts ws whole .fewGates in
+    let inputs : getD ws 0 0 ≤ maxInputs = whole-parts ws whole .fewInputs in
     record {
       whole = whole;
       numberRoom = few;
       orderRoom = omega arith;
       tableRoom = few;
-      inputRoom = whole-parts ws whole .fewInputs;
-      valueRoom = few;
+      zeroRoom = omega (arith, inputs, few);
+      oneRoom = omega (arith, inputs, few);
     }
 
 same-length : tie.Need-same-length

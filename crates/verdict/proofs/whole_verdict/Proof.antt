@@ -1,13 +1,13 @@
 -- `verdict::whole_verdict` meets its contract: whole words are what the search asks. Assumes nothing.
-use lib.ListN.{length}
-use Prim.Native.Nat.{_≤_}
 use mathlib.Core.Path.{sym, _∙_}
+use Prim.Native.Nat.{_+_, _≤_}
 use native.Mathlib.Omega.{arith}
+use lib.ListN.{length}
 use lib.Seq.{length-take-le}
 use Rattle.encoding.proofs.Readers.{whole-parts}
-use Rattle.decide.proofs.Legible.{whole-ready}
 use Rattle.refusals.proofs.Promised.{tell}
 use Rattle.verdict.proofs.Outcomes.{answer-whole}
+use Rattle.verdict.proofs.Batching.{whole-decidable}
 use borrow.Author.Needs.{needs}
 use Rattle.verdict.proofs.whole_verdict.Statement.{statement}
 use Rattle.verdict.proofs.whole_verdict.Tie as tie
@@ -19,21 +19,20 @@ start c = c .before .before .before .before .before .before
 abbrev counted : tie.After-order-gates → tie.After-gates-of
 counted c = c .before .before .before
 
--- the block's gates are few enough for the arrays of its order and its values, and its inputs for theirs
+-- the block's gates are few enough for the array of its order, and its inputs and gates for those of its pairs
 order-room : (o : tie.After-order-gates) → counted o .gates-of .result ≤ length (o .order-gates .last .1 .0)
 order-room o =
     let s = start (counted o) in
     omega (arith, counted o .gates-of .ensures, whole-parts (s .args .words .now) (s .pre .0) .fewGates, s .pre .1 .0, o .order-gates .kept .1 .0)
 
-value-room : (o : tie.After-order-gates) → counted o .gates-of .result ≤ length (start (counted o) .args .values .now)
-value-room o =
+node-room : (o : tie.After-order-gates) → let s = start (counted o) in let n = counted o .before .inputs-of .result in let m = counted o .gates-of .result in
+    (n + m ≤ length (s .args .zeros .now)) × (n + m ≤ length (s .args .ones .now))
+node-room o =
     let s = start (counted o) in
-    omega (arith, counted o .gates-of .ensures, whole-parts (s .args .words .now) (s .pre .0) .fewGates, s .pre .1 .1 .1)
-
-input-room : (o : tie.After-order-gates) → counted o .before .inputs-of .result ≤ length (start (counted o) .args .inputs .now)
-input-room o =
-    let s = start (counted o) in
-    omega (arith, counted o .before .inputs-of .ensures, whole-parts (s .args .words .now) (s .pre .0) .fewInputs, s .pre .1 .1 .0)
+    let w = whole-parts (s .args .words .now) (s .pre .0) in
+    let n = counted o .before .inputs-of .ensures in
+    let m = counted o .gates-of .ensures in
+    (omega (arith, n, m, w .fewInputs, w .fewGates, s .pre .1 .1 .0), omega (arith, n, m, w .fewInputs, w .fewGates, s .pre .1 .1 .1))
 
 inputs-of-requires : tie.Need-inputs-of-requires
 inputs-of-requires c κs = search needs
@@ -55,17 +54,29 @@ slice-reshare-prefix-search-settings c = order-room (c .before .before)
 slice-aggregate-search-settings : tie.Need-slice-aggregate-search-settings
 slice-aggregate-search-settings c = sym (length-take-le _ _ (order-room (c .before .before .before)))
 
+add-search-settings : tie.Need-add-search-settings
+add-search-settings c =
+    let o = c .before .before .before in
+    let s = start (counted o) in
+    omega (arith, node-room o .0, s .pre .1 .1 .0)
+
 slice-relend-prefix-search-settings : tie.Need-slice-relend-prefix-search-settings
-slice-relend-prefix-search-settings c = input-room (c .before .before .before)
+slice-relend-prefix-search-settings c = node-room (c .before .before .before) .0
 
 slice-aggregate-search-settings-2 : tie.Need-slice-aggregate-search-settings-2
-slice-aggregate-search-settings-2 c = sym (length-take-le _ _ (input-room (c .before .before .before .before)))
+slice-aggregate-search-settings-2 c = sym (length-take-le _ _ (node-room (c .before .before .before .before) .0))
+
+add-search-settings-2 : tie.Need-add-search-settings-2
+add-search-settings-2 c =
+    let o = c .before .before .before .before in
+    let s = start (counted o) in
+    omega (arith, node-room o .0, s .pre .1 .1 .0)
 
 slice-relend-prefix-search-settings-2 : tie.Need-slice-relend-prefix-search-settings-2
-slice-relend-prefix-search-settings-2 c = value-room (c .before .before .before .before)
+slice-relend-prefix-search-settings-2 c = node-room (c .before .before .before .before) .1
 
 slice-aggregate-search-settings-3 : tie.Need-slice-aggregate-search-settings-3
-slice-aggregate-search-settings-3 c = sym (length-take-le _ _ (value-room (c .before .before .before .before .before)))
+slice-aggregate-search-settings-3 c = sym (length-take-le _ _ (node-room (c .before .before .before .before .before) .1))
 
 search-settings-requires : tie.Need-search-settings-requires
 search-settings-requires c κs =
@@ -74,9 +85,8 @@ search-settings-requires c κs =
     let m = counted o .gates-of in
     let n = counted o .before .inputs-of in
     let at = o .before .before .gates-at in
-    whole-ready (s .args .words .now) (n .result) (m .result) (at .result) _ _ _ (s .pre .0) (n .ensures) (m .ensures) (at .ensures)
-    (rw (m .ensures) (o .order-gates .ensures))
-    (length-take-le _ _ (input-room o)) (length-take-le _ _ (value-room o))
+    whole-decidable (s .args .words .now) (n .result) (m .result) (at .result) _ _ _ (s .pre .0) (n .ensures) (m .ensures) (at .ensures)
+    (rw (m .ensures) (o .order-gates .ensures)) (length-take-le _ _ (node-room o .0)) (length-take-le _ _ (node-room o .1))
 
 same-length : tie.Need-same-length
 same-length c = search needs
@@ -104,8 +114,10 @@ whole-verdict-spec =
     order-gates-requires
     slice-reshare-prefix-search-settings
     slice-aggregate-search-settings
+    add-search-settings
     slice-relend-prefix-search-settings
     slice-aggregate-search-settings-2
+    add-search-settings-2
     slice-relend-prefix-search-settings-2
     slice-aggregate-search-settings-3
     search-settings-requires

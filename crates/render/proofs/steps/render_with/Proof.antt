@@ -99,8 +99,8 @@ find-unsettled-requires c κs =
     record {
       whole = s .pre .whole;
       orderRoom = few-gates (now (s .args .words)) (s .pre .whole) (s .pre .orderRoom);
-      inputRoom = s .pre .inputRoom;
-      valueRoom = s .pre .valueRoom;
+      zeroRoom = s .pre .zeroRoom;
+      oneRoom = s .pre .oneRoom;
     }
 
 enum-told-3 : tie.Need-enum-told-3

@@ -1,5 +1,5 @@
 -- `verdict::settings::search_settings` meets its contract. Assumes nothing.
-use Rattle.decide.proofs.Legible.{ready-kept}
+use Rattle.verdict.proofs.Batching.{decidable-kept}
 use borrow.Author.Needs.{needs}
 use Rattle.verdict.proofs.settings.search_settings.Statement.{statement}
 use Rattle.verdict.proofs.settings.search_settings.Tie as tie
@@ -9,9 +9,8 @@ lowest-unsettled-requires c κs = search needs
 
 count-settled-requires : tie.Need-count-settled-requires
 count-settled-requires c κs =
-    let searched = c .before .before .before .before .before .before in
-    let e = searched .lowest-unsettled in
-    (ready-kept (searched .before .before .before .before .before .before .before .pre) (e .kept .1 .1 .1 .1 .0) (e .kept .1 .1 .1 .1 .1 .0), e .ensures)
+    let e = c .before .before .before .before .before .before .lowest-unsettled in
+    (decidable-kept (c .before .before .before .before .before .before .before .before .before .before .before .before .before .pre) (e .kept .1 .1 .1 .1 .0) (e .kept .1 .1 .1 .1 .1 .0), e .ensures)
 
 same-length : tie.Need-same-length
 same-length c = search needs

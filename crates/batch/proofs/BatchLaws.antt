@@ -1,0 +1,252 @@
+-- Batches in two slices of words: the start, a gate's step, a step more, and the end.
+--   started-underway, started-inputs   the first pairs
+--   batch-none, batch-one, batch-then, batch-underway   sweeps
+--   batch-settled                      what the last sweep leaves
+--   along-inside, along-visits         the order, there and back
+-- Assumes nothing.
+use mathlib.Core.Path.{_≡_, refl, sym, ap, ap₂, _∙_}
+use mathlib.Core.Logic.{⊎-elim}
+use mathlib.Core.Bool.{Bool, true, false, not, cond, _||_, true≢false, false≢true}
+use mathlib.Core.List.{List, [], _∷_, _++_, map}
+use Prim.Native.Nat.{ℕ, zero, suc, _+_, _-_, _*_, _%_, _≤_, _<_}
+use native.Mathlib.Omega.{arith}
+use borrow.Author.Tests.{lt-ltb, le-ltb, eq-eqb, eqb-true}
+use lib.Dec.{eqb, ltb}
+use lib.ListN.{length, getD, set, replicate, length-set, length-replicate}
+use lib.Seq.{ext-getD}
+use Rattle.laws.specs.Lists.{tab, member}
+use Rattle.laws.proofs.Tests.{lt-or-le, or-neither, or-cases}
+use Rattle.laws.proofs.Tab.{length-tab, getD-tab, tab-ext}
+use Rattle.laws.proofs.Lists.{map-replicate}
+use Rattle.laws.proofs.Quantifiers.{member-at, member-from}
+use Rattle.netlist.specs.Values.{Value, undefined}
+use Rattle.netlist.specs.Netlist.{Block, inputCount, gateCount, gateOf}
+use Rattle.netlist.specs.Limits.{maxInputs}
+use Rattle.netlist.specs.StoredBlock.{gateSize, gateAt, decode}
+use Rattle.netlist.specs.Rounds.{settled, settingOf, settledUnder}
+use Rattle.rounds.specs.Order.{BelowAll}
+use Rattle.rounds.specs.Steps.{Rising}
+use Rattle.rounds.proofs.ListFacts.{getD-replicate-default}
+use Rattle.rounds.proofs.AnyOrder.{start-below-settled}
+use Rattle.rounds.proofs.InPlace.{start-rising}
+use Rattle.ternary.specs.Legal.{LegalHead}
+use Rattle.decide.specs.InPlace.{Legible, Visits}
+use Rattle.lanes.specs.declared.Pair.{Pair}
+use Rattle.lanes.specs.Pairs.{lane, Proper, full, nothing}
+use Rattle.lanes.specs.PairRounds.{evaluatedPair, LegalGate, AllProper}
+use Rattle.lanes.specs.Batches.{lanesOf, inputPair, inputPairs}
+use Rattle.lanes.specs.Nodes.{pairAt, inputsIn, gatesIn, gatePairAt}
+use Rattle.lanes.proofs.LaneLaws.{nothing-lane, nothing-proper}
+use Rattle.lanes.proofs.InputLaws.{inputPairs-proper, inputPairs-lane}
+use Rattle.lanes.proofs.NodeLaws.{gatePairAt-evaluated, head-legal, set-inputs, set-gates}
+use Rattle.batch.specs.Batch.{Underway, Swept, Decidable, BatchUnderway, BatchSwept, BatchSettled, Started, startPair, placeOf, along}
+use Rattle.batch.proofs.Sweeping.{swept-none, swept-one, swept-then, swept-underway, swept-settled}
+
+-- ---- the start
+
+module _ (n base : ℕ) where
+  pub startPair-input : (k : ℕ) → k < n → startPair n base k ≡ inputPair n base k
+  unfolding startPair
+  startPair-input k l = rw (lt-ltb k n l)
+
+  pub startPair-gate : (k : ℕ) → n ≤ k → startPair n base k ≡ nothing
+  unfolding startPair
+  startPair-gate k l = rw (le-ltb k n l)
+
+  module _ {count : ℕ} {zeros ones : List ℕ} (s : Started n base count zeros ones) where
+    started-pair : (k : ℕ) → k < count → pairAt zeros ones k ≡ startPair n base k
+    unfolding pairAt
+    started-pair k l =
+        rw (s .zerosAre, s .onesAre, getD-tab (λ k. startPair n base k .zeros) count k 0 l, getD-tab (λ k. startPair n base k .ones) count k 0 l)
+
+    pub started-inputs : n ≤ count → inputsIn n zeros ones ≡ inputPairs n base
+    unfolding inputsIn inputPairs
+    started-inputs l =
+        tab-ext (pairAt zeros ones) (inputPair n base) n (λ i h. started-pair i (omega arith) ∙ startPair-input i h)
+
+    started-gates : (m : ℕ) → count ≡ n + m → gatesIn n m zeros ones ≡ replicate m nothing
+    unfolding gatesIn
+    started-gates m e =
+        ext-getD nothing (tab (λ j. pairAt zeros ones (n + j)) m) (replicate m nothing)
+        (length-tab (λ j. pairAt zeros ones (n + j)) m ∙ sym (length-replicate m nothing))
+        (λ j h. let l : j < m = rw (length-tab (λ j. pairAt zeros ones (n + j)) m) at h in
+        getD-tab (λ j. pairAt zeros ones (n + j)) m j nothing l ∙ started-pair (n + j) (omega arith) ∙ startPair-gate (n + j) (omega arith)
+        ∙ sym (getD-replicate-default m j nothing))
+
+    -- all gates undefined are on the way
+    pub started-underway : (b : Block) → count ≡ n + gateCount b → BatchUnderway b n zeros ones
+    started-underway b e =
+        let x = inputPairs n base in
+        let m = gateCount b in
+        let values : (i : ℕ) → map (lane i) (replicate m nothing) ≡ replicate m undefined =
+        λ i. map-replicate (lane i) m nothing ∙ rw (nothing-lane i) in
+        record {
+          zerosLong = rw (s .zerosAre) (length-tab (λ k. startPair n base k .zeros) count ∙ e);
+          onesLong = rw (s .onesAre) (length-tab (λ k. startPair n base k .ones) count ∙ e);
+          underway =
+              rw (started-inputs (omega arith), started-gates m e)
+              (record {
+                inputsProper = inputPairs-proper n base;
+                proper = record { each = λ k. rw (getD-replicate-default m k nothing) (nothing-proper (lanesOf n)) };
+                long = length-replicate m nothing;
+                rising = λ i l. rw (values i) (start-rising b (map (lane i) x) m);
+                below = λ i l. rw (values i) (start-below-settled b (map (lane i) x));
+              });
+        }
+
+-- ---- sweeps
+
+module _ {b : Block} {n : ℕ} where
+  pub batch-none : {zeros ones : List ℕ} → BatchUnderway b n zeros ones → BatchSwept b n [] zeros ones zeros ones false
+  batch-none {zeros} {ones} u =
+      record {
+        zerosLong = refl;
+        onesLong = refl;
+        inputsKept = refl;
+        swept = swept-none (gatesIn n (gateCount b) zeros ones) (u .underway);
+      }
+
+  pub batch-underway : {js zeros ones zeros′ ones′ : List ℕ} {changed : Bool} → BatchUnderway b n zeros ones
+      → BatchSwept b n js zeros ones zeros′ ones′ changed → BatchUnderway b n zeros′ ones′
+  batch-underway u s =
+      record {
+        zerosLong = s .zerosLong ∙ u .zerosLong;
+        onesLong = s .onesLong ∙ u .onesLong;
+        underway = rw (s .inputsKept) (swept-underway (u .underway) (s .swept));
+      }
+
+  pub batch-then : {js zeros ones zeros′ ones′ zeros″ ones″ : List ℕ} {r s : Bool} (k : ℕ) → BatchSwept b n js zeros ones zeros′ ones′ r
+      → BatchSwept b n (k ∷ []) zeros′ ones′ zeros″ ones″ s → BatchSwept b n (js ++ (k ∷ [])) zeros ones zeros″ ones″ (s || r)
+  batch-then k f g =
+      record {
+        zerosLong = g .zerosLong ∙ f .zerosLong;
+        onesLong = g .onesLong ∙ f .onesLong;
+        inputsKept = g .inputsKept ∙ f .inputsKept;
+        swept = swept-then k (f .swept) (rw (f .inputsKept) at (g .swept));
+      }
+
+-- whether one of two words is another
+differ-no : (a b c d : ℕ) → not (eqb a b) || not (eqb c d) ≡ false → (a ≡ b) × (c ≡ d)
+differ-no a b c d = go (eqb a b) (eqb c d) refl refl
+  where
+    go : (t u : Bool) → eqb a b ≡ t → eqb c d ≡ u → not t || not u ≡ false → (a ≡ b) × (c ≡ d)
+    go true true e f h = (eqb-true a b e, eqb-true c d f)
+    go true false e f h = absurd (true≢false h)
+    go false u e f h = absurd (true≢false h)
+
+differ-yes : (a b c d : ℕ) → not (eqb a b) || not (eqb c d) ≡ true → a ≡ b → c ≡ d → ⊥
+differ-yes a b c d h e f = false≢true (sym (rw (eq-eqb a b e, eq-eqb c d f)) ∙ h)
+
+pair-eq : (p q : Pair) → p .zeros ≡ q .zeros → p .ones ≡ q .ones → p ≡ q
+pair-eq p q e f = ap₂ {C = Pair} (λ (z o : ℕ). record { zeros = z; ones = o }) e f
+
+zeros-at : (zeros ones : List ℕ) (k : ℕ) → pairAt zeros ones k .zeros ≡ getD zeros k 0
+unfolding pairAt
+zeros-at zeros ones k = refl
+
+ones-at : (zeros ones : List ℕ) (k : ℕ) → pairAt zeros ones k .ones ≡ getD ones k 0
+unfolding pairAt
+ones-at zeros ones k = refl
+
+same-pair : (zeros ones : List ℕ) (k : ℕ) (p : Pair) → p .zeros ≡ getD zeros k 0 → p .ones ≡ getD ones k 0 → p ≡ pairAt zeros ones k
+unfolding pairAt
+same-pair zeros ones k p e f = pair-eq p (pairAt zeros ones k) e f
+
+gatesIn-at : (n m : ℕ) (zeros ones : List ℕ) (j : ℕ) → j < m → getD (gatesIn n m zeros ones) j nothing ≡ pairAt zeros ones (n + j)
+unfolding gatesIn
+gatesIn-at n m zeros ones j l = getD-tab (λ j. pairAt zeros ones (n + j)) m j nothing l
+
+-- one gate, from its words
+pub batch-one : {ws zeros ones : List ℕ} {n gates : ℕ} (j : ℕ) (p : Pair) → j < gateCount (decode ws) → Legible ws n gates → n ≤ maxInputs
+    → BatchUnderway (decode ws) n zeros ones → p ≡ gatePairAt (full (lanesOf n)) zeros ones ws (gates + gateSize * j)
+    → BatchSwept (decode ws) n (j ∷ []) zeros ones (set zeros (n + j) (p .zeros)) (set ones (n + j) (p .ones))
+    (not (eqb (p .zeros) (getD zeros (n + j) 0)) || not (eqb (p .ones) (getD ones (n + j) 0)))
+batch-one {ws} {zeros} {ones} {n} {gates} j p l legible few u e =
+    record {
+      zerosLong = length-set zeros (n + j) (p .zeros);
+      onesLong = length-set ones (n + j) (p .ones);
+      inputsKept = set-inputs n m zeros ones j p;
+      swept =
+          rw (set-gates n m zeros ones j p l (u .zerosLong) (u .onesLong))
+          (swept-one j (u .underway) l legal value same other);
+    }
+  where
+    m : ℕ
+    m = gateCount (decode ws)
+
+    legal : LegalGate (gateOf (decode ws) j)
+    legal = rw (← legible .gateIs j l) (head-legal n ws (gates + gateSize * j) (legible .legal j l))
+
+    value : p ≡ evaluatedPair (full (lanesOf n)) (inputsIn n zeros ones) (gatesIn n m zeros ones) (gateOf (decode ws) j)
+    value =
+        e
+        ∙ gatePairAt-evaluated (full (lanesOf n)) n m zeros ones (omega arith) (u .zerosLong) (u .onesLong) ws (gates + gateSize * j)
+        ∙ ap (evaluatedPair (full (lanesOf n)) (inputsIn n zeros ones) (gatesIn n m zeros ones)) (legible .gateIs j l)
+
+    was : getD (gatesIn n m zeros ones) j nothing ≡ pairAt zeros ones (n + j)
+    was = gatesIn-at n m zeros ones j l
+
+    same : not (eqb (p .zeros) (getD zeros (n + j) 0)) || not (eqb (p .ones) (getD ones (n + j) 0)) ≡ false → p ≡ getD (gatesIn n m zeros ones) j nothing
+    same h =
+        let d = differ-no (p .zeros) (getD zeros (n + j) 0) (p .ones) (getD ones (n + j) 0) h in
+        rw was (same-pair zeros ones (n + j) p (d .0) (d .1))
+
+    other : not (eqb (p .zeros) (getD zeros (n + j) 0)) || not (eqb (p .ones) (getD ones (n + j) 0)) ≡ true
+        → p .zeros ≡ getD (gatesIn n m zeros ones) j nothing .zeros → p .ones ≡ getD (gatesIn n m zeros ones) j nothing .ones → ⊥
+    other h ez eo =
+        differ-yes (p .zeros) (getD zeros (n + j) 0) (p .ones) (getD ones (n + j) 0) h
+        (ez ∙ ap (λ (q : Pair). q .zeros) was ∙ zeros-at zeros ones (n + j)) (eo ∙ ap (λ (q : Pair). q .ones) was ∙ ones-at zeros ones (n + j))
+
+-- ---- the order, there and back
+
+pub placeOf-inside : (back : Bool) (count i : ℕ) → i < count → placeOf back count i < count
+unfolding placeOf
+placeOf-inside true count i l = omega arith
+placeOf-inside false count i l = l
+
+placeOf-twice : (back : Bool) (count i : ℕ) → i < count → placeOf back count (placeOf back count i) ≡ i
+unfolding placeOf
+placeOf-twice true count i l = omega arith
+placeOf-twice false count i l = refl
+
+module _ {m : ℕ} {order : List ℕ} (back : Bool) (v : Visits m order) where
+  pub along-inside : (i : ℕ) → i < length order → getD order (placeOf back (length order) i) 0 < m
+  along-inside i l = v .inside (placeOf back (length order) i) (placeOf-inside back (length order) i l)
+
+  pub along-visits : Visits m (along back order)
+  unfolding along
+  along-visits =
+      record {
+        inside = λ i l. let h : i < length order = rw (length-tab f (length order)) at l in rw (getD-tab f (length order) i 0 h) (along-inside i h);
+        every = found;
+      }
+    where
+      f : ℕ → ℕ
+      f = λ i. getD order (placeOf back (length order) i) 0
+
+      found : (j : ℕ) → j < m → member j (tab f (length order)) ≡ true
+      found j l =
+          let w : (i : ℕ) × (i < length order) × (getD order i 0 ≡ j) = member-at j order (v .every j l) in
+          let k = placeOf back (length order) (w .0) in
+          let h : k < length order = placeOf-inside back (length order) (w .0) (w .1) in
+          member-from j (tab f (length order)) k (rw (length-tab f (length order)) h)
+          (getD-tab f (length order) k 0 h ∙ rw (placeOf-twice back (length order) (w .0) (w .1)) (w .2))
+
+-- ---- the end
+
+pub batch-settled : {b : Block} {n base : ℕ} {order zeros ones zeros′ ones′ : List ℕ} {changed : Bool} → Visits (gateCount b) order → n ≡ inputCount b
+    → base % 64 ≡ 0 → inputsIn n zeros ones ≡ inputPairs n base → BatchUnderway b n zeros ones → BatchSwept b n order zeros ones zeros′ ones′ changed
+    → changed ≡ false → BatchSettled b n base zeros′ ones′
+unfolding settledUnder
+batch-settled {b} {n} {base} {order} {zeros} {ones} {zeros′} {ones′} v many aligned x u s none =
+    let x′ : inputsIn n zeros′ ones′ ≡ inputPairs n base = s .inputsKept ∙ x in
+    record {
+      zerosLong = s .zerosLong ∙ u .zerosLong;
+      onesLong = s .onesLong ∙ u .onesLong;
+      inputsProper = rw (s .inputsKept) (u .underway .inputsProper);
+      gatesProper = s .swept .proper;
+      setting = λ i l. ap (map (lane i)) x′ ∙ inputPairs-lane n base aligned i l;
+      settledLanes = λ i l.
+          swept-settled v (u .underway) (s .swept) none i l
+          ∙ ap (settled b) (ap (map (lane i)) x ∙ inputPairs-lane n base aligned i l ∙ ap (λ (k : ℕ). settingOf k (base + i)) many);
+    }

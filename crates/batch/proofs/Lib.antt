@@ -1,0 +1,3 @@
+-- Mathematics of batches; no function of src/ is named.
+pub mod Sweeping
+pub mod BatchLaws

@@ -1,0 +1,95 @@
+-- `batch::in_place::decide_batch` meets its contract: each sweep but the last defines a lane more. Assumes nothing.
+use mathlib.Core.Path.{_≡_, sym, _∙_}
+use native.Mathlib.Omega.{arith}
+use borrow.Author.Needs.{needs}
+use Rattle.netlist.specs.Netlist.{gateCount}
+use Rattle.netlist.specs.StoredBlock.{decode}
+use Rattle.lanes.specs.Batches.{lanesOf, inputPairs}
+use Rattle.lanes.specs.Nodes.{inputsIn, gatesIn}
+use Rattle.batch.specs.Batch.{BatchUnderway, room}
+use Rattle.batch.proofs.BatchLaws.{started-inputs, started-underway, batch-underway, batch-settled, along-visits}
+use Rattle.batch.proofs.in_place.decide_batch.Statement.{statement}
+use Rattle.batch.proofs.in_place.decide_batch.Tie as tie
+
+abbrev Inv-loop : tie.InvT-loop
+Inv-loop words n gates order base zeros₀ ones₀ used back₀ zeros ones back =
+    BatchUnderway (decode words) n zeros ones × (inputsIn n zeros ones ≡ inputPairs n base)
+
+abbrev μ-loop : tie.MeasureT-loop
+μ-loop words n gates order base zeros₀ ones₀ used back₀ zeros ones back = room (lanesOf n) (gatesIn n (gateCount (decode words)) zeros ones)
+
+-- the function's entry, from the first call and from the loop's head; and the loop's head, from a sweep that was made
+abbrev start : tie.After-used-lanes Inv-loop μ-loop → tie.Start Inv-loop μ-loop
+start f = f .before .before .before .before .before .before .before .before .before .before .before .before
+
+abbrev entry : tie.At-loop Inv-loop μ-loop → tie.Start Inv-loop μ-loop
+entry l = start (l .before)
+
+abbrev head : tie.After-sweep Inv-loop μ-loop → tie.At-loop Inv-loop μ-loop
+head d = d .before .before .before
+
+start-batch-requires : tie.Need-start-batch-requires Inv-loop μ-loop
+start-batch-requires c κs =
+    let p = c .before .before .before .before .before .before .pre .0 in
+    (p .fewInputs, p .zerosLong ∙ sym (p .onesLong))
+
+used-lanes-requires : tie.Need-used-lanes-requires Inv-loop μ-loop
+used-lanes-requires c κs = search needs
+
+loop-holds : tie.Need-loop-holds Inv-loop μ-loop
+loop-holds c =
+    let s = start c in
+    let f = c .before .before .before .before .before .start-batch .ensures in
+    let long = s .pre .0 .zerosLong in
+    (started-underway (s .args .n) (s .args .base) f (decode (s .args .words .now)) long, started-inputs (s .args .n) (s .args .base) f (omega arith))
+
+sweep-requires : tie.Need-sweep-requires Inv-loop μ-loop
+sweep-requires c κs =
+    let l = c .before .before in
+    let p = entry l .pre .0 in
+    ((p .legible, p .visits, p .fewInputs, l .before .used-lanes .ensures), l .loop .inv .0)
+
+loop-less : tie.Need-loop-less Inv-loop μ-loop
+loop-less c =
+    let d = c .before .before .before .before .before in
+    d .sweep .ensures .swept .less (c .if1 .taken)
+
+loop-again : tie.Need-loop-again Inv-loop μ-loop
+loop-again c =
+    let d = c .before .before .before .before .before in
+    let i = head d .loop .inv in
+    (batch-underway (i .0) (d .sweep .ensures), d .sweep .ensures .inputsKept ∙ i .1)
+
+same-length : tie.Need-same-length Inv-loop μ-loop
+same-length c =
+    let d = c .before .before .before .before .before in
+    d .sweep .ensures .zerosLong ∙ head d .loop .inv .0 .zerosLong ∙ sym (entry (head d) .pre .0 .zerosLong)
+
+same-length-2 : tie.Need-same-length-2 Inv-loop μ-loop
+same-length-2 c =
+    let d = c .before .before .before .before .before in
+    d .sweep .ensures .onesLong ∙ head d .loop .inv .0 .onesLong ∙ sym (entry (head d) .pre .0 .onesLong)
+
+returns : tie.Need-returns Inv-loop μ-loop
+returns c =
+    let d = c .before .before .before .before .before in
+    let l = head d in
+    let s = entry l in
+    batch-settled (along-visits (l .loop .back) (s .pre .0 .visits)) (s .pre .0 .legible .inputs) (s .pre .1) (l .loop .inv .1) (l .loop .inv .0)
+    (d .sweep .ensures) (c .if1 .left)
+
+pub decide-batch-spec : {M : Type 1} → statement M
+decide-batch-spec =
+    tie.close
+    (tie.spec
+    Inv-loop
+    μ-loop
+    start-batch-requires
+    used-lanes-requires
+    loop-holds
+    sweep-requires
+    loop-less
+    loop-again
+    same-length
+    same-length-2
+    returns)

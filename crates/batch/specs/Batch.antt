@@ -1,0 +1,94 @@
+-- A batch of settings decided in place: what the slices hold on the way, what a sweep leaves, and what is decided at the end.
+--   Underway, Swept          pairs of the gates on the way to the settled values, and after a list of gates was evaluated
+--   Decidable                what deciding a batch asks
+--   BatchUnderway, BatchSwept, BatchSettled   the same in the two slices of words
+--   startPair, along         the first pair of each node; the order, there or back
+-- Assumes nothing.
+use mathlib.Core.Path.{_≡_}
+use mathlib.Core.Bool.{Bool, true, false, cond}
+use mathlib.Core.List.{List, [], _∷_, map}
+use Prim.Native.Nat.{ℕ, _+_, _-_, _*_, _%_, _^_, _≤_, _<_}
+use lib.Dec.{ltb}
+use lib.ListN.{length, getD}
+use Rattle.laws.specs.Lists.{tab}
+use Rattle.netlist.specs.Limits.{maxInputs}
+use Rattle.netlist.specs.Netlist.{Block, inputCount, gateCount}
+use Rattle.netlist.specs.StoredBlock.{decode}
+use Rattle.netlist.specs.Rounds.{settled, settingOf, settledUnder}
+use Rattle.rounds.specs.Order.{BelowAll}
+use Rattle.rounds.specs.Steps.{run, Rising}
+use Rattle.decide.specs.InPlace.{Legible, Visits}
+use Rattle.lanes.specs.declared.Pair.{Pair}
+use Rattle.lanes.specs.Pairs.{lane, nothing}
+use Rattle.lanes.specs.PairRounds.{AllProper}
+use Rattle.lanes.specs.Batches.{lanesOf, inputPair}
+use Rattle.lanes.specs.Nodes.{inputsIn, gatesIn}
+
+-- the pairs of the gates are, at every lane, on the way to the settled values
+pub record Underway (b : Block) (lanes : ℕ) (x state : List Pair) : Type 0 where
+  pub inputsProper : AllProper lanes x
+  pub proper : AllProper lanes state
+  pub long : length state ≡ gateCount b
+  pub rising : (s : ℕ) → s < lanes → Rising b (map (lane s) x) (map (lane s) state)
+  pub below : (s : ℕ) → s < lanes → BelowAll (map (lane s) state) (settled b (map (lane s) x))
+
+-- how far the words of all gates are from their greatest: it falls whenever a lane becomes 0 or 1
+unfoldable pub room : ℕ → List Pair → ℕ
+room lanes [] = 0
+room lanes (p ∷ ps) = (2 * 2 ^ lanes - (p .zeros + p .ones)) + room lanes ps
+
+-- the gates listed were evaluated one after the other, each pair stored at once, and `changed` tells whether any changed
+pub record Swept (b : Block) (lanes : ℕ) (x : List Pair) (js : List ℕ) (state after : List Pair) (changed : Bool) : Type 0 where
+  pub proper : AllProper lanes after
+  pub long : length after ≡ length state
+  pub lanewise : (s : ℕ) → s < lanes → map (lane s) after ≡ run b (map (lane s) x) js (map (lane s) state)
+  pub still : changed ≡ false → after ≡ state
+  pub less : changed ≡ true → room lanes after < room lanes state
+  pub most : room lanes after ≤ room lanes state
+
+-- ---- in two slices of words, one for each node
+
+-- what deciding a batch asks: legible words, an order over all gates, a base that is a multiple of 64, and a word for each node
+pub record Decidable (ws : List ℕ) (n gates : ℕ) (order : List ℕ) (zeros ones : List ℕ) : Type 0 where
+  pub legible : Legible ws n gates
+  pub visits : Visits (gateCount (decode ws)) order
+  pub fewInputs : n ≤ maxInputs
+  pub zerosLong : length zeros ≡ n + gateCount (decode ws)
+  pub onesLong : length ones ≡ n + gateCount (decode ws)
+
+pub record BatchUnderway (b : Block) (n : ℕ) (zeros ones : List ℕ) : Type 0 where
+  pub zerosLong : length zeros ≡ n + gateCount b
+  pub onesLong : length ones ≡ n + gateCount b
+  pub underway : Underway b (lanesOf n) (inputsIn n zeros ones) (gatesIn n (gateCount b) zeros ones)
+
+pub record BatchSwept (b : Block) (n : ℕ) (js zeros ones zerosAfter onesAfter : List ℕ) (changed : Bool) : Type 0 where
+  pub zerosLong : length zerosAfter ≡ length zeros
+  pub onesLong : length onesAfter ≡ length ones
+  pub inputsKept : inputsIn n zerosAfter onesAfter ≡ inputsIn n zeros ones
+  pub swept : Swept b (lanesOf n) (inputsIn n zeros ones) js (gatesIn n (gateCount b) zeros ones) (gatesIn n (gateCount b) zerosAfter onesAfter) changed
+
+-- at every lane in use the inputs have the values of that setting and the gates their settled values; no other lane has a bit
+pub record BatchSettled (b : Block) (n base : ℕ) (zeros ones : List ℕ) : Type 0 where
+  pub zerosLong : length zeros ≡ n + gateCount b
+  pub onesLong : length ones ≡ n + gateCount b
+  pub inputsProper : AllProper (lanesOf n) (inputsIn n zeros ones)
+  pub gatesProper : AllProper (lanesOf n) (gatesIn n (gateCount b) zeros ones)
+  pub setting : (s : ℕ) → s < lanesOf n → map (lane s) (inputsIn n zeros ones) ≡ settingOf n (base + s)
+  pub settledLanes : (s : ℕ) → s < lanesOf n → map (lane s) (gatesIn n (gateCount b) zeros ones) ≡ settledUnder b (base + s)
+
+-- the pair of node k at first: an input's, or undefined at every lane
+unfoldable pub startPair : ℕ → ℕ → ℕ → Pair
+startPair n base k = cond (ltb k n) (inputPair n base k) nothing
+
+-- so many nodes, each with its first pair
+pub record Started (n base count : ℕ) (zeros ones : List ℕ) : Type 0 where
+  pub zerosAre : zeros ≡ tab (λ k. startPair n base k .zeros) count
+  pub onesAre : ones ≡ tab (λ k. startPair n base k .ones) count
+
+-- place i of a walk over `count` places, from the first or from the last
+unfoldable pub placeOf : Bool → ℕ → ℕ → ℕ
+placeOf back count i = cond back (count - 1 - i) i
+
+-- the order, there or back
+unfoldable pub along : Bool → List ℕ → List ℕ
+along back order = tab (λ i. getD order (placeOf back (length order) i) 0) (length order)

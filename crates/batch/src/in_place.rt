@@ -1,0 +1,127 @@
+// The settled values of the batch of settings that starts at `base`. `zeros` and `ones` have exactly one word for each input and each gate.
+use lanes::Pair;
+use lanes::gate::gate_pair;
+use lanes::inputs::input_pair;
+use lanes::inputs::used_lanes;
+use layout::offsets::GATE_SIZE;
+ghost use mathlib.Core.Path.{_≡_};
+ghost use mathlib.Core.List.{[], _∷_};
+ghost use Prim.Native.Nat.{_+_, _≤_, _<_, _%_};
+ghost use lib.ListN.{length};
+ghost use Rattle.laws.specs.Lists.{tab};
+ghost use Rattle.netlist.specs.Limits.{maxInputs};
+ghost use Rattle.netlist.specs.Netlist.{gateCount};
+ghost use Rattle.netlist.specs.StoredBlock.{decode};
+ghost use Rattle.decide.specs.InPlace.{Legible, Visits};
+ghost use Rattle.lanes.specs.Pairs.{full};
+ghost use Rattle.lanes.specs.Batches.{lanesOf};
+ghost use Rattle.batch.specs.Batch.{Decidable, BatchUnderway, BatchSwept, BatchSettled, Started, startPair, placeOf, along};
+
+// The pair of node `k` at first.
+fn start_pair(n: usize, base: usize, k: usize) -> Pair
+    requires { ⌜ n ≤ maxInputs ⌝ }
+    ensures { λ r. ⌜ r ≡ startPair n base k ⌝ }
+{
+    if k < n {
+        return input_pair(n, base, k);
+    }
+    Pair { zeros: 0, ones: 0 }
+}
+
+// Every input's pair, and every gate undefined.
+pub fn start_batch(n: usize, base: usize, zeros: &mut [u64], ones: &mut [u64])
+    requires { ⌜ (n ≤ maxInputs) × (length (now zeros) ≡ length (now ones)) ⌝ }
+    ensures { λ r. ⌜ Started n base (length (now (zeros .entry))) (now (zeros .exit)) (now (ones .exit)) ⌝ }
+{
+    let mut k = 0;
+    while k < zeros.len() {
+        let pair = start_pair(n, base, k);
+        zeros[k] = pair.zeros;
+        ones[k] = pair.ones;
+        k += 1;
+    }
+}
+
+// Evaluates gate `j` and stores its pair; whether that is another.
+fn step(
+    words: &[u16],
+    n: usize,
+    gates: usize,
+    used: u64,
+    j: usize,
+    zeros: &mut [u64],
+    ones: &mut [u64],
+) -> bool
+    requires { ⌜ (j < gateCount (decode (now words))) × Legible (now words) n gates × (n ≤ maxInputs) × (used ≡ full (lanesOf n)) ⌝ }
+    requires { ⌜ BatchUnderway (decode (now words)) n (now zeros) (now ones) ⌝ }
+    ensures { λ r. ⌜
+        BatchSwept (decode (now (words .entry))) n (j ∷ []) (now (zeros .entry)) (now (ones .entry)) (now (zeros .exit)) (now (ones .exit)) r
+        ⌝ }
+{
+    let pair = gate_pair(words, gates + GATE_SIZE * j, used, zeros, ones);
+    let k = n + j;
+    let zero = pair.zeros;
+    let one = pair.ones;
+    let changed = (zero != zeros[k]) | (one != ones[k]);
+    zeros[k] = zero;
+    ones[k] = one;
+    changed
+}
+
+// Place `i` of a walk over `count` places.
+fn place(back: bool, count: usize, i: usize) -> usize
+    requires { ⌜ i < count ⌝ }
+    ensures { λ r. ⌜ r ≡ placeOf back count i ⌝ }
+{
+    if back { count - 1 - i } else { i }
+}
+
+// Evaluates the gates along `order`, or back along it, each pair stored at once; whether any changed.
+fn sweep(
+    words: &[u16],
+    n: usize,
+    gates: usize,
+    used: u64,
+    order: &[u16],
+    back: bool,
+    zeros: &mut [u64],
+    ones: &mut [u64],
+) -> bool
+    requires { ⌜ Legible (now words) n gates × Visits (gateCount (decode (now words))) (now order) × (n ≤ maxInputs) × (used ≡ full (lanesOf n)) ⌝ }
+    requires { ⌜ BatchUnderway (decode (now words)) n (now zeros) (now ones) ⌝ }
+    ensures { λ r. ⌜
+        BatchSwept (decode (now (words .entry))) n (along back (now (order .entry))) (now (zeros .entry)) (now (ones .entry)) (now (zeros .exit))
+        (now (ones .exit)) r
+        ⌝ }
+{
+    let count = order.len();
+    let mut changed = false;
+    let mut i = 0;
+    while i < count {
+        let at = place(back, count, i);
+        changed = step(words, n, gates, used, order[at] as usize, zeros, ones) | changed;
+        i += 1;
+    }
+    changed
+}
+
+// The settled values at every lane: sweeps there and back by turns, until one changes nothing.
+pub fn decide_batch(
+    words: &[u16],
+    n: usize,
+    gates: usize,
+    order: &[u16],
+    base: usize,
+    zeros: &mut [u64],
+    ones: &mut [u64],
+)
+    requires { ⌜ Decidable (now words) n gates (now order) (now zeros) (now ones) × (base % 64 ≡ 0) ⌝ }
+    ensures { λ r. ⌜ BatchSettled (decode (now (words .entry))) n base (now (zeros .exit)) (now (ones .exit)) ⌝ }
+{
+    start_batch(n, base, zeros, ones);
+    let used = used_lanes(n);
+    let mut back = false;
+    while sweep(words, n, gates, used, order, back, zeros, ones) {
+        back = !back;
+    }
+}

@@ -1,0 +1,5 @@
+-- Mathematics of words of lanes; no function of src/ is named.
+pub mod WordLaws
+pub mod NeverLaws
+pub mod OutputLaws
+pub mod SettledLaws

@@ -1,0 +1,54 @@
+-- `judge::outputs::unsettled_lanes` meets its contract: after o turns it is the word of the first o outputs. Assumes nothing.
+use mathlib.Core.Path.{_≡_, refl}
+use Prim.Native.Nat.{_-_, _≤_}
+use native.Mathlib.Numerals.{add-one}
+use native.Mathlib.Omega.{arith}
+use Rattle.judge.specs.Lanes.{unsettledWord}
+use Rattle.judge.proofs.outputs.unsettled_lanes.Statement.{statement}
+use Rattle.judge.proofs.outputs.unsettled_lanes.Tie as tie
+
+abbrev Inv-loop : tie.InvT-loop
+Inv-loop words at count used zeros ones unsettled₀ o₀ unsettled o = (o ≤ count) × (unsettled ≡ unsettledWord words at used zeros ones o)
+
+abbrev μ-loop : tie.MeasureT-loop
+μ-loop words at count used zeros ones unsettled₀ o₀ unsettled o = count - o
+
+loop-holds : tie.Need-loop-holds Inv-loop μ-loop
+unfolding unsettledWord
+loop-holds c = (omega arith, refl)
+
+undefined-lanes-requires : tie.Need-undefined-lanes-requires Inv-loop μ-loop
+undefined-lanes-requires c κs =
+    let p = c .before .before .before .before .before .pre in
+    (p .0, omega (arith, p .1), p .2)
+
+add-o : tie.Need-add-o Inv-loop μ-loop
+add-o c = omega arith
+
+loop-less : tie.Need-loop-less Inv-loop μ-loop
+loop-less c = omega arith
+
+loop-again : tie.Need-loop-again Inv-loop μ-loop
+unfolding unsettledWord
+loop-again c =
+    let l = c .before .before .loop in
+    (omega arith, rw (add-one (l .o), l .inv .1, c .undefined-lanes .ensures))
+
+returns : tie.Need-returns Inv-loop μ-loop
+returns c =
+    let l = c .before .loop in
+    let e : l .o ≡ c .before .before .before .before .before .args .count = omega arith in
+    rw (← e) (l .inv .1)
+
+pub unsettled-lanes-spec : {M : Type 1} → statement M
+unsettled-lanes-spec =
+    tie.close
+    (tie.spec
+    Inv-loop
+    μ-loop
+    loop-holds
+    undefined-lanes-requires
+    add-o
+    loop-less
+    loop-again
+    returns)

@@ -1,0 +1,75 @@
+-- Words with a bit at each lane of a batch whose setting passes a test. Cited by the contracts of this crate, of `verdict` and of `compare`.
+--   hasLane, Tells                  the bit of a lane; a word that has the bits of a test
+--   agreesAt, mayCome, isUndefinedAt, isUnsettled, isUnsound   the tests
+--   undefinedWord, unsettledWord    the lanes at which an output, or one of the first outputs, is undefined
+--   Judged                          a batch that was decided
+-- Assumes nothing.
+use mathlib.Core.Path.{_≡_}
+use mathlib.Core.Bool.{Bool, not, _||_}
+use mathlib.Core.List.{List}
+use Prim.Native.Nat.{ℕ, zero, suc, _+_, _*_, _%_, _^_, _≤_, _<_}
+use lib.Bits.{bitOr, bitXor}
+use lib.Dec.{eqb}
+use lib.ListN.{getD}
+use Rattle.netlist.specs.Values.{undefined, isDefined}
+use Rattle.netlist.specs.Netlist.{Block}
+use Rattle.netlist.specs.Assignments.{bit, Assignment, fixes}
+use Rattle.netlist.specs.Limits.{maxInputs}
+use Rattle.netlist.specs.StoredBlock.{nameSize, outputSize, decode}
+use Rattle.netlist.specs.Rounds.{outputsUnder, isSettled, isExcluded, isSoundAt}
+use Rattle.lanes.specs.declared.Pair.{Pair}
+use Rattle.lanes.specs.Nodes.{wordPair}
+use Rattle.batch.specs.Batch.{BatchSettled}
+
+unfoldable pub hasLane : ℕ → ℕ → Bool
+hasLane word s = eqb (bit word s) 1
+
+-- of a batch of so many settings from number `base` on: the word has a bit at lane s exactly where setting base + s passes the test, and no bit
+-- past the last lane
+pub record Tells (lanes base : ℕ) (test : ℕ → Bool) (word : ℕ) : Type 0 where
+  pub within : word < 2 ^ lanes
+  pub each : (s : ℕ) → s < lanes → hasLane word s ≡ test (base + s)
+
+-- ---- tests of setting number s
+
+-- input i is not fixed, or has the assignment's value
+unfoldable pub agreesAt : Assignment → ℕ → ℕ → Bool
+agreesAt a i s = not (fixes a i) || eqb (bit s i) (bit (a .ones) i)
+
+unfoldable pub mayCome : Block → ℕ → Bool
+mayCome b s = not (isExcluded b s)
+
+unfoldable pub isUndefinedAt : Block → ℕ → ℕ → Bool
+isUndefinedAt b o s = not (isDefined (getD (outputsUnder b s) o undefined))
+
+unfoldable pub isUnsettled : Block → ℕ → Bool
+isUnsettled b s = not (isSettled b s)
+
+-- it may come, and is not settled
+unfoldable pub isUnsound : Block → ℕ → Bool
+isUnsound b s = not (isSoundAt b s)
+
+-- ---- words of lanes, from the pairs of the inputs and gates
+
+-- the pair of output o, where `used` has a bit at each lane in use and the outputs' words start at `at`
+unfoldable pub outputPair : List ℕ → ℕ → ℕ → List ℕ → List ℕ → ℕ → Pair
+outputPair ws at used zeros ones o = wordPair used zeros ones (getD ws (at + outputSize * o + nameSize) 0)
+
+-- neither 0 nor 1
+unfoldable pub undefinedIn : ℕ → Pair → ℕ
+undefinedIn used p = bitXor used (bitOr (p .zeros) (p .ones))
+
+unfoldable pub undefinedWord : List ℕ → ℕ → ℕ → List ℕ → List ℕ → ℕ → ℕ
+undefinedWord ws at used zeros ones o = undefinedIn used (outputPair ws at used zeros ones o)
+
+-- one of the first outputs is undefined
+unfoldable pub unsettledWord : List ℕ → ℕ → ℕ → List ℕ → List ℕ → ℕ → ℕ
+unsettledWord ws at used zeros ones zero = 0
+unsettledWord ws at used zeros ones (suc o) = bitOr (unsettledWord ws at used zeros ones o) (undefinedWord ws at used zeros ones o)
+
+-- the slices hold the settled values of the batch at `base`, of a block of n inputs
+pub record Judged (ws : List ℕ) (n base : ℕ) (zeros ones : List ℕ) : Type 0 where
+  pub settled : BatchSettled (decode ws) n base zeros ones
+  pub inputs : n ≡ getD ws 0 0
+  pub fewInputs : n ≤ maxInputs
+  pub aligned : base % 64 ≡ 0

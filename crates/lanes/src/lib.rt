@@ -1,0 +1,9 @@
+// Sixty-four settings at a time: one gate's values under them as a pair of words, and the gate's pair from its operands' pairs.
+pub mod gate;
+pub mod inputs;
+
+// Bit s of `zeros` marks value 0 under setting s of a batch, bit s of `ones` value 1; neither: undefined.
+pub struct Pair {
+    pub zeros: u64,
+    pub ones: u64,
+}

@@ -1,0 +1,240 @@
+-- Batches one after the other.
+--   Place, place-first, place-next    where a batch starts
+--   lanesOf-some                      a batch has a lane
+--   judged, decidable-kept            a decided batch; slices of the same lengths
+--   whole-decidable                   words that are not torn
+--   passed-sound, found-unsound       what the outputs' words tell of a batch
+--   sound-more, lowest-in-batch       one batch more; the lowest setting in the first batch that has one
+--   count-add, count-coming           how many are settled
+--   flagged-length, flagged-placed    a byte for each setting
+-- Assumes nothing.
+use mathlib.Core.Path.{_≡_, refl, sym, ap, _∙_}
+use mathlib.Core.Logic.{⊎-elim}
+use mathlib.Core.Bool.{Bool, true, false, not, cond, _&&_, _||_}
+use mathlib.Core.List.{List}
+use Prim.Native.Nat.{ℕ, zero, suc, _+_, _-_, _*_, _%_, _^_, _≤_, _<_, min}
+use native.Mathlib.Nat.{add-zero, add-suc, add-assoc, min-le-left, min-eq-left, min-eq-right}
+use native.Mathlib.Omega.{arith}
+use lib.Bits.{bitAnd}
+use lib.ListN.{length, getD, set, length-set}
+use lib.Pow.{pow-mono, pow-pos, pow-add}
+use Rattle.laws.specs.Lists.{countBelow, least, tab, placed}
+use Rattle.laws.proofs.Tests.{bool-cases, lt-or-le, not-both, and-intro, and-left, and-right}
+use Rattle.laws.proofs.Tab.{set-placed-tab}
+use Rattle.laws.proofs.Counting.{countBelow-ext}
+use Rattle.netlist.specs.Netlist.{Block, inputCount, gateCount}
+use Rattle.netlist.specs.Assignments.{bit}
+use Rattle.netlist.specs.StoredBlock.{gatesAt, outputsAt, decode, isTorn}
+use Rattle.netlist.specs.Rounds.{settingCount, isSettled, isExcluded, isCounted, isSoundAt, lowestUnsettled}
+use Rattle.encoding.proofs.Decoded.{decode-inputCount, decode-gateCount}
+use Rattle.encoding.proofs.Readers.{whole-parts}
+use Rattle.decide.specs.InPlace.{Visits}
+use Rattle.decide.proofs.Legible.{legible}
+use Rattle.lanes.specs.Pairs.{full}
+use Rattle.lanes.specs.Batches.{lanesOf}
+use Rattle.lanes.proofs.InputLaws.{lanesOf-most}
+use Rattle.batch.specs.Batch.{Decidable, BatchSettled}
+use Rattle.judge.specs.Lanes.{hasLane, Tells, Judged, mayCome, isUndefinedAt, isUnsettled, isUnsound, undefinedWord}
+use Rattle.judge.proofs.WordLaws.{tells-and, tells-no-lane, tells-some, tells-lowest, lane-bit}
+use Rattle.judge.proofs.OutputLaws.{undefined-tells, undefined-some, undefined-unsettled}
+use Rattle.verdict.specs.Flags.{soundFlag}
+use Rattle.verdict.specs.Batches.{FirstBatch, countedFrom, flagged}
+use Rattle.verdict.proofs.Counting.{lowest-found, below-lowest}
+
+-- ---- where a batch starts
+
+-- the batches of n inputs up to `base` are whole, and so is the one there, unless it is past the last
+pub record Place (n base : ℕ) : Type 0 where
+  pub within : base ≤ 2 ^ n
+  pub aligned : base < 2 ^ n → base % 64 ≡ 0
+  pub whole : base < 2 ^ n → base + lanesOf n ≤ 2 ^ n
+
+pub place-first : (n : ℕ) → Place n 0
+unfolding lanesOf
+place-first n =
+    record {
+      within = omega arith;
+      aligned = λ l. refl;
+      whole = λ l. let h : 2 ^ min n 6 ≤ 2 ^ n = pow-mono {i = min n 6} {j = n} (min-le-left n 6) in omega arith;
+    }
+
+pub place-next : {n base step count : ℕ} → step ≡ lanesOf n → count ≡ 2 ^ n → Place n base → base < count → Place n (base + step)
+unfolding lanesOf
+place-next {n} {base} {step} {count} is many-are p h = rw is (⊎-elim few many (lt-or-le n 6))
+  where
+    l : base < 2 ^ n
+    l = rw (← many-are) h
+
+    few : n < 6 → Place n (base + lanesOf n)
+    few h =
+        let e : lanesOf n ≡ 2 ^ n = ap (λ (k : ℕ). 2 ^ k) (min-eq-left {n = n} {m = 6} (omega arith)) in
+        let w = p .whole l in
+        record { within = w; aligned = λ m. absurd (omega arith); whole = λ m. absurd (omega arith) }
+
+    many : 6 ≤ n → Place n (base + lanesOf n)
+    many h =
+        let e : lanesOf n ≡ 64 = ap (λ (k : ℕ). 2 ^ k) (min-eq-right {n = 6} {m = n} h) in
+        let d : n - 6 + 6 ≡ n = omega arith in
+        let f : 2 ^ n ≡ 2 ^ (n - 6) * 64 = rw d at (pow-add 2 (n - 6) 6) in
+        let w = p .whole l in
+        let a = p .aligned l in
+        record { within = w; aligned = λ m. omega arith; whole = λ m. omega arith }
+
+pub lanesOf-some : (n : ℕ) → 0 < lanesOf n
+unfolding lanesOf
+lanesOf-some n = pow-pos (min n 6)
+
+-- ---- a decided batch
+
+module _ {ws : List ℕ} {n gates : ℕ} {order zeros ones : List ℕ} (d : Decidable ws n gates order zeros ones) {zeros′ ones′ : List ℕ} where
+  pub judged : {base : ℕ} → base % 64 ≡ 0 → BatchSettled (decode ws) n base zeros′ ones′ → Judged ws n base zeros′ ones′
+  judged e s =
+      record {
+        settled = s;
+        inputs = d .legible .inputs ∙ decode-inputCount ws;
+        fewInputs = d .fewInputs;
+        aligned = e;
+      }
+
+  pub decidable-kept : length zeros′ ≡ length zeros → length ones′ ≡ length ones → Decidable ws n gates order zeros′ ones′
+  decidable-kept e f =
+      record {
+        legible = d .legible;
+        visits = d .visits;
+        fewInputs = d .fewInputs;
+        zerosLong = e ∙ d .zerosLong;
+        onesLong = f ∙ d .onesLong;
+      }
+
+-- whole words, an order over all gates, and a word for each node are what deciding a batch asks
+pub whole-decidable : (ws : List ℕ) (n m gates : ℕ) (order zeros ones : List ℕ) → isTorn ws ≡ false → n ≡ getD ws 0 0 → m ≡ getD ws 1 0
+    → gates ≡ gatesAt (getD ws 0 0) (getD ws 3 0) → Visits m order → length zeros ≡ n + m → length ones ≡ n + m → Decidable ws n gates order zeros ones
+whole-decidable ws n m gates order zeros ones h e f g v zl ol =
+    let c : m ≡ gateCount (decode ws) = f ∙ sym (decode-gateCount ws) in
+    record {
+      legible = rw (g, e) (legible ws h);
+      visits = rw (← c) v;
+      fewInputs = rw e (whole-parts ws h .fewInputs);
+      zerosLong = rw (← c) zl;
+      onesLong = rw (← c) ol;
+    }
+
+-- ---- what the outputs' words tell
+
+-- a setting that is not sound may come and is not settled
+unsound-both : (b : Block) (s : ℕ) → isSoundAt b s ≡ false → (mayCome b s ≡ true) × (isUnsettled b s ≡ true)
+unfolding isSoundAt mayCome isUnsettled
+unsound-both b s = go (isExcluded b s) (isSettled b s)
+  where
+    go : (e t : Bool) → e || t ≡ false → (not e ≡ true) × (not t ≡ true)
+    go true t h = not-both refl h
+    go false true h = not-both refl h
+    go false false h = (refl, refl)
+
+both-unsound : (b : Block) (s : ℕ) → mayCome b s ≡ true → isUnsettled b s ≡ true → isSoundAt b s ≡ false
+unfolding isSoundAt mayCome isUnsettled
+both-unsound b s = go (isExcluded b s) (isSettled b s)
+  where
+    go : (e t : Bool) → not e ≡ true → not t ≡ true → e || t ≡ false
+    go true t h k = not-both h refl
+    go false true h k = not-both k refl
+    go false false h k = refl
+
+module _ {ws : List ℕ} {n base : ℕ} {zeros ones : List ℕ} (j : Judged ws n base zeros ones) {at : ℕ}
+    (first : at ≡ outputsAt (getD ws 0 0) (getD ws 3 0) (getD ws 1 0)) {used : ℕ} (lanes : used ≡ full (lanesOf n))
+    {coming : ℕ} (comes : Tells (lanesOf n) base (mayCome (decode ws)) coming) where
+  -- no output is undefined at a lane that may come
+  pub passed-sound : ((o : ℕ) → o < getD ws 2 0 → bitAnd coming (undefinedWord ws at used zeros ones o) ≡ 0)
+      → (s : ℕ) → s < lanesOf n → isSoundAt (decode ws) (base + s) ≡ true
+  passed-sound none s l = ⊎-elim (λ h. h) (λ h. absurd (no-lane h)) (bool-cases (isSoundAt (decode ws) (base + s)))
+    where
+      no-lane : isSoundAt (decode ws) (base + s) ≡ false → ⊥
+      no-lane h =
+          let u = unsound-both (decode ws) (base + s) h in
+          let f = undefined-some ws (base + s) (u .1) in
+          not-both (and-intro (mayCome (decode ws) (base + s)) (isUndefinedAt (decode ws) (f .0) (base + s)) (u .0) (f .2))
+          (tells-no-lane (tells-and comes (undefined-tells j first (f .0) (f .1))) (rw (← lanes) (none (f .0) (f .1))) s l)
+
+  -- an output is undefined at one
+  pub found-unsound : (o : ℕ) → o < getD ws 2 0 → (bitAnd coming (undefinedWord ws at used zeros ones o) ≡ 0 → ⊥)
+      → (s : ℕ) × (s < lanesOf n) × (isSoundAt (decode ws) (base + s) ≡ false)
+  found-unsound o l h =
+      let f = tells-some (tells-and comes (undefined-tells j first o l)) (λ z. h (rw lanes z)) in
+      let may = mayCome (decode ws) (base + f .0) in
+      let lacks = isUndefinedAt (decode ws) o (base + f .0) in (
+        f .0,
+        f .1,
+        both-unsound (decode ws) (base + f .0) (and-left may lacks (f .2)) (undefined-unsettled ws (base + f .0) o l (and-right may lacks (f .2))),
+      )
+
+-- ---- the lowest
+
+-- one batch more
+pub sound-more : (b : Block) {base lanes step : ℕ} → step ≡ lanes → ((i : ℕ) → i < base → isSoundAt b i ≡ true)
+    → ((s : ℕ) → s < lanes → isSoundAt b (base + s) ≡ true) → (i : ℕ) → i < base + step → isSoundAt b i ≡ true
+sound-more b {base} {lanes} {step} is before inside i l =
+    ⊎-elim (before i) (λ h. let e : base + (i - base) ≡ i = omega arith in rw e at (inside (i - base) (omega arith))) (lt-or-le i base)
+
+-- the lowest lane of the first batch that has one
+pub lowest-in-batch : {b : Block} {n r : ℕ} {zeros ones : List ℕ} {w : ℕ} → n ≡ inputCount b → FirstBatch b n r zeros ones → r < 2 ^ n
+    → Tells (lanesOf n) r (isUnsound b) w → r + least (hasLane w) 64 ≡ lowestUnsettled b
+unfolding isUnsound settingCount
+lowest-in-batch {b} {n} {r} {zeros} {ones} {w} many f l t =
+    let room = f .whole l in
+    let s = f .some l in
+    let lo = tells-lowest t (lanesOf-most n) (s .0) (s .1) (rw (s .2)) in
+    let k = least (hasLane w) 64 in
+    lowest-found b (r + k) (2 ^ n) (ap (λ (i : ℕ). 2 ^ i) many) (omega (arith, lo .0))
+    (sound-more b refl (f .before) (λ i m. not-false-true (isSoundAt b (r + i)) (lo .2 i m)))
+    (λ m. not-true-is-false (isSoundAt b (r + k)) (lo .1))
+  where
+    not-false-true : (a : Bool) → not a ≡ false → a ≡ true
+    not-false-true true h = refl
+    not-false-true false h = sym h
+
+    not-true-is-false : (a : Bool) → not a ≡ true → a ≡ false
+    not-true-is-false true h = sym h
+    not-true-is-false false h = refl
+
+-- without such a batch
+pub lowest-nowhere : {b : Block} {n r : ℕ} {zeros ones : List ℕ} → n ≡ inputCount b → FirstBatch b n r zeros ones → 2 ^ n ≤ r → r ≡ lowestUnsettled b
+unfolding settingCount
+lowest-nowhere {b} {n} {r} many f l =
+    let w = f .within in
+    lowest-found b r (2 ^ n) (ap (λ (i : ℕ). 2 ^ i) many) w (f .before) (λ m. absurd (omega arith))
+
+-- ---- how many
+
+pub count-add : (p : ℕ → Bool) (a k : ℕ) → countBelow p (a + k) ≡ countBelow p a + countBelow (λ s. p (a + s)) k
+count-add p a zero = rw (add-zero a) (sym (add-zero (countBelow p a)))
+count-add p a (suc k) = rw (add-suc a k, count-add p a k) (add-assoc (countBelow p a) (countBelow (λ s. p (a + s)) k) (cond (p (a + k)) 1 0))
+
+-- below the lowest other
+pub count-coming : (b : Block) (base lanes : ℕ) → base + lanes ≤ lowestUnsettled b
+    → countBelow (λ s. mayCome b (base + s)) lanes ≡ countBelow (countedFrom b base) lanes
+unfolding countedFrom
+count-coming b base lanes h = countBelow-ext (λ s. mayCome b (base + s)) (countedFrom b base) lanes (λ s l. below-lowest b (base + s) (omega arith))
+
+pub count-batch : (b : Block) (base : ℕ) {lanes step count more : ℕ} → step ≡ lanes → count ≡ countBelow (isCounted b) base
+    → more ≡ countBelow (countedFrom b base) lanes → count + more ≡ countBelow (isCounted b) (base + step)
+unfolding countedFrom
+count-batch b base {lanes} is e f = rw (is, e, f) (sym (count-add (isCounted b) base lanes))
+
+-- ---- a byte for each setting
+
+pub flagged-length : (w base k : ℕ) (flags : List ℕ) → length (flagged w base k flags) ≡ length flags
+unfolding flagged
+flagged-length w base zero flags = refl
+flagged-length w base (suc k) flags = length-set (flagged w base k flags) (base + k) _ ∙ flagged-length w base k flags
+
+pub flagged-placed : {lanes base w step : ℕ} (b : Block) {flags : List ℕ} (entry : List ℕ) → step ≡ lanes → Tells lanes base (isSoundAt b) w
+    → base + lanes ≤ length entry → flags ≡ placed (tab (soundFlag b) base) entry → flagged w base step flags ≡ placed (tab (soundFlag b) (base + step)) entry
+unfolding soundFlag flagged
+flagged-placed {lanes} {base} {w} b {flags} entry is t room e = rw is (go lanes (omega arith))
+  where
+    flag : (s : ℕ) → s < lanes → bit w s ≡ soundFlag b (base + s)
+    flag s l = lane-bit w s ∙ rw (t .each s l)
+
+    go : (k : ℕ) → k ≤ lanes → flagged w base k flags ≡ placed (tab (soundFlag b) (base + k)) entry
+    go zero l = rw (add-zero base) e
+    go (suc k) l = rw (go k (omega arith), add-suc base k, flag k (omega arith)) (set-placed-tab (soundFlag b) (base + k) entry (omega arith))
