@@ -4,12 +4,15 @@
 --   verdict-before, lowest-before   Verdict's count and detail: over all settings, as before
 --   sound-before            an assignment is sound when every setting that agrees with it is settled, as before
 --   rendered-before         the rendering's words of today are its old ones with a fourth count
+--   torn-before, crowded-before   a block of more inputs than there were is torn to the old rules, and its text crowded
 use mathlib.Core.Path.{_≡_, refl, sym, ap, fun-ext, _∙_}
 use mathlib.Core.Bool.{Bool, true, false, not, _||_}
 use mathlib.Core.List.{List, []}
-use Prim.Native.Nat.{ℕ}
+use Prim.Native.Nat.{ℕ, _<_}
 use native.Mathlib.Omega.{arith}
 use lib.ListN.{length}
+use lib.Dec.{leb}
+use borrow.Author.Tests.{lt-leb}
 use Rattle.laws.specs.Lists.{all, upTo, countBelow, least}
 use Rattle.netlist.specs.Assignments.{Assignment, agrees}
 use Rattle.netlist.specs.Netlist.{Block, inputCount}
@@ -17,9 +20,10 @@ use Rattle.netlist.specs.StoredBlock.{encode, decode, isTorn}
 use Rattle.netlist.specs.Rounds.{isSettled, isExcluded, isCounted, isSoundAt, settingCount, settledSettings, lowestUnsettled}
 use Rattle.netlist.specs.Cover.{isSoundUnder}
 use Rattle.netlist.specs.Rendering.{rendering}
-use Rattle.netlist.specs.Bring.{encodeBefore, brought, isTornBefore}
+use Rattle.netlist.specs.Syntax.{Tree}
+use Rattle.netlist.specs.Bring.{maxInputsBefore, encodeBefore, brought, isTornBefore}
 use Rattle.encoding.proofs.Decoded.{decode-inputCount}
-use Rattle.bring.proofs.Words.{brought-nevers, encode-brought, whole-before, whole-long, word-before, torn-brought}
+use Rattle.bring.proofs.Words.{brought-nevers, encode-brought, whole-before, whole-long, word-before, torn-brought, torn-inputs}
 
 pub record AsBefore (ws : List ℕ) : Type 0 where
   pub whole : isTorn (brought ws) ≡ false
@@ -67,3 +71,14 @@ module _ (b : Block) (e : b .nevers ≡ []) where
   pub rendered-before : encode (rendering b) ≡ brought (encodeBefore (rendering b))
   unfolding rendering
   rendered-before = encode-brought (rendering b) e
+
+-- ---- more inputs than there were
+
+-- the old words of such a block are torn to the old rules
+pub torn-before : (b : Block) → maxInputsBefore < inputCount b → isTornBefore (encodeBefore b) ≡ true
+unfolding encodeBefore
+torn-before b many = torn-inputs (encodeBefore b) (omega arith) many
+
+-- and the limit of before refuses its text: this is the first test of 3 with that limit
+pub crowded-before : (t : Tree) → maxInputsBefore < length (t .inputs) → leb (length (t .inputs)) maxInputsBefore ≡ false
+crowded-before t many = lt-leb (length (t .inputs)) maxInputsBefore many
