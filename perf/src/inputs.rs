@@ -1,8 +1,8 @@
 //! What the operations are measured on.
 
-use simulator::block::Block;
+use simulator::block::{Block, Gate, Kind, Source};
 use simulator::generate::{for_typical_blocks, large, long_texts, longest_written, widest_cover};
-use simulator::limits::{BLOCK_WORDS, WRITTEN_BYTES};
+use simulator::limits::{BLOCK_WORDS, GATES, WRITTEN_BYTES};
 use unloop::raw;
 
 /// Inputs that are measured together, by name.
@@ -83,13 +83,54 @@ fn typical() -> Vec<Vec<u16>> {
     blocks
 }
 
-fn named(name: &str) -> Block {
+/// One of the largest blocks.
+pub fn named(name: &str) -> Block {
     match name {
         "longest" => longest_written(),
         "most-entries" => widest_cover(),
+        "two-way-row" => two_way_row(),
         _ => {
             let found = large().into_iter().find(|(other, _)| *other == name);
             found.expect("a block of this name").1
         }
+    }
+}
+
+/// The first of the straight gates of four operands, over the first inputs; the outputs show the last gates.
+pub fn grown(inputs: usize, gates: usize) -> Vec<u16> {
+    let mut block = named("straight-fours");
+    block.inputs.truncate(inputs);
+    block.gates.truncate(gates);
+    for operand in block.gates.iter_mut().flat_map(|gate| &mut gate.operands) {
+        if let Source::Input(input) = *operand {
+            let kept = input.checked_rem(inputs);
+            *operand = kept.map_or(Source::Constant(false), Source::Input);
+        }
+    }
+    for (number, output) in block.outputs.iter_mut().enumerate() {
+        output.node = Source::Gate(gates - 1 - number);
+    }
+    block.to_words()
+}
+
+/// A row of gates that each read both neighbours. Where the first input is 0, a 0 runs from the first gate to the last, elsewhere from the
+/// last to the first: so, whatever the order, half of the settings have a value that runs against it.
+fn two_way_row() -> Block {
+    let last = GATES - 1;
+    let first_input = Source::Input(0);
+    let gate = |number: usize| {
+        let (kind, operands) = match number {
+            0 => (Kind::And, [first_input, Source::Gate(1)]),
+            _ if number == last => (Kind::Nor, [Source::Gate(last - 1), first_input]),
+            _ => (Kind::And, [number - 1, number + 1].map(Source::Gate)),
+        };
+        Gate {
+            kind,
+            operands: operands.to_vec(),
+        }
+    };
+    Block {
+        gates: (0..GATES).map(gate).collect(),
+        ..named("straight-fours")
     }
 }

@@ -1,7 +1,9 @@
 //! The proved library against a plain Rust program that does the same work: times of both, measured in one run.
 
 mod clock;
+pub mod growth;
 pub mod inputs;
 pub mod measure;
+pub mod operations;
 pub mod plain;
 pub mod sheets;

@@ -1,23 +1,29 @@
 //! Prints the times of both programs as a table, or with `--lines` as `NAME ratio seconds`: the library's processor time for one call on
-//! each input of the set, and its ratio to the plain program's.
+//! each input of the set, and its ratio to the plain program's. With `--growth`: how times grow with inputs and gates.
 
+use perf::growth;
 use perf::inputs::{self, Set, UnderSetting};
 use perf::measure::{Line, Operation};
+use perf::operations::{COVER, RENDER, VERDICT};
 use perf::plain;
 use perf::sheets::{self, SETTINGS};
-use simulator::limits::{BLOCK_WORDS, COVER_WORDS, GATES, WRITTEN_BYTES};
+use simulator::limits::{BLOCK_WORDS, GATES, WRITTEN_BYTES};
 use std::env;
 use std::fmt::Debug;
 use std::process::ExitCode;
 use unloop::raw::{self, Record};
 
-const USAGE: &str = "usage: perf/run [--lines]";
+const USAGE: &str = "usage: perf/run [--lines | --growth]";
 
 fn main() -> ExitCode {
     let arguments: Vec<String> = env::args().skip(1).collect();
     let print = match arguments.iter().map(String::as_str).collect::<Vec<_>>()[..] {
         [] => print_row,
         ["--lines"] => print_line,
+        ["--growth"] => {
+            growth::print();
+            return ExitCode::SUCCESS;
+        }
         _ => {
             eprintln!("{USAGE}");
             return ExitCode::from(2);
@@ -128,14 +134,8 @@ fn measure_searches(print: fn(&Line)) {
         "half-unneeded",
         "half-excluded",
     ];
-    let verdict = Operation {
-        name: "verdict",
-        room: 0,
-        filler: 0_u16,
-        library: |words: &Vec<u16>, _| raw::verdict(words),
-        plain: |words, _| plain::verdict(words),
-    };
-    measure(print, verdict, inputs::blocks(&worst));
+    let with_row = [&worst[..], &["two-way-row"]].concat();
+    measure(print, VERDICT, inputs::blocks(&with_row));
     let groups = Operation {
         name: "groups",
         room: GATES,
@@ -147,13 +147,6 @@ fn measure_searches(print: fn(&Line)) {
 }
 
 fn measure_results(print: fn(&Line)) {
-    let render = Operation {
-        name: "render",
-        room: BLOCK_WORDS,
-        filler: 9_999,
-        library: |words: &Vec<u16>, rendered| raw::render(words, rendered),
-        plain: |words, rendered| plain::render(words, rendered),
-    };
     let worst = [
         "reversed-chain",
         "straight-fours",
@@ -163,15 +156,7 @@ fn measure_results(print: fn(&Line)) {
         "half-unneeded",
         "half-excluded",
     ];
-    measure(print, render, inputs::blocks(&worst));
-    let cover = Operation {
-        name: "cover",
-        // Two words for each partial assignment.
-        room: COVER_WORDS,
-        filler: 9_999,
-        library: |words: &Vec<u16>, entries| raw::cover(words, entries),
-        plain: |words, entries| plain::cover(words, entries),
-    };
+    measure(print, RENDER, inputs::blocks(&worst));
     let worst = [
         "reversed-chain",
         "straight-fours",
@@ -180,7 +165,7 @@ fn measure_results(print: fn(&Line)) {
         "half-unneeded",
         "half-excluded",
     ];
-    measure(print, cover, inputs::blocks(&worst));
+    measure(print, COVER, inputs::blocks(&worst));
 }
 
 /// Here the other program is the library's Settle, called for each setting.

@@ -6,6 +6,7 @@ pub mod block;
 mod bring;
 mod cover;
 mod groups;
+mod lanes;
 mod parse;
 mod read;
 mod render;

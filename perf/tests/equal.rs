@@ -1,11 +1,12 @@
 //! The plain program answers as the proved library does, on generated blocks and texts and in slices of several lengths.
 
-use perf::plain;
+use perf::inputs::{grown, named};
+use perf::{growth, plain};
 use simulator::generate::{
     for_blocks, for_texts, for_typical_blocks, large, long_texts, malformed, malformed_before,
     near_a_limit, spoiled, strange_never, widest_cover, Random, Report, Size,
 };
-use simulator::limits::{BLOCK_WORDS, COVER_WORDS, GATES, WRITTEN_BYTES};
+use simulator::limits::{BLOCK_WORDS, COVER_WORDS, GATES, INPUTS, WRITTEN_BYTES};
 use std::fmt::Debug;
 use unloop::raw::{self, Reply};
 
@@ -101,7 +102,7 @@ fn same_block(random: &mut Random, words: &[u16]) {
     same_results(words);
     same_searches(words);
     same_brought(words);
-    let n = words.first().map_or(0, |&n| usize::from(n).min(10));
+    let n = words.first().map_or(0, |&n| usize::from(n).min(INPUTS));
     same_values(words, &vec![3; n]);
     same_values(words, &vec![1; n + 1]);
     for _ in 0..3 {
@@ -138,9 +139,24 @@ fn largest_blocks() {
         let _report = Report(|| name.to_string());
         let words = block.to_words();
         same_results(&words);
+        same_searches(&words);
         for value in 0..3 {
-            same_values(&words, &[value; 10]);
+            same_values(&words, &[value; INPUTS]);
         }
+    }
+}
+
+/// The benchmark's own blocks.
+#[test]
+fn measured_blocks() {
+    let row = named("two-way-row").to_words();
+    same_results(&row);
+    same_searches(&row);
+    for (inputs, gates) in growth::rows().concat() {
+        let _report = Report(|| format!("{inputs} inputs, {gates} gates"));
+        let words = grown(inputs, gates);
+        same_results(&words);
+        same_searches(&words);
     }
 }
 

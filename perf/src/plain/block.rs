@@ -179,12 +179,6 @@ impl Block<'_> {
         })
     }
 
-    /// Whether a never line excludes the setting of this number.
-    pub fn is_excluded(&self, setting: usize) -> bool {
-        let agrees = |never: &&[u16]| setting as u16 & never[0] == never[1];
-        self.nevers.iter().any(agrees)
-    }
-
     /// The values before the first round.
     pub fn undefined(&self, setting: &[u8]) -> Vec<u8> {
         let mut values = setting.to_vec();

@@ -1,7 +1,7 @@
 //! Cover: soundness of every partial assignment from those that fix one input more, then those from which nothing can be dropped.
 
 use super::block::Block;
-use super::verdict::is_settled;
+use super::lanes::{Batches, LANES};
 use super::{handed_over, refused};
 use unloop::raw::Reply;
 
@@ -46,11 +46,12 @@ impl Table {
             ternary: (0..=full).map(|mask| digits(mask).sum()).collect(),
             sound: vec![false; 3_usize.pow(n as u32)],
         };
+        let undecided: Vec<u64> = Batches::of(block).map(|batch| batch.undecided).collect();
         for mask in (0..=full).rev() {
             for ones in parts(mask) {
                 let at = table.at(mask, ones);
                 table.sound[at] = match mask == full {
-                    true => block.is_excluded(ones) || is_settled(block, ones),
+                    true => undecided[ones / LANES] >> (ones % LANES) & 1 == 0,
                     false => table.is_sound_by_cases(mask, ones),
                 };
             }

@@ -2,7 +2,7 @@
 
 use super::block::Block;
 use super::groups::ordered_groups;
-use super::verdict::is_settled;
+use super::lanes::Batches;
 use super::{handed_over, refused};
 use unloop::raw::Reply;
 
@@ -16,9 +16,8 @@ pub fn render(words: &[u16], rendered: &mut [u16]) -> Reply {
     if copies > 1_024 {
         return refused(8, 0);
     }
-    let mut settings = 0..1 << block.inputs.len();
-    let fails = |&setting: &usize| !block.is_excluded(setting) && !is_settled(&block, setting);
-    if let Some(setting) = settings.find(fails) {
+    let lowest = Batches::of(&block).find_map(|batch| batch.lowest());
+    if let Some(setting) = lowest {
         return refused(9, setting);
     }
     let result = rendering(words, &block, &groups, copies);
