@@ -55,7 +55,9 @@ values : (d : tie.After-decide-batch Inv-loop μ-loop Inv-batches μ-batches) �
 values d = judged (start (head d) .pre) (head d .batches .inv .0 .aligned (inside d)) (d .decide-batch .ensures)
 
 next : (d : tie.After-decide-batch Inv-loop μ-loop Inv-batches μ-batches) → Place (start (head d) .args .n) (head d .batches .base + head d .before .before .before .before .lane-count .result)
-next d = place-next (head d .before .before .before .before .lane-count .ensures) (head d .before .before .before .before .before .setting-count .ensures) (head d .batches .inv .0) (d .before .before .before .batches-test .taken)
+next d =
+    let lanes = head d .before .before .before .before in
+    place-next (lanes .lane-count .ensures) (lanes .before .setting-count .ensures) (head d .batches .inv .0) (d .before .before .before .batches-test .taken)
 
 setting-count-requires : tie.Need-setting-count-requires Inv-loop μ-loop Inv-batches μ-batches
 setting-count-requires c κs = c .before .before .before .before .pre .fewInputs
