@@ -24,7 +24,7 @@ use Rattle.netlist.specs.Groups.{groups}
 use Rattle.netlist.specs.Rendering.{passes, schedule, copiedOperand, lastCopies, rendering, sweep}
 use Rattle.encoding.proofs.WellFormed.{wellFormed-parts}
 use Rattle.rounds.specs.Order.{Below, BelowOn, Listed, Follows}
-use Rattle.rounds.specs.Steps.{run}
+use Rattle.netlist.specs.Steps.{run}
 use Rattle.rounds.proofs.Values.{below-of-eq, below-trans, below-defined}
 use Rattle.rounds.proofs.AnyOrder.{length-run, run-append}
 use Rattle.rounds.proofs.Passes.{passes-above}

@@ -19,7 +19,7 @@ use Rattle.netlist.specs.Rounds.{operandValue, evaluated}
 use Rattle.netlist.specs.Groups.{gateOperand, readBy, reads}
 use Rattle.netlist.specs.Rendering.{schedule, noCopies, copiedOperand, copied, copies, newestAfter, lastCopies, rendering, sweepFrom, sweep}
 use Rattle.encoding.proofs.ListFacts.{getD-map}
-use Rattle.rounds.specs.Steps.{stepAt, run}
+use Rattle.netlist.specs.Steps.{stepAt, run}
 use Rattle.rounds.proofs.AnyOrder.{length-run}
 use Rattle.reach.specs.Inside.{Inside}
 use Rattle.reach.proofs.ListFacts.{map-same}

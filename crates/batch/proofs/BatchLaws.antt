@@ -24,8 +24,7 @@ use Rattle.netlist.specs.Netlist.{Block, inputCount, gateCount, gateOf}
 use Rattle.netlist.specs.Limits.{maxInputs}
 use Rattle.netlist.specs.StoredBlock.{gateSize, gateAt, decode}
 use Rattle.netlist.specs.Rounds.{settled, settingOf, settledUnder}
-use Rattle.rounds.specs.Order.{BelowAll}
-use Rattle.rounds.specs.Steps.{Rising}
+use Rattle.rounds.specs.Order.{BelowAll, Rising}
 use Rattle.rounds.proofs.ListFacts.{getD-replicate-default}
 use Rattle.rounds.proofs.AnyOrder.{start-below-settled}
 use Rattle.rounds.proofs.InPlace.{start-rising}

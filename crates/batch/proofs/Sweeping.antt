@@ -17,8 +17,8 @@ use Rattle.laws.proofs.Lists.{map-set}
 use Rattle.netlist.specs.Values.{Value, undefined}
 use Rattle.netlist.specs.Netlist.{Block, gateCount, gateOf}
 use Rattle.netlist.specs.Rounds.{evaluated, settled}
-use Rattle.rounds.specs.Order.{Below, BelowAll}
-use Rattle.rounds.specs.Steps.{stepAt, run, Rising}
+use Rattle.rounds.specs.Order.{Below, BelowAll, Rising}
+use Rattle.netlist.specs.Steps.{stepAt, run}
 use Rattle.rounds.proofs.Values.{below-of-eq}
 use Rattle.rounds.proofs.AnyOrder.{run-append, run-below-settled, fixed-settled}
 use Rattle.rounds.proofs.InPlace.{run-rising, run-fixed}

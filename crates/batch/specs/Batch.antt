@@ -15,8 +15,8 @@ use Rattle.netlist.specs.Limits.{maxInputs}
 use Rattle.netlist.specs.Netlist.{Block, inputCount, gateCount}
 use Rattle.netlist.specs.StoredBlock.{decode}
 use Rattle.netlist.specs.Rounds.{settled, settingOf, settledUnder}
-use Rattle.rounds.specs.Order.{BelowAll}
-use Rattle.rounds.specs.Steps.{run, Rising}
+use Rattle.rounds.specs.Order.{BelowAll, Rising}
+use Rattle.netlist.specs.Steps.{run}
 use Rattle.decide.specs.InPlace.{Legible, Visits}
 use Rattle.lanes.specs.declared.Pair.{Pair}
 use Rattle.lanes.specs.Pairs.{lane, nothing}

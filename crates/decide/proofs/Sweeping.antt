@@ -17,7 +17,7 @@ use Rattle.netlist.specs.Values.{Value, undefined, code, valueOf}
 use Rattle.netlist.specs.Netlist.{Gate, Block, gateCount, gateOf}
 use Rattle.netlist.specs.Rounds.{evaluated, settled}
 use Rattle.rounds.specs.Order.{BelowAll, definedAmong}
-use Rattle.rounds.specs.Steps.{stepAt, run}
+use Rattle.netlist.specs.Steps.{stepAt, run}
 use Rattle.rounds.proofs.Values.{below-of-eq, values-codes}
 use Rattle.rounds.proofs.States.{states-antisym}
 use Rattle.rounds.proofs.Counting.{definedAmong-le}

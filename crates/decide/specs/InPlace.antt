@@ -11,8 +11,8 @@ use Rattle.netlist.specs.Netlist.{Block, inputCount, gateCount, outputCount, ne
 use Rattle.netlist.specs.Limits.{maxInputs, maxNevers, maxGates, maxOutputs}
 use Rattle.netlist.specs.StoredBlock.{gateSize, gateAt, decode}
 use Rattle.netlist.specs.Rounds.{settled, settingOf, settledUnder}
-use Rattle.rounds.specs.Order.{BelowAll}
-use Rattle.rounds.specs.Steps.{run, Rising}
+use Rattle.rounds.specs.Order.{BelowAll, Rising}
+use Rattle.netlist.specs.Steps.{run}
 use Rattle.ternary.specs.Legal.{LegalHead}
 
 -- the words hold a block of n inputs whose gates' words start at `gates`, each with a legal head

@@ -9,7 +9,7 @@ use lib.Dec.{ltb}
 use Rattle.laws.specs.Lists.{placed}
 use Rattle.netlist.specs.declared.Refusal.{Refusal}
 use Rattle.netlist.specs.declared.Refusal.the-variants.{TextTooLong, SyntaxError, OverLimit, DuplicateDeclaration, UndeclaredName, MalformedBlock}
-use Rattle.netlist.specs.declared.Refusal.the-variants.{BadSetting, TooManyCopies, NotSettled, NotStraight, NoRoom, InterfaceMismatch}
+use Rattle.netlist.specs.declared.Refusal.the-variants.{BadSetting, TooManyCopies, NotSettled, NotStraight, NoRoom, InterfaceMismatch, NotAPermutation}
 use Rattle.netlist.specs.declared.Test.{Test}
 use Rattle.netlist.specs.declared.Test.the-variants.{Passed, Failed}
 use Rattle.netlist.specs.declared.Answer.{Answer}
@@ -30,6 +30,7 @@ refusalNumber (NotSettled setting) = 9
 refusalNumber NotStraight = 10
 refusalNumber NoRoom = 11
 refusalNumber InterfaceMismatch = 12
+refusalNumber NotAPermutation = 13
 
 -- the place or the setting that a refusal tells, or 0
 unfoldable pub refusalDetail : Refusal → ℕ
@@ -45,6 +46,7 @@ refusalDetail (NotSettled setting) = setting
 refusalDetail NotStraight = 0
 refusalDetail NoRoom = 0
 refusalDetail InterfaceMismatch = 0
+refusalDetail NotAPermutation = 0
 
 -- 0 on success
 unfoldable pub numberOf : Answer → ℕ

@@ -7,8 +7,10 @@ pub mod GateTable
 pub mod Netlist
 pub mod StoredBlock
 pub mod Rounds
+pub mod Steps
 pub mod Cover
 pub mod Groups
+pub mod Passes
 pub mod Rendering
 pub mod Syntax
 pub mod Parse
@@ -20,6 +22,8 @@ pub mod Operations
 pub mod Bring
 pub mod Sheet
 pub mod Compare
+pub mod Cells
+pub mod Gather
 pub mod Program
 pub mod SetLine
 pub mod Bench

@@ -1,4 +1,4 @@
--- SPECIFICATION 9.1 to 9.10 and 9.13: the worked examples, among them those that tell the definitions from their near misses, as one claim over one
+-- SPECIFICATION 9.1 to 9.10 and 9.13 to 9.16: the worked examples, among them those that tell the definitions from their near misses, as one claim over one
 -- list, computed from the definitions; behind them worked examples of the bench.
 use Prim.Native.Nat.{ℕ, suc, _+_, _-_, _%_}
 use Prim.Native.String.{String}
@@ -9,7 +9,8 @@ use lib.ListN.{length, replicate}
 use Rattle.laws.specs.Lists.{ascii, same, all, repeated, tab, joined}
 use Rattle.netlist.specs.declared.Record.{Record}
 use Rattle.netlist.specs.Limits.{maxText, maxInputs}
-use Rattle.netlist.specs.Values.{code, valueOf, invert, isDefined}
+use Rattle.netlist.specs.Values.{undefined, code, valueOf, invert, isDefined}
+use Rattle.netlist.specs.Netlist.{gateCount}
 use Rattle.netlist.specs.Kinds.{row, rows, rowOf, isNot, isXor, isXnor, isKind, signatureOf, fewestOperands, mostOperands, arityFits, keyword, ruled}
 use Rattle.netlist.specs.Kinds.{ones, parity, gateValue}
 use Rattle.netlist.specs.StoredBlock.{gatesAt, outputsAt, isLetter, isDigit, isUnderscore, isNameByte, isNameStart, isLegalName, isPlainName}
@@ -56,6 +57,11 @@ use Rattle.netlist.specs.Parse.{neverPairs, addNever, neverLine, neversR
 use Rattle.netlist.specs.Reading.{neverLinesAt, neverMentions, excludedNames, lesser, firstRepeatIn, assignmentOf}
 use Rattle.netlist.specs.Writing.{pairsOf}
 use Rattle.netlist.specs.Bring.{encodeBefore, brought, isTornBefore, bringWords, bring}
+use Rattle.netlist.specs.Steps.{stepAt, run}
+use Rattle.netlist.specs.Cells.{truthBit, truthWord, cellWords, cellsOf, makeWords, makeCells, cellCount, cellAt, cellsIn, isEarlier, readsEarlier}
+use Rattle.netlist.specs.Cells.{areLegalCells, isBadRun, operandBit, numberOfBits, cellValue, runFrom, cellValues, runCells}
+use Rattle.netlist.specs.Gather.{renumbered, renumberedGate, renumberedOutput, arranged, numberAt, placeIn, gatheredOrder, gathered, lacksRoom}
+use Rattle.netlist.specs.Gather.{gatherWith, gatheredWords, gather, gatherList, isPermutation, inverse, scattered, scatter}
 
 -- What is asked. Where an operation takes a block, the question gives the block's text or its words; `room` is the slice's length.
 pub data Question : Type 0 where
@@ -68,6 +74,11 @@ pub data Question : Type 0 where
   toAnswerLine : List ℕ → (line : List ℕ) → (room : ℕ) → Question
   toBench : List ℕ → Question
   toFill : List ℕ → List Record → Question
+  toMakeCells : List ℕ → (room : ℕ) → Question
+  toRunCells : (inputs : ℕ) → (cells setting : List ℕ) → (room : ℕ) → Question
+  toGather : List ℕ → (room listRoom : ℕ) → Question
+  toScatter : List ℕ → (order : List ℕ) → (room : ℕ) → Question
+  toStep : List ℕ → (setting gates : List ℕ) → Question
 
 -- number, count and detail, and then the result
 unfoldable pub report : Outcome → List ℕ
@@ -97,6 +108,11 @@ answered (toUnloop text) = unloop text
 answered (toAnswerLine ws line room) = report (answerLine ws line room)
 answered (toBench input) = bench input
 answered (toFill ws rs) = report (sheet ws (length rs)) ++ joined (map fields (sheetRecords ws rs))
+answered (toMakeCells ws room) = report (makeCells ws room)
+answered (toRunCells inputs cells setting room) = report (runCells inputs cells setting room)
+answered (toGather ws room listRoom) = report (gather ws room listRoom) ++ leftIn (gatherList ws room listRoom) []
+answered (toScatter ws order room) = report (scatter ws order room)
+answered (toStep ws setting gates) = map code (run (decode ws) (map valueOf setting) gates (replicate (gateCount (decode ws)) undefined))
 
 pub record Specimen : Type 0 where
   pub asked : Question
@@ -165,6 +181,22 @@ never4 = "(in a)\n(in b)\n(never (b 0) (a 1))\n(gate p (and a q))\n(gate q (or b
 -- every setting excluded, one of them twice
 unfoldable pub neverAny : String
 neverAny = "(in a)\n(never (a 0))\n(never (a 1))\n(never (a 0))\n(gate p (not p))\n(out y p)\n"
+
+-- gates whose groups' order is not theirs, with one that reads a later one
+unfoldable pub unordered : String
+unordered = "(gate a (not d))\n(gate b (not 0))\n(gate c (and a 1))\n(gate d (not 1))\n(out y c)\n"
+
+-- its words with groups side by side, and the gates' old numbers
+unfoldable pub ordered : List ℕ
+ordered =
+    0 ∷ 4 ∷ 1 ∷ 0 ∷ 8 ∷ 65534 ∷ 0 ∷ 0 ∷ 0 ∷ 8 ∷ 65535 ∷ 0 ∷ 0 ∷ 0 ∷ 8 ∷ 1 ∷ 0 ∷ 0 ∷ 0 ∷ 17 ∷ 2 ∷ 65535 ∷ 0 ∷ 0 ∷ 121 ∷ 0 ∷ 0 ∷ 0 ∷ 3 ∷ []
+
+unfoldable pub orderOf : List ℕ
+orderOf = 1 ∷ 3 ∷ 0 ∷ 2 ∷ []
+
+-- the cells of a straight block with a constant and absent operands
+unfoldable pub straightCells : List ℕ
+straightCells = 0 ∷ 65535 ∷ 65534 ∷ 65534 ∷ 34952 ∷ 0 ∷ 1 ∷ 65534 ∷ 65534 ∷ 38550 ∷ 2 ∷ 65534 ∷ 65534 ∷ 65534 ∷ 21845 ∷ []
 
 -- n inputs with names of their own, and one input line more than the limit with the same name each
 unfoldable pub inputLines : ℕ → List ℕ
@@ -354,6 +386,42 @@ specimens =
     ∷ (toBring (0 ∷ 0 ∷ 0 ∷ []) 3 ⇒ with 11 0)
     ∷ (toBring (0 ∷ 0 ∷ 0 ∷ 0 ∷ []) 0 ⇒ with 6 0)
     ∷ (toBring (0 ∷ 0 ∷ []) 0 ⇒ with 6 0)
+    -- 9.14, cells: operands in order, absent ones constant 0; the word knows neither constants nor absent operands
+    ∷ (toMakeCells (blockWords "(in a)\n(gate p (and a 1))\n(gate q (xor a p 0))\n(gate r (not q))\n") 15 ⇒ 0 ∷ 15 ∷ 0 ∷ straightCells)
+    ∷ (toMakeCells (blockWords "(in a)\n(gate p (and a 1))\n") 4 ⇒ with 11 0)
+    ∷ (toMakeCells (blockWords specimen4) 0 ⇒ with 10 0)
+    ∷ (toMakeCells [] 0 ⇒ with 6 0)
+    -- operand i is bit i of the place in the truth word; cells made elsewhere
+    ∷ (toRunCells 1 straightCells (1 ∷ []) 3 ⇒ 0 ∷ 3 ∷ 0 ∷ 1 ∷ 0 ∷ 1 ∷ [])
+    ∷ (toRunCells 1 straightCells (0 ∷ []) 3 ⇒ 0 ∷ 3 ∷ 0 ∷ 0 ∷ 0 ∷ 1 ∷ [])
+    ∷ (toRunCells 0 (65535 ∷ 65534 ∷ 65534 ∷ 65534 ∷ 2 ∷ 0 ∷ 65534 ∷ 65534 ∷ 0 ∷ 512 ∷ []) [] 2 ⇒ 0 ∷ 2 ∷ 0 ∷ 1 ∷ 1 ∷ [])
+    ∷ (toRunCells 12 [] (replicate 12 1) 0 ⇒ 0 ∷ 0 ∷ 0 ∷ [])
+    -- malformed: an input too many, a cell cut off, one that reads itself, no node; then the setting, then the room
+    ∷ (toRunCells 13 [] (replicate 13 1) 0 ⇒ with 6 0)
+    ∷ (toRunCells 1 (0 ∷ 0 ∷ 0 ∷ 0 ∷ []) [] 0 ⇒ with 6 0)
+    ∷ (toRunCells 1 (0 ∷ 1 ∷ 0 ∷ 0 ∷ 0 ∷ []) (2 ∷ []) 0 ⇒ with 6 0)
+    ∷ (toRunCells 1 (0 ∷ 0 ∷ 0 ∷ 65533 ∷ 0 ∷ []) (0 ∷ []) 1 ⇒ with 6 0)
+    ∷ (toRunCells 1 straightCells (2 ∷ []) 0 ⇒ with 7 0)
+    ∷ (toRunCells 1 straightCells (0 ∷ 0 ∷ []) 0 ⇒ with 7 0)
+    ∷ (toRunCells 1 straightCells (0 ∷ []) 2 ⇒ with 11 0)
+    -- 9.15, gates by group and back
+    ∷ (toGather (blockWords unordered) 29 4 ⇒ 0 ∷ 29 ∷ 0 ∷ ordered ++ orderOf)
+    ∷ (toGather (blockWords unordered) 28 4 ⇒ with 11 0)
+    ∷ (toGather (blockWords unordered) 29 3 ⇒ with 11 0)
+    ∷ (toGather [] 0 0 ⇒ with 6 0)
+    ∷ (toScatter ordered orderOf 29 ⇒ 0 ∷ 29 ∷ 0 ∷ blockWords unordered)
+    ∷ (toScatter ordered orderOf 28 ⇒ with 11 0)
+    -- a list of another length, with a number that is no gate's, with one twice
+    ∷ (toScatter ordered (1 ∷ 3 ∷ 0 ∷ []) 0 ⇒ with 13 0)
+    ∷ (toScatter ordered (1 ∷ 3 ∷ 0 ∷ 4 ∷ []) 29 ⇒ with 13 0)
+    ∷ (toScatter ordered (1 ∷ 3 ∷ 0 ∷ 3 ∷ []) 29 ⇒ with 13 0)
+    ∷ (toScatter [] (1 ∷ []) 0 ⇒ with 6 0)
+    -- 9.16, single gates in any order: none, one again, one left out; undefined isn't 0, and only that gate changes
+    ∷ (toStep (blockWords specimen4) (1 ∷ 0 ∷ []) [] ⇒ 2 ∷ 2 ∷ [])
+    ∷ (toStep (blockWords specimen4) (1 ∷ 0 ∷ []) (0 ∷ 1 ∷ 0 ∷ []) ⇒ 2 ∷ 2 ∷ [])
+    ∷ (toStep (blockWords specimen4) (1 ∷ 1 ∷ []) (1 ∷ []) ⇒ 2 ∷ 1 ∷ [])
+    ∷ (toStep (blockWords specimen4) (1 ∷ 1 ∷ []) (0 ∷ 1 ∷ 1 ∷ 0 ∷ []) ⇒ 1 ∷ 1 ∷ [])
+    ∷ (toStep (blockWords specimen4) (0 ∷ 2 ∷ []) (1 ∷ 0 ∷ 1 ∷ []) ⇒ 0 ∷ 2 ∷ [])
     -- a set line: partial settings, ports in file order, and the order 6, 2, 4, 5, 11
     ∷ (toAnswerLine (blockWords board) (ascii "(set (b 0))\n") 25 ⇒ 0 ∷ 25 ∷ 0 ∷ ascii "(show (z u) (y 0) (x u))\n")
     ∷ (toAnswerLine (blockWords board) (ascii "(set (b 0))\n") 24 ⇒ with 11 0)
@@ -388,5 +456,5 @@ specimens =
 
 -- All of them come out as stated.
 pub specimens-hold : all right specimens ≡ true
-unfolding code valueOf invert isDefined row rows rowOf isNot isXor isXnor isKind signatureOf fewestOperands mostOperands arityFits keyword ruled ones parity gateValue gatesAt outputsAt isLetter isDigit isUnderscore isNameByte isNameStart isLegalName isPlainName isNodeName nameWords bytesAt nameAt nodeWord operandOf gateWords gateAt outputWords outputAt encode decode isNode isOperand gateFits isWellFormed isTorn operandValue evaluated round afterRounds isStable rounds settled bit settingOf settingCount settledUnder isSettled settledSettings lowestUnsettled fixes agrees isSoundUnder isSound without isMinimal isWithin assignmentsAt assignments cover coverEntries gateOperand readBy reads has grown grownTimes reach reaches sameGroup groupOf isReady mayBeNext groupsAfter groups groupNumber groupNumbers copyCount passes schedule noCopies copiedOperand copied copies newestAfter lastCopies rendering isStraight sweepFrom sweep printTerm printInput printGate printOutput printLines print pure stop onTest ifNext expect onParsed bind nameBytes nameAfter nameReader kindReader spaced termsReader exprReader leafOr termReader addInput addGate addOutput inputLine gateLine outputLine atEnd line outputsReader gatesReader textReader parse gatesIn lineGates isOverLimit mentions linesLength gateLinesAt outputLinesAt inputMention gateMention portMention shownMention termMentions operandMentions declaredNodes declaredPorts usedNames firstRepeat orElse firstDuplicate firstOutside firstUndeclared inputBindings gateBindings bindings lookup termNode termsNodes termGates linesGates blockOf digits decimal gateName nodeNameOf termOf termsOf flatLine flatTree writtenText clamped startBefore untilLf lineStart lineEnd lineLength lineAt refusalNumber refusalDetail numberOf countOf detailOf refuseIf refuseAt inRoom answerOf leftIn counted readTree readParsed readText read isBadSetting settleBlock settle verdict coverBlock coverOf groupsBlock groupsOf renderBlock renderWords render passBlock pass writeWords write inputByte settingBytes isBadMasks maskOf isOne outputValues showing refusedRecord settledOutputs recordOf answeredRecord sheetRecords sheet chained refusalLine shown unloop outputValue outputsUnder valueText pairText printPair bitReader pairReader spacedPair pairsReader setLineReader pairMention givenNames givenValue givenValues portText showLine pairsOutcome parsedOutcome lineOutcome answerLine lineAnswer netlistFrom settingsFrom netlistPart settingsPart lastLine linesFrom linesOf lineAnswers benchAfter bench report asks fields answered right blockWords _⇒_ with specimen4 shown4 specimen6 rendered6 spare kinds board parities parityLoop ring specimens neversAt neverWords neverAt neverFits areMasks isExcluded isCounted isSoundAt printNever neverPairs addNever neverLine neversReader neverLinesAt neverMentions excludedNames lesser firstRepeatIn assignmentOf pairsOf encodeBefore brought isTornBefore bringWords bring never11 never4 neverAny inputLines tooManyInputs
+unfolding code valueOf invert isDefined row rows rowOf isNot isXor isXnor isKind signatureOf fewestOperands mostOperands arityFits keyword ruled ones parity gateValue gatesAt outputsAt isLetter isDigit isUnderscore isNameByte isNameStart isLegalName isPlainName isNodeName nameWords bytesAt nameAt nodeWord operandOf gateWords gateAt outputWords outputAt encode decode isNode isOperand gateFits isWellFormed isTorn operandValue evaluated round afterRounds isStable rounds settled bit settingOf settingCount settledUnder isSettled settledSettings lowestUnsettled fixes agrees isSoundUnder isSound without isMinimal isWithin assignmentsAt assignments cover coverEntries gateOperand readBy reads has grown grownTimes reach reaches sameGroup groupOf isReady mayBeNext groupsAfter groups groupNumber groupNumbers copyCount passes schedule noCopies copiedOperand copied copies newestAfter lastCopies rendering isStraight sweepFrom sweep printTerm printInput printGate printOutput printLines print pure stop onTest ifNext expect onParsed bind nameBytes nameAfter nameReader kindReader spaced termsReader exprReader leafOr termReader addInput addGate addOutput inputLine gateLine outputLine atEnd line outputsReader gatesReader textReader parse gatesIn lineGates isOverLimit mentions linesLength gateLinesAt outputLinesAt inputMention gateMention portMention shownMention termMentions operandMentions declaredNodes declaredPorts usedNames firstRepeat orElse firstDuplicate firstOutside firstUndeclared inputBindings gateBindings bindings lookup termNode termsNodes termGates linesGates blockOf digits decimal gateName nodeNameOf termOf termsOf flatLine flatTree writtenText clamped startBefore untilLf lineStart lineEnd lineLength lineAt refusalNumber refusalDetail numberOf countOf detailOf refuseIf refuseAt inRoom answerOf leftIn counted readTree readParsed readText read isBadSetting settleBlock settle verdict coverBlock coverOf groupsBlock groupsOf renderBlock renderWords render passBlock pass writeWords write inputByte settingBytes isBadMasks maskOf isOne outputValues showing refusedRecord settledOutputs recordOf answeredRecord sheetRecords sheet chained refusalLine shown unloop outputValue outputsUnder valueText pairText printPair bitReader pairReader spacedPair pairsReader setLineReader pairMention givenNames givenValue givenValues portText showLine pairsOutcome parsedOutcome lineOutcome answerLine lineAnswer netlistFrom settingsFrom netlistPart settingsPart lastLine linesFrom linesOf lineAnswers benchAfter bench report asks fields answered right blockWords _⇒_ with specimen4 shown4 specimen6 rendered6 spare kinds board parities parityLoop ring specimens neversAt neverWords neverAt neverFits areMasks isExcluded isCounted isSoundAt printNever neverPairs addNever neverLine neversReader neverLinesAt neverMentions excludedNames lesser firstRepeatIn assignmentOf pairsOf encodeBefore brought isTornBefore bringWords bring never11 never4 neverAny inputLines tooManyInputs stepAt run truthBit truthWord cellWords cellsOf makeWords makeCells cellCount cellAt cellsIn isEarlier readsEarlier areLegalCells isBadRun operandBit numberOfBits cellValue runFrom cellValues runCells renumbered renumberedGate renumberedOutput arranged numberAt placeIn gatheredOrder gathered lacksRoom gatherWith gatheredWords gather gatherList isPermutation inverse scattered scatter unordered ordered orderOf straightCells
 specimens-hold = refl

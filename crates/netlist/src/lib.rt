@@ -1,6 +1,6 @@
 // The declared types of the answers, of a sheet's records and of the table of kinds. specs/ says what each case means; nothing here runs.
 
-// One of the twelve refusals (SPECIFICATION 7.2), with the place or the setting that it tells.
+// One of the thirteen refusals (SPECIFICATION 7.2), with the place or the setting that it tells.
 pub enum Refusal {
     // 1, overlong
     TextTooLong,
@@ -26,6 +26,8 @@ pub enum Refusal {
     NoRoom,
     // 12, strangers
     InterfaceMismatch,
+    // 13, order
+    NotAPermutation,
 }
 
 // What a condition of an operation answers: the input passes, or the operation refuses.

@@ -6,13 +6,13 @@ use types.Run.{OneOf, miss}
 use denote.Enum.Declared.{tagOf}
 use Rattle.netlist.specs.declared.Refusal.{Refusal}
 use Rattle.netlist.specs.declared.Refusal.the-variants.{TextTooLong, SyntaxError, OverLimit, DuplicateDeclaration, UndeclaredName, MalformedBlock}
-use Rattle.netlist.specs.declared.Refusal.the-variants.{BadSetting, TooManyCopies, NotSettled, NotStraight, NoRoom, InterfaceMismatch}
+use Rattle.netlist.specs.declared.Refusal.the-variants.{BadSetting, TooManyCopies, NotSettled, NotStraight, NoRoom, InterfaceMismatch, NotAPermutation}
 use Rattle.netlist.proofs.Refusal.{the-type}
 use Rattle.netlist.specs.Answers.{refusalDetail}
 
 -- the tags of the refusals that tell no place and no setting
 abbrev plain : List ℕ
-plain = 0 ∷ 2 ∷ 5 ∷ 6 ∷ 7 ∷ 9 ∷ 10 ∷ 11 ∷ []
+plain = 0 ∷ 2 ∷ 5 ∷ 6 ∷ 7 ∷ 9 ∷ 10 ∷ 11 ∷ 12 ∷ []
 
 pub detail-none : (r : Refusal) → OneOf plain (tagOf the-type r) → 0 ≡ refusalDetail r
 unfolding refusalDetail
@@ -28,3 +28,4 @@ detail-none (NotSettled p) k = absurd (miss plain 8 tt k)
 detail-none NotStraight k = refl
 detail-none NoRoom k = refl
 detail-none InterfaceMismatch k = refl
+detail-none NotAPermutation k = refl

@@ -18,7 +18,7 @@ use lib.Dec.{ltb}
 use Rattle.laws.specs.Lists.{placed}
 use Rattle.netlist.specs.declared.Refusal.{Refusal}
 use Rattle.netlist.specs.declared.Refusal.the-variants.{TextTooLong, SyntaxError, OverLimit, DuplicateDeclaration, UndeclaredName, MalformedBlock}
-use Rattle.netlist.specs.declared.Refusal.the-variants.{BadSetting, TooManyCopies, NotSettled, NotStraight, NoRoom, InterfaceMismatch}
+use Rattle.netlist.specs.declared.Refusal.the-variants.{BadSetting, TooManyCopies, NotSettled, NotStraight, NoRoom, InterfaceMismatch, NotAPermutation}
 use Rattle.netlist.specs.declared.Test.{Test}
 use Rattle.netlist.proofs.Test.{the-type}
 use Rattle.netlist.specs.declared.Test.the-variants.{Passed, Failed}
@@ -52,8 +52,9 @@ answerWith number count detail =
     ∷ Refused (NotSettled detail)
     ∷ Refused NotStraight
     ∷ Refused NoRoom
+    ∷ Refused InterfaceMismatch
     ∷ [])
-    number (Refused InterfaceMismatch)
+    number (Refused NotAPermutation)
 
 answer-with : (r : Answer) → answerWith (numberOf r) (countOf r) (detailOf r) ≡ r
 unfolding answerWith numberOf countOf detailOf refusalNumber refusalDetail
@@ -70,6 +71,7 @@ answer-with (Refused (NotSettled setting)) = refl
 answer-with (Refused NotStraight) = refl
 answer-with (Refused NoRoom) = refl
 answer-with (Refused InterfaceMismatch) = refl
+answer-with (Refused NotAPermutation) = refl
 
 pub told-answer : {o : Outcome} {r : Answer} → Told o r → r ≡ answerOf o
 told-answer {o} {r} t = sym (answer-with r) ∙ rw (t .number, t .count, t .detail) (answer-with (answerOf o))

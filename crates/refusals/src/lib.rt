@@ -58,6 +58,7 @@ pub fn number_of(why: Refusal) -> usize
         Refusal::NotStraight => 10,
         Refusal::NoRoom => 11,
         Refusal::InterfaceMismatch => 12,
+        Refusal::NotAPermutation => 13,
     }
 }
 

@@ -19,7 +19,7 @@ use Rattle.netlist.specs.Values.{Value, undefined}
 use Rattle.netlist.specs.Netlist.{Block, gateCount, gateOf}
 use Rattle.netlist.specs.Rounds.{evaluated, settled}
 use Rattle.rounds.specs.Order.{BelowAll}
-use Rattle.rounds.specs.Steps.{stepAt, run}
+use Rattle.netlist.specs.Steps.{stepAt, run}
 use Rattle.rounds.proofs.Values.{below-of-eq, below-trans}
 use Rattle.rounds.proofs.Evaluation.{evaluated-mono-all}
 use Rattle.rounds.proofs.States.{start-below, set-below, set-below-set}

@@ -19,8 +19,8 @@ use Rattle.laws.proofs.Lists.{member-first}
 use Rattle.netlist.specs.Values.{Value, undefined}
 use Rattle.netlist.specs.Netlist.{Block, gateCount, gateOf}
 use Rattle.netlist.specs.Rounds.{evaluated, settled}
-use Rattle.rounds.specs.Order.{Below, BelowAll, Listed, definedAmong}
-use Rattle.rounds.specs.Steps.{stepAt, run, Rising}
+use Rattle.rounds.specs.Order.{Below, BelowAll, Listed, definedAmong, Rising}
+use Rattle.netlist.specs.Steps.{stepAt, run}
 use Rattle.rounds.proofs.Values.{below-of-eq, below-of-undefined, below-refl, below-trans}
 use Rattle.rounds.proofs.Evaluation.{evaluated-mono-all}
 use Rattle.rounds.proofs.ListFacts.{getD-replicate-default, AfterSet, new, old, after-set}

@@ -18,7 +18,7 @@ use Rattle.netlist.specs.Netlist.{Block, gateCount, gateOf}
 use Rattle.netlist.specs.Rendering.{passes}
 use Rattle.netlist.specs.Rounds.{evaluated, round, afterRounds, rounds, settled}
 use Rattle.rounds.specs.Order.{Below, BelowOn, Listed, Follows, definedAmong}
-use Rattle.rounds.specs.Steps.{stepAt, run}
+use Rattle.netlist.specs.Steps.{stepAt, run}
 use Rattle.rounds.proofs.Values.{below-of-eq, below-of-undefined, below-trans}
 use Rattle.rounds.proofs.Evaluation.{evaluated-mono}
 use Rattle.rounds.proofs.ListFacts.{member-repeated, AfterSet, new, old, after-set}

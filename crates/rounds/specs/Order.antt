@@ -8,7 +8,8 @@ use mathlib.Core.List.{List, [], _∷_}
 use lib.ListN.{getD}
 use Rattle.laws.specs.Lists.{member}
 use Rattle.netlist.specs.Values.{Value, undefined, val, isDefined}
-use Rattle.netlist.specs.Netlist.{Block, gateCount}
+use Rattle.netlist.specs.Netlist.{Block, gateCount, gateOf}
+use Rattle.netlist.specs.Rounds.{evaluated}
 use Rattle.netlist.specs.Groups.{reads}
 
 -- v says no more than w: it is undefined, or the same
@@ -45,3 +46,7 @@ pub record Follows (b : Block) (before : ℕ → Type 0) (group : List ℕ) : Ty
 unfoldable pub definedAmong : List ℕ → List Value → ℕ
 definedAmong [] v = 0
 definedAmong (j ∷ js) v = cond (isDefined (getD v j undefined)) 1 0 + definedAmong js v
+
+-- the state is below its own round, so that steps only add to it
+abbrev pub Rising : Block → List Value → List Value → Type 0
+Rising b x v = (j : ℕ) → Below (getD v j undefined) (evaluated x v (gateOf b j))
