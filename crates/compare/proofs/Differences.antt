@@ -2,12 +2,14 @@
 --   differing-tells, differing-first   where an output shows another value; where one of the first outputs does
 --   marked-lanes                       where the blocks disagree
 --   lowest-there                       the lowest output that differs at a lane
+--   marked-batch, marked-lowest        the same of a batch that was decided; its lowest lane
 --   search-accepted, search-found      no setting disagrees; one does, and no lower one
+--   search-passed, search-marked       one batch more; the batch at which the search ends
 -- Assumes nothing.
 use mathlib.Core.Path.{_≡_, refl, sym, ap, _∙_}
 use mathlib.Core.Bool.{Bool, true, false, not, _&&_}
 use mathlib.Core.List.{List, []}
-use Prim.Native.Nat.{ℕ, zero, suc, _+_, _^_, _≤_, _<_, max}
+use Prim.Native.Nat.{ℕ, zero, suc, _+_, _%_, _^_, _≤_, _<_, max}
 use native.Mathlib.Omega.{arith}
 use lib.Bits.{bitAnd, bitOr, bitXor, differ, or-lt, xor-lt}
 use lib.Dec.{eqb}
@@ -28,11 +30,15 @@ use Rattle.lanes.specs.declared.Pair.{Pair}
 use Rattle.lanes.specs.Pairs.{marked, lane, Proper, full}
 use Rattle.lanes.specs.Batches.{lanesOf}
 use Rattle.lanes.proofs.BitLaws.{bit-or, bit-xor}
+use Rattle.lanes.proofs.InputLaws.{lanesOf-most}
+use Rattle.batch.specs.Batch.{BatchSettled}
 use Rattle.judge.specs.Lanes.{hasLane, Tells}
-use Rattle.judge.proofs.WordLaws.{tells-as, tells-none, tells-and, tells-or}
+use Rattle.judge.proofs.WordLaws.{tells-as, tells-none, tells-and, tells-or, tells-no-lane, tells-some, tells-lowest}
 use Rattle.judge.proofs.OutputLaws.{output-proper, output-lane, any-first}
 use Rattle.compare.specs.Words.{differingIn, portPair, differingWord, differingWords, differsAt}
-use Rattle.compare.specs.Ready.{BothJudged}
+use Rattle.verdict.proofs.Batching.{Place, batch-more}
+use Rattle.compare.specs.Ready.{CompareReady, BothJudged, Marked}
+use Rattle.compare.proofs.Rooms.{both-judged, setting-count}
 
 -- ---- two pairs at a lane
 
@@ -134,6 +140,21 @@ module _ {ours theirs : List ℕ} {base : ℕ} {zeros ones theirZeros theirOnes 
       (λ i below. sym (same i (omega arith)) ∙ least-below test count i (rw (← e) below))
       (λ there. sym (same r there) ∙ rw e (least-at test count (rw (← e) there)))))
 
+-- both blocks were decided, and the lanes of settings that count and of outputs that differ are known
+pub marked-batch : {ours theirs order theirOrder zeros ones theirZeros theirOnes : List ℕ}
+    → CompareReady ours theirs order theirOrder zeros ones theirZeros theirOnes → {n base used counted word : ℕ} {z o tz to : List ℕ} → n ≡ getD ours 0 0
+    → base % 64 ≡ 0 → BatchSettled (decode ours) n base z o → BatchSettled (decode theirs) n base tz to → used ≡ full (lanesOf n)
+    → Tells (lanesOf n) base (isCounted (decode ours)) counted → word ≡ differingWords ours theirs used z o tz to (getD ours 2 0)
+    → Marked ours theirs base z o tz to (bitAnd counted word)
+marked-batch r e aligned p q u t w =
+    let j = both-judged r e aligned p q in
+    record { judged = j; tells = marked-lanes j (u ∙ rw e) (rw e at t) w }
+
+-- the lowest lane of a word that is not 0
+pub marked-lowest : (n : ℕ) {base : ℕ} {test : ℕ → Bool} {w : ℕ} → Tells (lanesOf n) base test w → (w ≡ 0 → ⊥) → let r = least (hasLane w) 64 in
+    (r < lanesOf n) × (test (base + r) ≡ true) × ((i : ℕ) → i < r → test (base + i) ≡ false)
+marked-lowest n t h = let (s, l, p) = tells-some t h in tells-lowest t (lanesOf-most n) s l p
+
 -- ---- all settings
 
 module _ (a b : Block) (s count : ℕ) (e : count ≡ settingCount a) (before : (i : ℕ) → i < s → disagrees a b i ≡ false) where
@@ -152,3 +173,25 @@ module _ (a b : Block) (s count : ℕ) (e : count ≡ settingCount a) (before : 
       let below : s < settingCount a = omega arith in
       let is : least (disagrees a b) (settingCount a) ≡ s = least-is (disagrees a b) (settingCount a) s (omega arith) before (λ k. d) in
       rw (is, lt-ltb s (settingCount a) below, f) refl
+
+-- ---- batch by batch
+
+module _ {ours theirs : List ℕ} {n base : ℕ} {zeros ones theirZeros theirOnes : List ℕ} {w : ℕ}
+    (m : Marked ours theirs base zeros ones theirZeros theirOnes w) (e : n ≡ getD ours 0 0)
+    (before : (i : ℕ) → i < base → disagrees (decode ours) (decode theirs) i ≡ false) where
+  -- no lane of this one
+  pub search-passed : {step : ℕ} → step ≡ lanesOf n → w ≡ 0 → (i : ℕ) → i < base + step → disagrees (decode ours) (decode theirs) i ≡ false
+  search-passed is z = batch-more (λ i. disagrees (decode ours) (decode theirs) i ≡ false) (is ∙ rw e) before (tells-no-lane (m .tells) z)
+
+  -- some: the lowest lane, and there the lowest output
+  pub search-marked : (w ≡ 0 → ⊥) → {count used lane o : ℕ} → count ≡ 2 ^ n → used ≡ full (lanesOf n) → Place n base → base < count
+      → lane ≡ least (hasLane w) 64 → o ≡ least (differsAt ours theirs used zeros ones theirZeros theirOnes lane) (getD ours 2 0)
+      → Done (o + 1) (base + lane) ≡ answerOf (compareBlocks (decode ours) (decode theirs))
+  search-marked h {count} {used} {lane} {o} many u place below is lowest =
+      let f = marked-lowest (getD ours 0 0) (m .tells) h in
+      let there : lane < lanesOf (getD ours 0 0) = rw is (f .0) in
+      let room : base + lanesOf n ≤ 2 ^ n = place .whole (rw (← many) below) in
+      let there′ : lane < lanesOf n = rw e there in
+      search-found (decode ours) (decode theirs) (base + lane) count (setting-count ours e many)
+      (batch-more (λ i. disagrees (decode ours) (decode theirs) i ≡ false) refl before (λ i l. f .2 i (rw (← is) l))) o (omega arith) (rw is (f .1))
+      (lowest-there (m .judged) (u ∙ rw e) there lowest)

@@ -2,16 +2,22 @@
 --   decidable-at, theirs-at        ours and theirs can be decided
 --   both-judged                    both were
 --   compare-kept, compare-ready    slices of the same lengths; parts of large enough ones
+--   ports-near, few-ports, lowest-few   where a block's outputs stand, and how many there are
 --   setting-count                  the number of settings, as read
 -- Assumes nothing.
 use mathlib.Core.Path.{_≡_, refl, sym, _∙_}
+use mathlib.Core.Bool.{Bool, false}
 use mathlib.Core.List.{List}
-use Prim.Native.Nat.{ℕ, _+_, _%_, _^_, _≤_}
+use Prim.Native.Nat.{ℕ, _+_, _%_, _^_, _≤_, _<_}
+use native.Mathlib.Omega.{arith}
 use lib.ListN.{length, getD, take}
 use lib.Seq.{length-take-le}
-use Rattle.netlist.specs.StoredBlock.{gatesAt, decode}
+use Rattle.laws.specs.Lists.{least}
+use Rattle.laws.proofs.Least.{least-le}
+use Rattle.netlist.specs.StoredBlock.{neversAt, gatesAt, outputsAt, decode, isTorn}
 use Rattle.netlist.specs.Rounds.{settingCount}
 use Rattle.encoding.proofs.Decoded.{decode-inputCount}
+use Rattle.encoding.proofs.Readers.{whole-parts}
 use Rattle.visiting.specs.Visits.{Visits}
 use Rattle.batch.specs.Batch.{Decidable, BatchSettled}
 use Rattle.verdict.proofs.Batching.{judged, decidable-kept, whole-decidable}
@@ -57,6 +63,18 @@ compare-ready ours theirs order theirOrder zeros ones theirZeros theirOnes p e f
       theirReady = whole-decidable theirs (getD theirs 0 0) (getD theirs 1 0) _ _ _ _ (p .their-whole) refl refl refl (rw g w)
           (length-take-le _ theirZeros c ∙ rw (e, g, p .inputs)) (length-take-le _ theirOnes d ∙ rw (e, g, p .inputs));
     }
+
+-- the outputs of a whole block
+module _ (ws : List ℕ) (whole : isTorn ws ≡ false) where
+  pub ports-near : {at : ℕ} → at ≡ outputsAt (getD ws 0 0) (getD ws 3 0) (getD ws 1 0) → at < 2 ^ 32
+  unfolding outputsAt gatesAt neversAt
+  ports-near e = let w = whole-parts ws whole in omega (arith, e, w .fewInputs, w .fewGates, w .fewNevers)
+
+  pub few-ports : {o : ℕ} → o < getD ws 2 0 → o < 2 ^ 32
+  few-ports l = omega (arith, whole-parts ws whole .fewOutputs)
+
+  pub lowest-few : (test : ℕ → Bool) {o : ℕ} → o ≡ least test (getD ws 2 0) → o < 2 ^ 32
+  lowest-few test e = omega (arith, e, least-le test (getD ws 2 0), whole-parts ws whole .fewOutputs)
 
 -- the number of settings, as read
 pub setting-count : (ours : List ℕ) {n count : ℕ} → n ≡ getD ours 0 0 → count ≡ 2 ^ n → count ≡ settingCount (decode ours)

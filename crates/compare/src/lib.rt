@@ -22,20 +22,20 @@ fn compare_pair(ours: &[u16], theirs: &[u16]) -> Answer
     ensures { λ r. ⌜ r ≡ answerOf (compareBlocks (decode (now (ours .entry))) (decode (now (theirs .entry)))) ⌝ }
 {
     let mut order = [0u16; MAX_GATES];
-    let mut their_order = [0u16; MAX_GATES];
+    let mut path = [0u16; MAX_GATES];
     let mut zeros = [0u64; MAX_INPUTS + MAX_GATES];
     let mut ones = [0u64; MAX_INPUTS + MAX_GATES];
-    let mut their_zeros = [0u64; MAX_INPUTS + MAX_GATES];
-    let mut their_ones = [0u64; MAX_INPUTS + MAX_GATES];
+    let mut lows = [0u64; MAX_INPUTS + MAX_GATES];
+    let mut highs = [0u64; MAX_INPUTS + MAX_GATES];
     settings::compare_with(
         ours,
         theirs,
         &mut order,
-        &mut their_order,
+        &mut path,
         &mut zeros,
         &mut ones,
-        &mut their_zeros,
-        &mut their_ones,
+        &mut lows,
+        &mut highs,
     )
 }
 

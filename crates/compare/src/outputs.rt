@@ -1,4 +1,5 @@
-// Where the outputs of two blocks differ, from the pairs of each block's inputs and gates in a batch. `used` has a bit at each lane in use.
+// Where the outputs of two blocks differ, from the pairs of each block's inputs and gates in a batch: `zeros` and `ones` of ours, `lows` and `highs` of theirs.
+// `used` has a bit at each lane in use.
 use judge::outputs::output_pair;
 use layout::offsets::outputs_at;
 use layout::offsets::outputs_of;
@@ -17,26 +18,19 @@ fn differing_lanes(
     used: u64,
     zeros: &[u64],
     ones: &[u64],
-    their_zeros: &[u64],
-    their_ones: &[u64],
+    lows: &[u64],
+    highs: &[u64],
 ) -> u64
     requires { ⌜ Pair (now ours) (now theirs) × (o < getD (now ours) 2 0) ⌝ }
-    requires { ⌜ (length (now zeros) ≡ length (now ones)) × (length (now their_zeros) ≡ length (now their_ones)) ⌝ }
+    requires { ⌜ (length (now zeros) ≡ length (now ones)) × (length (now lows) ≡ length (now highs)) ⌝ }
     ensures { λ r. ⌜
-        r ≡ differingWord (now (ours .entry)) (now (theirs .entry)) used (now (zeros .entry)) (now (ones .entry)) (now (their_zeros .entry))
-        (now (their_ones .entry)) o
+        r ≡ differingWord (now (ours .entry)) (now (theirs .entry)) used (now (zeros .entry)) (now (ones .entry)) (now (lows .entry))
+        (now (highs .entry)) o
         ⌝ }
 {
-    let ours_shows = output_pair(ours, outputs_at(ours), o, used, zeros, ones);
-    let theirs_shows = output_pair(
-        theirs,
-        outputs_at(theirs),
-        o,
-        used,
-        their_zeros,
-        their_ones,
-    );
-    (ours_shows.zeros ^ theirs_shows.zeros) | (ours_shows.ones ^ theirs_shows.ones)
+    let shown = output_pair(ours, outputs_at(ours), o, used, zeros, ones);
+    let other = output_pair(theirs, outputs_at(theirs), o, used, lows, highs);
+    (shown.zeros ^ other.zeros) | (shown.ones ^ other.ones)
 }
 
 // Where some output does.
@@ -46,21 +40,21 @@ pub fn any_differing(
     used: u64,
     zeros: &[u64],
     ones: &[u64],
-    their_zeros: &[u64],
-    their_ones: &[u64],
+    lows: &[u64],
+    highs: &[u64],
 ) -> u64
     requires { ⌜ Pair (now ours) (now theirs) ⌝ }
-    requires { ⌜ (length (now zeros) ≡ length (now ones)) × (length (now their_zeros) ≡ length (now their_ones)) ⌝ }
+    requires { ⌜ (length (now zeros) ≡ length (now ones)) × (length (now lows) ≡ length (now highs)) ⌝ }
     ensures { λ r. ⌜
-        r ≡ differingWords (now (ours .entry)) (now (theirs .entry)) used (now (zeros .entry)) (now (ones .entry)) (now (their_zeros .entry))
-        (now (their_ones .entry)) (getD (now (ours .entry)) 2 0)
+        r ≡ differingWords (now (ours .entry)) (now (theirs .entry)) used (now (zeros .entry)) (now (ones .entry)) (now (lows .entry))
+        (now (highs .entry)) (getD (now (ours .entry)) 2 0)
         ⌝ }
 {
     let count = outputs_of(ours);
     let mut lanes = 0u64;
     let mut o = 0;
     while o < count {
-        lanes = lanes | differing_lanes(ours, theirs, o, used, zeros, ones, their_zeros, their_ones);
+        lanes = lanes | differing_lanes(ours, theirs, o, used, zeros, ones, lows, highs);
         o += 1;
     }
     lanes
@@ -74,20 +68,20 @@ pub fn lowest_differing(
     used: u64,
     zeros: &[u64],
     ones: &[u64],
-    their_zeros: &[u64],
-    their_ones: &[u64],
+    lows: &[u64],
+    highs: &[u64],
 ) -> usize
     requires { ⌜ Pair (now ours) (now theirs) × (lane < 64) ⌝ }
-    requires { ⌜ (length (now zeros) ≡ length (now ones)) × (length (now their_zeros) ≡ length (now their_ones)) ⌝ }
+    requires { ⌜ (length (now zeros) ≡ length (now ones)) × (length (now lows) ≡ length (now highs)) ⌝ }
     ensures { λ r. ⌜
-        r ≡ least (differsAt (now (ours .entry)) (now (theirs .entry)) used (now (zeros .entry)) (now (ones .entry)) (now (their_zeros .entry))
-        (now (their_ones .entry)) lane) (getD (now (ours .entry)) 2 0)
+        r ≡ least (differsAt (now (ours .entry)) (now (theirs .entry)) used (now (zeros .entry)) (now (ones .entry)) (now (lows .entry))
+        (now (highs .entry)) lane) (getD (now (ours .entry)) 2 0)
         ⌝ }
 {
     let count = outputs_of(ours);
     let mut o = 0;
     while o < count {
-        let lanes = differing_lanes(ours, theirs, o, used, zeros, ones, their_zeros, their_ones);
+        let lanes = differing_lanes(ours, theirs, o, used, zeros, ones, lows, highs);
         if (lanes >> lane) % 2 == 1 {
             return o;
         }

@@ -1,4 +1,5 @@
-// The search for the lowest setting under which two blocks disagree, a batch of up to 64 at a time. Each is decided in place along an order of its own.
+// The search for the lowest setting under which two blocks disagree, a batch of up to 64 at a time. Ours is decided in place along `order` in `zeros` and
+// `ones`, theirs along `path` in `lows` and `highs`.
 use crate::outputs::any_differing;
 use crate::outputs::lowest_differing;
 use batch::in_place::decide_batch;
@@ -26,25 +27,25 @@ fn disagreeing_lanes(
     ours: &[u16],
     theirs: &[u16],
     order: &[u16],
-    their_order: &[u16],
+    path: &[u16],
     base: usize,
     zeros: &mut [u64],
     ones: &mut [u64],
-    their_zeros: &mut [u64],
-    their_ones: &mut [u64],
+    lows: &mut [u64],
+    highs: &mut [u64],
 ) -> u64
     requires { ⌜
-        CompareReady (now ours) (now theirs) (now order) (now their_order) (now zeros) (now ones) (now their_zeros) (now their_ones) × (base % 64 ≡ 0)
+        CompareReady (now ours) (now theirs) (now order) (now path) (now zeros) (now ones) (now lows) (now highs) × (base % 64 ≡ 0)
         ⌝ }
     ensures { λ r. ⌜
-        Marked (now (ours .entry)) (now (theirs .entry)) base (now (zeros .exit)) (now (ones .exit)) (now (their_zeros .exit)) (now (their_ones .exit)) r
+        Marked (now (ours .entry)) (now (theirs .entry)) base (now (zeros .exit)) (now (ones .exit)) (now (lows .exit)) (now (highs .exit)) r
         ⌝ }
 {
     let n = inputs_of(ours);
     decide_batch(ours, n, gates_at(ours), order, base, zeros, ones);
-    decide_batch(theirs, n, gates_at(theirs), their_order, base, their_zeros, their_ones);
+    decide_batch(theirs, n, gates_at(theirs), path, base, lows, highs);
     let counted = counted_lanes(ours, n, base, zeros, ones);
-    counted & any_differing(ours, theirs, used_lanes(n), zeros, ones, their_zeros, their_ones)
+    counted & any_differing(ours, theirs, used_lanes(n), zeros, ones, lows, highs)
 }
 
 // The batches in ascending order, up to the first disagreement: the lowest lane, and there the lowest output.
@@ -52,13 +53,13 @@ fn search_settings(
     ours: &[u16],
     theirs: &[u16],
     order: &[u16],
-    their_order: &[u16],
+    path: &[u16],
     zeros: &mut [u64],
     ones: &mut [u64],
-    their_zeros: &mut [u64],
-    their_ones: &mut [u64],
+    lows: &mut [u64],
+    highs: &mut [u64],
 ) -> Answer
-    requires { ⌜ CompareReady (now ours) (now theirs) (now order) (now their_order) (now zeros) (now ones) (now their_zeros) (now their_ones) ⌝ }
+    requires { ⌜ CompareReady (now ours) (now theirs) (now order) (now path) (now zeros) (now ones) (now lows) (now highs) ⌝ }
     ensures { λ r. ⌜ r ≡ answerOf (compareBlocks (decode (now (ours .entry))) (decode (now (theirs .entry)))) ⌝ }
 {
     let n = inputs_of(ours);
@@ -67,20 +68,10 @@ fn search_settings(
     let lanes = lane_count(n);
     let mut base = 0;
     while base < count {
-        let word = disagreeing_lanes(
-            ours,
-            theirs,
-            order,
-            their_order,
-            base,
-            zeros,
-            ones,
-            their_zeros,
-            their_ones,
-        );
+        let word = disagreeing_lanes(ours, theirs, order, path, base, zeros, ones, lows, highs);
         if word != 0 {
             let lane = lowest_lane(word);
-            let o = lowest_differing(ours, theirs, lane, used, zeros, ones, their_zeros, their_ones);
+            let o = lowest_differing(ours, theirs, lane, used, zeros, ones, lows, highs);
             return Answer::Done {
                 count: o + 1,
                 detail: base + lane,
@@ -99,31 +90,31 @@ pub fn compare_with(
     ours: &[u16],
     theirs: &[u16],
     order: &mut [u16],
-    their_order: &mut [u16],
+    path: &mut [u16],
     zeros: &mut [u64],
     ones: &mut [u64],
-    their_zeros: &mut [u64],
-    their_ones: &mut [u64],
+    lows: &mut [u64],
+    highs: &mut [u64],
 ) -> Answer
     requires { ⌜ Pair (now ours) (now theirs) ⌝ }
-    requires { ⌜ (length (now order) ≡ maxGates) × (length (now their_order) ≡ maxGates) ⌝ }
+    requires { ⌜ (length (now order) ≡ maxGates) × (length (now path) ≡ maxGates) ⌝ }
     requires { ⌜ (length (now zeros) ≡ maxInputs + maxGates) × (length (now ones) ≡ maxInputs + maxGates) ⌝ }
-    requires { ⌜ (length (now their_zeros) ≡ maxInputs + maxGates) × (length (now their_ones) ≡ maxInputs + maxGates) ⌝ }
+    requires { ⌜ (length (now lows) ≡ maxInputs + maxGates) × (length (now highs) ≡ maxInputs + maxGates) ⌝ }
     ensures { λ r. ⌜ r ≡ answerOf (compareBlocks (decode (now (ours .entry))) (decode (now (theirs .entry)))) ⌝ }
 {
     let n = inputs_of(ours);
     let m = gates_of(ours);
     let others = gates_of(theirs);
     order_gates(ours, order);
-    order_gates(theirs, their_order);
+    order_gates(theirs, path);
     search_settings(
         ours,
         theirs,
         &order[..m],
-        &their_order[..others],
+        &path[..others],
         &mut zeros[..n + m],
         &mut ones[..n + m],
-        &mut their_zeros[..n + others],
-        &mut their_ones[..n + others],
+        &mut lows[..n + others],
+        &mut highs[..n + others],
     )
 }
