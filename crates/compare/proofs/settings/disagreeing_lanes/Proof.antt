@@ -1,5 +1,6 @@
 -- `compare::settings::disagreeing_lanes` meets its contract: both blocks are decided, and outputs compared where ours counts. Assumes nothing.
 use mathlib.Core.Path.{sym, _∙_}
+use native.Mathlib.Omega.{arith}
 use borrow.Author.Needs.{needs}
 use Rattle.verdict.proofs.Batching.{judged}
 use Rattle.compare.proofs.Differences.{marked-batch}
@@ -45,7 +46,7 @@ decide-batch-requires-2 : tie.Need-decide-batch-requires-2
 decide-batch-requires-2 c κs =
     let g = c .before .before in
     let d = first g in
-    (theirs-at (entry d .pre .0) (read d .before .inputs-of .ensures) (g .gates-at2 .ensures), entry d .pre .1)
+    (theirs-at (entry d .pre .0) (read d .before .inputs-of .ensures) (g .gates-at2 .ensures), omega (arith, entry d .pre .1))
 
 counted-lanes-requires : tie.Need-counted-lanes-requires
 counted-lanes-requires c κs =
