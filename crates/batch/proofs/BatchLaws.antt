@@ -29,7 +29,8 @@ use Rattle.rounds.proofs.ListFacts.{getD-replicate-default}
 use Rattle.rounds.proofs.AnyOrder.{start-below-settled}
 use Rattle.rounds.proofs.InPlace.{start-rising}
 use Rattle.ternary.specs.Legal.{LegalHead}
-use Rattle.decide.specs.InPlace.{Legible, Visits}
+use Rattle.visiting.specs.Visits.{Visits}
+use Rattle.batch.specs.Legible.{Legible}
 use Rattle.lanes.specs.declared.Pair.{Pair}
 use Rattle.lanes.specs.Pairs.{lane, Proper, full, nothing}
 use Rattle.lanes.specs.PairRounds.{evaluatedPair, LegalGate, AllProper}

@@ -1,3 +1,4 @@
 -- Mathematics of batches; no function of src/ is named.
 pub mod Sweeping
+pub mod LegibleLaws
 pub mod BatchLaws

@@ -23,7 +23,7 @@ use Rattle.rounds.proofs.Values.{below-of-eq}
 use Rattle.rounds.proofs.AnyOrder.{run-append, run-below-settled, fixed-settled}
 use Rattle.rounds.proofs.InPlace.{run-rising, run-fixed}
 use Rattle.rounds.proofs.ListFacts.{AfterSet, new, old, after-set}
-use Rattle.decide.specs.InPlace.{Visits}
+use Rattle.visiting.specs.Visits.{Visits}
 use Rattle.lanes.specs.declared.Pair.{Pair}
 use Rattle.lanes.specs.Pairs.{lane, Proper, full, nothing}
 use Rattle.lanes.specs.PairRounds.{evaluatedPair, LegalGate, AllProper}

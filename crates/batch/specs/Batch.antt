@@ -17,7 +17,8 @@ use Rattle.netlist.specs.StoredBlock.{decode}
 use Rattle.netlist.specs.Rounds.{settled, settingOf, settledUnder}
 use Rattle.rounds.specs.Order.{BelowAll, Rising}
 use Rattle.netlist.specs.Steps.{run}
-use Rattle.decide.specs.InPlace.{Legible, Visits}
+use Rattle.visiting.specs.Visits.{Visits}
+use Rattle.batch.specs.Legible.{Legible}
 use Rattle.lanes.specs.declared.Pair.{Pair}
 use Rattle.lanes.specs.Pairs.{lane, nothing}
 use Rattle.lanes.specs.PairRounds.{AllProper}

@@ -1,190 +1,197 @@
--- What one setting tells of two blocks, and the search over all of them. Cited by `outputs` and `settings`. Assumes nothing.
-use mathlib.Core.Path.{_≡_, refl, sym, ap, _∙_, fun-ext}
-use mathlib.Core.Logic.{⊎-elim}
-use mathlib.Core.Bool.{Bool, true, false, cond, not, _&&_}
-use mathlib.Core.List.{List, [], map}
-use Prim.Native.Nat.{ℕ, _+_, _*_, _≤_, _<_}
+-- What a batch of settings tells of two blocks, and the search over all of them. Cited by `outputs` and `settings`.
+--   differing-tells, differing-first   where an output shows another value; where one of the first outputs does
+--   marked-lanes                       where the blocks disagree
+--   lowest-there                       the lowest output that differs at a lane
+--   marked-batch, marked-lowest        the same of a batch that was decided; its lowest lane
+--   search-accepted, search-found      no setting disagrees; one does, and no lower one
+--   search-passed, search-marked       one batch more; the batch at which the search ends
+-- Assumes nothing.
+use mathlib.Core.Path.{_≡_, refl, sym, ap, _∙_}
+use mathlib.Core.Bool.{Bool, true, false, not, _&&_}
+use mathlib.Core.List.{List, []}
+use Prim.Native.Nat.{ℕ, zero, suc, _+_, _%_, _^_, _≤_, _<_, max}
 use native.Mathlib.Omega.{arith}
-use lib.ListN.{length, getD, length-map, List·getD-map}
-use lib.Dec.{eqb, ltb}
-use borrow.Author.Tests.{eq-eqb, ne-eqb, lt-ltb, le-ltb}
-use Rattle.laws.specs.Lists.{any, placed, upTo, least}
-use Rattle.laws.proofs.Tests.{not-true-false, not-both, bool-cases, and-left, and-right, lt-or-le}
-use Rattle.laws.proofs.Elements.{getD-defaults}
-use Rattle.laws.proofs.Tab.{placed-all}
-use Rattle.laws.proofs.Quantifiers.{any-below, below-any}
+use lib.Bits.{bitAnd, bitOr, bitXor, differ, or-lt, xor-lt}
+use lib.Dec.{eqb}
+use lib.ListN.{getD}
+use borrow.Author.Tests.{lt-ltb, le-ltb}
+use Rattle.laws.specs.Lists.{any, upTo, least}
 use Rattle.laws.proofs.Least.{least-le, least-below, least-at, least-is}
 use Rattle.netlist.specs.declared.Answer.the-variants.{Done}
-use Rattle.netlist.specs.Values.{Value, undefined, code, valueOf}
-use Rattle.netlist.specs.Netlist.{Output, constant, Block, inputCount, gateCount, outputCount}
-use Rattle.netlist.specs.StoredBlock.{nameSize, outputSize, outputsAt, operandOf, outputAt, decode}
-use Rattle.netlist.specs.Rounds.{settled, settingOf, settingCount, settledUnder, outputsUnder, isCounted, operandValue, outputValue}
-use Rattle.netlist.specs.Rendering.{isStraight, sweep}
+use Rattle.netlist.specs.Values.{code}
+use Rattle.netlist.specs.Netlist.{Block, outputCount}
+use Rattle.netlist.specs.Assignments.{bit}
+use Rattle.netlist.specs.StoredBlock.{decode}
+use Rattle.netlist.specs.Rounds.{settingCount, isCounted}
 use Rattle.netlist.specs.Answers.{done, answerOf}
 use Rattle.netlist.specs.Compare.{differs, disagrees, lowestDisagreement, lowestDiffering, judgedAt, compareBlocks}
-use Rattle.encoding.proofs.Decoded.{decode-inputCount, decode-gateCount, decode-outputCount, decode-output}
-use Rattle.rounds.proofs.Values.{values-codes}
-use Rattle.rounds.proofs.Sweep.{length-sweep, sweep-settled}
-use Rattle.ternary.specs.Legal.{wordValue}
-use Rattle.simulate.specs.Rounded.{sweepCodes}
-use Rattle.verdict.specs.Flags.{countedFlag}
-use Rattle.compare.specs.Shows.{shownCode, otherShown}
-use Rattle.compare.specs.Ready.{Pair, foundAt}
+use Rattle.encoding.proofs.Decoded.{decode-outputCount}
+use Rattle.lanes.specs.declared.Pair.{Pair}
+use Rattle.lanes.specs.Pairs.{marked, lane, Proper, full}
+use Rattle.lanes.specs.Batches.{lanesOf}
+use Rattle.lanes.proofs.BitLaws.{bit-or, bit-xor}
+use Rattle.lanes.proofs.InputLaws.{lanesOf-most}
+use Rattle.batch.specs.Batch.{BatchSettled}
+use Rattle.judge.specs.Lanes.{hasLane, Tells}
+use Rattle.judge.proofs.WordLaws.{tells-as, tells-none, tells-and, tells-or, tells-no-lane, tells-some, tells-lowest}
+use Rattle.judge.proofs.OutputLaws.{output-proper, output-lane, any-first}
+use Rattle.compare.specs.Words.{differingIn, portPair, differingWord, differingWords, differsAt}
+use Rattle.verdict.proofs.Batching.{Place, batch-more}
+use Rattle.compare.specs.Ready.{CompareReady, BothJudged, Marked}
+use Rattle.compare.proofs.Rooms.{both-judged, setting-count}
 
--- ---- one output, from bytes
+-- ---- two pairs at a lane
 
-noOutput : Output
-noOutput = record { port = []; node = constant false }
+-- the two bits of a value
+data Bits : ℕ → ℕ → Type 0 where
+  none : Bits zero zero
+  low : Bits (suc zero) zero
+  high : Bits zero (suc zero)
 
--- the output's word tells what it shows
-shown-word : (ws inputs values : List ℕ) (o : ℕ) → o < getD ws 2 0
-    → code (wordValue (getD ws 0 0) inputs values (getD ws (outputsAt (getD ws 0 0) (getD ws 3 0) (getD ws 1 0) + outputSize * o + nameSize) 0))
-    ≡ shownCode ws inputs values o
-unfolding shownCode outputValue outputAt
-shown-word ws inputs values o l =
-    let f = outputValue (map valueOf inputs) (map valueOf values) in
-    let outs = decode ws .outputs in
-    let there : o < length (map f outs) = rw (length-map outs f, decode-outputCount ws) l in
-    ap code (sym
-    (getD-defaults (map f outs) o undefined (f noOutput) there
-    ∙ List·getD-map f outs o noOutput
-    ∙ ap f (decode-output ws o noOutput l)))
+bits : (z o : ℕ) → z + o ≤ 1 → Bits z o
+bits zero zero h = none
+bits zero (suc zero) h = high
+bits zero (suc (suc o)) h = absurd (omega arith)
+bits (suc zero) zero h = low
+bits (suc zero) (suc o) h = absurd (omega arith)
+bits (suc (suc z)) o h = absurd (omega arith)
 
--- the same of counts, a place and a word that were read
-pub shown-read : (ws inputs values : List ℕ) (o : ℕ) → o < getD ws 2 0 → {n place w : ℕ} → n ≡ getD ws 0 0
-    → place ≡ outputsAt (getD ws 0 0) (getD ws 3 0) (getD ws 1 0)
-    → w ≡ getD ws (place + outputSize * o + nameSize) 0 → code (wordValue n inputs values w) ≡ shownCode ws inputs values o
-shown-read ws inputs values o l e g h = rw (h, g, e) (shown-word ws inputs values o l)
+-- a bit in one of the pairs alone: another value
+other : {z o y p : ℕ} → Bits z o → Bits y p → eqb (max (differ z y) (differ o p)) 1 ≡ not (eqb (code (marked z o)) (code (marked y p)))
+unfolding marked code
+other none none = refl
+other none low = refl
+other none high = refl
+other low none = refl
+other low low = refl
+other low high = refl
+other high none = refl
+other high low = refl
+other high high = refl
 
--- two values that were read differ, or not
-module _ (ours theirs inputs values swept : List ℕ) (o : ℕ) {v w : ℕ} (e : v ≡ shownCode ours inputs values o) (f : w ≡ shownCode theirs inputs swept o) where
-  pub shown-other : (v ≡ w → ⊥) → otherShown ours theirs inputs values swept o ≡ true
-  unfolding otherShown
-  shown-other h = rw (← e, ← f, ne-eqb v w h) refl
+module _ {lanes : ℕ} {p q : Pair} (first : Proper lanes p) (second : Proper lanes q) where
+  differingIn-within : differingIn p q < 2 ^ lanes
+  unfolding differingIn
+  differingIn-within =
+      or-lt lanes (bitXor (p .zeros) (q .zeros)) (bitXor (p .ones) (q .ones))
+      (xor-lt lanes (p .zeros) (q .zeros) (first .zerosWithin) (second .zerosWithin))
+      (xor-lt lanes (p .ones) (q .ones) (first .onesWithin) (second .onesWithin))
 
-  pub shown-same : v ≡ w → otherShown ours theirs inputs values swept o ≡ false
-  unfolding otherShown
-  shown-same h = rw (← e, ← f, eq-eqb v w h) refl
+  differingIn-lane : (s : ℕ) → hasLane (differingIn p q) s ≡ not (eqb (code (lane s p)) (code (lane s q)))
+  unfolding differingIn hasLane lane
+  differingIn-lane s =
+      rw (
+        bit-or (bitXor (p .zeros) (q .zeros)) (bitXor (p .ones) (q .ones)) s,
+        bit-xor (p .zeros) (q .zeros) s,
+        bit-xor (p .ones) (q .ones) s,
+      )
+      (other (bits (bit (p .zeros) s) (bit (p .ones) s) (first .apart s)) (bits (bit (q .zeros) s) (bit (q .ones) s) (second .apart s)))
 
--- ---- one setting
+-- ---- one batch
 
--- bytes of a setting and of a state: what the outputs show
-shown-state : (ws : List ℕ) (x state : List Value) (o : ℕ)
-    → shownCode ws (map code x) (map code state) o ≡ code (getD (map (outputValue x state) (decode ws .outputs)) o undefined)
-unfolding shownCode
-shown-state ws x state o = rw (values-codes x, values-codes state) refl
-
--- the flag tells whether the setting may come and is settled
-flag-zero : (b : Block) (s : ℕ) → countedFlag b s ≡ 0 → isCounted b s ≡ false
-unfolding countedFlag
-flag-zero b s = go (isCounted b s)
-  where
-    go : (t : Bool) → _≡_ {A = ℕ} (cond t 1 0) 0 → t ≡ false
-    go true e = absurd (omega arith)
-    go false e = refl
-
-flag-one : (b : Block) (s : ℕ) → (countedFlag b s ≡ 0 → ⊥) → isCounted b s ≡ true
-unfolding countedFlag
-flag-one b s = go (isCounted b s)
-  where
-    go : (t : Bool) → (_≡_ {A = ℕ} (cond t 1 0) 0 → ⊥) → t ≡ true
-    go true h = refl
-    go false h = absurd (h refl)
-
-module _ (ours theirs : List ℕ) (pair : Pair ours theirs) (s : ℕ) where
+module _ {ours theirs : List ℕ} {base : ℕ} {zeros ones theirZeros theirOnes : List ℕ}
+    (j : BothJudged ours theirs base zeros ones theirZeros theirOnes) {used : ℕ} (inUse : used ≡ full (lanesOf (getD ours 0 0))) where
   abbrev a : Block
   a = decode ours
 
   abbrev b : Block
   b = decode theirs
 
-  abbrev x : List Value
-  x = settingOf (getD ours 0 0) s
+  abbrev lanes : ℕ
+  lanes = lanesOf (getD ours 0 0)
 
-  -- theirs, swept into a slice with a byte for each gate, has its settled values
-  pub swept : {inputs exit : List ℕ} (entry : List ℕ) → inputs ≡ map code x → length entry ≡ getD theirs 1 0 → exit ≡ placed (sweepCodes theirs inputs) entry
-      → exit ≡ map code (settled b x)
-  unfolding sweepCodes
-  swept {inputs} entry i l e =
-      let v : map valueOf inputs ≡ x = ap (map valueOf) i ∙ values-codes x in
-      let n : length (map code (sweep b (map valueOf inputs))) ≡ length entry =
-      length-map (sweep b (map valueOf inputs)) code ∙ length-sweep b (map valueOf inputs) ∙ decode-gateCount theirs ∙ sym l in
-      e ∙ placed-all (map code (sweep b (map valueOf inputs))) entry n ∙ rw v (ap (map code) (sweep-settled b x (pair .straight)))
+  pub differing-tells : (o : ℕ) → o < getD ours 2 0 → Tells lanes base (λ s. differs a b s o) (differingWord ours theirs used zeros ones theirZeros theirOnes o)
+  unfolding differingWord portPair differs
+  differing-tells o there =
+      let first = output-proper (j .our-values) refl o in
+      let second = output-proper (j .their-values) refl o in
+      let there′ : o < getD theirs 2 0 = rw (j .pair .outputs) there in
+      rw inUse
+      (record {
+        within = differingIn-within first second;
+        each = λ s l.
+            differingIn-lane first second s ∙ rw (output-lane (j .our-values) refl o there s l, output-lane (j .their-values) refl o there′ s l);
+      })
 
-  -- from these bytes an output differs when it differs under the setting
-  otherShown-differs : {inputs ourValues theirValues : List ℕ} → inputs ≡ map code x
-      → ourValues ≡ map code (settledUnder a s) → theirValues ≡ map code (settled b x) → (o : ℕ) → otherShown ours theirs inputs ourValues theirValues o ≡ differs a b s o
-  unfolding otherShown differs outputsUnder settledUnder
-  otherShown-differs i v w o =
-      let n : inputCount a ≡ getD ours 0 0 = decode-inputCount ours in
-      let m : inputCount b ≡ getD ours 0 0 = decode-inputCount theirs ∙ pair .inputs in
-      rw (i, v, w, shown-state ours x (settledUnder a s) o, shown-state theirs x (settled b x) o, n, m) refl
+  differing-first : (k : ℕ) → k ≤ getD ours 2 0
+      → Tells lanes base (λ s. any (differs a b s) (upTo k)) (differingWords ours theirs used zeros ones theirZeros theirOnes k)
+  unfolding differingWords
+  differing-first zero l = tells-as (λ s. refl) tells-none
+  differing-first (suc k) l =
+      tells-as (λ s. sym (any-first (differs a b s) k)) (tells-or (differing-first k (omega arith)) (differing-tells k (omega arith)))
 
-  -- a setting that counts: the lowest output found is the lowest that differs
-  pub found-settled : {inputs ourValues theirValues : List ℕ} {r : ℕ} → inputs ≡ map code x → ourValues ≡ map code (settledUnder a s)
-      → theirValues ≡ map code (settled b x) → {f : ℕ} → f ≡ countedFlag a s → (f ≡ 0 → ⊥)
-      → r ≡ least (otherShown ours theirs inputs ourValues theirValues) (getD ours 2 0) → r ≡ foundAt a b s
-  unfolding foundAt lowestDiffering
-  found-settled {inputs} {ourValues} {theirValues} i v w t q e =
-      let h : isCounted a s ≡ true = flag-one a s (λ z. q (t ∙ z)) in
-      rw (h, decode-outputCount ours) (e ∙ ap (λ (p : ℕ → Bool). least p (getD ours 2 0)) (fun-ext (otherShown-differs i v w)))
+  -- at the lanes of settings that count
+  pub marked-lanes : {counted word : ℕ} → Tells lanes base (isCounted a) counted
+      → word ≡ differingWords ours theirs used zeros ones theirZeros theirOnes (getD ours 2 0) → Tells lanes base (disagrees a b) (bitAnd counted word)
+  unfolding disagrees
+  marked-lanes t e = rw e (tells-as (λ s. rw (decode-outputCount ours)) (tells-and t (differing-first (getD ours 2 0) (omega arith))))
 
-  -- one that does not
-  pub found-unsettled : {r f : ℕ} → f ≡ countedFlag a s → f ≡ 0 → r ≡ getD ours 2 0 → r ≡ foundAt a b s
-  unfolding foundAt
-  found-unsettled t q e = let h : isCounted a s ≡ false = flag-zero a s (sym t ∙ q) in rw (h, decode-outputCount ours) e
+  -- the lowest output at a lane
+  pub lowest-there : {s r : ℕ} → s < lanes → r ≡ least (differsAt ours theirs used zeros ones theirZeros theirOnes s) (getD ours 2 0)
+      → r ≡ lowestDiffering a b (base + s)
+  unfolding lowestDiffering differsAt
+  lowest-there {s} {r} l e =
+      let count = getD ours 2 0 in
+      let test = differsAt ours theirs used zeros ones theirZeros theirOnes s in
+      let few : r ≤ count = rw e (least-le test count) in
+      let same : (o : ℕ) → o < count → test o ≡ differs a b (base + s) o = λ o there. differing-tells o there .each s l in
+      rw (decode-outputCount ours)
+      (sym (least-is (differs a b (base + s)) count r few
+      (λ i below. sym (same i (omega arith)) ∙ least-below test count i (rw (← e) below))
+      (λ there. sym (same r there) ∙ rw e (least-at test count (rw (← e) there)))))
+
+-- both blocks were decided, and the lanes of settings that count and of outputs that differ are known
+pub marked-batch : {ours theirs order theirOrder zeros ones theirZeros theirOnes : List ℕ}
+    → CompareReady ours theirs order theirOrder zeros ones theirZeros theirOnes → {n base used counted word : ℕ} {z o tz to : List ℕ} → n ≡ getD ours 0 0
+    → base % 64 ≡ 0 → BatchSettled (decode ours) n base z o → BatchSettled (decode theirs) n base tz to → used ≡ full (lanesOf n)
+    → Tells (lanesOf n) base (isCounted (decode ours)) counted → word ≡ differingWords ours theirs used z o tz to (getD ours 2 0)
+    → Marked ours theirs base z o tz to (bitAnd counted word)
+marked-batch r e aligned p q u t w =
+    let j = both-judged r e aligned p q in
+    record { judged = j; tells = marked-lanes j (u ∙ rw e) (rw e at t) w }
+
+-- the lowest lane of a word that is not 0
+pub marked-lowest : (n : ℕ) {base : ℕ} {test : ℕ → Bool} {w : ℕ} → Tells (lanesOf n) base test w → (w ≡ 0 → ⊥) → let r = least (hasLane w) 64 in
+    (r < lanesOf n) × (test (base + r) ≡ true) × ((i : ℕ) → i < r → test (base + i) ≡ false)
+marked-lowest n t h = let (s, l, p) = tells-some t h in tells-lowest t (lanesOf-most n) s l p
 
 -- ---- all settings
 
-module _ (a b : Block) where
-  none-differs : (s : ℕ) → outputCount a ≤ lowestDiffering a b s → any (differs a b s) (upTo (outputCount a)) ≡ false
-  unfolding lowestDiffering
-  none-differs s l =
-      not-true-false (any (differs a b s) (upTo (outputCount a)))
-      (λ t. let (i, below, d) = any-below (differs a b s) (outputCount a) t in not-both d (least-below (differs a b s) (outputCount a) i (omega arith)))
+module _ (a b : Block) (s count : ℕ) (e : count ≡ settingCount a) (before : (i : ℕ) → i < s → disagrees a b i ≡ false) where
+  -- no setting disagrees
+  pub search-accepted : s ≤ count → count ≤ s → Done 0 0 ≡ answerOf (compareBlocks a b)
+  unfolding compareBlocks judgedAt lowestDisagreement answerOf
+  search-accepted l m =
+      let is : least (disagrees a b) (settingCount a) ≡ settingCount a =
+      least-is (disagrees a b) (settingCount a) (settingCount a) (omega arith) (λ i k. before i (omega arith)) (λ k. absurd (omega arith)) in
+      rw (is, le-ltb (settingCount a) (settingCount a) (omega arith)) refl
 
-  module _ (s r k : ℕ) (e : r ≡ foundAt a b s) (f : k ≡ outputCount a) where
-    -- no output found: the setting does not disagree
-    pub found-none : k ≤ r → disagrees a b s ≡ false
-    unfolding foundAt disagrees
-    found-none l = go (isCounted a s) refl
-      where
-        go : (t : Bool) → isCounted a s ≡ t → t && any (differs a b s) (upTo (outputCount a)) ≡ false
-        go false h = refl
-        go true h = let g : r ≡ lowestDiffering a b s = rw h at e in none-differs s (omega arith)
+  -- setting s does, and no lower one
+  pub search-found : (o : ℕ) → s < count → disagrees a b s ≡ true → o ≡ lowestDiffering a b s → Done (o + 1) s ≡ answerOf (compareBlocks a b)
+  unfolding compareBlocks judgedAt lowestDisagreement answerOf
+  search-found o l d f =
+      let below : s < settingCount a = omega arith in
+      let is : least (disagrees a b) (settingCount a) ≡ s = least-is (disagrees a b) (settingCount a) s (omega arith) before (λ k. d) in
+      rw (is, lt-ltb s (settingCount a) below, f) refl
 
-    found-lowest : r < k → (isCounted a s ≡ true) × (r ≡ lowestDiffering a b s)
-    unfolding foundAt
-    found-lowest l = go (isCounted a s) refl
-      where
-        go : (t : Bool) → isCounted a s ≡ t → (isCounted a s ≡ true) × (r ≡ lowestDiffering a b s)
-        go false h = let g : r ≡ outputCount a = rw h at e in absurd (omega arith)
-        go true h = (h, rw h at e)
+-- ---- batch by batch
 
-    -- one found: it does, and this is the lowest output
-    pub found-one : r < k → disagrees a b s ≡ true
-    unfolding disagrees lowestDiffering
-    found-one l =
-        let (h, g) = found-lowest l in
-        let below : least (differs a b s) (outputCount a) < outputCount a = omega arith in
-        rw h (below-any (differs a b s) (outputCount a) (least (differs a b s) (outputCount a)) below (least-at (differs a b s) (outputCount a) below))
+module _ {ours theirs : List ℕ} {n base : ℕ} {zeros ones theirZeros theirOnes : List ℕ} {w : ℕ}
+    (m : Marked ours theirs base zeros ones theirZeros theirOnes w) (e : n ≡ getD ours 0 0)
+    (before : (i : ℕ) → i < base → disagrees (decode ours) (decode theirs) i ≡ false) where
+  -- no lane of this one
+  pub search-passed : {step : ℕ} → step ≡ lanesOf n → w ≡ 0 → (i : ℕ) → i < base + step → disagrees (decode ours) (decode theirs) i ≡ false
+  search-passed is z = batch-more (λ i. disagrees (decode ours) (decode theirs) i ≡ false) (is ∙ rw e) before (tells-no-lane (m .tells) z)
 
-    pub found-output : r < k → r ≡ lowestDiffering a b s
-    found-output l = found-lowest l .1
-
-  module _ (s count : ℕ) (e : count ≡ settingCount a) (before : (i : ℕ) → i < s → disagrees a b i ≡ false) where
-    -- no setting disagrees
-    pub search-accepted : s ≤ count → count ≤ s → Done 0 0 ≡ answerOf (compareBlocks a b)
-    unfolding compareBlocks judgedAt lowestDisagreement answerOf
-    search-accepted l m =
-        let is : least (disagrees a b) (settingCount a) ≡ settingCount a =
-        least-is (disagrees a b) (settingCount a) (settingCount a) (omega arith) (λ i k. before i (omega arith)) (λ k. absurd (omega arith)) in
-        rw (is, le-ltb (settingCount a) (settingCount a) (omega arith)) refl
-
-    -- setting s does, and no lower one
-    pub search-found : (o : ℕ) → s < count → disagrees a b s ≡ true → o ≡ lowestDiffering a b s → Done (o + 1) s ≡ answerOf (compareBlocks a b)
-    unfolding compareBlocks judgedAt lowestDisagreement answerOf
-    search-found o l d f =
-        let below : s < settingCount a = omega arith in
-        let is : least (disagrees a b) (settingCount a) ≡ s = least-is (disagrees a b) (settingCount a) s (omega arith) before (λ k. d) in
-        rw (is, lt-ltb s (settingCount a) below, f) refl
+  -- some: the lowest lane, and there the lowest output
+  pub search-marked : (w ≡ 0 → ⊥) → {count used lane o : ℕ} → count ≡ 2 ^ n → used ≡ full (lanesOf n) → Place n base → base < count
+      → lane ≡ least (hasLane w) 64 → o ≡ least (differsAt ours theirs used zeros ones theirZeros theirOnes lane) (getD ours 2 0)
+      → Done (o + 1) (base + lane) ≡ answerOf (compareBlocks (decode ours) (decode theirs))
+  search-marked h {count} {used} {lane} {o} many u place below is lowest =
+      let f = marked-lowest (getD ours 0 0) (m .tells) h in
+      let there : lane < lanesOf (getD ours 0 0) = rw is (f .0) in
+      let room : base + lanesOf n ≤ 2 ^ n = place .whole (rw (← many) below) in
+      let there′ : lane < lanesOf n = rw e there in
+      search-found (decode ours) (decode theirs) (base + lane) count (setting-count ours e many)
+      (batch-more (λ i. disagrees (decode ours) (decode theirs) i ≡ false) refl before (λ i l. f .2 i (rw (← is) l))) o (omega arith) (rw is (f .1))
+      (lowest-there (m .judged) (u ∙ rw e) there lowest)

@@ -1,48 +1,82 @@
--- What the slices lent are good for, from counts that were read. Cited by `settings`. Assumes nothing.
+-- What the slices lent are good for, from counts that were read. Cited by `settings`.
+--   decidable-at, theirs-at        ours and theirs can be decided
+--   both-judged                    both were
+--   compare-kept, compare-ready    slices of the same lengths; parts of large enough ones
+--   ports-near, few-ports, lowest-few   where a block's outputs stand, and how many there are
+--   setting-count                  the number of settings, as read
+-- Assumes nothing.
 use mathlib.Core.Path.{_≡_, refl, sym, _∙_}
-use mathlib.Core.List.{List, map}
-use Prim.Native.Nat.{ℕ, _^_, _≤_}
+use mathlib.Core.Bool.{Bool, false}
+use mathlib.Core.List.{List}
+use Prim.Native.Nat.{ℕ, _+_, _%_, _^_, _≤_, _<_}
+use native.Mathlib.Omega.{arith}
 use lib.ListN.{length, getD, take}
 use lib.Seq.{length-take-le}
-use Rattle.netlist.specs.Values.{code}
-use Rattle.netlist.specs.Netlist.{outputCount}
-use Rattle.netlist.specs.StoredBlock.{gatesAt, decode}
-use Rattle.netlist.specs.Rounds.{settingOf, settingCount}
-use Rattle.encoding.proofs.Decoded.{decode-inputCount, decode-outputCount}
-use Rattle.decide.specs.InPlace.{Visits, DecideReady}
-use Rattle.decide.proofs.Legible.{whole-ready, ready-kept}
-use Rattle.compare.specs.Ready.{Pair, CompareReady}
+use Rattle.laws.specs.Lists.{least}
+use Rattle.laws.proofs.Least.{least-le}
+use Rattle.netlist.specs.StoredBlock.{neversAt, gatesAt, outputsAt, decode, isTorn}
+use Rattle.netlist.specs.Rounds.{settingCount}
+use Rattle.encoding.proofs.Decoded.{decode-inputCount}
+use Rattle.encoding.proofs.Readers.{whole-parts}
+use Rattle.visiting.specs.Visits.{Visits}
+use Rattle.batch.specs.Batch.{Decidable, BatchSettled}
+use Rattle.verdict.proofs.Batching.{judged, decidable-kept, whole-decidable}
+use Rattle.compare.specs.Ready.{Pair, CompareReady, BothJudged}
 
-pub ready-at : {ours order inputs values : List ℕ} {n gates : ℕ} → DecideReady ours (getD ours 0 0) (gatesAt (getD ours 0 0) (getD ours 3 0)) order inputs values
-    → n ≡ getD ours 0 0 → gates ≡ gatesAt (getD ours 0 0) (getD ours 3 0) → DecideReady ours n gates order inputs values
-ready-at r e f = rw (f, e) r
+module _ {ours theirs order theirOrder zeros ones theirZeros theirOnes : List ℕ}
+    (r : CompareReady ours theirs order theirOrder zeros ones theirZeros theirOnes) where
+  pub decidable-at : {n gates : ℕ} → n ≡ getD ours 0 0 → gates ≡ gatesAt (getD ours 0 0) (getD ours 3 0) → Decidable ours n gates order zeros ones
+  decidable-at e f = rw (f, e) (r .ready)
 
--- the bytes of a setting, in a slice with a byte for each input
-pub setting-bytes : {exit : List ℕ} {k n : ℕ} (s : ℕ) → exit ≡ map code (settingOf k s) → k ≡ n → exit ≡ map code (settingOf n s)
-setting-bytes s e f = e ∙ rw f refl
+  pub theirs-at : {n gates : ℕ} → n ≡ getD ours 0 0 → gates ≡ gatesAt (getD theirs 0 0) (getD theirs 3 0)
+      → Decidable theirs n gates theirOrder theirZeros theirOnes
+  theirs-at e f = let same = e ∙ sym (r .pair .inputs) in rw (f, same) (r .theirReady)
 
--- slices of the same lengths are as good
-pub compare-kept : {ours theirs order inputs values swept inputs′ values′ swept′ : List ℕ} → CompareReady ours theirs order inputs values swept
-    → length inputs′ ≡ length inputs → length values′ ≡ length values → length swept′ ≡ length swept
-    → CompareReady ours theirs order inputs′ values′ swept′
-compare-kept r e f g = record { pair = r .pair; ready = ready-kept (r .ready) e f; room = g ∙ r .room }
+  -- what two decided batches hold
+  pub both-judged : {n base : ℕ} {z o tz to : List ℕ} → n ≡ getD ours 0 0 → base % 64 ≡ 0 → BatchSettled (decode ours) n base z o
+      → BatchSettled (decode theirs) n base tz to → BothJudged ours theirs base z o tz to
+  both-judged e aligned p q =
+      record {
+        pair = r .pair;
+        our-values = judged (r .ready) aligned (rw e at p);
+        their-values = judged (theirs-at refl refl) aligned (rw e at q);
+      }
+
+  -- slices of the same lengths are as good
+  pub compare-kept : {zeros′ ones′ theirZeros′ theirOnes′ : List ℕ} → length zeros′ ≡ length zeros → length ones′ ≡ length ones
+      → length theirZeros′ ≡ length theirZeros → length theirOnes′ ≡ length theirOnes
+      → CompareReady ours theirs order theirOrder zeros′ ones′ theirZeros′ theirOnes′
+  compare-kept e f g h = record { pair = r .pair; ready = decidable-kept (r .ready) e f; theirReady = decidable-kept (r .theirReady) g h }
 
 -- parts of large enough slices, as long as the counts that were read
-pub compare-ready : (ours theirs order inputs values swept : List ℕ) {n m others : ℕ} → Pair ours theirs → n ≡ getD ours 0 0 → m ≡ getD ours 1 0
-    → others ≡ getD theirs 1 0 → Visits (getD ours 1 0) (take (getD ours 1 0) order) → n ≤ length inputs → m ≤ length values → others ≤ length swept
-    → CompareReady ours theirs (take m order) (take n inputs) (take m values) (take others swept)
-compare-ready ours theirs order inputs values swept p e f g v a b c =
+pub compare-ready : (ours theirs order theirOrder zeros ones theirZeros theirOnes : List ℕ) {n m others : ℕ} → Pair ours theirs → n ≡ getD ours 0 0
+    → m ≡ getD ours 1 0 → others ≡ getD theirs 1 0 → Visits (getD ours 1 0) (take (getD ours 1 0) order)
+    → Visits (getD theirs 1 0) (take (getD theirs 1 0) theirOrder) → n + m ≤ length zeros → n + m ≤ length ones → n + others ≤ length theirZeros
+    → n + others ≤ length theirOnes
+    → CompareReady ours theirs (take m order) (take others theirOrder) (take (n + m) zeros) (take (n + m) ones) (take (n + others) theirZeros)
+    (take (n + others) theirOnes)
+compare-ready ours theirs order theirOrder zeros ones theirZeros theirOnes p e f g v w a b c d =
     record {
       pair = p;
-      ready = whole-ready ours (getD ours 0 0) (getD ours 1 0) (gatesAt (getD ours 0 0) (getD ours 3 0)) _ _ _ (p .our-whole) refl refl refl
-          (rw f v) (length-take-le _ inputs a ∙ e) (length-take-le _ values b ∙ f);
-      room = length-take-le _ swept c ∙ g;
+      ready = whole-decidable ours (getD ours 0 0) (getD ours 1 0) _ _ _ _ (p .our-whole) refl refl refl (rw f v)
+          (length-take-le _ zeros a ∙ rw (e, f)) (length-take-le _ ones b ∙ rw (e, f));
+      theirReady = whole-decidable theirs (getD theirs 0 0) (getD theirs 1 0) _ _ _ _ (p .their-whole) refl refl refl (rw g w)
+          (length-take-le _ theirZeros c ∙ rw (e, g, p .inputs)) (length-take-le _ theirOnes d ∙ rw (e, g, p .inputs));
     }
 
--- the number of outputs and of settings, as read
-pub output-count : (ours : List ℕ) {k : ℕ} → k ≡ getD ours 2 0 → k ≡ outputCount (decode ours)
-output-count ours e = e ∙ sym (decode-outputCount ours)
+-- the outputs of a whole block
+module _ (ws : List ℕ) (whole : isTorn ws ≡ false) where
+  pub ports-near : {at : ℕ} → at ≡ outputsAt (getD ws 0 0) (getD ws 3 0) (getD ws 1 0) → at < 2 ^ 32
+  unfolding outputsAt gatesAt neversAt
+  ports-near e = let w = whole-parts ws whole in omega (arith, e, w .fewInputs, w .fewGates, w .fewNevers)
 
+  pub few-ports : {o : ℕ} → o < getD ws 2 0 → o < 2 ^ 32
+  few-ports l = omega (arith, whole-parts ws whole .fewOutputs)
+
+  pub lowest-few : (test : ℕ → Bool) {o : ℕ} → o ≡ least test (getD ws 2 0) → o < 2 ^ 32
+  lowest-few test e = omega (arith, e, least-le test (getD ws 2 0), whole-parts ws whole .fewOutputs)
+
+-- the number of settings, as read
 pub setting-count : (ours : List ℕ) {n count : ℕ} → n ≡ getD ours 0 0 → count ≡ 2 ^ n → count ≡ settingCount (decode ours)
 unfolding settingCount
 setting-count ours e f = f ∙ rw (e, decode-inputCount ours) refl

@@ -1,4 +1,4 @@
 -- What the contracts of this crate add to the definitions of `netlist`.
 pub mod Names
-pub mod Shows
+pub mod Words
 pub mod Ready

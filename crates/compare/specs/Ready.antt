@@ -1,15 +1,15 @@
--- What comparing asks of two blocks and of the slices lent, and what it finds under one setting. Cited by the contracts of this crate. Assumes nothing.
+-- What comparing asks of two blocks and of the slices lent, and what a batch of settings tells. Cited by the contracts of this crate. Assumes nothing.
 use Prim.Native.Nat.{ℕ}
 use mathlib.Core.Path.{_≡_}
-use mathlib.Core.Bool.{true, false, cond}
+use mathlib.Core.Bool.{true, false}
 use mathlib.Core.List.{List}
-use lib.ListN.{length, getD}
-use Rattle.netlist.specs.Netlist.{Block, outputCount}
+use lib.ListN.{getD}
 use Rattle.netlist.specs.StoredBlock.{gatesAt, decode, isTorn}
-use Rattle.netlist.specs.Rounds.{isCounted}
 use Rattle.netlist.specs.Rendering.{isStraight}
-use Rattle.netlist.specs.Compare.{lowestDiffering}
-use Rattle.decide.specs.InPlace.{DecideReady}
+use Rattle.netlist.specs.Compare.{disagrees}
+use Rattle.lanes.specs.Batches.{lanesOf}
+use Rattle.batch.specs.Batch.{Decidable}
+use Rattle.judge.specs.Lanes.{Tells, Judged}
 
 -- both blocks are whole, theirs is straight, and they have as many inputs and outputs
 pub record Pair (ours theirs : List ℕ) : Type 0 where
@@ -19,12 +19,19 @@ pub record Pair (ours theirs : List ℕ) : Type 0 where
   pub inputs : getD theirs 0 0 ≡ getD ours 0 0
   pub outputs : getD theirs 2 0 ≡ getD ours 2 0
 
--- ours can be settled in the slices, and theirs has a byte for each gate
-pub record CompareReady (ours theirs order inputs ourValues theirValues : List ℕ) : Type 0 where
+-- both can be decided in the slices
+pub record CompareReady (ours theirs order theirOrder zeros ones theirZeros theirOnes : List ℕ) : Type 0 where
   pub pair : Pair ours theirs
-  pub ready : DecideReady ours (getD ours 0 0) (gatesAt (getD ours 0 0) (getD ours 3 0)) order inputs ourValues
-  pub room : length theirValues ≡ getD theirs 1 0
+  pub ready : Decidable ours (getD ours 0 0) (gatesAt (getD ours 0 0) (getD ours 3 0)) order zeros ones
+  pub theirReady : Decidable theirs (getD theirs 0 0) (gatesAt (getD theirs 0 0) (getD theirs 3 0)) theirOrder theirZeros theirOnes
 
--- the lowest output at which they disagree under setting number s, or the number of outputs
-unfoldable pub foundAt : Block → Block → ℕ → ℕ
-foundAt ours theirs s = cond (isCounted ours s) (lowestDiffering ours theirs s) (outputCount ours)
+-- the slices hold the settled values of both in the batch at `base`
+pub record BothJudged (ours theirs : List ℕ) (base : ℕ) (zeros ones theirZeros theirOnes : List ℕ) : Type 0 where
+  pub pair : Pair ours theirs
+  pub our-values : Judged ours (getD ours 0 0) base zeros ones
+  pub their-values : Judged theirs (getD ours 0 0) base theirZeros theirOnes
+
+-- the same, and the word marks the lanes at which they disagree
+pub record Marked (ours theirs : List ℕ) (base : ℕ) (zeros ones theirZeros theirOnes : List ℕ) (word : ℕ) : Type 0 where
+  pub judged : BothJudged ours theirs base zeros ones theirZeros theirOnes
+  pub tells : Tells (lanesOf (getD ours 0 0)) base (disagrees (decode ours) (decode theirs)) word

@@ -16,22 +16,26 @@ pub mod interface;
 pub mod outputs;
 pub mod settings;
 
-// Both blocks passed the tests: room for an order of our gates, the inputs' values and both blocks' gates'.
+// Both blocks passed the tests: room for an order and for two words an input and a gate, of each block.
 fn compare_pair(ours: &[u16], theirs: &[u16]) -> Answer
     requires { ⌜ Pair (now ours) (now theirs) ⌝ }
     ensures { λ r. ⌜ r ≡ answerOf (compareBlocks (decode (now (ours .entry))) (decode (now (theirs .entry)))) ⌝ }
 {
     let mut order = [0u16; MAX_GATES];
-    let mut inputs = [0u8; MAX_INPUTS];
-    let mut values = [0u8; MAX_GATES];
-    let mut swept = [0u8; MAX_GATES];
+    let mut path = [0u16; MAX_GATES];
+    let mut zeros = [0u64; MAX_INPUTS + MAX_GATES];
+    let mut ones = [0u64; MAX_INPUTS + MAX_GATES];
+    let mut lows = [0u64; MAX_INPUTS + MAX_GATES];
+    let mut highs = [0u64; MAX_INPUTS + MAX_GATES];
     settings::compare_with(
         ours,
         theirs,
         &mut order,
-        &mut inputs,
-        &mut values,
-        &mut swept,
+        &mut path,
+        &mut zeros,
+        &mut ones,
+        &mut lows,
+        &mut highs,
     )
 }
 

@@ -1,70 +1,83 @@
-// The search for the lowest setting under which two blocks disagree. Ours is settled in place along an order, theirs swept once.
+// The search for the lowest setting under which two blocks disagree, a batch of up to 64 at a time. Ours is decided in place along `order` in `zeros` and
+// `ones`, theirs along `path` in `lows` and `highs`.
+use crate::outputs::any_differing;
 use crate::outputs::lowest_differing;
-use decide::in_place::set_inputs;
+use batch::in_place::decide_batch;
+use judge::settled::counted_lanes;
+use judge::words::lane_count;
+use judge::words::lowest_lane;
+use lanes::inputs::used_lanes;
 use layout::offsets::gates_at;
 use layout::offsets::gates_of;
 use layout::offsets::inputs_of;
-use layout::offsets::outputs_of;
 use netlist::Answer;
-use simulate::sweep::sweep_into;
-use verdict::flags::counted_flag;
 use verdict::settings::setting_count;
 use visiting::order_gates;
 ghost use mathlib.Core.Path.{_≡_};
+ghost use Prim.Native.Nat.{_+_, _%_};
 ghost use lib.ListN.{length};
 ghost use Rattle.netlist.specs.Limits.{maxInputs, maxGates};
 ghost use Rattle.netlist.specs.StoredBlock.{decode};
 ghost use Rattle.netlist.specs.Answers.{answerOf};
 ghost use Rattle.netlist.specs.Compare.{compareBlocks};
-ghost use Rattle.compare.specs.Ready.{Pair, CompareReady, foundAt};
+ghost use Rattle.compare.specs.Ready.{Pair, CompareReady, Marked};
 
-// The lowest output at which the blocks disagree under setting number `s`; the number of outputs where there is none, and where the setting is
-// not settled or never comes.
-fn disagreement_at(
+// The lanes of the batch at `base` at which the blocks disagree; the slices hold both blocks' settled values.
+fn disagreeing_lanes(
     ours: &[u16],
     theirs: &[u16],
     order: &[u16],
-    s: usize,
-    inputs: &mut [u8],
-    values: &mut [u8],
-    swept: &mut [u8],
-) -> usize
-    requires { ⌜ CompareReady (now ours) (now theirs) (now order) (now inputs) (now values) (now swept) ⌝ }
-    ensures { λ r. ⌜ r ≡ foundAt (decode (now (ours .entry))) (decode (now (theirs .entry))) s ⌝ }
+    path: &[u16],
+    base: usize,
+    zeros: &mut [u64],
+    ones: &mut [u64],
+    lows: &mut [u64],
+    highs: &mut [u64],
+) -> u64
+    requires { ⌜
+        CompareReady (now ours) (now theirs) (now order) (now path) (now zeros) (now ones) (now lows) (now highs) × (base % 64 ≡ 0)
+        ⌝ }
+    ensures { λ r. ⌜
+        Marked (now (ours .entry)) (now (theirs .entry)) base (now (zeros .exit)) (now (ones .exit)) (now (lows .exit)) (now (highs .exit)) r
+        ⌝ }
 {
     let n = inputs_of(ours);
-    if counted_flag(ours, n, gates_at(ours), order, s, inputs, values) == 0 {
-        return outputs_of(ours);
-    }
-    set_inputs(s, inputs);
-    sweep_into(theirs, inputs, swept);
-    lowest_differing(ours, theirs, inputs, values, swept)
+    decide_batch(ours, n, gates_at(ours), order, base, zeros, ones);
+    decide_batch(theirs, n, gates_at(theirs), path, base, lows, highs);
+    let counted = counted_lanes(ours, n, base, zeros, ones);
+    counted & any_differing(ours, theirs, used_lanes(n), zeros, ones, lows, highs)
 }
 
-// The settings in ascending order, up to the first disagreement.
+// The batches in ascending order, up to the first disagreement: the lowest lane, and there the lowest output.
 fn search_settings(
     ours: &[u16],
     theirs: &[u16],
     order: &[u16],
-    inputs: &mut [u8],
-    values: &mut [u8],
-    swept: &mut [u8],
+    path: &[u16],
+    zeros: &mut [u64],
+    ones: &mut [u64],
+    lows: &mut [u64],
+    highs: &mut [u64],
 ) -> Answer
-    requires { ⌜ CompareReady (now ours) (now theirs) (now order) (now inputs) (now values) (now swept) ⌝ }
+    requires { ⌜ CompareReady (now ours) (now theirs) (now order) (now path) (now zeros) (now ones) (now lows) (now highs) ⌝ }
     ensures { λ r. ⌜ r ≡ answerOf (compareBlocks (decode (now (ours .entry))) (decode (now (theirs .entry)))) ⌝ }
 {
-    let outputs = outputs_of(ours);
-    let settings = setting_count(inputs_of(ours));
-    let mut s = 0;
-    while s < settings {
-        let o = disagreement_at(ours, theirs, order, s, inputs, values, swept);
-        if o < outputs {
+    let n = inputs_of(ours);
+    let used = used_lanes(n);
+    let count = setting_count(n);
+    let lanes = lane_count(n);
+    let mut base = 0;
+    while base < count {
+        let word = disagreeing_lanes(ours, theirs, order, path, base, zeros, ones, lows, highs);
+        if word != 0 {
+            let lane = lowest_lane(word);
+            let o = lowest_differing(ours, theirs, lane, used, zeros, ones, lows, highs);
             return Answer::Done {
                 count: o + 1,
-                detail: s,
+                detail: base + lane,
             };
         }
-        s += 1;
+        base += lanes;
     }
     Answer::Done {
         count: 0,
@@ -72,32 +85,36 @@ fn search_settings(
     }
 }
 
-// The same, with room for the order, the inputs and the gates of any block.
+// The same, with room for an order and for two words an input and a gate, of each block.
 pub fn compare_with(
     ours: &[u16],
     theirs: &[u16],
     order: &mut [u16],
-    inputs: &mut [u8],
-    values: &mut [u8],
-    swept: &mut [u8],
+    path: &mut [u16],
+    zeros: &mut [u64],
+    ones: &mut [u64],
+    lows: &mut [u64],
+    highs: &mut [u64],
 ) -> Answer
     requires { ⌜ Pair (now ours) (now theirs) ⌝ }
-    requires { ⌜ length (now order) ≡ maxGates ⌝ }
-    requires { ⌜ length (now inputs) ≡ maxInputs ⌝ }
-    requires { ⌜ length (now values) ≡ maxGates ⌝ }
-    requires { ⌜ length (now swept) ≡ maxGates ⌝ }
+    requires { ⌜ (length (now order) ≡ maxGates) × (length (now path) ≡ maxGates) ⌝ }
+    requires { ⌜ (length (now zeros) ≡ maxInputs + maxGates) × (length (now ones) ≡ maxInputs + maxGates) ⌝ }
+    requires { ⌜ (length (now lows) ≡ maxInputs + maxGates) × (length (now highs) ≡ maxInputs + maxGates) ⌝ }
     ensures { λ r. ⌜ r ≡ answerOf (compareBlocks (decode (now (ours .entry))) (decode (now (theirs .entry)))) ⌝ }
 {
     let n = inputs_of(ours);
     let m = gates_of(ours);
     let others = gates_of(theirs);
     order_gates(ours, order);
+    order_gates(theirs, path);
     search_settings(
         ours,
         theirs,
         &order[..m],
-        &mut inputs[..n],
-        &mut values[..m],
-        &mut swept[..others],
+        &path[..others],
+        &mut zeros[..n + m],
+        &mut ones[..n + m],
+        &mut lows[..n + others],
+        &mut highs[..n + others],
     )
 }

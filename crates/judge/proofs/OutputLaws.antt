@@ -2,6 +2,7 @@
 --   output-proper, output-lane      an output's pair
 --   undefined-tells                 where it is undefined
 --   unsettled-tells                 where one of them is
+--   any-first                       one test less
 --   undefined-some, undefined-unsettled   a setting is not settled where an output is undefined
 -- Assumes nothing.
 use mathlib.Core.Path.{_≡_, refl, sym, ap, _∙_}
@@ -58,7 +59,7 @@ module _ {lanes : ℕ} {p : Pair} (proper : Proper lanes p) where
       (neither (bit (p .zeros) s) (bit (p .ones) s) (bit-low (p .zeros) s) (bit-low (p .ones) s))
 
 -- one test less
-any-first : (p : ℕ → Bool) (k : ℕ) → any p (upTo (suc k)) ≡ any p (upTo k) || p k
+pub any-first : (p : ℕ → Bool) (k : ℕ) → any p (upTo (suc k)) ≡ any p (upTo k) || p k
 any-first p k = any-append p (upTo k) (k ∷ []) ∙ go (any p (upTo k)) (p k)
   where
     go : (a c : Bool) → a || (c || false) ≡ a || c

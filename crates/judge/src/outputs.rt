@@ -1,5 +1,6 @@
 // What the outputs are at the lanes of a batch, from the pairs of its inputs and gates. `used` has a bit at each lane in use; the outputs' words
 // start at `at`.
+use lanes::Pair;
 use lanes::gate::operand_pair;
 use layout::offsets::NAME_SIZE;
 use layout::offsets::OUTPUT_SIZE;
@@ -7,9 +8,25 @@ use layout::read::word_at;
 ghost use mathlib.Core.Path.{_≡_};
 ghost use Prim.Native.Nat.{_^_, _<_};
 ghost use lib.ListN.{length};
-ghost use Rattle.judge.specs.Lanes.{undefinedWord, unsettledWord};
+ghost use Rattle.judge.specs.Lanes.{outputPair, undefinedWord, unsettledWord};
 
-// Where output `o` is undefined.
+// The pair of output `o`.
+pub fn output_pair(
+    words: &[u16],
+    at: usize,
+    o: usize,
+    used: u64,
+    zeros: &[u64],
+    ones: &[u64],
+) -> Pair
+    requires { ⌜ (at < 2 ^ 32) × (o < 2 ^ 32) × (length (now zeros) ≡ length (now ones)) ⌝ }
+    ensures { λ r. ⌜ r ≡ outputPair (now (words .entry)) at used (now (zeros .entry)) (now (ones .entry)) o ⌝ }
+{
+    let node = word_at(words, at + OUTPUT_SIZE * o + NAME_SIZE);
+    operand_pair(node, used, zeros, ones)
+}
+
+// Where it is undefined.
 pub fn undefined_lanes(
     words: &[u16],
     at: usize,
@@ -21,8 +38,7 @@ pub fn undefined_lanes(
     requires { ⌜ (at < 2 ^ 32) × (o < 2 ^ 32) × (length (now zeros) ≡ length (now ones)) ⌝ }
     ensures { λ r. ⌜ r ≡ undefinedWord (now (words .entry)) at used (now (zeros .entry)) (now (ones .entry)) o ⌝ }
 {
-    let node = word_at(words, at + OUTPUT_SIZE * o + NAME_SIZE);
-    let pair = operand_pair(node, used, zeros, ones);
+    let pair = output_pair(words, at, o, used, zeros, ones);
     used ^ (pair.zeros | pair.ones)
 }
 

@@ -8,7 +8,7 @@ use Rattle.netlist.specs.Limits.{maxGates, maxCopies}
 use Rattle.netlist.specs.StoredBlock.{decode, isTorn}
 use Rattle.netlist.specs.Cover.{isSound}
 use Rattle.netlist.specs.Groups.{copyCount}
-use Rattle.decide.specs.InPlace.{Visits}
+use Rattle.visiting.specs.Visits.{Visits}
 use Rattle.schedule.specs.Listing.{Numbers}
 
 -- what the search for the lowest setting asks

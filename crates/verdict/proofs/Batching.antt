@@ -4,7 +4,7 @@
 --   judged, decidable-kept            a decided batch; slices of the same lengths
 --   whole-decidable                   words that are not torn
 --   passed-sound, found-unsound       what the outputs' words tell of a batch
---   sound-more, lowest-in-batch       one batch more; the lowest setting in the first batch that has one
+--   batch-more, lowest-in-batch       one batch more; the lowest setting in the first batch that has one
 --   count-add, count-coming           how many are settled
 --   flagged-length, flagged-placed    a byte for each setting
 -- Assumes nothing.
@@ -28,8 +28,8 @@ use Rattle.netlist.specs.StoredBlock.{gatesAt, outputsAt, decode, isTorn}
 use Rattle.netlist.specs.Rounds.{settingCount, isSettled, isExcluded, isCounted, isSoundAt, lowestUnsettled}
 use Rattle.encoding.proofs.Decoded.{decode-inputCount, decode-gateCount}
 use Rattle.encoding.proofs.Readers.{whole-parts}
-use Rattle.decide.specs.InPlace.{Visits}
-use Rattle.decide.proofs.Legible.{legible}
+use Rattle.visiting.specs.Visits.{Visits}
+use Rattle.batch.proofs.LegibleLaws.{legible}
 use Rattle.lanes.specs.Pairs.{full}
 use Rattle.lanes.specs.Batches.{lanesOf}
 use Rattle.lanes.proofs.InputLaws.{lanesOf-most}
@@ -170,9 +170,9 @@ module _ {ws : List ℕ} {n base : ℕ} {zeros ones : List ℕ} (j : Judged ws n
 -- ---- the lowest
 
 -- one batch more
-pub sound-more : (b : Block) {base lanes step : ℕ} → step ≡ lanes → ((i : ℕ) → i < base → isSoundAt b i ≡ true)
-    → ((s : ℕ) → s < lanes → isSoundAt b (base + s) ≡ true) → (i : ℕ) → i < base + step → isSoundAt b i ≡ true
-sound-more b {base} {lanes} {step} is before inside i l =
+pub batch-more : (P : ℕ → Type 0) {base lanes step : ℕ} → step ≡ lanes → ((i : ℕ) → i < base → P i) → ((s : ℕ) → s < lanes → P (base + s))
+    → (i : ℕ) → i < base + step → P i
+batch-more P {base} {lanes} {step} is before inside i l =
     ⊎-elim (before i) (λ h. let e : base + (i - base) ≡ i = omega arith in rw e at (inside (i - base) (omega arith))) (lt-or-le i base)
 
 -- the lowest lane of the first batch that has one
@@ -185,7 +185,7 @@ lowest-in-batch {b} {n} {r} {zeros} {ones} {w} many f l t =
     let lo = tells-lowest t (lanesOf-most n) (s .0) (s .1) (rw (s .2)) in
     let k = least (hasLane w) 64 in
     lowest-found b (r + k) (2 ^ n) (ap (λ (i : ℕ). 2 ^ i) many) (omega (arith, lo .0))
-    (sound-more b refl (f .before) (λ i m. not-false-true (isSoundAt b (r + i)) (lo .2 i m)))
+    (batch-more (λ i. isSoundAt b i ≡ true) refl (f .before) (λ i m. not-false-true (isSoundAt b (r + i)) (lo .2 i m)))
     (λ m. not-true-is-false (isSoundAt b (r + k)) (lo .1))
   where
     not-false-true : (a : Bool) → not a ≡ false → a ≡ true

@@ -17,7 +17,6 @@ use Rattle.netlist.specs.Rounds.{settingCount, isSettled, isExcluded, isCounted
 use Rattle.netlist.specs.StoredBlock.{decode}
 use Rattle.encoding.proofs.Decoded.{decode-inputCount}
 use Rattle.judge.specs.Lanes.{mayCome}
-use Rattle.verdict.specs.Flags.{settledFlag, countedFlag, soundFlag}
 
 not-false-true : (a : Bool) → not a ≡ false → a ≡ true
 not-false-true true h = refl
@@ -53,15 +52,6 @@ module _ (b : Block) where
   pub below-lowest : (s : ℕ) → s < lowestUnsettled b → mayCome b s ≡ isCounted b s
   unfolding lowestUnsettled
   below-lowest s l = sound-counted s (not-false-true (isSoundAt b s) (least-below (λ s. not (isSoundAt b s)) (settingCount b) s l))
-
-  -- what is told of a setting by the two tests
-  pub excluded-flags : (s : ℕ) → isExcluded b s ≡ true → (0 ≡ countedFlag b s) × (1 ≡ soundFlag b s)
-  unfolding countedFlag soundFlag isCounted isSoundAt
-  excluded-flags s e = rw e (refl, refl)
-
-  pub coming-flags : (s : ℕ) → isExcluded b s ≡ false → (settledFlag b s ≡ countedFlag b s) × (settledFlag b s ≡ soundFlag b s)
-  unfolding countedFlag soundFlag settledFlag isCounted isSoundAt
-  coming-flags s e = rw e (refl, refl)
 
   pub count-le : (s : ℕ) → countBelow (isCounted b) s ≤ s
   count-le s = countBelow-le (isCounted b) s

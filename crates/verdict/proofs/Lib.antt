@@ -1,5 +1,4 @@
 -- Mathematics of the search over settings; no function of src/ is named.
-pub mod Outputs
 pub mod Counting
 pub mod Batching
 pub mod Outcomes

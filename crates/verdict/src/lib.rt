@@ -16,7 +16,6 @@ ghost use Rattle.netlist.specs.Answers.{Told};
 ghost use Rattle.netlist.specs.StoredBlock.{isTorn};
 ghost use Rattle.netlist.specs.Operations.{verdict as verdictOf};
 
-pub mod flags;
 pub mod settings;
 
 // Verdict of a block that is not torn, with room for an order, and for two words an input and a gate.

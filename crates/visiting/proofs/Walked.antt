@@ -18,7 +18,7 @@ use Rattle.netlist.specs.StoredBlock.{isTorn, neversAt, gatesAt}
 use Rattle.encoding.proofs.Readers.{whole-parts}
 use Rattle.search.specs.Search.{Queued, setFlags}
 use Rattle.search.proofs.Marking.{set-new}
-use Rattle.decide.specs.InPlace.{Visits}
+use Rattle.visiting.specs.Visits.{Visits}
 use Rattle.visiting.specs.Postorder.{Room, Walking, Written, Kept, Blank, Grown}
 
 set-most : (flags : List ℕ) (m : ℕ) → setFlags flags m ≤ m

@@ -1,5 +1,5 @@
 // The order in which a setting's gates are visited: a depth-first search's postorder, so that a gate stands behind its operands but for those
-// that close a loop. Any order of all gates decides a setting; in this one few sweeps do. Callers are in `verdict`, `cover` and `render`.
+// that close a loop. Any order of all gates decides a setting; in this one few sweeps do. Callers are in `verdict`, `cover`, `render` and `compare`.
 use layout::limits::MAX_GATES;
 use layout::offsets;
 ghost use mathlib.Core.Path.{_≡_};
@@ -7,7 +7,7 @@ ghost use mathlib.Core.Bool.{false};
 ghost use Prim.Native.Nat.{_≤_};
 ghost use lib.ListN.{length, getD, take};
 ghost use Rattle.netlist.specs.StoredBlock.{isTorn};
-ghost use Rattle.decide.specs.InPlace.{Visits};
+ghost use Rattle.visiting.specs.Visits.{Visits};
 
 pub mod postorder;
 

@@ -6,7 +6,7 @@ ghost use mathlib.Core.Bool.{true};
 ghost use Prim.Native.Nat.{_≤_, _<_};
 ghost use lib.ListN.{length, getD, take};
 ghost use Rattle.netlist.specs.Limits.{maxGates};
-ghost use Rattle.decide.specs.InPlace.{Visits};
+ghost use Rattle.visiting.specs.Visits.{Visits};
 ghost use Rattle.visiting.specs.Postorder.{Unmarked, Room, Written, Grown, Blank};
 
 // The operand word names a gate that is not marked.

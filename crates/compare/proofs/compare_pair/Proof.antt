@@ -16,8 +16,14 @@ slice-aggregate-compare-with-3 c = search needs
 slice-aggregate-compare-with-4 : tie.Need-slice-aggregate-compare-with-4
 slice-aggregate-compare-with-4 c = search needs
 
+slice-aggregate-compare-with-5 : tie.Need-slice-aggregate-compare-with-5
+slice-aggregate-compare-with-5 c = search needs
+
+slice-aggregate-compare-with-6 : tie.Need-slice-aggregate-compare-with-6
+slice-aggregate-compare-with-6 c = search needs
+
 compare-with-requires : tie.Need-compare-with-requires
-compare-with-requires c κs = (c .before .before .before .before .before .before .pre, (refl, (refl, (refl, refl))))
+compare-with-requires c κs = (c .before .before .before .before .before .before .before .before .pre, ((refl, refl), ((refl, refl), (refl, refl))))
 
 returns : tie.Need-returns
 returns c = search needs
@@ -30,5 +36,7 @@ compare-pair-spec =
     slice-aggregate-compare-with-2
     slice-aggregate-compare-with-3
     slice-aggregate-compare-with-4
+    slice-aggregate-compare-with-5
+    slice-aggregate-compare-with-6
     compare-with-requires
     returns)

@@ -1,29 +1,15 @@
 -- `judge::outputs::undefined_lanes` meets its contract. Assumes nothing.
 use borrow.Author.Needs.{needs}
-use Rattle.judge.specs.Lanes.{outputPair, undefinedIn, undefinedWord}
+use Rattle.judge.specs.Lanes.{undefinedIn, undefinedWord}
 use Rattle.judge.proofs.outputs.undefined_lanes.Statement.{statement}
 use Rattle.judge.proofs.outputs.undefined_lanes.Tie as tie
 
-mul-word-at : tie.Need-mul-word-at
-mul-word-at c = search needs
-
-add-word-at : tie.Need-add-word-at
-add-word-at c = search needs
-
-add-word-at-2 : tie.Need-add-word-at-2
-add-word-at-2 c = search needs
-
-word-at-requires : tie.Need-word-at-requires
-word-at-requires c κs = search needs
-
-operand-pair-requires : tie.Need-operand-pair-requires
-operand-pair-requires c κs = search needs
+output-pair-requires : tie.Need-output-pair-requires
+output-pair-requires c κs = search needs
 
 returns : tie.Need-returns
-unfolding undefinedWord undefinedIn outputPair
-returns c = rw (c .before .operand-pair .ensures, c .before .before .word-at .ensures)
+unfolding undefinedWord undefinedIn
+returns c = rw (c .before .output-pair .ensures)
 
 pub undefined-lanes-spec : {M : Type 1} → statement M
-undefined-lanes-spec =
-    tie.close
-    (tie.spec mul-word-at add-word-at add-word-at-2 word-at-requires operand-pair-requires returns)
+undefined-lanes-spec = tie.close (tie.spec output-pair-requires returns)

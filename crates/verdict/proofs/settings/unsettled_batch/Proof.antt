@@ -14,7 +14,7 @@ use Rattle.lanes.specs.Batches.{lanesOf}
 use Rattle.judge.specs.Lanes.{Judged, undefinedWord}
 use Rattle.encoding.proofs.Decoded.{decode-inputCount}
 use Rattle.verdict.proofs.Counting.{few-settings}
-use Rattle.verdict.proofs.Batching.{Place, place-first, place-next, lanesOf-some, judged, decidable-kept, passed-sound, found-unsound, sound-more}
+use Rattle.verdict.proofs.Batching.{Place, place-first, place-next, lanesOf-some, judged, decidable-kept, passed-sound, found-unsound, batch-more}
 use Rattle.verdict.proofs.settings.unsettled_batch.Statement.{statement}
 use Rattle.verdict.proofs.settings.unsettled_batch.Tie as tie
 
@@ -145,7 +145,7 @@ batches-again c =
     passed-sound (values d) (h .before .before .outputs-at .ensures) (h .before .before .before .used-lanes .ensures) (c .before .before .coming-lanes .ensures)
     (λ o l. c .before .loop .inv .1 o (omega (arith, h .before .outputs-of .ensures))) in (
       next d,
-      sound-more block (h .before .before .before .before .lane-count .ensures) (h .batches .inv .1) all,
+      batch-more (λ i. isSoundAt block i ≡ true) (h .before .before .before .before .lane-count .ensures) (h .batches .inv .1) all,
       e .kept .1 .1 .1 .1 .1 .0 ∙ h .batches .inv .2,
       e .kept .1 .1 .1 .1 .1 .1 .0 ∙ h .batches .inv .3,
     )
