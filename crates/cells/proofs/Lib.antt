@@ -5,3 +5,4 @@ pub mod Running
 pub mod Made
 pub mod Earlier
 pub mod Agree
+pub mod Outcomes

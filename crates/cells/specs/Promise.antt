@@ -1,5 +1,5 @@
 -- The promise of making cells (SPECIFICATION 7.15): its own outcome, and whenever it answers 0, a run of the cells gives Pass's values and
--- Settle's. `made-cells` and `cells-pass` in proofs/Agree.antt show that the definitions meet it.
+-- Settle's. `cells-pass` in proofs/Agree.antt and `make-promise` in proofs/Outcomes.antt show that the definitions meet it.
 use mathlib.Core.Path.{_≡_}
 use mathlib.Core.Bool.{Bool, true}
 use mathlib.Core.List.{List, map}

@@ -56,7 +56,7 @@ loop-again c =
     let a = t .before .before .before .before .before .args in (
       search needs,
       passes (wordRule (a .inputs) (now (a .cells)) (a .j)) (l .i) (l .inv .1)
-      (word-told (a .inputs) (now (a .cells)) (a .j) (l .i) (t .before .word-at .ensures) (t .is-operand .ensures)) (c .if1 .left),
+          (word-told (a .inputs) (now (a .cells)) (a .j) (l .i) (t .before .word-at .ensures) (t .is-operand .ensures)) (c .if1 .left),
     )
 
 returns-2 : tie.Need-returns-2 Inv-loop μ-loop
