@@ -1,7 +1,9 @@
 -- The outcomes of making and of running cells, as chains of conditions, and what they promise of each other.
 --   make-chain, run-chain    the conditions in their order, the room last
 --   good-bits, legal-short   what a run's tests leave
+--   run-done                 a run that nothing refuses
 --   runs-as                  a run of the made cells answers what Pass answers, on every setting without a byte above 1
+--   done-cells               so for the cells of any call that is done
 --   make-promise             so making keeps its whole promise
 -- Assumes nothing.
 use mathlib.Core.Path.{_≡_, refl, sym, ap, _∙_}
@@ -11,7 +13,7 @@ use Prim.Native.Nat.{ℕ, _*_, _/_, _%_, _≤_}
 use native.Mathlib.Omega.{arith}
 use lib.ListN.{length, getD, take}
 use lib.Dec.{eqb, leb, ltb}
-use borrow.Author.Tests.{eqb-true, leb-true, le-leb, not-false}
+use borrow.Author.Tests.{eqb-true, eq-eqb, leb-true, le-leb, le-ltb, not-false}
 use Rattle.laws.specs.Lists.{all, upTo, placed}
 use Rattle.laws.proofs.Tests.{and-left, and-right, or-neither}
 use Rattle.laws.proofs.Slices.{take-placed}
@@ -94,6 +96,13 @@ legal-short n cells h =
     leb-true (length cells) (cellSize * maxGates)
     (and-right few short (and-left (few && short) whole (and-left (few && short && whole) (all (readsEarlier n cells) (upTo (cellCount cells))) h)))
 
+-- a run that nothing refuses
+pub run-done : (n : ℕ) (cells setting : List ℕ) (room : ℕ) → areLegalCells n cells ≡ true → length setting ≡ n → isTwoValued setting ≡ true
+    → cellCount cells ≤ room → runCells n cells setting room ≡ done (cellValues n cells setting) (cellCount cells) 0
+unfolding refuseIf isBadBytes isTwoValued cellCount
+run-done n cells setting room legal long low fits =
+    run-chain n cells setting room ∙ rw (legal, eq-eqb (length setting) n long, low, le-ltb room (cellCount cells) fits)
+
 -- ---- a run of the made cells, and Pass
 
 module _ (setting : List ℕ) (t : isTwoValued setting ≡ true) where
@@ -131,6 +140,24 @@ runs-as ws whole straight = record { agrees = agree; runs = runs }
             ≡ inRoom room (refuseIf (not e) BadSetting (done (map code (sweep b (map valueOf setting))) (gateCount b) 0))
         go false e = refl
         go true e = rw (agree .swept setting (eqb-true (length setting) (inputCount b) e) t, agree .oneEach)
+
+-- ---- cells that were made
+
+done-of : (torn straight short : Bool) (made cells : List ℕ) (long count detail : ℕ) (o : Outcome)
+    → o ≡ refuseIf torn MalformedBlock (refuseIf (not straight) NotStraight (refuseIf short NoRoom (done made long 0)))
+    → o ≡ done cells count detail → (torn ≡ false) × (straight ≡ true) × (cells ≡ made)
+unfolding refuseIf
+done-of true straight short made cells long count detail o e d = let z : _≡_ {A = ℕ} 0 1 = cc in absurd (omega arith)
+done-of false false short made cells long count detail o e d = let z : _≡_ {A = ℕ} 0 1 = cc in absurd (omega arith)
+done-of false true true made cells long count detail o e d = let z : _≡_ {A = ℕ} 0 1 = cc in absurd (omega arith)
+done-of false true false made cells long count detail o e d = (refl, refl, (cc))
+
+-- wherever making is done with the cells, a run of them answers what Pass answers
+pub done-cells : (ws cells : List ℕ) (room : ℕ) {count detail : ℕ} → makeCells ws room ≡ done cells count detail → RunsAs ws cells
+done-cells ws cells room {count} {detail} e =
+    let m = done-of (isTorn ws) (isStraight (decode ws)) (ltb room (cellSize * getD ws 1 0)) (cellsOf (decode ws)) cells (cellSize * getD ws 1 0) count detail
+    (makeCells ws room) (make-chain ws room) e in
+    rw (m .2) (runs-as ws (m .0) (m .1))
 
 -- ---- the promise of making
 
