@@ -7,22 +7,22 @@ use Prim.Native.Nat.{ℕ, _≤_, _<_}
 use mathlib.Core.Path.{_≡_, refl, sym, ap, _∙_}
 use mathlib.Core.Bool.{Bool, true, false}
 use mathlib.Core.List.{List, [], _∷_, map}
-use lib.ListN.{length, getD, take, length-map}
-use lib.Dec.{eqb, leb, ltb}
-use borrow.Author.Tests.{ltb-true, le-ltb, eq-eqb}
-use Rattle.laws.specs.Lists.{all, tab}
+use lib.ListN.{length, take, length-map}
+use lib.Dec.{eqb, leb}
+use borrow.Author.Tests.{ltb-true}
+use Rattle.laws.specs.Lists.{all}
 use Rattle.laws.proofs.Tests.{and-left, and-right, not-both}
 use Rattle.laws.proofs.Tab.{length-tab}
 use Rattle.laws.proofs.Quantifiers.{all-tab-from}
 use Rattle.netlist.specs.declared.Answer.{Answer}
-use Rattle.netlist.specs.Values.{Value, undefined, val, code, valueOf}
+use Rattle.netlist.specs.Values.{Value, undefined, val, code}
 use Rattle.netlist.specs.Assignments.{bit}
 use Rattle.netlist.specs.Netlist.{Operand, input, gate, constant, Output, Block, inputCount, gateCount}
 use Rattle.netlist.specs.StoredBlock.{decode, isNode}
 use Rattle.netlist.specs.Rounds.{operandValue, settingOf, settingCount, isExcluded, outputValue, outputsUnder}
 use Rattle.netlist.specs.Rendering.{sweep}
-use Rattle.netlist.specs.Answers.{done, refuseIf, inRoom, numberOf, countOf}
-use Rattle.netlist.specs.Operations.{isBadSetting, passBlock, pass}
+use Rattle.netlist.specs.Answers.{done, numberOf, countOf}
+use Rattle.netlist.specs.Operations.{pass}
 use Rattle.netlist.specs.Cells.{makeCells, cellCount, operandBit, cellValues, runCells}
 use Rattle.encoding.proofs.ListFacts.{getD-map, all-map}
 use Rattle.encoding.proofs.WellFormed.{wellFormed-parts}
@@ -32,7 +32,7 @@ use Rattle.rounds.proofs.Sweep.{length-sweep}
 use Rattle.cells.specs.Promise.{isTwoValued, RunsAs, CellsPromise}
 use Rattle.cells.proofs.Outcomes.{run-done, done-cells}
 use Rattle.render.specs.Promise.{Renders, RenderPromise}
-use Rattle.board.specs.WholeWay.{settingBytes, shownByte, ShowsAt, Drives}
+use Rattle.board.specs.WholeWay.{settingBytes, shownByte, Drives}
 
 -- ---- the bytes of a setting
 

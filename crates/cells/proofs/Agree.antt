@@ -3,25 +3,24 @@
 --   cells-pass     all of them, for every straight well-formed block and every setting of 0s and 1s
 -- Assumes nothing.
 use mathlib.Core.Path.{_≡_, refl, sym, ap, _∙_}
-use mathlib.Core.Bool.{true, false, cond}
+use mathlib.Core.Bool.{true, false}
 use mathlib.Core.List.{List, [], _∷_, _++_, map, map-append}
-use Prim.Native.Nat.{ℕ, zero, suc, _+_, _≤_, _<_}
+use Prim.Native.Nat.{ℕ, suc, _+_, _≤_, _<_}
 use native.Mathlib.Nat.{add-zero, zero-add}
 use native.Mathlib.Omega.{arith}
-use lib.ListN.{length, getD, length-append, length-map}
-use lib.Dec.{eqb, ltb}
+use lib.ListN.{length, getD, length-append}
+use lib.Dec.{eqb}
 use borrow.Author.Tests.{ltb-true}
-use Rattle.laws.specs.Lists.{all, tab}
+use Rattle.laws.specs.Lists.{all}
 use Rattle.laws.proofs.Tab.{getD-tab, tab-ext, tab-getD, map-tab}
-use Rattle.laws.proofs.Quantifiers.{all-at}
-use Rattle.netlist.specs.Values.{Value, undefined, val, code, valueOf}
+use Rattle.netlist.specs.Values.{Value, val, code, valueOf}
 use Rattle.netlist.specs.Kinds.{gateValue}
 use Rattle.netlist.specs.Assignments.{bit}
 use Rattle.netlist.specs.Netlist.{Operand, input, gate, constant, Gate, Block, inputCount, gateCount, gateOf}
-use Rattle.netlist.specs.StoredBlock.{operandWords, isNode, isOperand, gateFits, isWellFormed}
-use Rattle.netlist.specs.Rounds.{operandValue, evaluated, settingOf, settled}
+use Rattle.netlist.specs.StoredBlock.{isNode, isOperand, gateFits, isWellFormed}
+use Rattle.netlist.specs.Rounds.{operandValue, evaluated, settingOf}
 use Rattle.netlist.specs.Rendering.{isStraight, sweepFrom, sweep}
-use Rattle.netlist.specs.Cells.{truthBit, truthWord, cellsOf, isEarlier, operandBit, numberOfBits, cellValue, runFrom, cellValues}
+use Rattle.netlist.specs.Cells.{truthBit, cellsOf, isEarlier, operandBit, numberOfBits, cellValue, runFrom, cellValues}
 use Rattle.encoding.proofs.Gates.{fits-kind, fits-arity, arity-four}
 use Rattle.encoding.proofs.WellFormed.{noGate}
 use Rattle.encoding.proofs.Readers.{wellFormed-gate}

@@ -6,14 +6,14 @@
 -- Assumes nothing.
 use mathlib.Core.Path.{_≡_, refl, sym, ap, _∙_}
 use mathlib.Core.Logic.{⊎-elim}
-use mathlib.Core.Bool.{Bool, true, false, _&&_, and-true}
+use mathlib.Core.Bool.{Bool, true, false, and-true}
 use mathlib.Core.List.{List, map}
 use Prim.Native.Nat.{ℕ, _+_, _*_, _%_, _≤_, _<_}
 use native.Mathlib.Omega.{arith}
 use lib.ListN.{length, getD, List·getD-eq-default}
-use lib.Dec.{eqb, leb, ltb}
+use lib.Dec.{ltb}
 use borrow.Author.Tests.{le-leb, lt-leb, eq-eqb, ne-eqb}
-use Rattle.laws.specs.Lists.{all, tab, joined, upTo}
+use Rattle.laws.specs.Lists.{all, joined, upTo}
 use Rattle.laws.proofs.Tests.{lt-or-le}
 use Rattle.laws.proofs.Lists.{all-joined}
 use Rattle.laws.proofs.Quantifiers.{all-at, all-from, all-tab-from, all-below, below-all, all-ext}

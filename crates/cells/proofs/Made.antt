@@ -9,7 +9,6 @@ use mathlib.Core.Logic.{⊎-elim}
 use mathlib.Core.Bool.{true, false}
 use mathlib.Core.List.{List, [], _∷_, map}
 use Prim.Native.Nat.{ℕ, _+_, _*_, _/_, _%_, _≤_, _<_}
-use native.Mathlib.Nat.{add-zero}
 use native.Mathlib.Omega.{arith}
 use lib.ListN.{length, getD, List·getD-append, List·getD-eq-default}
 use Rattle.laws.specs.Lists.{tab}
@@ -17,7 +16,7 @@ use Rattle.laws.proofs.Tests.{lt-or-le}
 use Rattle.laws.proofs.Tab.{getD-tab, tab-ext, tab-getD, map-tab}
 use Rattle.laws.proofs.Quantifiers.{all-at}
 use Rattle.netlist.specs.Netlist.{Operand, constant, Gate, Block, inputCount, gateCount, gateOf}
-use Rattle.netlist.specs.StoredBlock.{gateSize, operandWords, gatesAt, nodeWord, operandOf, gateAt, isOperand, gateFits, decode, isWellFormed, isTorn}
+use Rattle.netlist.specs.StoredBlock.{gateSize, operandWords, gatesAt, nodeWord, operandOf, gateAt, isOperand, gateFits, decode, isWellFormed}
 use Rattle.netlist.specs.Cells.{cellSize, truthWord, cellWords, cellsOf, Cell, cellCount, cellAt, cellsIn}
 use Rattle.encoding.proofs.ListFacts.{length-joined, getD-joined}
 use Rattle.encoding.proofs.Nodes.{nodeWord-operandOf, operandOf-nodeWord}

@@ -6,15 +6,15 @@
 --   done-cells               so for the cells of any call that is done
 --   make-promise             so making keeps its whole promise
 -- Assumes nothing.
-use mathlib.Core.Path.{_≡_, refl, sym, ap, _∙_}
-use mathlib.Core.Bool.{Bool, true, false, not, _&&_, _||_, or-false}
+use mathlib.Core.Path.{_≡_, refl, sym, _∙_}
+use mathlib.Core.Bool.{Bool, true, false, not, _&&_, or-false}
 use mathlib.Core.List.{List, map}
 use Prim.Native.Nat.{ℕ, _*_, _/_, _%_, _≤_}
 use native.Mathlib.Omega.{arith}
 use lib.ListN.{length, getD, take}
 use lib.Dec.{eqb, leb, ltb}
 use borrow.Author.Tests.{eqb-true, eq-eqb, leb-true, le-leb, le-ltb, not-false}
-use Rattle.laws.specs.Lists.{all, upTo, placed}
+use Rattle.laws.specs.Lists.{all, upTo}
 use Rattle.laws.proofs.Tests.{and-left, and-right, or-neither}
 use Rattle.laws.proofs.Slices.{take-placed}
 use Rattle.laws.proofs.Quantifiers.{all-from}
@@ -78,7 +78,8 @@ module _ (n : ℕ) (cells setting : List ℕ) (room : ℕ) where
       (refuseIf (isBadBytes n 1 setting) BadSetting
       (refuseIf (ltb room (length cells / cellSize)) NoRoom (done (cellValues n cells setting) (length cells / cellSize) 0)))
   unfolding runCells isBadRun isBadBytes cellCount
-  run-chain = run-last room (cellValues n cells setting) (cellCount cells) (not (areLegalCells n cells)) (isBadBytes n 1 setting) (length-values n cells setting)
+  run-chain =
+      run-last room (cellValues n cells setting) (cellCount cells) (not (areLegalCells n cells)) (isBadBytes n 1 setting) (length-values n cells setting)
 
 -- a setting that passed its test has bits,
 pub good-bits : (n : ℕ) (setting : List ℕ) → isBadBytes n 1 setting ≡ false → Bits setting
@@ -115,7 +116,8 @@ module _ (setting : List ℕ) (t : isTwoValued setting ≡ true) where
   bad-setting : (b : Block) → isBadSetting b setting ≡ not (eqb (length setting) (inputCount b))
   unfolding isBadSetting isTwoValued
   bad-setting b =
-      let low : all (λ v. leb v 2) setting ≡ true = all-from (λ v. leb v 2) setting 0 (λ i l. le-leb (getD setting i 0) 2 (omega (arith, bits-of setting t i))) in
+      let low : all (λ v. leb v 2) setting ≡ true =
+      all-from (λ v. leb v 2) setting 0 (λ i l. le-leb (getD setting i 0) 2 (omega (arith, bits-of setting t i))) in
       rw low (or-false (not (eqb (length setting) (inputCount b))))
 
 pub runs-as : (ws : List ℕ) → isTorn ws ≡ false → isStraight (decode ws) ≡ true → RunsAs ws (cellsOf (decode ws))

@@ -1,9 +1,8 @@
 -- `cells::make::cell_word` meets its contract: one law for each kind of word. Assumes nothing.
-use mathlib.Core.Path.{_≡_, sym, ap, _∙_}
+use mathlib.Core.Path.{sym}
 use denote.Ref.{now}
 use borrow.Author.Needs.{needs}
 use native.Mathlib.Omega.{arith}
-use Rattle.cells.specs.Made.{cellWordAt}
 use Rattle.cells.proofs.Made.{at-truth, at-operand, at-absent}
 use Rattle.cells.proofs.make.cell_word.Statement.{statement}
 use Rattle.cells.proofs.make.cell_word.Tie as tie

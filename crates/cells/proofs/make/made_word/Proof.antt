@@ -1,11 +1,11 @@
 -- `cells::make::made_word` meets its contract: the cell and the word in it are the place's quotient and remainder. Assumes nothing.
-use mathlib.Core.Path.{_≡_, _∙_}
-use Prim.Native.Nat.{_+_, _*_, _/_, _≤_, _<_}
+use mathlib.Core.Path.{_∙_}
+use Prim.Native.Nat.{_+_, _*_, _/_, _<_}
 use denote.Ref.{now}
 use borrow.Author.Needs.{needs}
 use native.Mathlib.Omega.{arith}
-use lib.ListN.{length, getD}
-use Rattle.netlist.specs.StoredBlock.{gateSize, operandWords, gatesAt, neversAt, outputsAt}
+use lib.ListN.{length}
+use Rattle.netlist.specs.StoredBlock.{gateSize, operandWords, outputsAt}
 use Rattle.netlist.specs.Cells.{cellSize}
 use Rattle.encoding.proofs.Readers.{whole-parts}
 use Rattle.simulate.proofs.Codes.{legal-head}

@@ -48,7 +48,8 @@ loop-again c =
     let a = c .before .before .before .before .before .before .before .args in
     let t = c .before .before .before .loop in
     let more =
-    ran-more (a .inputs) (now (a .cells)) (now (a .setting)) (now (a .values)) (t .values) (t .j) (c .cell-value .result) (t .inv .1) (c .cell-value .ensures) in
+    ran-more (a .inputs) (now (a .cells)) (now (a .setting)) (now (a .values)) (t .values) (t .j) (c .cell-value .result) (t .inv .1)
+    (c .cell-value .ensures) in
     (omega arith, filling-more (t .inv .1) (omega arith) _ more)
 
 same-length : tie.Need-same-length Inv-loop μ-loop

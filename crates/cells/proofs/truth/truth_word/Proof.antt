@@ -1,5 +1,4 @@
 -- `cells::truth::truth_word` meets its contract: the table is read at the first word. Assumes nothing.
-use mathlib.Core.Path.{_≡_}
 use borrow.Author.Needs.{needs}
 use native.Mathlib.Omega.{arith}
 use Rattle.cells.proofs.TruthWords.{head-low, truth-entry}

@@ -1,5 +1,5 @@
 -- `simulate::setting::test_bytes` meets its contract: the length is tested, and then the bytes. Assumes nothing.
-use mathlib.Core.Path.{_≡_, sym, _∙_}
+use mathlib.Core.Path.{_≡_}
 use mathlib.Core.Bool.{not}
 use denote.Ref.{now}
 use borrow.Author.Needs.{needs}

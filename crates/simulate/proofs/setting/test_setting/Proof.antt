@@ -1,5 +1,4 @@
 -- `simulate::setting::test_setting` meets its contract: the bytes of a block's inputs, in three values. Assumes nothing.
-use mathlib.Core.Path.{_≡_}
 use denote.Ref.{now}
 use borrow.Author.Needs.{needs}
 use Rattle.simulate.proofs.Settings.{bad-setting}
