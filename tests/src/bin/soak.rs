@@ -36,7 +36,7 @@ const fn kind(name: &'static str, every: u64, compare: fn(Range<u64>)) -> Kind {
     }
 }
 
-const KINDS: [Kind; 19] = [
+const KINDS: &[Kind] = &[
     kind("small blocks", 1, |s| seeded::blocks(s, Size::SMALL)),
     kind("middle blocks", 101, |s| seeded::blocks(s, Size::MIDDLE)),
     kind("large blocks", 2_001, |s| seeded::blocks(s, Size::LARGE)),
