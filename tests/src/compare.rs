@@ -1,6 +1,7 @@
 //! The proved library against the simulator: numbers, counts, details, results, and what is left in the lent slices.
 //! A difference panics, and a `Report` tells the input.
 
+pub mod cells;
 pub mod seeded;
 pub mod tally;
 
