@@ -32,17 +32,17 @@ use Rattle.rounds.proofs.Sweep.{length-sweep}
 use Rattle.cells.specs.Promise.{isTwoValued, RunsAs, CellsPromise}
 use Rattle.cells.proofs.Outcomes.{run-done, done-cells}
 use Rattle.render.specs.Promise.{Renders, RenderPromise}
-use Rattle.board.specs.WholeWay.{settingBytes, shownByte, Drives}
+use Rattle.board.specs.WholeWay.{bytesOfSetting, shownByte, Drives}
 
 -- ---- the bytes of a setting
 
 module _ (n s : ℕ) where
-  length-bytes : length (settingBytes n s) ≡ n
-  unfolding settingBytes settingOf
+  length-bytes : length (bytesOfSetting n s) ≡ n
+  unfolding bytesOfSetting settingOf
   length-bytes = length-map (settingOf n s) code ∙ length-tab (λ i. val (eqb (bit s i) 1)) n
 
-  bytes-low : isTwoValued (settingBytes n s) ≡ true
-  unfolding settingBytes settingOf isTwoValued code
+  bytes-low : isTwoValued (bytesOfSetting n s) ≡ true
+  unfolding bytesOfSetting settingOf isTwoValued code
   bytes-low = all-map (λ v. leb v 1) code (settingOf n s) ∙ all-tab-from (λ v. leb (code v) 1) (λ i. val (eqb (bit s i) 1)) n (λ i l. low (eqb (bit s i) 1))
     where
       low : (t : Bool) → leb (code (val t)) 1 ≡ true
@@ -79,19 +79,19 @@ module _ (ws out cells : List ℕ) (r : Renders ws out) (c : RunsAs out cells) w
     abbrev x : List Value
     x = settingOf n s
 
-    values-swept : cellValues n cells (settingBytes n s) ≡ map code (sweep (decode out) x)
-    unfolding settingBytes
+    values-swept : cellValues n cells (bytesOfSetting n s) ≡ map code (sweep (decode out) x)
+    unfolding bytesOfSetting
     values-swept =
         rw (same-count, values-codes x)
-        at (c .agrees .swept (settingBytes n s) (length-bytes n s ∙ sym same-count) (bytes-low n s))
+        at (c .agrees .swept (bytesOfSetting n s) (length-bytes n s ∙ sym same-count) (bytes-low n s))
 
-    runs-at : (room : ℕ) → cellCount cells ≤ room → runCells n cells (settingBytes n s) room ≡ done (cellValues n cells (settingBytes n s)) (cellCount cells) 0
+    runs-at : (room : ℕ) → cellCount cells ≤ room → runCells n cells (bytesOfSetting n s) room ≡ done (cellValues n cells (bytesOfSetting n s)) (cellCount cells) 0
     runs-at room l =
-        run-done n cells (settingBytes n s) room (rw same-count at (c .agrees .legal)) (length-bytes n s) (bytes-low n s) l
+        run-done n cells (bytesOfSetting n s) room (rw same-count at (c .agrees .legal)) (length-bytes n s) (bytes-low n s) l
 
     outputs-at : s < settingCount (decode ws) → isExcluded (decode ws) s ≡ false
-        → map (shownByte (settingBytes n s) (cellValues n cells (settingBytes n s))) (decode out .outputs) ≡ map code (outputsUnder (decode ws) s)
-    unfolding settingBytes settingOf outputsUnder
+        → map (shownByte (bytesOfSetting n s) (cellValues n cells (bytesOfSetting n s))) (decode out .outputs) ≡ map code (outputsUnder (decode ws) s)
+    unfolding bytesOfSetting settingOf outputsUnder
     outputs-at l e =
         let b = decode out in
         let nodes = wellFormed-parts b (whole-wellFormed out (r .notTorn)) .nodesThere in

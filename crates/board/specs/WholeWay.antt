@@ -13,8 +13,8 @@ use Rattle.netlist.specs.Cells.{cellCount, areLegalCells, operandBit, cellValue
 use Rattle.render.specs.Promise.{portOf}
 
 -- the bytes of setting number s for n inputs: bit i of s for input i
-unfoldable pub settingBytes : ℕ → ℕ → List ℕ
-settingBytes n s = map code (settingOf n s)
+unfoldable pub bytesOfSetting : ℕ → ℕ → List ℕ
+bytesOfSetting n s = map code (settingOf n s)
 
 -- what an output shows: a byte of the setting or of a run's values, by its node
 unfoldable pub shownByte : List ℕ → List ℕ → Output → ℕ
@@ -24,9 +24,9 @@ shownByte setting values o = operandBit setting values (o .node)
 -- are the values of the settled original's outputs, output by output.
 pub record ShowsAt (ws out cells : List ℕ) (s : ℕ) : Type 0 where
   pub runs : (room : ℕ) → cellCount cells ≤ room → let n = inputCount (decode ws) in
-      runCells n cells (settingBytes n s) room ≡ done (cellValues n cells (settingBytes n s)) (cellCount cells) 0
+      runCells n cells (bytesOfSetting n s) room ≡ done (cellValues n cells (bytesOfSetting n s)) (cellCount cells) 0
   pub outputs : let n = inputCount (decode ws) in
-      map (shownByte (settingBytes n s) (cellValues n cells (settingBytes n s))) (decode out .outputs) ≡ map code (outputsUnder (decode ws) s)
+      map (shownByte (bytesOfSetting n s) (cellValues n cells (bytesOfSetting n s))) (decode out .outputs) ≡ map code (outputsUnder (decode ws) s)
 
 -- The original's words `ws`, its rendering's words `out`, and the `cells` made of these: the inputs and the ports are the original's, a run
 -- takes the cells, and every setting that isn't excluded shows the original's outputs.
