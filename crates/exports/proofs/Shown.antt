@@ -8,8 +8,9 @@ use Rattle.netlist.specs.Answers.{Shows, Outcome, answerOf, Told, Promise}
 use Rattle.refusals.proofs.Shown.{shows-same}
 use Rattle.refusals.proofs.Promised.{told-answer, promise-answer}
 use Rattle.simulate.specs.Passed.{PassPromise}
+use Rattle.gather.specs.Promise.{GatherPromise}
 use Rattle.render.specs.Promise.{RenderPromise}
-use Rattle.exports.specs.Replies.{Replies, PassReply, RenderReply}
+use Rattle.exports.specs.Replies.{Replies, PassReply, RenderReply, GatherReply}
 
 pub replies : {o : Outcome} {entry exit : List ℕ} {a : Answer} {r : Reply} → Promise o entry a exit → Shows a r → Replies o entry r exit
 replies p s = record { shows = shows-same (promise-answer p) s; leaves = p .leaves }
@@ -23,3 +24,7 @@ pass-reply p s = record { replies = replies (p .promise) s; settles = λ z. p .s
 
 pub render-reply : {ws entry : List ℕ} {a : Answer} {r : Reply} {exit : List ℕ} → RenderPromise ws entry a exit → Shows a r → RenderReply ws entry r exit
 render-reply p s = let e = promise-answer (p .promise) in record { replies = replies (p .promise) s; promise = rw (← e) p }
+
+pub gather-reply : {ws entry listEntry : List ℕ} {a : Answer} {r : Reply} {exit listExit : List ℕ} → GatherPromise ws entry listEntry a exit listExit → Shows a r
+    → GatherReply ws entry listEntry r exit listExit
+gather-reply p s = record { block = replies (p .block) s; list = p .list }

@@ -5,6 +5,7 @@ use Prim.Native.Nat.{ℕ}
 use lib.ListN.{length}
 use Rattle.netlist.specs.Answers.{Shows, Outcome, answerOf, leftIn}
 use Rattle.netlist.specs.Operations.{settle, pass, render}
+use Rattle.netlist.specs.Gather.{gather, gatherList}
 use Rattle.render.specs.Promise.{RenderPromise}
 use Rattle.netlist.specs.declared.Reply.{Reply}
 
@@ -22,3 +23,8 @@ pub record PassReply (ws setting entry : List ℕ) (r : Reply) (exit : List ℕ)
 pub record RenderReply (ws entry : List ℕ) (r : Reply) (exit : List ℕ) : Type 0 where
   pub replies : Replies (render ws (length entry)) entry r exit
   pub promise : RenderPromise ws entry (answerOf (render ws (length entry))) exit
+
+-- Gather's, on both slices.
+pub record GatherReply (ws entry listEntry : List ℕ) (r : Reply) (exit listExit : List ℕ) : Type 0 where
+  pub block : Replies (gather ws (length entry) (length listEntry)) entry r exit
+  pub list : listExit ≡ leftIn (gatherList ws (length entry) (length listEntry)) listEntry
