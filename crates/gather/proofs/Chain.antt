@@ -12,7 +12,7 @@ use Rattle.netlist.specs.Netlist.{Block, gateCount}
 use Rattle.netlist.specs.StoredBlock.{encode, decode, isTorn}
 use Rattle.netlist.specs.Answers.{done, refuseIf, inRoom}
 use Rattle.netlist.specs.Operations.{counted}
-use Rattle.netlist.specs.Gather.{gathered, gatheredOrder, gatheredWords, lacksRoom, gatherWith, isPermutation, scattered, scatter}
+use Rattle.netlist.specs.Gather.{gathered, gatheredWords, lacksRoom, gatherWith, isPermutation, scattered, scatter}
 use Rattle.encoding.proofs.Decoded.{decode-gateCount}
 use Rattle.permute.proofs.Words.{gathered-length, gathered-listed, scattered-length}
 

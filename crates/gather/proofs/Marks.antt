@@ -11,10 +11,10 @@ use native.Mathlib.Omega.{arith}
 use lib.ListN.{length, getD, set, length-set, replicate, length-replicate, getD-replicate, List·getD-append}
 use lib.Seq.{getD-set-same, getD-set-other}
 use Rattle.laws.specs.Lists.{placed}
-use Rattle.laws.proofs.Tests.{eq-or-ne, lt-or-le, not-true-false, not-both}
+use Rattle.laws.proofs.Tests.{eq-or-ne, not-true-false}
 use Rattle.laws.proofs.Slices.{placed-room}
 use Rattle.netlist.specs.Gather.{numberAt, placeIn, isPermutation}
-use Rattle.permute.specs.Renumbering.{EachOnce, Renumbers}
+use Rattle.permute.specs.Renumbering.{Renumbers}
 use Rattle.permute.proofs.Permutation.{permutation-each, each-permutation, place-renumbers}
 use Rattle.gather.specs.Places.{Places, Marked}
 
@@ -57,7 +57,9 @@ module _ (m : ℕ) (order : List ℕ) where
           long = rw (length-set places (getD order t 0) t) (k .long);
           listed = λ u h. ⊎-elim (λ e. rw e l) (λ ne. k .listed u (omega arith)) (eq-or-ne u t);
           marks = λ u h. ⊎-elim (λ e. rw e here′) (λ ne. before u (omega arith)) (eq-or-ne u t);
-          others = λ j h. ⊎-elim (λ e. rw e (inr (rw here′ (omega arith, refl)))) (λ ne. rw (getD-set-other places (getD order t 0) j t 0 ne) (other j h)) (eq-or-ne j (getD order t 0));
+          others = λ j h.
+              ⊎-elim (λ e. rw e (inr (rw here′ (omega arith, refl)))) (λ ne. rw (getD-set-other places (getD order t 0) j t 0 ne) (other j h))
+              (eq-or-ne j (getD order t 0));
         }
       where
         here′ : getD (set places (getD order t 0) t) (getD order t 0) 0 ≡ t

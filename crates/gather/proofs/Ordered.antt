@@ -4,7 +4,7 @@
 --   gathered-orders, gathered-arrangement     that list and its places are in order, and arrange the gathered block
 --   scattered-orders, scattered-arrangement   the places in a list that is each number once, and the list, arrange the scattered block
 use Prim.Native.Nat.{ℕ, _≤_, _<_}
-use mathlib.Core.Path.{_≡_, refl, sym, ap, _∙_}
+use mathlib.Core.Path.{_≡_, sym, ap, _∙_}
 use mathlib.Core.Bool.{Bool, true, false}
 use mathlib.Core.List.{List}
 use native.Mathlib.Omega.{arith}

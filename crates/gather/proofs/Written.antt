@@ -3,8 +3,8 @@
 --   ordered-as         numbers below a count
 --   table-stands       the table has the word of each gate's new number
 --   arranged-written   the front as it was, the gates in the order listed, the outputs: the encoding of the arranged block
-use Prim.Native.Nat.{ℕ, _+_, _-_, _*_, _≤_, _<_}
-use mathlib.Core.Path.{_≡_, refl, sym, ap, ap₂, _∙_}
+use Prim.Native.Nat.{ℕ, _+_, _*_, _≤_, _<_}
+use mathlib.Core.Path.{_≡_, refl, sym, ap, _∙_}
 use mathlib.Core.Bool.{true, false}
 use mathlib.Core.List.{List, [], _∷_, _++_, map}
 use native.Mathlib.Nat.{zero-add}
@@ -18,24 +18,24 @@ use Rattle.laws.proofs.Tab.{length-tab, getD-tab, tab-add, tab-ext, tab-getD, m
 use Rattle.laws.proofs.Stores.{sets-append, sets-joined-next, length-joined-tab}
 use Rattle.laws.proofs.Slices.{sets-placed}
 use Rattle.netlist.specs.Limits.{maxInputs, maxGates, maxOutputs}
-use Rattle.netlist.specs.Netlist.{Operand, input, gate, constant, Gate, Output, Block, inputCount, gateCount, outputCount, neverCount, gateOf}
-use Rattle.netlist.specs.StoredBlock.{gateSize, inputsAt, neversAt, gatesAt, outputsAt, nodeWord, gateWords, outputWords, encode, decode, isTorn, isNode, isOperand, gateFits, isWellFormed}
+use Rattle.netlist.specs.Netlist.{Operand, input, gate, constant, Gate, Output, Block, gateCount, gateOf}
+use Rattle.netlist.specs.StoredBlock.{neversAt, gatesAt, outputsAt, nodeWord, gateWords, outputWords}
+use Rattle.netlist.specs.StoredBlock.{encode, decode, isTorn, isNode, isOperand, gateFits, isWellFormed}
 use Rattle.netlist.specs.Rendering.{copiedOperand, copied}
 use Rattle.netlist.specs.Gather.{renumbered, renumberedGate, renumberedOutput, arranged, numberAt}
 use Rattle.encoding.proofs.Decoded.{decode-inputCount, decode-gateCount, decode-outputCount, decode-neverCount}
 use Rattle.encoding.proofs.Gates.{fits-operands}
 use Rattle.encoding.proofs.Nodes.{isNode-isOperand}
 use Rattle.encoding.proofs.RoundTrip.{whole-wellFormed, whole-encode}
-use Rattle.encoding.proofs.Intact.{Intact}
 use Rattle.encoding.proofs.Readers.{whole-parts, wellFormed-gate, wellFormed-output}
 use Rattle.reach.proofs.ListFacts.{map-same}
 use Rattle.copying.specs.Words.{wordFrom, copyWords, shownAt, Order}
 use Rattle.copying.proofs.Words.{length-entry}
 use Rattle.copying.proofs.Copied.{Stands}
-use Rattle.copying.proofs.Written.{front-written, few, copy-written, outputs-written, encode-of}
+use Rattle.copying.proofs.Written.{front-written, copy-written, outputs-written, encode-of}
 use Rattle.permute.proofs.Arranged.{arranged-count, arranged-outputCount}
 use Rattle.permute.proofs.Words.{arranged-length}
-use Rattle.gather.specs.Arranging.{newWord, movedAt, arrangement, ArrangeReady}
+use Rattle.gather.specs.Arranging.{newWord, movedAt, arrangement}
 
 noOutput : Output
 noOutput = record { port = []; node = constant false }
@@ -175,7 +175,11 @@ module _ (ws : List ℕ) (n m k at : ℕ) (whole : isTorn ws ≡ false) (inputsA
       rw (e₃, e₂, e₁)
       (ap (λ (l : List ℕ). sets l (at + 5 * m) outputs) (sets-append front out 0 at gates (rw (length-tab (wordFrom ws 0) at) (omega arith)))
       ∙ sets-append (front ++ gates) out 0 (at + 5 * m) outputs
-      (rw (length-append front gates, length-tab (wordFrom ws 0) at, length-joined-tab (movedAt ws at n m order table) 5 (length-movedAt ws at n m order table) m)
+      (rw (
+        length-append front gates,
+        length-tab (wordFrom ws 0) at,
+        length-joined-tab (movedAt ws at n m order table) 5 (length-movedAt ws at n m order table) m,
+      )
       (omega arith))
       ∙ ap (sets out 0) (sym encoded)
       ∙ sets-placed (encode c) out (rw long room))

@@ -7,18 +7,15 @@
 --   arranged-itself         in the order that they have, the gates stay
 -- Assumes nothing.
 use Prim.Native.Nat.{ℕ, _<_}
-use mathlib.Core.Path.{_≡_, refl, sym, ap, ap₂, _∙_}
-use mathlib.Core.Bool.{Bool, true, false, _&&_}
+use mathlib.Core.Path.{_≡_, refl, sym, ap, _∙_}
+use mathlib.Core.Bool.{true, false}
 use mathlib.Core.List.{List, [], map, map-map, map-id}
-use native.Mathlib.Omega.{arith}
 use lib.ListN.{length, getD, length-map}
 use lib.Seq.{ext-getD}
 use borrow.Author.Tests.{ltb-true, lt-ltb}
-use Rattle.laws.specs.Lists.{all, upTo}
 use Rattle.laws.proofs.Quantifiers.{all-at, all-from}
-use Rattle.laws.proofs.Tab.{length-tab, getD-tab}
-use Rattle.netlist.specs.Netlist.{Operand, input, gate, constant, Gate, Output, Block, inputCount, gateCount, outputCount, gateOf}
-use Rattle.netlist.specs.StoredBlock.{isNode, isOperand, gateFits, isPlainName, isWellFormed}
+use Rattle.netlist.specs.Netlist.{Operand, input, gate, constant, Gate, Output, Block, gateCount, outputCount, gateOf}
+use Rattle.netlist.specs.StoredBlock.{isNode, isOperand, gateFits, isWellFormed}
 use Rattle.netlist.specs.Gather.{renumbered, renumberedGate, renumberedOutput, arranged, numberAt}
 use Rattle.encoding.proofs.ListFacts.{getD-map, all-map}
 use Rattle.encoding.proofs.Gates.{fits-kind, fits-arity, fits-operands, fits-from}
@@ -63,7 +60,8 @@ module _ (f g : ℕ → ℕ) where
   unfolding renumberedGate
   gate-twice a =
       ap (λ (os : List Operand). record { kind = a .kind; operands = os })
-      (map-map (renumbered f) (renumbered g) (a .operands) ∙ map-same _ _ (a .operands) (constant false) (λ i l. operand-twice (getD (a .operands) i (constant false))))
+      (map-map (renumbered f) (renumbered g) (a .operands)
+      ∙ map-same _ _ (a .operands) (constant false) (λ i l. operand-twice (getD (a .operands) i (constant false))))
 
   output-twice : (o : Output) → renumberedOutput f (renumberedOutput g o) ≡ renumberedOutput (λ j. f (g j)) o
   unfolding renumberedOutput
@@ -79,7 +77,8 @@ gate-kept : (a : Gate) → renumberedGate (λ j. j) a ≡ a
 unfolding renumberedGate
 gate-kept a =
     ap (λ (os : List Operand). record { kind = a .kind; operands = os })
-    (map-same (renumbered (λ j. j)) (λ o. o) (a .operands) (constant false) (λ i l. operand-kept (getD (a .operands) i (constant false))) ∙ map-id (a .operands))
+    (map-same (renumbered (λ j. j)) (λ o. o) (a .operands) (constant false) (λ i l. operand-kept (getD (a .operands) i (constant false)))
+    ∙ map-id (a .operands))
 
 output-kept : (o : Output) → renumberedOutput (λ j. j) o ≡ o
 unfolding renumberedOutput
@@ -111,7 +110,8 @@ module _ (order : List ℕ) (number : ℕ → ℕ) (b : Block) where
   unfolding arranged numberAt
   arranged-gate t l = getD-map (λ j. renumberedGate number (gateOf b j)) order t 0 _ l
 
-  pub arranged-output : (o : ℕ) (d e : Output) → o < outputCount b → getD (arranged order number b .outputs) o d ≡ renumberedOutput number (getD (b .outputs) o e)
+  pub arranged-output : (o : ℕ) (d e : Output) → o < outputCount b
+      → getD (arranged order number b .outputs) o d ≡ renumberedOutput number (getD (b .outputs) o e)
   unfolding arranged
   arranged-output o d e l = getD-map (renumberedOutput number) (b .outputs) o e d l
 

@@ -5,22 +5,18 @@
 -- Assumes nothing.
 use Prim.Native.Nat.{ℕ, _<_}
 use mathlib.Core.Path.{_≡_, refl, sym, ap, ap₂, _∙_}
-use mathlib.Core.Logic.{_⊎_, ⊎-elim}
-use mathlib.Core.Bool.{Bool, true, false, _&&_}
+use mathlib.Core.Bool.{_&&_, true}
 use mathlib.Core.List.{List, [], _∷_, _++_, map, map-append}
-use native.Mathlib.Omega.{arith}
 use lib.ListN.{length, getD, length-map}
 use Rattle.laws.specs.Lists.{joined, member}
 use Rattle.laws.proofs.Tests.{same-test}
 use Rattle.laws.proofs.Quantifiers.{member-at, member-from}
 use Rattle.netlist.specs.Netlist.{Operand, input, gate, constant, Block, gateCount, gateOf}
-use Rattle.netlist.specs.StoredBlock.{isWellFormed}
 use Rattle.netlist.specs.Groups.{gateOperand, readBy, reads, OperandPath, stay, step, reaches, sameGroup}
 use Rattle.netlist.specs.Gather.{renumbered, renumberedGate, arranged, numberAt}
 use Rattle.encoding.proofs.ListFacts.{getD-map}
 use Rattle.reach.specs.Inside.{Inside}
-use Rattle.reach.proofs.Inside.{wellFormed-inside}
-use Rattle.reach.proofs.Reach.{reads-below, path-reaches, reaches-path, reaches-below, reaches-from}
+use Rattle.reach.proofs.Reach.{reads-below, path-reaches, reaches-path}
 use Rattle.permute.specs.Renumbering.{Renumbers}
 use Rattle.permute.proofs.Arranged.{arranged-count, arranged-gate}
 

@@ -5,3 +5,4 @@ pub mod Values
 pub mod Groups
 pub mod Gathered
 pub mod Words
+pub mod Together

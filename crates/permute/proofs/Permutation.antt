@@ -2,8 +2,8 @@
 --   permutation-each, each-permutation   a list passes the test exactly when it is each number once
 --   place-renumbers, inverse-renumbers   the places of such a list, and the list as numbers of its inverse
 -- Assumes nothing.
-use Prim.Native.Nat.{ℕ, zero, suc, _+_, _≤_, _<_}
-use mathlib.Core.Path.{_≡_, refl, sym, ap, _∙_}
+use Prim.Native.Nat.{ℕ, zero, suc, _≤_, _<_}
+use mathlib.Core.Path.{_≡_, refl, sym, _∙_}
 use mathlib.Core.Logic.{_⊎_, inl, inr, ⊎-elim}
 use mathlib.Core.Bool.{Bool, true, false, false≢true}
 use mathlib.Core.List.{List, [], _∷_}
@@ -11,7 +11,7 @@ use native.Mathlib.Omega.{arith}
 use lib.ListN.{length, getD}
 use lib.Dec.{eqb}
 use borrow.Author.Tests.{eqb-true, eq-eqb, ne-eqb}
-use Rattle.laws.specs.Lists.{all, member, upTo, countBelow, least}
+use Rattle.laws.specs.Lists.{member, countBelow, least}
 use Rattle.laws.proofs.Tests.{bool-cases, same-test, not-true-false, and-left, and-right, and-intro, lt-or-le}
 use Rattle.laws.proofs.Tab.{length-tab, getD-tab}
 use Rattle.laws.proofs.Least.{least-at}

@@ -7,21 +7,21 @@
 use Prim.Native.Nat.{ℕ, zero, suc, _<_}
 use mathlib.Core.Path.{_≡_, refl, sym, ap, ap₂, _∙_, fun-ext}
 use mathlib.Core.Bool.{Bool, true, false, not, _&&_, _||_}
-use mathlib.Core.List.{List, [], _∷_, map, map-map}
-use native.Mathlib.Omega.{arith}
+use mathlib.Core.List.{List, [], map, map-map}
 use lib.ListN.{length, getD, replicate, length-map, length-replicate}
 use lib.Seq.{ext-getD}
 use borrow.Author.Tests.{ltb-true}
-use Rattle.laws.specs.Lists.{all, any, upTo, keep, countBelow, least, joined}
+use Rattle.laws.specs.Lists.{all, upTo, keep, countBelow, least}
 use Rattle.laws.proofs.Tests.{same-test}
 use Rattle.laws.proofs.Quantifiers.{all-at}
 use Rattle.netlist.specs.Values.{Value, undefined, isDefined}
 use Rattle.netlist.specs.Assignments.{Assignment, agrees, fixes}
-use Rattle.netlist.specs.Netlist.{Operand, input, gate, constant, Gate, Output, Block, inputCount, gateCount, outputCount, gateOf}
+use Rattle.netlist.specs.Netlist.{Operand, input, gate, constant, Gate, Block, inputCount, gateCount, gateOf}
 use Rattle.netlist.specs.StoredBlock.{isNode, isOperand, gateFits, isWellFormed}
 use Rattle.netlist.specs.Kinds.{gateValue}
-use Rattle.netlist.specs.Rounds.{operandValue, evaluated, round, afterRounds, isStable, rounds, settled, settingOf, settingCount, settledUnder, outputValue, outputsUnder, isSettled, isExcluded, isCounted, isSoundAt, settledSettings, lowestUnsettled}
-use Rattle.netlist.specs.Cover.{isSoundUnder, isSound, isMinimal, cover, coverEntries, without, assignments}
+use Rattle.netlist.specs.Rounds.{operandValue, evaluated, round, afterRounds, isStable, rounds, settled, settingOf, settingCount}
+use Rattle.netlist.specs.Rounds.{settledUnder, outputValue, outputsUnder, isSettled, isExcluded, isCounted, isSoundAt, settledSettings, lowestUnsettled}
+use Rattle.netlist.specs.Cover.{isSoundUnder, isMinimal, cover, without, assignments}
 use Rattle.netlist.specs.Gather.{renumbered, renumberedGate, renumberedOutput, arranged, numberAt}
 use Rattle.encoding.proofs.ListFacts.{getD-map}
 use Rattle.encoding.proofs.Gates.{fits-operands}
@@ -31,7 +31,7 @@ use Rattle.reach.proofs.ListFacts.{map-same}
 use Rattle.rounds.proofs.ListFacts.{getD-replicate-default}
 use Rattle.rounds.proofs.Rounds.{length-round, length-afterRounds, getD-round, stable-eq, eq-stable}
 use Rattle.permute.specs.Renumbering.{Renumbers}
-use Rattle.permute.proofs.Arranged.{arranged-count, arranged-gate, arranged-outputCount, arranged-output}
+use Rattle.permute.proofs.Arranged.{arranged-count, arranged-gate}
 
 -- the value of each gate at its new place
 unfoldable pub moved : List ℕ → List Value → List Value
@@ -41,7 +41,8 @@ pub length-moved : (order : List ℕ) (state : List Value) → length (moved ord
 unfolding moved
 length-moved order state = length-map order (λ j. getD state j undefined)
 
-pub getD-moved : (order : List ℕ) (state : List Value) (t : ℕ) → t < length order → getD (moved order state) t undefined ≡ getD state (numberAt order t) undefined
+pub getD-moved : (order : List ℕ) (state : List Value) (t : ℕ) → t < length order
+    → getD (moved order state) t undefined ≡ getD state (numberAt order t) undefined
 unfolding moved numberAt
 getD-moved order state t l = getD-map (λ j. getD state j undefined) order t 0 undefined l
 

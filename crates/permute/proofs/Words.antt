@@ -7,18 +7,15 @@
 --   straight-words                    a straight block keeps its words
 -- Assumes nothing.
 use Prim.Native.Nat.{ℕ, _+_, _*_, _≤_}
-use mathlib.Core.Path.{_≡_, refl, sym, ap, ap₂, _∙_}
-use mathlib.Core.Bool.{true, false, not}
-use mathlib.Core.List.{List, []}
-use native.Mathlib.Omega.{arith}
+use mathlib.Core.Path.{_≡_, refl, ap, ap₂, _∙_}
+use mathlib.Core.Bool.{true, false}
+use mathlib.Core.List.{List}
 use lib.ListN.{length}
 use borrow.Author.Tests.{le-ltb}
-use Rattle.netlist.specs.declared.Refusal.the-variants.{MalformedBlock, NotAPermutation}
-use Rattle.netlist.specs.Assignments.{Assignment}
-use Rattle.netlist.specs.Netlist.{Block, inputCount, gateCount, outputCount, neverCount}
+use Rattle.netlist.specs.Netlist.{Block, gateCount, outputCount}
 use Rattle.netlist.specs.StoredBlock.{outputsAt, outputSize, encode, decode, isTorn, isWellFormed}
 use Rattle.netlist.specs.Rendering.{isStraight}
-use Rattle.netlist.specs.Cover.{cover, coverEntries}
+use Rattle.netlist.specs.Cover.{coverEntries}
 use Rattle.netlist.specs.Answers.{done, refuseIf, inRoom}
 use Rattle.netlist.specs.Operations.{counted, verdict, coverBlock, coverOf}
 use Rattle.netlist.specs.Gather.{arranged, gatheredOrder, gathered, gatheredWords, isPermutation, inverse, numberAt, placeIn, scattered, scatter}

@@ -1,10 +1,9 @@
 -- `gather::gather` meets its contract: the words' condition, the rooms', and then both slices are filled. Assumes nothing.
 use Prim.Native.Nat.{_≤_}
 use mathlib.Core.Path.{_≡_, refl}
-use mathlib.Core.Bool.{false, _||_}
+use mathlib.Core.Bool.{false}
 use native.Mathlib.Omega.{arith}
 use lib.ListN.{length}
-use lib.Dec.{ltb}
 use denote.Ref.{now}
 use borrow.Author.Tests.{ltb-false}
 use Rattle.laws.proofs.Tests.{or-neither}

@@ -1,6 +1,4 @@
 -- `gather::scatter` meets its contract: the words' condition, and then the rest. Assumes nothing.
-use mathlib.Core.Path.{_≡_}
-use mathlib.Core.Bool.{false}
 use denote.Ref.{now}
 use Rattle.netlist.specs.declared.Refusal.the-variants.{MalformedBlock}
 use Rattle.netlist.specs.Answers.{inRoom}

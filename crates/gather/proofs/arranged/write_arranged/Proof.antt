@@ -1,6 +1,6 @@
 -- `gather::arranged::write_arranged` meets its contract: the front as it is, the gates in the order listed, and the outputs, one after the other,
 -- are the encoding of the arranged block. Assumes nothing.
-use mathlib.Core.Path.{_≡_, refl, sym}
+use mathlib.Core.Path.{refl}
 use native.Mathlib.Omega.{arith}
 use lib.ListN.{getD}
 use Rattle.copying.specs.Words.{Order}
@@ -27,7 +27,8 @@ moving c = c .before .before .before
 
 -- what the sizes are, and the list and the numbers
 known : (c : tie.After-gates-at)
-    → Sizes (start c .args .words .now) (c .before .before .inputs-of .result) (c .before .gates-of .result) (getD (start c .args .words .now) 2 0) (c .gates-at .result)
+    → Sizes (start c .args .words .now) (c .before .before .inputs-of .result) (c .before .gates-of .result) (getD (start c .args .words .now) 2 0)
+    (c .gates-at .result)
 known c =
     sizes _ _ _ _ _ (start c .pre .whole) (c .before .before .inputs-of .ensures) (c .before .gates-of .ensures) refl (c .gates-at .ensures)
 

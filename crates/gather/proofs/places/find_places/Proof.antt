@@ -1,5 +1,4 @@
 -- `gather::places::find_places` meets its contract: a list of another length is none, and before the walk nothing is marked. Assumes nothing.
-use mathlib.Core.Path.{_≡_}
 use Rattle.gather.proofs.Marks.{places-length, marked-none}
 use borrow.Author.Needs.{needs}
 use Rattle.gather.proofs.places.find_places.Statement.{statement}

@@ -2,7 +2,6 @@
 use Prim.Native.Nat.{_≤_}
 use mathlib.Core.Path.{_≡_, sym}
 use native.Mathlib.Omega.{arith}
-use lib.ListN.{length, getD, take}
 use lib.Seq.{length-take-le}
 use denote.Ref.{now}
 use Rattle.laws.specs.Lists.{placed}
@@ -10,7 +9,6 @@ use Rattle.netlist.specs.Limits.{maxGates}
 use Rattle.netlist.specs.StoredBlock.{decode}
 use Rattle.netlist.specs.Gather.{gatheredWords, gatheredOrder}
 use Rattle.encoding.proofs.Readers.{whole-parts}
-use Rattle.schedule.specs.Listing.{Numbers}
 use Rattle.schedule.proofs.Blocks.{assigned-numbers, count-few}
 use Rattle.gather.proofs.Ordered.{written-as, members-room, listed-by-group, gathered-orders, gathered-arrangement}
 use borrow.Author.Needs.{needs}
@@ -54,8 +52,11 @@ list-groups-requires c κs =
     let a = c .before .before .before .before in
     let g = counting a in
     let s = start g in
-    let numbers = assigned-numbers (now (s .args .words)) (s .pre .block .whole) (g .gates-of .ensures) (a .assign .ensures) in
-    (numbers .few, count-few numbers, omega (arith, members-room _ (s .pre .block .whole) _ (g .gates-of .ensures) numbers, s .pre .block .listRoom, g .gates-of .ensures))
+    let numbers = assigned-numbers (now (s .args .words)) (s .pre .block .whole) (g .gates-of .ensures) (a .assign .ensures) in (
+      numbers .few,
+      count-few numbers,
+      omega (arith, members-room _ (s .pre .block .whole) _ (g .gates-of .ensures) numbers, s .pre .block .listRoom, g .gates-of .ensures),
+    )
 
 slice-reshare-prefix-find-places : tie.Need-slice-reshare-prefix-find-places
 slice-reshare-prefix-find-places c = search needs
