@@ -25,6 +25,7 @@ pass-reply p s = record { replies = replies (p .promise) s; settles = λ z. p .s
 pub render-reply : {ws entry : List ℕ} {a : Answer} {r : Reply} {exit : List ℕ} → RenderPromise ws entry a exit → Shows a r → RenderReply ws entry r exit
 render-reply p s = let e = promise-answer (p .promise) in record { replies = replies (p .promise) s; promise = rw (← e) p }
 
-pub gather-reply : {ws entry listEntry : List ℕ} {a : Answer} {r : Reply} {exit listExit : List ℕ} → GatherPromise ws entry listEntry a exit listExit → Shows a r
+pub gather-reply : {ws entry listEntry : List ℕ} {a : Answer} {r : Reply} {exit listExit : List ℕ} → GatherPromise ws entry listEntry a exit listExit
+    → Shows a r
     → GatherReply ws entry listEntry r exit listExit
 gather-reply p s = record { block = replies (p .block) s; list = p .list }
