@@ -1,0 +1,158 @@
+-- Gather and Scatter (SPECIFICATION 7.17, 7.18): the laws of arranged gates, for the order by groups and for any list that is each number once.
+--   gathered-permutation                                 the list by groups is each gate number once
+--   gathered-back, scattered-out                         each undoes the other, every part of the block
+--   gathered-wellFormed, scattered-wellFormed            what is made is a block
+--   gathered-settled, gathered-rounds, scattered-settled the settled values move with their gates
+--   gathered-outputs                                     the outputs show the same under every setting
+--   gathered-sameGroup                                   the groups are the same sets
+--   straight-order, straight-gathered                    a straight block stays as it is, with the list 0, 1, 2, ..
+-- Assumes nothing.
+use Prim.Native.Nat.{ℕ, _+_, _*_, _<_}
+use native.Mathlib.Nat.{one-mul}
+use native.Mathlib.Omega.{arith}
+use mathlib.Core.Path.{_≡_, refl, sym, ap, _∙_}
+use mathlib.Core.Bool.{true}
+use mathlib.Core.List.{List, [], _∷_}
+use lib.ListN.{length, getD}
+use Rattle.laws.specs.Lists.{tab, joined, upTo}
+use Rattle.laws.proofs.Tab.{getD-tab, tab-ext}
+use Rattle.laws.proofs.Tests.{and-intro}
+use Rattle.laws.proofs.Quantifiers.{below-all}
+use Rattle.encoding.proofs.ListFacts.{joined-tab}
+use Rattle.netlist.specs.Values.{Value, undefined}
+use Rattle.netlist.specs.Netlist.{Block, gateCount}
+use Rattle.netlist.specs.StoredBlock.{isWellFormed}
+use Rattle.netlist.specs.Rounds.{rounds, settled, outputsUnder, settledSettings, lowestUnsettled}
+use Rattle.netlist.specs.Cover.{cover}
+use Rattle.netlist.specs.Groups.{groups, sameGroup}
+use Rattle.netlist.specs.Rendering.{isStraight}
+use Rattle.netlist.specs.Gather.{arranged, numberAt, placeIn, gatheredOrder, gathered, isPermutation, inverse, scattered}
+use Rattle.reach.proofs.Inside.{wellFormed-inside}
+use Rattle.reach.proofs.Order.{groups-all, length-joined-groups}
+use Rattle.reach.proofs.Straight.{straight-groups}
+use Rattle.permute.specs.Renumbering.{Renumbers}
+use Rattle.permute.proofs.Permutation.{place-renumbers, inverse-at, inverse-renumbers}
+use Rattle.permute.proofs.Arranged.{arranged-count, arranged-back, arranged-itself, arranged-wellFormed}
+use Rattle.permute.proofs.Values.{settled-at, rounds-kept, outputs-kept, settledSettings-kept, lowestUnsettled-kept, cover-kept}
+use Rattle.permute.proofs.Groups.{sameGroup-kept}
+use borrow.Author.Tests.{eq-eqb}
+use lib.Dec.{eqb}
+
+-- lists of one number each, one after the other
+joined-ones : (m : ℕ) → joined (tab (λ j. j ∷ []) m) ≡ upTo m
+joined-ones m =
+    ap joined
+    (tab-ext (λ j. j ∷ []) (λ j. tab (λ i. 1 * j + i) 1) m (λ j l. let e : j ≡ 1 * j + 0 = omega arith in ap (λ (k : ℕ). k ∷ []) e))
+    ∙ joined-tab (λ k. k) 1 m
+    ∙ ap upTo (one-mul m)
+
+module _ (b : Block) (fits : isWellFormed b ≡ true) where
+  -- ---- any list that is each gate number once
+
+  module _ (order : List ℕ) (h : isPermutation (gateCount b) order ≡ true) where
+    out : Renumbers (gateCount b) order (placeIn order)
+    out = place-renumbers (gateCount b) order h
+
+    back : Renumbers (gateCount b) (inverse order) (numberAt order)
+    back = inverse-renumbers (gateCount b) order h
+
+    -- back after out is the block,
+    pub permuted-back : scattered order (arranged order (placeIn order) b) ≡ b
+    unfolding scattered
+    permuted-back =
+        arranged-back b fits order (placeIn order) out (inverse order) (numberAt order) (back .lengthIs) (inverse-at (gateCount b) order h) (out .oldOfNew)
+
+    -- and so is out after back
+    pub scattered-out : arranged order (placeIn order) (scattered order b) ≡ b
+    unfolding scattered
+    scattered-out =
+        arranged-back b fits (inverse order) (numberAt order) back order (placeIn order) (out .lengthIs) (λ j l. refl) (out .newOfOld)
+
+    pub scattered-wellFormed : isWellFormed (scattered order b) ≡ true
+    unfolding scattered
+    scattered-wellFormed = arranged-wellFormed b fits (inverse order) (numberAt order) back
+
+    -- gate t's settled value moves to number t of the list
+    pub scattered-settled : (x : List Value) (t : ℕ) → t < gateCount b
+        → getD (settled (scattered order b) x) (numberAt order t) undefined ≡ getD (settled b x) t undefined
+    unfolding scattered
+    scattered-settled x t l =
+        settled-at b fits (inverse order) (numberAt order) back x (numberAt order t) (out .oldBelow t l)
+        ∙ ap (λ (i : ℕ). getD (settled b x) i undefined) (back .oldOfNew t l)
+
+  -- ---- out, by groups
+
+  -- the list is each gate number once
+  pub gathered-permutation : isPermutation (gateCount b) (gatheredOrder b) ≡ true
+  unfolding isPermutation gatheredOrder
+  gathered-permutation =
+      and-intro (eqb (length (joined (groups b))) (gateCount b)) _
+      (eq-eqb (length (joined (groups b))) (gateCount b) (length-joined-groups b (wellFormed-inside b fits)))
+      (below-all _ (gateCount b) (groups-all b (wellFormed-inside b fits)))
+
+  by-group : Renumbers (gateCount b) (gatheredOrder b) (placeIn (gatheredOrder b))
+  by-group = out (gatheredOrder b) gathered-permutation
+
+  pub gathered-wellFormed : isWellFormed (gathered b) ≡ true
+  unfolding gathered
+  gathered-wellFormed = arranged-wellFormed b fits (gatheredOrder b) (placeIn (gatheredOrder b)) by-group
+
+  pub gathered-count : gateCount (gathered b) ≡ gateCount b
+  unfolding gathered
+  gathered-count = arranged-count (gatheredOrder b) (placeIn (gatheredOrder b)) b ∙ by-group .lengthIs
+
+  -- back after out is the block
+  pub gathered-back : scattered (gatheredOrder b) (gathered b) ≡ b
+  unfolding gathered
+  gathered-back = permuted-back (gatheredOrder b) gathered-permutation
+
+  -- the settled values move with their gates, under every setting of 0, 1 and undefined, and come after as many rounds
+  pub gathered-settled : (x : List Value) (t : ℕ) → t < gateCount b
+      → getD (settled (gathered b) x) t undefined ≡ getD (settled b x) (numberAt (gatheredOrder b) t) undefined
+  unfolding gathered
+  gathered-settled = settled-at b fits (gatheredOrder b) (placeIn (gatheredOrder b)) by-group
+
+  pub gathered-rounds : (x : List Value) → rounds (gathered b) x ≡ rounds b x
+  unfolding gathered
+  gathered-rounds = rounds-kept b fits (gatheredOrder b) (placeIn (gatheredOrder b)) by-group
+
+  -- Verdict and Cover find the same, and so do the outputs
+  pub gathered-outputs : (s : ℕ) → outputsUnder (gathered b) s ≡ outputsUnder b s
+  unfolding gathered
+  gathered-outputs = outputs-kept b fits (gatheredOrder b) (placeIn (gatheredOrder b)) by-group
+
+  pub gathered-settledSettings : settledSettings (gathered b) ≡ settledSettings b
+  unfolding gathered
+  gathered-settledSettings = settledSettings-kept b fits (gatheredOrder b) (placeIn (gatheredOrder b)) by-group
+
+  pub gathered-lowestUnsettled : lowestUnsettled (gathered b) ≡ lowestUnsettled b
+  unfolding gathered
+  gathered-lowestUnsettled = lowestUnsettled-kept b fits (gatheredOrder b) (placeIn (gatheredOrder b)) by-group
+
+  pub gathered-cover : cover (gathered b) ≡ cover b
+  unfolding gathered
+  gathered-cover = cover-kept b fits (gatheredOrder b) (placeIn (gatheredOrder b)) by-group
+
+  -- the groups are the same sets
+  pub gathered-sameGroup : (t u : ℕ) → t < gateCount b → u < gateCount b
+      → sameGroup (gathered b) t u ≡ sameGroup b (numberAt (gatheredOrder b) t) (numberAt (gatheredOrder b) u)
+  unfolding gathered
+  gathered-sameGroup = sameGroup-kept b (wellFormed-inside b fits) (gatheredOrder b) (placeIn (gatheredOrder b)) by-group
+
+  -- ---- a straight block
+
+  module _ (straight : isStraight b ≡ true) where
+    pub straight-order : gatheredOrder b ≡ upTo (gateCount b)
+    unfolding gatheredOrder
+    straight-order = ap joined (straight-groups b straight) ∙ joined-ones (gateCount b)
+
+    kept : (t : ℕ) → t < gateCount b → numberAt (gatheredOrder b) t ≡ t
+    unfolding numberAt
+    kept t l = rw straight-order (getD-tab (λ k. k) (gateCount b) t 0 l)
+
+    -- it stays as it is
+    pub straight-gathered : gathered b ≡ b
+    unfolding gathered
+    straight-gathered =
+        arranged-itself b fits (gatheredOrder b) (placeIn (gatheredOrder b)) (by-group .lengthIs) kept
+        (λ j l. ap (placeIn (gatheredOrder b)) (sym (kept j l)) ∙ by-group .newOfOld j l)
