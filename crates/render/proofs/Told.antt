@@ -19,7 +19,7 @@ use Rattle.netlist.specs.Netlist.{Block}
 use Rattle.netlist.specs.StoredBlock.{outputsAt, encode, decode, isTorn}
 use Rattle.netlist.specs.Rounds.{settingCount, isSoundAt, lowestUnsettled}
 use Rattle.netlist.specs.Cover.{isSound}
-use Rattle.netlist.specs.Groups.{copyCount}
+use Rattle.netlist.specs.Passes.{copyCount}
 use Rattle.netlist.specs.Rendering.{rendering, schedule}
 use Rattle.netlist.specs.Answers.{testOf}
 use Rattle.encoding.proofs.Readers.{whole-parts}

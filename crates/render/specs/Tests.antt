@@ -7,7 +7,7 @@ use lib.ListN.{length, getD, take}
 use Rattle.netlist.specs.Limits.{maxGates, maxCopies}
 use Rattle.netlist.specs.StoredBlock.{decode, isTorn}
 use Rattle.netlist.specs.Cover.{isSound}
-use Rattle.netlist.specs.Groups.{copyCount}
+use Rattle.netlist.specs.Passes.{copyCount}
 use Rattle.decide.specs.InPlace.{Visits}
 use Rattle.schedule.specs.Listing.{Numbers}
 

@@ -9,7 +9,7 @@ use borrow.Author.Tests.{ltb-false, not-false}
 use Rattle.netlist.specs.declared.Refusal.the-variants.{TooManyCopies, NotSettled}
 use Rattle.netlist.specs.Limits.{maxCopies}
 use Rattle.netlist.specs.StoredBlock.{decode}
-use Rattle.netlist.specs.Groups.{copyCount}
+use Rattle.netlist.specs.Passes.{copyCount}
 use Rattle.netlist.specs.Answers.{inRoom, testOf}
 use Rattle.netlist.specs.Operations.{render}
 use Rattle.refusals.proofs.Promised.{passed, passed-false, failed, keeps-room}
