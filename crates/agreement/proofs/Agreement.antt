@@ -7,14 +7,14 @@
 use Prim.Native.Nat.{ℕ, zero, suc, _≤_, _<_}
 use mathlib.Core.Path.{_≡_, refl, sym, ap, ap₂, _∙_}
 use mathlib.Core.Bool.{Bool, true, false, false≢true}
-use mathlib.Core.List.{List, [], _∷_, _++_, map}
+use mathlib.Core.List.{List, [], _∷_, map}
 use native.Mathlib.Omega.{arith}
 use borrow.Author.Tests.{ltb-true}
 use lib.ListN.{length, getD, take, replicate, length-replicate}
-use lib.Seq.{take-suc, take-length}
-use Rattle.laws.specs.Lists.{all, joined}
+use lib.Seq.{take-length}
+use Rattle.laws.specs.Lists.{all}
 use Rattle.laws.proofs.Tests.{and-left, and-right}
-use Rattle.laws.proofs.Lists.{joined-snoc, member-cases, member-right}
+use Rattle.laws.proofs.Lists.{member-cases}
 use Rattle.netlist.specs.Values.{Value, undefined, val, isDefined}
 use Rattle.netlist.specs.Netlist.{Operand, input, gate, constant, Output, Block, inputCount, gateCount}
 use Rattle.netlist.specs.StoredBlock.{isNode, isWellFormed}
@@ -23,35 +23,21 @@ use Rattle.netlist.specs.Cover.{isSound}
 use Rattle.netlist.specs.Groups.{groups}
 use Rattle.netlist.specs.Rendering.{passes, schedule, copiedOperand, lastCopies, rendering, sweep}
 use Rattle.encoding.proofs.WellFormed.{wellFormed-parts}
-use Rattle.rounds.specs.Order.{Below, BelowOn, Listed, Follows}
+use Rattle.rounds.specs.Order.{Below, BelowOn, Listed}
 use Rattle.netlist.specs.Steps.{run}
 use Rattle.rounds.proofs.Values.{below-of-eq, below-trans, below-defined}
 use Rattle.rounds.proofs.AnyOrder.{length-run, run-append}
 use Rattle.rounds.proofs.Passes.{passes-above}
 use Rattle.reach.specs.Inside.{Inside}
-use Rattle.reach.proofs.ListFacts.{once-apart}
 use Rattle.reach.proofs.Inside.{wellFormed-inside}
-use Rattle.reach.proofs.Order.{groups-all, groups-numbered, groups-closed}
+use Rattle.reach.proofs.Order.{groups-all}
 use Rattle.agreement.specs.Copies.{scheduleOf, groupAt, gatesBefore}
+use Rattle.agreement.proofs.Follows.{gatesBefore-next, group-follows}
 use Rattle.agreement.proofs.Schedule.{scheduleOf-take, scheduleOf-all}
 use Rattle.agreement.proofs.Sound.{sound-settledAt}
 use Rattle.agreement.proofs.Run.{lastCopy-value}
 
 module _ (b : Block) where
-  gatesBefore-next : (t : ℕ) → t < length (groups b) → gatesBefore b (suc t) ≡ gatesBefore b t ++ groupAt b t
-  gatesBefore-next t l = ap joined (take-suc (groups b) t [] l) ∙ joined-snoc (take t (groups b)) (groupAt b t)
-
-  -- A group reads only itself and the groups before it, and shares no gate with them.
-  pub group-follows : (t : ℕ) → t < length (groups b) → Follows b (Listed (gatesBefore b t)) (groupAt b t)
-  group-follows t l =
-      record {
-        inside =
-            λ j k m r. member-cases k (gatesBefore b t) (groupAt b t)
-            (rw (gatesBefore-next t l) at
-            (groups-closed b (suc t) j k (rw (gatesBefore-next t l) (member-right j (gatesBefore b t) (groupAt b t) m)) r));
-        apart = λ k m n. once-apart (gatesBefore b t) (groupAt b t) (rw (gatesBefore-next t l) at (groups-numbered b (suc t) .once)) k m n;
-      }
-
   module _ (x : List Value) (v : List Value) (sized : length v ≡ gateCount b) where
     -- After the passes over the first groups, from any start, their gates are above the settled values.
     pub groups-above : (t : ℕ) → t ≤ length (groups b)
@@ -60,10 +46,10 @@ module _ (b : Block) where
     groups-above (suc t) l =
         let before = run b x (scheduleOf (take t (groups b))) v in
         let r =
-        passes-above b x (Listed (gatesBefore b t)) (groupAt b t) (group-follows t l) before
+        passes-above b x (Listed (gatesBefore b t)) (groupAt b t) (group-follows b t l) before
         (length-run b x (scheduleOf (take t (groups b))) v ∙ sized) (groups-above t (omega arith)) in
         λ j m. rw (scheduleOf-take b t l, run-append b x (scheduleOf (take t (groups b))) (passes (groupAt b t)) v)
-        (r j (member-cases j (gatesBefore b t) (groupAt b t) (rw (gatesBefore-next t l) at m)))
+        (r j (member-cases j (gatesBefore b t) (groupAt b t) (rw (gatesBefore-next b t l) at m)))
 
     -- After a run along the schedule, from any start, every gate is above its settled value.
     pub schedule-above : Inside b → (j : ℕ) → j < gateCount b

@@ -7,4 +7,6 @@ pub mod Block
 pub mod Itself
 pub mod Run
 pub mod Sound
+pub mod Follows
+pub mod PassCount
 pub mod Agreement
