@@ -1,0 +1,2 @@
+-- Mathematics of counting passes; no function of src/ is named.
+pub mod PairLaws
