@@ -30,8 +30,7 @@ fn count_at(
     ones: &mut [u64],
     settled_zeros: &mut [u64],
     settled_ones: &mut [u64],
-) -> usize
-{
+) -> usize {
     let start = word_at(starts, g);
     let end = word_at(starts, g + 1);
     let counted = count_group(
@@ -66,8 +65,7 @@ fn count_groups(
     ones: &mut [u64],
     settled_zeros: &mut [u64],
     settled_ones: &mut [u64],
-) -> usize
-{
+) -> usize {
     let mut sum = total;
     let mut g = 0;
     while g < count && sum <= MAX_GATES {
@@ -107,8 +105,7 @@ fn count_batch(
     ones: &mut [u64],
     settled_zeros: &mut [u64],
     settled_ones: &mut [u64],
-) -> usize
-{
+) -> usize {
     decide_batch(words, n, gates, order, base, zeros, ones);
     count_groups(
         words,
@@ -141,8 +138,7 @@ pub fn count_passes(
     ones: &mut [u64],
     settled_zeros: &mut [u64],
     settled_ones: &mut [u64],
-) -> usize
-{
+) -> usize {
     fill_words(passes, count, 1);
     let settings = setting_count(n);
     let lanes = lane_count(n);

@@ -38,16 +38,9 @@ searching c = c .before .before .before .before
 abbrev settings-test : tie.After-enum-told3 → tie.After-find-unsettled
 settings-test c = let e = c .before .before .before .before in e .before .before .before .before
 
--- the sum of squares is the number of copies, and that is what is tested
-total-is : (c : tie.After-count-copies) → c .count-copies .result ≡ copyCount (decode (now (start (numbering c) .args .words)))
-total-is c =
-    let a = numbering c in
-    let s = start a in
-    c .count-copies .ensures ∙ squares-copies
-    (assigned-numbers (now (s .args .words)) (s .pre .whole) (c .before .before .gates-of .ensures) (a .assign .ensures))
-
+-- what is counted tells whether the copies are too many, and that is what is tested
 copies-told : (c : tie.After-refuse-if) → c .refuse-if .result ≡ testOf (ltb maxCopies (copyCount (decode (now (entry c .args .words))))) TooManyCopies
-copies-told c = rw (← total-is (c .before)) (c .refuse-if .ensures)
+copies-told c = rw (← c .before .count-copies .ensures .tells) (c .refuse-if .ensures)
 
 -- what is left of the chain of conditions behind it
 behind-copies : (c : tie.After-enum-told) → let a = entry (copies-test c) .args in
