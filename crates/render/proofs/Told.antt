@@ -10,7 +10,8 @@ use lib.ListN.{length, getD, take, length-map, List·getD-append}
 use lib.Seq.{take-at}
 use lib.Dec.{ltb}
 use borrow.Author.Tests.{lt-ltb, le-ltb}
-use Rattle.laws.specs.Lists.{placed}
+use Rattle.laws.specs.Lists.{joined, placed}
+use Rattle.laws.proofs.Lists.{length-joined}
 use Rattle.laws.proofs.Tests.{lt-or-le, not-both}
 use Rattle.laws.proofs.Least.{least-le}
 use Rattle.netlist.specs.declared.Test.{Test}
@@ -30,8 +31,10 @@ use Rattle.encoding.proofs.Encoded.{length-encode}
 use Rattle.encoding.proofs.Decoded.{decode-inputCount, decode-outputCount, decode-neverCount}
 use Rattle.agreement.proofs.Block.{rendering-count, rendering-inputs, rendering-nevers, length-rendering-outputs, length-schedule-is}
 use Rattle.assignments.proofs.Blocks.{sound-lowest, lowest-sound}
-use Rattle.schedule.specs.Listing.{Numbers, PassesAre, Appended, planOf}
-use Rattle.schedule.proofs.Blocks.{plan-schedule, front}
+use Rattle.reach.proofs.Order.{length-groups}
+use Rattle.passes.specs.Counting.{Listing}
+use Rattle.schedule.specs.Listing.{Numbers, PassesAre, Appended, membersOf, planOf, ListReady, GroupsListed}
+use Rattle.schedule.proofs.Blocks.{count-few, plan-schedule, front, members-groups, members-long, members-front, starts-next, starts-within, starts-part}
 
 -- ---- the settings
 
@@ -99,6 +102,35 @@ passes-placed b count entry passes c e g l =
     rw e
     (List·getD-append (map (passCount b) (groups b)) _ 0 g (rw (length-map (groups b) (passCount b)) k)
     ∙ getD-map (passCount b) (groups b) g [] 0 k)
+
+-- room for the groups one after the other,
+pub groups-room : (ws : List ℕ) {m count : ℕ} {numbers members starts : List ℕ} → m ≡ getD ws 1 0 → Numbers (decode ws) (getD ws 1 0) count numbers
+    → getD ws 1 0 ≤ length members → getD ws 1 0 < length starts → ListReady numbers m count members starts
+groups-room ws {m} {count} {numbers} e a members starts =
+    let long : length (membersOf numbers m count) ≡ getD ws 1 0 = rw e (ap length (members-groups a) ∙ members-long a) in
+    record {
+      few = rw e (a .few);
+      fewGroups = count-few a;
+      fewMembers = rw long (a .few);
+      memberRoom = rw long members;
+      startRoom = omega (arith, a .countIs, length-groups (decode ws), a .gatesAre);
+    }
+
+-- and what stands there then
+pub groups-listed : (ws : List ℕ) {m count r : ℕ} {numbers entry members starts : List ℕ} → m ≡ getD ws 1 0
+    → Numbers (decode ws) (getD ws 1 0) count numbers → getD ws 1 0 ≤ length entry → GroupsListed numbers m count entry members starts r
+    → Listing (decode ws) count (take (getD ws 1 0) members) starts
+groups-listed ws {m} {count} {r} {numbers} {entry} {members} {starts} e a room h =
+    let l : GroupsListed numbers (getD ws 1 0) count entry members starts r = rw (← e) h in
+    let are : take (getD ws 1 0) members ≡ joined (groups (decode ws)) = members-front a l room in
+    record {
+      countIs = a .countIs;
+      membersLong = rw are (length-joined (groups (decode ws)));
+      few = rw (are, members-long a) (a .few);
+      ordered = λ g k. omega (arith, starts-next a l g k);
+      within = λ g k. rw (are, members-long a) (starts-within a l g k);
+      part = λ g k. rw are (starts-part a l g k);
+    }
 
 -- the numbers that `assign` leaves, for a gate count read from the words
 pub word-numbers : (ws : List ℕ) {m count : ℕ} {numbers : List ℕ} → m ≡ getD ws 1 0 → Numbers (decode ws) m count numbers

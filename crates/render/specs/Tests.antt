@@ -10,6 +10,7 @@ use Rattle.netlist.specs.Cover.{isSound}
 use Rattle.netlist.specs.Passes.{copyCount}
 use Rattle.decide.specs.InPlace.{Visits}
 use Rattle.schedule.specs.Listing.{Numbers, PassesAre}
+use Rattle.passes.specs.Counting.{Listing}
 
 -- what the search for the lowest setting asks
 pub record LowestReady (ws order zeros ones : List ℕ) : Type 0 where
@@ -25,6 +26,19 @@ pub record SearchReady (ws order zeros ones : List ℕ) : Type 0 where
   pub orderRoom : getD ws 1 0 ≤ length order
   pub zeroRoom : getD ws 0 0 + getD ws 1 0 ≤ length zeros
   pub oneRoom : getD ws 0 0 + getD ws 1 0 ≤ length ones
+
+-- what the count along an order asks: the groups' gates, where each group starts, and room
+pub record AlongReady (ws order : List ℕ) (count : ℕ) (members starts passes zeros ones settledZeros settledOnes : List ℕ) : Type 0 where
+  pub whole : isTorn ws ≡ false
+  pub visits : Visits (getD ws 1 0) (take (getD ws 1 0) order)
+  pub listing : Listing (decode ws) count (take (getD ws 1 0) members) starts
+  pub orderRoom : getD ws 1 0 ≤ length order
+  pub memberRoom : getD ws 1 0 ≤ length members
+  pub passRoom : count ≤ length passes
+  pub zeroRoom : getD ws 0 0 + getD ws 1 0 ≤ length zeros
+  pub oneRoom : getD ws 0 0 + getD ws 1 0 ≤ length ones
+  pub settledZeroRoom : getD ws 0 0 + getD ws 1 0 ≤ length settledZeros
+  pub settledOneRoom : getD ws 0 0 + getD ws 1 0 ≤ length settledOnes
 
 -- what the count of copies asks: room for every gate and input, and for each group
 pub record CopiesReady (ws numbers : List ℕ) (count : ℕ) (order members starts passes zeros ones settledZeros settledOnes : List ℕ) : Type 0 where

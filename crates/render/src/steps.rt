@@ -31,7 +31,7 @@ ghost use Rattle.netlist.specs.Cover.{isSound};
 ghost use Rattle.netlist.specs.Answers.{testOf, Promise};
 ghost use Rattle.netlist.specs.Operations.{render};
 ghost use Rattle.passes.specs.Counting.{AllCounted};
-ghost use Rattle.render.specs.Tests.{LowestReady, SearchReady, CopiesReady, WriteReady, ArrayRoom};
+ghost use Rattle.render.specs.Tests.{LowestReady, SearchReady, AlongReady, CopiesReady, WriteReady, ArrayRoom};
 
 // The lowest setting that may come and is not settled, or 2^n; the gates are evaluated along `order`.
 fn lowest_along(words: &[u16], order: &[u16], zeros: &mut [u64], ones: &mut [u64]) -> usize
@@ -92,7 +92,47 @@ fn finish(
     }
 }
 
-// How many copies there are, or a number above the limit; writes each group's passes.
+// How many copies there are, or a number above the limit; writes each group's passes. The groups stand in `members`, and start at `starts`; the
+// gates are evaluated along `order`.
+fn count_along(
+    words: &[u16],
+    order: &[u16],
+    count: usize,
+    members: &[u16],
+    starts: &[u16],
+    passes: &mut [u16],
+    zeros: &mut [u64],
+    ones: &mut [u64],
+    settled_zeros: &mut [u64],
+    settled_ones: &mut [u64],
+) -> usize
+    requires { ⌜
+        AlongReady (now words) (now order) count (now members) (now starts) (now passes) (now zeros) (now ones) (now «settled_zeros»)
+        (now «settled_ones»)
+        ⌝ }
+    ensures { λ r. ⌜ AllCounted (decode (now (words .entry))) (now (passes .entry)) (now (passes .exit)) r ⌝ }
+{
+    let n = inputs_of(words);
+    let m = gates_of(words);
+    let gates = gates_at(words);
+    let nodes = n + m;
+    count_passes(
+        words,
+        n,
+        gates,
+        &order[..m],
+        count,
+        &members[..m],
+        starts,
+        passes,
+        &mut zeros[..nodes],
+        &mut ones[..nodes],
+        &mut settled_zeros[..nodes],
+        &mut settled_ones[..nodes],
+    )
+}
+
+// The same from the groups' numbers.
 fn count_copies(
     words: &[u16],
     numbers: &[u16],
@@ -107,29 +147,24 @@ fn count_copies(
     settled_ones: &mut [u64],
 ) -> usize
     requires { ⌜
-        CopiesReady (now words) (now numbers) count (now order) (now members) (now starts) (now passes) (now zeros) (now ones) (now settled_zeros)
-        (now settled_ones)
+        CopiesReady (now words) (now numbers) count (now order) (now members) (now starts) (now passes) (now zeros) (now ones) (now «settled_zeros»)
+        (now «settled_ones»)
         ⌝ }
     ensures { λ r. ⌜ AllCounted (decode (now (words .entry))) (now (passes .entry)) (now (passes .exit)) r ⌝ }
 {
-    let n = inputs_of(words);
-    let m = gates_of(words);
-    let gates = gates_at(words);
     order_gates(words, order);
-    list_groups(m, numbers, count, members, starts);
-    count_passes(
+    list_groups(gates_of(words), numbers, count, members, starts);
+    count_along(
         words,
-        n,
-        gates,
-        &order[..m],
+        order,
         count,
-        &members[..m],
+        members,
         starts,
         passes,
-        &mut zeros[..n + m],
-        &mut ones[..n + m],
-        &mut settled_zeros[..n + m],
-        &mut settled_ones[..n + m],
+        zeros,
+        ones,
+        settled_zeros,
+        settled_ones,
     )
 }
 
@@ -149,8 +184,8 @@ pub fn render_with(
     rendered: &mut [u16],
 ) -> Answer
     requires { ⌜
-        ArrayRoom (now words) (now numbers) (now order) (now newest) (now members) (now starts) (now passes) (now zeros) (now ones) (now settled_zeros)
-        (now settled_ones)
+        ArrayRoom (now words) (now numbers) (now order) (now newest) (now members) (now starts) (now passes) (now zeros) (now ones) (now «settled_zeros»)
+        (now «settled_ones»)
         ⌝ }
     ensures { λ r. ⌜ Promise (render (now (words .entry)) (length (now (rendered .entry)))) (now (rendered .entry)) r (now (rendered .exit)) ⌝ }
 {

@@ -22,7 +22,7 @@ use Rattle.render.proofs.steps.finish.Tie as tie
 
 -- the function's entry, and the stages one before the other
 abbrev start : tie.After-inputs-of → tie.Start
-start c = c .before .before .before .before .before .before
+start c = c .before .before .before .before .before .before .before
 
 abbrev counting : tie.After-outputs-behind → tie.After-inputs-of
 counting c = c .before .before .before .before
