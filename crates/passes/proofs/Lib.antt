@@ -1,2 +1,3 @@
 -- Mathematics of counting passes; no function of src/ is named.
 pub mod PairLaws
+pub mod GroupLaws
