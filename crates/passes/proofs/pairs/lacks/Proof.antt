@@ -1,26 +1,32 @@
+-- `passes::pairs::lacks` meets its contract. Assumes nothing.
 use borrow.Author.Needs.{needs}
+use Rattle.netlist.specs.StoredBlock.{decode}
+use Rattle.passes.proofs.PairLaws.{lacks-none, lacks-told}
 use Rattle.passes.proofs.pairs.lacks.Statement.{statement}
 use Rattle.passes.proofs.pairs.lacks.Tie as tie
-use Rattle.passes.proofs.pairs.lacks.Reads as reads
-use Rattle.passes.proofs.pairs.lacks.Lts as lts
-use Rattle.judge.proofs.nevers.coming_lanes.Reads as coming-lanes-reads
-use Rattle.passes.proofs.pairs.differing_lanes.Reads as differing-lanes-reads
 
--- src/pairs.rt:101:9
+-- the function's entry
+abbrev start : tie.After-differing-lanes → tie.Start
+start d = d .before .before .before .before .before .before .before
+
 differing-lanes-requires : tie.Need-differing-lanes-requires
 differing-lanes-requires c κs = search needs
 
--- src/pairs.rt:103:9
 returns : tie.Need-returns
-returns c = ?
+returns c =
+    let a = start (c .before) .args in
+    lacks-none (decode (a .words .now)) (a .n) (a .base) (a .group .now) (a .zeros .now) (a .ones .now) (a .other-zeros .now) (a .other-ones .now)
+    (c .before .differing-lanes .ensures) (c .if1 .taken)
 
--- src/pairs.rt:105:5
 coming-lanes-requires : tie.Need-coming-lanes-requires
 coming-lanes-requires c κs = search needs
 
--- src/pairs.rt:83:1
 returns-2 : tie.Need-returns-2
-returns-2 c = ?
+returns-2 c =
+    let d = c .before .before in
+    let a = start d .args in
+    lacks-told (decode (a .words .now)) (a .n) (a .base) (a .group .now) (a .zeros .now) (a .ones .now) (a .other-zeros .now) (a .other-ones .now)
+    (d .differing-lanes .ensures) (c .coming-lanes .ensures)
 
 pub lacks-spec : {M : Type 1} → statement M
 lacks-spec = tie.close (tie.spec differing-lanes-requires returns coming-lanes-requires returns-2)
