@@ -1,3 +1,4 @@
 -- Mathematics of counting passes; no function of src/ is named.
 pub mod PairLaws
 pub mod GroupLaws
+pub mod PassLaws

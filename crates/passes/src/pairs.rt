@@ -90,9 +90,9 @@ pub fn lacks(
     other_zeros: &[u64],
     other_ones: &[u64],
 ) -> bool
-    requires { ⌜ (length (now zeros) ≡ length (now ones)) × (length (now «other_zeros») ≡ length (now «other_ones»)) × (n ≤ maxInputs) ⌝ }
+    requires { ⌜ (length (now zeros) ≡ length (now ones)) × (length (now «other_zeros») ≡ length (now «other_ones»)) × (n ≤ maxInputs)
+        × (base % 64 ≡ 0) × (n ≡ getD (now words) 0 0) ⌝ }
     requires { ⌜ ProperAt n (now group) (now zeros) (now ones) × ProperAt n (now group) (now «other_zeros») (now «other_ones») ⌝ }
-    requires { ⌜ (base % 64 ≡ 0) × (n ≡ getD (now words) 0 0) ⌝ }
     ensures { λ r. ⌜
         Lacks (decode (now (words .entry))) n base (now (group .entry)) (now (zeros .entry)) (now (ones .entry)) (now («other_zeros» .entry))
         (now («other_ones» .entry)) r

@@ -1,46 +1,54 @@
+-- `passes::group::run_passes` meets its contract: after p turns p passes are made. Assumes nothing.
+use mathlib.Core.Path.{_≡_, sym, _∙_}
+use Prim.Native.Nat.{_-_, _≤_, _<_}
+use native.Mathlib.Numerals.{add-one}
+use native.Mathlib.Omega.{arith}
+use Rattle.laws.specs.Lists.{repeated}
+use Rattle.netlist.specs.StoredBlock.{decode}
+use Rattle.passes.specs.Counting.{Stepped}
+use Rattle.passes.proofs.GroupLaws.{stepped-none, stepped-then}
 use Rattle.passes.proofs.group.run_passes.Statement.{statement}
 use Rattle.passes.proofs.group.run_passes.Tie as tie
-use Rattle.passes.proofs.group.run_passes.Reads as reads
-use Rattle.passes.proofs.group.run_passes.Lts as lts
-use Rattle.passes.proofs.group.pass.Reads as pass-reads
 
 abbrev Inv-loop : tie.InvT-loop
-Inv-loop words n gates used group passes zeros₀ ones₀ p₀ zeros ones p = ?
+Inv-loop words n gates used group passes zeros₀ ones₀ p₀ zeros ones p = (p ≤ passes) × Stepped (decode words) n (repeated p group) zeros₀ ones₀ zeros ones
 
 abbrev μ-loop : tie.MeasureT-loop
-μ-loop words n gates used group passes zeros₀ ones₀ p₀ zeros ones p = ?
+μ-loop words n gates used group passes zeros₀ ones₀ p₀ zeros ones p = passes - p
 
--- src/group.rt:59:5
+-- the function's entry, from the loop's head
+abbrev start : tie.At-loop Inv-loop μ-loop → tie.Start Inv-loop μ-loop
+start l = l .before .before .before .before .before
+
 loop-holds : tie.Need-loop-holds Inv-loop μ-loop
-loop-holds c = ?
+loop-holds c = (omega arith, stepped-none (c .before .before .before .before .pre .2))
 
--- src/group.rt:60:9
 pass-requires : tie.Need-pass-requires Inv-loop μ-loop
-pass-requires c κs = ?
+pass-requires c κs =
+    let l = c .before .before .before in
+    let s = start l in
+    (s .pre .0, s .pre .1, l .loop .inv .1 .held)
 
--- src/group.rt:61:9
 add-p : tie.Need-add-p Inv-loop μ-loop
-add-p c = ?
+add-p c = omega arith
 
--- src/group.rt:59:5
 loop-less : tie.Need-loop-less Inv-loop μ-loop
-loop-less c = ?
+loop-less c = omega arith
 
--- src/group.rt:59:5
 loop-again : tie.Need-loop-again Inv-loop μ-loop
-loop-again c = ?
+loop-again c =
+    let d = c .before .before .before .before in
+    let l = d .before .before .before .before .loop in
+    (omega arith, rw add-one (stepped-then (l .inv .1) (d .pass .ensures)))
 
--- src/group.rt:42:1
 same-length : tie.Need-same-length Inv-loop μ-loop
-same-length c = ?
+same-length c = c .before .loop .inv .1 .held .zerosLong ∙ sym (start (c .before) .pre .2 .zerosLong)
 
--- src/group.rt:42:1
 same-length-2 : tie.Need-same-length-2 Inv-loop μ-loop
-same-length-2 c = ?
+same-length-2 c = c .before .loop .inv .1 .held .onesLong ∙ sym (start (c .before) .pre .2 .onesLong)
 
--- src/group.rt:42:1
 returns : tie.Need-returns Inv-loop μ-loop
-returns c = ?
+returns c = let all : c .before .loop .p ≡ start (c .before) .args .passes = omega arith in rw all at (c .before .loop .inv .1)
 
 pub run-passes-spec : {M : Type 1} → statement M
 run-passes-spec =
