@@ -1,28 +1,32 @@
 -- Passes counted for one group and the settings of one batch.
 --   sofar-small                    the passes are few
 --   Passing, passing-first, -more, -done   further passes while a gate lacks its settled value
+--   put-back                       the settled pairs, put aside and back
 -- Assumes nothing.
 use mathlib.Core.Path.{_≡_, refl, sym, ap, _∙_}
 use mathlib.Core.Logic.{_⊎_, inl, inr}
 use mathlib.Core.Bool.{Bool, true, false}
-use mathlib.Core.List.{List}
+use mathlib.Core.List.{List, []}
 use Prim.Native.Nat.{ℕ, suc, _+_, _-_, _*_, _≤_, _<_}
 use native.Mathlib.Nat.{mul-le-mul-right, one-mul, mul-suc}
 use native.Mathlib.Numerals.{add-one}
 use native.Mathlib.Omega.{arith}
 use lib.ListN.{length, getD}
+use Rattle.laws.specs.Lists.{member, repeated}
 use Rattle.laws.proofs.Tests.{not-both, not-true-false}
 use Rattle.netlist.specs.Limits.{maxCopies}
 use Rattle.netlist.specs.Netlist.{Block, gateCount}
 use Rattle.netlist.specs.StoredBlock.{decode}
 use Rattle.netlist.specs.Rounds.{settingCount, isExcluded}
 use Rattle.netlist.specs.Passes.{areSettled, areEnough}
+use Rattle.rounds.proofs.ListFacts.{member-repeated}
 use Rattle.agreement.proofs.PassCount.{enough-at}
 use Rattle.lanes.specs.Batches.{lanesOf}
+use Rattle.batch.specs.Batch.{BatchSettled}
 use Rattle.passes.specs.declared.Counted.{Counted}
-use Rattle.passes.specs.Pairs.{Apart, Lacks, agreeAt}
+use Rattle.passes.specs.Pairs.{Apart, Put, Lacks, agreeAt}
 use Rattle.passes.specs.Counting.{Held, Stepped, Least, Passed, Kept, GroupBatch, SoFar, PassReady, GroupCounted, MorePasses}
-use Rattle.passes.proofs.GroupLaws.{passed-more, agree-settled}
+use Rattle.passes.proofs.GroupLaws.{passed-more, agree-settled, restored}
 
 times-more : (a p : ℕ) → a * (p + 1) ≡ a * p + a
 times-more a p = rw add-one (mul-suc a p)
@@ -100,3 +104,20 @@ module _ {ws : List ℕ} {n gates base : ℕ} {group keptZeros keptOnes : List �
           zerosOutside = c .zerosOutside;
           onesOutside = c .onesOutside;
         }
+
+-- ---- the settled pairs put aside, passes made, and the settled pairs put back
+
+pub put-back : (p : ℕ) {b : Block} {n base total : ℕ} {r : Counted} {group zeros ones asideZeros asideOnes keptZeros keptOnes : List ℕ}
+    {zeros₁ ones₁ zeros₂ ones₂ zeros₃ ones₃ zeros₄ ones₄ : List ℕ} → BatchSettled b n base zeros ones → Put n group zeros asideZeros keptZeros
+    → Put n group ones asideOnes keptOnes → Put n group [] zeros zeros₁ → Put n group [] ones ones₁ → Stepped b n (repeated p group) zeros₁ ones₁ zeros₂ ones₂
+    → MorePasses b n base group p total zeros₂ ones₂ zeros₃ ones₃ r → Put n group keptZeros zeros₃ zeros₄ → Put n group keptOnes ones₃ ones₄
+    → (zeros₄ ≡ zeros) × (ones₄ ≡ ones)
+put-back p {b} {n} {base} {total} {r} {group} settled savedZeros savedOnes clearZeros clearOnes ran more putZeros putOnes = (
+  restored savedZeros (more .zerosLong ∙ ran .held .zerosLong ∙ sym (settled .zerosLong))
+      (λ k a. more .zerosOutside k a ∙ ran .zerosOutside k (apart k a) ∙ clearZeros .outside k a) putZeros,
+  restored savedOnes (more .onesLong ∙ ran .held .onesLong ∙ sym (settled .onesLong))
+      (λ k a. more .onesOutside k a ∙ ran .onesOutside k (apart k a) ∙ clearOnes .outside k a) putOnes,
+)
+  where
+    apart : (k : ℕ) → Apart n group k → Apart n (repeated p group) k
+    apart k a j m = a j (member-repeated j p group m)

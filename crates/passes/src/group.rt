@@ -125,8 +125,7 @@ pub fn count_group(
 ) -> Counted
     requires { ⌜ GroupReady (now words) n gates base (now group) passes total (now zeros) (now ones) (now «settled_zeros») (now «settled_ones») ⌝ }
     ensures counted { λ r. ⌜ GroupCounted (decode (now (words .entry))) n base (now (group .entry)) passes total r ⌝ }
-    ensures zeros_kept { λ r. ⌜ now (zeros .exit) ≡ now (zeros .entry) ⌝ }
-    ensures ones_kept { λ r. ⌜ now (ones .exit) ≡ now (ones .entry) ⌝ }
+    ensures kept { λ r. ⌜ (now (zeros .exit) ≡ now (zeros .entry)) × (now (ones .exit) ≡ now (ones .entry)) ⌝ }
 {
     put_pairs(n, group, zeros, ones, settled_zeros, settled_ones);
     put_pairs(n, group, &settled_zeros[..0], &settled_ones[..0], zeros, ones);
