@@ -2,3 +2,4 @@
 pub mod PairLaws
 pub mod GroupLaws
 pub mod PassLaws
+pub mod CountLaws

@@ -1,5 +1,5 @@
 // How many passes over each group its gates need (SPECIFICATION 6.1), 64 settings at a time. specs/Counting.antt states what is found.
-// pub mod batches;
+pub mod batches;
 pub mod group;
 pub mod pairs;
 
