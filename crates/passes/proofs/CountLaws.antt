@@ -1,5 +1,7 @@
 -- The passes of all groups, group by group and batch by batch.
---   group-ready                    a group that can be counted
+--   group-bounds, -part            where a group stands
+--   group-batch, -ready            a group that can be counted
+--   rooms-kept, -counted, held-kept   slices of the same lengths
 --   counting-first, -next, -end, -start   one group more, and all of them
 --   rest-none, -one, -then         words that did not change
 --   counting-all                   all settings
@@ -13,7 +15,7 @@ use native.Mathlib.Nat.{mul-one, mul-le-mul-left, add-zero}
 use native.Mathlib.Omega.{arith}
 use borrow.Author.Tests.{lt-ltb, le-ltb}
 use lib.Dec.{ltb}
-use lib.ListN.{length, getD, set, replicate, length-set, drop, length-take, length-drop, length-map, length-replicate, getD-replicate, List·getD-append}
+use lib.ListN.{length, getD, set, replicate, length-set, take, drop, length-take, length-drop, length-map, length-replicate, getD-replicate, List·getD-append}
 use lib.Seq.{ext-getD, getD-set-same, getD-set-other}
 use Rattle.laws.specs.Lists.{sum, tab, placed, member}
 use Rattle.laws.proofs.Tests.{lt-or-le, eq-or-ne, not-both, bool-cases}
@@ -86,6 +88,12 @@ module _ {b : Block} {count : ℕ} {members starts : List ℕ} (listing : Listin
       let e = ap length (sym (listing .part g l)) in
       omega (arith, simp (length-take, length-drop) at e, listing .few)
 
+  pub group-bounds : (from to : ℕ) → from ≡ getD starts g 0 → to ≡ getD starts (g + 1) 0 → (from ≤ to) × (to ≤ length members)
+  group-bounds from to e f = rw (e, f) (listing .ordered g l, listing .within g l)
+
+  pub group-part : (from to : ℕ) → from ≡ getD starts g 0 → to ≡ getD starts (g + 1) 0 → take (to - from) (drop from members) ≡ groupAt b g
+  group-part from to e f = rw (e, f) (listing .part g l)
+
 module _ {ws : List ℕ} {n gates base count : ℕ} {members starts passes zeros ones settledZeros settledOnes : List ℕ}
     (h : BatchHeld ws n gates base zeros ones) (rooms : Rooms (decode ws) count members starts passes zeros ones settledZeros settledOnes) where
   pub group-batch : (g : ℕ) → g < count → GroupBatch ws n gates base (groupAt (decode ws) g)
@@ -112,6 +120,28 @@ module _ {ws : List ℕ} {n gates base count : ℕ} {members starts passes zeros
         zerosRoom = rooms .zerosRoom;
         onesRoom = rooms .onesRoom;
       }
+
+-- slices of the same lengths; the number of groups
+pub rooms-kept : {b : Block} {count : ℕ} {members starts passes zeros ones settledZeros settledOnes passes′ zeros′ ones′ settledZeros′ settledOnes′ : List ℕ}
+    → Rooms b count members starts passes zeros ones settledZeros settledOnes → length passes′ ≡ length passes → length zeros′ ≡ length zeros
+    → length ones′ ≡ length ones → length settledZeros′ ≡ length settledZeros → length settledOnes′ ≡ length settledOnes
+    → Rooms b count members starts passes′ zeros′ ones′ settledZeros′ settledOnes′
+rooms-kept r p z o sz so =
+    record {
+      listing = r .listing;
+      passesRoom = rw p (r .passesRoom);
+      zerosRoom = sz ∙ r .zerosRoom ∙ sym z;
+      onesRoom = so ∙ r .onesRoom ∙ sym o;
+    }
+
+pub rooms-counted : {b : Block} {count : ℕ} {members starts passes zeros ones settledZeros settledOnes : List ℕ}
+    → Rooms b count members starts passes zeros ones settledZeros settledOnes
+    → Rooms b (length (groups b)) members starts passes zeros ones settledZeros settledOnes
+rooms-counted r = rw (r .listing .countIs) at r
+
+pub held-kept : {ws : List ℕ} {n gates base : ℕ} {zeros ones zeros′ ones′ : List ℕ} → BatchHeld ws n gates base zeros ones → zeros′ ≡ zeros → ones′ ≡ ones
+    → BatchHeld ws n gates base zeros′ ones′
+held-kept h e f = rw (e, f) h
 
 -- ---- all groups
 
