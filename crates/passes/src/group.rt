@@ -128,7 +128,14 @@ pub fn count_group(
     ensures kept { λ r. ⌜ (now (zeros .exit) ≡ now (zeros .entry)) × (now (ones .exit) ≡ now (ones .entry)) ⌝ }
 {
     put_pairs(n, group, zeros, ones, settled_zeros, settled_ones);
-    put_pairs(n, group, &settled_zeros[..0], &settled_ones[..0], zeros, ones);
+    put_pairs(
+        n,
+        group,
+        &settled_zeros[..0],
+        &settled_ones[..0],
+        zeros,
+        ones,
+    );
     run_passes(words, n, gates, used_lanes(n), group, passes, zeros, ones);
     let counted = more_passes(
         words,

@@ -36,13 +36,7 @@ pub fn put_pairs(
 }
 
 // The lanes at which node `k` has another value in one state than in the other.
-fn difference(
-    k: usize,
-    zeros: &[u64],
-    ones: &[u64],
-    other_zeros: &[u64],
-    other_ones: &[u64],
-) -> u64
+fn difference(k: usize, zeros: &[u64], ones: &[u64], other_zeros: &[u64], other_ones: &[u64]) -> u64
     requires { ⌜ (length (now zeros) ≡ length (now ones)) × (length (now «other_zeros») ≡ length (now «other_ones»)) ⌝ }
     ensures { λ r. ⌜
         r ≡ differenceOf (pairAt (now (zeros .entry)) (now (ones .entry)) k) (pairAt (now («other_zeros» .entry)) (now («other_ones» .entry)) k)

@@ -132,8 +132,7 @@ returns c =
     let e = ran m in
     let d = cleared e in
     let p = saved d in
-    let s = start p in
-    (
+    let s = start p in (
       m .more-passes .ensures .counted,
       put-back (s .args .passes) (s .pre .settled) (p .put-pairs .ensures .0) (p .put-pairs .ensures .1) (d .put-pairs2 .ensures .0) (d .put-pairs2 .ensures .1)
           (e .run-passes .ensures) (m .more-passes .ensures) (o .put-pairs3 .ensures .0) (o .put-pairs3 .ensures .1),

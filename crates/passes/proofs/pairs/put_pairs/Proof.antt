@@ -74,8 +74,7 @@ loop-again c =
     let s = start (h .before) in
     let e = c .pair-at .ensures in
     let group = s .args .group .now in
-    let many = s .pre .1 .1 in
-    (
+    let many = s .pre .1 .1 in (
       omega arith,
       put-first group (l .i) _ (h .loop-test .taken) (l .inv .1) (s .pre .1 .0) (ap (λ (p : Pair). p .zeros) e),
       put-first group (l .i) _ (h .loop-test .taken) (l .inv .2) (λ j m. rw (← many) (s .pre .1 .0 j m)) (ap (λ (p : Pair). p .ones) e),
