@@ -155,7 +155,7 @@ same-pair : (zeros ones : List ℕ) (k : ℕ) (p : Pair) → p .zeros ≡ getD z
 unfolding pairAt
 same-pair zeros ones k p e f = pair-eq p (pairAt zeros ones k) e f
 
-gatesIn-at : (n m : ℕ) (zeros ones : List ℕ) (j : ℕ) → j < m → getD (gatesIn n m zeros ones) j nothing ≡ pairAt zeros ones (n + j)
+pub gatesIn-at : (n m : ℕ) (zeros ones : List ℕ) (j : ℕ) → j < m → getD (gatesIn n m zeros ones) j nothing ≡ pairAt zeros ones (n + j)
 unfolding gatesIn
 gatesIn-at n m zeros ones j l = getD-tab (λ j. pairAt zeros ones (n + j)) m j nothing l
 

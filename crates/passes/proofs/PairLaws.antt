@@ -6,7 +6,7 @@
 -- Assumes nothing.
 use mathlib.Core.Path.{_≡_, refl, sym, ap, _∙_}
 use mathlib.Core.Logic.{_⊎_, inl, inr, ⊎-elim}
-use mathlib.Core.Bool.{Bool, true, false, not, _&&_, _||_}
+use mathlib.Core.Bool.{Bool, true, false, not, _&&_, _||_, false≢true}
 use mathlib.Core.List.{List, [], _∷_, _++_}
 use Prim.Native.Nat.{ℕ, zero, suc, _+_, _^_, _≤_, _<_, max}
 use native.Mathlib.Nat.{zero-add}
@@ -80,21 +80,36 @@ module _ {n : ℕ} where
 lane-differs : (z o z′ o′ : ℕ) → z + o ≤ 1 → z′ + o′ ≤ 1
     → eqb (max (differ z z′) (differ o o′)) 1 ≡ not (eqb (code (marked z o)) (code (marked z′ o′)))
 unfolding marked code
-lane-differs zero zero zero zero h k = refl
-lane-differs zero zero zero (suc zero) h k = refl
-lane-differs zero zero (suc zero) zero h k = refl
-lane-differs zero (suc zero) zero zero h k = refl
-lane-differs zero (suc zero) zero (suc zero) h k = refl
-lane-differs zero (suc zero) (suc zero) zero h k = refl
-lane-differs (suc zero) zero zero zero h k = refl
-lane-differs (suc zero) zero zero (suc zero) h k = refl
-lane-differs (suc zero) zero (suc zero) zero h k = refl
-lane-differs z o zero (suc (suc o′)) h k = absurd (omega arith)
-lane-differs z o (suc zero) (suc o′) h k = absurd (omega arith)
-lane-differs z o (suc (suc z′)) o′ h k = absurd (omega arith)
-lane-differs zero (suc (suc o)) z′ o′ h k = absurd (omega arith)
-lane-differs (suc zero) (suc o) z′ o′ h k = absurd (omega arith)
-lane-differs (suc (suc z)) o z′ o′ h k = absurd (omega arith)
+lane-differs zero zero = other
+  where
+    other : (z′ o′ : ℕ) → 0 + 0 ≤ 1 → z′ + o′ ≤ 1 → eqb (max (differ 0 z′) (differ 0 o′)) 1 ≡ not (eqb (code (marked 0 0)) (code (marked z′ o′)))
+    other zero zero h k = refl
+    other zero (suc zero) h k = refl
+    other zero (suc (suc o′)) h k = absurd (omega arith)
+    other (suc zero) zero h k = refl
+    other (suc zero) (suc o′) h k = absurd (omega arith)
+    other (suc (suc z′)) o′ h k = absurd (omega arith)
+lane-differs zero (suc zero) = other
+  where
+    other : (z′ o′ : ℕ) → 0 + 1 ≤ 1 → z′ + o′ ≤ 1 → eqb (max (differ 0 z′) (differ 1 o′)) 1 ≡ not (eqb (code (marked 0 1)) (code (marked z′ o′)))
+    other zero zero h k = refl
+    other zero (suc zero) h k = refl
+    other zero (suc (suc o′)) h k = absurd (omega arith)
+    other (suc zero) zero h k = refl
+    other (suc zero) (suc o′) h k = absurd (omega arith)
+    other (suc (suc z′)) o′ h k = absurd (omega arith)
+lane-differs zero (suc (suc o)) = λ z′ o′ h k. absurd (omega arith)
+lane-differs (suc zero) zero = other
+  where
+    other : (z′ o′ : ℕ) → 1 + 0 ≤ 1 → z′ + o′ ≤ 1 → eqb (max (differ 1 z′) (differ 0 o′)) 1 ≡ not (eqb (code (marked 1 0)) (code (marked z′ o′)))
+    other zero zero h k = refl
+    other zero (suc zero) h k = refl
+    other zero (suc (suc o′)) h k = absurd (omega arith)
+    other (suc zero) zero h k = refl
+    other (suc zero) (suc o′) h k = absurd (omega arith)
+    other (suc (suc z′)) o′ h k = absurd (omega arith)
+lane-differs (suc zero) (suc o) = λ z′ o′ h k. absurd (omega arith)
+lane-differs (suc (suc z)) o = λ z′ o′ h k. absurd (omega arith)
 
 module _ {lanes : ℕ} {p q : Pair} (h : Proper lanes p) (k : Proper lanes q) where
   difference-within : differenceOf p q < 2 ^ lanes
@@ -112,11 +127,6 @@ module _ {lanes : ℕ} {p q : Pair} (h : Proper lanes p) (k : Proper lanes q) wh
   -- where they hold another value
   pub difference-tells : Tells lanes 0 (λ s. not (eqb (code (lane s p)) (code (lane s q)))) (differenceOf p q)
   difference-tells = record { within = difference-within; each = λ s l. rw (zero-add s) (difference-lane s) }
-
-not-and : (a b : Bool) → not a || not (b && true) ≡ not (a && b)
-not-and true true = refl
-not-and true false = refl
-not-and false b = refl
 
 module _ (n : ℕ) (zeros ones zeros′ ones′ : List ℕ) where
   pub differs-none : Tells (lanesOf n) 0 (differAt n [] zeros ones zeros′ ones′) 0
@@ -153,10 +163,45 @@ module _ (b : Block) (n base : ℕ) (group zeros ones zeros′ ones′ : List �
   unfolding differAt
   lacks-none e =
       record {
-        some = λ f. not-both (sym f) refl;
+        some = λ f. absurd (false≢true f);
         none = λ f s l x. not-true (agreeAt n group zeros ones zeros′ ones′ s) (rw (zero-add s) at (tells-no-lane t e s l));
       }
     where
       not-true : (a : Bool) → not a ≡ false → a ≡ true
       not-true true h = refl
       not-true false h = sym h
+
+  -- one may, where the word of those that may come marks it
+  pub lacks-told : {coming : ℕ} → Tells (lanesOf n) base (mayCome b) coming → Lacks b n base group zeros ones zeros′ ones′ (not (eqb (bitAnd coming d) 0))
+  unfolding differAt mayCome
+  lacks-told {coming} c =
+      record {
+        some = λ f.
+            let w = tells-some both (λ z. not-both (eq-eqb (bitAnd coming d) 0 z) (not-true-false (eqb (bitAnd coming d) 0) f)) in
+            let here = rw (zero-add (w .0)) at (w .2) in
+            let may = not (isExcluded b (base + w .0)) in
+            let differs = not (agreeAt n group zeros ones zeros′ ones′ (w .0)) in
+            (w .0, w .1, not-true-false (isExcluded b (base + w .0)) (and-left may differs here), not-true-false (agreeAt n group zeros ones zeros′ ones′ (w .0)) (and-right may differs here));
+        none = λ f s l x.
+            second (isExcluded b (base + s)) (agreeAt n group zeros ones zeros′ ones′ s) x
+            (rw (zero-add s) at (tells-no-lane both (eqb-true (bitAnd coming d) 0 (not-false-true (eqb (bitAnd coming d) 0) f)) s l));
+      }
+    where
+      second : (a c : Bool) → a ≡ false → not a && not c ≡ false → c ≡ true
+      second true c h k = not-both refl h
+      second false true h k = refl
+      second false false h k = sym k
+
+      not-false-true : (a : Bool) → not a ≡ false → a ≡ true
+      not-false-true true h = refl
+      not-false-true false h = sym h
+
+      not-true-false : (a : Bool) → not a ≡ true → a ≡ false
+      not-true-false true h = sym h
+      not-true-false false h = refl
+
+      comes : Tells (lanesOf n) 0 (λ s. not (isExcluded b (base + s))) coming
+      comes = record { within = c .within; each = λ s l. rw (zero-add s) (c .each s l) }
+
+      both : Tells (lanesOf n) 0 (λ s. not (isExcluded b (base + s)) && not (agreeAt n group zeros ones zeros′ ones′ s)) (bitAnd coming d)
+      both = tells-and comes t

@@ -1,10 +1,9 @@
 -- The passes that groups need, found group by group for one batch of settings after the other.
---   copiesNeeded             how many copies all groups need
 --   Evaluable, Held, Stepped gates evaluated on pairs of words
 --   Least                    a number of passes of which none is too many
 --   Passed, Kept             the pairs after so many passes, and the settled ones beside them
 --   PassReady, MorePasses, GroupReady, GroupCounted   one group for the settings of a batch
---   Listing, Counting, AllCounted   all groups
+--   Listing, Counting, Rooms, BatchHeld, AllCounted   all groups
 -- Assumes nothing.
 use Prim.Native.Nat.{ℕ, _+_, _-_, _*_, _%_, _^_, _≤_, _<_}
 use mathlib.Core.Path.{_≡_}
@@ -21,7 +20,7 @@ use Rattle.netlist.specs.StoredBlock.{decode}
 use Rattle.netlist.specs.Rounds.{settingOf, settingCount, settledUnder, isExcluded}
 use Rattle.netlist.specs.Groups.{groups}
 use Rattle.netlist.specs.Steps.{run}
-use Rattle.netlist.specs.Passes.{afterPasses, areSettled, areEnough, passCount}
+use Rattle.netlist.specs.Passes.{afterPasses, areSettled, areEnough, passCount, copyCount}
 use Rattle.agreement.specs.Copies.{groupAt}
 use Rattle.decide.specs.InPlace.{Legible, Visits}
 use Rattle.lanes.specs.declared.Pair.{Pair}
@@ -32,10 +31,6 @@ use Rattle.lanes.specs.Nodes.{pairAt, inputsIn, gatesIn}
 use Rattle.batch.specs.Batch.{Decidable, BatchSettled}
 use Rattle.passes.specs.declared.Counted.{Counted}
 use Rattle.passes.specs.Pairs.{Apart, ProperAt}
-
--- a group of g gates is copied once a pass
-unfoldable pub copiesNeeded : Block → ℕ
-copiesNeeded b = sum (map (λ g. length g * passCount b g) (groups b))
 
 -- ---- gates evaluated on pairs of words
 
@@ -127,9 +122,9 @@ pub record GroupReady (ws : List ℕ) (n gates base : ℕ) (group : List ℕ) (p
 
 -- group g stands in `members` from `starts[g]` up to `starts[g + 1]`
 pub record Listing (b : Block) (count : ℕ) (members starts : List ℕ) : Type 0 where
-  pub few : gateCount b ≤ maxGates
   pub countIs : count ≡ length (groups b)
   pub membersLong : length members ≡ sum (map length (groups b))
+  pub few : length members ≤ maxGates
   pub ordered : (g : ℕ) → g < count → getD starts g 0 ≤ getD starts (g + 1) 0
   pub within : (g : ℕ) → g < count → getD starts (g + 1) 0 ≤ length members
   pub part : (g : ℕ) → g < count → take (getD starts (g + 1) 0 - getD starts g 0) (drop (getD starts g 0) members) ≡ groupAt b g
@@ -144,17 +139,35 @@ EnoughBelow b group bound p = (s : ℕ) → s < bound → isExcluded b s ≡ fal
 
 -- The passes of all groups are enough for the settings below `base`, those of the first `done` groups for the settings below `next`, unless the
 -- copies are too many; of no group are there too many.
-pub record Counting (b : Block) (count base done next : ℕ) (entry passes : List ℕ) (total : ℕ) : Type 0 where
-  pub long : length passes ≡ length entry
-  pub rest : (g : ℕ) → count ≤ g → getD passes g 0 ≡ getD entry g 0
+pub record Counting (b : Block) (count base done next : ℕ) (passes : List ℕ) (total : ℕ) : Type 0 where
   pub least : (g : ℕ) → g < count → Least b (groupAt b g) (getD passes g 0)
   pub totalIs : total ≡ copiesOf b count passes
   pub most : total ≤ maxCopies + maxCopies
   pub before : total ≤ maxCopies → (g : ℕ) → g < count → EnoughBelow b (groupAt b g) base (getD passes g 0)
   pub inside : total ≤ maxCopies → (g : ℕ) → g < done → EnoughBelow b (groupAt b g) next (getD passes g 0)
 
+-- behind the first `count` words nothing changed
+pub record SameRest (count : ℕ) (entry words : List ℕ) : Type 0 where
+  pub long : length words ≡ length entry
+  pub rest : (g : ℕ) → count ≤ g → getD words g 0 ≡ getD entry g 0
+
+-- the groups, and a word for each, and for each node
+pub record Rooms (b : Block) (count : ℕ) (members starts passes zeros ones settledZeros settledOnes : List ℕ) : Type 0 where
+  pub listing : Listing b count members starts
+  pub passesRoom : count ≤ length passes
+  pub zerosRoom : length settledZeros ≡ length zeros
+  pub onesRoom : length settledOnes ≡ length ones
+
+-- the settled pairs of the batch at `base`
+pub record BatchHeld (ws : List ℕ) (n gates base : ℕ) (zeros ones : List ℕ) : Type 0 where
+  pub legible : Legible ws n gates
+  pub fewInputs : n ≤ maxInputs
+  pub aligned : base % 64 ≡ 0
+  pub whole : base + lanesOf n ≤ settingCount (decode ws)
+  pub settled : BatchSettled (decode ws) n base zeros ones
+
 -- Each group's passes, and the copies that they make; where those are too many, a number above the limit is told.
 pub record AllCounted (b : Block) (entry passes : List ℕ) (total : ℕ) : Type 0 where
-  pub tells : ltb maxCopies total ≡ ltb maxCopies (copiesNeeded b)
-  pub totalIs : total ≤ maxCopies → total ≡ copiesNeeded b
+  pub tells : ltb maxCopies total ≡ ltb maxCopies (copyCount b)
+  pub totalIs : total ≤ maxCopies → total ≡ copyCount b
   pub passesAre : total ≤ maxCopies → passes ≡ placed (map (passCount b) (groups b)) entry

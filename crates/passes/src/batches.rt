@@ -10,10 +10,13 @@ use verdict::settings::setting_count;
 ghost use mathlib.Core.Path.{_≡_};
 ghost use Prim.Native.Nat.{_+_, _%_, _≤_, _<_};
 ghost use lib.ListN.{length};
+ghost use Rattle.netlist.specs.Limits.{maxCopies};
 ghost use Rattle.netlist.specs.StoredBlock.{decode};
 ghost use Rattle.netlist.specs.Rounds.{settingCount};
+ghost use Rattle.netlist.specs.Groups.{groups};
 ghost use Rattle.lanes.specs.Batches.{lanesOf};
-ghost use Rattle.passes.specs.Counting.{CountReady, BatchReady, Counting, AllCounted};
+ghost use Rattle.batch.specs.Batch.{Decidable};
+ghost use Rattle.passes.specs.Counting.{Counting, SameRest, Rooms, BatchHeld, AllCounted};
 
 // One group more for the settings of the batch; the copies of all groups.
 fn count_at(
@@ -30,7 +33,19 @@ fn count_at(
     ones: &mut [u64],
     settled_zeros: &mut [u64],
     settled_ones: &mut [u64],
-) -> usize {
+) -> usize
+    requires { ⌜ BatchHeld (now words) n gates base (now zeros) (now ones) × (total ≤ maxCopies) × (g < length (groups (decode (now words)))) ⌝ }
+    requires { ⌜
+        Rooms (decode (now words)) (length (groups (decode (now words)))) (now members) (now starts) (now passes) (now zeros) (now ones)
+        (now «settled_zeros») (now «settled_ones»)
+        × Counting (decode (now words)) (length (groups (decode (now words)))) base g (base + lanesOf n) (now passes) total
+        ⌝ }
+    ensures counted { λ r. ⌜
+        Counting (decode (now (words .entry))) (length (groups (decode (now (words .entry))))) base (g + 1) (base + lanesOf n) (now (passes .exit)) r
+        × SameRest (length (groups (decode (now (words .entry))))) (now (passes .entry)) (now (passes .exit))
+        ⌝ }
+    ensures kept { λ r. ⌜ (now (zeros .exit) ≡ now (zeros .entry)) × (now (ones .exit) ≡ now (ones .entry)) ⌝ }
+{
     let start = word_at(starts, g);
     let end = word_at(starts, g + 1);
     let counted = count_group(
@@ -65,7 +80,17 @@ fn count_groups(
     ones: &mut [u64],
     settled_zeros: &mut [u64],
     settled_ones: &mut [u64],
-) -> usize {
+) -> usize
+    requires { ⌜ BatchHeld (now words) n gates base (now zeros) (now ones) ⌝ }
+    requires { ⌜
+        Rooms (decode (now words)) count (now members) (now starts) (now passes) (now zeros) (now ones) (now «settled_zeros») (now «settled_ones»)
+        × Counting (decode (now words)) count base 0 base (now passes) total
+        ⌝ }
+    ensures { λ r. ⌜
+        Counting (decode (now (words .entry))) count (base + lanesOf n) 0 (base + lanesOf n) (now (passes .exit)) r
+        × SameRest count (now (passes .entry)) (now (passes .exit))
+        ⌝ }
+{
     let mut sum = total;
     let mut g = 0;
     while g < count && sum <= MAX_GATES {
@@ -105,7 +130,19 @@ fn count_batch(
     ones: &mut [u64],
     settled_zeros: &mut [u64],
     settled_ones: &mut [u64],
-) -> usize {
+) -> usize
+    requires { ⌜
+        Decidable (now words) n gates (now order) (now zeros) (now ones) × (base % 64 ≡ 0) × (base + lanesOf n ≤ settingCount (decode (now words)))
+        ⌝ }
+    requires { ⌜
+        Rooms (decode (now words)) count (now members) (now starts) (now passes) (now zeros) (now ones) (now «settled_zeros») (now «settled_ones»)
+        × Counting (decode (now words)) count base 0 base (now passes) total
+        ⌝ }
+    ensures { λ r. ⌜
+        Counting (decode (now (words .entry))) count (base + lanesOf n) 0 (base + lanesOf n) (now (passes .exit)) r
+        × SameRest count (now (passes .entry)) (now (passes .exit))
+        ⌝ }
+{
     decide_batch(words, n, gates, order, base, zeros, ones);
     count_groups(
         words,
@@ -138,7 +175,13 @@ pub fn count_passes(
     ones: &mut [u64],
     settled_zeros: &mut [u64],
     settled_ones: &mut [u64],
-) -> usize {
+) -> usize
+    requires { ⌜ Decidable (now words) n gates (now order) (now zeros) (now ones) ⌝ }
+    requires { ⌜
+        Rooms (decode (now words)) count (now members) (now starts) (now passes) (now zeros) (now ones) (now «settled_zeros») (now «settled_ones»)
+        ⌝ }
+    ensures { λ r. ⌜ AllCounted (decode (now (words .entry))) (now (passes .entry)) (now (passes .exit)) r ⌝ }
+{
     fill_words(passes, count, 1);
     let settings = setting_count(n);
     let lanes = lane_count(n);

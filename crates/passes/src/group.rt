@@ -76,7 +76,7 @@ fn more_passes(
     settled_zeros: &[u64],
     settled_ones: &[u64],
 ) -> Counted
-    requires { ⌜ PassReady (now words) n gates base (now group) passes total (now zeros) (now ones) (now settled_zeros) (now settled_ones) ⌝ }
+    requires { ⌜ PassReady (now words) n gates base (now group) passes total (now zeros) (now ones) (now «settled_zeros») (now «settled_ones») ⌝ }
     ensures { λ r. ⌜
         MorePasses (decode (now (words .entry))) n base (now (group .entry)) passes total (now (zeros .entry)) (now (ones .entry)) (now (zeros .exit))
         (now (ones .exit)) r
@@ -123,10 +123,9 @@ pub fn count_group(
     settled_zeros: &mut [u64],
     settled_ones: &mut [u64],
 ) -> Counted
-    requires { ⌜ GroupReady (now words) n gates base (now group) passes total (now zeros) (now ones) (now settled_zeros) (now settled_ones) ⌝ }
+    requires { ⌜ GroupReady (now words) n gates base (now group) passes total (now zeros) (now ones) (now «settled_zeros») (now «settled_ones») ⌝ }
     ensures counted { λ r. ⌜ GroupCounted (decode (now (words .entry))) n base (now (group .entry)) passes total r ⌝ }
-    ensures zeros_kept { λ r. ⌜ now (zeros .exit) ≡ now (zeros .entry) ⌝ }
-    ensures ones_kept { λ r. ⌜ now (ones .exit) ≡ now (ones .entry) ⌝ }
+    ensures kept { λ r. ⌜ (now (zeros .exit) ≡ now (zeros .entry)) × (now (ones .exit) ≡ now (ones .entry)) ⌝ }
 {
     put_pairs(n, group, zeros, ones, settled_zeros, settled_ones);
     put_pairs(

@@ -20,10 +20,10 @@ pub fn put_pairs(
     zeros: &mut [u64],
     ones: &mut [u64],
 )
-    requires { ⌜ (length (now source_zeros) ≡ length (now source_ones)) × (n ≤ maxInputs) ⌝ }
+    requires { ⌜ (length (now «source_zeros») ≡ length (now «source_ones»)) × (n ≤ maxInputs) ⌝ }
     requires { ⌜ GatesIn n (now group) (now zeros) × (length (now zeros) ≡ length (now ones)) ⌝ }
-    ensures zeros_put { λ r. ⌜ Put n (now (group .entry)) (now (source_zeros .entry)) (now (zeros .entry)) (now (zeros .exit)) ⌝ }
-    ensures ones_put { λ r. ⌜ Put n (now (group .entry)) (now (source_ones .entry)) (now (ones .entry)) (now (ones .exit)) ⌝ }
+    ensures zeros_put { λ r. ⌜ Put n (now (group .entry)) (now («source_zeros» .entry)) (now (zeros .entry)) (now (zeros .exit)) ⌝ }
+    ensures ones_put { λ r. ⌜ Put n (now (group .entry)) (now («source_ones» .entry)) (now (ones .entry)) (now (ones .exit)) ⌝ }
 {
     let mut i = 0;
     while i < group.len() {
@@ -37,9 +37,9 @@ pub fn put_pairs(
 
 // The lanes at which node `k` has another value in one state than in the other.
 fn difference(k: usize, zeros: &[u64], ones: &[u64], other_zeros: &[u64], other_ones: &[u64]) -> u64
-    requires { ⌜ (length (now zeros) ≡ length (now ones)) × (length (now other_zeros) ≡ length (now other_ones)) ⌝ }
+    requires { ⌜ (length (now zeros) ≡ length (now ones)) × (length (now «other_zeros») ≡ length (now «other_ones»)) ⌝ }
     ensures { λ r. ⌜
-        r ≡ differenceOf (pairAt (now (zeros .entry)) (now (ones .entry)) k) (pairAt (now (other_zeros .entry)) (now (other_ones .entry)) k)
+        r ≡ differenceOf (pairAt (now (zeros .entry)) (now (ones .entry)) k) (pairAt (now («other_zeros» .entry)) (now («other_ones» .entry)) k)
         ⌝ }
 {
     let here = pair_at(zeros, ones, k);
@@ -56,11 +56,11 @@ fn differing_lanes(
     other_zeros: &[u64],
     other_ones: &[u64],
 ) -> u64
-    requires { ⌜ (length (now zeros) ≡ length (now ones)) × (length (now other_zeros) ≡ length (now other_ones)) × (n ≤ maxInputs) ⌝ }
-    requires { ⌜ ProperAt n (now group) (now zeros) (now ones) × ProperAt n (now group) (now other_zeros) (now other_ones) ⌝ }
+    requires { ⌜ (length (now zeros) ≡ length (now ones)) × (length (now «other_zeros») ≡ length (now «other_ones»)) × (n ≤ maxInputs) ⌝ }
+    requires { ⌜ ProperAt n (now group) (now zeros) (now ones) × ProperAt n (now group) (now «other_zeros») (now «other_ones») ⌝ }
     ensures { λ r. ⌜
         Tells (lanesOf n) 0
-        (differAt n (now (group .entry)) (now (zeros .entry)) (now (ones .entry)) (now (other_zeros .entry)) (now (other_ones .entry))) r
+        (differAt n (now (group .entry)) (now (zeros .entry)) (now (ones .entry)) (now («other_zeros» .entry)) (now («other_ones» .entry))) r
         ⌝ }
 {
     let mut differing = 0u64;
@@ -84,12 +84,12 @@ pub fn lacks(
     other_zeros: &[u64],
     other_ones: &[u64],
 ) -> bool
-    requires { ⌜ (length (now zeros) ≡ length (now ones)) × (length (now other_zeros) ≡ length (now other_ones)) × (n ≤ maxInputs) ⌝ }
-    requires { ⌜ ProperAt n (now group) (now zeros) (now ones) × ProperAt n (now group) (now other_zeros) (now other_ones) ⌝ }
-    requires { ⌜ (base % 64 ≡ 0) × (n ≡ getD (now words) 0 0) ⌝ }
+    requires { ⌜ (length (now zeros) ≡ length (now ones)) × (length (now «other_zeros») ≡ length (now «other_ones»)) × (n ≤ maxInputs)
+        × (base % 64 ≡ 0) × (n ≡ getD (now words) 0 0) ⌝ }
+    requires { ⌜ ProperAt n (now group) (now zeros) (now ones) × ProperAt n (now group) (now «other_zeros») (now «other_ones») ⌝ }
     ensures { λ r. ⌜
-        Lacks (decode (now (words .entry))) n base (now (group .entry)) (now (zeros .entry)) (now (ones .entry)) (now (other_zeros .entry))
-        (now (other_ones .entry)) r
+        Lacks (decode (now (words .entry))) n base (now (group .entry)) (now (zeros .entry)) (now (ones .entry)) (now («other_zeros» .entry))
+        (now («other_ones» .entry)) r
         ⌝ }
 {
     let differing = differing_lanes(n, group, zeros, ones, other_zeros, other_ones);

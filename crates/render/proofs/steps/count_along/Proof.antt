@@ -97,10 +97,9 @@ count-passes-requires c κs =
     let n = g .before .inputs-of in
     let m = g .gates-of in
     let at = a .before .gates-at in
-    let r = node-room g in
-    (
+    let r = node-room g in (
       whole-decidable (s .args .words .now) (n .result) (m .result) (at .result) _ _ _ (s .pre .whole) (n .ensures) (m .ensures) (at .ensures)
-      (rw (m .ensures) (s .pre .visits)) (length-take-le _ _ (r .zeroRoom)) (length-take-le _ _ (r .oneRoom)),
+          (rw (m .ensures) (s .pre .visits)) (length-take-le _ _ (r .zeroRoom)) (length-take-le _ _ (r .oneRoom)),
       record {
         listing = rw (m .ensures) (s .pre .listing);
         passesRoom = s .pre .passRoom;
