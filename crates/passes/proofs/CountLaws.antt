@@ -235,7 +235,7 @@ module _ {b : Block} {count : ℕ} {members starts : List ℕ} (listing : Listin
 
 -- no group has more passes than it needs
 least-most : (b : Block) (g : ℕ) (l : g < length (groups b)) (p : ℕ) → Least b (groupAt b g) p → p ≤ passCount b (groupAt b g)
-least-most b g l p h = ⊎-elim (λ e. omega (arith, passCount-some b g l)) more (h .fewer)
+least-most b g l p h = ⊎-elim (λ e. omega (arith, passCount-some b (groupAt b g))) more (h .fewer)
   where
     more : areEnough b (groupAt b g) (p - 1) ≡ false → p ≤ passCount b (groupAt b g)
     more f =
