@@ -38,13 +38,15 @@ enum unloop_refusal {
     UNLOOP_INTERFACE_MISMATCH = 12
 };
 
-/* Enough room for every result: words of a block, bytes of a text, bytes of a written text, gates, words of a cover. */
+/* Enough room for every result: words of a block, bytes of a text, bytes of a written text, gates, words of a cover,
+   words of cells. */
 enum unloop_room {
     UNLOOP_BLOCK_WORDS = 5268,
     UNLOOP_TEXT_BYTES = 61440,
     UNLOOP_WRITTEN_BYTES = 58098,
     UNLOOP_GATES = 1024,
-    UNLOOP_COVER_WORDS = 1062882
+    UNLOOP_COVER_WORDS = 1062882,
+    UNLOOP_CELLS_WORDS = 5120
 };
 
 /* A record of a sheet; bit i is for input or output i. The caller gives the mask of fixed inputs and the mask of those fixed at 1. The call
@@ -103,6 +105,16 @@ unloop_reply unloop_compare(const uint16_t *ours, size_t ours_length, const uint
 /* Bring: a block stored before there were never lines, with three counts and at most 10 inputs, to one of today; count:
    words. 6 (by the rules of then), 11. */
 unloop_reply unloop_bring(const uint16_t *old, size_t old_length, uint16_t *block, size_t block_length);
+
+/* Cells: a straight block as cells in the order of its gates, five words each; count: words. Four operand words as in the block (inputs,
+   then earlier cells behind them, 65534 for 0, 65535 for 1; an absent operand is 65534), then the truth word: its bit b is the cell's value
+   when operand i is bit i of b. 6, 10, 11. */
+unloop_reply unloop_cells(const uint16_t *block, size_t block_length, uint16_t *cells, size_t cells_length);
+
+/* Run: the value of each cell, a byte each, from one byte an input, 0 or 1; count: cells. Any number of inputs is answered. 6 (more than 12
+   inputs or 1,024 cells, part of a cell, an operand that is no input, constant or earlier cell), 7, 11. */
+unloop_reply unloop_run(size_t inputs, const uint16_t *cells, size_t cells_length, const uint8_t *setting, size_t setting_length,
+                        uint8_t *values, size_t values_length);
 
 /* Line: the line that holds the place, without its LF. Never refuses. */
 unloop_span unloop_line(const uint8_t *text, size_t text_length, size_t place);

@@ -313,7 +313,7 @@ fn filled<T: Clone + Default>(
 }
 
 /// The result of an operation that counts its elements.
-fn counted<T: Clone + Default>(
+pub(crate) fn counted<T: Clone + Default>(
     room: usize,
     run: impl FnOnce(&mut [T]) -> Reply,
 ) -> Result<Vec<T>, Refusal> {

@@ -23,6 +23,7 @@
 //! room is enough.
 
 mod block;
+mod cells;
 pub mod limits;
 mod location;
 pub mod raw;
@@ -32,6 +33,7 @@ mod sheet;
 mod value;
 
 pub use block::Block;
+pub use cells::Cells;
 pub use location::Location;
 pub use refusal::Refusal;
 pub use results::{Assignment, Disagreement, Groups, Settled, Verdict};

@@ -22,6 +22,9 @@ pub const GATE_WORDS: usize = 5;
 /// The words of a stored output: its port's name and its node.
 pub const OUTPUT_WORDS: usize = NAME_WORDS + 1;
 
+/// The words of a cell: four operands and the truth word.
+pub const CELL_WORDS: usize = 5;
+
 /// The longest stored block, in words.
 pub const BLOCK_WORDS: usize = HEAD_WORDS
     + NAME_WORDS * INPUTS
@@ -42,3 +45,5 @@ pub const WRITTEN_BYTES: usize = (6 + NAME_BYTES) * INPUTS
     + (8 + 2 * NAME_BYTES) * OUTPUTS;
 /// Room for every cover, in words: two for each partial assignment, where an input is free, 0 or 1.
 pub const COVER_WORDS: usize = 2 * 3_usize.pow(INPUTS as u32);
+/// Room for every block's cells, in words.
+pub const CELLS_WORDS: usize = CELL_WORDS * GATES;

@@ -71,6 +71,16 @@ extern "C" {
         their_words: usize,
     ) -> Reply;
     fn unloop_bring(old: *const u16, words: usize, block: *mut u16, room: usize) -> Reply;
+    fn unloop_cells(block: *const u16, words: usize, cells: *mut u16, room: usize) -> Reply;
+    fn unloop_run(
+        inputs: usize,
+        cells: *const u16,
+        words: usize,
+        setting: *const u8,
+        bytes: usize,
+        values: *mut u8,
+        room: usize,
+    ) -> Reply;
     fn unloop_line(text: *const u8, bytes: usize, place: usize) -> Span;
 }
 
@@ -140,6 +150,19 @@ pub fn compare(ours: &[u16], theirs: &[u16]) -> Reply {
 pub fn bring(old: &[u16], block: &mut [u16]) -> Reply {
     let (words, room) = (old.len(), block.len());
     unsafe { unloop_bring(old.as_ptr(), words, block.as_mut_ptr(), room) }
+}
+
+/// A straight block as cells of four operands and a truth word; count: words.
+pub fn cells(block: &[u16], cells: &mut [u16]) -> Reply {
+    let (words, room) = (block.len(), cells.len());
+    unsafe { unloop_cells(block.as_ptr(), words, cells.as_mut_ptr(), room) }
+}
+
+/// The value of each cell under a setting of 0s and 1s; count: cells.
+pub fn run(inputs: usize, cells: &[u16], setting: &[u8], values: &mut [u8]) -> Reply {
+    let (words, bytes, room) = (cells.len(), setting.len(), values.len());
+    let (cells, setting, values) = (cells.as_ptr(), setting.as_ptr(), values.as_mut_ptr());
+    unsafe { unloop_run(inputs, cells, words, setting, bytes, values, room) }
 }
 
 /// The start and length of the line that holds `place`, without its LF.

@@ -47,6 +47,7 @@ fn rooms() {
         ("WRITTEN_BYTES", limits::WRITTEN_BYTES),
         ("GATES", limits::GATES),
         ("COVER_WORDS", limits::COVER_WORDS),
+        ("CELLS_WORDS", limits::CELLS_WORDS),
     ];
     let rooms = rooms.map(|(name, room)| (name.to_string(), room));
     assert_eq!(constants("unloop_room"), rooms);

@@ -93,6 +93,31 @@ static void bring_specimen(void)
     answers(unloop_verdict(block, LENGTH(block)), 0, 3, 4, "verdict with a never line");
 }
 
+/* The rendering of specimen 9 by hand as cells, and run: and, or, and, or of two operands, the others absent. */
+static void run_cells(void)
+{
+    static const uint16_t expected[] = {0, 65534, 65534, 65534, 0x8888, 0, 1, 65534, 65534, 0xEEEE,
+                                        0, 2, 65534, 65534, 0x8888, 0, 3, 65534, 65534, 0xEEEE};
+    const uint8_t one[] = {1}, undefined[] = {2};
+    uint16_t rendered[33], cells[21];
+    uint8_t values[5] = {9, 9, 9, 9, 9};
+
+    answers(unloop_render(looped, LENGTH(looped), rendered, LENGTH(rendered)), 0, 33, 0, "render for cells");
+    cells[20] = 9;
+    answers(unloop_cells(rendered, 33, cells, LENGTH(cells)), 0, 20, 0, "cells");
+    check(memcmp(cells, expected, sizeof expected) == 0 && cells[20] == 9, "the words of the cells");
+    answers(unloop_cells(rendered, 33, cells, 19), 11, 0, 0, "cells, one word short");
+    answers(unloop_cells(looped, LENGTH(looped), cells, 0), 10, 0, 0, "cells of a loop");
+    answers(unloop_cells(rendered, 32, cells, LENGTH(cells)), 6, 0, 0, "cells of torn words");
+    answers(unloop_run(1, cells, 20, one, 1, values, LENGTH(values)), 0, 4, 0, "run");
+    check(values[0] == 0 && values[1] == 1 && values[2] == 1 && values[3] == 1 && values[4] == 9, "the values of the run");
+    answers(unloop_run(1, cells, 20, undefined, 1, values, LENGTH(values)), 7, 0, 0, "run from an undefined input");
+    answers(unloop_run(1, cells, 20, one, 1, values, 3), 11, 0, 0, "run, one byte short");
+    answers(unloop_run(0, cells, 20, one, 0, values, LENGTH(values)), 6, 0, 0, "run with an input missing");
+    answers(unloop_run((size_t)-1, cells, 20, one, 1, values, LENGTH(values)), 6, 0, 0, "run with too many inputs");
+    answers(unloop_run(1, cells, 19, one, 1, values, LENGTH(values)), 6, 0, 0, "run of part of a cell");
+}
+
 int main(void)
 {
     static uint16_t rendered[UNLOOP_BLOCK_WORDS];
@@ -126,6 +151,7 @@ int main(void)
     answers(unloop_render(waiting, LENGTH(waiting), rendered, 0), 9, 0, 1, "render of specimen 4");
     compare_specimens();
     bring_specimen();
+    run_cells();
     unloop_span span = unloop_line((const uint8_t *)written, sizeof written - 1, 10);
     check(span.start == 7 && span.length == 19, "line");
     if (failures == 0)

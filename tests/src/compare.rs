@@ -1,6 +1,7 @@
 //! The proved library against the simulator: numbers, counts, details, results, and what is left in the lent slices.
 //! A difference panics, and a `Report` tells the input.
 
+pub mod cells;
 pub mod seeded;
 pub mod tally;
 
@@ -184,4 +185,19 @@ pub fn compare_lines(text: &[u8]) {
         assert_eq!(raw::line(text, place), expected, "place {place}");
         count(|tally| tally.places += 1);
     }
+}
+
+/// The words with one or two of them replaced.
+fn mangled(random: &mut Random, words: &[u16]) -> Vec<u16> {
+    let mut words = words.to_vec();
+    for _ in 0..random.between(1, 2) {
+        let place = random.below(words.len());
+        words[place] = match random.below(4) {
+            0 => random.below(65_536) as u16,
+            1 => random.below(40) as u16,
+            2 => words[place].wrapping_add(1),
+            _ => words[place].wrapping_sub(1),
+        };
+    }
+    words
 }

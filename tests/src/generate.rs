@@ -1,6 +1,7 @@
 //! Seeded random blocks and texts, and the means to tell which one failed.
 
 pub mod blocks;
+pub mod cells;
 pub mod large;
 pub mod long;
 pub mod malformed;
@@ -13,6 +14,7 @@ pub mod typical;
 pub mod wide;
 
 pub use blocks::{block, Shape};
+pub use cells::{cell_setting, foreign_cells, malformed_cells};
 pub use large::{large, longest_written};
 pub use long::long_texts;
 pub use malformed::{malformed, malformed_before};

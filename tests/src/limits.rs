@@ -22,6 +22,8 @@ pub const NAME_WORDS: usize = NAME_BYTES / 2;
 pub const NEVER_WORDS: usize = 2;
 /// The words of a stored gate: its kind and count, and its operands.
 pub const GATE_WORDS: usize = 1 + OPERANDS;
+/// The words of a cell: its operands, and its truth word.
+pub const CELL_WORDS: usize = OPERANDS + 1;
 /// The words of a stored output: its port and its node.
 pub const OUTPUT_WORDS: usize = NAME_WORDS + 1;
 /// The words before the first input's name.

@@ -1,6 +1,6 @@
 //! Rounds, all gates at once, with each kind's value as SPECIFICATION 3.2 states it. Kept apart from values.rs.
 
-use crate::block::{Block, Kind, Source};
+use crate::block::{Block, Gate, Kind, Source};
 
 /// The settled values and the number of rounds that changed something.
 pub fn rounds(block: &Block, setting: &[u8]) -> (Vec<u8>, usize) {
@@ -18,17 +18,20 @@ pub fn rounds(block: &Block, setting: &[u8]) -> (Vec<u8>, usize) {
 
 /// All gates evaluated at once from the values of the round before.
 pub fn round(block: &Block, setting: &[u8], before: &[u8]) -> Vec<u8> {
+    let gates = block.gates.iter();
+    gates.map(|gate| evaluated(gate, setting, before)).collect()
+}
+
+/// One gate evaluated from these values.
+pub fn evaluated(gate: &Gate, setting: &[u8], values: &[u8]) -> u8 {
     let value = |source: &Source| match *source {
         Source::Constant(false) => 0,
         Source::Constant(true) => 1,
         Source::Input(input) => setting[input],
-        Source::Gate(gate) => before[gate],
+        Source::Gate(gate) => values[gate],
     };
-    let operands = |list: &[Source]| list.iter().map(value).collect::<Vec<u8>>();
-    let gates = block.gates.iter();
-    gates
-        .map(|gate| stated_value(gate.kind, &operands(&gate.operands)))
-        .collect()
+    let operands: Vec<u8> = gate.operands.iter().map(value).collect();
+    stated_value(gate.kind, &operands)
 }
 
 /// The three-valued meaning of a kind, word for word.

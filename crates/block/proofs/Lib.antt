@@ -2,4 +2,4 @@ pub mod TestLaws
 mod HeaderLaws
 pub mod NameLaws
 mod GateLaws
-mod StraightLaws
+pub mod StraightLaws

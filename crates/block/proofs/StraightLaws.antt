@@ -25,10 +25,10 @@ use Rattle.encoding.proofs.Decoded.{decode-gate, decode-gateCount}
 use Rattle.block.specs.Steps.{slotRule, lowerRuleAt, lowerRule}
 
 -- gate j reads, in an operand word, no gate but a lower one
-lower : ℕ → ℕ → Bool
+unfoldable pub lower : ℕ → ℕ → Bool
 lower j i = ltb i j
 
-lower-operand : (n j w : ℕ) → all (lower j) (gateOperand (operandOf n w)) ≡ operandRule (n + j) w
+pub lower-operand : (n j w : ℕ) → all (lower j) (gateOperand (operandOf n w)) ≡ operandRule (n + j) w
 unfolding lower gateOperand operandOf operandRule nodeRule
 lower-operand n j w =
     ⊎-elim (λ (l : w < n). rw (lt-ltb w n l, lt-ltb w (n + j) (omega arith)))

@@ -39,7 +39,7 @@ pub fn is_node(nodes: usize, word: usize) -> bool
 }
 
 // An operand word: a node number or a constant.
-fn is_operand(nodes: usize, word: usize) -> bool
+pub fn is_operand(nodes: usize, word: usize) -> bool
     ensures { λ r. ⌜ r ≡ operandRule nodes word ⌝ }
 {
     if is_node(nodes, word) {

@@ -5,6 +5,8 @@ use Prim.Native.Nat.{ℕ}
 use lib.ListN.{length}
 use Rattle.netlist.specs.Answers.{Shows, Outcome, answerOf, leftIn}
 use Rattle.netlist.specs.Operations.{settle, pass, render}
+use Rattle.netlist.specs.Cells.{makeCells}
+use Rattle.cells.specs.Promise.{CellsPromise}
 use Rattle.render.specs.Promise.{RenderPromise}
 use Rattle.netlist.specs.declared.Reply.{Reply}
 
@@ -22,3 +24,8 @@ pub record PassReply (ws setting entry : List ℕ) (r : Reply) (exit : List ℕ)
 pub record RenderReply (ws entry : List ℕ) (r : Reply) (exit : List ℕ) : Type 0 where
   pub replies : Replies (render ws (length entry)) entry r exit
   pub promise : RenderPromise ws entry (answerOf (render ws (length entry))) exit
+
+-- The whole promise of making cells, likewise.
+pub record CellsReply (ws entry : List ℕ) (r : Reply) (exit : List ℕ) : Type 0 where
+  pub replies : Replies (makeCells ws (length entry)) entry r exit
+  pub promise : CellsPromise ws entry (answerOf (makeCells ws (length entry))) exit

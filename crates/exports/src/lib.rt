@@ -10,10 +10,11 @@ ghost use lib.ListN.{length};
 ghost use Rattle.netlist.specs.Answers.{answerOf, Shows};
 ghost use Rattle.netlist.specs.Operations.{read, write, settle, verdict, coverOf, groupsOf};
 ghost use Rattle.netlist.specs.Bring.{bring};
+ghost use Rattle.netlist.specs.Cells.{runCells};
 ghost use Rattle.netlist.specs.Sheet.{sheet, sheetRecords};
 ghost use Rattle.netlist.specs.Compare.{compare};
 ghost use Rattle.netlist.specs.Line.{lineStart, lineLength};
-ghost use Rattle.exports.specs.Replies.{Replies, PassReply, RenderReply};
+ghost use Rattle.exports.specs.Replies.{Replies, PassReply, RenderReply, CellsReply};
 
 // Where a line starts, and how many bytes it has.
 #[repr(C)]
@@ -108,6 +109,29 @@ pub extern "C" fn unloop_render(block: &[u16], rendered: &mut [u16]) -> Reply
     ensures { λ r. ⌜ RenderReply (now (block .entry)) (now (rendered .entry)) r (now (rendered .exit)) ⌝ }
 {
     reply_of(render::render(block, rendered))
+}
+
+// Cells: the lookup cells of a straight block, whose run gives Pass's values; count: words.
+#[no_mangle]
+pub extern "C" fn unloop_cells(block: &[u16], cells: &mut [u16]) -> Reply
+    ensures { λ r. ⌜ CellsReply (now (block .entry)) (now (cells .entry)) r (now (cells .exit)) ⌝ }
+{
+    reply_of(cells::make::make_cells(block, cells))
+}
+
+// Run: the value of each cell, 0 or 1, from any words for cells and any number of inputs; count: cells.
+#[no_mangle]
+pub extern "C" fn unloop_run(
+    inputs: usize,
+    cells: &[u16],
+    setting: &[u8],
+    values: &mut [u8],
+) -> Reply
+    ensures { λ r. ⌜
+        Replies (runCells inputs (now (cells .entry)) (now (setting .entry)) (length (now (values .entry)))) (now (values .entry)) r (now (values .exit))
+        ⌝ }
+{
+    reply_of(cells::run::run_cells(inputs, cells, setting, values))
 }
 
 // Line: the line that holds the place, as the part of the caller's own text, without its LF.

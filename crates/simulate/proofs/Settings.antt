@@ -1,5 +1,5 @@
 -- Which settings are bad, by length and bytes. Assumes nothing.
-use mathlib.Core.Path.{_≡_}
+use mathlib.Core.Path.{_≡_, ap}
 use mathlib.Core.Bool.{true, not}
 use mathlib.Core.List.{List}
 use Prim.Native.Nat.{ℕ}
@@ -9,15 +9,20 @@ use Rattle.laws.specs.Lists.{all}
 use Rattle.netlist.specs.StoredBlock.{decode}
 use Rattle.netlist.specs.Operations.{isBadSetting}
 use Rattle.encoding.proofs.Decoded.{decode-inputCount}
-use Rattle.simulate.specs.Tests.{codeByte}
+use Rattle.simulate.specs.Tests.{atMost, isBadBytes}
 
-module _ (ws setting : List ℕ) where
+module _ (n most : ℕ) (setting : List ℕ) where
   -- not one byte for each input
-  pub bad-length : (length setting ≡ getD ws 0 0 → ⊥) → isBadSetting (decode ws) setting ≡ true
-  unfolding isBadSetting
-  bad-length h = rw (decode-inputCount ws, ne-eqb (length setting) (getD ws 0 0) h)
+  pub bad-length : (length setting ≡ n → ⊥) → isBadBytes n most setting ≡ true
+  unfolding isBadBytes
+  bad-length h = rw (ne-eqb (length setting) n h)
 
-  -- a byte that is no code
-  pub bad-codes : length setting ≡ getD ws 0 0 → isBadSetting (decode ws) setting ≡ not (all codeByte setting)
-  unfolding isBadSetting
-  bad-codes e = rw (decode-inputCount ws, eq-eqb (length setting) (getD ws 0 0) e)
+  -- a byte that is too high
+  pub bad-bytes : length setting ≡ n → isBadBytes n most setting ≡ not (all (atMost most) setting)
+  unfolding isBadBytes
+  bad-bytes e = rw (eq-eqb (length setting) n e)
+
+-- the setting of a block, in three values
+pub bad-setting : (ws setting : List ℕ) → isBadSetting (decode ws) setting ≡ isBadBytes (getD ws 0 0) 2 setting
+unfolding isBadSetting isBadBytes
+bad-setting ws setting = ap (λ (n : ℕ). isBadBytes n 2 setting) (decode-inputCount ws)

@@ -9,15 +9,18 @@ ghost use Rattle.netlist.specs.StoredBlock.{decode};
 ghost use Rattle.netlist.specs.Operations.{isBadSetting};
 ghost use Rattle.netlist.specs.declared.Refusal.the-variants.{BadSetting};
 ghost use Rattle.netlist.specs.Answers.{testOf};
-ghost use Rattle.simulate.specs.Tests.{codeByte};
+ghost use Rattle.simulate.specs.Tests.{atMost, isBadBytes};
 
-// Is no byte above 2?
-fn has_codes(setting: &[u8]) -> bool
-    ensures { λ r. ⌜ r ≡ all codeByte (now (setting .entry)) ⌝ }
+// The highest byte of a setting: undefined.
+const MOST: u8 = 2;
+
+// Is no byte above `most`?
+fn none_above(bytes: &[u8], most: u8) -> bool
+    ensures { λ r. ⌜ r ≡ all (atMost most) (now (bytes .entry)) ⌝ }
 {
     let mut i = 0;
-    while i < setting.len() {
-        if 2 < setting[i] {
+    while i < bytes.len() {
+        if most < bytes[i] {
             return false;
         }
         i += 1;
@@ -25,12 +28,19 @@ fn has_codes(setting: &[u8]) -> bool
     true
 }
 
-// Refusal 7: one byte for each input, and none above 2?
+// Refusal 7: one byte for each of n inputs, and none above `most`?
+pub fn test_bytes(n: usize, most: u8, setting: &[u8]) -> Test
+    ensures { λ r. ⌜ r ≡ testOf (isBadBytes n most (now (setting .entry))) BadSetting ⌝ }
+{
+    if setting.len() != n {
+        return Test::Failed(Refusal::BadSetting);
+    }
+    refuse_if(!none_above(setting, most), Refusal::BadSetting)
+}
+
+// The same of a block's inputs, each 0, 1 or undefined.
 pub fn test_setting(words: &[u16], setting: &[u8]) -> Test
     ensures { λ r. ⌜ r ≡ testOf (isBadSetting (decode (now (words .entry))) (now (setting .entry))) BadSetting ⌝ }
 {
-    if setting.len() != inputs_of(words) {
-        return Test::Failed(Refusal::BadSetting);
-    }
-    refuse_if(!has_codes(setting), Refusal::BadSetting)
+    test_bytes(inputs_of(words), MOST, setting)
 }

@@ -1,7 +1,7 @@
 //! The comparisons on fresh seeds, for some minutes.
 
-use simulator::compare::seeded;
 use simulator::compare::tally::Tally;
+use simulator::compare::{cells, seeded};
 use simulator::generate::Size;
 use std::env;
 use std::ops::Range;
@@ -36,7 +36,7 @@ const fn kind(name: &'static str, every: u64, compare: fn(Range<u64>)) -> Kind {
     }
 }
 
-const KINDS: [Kind; 19] = [
+const KINDS: &[Kind] = &[
     kind("small blocks", 1, |s| seeded::blocks(s, Size::SMALL)),
     kind("middle blocks", 101, |s| seeded::blocks(s, Size::MIDDLE)),
     kind("large blocks", 2_001, |s| seeded::blocks(s, Size::LARGE)),
@@ -76,6 +76,15 @@ const KINDS: [Kind; 19] = [
     kind("texts near a limit", 51, seeded::texts_near_a_limit),
     kind("longest texts", 301, seeded::longest_texts),
     kind("texts by line", 11, seeded::lines),
+    kind("cells of small blocks", 1, |s| {
+        cells::blocks(s, Size::SMALL)
+    }),
+    kind("cells of middle blocks", 101, |s| {
+        cells::blocks(s, Size::MIDDLE)
+    }),
+    kind("cells of malformed blocks", 11, cells::malformed_words),
+    kind("foreign cells", 1, |s| cells::foreign(s, 40)),
+    kind("malformed cells", 11, cells::malformed_runs),
 ];
 
 fn main() -> ExitCode {

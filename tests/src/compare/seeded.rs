@@ -1,6 +1,8 @@
 //! Comparisons on generated input of one kind, for each of some seeds.
 
-use super::{compare_block, compare_brought, compare_lines, compare_text, compare_written};
+use super::{
+    compare_block, compare_brought, compare_lines, compare_text, compare_written, mangled,
+};
 use crate::answer::NOT_SETTLED;
 use crate::block::Block;
 use crate::cover::entries;
@@ -48,20 +50,6 @@ pub fn mangled_words(seeds: Range<u64>) {
         let _report = Report(|| format!("mangled {words:?}"));
         compare_block(random, &words);
     });
-}
-
-fn mangled(random: &mut Random, words: &[u16]) -> Vec<u16> {
-    let mut words = words.to_vec();
-    for _ in 0..random.between(1, 2) {
-        let place = random.below(words.len());
-        words[place] = match random.below(4) {
-            0 => random.below(65_536) as u16,
-            1 => random.below(40) as u16,
-            2 => words[place].wrapping_add(1),
-            _ => words[place].wrapping_sub(1),
-        };
-    }
-    words
 }
 
 /// Blocks as they were stored before there were never lines, brought over: each in every operation, and again answer by answer by what held

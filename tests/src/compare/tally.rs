@@ -16,6 +16,10 @@ pub struct Tally {
     pub all_excluded: usize,
     /// Lists of words in Bring.
     pub brought: usize,
+    /// Lists of words in Cells.
+    pub made: usize,
+    /// Lists of words and settings in Run.
+    pub runs: usize,
     /// Settings, each with a list of words in Settle and Pass.
     pub settings: usize,
     /// Texts in Read.
@@ -33,6 +37,8 @@ thread_local! {
             lines: [0; NEVERS + 1],
             all_excluded: 0,
             brought: 0,
+            made: 0,
+            runs: 0,
             settings: 0,
             texts: 0,
             places: 0,
@@ -62,6 +68,8 @@ impl Display for Tally {
             lines,
             all_excluded,
             brought,
+            made,
+            runs,
             settings,
             texts,
             places,
@@ -73,6 +81,7 @@ impl Display for Tally {
             f,
             "{all_excluded} with every setting excluded, {brought} in Bring, "
         )?;
+        write!(f, "{made} in Cells, {runs} in Run, ")?;
         write!(f, "{texts} texts, {places} places of lines, ")?;
         write!(f, "answers by number {answered:?}")
     }

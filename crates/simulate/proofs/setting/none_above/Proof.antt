@@ -1,4 +1,4 @@
--- `simulate::setting::has_codes` meets its contract. The loop's invariant: no byte passed is above 2. Assumes nothing.
+-- `simulate::setting::none_above` meets its contract. The loop's invariant: no byte passed is above `most`. Assumes nothing.
 use mathlib.Core.Path.{_≡_, sym, _∙_}
 use mathlib.Core.Bool.{true, false, true≢false}
 use Prim.Native.Nat.{ℕ, _≤_, _<_, _-_}
@@ -10,15 +10,15 @@ use borrow.Author.Tests.{le-leb, lt-leb}
 use Rattle.laws.specs.Lists.{all}
 use Rattle.laws.proofs.Tests.{not-true-false}
 use Rattle.laws.proofs.Quantifiers.{all-at, all-from}
-use Rattle.simulate.specs.Tests.{codeByte}
-use Rattle.simulate.proofs.setting.has_codes.Statement.{statement}
-use Rattle.simulate.proofs.setting.has_codes.Tie as tie
+use Rattle.simulate.specs.Tests.{atMost}
+use Rattle.simulate.proofs.setting.none_above.Statement.{statement}
+use Rattle.simulate.proofs.setting.none_above.Tie as tie
 
 abbrev Inv-loop : tie.InvT-loop
-Inv-loop setting i₀ i = (i ≤ length setting) × ((k : ℕ) → k < i → codeByte (getD setting k 0) ≡ true)
+Inv-loop bytes most i₀ i = (i ≤ length bytes) × ((k : ℕ) → k < i → atMost most (getD bytes k 0) ≡ true)
 
 abbrev μ-loop : tie.MeasureT-loop
-μ-loop setting i₀ i = length setting - i
+μ-loop bytes most i₀ i = length bytes - i
 
 loop-holds : tie.Need-loop-holds Inv-loop μ-loop
 loop-holds c = (omega arith, λ k h. absurd (omega arith))
@@ -28,9 +28,11 @@ shared-slice-read-if1 c = omega arith
 
 returns : tie.Need-returns Inv-loop μ-loop
 returns c =
-    let s = now (c .before .before .before .before .args .setting) in
+    let a = c .before .before .before .before .args in
+    let s = now (a .bytes) in
     let i = c .before .before .before .loop .i in
-    sym (not-true-false (all codeByte s) (λ h. true≢false (sym (all-at codeByte s i 0 h (omega arith)) ∙ lt-leb (getD s i 0) 2 (c .if1 .taken))))
+    sym (not-true-false (all (atMost (a .most)) s)
+    (λ h. true≢false (sym (all-at (atMost (a .most)) s i 0 h (omega arith)) ∙ lt-leb (getD s i 0) (a .most) (c .if1 .taken))))
 
 add-i : tie.Need-add-i Inv-loop μ-loop
 add-i c = omega arith
@@ -43,11 +45,11 @@ loop-again c = (omega arith, below-more _ _ (c .before .before .before .loop .in
 
 returns-2 : tie.Need-returns-2 Inv-loop μ-loop
 returns-2 c =
-    let s = now (c .before .before .args .setting) in
-    sym (all-from codeByte s 0 (λ k h. c .before .loop .inv .1 k (omega arith)))
+    let a = c .before .before .args in
+    sym (all-from (atMost (a .most)) (now (a .bytes)) 0 (λ k h. c .before .loop .inv .1 k (omega arith)))
 
-pub has-codes-spec : {M : Type 1} → statement M
-has-codes-spec =
+pub none-above-spec : {M : Type 1} → statement M
+none-above-spec =
     tie.close
     (tie.spec
     Inv-loop

@@ -1,0 +1,2 @@
+-- The statement that the board rests on.
+pub mod WholeWay

@@ -1,0 +1,85 @@
+-- `cells::legal::reads_earlier` meets its contract: all operand words passed keep their rule. Assumes nothing.
+use mathlib.Core.Path.{_≡_, refl, sym, _∙_}
+use mathlib.Core.Bool.{true}
+use Prim.Native.Nat.{_≤_, _-_}
+use denote.Ref.{now}
+use borrow.Author.Needs.{needs}
+use Rattle.laws.specs.Lists.{all, upTo}
+use Rattle.block.proofs.TestLaws.{passes, fails, passed}
+use Rattle.cells.proofs.Earlier.{wordRule, word-told, reads-rule}
+use Rattle.cells.proofs.legal.reads_earlier.Statement.{statement}
+use Rattle.cells.proofs.legal.reads_earlier.Tie as tie
+
+abbrev Inv-loop : tie.InvT-loop
+Inv-loop inputs cells j at i₀ i = (i ≤ 4) × (all (wordRule inputs cells j) (upTo i) ≡ true)
+
+abbrev μ-loop : tie.MeasureT-loop
+μ-loop inputs cells j at i₀ i = 4 - i
+
+mul-at : tie.Need-mul-at Inv-loop μ-loop
+mul-at c = search needs
+
+loop-holds : tie.Need-loop-holds Inv-loop μ-loop
+loop-holds c = (search needs, refl)
+
+add-is-operand : tie.Need-add-is-operand Inv-loop μ-loop
+add-is-operand c = search needs
+
+add-word-at : tie.Need-add-word-at Inv-loop μ-loop
+add-word-at c = search needs
+
+word-at-requires : tie.Need-word-at-requires Inv-loop μ-loop
+word-at-requires c κs = search needs
+
+is-operand-requires : tie.Need-is-operand-requires Inv-loop μ-loop
+is-operand-requires c κs = search needs
+
+returns : tie.Need-returns Inv-loop μ-loop
+returns c =
+    let t = c .before in
+    let l = t .before .before .before .loop in
+    let a = t .before .before .before .before .before .args in
+    fails (wordRule (a .inputs) (now (a .cells)) (a .j)) 4 (l .i) (search needs)
+    (word-told (a .inputs) (now (a .cells)) (a .j) (l .i) (t .before .word-at .ensures) (t .is-operand .ensures)) (c .if1 .taken)
+    ∙ sym (reads-rule (a .inputs) (now (a .cells)) (a .j))
+
+add-i : tie.Need-add-i Inv-loop μ-loop
+add-i c = search needs
+
+loop-less : tie.Need-loop-less Inv-loop μ-loop
+loop-less c = search needs
+
+loop-again : tie.Need-loop-again Inv-loop μ-loop
+loop-again c =
+    let t = c .before in
+    let l = t .before .before .before .loop in
+    let a = t .before .before .before .before .before .args in (
+      search needs,
+      passes (wordRule (a .inputs) (now (a .cells)) (a .j)) (l .i) (l .inv .1)
+          (word-told (a .inputs) (now (a .cells)) (a .j) (l .i) (t .before .word-at .ensures) (t .is-operand .ensures)) (c .if1 .left),
+    )
+
+returns-2 : tie.Need-returns-2 Inv-loop μ-loop
+returns-2 c =
+    let a = c .before .before .before .args in
+    let l = c .before .loop in
+    passed (wordRule (a .inputs) (now (a .cells)) (a .j)) 4 (l .i) (l .inv .0) (c .loop-test .left) (l .inv .1)
+    ∙ sym (reads-rule (a .inputs) (now (a .cells)) (a .j))
+
+pub reads-earlier-spec : {M : Type 1} → statement M
+reads-earlier-spec =
+    tie.close
+    (tie.spec
+    Inv-loop
+    μ-loop
+    mul-at
+    loop-holds
+    add-is-operand
+    add-word-at
+    word-at-requires
+    is-operand-requires
+    returns
+    add-i
+    loop-less
+    loop-again
+    returns-2)

@@ -1,0 +1,104 @@
+-- `cells::value::cell_value` meets its contract: the four bits are the digits of the place in the truth word (`cell-value-is`).
+-- Assumes nothing.
+use mathlib.Core.Path.{_≡_}
+use mathlib.Core.List.{List}
+use Prim.Native.Nat.{ℕ, _≤_}
+use denote.Ref.{now}
+use borrow.Author.Needs.{needs}
+use native.Mathlib.Omega.{arith}
+use Rattle.netlist.specs.Netlist.{Operand}
+use Rattle.netlist.specs.Cells.{operandBit}
+use Rattle.cells.specs.Runs.{ReadsBits}
+use Rattle.cells.proofs.Agree.{operand-most}
+use Rattle.cells.proofs.Running.{cell-value-is}
+use Rattle.cells.proofs.value.cell_value.Statement.{statement}
+use Rattle.cells.proofs.value.cell_value.Tie as tie
+
+abbrev start : tie.After-bit-at → tie.Start
+start c = c .before .before .before .before
+
+few : {r : ℕ} (setting found : List ℕ) (o : Operand) → ReadsBits setting found → r ≡ operandBit setting found o → r ≤ 1
+few setting found o h e = rw e (operand-most setting found (h .ofSetting) (h .ofFound) o)
+
+-- the four bits are at most 1
+bits : (c : tie.After-bit-at4) →
+    (c .before .before .before .bit-at .result ≤ 1)
+    × (c .before .before .bit-at2 .result ≤ 1)
+    × (c .before .bit-at3 .result ≤ 1)
+    × (c .bit-at4 .result ≤ 1)
+bits c =
+    let p = start (c .before .before .before) .pre .1 in (
+      few _ _ _ p (c .before .before .before .bit-at .ensures),
+      few _ _ _ p (c .before .before .bit-at2 .ensures),
+      few _ _ _ p (c .before .bit-at3 .ensures),
+      few _ _ _ p (c .bit-at4 .ensures),
+    )
+
+bit-at-requires : tie.Need-bit-at-requires
+bit-at-requires c κs = search needs
+
+bit-at-requires-2 : tie.Need-bit-at-requires-2
+bit-at-requires-2 c κs = search needs
+
+bit-at-requires-3 : tie.Need-bit-at-requires-3
+bit-at-requires-3 c κs = search needs
+
+bit-at-requires-4 : tie.Need-bit-at-requires-4
+bit-at-requires-4 c κs = search needs
+
+mul-place : tie.Need-mul-place
+mul-place c = let few = bits c in omega arith
+
+add-place : tie.Need-add-place
+add-place c = let few = bits c in omega arith
+
+mul-place-2 : tie.Need-mul-place-2
+mul-place-2 c = let few = bits c in omega arith
+
+add-place-2 : tie.Need-add-place-2
+add-place-2 c = let few = bits c in omega arith
+
+mul-place-3 : tie.Need-mul-place-3
+mul-place-3 c = let few = bits c in omega arith
+
+add-place-3 : tie.Need-add-place-3
+add-place-3 c = let few = bits c in omega arith
+
+add-word-at : tie.Need-add-word-at
+add-word-at c = search needs
+
+word-at-requires : tie.Need-word-at-requires
+word-at-requires c κs = search needs
+
+shr-result : tie.Need-shr-result
+shr-result c = let few = bits (c .before) in omega arith
+
+cast-result : tie.Need-cast-result
+cast-result c = search needs
+
+returns : tie.Need-returns
+returns c =
+    let o = c .before in
+    let a = start (o .before .before .before) .args in
+    cell-value-is (a .n) (now (a .cells)) (a .at) (now (a .setting)) (now (a .found)) (o .before .before .before .bit-at .ensures)
+    (o .before .before .bit-at2 .ensures) (o .before .bit-at3 .ensures) (o .bit-at4 .ensures) (c .word-at .ensures)
+
+pub cell-value-spec : {M : Type 1} → statement M
+cell-value-spec =
+    tie.close
+    (tie.spec
+    bit-at-requires
+    bit-at-requires-2
+    bit-at-requires-3
+    bit-at-requires-4
+    mul-place
+    add-place
+    mul-place-2
+    add-place-2
+    mul-place-3
+    add-place-3
+    add-word-at
+    word-at-requires
+    shr-result
+    cast-result
+    returns)
