@@ -6,7 +6,8 @@
 --   gathered-settled, gathered-rounds, scattered-settled the settled values move with their gates
 --   gathered-outputs                                     the outputs show the same under every setting
 --   gathered-sameGroup                                   the groups are the same sets
---   straight-order, straight-gathered                    a straight block stays as it is, with the list 0, 1, 2, ..
+--   ordered-gathered                                     a block whose list is 0, 1, 2, .. stays as it is
+--   straight-order, straight-gathered                    and a straight block's list is that
 -- Assumes nothing.
 use Prim.Native.Nat.{ℕ, _+_, _*_, _<_}
 use native.Mathlib.Nat.{one-mul}
@@ -127,20 +128,24 @@ module _ (b : Block) (fits : isWellFormed b ≡ true) where
   unfolding gathered
   gathered-sameGroup = sameGroup-kept b (wellFormed-inside b fits) (gatheredOrder b) (placeIn (gatheredOrder b)) by-group
 
-  -- ---- a straight block
+  -- ---- gates that are in order
 
-  module _ (straight : isStraight b ≡ true) where
-    pub straight-order : gatheredOrder b ≡ upTo (gateCount b)
-    unfolding gatheredOrder
-    straight-order = ap joined (straight-groups b straight) ∙ joined-ones (gateCount b)
-
+  -- where the list is 0, 1, 2, .. the block stays as it is
+  module _ (listed : gatheredOrder b ≡ upTo (gateCount b)) where
     kept : (t : ℕ) → t < gateCount b → numberAt (gatheredOrder b) t ≡ t
     unfolding numberAt
-    kept t l = rw straight-order (getD-tab (λ k. k) (gateCount b) t 0 l)
+    kept t l = rw listed (getD-tab (λ k. k) (gateCount b) t 0 l)
 
-    -- it stays as it is
-    pub straight-gathered : gathered b ≡ b
+    pub ordered-gathered : gathered b ≡ b
     unfolding gathered
-    straight-gathered =
+    ordered-gathered =
         arranged-itself b fits (gatheredOrder b) (placeIn (gatheredOrder b)) (by-group .lengthIs) kept
         (λ j l. ap (placeIn (gatheredOrder b)) (sym (kept j l)) ∙ by-group .newOfOld j l)
+
+  -- as that of a straight one is
+  pub straight-order : isStraight b ≡ true → gatheredOrder b ≡ upTo (gateCount b)
+  unfolding gatheredOrder
+  straight-order straight = ap joined (straight-groups b straight) ∙ joined-ones (gateCount b)
+
+  pub straight-gathered : isStraight b ≡ true → gathered b ≡ b
+  straight-gathered straight = ordered-gathered (straight-order straight)
