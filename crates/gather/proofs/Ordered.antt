@@ -1,8 +1,8 @@
 -- What is written is the definition's block: with the list by groups and the places in it Gather's, with the places in a list and the list Scatter's.
 -- Cited by `steps`. Assumes nothing.
---   listed-by-group                           what `list_groups` leaves is the list by groups
---   gathered-orders, gathered-arrangement     that list and its places are in order, and arrange the gathered block
---   scattered-orders, scattered-arrangement   the places in a list that is each number once, and the list, arrange the scattered block
+--   listed-by-group                       what `list_groups` leaves is the list by groups
+--   gathered-orders, gathered-written     that list and its places are in order, and what is written by them is the gathered block
+--   scattered-orders, scattered-written   the same of the places in a list that is each number once, and the list
 use Prim.Native.Nat.{ℕ, _≤_, _<_}
 use mathlib.Core.Path.{_≡_, sym, ap, _∙_}
 use mathlib.Core.Bool.{Bool, true, false}
@@ -12,9 +12,9 @@ use lib.ListN.{length, getD, take}
 use lib.Seq.{ext-getD, getD-take, length-take-le}
 use Rattle.laws.specs.Lists.{placed}
 use Rattle.laws.proofs.Slices.{take-placed, placed-room}
-use Rattle.netlist.specs.Netlist.{Block, gateCount}
+use Rattle.netlist.specs.Netlist.{gateCount}
 use Rattle.netlist.specs.StoredBlock.{encode, decode, isTorn, isWellFormed}
-use Rattle.netlist.specs.Gather.{arranged, numberAt, placeIn, gatheredOrder, gathered, isPermutation, inverse, scattered}
+use Rattle.netlist.specs.Gather.{arranged, numberAt, placeIn, gatheredOrder, gathered, gatheredWords, isPermutation, inverse, scattered}
 use Rattle.encoding.proofs.Decoded.{decode-gateCount}
 use Rattle.encoding.proofs.RoundTrip.{whole-wellFormed}
 use Rattle.schedule.specs.Listing.{membersOf, Numbers, Appended}
@@ -28,10 +28,6 @@ use Rattle.permute.proofs.Words.{gathered-listed}
 use Rattle.gather.specs.Places.{Places}
 use Rattle.gather.proofs.Written.{ordered-as}
 use Rattle.gather.specs.Arranging.{arrangement}
-
--- the words of a block are those of an equal one
-pub written-as : {b c : Block} (entry : List ℕ) {exit : List ℕ} → exit ≡ placed (encode b) entry → b ≡ c → exit ≡ placed (encode c) entry
-written-as entry e is = rw (← is) e
 
 module _ (ws : List ℕ) (whole : isTorn ws ≡ false) (m : ℕ) (gatesAre : m ≡ getD ws 1 0) where
   fits : isWellFormed (decode ws) ≡ true
@@ -78,7 +74,7 @@ module _ (ws : List ℕ) (whole : isTorn ws ≡ false) (m : ℕ) (gatesAre : m �
       ordered-as (sym gatesAre) (record { listed = room; inside = λ j l. rw (stand j l) (by-group .newBelow j l) }),
     )
 
-    pub gathered-arrangement : arrangement ws order places ≡ gathered (decode ws)
+    gathered-arrangement : arrangement ws order places ≡ gathered (decode ws)
     unfolding arrangement gathered numberAt
     gathered-arrangement =
         rw (← gatesAre, taken)
@@ -87,6 +83,11 @@ module _ (ws : List ℕ) (whole : isTorn ws ≡ false) (m : ℕ) (gatesAre : m �
       where
         agree : (j : ℕ) → j < gateCount (decode ws) → numberAt places j ≡ placeIn (gatheredOrder (decode ws)) j
         agree j l = stand j (rw (← counted) l)
+
+    pub gathered-written : (entry′ exit : List ℕ) → exit ≡ placed (encode (arrangement ws order places)) entry′
+        → exit ≡ placed (gatheredWords (decode ws)) entry′
+    unfolding gatheredWords
+    gathered-written entry′ exit e = rw (← gathered-arrangement) e
 
   -- ---- back
 
@@ -103,7 +104,7 @@ module _ (ws : List ℕ) (whole : isTorn ws ≡ false) (m : ℕ) (gatesAre : m �
           ordered-as (sym gatesAre) (record { listed = omega (arith, out .lengthIs); inside = out .oldBelow }),
         )
 
-    pub scattered-arrangement : arrangement ws places order ≡ scattered order (decode ws)
+    scattered-arrangement : arrangement ws places order ≡ scattered order (decode ws)
     unfolding arrangement scattered numberAt
     scattered-arrangement =
         rw (← gatesAre)
@@ -111,3 +112,7 @@ module _ (ws : List ℕ) (whole : isTorn ws ≡ false) (m : ℕ) (gatesAre : m �
         (ext-getD 0 (take m places) (inverse order) (length-take-le m places room ∙ sym (back .lengthIs))
         (λ j l. let l′ : j < m = rw (length-take-le m places room) at l in
         getD-take m places j 0 l′ ∙ found .stand passes j l′ ∙ sym (inverse-at m order passes j l′))))
+
+    pub scattered-written : (entry exit : List ℕ) → exit ≡ placed (encode (arrangement ws places order)) entry
+        → exit ≡ placed (encode (scattered order (decode ws))) entry
+    scattered-written entry exit e = rw (← scattered-arrangement) e

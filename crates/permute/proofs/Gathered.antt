@@ -1,11 +1,13 @@
 -- Gather and Scatter (SPECIFICATION 7.17, 7.18): the laws of arranged gates, for the order by groups and for any list that is each number once.
---   gathered-permutation                                 the list by groups is each gate number once
+--   out, back, by-group                                  a list that is each gate number once, both ways, and the list by groups
+--   gathered-permutation                                 which is each gate number once
 --   gathered-back, scattered-out                         each undoes the other, every part of the block
 --   gathered-wellFormed, scattered-wellFormed            what is made is a block
 --   gathered-settled, gathered-rounds, scattered-settled the settled values move with their gates
 --   gathered-outputs                                     the outputs show the same under every setting
 --   gathered-sameGroup                                   the groups are the same sets
---   straight-order, straight-gathered                    a straight block stays as it is, with the list 0, 1, 2, ..
+--   ordered-gathered                                     a block whose list is 0, 1, 2, .. stays as it is
+--   straight-order, straight-gathered                    and a straight block's list is that
 -- Assumes nothing.
 use Prim.Native.Nat.{ℕ, _+_, _*_, _<_}
 use native.Mathlib.Nat.{one-mul}
@@ -22,8 +24,7 @@ use Rattle.encoding.proofs.ListFacts.{joined-tab}
 use Rattle.netlist.specs.Values.{Value, undefined}
 use Rattle.netlist.specs.Netlist.{Block, gateCount}
 use Rattle.netlist.specs.StoredBlock.{isWellFormed}
-use Rattle.netlist.specs.Rounds.{rounds, settled, outputsUnder, settledSettings, lowestUnsettled}
-use Rattle.netlist.specs.Cover.{cover}
+use Rattle.netlist.specs.Rounds.{rounds, settled, outputsUnder}
 use Rattle.netlist.specs.Groups.{groups, sameGroup}
 use Rattle.netlist.specs.Rendering.{isStraight}
 use Rattle.netlist.specs.Gather.{arranged, numberAt, placeIn, gatheredOrder, gathered, isPermutation, inverse, scattered}
@@ -33,7 +34,7 @@ use Rattle.reach.proofs.Straight.{straight-groups}
 use Rattle.permute.specs.Renumbering.{Renumbers}
 use Rattle.permute.proofs.Permutation.{place-renumbers, inverse-at, inverse-renumbers}
 use Rattle.permute.proofs.Arranged.{arranged-count, arranged-back, arranged-itself, arranged-wellFormed}
-use Rattle.permute.proofs.Values.{settled-at, rounds-kept, outputs-kept, settledSettings-kept, lowestUnsettled-kept, cover-kept}
+use Rattle.permute.proofs.Values.{settled-at, rounds-kept, outputs-kept}
 use Rattle.permute.proofs.Groups.{sameGroup-kept}
 use borrow.Author.Tests.{eq-eqb}
 use lib.Dec.{eqb}
@@ -50,10 +51,10 @@ module _ (b : Block) (fits : isWellFormed b ≡ true) where
   -- ---- any list that is each gate number once
 
   module _ (order : List ℕ) (h : isPermutation (gateCount b) order ≡ true) where
-    out : Renumbers (gateCount b) order (placeIn order)
+    pub out : Renumbers (gateCount b) order (placeIn order)
     out = place-renumbers (gateCount b) order h
 
-    back : Renumbers (gateCount b) (inverse order) (numberAt order)
+    pub back : Renumbers (gateCount b) (inverse order) (numberAt order)
     back = inverse-renumbers (gateCount b) order h
 
     -- back after out is the block,
@@ -90,7 +91,7 @@ module _ (b : Block) (fits : isWellFormed b ≡ true) where
       (eq-eqb (length (joined (groups b))) (gateCount b) (length-joined-groups b (wellFormed-inside b fits)))
       (below-all _ (gateCount b) (groups-all b (wellFormed-inside b fits)))
 
-  by-group : Renumbers (gateCount b) (gatheredOrder b) (placeIn (gatheredOrder b))
+  pub by-group : Renumbers (gateCount b) (gatheredOrder b) (placeIn (gatheredOrder b))
   by-group = out (gatheredOrder b) gathered-permutation
 
   pub gathered-wellFormed : isWellFormed (gathered b) ≡ true
@@ -116,22 +117,10 @@ module _ (b : Block) (fits : isWellFormed b ≡ true) where
   unfolding gathered
   gathered-rounds = rounds-kept b fits (gatheredOrder b) (placeIn (gatheredOrder b)) by-group
 
-  -- Verdict and Cover find the same, and so do the outputs
+  -- the outputs show the same under every setting
   pub gathered-outputs : (s : ℕ) → outputsUnder (gathered b) s ≡ outputsUnder b s
   unfolding gathered
   gathered-outputs = outputs-kept b fits (gatheredOrder b) (placeIn (gatheredOrder b)) by-group
-
-  pub gathered-settledSettings : settledSettings (gathered b) ≡ settledSettings b
-  unfolding gathered
-  gathered-settledSettings = settledSettings-kept b fits (gatheredOrder b) (placeIn (gatheredOrder b)) by-group
-
-  pub gathered-lowestUnsettled : lowestUnsettled (gathered b) ≡ lowestUnsettled b
-  unfolding gathered
-  gathered-lowestUnsettled = lowestUnsettled-kept b fits (gatheredOrder b) (placeIn (gatheredOrder b)) by-group
-
-  pub gathered-cover : cover (gathered b) ≡ cover b
-  unfolding gathered
-  gathered-cover = cover-kept b fits (gatheredOrder b) (placeIn (gatheredOrder b)) by-group
 
   -- the groups are the same sets
   pub gathered-sameGroup : (t u : ℕ) → t < gateCount b → u < gateCount b
@@ -139,20 +128,24 @@ module _ (b : Block) (fits : isWellFormed b ≡ true) where
   unfolding gathered
   gathered-sameGroup = sameGroup-kept b (wellFormed-inside b fits) (gatheredOrder b) (placeIn (gatheredOrder b)) by-group
 
-  -- ---- a straight block
+  -- ---- gates that are in order
 
-  module _ (straight : isStraight b ≡ true) where
-    pub straight-order : gatheredOrder b ≡ upTo (gateCount b)
-    unfolding gatheredOrder
-    straight-order = ap joined (straight-groups b straight) ∙ joined-ones (gateCount b)
-
+  -- where the list is 0, 1, 2, .. the block stays as it is
+  module _ (listed : gatheredOrder b ≡ upTo (gateCount b)) where
     kept : (t : ℕ) → t < gateCount b → numberAt (gatheredOrder b) t ≡ t
     unfolding numberAt
-    kept t l = rw straight-order (getD-tab (λ k. k) (gateCount b) t 0 l)
+    kept t l = rw listed (getD-tab (λ k. k) (gateCount b) t 0 l)
 
-    -- it stays as it is
-    pub straight-gathered : gathered b ≡ b
+    pub ordered-gathered : gathered b ≡ b
     unfolding gathered
-    straight-gathered =
+    ordered-gathered =
         arranged-itself b fits (gatheredOrder b) (placeIn (gatheredOrder b)) (by-group .lengthIs) kept
         (λ j l. ap (placeIn (gatheredOrder b)) (sym (kept j l)) ∙ by-group .newOfOld j l)
+
+  -- as that of a straight one is
+  pub straight-order : isStraight b ≡ true → gatheredOrder b ≡ upTo (gateCount b)
+  unfolding gatheredOrder
+  straight-order straight = ap joined (straight-groups b straight) ∙ joined-ones (gateCount b)
+
+  pub straight-gathered : isStraight b ≡ true → gathered b ≡ b
+  straight-gathered straight = ordered-gathered (straight-order straight)

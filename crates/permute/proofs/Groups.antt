@@ -33,13 +33,13 @@ gates-renumbered number (o ∷ os) =
     ap₂ {C = List ℕ} (λ (xs ys : List ℕ). xs ++ ys) (operand-gates number o) (gates-renumbered number os)
     ∙ sym (map-append number (gateOperand o) (joined (map gateOperand os)))
 
-member-map : (f : ℕ → ℕ) (x : ℕ) (xs : List ℕ) → member x (map f xs) ≡ true → (y : ℕ) × (member y xs ≡ true) × (x ≡ f y)
+pub member-map : (f : ℕ → ℕ) (x : ℕ) (xs : List ℕ) → member x (map f xs) ≡ true → (y : ℕ) × (member y xs ≡ true) × (x ≡ f y)
 member-map f x xs h =
     let (i, l, e) = member-at x (map f xs) h in
     let l′ : i < length xs = rw (length-map xs f) at l in
     (getD xs i 0, member-from (getD xs i 0) xs i l′ refl, sym e ∙ getD-map f xs i 0 0 l′)
 
-map-member : (f : ℕ → ℕ) (y : ℕ) (xs : List ℕ) → member y xs ≡ true → member (f y) (map f xs) ≡ true
+pub map-member : (f : ℕ → ℕ) (y : ℕ) (xs : List ℕ) → member y xs ≡ true → member (f y) (map f xs) ≡ true
 map-member f y xs h =
     let (i, l, e) = member-at y xs h in
     member-from (f y) (map f xs) i (rw (length-map xs f) l) (getD-map f xs i 0 0 l ∙ ap f e)
@@ -58,7 +58,7 @@ module _ (b : Block) (inside : Inside b) (order : List ℕ) (number : ℕ → �
   below-kept t l = rw (arranged-count order number b, r .lengthIs) at l
 
   -- forth
-  reads-old : (t u : ℕ) → reads c t u ≡ true → reads b (numberAt order t) (numberAt order u) ≡ true
+  pub reads-old : (t u : ℕ) → reads c t u ≡ true → reads b (numberAt order t) (numberAt order u) ≡ true
   unfolding reads
   reads-old t u h =
       let l : t < gateCount b = below-kept t (reads-below c t u h) in

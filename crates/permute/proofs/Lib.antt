@@ -6,3 +6,4 @@ pub mod Groups
 pub mod Gathered
 pub mod Words
 pub mod Together
+pub mod Again

@@ -1,10 +1,11 @@
 -- Gather and Scatter on stored words: what is written is a block, back after out gives every word, and Verdict and Cover answer the same. The
 -- operations are those of netlist/specs.
---   gathered-whole, scattered-whole   what is made is not torn
---   gathered-length, scattered-length it has as many words; gathered-listed: the list has a word for each gate
---   gather-scatter                    Scatter of what Gather leaves in its two slices gives the words that were gathered
---   gathered-verdict, gathered-coverOf   Verdict and Cover of the gathered words are those of the words
---   straight-words                    a straight block keeps its words
+--   gathered-whole, scattered-whole         what is made is not torn
+--   gathered-length, scattered-length       it has as many words; gathered-listed: the list has a word for each gate
+--   gathered-verdict, scattered-verdict     Verdict of it is that of the words
+--   gathered-coverOf, scattered-coverOf     and so is Cover
+--   gather-scatter                          Scatter of what Gather leaves in its two slices gives the words that were gathered
+--   straight-words                          a straight block keeps its words
 -- Assumes nothing.
 use Prim.Native.Nat.{ℕ, _+_, _*_, _≤_}
 use mathlib.Core.Path.{_≡_, refl, ap, ap₂, _∙_}
@@ -21,10 +22,10 @@ use Rattle.netlist.specs.Operations.{counted, verdict, coverBlock, coverOf}
 use Rattle.netlist.specs.Gather.{arranged, gatheredOrder, gathered, gatheredWords, isPermutation, inverse, numberAt, placeIn, scattered, scatter}
 use Rattle.encoding.proofs.Encoded.{length-encode}
 use Rattle.encoding.proofs.RoundTrip.{decode-encode, whole-encode, whole-wellFormed, encode-whole}
-use Rattle.permute.proofs.Arranged.{arranged-inputs, arranged-nevers, arranged-count, arranged-outputCount}
-use Rattle.permute.proofs.Permutation.{permutation-each, inverse-renumbers}
-use Rattle.permute.proofs.Gathered.{gathered-permutation, gathered-count, gathered-back, gathered-wellFormed, scattered-wellFormed}
-use Rattle.permute.proofs.Gathered.{gathered-settledSettings, gathered-lowestUnsettled, gathered-cover, straight-gathered}
+use Rattle.permute.specs.Renumbering.{Renumbers}
+use Rattle.permute.proofs.Arranged.{arranged-wellFormed, arranged-inputs, arranged-nevers, arranged-count, arranged-outputCount}
+use Rattle.permute.proofs.Values.{settledSettings-kept, lowestUnsettled-kept, cover-kept}
+use Rattle.permute.proofs.Gathered.{back, by-group, gathered-permutation, gathered-count, gathered-back, straight-gathered}
 
 -- a block of the same counts has as many words
 pub arranged-length : (order : List ℕ) (number : ℕ → ℕ) (b : Block) → length order ≡ gateCount b → length (encode (arranged order number b)) ≡ length (encode b)
@@ -37,23 +38,66 @@ module _ (ws : List ℕ) (whole : isTorn ws ≡ false) where
   fits : isWellFormed (decode ws) ≡ true
   fits = whole-wellFormed ws whole
 
-  -- ---- out
+  -- ---- gates in any order
+
+  module _ (order : List ℕ) (number : ℕ → ℕ) (r : Renumbers (gateCount (decode ws)) order number) where
+    made-whole : isTorn (encode (arranged order number (decode ws))) ≡ false
+    made-whole = encode-whole (arranged order number (decode ws)) (arranged-wellFormed (decode ws) fits order number r)
+
+    made-decode : decode (encode (arranged order number (decode ws))) ≡ arranged order number (decode ws)
+    made-decode = decode-encode (arranged order number (decode ws)) (arranged-wellFormed (decode ws) fits order number r)
+
+    made-length : length (encode (arranged order number (decode ws))) ≡ length ws
+    made-length = arranged-length order number (decode ws) (r .lengthIs) ∙ ap {B = ℕ} length (whole-encode ws whole)
+
+    made-verdict : verdict (encode (arranged order number (decode ws))) ≡ verdict ws
+    unfolding verdict
+    made-verdict =
+        rw (
+          made-whole,
+          whole,
+          made-decode,
+          settledSettings-kept (decode ws) fits order number r,
+          lowestUnsettled-kept (decode ws) fits order number r,
+        )
+        refl
+
+    made-coverOf : (room : ℕ) → coverOf (encode (arranged order number (decode ws))) room ≡ coverOf ws room
+    unfolding coverOf coverBlock coverEntries
+    made-coverOf room = rw (made-whole, whole, made-decode, cover-kept (decode ws) fits order number r) refl
+
+  -- ---- out, by groups
+
+  grouped : Renumbers (gateCount (decode ws)) (gatheredOrder (decode ws)) (placeIn (gatheredOrder (decode ws)))
+  grouped = by-group (decode ws) fits
 
   pub gathered-whole : isTorn (gatheredWords (decode ws)) ≡ false
-  unfolding gatheredWords
-  gathered-whole = encode-whole (gathered (decode ws)) (gathered-wellFormed (decode ws) fits)
+  unfolding gatheredWords gathered
+  gathered-whole = made-whole _ _ grouped
 
   gathered-decode : decode (gatheredWords (decode ws)) ≡ gathered (decode ws)
-  unfolding gatheredWords
-  gathered-decode = decode-encode (gathered (decode ws)) (gathered-wellFormed (decode ws) fits)
+  unfolding gatheredWords gathered
+  gathered-decode = made-decode _ _ grouped
 
   pub gathered-listed : length (gatheredOrder (decode ws)) ≡ gateCount (decode ws)
-  gathered-listed = permutation-each (gateCount (decode ws)) (gatheredOrder (decode ws)) (gathered-permutation (decode ws) fits) .lengthIs
+  gathered-listed = grouped .lengthIs
 
   pub gathered-length : length (gatheredWords (decode ws)) ≡ length ws
   unfolding gatheredWords gathered
-  gathered-length =
-      arranged-length (gatheredOrder (decode ws)) (placeIn (gatheredOrder (decode ws))) (decode ws) gathered-listed ∙ ap {B = ℕ} length (whole-encode ws whole)
+  gathered-length = made-length _ _ grouped
+
+  pub gathered-verdict : verdict (gatheredWords (decode ws)) ≡ verdict ws
+  unfolding gatheredWords gathered
+  gathered-verdict = made-verdict _ _ grouped
+
+  pub gathered-coverOf : (room : ℕ) → coverOf (gatheredWords (decode ws)) room ≡ coverOf ws room
+  unfolding gatheredWords gathered
+  gathered-coverOf = made-coverOf _ _ grouped
+
+  -- a straight block keeps its words
+  pub straight-words : isStraight (decode ws) ≡ true → gatheredWords (decode ws) ≡ ws
+  unfolding gatheredWords
+  straight-words straight = rw (straight-gathered (decode ws) fits straight) (whole-encode ws whole)
 
   -- ---- back
 
@@ -72,31 +116,22 @@ module _ (ws : List ℕ) (whole : isTorn ws ≡ false) where
       )
       refl
 
-  -- ---- Verdict and Cover
-
-  pub gathered-verdict : verdict (gatheredWords (decode ws)) ≡ verdict ws
-  unfolding verdict
-  gathered-verdict =
-      rw (gathered-whole, whole, gathered-decode, gathered-settledSettings (decode ws) fits, gathered-lowestUnsettled (decode ws) fits) refl
-
-  pub gathered-coverOf : (room : ℕ) → coverOf (gatheredWords (decode ws)) room ≡ coverOf ws room
-  unfolding coverOf coverBlock coverEntries
-  gathered-coverOf room = rw (gathered-whole, whole, gathered-decode, gathered-cover (decode ws) fits) refl
-
-  -- ---- a straight block
-
-  pub straight-words : isStraight (decode ws) ≡ true → gatheredWords (decode ws) ≡ ws
-  unfolding gatheredWords
-  straight-words straight = rw (straight-gathered (decode ws) fits straight) (whole-encode ws whole)
-
-  -- ---- a list that is each number once
-
   module _ (order : List ℕ) (h : isPermutation (gateCount (decode ws)) order ≡ true) where
+    listed : Renumbers (gateCount (decode ws)) (inverse order) (numberAt order)
+    listed = back (decode ws) fits order h
+
     pub scattered-whole : isTorn (encode (scattered order (decode ws))) ≡ false
-    scattered-whole = encode-whole (scattered order (decode ws)) (scattered-wellFormed (decode ws) fits order h)
+    unfolding scattered
+    scattered-whole = made-whole _ _ listed
 
     pub scattered-length : length (encode (scattered order (decode ws))) ≡ length ws
     unfolding scattered
-    scattered-length =
-        arranged-length (inverse order) (numberAt order) (decode ws) (inverse-renumbers (gateCount (decode ws)) order h .lengthIs)
-        ∙ ap {B = ℕ} length (whole-encode ws whole)
+    scattered-length = made-length _ _ listed
+
+    pub scattered-verdict : verdict (encode (scattered order (decode ws))) ≡ verdict ws
+    unfolding scattered
+    scattered-verdict = made-verdict _ _ listed
+
+    pub scattered-coverOf : (room : ℕ) → coverOf (encode (scattered order (decode ws))) room ≡ coverOf ws room
+    unfolding scattered
+    scattered-coverOf = made-coverOf _ _ listed

@@ -10,7 +10,7 @@ use Rattle.netlist.specs.Gather.{isPermutation}
 use Rattle.encoding.proofs.Readers.{whole-parts}
 use Rattle.refusals.proofs.Promised.{passed, passed-false, failed, keeps-room, bare, keeps-bare, finished}
 use Rattle.gather.proofs.Chain.{scatter-order, scatter-room}
-use Rattle.gather.proofs.Ordered.{written-as, scattered-orders, scattered-arrangement}
+use Rattle.gather.proofs.Ordered.{scattered-orders, scattered-written}
 use borrow.Author.Needs.{needs}
 use Rattle.gather.proofs.steps.scatter_with.Statement.{statement}
 use Rattle.gather.proofs.steps.scatter_with.Tie as tie
@@ -134,9 +134,9 @@ returns-3 c =
     (passed bare keeps-bare _ _ NoRoom (scatter-room (now (s .args .words)) _ _ (s .pre .whole) (counting f .gates-of .ensures) (passes (t .before)))
     (t .test-room .ensures) (e .enum-told3 .given .1))
     refl
-    (written-as (s .args .original .now) (w .write-arranged .ensures)
-    (scattered-arrangement (now (s .args .words)) (s .pre .whole) _ (counting f .gates-of .ensures) _ _ (f .find-places .ensures) (passes (t .before))
-    (omega (arith, f .find-places .kept .1 .1 .0, s .pre .placeRoom, counting f .gates-of .ensures))))
+    (scattered-written (now (s .args .words)) (s .pre .whole) _ (counting f .gates-of .ensures) _ _ (f .find-places .ensures) (passes (t .before))
+    (omega (arith, f .find-places .kept .1 .1 .0, s .pre .placeRoom, counting f .gates-of .ensures)) (s .args .original .now) _
+    (w .write-arranged .ensures))
 
 pub scatter-with-spec : {M : Type 1} → statement M
 scatter-with-spec =

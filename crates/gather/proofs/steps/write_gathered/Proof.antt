@@ -7,10 +7,10 @@ use denote.Ref.{now}
 use Rattle.laws.specs.Lists.{placed}
 use Rattle.netlist.specs.Limits.{maxGates}
 use Rattle.netlist.specs.StoredBlock.{decode}
-use Rattle.netlist.specs.Gather.{gatheredWords, gatheredOrder}
+use Rattle.netlist.specs.Gather.{gatheredOrder}
 use Rattle.encoding.proofs.Readers.{whole-parts}
 use Rattle.schedule.proofs.Blocks.{assigned-numbers, count-few}
-use Rattle.gather.proofs.Ordered.{written-as, members-room, listed-by-group, gathered-orders, gathered-arrangement}
+use Rattle.gather.proofs.Ordered.{members-room, listed-by-group, gathered-orders, gathered-written}
 use borrow.Author.Needs.{needs}
 use Rattle.gather.proofs.steps.write_gathered.Statement.{statement}
 use Rattle.gather.proofs.steps.write_gathered.Tie as tie
@@ -109,16 +109,15 @@ same-length-5 : tie.Need-same-length-5
 same-length-5 c = search needs
 
 returns : tie.Need-returns
-unfolding gatheredWords
 returns c =
     let w = c .before .before .before .before in
     let f = w .before .before .before .before .before .before .before in
     let l = listing f in
     let g = counting (numbering l) in
     let s = start g in (
-      written-as (s .args .gathered .now) (w .write-arranged .ensures)
-          (gathered-arrangement (now (s .args .words)) (s .pre .block .whole) _ (g .gates-of .ensures) _ _ _ (listed l) (f .find-places .ensures)
-          (omega (arith, f .find-places .kept .1 .1 .0, s .pre .placeRoom, g .gates-of .ensures))),
+      gathered-written (now (s .args .words)) (s .pre .block .whole) _ (g .gates-of .ensures) _ _ _ (listed l) (f .find-places .ensures)
+          (omega (arith, f .find-places .kept .1 .1 .0, s .pre .placeRoom, g .gates-of .ensures)) (s .args .gathered .now) _
+          (w .write-arranged .ensures),
       listed l,
     )
 
