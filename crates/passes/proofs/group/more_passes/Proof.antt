@@ -13,11 +13,11 @@ use Rattle.passes.proofs.group.more_passes.Statement.{statement}
 use Rattle.passes.proofs.group.more_passes.Tie as tie
 
 abbrev Inv-loop : tie.InvT-loop
-Inv-loop words n gates base group passes total zeros₀ ones₀ settled-zeros settled-ones used size p₀ sum₀ zeros ones p sum =
-    Passing (decode words) n base group passes total zeros₀ ones₀ zeros ones p sum
+Inv-loop words n gates base group passes total zeros₀ ones₀ settled-zeros settled-ones used size needed₀ sum₀ zeros ones needed sum =
+    Passing (decode words) n base group passes total zeros₀ ones₀ zeros ones needed sum
 
 abbrev μ-loop : tie.MeasureT-loop
-μ-loop words n gates base group passes total zeros₀ ones₀ settled-zeros settled-ones used size p₀ sum₀ zeros ones p sum = maxCopies + 1 - sum
+μ-loop words n gates base group passes total zeros₀ ones₀ settled-zeros settled-ones used size needed₀ sum₀ zeros ones needed sum = maxCopies + 1 - sum
 
 -- the function's entry, from the loop's head; and the loop's head, from a comparison
 abbrev start : tie.At-loop Inv-loop μ-loop → tie.Start Inv-loop μ-loop
@@ -55,11 +55,11 @@ pass-requires c κs =
     (start l .pre .batch .evaluable, l .before .used-lanes .ensures, l .loop .inv .passed .held)
 
 -- the passes and the copies fit
-small : (c : tie.After-lacks Inv-loop μ-loop) → head c .loop .p ≤ maxCopies + maxCopies
+small : (c : tie.After-lacks Inv-loop μ-loop) → head c .loop .needed ≤ maxCopies + maxCopies
 small c = let l = head c in sofar-small (start l .pre .batch .sizeSome) (l .loop .inv .soFar)
 
-add-p : tie.Need-add-p Inv-loop μ-loop
-add-p c = omega (arith, small (c .before .before .before .before .before .before .before .before))
+add-needed : tie.Need-add-needed Inv-loop μ-loop
+add-needed c = omega (arith, small (c .before .before .before .before .before .before .before .before))
 
 add-sum : tie.Need-add-sum Inv-loop μ-loop
 add-sum c =
@@ -120,7 +120,7 @@ more-passes-spec =
     loop-holds
     lacks-requires
     pass-requires
-    add-p
+    add-needed
     add-sum
     loop-less
     loop-again
