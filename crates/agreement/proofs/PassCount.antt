@@ -2,7 +2,7 @@
 --   settled-state, state-settled   a group is settled exactly when the whole state is
 --   passes-keep, -from             further passes change nothing then
 --   size-settled, size-enough      as many passes as the group has gates are enough
---   passCount-enough, -most        the number of passes is enough, and at most the group's size
+--   passCount-some, -most, -enough   the number of passes is at least one, at most the group's size, and enough
 --   passCount-least, -one-fewer    every smaller number fails: under a setting that may come, at a gate of the group
 --   passCount-from                 what is enough, when one fewer is not, is the number
 --   passCount-one                  a lone gate needs one pass
@@ -26,7 +26,6 @@ use Rattle.netlist.specs.Values.{Value, undefined, code}
 use Rattle.netlist.specs.Netlist.{Block, inputCount, gateCount}
 use Rattle.netlist.specs.Rounds.{settled, settingOf, settingCount, settledUnder, isExcluded}
 use Rattle.netlist.specs.Groups.{groups}
-use Rattle.netlist.specs.Rendering.{passes}
 use Rattle.netlist.specs.Steps.{run}
 use Rattle.netlist.specs.Passes.{beforePasses, afterPasses, areSettled, areEnough, passCount}
 use Rattle.rounds.specs.Order.{Below, BelowOn, BelowAll, Listed}
@@ -75,6 +74,9 @@ module _ (b : Block) (group : List ℕ) (s : ℕ) where
           let f : getD (settledUnder b s) j undefined ≡ undefined =
           List·getD-eq-default (settledUnder b s) undefined {n = j} (rw (length-settled b (settingOf (inputCount b) s)) l) in
           e ∙ undefined-both (member j group) ∙ ap (cond (member j group) undefined) (sym f)
+
+  pub before-inside : (j : ℕ) → member j group ≡ true → getD (beforePasses b group s) j undefined ≡ undefined
+  before-inside j m = before-at j ∙ rw m refl
 
   pub before-outside : (j : ℕ) → member j group ≡ false → getD (beforePasses b group s) j undefined ≡ getD (settledUnder b s) j undefined
   before-outside j m = before-at j ∙ rw m refl
@@ -194,12 +196,17 @@ module _ (b : Block) (group : List ℕ) where
         notYet = λ e. eqb-false _ _ (g .2) (ap code e);
       }
 
+  -- At least one pass is made.
+  pub passCount-some : 1 ≤ passCount b group
+  unfolding passCount
+  passCount-some = omega arith
+
 -- ---- the block's groups
 
 module _ (b : Block) (t : ℕ) (there : t < length (groups b)) where
   -- As many passes as the group has gates settle it, under every setting.
   pub size-settled : (s : ℕ) → areSettled b (groupAt b t) s (length (groupAt b t)) ≡ true
-  unfolding afterPasses settledUnder passes
+  unfolding afterPasses settledUnder
   size-settled s =
       at-settled b (groupAt b t) s (length (groupAt b t))
       (λ j m. below-antisym (getD (afterPasses b (groupAt b t) s (length (groupAt b t))) j undefined) (getD (settledUnder b s) j undefined)
@@ -228,11 +235,6 @@ module _ (b : Block) (t : ℕ) (there : t < length (groups b)) where
       let l : least searched (length (groupAt b t)) ≤ length (groupAt b t) - 1 =
       least-at-most searched (length (groupAt b t)) (length (groupAt b t) - 1) (rw e size-enough) in
       omega arith
-
-  -- at least one,
-  pub passCount-some : 1 ≤ passCount b (groupAt b t)
-  unfolding passCount
-  passCount-some = omega arith
 
   -- and enough.
   pub passCount-enough : areEnough b (groupAt b t) (passCount b (groupAt b t)) ≡ true
@@ -277,4 +279,4 @@ module _ (b : Block) (t : ℕ) (there : t < length (groups b)) where
 
   -- A lone gate needs one pass.
   pub passCount-one : length (groupAt b t) ≡ 1 → passCount b (groupAt b t) ≡ 1
-  passCount-one e = let l = passCount-most in let k = passCount-some in omega arith
+  passCount-one e = let l = passCount-most in let k = passCount-some b (groupAt b t) in omega arith

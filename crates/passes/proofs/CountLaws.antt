@@ -27,14 +27,14 @@ use Rattle.netlist.specs.Netlist.{Block, gateCount}
 use Rattle.netlist.specs.StoredBlock.{decode}
 use Rattle.netlist.specs.Rounds.{settingCount, isExcluded}
 use Rattle.netlist.specs.Groups.{groups}
-use Rattle.netlist.specs.Passes.{areSettled, areEnough, passCount}
+use Rattle.netlist.specs.Passes.{areSettled, areEnough, passCount, copyCount}
 use Rattle.reach.proofs.Order.{groups-not-empty, groups-below}
 use Rattle.reach.proofs.ListFacts.{sum-at}
 use Rattle.agreement.specs.Copies.{groupAt}
 use Rattle.agreement.proofs.PassCount.{passes-keep-from, at-enough, enough-from, passCount-some, passCount-enough, passCount-from}
 use Rattle.lanes.specs.Batches.{lanesOf}
 use Rattle.passes.specs.declared.Counted.{Counted}
-use Rattle.passes.specs.Counting.{copiesNeeded, Least, GroupBatch, SoFar, GroupCounted, GroupReady, Listing, copiesOf, EnoughBelow, Counting, SameRest, Rooms, BatchHeld, AllCounted}
+use Rattle.passes.specs.Counting.{Least, GroupBatch, SoFar, GroupCounted, GroupReady, Listing, copiesOf, EnoughBelow, Counting, SameRest, Rooms, BatchHeld, AllCounted}
 
 -- ---- sums over the groups
 
@@ -235,7 +235,7 @@ module _ {b : Block} {count : ℕ} {members starts : List ℕ} (listing : Listin
 
 -- no group has more passes than it needs
 least-most : (b : Block) (g : ℕ) (l : g < length (groups b)) (p : ℕ) → Least b (groupAt b g) p → p ≤ passCount b (groupAt b g)
-least-most b g l p h = ⊎-elim (λ e. omega (arith, passCount-some b g l)) more (h .fewer)
+least-most b g l p h = ⊎-elim (λ e. omega (arith, passCount-some b (groupAt b g))) more (h .fewer)
   where
     more : areEnough b (groupAt b g) (p - 1) ≡ false → p ≤ passCount b (groupAt b g)
     more f =
@@ -251,8 +251,8 @@ module _ {b : Block} {count base done next total : ℕ} {passes : List ℕ} (c :
   there : (g : ℕ) → g < count → g < length (groups b)
   there g l = rw (← countIs) l
 
-  needed-copies : copiesNeeded b ≡ sum (tab (λ g. length (groupAt b g) * passCount b (groupAt b g)) count)
-  unfolding copiesNeeded
+  needed-copies : copyCount b ≡ sum (tab (λ g. length (groupAt b g) * passCount b (groupAt b g)) count)
+  unfolding copyCount
   needed-copies = ap sum (groups-tab b (λ g. length g * passCount b g) count countIs)
 
   exact : total ≤ maxCopies → (g : ℕ) → g < count → getD passes g 0 ≡ passCount b (groupAt b g)
@@ -260,21 +260,21 @@ module _ {b : Block} {count base done next total : ℕ} {passes : List ℕ} (c :
       sym (passCount-from b g (there g l) (getD passes g 0) (c .least g l .some)
       (at-enough b (groupAt b g) (getD passes g 0) (λ s m. c .before few g l s (rw (all few) m))) (c .least g l .fewer))
 
-  exact-total : total ≤ maxCopies → total ≡ copiesNeeded b
+  exact-total : total ≤ maxCopies → total ≡ copyCount b
   unfolding copiesOf
   exact-total few =
       c .totalIs ∙ ap sum (tab-ext _ _ count (λ g l. ap (λ (p : ℕ). length (groupAt b g) * p) (exact few g l))) ∙ sym needed-copies
 
-  total-most : total ≤ copiesNeeded b
+  total-most : total ≤ copyCount b
   unfolding copiesOf
   total-most =
       rw (c .totalIs, needed-copies)
       (sum-least (λ g. length (groupAt b g) * getD passes g 0) (λ g. length (groupAt b g) * passCount b (groupAt b g)) count
       (λ g l. mul-le-mul-left (length (groupAt b g)) (least-most b g (there g l) (getD passes g 0) (c .least g l))))
 
-  told : ltb maxCopies total ≡ ltb maxCopies (copiesNeeded b)
+  told : ltb maxCopies total ≡ ltb maxCopies (copyCount b)
   told =
-      ⊎-elim (λ h. rw (lt-ltb maxCopies total h, lt-ltb maxCopies (copiesNeeded b) (omega (arith, total-most)))) (λ h. ap (ltb maxCopies) (exact-total h))
+      ⊎-elim (λ h. rw (lt-ltb maxCopies total h, lt-ltb maxCopies (copyCount b) (omega (arith, total-most)))) (λ h. ap (ltb maxCopies) (exact-total h))
       (lt-or-le maxCopies total)
 
   exact-passes : {entry : List ℕ} → count ≤ length entry → SameRest count entry passes → total ≤ maxCopies

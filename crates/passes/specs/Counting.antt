@@ -1,5 +1,4 @@
 -- The passes that groups need, found group by group for one batch of settings after the other.
---   copiesNeeded             how many copies all groups need
 --   Evaluable, Held, Stepped gates evaluated on pairs of words
 --   Least                    a number of passes of which none is too many
 --   Passed, Kept             the pairs after so many passes, and the settled ones beside them
@@ -21,7 +20,7 @@ use Rattle.netlist.specs.StoredBlock.{decode}
 use Rattle.netlist.specs.Rounds.{settingOf, settingCount, settledUnder, isExcluded}
 use Rattle.netlist.specs.Groups.{groups}
 use Rattle.netlist.specs.Steps.{run}
-use Rattle.netlist.specs.Passes.{afterPasses, areSettled, areEnough, passCount}
+use Rattle.netlist.specs.Passes.{afterPasses, areSettled, areEnough, passCount, copyCount}
 use Rattle.agreement.specs.Copies.{groupAt}
 use Rattle.decide.specs.InPlace.{Legible, Visits}
 use Rattle.lanes.specs.declared.Pair.{Pair}
@@ -32,10 +31,6 @@ use Rattle.lanes.specs.Nodes.{pairAt, inputsIn, gatesIn}
 use Rattle.batch.specs.Batch.{Decidable, BatchSettled}
 use Rattle.passes.specs.declared.Counted.{Counted}
 use Rattle.passes.specs.Pairs.{Apart, ProperAt}
-
--- a group of g gates is copied once a pass
-unfoldable pub copiesNeeded : Block → ℕ
-copiesNeeded b = sum (map (λ g. length g * passCount b g) (groups b))
 
 -- ---- gates evaluated on pairs of words
 
@@ -173,6 +168,6 @@ pub record BatchHeld (ws : List ℕ) (n gates base : ℕ) (zeros ones : List ℕ
 
 -- Each group's passes, and the copies that they make; where those are too many, a number above the limit is told.
 pub record AllCounted (b : Block) (entry passes : List ℕ) (total : ℕ) : Type 0 where
-  pub tells : ltb maxCopies total ≡ ltb maxCopies (copiesNeeded b)
-  pub totalIs : total ≤ maxCopies → total ≡ copiesNeeded b
+  pub tells : ltb maxCopies total ≡ ltb maxCopies (copyCount b)
+  pub totalIs : total ≤ maxCopies → total ≡ copyCount b
   pub passesAre : total ≤ maxCopies → passes ≡ placed (map (passCount b) (groups b)) entry
