@@ -8,33 +8,33 @@
 -- Assumes nothing.
 use mathlib.Core.Path.{_≡_, refl, sym, ap, _∙_}
 use mathlib.Core.Logic.{_⊎_, inl, inr, ⊎-elim}
-use mathlib.Core.Bool.{Bool, true, false}
-use mathlib.Core.List.{List, [], _∷_, _++_, map}
+use mathlib.Core.Bool.{false}
+use mathlib.Core.List.{List, [], _∷_, map}
 use Prim.Native.Nat.{ℕ, zero, suc, _+_, _-_, _*_, _≤_, _<_}
 use native.Mathlib.Nat.{mul-one, mul-le-mul-left, add-zero}
 use native.Mathlib.Omega.{arith}
-use borrow.Author.Tests.{lt-ltb, le-ltb}
+use borrow.Author.Tests.{lt-ltb}
 use lib.Dec.{ltb}
-use lib.ListN.{length, getD, set, replicate, length-set, take, drop, length-take, length-drop, length-map, length-replicate, getD-replicate, List·getD-append}
+use lib.ListN.{length, getD, set, replicate, length-set, take, drop, length-take, length-drop, length-replicate, getD-replicate, List·getD-append}
 use lib.Seq.{ext-getD, getD-set-same, getD-set-other}
-use Rattle.laws.specs.Lists.{sum, tab, placed, member}
-use Rattle.laws.proofs.Tests.{lt-or-le, eq-or-ne, not-both, bool-cases}
+use Rattle.laws.specs.Lists.{sum, tab, placed}
+use Rattle.laws.proofs.Tests.{lt-or-le, eq-or-ne, not-both}
 use Rattle.laws.proofs.Tab.{length-tab, getD-tab, tab-ext, tab-getD, map-tab, placed-tab}
 use Rattle.laws.proofs.Slices.{length-placed, getD-past}
 use Rattle.laws.proofs.Lists.{sum-append}
 use Rattle.netlist.specs.Limits.{maxGates, maxCopies}
-use Rattle.netlist.specs.Netlist.{Block, gateCount}
+use Rattle.netlist.specs.Netlist.{Block}
 use Rattle.netlist.specs.StoredBlock.{decode}
-use Rattle.netlist.specs.Rounds.{settingCount, isExcluded}
+use Rattle.netlist.specs.Rounds.{settingCount}
 use Rattle.netlist.specs.Groups.{groups}
-use Rattle.netlist.specs.Passes.{areSettled, areEnough, passCount, copyCount}
+use Rattle.netlist.specs.Passes.{areEnough, passCount, copyCount}
 use Rattle.reach.proofs.Order.{groups-not-empty, groups-below}
 use Rattle.reach.proofs.ListFacts.{sum-at}
 use Rattle.agreement.specs.Copies.{groupAt}
 use Rattle.agreement.proofs.PassCount.{passes-keep-from, at-enough, enough-from, passCount-some, passCount-enough, passCount-from}
 use Rattle.lanes.specs.Batches.{lanesOf}
 use Rattle.passes.specs.declared.Counted.{Counted}
-use Rattle.passes.specs.Counting.{Least, GroupBatch, SoFar, GroupCounted, GroupReady, Listing, copiesOf, EnoughBelow, Counting, SameRest, Rooms, BatchHeld, AllCounted}
+use Rattle.passes.specs.Counting.{Least, GroupBatch, GroupCounted, GroupReady, Listing, copiesOf, EnoughBelow, Counting, SameRest, Rooms, BatchHeld, AllCounted}
 
 -- ---- sums over the groups
 

@@ -5,23 +5,23 @@
 --   lacks-none, lacks-told               the lanes that may come
 -- Assumes nothing.
 use mathlib.Core.Path.{_≡_, refl, sym, ap, _∙_}
-use mathlib.Core.Logic.{_⊎_, inl, inr, ⊎-elim}
+use mathlib.Core.Logic.{⊎-elim}
 use mathlib.Core.Bool.{Bool, true, false, not, _&&_, _||_, false≢true}
 use mathlib.Core.List.{List, [], _∷_, _++_}
 use Prim.Native.Nat.{ℕ, zero, suc, _+_, _^_, _≤_, _<_, max}
 use native.Mathlib.Nat.{zero-add}
 use native.Mathlib.Numerals.{add-one}
 use native.Mathlib.Omega.{arith}
-use borrow.Author.Tests.{eqb-true, eqb-false, eq-eqb, ne-eqb}
+use borrow.Author.Tests.{eqb-true, eq-eqb}
 use lib.Bits.{bitAnd, bitOr, bitXor, differ, or-lt, xor-lt}
 use lib.Dec.{eqb}
 use lib.ListN.{length, getD, set, take, length-set}
 use lib.Seq.{getD-set-same, getD-set-other, take-suc, take-all}
 use Rattle.laws.specs.Lists.{all, member}
-use Rattle.laws.proofs.Tests.{not-both, bool-cases, eq-or-ne, and-intro, and-left, and-right}
+use Rattle.laws.proofs.Tests.{not-both, eq-or-ne, and-left, and-right}
 use Rattle.laws.proofs.Quantifiers.{all-append, member-from}
-use Rattle.laws.proofs.Lists.{member-append, member-left, member-right, member-cases, member-head, member-one}
-use Rattle.netlist.specs.Values.{Value, undefined, val, code}
+use Rattle.laws.proofs.Lists.{member-left, member-right, member-cases, member-head, member-one}
+use Rattle.netlist.specs.Values.{code}
 use Rattle.netlist.specs.Netlist.{Block}
 use Rattle.netlist.specs.Assignments.{bit}
 use Rattle.netlist.specs.Rounds.{isExcluded}
@@ -29,10 +29,10 @@ use Rattle.lanes.specs.declared.Pair.{Pair}
 use Rattle.lanes.specs.Pairs.{marked, lane, Proper}
 use Rattle.lanes.specs.Batches.{lanesOf}
 use Rattle.lanes.specs.Nodes.{pairAt}
-use Rattle.lanes.proofs.BitLaws.{bit-or, bit-xor, bit-low}
+use Rattle.lanes.proofs.BitLaws.{bit-or, bit-xor}
 use Rattle.judge.specs.Lanes.{hasLane, Tells, mayCome}
 use Rattle.judge.proofs.WordLaws.{tells-and, tells-or, tells-none, tells-as, tells-no-lane, tells-some}
-use Rattle.passes.specs.Pairs.{Apart, GatesIn, Put, differenceOf, ProperAt, agreeAt, differAt, Lacks}
+use Rattle.passes.specs.Pairs.{GatesIn, Put, differenceOf, ProperAt, agreeAt, differAt, Lacks}
 
 -- the first i + 1 gates
 pub first-more : (group : List ℕ) (i : ℕ) → i < length group → take (i + 1) group ≡ take i group ++ (getD group i 0 ∷ [])

@@ -1,14 +1,13 @@
 -- `passes::batches::count_passes` meets its contract: after each batch the passes are enough for its settings too. Assumes nothing.
-use mathlib.Core.Path.{_≡_, refl, sym, ap, _∙_}
-use Prim.Native.Nat.{ℕ, _-_, _+_, _^_, _≤_, _<_}
+use mathlib.Core.Path.{_≡_, refl, sym, _∙_}
+use Prim.Native.Nat.{_-_, _+_, _^_, _<_}
 use native.Mathlib.Omega.{arith}
 use borrow.Author.Needs.{needs}
-use borrow.Author.Tests.{leb-true, leb-false}
+use borrow.Author.Tests.{leb-false}
 use lib.ListN.{length}
 use Rattle.netlist.specs.Limits.{maxCopies}
 use Rattle.netlist.specs.StoredBlock.{decode}
 use Rattle.netlist.specs.Rounds.{settingCount}
-use Rattle.lanes.specs.Batches.{lanesOf}
 use Rattle.verdict.proofs.Counting.{setting-count, few-settings}
 use Rattle.verdict.proofs.Batching.{Place, place-first, place-next, lanesOf-some, decidable-kept}
 use Rattle.passes.specs.Counting.{Counting, SameRest}

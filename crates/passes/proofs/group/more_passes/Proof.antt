@@ -1,9 +1,8 @@
 -- `passes::group::more_passes` meets its contract: each turn makes a pass that some setting needs. Assumes nothing.
-use mathlib.Core.Path.{_≡_, sym, _∙_}
-use Prim.Native.Nat.{_+_, _-_, _≤_, _<_}
+use mathlib.Core.Path.{sym, _∙_}
+use Prim.Native.Nat.{_+_, _-_, _≤_}
 use native.Mathlib.Omega.{arith}
 use borrow.Author.Needs.{needs}
-use lib.ListN.{length}
 use Rattle.netlist.specs.Limits.{maxCopies}
 use Rattle.netlist.specs.StoredBlock.{decode}
 use Rattle.encoding.proofs.Decoded.{decode-inputCount}
@@ -78,7 +77,7 @@ loop-again c =
     let d = t .before in
     let l = head d in
     let r = start l .pre in
-    passing-more (r .batch) (r .kept) (l .loop .inv) (d .before .before .before .loop-test .taken) (rw (t .if1 .taken) at (d .lacks .ensures))
+    passing-more (r .batch) (r .kept) (l .loop .inv) (omega (arith, d .before .before .before .loop-test .taken)) (rw (t .if1 .taken) at (d .lacks .ensures))
     (c .before .before .before .before .pass .ensures)
 
 same-length : tie.Need-same-length Inv-loop μ-loop

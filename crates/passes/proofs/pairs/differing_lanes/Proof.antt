@@ -1,8 +1,7 @@
 -- `passes::pairs::differing_lanes` meets its contract: after i turns the lanes of the first i gates are marked. Assumes nothing.
-use mathlib.Core.Path.{_≡_, refl, sym, ap, _∙_}
-use Prim.Native.Nat.{ℕ, _+_, _-_, _≤_, _<_}
+use Prim.Native.Nat.{_-_, _≤_}
 use native.Mathlib.Omega.{arith}
-use lib.ListN.{length, getD, take}
+use lib.ListN.{length, take}
 use Rattle.lanes.specs.Batches.{lanesOf}
 use Rattle.judge.specs.Lanes.{Tells}
 use Rattle.passes.specs.Pairs.{differAt}
