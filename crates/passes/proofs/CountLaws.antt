@@ -34,7 +34,8 @@ use Rattle.agreement.specs.Copies.{groupAt}
 use Rattle.agreement.proofs.PassCount.{passes-keep-from, at-enough, enough-from, passCount-some, passCount-enough, passCount-from}
 use Rattle.lanes.specs.Batches.{lanesOf}
 use Rattle.passes.specs.declared.Counted.{Counted}
-use Rattle.passes.specs.Counting.{Least, GroupBatch, GroupCounted, GroupReady, Listing, copiesOf, EnoughBelow, Counting, SameRest, Rooms, BatchHeld, AllCounted}
+use Rattle.passes.specs.Counting.{Least, GroupBatch, GroupCounted, GroupReady}
+use Rattle.passes.specs.Counting.{Listing, copiesOf, EnoughBelow, Counting, SameRest, Rooms, BatchHeld, AllCounted}
 
 -- ---- sums over the groups
 
@@ -166,7 +167,8 @@ module _ {b : Block} {n base count g total : ℕ} {passes : List ℕ} {r : Count
         least = λ h m. ⊎-elim (λ i. rw (here h i, i) (e .soFar .least)) (λ d. rw (elsewhere h d) (c .least h m)) (eq-or-ne h g);
         totalIs = omega (arith, changed, e .totalIs, c .totalIs);
         most = e .soFar .most;
-        before = λ small h m. ⊎-elim (λ i. rw (here h i, i) (λ s k x. enough-here small s (omega arith) x)) (λ d. rw (elsewhere h d) (c .before few h m)) (eq-or-ne h g);
+        before = λ small h m.
+            ⊎-elim (λ i. rw (here h i, i) (λ s k x. enough-here small s (omega arith) x)) (λ d. rw (elsewhere h d) (c .before few h m)) (eq-or-ne h g);
         inside = λ small h m. ⊎-elim (λ i. rw (here h i, i) (enough-here small)) (λ d. rw (elsewhere h d) (c .inside few h (omega arith))) (eq-or-ne h g);
       }
     where
@@ -199,8 +201,8 @@ module _ {b : Block} {count base done next total : ℕ} {passes : List ℕ} (c :
 
 -- ---- the start
 
-module _ {b : Block} {count : ℕ} {members starts : List ℕ} (listing : Listing b count members starts) {passes : List ℕ} (entry : List ℕ) (room : count ≤ length entry)
-    (are : passes ≡ placed (replicate count 1) entry) where
+module _ {b : Block} {count : ℕ} {members starts : List ℕ} (listing : Listing b count members starts) {passes : List ℕ} (entry : List ℕ)
+    (room : count ≤ length entry) (are : passes ≡ placed (replicate count 1) entry) where
   ones : List ℕ
   ones = replicate count 1
 
@@ -217,7 +219,11 @@ module _ {b : Block} {count : ℕ} {members starts : List ℕ} (listing : Listin
   counting-first =
       record {
         least = λ g l. rw (one-each g l) (record { some = omega arith; fewer = inl refl });
-        totalIs = listing .membersLong ∙ ap sum (groups-tab b length count (listing .countIs) ∙ tab-ext _ _ count (λ g l. rw (one-each g l) (sym (mul-one (length (groupAt b g))))));
+        totalIs =
+            listing .membersLong
+            ∙ ap sum
+            (groups-tab b length count (listing .countIs)
+            ∙ tab-ext _ _ count (λ g l. rw (one-each g l) (sym (mul-one (length (groupAt b g))))));
         most = omega (arith, listing .few);
         before = λ few g l s m. absurd (omega arith);
         inside = λ few g l. absurd (omega arith);
