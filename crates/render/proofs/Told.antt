@@ -132,11 +132,6 @@ groups-listed ws {m} {count} {r} {numbers} {entry} {members} {starts} e a room h
       part = λ g k. rw are (starts-part a l g k);
     }
 
--- the numbers that `assign` leaves, for a gate count read from the words
-pub word-numbers : (ws : List ℕ) {m count : ℕ} {numbers : List ℕ} → m ≡ getD ws 1 0 → Numbers (decode ws) m count numbers
-    → Numbers (decode ws) (getD ws 1 0) count numbers
-word-numbers ws e a = rw (← e) a
-
 -- an array of that many elements has room for every gate
 pub few-gates : (ws : List ℕ) {n : ℕ} → isTorn ws ≡ false → maxGates ≤ n → getD ws 1 0 ≤ n
 few-gates ws whole l = omega (arith, whole-parts ws whole .fewGates)

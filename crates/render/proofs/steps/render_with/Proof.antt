@@ -162,7 +162,7 @@ refusal-requires-2 c κs = search needs
 same-length-10 : tie.Need-same-length-10
 same-length-10 c =
     let m = c .before .before .before .before .before in
-    let t = m .before .before .before .before .before in
+    let t = m .before .before .before .before in
     numbering (counting (copies-test (searching t))) .assign .kept .1 .0
 
 same-length-11 : tie.Need-same-length-11
