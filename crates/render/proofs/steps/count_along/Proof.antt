@@ -4,7 +4,6 @@ use Prim.Native.Nat.{_+_, _≤_}
 use native.Mathlib.Omega.{arith}
 use lib.ListN.{length}
 use lib.Seq.{length-take-le}
-use Rattle.netlist.specs.Limits.{maxInputs, maxGates}
 use Rattle.encoding.proofs.Readers.{whole-parts}
 use Rattle.verdict.proofs.Batching.{whole-decidable}
 use borrow.Author.Needs.{needs}

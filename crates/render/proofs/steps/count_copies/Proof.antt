@@ -1,7 +1,5 @@
 -- `render::steps::count_copies` meets its contract: the order visits every gate, and the groups stand one after the other. Assumes nothing.
-use mathlib.Core.Path.{sym, _∙_}
 use native.Mathlib.Omega.{arith}
-use lib.ListN.{length}
 use Rattle.netlist.specs.StoredBlock.{decode}
 use Rattle.reach.proofs.Order.{length-groups}
 use Rattle.render.proofs.Told.{groups-room, groups-listed}

@@ -1,5 +1,5 @@
 -- `render::steps::finish` meets its contract: the room is the rendered block's length, and the words are the rendering's. Assumes nothing.
-use Prim.Native.Nat.{_+_, _*_, _≤_}
+use Prim.Native.Nat.{_+_, _*_}
 use mathlib.Core.Path.{_≡_, sym}
 use native.Mathlib.Omega.{arith}
 use lib.ListN.{length}
