@@ -40,7 +40,8 @@ use Rattle.lanes.specs.Nodes.{pairAt, inputsIn, gatesIn, gatePairAt}
 use Rattle.lanes.proofs.LaneLaws.{nothing-lane, nothing-proper}
 use Rattle.lanes.proofs.InputLaws.{inputPairs-proper, inputPairs-lane}
 use Rattle.lanes.proofs.NodeLaws.{gatePairAt-evaluated, head-legal, set-inputs, set-gates}
-use Rattle.batch.specs.Batch.{Underway, Swept, Decidable, NodesLong, gatePair, Evaluated, BatchUnderway, BatchSwept, BatchSettled, Started, startPair, placeOf, along}
+use Rattle.batch.specs.Batch.{NodesLong, gatePair, Evaluated, BatchUnderway, BatchSwept, BatchSettled}
+use Rattle.batch.specs.Batch.{Started, startPair, placeOf, along}
 use Rattle.batch.proofs.Sweeping.{swept-none, swept-one, swept-then, swept-underway, swept-settled}
 
 -- ---- the start

@@ -8,33 +8,34 @@
 -- Assumes nothing.
 use mathlib.Core.Path.{_≡_, refl, sym, ap, _∙_}
 use mathlib.Core.Logic.{_⊎_, inl, inr, ⊎-elim}
-use mathlib.Core.Bool.{Bool, true, false}
-use mathlib.Core.List.{List, [], _∷_, _++_, map}
+use mathlib.Core.Bool.{false}
+use mathlib.Core.List.{List, [], _∷_, map}
 use Prim.Native.Nat.{ℕ, zero, suc, _+_, _-_, _*_, _≤_, _<_}
 use native.Mathlib.Nat.{mul-one, mul-le-mul-left, add-zero}
 use native.Mathlib.Omega.{arith}
-use borrow.Author.Tests.{lt-ltb, le-ltb}
+use borrow.Author.Tests.{lt-ltb}
 use lib.Dec.{ltb}
-use lib.ListN.{length, getD, set, replicate, length-set, take, drop, length-take, length-drop, length-map, length-replicate, getD-replicate, List·getD-append}
+use lib.ListN.{length, getD, set, replicate, length-set, take, drop, length-take, length-drop, length-replicate, getD-replicate, List·getD-append}
 use lib.Seq.{ext-getD, getD-set-same, getD-set-other}
-use Rattle.laws.specs.Lists.{sum, tab, placed, member}
-use Rattle.laws.proofs.Tests.{lt-or-le, eq-or-ne, not-both, bool-cases}
+use Rattle.laws.specs.Lists.{sum, tab, placed}
+use Rattle.laws.proofs.Tests.{lt-or-le, eq-or-ne, not-both}
 use Rattle.laws.proofs.Tab.{length-tab, getD-tab, tab-ext, tab-getD, map-tab, placed-tab}
 use Rattle.laws.proofs.Slices.{length-placed, getD-past}
 use Rattle.laws.proofs.Lists.{sum-append}
 use Rattle.netlist.specs.Limits.{maxGates, maxCopies}
-use Rattle.netlist.specs.Netlist.{Block, gateCount}
+use Rattle.netlist.specs.Netlist.{Block}
 use Rattle.netlist.specs.StoredBlock.{decode}
-use Rattle.netlist.specs.Rounds.{settingCount, isExcluded}
+use Rattle.netlist.specs.Rounds.{settingCount}
 use Rattle.netlist.specs.Groups.{groups}
-use Rattle.netlist.specs.Passes.{areSettled, areEnough, passCount, copyCount}
+use Rattle.netlist.specs.Passes.{areEnough, passCount, copyCount}
 use Rattle.reach.proofs.Order.{groups-not-empty, groups-below}
 use Rattle.reach.proofs.ListFacts.{sum-at}
 use Rattle.agreement.specs.Copies.{groupAt}
 use Rattle.agreement.proofs.PassCount.{passes-keep-from, at-enough, enough-from, passCount-some, passCount-enough, passCount-from}
 use Rattle.lanes.specs.Batches.{lanesOf}
 use Rattle.passes.specs.declared.Counted.{Counted}
-use Rattle.passes.specs.Counting.{Least, GroupBatch, SoFar, GroupCounted, GroupReady, Listing, copiesOf, EnoughBelow, Counting, SameRest, Rooms, BatchHeld, AllCounted}
+use Rattle.passes.specs.Counting.{Least, GroupBatch, GroupCounted, GroupReady}
+use Rattle.passes.specs.Counting.{Listing, copiesOf, EnoughBelow, Counting, SameRest, Rooms, BatchHeld, AllCounted}
 
 -- ---- sums over the groups
 
@@ -166,7 +167,8 @@ module _ {b : Block} {n base count g total : ℕ} {passes : List ℕ} {r : Count
         least = λ h m. ⊎-elim (λ i. rw (here h i, i) (e .soFar .least)) (λ d. rw (elsewhere h d) (c .least h m)) (eq-or-ne h g);
         totalIs = omega (arith, changed, e .totalIs, c .totalIs);
         most = e .soFar .most;
-        before = λ small h m. ⊎-elim (λ i. rw (here h i, i) (λ s k x. enough-here small s (omega arith) x)) (λ d. rw (elsewhere h d) (c .before few h m)) (eq-or-ne h g);
+        before = λ small h m.
+            ⊎-elim (λ i. rw (here h i, i) (λ s k x. enough-here small s (omega arith) x)) (λ d. rw (elsewhere h d) (c .before few h m)) (eq-or-ne h g);
         inside = λ small h m. ⊎-elim (λ i. rw (here h i, i) (enough-here small)) (λ d. rw (elsewhere h d) (c .inside few h (omega arith))) (eq-or-ne h g);
       }
     where
@@ -199,8 +201,8 @@ module _ {b : Block} {count base done next total : ℕ} {passes : List ℕ} (c :
 
 -- ---- the start
 
-module _ {b : Block} {count : ℕ} {members starts : List ℕ} (listing : Listing b count members starts) {passes : List ℕ} (entry : List ℕ) (room : count ≤ length entry)
-    (are : passes ≡ placed (replicate count 1) entry) where
+module _ {b : Block} {count : ℕ} {members starts : List ℕ} (listing : Listing b count members starts) {passes : List ℕ} (entry : List ℕ)
+    (room : count ≤ length entry) (are : passes ≡ placed (replicate count 1) entry) where
   ones : List ℕ
   ones = replicate count 1
 
@@ -217,7 +219,11 @@ module _ {b : Block} {count : ℕ} {members starts : List ℕ} (listing : Listin
   counting-first =
       record {
         least = λ g l. rw (one-each g l) (record { some = omega arith; fewer = inl refl });
-        totalIs = listing .membersLong ∙ ap sum (groups-tab b length count (listing .countIs) ∙ tab-ext _ _ count (λ g l. rw (one-each g l) (sym (mul-one (length (groupAt b g))))));
+        totalIs =
+            listing .membersLong
+            ∙ ap sum
+            (groups-tab b length count (listing .countIs)
+            ∙ tab-ext _ _ count (λ g l. rw (one-each g l) (sym (mul-one (length (groupAt b g))))));
         most = omega (arith, listing .few);
         before = λ few g l s m. absurd (omega arith);
         inside = λ few g l. absurd (omega arith);

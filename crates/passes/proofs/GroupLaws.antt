@@ -7,19 +7,19 @@
 -- Assumes nothing.
 use mathlib.Core.Path.{_≡_, refl, sym, ap, _∙_}
 use mathlib.Core.Logic.{_⊎_, inl, inr, ⊎-elim}
-use mathlib.Core.Bool.{Bool, true, false, cond, _&&_}
+use mathlib.Core.Bool.{Bool, true, false, cond}
 use mathlib.Core.List.{List, [], _∷_, _++_, map}
-use Prim.Native.Nat.{ℕ, zero, suc, _+_, _-_, _*_, _≤_, _<_}
+use Prim.Native.Nat.{ℕ, _+_, _-_, _≤_, _<_}
 use native.Mathlib.Numerals.{add-one}
 use native.Mathlib.Omega.{arith}
 use lib.Dec.{eqb}
-use lib.ListN.{length, getD, set, take, length-set, length-map, List·getD-eq-default}
+use lib.ListN.{length, getD, set, take, length-map, List·getD-eq-default}
 use lib.Seq.{ext-getD, getD-set-other}
-use Rattle.laws.specs.Lists.{all, member, repeated, tab}
-use Rattle.laws.proofs.Tests.{not-both, bool-cases, lt-or-le, not-true-false}
-use Rattle.laws.proofs.Tab.{length-tab, getD-tab, tab-ext}
+use Rattle.laws.specs.Lists.{all, member, repeated}
+use Rattle.laws.proofs.Tests.{not-both, bool-cases, lt-or-le}
+use Rattle.laws.proofs.Tab.{length-tab, tab-ext}
 use Rattle.laws.proofs.Lists.{map-set, member-left, member-right, member-head, member-rest}
-use Rattle.netlist.specs.Values.{Value, undefined, code}
+use Rattle.netlist.specs.Values.{undefined, code}
 use Rattle.netlist.specs.Netlist.{Block, inputCount, gateCount, gateOf}
 use Rattle.netlist.specs.Limits.{maxInputs}
 use Rattle.netlist.specs.StoredBlock.{decode}
@@ -39,7 +39,7 @@ use Rattle.lanes.proofs.RoundLaws.{getD-lane, evaluatedPair-lane, evaluatedPair
 use Rattle.batch.specs.Batch.{NodesLong, gatePair, Evaluated, BatchSettled}
 use Rattle.batch.proofs.Sweeping.{set-proper}
 use Rattle.batch.proofs.BatchLaws.{gate-legal, gatePair-evaluated, evaluated-gates, evaluated-inputs, evaluated-zeros, evaluated-ones, gatesIn-at}
-use Rattle.passes.specs.Pairs.{Apart, GatesIn, Put, ProperAt, agreeAt}
+use Rattle.passes.specs.Pairs.{Apart, Put, ProperAt, agreeAt}
 use Rattle.passes.specs.Counting.{Evaluable, Held, Stepped, Passed, Kept}
 use Rattle.passes.proofs.PairLaws.{first-more, member-place}
 

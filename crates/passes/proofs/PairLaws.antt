@@ -5,23 +5,23 @@
 --   lacks-none, lacks-told               the lanes that may come
 -- Assumes nothing.
 use mathlib.Core.Path.{_≡_, refl, sym, ap, _∙_}
-use mathlib.Core.Logic.{_⊎_, inl, inr, ⊎-elim}
+use mathlib.Core.Logic.{⊎-elim}
 use mathlib.Core.Bool.{Bool, true, false, not, _&&_, _||_, false≢true}
 use mathlib.Core.List.{List, [], _∷_, _++_}
 use Prim.Native.Nat.{ℕ, zero, suc, _+_, _^_, _≤_, _<_, max}
 use native.Mathlib.Nat.{zero-add}
 use native.Mathlib.Numerals.{add-one}
 use native.Mathlib.Omega.{arith}
-use borrow.Author.Tests.{eqb-true, eqb-false, eq-eqb, ne-eqb}
+use borrow.Author.Tests.{eqb-true, eq-eqb}
 use lib.Bits.{bitAnd, bitOr, bitXor, differ, or-lt, xor-lt}
 use lib.Dec.{eqb}
 use lib.ListN.{length, getD, set, take, length-set}
 use lib.Seq.{getD-set-same, getD-set-other, take-suc, take-all}
 use Rattle.laws.specs.Lists.{all, member}
-use Rattle.laws.proofs.Tests.{not-both, bool-cases, eq-or-ne, and-intro, and-left, and-right}
+use Rattle.laws.proofs.Tests.{not-both, eq-or-ne, and-left, and-right}
 use Rattle.laws.proofs.Quantifiers.{all-append, member-from}
-use Rattle.laws.proofs.Lists.{member-append, member-left, member-right, member-cases, member-head, member-one}
-use Rattle.netlist.specs.Values.{Value, undefined, val, code}
+use Rattle.laws.proofs.Lists.{member-left, member-right, member-cases, member-head, member-one}
+use Rattle.netlist.specs.Values.{code}
 use Rattle.netlist.specs.Netlist.{Block}
 use Rattle.netlist.specs.Assignments.{bit}
 use Rattle.netlist.specs.Rounds.{isExcluded}
@@ -29,10 +29,10 @@ use Rattle.lanes.specs.declared.Pair.{Pair}
 use Rattle.lanes.specs.Pairs.{marked, lane, Proper}
 use Rattle.lanes.specs.Batches.{lanesOf}
 use Rattle.lanes.specs.Nodes.{pairAt}
-use Rattle.lanes.proofs.BitLaws.{bit-or, bit-xor, bit-low}
+use Rattle.lanes.proofs.BitLaws.{bit-or, bit-xor}
 use Rattle.judge.specs.Lanes.{hasLane, Tells, mayCome}
 use Rattle.judge.proofs.WordLaws.{tells-and, tells-or, tells-none, tells-as, tells-no-lane, tells-some}
-use Rattle.passes.specs.Pairs.{Apart, GatesIn, Put, differenceOf, ProperAt, agreeAt, differAt, Lacks}
+use Rattle.passes.specs.Pairs.{GatesIn, Put, differenceOf, ProperAt, agreeAt, differAt, Lacks}
 
 -- the first i + 1 gates
 pub first-more : (group : List ℕ) (i : ℕ) → i < length group → take (i + 1) group ≡ take i group ++ (getD group i 0 ∷ [])
@@ -76,40 +76,31 @@ module _ {n : ℕ} where
 
 -- ---- pairs compared
 
--- the bits of a lane
-lane-differs : (z o z′ o′ : ℕ) → z + o ≤ 1 → z′ + o′ ≤ 1
-    → eqb (max (differ z z′) (differ o o′)) 1 ≡ not (eqb (code (marked z o)) (code (marked z′ o′)))
+-- the three ways that two bits of a lane can stand
+data Bits : ℕ → ℕ → Type 0 where
+  unset : Bits 0 0
+  zeroSet : Bits 1 0
+  oneSet : Bits 0 1
+
+bits : (z o : ℕ) → z + o ≤ 1 → Bits z o
+bits zero zero h = unset
+bits zero (suc zero) h = oneSet
+bits zero (suc (suc o)) h = absurd (omega arith)
+bits (suc zero) zero h = zeroSet
+bits (suc zero) (suc o) h = absurd (omega arith)
+bits (suc (suc z)) o h = absurd (omega arith)
+
+lane-differs : {z o z′ o′ : ℕ} → Bits z o → Bits z′ o′ → eqb (max (differ z z′) (differ o o′)) 1 ≡ not (eqb (code (marked z o)) (code (marked z′ o′)))
 unfolding marked code
-lane-differs zero zero = other
-  where
-    other : (z′ o′ : ℕ) → 0 + 0 ≤ 1 → z′ + o′ ≤ 1 → eqb (max (differ 0 z′) (differ 0 o′)) 1 ≡ not (eqb (code (marked 0 0)) (code (marked z′ o′)))
-    other zero zero h k = refl
-    other zero (suc zero) h k = refl
-    other zero (suc (suc o′)) h k = absurd (omega arith)
-    other (suc zero) zero h k = refl
-    other (suc zero) (suc o′) h k = absurd (omega arith)
-    other (suc (suc z′)) o′ h k = absurd (omega arith)
-lane-differs zero (suc zero) = other
-  where
-    other : (z′ o′ : ℕ) → 0 + 1 ≤ 1 → z′ + o′ ≤ 1 → eqb (max (differ 0 z′) (differ 1 o′)) 1 ≡ not (eqb (code (marked 0 1)) (code (marked z′ o′)))
-    other zero zero h k = refl
-    other zero (suc zero) h k = refl
-    other zero (suc (suc o′)) h k = absurd (omega arith)
-    other (suc zero) zero h k = refl
-    other (suc zero) (suc o′) h k = absurd (omega arith)
-    other (suc (suc z′)) o′ h k = absurd (omega arith)
-lane-differs zero (suc (suc o)) = λ z′ o′ h k. absurd (omega arith)
-lane-differs (suc zero) zero = other
-  where
-    other : (z′ o′ : ℕ) → 1 + 0 ≤ 1 → z′ + o′ ≤ 1 → eqb (max (differ 1 z′) (differ 0 o′)) 1 ≡ not (eqb (code (marked 1 0)) (code (marked z′ o′)))
-    other zero zero h k = refl
-    other zero (suc zero) h k = refl
-    other zero (suc (suc o′)) h k = absurd (omega arith)
-    other (suc zero) zero h k = refl
-    other (suc zero) (suc o′) h k = absurd (omega arith)
-    other (suc (suc z′)) o′ h k = absurd (omega arith)
-lane-differs (suc zero) (suc o) = λ z′ o′ h k. absurd (omega arith)
-lane-differs (suc (suc z)) o = λ z′ o′ h k. absurd (omega arith)
+lane-differs unset unset = refl
+lane-differs unset zeroSet = refl
+lane-differs unset oneSet = refl
+lane-differs zeroSet unset = refl
+lane-differs zeroSet zeroSet = refl
+lane-differs zeroSet oneSet = refl
+lane-differs oneSet unset = refl
+lane-differs oneSet zeroSet = refl
+lane-differs oneSet oneSet = refl
 
 module _ {lanes : ℕ} {p q : Pair} (h : Proper lanes p) (k : Proper lanes q) where
   difference-within : differenceOf p q < 2 ^ lanes
@@ -122,7 +113,7 @@ module _ {lanes : ℕ} {p q : Pair} (h : Proper lanes p) (k : Proper lanes q) wh
   unfolding differenceOf hasLane lane
   difference-lane s =
       rw (bit-or (bitXor (p .zeros) (q .zeros)) (bitXor (p .ones) (q .ones)) s, bit-xor (p .zeros) (q .zeros) s, bit-xor (p .ones) (q .ones) s)
-      (lane-differs (bit (p .zeros) s) (bit (p .ones) s) (bit (q .zeros) s) (bit (q .ones) s) (h .apart s) (k .apart s))
+      (lane-differs (bits (bit (p .zeros) s) (bit (p .ones) s) (h .apart s)) (bits (bit (q .zeros) s) (bit (q .ones) s) (k .apart s)))
 
   -- where they hold another value
   pub difference-tells : Tells lanes 0 (λ s. not (eqb (code (lane s p)) (code (lane s q)))) (differenceOf p q)
@@ -181,7 +172,8 @@ module _ (b : Block) (n base : ℕ) (group zeros ones zeros′ ones′ : List �
             let here = rw (zero-add (w .0)) at (w .2) in
             let may = not (isExcluded b (base + w .0)) in
             let differs = not (agreeAt n group zeros ones zeros′ ones′ (w .0)) in
-            (w .0, w .1, not-true-false (isExcluded b (base + w .0)) (and-left may differs here), not-true-false (agreeAt n group zeros ones zeros′ ones′ (w .0)) (and-right may differs here));
+            let agree = agreeAt n group zeros ones zeros′ ones′ (w .0) in
+            (w .0, w .1, not-true-false (isExcluded b (base + w .0)) (and-left may differs here), not-true-false agree (and-right may differs here));
         none = λ f s l x.
             second (isExcluded b (base + s)) (agreeAt n group zeros ones zeros′ ones′ s) x
             (rw (zero-add s) at (tells-no-lane both (eqb-true (bitAnd coming d) 0 (not-false-true (eqb (bitAnd coming d) 0) f)) s l));

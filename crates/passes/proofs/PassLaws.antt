@@ -3,29 +3,27 @@
 --   Passing, passing-first, -more, -done   further passes while a gate lacks its settled value
 --   put-back                       the settled pairs, put aside and back
 -- Assumes nothing.
-use mathlib.Core.Path.{_≡_, refl, sym, ap, _∙_}
-use mathlib.Core.Logic.{_⊎_, inl, inr}
-use mathlib.Core.Bool.{Bool, true, false}
+use mathlib.Core.Path.{_≡_, refl, sym, _∙_}
+use mathlib.Core.Logic.{inr}
+use mathlib.Core.Bool.{true, false}
 use mathlib.Core.List.{List, []}
-use Prim.Native.Nat.{ℕ, suc, _+_, _-_, _*_, _≤_, _<_}
+use Prim.Native.Nat.{ℕ, _+_, _-_, _*_, _≤_, _<_}
 use native.Mathlib.Nat.{mul-le-mul-right, one-mul, mul-suc}
 use native.Mathlib.Numerals.{add-one}
 use native.Mathlib.Omega.{arith}
 use lib.ListN.{length, getD}
-use Rattle.laws.specs.Lists.{member, repeated}
+use Rattle.laws.specs.Lists.{repeated}
 use Rattle.laws.proofs.Tests.{not-both, not-true-false}
 use Rattle.netlist.specs.Limits.{maxCopies}
-use Rattle.netlist.specs.Netlist.{Block, gateCount}
+use Rattle.netlist.specs.Netlist.{Block}
 use Rattle.netlist.specs.StoredBlock.{decode}
-use Rattle.netlist.specs.Rounds.{settingCount, isExcluded}
-use Rattle.netlist.specs.Passes.{areSettled, areEnough}
+use Rattle.netlist.specs.Passes.{areEnough}
 use Rattle.rounds.proofs.ListFacts.{member-repeated}
 use Rattle.agreement.proofs.PassCount.{enough-at}
-use Rattle.lanes.specs.Batches.{lanesOf}
 use Rattle.batch.specs.Batch.{BatchSettled}
 use Rattle.passes.specs.declared.Counted.{Counted}
-use Rattle.passes.specs.Pairs.{Apart, Put, Lacks, agreeAt}
-use Rattle.passes.specs.Counting.{Held, Stepped, Least, Passed, Kept, GroupBatch, SoFar, PassReady, GroupCounted, MorePasses}
+use Rattle.passes.specs.Pairs.{Apart, Put, Lacks}
+use Rattle.passes.specs.Counting.{Held, Stepped, Least, Passed, Kept, GroupBatch, SoFar, PassReady, MorePasses}
 use Rattle.passes.proofs.GroupLaws.{passed-more, agree-settled, restored}
 
 times-more : (a p : ℕ) → a * (p + 1) ≡ a * p + a

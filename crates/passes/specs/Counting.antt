@@ -5,11 +5,11 @@
 --   PassReady, MorePasses, GroupReady, GroupCounted   one group for the settings of a batch
 --   Listing, Counting, Rooms, BatchHeld, AllCounted   all groups
 -- Assumes nothing.
-use Prim.Native.Nat.{ℕ, _+_, _-_, _*_, _%_, _^_, _≤_, _<_}
+use Prim.Native.Nat.{ℕ, _+_, _-_, _*_, _%_, _≤_, _<_}
 use mathlib.Core.Path.{_≡_}
 use mathlib.Core.Logic.{_⊎_}
-use mathlib.Core.Bool.{Bool, true, false}
-use mathlib.Core.List.{List, [], map}
+use mathlib.Core.Bool.{true, false}
+use mathlib.Core.List.{List, map}
 use lib.Dec.{ltb}
 use lib.ListN.{length, getD, take, drop}
 use Rattle.laws.specs.Lists.{member, sum, tab, placed}
@@ -22,14 +22,11 @@ use Rattle.netlist.specs.Groups.{groups}
 use Rattle.netlist.specs.Steps.{run}
 use Rattle.netlist.specs.Passes.{afterPasses, areSettled, areEnough, passCount, copyCount}
 use Rattle.agreement.specs.Copies.{groupAt}
-use Rattle.visiting.specs.Visits.{Visits}
 use Rattle.batch.specs.Legible.{Legible}
-use Rattle.lanes.specs.declared.Pair.{Pair}
-use Rattle.lanes.specs.Pairs.{lane, Proper}
 use Rattle.lanes.specs.PairRounds.{AllProper}
 use Rattle.lanes.specs.Batches.{lanesOf}
 use Rattle.lanes.specs.Nodes.{pairAt, inputsIn, gatesIn}
-use Rattle.batch.specs.Batch.{Decidable, BatchSettled}
+use Rattle.batch.specs.Batch.{BatchSettled}
 use Rattle.passes.specs.declared.Counted.{Counted}
 use Rattle.passes.specs.Pairs.{Apart, ProperAt}
 

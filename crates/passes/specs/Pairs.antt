@@ -3,7 +3,7 @@
 --   Put                      the group's words taken from a source
 --   agreeAt, differAt, Lacks two states compared at the group's gates
 -- Assumes nothing.
-use Prim.Native.Nat.{ℕ, _+_, _^_, _<_}
+use Prim.Native.Nat.{ℕ, _+_, _<_}
 use mathlib.Core.Path.{_≡_}
 use mathlib.Core.Bool.{Bool, true, false, not}
 use mathlib.Core.List.{List}

@@ -84,7 +84,7 @@ fn more_passes(
 {
     let used = used_lanes(n);
     let size = group.len();
-    let mut p = passes;
+    let mut needed = passes;
     let mut sum = total;
     while sum <= MAX_GATES
         && lacks(
@@ -99,11 +99,11 @@ fn more_passes(
         )
     {
         pass(words, n, gates, used, group, zeros, ones);
-        p += 1;
+        needed += 1;
         sum += size;
     }
     Counted {
-        passes: p,
+        passes: needed,
         total: sum,
     }
 }

@@ -68,7 +68,8 @@ loop-again c =
     let i = l .loop .i in
     let next = getD (s .args .order .now) (placeOf (s .args .back) (length (s .args .order .now)) i) 0 in
     let there = along-inside (s .args .back) (s .pre .0 .1) i (p .before .loop-test .taken) in
-    let one = batch-one (s .pre .0 .0) (s .pre .0 .2) next there (batch-underway (s .pre .1) (l .loop .inv .1)) (rw (p .place .ensures) at (d .step .ensures)) in
+    let done = rw (p .place .ensures) at (d .step .ensures) in
+    let one = batch-one (s .pre .0 .0) (s .pre .0 .2) next there (batch-underway (s .pre .1) (l .loop .inv .1)) done in
     (omega arith, rw add-one (batch-then next (l .loop .inv .1) one))
 
 same-length : tie.Need-same-length Inv-loop μ-loop

@@ -1,5 +1,5 @@
 -- `passes::batches::count_batch` meets its contract: the settled pairs of the batch, and then every group. Assumes nothing.
-use mathlib.Core.Path.{_≡_, refl, sym, _∙_}
+use mathlib.Core.Path.{refl, sym, _∙_}
 use borrow.Author.Needs.{needs}
 use Rattle.passes.proofs.CountLaws.{rooms-kept}
 use Rattle.passes.proofs.batches.count_batch.Statement.{statement}

@@ -1,14 +1,13 @@
 -- `passes::batches::count_passes` meets its contract: after each batch the passes are enough for its settings too. Assumes nothing.
-use mathlib.Core.Path.{_≡_, refl, sym, ap, _∙_}
-use Prim.Native.Nat.{ℕ, _-_, _+_, _^_, _≤_, _<_}
+use mathlib.Core.Path.{_≡_, refl, sym, _∙_}
+use Prim.Native.Nat.{_-_, _+_, _^_, _<_}
 use native.Mathlib.Omega.{arith}
 use borrow.Author.Needs.{needs}
-use borrow.Author.Tests.{leb-true, leb-false}
+use borrow.Author.Tests.{leb-false}
 use lib.ListN.{length}
 use Rattle.netlist.specs.Limits.{maxCopies}
 use Rattle.netlist.specs.StoredBlock.{decode}
 use Rattle.netlist.specs.Rounds.{settingCount}
-use Rattle.lanes.specs.Batches.{lanesOf}
 use Rattle.verdict.proofs.Counting.{setting-count, few-settings}
 use Rattle.verdict.proofs.Batching.{Place, place-first, place-next, lanesOf-some, decidable-kept}
 use Rattle.passes.specs.Counting.{Counting, SameRest}
@@ -17,12 +16,12 @@ use Rattle.passes.proofs.batches.count_passes.Statement.{statement}
 use Rattle.passes.proofs.batches.count_passes.Tie as tie
 
 abbrev Inv-loop : tie.InvT-loop
-Inv-loop words n gates order count members starts passes₀ zeros₀ ones₀ settled-zeros₀ settled-ones₀ settings lanes total₀ base₀ passes zeros ones settled-zeros settled-ones total base =
+Inv-loop words n gates order count members starts passes₀ zeros₀ ones₀ kept₀ kept′₀ settings lanes total₀ base₀ passes zeros ones kept kept′ total base =
     Place n base × Counting (decode words) count base 0 base passes total × SameRest count passes₀ passes × (length zeros ≡ length zeros₀)
-    × (length ones ≡ length ones₀) × (length settled-zeros ≡ length settled-zeros₀) × (length settled-ones ≡ length settled-ones₀)
+    × (length ones ≡ length ones₀) × (length kept ≡ length kept₀) × (length kept′ ≡ length kept′₀)
 
 abbrev μ-loop : tie.MeasureT-loop
-μ-loop words n gates order count members starts passes₀ zeros₀ ones₀ settled-zeros₀ settled-ones₀ settings lanes total₀ base₀ passes zeros ones settled-zeros settled-ones total base =
+μ-loop words n gates order count members starts passes₀ zeros₀ ones₀ kept₀ kept′₀ settings lanes total₀ base₀ passes zeros ones kept kept′ total base =
     settings - base
 
 -- the function's entry, from the words filled and from the loop's head; and the loop's head, from a batch's count
@@ -152,8 +151,8 @@ returns : tie.Need-returns Inv-loop μ-loop
 returns c =
     let l = c .before .before in
     let r = start l .pre .1 in
-    counting-all (l .loop .inv .1) (r .listing .countIs) (λ few. absurd (omega (arith, few, leb-false (l .loop .total) maxCopies (c .if1 .left)))) (r .passesRoom)
-    (since-entry l)
+    let many = leb-false (l .loop .total) maxCopies (c .if1 .left) in
+    counting-all (l .loop .inv .1) (r .listing .countIs) (λ few. absurd (omega (arith, few, many))) (r .passesRoom) (since-entry l)
 
 same-length-6 : tie.Need-same-length-6 Inv-loop μ-loop
 same-length-6 c = since-entry (c .before) .long

@@ -1,6 +1,6 @@
 -- `passes::group::count_group` meets its contract: the group's settled pairs are put aside, the passes made from undefined, and the pairs put back.
 -- Assumes nothing.
-use mathlib.Core.Path.{_≡_, refl, sym, _∙_}
+use mathlib.Core.Path.{refl, sym, _∙_}
 use borrow.Author.Needs.{needs}
 use native.Mathlib.Omega.{arith}
 use Rattle.passes.proofs.GroupLaws.{kept-put, cleared-passed, passed-run}

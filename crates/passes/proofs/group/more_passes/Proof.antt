@@ -1,9 +1,8 @@
 -- `passes::group::more_passes` meets its contract: each turn makes a pass that some setting needs. Assumes nothing.
-use mathlib.Core.Path.{_≡_, sym, _∙_}
-use Prim.Native.Nat.{_+_, _-_, _≤_, _<_}
+use mathlib.Core.Path.{sym, _∙_}
+use Prim.Native.Nat.{_+_, _-_, _≤_}
 use native.Mathlib.Omega.{arith}
 use borrow.Author.Needs.{needs}
-use lib.ListN.{length}
 use Rattle.netlist.specs.Limits.{maxCopies}
 use Rattle.netlist.specs.StoredBlock.{decode}
 use Rattle.encoding.proofs.Decoded.{decode-inputCount}
@@ -13,11 +12,11 @@ use Rattle.passes.proofs.group.more_passes.Statement.{statement}
 use Rattle.passes.proofs.group.more_passes.Tie as tie
 
 abbrev Inv-loop : tie.InvT-loop
-Inv-loop words n gates base group passes total zeros₀ ones₀ settled-zeros settled-ones used size p₀ sum₀ zeros ones p sum =
-    Passing (decode words) n base group passes total zeros₀ ones₀ zeros ones p sum
+Inv-loop words n gates base group passes total zeros₀ ones₀ settled-zeros settled-ones used size needed₀ sum₀ zeros ones needed sum =
+    Passing (decode words) n base group passes total zeros₀ ones₀ zeros ones needed sum
 
 abbrev μ-loop : tie.MeasureT-loop
-μ-loop words n gates base group passes total zeros₀ ones₀ settled-zeros settled-ones used size p₀ sum₀ zeros ones p sum = maxCopies + 1 - sum
+μ-loop words n gates base group passes total zeros₀ ones₀ settled-zeros settled-ones used size needed₀ sum₀ zeros ones needed sum = maxCopies + 1 - sum
 
 -- the function's entry, from the loop's head; and the loop's head, from a comparison
 abbrev start : tie.At-loop Inv-loop μ-loop → tie.Start Inv-loop μ-loop
@@ -55,11 +54,11 @@ pass-requires c κs =
     (start l .pre .batch .evaluable, l .before .used-lanes .ensures, l .loop .inv .passed .held)
 
 -- the passes and the copies fit
-small : (c : tie.After-lacks Inv-loop μ-loop) → head c .loop .p ≤ maxCopies + maxCopies
+small : (c : tie.After-lacks Inv-loop μ-loop) → head c .loop .needed ≤ maxCopies + maxCopies
 small c = let l = head c in sofar-small (start l .pre .batch .sizeSome) (l .loop .inv .soFar)
 
-add-p : tie.Need-add-p Inv-loop μ-loop
-add-p c = omega (arith, small (c .before .before .before .before .before .before .before .before))
+add-needed : tie.Need-add-needed Inv-loop μ-loop
+add-needed c = omega (arith, small (c .before .before .before .before .before .before .before .before))
 
 add-sum : tie.Need-add-sum Inv-loop μ-loop
 add-sum c =
@@ -78,7 +77,7 @@ loop-again c =
     let d = t .before in
     let l = head d in
     let r = start l .pre in
-    passing-more (r .batch) (r .kept) (l .loop .inv) (d .before .before .before .loop-test .taken) (rw (t .if1 .taken) at (d .lacks .ensures))
+    passing-more (r .batch) (r .kept) (l .loop .inv) (omega (arith, d .before .before .before .loop-test .taken)) (rw (t .if1 .taken) at (d .lacks .ensures))
     (c .before .before .before .before .pass .ensures)
 
 same-length : tie.Need-same-length Inv-loop μ-loop
@@ -120,7 +119,7 @@ more-passes-spec =
     loop-holds
     lacks-requires
     pass-requires
-    add-p
+    add-needed
     add-sum
     loop-less
     loop-again

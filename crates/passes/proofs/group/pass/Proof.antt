@@ -1,6 +1,6 @@
 -- `passes::group::pass` meets its contract: after i turns the first i gates have been evaluated. Assumes nothing.
-use mathlib.Core.Path.{_≡_, sym, _∙_}
-use Prim.Native.Nat.{_-_, _≤_, _<_}
+use mathlib.Core.Path.{sym, _∙_}
+use Prim.Native.Nat.{_-_, _≤_}
 use native.Mathlib.Omega.{arith}
 use lib.ListN.{getD, length, take}
 use Rattle.netlist.specs.StoredBlock.{decode}

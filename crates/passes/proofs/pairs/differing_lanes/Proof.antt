@@ -1,8 +1,7 @@
 -- `passes::pairs::differing_lanes` meets its contract: after i turns the lanes of the first i gates are marked. Assumes nothing.
-use mathlib.Core.Path.{_≡_, refl, sym, ap, _∙_}
-use Prim.Native.Nat.{ℕ, _+_, _-_, _≤_, _<_}
+use Prim.Native.Nat.{_-_, _≤_}
 use native.Mathlib.Omega.{arith}
-use lib.ListN.{length, getD, take}
+use lib.ListN.{length, take}
 use Rattle.lanes.specs.Batches.{lanesOf}
 use Rattle.judge.specs.Lanes.{Tells}
 use Rattle.passes.specs.Pairs.{differAt}
@@ -22,7 +21,9 @@ abbrev start : tie.At-loop Inv-loop μ-loop → tie.Start Inv-loop μ-loop
 start l = l .before .before .before .before .before .before
 
 loop-holds : tie.Need-loop-holds Inv-loop μ-loop
-loop-holds c = let a = c .before .before .before .before .before .args in (omega arith, differs-none (a .n) (a .zeros .now) (a .ones .now) (a .other-zeros .now) (a .other-ones .now))
+loop-holds c =
+    let a = c .before .before .before .before .before .args in
+    (omega arith, differs-none (a .n) (a .zeros .now) (a .ones .now) (a .other-zeros .now) (a .other-ones .now))
 
 mul-k : tie.Need-mul-k Inv-loop μ-loop
 mul-k c = omega arith
@@ -52,8 +53,8 @@ loop-again c =
     let s = start (h .before) in
     let a = s .args in (
       omega arith,
-      differs-next (a .n) (a .zeros .now) (a .ones .now) (a .other-zeros .now) (a .other-ones .now) (a .group .now) (l .i) (l .differing) (c .difference .result)
-          (h .loop-test .taken) (s .pre .1 .0) (s .pre .1 .1) (l .inv .1) (c .difference .ensures),
+      differs-next (a .n) (a .zeros .now) (a .ones .now) (a .other-zeros .now) (a .other-ones .now) (a .group .now) (l .i) (l .differing)
+          (c .difference .result) (h .loop-test .taken) (s .pre .1 .0) (s .pre .1 .1) (l .inv .1) (c .difference .ensures),
     )
 
 returns : tie.Need-returns Inv-loop μ-loop
