@@ -64,7 +64,7 @@ loop-again c =
     let few : l .loop .i ≤ getD (now (a .words)) (a .at) 0 / 8 = rw (← h .word-at .ensures) (l .loop .inv .0) in (
       omega arith,
       c .combine .ensures
-          ∙ folded-next (a .used) (now (a .zeros)) (now (a .ones)) (now (a .words)) (a .at) _ (l .loop .i) (w .before .loop-test .taken) few
+          ∙ folded-next (a .used) (now (a .zeros)) (now (a .ones)) (now (a .words)) (a .at) _ (l .loop .i) (omega (arith, w .before .loop-test .taken)) few
           (c .before .operand-pair .ensures ∙ rw (w .word-at2 .ensures)) (l .loop .inv .1),
     )
 
