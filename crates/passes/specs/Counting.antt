@@ -23,6 +23,7 @@ use Rattle.netlist.specs.Steps.{run}
 use Rattle.netlist.specs.Passes.{afterPasses, areSettled, areEnough, passCount, copyCount}
 use Rattle.agreement.specs.Copies.{groupAt}
 use Rattle.batch.specs.Legible.{Legible}
+use Rattle.lanes.specs.Pairs.{lane}
 use Rattle.lanes.specs.PairRounds.{AllProper}
 use Rattle.lanes.specs.Batches.{lanesOf}
 use Rattle.lanes.specs.Nodes.{pairAt, inputsIn, gatesIn}
