@@ -4,12 +4,13 @@
 --   step-mono, run-mono                     it grows with the state
 --   run-below-settled, any-order-below      it stays below the settled values
 --   any-order-settled                       at rest it is settled
+--   any-order                               both, as specs/AnyOrder.antt states them for every sequence
 -- Assumes nothing.
 use Prim.Native.Nat.{ℕ, _<_}
 use mathlib.Core.Path.{_≡_, refl, sym, _∙_}
 use mathlib.Core.Bool.{false}
 use mathlib.Core.List.{List, [], _∷_, _++_}
-use lib.ListN.{length, getD, replicate, length-set, length-replicate}
+use lib.ListN.{length, getD, take, replicate, length-set, length-replicate}
 use lib.Dec.{eqb}
 use lib.Seq.{ext-getD, getD-set-other}
 use borrow.Author.Tests.{eqb-false}
@@ -19,6 +20,7 @@ use Rattle.netlist.specs.Values.{Value, undefined}
 use Rattle.netlist.specs.Netlist.{Block, gateCount, gateOf}
 use Rattle.netlist.specs.Rounds.{evaluated, settled}
 use Rattle.rounds.specs.Order.{BelowAll}
+use Rattle.rounds.specs.AnyOrder.{held, AnyOrder}
 use Rattle.netlist.specs.Steps.{stepAt, run}
 use Rattle.rounds.proofs.Values.{below-of-eq, below-trans}
 use Rattle.rounds.proofs.Evaluation.{evaluated-mono-all}
@@ -89,16 +91,22 @@ module _ (b : Block) (x : List Value) where
       ext-getD undefined v (settled b x) (e ∙ sym (length-settled b x))
       (λ j l. fixed-settled-on b x (λ _. Unit) v (λ i k s m q. tt) (λ i s. h i) (λ i s m. fixed i m) j tt)
 
-  -- Paper 14: along any steps from all undefined, no gate holds 0 or 1 unless that is its settled value,
-  pub any-order-below : (js : List ℕ) → BelowAll (run b x js (replicate (gateCount b) undefined)) (settled b x)
+  -- Along any steps from all undefined the state stays below the settled values,
+  pub any-order-below : (js : List ℕ) → BelowAll (held b x js) (settled b x)
   any-order-below js = run-below-settled js (replicate (gateCount b) undefined) start-below-settled
 
   -- and where no gate's evaluation would change the end, it is the settled state.
   pub any-order-settled : (js : List ℕ)
-      → ((j : ℕ) → j < gateCount b
-      → evaluated x (run b x js (replicate (gateCount b) undefined)) (gateOf b j)
-      ≡ getD (run b x js (replicate (gateCount b) undefined)) j undefined)
-      → run b x js (replicate (gateCount b) undefined) ≡ settled b x
+      → ((j : ℕ) → j < gateCount b → evaluated x (held b x js) (gateOf b j) ≡ getD (held b x js) j undefined)
+      → held b x js ≡ settled b x
   any-order-settled js fixed =
-      fixed-settled (run b x js (replicate (gateCount b) undefined))
+      fixed-settled (held b x js)
       (length-run js (replicate (gateCount b) undefined) ∙ length-replicate (gateCount b) undefined) (any-order-below js) fixed
+
+  -- The claim of specs/AnyOrder.antt, for every finite sequence.
+  pub any-order : (gates : List ℕ) → AnyOrder b x gates
+  any-order gates =
+      record {
+        neverAnother = λ t j. any-order-below (take t gates) j;
+        atRest = any-order-settled gates;
+      }
