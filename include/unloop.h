@@ -35,7 +35,8 @@ enum unloop_refusal {
     UNLOOP_NOT_SETTLED = 9, /* detail: the lowest setting that may come under which an output is undefined */
     UNLOOP_NOT_STRAIGHT = 10,
     UNLOOP_NO_ROOM = 11,
-    UNLOOP_INTERFACE_MISMATCH = 12
+    UNLOOP_INTERFACE_MISMATCH = 12,
+    UNLOOP_NOT_A_PERMUTATION = 13
 };
 
 /* Enough room for every result: words of a block, bytes of a text, bytes of a written text, gates, words of a cover,
@@ -115,6 +116,16 @@ unloop_reply unloop_cells(const uint16_t *block, size_t block_length, uint16_t *
    inputs or 1,024 cells, part of a cell, an operand that is no input, constant or earlier cell), 7, 11. */
 unloop_reply unloop_run(size_t inputs, const uint16_t *cells, size_t cells_length, const uint8_t *setting, size_t setting_length,
                         uint8_t *values, size_t values_length);
+
+/* Gather: the block with its gates numbered afresh by group, ascending within it, operands and outputs to match, and the list of their old
+   numbers in the new order; count: the block's words. 6, 11 (either slice is too small, and then neither is altered). */
+unloop_reply unloop_gather(const uint16_t *block, size_t block_length, uint16_t *gathered, size_t gathered_length,
+                           uint16_t *order, size_t order_length);
+
+/* Scatter: the way back, from any block and list: each gate gets the number that stands in its place of the list; count: words. 6, 13 (the
+   list does not have each gate number once), 11. */
+unloop_reply unloop_scatter(const uint16_t *block, size_t block_length, const uint16_t *order, size_t order_length,
+                            uint16_t *original, size_t original_length);
 
 /* Line: the line that holds the place, without its LF. Never refuses. */
 unloop_span unloop_line(const uint8_t *text, size_t text_length, size_t place);

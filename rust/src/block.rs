@@ -15,7 +15,7 @@ pub struct Block {
 }
 
 /// What the library promises of a block where there is room for every result.
-const NEVER_REFUSED: &str = "a block is not refused";
+pub(crate) const NEVER_REFUSED: &str = "a block is not refused";
 
 impl Block {
     /// The block of a netlist text.
@@ -67,6 +67,11 @@ impl Block {
         let old = old.as_ref();
         let words = counted(BLOCK_WORDS, |block| raw::bring(old, block))?;
         Ok(Block { words })
+    }
+
+    /// The block of words that an operation gave.
+    pub(crate) fn of_words(words: Vec<u16>) -> Block {
+        Block { words }
     }
 
     /// The stored words.

@@ -24,6 +24,7 @@
 
 mod block;
 mod cells;
+mod gather;
 pub mod limits;
 mod location;
 pub mod raw;
@@ -34,6 +35,7 @@ mod value;
 
 pub use block::Block;
 pub use cells::Cells;
+pub use gather::Gathered;
 pub use location::Location;
 pub use refusal::Refusal;
 pub use results::{Assignment, Disagreement, Groups, Settled, Verdict};

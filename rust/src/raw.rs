@@ -81,6 +81,22 @@ extern "C" {
         values: *mut u8,
         room: usize,
     ) -> Reply;
+    fn unloop_gather(
+        block: *const u16,
+        words: usize,
+        gathered: *mut u16,
+        room: usize,
+        order: *mut u16,
+        order_room: usize,
+    ) -> Reply;
+    fn unloop_scatter(
+        block: *const u16,
+        words: usize,
+        order: *const u16,
+        length: usize,
+        original: *mut u16,
+        room: usize,
+    ) -> Reply;
     fn unloop_line(text: *const u8, bytes: usize, place: usize) -> Span;
 }
 
@@ -163,6 +179,20 @@ pub fn run(inputs: usize, cells: &[u16], setting: &[u8], values: &mut [u8]) -> R
     let (words, bytes, room) = (cells.len(), setting.len(), values.len());
     let (cells, setting, values) = (cells.as_ptr(), setting.as_ptr(), values.as_mut_ptr());
     unsafe { unloop_run(inputs, cells, words, setting, bytes, values, room) }
+}
+
+/// The block with the gates of each group side by side, and the list of their old numbers in the new order; count: the block's words.
+pub fn gather(block: &[u16], gathered: &mut [u16], order: &mut [u16]) -> Reply {
+    let (words, room, order_room) = (block.len(), gathered.len(), order.len());
+    let (block, gathered, order) = (block.as_ptr(), gathered.as_mut_ptr(), order.as_mut_ptr());
+    unsafe { unloop_gather(block, words, gathered, room, order, order_room) }
+}
+
+/// The block with its gates under the numbers of the list: what was gathered into it; count: words.
+pub fn scatter(block: &[u16], order: &[u16], original: &mut [u16]) -> Reply {
+    let (words, length, room) = (block.len(), order.len(), original.len());
+    let (block, order, original) = (block.as_ptr(), order.as_ptr(), original.as_mut_ptr());
+    unsafe { unloop_scatter(block, words, order, length, original, room) }
 }
 
 /// The start and length of the line that holds `place`, without its LF.

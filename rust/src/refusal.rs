@@ -81,6 +81,8 @@ refusals! {
     11 "short" NoRoom => "the slice for the result is too small",
     /// Two blocks that are compared have other input names or ports, or the same in another order.
     12 "strangers" InterfaceMismatch => "the blocks do not have the same input names and ports in the same order",
+    /// A list of gate numbers that doesn't have each gate's once.
+    13 "order" NotAPermutation => "the list does not have each gate number once",
 }
 
 /// What a row may have under the detail's name.

@@ -118,6 +118,27 @@ static void run_cells(void)
     answers(unloop_run(1, cells, 19, one, 1, values, LENGTH(values)), 6, 0, 0, "run of part of a cell");
 }
 
+/* Gates 0 and 2 read each other, gate 1 reads both: gathered, it comes last. */
+static void gather_neighbours(void)
+{
+    static const uint16_t apart[] = {0, 3, 1, 0, 8, 2, 0, 0, 0, 17, 0, 2, 0, 0, 8, 0, 0, 0, 0, 'y', 0, 0, 0, 1};
+    static const uint16_t together[] = {0, 3, 1, 0, 8, 1, 0, 0, 0, 8, 0, 0, 0, 0, 17, 0, 1, 0, 0, 'y', 0, 0, 0, 2};
+    static const uint16_t twice[] = {0, 2, 2};
+    uint16_t block[LENGTH(apart)], order[4] = {9, 9, 9, 9};
+
+    answers(unloop_gather(apart, LENGTH(apart), block, LENGTH(block), order, 2), 11, 0, 0, "gather, the list one short");
+    check(order[0] == 9, "a list that is short is not altered");
+    answers(unloop_gather(apart, LENGTH(apart), block, LENGTH(block), order, 4), 0, LENGTH(apart), 0, "gather");
+    check(memcmp(block, together, sizeof together) == 0, "the gathered words");
+    check(order[0] == 0 && order[1] == 2 && order[2] == 1 && order[3] == 9, "the list of old numbers");
+    answers(unloop_gather(apart, LENGTH(apart) - 1, block, LENGTH(block), order, 4), 6, 0, 0, "gather of torn words");
+    answers(unloop_scatter(together, LENGTH(together), order, 3, block, LENGTH(block)), 0, LENGTH(apart), 0, "scatter");
+    check(memcmp(block, apart, sizeof apart) == 0, "the scattered words");
+    answers(unloop_scatter(together, LENGTH(together), twice, 3, block, LENGTH(block)), 13, 0, 0, "scatter by a list with a repeat");
+    answers(unloop_scatter(together, LENGTH(together), order, 4, block, 0), 13, 0, 0, "scatter by a longer list");
+    answers(unloop_scatter(together, LENGTH(together), order, 3, block, LENGTH(block) - 1), 11, 0, 0, "scatter, one word short");
+}
+
 int main(void)
 {
     static uint16_t rendered[UNLOOP_BLOCK_WORDS];
@@ -152,6 +173,7 @@ int main(void)
     compare_specimens();
     bring_specimen();
     run_cells();
+    gather_neighbours();
     unloop_span span = unloop_line((const uint8_t *)written, sizeof written - 1, 10);
     check(span.start == 7 && span.length == 19, "line");
     if (failures == 0)

@@ -32,6 +32,8 @@ pub const NOT_STRAIGHT: usize = 10;
 pub const NO_ROOM: usize = 11;
 /// The trade's word: strangers.
 pub const INTERFACE_MISMATCH: usize = 12;
+/// The trade's word: order.
+pub const NOT_A_PERMUTATION: usize = 13;
 
 impl Answer {
     /// Success, with a count.

@@ -2,6 +2,7 @@
 //! A difference panics, and a `Report` tells the input.
 
 pub mod cells;
+pub mod gather;
 pub mod seeded;
 pub mod tally;
 

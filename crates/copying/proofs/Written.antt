@@ -1,4 +1,5 @@
--- What is written, part after part, is the encoding of the rendering. Cited by `write_rendering`. Assumes nothing.
+-- What is written, part after part, is the encoding of the rendering. Cited by `write_rendering`; the laws of single parts also by `gather`.
+-- Assumes nothing.
 use Prim.Native.Nat.{ℕ, zero, suc, _+_, _-_, _*_, _≤_, _<_}
 use mathlib.Core.Path.{_≡_, refl, sym, ap, ap₂, _∙_}
 use mathlib.Core.Bool.{false}
@@ -38,7 +39,7 @@ abbrev outputs-at : List ℕ → ℕ → ℕ → ℕ
 outputs-at ws n m = outputsAt n (getD ws 3 0) m
 
 -- The words of the input names and of the never lines are copied as they are.
-front-written : (ws : List ℕ)
+pub front-written : (ws : List ℕ)
     → tab (wordFrom ws 4) (4 * getD ws 0 0 + 2 * getD ws 3 0) ≡ joined (map nameWords (decode ws .inputs)) ++ joined (map neverWords (decode ws .nevers))
 unfolding wordFrom decode neversAt
 front-written ws =
@@ -61,7 +62,7 @@ module _ (ws : List ℕ) (n m k : ℕ) (whole : isTorn ws ≡ false) (inputsAre 
   parts : Intact ws n m k
   parts = rw (inputsAre, gatesAre, outputsAre) (whole-parts ws whole)
 
-  few : n + m ≤ 65534
+  pub few : n + m ≤ 65534
   few = omega (arith, parts .fewInputs, parts .fewGates)
 
   gate-whole : (j : ℕ) → j < m → GateWhole ws (n + m) (gates-at ws n + gateSize * j)
@@ -71,7 +72,7 @@ module _ (ws : List ℕ) (n m k : ℕ) (whole : isTorn ws ≡ false) (inputsAre 
   gate-is j l = rw inputsAre (decode-gate ws j (rw (← gatesAre) l))
 
   -- The words of a copy of gate j.
-  copy-written : (table : List ℕ) (newest : List Operand) → Stands n m table newest → (j : ℕ) → j < m
+  pub copy-written : (table : List ℕ) (newest : List Operand) → Stands n m table newest → (j : ℕ) → j < m
       → copyWords ws (gates-at ws n) n m j table ≡ gateWords n (copied newest (gateOf (decode ws) j))
   unfolding copyWords
   copy-written table newest stands j l =
@@ -80,9 +81,9 @@ module _ (ws : List ℕ) (n m k : ℕ) (whole : isTorn ws ≡ false) (inputsAre 
 
   -- ---- the outputs
 
-  -- output o of the rendering
-  shown : Output → Output
-  shown o = record { port = o .port; node = copiedOperand (lastCopies (decode ws)) (o .node) }
+  -- an output that shows what stands for its node
+  abbrev shown : List Operand → Output → Output
+  shown newest o = record { port = o .port; node = copiedOperand newest (o .node) }
 
   outputs-of : decode ws .outputs ≡ tab (λ o. outputAt n ws (outputs-at ws n m + outputSize * o)) k
   unfolding decode
@@ -91,18 +92,19 @@ module _ (ws : List ℕ) (n m k : ℕ) (whole : isTorn ws ≡ false) (inputsAre 
   node-below : (o : ℕ) → o < k → getD ws (outputs-at ws n m + outputSize * o + 4) 0 < n + m
   node-below o l = rw (inputsAre, gatesAre) (whole-node ws whole o (rw (← outputsAre) l))
 
-  outputs-written : (table : List ℕ) → Stands n m table (lastCopies (decode ws))
-      → joined (tab (shownAt ws (outputs-at ws n m) n m table) k) ≡ joined (map (outputWords n) (rendering (decode ws) .outputs))
-  unfolding rendering outputAt shownAt shown
-  outputs-written table stands =
+  pub outputs-written : (table : List ℕ) (newest : List Operand) → Stands n m table newest
+      → joined (tab (shownAt ws (outputs-at ws n m) n m table) k)
+      ≡ joined (map (outputWords n) (map (λ (o : Output). record { port = o .port; node = copiedOperand newest (o .node) }) (decode ws .outputs)))
+  unfolding outputAt shownAt
+  outputs-written table newest stands =
       ap joined
-      (tab-ext (shownAt ws (outputs-at ws n m) n m table) (λ o. outputWords n (shown (outputAt n ws (outputs-at ws n m + outputSize * o)))) k
-      (λ o l. shown-words n m few table (lastCopies (decode ws)) stands ws (outputs-at ws n m + outputSize * o) (node-below o l)))
+      (tab-ext (shownAt ws (outputs-at ws n m) n m table) (λ o. outputWords n (shown newest (outputAt n ws (outputs-at ws n m + outputSize * o)))) k
+      (λ o l. shown-words n m few table newest stands ws (outputs-at ws n m + outputSize * o) (node-below o l)))
       ∙ sym
-      (ap (λ (os : List Output). joined (map (outputWords n) (map shown os))) outputs-of
+      (ap (λ (os : List Output). joined (map (outputWords n) (map (shown newest) os))) outputs-of
       ∙ ap joined
-      (ap (map (outputWords n)) (map-tab shown (λ o. outputAt n ws (outputs-at ws n m + outputSize * o)) k)
-      ∙ map-tab (outputWords n) (λ o. shown (outputAt n ws (outputs-at ws n m + outputSize * o))) k))
+      (ap (map (outputWords n)) (map-tab (shown newest) (λ o. outputAt n ws (outputs-at ws n m + outputSize * o)) k)
+      ∙ map-tab (outputWords n) (λ o. shown newest (outputAt n ws (outputs-at ws n m + outputSize * o))) k))
 
   -- ---- the copies
 
@@ -175,7 +177,7 @@ module _ (ws : List ℕ) (n m k : ℕ) (whole : isTorn ws ≡ false) (inputsAre 
           ∙ ap (λ (js : List ℕ). nodeWord n (getD (newestAfter (noCopies (decode ws)) 0 js) j (constant false))) all-taken
 
 -- The five parts of a block's words.
-encode-of : (b : Block) (n t k lines : ℕ) (front gates outputs : List ℕ)
+pub encode-of : (b : Block) (n t k lines : ℕ) (front gates outputs : List ℕ)
     → inputCount b ≡ n → gateCount b ≡ t → outputCount b ≡ k → neverCount b ≡ lines
     → front ≡ joined (map nameWords (b .inputs)) ++ joined (map neverWords (b .nevers))
     → gates ≡ joined (map (gateWords n) (b .gates)) → outputs ≡ joined (map (outputWords n) (b .outputs))
@@ -238,7 +240,7 @@ module _ (ws : List ℕ) (n m k : ℕ) (order : List ℕ) (total : ℕ) (newest 
       → out₃ ≡ sets out₂ at (joined (tab (copyAt ws at n m order table) total)) → last ≡ tableAfter n order table total
       → out₄ ≡ sets out₃ (at + 5 * total) (joined (tab (shownAt ws (at + 5 * m) n m last) k))
       → out₄ ≡ placed (encode (rendering (decode ws))) out
-  unfolding outputsAt noCopies
+  unfolding outputsAt noCopies rendering
   rendering-written at lines table out₁ out₂ out₃ last out₄ ea en e₁ e₂ et e₃ el e₄ =
       rw (e₄, e₃, e₂, e₁)
       (four-sets out (n ∷ total ∷ k ∷ lines ∷ []) front gates outputs 4 at (at + 5 * total) refl
@@ -276,5 +278,5 @@ module _ (ws : List ℕ) (n m k : ℕ) (order : List ℕ) (total : ℕ) (newest 
           (rw behind
           (gates-written ws n m k (r .whole) (r .inputsAre) (r .gatesAre) (r .outputsAre) order total (r .totalIs) (r .scheduled) table long none))
           (rw behind
-          (outputs-written ws n m k (r .whole) (r .inputsAre) (r .gatesAre) (r .outputsAre) last
+          (outputs-written ws n m k (r .whole) (r .inputsAre) (r .gatesAre) (r .outputsAre) last (lastCopies (decode ws))
           (rw el (stands-last ws n m k (r .whole) (r .inputsAre) (r .gatesAre) (r .outputsAre) order total (r .totalIs) (r .scheduled) table long none))))

@@ -85,7 +85,7 @@ fn copy_gates(
 }
 
 // Writes the `k` outputs that stand at `from`, each at what stands for its node in the end.
-fn copy_outputs(
+pub fn copy_outputs(
     words: &[u16],
     from: usize,
     n: usize,

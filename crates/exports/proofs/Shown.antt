@@ -9,8 +9,9 @@ use Rattle.refusals.proofs.Shown.{shows-same}
 use Rattle.refusals.proofs.Promised.{told-answer, promise-answer}
 use Rattle.simulate.specs.Passed.{PassPromise}
 use Rattle.cells.specs.Promise.{CellsPromise}
+use Rattle.gather.specs.Promise.{GatherPromise}
 use Rattle.render.specs.Promise.{RenderPromise}
-use Rattle.exports.specs.Replies.{Replies, PassReply, RenderReply, CellsReply}
+use Rattle.exports.specs.Replies.{Replies, PassReply, RenderReply, CellsReply, GatherReply}
 
 pub replies : {o : Outcome} {entry exit : List ℕ} {a : Answer} {r : Reply} → Promise o entry a exit → Shows a r → Replies o entry r exit
 replies p s = record { shows = shows-same (promise-answer p) s; leaves = p .leaves }
@@ -27,3 +28,8 @@ render-reply p s = let e = promise-answer (p .promise) in record { replies = rep
 
 pub cells-reply : {ws entry : List ℕ} {a : Answer} {r : Reply} {exit : List ℕ} → CellsPromise ws entry a exit → Shows a r → CellsReply ws entry r exit
 cells-reply p s = let e = promise-answer (p .promise) in record { replies = replies (p .promise) s; promise = rw (← e) p }
+
+pub gather-reply : {ws entry listEntry : List ℕ} {a : Answer} {r : Reply} {exit listExit : List ℕ} → GatherPromise ws entry listEntry a exit listExit
+    → Shows a r
+    → GatherReply ws entry listEntry r exit listExit
+gather-reply p s = record { block = replies (p .block) s; list = p .list }

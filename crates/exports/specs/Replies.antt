@@ -6,6 +6,7 @@ use lib.ListN.{length}
 use Rattle.netlist.specs.Answers.{Shows, Outcome, answerOf, leftIn}
 use Rattle.netlist.specs.Operations.{settle, pass, render}
 use Rattle.netlist.specs.Cells.{makeCells}
+use Rattle.netlist.specs.Gather.{gather, gatherList}
 use Rattle.cells.specs.Promise.{CellsPromise}
 use Rattle.render.specs.Promise.{RenderPromise}
 use Rattle.netlist.specs.declared.Reply.{Reply}
@@ -29,3 +30,8 @@ pub record RenderReply (ws entry : List ℕ) (r : Reply) (exit : List ℕ) : Typ
 pub record CellsReply (ws entry : List ℕ) (r : Reply) (exit : List ℕ) : Type 0 where
   pub replies : Replies (makeCells ws (length entry)) entry r exit
   pub promise : CellsPromise ws entry (answerOf (makeCells ws (length entry))) exit
+
+-- Gather's, on both slices.
+pub record GatherReply (ws entry listEntry : List ℕ) (r : Reply) (exit listExit : List ℕ) : Type 0 where
+  pub block : Replies (gather ws (length entry) (length listEntry)) entry r exit
+  pub list : listExit ≡ leftIn (gatherList ws (length entry) (length listEntry)) listEntry

@@ -14,7 +14,8 @@ ghost use Rattle.netlist.specs.Cells.{runCells};
 ghost use Rattle.netlist.specs.Sheet.{sheet, sheetRecords};
 ghost use Rattle.netlist.specs.Compare.{compare};
 ghost use Rattle.netlist.specs.Line.{lineStart, lineLength};
-ghost use Rattle.exports.specs.Replies.{Replies, PassReply, RenderReply, CellsReply};
+ghost use Rattle.netlist.specs.Gather.{scatter};
+ghost use Rattle.exports.specs.Replies.{Replies, PassReply, RenderReply, CellsReply, GatherReply};
 
 // Where a line starts, and how many bytes it has.
 #[repr(C)]
@@ -152,4 +153,20 @@ pub extern "C" fn unloop_compare(ours: &[u16], theirs: &[u16]) -> Reply
     ensures { λ r. ⌜ Shows (answerOf (compare (now (ours .entry)) (now (theirs .entry)))) r ⌝ }
 {
     reply_of(compare::compare(ours, theirs))
+}
+
+// Gather: the block with its gates by group, and the list of their old numbers; count: the block's words.
+#[no_mangle]
+pub extern "C" fn unloop_gather(block: &[u16], gathered: &mut [u16], order: &mut [u16]) -> Reply
+    ensures { λ r. ⌜ GatherReply (now (block .entry)) (now (gathered .entry)) (now (order .entry)) r (now (gathered .exit)) (now (order .exit)) ⌝ }
+{
+    reply_of(gather::gather(block, gathered, order))
+}
+
+// Scatter: the block with its gates in the order that they had, from the list of their old numbers; count: words.
+#[no_mangle]
+pub extern "C" fn unloop_scatter(block: &[u16], order: &[u16], original: &mut [u16]) -> Reply
+    ensures { λ r. ⌜ Replies (scatter (now (block .entry)) (now (order .entry)) (length (now (original .entry)))) (now (original .entry)) r (now (original .exit)) ⌝ }
+{
+    reply_of(gather::scatter(block, order, original))
 }

@@ -1,7 +1,7 @@
 //! The comparisons on fresh seeds, for some minutes.
 
 use simulator::compare::tally::Tally;
-use simulator::compare::{cells, seeded};
+use simulator::compare::{cells, gather, seeded};
 use simulator::generate::Size;
 use std::env;
 use std::ops::Range;
@@ -85,6 +85,13 @@ const KINDS: &[Kind] = &[
     kind("cells of malformed blocks", 11, cells::malformed_words),
     kind("foreign cells", 1, |s| cells::foreign(s, 40)),
     kind("malformed cells", 11, cells::malformed_runs),
+    kind("small blocks gathered", 1, |s| {
+        gather::blocks(s, Size::SMALL)
+    }),
+    kind("middle blocks gathered", 51, |s| {
+        gather::blocks(s, Size::MIDDLE)
+    }),
+    kind("malformed blocks gathered", 11, gather::malformed_words),
 ];
 
 fn main() -> ExitCode {

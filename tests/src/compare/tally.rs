@@ -1,5 +1,6 @@
 //! How much was compared on this thread; each test has a thread of its own.
 
+use crate::answer::NOT_A_PERMUTATION;
 use crate::limits::NEVERS;
 use std::cell::Cell;
 use std::fmt::{self, Display, Formatter};
@@ -20,6 +21,10 @@ pub struct Tally {
     pub made: usize,
     /// Lists of words and settings in Run.
     pub runs: usize,
+    /// Lists of words in Gather.
+    pub gathered: usize,
+    /// Lists of words and of gate numbers in Scatter.
+    pub scattered: usize,
     /// Settings, each with a list of words in Settle and Pass.
     pub settings: usize,
     /// Texts in Read.
@@ -27,7 +32,7 @@ pub struct Tally {
     /// Places of texts in Line.
     pub places: usize,
     /// Answers by number, those of Verdict and Line apart.
-    pub answered: [usize; 13],
+    pub answered: [usize; NOT_A_PERMUTATION + 1],
 }
 
 thread_local! {
@@ -39,10 +44,12 @@ thread_local! {
             brought: 0,
             made: 0,
             runs: 0,
+            gathered: 0,
+            scattered: 0,
             settings: 0,
             texts: 0,
             places: 0,
-            answered: [0; 13],
+            answered: [0; NOT_A_PERMUTATION + 1],
         })
     };
 }
@@ -70,6 +77,8 @@ impl Display for Tally {
             brought,
             made,
             runs,
+            gathered,
+            scattered,
             settings,
             texts,
             places,
@@ -82,6 +91,7 @@ impl Display for Tally {
             "{all_excluded} with every setting excluded, {brought} in Bring, "
         )?;
         write!(f, "{made} in Cells, {runs} in Run, ")?;
+        write!(f, "{gathered} in Gather, {scattered} in Scatter, ")?;
         write!(f, "{texts} texts, {places} places of lines, ")?;
         write!(f, "answers by number {answered:?}")
     }

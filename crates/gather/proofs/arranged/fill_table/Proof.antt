@@ -1,0 +1,84 @@
+-- `gather::arranged::fill_table` meets its contract: after j turns j words stand. Assumes nothing.
+use Prim.Native.Nat.{_≤_, _<_, _-_}
+use mathlib.Core.Path.{_≡_, refl}
+use native.Mathlib.Omega.{arith}
+use native.Mathlib.Numerals.{add-one}
+use lib.ListN.{getD}
+use Rattle.laws.specs.Lists.{tab}
+use Rattle.laws.proofs.Filling.{Filling, filling-none, filling-more}
+use Rattle.gather.specs.Arranging.{newWord}
+use Rattle.gather.proofs.arranged.fill_table.Statement.{statement}
+use Rattle.gather.proofs.arranged.fill_table.Tie as tie
+
+abbrev Inv-loop : tie.InvT-loop
+Inv-loop n m numbers table₀ j₀ table j = (j ≤ m) × Filling table₀ table (tab (newWord n numbers) j) j
+
+abbrev μ-loop : tie.MeasureT-loop
+μ-loop n m numbers table₀ j₀ table j = m - j
+
+-- a new number is a gate's
+number-below : (c : tie.After-shared-slice-known Inv-loop μ-loop) → getD (c .before .before .before .args .numbers .now) (c .before .before .loop .j) 0
+    < c .before .before .before .args .m
+number-below c = c .before .before .before .pre .1 .inside (c .before .before .loop .j) (c .before .loop-test .taken)
+
+loop-holds : tie.Need-loop-holds Inv-loop μ-loop
+loop-holds c = (omega arith, filling-none _)
+
+mul-table : tie.Need-mul-table Inv-loop μ-loop
+mul-table c = omega arith
+
+shared-slice-read-table : tie.Need-shared-slice-read-table Inv-loop μ-loop
+shared-slice-read-table c = omega arith
+
+cast-table : tie.Need-cast-table Inv-loop μ-loop
+cast-table c = omega (arith, c .shared-slice-known .given (c .before .before .loop .j))
+
+add-table : tie.Need-add-table Inv-loop μ-loop
+add-table c = omega (arith, number-below c)
+
+cast-table-2 : tie.Need-cast-table-2 Inv-loop μ-loop
+cast-table-2 c = omega (arith, number-below c)
+
+mul-table-2 : tie.Need-mul-table-2 Inv-loop μ-loop
+mul-table-2 c = omega arith
+
+slice-write-table : tie.Need-slice-write-table Inv-loop μ-loop
+slice-write-table c = omega arith
+
+add-j : tie.Need-add-j Inv-loop μ-loop
+add-j c = omega arith
+
+loop-less : tie.Need-loop-less Inv-loop μ-loop
+loop-less c = omega arith
+
+loop-again : tie.Need-loop-again Inv-loop μ-loop
+unfolding newWord
+loop-again c = (omega arith, filling-more (c .before .before .loop .inv .1) (omega arith) _ (rw add-one refl))
+
+same-length : tie.Need-same-length Inv-loop μ-loop
+same-length c = c .before .loop .inv .1 .kept
+
+returns : tie.Need-returns Inv-loop μ-loop
+returns c =
+    let e : c .before .loop .j ≡ c .before .before .args .m = omega arith in
+    rw (← e) (c .before .loop .inv .1 .holds)
+
+pub fill-table-spec : {M : Type 1} → statement M
+fill-table-spec =
+    tie.close
+    (tie.spec
+    Inv-loop
+    μ-loop
+    loop-holds
+    mul-table
+    shared-slice-read-table
+    cast-table
+    add-table
+    cast-table-2
+    mul-table-2
+    slice-write-table
+    add-j
+    loop-less
+    loop-again
+    same-length
+    returns)

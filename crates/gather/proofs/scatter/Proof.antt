@@ -1,0 +1,50 @@
+-- `gather::scatter` meets its contract: the words' condition, and then the rest. Assumes nothing.
+use denote.Ref.{now}
+use Rattle.netlist.specs.declared.Refusal.the-variants.{MalformedBlock}
+use Rattle.netlist.specs.Answers.{inRoom}
+use Rattle.refusals.proofs.Promised.{passed-false, failed, keeps-room}
+use Rattle.gather.proofs.Chain.{scatter-chain}
+use borrow.Author.Needs.{needs}
+use Rattle.gather.proofs.scatter.Statement.{statement}
+use Rattle.gather.proofs.scatter.Tie as tie
+
+check-words-requires : tie.Need-check-words-requires
+check-words-requires c κs = search needs
+
+enum-told : tie.Need-enum-told
+enum-told c = search needs
+
+enum-told-2 : tie.Need-enum-told-2
+enum-told-2 c = search needs
+
+refusal-requires : tie.Need-refusal-requires
+refusal-requires c κs = search needs
+
+returns : tie.Need-returns
+returns c =
+    let t = c .before .before .before in
+    let s = t .before .before .before .before in
+    failed (inRoom _) (keeps-room _) _ _ MalformedBlock (scatter-chain _ _ _) (t .check-words .ensures) (s .args .original .now)
+    (c .before .before .match .keys2) (c .refusal .ensures)
+
+scatter-block-requires : tie.Need-scatter-block-requires
+scatter-block-requires c κs = let e = c .before in passed-false _ MalformedBlock (e .before .before .check-words .ensures) (e .enum-told .given .1)
+
+same-length : tie.Need-same-length
+same-length c = search needs
+
+returns-2 : tie.Need-returns-2
+returns-2 c = search needs
+
+pub scatter-spec : {M : Type 1} → statement M
+scatter-spec =
+    tie.close
+    (tie.spec
+    check-words-requires
+    enum-told
+    enum-told-2
+    refusal-requires
+    returns
+    scatter-block-requires
+    same-length
+    returns-2)

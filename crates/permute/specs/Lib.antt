@@ -1,0 +1,2 @@
+-- Conditions that the laws of renumbered gates speak of.
+pub mod Renumbering
