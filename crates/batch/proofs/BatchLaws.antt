@@ -1,7 +1,7 @@
 -- Batches in two slices of words: the start, a gate's step, a step more, and the end.
 --   started-underway, started-inputs   the first pairs
 --   batch-none, batch-one, batch-then, batch-underway   sweeps
---   batch-settled                      what the last sweep leaves
+--   batch-settled, batch-decided       what the last sweep leaves
 --   along-inside, along-visits         the order, there and back
 -- Assumes nothing.
 use mathlib.Core.Path.{_≡_, refl, sym, ap, ap₂, _∙_}
@@ -11,6 +11,7 @@ use mathlib.Core.List.{List, [], _∷_, _++_, map}
 use Prim.Native.Nat.{ℕ, zero, suc, _+_, _-_, _*_, _%_, _≤_, _<_}
 use native.Mathlib.Omega.{arith}
 use borrow.Author.Tests.{lt-ltb, le-ltb, eq-eqb, eqb-true}
+use lib.Bits.{bitOr}
 use lib.Dec.{eqb, ltb}
 use lib.ListN.{length, getD, set, replicate, length-set, length-replicate}
 use lib.Seq.{ext-getD}
@@ -39,8 +40,8 @@ use Rattle.lanes.specs.Nodes.{pairAt, inputsIn, gatesIn, gatePairAt}
 use Rattle.lanes.proofs.LaneLaws.{nothing-lane, nothing-proper}
 use Rattle.lanes.proofs.InputLaws.{inputPairs-proper, inputPairs-lane}
 use Rattle.lanes.proofs.NodeLaws.{gatePairAt-evaluated, head-legal, set-inputs, set-gates}
-use Rattle.batch.specs.Batch.{Underway, Swept, Decidable, BatchUnderway, BatchSwept, BatchSettled, Started, startPair, placeOf, along}
-use Rattle.batch.proofs.Sweeping.{swept-none, swept-one, swept-then, swept-underway, swept-settled}
+use Rattle.batch.specs.Batch.{Underway, Swept, Decidable, BatchUnderway, BatchSwept, BatchSettled, Decided, Started, startPair, placeOf, along}
+use Rattle.batch.proofs.Sweeping.{swept-none, swept-one, swept-then, swept-underway, swept-settled, defined-settled}
 
 -- ---- the start
 
@@ -234,19 +235,37 @@ module _ {m : ℕ} {order : List ℕ} (back : Bool) (v : Visits m order) where
 
 -- ---- the end
 
+settled-batch : {b : Block} {n base : ℕ} {zeros ones : List ℕ} → n ≡ inputCount b → base % 64 ≡ 0 → inputsIn n zeros ones ≡ inputPairs n base
+    → BatchUnderway b n zeros ones
+    → ((i : ℕ) → i < lanesOf n → map (lane i) (gatesIn n (gateCount b) zeros ones) ≡ settled b (map (lane i) (inputsIn n zeros ones)))
+    → BatchSettled b n base zeros ones
+unfolding settledUnder
+settled-batch {b} {n} {base} many aligned x u values =
+    record {
+      zerosLong = u .zerosLong;
+      onesLong = u .onesLong;
+      inputsProper = u .underway .inputsProper;
+      gatesProper = u .underway .proper;
+      setting = λ i l. ap (map (lane i)) x ∙ inputPairs-lane n base aligned i l;
+      settledLanes = λ i l.
+          values i l ∙ ap (settled b) (ap (map (lane i)) x ∙ inputPairs-lane n base aligned i l ∙ ap (λ (k : ℕ). settingOf k (base + i)) many);
+    }
+
+-- a sweep over all gates that changes nothing
 pub batch-settled : {b : Block} {n base : ℕ} {order zeros ones zeros′ ones′ : List ℕ} {changed : Bool} → Visits (gateCount b) order → n ≡ inputCount b
     → base % 64 ≡ 0 → inputsIn n zeros ones ≡ inputPairs n base → BatchUnderway b n zeros ones → BatchSwept b n order zeros ones zeros′ ones′ changed
     → changed ≡ false → BatchSettled b n base zeros′ ones′
-unfolding settledUnder
-batch-settled {b} {n} {base} {order} {zeros} {ones} {zeros′} {ones′} v many aligned x u s none =
-    let x′ : inputsIn n zeros′ ones′ ≡ inputPairs n base = s .inputsKept ∙ x in
-    record {
-      zerosLong = s .zerosLong ∙ u .zerosLong;
-      onesLong = s .onesLong ∙ u .onesLong;
-      inputsProper = rw (s .inputsKept) (u .underway .inputsProper);
-      gatesProper = s .swept .proper;
-      setting = λ i l. ap (map (lane i)) x′ ∙ inputPairs-lane n base aligned i l;
-      settledLanes = λ i l.
-          swept-settled v (u .underway) (s .swept) none i l
-          ∙ ap (settled b) (ap (map (lane i)) x ∙ inputPairs-lane n base aligned i l ∙ ap (λ (k : ℕ). settingOf k (base + i)) many);
-    }
+batch-settled v many aligned x u s none =
+    settled-batch many aligned (s .inputsKept ∙ x) (batch-underway u s) (λ i l. rw (s .inputsKept) (swept-settled v (u .underway) (s .swept) none i l))
+
+-- no lane is undefined any more
+pub batch-decided : {b : Block} {n base used : ℕ} {zeros ones : List ℕ} → n ≡ inputCount b → base % 64 ≡ 0 → inputsIn n zeros ones ≡ inputPairs n base
+    → BatchUnderway b n zeros ones → used ≡ full (lanesOf n) → Decided used zeros ones → BatchSettled b n base zeros ones
+unfolding gatesIn pairAt
+batch-decided {b} {n} {base} {used} {zeros} {ones} many aligned x u inUse d =
+    settled-batch many aligned x u (defined-settled (u .underway) each)
+  where
+    each : (j : ℕ) → j < gateCount b → let p = getD (gatesIn n (gateCount b) zeros ones) j nothing in bitOr (p .zeros) (p .ones) ≡ full (lanesOf n)
+    each j l =
+        let there : n + j < length zeros = omega (arith, u .zerosLong) in
+        rw (getD-tab (λ j. pairAt zeros ones (n + j)) (gateCount b) j nothing l) (d .each (n + j) there ∙ inUse)

@@ -2,31 +2,37 @@
 --   swept-none, swept-one, swept-then   no gate, one gate, a gate more
 --   swept-underway                      a sweep stays on the way
 --   swept-settled                       a sweep over all gates that changes nothing leaves the settled values at every lane
+--   defined-settled                     so do pairs of which no lane is undefined
 -- Assumes nothing.
 use mathlib.Core.Path.{_≡_, refl, sym, ap, _∙_}
 use mathlib.Core.Logic.{⊎-elim}
 use mathlib.Core.Bool.{Bool, true, false, _||_, false≢true}
 use mathlib.Core.List.{List, [], _∷_, _++_, map}
-use Prim.Native.Nat.{ℕ, zero, suc, _+_, _-_, _*_, _^_, _≤_, _<_}
+use Prim.Native.Nat.{ℕ, zero, suc, _+_, _-_, _*_, _^_, _≤_, _<_, max}
 use native.Mathlib.Nat.{not-suc-le-zero, le-of-suc-le-suc, le-refl}
 use native.Mathlib.Omega.{arith}
+use lib.Bits.{bitOr}
 use lib.Dec.{eqb}
 use lib.ListN.{length, getD, set, length-set, length-map}
+use lib.Seq.{ext-getD}
 use Rattle.laws.proofs.Tests.{or-neither, or-cases, eq-or-ne}
 use Rattle.laws.proofs.Lists.{map-set}
-use Rattle.netlist.specs.Values.{Value, undefined}
+use Rattle.netlist.specs.Values.{Value, undefined, val}
+use Rattle.netlist.specs.Assignments.{bit}
 use Rattle.netlist.specs.Netlist.{Block, gateCount, gateOf}
 use Rattle.netlist.specs.Rounds.{evaluated, settled}
 use Rattle.rounds.specs.Order.{Below, BelowAll, Rising}
 use Rattle.netlist.specs.Steps.{stepAt, run}
 use Rattle.rounds.proofs.Values.{below-of-eq}
+use Rattle.rounds.proofs.Rounds.{length-settled}
 use Rattle.rounds.proofs.AnyOrder.{run-append, run-below-settled, fixed-settled}
 use Rattle.rounds.proofs.InPlace.{run-rising, run-fixed}
 use Rattle.rounds.proofs.ListFacts.{AfterSet, new, old, after-set}
 use Rattle.visiting.specs.Visits.{Visits}
 use Rattle.lanes.specs.declared.Pair.{Pair}
-use Rattle.lanes.specs.Pairs.{lane, Proper, full, nothing}
+use Rattle.lanes.specs.Pairs.{marked, lane, Proper, full, nothing}
 use Rattle.lanes.specs.PairRounds.{evaluatedPair, LegalGate, AllProper}
+use Rattle.lanes.proofs.BitLaws.{bit-low, bit-or, bit-full}
 use Rattle.lanes.proofs.LaneLaws.{below-words}
 use Rattle.lanes.proofs.RoundLaws.{getD-lane, evaluatedPair-lane, evaluatedPair-proper}
 use Rattle.batch.specs.Batch.{Underway, Swept, room}
@@ -54,6 +60,22 @@ set-proper {lanes} {ps} {q} j h k = record { each = λ i. go i (after-set ps j i
     go : (i : ℕ) → AfterSet ps j i q nothing → Proper lanes (getD (set ps j q) i nothing)
     go i (new e l f) = rw f k
     go i (old d f) = rw f (h .each i)
+
+-- the two bits of a lane, of which one is set
+bit-defined : (z o : ℕ) → z < 2 → o < 2 → max z o ≡ 1 → (c : Bool) × (marked z o ≡ val c)
+unfolding marked
+bit-defined zero zero h l e = absurd (omega arith)
+bit-defined zero (suc zero) h l e = (true, refl)
+bit-defined zero (suc (suc o)) h l e = absurd (omega arith)
+bit-defined (suc zero) zero h l e = (false, refl)
+bit-defined (suc zero) (suc o) h l e = (false, refl)
+bit-defined (suc (suc z)) o h l e = absurd (omega arith)
+
+lane-defined : (lanes : ℕ) (p : Pair) → bitOr (p .zeros) (p .ones) ≡ full lanes → (s : ℕ) → s < lanes → (c : Bool) × (lane s p ≡ val c)
+unfolding lane
+lane-defined lanes p e s l =
+    bit-defined (bit (p .zeros) s) (bit (p .ones) s) (bit-low (p .zeros) s) (bit-low (p .ones) s)
+    (sym (bit-or (p .zeros) (p .ones) s) ∙ ap (λ (w : ℕ). bit w s) e ∙ bit-full lanes s l)
 
 module _ {b : Block} {lanes : ℕ} {x : List Pair} where
   -- no gate
@@ -146,3 +168,14 @@ module _ {b : Block} {lanes : ℕ} {x : List Pair} where
       ∙ fixed-settled b (map (lane i) x) values long (u .below i l)
       (λ j h. run-fixed b (map (lane i) x) order values (u .rising i l)
       (λ k. below-of-eq (ap (λ (w : List Value). getD w k undefined) fixed)) j (v .every j h) (rw long h))
+
+  -- a lane that is 0 or 1 stays so: where all are, these are the settled values
+  pub defined-settled : {state : List Pair} → Underway b lanes x state
+      → ((j : ℕ) → j < gateCount b → let p = getD state j nothing in bitOr (p .zeros) (p .ones) ≡ full lanes)
+      → (i : ℕ) → i < lanes → map (lane i) state ≡ settled b (map (lane i) x)
+  defined-settled {state} u each i l =
+      let long : length (map (lane i) state) ≡ gateCount b = length-map state (lane i) ∙ u .long in
+      ext-getD undefined (map (lane i) state) (settled b (map (lane i) x)) (long ∙ sym (length-settled b (map (lane i) x)))
+      (λ j h. let (c, v) = lane-defined lanes (getD state j nothing) (each j (rw (← long) h)) i l in
+      let is : getD (map (lane i) state) j undefined ≡ val c = getD-lane i state j ∙ v in
+      is ∙ sym (u .below i l j c is))

@@ -2,12 +2,14 @@
 --   Underway, Swept          pairs of the gates on the way to the settled values, and after a list of gates was evaluated
 --   Decidable                what deciding a batch asks
 --   BatchUnderway, BatchSwept, BatchSettled   the same in the two slices of words
+--   Decided                  nothing can change any more
 --   startPair, along         the first pair of each node; the order, there or back
 -- Assumes nothing.
 use mathlib.Core.Path.{_≡_}
 use mathlib.Core.Bool.{Bool, true, false, cond}
 use mathlib.Core.List.{List, [], _∷_, map}
 use Prim.Native.Nat.{ℕ, _+_, _-_, _*_, _%_, _^_, _≤_, _<_}
+use lib.Bits.{bitOr}
 use lib.Dec.{ltb}
 use lib.ListN.{length, getD}
 use Rattle.laws.specs.Lists.{tab}
@@ -76,6 +78,10 @@ pub record BatchSettled (b : Block) (n base : ℕ) (zeros ones : List ℕ) : Typ
   pub gatesProper : AllProper (lanesOf n) (gatesIn n (gateCount b) zeros ones)
   pub setting : (s : ℕ) → s < lanesOf n → map (lane s) (inputsIn n zeros ones) ≡ settingOf n (base + s)
   pub settledLanes : (s : ℕ) → s < lanesOf n → map (lane s) (gatesIn n (gateCount b) zeros ones) ≡ settledUnder b (base + s)
+
+-- every node is 0 or 1 at every lane in use
+pub record Decided (used : ℕ) (zeros ones : List ℕ) : Type 0 where
+  pub each : (k : ℕ) → k < length zeros → bitOr (getD zeros k 0) (getD ones k 0) ≡ used
 
 -- the pair of node k at first: an input's, or undefined at every lane
 unfoldable pub startPair : ℕ → ℕ → ℕ → Pair

@@ -5,6 +5,7 @@ use lanes::inputs::input_pair;
 use lanes::inputs::used_lanes;
 use layout::offsets::GATE_SIZE;
 ghost use mathlib.Core.Path.{_≡_};
+ghost use mathlib.Core.Bool.{true};
 ghost use mathlib.Core.List.{[], _∷_};
 ghost use Prim.Native.Nat.{_+_, _≤_, _<_, _%_};
 ghost use lib.ListN.{length};
@@ -16,7 +17,7 @@ ghost use Rattle.visiting.specs.Visits.{Visits};
 ghost use Rattle.batch.specs.Legible.{Legible};
 ghost use Rattle.lanes.specs.Pairs.{full};
 ghost use Rattle.lanes.specs.Batches.{lanesOf};
-ghost use Rattle.batch.specs.Batch.{Decidable, BatchUnderway, BatchSwept, BatchSettled, Started, startPair, placeOf, along};
+ghost use Rattle.batch.specs.Batch.{Decidable, BatchUnderway, BatchSwept, BatchSettled, Decided, Started, startPair, placeOf, along};
 
 // The pair of node `k` at first.
 fn start_pair(n: usize, base: usize, k: usize) -> Pair
@@ -106,7 +107,23 @@ fn sweep(
     changed
 }
 
-// The settled values at every lane: sweeps there and back by turns, until one changes nothing.
+// Is every node 0 or 1 at every lane in use? Then nothing can change any more.
+fn is_decided(used: u64, zeros: &[u64], ones: &[u64]) -> bool
+    requires { ⌜ length (now zeros) ≡ length (now ones) ⌝ }
+    ensures { λ r. ⌜ (r ≡ true → Decided used (now (zeros .entry)) (now (ones .entry))) ⌝ }
+{
+    let mut k = 0;
+    while k < zeros.len() {
+        if zeros[k] | ones[k] != used {
+            return false;
+        }
+        k += 1;
+    }
+    true
+}
+
+// The settled values at every lane: sweeps until one changes nothing, or every lane is decided. The first two go there, since an order that enters a loop
+// at the wrong gate is right from the second on; then back and there by turns.
 pub fn decide_batch(
     words: &[u16],
     n: usize,
@@ -122,7 +139,12 @@ pub fn decide_batch(
     start_batch(n, base, zeros, ones);
     let used = used_lanes(n);
     let mut back = false;
+    let mut again = true;
     while sweep(words, n, gates, used, order, back, zeros, ones) {
-        back = !back;
+        if is_decided(used, zeros, ones) {
+            return;
+        }
+        back = !(back | again);
+        again = false;
     }
 }

@@ -8,7 +8,7 @@ use mathlib.Core.Path.{_≡_, refl, sym, ap, _∙_}
 use mathlib.Core.Logic.{⊎-elim}
 use mathlib.Core.Bool.{Bool, true, false, cond}
 use mathlib.Core.List.{List, [], _∷_, map}
-use Prim.Native.Nat.{ℕ, zero, suc, _+_, _-_, _/_, _%_, _≤_, _<_}
+use Prim.Native.Nat.{ℕ, zero, suc, _+_, _*_, _-_, _/_, _%_, _≤_, _<_}
 use native.Mathlib.Omega.{arith}
 use lib.Dec.{eqb}
 use lib.ListN.{length, getD, drop, set, length-set, List·getD-eq-default}
@@ -21,16 +21,16 @@ use Rattle.netlist.specs.Netlist.{gate, constant}
 use Rattle.netlist.specs.StoredBlock.{operandOf, gateAt}
 use Rattle.ternary.specs.Legal.{LegalHead}
 use Rattle.lanes.specs.declared.Pair.{Pair}
-use Rattle.lanes.specs.Pairs.{nothing, always, neutral, combined, folded, pairOf}
+use Rattle.lanes.specs.Pairs.{nothing, always, neutral, combined, folded, finished, pairOf}
 use Rattle.lanes.specs.PairRounds.{operandPair, evaluatedPair, LegalGate}
-use Rattle.lanes.specs.Nodes.{pairAt, inputsIn, gatesIn, wordPair, operandsAt, gatePairAt}
+use Rattle.lanes.specs.Nodes.{pairAt, inputsIn, gatesIn, wordPair, operandsFrom, operandsAt, gatePairAt}
 
 module _ (used : ℕ) (zeros ones words : List ℕ) (at : ℕ) where
   -- the operand whose word stands at `at + i` is number i - 1
   pub operands-next : (i : ℕ) → 0 < i → i ≤ getD words at 0 / 8
       → drop (i - 1) (operandsAt used zeros ones words at)
       ≡ wordPair used zeros ones (getD words (at + i) 0) ∷ drop i (operandsAt used zeros ones words at)
-  unfolding operandsAt
+  unfolding operandsAt operandsFrom
   operands-next i h l =
       let ops = operandsAt used zeros ones words at in
       let f : ℕ → Pair = λ i. wordPair used zeros ones (getD words (at + 1 + i) 0) in
@@ -49,12 +49,42 @@ module _ (used : ℕ) (zeros ones words : List ℕ) (at : ℕ) where
 
   -- no operand yet
   pub folded-none : (k i : ℕ) {p : Pair} → i ≡ getD words at 0 / 8 → p ≡ neutral used k → p ≡ folded used k (drop i (operandsAt used zeros ones words at))
-  unfolding operandsAt folded
+  unfolding operandsAt operandsFrom folded
   folded-none k i e h =
       let f : ℕ → Pair = λ i. wordPair used zeros ones (getD words (at + 1 + i) 0) in
       let ops = tab f (getD words at 0 / 8) in
       let none : drop (getD words at 0 / 8) ops ≡ [] = rw (length-tab f (getD words at 0 / 8)) at (drop-length ops) in
       h ∙ rw (e, none)
+
+  -- one operand, or two
+  operands-one : operandsFrom used zeros ones words at 1 ≡ wordPair used zeros ones (getD words (at + 1) 0) ∷ []
+  unfolding operandsFrom
+  operands-one = let e : at + 1 + 0 ≡ at + 1 = omega arith in rw e refl
+
+  operands-two : operandsFrom used zeros ones words at 2
+      ≡ wordPair used zeros ones (getD words (at + 1) 0) ∷ wordPair used zeros ones (getD words (at + 2) 0) ∷ []
+  unfolding operandsFrom
+  operands-two = let e : at + 1 + 0 ≡ at + 1 = omega arith in let f : at + 1 + 1 ≡ at + 2 = omega arith in rw (e, f) refl
+
+  pub one-folded : (k : ℕ) {p f d r : Pair} → p ≡ wordPair used zeros ones (getD words (at + 1) 0) → f ≡ neutral used k → d ≡ combined k p f
+      → r ≡ finished k d → r ≡ pairOf used k (operandsFrom used zeros ones words at 1)
+  unfolding pairOf folded
+  one-folded k e f g h = h ∙ rw (g, f, e, operands-one) refl
+
+  pub two-folded : (k : ℕ) {p q f c d r : Pair} → p ≡ wordPair used zeros ones (getD words (at + 1) 0)
+      → q ≡ wordPair used zeros ones (getD words (at + 2) 0) → f ≡ neutral used k → c ≡ combined k q f → d ≡ combined k p c → r ≡ finished k d
+      → r ≡ pairOf used k (operandsFrom used zeros ones words at 2)
+  unfolding pairOf folded
+  two-folded k e e′ f g g′ h = h ∙ rw (g′, g, f, e′, e, operands-two) refl
+
+  -- a head word that was read tells the kind and the count
+  pub gate-headed : {h : ℕ} (k count : ℕ) → k < 8 → h ≡ getD words at 0 → h ≡ 8 * count + k
+      → pairOf used k (operandsFrom used zeros ones words at count) ≡ gatePairAt used zeros ones words at
+  unfolding gatePairAt operandsAt
+  gate-headed k count few e h =
+      let kind : getD words at 0 % 8 ≡ k = omega (arith, e, h) in
+      let many : getD words at 0 / 8 ≡ count = omega (arith, e, h) in
+      rw (kind, many) refl
 
 -- ---- what the words of a block read
 
@@ -104,7 +134,7 @@ module _ (used n m : ℕ) (zeros ones : List ℕ) (few : n ≤ 65534) (zerosLong
 
   pub gatePairAt-evaluated : (words : List ℕ) (at : ℕ)
       → gatePairAt used zeros ones words at ≡ evaluatedPair used (inputsIn n zeros ones) (gatesIn n m zeros ones) (gateAt n words at)
-  unfolding gatePairAt operandsAt evaluatedPair gateAt
+  unfolding gatePairAt operandsAt operandsFrom evaluatedPair gateAt
   gatePairAt-evaluated words at =
       ap (pairOf used (getD words at 0 % 8))
       (tab-ext (λ i. wordPair used zeros ones (getD words (at + 1 + i) 0))

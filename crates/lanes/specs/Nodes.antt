@@ -25,9 +25,12 @@ wordPair used zeros ones word =
     cond (eqb word 65534) (always used false)
     (cond (eqb word 65535) (always used true) (pairAt zeros ones word))
 
--- the pairs of the operands of the gate whose words start at `at`
+-- the pairs of so many operands, whose words stand behind `at`; and of those of the gate whose words start there
+unfoldable pub operandsFrom : ℕ → List ℕ → List ℕ → List ℕ → ℕ → ℕ → List Pair
+operandsFrom used zeros ones words at count = tab (λ i. wordPair used zeros ones (getD words (at + 1 + i) 0)) count
+
 unfoldable pub operandsAt : ℕ → List ℕ → List ℕ → List ℕ → ℕ → List Pair
-operandsAt used zeros ones words at = tab (λ i. wordPair used zeros ones (getD words (at + 1 + i) 0)) (getD words at 0 / 8)
+operandsAt used zeros ones words at = operandsFrom used zeros ones words at (getD words at 0 / 8)
 
 unfoldable pub gatePairAt : ℕ → List ℕ → List ℕ → List ℕ → ℕ → Pair
 gatePairAt used zeros ones words at = pairOf used (getD words at 0 % 8) (operandsAt used zeros ones words at)

@@ -5,10 +5,26 @@ use layout::nodes::CONSTANT_0;
 use layout::nodes::CONSTANT_1;
 use layout::read::word_at;
 ghost use mathlib.Core.Path.{_≡_};
+ghost use Prim.Native.Nat.{_<_};
 ghost use lib.ListN.{length};
 ghost use Rattle.ternary.specs.Legal.{LegalHead};
-ghost use Rattle.lanes.specs.Pairs.{neutral, combined, finished};
-ghost use Rattle.lanes.specs.Nodes.{pairAt, wordPair, gatePairAt};
+ghost use Rattle.lanes.specs.Pairs.{neutral, combined, finished, pairOf};
+ghost use Rattle.lanes.specs.Nodes.{pairAt, wordPair, operandsFrom, gatePairAt};
+
+// Head words of `not` and of the other kinds with two operands: the kind and 8 times the count (SPECIFICATION 2.3).
+const NOT: usize = 8;
+
+const AND: usize = 17;
+
+const OR: usize = 18;
+
+const NAND: usize = 19;
+
+const NOR: usize = 20;
+
+const XOR: usize = 21;
+
+const XNOR: usize = 22;
 
 // The pair at `k`; undefined past the end.
 pub fn pair_at(zeros: &[u64], ones: &[u64], k: usize) -> Pair
@@ -29,6 +45,9 @@ pub fn operand_pair(word: usize, used: u64, zeros: &[u64], ones: &[u64]) -> Pair
     requires { ⌜ length (now zeros) ≡ length (now ones) ⌝ }
     ensures { λ r. ⌜ r ≡ wordPair used (now (zeros .entry)) (now (ones .entry)) word ⌝ }
 {
+    if word < CONSTANT_0 {
+        return pair_at(zeros, ones, word);
+    }
     match word {
         CONSTANT_0 => Pair {
             zeros: used, // constant 0
@@ -91,8 +110,44 @@ pub fn finish(kind: usize, p: Pair) -> Pair
     }
 }
 
-// The pair of the gate whose words start at `at`.
-pub fn gate_pair(words: &[u16], at: usize, used: u64, zeros: &[u64], ones: &[u64]) -> Pair
+// The pair of a gate of this kind whose one operand word stands behind `at`.
+fn pair_of_one(
+    kind: usize,
+    words: &[u16],
+    at: usize,
+    used: u64,
+    zeros: &[u64],
+    ones: &[u64],
+) -> Pair
+    requires { ⌜ (at < length (now words)) × (length (now zeros) ≡ length (now ones)) ⌝ }
+    ensures { λ r. ⌜ r ≡ pairOf used kind (operandsFrom used (now (zeros .entry)) (now (ones .entry)) (now (words .entry)) at 1) ⌝ }
+{
+    let p = operand_pair(word_at(words, at + 1), used, zeros, ones);
+    finish(kind, combine(kind, p, first_pair(kind, used)))
+}
+
+// The same of two operands.
+fn pair_of_two(
+    kind: usize,
+    words: &[u16],
+    at: usize,
+    used: u64,
+    zeros: &[u64],
+    ones: &[u64],
+) -> Pair
+    requires { ⌜ (at < length (now words)) × (length (now zeros) ≡ length (now ones)) ⌝ }
+    ensures { λ r. ⌜ r ≡ pairOf used kind (operandsFrom used (now (zeros .entry)) (now (ones .entry)) (now (words .entry)) at 2) ⌝ }
+{
+    let p = operand_pair(word_at(words, at + 1), used, zeros, ones);
+    let q = operand_pair(word_at(words, at + 2), used, zeros, ones);
+    finish(
+        kind,
+        combine(kind, p, combine(kind, q, first_pair(kind, used))),
+    )
+}
+
+// The pair of the gate whose words start at `at`, operand by operand.
+fn pair_of_many(words: &[u16], at: usize, used: u64, zeros: &[u64], ones: &[u64]) -> Pair
     requires { ⌜ LegalHead (now words) at × (length (now zeros) ≡ length (now ones)) ⌝ }
     ensures { λ r. ⌜ r ≡ gatePairAt used (now (zeros .entry)) (now (ones .entry)) (now (words .entry)) at ⌝ }
 {
@@ -109,4 +164,21 @@ pub fn gate_pair(words: &[u16], at: usize, used: u64, zeros: &[u64], ones: &[u64
         i -= 1;
     }
     finish(kind, pair)
+}
+
+// The same. Most gates have one or two operands: for these the kind is known where its operation is compiled.
+pub fn gate_pair(words: &[u16], at: usize, used: u64, zeros: &[u64], ones: &[u64]) -> Pair
+    requires { ⌜ LegalHead (now words) at × (length (now zeros) ≡ length (now ones)) ⌝ }
+    ensures { λ r. ⌜ r ≡ gatePairAt used (now (zeros .entry)) (now (ones .entry)) (now (words .entry)) at ⌝ }
+{
+    match word_at(words, at) {
+        NOT => pair_of_one(0, words, at, used, zeros, ones),
+        AND => pair_of_two(1, words, at, used, zeros, ones),
+        OR => pair_of_two(2, words, at, used, zeros, ones),
+        NAND => pair_of_two(3, words, at, used, zeros, ones),
+        NOR => pair_of_two(4, words, at, used, zeros, ones),
+        XOR => pair_of_two(5, words, at, used, zeros, ones),
+        XNOR => pair_of_two(6, words, at, used, zeros, ones),
+        _ => pair_of_many(words, at, used, zeros, ones),
+    }
 }

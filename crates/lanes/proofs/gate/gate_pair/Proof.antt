@@ -1,99 +1,105 @@
--- `lanes::gate::gate_pair` meets its contract. The loop's invariant: the pair is that of the operands from number i on. Assumes nothing.
-use mathlib.Core.Path.{_≡_, _∙_, ap}
-use denote.Ref.{now}
-use Prim.Native.Nat.{_≤_, _/_}
+-- `lanes::gate::gate_pair` meets its contract: each head word named tells its kind and count. Assumes nothing.
+use mathlib.Core.Path.{_∙_}
 use native.Mathlib.Omega.{arith}
 use borrow.Author.Needs.{needs}
-use lib.ListN.{getD, drop}
-use Rattle.ternary.proofs.Heads.{Head, headOf}
-use Rattle.lanes.specs.Pairs.{folded, finished, pairOf}
-use Rattle.lanes.specs.Nodes.{operandsAt, gatePairAt}
-use Rattle.lanes.proofs.NodeLaws.{folded-none, folded-next}
+use Prim.Native.Nat.{_<_}
+use denote.Ref.{now}
+use lib.ListN.{length}
+use Rattle.ternary.proofs.Heads.{headOf}
+use Rattle.lanes.proofs.NodeLaws.{gate-headed}
 use Rattle.lanes.proofs.gate.gate_pair.Statement.{statement}
 use Rattle.lanes.proofs.gate.gate_pair.Tie as tie
 
-abbrev Inv-loop : tie.InvT-loop
-Inv-loop words at used zeros ones head kind pair₀ i₀ pair i =
-    (i ≤ head / 8) × (pair ≡ folded used kind (drop i (operandsAt used zeros ones words at)))
+-- the function's entry, and that the head is a word of the slice
+abbrev start : tie.After-word-at → tie.Start
+start c = c .before .before .before .before
 
-abbrev μ-loop : tie.MeasureT-loop
-μ-loop words at used zeros ones head kind pair₀ i₀ pair i = i
+inside : (c : tie.After-word-at) → let a = start c .args in a .at < length (now (a .words))
+inside c = headOf _ _ _ (start c .pre .0) (c .word-at .ensures) .inside
 
--- what is known of the head word
-head : (c : tie.After-word-at Inv-loop μ-loop) →
-    let s = c .before .before .before .before in
-    Head (now (s .args .words)) (s .args .at) (c .word-at .result)
-head c = headOf _ _ _ (c .before .before .before .before .pre .0) (c .word-at .ensures)
-
-word-at-requires : tie.Need-word-at-requires Inv-loop μ-loop
+word-at-requires : tie.Need-word-at-requires
 word-at-requires c κs = search needs
 
-first-pair-requires : tie.Need-first-pair-requires Inv-loop μ-loop
-first-pair-requires c κs = search needs
+pair-of-one-requires : tie.Need-pair-of-one-requires
+pair-of-one-requires c κs = (inside (c .before), start (c .before) .pre .1)
 
-loop-holds : tie.Need-loop-holds Inv-loop μ-loop
-loop-holds c =
-    let a = c .before .before .before .before .before .args in
-    let w = c .before .word-at in
-    (omega arith, folded-none (a .used) (now (a .zeros)) (now (a .ones)) (now (a .words)) (a .at) _ _ (ap (λ h. h / 8) (w .ensures)) (c .first-pair .ensures))
+pair-of-two-requires : tie.Need-pair-of-two-requires
+pair-of-two-requires c κs = (inside (c .before), start (c .before) .pre .1)
 
-add-word-at : tie.Need-add-word-at Inv-loop μ-loop
-add-word-at c = omega (arith, head (c .before .before .before))
+pair-of-two-requires-2 : tie.Need-pair-of-two-requires-2
+pair-of-two-requires-2 c κs = (inside (c .before), start (c .before) .pre .1)
 
-word-at-requires-2 : tie.Need-word-at-requires-2 Inv-loop μ-loop
-word-at-requires-2 c κs = search needs
+pair-of-two-requires-3 : tie.Need-pair-of-two-requires-3
+pair-of-two-requires-3 c κs = (inside (c .before), start (c .before) .pre .1)
 
-operand-pair-requires : tie.Need-operand-pair-requires Inv-loop μ-loop
-operand-pair-requires c κs = c .before .before .before .before .before .before .before .before .pre .1
+pair-of-two-requires-4 : tie.Need-pair-of-two-requires-4
+pair-of-two-requires-4 c κs = (inside (c .before), start (c .before) .pre .1)
 
-combine-requires : tie.Need-combine-requires Inv-loop μ-loop
-combine-requires c κs = search needs
+pair-of-two-requires-5 : tie.Need-pair-of-two-requires-5
+pair-of-two-requires-5 c κs = (inside (c .before), start (c .before) .pre .1)
 
-sub-i : tie.Need-sub-i Inv-loop μ-loop
-sub-i c = omega arith
+pair-of-two-requires-6 : tie.Need-pair-of-two-requires-6
+pair-of-two-requires-6 c κs = (inside (c .before), start (c .before) .pre .1)
 
-loop-less : tie.Need-loop-less Inv-loop μ-loop
-loop-less c = omega arith
+pair-of-many-requires : tie.Need-pair-of-many-requires
+pair-of-many-requires c κs = search needs
 
-loop-again : tie.Need-loop-again Inv-loop μ-loop
-loop-again c =
-    let w = c .before .before in
-    let l = w .before .before in
-    let h = l .before .before in
-    let a = h .before .before .before .before .args in
-    let few : l .loop .i ≤ getD (now (a .words)) (a .at) 0 / 8 = rw (← h .word-at .ensures) (l .loop .inv .0) in (
-      omega arith,
-      c .combine .ensures
-          ∙ folded-next (a .used) (now (a .zeros)) (now (a .ones)) (now (a .words)) (a .at) _ (l .loop .i) (w .before .loop-test .taken) few
-          (c .before .operand-pair .ensures ∙ rw (w .word-at2 .ensures)) (l .loop .inv .1),
-    )
-
-finish-requires : tie.Need-finish-requires Inv-loop μ-loop
-finish-requires c κs = search needs
-
-returns : tie.Need-returns Inv-loop μ-loop
-unfolding gatePairAt pairOf
+returns : tie.Need-returns
 returns c =
-    let l = c .before .before in
-    let none : l .loop .i ≡ 0 = omega arith in
-    let pair = l .loop .inv .1 in
-    c .finish .ensures ∙ rw (pair, none, l .before .before .word-at .ensures)
+    let w = c .before .before in
+    c .pair-of-one .ensures ∙ gate-headed _ _ _ _ _ 0 1 (omega arith) (w .word-at .ensures) (c .before .match .keys1)
+
+returns-2 : tie.Need-returns-2
+returns-2 c =
+    let w = c .before .before in
+    c .pair-of-two .ensures ∙ gate-headed _ _ _ _ _ 1 2 (omega arith) (w .word-at .ensures) (c .before .match .keys2)
+
+returns-3 : tie.Need-returns-3
+returns-3 c =
+    let w = c .before .before in
+    c .pair-of-two2 .ensures ∙ gate-headed _ _ _ _ _ 2 2 (omega arith) (w .word-at .ensures) (c .before .match .keys3)
+
+returns-4 : tie.Need-returns-4
+returns-4 c =
+    let w = c .before .before in
+    c .pair-of-two3 .ensures ∙ gate-headed _ _ _ _ _ 3 2 (omega arith) (w .word-at .ensures) (c .before .match .keys4)
+
+returns-5 : tie.Need-returns-5
+returns-5 c =
+    let w = c .before .before in
+    c .pair-of-two4 .ensures ∙ gate-headed _ _ _ _ _ 4 2 (omega arith) (w .word-at .ensures) (c .before .match .keys5)
+
+returns-6 : tie.Need-returns-6
+returns-6 c =
+    let w = c .before .before in
+    c .pair-of-two5 .ensures ∙ gate-headed _ _ _ _ _ 5 2 (omega arith) (w .word-at .ensures) (c .before .match .keys6)
+
+returns-7 : tie.Need-returns-7
+returns-7 c =
+    let w = c .before .before in
+    c .pair-of-two6 .ensures ∙ gate-headed _ _ _ _ _ 6 2 (omega arith) (w .word-at .ensures) (c .before .match .keys7)
+
+returns-8 : tie.Need-returns-8
+returns-8 c = search needs
 
 pub gate-pair-spec : {M : Type 1} → statement M
 gate-pair-spec =
     tie.close
     (tie.spec
-    Inv-loop
-    μ-loop
     word-at-requires
-    first-pair-requires
-    loop-holds
-    add-word-at
-    word-at-requires-2
-    operand-pair-requires
-    combine-requires
-    sub-i
-    loop-less
-    loop-again
-    finish-requires
-    returns)
+    pair-of-one-requires
+    pair-of-two-requires
+    pair-of-two-requires-2
+    pair-of-two-requires-3
+    pair-of-two-requires-4
+    pair-of-two-requires-5
+    pair-of-two-requires-6
+    pair-of-many-requires
+    returns
+    returns-2
+    returns-3
+    returns-4
+    returns-5
+    returns-6
+    returns-7
+    returns-8)
