@@ -1,7 +1,12 @@
 //! What stands beside a netlist of `catalogue/`: NAME.out and, where the text can be read, NAME.cover.
 
+use crate::answer::{NOT_SETTLED, TOO_MANY_COPIES};
 use crate::block::Block;
-use crate::{cover, read, unloop};
+use crate::groups::ordered_groups;
+use crate::limits::GATES;
+use crate::passes::passes;
+use crate::values::Network;
+use crate::{cover, read, render, unloop};
 
 /// What the program must write for a text: its rendering, or the line that refuses it.
 pub fn out(text: &[u8]) -> Vec<u8> {
@@ -27,4 +32,44 @@ pub fn cover_lines(words: &[u16], entries: &[u16]) -> String {
         }
     };
     entries.chunks(2).map(line).collect()
+}
+
+/// A netlist's row in README.md's table: its gates, its loops as gates times passes, and the gate lines of its rendering: with as many passes
+/// as a group has gates, and with as many as it needs.
+pub fn row(name: &str, text: &[u8]) -> String {
+    let (answer, words) = read(text, usize::MAX);
+    if answer.number != 0 {
+        let refused = refused(answer.number);
+        return format!("| {name} | - | - | {refused} | {refused} |");
+    }
+    let block = Block::from_words(&words);
+    let groups = ordered_groups(&block);
+    let passes = passes(&block, &groups);
+    let needed = groups.iter().zip(passes);
+    let loops = needed.filter(|(gates, _)| gates.len() > 1);
+    let loops = loops.map(|(gates, passes)| format!("{} × {passes}", gates.len()));
+    let loops = match loops.collect::<Vec<String>>().join(", ") {
+        none if none.is_empty() => "none".to_string(),
+        loops => loops,
+    };
+    let squares: usize = groups.iter().map(|gates| gates.len() * gates.len()).sum();
+    let sound = !Network::new(&block).sound_settings().contains(&false);
+    let before = match (squares > GATES, sound) {
+        (true, _) => refused(TOO_MANY_COPIES),
+        (_, false) => refused(NOT_SETTLED),
+        _ => squares.to_string(),
+    };
+    let (answer, rendered) = render(&words, usize::MAX);
+    let now = match answer.number {
+        0 => rendered[1].to_string(),
+        number => refused(number),
+    };
+    format!(
+        "| {name} | {} | {loops} | {before} | {now} |",
+        block.gates.len()
+    )
+}
+
+fn refused(number: usize) -> String {
+    format!("refused {number}")
 }

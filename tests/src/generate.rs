@@ -2,6 +2,7 @@
 
 pub mod blocks;
 pub mod cells;
+pub mod copies;
 pub mod large;
 pub mod long;
 pub mod malformed;
@@ -16,6 +17,7 @@ pub mod wide;
 
 pub use blocks::{block, Shape};
 pub use cells::{cell_setting, foreign_cells, malformed_cells};
+pub use copies::about_1024_copies;
 pub use large::{large, longest_written};
 pub use long::long_texts;
 pub use malformed::{malformed, malformed_before};

@@ -21,6 +21,7 @@ pub mod limits;
 pub mod line;
 pub mod malformed;
 pub mod parser;
+pub mod passes;
 pub mod program;
 pub mod recogniser;
 pub mod render;

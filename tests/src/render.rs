@@ -5,6 +5,7 @@ use crate::block::{Block, Gate, Output, Source};
 use crate::groups::ordered_groups;
 use crate::limits;
 use crate::malformed::well_formed;
+use crate::passes::passes;
 use crate::values::Network;
 
 /// The rendered block; count: words.
@@ -24,17 +25,24 @@ fn rendered(words: &[u16]) -> Outcome<u16> {
     Ok((words.len(), words))
 }
 
-/// The passes of every group, whether or not the block is sound.
+/// The copies of every group, as many passes as it needs, whether or not the block is sound.
 pub fn copied(block: &Block) -> Block {
     Layout::new(block).rendering(block)
+}
+
+/// How many copies that makes.
+pub fn copies(block: &Block) -> usize {
+    Layout::new(block).copies
 }
 
 /// Where a gate's copies stand.
 #[derive(Clone, Copy, Default)]
 struct Seat {
     group: usize,
-    /// The number of gates, and of passes, of its group.
+    /// The number of gates of its group.
     size: usize,
+    /// The number of passes of its group.
+    passes: usize,
     /// The first copy of its group.
     base: usize,
     /// Its place among its group's gates.
@@ -48,12 +56,13 @@ impl Seat {
     }
 
     fn last_copy(self) -> Source {
-        self.copy(self.size - 1)
+        self.copy(self.passes - 1)
     }
 }
 
 struct Layout {
     groups: Vec<Vec<usize>>,
+    passes: Vec<usize>,
     seats: Vec<Seat>,
     copies: usize,
 }
@@ -61,22 +70,25 @@ struct Layout {
 impl Layout {
     fn new(block: &Block) -> Layout {
         let groups = ordered_groups(block);
+        let passes = passes(block, &groups);
         let mut seats = vec![Seat::default(); block.gates.len()];
         let mut base = 0;
         for (group, gates) in groups.iter().enumerate() {
-            let size = gates.len();
+            let (size, passes) = (gates.len(), passes[group]);
             for (rank, &gate) in gates.iter().enumerate() {
                 seats[gate] = Seat {
                     group,
                     size,
+                    passes,
                     base,
                     rank,
                 };
             }
-            base += size * size;
+            base += size * passes;
         }
         Layout {
             groups,
+            passes,
             seats,
             copies: base,
         }
@@ -85,8 +97,8 @@ impl Layout {
     /// The rendering of SPECIFICATION 6.1, whether or not the block is sound.
     fn rendering(&self, block: &Block) -> Block {
         let mut gates = Vec::with_capacity(self.copies);
-        for group in &self.groups {
-            for pass in 0..group.len() {
+        for (group, &passes) in self.groups.iter().zip(&self.passes) {
+            for pass in 0..passes {
                 gates.extend(group.iter().map(|&gate| self.copy(block, gate, pass)));
             }
         }

@@ -52,3 +52,12 @@ pub fn ring(size: usize, first: &str) -> String {
     }
     text
 }
+
+/// Specimen 7 the other way round: each gate `not` of the one after it, the last of the first; one of them is an `and` with constant 0.
+pub fn reversed_ring(size: usize, broken: usize) -> String {
+    let gate = |gate: usize| match ((gate + 1) % size, gate == broken) {
+        (read, true) => format!("(gate g{gate} (and g{read} 0))\n"),
+        (read, false) => format!("(gate g{gate} (not g{read}))\n"),
+    };
+    (0..size).map(gate).collect()
+}

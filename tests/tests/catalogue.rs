@@ -1,14 +1,15 @@
 //! Every netlist of catalogue/ against what stands beside it, and what catalogue/README.md says of some in words.
 
 use simulator::block::{Block, Source};
-use simulator::catalogue::{cover_lines, cover_of, out};
+use simulator::catalogue::{cover_lines, cover_of, out, row};
 use simulator::compare::compare_pair;
 use simulator::executed::{root, written_by_the_program};
 use simulator::generate::Report;
 use simulator::limits::{BLOCK_WORDS, COVER_WORDS};
 use simulator::settle::sweep;
+use simulator::specimens::{reversed_ring, ring, words_of};
 use simulator::values::{setting_bytes, Network, UNDEFINED};
-use simulator::{cover, read, verdict};
+use simulator::{cover, read, render, verdict};
 use std::collections::{BTreeMap, BTreeSet};
 use std::fs;
 use std::path::PathBuf;
@@ -63,6 +64,23 @@ fn nothing_is_missing_or_left_over() {
     let explained = |name: &&String| readme.contains(&format!("[{name}.net]({name}.net)"));
     let left: Vec<&String> = names.iter().filter(|name| !explained(name)).collect();
     assert!(left.is_empty(), "not in README.md: {left:?}");
+}
+
+/// README.md's table of gate lines has a row for each netlist, and no other.
+#[test]
+fn table_of_gate_lines() {
+    let readme = fs::read_to_string(catalogue().join("README.md")).unwrap();
+    let (_, table) = readme
+        .split_once("|---|---|---|---|---|\n")
+        .expect("a table");
+    let rows: Vec<&str> = table
+        .lines()
+        .take_while(|line| line.starts_with('|'))
+        .collect();
+    let expected = names()
+        .into_iter()
+        .map(|name| row(&name, &file(&name, "net")));
+    assert_eq!(rows, expected.collect::<Vec<String>>());
 }
 
 #[test]
@@ -172,6 +190,17 @@ fn for_settings(name: &str, check: impl Fn(&Values, &Values)) {
         let _report = Report(|| format!("catalogue/{name} with {inputs:?}: {outputs:?}"));
         check(&inputs, &outputs);
     }
+}
+
+/// Each gate reads the one after it: 33 passes. In the other order, each reading the one before it, one pass is enough.
+#[test]
+fn ring_backwards_needs_a_pass_for_each_gate() {
+    let backwards = file("ring-backwards", "net");
+    let text = reversed_ring(33, 32) + "(out y g0)\n";
+    assert_eq!(String::from_utf8(backwards).unwrap(), text);
+    let forwards = ring(33, "(and LAST 0)") + "(out y g32)\n";
+    let (told, rendered) = render(&words_of(&forwards), BLOCK_WORDS);
+    assert_eq!((told.number, rendered[1]), (0, 33));
 }
 
 #[test]

@@ -1,10 +1,13 @@
 //! The simulator's own ways against plain transcriptions of the definitions of docs/SPECIFICATION.md.
 
 use simulator::block::{Block, Gate, Kind, Never, Output, Source};
-use simulator::generate::{for_blocks, Random, Size};
+use simulator::generate::{about_1024_copies, for_blocks, Random, Size};
+use simulator::groups::ordered_groups;
 use simulator::limits::{BLOCK_WORDS, COVER_WORDS, GATES, INPUTS, NEVERS};
-use simulator::rounds::stated_value;
-use simulator::values::{gate_value, Network};
+use simulator::passes::passes;
+use simulator::rounds::{evaluated, rounds, stated_value};
+use simulator::settle::sweep;
+use simulator::values::{gate_value, setting_bytes, Network};
 use simulator::{cover, groups, line, render, verdict};
 use std::collections::BTreeSet;
 
@@ -64,30 +67,81 @@ fn groups_as_stated() {
     for_blocks(0..1_000, middle, check);
 }
 
-/// The rendering, copy by copy, with the newest copy of each gate so far.
-fn stated_rendering(block: &Block) -> Block {
-    let numbers = stated_groups(block);
-    let mut newest: Vec<Option<usize>> = vec![None; block.gates.len()];
-    let mut gates = Vec::new();
-    let copied = |source: Source, newest: &[Option<usize>]| match source {
-        Source::Gate(gate) => newest[gate].map_or(Source::Constant(false), Source::Gate),
-        kept => kept,
+/// Every setting that isn't excluded, with the settled values.
+fn stated_settled(block: &Block) -> Vec<(Vec<u8>, Vec<u8>)> {
+    let n = block.inputs.len();
+    let excluded = stated_exclusions(block);
+    let settings = (0..1 << n).filter(|&setting| !excluded[setting]);
+    let settled = settings.map(|number| {
+        let setting = setting_bytes(number, n);
+        let values = rounds(block, &setting).0;
+        (setting, values)
+    });
+    settled.collect()
+}
+
+/// The least number of passes of each group, at least one, after which all its gates have their settled values under every setting that
+/// isn't excluded: from undefined ones, one gate after another, the other gates settled.
+fn stated_passes(block: &Block, groups: &[Vec<usize>]) -> Vec<usize> {
+    let settled = stated_settled(block);
+    let serve = |members: &[usize], passes: usize| {
+        settled.iter().all(|(setting, settled)| {
+            let mut values = settled.clone();
+            members.iter().for_each(|&gate| values[gate] = 2);
+            for _pass in 0..passes {
+                for &gate in members {
+                    values[gate] = evaluated(&block.gates[gate], setting, &values);
+                }
+            }
+            members.iter().all(|&gate| values[gate] == settled[gate])
+        })
     };
-    for group in 0..=numbers.iter().max().copied().unwrap_or(0) {
-        let members = (0..numbers.len()).filter(|&gate| numbers[gate] == group);
-        let members: Vec<usize> = members.collect();
-        for _pass in &members {
-            for &gate in &members {
-                let Gate { kind, operands } = &block.gates[gate];
-                let operands = operands.iter().map(|&o| copied(o, &newest)).collect();
-                newest[gate] = Some(gates.len());
-                gates.push(Gate {
-                    kind: *kind,
-                    operands,
-                });
+    let least = |members: &Vec<usize>| (1..).find(|&passes| serve(members, passes));
+    let groups = groups.iter();
+    groups
+        .map(|members| least(members).expect("the group's size serves"))
+        .collect()
+}
+
+/// The gates of each group, ascending.
+fn stated_members(block: &Block) -> Vec<Vec<usize>> {
+    let numbers = stated_groups(block);
+    let count = numbers.iter().max().map_or(0, |&last| last + 1);
+    let members = |group: u16| (0..numbers.len()).filter(move |&gate| numbers[gate] == group);
+    (0..count)
+        .map(|group| members.clone()(group).collect())
+        .collect()
+}
+
+/// Copy by copy, each group so many passes, with the newest copy of each gate so far; what stands where there is none yet is given.
+/// Gives the copies, and the last of each gate.
+fn stated_copies(block: &Block, passes: &[usize], none: Source) -> (Vec<Gate>, Vec<Source>) {
+    let mut newest = vec![none; block.gates.len()];
+    let mut gates = Vec::new();
+    for (members, &passes) in stated_members(block).iter().zip(passes) {
+        for _pass in 0..passes {
+            for &gate in members {
+                let Gate { kind, operands } = block.gates[gate].clone();
+                let operands = operands.into_iter().map(|o| copied(o, &newest)).collect();
+                newest[gate] = Source::Gate(gates.len());
+                gates.push(Gate { kind, operands });
             }
         }
     }
+    (gates, newest)
+}
+
+fn copied(source: Source, newest: &[Source]) -> Source {
+    match source {
+        Source::Gate(gate) => newest[gate],
+        kept => kept,
+    }
+}
+
+/// The rendering with the stated passes, and constant 0 where there is no copy yet.
+fn stated_rendering(block: &Block) -> Block {
+    let passes = stated_passes(block, &stated_members(block));
+    let (gates, newest) = stated_copies(block, &passes, Source::Constant(false));
     let output = |output: &Output| Output {
         port: output.port.clone(),
         node: copied(output.node, &newest),
@@ -102,18 +156,101 @@ fn stated_rendering(block: &Block) -> Block {
 
 #[test]
 fn renderings_as_stated() {
-    let check = |_: &mut Random, block: &Block, words: &[u16]| {
+    let mut check = |_: &mut Random, block: &Block, words: &[u16]| {
         let (told, result) = render(words, BLOCK_WORDS);
+        let stated = stated_rendering(block);
+        assert_eq!(told.number == 8, stated.gates.len() > GATES);
         if told.number == 0 {
-            assert_eq!(result, stated_rendering(block).to_words());
+            assert_eq!(result, stated.to_words());
         }
     };
-    for_blocks(0..8_000, Size::SMALL, check);
+    for_blocks(0..8_000, Size::SMALL, &mut check);
     let middle = Size {
+        inputs: 6,
         gates: 60,
         ..Size::LARGE
     };
-    for_blocks(0..400, middle, check);
+    for_blocks(0..100, middle, &mut check);
+    for_blocks(
+        200..208,
+        Size {
+            inputs: INPUTS,
+            ..middle
+        },
+        &mut check,
+    );
+    for seed in 0..4 {
+        let mut random = Random::new(seed);
+        let block = about_1024_copies(&mut random);
+        check(&mut random, &block, &block.to_words());
+    }
+}
+
+/// How many groups of more than one gate need how many passes, and how many fewer than their gates.
+#[test]
+fn passes_as_stated() {
+    let mut by_passes = [0; 8];
+    let mut fewer = 0;
+    for_blocks(0..20_000, Size::SMALL, |_, block, _| {
+        let members = stated_members(block);
+        let stated = stated_passes(block, &members);
+        assert_eq!(passes(block, &ordered_groups(block)), stated);
+        for (members, passes) in members.iter().zip(stated) {
+            assert!(passes <= members.len());
+            if members.len() > 1 {
+                by_passes[passes] += 1;
+                fewer += usize::from(passes < members.len());
+            }
+        }
+    });
+    println!("loops by passes {by_passes:?}, {fewer} with fewer than gates");
+    assert!((1..=3).all(|passes| by_passes[passes] > 100) && fewer > 5_000);
+}
+
+/// In other words: with an undefined input where a gate has no copy yet, a sweep gives each last copy its gate's settled value under every
+/// setting that isn't excluded, and with one pass fewer in a group some last copy there has another under one of them.
+#[test]
+fn passes_by_copies() {
+    let mut looked_at = 0;
+    for_blocks(0..8_000, Size::SMALL, |_, block, _| {
+        let members = stated_members(block);
+        let n = block.inputs.len();
+        let excluded = stated_exclusions(block);
+        let serve = |passes: &[usize], members: &[usize]| {
+            let (gates, newest) = stated_copies(block, passes, Source::Input(n));
+            let mut inputs = block.inputs.clone();
+            inputs.push("none".to_string());
+            let copies = Block {
+                inputs,
+                gates,
+                ..Block::default()
+            };
+            let mut settings = (0..1 << n).filter(|&number| !excluded[number]);
+            settings.all(|number| {
+                let mut setting = setting_bytes(number, n);
+                let settled = rounds(block, &setting).0;
+                setting.push(2);
+                let swept = sweep(&copies, &setting);
+                members.iter().all(|&gate| match newest[gate] {
+                    Source::Gate(copy) => swept[copy] == settled[gate],
+                    _ => false,
+                })
+            })
+        };
+        let passes = passes(block, &ordered_groups(block));
+        let all: Vec<usize> = (0..block.gates.len()).collect();
+        assert!(serve(&passes, &all));
+        for (group, members) in members.iter().enumerate() {
+            if passes[group] > 1 {
+                let mut fewer = passes.clone();
+                fewer[group] -= 1;
+                assert!(!serve(&fewer, members), "group {group}");
+                looked_at += 1;
+            }
+        }
+    });
+    println!("{looked_at} groups with one pass fewer");
+    assert!(looked_at > 1_000);
 }
 
 /// The prime implicants of the settings that are settled or excluded, by merging pairs that differ in one fixed input.

@@ -4,9 +4,11 @@ mod common;
 
 use common::answer;
 use simulator::block::{Block, Source};
-use simulator::generate::{for_blocks, Random, Size};
+use simulator::generate::{about_1024_copies, for_blocks, Random, Size};
+use simulator::groups::ordered_groups;
 use simulator::limits::{BLOCK_WORDS, COVER_WORDS, GATES, WRITTEN_BYTES};
 use simulator::malformed::is_malformed;
+use simulator::passes::passes;
 use simulator::rounds::rounds;
 use simulator::settle::sweep;
 use simulator::values::{setting_bytes, Network};
@@ -76,7 +78,7 @@ fn shown(node: Source, setting: &[u8], values: &[u8]) -> u8 {
     }
 }
 
-/// Demand 3, for a rendering that Render answered with 0.
+/// Demand 3, with the sum of SPECIFICATION 6, for a rendering that Render answered with 0.
 fn check_rendering(block: &Block, words: &[u16], copies: usize) {
     assert!(!is_malformed(words));
     let rendered = Block::from_words(words);
@@ -103,11 +105,14 @@ fn check_rendering(block: &Block, words: &[u16], copies: usize) {
     }
 }
 
-/// The sum of the squares of the groups' sizes.
-fn copies(words: &[u16]) -> usize {
-    let (_, numbers) = groups(words, GATES);
-    let same = |number: &u16| numbers.iter().filter(|&other| other == number).count();
-    numbers.iter().map(same).sum()
+/// The sum of each group's gates times its passes.
+fn copies(block: &Block) -> usize {
+    let groups = ordered_groups(block);
+    let passes = passes(block, &groups).into_iter();
+    passes
+        .zip(&groups)
+        .map(|(passes, gates)| passes * gates.len())
+        .sum()
 }
 
 #[test]
@@ -116,7 +121,7 @@ fn renderings() {
     let mut loops_rendered = 0;
     let mut check = |_: &mut Random, block: &Block, words: &[u16]| {
         let (told, result) = render(words, BLOCK_WORDS);
-        let (sum, verdict) = (copies(words), verdict(words));
+        let (sum, verdict) = (copies(block), verdict(words));
         let settings = 1 << block.inputs.len();
         let expected = match (sum > GATES, verdict.detail == settings) {
             (true, _) => answer(8, 0, 0),
@@ -137,7 +142,15 @@ fn renderings() {
         ..Size::LARGE
     };
     for_blocks(100..160, middle, &mut check);
-    assert!(answered[8] > 5 && answered[9] > 1_000 && loops_rendered > 1_000);
+    for seed in 0..200 {
+        let mut random = Random::new(seed);
+        let block = about_1024_copies(&mut random);
+        let sum = copies(&block);
+        assert!((GATES - 2..=GATES + 2).contains(&sum), "{sum}");
+        check(&mut random, &block, &block.to_words());
+    }
+    println!("answers by number {answered:?}, {loops_rendered} with copies");
+    assert!(answered[8] > 50 && answered[9] > 1_000 && loops_rendered > 1_000);
 }
 
 #[test]

@@ -93,7 +93,7 @@ fn never_lines() {
 fn refusals_without_a_place() {
     let inputs: String = (0..=INPUTS).map(|i| format!("(in a{i})\n")).collect();
     at_a_place(inputs.as_bytes(), "(refused 3 0)\n", "x.net: crowded\n");
-    let ring = simulator::specimens::ring(33, "(not LAST)") + "(out y g32)\n";
+    let ring = simulator::specimens::reversed_ring(33, 32) + "(out y g0)\n";
     at_a_place(ring.as_bytes(), "(refused 8 0)\n", "x.net: swollen\n");
 }
 

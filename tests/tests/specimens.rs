@@ -5,7 +5,7 @@ mod common;
 use common::answer;
 use simulator::limits::{BLOCK_WORDS, WRITTEN_BYTES};
 use simulator::specimens::*;
-use simulator::{bring, cover, groups, pass, read, render, settle, unloop, verdict, write};
+use simulator::{bring, cover, groups, pass, read, render, settle, unloop, verdict, write, Answer};
 
 /// Read refuses the text so, whatever the room.
 fn refused(text: &str, number: usize, detail: usize) {
@@ -88,23 +88,87 @@ fn specimen_6() {
     assert_eq!(verdict(&words), answer(0, 32, 32));
     assert_eq!(cover(&words, 2), (answer(0, 1, 0), vec![0, 0]));
     assert_eq!(groups(&words, 6), (answer(0, 1, 0), vec![0; 6]));
-    assert_eq!(render(&words, BLOCK_WORDS).1[1], 36);
+    // Two passes: x = 0 needs one, and x = 1 a second for g1, and g2 and g3 where they wait for it.
+    let rendered = "(in a)\n(in b)\n(in c)\n(in d)\n(in x)\n\
+        (gate _0 (and x 0))\n(gate _1 (or a _0))\n(gate _2 (and b _1))\n\
+        (gate _3 (or x _2))\n(gate _4 (and c _3))\n(gate _5 (or d _4))\n\
+        (gate _6 (and x _5))\n(gate _7 (or a _6))\n(gate _8 (and b _7))\n\
+        (gate _9 (or x _8))\n(gate _10 (and c _9))\n(gate _11 (or d _10))\n(out y _11)\n";
+    assert_eq!(rendered_text(SIX_GATES), rendered);
     let setting = [0, 1, 1, 0, 0];
     assert_eq!(settle(&words, &setting, 6), (answer(0, 6, 0), vec![0; 6]));
     assert_eq!(pass(&words, &setting, 6), (answer(10, 0, 0), vec![]));
 }
 
+/// Render's answer and the copies it makes.
+fn copies(text: &str) -> (Answer, Option<u16>) {
+    let (told, words) = render(&words_of(text), BLOCK_WORDS);
+    (told, words.get(1).copied())
+}
+
 #[test]
 fn specimen_7() {
+    let rendered = |copies: u16| (answer(0, 4 + 5 * usize::from(copies), 0), Some(copies));
+    let lone = "(gate lone (not 0))\n";
+    // The `and` first, each other gate reading the one before: one pass.
     let ring_of_32 = ring(32, "(and LAST 0)");
-    let (told, words) = render(&words_of(&ring_of_32), BLOCK_WORDS);
-    assert_eq!((told, words[1]), (answer(0, 4 + 5 * 1024, 0), 1024));
-    let one_more = ring_of_32 + "(gate lone (not 0))\n";
-    let told = render(&words_of(&one_more), BLOCK_WORDS);
-    assert_eq!(told, (answer(8, 0, 0), vec![]));
-    let ring_of_33 = words_of(&(ring(33, "(not LAST)") + "(out y g32)\n"));
-    assert_eq!(verdict(&ring_of_33), answer(0, 0, 0));
-    assert_eq!(render(&ring_of_33, 0), (answer(8, 0, 0), vec![]));
+    assert_eq!(copies(&ring_of_32), rendered(32));
+    assert_eq!(copies(&(ring_of_32 + lone)), rendered(33));
+    // Each reading the one after, the `and` last: 32 passes; the `and` first: 31.
+    let against = reversed_ring(32, 31);
+    assert_eq!(copies(&against), rendered(1_024));
+    assert_eq!(copies(&(against + lone)), (answer(8, 0, 0), None));
+    let turned = reversed_ring(32, 0);
+    assert_eq!(copies(&turned), rendered(992));
+    assert_eq!(copies(&(turned.clone() + &lone_gates(32))), rendered(1_024));
+    assert_eq!(copies(&(turned + &lone_gates(33))), (answer(8, 0, 0), None));
+    // A ring of 33 `not` is never defined: one pass, and undecided where an output shows it.
+    let ring_of_33 = ring(33, "(not LAST)");
+    assert_eq!(copies(&ring_of_33), rendered(33));
+    let shown = ring_of_33 + "(out y g32)\n";
+    assert_eq!(verdict(&words_of(&shown)), answer(0, 0, 0));
+    assert_eq!(copies(&shown), (answer(9, 0, 0), None));
+    // 8 comes before 9: the longer ring against the order with that one beside it, and an output that waits for ever.
+    let both = reversed_ring(33, 32) + "(gate w (not w))\n(out y w)\n";
+    assert_eq!(verdict(&words_of(&both)), answer(0, 0, 0));
+    assert_eq!(copies(&both), (answer(8, 0, 0), None));
+    assert_eq!(render(&words_of(&both), 0).0, answer(8, 0, 0));
+}
+
+fn lone_gates(count: usize) -> String {
+    (0..count)
+        .map(|i| format!("(gate l{i} (not 0))\n"))
+        .collect()
+}
+
+/// Paper 13: passes are counted over the settings that aren't excluded, settled or not, from undefined and not from 0.
+#[test]
+fn passes_that_are_needed() {
+    // The pin at 0 needs three passes, at 1 one; where 0 never comes, one pass is enough.
+    let gates = "(gate p (or s q))\n(gate q (or s r))\n(gate r (and s p))\n";
+    let shown = "(out y p)\n";
+    for (lines, expected) in [
+        ("", 9),
+        ("(never (s 0))\n", 3),
+        ("(never (s 1))\n", 9),
+        ("(never (s 0))\n(never (s 1))\n", 3),
+    ] {
+        let text = format!("(in s)\n{lines}{gates}{shown}");
+        assert_eq!(copies(&text).1, Some(expected), "{lines}");
+    }
+    // A setting that isn't settled counts too: z waits for ever with s = 0, where p still needs its three passes.
+    let waiting = format!("(in s)\n(never (s 1))\n{gates}(gate z (or s z))\n{shown}");
+    assert_eq!(copies(&waiting).1, Some(10));
+    assert_eq!(copies(&(waiting + "(out z z)\n")).0, answer(9, 0, 0));
+    // From 0 instead of undefined one pass would seem enough for specimen 9, which needs two.
+    assert_eq!(copies(PROGRAM_INPUT).1, Some(4));
+    // Each group has its own number: a ring of 5 against the order has 25 copies, one along it 5.
+    let named = |text: String, letter: &str| {
+        text.replace('g', letter)
+            .replace(&format!("({letter}ate"), "(gate")
+    };
+    let two = named(reversed_ring(5, 4), "p") + &named(ring(5, "(and LAST 0)"), "q");
+    assert_eq!(copies(&two).1, Some(30));
 }
 
 /// Paper 3: what no output shows may wait for ever.

@@ -22,7 +22,8 @@ use Rattle.netlist.specs.Limits.{maxCopies}
 use Rattle.netlist.specs.Netlist.{Operand, input, gate, constant, Gate, Output, Block, gateCount, outputCount, gateOf}
 use Rattle.netlist.specs.Kinds.{isKind, arityFits}
 use Rattle.netlist.specs.StoredBlock.{isNode, isOperand, gateFits, isWellFormed}
-use Rattle.netlist.specs.Groups.{readBy, copyCount}
+use Rattle.netlist.specs.Groups.{readBy}
+use Rattle.netlist.specs.Passes.{copyCount}
 use Rattle.netlist.specs.Rendering.{isStraight, schedule, noCopies, copiedOperand, copied, lastCopies, rendering}
 use Rattle.encoding.proofs.ListFacts.{getD-map}
 use Rattle.encoding.proofs.WellFormed.{wellFormed-parts, wellFormed-interface}
@@ -35,7 +36,7 @@ use Rattle.agreement.proofs.Copies.{length-copies, getD-copies, copied-
 use Rattle.agreement.proofs.Schedule.{length-schedule, member-schedule, schedule-below}
 
 module _ (b : Block) where
-  -- The rendering has as many gates as there are copies: the sum of g × g.
+  -- The rendering has as many gates as there are copies: the sum of g × passes.
   pub rendering-count : gateCount (rendering b) ≡ copyCount b
   unfolding rendering
   rendering-count = length-copies b (noCopies b) 0 (schedule b) ∙ length-schedule b

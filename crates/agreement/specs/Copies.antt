@@ -26,8 +26,8 @@ unfoldable pub valuesOf : List Value → List Value → List Operand → List Va
 valuesOf x state newest = map (operandValue x state) newest
 
 -- the order in which the gates of these groups are copied
-unfoldable pub scheduleOf : List (List ℕ) → List ℕ
-scheduleOf gs = joined (map passes gs)
+unfoldable pub scheduleOf : Block → List (List ℕ) → List ℕ
+scheduleOf b gs = joined (map (passes b) gs)
 
 -- group number t
 abbrev pub groupAt : Block → ℕ → List ℕ
@@ -39,7 +39,7 @@ gatesBefore b t = joined (take t (groups b))
 
 -- the gates copied when the first t groups are done, and of group t p whole passes and i gates of the next
 unfoldable pub copiedBy : Block → ℕ → ℕ → ℕ → List ℕ
-copiedBy b t p i = scheduleOf (take t (groups b)) ++ (repeated p (groupAt b t) ++ take i (groupAt b t))
+copiedBy b t p i = scheduleOf b (take t (groups b)) ++ (repeated p (groupAt b t) ++ take i (groupAt b t))
 
 -- what stands for the gates when copy i is made
 unfoldable pub newestAt : Block → ℕ → List Operand

@@ -1,2 +1,3 @@
 -- What the laws of rendering speak of.
 pub mod Copies
+pub mod Minimal

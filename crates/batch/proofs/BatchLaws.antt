@@ -1,5 +1,6 @@
 -- Batches in two slices of words: the start, a gate's step, a step more, and the end.
 --   started-underway, started-inputs   the first pairs
+--   gatePair-evaluated, evaluated-gates, -inputs        one gate, from its words
 --   batch-none, batch-one, batch-then, batch-underway   sweeps
 --   batch-settled, batch-decided       what the last sweep leaves
 --   along-inside, along-visits         the order, there and back
@@ -40,7 +41,8 @@ use Rattle.lanes.specs.Nodes.{pairAt, inputsIn, gatesIn, gatePairAt}
 use Rattle.lanes.proofs.LaneLaws.{nothing-lane, nothing-proper}
 use Rattle.lanes.proofs.InputLaws.{inputPairs-proper, inputPairs-lane}
 use Rattle.lanes.proofs.NodeLaws.{gatePairAt-evaluated, head-legal, set-inputs, set-gates}
-use Rattle.batch.specs.Batch.{Underway, Swept, Decidable, BatchUnderway, BatchSwept, BatchSettled, Decided, Started, startPair, placeOf, along}
+use Rattle.batch.specs.Batch.{NodesLong, gatePair, Evaluated, BatchUnderway, BatchSwept, BatchSettled, Decided}
+use Rattle.batch.specs.Batch.{Started, startPair, placeOf, along}
 use Rattle.batch.proofs.Sweeping.{swept-none, swept-one, swept-then, swept-underway, swept-settled, defined-settled}
 
 -- ---- the start
@@ -107,6 +109,9 @@ module _ {b : Block} {n : ℕ} where
         swept = swept-none (gatesIn n (gateCount b) zeros ones) (u .underway);
       }
 
+  pub underway-long : {zeros ones : List ℕ} → BatchUnderway b n zeros ones → NodesLong b n zeros ones
+  underway-long u = record { zerosLong = u .zerosLong; onesLong = u .onesLong }
+
   pub batch-underway : {js zeros ones zeros′ ones′ : List ℕ} {changed : Bool} → BatchUnderway b n zeros ones
       → BatchSwept b n js zeros ones zeros′ ones′ changed → BatchUnderway b n zeros′ ones′
   batch-underway u s =
@@ -153,50 +158,77 @@ same-pair : (zeros ones : List ℕ) (k : ℕ) (p : Pair) → p .zeros ≡ getD z
 unfolding pairAt
 same-pair zeros ones k p e f = pair-eq p (pairAt zeros ones k) e f
 
-gatesIn-at : (n m : ℕ) (zeros ones : List ℕ) (j : ℕ) → j < m → getD (gatesIn n m zeros ones) j nothing ≡ pairAt zeros ones (n + j)
+pub gatesIn-at : (n m : ℕ) (zeros ones : List ℕ) (j : ℕ) → j < m → getD (gatesIn n m zeros ones) j nothing ≡ pairAt zeros ones (n + j)
 unfolding gatesIn
 gatesIn-at n m zeros ones j l = getD-tab (λ j. pairAt zeros ones (n + j)) m j nothing l
 
 -- one gate, from its words
-pub batch-one : {ws zeros ones : List ℕ} {n gates : ℕ} (j : ℕ) (p : Pair) → j < gateCount (decode ws) → Legible ws n gates → n ≤ maxInputs
-    → BatchUnderway (decode ws) n zeros ones → p ≡ gatePairAt (full (lanesOf n)) zeros ones ws (gates + gateSize * j)
-    → BatchSwept (decode ws) n (j ∷ []) zeros ones (set zeros (n + j) (p .zeros)) (set ones (n + j) (p .ones))
-    (not (eqb (p .zeros) (getD zeros (n + j) 0)) || not (eqb (p .ones) (getD ones (n + j) 0)))
-batch-one {ws} {zeros} {ones} {n} {gates} j p l legible few u e =
-    record {
-      zerosLong = length-set zeros (n + j) (p .zeros);
-      onesLong = length-set ones (n + j) (p .ones);
-      inputsKept = set-inputs n m zeros ones j p;
-      swept =
-          rw (set-gates n m zeros ones j p l (u .zerosLong) (u .onesLong))
-          (swept-one j (u .underway) l legal value same other);
-    }
-  where
-    m : ℕ
-    m = gateCount (decode ws)
+module _ {ws : List ℕ} {n gates : ℕ} (legible : Legible ws n gates) (few : n ≤ maxInputs) (j : ℕ) (l : j < gateCount (decode ws)) where
+  pub gate-legal : LegalGate (gateOf (decode ws) j)
+  gate-legal = rw (← legible .gateIs j l) (head-legal n ws (gates + gateSize * j) (legible .legal j l))
 
-    legal : LegalGate (gateOf (decode ws) j)
-    legal = rw (← legible .gateIs j l) (head-legal n ws (gates + gateSize * j) (legible .legal j l))
+  module _ {zeros ones : List ℕ} (long : NodesLong (decode ws) n zeros ones) where
+    pub gatePair-evaluated : gatePair ws n gates j zeros ones
+        ≡ evaluatedPair (full (lanesOf n)) (inputsIn n zeros ones) (gatesIn n (gateCount (decode ws)) zeros ones) (gateOf (decode ws) j)
+    unfolding gatePair
+    gatePair-evaluated =
+        gatePairAt-evaluated (full (lanesOf n)) n (gateCount (decode ws)) zeros ones (omega arith) (long .zerosLong) (long .onesLong) ws (gates + gateSize * j)
+        ∙ ap (evaluatedPair (full (lanesOf n)) (inputsIn n zeros ones) (gatesIn n (gateCount (decode ws)) zeros ones)) (legible .gateIs j l)
 
-    value : p ≡ evaluatedPair (full (lanesOf n)) (inputsIn n zeros ones) (gatesIn n m zeros ones) (gateOf (decode ws) j)
-    value =
-        e
-        ∙ gatePairAt-evaluated (full (lanesOf n)) n m zeros ones (omega arith) (u .zerosLong) (u .onesLong) ws (gates + gateSize * j)
-        ∙ ap (evaluatedPair (full (lanesOf n)) (inputsIn n zeros ones) (gatesIn n m zeros ones)) (legible .gateIs j l)
+    -- the words of the gates, with that pair stored
+    pub evaluated-gates : {zeros′ ones′ : List ℕ} {changed : Bool} → Evaluated ws n gates j zeros ones zeros′ ones′ changed
+        → gatesIn n (gateCount (decode ws)) zeros′ ones′ ≡ set (gatesIn n (gateCount (decode ws)) zeros ones) j (gatePair ws n gates j zeros ones)
+    evaluated-gates e =
+        rw (e .zerosAre, e .onesAre)
+        (set-gates n (gateCount (decode ws)) zeros ones j (gatePair ws n gates j zeros ones) l (long .zerosLong) (long .onesLong))
 
-    was : getD (gatesIn n m zeros ones) j nothing ≡ pairAt zeros ones (n + j)
-    was = gatesIn-at n m zeros ones j l
+  pub evaluated-inputs : {zeros ones zeros′ ones′ : List ℕ} {changed : Bool} → Evaluated ws n gates j zeros ones zeros′ ones′ changed
+      → inputsIn n zeros′ ones′ ≡ inputsIn n zeros ones
+  evaluated-inputs {zeros} {ones} e =
+      rw (e .zerosAre, e .onesAre) (set-inputs n (gateCount (decode ws)) zeros ones j (gatePair ws n gates j zeros ones))
 
-    same : not (eqb (p .zeros) (getD zeros (n + j) 0)) || not (eqb (p .ones) (getD ones (n + j) 0)) ≡ false → p ≡ getD (gatesIn n m zeros ones) j nothing
-    same h =
-        let d = differ-no (p .zeros) (getD zeros (n + j) 0) (p .ones) (getD ones (n + j) 0) h in
-        rw was (same-pair zeros ones (n + j) p (d .0) (d .1))
+  pub evaluated-zeros : {zeros ones zeros′ ones′ : List ℕ} {changed : Bool} → Evaluated ws n gates j zeros ones zeros′ ones′ changed
+      → length zeros′ ≡ length zeros
+  evaluated-zeros {zeros} {ones} e = rw (e .zerosAre) (length-set zeros (n + j) (gatePair ws n gates j zeros ones .zeros))
 
-    other : not (eqb (p .zeros) (getD zeros (n + j) 0)) || not (eqb (p .ones) (getD ones (n + j) 0)) ≡ true
-        → p .zeros ≡ getD (gatesIn n m zeros ones) j nothing .zeros → p .ones ≡ getD (gatesIn n m zeros ones) j nothing .ones → ⊥
-    other h ez eo =
-        differ-yes (p .zeros) (getD zeros (n + j) 0) (p .ones) (getD ones (n + j) 0) h
-        (ez ∙ ap (λ (q : Pair). q .zeros) was ∙ zeros-at zeros ones (n + j)) (eo ∙ ap (λ (q : Pair). q .ones) was ∙ ones-at zeros ones (n + j))
+  pub evaluated-ones : {zeros ones zeros′ ones′ : List ℕ} {changed : Bool} → Evaluated ws n gates j zeros ones zeros′ ones′ changed
+      → length ones′ ≡ length ones
+  evaluated-ones {zeros} {ones} e = rw (e .onesAre) (length-set ones (n + j) (gatePair ws n gates j zeros ones .ones))
+
+  pub batch-one : {zeros ones zeros′ ones′ : List ℕ} {changed : Bool} → BatchUnderway (decode ws) n zeros ones
+      → Evaluated ws n gates j zeros ones zeros′ ones′ changed → BatchSwept (decode ws) n (j ∷ []) zeros ones zeros′ ones′ changed
+  batch-one {zeros} {ones} {zeros′} {ones′} {changed} u e =
+      record {
+        zerosLong = evaluated-zeros e;
+        onesLong = evaluated-ones e;
+        inputsKept = evaluated-inputs e;
+        swept =
+            rw (evaluated-gates long e)
+            (swept-one j (u .underway) l gate-legal (gatePair-evaluated long) (λ h. same (sym (e .changedIs) ∙ h)) (λ h. other (sym (e .changedIs) ∙ h)));
+      }
+    where
+      m : ℕ
+      m = gateCount (decode ws)
+
+      long : NodesLong (decode ws) n zeros ones
+      long = underway-long u
+
+      p : Pair
+      p = gatePair ws n gates j zeros ones
+
+      was : getD (gatesIn n m zeros ones) j nothing ≡ pairAt zeros ones (n + j)
+      was = gatesIn-at n m zeros ones j l
+
+      same : not (eqb (p .zeros) (getD zeros (n + j) 0)) || not (eqb (p .ones) (getD ones (n + j) 0)) ≡ false → p ≡ getD (gatesIn n m zeros ones) j nothing
+      same h =
+          let d = differ-no (p .zeros) (getD zeros (n + j) 0) (p .ones) (getD ones (n + j) 0) h in
+          rw was (same-pair zeros ones (n + j) p (d .0) (d .1))
+
+      other : not (eqb (p .zeros) (getD zeros (n + j) 0)) || not (eqb (p .ones) (getD ones (n + j) 0)) ≡ true
+          → p .zeros ≡ getD (gatesIn n m zeros ones) j nothing .zeros → p .ones ≡ getD (gatesIn n m zeros ones) j nothing .ones → ⊥
+      other h ez eo =
+          differ-yes (p .zeros) (getD zeros (n + j) 0) (p .ones) (getD ones (n + j) 0) h
+          (ez ∙ ap (λ (q : Pair). q .zeros) was ∙ zeros-at zeros ones (n + j)) (eo ∙ ap (λ (q : Pair). q .ones) was ∙ ones-at zeros ones (n + j))
 
 -- ---- the order, there and back
 

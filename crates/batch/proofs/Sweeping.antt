@@ -54,7 +54,7 @@ set-same [] j = refl
 set-same (p ∷ ps) zero = refl
 set-same (p ∷ ps) (suc j) = rw (set-same ps j)
 
-set-proper : {lanes : ℕ} {ps : List Pair} {q : Pair} (j : ℕ) → AllProper lanes ps → Proper lanes q → AllProper lanes (set ps j q)
+pub set-proper : {lanes : ℕ} {ps : List Pair} {q : Pair} (j : ℕ) → AllProper lanes ps → Proper lanes q → AllProper lanes (set ps j q)
 set-proper {lanes} {ps} {q} j h k = record { each = λ i. go i (after-set ps j i q nothing) }
   where
     go : (i : ℕ) → AfterSet ps j i q nothing → Proper lanes (getD (set ps j q) i nothing)

@@ -1,31 +1,32 @@
 -- A batch of settings decided in place: what the slices hold on the way, what a sweep leaves, and what is decided at the end.
 --   Underway, Swept          pairs of the gates on the way to the settled values, and after a list of gates was evaluated
---   Decidable                what deciding a batch asks
+--   Decidable, NodesLong     what deciding a batch asks
+--   gatePair, Evaluated      a gate's pair from its words, and what a single step leaves
 --   BatchUnderway, BatchSwept, BatchSettled   the same in the two slices of words
 --   Decided                  nothing can change any more
 --   startPair, along         the first pair of each node; the order, there or back
 -- Assumes nothing.
 use mathlib.Core.Path.{_≡_}
-use mathlib.Core.Bool.{Bool, true, false, cond}
+use mathlib.Core.Bool.{Bool, true, false, cond, not, _||_}
 use mathlib.Core.List.{List, [], _∷_, map}
 use Prim.Native.Nat.{ℕ, _+_, _-_, _*_, _%_, _^_, _≤_, _<_}
 use lib.Bits.{bitOr}
-use lib.Dec.{ltb}
-use lib.ListN.{length, getD}
+use lib.Dec.{eqb, ltb}
+use lib.ListN.{length, getD, set}
 use Rattle.laws.specs.Lists.{tab}
 use Rattle.netlist.specs.Limits.{maxInputs}
 use Rattle.netlist.specs.Netlist.{Block, inputCount, gateCount}
-use Rattle.netlist.specs.StoredBlock.{decode}
+use Rattle.netlist.specs.StoredBlock.{gateSize, decode}
 use Rattle.netlist.specs.Rounds.{settled, settingOf, settledUnder}
 use Rattle.rounds.specs.Order.{BelowAll, Rising}
 use Rattle.netlist.specs.Steps.{run}
 use Rattle.visiting.specs.Visits.{Visits}
 use Rattle.batch.specs.Legible.{Legible}
 use Rattle.lanes.specs.declared.Pair.{Pair}
-use Rattle.lanes.specs.Pairs.{lane, nothing}
+use Rattle.lanes.specs.Pairs.{lane, nothing, full}
 use Rattle.lanes.specs.PairRounds.{AllProper}
 use Rattle.lanes.specs.Batches.{lanesOf, inputPair}
-use Rattle.lanes.specs.Nodes.{inputsIn, gatesIn}
+use Rattle.lanes.specs.Nodes.{inputsIn, gatesIn, gatePairAt}
 
 -- the pairs of the gates are, at every lane, on the way to the settled values
 pub record Underway (b : Block) (lanes : ℕ) (x state : List Pair) : Type 0 where
@@ -58,6 +59,22 @@ pub record Decidable (ws : List ℕ) (n gates : ℕ) (order : List ℕ) (zeros o
   pub fewInputs : n ≤ maxInputs
   pub zerosLong : length zeros ≡ n + gateCount (decode ws)
   pub onesLong : length ones ≡ n + gateCount (decode ws)
+
+-- a word for each input and each gate
+pub record NodesLong (b : Block) (n : ℕ) (zeros ones : List ℕ) : Type 0 where
+  pub zerosLong : length zeros ≡ n + gateCount b
+  pub onesLong : length ones ≡ n + gateCount b
+
+-- the pair of gate j, when the gates' words start at `gates`
+unfoldable pub gatePair : List ℕ → ℕ → ℕ → ℕ → List ℕ → List ℕ → Pair
+gatePair ws n gates j zeros ones = gatePairAt (full (lanesOf n)) zeros ones ws (gates + gateSize * j)
+
+-- gate j was evaluated and its pair stored, and `changed` tells whether it is another
+pub record Evaluated (ws : List ℕ) (n gates j : ℕ) (zeros ones zerosAfter onesAfter : List ℕ) (changed : Bool) : Type 0 where
+  pub zerosAre : zerosAfter ≡ set zeros (n + j) (gatePair ws n gates j zeros ones .zeros)
+  pub onesAre : onesAfter ≡ set ones (n + j) (gatePair ws n gates j zeros ones .ones)
+  pub changedIs : changed ≡ not (eqb (gatePair ws n gates j zeros ones .zeros) (getD zeros (n + j) 0))
+      || not (eqb (gatePair ws n gates j zeros ones .ones) (getD ones (n + j) 0))
 
 pub record BatchUnderway (b : Block) (n : ℕ) (zeros ones : List ℕ) : Type 0 where
   pub zerosLong : length zeros ≡ n + gateCount b

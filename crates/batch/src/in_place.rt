@@ -6,7 +6,6 @@ use lanes::inputs::used_lanes;
 use layout::offsets::GATE_SIZE;
 ghost use mathlib.Core.Path.{_≡_};
 ghost use mathlib.Core.Bool.{true};
-ghost use mathlib.Core.List.{[], _∷_};
 ghost use Prim.Native.Nat.{_+_, _≤_, _<_, _%_};
 ghost use lib.ListN.{length};
 ghost use Rattle.laws.specs.Lists.{tab};
@@ -17,7 +16,8 @@ ghost use Rattle.visiting.specs.Visits.{Visits};
 ghost use Rattle.batch.specs.Legible.{Legible};
 ghost use Rattle.lanes.specs.Pairs.{full};
 ghost use Rattle.lanes.specs.Batches.{lanesOf};
-ghost use Rattle.batch.specs.Batch.{Decidable, BatchUnderway, BatchSwept, BatchSettled, Decided, Started, startPair, placeOf, along};
+ghost use Rattle.batch.specs.Batch.{Decidable, NodesLong, Evaluated, BatchUnderway, BatchSwept, BatchSettled, Decided};
+ghost use Rattle.batch.specs.Batch.{Started, startPair, placeOf, along};
 
 // The pair of node `k` at first.
 fn start_pair(n: usize, base: usize, k: usize) -> Pair
@@ -45,7 +45,7 @@ pub fn start_batch(n: usize, base: usize, zeros: &mut [u64], ones: &mut [u64])
 }
 
 // Evaluates gate `j` and stores its pair; whether that is another.
-fn step(
+pub fn step(
     words: &[u16],
     n: usize,
     gates: usize,
@@ -55,9 +55,9 @@ fn step(
     ones: &mut [u64],
 ) -> bool
     requires { ⌜ (j < gateCount (decode (now words))) × Legible (now words) n gates × (n ≤ maxInputs) × (used ≡ full (lanesOf n)) ⌝ }
-    requires { ⌜ BatchUnderway (decode (now words)) n (now zeros) (now ones) ⌝ }
+    requires { ⌜ NodesLong (decode (now words)) n (now zeros) (now ones) ⌝ }
     ensures { λ r. ⌜
-        BatchSwept (decode (now (words .entry))) n (j ∷ []) (now (zeros .entry)) (now (ones .entry)) (now (zeros .exit)) (now (ones .exit)) r
+        Evaluated (now (words .entry)) n gates j (now (zeros .entry)) (now (ones .entry)) (now (zeros .exit)) (now (ones .exit)) r
         ⌝ }
 {
     let pair = gate_pair(words, gates + GATE_SIZE * j, used, zeros, ones);

@@ -2,20 +2,20 @@
 use mathlib.Core.Path.{_≡_, refl, sym, ap, _∙_}
 use mathlib.Core.Bool.{not, Bool, true, false, not}
 use mathlib.Core.List.{List, [], map}
-use Prim.Native.Nat.{ℕ, _≤_}
+use Prim.Native.Nat.{ℕ, _≤_, _<_}
 use native.Mathlib.Omega.{arith}
 use lib.ListN.{length, getD}
 use lib.Dec.{ltb}
-use borrow.Author.Tests.{ltb-false}
-use Rattle.laws.proofs.Tests.{and-right}
+use borrow.Author.Tests.{ltb-false, not-true}
+use Rattle.laws.proofs.Tests.{and-left, and-right}
 use Rattle.netlist.specs.declared.Refusal.the-variants.{MalformedBlock, TooManyCopies, NotSettled}
 use Rattle.netlist.specs.Limits.{maxCopies}
 use Rattle.netlist.specs.Values.{Value, undefined}
 use Rattle.netlist.specs.Netlist.{Block, inputCount}
 use Rattle.netlist.specs.StoredBlock.{encode, decode, isWellFormed, isTorn}
-use Rattle.netlist.specs.Rounds.{settingOf, settledUnder, outputsUnder, isSettled, isExcluded, isCounted, lowestUnsettled, outputValue}
+use Rattle.netlist.specs.Rounds.{settingOf, settingCount, settledUnder, outputsUnder, isSettled, isExcluded, isCounted, lowestUnsettled, outputValue}
 use Rattle.netlist.specs.Cover.{isSound}
-use Rattle.netlist.specs.Groups.{copyCount}
+use Rattle.netlist.specs.Passes.{copyCount}
 use Rattle.netlist.specs.Rendering.{rendering, isStraight, sweep}
 use Rattle.netlist.specs.Answers.{done, refuseIf}
 use Rattle.netlist.specs.Operations.{counted, renderBlock, renderWords}
@@ -36,15 +36,18 @@ module _ (b : Block) where
       let n : inputCount (rendering b) ≡ inputCount b = ap length (rendering-inputs b) in
       rw (n, sweep-settled (rendering b) (settingOf (inputCount b) s) (rendering-straight b)) refl
 
-  same-shown : isWellFormed b ≡ true → (s : ℕ) → isSettled b s ≡ true → outputsUnder b s ≡ outputsUnder (rendering b) s
-  unfolding outputsUnder settledUnder
-  same-shown w s h = sym (rendering-shows s ∙ outputs-agree b w s h)
+  same-shown : isWellFormed b ≡ true → (s : ℕ) → s < settingCount b → isExcluded b s ≡ false → isSettled b s ≡ true
+      → outputsUnder b s ≡ outputsUnder (rendering b) s
+  unfolding outputsUnder
+  same-shown w s l e h = sym (rendering-shows s ∙ outputs-agree b w s l e h)
 
   -- under every settled setting that may come all outputs agree
   pub rendering-accepted : isWellFormed b ≡ true → Accepts b (rendering b)
   unfolding isCounted
   rendering-accepted w s l h o k =
-      ap (λ (vs : List Value). getD vs o undefined) (same-shown w s (and-right (not (isExcluded b s)) (isSettled b s) h))
+      ap (λ (vs : List Value). getD vs o undefined)
+      (same-shown w s l (not-true (isExcluded b s) (and-left (not (isExcluded b s)) (isSettled b s) h))
+      (and-right (not (isExcluded b s)) (isSettled b s) h))
 
   rendering-interface : sameInterface b (rendering b) ≡ true
   unfolding sameInterface ports

@@ -11,7 +11,7 @@ use Rattle.netlist.specs.Limits.{maxCopies, maxBlock, maxWritten}
 use Rattle.netlist.specs.Netlist.{inputCount, neverCount}
 use Rattle.netlist.specs.StoredBlock.{neversAt, gatesAt, outputsAt, encode, decode, isTorn}
 use Rattle.netlist.specs.Cover.{isSound}
-use Rattle.netlist.specs.Groups.{copyCount}
+use Rattle.netlist.specs.Passes.{copyCount}
 use Rattle.netlist.specs.Rendering.{rendering}
 use Rattle.netlist.specs.Writing.{writtenText}
 use Rattle.netlist.specs.Operations.{renderBlock, renderWords, writeWords}

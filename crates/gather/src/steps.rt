@@ -9,7 +9,7 @@ use netlist::Test;
 use refusals::refusal;
 use refusals::refuse_if;
 use refusals::test_room;
-use schedule::list_groups;
+use schedule::list_members;
 ghost use mathlib.Core.Path.{_≡_};
 ghost use mathlib.Core.Bool.{_||_};
 ghost use lib.ListN.{length};
@@ -46,7 +46,7 @@ pub fn write_gathered(
 {
     let m = gates_of(words);
     let count = assign(words, numbers);
-    list_groups(m, numbers, count, order);
+    list_members(m, numbers, count, order);
     find_places(&order[..m], m, places);
     write_arranged(words, order, places, table, gathered);
 }

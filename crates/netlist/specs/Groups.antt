@@ -1,11 +1,11 @@
--- SPECIFICATION 5: which gates reach each other, the strongly connected groups and their order. The count of copies is of 6.1.
-use Prim.Native.Nat.{ℕ, zero, suc, _*_}
+-- SPECIFICATION 5: which gates reach each other, the strongly connected groups and their order.
+use Prim.Native.Nat.{ℕ, zero, suc}
 use mathlib.Core.Path.{_≡_}
 use mathlib.Core.Bool.{Bool, true, false, cond, not, _&&_, _||_}
 use mathlib.Core.List.{List, [], _∷_, _++_, map}
 use lib.ListN.{length, getD}
 use lib.Dec.{eqb, ltb}
-use Rattle.laws.specs.Lists.{all, any, keep, tab, joined, upTo, member, least, sum}
+use Rattle.laws.specs.Lists.{all, any, keep, tab, joined, upTo, member, least}
 use Rattle.netlist.specs.Netlist.{Operand, input, gate, constant, Gate, Block, gateCount, gateOf}
 
 unfoldable pub gateOperand : Operand → List ℕ
@@ -76,7 +76,3 @@ groupNumber b j = least (λ g. member j (getD (groups b) g [])) (length (groups 
 
 unfoldable pub groupNumbers : Block → List ℕ
 groupNumbers b = tab (groupNumber b) (gateCount b)
-
--- a group of g gates is copied g times over: the sum of squares
-unfoldable pub copyCount : Block → ℕ
-copyCount b = sum (map (λ g. length g * length g) (groups b))

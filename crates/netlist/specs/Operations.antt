@@ -16,7 +16,8 @@ use Rattle.netlist.specs.Netlist.{Block, inputCount, gateCount}
 use Rattle.netlist.specs.StoredBlock.{encode, decode, isTorn}
 use Rattle.netlist.specs.Rounds.{rounds, settled, settledSettings, lowestUnsettled}
 use Rattle.netlist.specs.Cover.{isSound, cover, coverEntries}
-use Rattle.netlist.specs.Groups.{groups, groupNumbers, copyCount}
+use Rattle.netlist.specs.Groups.{groups, groupNumbers}
+use Rattle.netlist.specs.Passes.{copyCount}
 use Rattle.netlist.specs.Rendering.{rendering, isStraight, sweep}
 use Rattle.netlist.specs.Syntax.{Tree}
 use Rattle.netlist.specs.Parse.{Parsed, got, stuck, parse}

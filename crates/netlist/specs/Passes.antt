@@ -1,13 +1,14 @@
--- SPECIFICATION 6.1: how many passes over a group its gates need.
-use Prim.Native.Nat.{ℕ, suc}
+-- SPECIFICATION 6.1: how many passes over a group its gates need, and how many copies that makes.
+use Prim.Native.Nat.{ℕ, suc, _*_}
 use mathlib.Core.Bool.{Bool, cond, _||_}
-use mathlib.Core.List.{List}
+use mathlib.Core.List.{List, map}
 use lib.ListN.{length, getD}
 use lib.Dec.{eqb}
-use Rattle.laws.specs.Lists.{all, tab, repeated, upTo, member, least}
+use Rattle.laws.specs.Lists.{all, tab, repeated, upTo, member, least, sum}
 use Rattle.netlist.specs.Values.{Value, undefined, code}
 use Rattle.netlist.specs.Netlist.{Block, inputCount, gateCount}
 use Rattle.netlist.specs.Rounds.{settingOf, settingCount, settledUnder, isExcluded}
+use Rattle.netlist.specs.Groups.{groups}
 use Rattle.netlist.specs.Steps.{run}
 
 -- The group's gates undefined, and every other gate settled. The group reads only itself and earlier groups.
@@ -28,6 +29,10 @@ areSettled b group s p =
 unfoldable pub areEnough : Block → List ℕ → ℕ → Bool
 areEnough b group p = all (λ s. isExcluded b s || areSettled b group s p) (upTo (settingCount b))
 
--- The least number, from 1 on, that is enough. As many as there are gates always are (`size-enough` in crates/rounds).
+-- The least number, from 1 on, that is enough. As many as there are gates always are (`size-enough` in crates/agreement).
 unfoldable pub passCount : Block → List ℕ → ℕ
 passCount b group = suc (least (λ p. areEnough b group (suc p)) (length group))
+
+-- each pass over a group copies each of its gates
+unfoldable pub copyCount : Block → ℕ
+copyCount b = sum (map (λ group. length group * passCount b group) (groups b))

@@ -2,20 +2,21 @@
 use Prim.Native.Nat.{ℕ, zero, suc}
 use mathlib.Core.Bool.{Bool, true, false, _&&_}
 use mathlib.Core.List.{List, [], _∷_, _++_, map}
-use lib.ListN.{length, getD, set, replicate}
+use lib.ListN.{getD, set, replicate}
 use lib.Dec.{ltb}
 use Rattle.laws.specs.Lists.{all, joined, repeated, upTo}
 use Rattle.netlist.specs.Values.{Value}
 use Rattle.netlist.specs.Netlist.{Operand, input, gate, constant, Gate, Output, Block, gateCount, gateOf}
 use Rattle.netlist.specs.Rounds.{evaluated}
 use Rattle.netlist.specs.Groups.{groups, readBy}
+use Rattle.netlist.specs.Passes.{passCount}
 
--- The gates in the order in which they are copied: group after group, each as many times over as it has gates, ascending every time.
-unfoldable pub passes : List ℕ → List ℕ
-passes group = repeated (length group) group
+-- The gates in the order in which they are copied: group after group, each as many times over as it needs, ascending every time.
+unfoldable pub passes : Block → List ℕ → List ℕ
+passes b group = repeated (passCount b group) group
 
 unfoldable pub schedule : Block → List ℕ
-schedule b = joined (map passes (groups b))
+schedule b = joined (map (passes b) (groups b))
 
 -- What stands for each gate now: its newest copy, or constant 0 before the first. Of a gate of an earlier group the newest copy is the last.
 unfoldable pub noCopies : Block → List Operand

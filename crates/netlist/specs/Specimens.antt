@@ -1,4 +1,4 @@
--- SPECIFICATION 9.1 to 9.10 and 9.13 to 9.16: the worked examples, among them those that tell the definitions from their near misses, as one claim over one
+-- SPECIFICATION 9.1 to 9.10 and 9.13 to 9.17: the worked examples, among them those that tell the definitions from their near misses, as one claim over one
 -- list, computed from the definitions; behind them worked examples of the bench.
 use Prim.Native.Nat.{ℕ, suc, _+_, _-_, _%_}
 use Prim.Native.String.{String}
@@ -22,7 +22,8 @@ use Rattle.netlist.specs.Rounds.{isSettled, settledSettings, lowestUnset
 use Rattle.netlist.specs.Assignments.{fixes, agrees, isWithin}
 use Rattle.netlist.specs.Cover.{isSoundUnder, isSound, without, isMinimal, assignmentsAt, assignments, cover, coverEntries}
 use Rattle.netlist.specs.Groups.{gateOperand, readBy, reads, has, grown, grownTimes, reach, reaches, sameGroup, groupOf, isReady, mayBeNext}
-use Rattle.netlist.specs.Groups.{groupsAfter, groups, groupNumber, groupNumbers, copyCount}
+use Rattle.netlist.specs.Groups.{groupsAfter, groups, groupNumber, groupNumbers}
+use Rattle.netlist.specs.Passes.{beforePasses, afterPasses, areSettled, areEnough, passCount, copyCount}
 use Rattle.netlist.specs.Rendering.{passes, schedule, noCopies, copiedOperand, copied, copies, newestAfter, lastCopies, rendering, isStraight}
 use Rattle.netlist.specs.Rendering.{sweepFrom, sweep}
 use Rattle.netlist.specs.Syntax.{printTerm, printInput, printGate, printOutput, printLines, print}
@@ -70,7 +71,7 @@ pub data Question : Type 0 where
   toJudge : List ℕ → Question
   toCover toGroup toRender toWrite toBring : List ℕ → (room : ℕ) → Question
   toShowLine : List ℕ → (place : ℕ) → Question
-  toCountCopies toUnloop : List ℕ → Question
+  toCountPasses toCountCopies toUnloop : List ℕ → Question
   toAnswerLine : List ℕ → (line : List ℕ) → (room : ℕ) → Question
   toBench : List ℕ → Question
   toFill : List ℕ → List Record → Question
@@ -103,6 +104,7 @@ answered (toRender ws room) = report (render ws room)
 answered (toWrite ws room) = report (write ws room)
 answered (toBring ws room) = report (bring ws room)
 answered (toShowLine text place) = lineAt text place
+answered (toCountPasses ws) = map (passCount (decode ws)) (groups (decode ws))
 answered (toCountCopies ws) = copyCount (decode ws) ∷ []
 answered (toUnloop text) = unloop text
 answered (toAnswerLine ws line room) = report (answerLine ws line room)
@@ -142,7 +144,7 @@ specimen6 =
 
 unfoldable pub rendered6 : String
 rendered6 =
-    "(in a)\n(in b)\n(in c)\n(in d)\n(in x)\n(gate _0 (and x 0))\n(gate _1 (or a _0))\n(gate _2 (and b _1))\n(gate _3 (or x _2))\n(gate _4 (and c _3))\n(gate _5 (or d _4))\n(gate _6 (and x _5))\n(gate _7 (or a _6))\n(gate _8 (and b _7))\n(gate _9 (or x _8))\n(gate _10 (and c _9))\n(gate _11 (or d _10))\n(gate _12 (and x _11))\n(gate _13 (or a _12))\n(gate _14 (and b _13))\n(gate _15 (or x _14))\n(gate _16 (and c _15))\n(gate _17 (or d _16))\n(gate _18 (and x _17))\n(gate _19 (or a _18))\n(gate _20 (and b _19))\n(gate _21 (or x _20))\n(gate _22 (and c _21))\n(gate _23 (or d _22))\n(gate _24 (and x _23))\n(gate _25 (or a _24))\n(gate _26 (and b _25))\n(gate _27 (or x _26))\n(gate _28 (and c _27))\n(gate _29 (or d _28))\n(gate _30 (and x _29))\n(gate _31 (or a _30))\n(gate _32 (and b _31))\n(gate _33 (or x _32))\n(gate _34 (and c _33))\n(gate _35 (or d _34))\n(out y _35)\n"
+    "(in a)\n(in b)\n(in c)\n(in d)\n(in x)\n(gate _0 (and x 0))\n(gate _1 (or a _0))\n(gate _2 (and b _1))\n(gate _3 (or x _2))\n(gate _4 (and c _3))\n(gate _5 (or d _4))\n(gate _6 (and x _5))\n(gate _7 (or a _6))\n(gate _8 (and b _7))\n(gate _9 (or x _8))\n(gate _10 (and c _9))\n(gate _11 (or d _10))\n(out y _11)\n"
 
 -- a loop for a probe, which no output needs
 unfoldable pub spare : String
@@ -241,7 +243,8 @@ specimens =
     -- 9.5
     ∷ (toJudge (blockWords specimen6) ⇒ 0 ∷ 32 ∷ 32 ∷ [])
     ∷ (toSettle (blockWords specimen6) (0 ∷ 1 ∷ 1 ∷ 0 ∷ 0 ∷ []) 6 ⇒ 0 ∷ 6 ∷ 0 ∷ 0 ∷ 0 ∷ 0 ∷ 0 ∷ 0 ∷ 0 ∷ [])
-    ∷ (toCountCopies (blockWords specimen6) ⇒ 36 ∷ [])
+    ∷ (toCountPasses (blockWords specimen6) ⇒ 2 ∷ [])
+    ∷ (toCountCopies (blockWords specimen6) ⇒ 12 ∷ [])
     ∷ (toUnloop (ascii specimen6) ⇒ ascii rendered6)
     -- 9.7: the whole of a rendered text
     ∷ (toUnloop (ascii "(in s)\n(gate p (and s q))\n(gate q (or s p))\n(out y q)\n")
@@ -302,15 +305,14 @@ specimens =
     ∷ (toSettle (blockWords "(gate p (not p))\n(gate q (xor p p))\n(gate r (xnor p p))\n") [] 3 ⇒ 0 ∷ 0 ∷ 0 ∷ 2 ∷ 2 ∷ 2 ∷ [])
     -- 9.7: a loop with xor, rendered whole
     ∷ (toUnloop (ascii parityLoop)
-    ⇒ ascii "(in a)\n(in s)\n(gate _0 (not s))\n(gate _1 (and s 0))\n(gate _2 (and _1 _0))\n(gate _3 (xor a _2))\n(gate _4 (and s _3))\n(gate _5 (and _4 _0))\n(gate _6 (xor a _5))\n(gate _7 (and s _6))\n(gate _8 (and _7 _0))\n(gate _9 (xor a _8))\n(out y _9)\n")
-    -- 9.4, 9.6, 9.7: the order of conditions: 6 before 7 before 11, 10 before 7, 8 before 9 before 11
+    ⇒ ascii "(in a)\n(in s)\n(gate _0 (not s))\n(gate _1 (and s 0))\n(gate _2 (and _1 _0))\n(gate _3 (xor a _2))\n(gate _4 (and s _3))\n(gate _5 (and _4 _0))\n(gate _6 (xor a _5))\n(out y _6)\n")
+    -- 9.4, 9.6, 9.7: the order of conditions: 6 before 7 before 11, 10 before 7, 9 before 11
     ∷ (toSettle [] (3 ∷ []) 0 ⇒ with 6 0)
     ∷ (toSettle (blockWords kinds) (3 ∷ []) 0 ⇒ with 7 0)
     ∷ (toSettle (blockWords kinds) [] 0 ⇒ with 7 0)
     ∷ (toSettle (blockWords kinds) (2 ∷ []) 6 ⇒ with 11 0)
     ∷ (toPass (blockWords specimen4) [] 0 ⇒ with 10 0)
     ∷ (toPass (blockWords kinds) [] 0 ⇒ with 7 0)
-    ∷ (toUnloop (ring 33) ⇒ ascii "(refused 8 0)\n")
     ∷ (toRender (blockWords specimen4) 0 ⇒ with 9 1)
     ∷ (toRender (blockWords kinds) 42 ⇒ with 11 0)
     -- 9.7: the next group is the one with the lowest gate among those ready
@@ -422,6 +424,19 @@ specimens =
     ∷ (toStep (blockWords specimen4) (1 ∷ 1 ∷ []) (1 ∷ []) ⇒ 2 ∷ 1 ∷ [])
     ∷ (toStep (blockWords specimen4) (1 ∷ 1 ∷ []) (0 ∷ 1 ∷ 1 ∷ 0 ∷ []) ⇒ 1 ∷ 1 ∷ [])
     ∷ (toStep (blockWords specimen4) (0 ∷ 2 ∷ []) (1 ∷ 0 ∷ 1 ∷ []) ⇒ 0 ∷ 2 ∷ [])
+    -- 9.17, passes over a group: at least one, also where no gate ever gets a value, and under no setting
+    ∷ (toUnloop (ring 33) ⇒ ascii "(refused 9 0)\n")
+    ∷ (toCountPasses (blockWords neverAny) ⇒ 1 ∷ [])
+    -- a ring that a constant opens: each gate reads the one before, or the one after, with the `and` last, and first
+    ∷ (toCountPasses (blockWords "(gate p (and 0 s))\n(gate q (not p))\n(gate r (not q))\n(gate s (not r))\n") ⇒ 1 ∷ [])
+    ∷ (toCountPasses (blockWords "(gate p (not q))\n(gate q (not r))\n(gate r (not s))\n(gate s (and 0 p))\n") ⇒ 4 ∷ [])
+    ∷ (toCountPasses (blockWords "(gate p (and 0 q))\n(gate q (not r))\n(gate r (not s))\n(gate s (not p))\n") ⇒ 3 ∷ [])
+    -- gates that start at 0 would be settled after one pass; a setting that never comes would need two
+    ∷ (toCountPasses (blockWords "(gate p (and q 1))\n(gate q (and p 0))\n") ⇒ 2 ∷ [])
+    ∷ (toCountPasses (blockWords "(in s)\n(never (s 1))\n(gate p (and s q))\n(gate q (or s p))\n") ⇒ 1 ∷ [])
+    -- only the setting that isn't settled needs a second pass; each group has a number of its own
+    ∷ (toCountPasses (blockWords "(in s)\n(gate t (nand t s q))\n(gate p (and s q))\n(gate q (or s p t))\n(out y t)\n") ⇒ 2 ∷ [])
+    ∷ (toCountPasses (blockWords parityLoop) ⇒ 1 ∷ 2 ∷ [])
     -- a set line: partial settings, ports in file order, and the order 6, 2, 4, 5, 11
     ∷ (toAnswerLine (blockWords board) (ascii "(set (b 0))\n") 25 ⇒ 0 ∷ 25 ∷ 0 ∷ ascii "(show (z u) (y 0) (x u))\n")
     ∷ (toAnswerLine (blockWords board) (ascii "(set (b 0))\n") 24 ⇒ with 11 0)
@@ -456,5 +471,5 @@ specimens =
 
 -- All of them come out as stated.
 pub specimens-hold : all right specimens ≡ true
-unfolding code valueOf invert isDefined row rows rowOf isNot isXor isXnor isKind signatureOf fewestOperands mostOperands arityFits keyword ruled ones parity gateValue gatesAt outputsAt isLetter isDigit isUnderscore isNameByte isNameStart isLegalName isPlainName isNodeName nameWords bytesAt nameAt nodeWord operandOf gateWords gateAt outputWords outputAt encode decode isNode isOperand gateFits isWellFormed isTorn operandValue evaluated round afterRounds isStable rounds settled bit settingOf settingCount settledUnder isSettled settledSettings lowestUnsettled fixes agrees isSoundUnder isSound without isMinimal isWithin assignmentsAt assignments cover coverEntries gateOperand readBy reads has grown grownTimes reach reaches sameGroup groupOf isReady mayBeNext groupsAfter groups groupNumber groupNumbers copyCount passes schedule noCopies copiedOperand copied copies newestAfter lastCopies rendering isStraight sweepFrom sweep printTerm printInput printGate printOutput printLines print pure stop onTest ifNext expect onParsed bind nameBytes nameAfter nameReader kindReader spaced termsReader exprReader leafOr termReader addInput addGate addOutput inputLine gateLine outputLine atEnd line outputsReader gatesReader textReader parse gatesIn lineGates isOverLimit mentions linesLength gateLinesAt outputLinesAt inputMention gateMention portMention shownMention termMentions operandMentions declaredNodes declaredPorts usedNames firstRepeat orElse firstDuplicate firstOutside firstUndeclared inputBindings gateBindings bindings lookup termNode termsNodes termGates linesGates blockOf digits decimal gateName nodeNameOf termOf termsOf flatLine flatTree writtenText clamped startBefore untilLf lineStart lineEnd lineLength lineAt refusalNumber refusalDetail numberOf countOf detailOf refuseIf refuseAt inRoom answerOf leftIn counted readTree readParsed readText read isBadSetting settleBlock settle verdict coverBlock coverOf groupsBlock groupsOf renderBlock renderWords render passBlock pass writeWords write inputByte settingBytes isBadMasks maskOf isOne outputValues showing refusedRecord settledOutputs recordOf answeredRecord sheetRecords sheet chained refusalLine shown unloop outputValue outputsUnder valueText pairText printPair bitReader pairReader spacedPair pairsReader setLineReader pairMention givenNames givenValue givenValues portText showLine pairsOutcome parsedOutcome lineOutcome answerLine lineAnswer netlistFrom settingsFrom netlistPart settingsPart lastLine linesFrom linesOf lineAnswers benchAfter bench report asks fields answered right blockWords _⇒_ with specimen4 shown4 specimen6 rendered6 spare kinds board parities parityLoop ring specimens neversAt neverWords neverAt neverFits areMasks isExcluded isCounted isSoundAt printNever neverPairs addNever neverLine neversReader neverLinesAt neverMentions excludedNames lesser firstRepeatIn assignmentOf pairsOf encodeBefore brought isTornBefore bringWords bring never11 never4 neverAny inputLines tooManyInputs stepAt run truthBit truthWord cellWords cellsOf makeWords makeCells cellCount cellAt cellsIn isEarlier readsEarlier areLegalCells isBadRun operandBit numberOfBits cellValue runFrom cellValues runCells renumbered renumberedGate renumberedOutput arranged numberAt placeIn gatheredOrder gathered lacksRoom gatherWith gatheredWords gather gatherList isPermutation inverse scattered scatter unordered ordered orderOf straightCells
+unfolding code valueOf invert isDefined row rows rowOf isNot isXor isXnor isKind signatureOf fewestOperands mostOperands arityFits keyword ruled ones parity gateValue gatesAt outputsAt isLetter isDigit isUnderscore isNameByte isNameStart isLegalName isPlainName isNodeName nameWords bytesAt nameAt nodeWord operandOf gateWords gateAt outputWords outputAt encode decode isNode isOperand gateFits isWellFormed isTorn operandValue evaluated round afterRounds isStable rounds settled bit settingOf settingCount settledUnder isSettled settledSettings lowestUnsettled fixes agrees isSoundUnder isSound without isMinimal isWithin assignmentsAt assignments cover coverEntries gateOperand readBy reads has grown grownTimes reach reaches sameGroup groupOf isReady mayBeNext groupsAfter groups groupNumber groupNumbers beforePasses afterPasses areSettled areEnough passCount copyCount passes schedule noCopies copiedOperand copied copies newestAfter lastCopies rendering isStraight sweepFrom sweep printTerm printInput printGate printOutput printLines print pure stop onTest ifNext expect onParsed bind nameBytes nameAfter nameReader kindReader spaced termsReader exprReader leafOr termReader addInput addGate addOutput inputLine gateLine outputLine atEnd line outputsReader gatesReader textReader parse gatesIn lineGates isOverLimit mentions linesLength gateLinesAt outputLinesAt inputMention gateMention portMention shownMention termMentions operandMentions declaredNodes declaredPorts usedNames firstRepeat orElse firstDuplicate firstOutside firstUndeclared inputBindings gateBindings bindings lookup termNode termsNodes termGates linesGates blockOf digits decimal gateName nodeNameOf termOf termsOf flatLine flatTree writtenText clamped startBefore untilLf lineStart lineEnd lineLength lineAt refusalNumber refusalDetail numberOf countOf detailOf refuseIf refuseAt inRoom answerOf leftIn counted readTree readParsed readText read isBadSetting settleBlock settle verdict coverBlock coverOf groupsBlock groupsOf renderBlock renderWords render passBlock pass writeWords write inputByte settingBytes isBadMasks maskOf isOne outputValues showing refusedRecord settledOutputs recordOf answeredRecord sheetRecords sheet chained refusalLine shown unloop outputValue outputsUnder valueText pairText printPair bitReader pairReader spacedPair pairsReader setLineReader pairMention givenNames givenValue givenValues portText showLine pairsOutcome parsedOutcome lineOutcome answerLine lineAnswer netlistFrom settingsFrom netlistPart settingsPart lastLine linesFrom linesOf lineAnswers benchAfter bench report asks fields answered right blockWords _⇒_ with specimen4 shown4 specimen6 rendered6 spare kinds board parities parityLoop ring specimens neversAt neverWords neverAt neverFits areMasks isExcluded isCounted isSoundAt printNever neverPairs addNever neverLine neversReader neverLinesAt neverMentions excludedNames lesser firstRepeatIn assignmentOf pairsOf encodeBefore brought isTornBefore bringWords bring never11 never4 neverAny inputLines tooManyInputs stepAt run truthBit truthWord cellWords cellsOf makeWords makeCells cellCount cellAt cellsIn isEarlier readsEarlier areLegalCells isBadRun operandBit numberOfBits cellValue runFrom cellValues runCells renumbered renumberedGate renumberedOutput arranged numberAt placeIn gatheredOrder gathered lacksRoom gatherWith gatheredWords gather gatherList isPermutation inverse scattered scatter unordered ordered orderOf straightCells
 specimens-hold = refl

@@ -9,4 +9,3 @@ pub mod Order
 pub mod GroupNumber
 pub mod Build
 pub mod Straight
-pub mod Copies

@@ -13,7 +13,7 @@ use Rattle.netlist.specs.Netlist.{Block}
 use Rattle.netlist.specs.StoredBlock.{encode, decode, isTorn}
 use Rattle.netlist.specs.Rounds.{lowestUnsettled}
 use Rattle.netlist.specs.Cover.{isSound}
-use Rattle.netlist.specs.Groups.{copyCount}
+use Rattle.netlist.specs.Passes.{copyCount}
 use Rattle.netlist.specs.Rendering.{rendering}
 use Rattle.netlist.specs.Answers.{Outcome, done, refused, refuseIf, inRoom}
 use Rattle.netlist.specs.Operations.{counted, renderBlock, renderWords, render}

@@ -20,7 +20,7 @@ use Rattle.netlist.specs.Netlist.{Block}
 use Rattle.netlist.specs.StoredBlock.{encode, decode, isTorn, isWellFormed}
 use Rattle.netlist.specs.Rounds.{settingCount, isSettled, isExcluded, isSoundAt, lowestUnsettled}
 use Rattle.netlist.specs.Cover.{isSound}
-use Rattle.netlist.specs.Groups.{copyCount}
+use Rattle.netlist.specs.Passes.{copyCount}
 use Rattle.netlist.specs.Rendering.{rendering}
 use Rattle.netlist.specs.Answers.{Outcome, refusalNumber, refusalDetail, numberOf, countOf, detailOf, answerOf, leftIn, Promise}
 use Rattle.netlist.specs.Operations.{render}

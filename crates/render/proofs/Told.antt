@@ -2,14 +2,16 @@
 use mathlib.Core.Path.{_≡_, refl, sym, ap, _∙_}
 use mathlib.Core.Logic.{⊎-elim}
 use mathlib.Core.Bool.{Bool, true, false, not}
-use mathlib.Core.List.{List}
+use mathlib.Core.List.{List, [], map}
 use Prim.Native.Nat.{ℕ, _+_, _*_, _^_, _≤_, _<_}
 use native.Mathlib.Nat.{le-antisymm}
 use native.Mathlib.Omega.{arith}
-use lib.ListN.{length, getD, take}
+use lib.ListN.{length, getD, take, length-map, List·getD-append}
 use lib.Seq.{take-at}
 use lib.Dec.{ltb}
 use borrow.Author.Tests.{lt-ltb, le-ltb}
+use Rattle.laws.specs.Lists.{joined, placed}
+use Rattle.laws.proofs.Lists.{length-joined}
 use Rattle.laws.proofs.Tests.{lt-or-le, not-both}
 use Rattle.laws.proofs.Least.{least-le}
 use Rattle.netlist.specs.declared.Test.{Test}
@@ -19,16 +21,20 @@ use Rattle.netlist.specs.Netlist.{Block}
 use Rattle.netlist.specs.StoredBlock.{outputsAt, encode, decode, isTorn}
 use Rattle.netlist.specs.Rounds.{settingCount, isSoundAt, lowestUnsettled}
 use Rattle.netlist.specs.Cover.{isSound}
-use Rattle.netlist.specs.Groups.{copyCount}
+use Rattle.netlist.specs.Groups.{groups}
+use Rattle.netlist.specs.Passes.{passCount, copyCount}
 use Rattle.netlist.specs.Rendering.{rendering, schedule}
 use Rattle.netlist.specs.Answers.{testOf}
+use Rattle.encoding.proofs.ListFacts.{getD-map}
 use Rattle.encoding.proofs.Readers.{whole-parts}
 use Rattle.encoding.proofs.Encoded.{length-encode}
 use Rattle.encoding.proofs.Decoded.{decode-inputCount, decode-outputCount, decode-neverCount}
 use Rattle.agreement.proofs.Block.{rendering-count, rendering-inputs, rendering-nevers, length-rendering-outputs, length-schedule-is}
 use Rattle.assignments.proofs.Blocks.{sound-lowest, lowest-sound}
-use Rattle.schedule.specs.Listing.{Numbers, Appended, planOf}
-use Rattle.schedule.proofs.Blocks.{plan-schedule, front}
+use Rattle.reach.proofs.Order.{length-groups}
+use Rattle.passes.specs.Counting.{Listing}
+use Rattle.schedule.specs.Listing.{Numbers, PassesAre, Appended, membersOf, planOf, ListReady, GroupsListed}
+use Rattle.schedule.proofs.Blocks.{count-few, plan-schedule, front, members-groups, members-long, members-front, starts-next, starts-within, starts-part}
 
 -- ---- the settings
 
@@ -80,18 +86,51 @@ rendered-size ws n lines k total size en el ek et es =
 pub schedule-length : (ws : List ℕ) (total : ℕ) → total ≡ copyCount (decode ws) → length (schedule (decode ws)) ≡ total
 schedule-length ws total et = length-schedule-is (decode ws) ∙ rendering-count (decode ws) ∙ sym et
 
-pub scheduled : (ws numbers : List ℕ) (count total : ℕ) (entry order : List ℕ) (at : ℕ)
-    → Numbers (decode ws) (getD ws 1 0) count numbers → total ≡ copyCount (decode ws) → total ≤ maxCopies → maxGates ≤ length entry
-    → Appended (planOf numbers (getD ws 1 0) count) entry 0 order at → take total order ≡ schedule (decode ws)
-scheduled ws numbers count total entry order at a et few room e =
+pub scheduled : (ws numbers passes : List ℕ) (count total : ℕ) (entry order : List ℕ) (at : ℕ)
+    → Numbers (decode ws) (getD ws 1 0) count numbers → PassesAre (decode ws) count passes → total ≡ copyCount (decode ws) → total ≤ maxCopies
+    → maxGates ≤ length entry → Appended (planOf numbers passes (getD ws 1 0) count) entry 0 order at → take total order ≡ schedule (decode ws)
+scheduled ws numbers passes count total entry order at a p et few room e =
     let len : length (schedule (decode ws)) ≡ total = schedule-length ws total et in
-    let fits : length (planOf numbers (getD ws 1 0) count) ≤ length entry = rw (plan-schedule a, len) (omega arith) in
-    rw (front e fits, plan-schedule a) (take-at (schedule (decode ws)) _ total len)
+    let fits : length (planOf numbers passes (getD ws 1 0) count) ≤ length entry = rw (plan-schedule a passes p, len) (omega arith) in
+    rw (front e fits, plan-schedule a passes p) (take-at (schedule (decode ws)) _ total len)
 
--- the numbers that `assign` leaves, for a gate count read from the words
-pub word-numbers : (ws : List ℕ) {m count : ℕ} {numbers : List ℕ} → m ≡ getD ws 1 0 → Numbers (decode ws) m count numbers
-    → Numbers (decode ws) (getD ws 1 0) count numbers
-word-numbers ws e a = rw (← e) a
+-- the passes that are counted, group by group
+pub passes-placed : (b : Block) (count : ℕ) (entry passes : List ℕ) → count ≡ length (groups b) → passes ≡ placed (map (passCount b) (groups b)) entry
+    → PassesAre b count passes
+passes-placed b count entry passes c e g l =
+    let k : g < length (groups b) = omega arith in
+    rw e
+    (List·getD-append (map (passCount b) (groups b)) _ 0 g (rw (length-map (groups b) (passCount b)) k)
+    ∙ getD-map (passCount b) (groups b) g [] 0 k)
+
+-- room for the groups one after the other,
+pub groups-room : (ws : List ℕ) {m count : ℕ} {numbers members starts : List ℕ} → m ≡ getD ws 1 0 → Numbers (decode ws) (getD ws 1 0) count numbers
+    → getD ws 1 0 ≤ length members → getD ws 1 0 < length starts → ListReady numbers m count members starts
+groups-room ws {m} {count} {numbers} e a members starts =
+    let long : length (membersOf numbers m count) ≡ getD ws 1 0 = rw e (ap length (members-groups a) ∙ members-long a) in
+    record {
+      few = rw e (a .few);
+      fewGroups = count-few a;
+      fewMembers = rw long (a .few);
+      memberRoom = rw long members;
+      startRoom = omega (arith, a .countIs, length-groups (decode ws), a .gatesAre);
+    }
+
+-- and what stands there then
+pub groups-listed : (ws : List ℕ) {m count r : ℕ} {numbers entry members starts : List ℕ} → m ≡ getD ws 1 0
+    → Numbers (decode ws) (getD ws 1 0) count numbers → getD ws 1 0 ≤ length entry → GroupsListed numbers m count entry members starts r
+    → Listing (decode ws) count (take (getD ws 1 0) members) starts
+groups-listed ws {m} {count} {r} {numbers} {entry} {members} {starts} e a room h =
+    let l : GroupsListed numbers (getD ws 1 0) count entry members starts r = rw (← e) h in
+    let are : take (getD ws 1 0) members ≡ joined (groups (decode ws)) = members-front a l room in
+    record {
+      countIs = a .countIs;
+      membersLong = rw are (length-joined (groups (decode ws)));
+      few = rw (are, members-long a) (a .few);
+      ordered = λ g k. omega (arith, starts-next a l g k);
+      within = λ g k. rw (are, members-long a) (starts-within a l g k);
+      part = λ g k. rw are (starts-part a l g k);
+    }
 
 -- an array of that many elements has room for every gate
 pub few-gates : (ws : List ℕ) {n : ℕ} → isTorn ws ≡ false → maxGates ≤ n → getD ws 1 0 ≤ n

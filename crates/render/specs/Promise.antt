@@ -12,7 +12,7 @@ use Rattle.netlist.specs.Netlist.{Name, Output, Block, inputCount, gateCount}
 use Rattle.netlist.specs.StoredBlock.{encode, decode, isTorn}
 use Rattle.netlist.specs.Rounds.{settingOf, settingCount, settledUnder, isSettled, isExcluded, lowestUnsettled, outputValue}
 use Rattle.netlist.specs.Cover.{isSound}
-use Rattle.netlist.specs.Groups.{copyCount}
+use Rattle.netlist.specs.Passes.{copyCount}
 use Rattle.netlist.specs.Rendering.{rendering, isStraight, sweep}
 use Rattle.netlist.specs.Answers.{numberOf, countOf, detailOf, Promise}
 use Rattle.netlist.specs.Operations.{render}

@@ -20,15 +20,25 @@ pub fn render(words: &[u16], rendered: &mut [u16]) -> Answer
     let mut numbers = [0u16; MAX_GATES];
     let mut order = [0u16; MAX_GATES];
     let mut newest = [0u16; MAX_GATES];
+    let mut members = [0u16; MAX_GATES];
+    let mut starts = [0u16; MAX_GATES + 1];
+    let mut passes = [0u16; MAX_GATES];
     let mut zeros = [0u64; MAX_INPUTS + MAX_GATES];
     let mut ones = [0u64; MAX_INPUTS + MAX_GATES];
+    let mut settled_zeros = [0u64; MAX_INPUTS + MAX_GATES];
+    let mut settled_ones = [0u64; MAX_INPUTS + MAX_GATES];
     steps::render_with(
         words,
         &mut numbers,
         &mut order,
         &mut newest,
+        &mut members,
+        &mut starts,
+        &mut passes,
         &mut zeros,
         &mut ones,
+        &mut settled_zeros,
+        &mut settled_ones,
         rendered,
     )
 }

@@ -1,4 +1,4 @@
-// The steps of Render: number the groups, count the copies, look for a setting that is not settled, write.
+// The steps of Render: number the groups, count their passes, look for a setting that is not settled, write.
 use copying::rendered::write_rendering;
 use groups::assign::assign;
 use layout::limits::MAX_GATES;
@@ -12,11 +12,12 @@ use layout::offsets::outputs_of;
 use netlist::Answer;
 use netlist::Refusal;
 use netlist::Test;
+use passes::batches::count_passes;
 use refusals::refusal;
 use refusals::refuse_if;
 use refusals::test_room;
-use schedule::count_copies;
 use schedule::fill_schedule;
+use schedule::list_groups;
 use verdict::settings::lowest_unsettled;
 use verdict::settings::setting_count;
 use visiting::order_gates;
@@ -29,7 +30,8 @@ ghost use Rattle.netlist.specs.Rounds.{lowestUnsettled};
 ghost use Rattle.netlist.specs.Cover.{isSound};
 ghost use Rattle.netlist.specs.Answers.{testOf, Promise};
 ghost use Rattle.netlist.specs.Operations.{render};
-ghost use Rattle.render.specs.Tests.{LowestReady, SearchReady, WriteReady, ArrayRoom};
+ghost use Rattle.passes.specs.Counting.{AllCounted};
+ghost use Rattle.render.specs.Tests.{LowestReady, SearchReady, AlongReady, CopiesReady, WriteReady, ArrayRoom};
 
 // The lowest setting that may come and is not settled, or 2^n; the gates are evaluated along `order`.
 fn lowest_along(words: &[u16], order: &[u16], zeros: &mut [u64], ones: &mut [u64]) -> usize
@@ -65,12 +67,13 @@ fn finish(
     words: &[u16],
     numbers: &[u16],
     count: usize,
+    passes: &[u16],
     total: usize,
     order: &mut [u16],
     newest: &mut [u16],
     rendered: &mut [u16],
 ) -> Answer
-    requires { ⌜ WriteReady (now words) (now numbers) count total (now order) (now newest) ⌝ }
+    requires { ⌜ WriteReady (now words) (now numbers) count (now passes) total (now order) (now newest) ⌝ }
     ensures { λ r. ⌜ Promise (render (now (words .entry)) (length (now (rendered .entry)))) (now (rendered .entry)) r (now (rendered .exit)) ⌝ }
 {
     let n = inputs_of(words);
@@ -81,12 +84,88 @@ fn finish(
     let Test::Passed = tested else {
         return refusal(tested);
     };
-    fill_schedule(m, numbers, count, order);
+    fill_schedule(m, numbers, count, passes, order);
     write_rendering(words, n, m, k, order, total, newest, rendered);
     Answer::Done {
         count: size,
         detail: 0,
     }
+}
+
+// How many copies there are, or a number above the limit; writes each group's passes. The groups stand in `members`, and start at `starts`; the
+// gates are evaluated along `order`.
+fn count_along(
+    words: &[u16],
+    order: &[u16],
+    count: usize,
+    members: &[u16],
+    starts: &[u16],
+    passes: &mut [u16],
+    zeros: &mut [u64],
+    ones: &mut [u64],
+    settled_zeros: &mut [u64],
+    settled_ones: &mut [u64],
+) -> usize
+    requires { ⌜
+        AlongReady (now words) (now order) count (now members) (now starts) (now passes) (now zeros) (now ones) (now «settled_zeros»)
+        (now «settled_ones»)
+        ⌝ }
+    ensures { λ r. ⌜ AllCounted (decode (now (words .entry))) (now (passes .entry)) (now (passes .exit)) r ⌝ }
+{
+    let n = inputs_of(words);
+    let m = gates_of(words);
+    let gates = gates_at(words);
+    let nodes = n + m;
+    count_passes(
+        words,
+        n,
+        gates,
+        &order[..m],
+        count,
+        &members[..m],
+        starts,
+        passes,
+        &mut zeros[..nodes],
+        &mut ones[..nodes],
+        &mut settled_zeros[..nodes],
+        &mut settled_ones[..nodes],
+    )
+}
+
+// The same from the groups' numbers.
+fn count_copies(
+    words: &[u16],
+    numbers: &[u16],
+    count: usize,
+    order: &mut [u16],
+    members: &mut [u16],
+    starts: &mut [u16],
+    passes: &mut [u16],
+    zeros: &mut [u64],
+    ones: &mut [u64],
+    settled_zeros: &mut [u64],
+    settled_ones: &mut [u64],
+) -> usize
+    requires { ⌜
+        CopiesReady (now words) (now numbers) count (now order) (now members) (now starts) (now passes) (now zeros) (now ones) (now «settled_zeros»)
+        (now «settled_ones»)
+        ⌝ }
+    ensures { λ r. ⌜ AllCounted (decode (now (words .entry))) (now (passes .entry)) (now (passes .exit)) r ⌝ }
+{
+    order_gates(words, order);
+    list_groups(gates_of(words), numbers, count, members, starts);
+    count_along(
+        words,
+        order,
+        count,
+        members,
+        starts,
+        passes,
+        zeros,
+        ones,
+        settled_zeros,
+        settled_ones,
+    )
 }
 
 // Render of a block that is not torn.
@@ -95,15 +174,35 @@ pub fn render_with(
     numbers: &mut [u16],
     order: &mut [u16],
     newest: &mut [u16],
+    members: &mut [u16],
+    starts: &mut [u16],
+    passes: &mut [u16],
     zeros: &mut [u64],
     ones: &mut [u64],
+    settled_zeros: &mut [u64],
+    settled_ones: &mut [u64],
     rendered: &mut [u16],
 ) -> Answer
-    requires { ⌜ ArrayRoom (now words) (now numbers) (now order) (now newest) (now zeros) (now ones) ⌝ }
+    requires { ⌜
+        ArrayRoom (now words) (now numbers) (now order) (now newest) (now members) (now starts) (now passes) (now zeros) (now ones) (now «settled_zeros»)
+        (now «settled_ones»)
+        ⌝ }
     ensures { λ r. ⌜ Promise (render (now (words .entry)) (length (now (rendered .entry)))) (now (rendered .entry)) r (now (rendered .exit)) ⌝ }
 {
     let count = assign(words, numbers);
-    let total = count_copies(gates_of(words), numbers, count);
+    let total = count_copies(
+        words,
+        numbers,
+        count,
+        order,
+        members,
+        starts,
+        passes,
+        zeros,
+        ones,
+        settled_zeros,
+        settled_ones,
+    );
     let tested = refuse_if(MAX_GATES < total, Refusal::TooManyCopies);
     let Test::Passed = tested else {
         return refusal(tested);
@@ -112,5 +211,14 @@ pub fn render_with(
     let Test::Passed = tested else {
         return refusal(tested);
     };
-    finish(words, numbers, count, total, order, newest, rendered)
+    finish(
+        words,
+        numbers,
+        count,
+        passes,
+        total,
+        order,
+        newest,
+        rendered,
+    )
 }

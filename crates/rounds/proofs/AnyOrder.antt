@@ -1,13 +1,13 @@
 -- One gate at a time, in any order: from a state below the settled values every step stays below them, and where it comes to
 -- rest it is settled. Cited for in-place evaluation and for the run of a rendering.
 --   length-run, run-append, run-elsewhere   a run of steps: its length, in two parts, and gates that are not stepped
---   step-mono, run-mono                     it grows with the state
+--   step-mono-on, run-mono-on, run-mono     it grows with the state, on a set that its gates read, or everywhere
 --   run-below-settled, any-order-below      it stays below the settled values
 --   any-order-settled                       at rest it is settled
 -- Assumes nothing.
 use Prim.Native.Nat.{ℕ, _<_}
 use mathlib.Core.Path.{_≡_, refl, sym, _∙_}
-use mathlib.Core.Bool.{false}
+use mathlib.Core.Bool.{true, false}
 use mathlib.Core.List.{List, [], _∷_, _++_}
 use lib.ListN.{length, getD, replicate, length-set, length-replicate}
 use lib.Dec.{eqb}
@@ -15,13 +15,15 @@ use lib.Seq.{ext-getD, getD-set-other}
 use borrow.Author.Tests.{eqb-false}
 use Rattle.laws.specs.Lists.{member}
 use Rattle.laws.proofs.Tests.{or-neither}
+use Rattle.laws.proofs.Lists.{member-head, member-rest}
 use Rattle.netlist.specs.Values.{Value, undefined}
 use Rattle.netlist.specs.Netlist.{Block, gateCount, gateOf}
 use Rattle.netlist.specs.Rounds.{evaluated, settled}
-use Rattle.rounds.specs.Order.{BelowAll}
+use Rattle.netlist.specs.Groups.{reads}
+use Rattle.rounds.specs.Order.{BelowOn, BelowAll, Listed}
 use Rattle.netlist.specs.Steps.{stepAt, run}
 use Rattle.rounds.proofs.Values.{below-of-eq, below-trans}
-use Rattle.rounds.proofs.Evaluation.{evaluated-mono-all}
+use Rattle.rounds.proofs.Evaluation.{evaluated-mono, evaluated-mono-all}
 use Rattle.rounds.proofs.States.{start-below, set-below, set-below-set}
 use Rattle.rounds.proofs.Rounds.{evaluated-settled, length-settled}
 use Rattle.rounds.proofs.LeastState.{fixed-settled-on}
@@ -51,19 +53,27 @@ module _ (b : Block) (x : List Value) where
       run-elsewhere js (stepAt b x j v) k (or-neither (eqb k j) (member k js) h .1)
       ∙ getD-set-other v j k (evaluated x v (gateOf b j)) undefined (eqb-false k j (or-neither (eqb k j) (member k js) h .0))
 
-  -- A step keeps the order of two states.
-  pub step-mono : (j : ℕ) (u w : List Value) → length u ≡ length w → BelowAll u w → BelowAll (stepAt b x j u) (stepAt b x j w)
-  unfolding stepAt
-  step-mono j u w e h k =
-      set-below-set (λ _. Unit) u w j (evaluated x u (gateOf b j)) (λ i s. h i) (evaluated x w (gateOf b j)) e
-      (λ s. evaluated-mono-all x u w (gateOf b j) h) k tt
+  module _ (S : ℕ → Type 0) where
+    -- A step at a gate that reads only gates of a set keeps the order of two states on the set.
+    pub step-mono-on : (j : ℕ) → ((k : ℕ) → reads b j k ≡ true → S k) → (u w : List Value) → length u ≡ length w → BelowOn S u w
+        → BelowOn S (stepAt b x j u) (stepAt b x j w)
+    unfolding stepAt
+    step-mono-on j inside u w e h =
+        set-below-set S u w j (evaluated x u (gateOf b j)) h (evaluated x w (gateOf b j)) e
+        (λ s. evaluated-mono x u w b j (λ k r. h k (inside k r)))
+
+    -- So do steps along one list of such gates.
+    pub run-mono-on : (js : List ℕ) → ((j k : ℕ) → Listed js j → reads b j k ≡ true → S k) → (u w : List Value) → length u ≡ length w
+        → BelowOn S u w → BelowOn S (run b x js u) (run b x js w)
+    unfolding run
+    run-mono-on [] inside u w e h = h
+    run-mono-on (j ∷ js) inside u w e h =
+        run-mono-on js (λ i k m. inside i k (member-rest i j js m)) (stepAt b x j u) (stepAt b x j w)
+        (length-step j u ∙ e ∙ sym (length-step j w)) (step-mono-on j (λ k. inside j k (member-head j js)) u w e h)
 
   -- Along one list of steps two states keep their order.
   pub run-mono : (js : List ℕ) (u w : List Value) → length u ≡ length w → BelowAll u w → BelowAll (run b x js u) (run b x js w)
-  unfolding run
-  run-mono [] u w e h = h
-  run-mono (j ∷ js) u w e h =
-      run-mono js (stepAt b x j u) (stepAt b x j w) (length-step j u ∙ e ∙ sym (length-step j w)) (step-mono j u w e h)
+  run-mono js u w e h k = run-mono-on (λ _. Unit) js (λ i j m r. tt) u w e (λ i s. h i) k tt
 
   -- The state in which every gate is undefined is below the settled values.
   pub start-below-settled : BelowAll (replicate (gateCount b) undefined) (settled b x)

@@ -1,7 +1,7 @@
 -- As many passes over a group of gates as it has gates put it above its settled values, from any start, where the gates that it reads
--- outside itself are so already. Cited for the agreement of a rendering.
---   passes-above-round   after r passes the group is above round r
---   passes-above         after as many passes as gates it is above the settled values
+-- outside itself are so already. Cited for the number of passes that a group needs.
+--   passes-above-round     as many passes as a round defines gates of the group put it above that round
+--   passes-above-settled   as many as it has gates put it above the settled values
 -- Assumes nothing.
 use Prim.Native.Nat.{ℕ, zero, suc, _≤_, _<_}
 use mathlib.Core.Path.{_≡_, sym, _∙_}
@@ -15,8 +15,7 @@ use Rattle.laws.proofs.Tests.{lt-or-le}
 use Rattle.laws.proofs.Lists.{member-head, member-rest, member-first}
 use Rattle.netlist.specs.Values.{Value, undefined}
 use Rattle.netlist.specs.Netlist.{Block, gateCount, gateOf}
-use Rattle.netlist.specs.Rendering.{passes}
-use Rattle.netlist.specs.Rounds.{evaluated, round, afterRounds, rounds, settled}
+use Rattle.netlist.specs.Rounds.{evaluated, afterRounds, rounds, settled}
 use Rattle.rounds.specs.Order.{Below, BelowOn, Listed, Follows, definedAmong}
 use Rattle.netlist.specs.Steps.{stepAt, run}
 use Rattle.rounds.proofs.Values.{below-of-eq, below-of-undefined, below-trans}
@@ -130,12 +129,6 @@ module _ (b : Block) (x : List Value) (before : ℕ → Type 0) (group : List �
     passes-above-round r p l = passes-ready r p l .roundIn
 
     -- As many passes as the group has gates put it above its settled values.
-    pub passes-above-settled : BelowOn (Listed group) (settled b x) (run b x (passes group) v)
-    unfolding settled passes
+    pub passes-above-settled : BelowOn (Listed group) (settled b x) (run b x (repeated (length group) group) v)
+    unfolding settled
     passes-above-settled = passes-above-round (rounds b x) (length group) (definedAmong-le group (afterRounds b x (rounds b x)))
-
-    -- With what stands before the group, they are above the settled values still.
-    pub passes-above : BelowOn (λ k. before k ⊎ Listed group k) (settled b x) (run b x (passes group) v)
-    unfolding passes
-    passes-above k (inl e) = passes-ready zero (length group) (definedAmong-le group (afterRounds b x zero)) .settledBefore k e
-    passes-above k (inr s) = passes-above-settled k s

@@ -32,6 +32,11 @@ impl Pair {
         Pair { zeros: !ones, ones }
     }
 
+    /// Whether it is the same at these lanes.
+    fn same(self, other: &Pair, lanes: u64) -> bool {
+        (self.zeros ^ other.zeros | self.ones ^ other.ones) & lanes == 0
+    }
+
     fn not(self) -> Pair {
         Pair {
             zeros: self.ones,
@@ -167,6 +172,28 @@ impl<'a> Batches<'a> {
         }
         pairs[n..n + m].fill(Pair::UNDEFINED);
         while sweep(self.steps.iter(), pairs) && sweep(self.steps.iter().rev(), pairs) {}
+    }
+
+    /// How many passes over a group, ascending and from undefined, give it the values just decided, under each setting of the batch that comes;
+    /// nothing if that takes more than `most`.
+    pub fn passes(&mut self, batch: &Batch, group: &[usize], most: usize) -> Option<usize> {
+        let n = self.block.inputs.len();
+        let step = |&gate: &usize| Step::of(&self.block.gates[gate], n + gate);
+        let steps: Vec<Step> = group.iter().map(step).collect();
+        let settled: Vec<Pair> = group.iter().map(|gate| self.pairs[n + gate]).collect();
+        group
+            .iter()
+            .for_each(|gate| self.pairs[n + gate] = Pair::UNDEFINED);
+        let pairs = &mut self.pairs[..];
+        let found = (1..=most).find(|_pass| {
+            sweep(steps.iter(), pairs);
+            let mut reached = group.iter().map(|gate| pairs[n + gate]).zip(&settled);
+            reached.all(|(pair, settled)| pair.same(settled, batch.coming))
+        });
+        for (gate, settled) in group.iter().zip(settled) {
+            self.pairs[n + gate] = settled;
+        }
+        found
     }
 
     /// The lanes that a never line excludes.

@@ -6,34 +6,54 @@ use super::lanes::Batches;
 use super::{handed_over, refused};
 use unloop::raw::Reply;
 
+const MOST_COPIES: usize = 1_024;
+
 /// The rendered block; count: words.
 pub fn render(words: &[u16], rendered: &mut [u16]) -> Reply {
     let Some(block) = Block::of(words) else {
         return refused(6, 0);
     };
     let groups = ordered_groups(&block);
-    let copies: usize = groups.iter().map(|gates| gates.len() * gates.len()).sum();
-    if copies > 1_024 {
+    let Some((passes, lowest)) = counted(&block, &groups) else {
         return refused(8, 0);
-    }
-    let lowest = Batches::of(&block).find_map(|batch| batch.lowest());
+    };
     if let Some(setting) = lowest {
         return refused(9, setting);
     }
-    let result = rendering(words, &block, &groups, copies);
+    let result = rendering(words, &block, &groups, &passes);
     handed_over(&result, result.len(), rendered)
 }
 
-fn rendering(words: &[u16], block: &Block, groups: &[Vec<usize>], copies: usize) -> Vec<u16> {
+/// The passes of each group, and the lowest setting that comes and isn't settled; nothing once the copies don't fit.
+fn counted(block: &Block, groups: &[Vec<usize>]) -> Option<(Vec<usize>, Option<usize>)> {
+    let mut passes = vec![1; groups.len()];
+    let mut copies = block.gates.len();
+    let mut lowest = None;
+    let mut batches = Batches::of(block);
+    while let Some(batch) = batches.next() {
+        lowest = lowest.or(batch.lowest());
+        let loops = groups.iter().zip(&mut passes);
+        for (group, passes) in loops.filter(|(group, _)| group.len() > 1) {
+            let most = *passes + (MOST_COPIES - copies) / group.len();
+            let more = batches.passes(&batch, group, most)?.saturating_sub(*passes);
+            copies += more * group.len();
+            *passes += more;
+        }
+    }
+    Some((passes, lowest))
+}
+
+fn rendering(words: &[u16], block: &Block, groups: &[Vec<usize>], passes: &[usize]) -> Vec<u16> {
     let (n, m) = (block.inputs.len(), block.gates.len());
     let (head, rest) = words.split_at(4 + 4 * n + 2 * block.nevers.len());
     let (gates, outputs) = rest.split_at(5 * m);
     let mut result = head.to_vec();
-    result[1] = copies as u16;
+    let copies = groups.iter().zip(passes).map(|(g, p)| g.len() * p);
+    result[1] = copies.sum::<usize>() as u16;
     let mut newest: Vec<Option<u16>> = vec![None; m];
     let mut next = n as u16;
-    for group in groups {
-        for _pass in 0..group.len() {
+    for (group, &passes) in groups.iter().zip(passes) {
+        for _pass in 0..passes {
             for &gate in group {
                 let stored = &gates[5 * gate..5 * gate + 5];
                 let count = usize::from(stored[0] / 8);

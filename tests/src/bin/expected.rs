@@ -1,7 +1,8 @@
-//! Writes NAME.out and NAME.cover beside each NAME.net given, by the simulator alone; what it wrote is to be read before it is kept:
+//! Writes NAME.out and NAME.cover beside each NAME.net given, and to standard output its row of catalogue/README.md's table, by the simulator
+//! alone; what it wrote is to be read before it is kept:
 //! cargo run --release --bin expected -- ../catalogue/NAME.net.
 
-use simulator::catalogue::{cover_of, out};
+use simulator::catalogue::{cover_of, out, row};
 use std::path::PathBuf;
 use std::{env, fs, io};
 
@@ -12,6 +13,8 @@ fn main() -> io::Result<()> {
         if let Some(cover) = cover_of(&text) {
             fs::write(file.with_extension("cover"), cover)?;
         }
+        let name = file.file_stem().unwrap_or_default().to_string_lossy();
+        println!("{}", row(&name, &text));
     }
     Ok(())
 }

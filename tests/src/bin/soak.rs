@@ -41,6 +41,11 @@ const KINDS: &[Kind] = &[
     kind("middle blocks", 101, |s| seeded::blocks(s, Size::MIDDLE)),
     kind("large blocks", 2_001, |s| seeded::blocks(s, Size::LARGE)),
     kind("typical blocks", 51, seeded::typical_blocks),
+    kind(
+        "blocks of about 1,024 copies",
+        51,
+        seeded::about_1024_copies,
+    ),
     kind("written small blocks", 1, |s| {
         seeded::written_blocks(s, Size::SMALL)
     }),

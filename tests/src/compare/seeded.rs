@@ -6,6 +6,7 @@ use super::{
 use crate::answer::NOT_SETTLED;
 use crate::block::Block;
 use crate::cover::entries;
+use crate::generate;
 use crate::generate::{
     for_blocks, for_texts, for_typical_blocks, long_texts, malformed, malformed_before,
     near_a_limit, spoiled, strange_never, Random, Report, Size,
@@ -26,6 +27,16 @@ pub fn blocks(seeds: Range<u64>, size: Size) {
 /// Blocks as they are met, in every operation.
 pub fn typical_blocks(seeds: Range<u64>) {
     for_typical_blocks(seeds, |random, _, words| compare_block(random, words));
+}
+
+/// Blocks whose rendering has about as many copies as it may have, in every operation.
+pub fn about_1024_copies(seeds: Range<u64>) {
+    for seed in seeds {
+        let mut random = Random::new(seed);
+        let block = generate::about_1024_copies(&mut random);
+        let _report = Report(|| format!("seed {seed}, about 1,024 copies, {block:?}"));
+        compare_block(&mut random, &block.to_words());
+    }
 }
 
 /// Blocks written and read back.

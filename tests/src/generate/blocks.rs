@@ -114,7 +114,7 @@ fn rings(random: &mut Random, n: usize, m: usize) -> Vec<Gate> {
 }
 
 /// A ring whose gate 0 a value 0 of the breaking source fixes, and whose last gate a value 1.
-fn ring(random: &mut Random, n: usize, size: usize, gates: &mut Vec<Gate>) {
+pub(super) fn ring(random: &mut Random, n: usize, size: usize, gates: &mut Vec<Gate>) {
     let base = gates.len();
     let breaker = match n > 0 && size > 1 {
         true => Source::Input(random.below(n)),

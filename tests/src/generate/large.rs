@@ -17,11 +17,12 @@ pub fn large() -> Vec<(&'static str, Block)> {
         ),
         ("straight-fours", full(straight_fours(&mut random, GATES))),
         ("ring-of-1024", full(ring(0, GATES))),
-        ("reversed-ring-of-1024", full(reversed_ring(GATES))),
+        ("reversed-ring-of-1024", full(reversed_ring(0, GATES))),
         ("shuffled-ring", full(shuffled(ring(0, GATES), &mut random))),
         ("unbroken-ring-of-1024", full(unbroken_ring(GATES))),
         ("ring-of-32", full(ring(0, 32))),
-        ("reversed-ring-of-32", full(reversed_ring(32))),
+        ("reversed-ring-of-32", full(reversed_ring(0, 32))),
+        ("turned-ring-of-32", full(turned_ring(32))),
         ("groups-of-5-and-lone", full(groups_of_5(&mut random))),
         ("half-unneeded", half_unneeded(&mut random)),
         ("half-excluded", half_excluded(&mut random)),
@@ -127,14 +128,25 @@ fn ring(base: usize, size: usize) -> Vec<Gate> {
     std::iter::once(first).chain((1..size).map(not)).collect()
 }
 
-/// Each gate `not` of the one behind it; the last is broken by a constant.
-fn reversed_ring(size: usize) -> Vec<Gate> {
+/// Each gate `not` of the one behind it; the last is broken by a constant: as many passes as gates.
+fn reversed_ring(base: usize, size: usize) -> Vec<Gate> {
     let mut gates = ring(0, size);
     gates.reverse();
     for operand in gates.iter_mut().flat_map(|gate| &mut gate.operands) {
         if let Source::Gate(read) = operand {
-            *operand = Source::Gate(size - 1 - *read);
+            *operand = Source::Gate(base + size - 1 - *read);
         }
+    }
+    gates
+}
+
+/// Each gate `not` of the one behind it; the first is broken by a constant: one pass fewer than gates.
+fn turned_ring(size: usize) -> Vec<Gate> {
+    let mut gates = reversed_ring(0, size);
+    let number: Vec<usize> = (0..size).map(|gate| (gate + 1) % size).collect();
+    gates.rotate_right(1);
+    for operand in gates.iter_mut().flat_map(|gate| &mut gate.operands) {
+        *operand = operand.renumbered(&number);
     }
     gates
 }
@@ -146,11 +158,11 @@ fn unbroken_ring(size: usize) -> Vec<Gate> {
     gates
 }
 
-/// 32 rings of 5 and straight gates: 1,024 copies.
+/// 32 reversed rings of 5 and straight gates: 1,024 copies.
 fn groups_of_5(random: &mut Random) -> Vec<Gate> {
     let mut gates = straight_fours(random, GATES - 32 * 25);
     for _ in 0..32 {
-        gates.extend(ring(gates.len(), 5));
+        gates.extend(reversed_ring(gates.len(), 5));
     }
     gates
 }

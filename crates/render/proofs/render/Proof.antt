@@ -56,9 +56,24 @@ slice-aggregate-render-with-4 c = search needs
 slice-aggregate-render-with-5 : tie.Need-slice-aggregate-render-with-5
 slice-aggregate-render-with-5 c = search needs
 
+slice-aggregate-render-with-6 : tie.Need-slice-aggregate-render-with-6
+slice-aggregate-render-with-6 c = search needs
+
+slice-aggregate-render-with-7 : tie.Need-slice-aggregate-render-with-7
+slice-aggregate-render-with-7 c = search needs
+
+slice-aggregate-render-with-8 : tie.Need-slice-aggregate-render-with-8
+slice-aggregate-render-with-8 c = search needs
+
+slice-aggregate-render-with-9 : tie.Need-slice-aggregate-render-with-9
+slice-aggregate-render-with-9 c = search needs
+
+slice-aggregate-render-with-10 : tie.Need-slice-aggregate-render-with-10
+slice-aggregate-render-with-10 c = search needs
+
 render-with-requires : tie.Need-render-with-requires
 render-with-requires c κs =
-    let p = c .before .before .before .before .before .before in
+    let p = let a = c .before .before .before .before .before .before in a .before .before .before .before .before in
     let t = words-test p in
     let ws = now (start t .args .words) in
     let whole = passed-false _ MalformedBlock (t .check-words .ensures) (p .enum-told .given .1) in
@@ -69,15 +84,22 @@ render-with-requires c κs =
       numberRoom = few;
       orderRoom = omega arith;
       tableRoom = few;
+      memberRoom = few;
+      startRoom = omega (arith, few);
+      passRoom = few;
       zeroRoom = omega (arith, inputs, few);
       oneRoom = omega (arith, inputs, few);
+      settledZeroRoom = omega (arith, inputs, few);
+      settledOneRoom = omega (arith, inputs, few);
     }
 
 same-length : tie.Need-same-length
 same-length c = search needs
 
 returns-2 : tie.Need-returns-2
-returns-2 c = whole-promise (c .before .before .before .before .before .before .before .render-with .ensures)
+returns-2 c =
+    let a = c .before .before .before .before .before .before in
+    whole-promise (a .before .before .before .before .before .before .render-with .ensures)
 
 pub render-spec : {M : Type 1} → statement M
 render-spec =
@@ -93,6 +115,11 @@ render-spec =
     slice-aggregate-render-with-3
     slice-aggregate-render-with-4
     slice-aggregate-render-with-5
+    slice-aggregate-render-with-6
+    slice-aggregate-render-with-7
+    slice-aggregate-render-with-8
+    slice-aggregate-render-with-9
+    slice-aggregate-render-with-10
     render-with-requires
     same-length
     returns-2)

@@ -1,5 +1,5 @@
 -- `batch::in_place::step` meets its contract. Assumes nothing.
-use Rattle.batch.proofs.BatchLaws.{batch-one}
+use Rattle.batch.specs.Batch.{gatePair}
 use mathlib.Core.Path.{sym, _∙_}
 use borrow.Author.Needs.{needs}
 use Rattle.batch.proofs.in_place.step.Statement.{statement}
@@ -50,10 +50,12 @@ same-length-2 : tie.Need-same-length-2
 same-length-2 c = search needs
 
 returns : tie.Need-returns
+unfolding gatePair
 returns c =
     let g = c .before .before in
     let s = g .before .before .before .before .before .before in
-    batch-one (s .args .j) (g .gate-pair .result) (s .pre .0 .0) (s .pre .0 .1) (s .pre .0 .2) (s .pre .1) (g .gate-pair .ensures ∙ rw (s .pre .0 .3))
+    let e = rw (s .pre .0 .3) at (g .gate-pair .ensures) in
+    record { zerosAre = rw e; onesAre = rw e; changedIs = rw e }
 
 pub step-spec : {M : Type 1} → statement M
 step-spec =

@@ -7,7 +7,7 @@ use lib.ListN.{getD, length}
 use Rattle.laws.specs.Lists.{tab}
 use Rattle.netlist.specs.StoredBlock.{decode}
 use Rattle.batch.specs.Batch.{BatchSwept, placeOf, along}
-use Rattle.batch.proofs.BatchLaws.{batch-none, batch-then, batch-underway, placeOf-inside, along-inside}
+use Rattle.batch.proofs.BatchLaws.{batch-none, batch-one, batch-then, batch-underway, underway-long, placeOf-inside, along-inside}
 use Rattle.batch.proofs.in_place.sweep.Statement.{statement}
 use Rattle.batch.proofs.in_place.sweep.Tie as tie
 
@@ -50,7 +50,7 @@ step-requires c κs =
     let l = p .before .before in
     let s = start l in (
       (rw (p .place .ensures) (along-inside (s .args .back) (s .pre .0 .1) (l .loop .i) (p .before .loop-test .taken)), s .pre .0 .0, s .pre .0 .2, s .pre .0 .3),
-      batch-underway (s .pre .1) (l .loop .inv .1),
+      underway-long (batch-underway (s .pre .1) (l .loop .inv .1)),
     )
 
 add-i : tie.Need-add-i Inv-loop μ-loop
@@ -65,8 +65,12 @@ loop-again c =
     let p = d .before .before .before .before in
     let l = p .before .before in
     let s = start l in
-    let next = getD (s .args .order .now) (placeOf (s .args .back) (length (s .args .order .now)) (l .loop .i)) 0 in
-    (omega arith, rw add-one (batch-then next (l .loop .inv .1) (rw (p .place .ensures) at (d .step .ensures))))
+    let i = l .loop .i in
+    let next = getD (s .args .order .now) (placeOf (s .args .back) (length (s .args .order .now)) i) 0 in
+    let there = along-inside (s .args .back) (s .pre .0 .1) i (p .before .loop-test .taken) in
+    let done = rw (p .place .ensures) at (d .step .ensures) in
+    let one = batch-one (s .pre .0 .0) (s .pre .0 .2) next there (batch-underway (s .pre .1) (l .loop .inv .1)) done in
+    (omega arith, rw add-one (batch-then next (l .loop .inv .1) one))
 
 same-length : tie.Need-same-length Inv-loop μ-loop
 same-length c = c .before .loop .inv .1 .zerosLong

@@ -22,23 +22,23 @@ start c = c .before .before .before .before .before .before .before
 abbrev counting : tie.After-assign → tie.After-gates-of
 counting c = c .before .before
 
-abbrev numbering : tie.After-list-groups → tie.After-assign
+abbrev numbering : tie.After-list-members → tie.After-assign
 numbering c = c .before .before .before .before .before
 
-abbrev listing : tie.After-find-places → tie.After-list-groups
+abbrev listing : tie.After-find-places → tie.After-list-members
 listing c = c .before .before .before .before .before
 
 -- the groups' numbers, and the list
 gates-few : (c : tie.After-gates-of) → c .gates-of .result ≤ maxGates
 gates-few c = omega (arith, c .gates-of .ensures, whole-parts (now (start c .args .words)) (start c .pre .block .whole) .fewGates)
 
-listed : (c : tie.After-list-groups) → let a = start (counting (numbering c)) .args in
-    c .list-groups .last .1 .1 .1 .0 ≡ placed (gatheredOrder (decode (now (a .words)))) (now (a .order))
+listed : (c : tie.After-list-members) → let a = start (counting (numbering c)) .args in
+    c .list-members .last .1 .1 .1 .0 ≡ placed (gatheredOrder (decode (now (a .words)))) (now (a .order))
 listed c =
     let g = counting (numbering c) in
     let s = start g in
     let numbers = assigned-numbers (now (s .args .words)) (s .pre .block .whole) (g .gates-of .ensures) (numbering c .assign .ensures) in
-    listed-by-group _ (s .pre .block .whole) _ (g .gates-of .ensures) numbers (c .list-groups .ensures)
+    listed-by-group _ (s .pre .block .whole) _ (g .gates-of .ensures) numbers (c .list-members .ensures)
     (omega (arith, g .gates-of .ensures, s .pre .block .listRoom))
 
 gates-of-requires : tie.Need-gates-of-requires
@@ -47,16 +47,19 @@ gates-of-requires c κs = search needs
 assign-requires : tie.Need-assign-requires
 assign-requires c κs = search needs
 
-list-groups-requires : tie.Need-list-groups-requires
-list-groups-requires c κs =
+list-members-requires : tie.Need-list-members-requires
+list-members-requires c κs =
     let a = c .before .before .before .before in
     let g = counting a in
     let s = start g in
-    let numbers = assigned-numbers (now (s .args .words)) (s .pre .block .whole) (g .gates-of .ensures) (a .assign .ensures) in (
-      numbers .few,
-      count-few numbers,
-      omega (arith, members-room _ (s .pre .block .whole) _ (g .gates-of .ensures) numbers, s .pre .block .listRoom, g .gates-of .ensures),
-    )
+    let numbers = assigned-numbers (now (s .args .words)) (s .pre .block .whole) (g .gates-of .ensures) (a .assign .ensures) in
+    let long = members-room _ (s .pre .block .whole) _ (g .gates-of .ensures) numbers in
+    record {
+      few = numbers .few;
+      fewGroups = count-few numbers;
+      fewMembers = omega (arith, long, numbers .few);
+      memberRoom = omega (arith, long, s .pre .block .listRoom, g .gates-of .ensures);
+    }
 
 slice-reshare-prefix-find-places : tie.Need-slice-reshare-prefix-find-places
 slice-reshare-prefix-find-places c = search needs
@@ -67,7 +70,7 @@ slice-aggregate-find-places c =
     let g = counting (numbering l) in
     sym
     (length-take-le (g .gates-of .result) _
-    (omega (arith, g .gates-of .ensures, start g .pre .block .listRoom, l .list-groups .kept .1 .1 .1 .0)))
+    (omega (arith, g .gates-of .ensures, start g .pre .block .listRoom, l .list-members .kept .1 .1 .1 .0)))
 
 find-places-requires : tie.Need-find-places-requires
 find-places-requires c κs =
@@ -124,7 +127,7 @@ write-gathered-spec =
     (tie.spec
     gates-of-requires
     assign-requires
-    list-groups-requires
+    list-members-requires
     slice-reshare-prefix-find-places
     slice-aggregate-find-places
     find-places-requires

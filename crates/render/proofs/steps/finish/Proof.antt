@@ -1,5 +1,5 @@
 -- `render::steps::finish` meets its contract: the room is the rendered block's length, and the words are the rendering's. Assumes nothing.
-use Prim.Native.Nat.{_+_, _*_, _≤_}
+use Prim.Native.Nat.{_+_, _*_}
 use mathlib.Core.Path.{_≡_, sym}
 use native.Mathlib.Omega.{arith}
 use lib.ListN.{length}
@@ -22,7 +22,7 @@ use Rattle.render.proofs.steps.finish.Tie as tie
 
 -- the function's entry, and the stages one before the other
 abbrev start : tie.After-inputs-of → tie.Start
-start c = c .before .before .before .before .before .before
+start c = c .before .before .before .before .before .before .before
 
 abbrev counting : tie.After-outputs-behind → tie.After-inputs-of
 counting c = c .before .before .before .before
@@ -121,7 +121,7 @@ fill-schedule-requires c κs =
     rw (t .before .before .before .before .gates-of .ensures) (
       a .few,
       count-few a,
-      rw (plan-schedule a, schedule-length (now (s .args .words)) (s .args .total) (s .pre .totalIs)) (omega (arith, s .pre .fits, s .pre .orderRoom)),
+      rw (plan-schedule a (now (s .args .passes)) (s .pre .passesAre), schedule-length (now (s .args .words)) (s .args .total) (s .pre .totalIs)) (omega (arith, s .pre .fits, s .pre .orderRoom)),
     )
 
 write-rendering-requires : tie.Need-write-rendering-requires
@@ -140,8 +140,9 @@ write-rendering-requires c κs =
       totalIs = sym (schedule-length (now (s .args .words)) (s .args .total) (s .pre .totalIs));
       fewCopies = s .pre .fits;
       scheduled =
-          scheduled (now (s .args .words)) (now (s .args .numbers)) (s .args .count) (s .args .total) (now (s .args .order))
-          (f .fill-schedule .last .1 .1 .1 .0) (f .fill-schedule .result) (s .pre .numbersAre) (s .pre .totalIs) (s .pre .fits) (s .pre .orderRoom) written;
+          scheduled (now (s .args .words)) (now (s .args .numbers)) (now (s .args .passes)) (s .args .count) (s .args .total) (now (s .args .order))
+          (f .fill-schedule .last .1 .1 .1 .1 .0) (f .fill-schedule .result) (s .pre .numbersAre) (s .pre .passesAre) (s .pre .totalIs) (s .pre .fits)
+          (s .pre .orderRoom) written;
       table = rw (o .before .gates-of .ensures) (s .pre .tableRoom);
       room = ltb-false _ _ (passed-false _ NoRoom (room-told t) (p .enum-told .given .1));
     }

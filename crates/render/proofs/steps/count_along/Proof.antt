@@ -1,0 +1,152 @@
+-- `render::steps::count_along` meets its contract: parts of m and n + m elements are what the count asks. Assumes nothing.
+use mathlib.Core.Path.{sym, _∙_}
+use Prim.Native.Nat.{_+_, _≤_}
+use native.Mathlib.Omega.{arith}
+use lib.ListN.{length}
+use lib.Seq.{length-take-le}
+use Rattle.encoding.proofs.Readers.{whole-parts}
+use Rattle.verdict.proofs.Batching.{whole-decidable}
+use borrow.Author.Needs.{needs}
+use Rattle.render.proofs.steps.count_along.Statement.{statement}
+use Rattle.render.proofs.steps.count_along.Tie as tie
+
+-- the function's entry, and parts that are there
+abbrev start : tie.After-gates-of → tie.Start
+start c = let k = c .before .before .before .before .before .before in k .before .before .before .before .before
+
+-- a word for each node in the four slices
+record NodeRoom (c : tie.After-gates-of) : Type 0 where
+  zeroRoom : c .before .inputs-of .result + c .gates-of .result ≤ length (start c .args .zeros .now)
+  oneRoom : c .before .inputs-of .result + c .gates-of .result ≤ length (start c .args .ones .now)
+  settledZeroRoom : c .before .inputs-of .result + c .gates-of .result ≤ length (start c .args .settled-zeros .now)
+  settledOneRoom : c .before .inputs-of .result + c .gates-of .result ≤ length (start c .args .settled-ones .now)
+
+node-room : (c : tie.After-gates-of) → NodeRoom c
+node-room c =
+    let s = start c in
+    let n = c .before .inputs-of .ensures in
+    let m = c .gates-of .ensures in
+    record {
+      zeroRoom = omega (arith, n, m, s .pre .zeroRoom);
+      oneRoom = omega (arith, n, m, s .pre .oneRoom);
+      settledZeroRoom = omega (arith, n, m, s .pre .settledZeroRoom);
+      settledOneRoom = omega (arith, n, m, s .pre .settledOneRoom);
+    }
+
+inputs-of-requires : tie.Need-inputs-of-requires
+inputs-of-requires c κs = search needs
+
+gates-of-requires : tie.Need-gates-of-requires
+gates-of-requires c κs = search needs
+
+gates-at-requires : tie.Need-gates-at-requires
+gates-at-requires c κs = search needs
+
+add-nodes : tie.Need-add-nodes
+add-nodes c =
+    let g = c .before in
+    let w = whole-parts (start g .args .words .now) (start g .pre .whole) in
+    omega (arith, g .before .inputs-of .ensures, g .gates-of .ensures, w .fewInputs, w .fewGates)
+
+slice-aggregate-count-passes : tie.Need-slice-aggregate-count-passes
+slice-aggregate-count-passes c =
+    let g = c .before .before in
+    sym (length-take-le _ _ (rw (g .gates-of .ensures) (start g .pre .orderRoom)))
+
+slice-aggregate-count-passes-2 : tie.Need-slice-aggregate-count-passes-2
+slice-aggregate-count-passes-2 c =
+    let g = c .before .before .before in
+    sym (length-take-le _ _ (rw (g .gates-of .ensures) (start g .pre .memberRoom)))
+
+slice-relend-prefix-count-passes : tie.Need-slice-relend-prefix-count-passes
+slice-relend-prefix-count-passes c = node-room (c .before .before .before .before) .zeroRoom
+
+slice-aggregate-count-passes-3 : tie.Need-slice-aggregate-count-passes-3
+slice-aggregate-count-passes-3 c = sym (length-take-le _ _ (node-room (c .before .before .before .before .before) .zeroRoom))
+
+slice-relend-prefix-count-passes-2 : tie.Need-slice-relend-prefix-count-passes-2
+slice-relend-prefix-count-passes-2 c = node-room (c .before .before .before .before .before) .oneRoom
+
+slice-aggregate-count-passes-4 : tie.Need-slice-aggregate-count-passes-4
+slice-aggregate-count-passes-4 c = sym (length-take-le _ _ (node-room (c .before .before .before .before .before .before) .oneRoom))
+
+slice-relend-prefix-count-passes-3 : tie.Need-slice-relend-prefix-count-passes-3
+slice-relend-prefix-count-passes-3 c = node-room (c .before .before .before .before .before .before) .settledZeroRoom
+
+slice-aggregate-count-passes-5 : tie.Need-slice-aggregate-count-passes-5
+slice-aggregate-count-passes-5 c =
+    let a = c .before .before .before .before .before in
+    sym (length-take-le _ _ (node-room (a .before .before) .settledZeroRoom))
+
+slice-relend-prefix-count-passes-4 : tie.Need-slice-relend-prefix-count-passes-4
+slice-relend-prefix-count-passes-4 c =
+    let a = c .before .before .before .before .before in
+    node-room (a .before .before) .settledOneRoom
+
+slice-aggregate-count-passes-6 : tie.Need-slice-aggregate-count-passes-6
+slice-aggregate-count-passes-6 c =
+    let a = c .before .before .before .before .before .before in
+    sym (length-take-le _ _ (node-room (a .before .before) .settledOneRoom))
+
+count-passes-requires : tie.Need-count-passes-requires
+count-passes-requires c κs =
+    let a = c .before .before .before .before .before .before in
+    let g = a .before .before in
+    let s = start g in
+    let n = g .before .inputs-of in
+    let m = g .gates-of in
+    let at = a .before .gates-at in
+    let r = node-room g in (
+      whole-decidable (s .args .words .now) (n .result) (m .result) (at .result) _ _ _ (s .pre .whole) (n .ensures) (m .ensures) (at .ensures)
+          (rw (m .ensures) (s .pre .visits)) (length-take-le _ _ (r .zeroRoom)) (length-take-le _ _ (r .oneRoom)),
+      record {
+        listing = rw (m .ensures) (s .pre .listing);
+        passesRoom = s .pre .passRoom;
+        zerosRoom = length-take-le _ _ (r .settledZeroRoom) ∙ sym (length-take-le _ _ (r .zeroRoom));
+        onesRoom = length-take-le _ _ (r .settledOneRoom) ∙ sym (length-take-le _ _ (r .oneRoom));
+      },
+    )
+
+same-length : tie.Need-same-length
+same-length c = search needs
+
+same-length-2 : tie.Need-same-length-2
+same-length-2 c = search needs
+
+same-length-3 : tie.Need-same-length-3
+same-length-3 c = search needs
+
+same-length-4 : tie.Need-same-length-4
+same-length-4 c = search needs
+
+same-length-5 : tie.Need-same-length-5
+same-length-5 c = search needs
+
+returns : tie.Need-returns
+returns c = search needs
+
+pub count-along-spec : {M : Type 1} → statement M
+count-along-spec =
+    tie.close
+    (tie.spec
+    inputs-of-requires
+    gates-of-requires
+    gates-at-requires
+    add-nodes
+    slice-aggregate-count-passes
+    slice-aggregate-count-passes-2
+    slice-relend-prefix-count-passes
+    slice-aggregate-count-passes-3
+    slice-relend-prefix-count-passes-2
+    slice-aggregate-count-passes-4
+    slice-relend-prefix-count-passes-3
+    slice-aggregate-count-passes-5
+    slice-relend-prefix-count-passes-4
+    slice-aggregate-count-passes-6
+    count-passes-requires
+    same-length
+    same-length-2
+    same-length-3
+    same-length-4
+    same-length-5
+    returns)
