@@ -4,6 +4,7 @@
 //! `generate` makes the input, `compare` compares the two programs on it; nothing else here calls the proved one.
 
 pub mod answer;
+pub mod any_order;
 pub mod bench;
 pub mod block;
 pub mod bring;

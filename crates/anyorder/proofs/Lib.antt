@@ -1,0 +1,2 @@
+-- It holds.
+pub mod Shown

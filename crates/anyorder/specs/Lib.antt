@@ -1,0 +1,2 @@
+-- The statement for those who evaluate gates in their own order.
+pub mod AnyOrder

@@ -1,0 +1,1 @@
+// No code: gates evaluated one at a time, in any order (SPECIFICATION 3.5).
