@@ -410,6 +410,9 @@ specimens =
     ∷ (toGather (blockWords unordered) 29 4 ⇒ 0 ∷ 29 ∷ 0 ∷ ordered ++ orderOf)
     ∷ (toGather (blockWords unordered) 28 4 ⇒ with 11 0)
     ∷ (toGather (blockWords unordered) 29 3 ⇒ with 11 0)
+    -- a loop's gates are brought together, ascending
+    ∷ (toGather (blockWords "(in s)\n(gate a (and s c))\n(gate b (not s))\n(gate c (or s a))\n(out y c)\n") 28 3
+    ⇒ 0 ∷ 28 ∷ 0 ∷ 1 ∷ 3 ∷ 1 ∷ 0 ∷ 115 ∷ 0 ∷ 0 ∷ 0 ∷ 17 ∷ 0 ∷ 2 ∷ 0 ∷ 0 ∷ 18 ∷ 0 ∷ 1 ∷ 0 ∷ 0 ∷ 8 ∷ 0 ∷ 0 ∷ 0 ∷ 0 ∷ 121 ∷ 0 ∷ 0 ∷ 0 ∷ 2 ∷ 0 ∷ 2 ∷ 1 ∷ [])
     ∷ (toGather [] 0 0 ⇒ with 6 0)
     ∷ (toScatter ordered orderOf 29 ⇒ 0 ∷ 29 ∷ 0 ∷ blockWords unordered)
     ∷ (toScatter ordered orderOf 28 ⇒ with 11 0)

@@ -6,7 +6,7 @@ use Prim.Native.Nat.{ℕ, zero, suc, _+_, _-_, _*_, _%_, _≤_, _<_}
 use native.Mathlib.Omega.{arith}
 use lib.ListN.{getD, List·getD-map}
 use borrow.Author.Tests.{lt-ltb, le-ltb, ne-eqb}
-use Rattle.netlist.specs.Values.{Value, undefined, val, code, valueOf, invert, isDefined}
+use Rattle.netlist.specs.Values.{Value, undefined, val, code, valueOf, invert}
 use Rattle.netlist.specs.Rounds.{operandValue}
 use Rattle.netlist.specs.StoredBlock.{operandOf}
 use Rattle.ternary.specs.Legal.{wordValue}
@@ -24,18 +24,6 @@ unfolding valueOf
 high-undefined zero h = absurd (omega arith)
 high-undefined (suc zero) h = absurd (omega arith)
 high-undefined (suc (suc v)) h = refl
-
--- only undefined has code 2
-pub defined-code : (v : Value) → (code v ≡ 2 → ⊥) → isDefined v ≡ true
-unfolding code isDefined
-defined-code undefined h = absurd (h refl)
-defined-code (val b) h = refl
-
-pub undefined-code : (v : Value) → code v ≡ 2 → isDefined v ≡ false
-unfolding code isDefined
-undefined-code undefined h = refl
-undefined-code (val true) h = absurd (omega arith)
-undefined-code (val false) h = absurd (omega arith)
 
 -- a code is at most 2
 pub code-most : (v : Value) → code v ≤ 2

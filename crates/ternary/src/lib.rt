@@ -1,4 +1,3 @@
-// One gate's value, and what an output shows, from a block's words. Callers cite specs of `netlist`.
+// One gate's value from a block's words. Callers cite specs of `netlist`.
 pub mod gate;
-pub mod output;
 pub mod table;
