@@ -45,7 +45,7 @@ fn standard_input() {
     let given = |text: &str| ended(&mut command(&scratch), text.as_bytes());
     told(given(PROGRAM_INPUT), 0, PROGRAM_OUTPUT, "");
     told(given(""), 0, "", "");
-    let errors = "<stdin>:1:7: form\n(in a)\n      ^\n";
+    let errors = "<stdin>:1:7: form: expected the line's end\n(in a)\n      ^\n";
     told(given("(in a)"), 1, "(refused 2 6)\n", errors);
 }
 
@@ -260,7 +260,7 @@ fn bad_usage() {
             &["--into", "out"],
             "--into needs a FILE: standard input has no name",
         ),
-        (&["--force", "a"], "--force needs --into DIR"),
+        (&["--force", "a"], "--force needs --into DIR or --page DIR"),
     ] {
         let errors = format!("unloop: {line} (see --help)\n");
         told(run(&scratch, words), 2, "", &errors);
