@@ -25,7 +25,10 @@ fn catalogue_holds() {
     let count = output.lines().count() - 1;
     let summary = format!("{count} entries: {count} hold, 0 lost");
     assert_eq!(output.lines().last(), Some(&summary[..]));
-    assert_eq!((ended.status.code(), &ended.stderr[..]), (Some(0), &b""[..]));
+    assert_eq!(
+        (ended.status.code(), &ended.stderr[..]),
+        (Some(0), &b""[..])
+    );
     assert!(count >= 20 && output.contains("rate.net: both hold, refused with 9 undecided\n"));
 }
 
@@ -33,7 +36,10 @@ fn catalogue_holds() {
 /// passes only the second, which no comparison of outputs shows.
 #[test]
 fn rate_block() {
-    let scratch = with(&[("d/rate.net", &catalogue("rate.net")), ("d/rate.cover", "always\n")]);
+    let scratch = with(&[
+        ("d/rate.net", &catalogue("rate.net")),
+        ("d/rate.cover", "always\n"),
+    ]);
     let cover = "  cover: stored as settled, but not settled with sample = 0, mute = 0, k44 = 0, k48 = 1: y undefined\n";
     let summary = "1 entry: 0 hold, 1 lost\n";
     scratch.put("d/rate.out", catalogue("rate-all-passes.net"));
@@ -45,7 +51,8 @@ fn rate_block() {
     told(run(&scratch, &["--audit", "d"]), 1, &output, "");
     scratch.put("d/rate.out", catalogue("rate-all-passes.net"));
     scratch.put("d/rate.cover", catalogue("rate.cover"));
-    let output = "d/rate.net: both hold, but it settles under some settings only\n1 entry: 1 hold, 0 lost\n";
+    let output =
+        "d/rate.net: both hold, but it settles under some settings only\n1 entry: 1 hold, 0 lost\n";
     told(run(&scratch, &["--audit", "d"]), 0, output, "");
 }
 
@@ -59,28 +66,73 @@ fn what_else_is_lost() {
     };
     let always = ("x.cover", "always\n");
     lost(&[("x.net", &net), always], "  rendering: no ./x.out\n");
-    lost(&[("x.net", &net), ("x.out", &rendered)], "  cover: no ./x.cover\n");
+    lost(
+        &[("x.net", &net), ("x.out", &rendered)],
+        "  cover: no ./x.cover\n",
+    );
     lost(&[("x.out", &rendered), always], "  no original\n");
-    let all = |out: &str, cover: &str, lines: &str| lost(&[("x.net", &net), ("x.out", out), ("x.cover", cover)], lines);
-    all("(in s)\n(out y s)", "always\n", "  rendering: it can't be read, line 2, column 10: form\n");
-    all(&net, "always\n", "  rendering: some gate reads itself or a gate behind it\n");
+    let all = |out: &str, cover: &str, lines: &str| {
+        lost(
+            &[("x.net", &net), ("x.out", out), ("x.cover", cover)],
+            lines,
+        )
+    };
+    all(
+        "(in s)\n(out y s)",
+        "always\n",
+        "  rendering: it can't be read, line 2, column 10: form\n",
+    );
+    all(
+        &net,
+        "always\n",
+        "  rendering: some gate reads itself or a gate behind it\n",
+    );
     let strangers = "  rendering: it has pins t; ports y, but must be pins s; ports y\n";
     all("(in t)\n(out y t)\n", "always\n", strangers);
-    all("(refused 9 0)\n", "always\n", "  rendering: stored as refused with 9 undecided, and now rendered\n");
-    all(&rendered, "s = 1\n", "  cover: not stored as settled with s = 0, but it is\n");
-    all(&rendered, "", "  cover: not stored as settled with s = 0, but it is\n");
-    all(&rendered, "s = 0\ns = 1\n", "  cover: the same settings by other entries than the minimal ones\n");
-    all(&rendered, "t = 1\n", "  cover: line 1: no input is named t\n");
+    all(
+        "(refused 9 0)\n",
+        "always\n",
+        "  rendering: stored as refused with 9 undecided, and now rendered\n",
+    );
+    all(
+        &rendered,
+        "s = 1\n",
+        "  cover: not stored as settled with s = 0, but it is\n",
+    );
+    all(
+        &rendered,
+        "",
+        "  cover: not stored as settled with s = 0, but it is\n",
+    );
+    all(
+        &rendered,
+        "s = 0\ns = 1\n",
+        "  cover: the same settings by other entries than the minimal ones\n",
+    );
+    all(
+        &rendered,
+        "t = 1\n",
+        "  cover: line 1: no input is named t\n",
+    );
     let cut = "  rendering: the original can't be read, line 1, column 7: form\n  cover: the original can't be read, line 1, column 7: form\n";
     lost(&[("x.net", "(in s)"), ("x.out", &rendered), always], cut);
 }
 
 #[test]
 fn json_and_errors() {
-    let scratch = with(&[("x.net", "(in a)\n"), ("x.out", "(in a)\n"), ("x.cover", "always\n")]);
+    let scratch = with(&[
+        ("x.net", "(in a)\n"),
+        ("x.out", "(in a)\n"),
+        ("x.cover", "always\n"),
+    ]);
     let object = "{\"file\":\"./x.net\",\"holds\":true,\"rendering\":{\"state\":\"holds\"},\"cover\":{\"state\":\"holds\"}}\n";
     told(run(&scratch, &["--json", "--audit", "."]), 0, object, "");
-    told(run(&scratch, &["--audit", "gone"]), 2, "", "unloop: gone: No such file or directory\n");
+    told(
+        run(&scratch, &["--audit", "gone"]),
+        2,
+        "",
+        "unloop: gone: No such file or directory\n",
+    );
     let error = "unloop: d: no NAME.net, NAME.out or NAME.cover is in it\n";
     scratch.put("d/x", "");
     told(run(&scratch, &["--audit", "d"]), 2, "", error);
@@ -98,21 +150,33 @@ fn generated_entries() {
         let (stored, entries) = (out(&text), cover_of(&text).expect("a block's"));
         assert!(audit(&text, Some(&stored), Some(entries.as_bytes())).holds());
         told[0] += 1;
-        let Some(other) = mutant(random, &copied(block), Change::Output) else { return };
+        let Some(other) = mutant(random, &copied(block), Change::Output) else {
+            return;
+        };
         let other = other.to_words();
-        let found = audit(&text, Some(&write(&other, usize::MAX).1), Some(entries.as_bytes()));
+        let found = audit(
+            &text,
+            Some(&write(&other, usize::MAX).1),
+            Some(entries.as_bytes()),
+        );
         let expected = compared(words, &other);
         match expected.count {
             0 => assert_eq!(found.rendering, Rendering::Holds),
             count => {
-                let differs = Disagreement { setting: expected.detail, output: count - 1 };
+                let differs = Disagreement {
+                    setting: expected.detail,
+                    output: count - 1,
+                };
                 assert_eq!(found.rendering, Rendering::Differs(differs));
                 told[1] += 1;
             }
         }
         let shorter: String = entries.split_inclusive('\n').skip(1).collect();
         if cover(words, usize::MAX).0.count > 0 {
-            assert_ne!(audit(&text, None, Some(shorter.as_bytes())).cover, Cover::Holds);
+            assert_ne!(
+                audit(&text, None, Some(shorter.as_bytes())).cover,
+                Cover::Holds
+            );
             told[2] += 1;
         }
     });

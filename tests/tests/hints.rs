@@ -52,7 +52,10 @@ fn expected_bytes_are_those_that_the_recogniser_takes() {
 fn expected_words() {
     for (text, expected) in [
         ("(", "expected gate, in, never or out"),
-        ("(in a)\n(gate p (", "expected and, nand, nor, not, or, xnor or xor"),
+        (
+            "(in a)\n(gate p (",
+            "expected and, nand, nor, not, or, xnor or xor",
+        ),
         ("(in a)\n(out y a)\n(gate", "expected out"),
         ("(gate p (not ", "expected a letter, 0, 1, _ or ("),
         ("(gate p (and a b c d", "expected a letter, a digit, _ or )"),
@@ -61,7 +64,11 @@ fn expected_words() {
         ("(in abcdefgh", "expected )"),
         ("(never (a 1)", "expected ) or a space"),
     ] {
-        assert_eq!(told(format!("{text}!").as_bytes()).as_deref(), Some(expected), "{text}");
+        assert_eq!(
+            told(format!("{text}!").as_bytes()).as_deref(),
+            Some(expected),
+            "{text}"
+        );
     }
 }
 
@@ -76,11 +83,25 @@ fn first_declarations() {
         };
         let _report = Report(|| format!("{}", text.escape_ascii()));
         let hint = told(&text).expect("a first one");
-        let numbers = hint.strip_prefix("first in line ").unwrap().split_once(", column ").unwrap();
-        let (row, column): (usize, usize) = (numbers.0.parse().unwrap(), numbers.1.parse().unwrap());
-        let before: usize = text.split(|&byte| byte == b'\n').take(row - 1).map(|line| line.len() + 1).sum();
+        let numbers = hint
+            .strip_prefix("first in line ")
+            .unwrap()
+            .split_once(", column ")
+            .unwrap();
+        let (row, column): (usize, usize) =
+            (numbers.0.parse().unwrap(), numbers.1.parse().unwrap());
+        let before: usize = text
+            .split(|&byte| byte == b'\n')
+            .take(row - 1)
+            .map(|line| line.len() + 1)
+            .sum();
         let first = before + column - 1;
-        let name = |place: usize| text[place..].split(|byte| b" )".contains(byte)).next().unwrap();
+        let name = |place: usize| {
+            text[place..]
+                .split(|byte| b" )".contains(byte))
+                .next()
+                .unwrap()
+        };
         assert!(first < place && name(first) == name(place), "{hint}");
         assert_eq!(Location::of(&text, first).column, column);
         told_of += 1;
@@ -91,15 +112,33 @@ fn first_declarations() {
 #[test]
 fn nearest_names() {
     for (text, expected) in [
-        ("(in right)\n(gate p (not rihgt))\n", Some("nearest is right")),
-        ("(in left)\n(in right)\n(gate p (not lift))\n", Some("nearest is left")),
-        ("(in k44)\n(in k48)\n(gate p (not k49))\n", Some("nearest is k44")),
-        ("(in k44)\n(in k48)\n(gate k4 (not k8))\n", Some("nearest is k48")),
+        (
+            "(in right)\n(gate p (not rihgt))\n",
+            Some("nearest is right"),
+        ),
+        (
+            "(in left)\n(in right)\n(gate p (not lift))\n",
+            Some("nearest is left"),
+        ),
+        (
+            "(in k44)\n(in k48)\n(gate p (not k49))\n",
+            Some("nearest is k44"),
+        ),
+        (
+            "(in k44)\n(in k48)\n(gate k4 (not k8))\n",
+            Some("nearest is k48"),
+        ),
         ("(in a)\n(gate sum (not summ))\n", Some("nearest is sum")),
         ("(in a)\n(gate p (not elsewhe))\n", None),
         ("(gate p (not q))\n", None),
-        ("(in on)\n(never (one 1))\n(gate one (not on))\n", Some("a gate, and never lines name inputs")),
-        ("(in on)\n(never (onn 1))\n(gate onn1 (not on))\n", Some("nearest is on")),
+        (
+            "(in on)\n(never (one 1))\n(gate one (not on))\n",
+            Some("a gate, and never lines name inputs"),
+        ),
+        (
+            "(in on)\n(never (onn 1))\n(gate onn1 (not on))\n",
+            Some("nearest is on"),
+        ),
     ] {
         assert_eq!(told(text.as_bytes()).as_deref(), expected, "{text}");
     }
@@ -109,8 +148,11 @@ fn nearest_names() {
 fn limits() {
     let inputs: String = (0..14).map(|i| format!("(in a{i})\n")).collect();
     let outputs: String = (0..17).map(|i| format!("(out y{i} a0)\n")).collect();
-    let gates: String = (0..513).map(|i| format!("(gate g{i} (not (not a0)))\n")).collect();
+    let gates: String = (0..513)
+        .map(|i| format!("(gate g{i} (not (not a0)))\n"))
+        .collect();
     let text = inputs + &gates + &outputs;
-    let expected = "14 inputs, 2 more than 12; 1026 gates, 2 more than 1024; 17 outputs, 1 more than 16";
+    let expected =
+        "14 inputs, 2 more than 12; 1026 gates, 2 more than 1024; 17 outputs, 1 more than 16";
     assert_eq!(told(text.as_bytes()).as_deref(), Some(expected));
 }
