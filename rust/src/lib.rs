@@ -26,6 +26,7 @@ pub mod audit;
 mod blif;
 mod block;
 pub mod declarations;
+pub mod drawing;
 mod export;
 mod from_blif;
 mod gate;

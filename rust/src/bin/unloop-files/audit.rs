@@ -235,9 +235,13 @@ impl Fact {
             (Rendering::Incomparable(refusal), ..) => {
                 Fact::lost(refusal.word(), refusal.to_string())
             }
-            (Rendering::Illegible(refusal), ..) => {
-                Fact::lost("illegible", format!("it can't be read, {}", located(*refusal, entry.out.as_deref())))
-            }
+            (Rendering::Illegible(refusal), ..) => Fact::lost(
+                "illegible",
+                format!(
+                    "it can't be read, {}",
+                    located(*refusal, entry.out.as_deref())
+                ),
+            ),
             (Rendering::Original(refusal), ..) => Fact::lost("original", original(*refusal, entry)),
             (Rendering::Answer { stored, today }, ..) => {
                 let now = today.map_or("rendered".to_string(), |today| {

@@ -7,6 +7,7 @@ mod described;
 mod export;
 mod folder;
 mod options;
+mod page;
 mod parallel;
 mod program;
 mod report;
@@ -56,7 +57,7 @@ fn answered(request: Request, program: Program) -> ExitCode {
             files,
         } => export::run(form, original, &sources(files)),
         Request::FromBlif { file } => export::from_blif(file.map_or(Source::Input, Source::File)),
-        Request::Page { .. } => Err("not yet".to_string()),
+        Request::Page { target, files } => page::run(&target, files),
     };
     done.unwrap_or_else(|reason| failed(&reason))
 }

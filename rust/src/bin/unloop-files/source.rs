@@ -30,6 +30,12 @@ impl Source {
         }
     }
 
+    /// The last part of the file's path.
+    pub fn last_part(&self) -> String {
+        let part = self.path().and_then(|path| path.file_name());
+        part.map_or_else(|| self.name(), |part| shown(part.as_ref()))
+    }
+
     /// The file's name without its ending.
     pub fn stem(&self) -> String {
         let stem = self.path().and_then(|path| path.file_stem());
