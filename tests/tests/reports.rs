@@ -40,9 +40,17 @@ fn form() {
         "(refused 2 7)\n",
         "x.net:2:1: form: expected (\n\n^\n",
     );
-    at_a_place(b"\n", "(refused 2 0)\n", "x.net:1:1: form: expected (\n\n^\n");
+    at_a_place(
+        b"\n",
+        "(refused 2 0)\n",
+        "x.net:1:1: form: expected (\n\n^\n",
+    );
     let text = b"(in a)\n(in b)\n(gate p (and a b))\nout y p)\n";
-    at_a_place(text, "(refused 2 33)\n", "x.net:4:1: form: expected (\nout y p)\n^\n");
+    at_a_place(
+        text,
+        "(refused 2 33)\n",
+        "x.net:4:1: form: expected (\nout y p)\n^\n",
+    );
 }
 
 /// One column for each byte, and no byte that a terminal obeys.
@@ -73,10 +81,12 @@ fn declared_twice_and_not_at_all() {
 fn never_lines() {
     let report = "x.net:2:7: form: expected a space\n(never)\n      ^\n";
     at_a_place(b"(in a)\n(never)\n", "(refused 2 13)\n", report);
-    let report = "x.net:2:15: twice: first in line 2, column 9\n(never (a 1) (a 0))\n              ^\n";
+    let report =
+        "x.net:2:15: twice: first in line 2, column 9\n(never (a 1) (a 0))\n              ^\n";
     let text = b"(in a)\n(never (a 1) (a 0))\n(gate a (not 0))\n";
     at_a_place(text, "(refused 4 21)\n", report);
-    let report = "x.net:2:9: unknown: a gate, and never lines name inputs\n(never (p 1))\n        ^\n";
+    let report =
+        "x.net:2:9: unknown: a gate, and never lines name inputs\n(never (p 1))\n        ^\n";
     let text = b"(in a)\n(never (p 1))\n(gate p (not a))\n";
     at_a_place(text, "(refused 5 15)\n", report);
     let lines = "(in a)\n".to_string() + &"(never (a 1))\n".repeat(9);

@@ -58,7 +58,10 @@ fn net(block: &Block, source: Source, newest: &[String]) -> String {
 /// All rows where the gate is 1, by the counts of its ones.
 fn table(block: &Block, gate: &Gate, newest: &[String], name: &str) -> String {
     let count = gate.operands.len() as u32;
-    let nets = gate.operands.iter().map(|&operand| net(block, operand, newest));
+    let nets = gate
+        .operands
+        .iter()
+        .map(|&operand| net(block, operand, newest));
     let nets: Vec<String> = nets.collect();
     let is_one = |row: u32| match (gate.kind, row.count_ones()) {
         (Kind::And, ones) => ones == count,
@@ -70,5 +73,9 @@ fn table(block: &Block, gate: &Gate, newest: &[String], name: &str) -> String {
     };
     let rows = (0..1u32 << count).filter(|&row| is_one(row));
     let rows = rows.map(|row| format!("{row:0width$b} 1\n", width = count as usize));
-    format!(".names {} {name}\n{}", nets.join(" "), rows.collect::<String>())
+    format!(
+        ".names {} {name}\n{}",
+        nets.join(" "),
+        rows.collect::<String>()
+    )
 }

@@ -1,20 +1,21 @@
 //! `--audit DIR`: do the rendering and the cover that stand beside each original still hold?
 
-use crate::check::{interface, Differs};
-use crate::described::{object, pins};
+mod fact;
+
+use crate::described::object;
 use crate::parallel::in_order;
-use crate::report::{pins_of, undefined};
 use crate::source::{reason, shown, Source};
 use crate::{put, tally, Stopped};
+use fact::Fact;
 use std::collections::BTreeSet;
 use std::fs;
 use std::io::ErrorKind;
 use std::ops::ControlFlow;
 use std::path::{Path, PathBuf};
 use std::process::ExitCode;
-use unloop::audit::{audit, Audit, Cover, Rendering};
+use unloop::audit::audit;
 use unloop::json::Json;
-use unloop::{Assignment, Block, Location, Refusal};
+use unloop::{Block, Refusal};
 
 /// The files of an entry; what is not there is none.
 struct Entry {
@@ -24,66 +25,74 @@ struct Entry {
     cover: Option<Vec<u8>>,
 }
 
-/// What is told of an entry: the state, and the lines below it.
+/// What is told of an entry.
 struct Told {
     holds: bool,
     lines: Vec<String>,
     json: Json,
 }
 
+impl Told {
+    fn written(&self, json: bool) -> String {
+        match json {
+            true => format!("{}\n", self.json),
+            false => self.lines.join("\n") + "\n",
+        }
+    }
+}
+
+/// Why an audit ends before its last entry.
+enum End {
+    Error(String),
+    Stopped,
+}
+
 /// Audits each entry of a folder and tells; an error is a folder or a file that can't be read.
 pub fn run(folder: &Path, json: bool) -> Result<ExitCode, String> {
     let bases = bases(folder)?;
     if bases.is_empty() {
+        let folder = shown(folder);
         return Err(format!(
-            "{}: no NAME.net, NAME.out or NAME.cover is in it",
-            shown(folder)
+            "{folder}: no NAME.net, NAME.out or NAME.cover is in it"
         ));
     }
-    let (mut lost, mut error) = (0, None);
-    let ended = in_order(
+    let (mut lost, mut ended) = (0, None);
+    let work = |base: &PathBuf| read(base).map(|entry| told(&entry));
+    let _ = in_order(
         &bases,
-        |base| read(base).map(|entry| told(&entry)),
+        work,
         |_| {},
         |_, entry| {
-            let Told {
-                holds,
-                lines,
-                json: object,
-            } = match entry {
-                Ok(told) => told,
-                Err(reason) => {
-                    error = Some(reason);
-                    return ControlFlow::Break(());
-                }
+            let put_one = |told: Told| {
+                lost += usize::from(!told.holds);
+                put(told.written(json).as_bytes()).map_err(|Stopped| End::Stopped)
             };
-            lost += usize::from(!holds);
-            let written = if json {
-                format!("{object}\n")
-            } else {
-                lines.join("\n") + "\n"
-            };
-            match put(written.as_bytes()) {
+            match entry.map_err(End::Error).and_then(put_one) {
                 Ok(()) => ControlFlow::Continue(()),
-                Err(Stopped) => ControlFlow::Break(()),
+                Err(end) => {
+                    ended = Some(end);
+                    ControlFlow::Break(())
+                }
             }
         },
     );
-    match error {
-        Some(reason) => return Err(reason),
-        None if ended.is_break() => return Ok(ExitCode::from(tally::ERROR)),
+    match ended {
+        Some(End::Error(reason)) => return Err(reason),
+        Some(End::Stopped) => return Ok(ExitCode::from(tally::ERROR)),
+        None if !json && put(summary(bases.len(), lost).as_bytes()).is_err() => {
+            return Ok(ExitCode::from(tally::ERROR));
+        }
         None => {}
     }
-    let plural = if bases.len() == 1 { "y" } else { "ies" };
-    let summary = format!(
-        "{} entr{plural}: {} hold, {lost} lost\n",
-        bases.len(),
-        bases.len() - lost
-    );
-    if !json && put(summary.as_bytes()).is_err() {
-        return Ok(ExitCode::from(tally::ERROR));
-    }
     Ok(ExitCode::from(if lost > 0 { tally::REFUSED } else { 0 }))
+}
+
+fn summary(entries: usize, lost: usize) -> String {
+    let plural = if entries == 1 { "y" } else { "ies" };
+    format!(
+        "{entries} entr{plural}: {} hold, {lost} lost\n",
+        entries - lost
+    )
 }
 
 /// The paths of a folder's entries without their ending, sorted.
@@ -92,10 +101,8 @@ fn bases(folder: &Path) -> Result<Vec<PathBuf>, String> {
     let mut bases = BTreeSet::new();
     for found in fs::read_dir(folder).map_err(failed)? {
         let path = found.map_err(failed)?.path();
-        if ["net", "out", "cover"]
-            .iter()
-            .any(|ending| path.extension().is_some_and(|found| found == *ending))
-        {
+        let ending = path.extension().and_then(|ending| ending.to_str());
+        if ending.is_some_and(|ending| ["net", "out", "cover"].contains(&ending)) {
             bases.insert(path.with_extension(""));
         }
     }
@@ -124,209 +131,45 @@ fn read(base: &Path) -> Result<Entry, String> {
 }
 
 fn told(entry: &Entry) -> Told {
-    let file = Json::text(format!("{}.net", entry.name));
+    let name = format!("{}.net", entry.name);
+    let file = ("file", Json::text(&name));
     let Some(original) = &entry.original else {
-        let json = Json::Object(object([
-            ("file", file),
-            ("holds", Json::Bool(false)),
-            ("error", Json::text("no original")),
-        ]));
+        let why = ("error", Json::text("no original"));
         return Told {
             holds: false,
-            lines: vec![
-                format!("{}.net: lost", entry.name),
-                "  no original".to_string(),
-            ],
-            json,
+            lines: vec![format!("{name}: lost"), "  no original".to_string()],
+            json: Json::Object(object([file, ("holds", Json::Bool(false)), why])),
         };
     };
     let found = audit(original, entry.out.as_deref(), entry.cover.as_deref());
     let block = Block::read(original).ok();
-    let rendering = Fact::of_rendering(&found, entry, block.as_ref());
-    let cover = Fact::of_cover(&found, entry, block.as_ref());
-    let (holds, refused) = (
-        found.holds(),
-        entry.out.as_deref().and_then(Refusal::of_line),
-    );
-    let partial = refused.is_none()
-        && block
-            .as_ref()
-            .is_some_and(|block| !block.verdict().is_sound());
-    let state = match (holds, refused) {
-        (true, None) if partial => "both hold, but it settles under some settings only".to_string(),
-        (true, None) => "both hold".to_string(),
-        (true, Some(refusal)) => format!(
-            "both hold, refused with {} {}",
-            refusal.number(),
-            refusal.word()
-        ),
-        (false, _) => "lost".to_string(),
-    };
-    let mut lines = vec![format!("{}.net: {state}", entry.name)];
-    lines.extend(
-        rendering
-            .why
-            .iter()
-            .map(|why| format!("  rendering: {why}")),
-    );
-    lines.extend(cover.why.iter().map(|why| format!("  cover: {why}")));
-    let fields = [
-        ("file", file),
-        ("holds", Json::Bool(holds)),
-        ("rendering", rendering.json()),
-        ("cover", cover.json()),
-    ];
+    let rendering = Fact::of_rendering(&found.rendering, entry, block.as_ref());
+    let cover = Fact::of_cover(&found.cover, entry, block.as_ref());
+    let holds = found.holds();
+    let mut lines = vec![format!("{name}: {}", state(holds, entry, block.as_ref()))];
+    lines.extend(rendering.line("rendering"));
+    lines.extend(cover.line("cover"));
+    let facts = [("rendering", rendering.json()), ("cover", cover.json())];
+    let mut fields = object([file, ("holds", Json::Bool(holds))]);
+    fields.extend(object(facts));
     Told {
         holds,
         lines,
-        json: Json::Object(object(fields)),
+        json: Json::Object(fields),
     }
 }
 
-/// What became of one of the two, in words where it doesn't hold.
-struct Fact {
-    word: &'static str,
-    why: Option<String>,
-    fields: Vec<(String, Json)>,
-}
-
-impl Fact {
-    fn new(word: &'static str, why: Option<String>) -> Fact {
-        Fact {
-            word,
-            why,
-            fields: Vec::new(),
+/// The state in a few words. A rendering may be stored of an original that does not always settle, as its cover says then.
+fn state(holds: bool, entry: &Entry, block: Option<&Block>) -> String {
+    let refused = entry.out.as_deref().and_then(Refusal::of_line);
+    let sound = block.is_none_or(|block| block.verdict().is_sound());
+    match refused {
+        _ if !holds => "lost".to_string(),
+        Some(refusal) => {
+            let (number, word) = (refusal.number(), refusal.word());
+            format!("both hold, refused with {number} {word}")
         }
-    }
-
-    fn lost(word: &'static str, why: String) -> Fact {
-        Fact::new(word, Some(why))
-    }
-
-    fn json(self) -> Json {
-        let mut fields = object([("state", Json::text(self.word))]);
-        fields.extend(self.fields);
-        fields.extend(self.why.map(|why| ("why".to_string(), Json::Text(why))));
-        Json::Object(fields)
-    }
-
-    fn of_rendering(found: &Audit, entry: &Entry, block: Option<&Block>) -> Fact {
-        let theirs = entry.out.as_deref().and_then(|out| Block::read(out).ok());
-        match (&found.rendering, block, &theirs) {
-            (Rendering::Holds, ..) => Fact::new("holds", None),
-            (Rendering::Missing, ..) => Fact::lost("missing", format!("no {}.out", entry.name)),
-            (Rendering::Differs(found), Some(ours), Some(theirs)) => {
-                let differs = Differs::new(ours, theirs, *found);
-                Fact {
-                    fields: differs.fields(),
-                    ..Fact::lost("differs", differs.to_string())
-                }
-            }
-            (Rendering::Incomparable(Refusal::InterfaceMismatch), Some(ours), Some(theirs)) => {
-                Fact::lost(
-                    "strangers",
-                    format!(
-                        "it has {}, but must be {}",
-                        interface(theirs),
-                        interface(ours)
-                    ),
-                )
-            }
-            (Rendering::Incomparable(refusal), ..) => {
-                Fact::lost(refusal.word(), refusal.to_string())
-            }
-            (Rendering::Illegible(refusal), ..) => Fact::lost(
-                "illegible",
-                format!(
-                    "it can't be read, {}",
-                    located(*refusal, entry.out.as_deref())
-                ),
-            ),
-            (Rendering::Original(refusal), ..) => Fact::lost("original", original(*refusal, entry)),
-            (Rendering::Answer { stored, today }, ..) => {
-                let now = today.map_or("rendered".to_string(), |today| {
-                    format!("refused with {} {}", today.number(), today.word())
-                });
-                Fact::lost(
-                    "answer",
-                    format!(
-                        "stored as refused with {} {}, and now {now}",
-                        stored.number(),
-                        stored.word()
-                    ),
-                )
-            }
-            (Rendering::Differs(_), ..) => Fact::lost("differs", String::new()),
-        }
-    }
-
-    fn of_cover(found: &Audit, entry: &Entry, block: Option<&Block>) -> Fact {
-        match (&found.cover, block) {
-            (Cover::Holds, _) => Fact::new("holds", None),
-            (Cover::Missing, _) => Fact::lost("missing", format!("no {}.cover", entry.name)),
-            (Cover::Illegible { line, reason }, _) => {
-                Fact::lost("illegible", format!("line {line}: {reason}"))
-            }
-            (Cover::Original(refusal), _) => Fact::lost("original", original(*refusal, entry)),
-            (Cover::Lost { setting }, Some(block)) => {
-                let ports = undefined(block, *setting);
-                let why = format!(
-                    "stored as settled, but not settled{}: {} undefined",
-                    with(block, *setting),
-                    ports.join(", ")
-                );
-                let fields = object([
-                    ("setting", setting_pins(block, *setting)),
-                    ("undefined", Json::texts(ports)),
-                ]);
-                Fact {
-                    fields,
-                    ..Fact::lost("lost", why)
-                }
-            }
-            (Cover::Gained { setting }, Some(block)) => {
-                let fields = object([("setting", setting_pins(block, *setting))]);
-                Fact {
-                    fields,
-                    ..Fact::lost(
-                        "gained",
-                        format!("not stored as settled{}, but it is", with(block, *setting)),
-                    )
-                }
-            }
-            _ => Fact::lost(
-                "entries",
-                "the same settings by other entries than the minimal ones".to_string(),
-            ),
-        }
-    }
-}
-
-fn with(block: &Block, setting: usize) -> String {
-    match block.inputs() {
-        0 => String::new(),
-        _ => format!(" with {}", pins_of(block, setting)),
-    }
-}
-
-fn setting_pins(block: &Block, setting: usize) -> Json {
-    pins(Assignment::of_setting(setting), &block.input_names())
-}
-
-fn original(refusal: Refusal, entry: &Entry) -> String {
-    format!(
-        "the original can't be read, {}",
-        located(refusal, entry.original.as_deref())
-    )
-}
-
-/// A refusal's word, with its line and column in a text.
-fn located(refusal: Refusal, text: Option<&[u8]>) -> String {
-    match (refusal.place(), text) {
-        (Some(place), Some(text)) => {
-            let Location { row, column, .. } = Location::of(text, place);
-            format!("line {row}, column {column}: {}", refusal.word())
-        }
-        _ => refusal.word().to_string(),
+        None if sound => "both hold".to_string(),
+        None => "both hold, but it settles under some settings only".to_string(),
     }
 }

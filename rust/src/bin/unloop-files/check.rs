@@ -69,30 +69,33 @@ fn check(theirs: &Source, ours: &Source) -> Result<Finding, String> {
             Err(lines)
         }
     };
-    let accepted = compared == Ok(None);
     let mut fields = object([
         ("file", Json::text(&name)),
         ("original", Json::text(ours.name())),
     ]);
-    match compared {
-        Err(refusal) => fields.extend(object([
-            ("number", Json::Number(refusal.number())),
-            ("word", Json::text(refusal.word())),
-        ])),
-        Ok(found) => {
-            fields.extend(object([("accepted", Json::Bool(accepted))]));
-            fields.extend(
-                found
-                    .into_iter()
-                    .flat_map(|found| Differs::new(&original, &made, found).fields()),
-            );
-        }
-    }
+    fields.extend(compared_fields(&original, &made, compared));
     Ok(Finding {
         told,
         json: Json::Object(fields),
-        accepted,
+        accepted: compared == Ok(None),
     })
+}
+
+/// What the comparison came to, for JSON.
+fn compared_fields(
+    ours: &Block,
+    theirs: &Block,
+    compared: Result<Option<Disagreement>, Refusal>,
+) -> Vec<(String, Json)> {
+    let accepted = |is: bool| object([("accepted", Json::Bool(is))]);
+    match compared {
+        Err(refusal) => object([
+            ("number", Json::Number(refusal.number())),
+            ("word", Json::text(refusal.word())),
+        ]),
+        Ok(None) => accepted(true),
+        Ok(Some(found)) => [accepted(false), Differs::new(ours, theirs, found).fields()].concat(),
+    }
 }
 
 /// The block of a file, or what refuses it.

@@ -17,7 +17,7 @@ mod sheet;
 mod source;
 mod tally;
 
-use options::Request;
+use options::{Export, Request};
 use program::Program;
 use run::Run;
 use screen::Screen;
@@ -51,13 +51,13 @@ fn answered(request: Request, program: Program) -> ExitCode {
             check::run(Source::File(theirs), Source::File(ours), json)
         }
         Request::Audit { folder, json } => audit::run(&folder, json),
-        Request::Export {
+        Request::Export(Export {
             form,
             original,
             files,
-        } => export::run(form, original, &sources(files)),
-        Request::FromBlif { file } => export::from_blif(file.map_or(Source::Input, Source::File)),
-        Request::Page { target, files } => page::run(&target, files),
+        }) => export::run(form, original, &sources(files)),
+        Request::FromBlif(file) => export::from_blif(file.map_or(Source::Input, Source::File)),
+        Request::Page(target, files) => page::run(&target, files),
     };
     done.unwrap_or_else(|reason| failed(&reason))
 }

@@ -26,18 +26,17 @@ pub enum Request {
         folder: PathBuf,
         json: bool,
     },
-    Export {
-        form: Form,
-        original: bool,
-        files: Vec<PathBuf>,
-    },
-    FromBlif {
-        file: Option<PathBuf>,
-    },
-    Page {
-        target: Target,
-        files: Vec<PathBuf>,
-    },
+    Export(Export),
+    FromBlif(Option<PathBuf>),
+    Page(Target, Vec<PathBuf>),
+}
+
+/// Files that are written in another form: their renderings, or they themselves.
+#[derive(Debug)]
+pub struct Export {
+    pub form: Form,
+    pub original: bool,
+    pub files: Vec<PathBuf>,
 }
 
 /// A folder that is written to.
@@ -189,52 +188,44 @@ fn made(task: Task, fits: bool, given: Given) -> Result<Request, String> {
         ..
     } = given;
     let one = |files: Vec<PathBuf>| <[PathBuf; 1]>::try_from(files).ok();
-    let some = |files: &[PathBuf], what: &str| match files.is_empty() {
-        true => Err(format!("{what} needs a FILE: standard input has no name")),
-        false => Ok(()),
-    };
+    let wrong = |what: &str| Err(what.to_string());
     Ok(match task {
-        Task::Render => Request::Render {
-            files,
-            into: None,
+        Task::Render => rendered(files, None, json),
+        Task::Into(folder) => rendered(
+            named(files, "--into")?,
+            Some(Target { folder, force }),
             json,
-        },
-        Task::Into(folder) => {
-            some(&files, "--into")?;
-            Request::Render {
-                files,
-                into: Some(Target { folder, force }),
-                json,
-            }
-        }
-        Task::Sheet(_) if !fits => {
-            return Err("--sheet SETTINGS goes with no other option".to_string())
-        }
+        ),
+        Task::Sheet(_) if !fits => return wrong("--sheet SETTINGS goes with no other option"),
         Task::Sheet(settings) => match one(files) {
             Some([file]) => Request::Sheet { settings, file },
-            None => return Err("--sheet needs one FILE".to_string()),
+            None => return wrong("--sheet needs one FILE"),
         },
         Task::Check(theirs) => match one(files) {
             Some([ours]) if fits => Request::Check { theirs, ours, json },
-            _ => return Err("--check THEIRS needs one FILE and no other option".to_string()),
+            _ => return wrong("--check THEIRS needs one FILE and no other option"),
         },
         Task::Audit(folder) if files.is_empty() => Request::Audit { folder, json },
-        Task::Audit(_) => return Err("--audit DIR takes no FILE".to_string()),
-        Task::Export(form) => Request::Export {
+        Task::Audit(_) => return wrong("--audit DIR takes no FILE"),
+        Task::Export(form) => Request::Export(Export {
             form,
             original,
             files,
-        },
-        Task::FromBlif if files.len() < 2 => Request::FromBlif {
-            file: files.into_iter().next(),
-        },
-        Task::FromBlif => return Err("--from-blif takes one FILE".to_string()),
-        Task::Page(folder) => {
-            some(&files, "--page")?;
-            Request::Page {
-                target: Target { folder, force },
-                files,
-            }
-        }
+        }),
+        Task::FromBlif if files.len() < 2 => Request::FromBlif(files.into_iter().next()),
+        Task::FromBlif => return wrong("--from-blif takes one FILE"),
+        Task::Page(folder) => Request::Page(Target { folder, force }, named(files, "--page")?),
     })
+}
+
+fn rendered(files: Vec<PathBuf>, into: Option<Target>, json: bool) -> Request {
+    Request::Render { files, into, json }
+}
+
+/// The files, of which there must be one at least.
+fn named(files: Vec<PathBuf>, option: &str) -> Result<Vec<PathBuf>, String> {
+    match files.is_empty() {
+        true => Err(format!("{option} needs a FILE: standard input has no name")),
+        false => Ok(files),
+    }
 }

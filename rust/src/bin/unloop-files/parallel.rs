@@ -3,7 +3,7 @@
 use std::collections::BTreeMap;
 use std::ops::ControlFlow;
 use std::sync::atomic::{AtomicUsize, Ordering};
-use std::sync::mpsc;
+use std::sync::mpsc::{self, Sender};
 use std::thread;
 
 /// Does `work` on each item, on as many threads as there are cores, and hands each result to `told` in the items' order; `next` is told
@@ -20,33 +20,41 @@ pub fn in_order<T: Sync, R: Send>(
     thread::scope(|scope| {
         for _ in 0..cores.min(items.len()) {
             let (sender, begun, work) = (sender.clone(), &begun, &work);
-            scope.spawn(move || loop {
-                let index = begun.fetch_add(1, Ordering::Relaxed);
-                let Some(item) = items.get(index) else { break };
-                if sender.send((index, work(item))).is_err() {
-                    break;
-                }
-            });
+            scope.spawn(move || worker(items, begun, work, &sender));
         }
         drop(sender);
         let mut early = BTreeMap::new();
         for index in 0..items.len() {
             next(index);
-            let result = loop {
-                if let Some(result) = early.remove(&index) {
-                    break result;
-                }
+            while !early.contains_key(&index) {
                 // Every item is sent once, unless its thread ended by a panic, which the scope passes on.
                 let Ok((found, result)) = results.recv() else {
                     return ControlFlow::Break(());
                 };
                 early.insert(found, result);
-            };
-            if told(index, result).is_break() {
+            }
+            let result = early.remove(&index);
+            if result.is_some_and(|result| told(index, result).is_break()) {
                 begun.store(items.len(), Ordering::Relaxed);
                 return ControlFlow::Break(());
             }
         }
         ControlFlow::Continue(())
     })
+}
+
+/// Does the items that no other thread has begun, and sends the results.
+fn worker<T, R>(
+    items: &[T],
+    begun: &AtomicUsize,
+    work: impl Fn(&T) -> R,
+    results: &Sender<(usize, R)>,
+) {
+    loop {
+        let index = begun.fetch_add(1, Ordering::Relaxed);
+        let Some(item) = items.get(index) else { break };
+        if results.send((index, work(item))).is_err() {
+            break;
+        }
+    }
 }

@@ -153,53 +153,56 @@ pub fn described(width: usize) -> String {
 
 /// The graph in Graphviz's language. Names are a netlist's own, so nothing needs quoting.
 fn graph(drawing: &Drawing, labels: &Labels) -> String {
-    let id = |node: Node| match node {
-        Node::Input(input) => format!("i{input}"),
-        Node::Gate(gate) => format!("g{gate}"),
-        Node::Output(output) => format!("o{output}"),
+    let mut lines = vec![
+        "digraph {\nrankdir=LR; bgcolor=transparent;".to_string(),
+        "node [shape=box style=rounded fontname=\"monospace\" fontsize=11 margin=\"0.12,0.05\" height=0.3];".to_string(),
+    ];
+    let nodes = drawing.columns.iter().flatten();
+    lines.extend(nodes.map(|&node| graph_node(node, labels)));
+    let ids = |letter: char, count: usize| {
+        (0..count)
+            .map(|number| format!("{letter}{number}; "))
+            .collect::<String>()
     };
-    let mut lines = vec!["digraph {\nrankdir=LR; bgcolor=transparent; node [shape=box style=rounded fontname=\"monospace\" fontsize=11 margin=\"0.12,0.05\" height=0.3];".to_string()];
-    for &node in drawing.columns.iter().flatten() {
-        let label = match node {
-            Node::Input(input) => labels.inputs[input].clone(),
-            Node::Output(output) => labels.outputs[output].clone(),
-            Node::Gate(gate) => match &labels.gates[gate] {
-                (name, kind) if name.is_empty() => kind.clone(),
-                (name, kind) => format!("{name}\\n{kind}"),
-            },
-        };
-        let shape = if matches!(node, Node::Gate(_)) {
-            ""
-        } else {
-            " shape=plaintext"
-        };
-        lines.push(format!(
-            "{} [label=\"{label}\" class=\"{}\"{shape}];",
-            id(node),
-            labels.class(node)
-        ));
-    }
-    let rank = |kind: &str, nodes: Vec<String>| format!("{{rank={kind}; {}}}", nodes.join("; "));
-    lines.push(rank(
-        "source",
-        (0..labels.inputs.len())
-            .map(|input| format!("i{input}"))
-            .collect(),
+    lines.push(format!(
+        "{{rank=source; {}}}",
+        ids('i', labels.inputs.len())
     ));
-    lines.push(rank(
-        "sink",
-        (0..labels.outputs.len())
-            .map(|output| format!("o{output}"))
-            .collect(),
-    ));
+    lines.push(format!("{{rank=sink; {}}}", ids('o', labels.outputs.len())));
     for wire in &drawing.wires {
         let class = if wire.looped { "wire inloop" } else { "wire" };
-        lines.push(format!(
-            "{} -> {} [class=\"{class}\" arrowsize=0.6];",
-            id(wire.from),
-            id(wire.to)
-        ));
+        let (from, to) = (graph_id(wire.from), graph_id(wire.to));
+        lines.push(format!("{from} -> {to} [class=\"{class}\" arrowsize=0.6];"));
     }
     lines.push("}\n".to_string());
     lines.join("\n")
+}
+
+fn graph_id(node: Node) -> String {
+    match node {
+        Node::Input(input) => format!("i{input}"),
+        Node::Gate(gate) => format!("g{gate}"),
+        Node::Output(output) => format!("o{output}"),
+    }
+}
+
+fn graph_node(node: Node, labels: &Labels) -> String {
+    let label = match node {
+        Node::Input(input) => labels.inputs[input].clone(),
+        Node::Output(output) => labels.outputs[output].clone(),
+        Node::Gate(gate) => match &labels.gates[gate] {
+            (name, kind) if name.is_empty() => kind.clone(),
+            (name, kind) => format!("{name}\\n{kind}"),
+        },
+    };
+    let shape = if matches!(node, Node::Gate(_)) {
+        ""
+    } else {
+        " shape=plaintext"
+    };
+    format!(
+        "{} [label=\"{label}\" class=\"{}\"{shape}];",
+        graph_id(node),
+        labels.class(node)
+    )
 }

@@ -50,19 +50,15 @@ fn row(entry: &Entry) -> String {
     };
     let block = entry.block.as_ref().ok();
     let settled = block.map(|block| (block.verdict().settled, block.settings_that_come()));
-    let share = settled.map(|(settled, of)| {
-        if of == 0 {
-            1_000_000
-        } else {
-            settled * 1_000_000 / of
-        }
-    });
+    let share =
+        settled.map(|(settled, of)| (settled * 1_000_000).checked_div(of).unwrap_or(1_000_000));
     let told = settled.map_or("–".to_string(), |(settled, of)| {
         format!("{settled} of {of}")
     });
     let (class, state) = entry.state();
     format!(
-        "<tr><th scope=\"row\"><a href=\"{}\">{}</a></th><td data-label=\"State\" data-value=\"{}\"><span class=\"state {class}\">{}</span></td>{}{}{}{}</tr>\n",
+        "<tr><th scope=\"row\"><a href=\"{}\">{}</a></th>\
+         <td data-label=\"State\" data-value=\"{}\"><span class=\"state {class}\">{}</span></td>{}{}{}{}</tr>\n",
         escaped(&entry.page),
         escaped(&entry.title),
         escaped(&state),

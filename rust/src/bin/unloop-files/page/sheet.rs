@@ -1,6 +1,7 @@
 //! The sheet: pins that are clicked to 0, 1 or undefined, and the outputs then. Their values are stored in the page, as Sheet gave them.
 
 use super::html::escaped;
+use crate::described::object;
 use unloop::json::Json;
 use unloop::{Assignment, Block, Refusal, Value};
 
@@ -45,46 +46,41 @@ pub fn sheet(block: &Block, refusal: Option<Refusal>) -> String {
 /// The values as JSON, and how many settings they are of: a setting's number has weight base^i for input i, and digit 2 is undefined.
 fn stored(block: &Block, base: usize, start: usize) -> (Json, usize) {
     let count = base.pow(block.inputs() as u32);
-    let digit = |setting: usize, input: usize| setting / base.pow(input as u32) % base;
-    let asked = |setting: usize| {
-        let mask = |wanted: fn(usize) -> bool| {
-            (0..block.inputs())
-                .filter(|&input| wanted(digit(setting, input)))
-                .map(|input| 1u16 << input)
-                .sum()
-        };
-        Assignment {
-            fixed: mask(|digit| digit < 2),
-            ones: mask(|digit| digit == 1),
-        }
-    };
-    let asked: Vec<Assignment> = (0..count).map(asked).collect();
+    let asked: Vec<Assignment> = (0..count)
+        .map(|setting| asked(block, base, setting))
+        .collect();
     let letter = |value: Value| match value {
         Value::Zero => '0',
         Value::One => '1',
         Value::Undefined => 'u',
     };
-    let rows = block.sheet(&asked).into_iter();
-    let rows: String = rows
-        .flat_map(|row| row.unwrap_or_default().into_iter().map(letter))
-        .collect();
+    let rows = block
+        .sheet(&asked)
+        .into_iter()
+        .flat_map(Result::unwrap_or_default);
+    let number = |mask: u16| Json::Number(mask.into());
     let nevers = block.never_lines().into_iter();
-    let nevers = nevers.map(|line| {
-        Json::List(vec![
-            Json::Number(line.fixed.into()),
-            Json::Number(line.ones.into()),
-        ])
-    });
-    let fields = [
+    let nevers = nevers.map(|line| Json::List(vec![number(line.fixed), number(line.ones)]));
+    let fields = object([
         ("base", Json::Number(base)),
         ("inputs", Json::texts(block.input_names())),
         ("outputs", Json::texts(block.output_names())),
         ("nevers", Json::List(nevers.collect())),
         ("start", Json::Number(start)),
-        ("rows", Json::Text(rows)),
-    ];
-    (
-        Json::Object(fields.map(|(name, value)| (name.to_string(), value)).into()),
-        count,
-    )
+        ("rows", Json::Text(rows.map(letter).collect())),
+    ]);
+    (Json::Object(fields), count)
+}
+
+/// The assignment of a setting's number.
+fn asked(block: &Block, base: usize, setting: usize) -> Assignment {
+    let digit = |input: usize| setting / base.pow(input as u32) % base;
+    let mask = |wanted: fn(usize) -> bool| {
+        let inputs = (0..block.inputs()).filter(|&input| wanted(digit(input)));
+        inputs.map(|input| 1 << input).sum()
+    };
+    Assignment {
+        fixed: mask(|digit| digit < 2),
+        ones: mask(|digit| digit == 1),
+    }
 }
