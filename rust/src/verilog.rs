@@ -3,9 +3,10 @@
 use crate::export::{never_comments, Nets};
 use crate::Block;
 
-/// The words of Verilog and SystemVerilog that a netlist's name or a module's may be: those of small letters, sorted.
+/// The words of Verilog and SystemVerilog that a netlist's name or a module's may be, those of small letters, and Icarus's own (`bool`,
+/// `wone`, `wreal`); sorted.
 const KEYWORDS: &str = "accept_on alias always always_comb always_ff always_latch and assert assign assume automatic before begin bind bins \
-    binsof bit break buf bufif0 bufif1 byte case casex casez cell chandle checker class clocking cmos config const constraint context continue \
+    binsof bit bool break buf bufif0 bufif1 byte case casex casez cell chandle checker class clocking cmos config const constraint context continue \
     cover covergroup coverpoint cross deassign default defparam design disable dist do edge else end endcase endchecker endclass endclocking \
     endconfig endfunction endgenerate endgroup endinterface endmodule endpackage endprimitive endprogram endproperty endsequence endspecify \
     endtable endtask enum event eventually expect export extends extern final first_match for force foreach forever fork forkjoin function \
@@ -18,7 +19,7 @@ const KEYWORDS: &str = "accept_on alias always always_comb always_ff always_latc
     small soft solve specify specparam static string strong strong0 strong1 struct super supply0 supply1 sync_accept_on sync_reject_on table \
     tagged task this throughout time timeprecision timeunit tran tranif0 tranif1 tri tri0 tri1 triand trior trireg type typedef union unique \
     unique0 unsigned until until_with untyped use uwire var vectored virtual void wait wait_order wand weak weak0 weak1 while wildcard wire with \
-    within wor xnor xor";
+    within wone wor wreal xnor xor";
 
 /// The module of a block, straight or looped: ports are the inputs and then the outputs, in order.
 ///
