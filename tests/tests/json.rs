@@ -307,25 +307,3 @@ fn checks_and_errors() {
         "unloop: gone: No such file or directory\n",
     );
 }
-
-/// Many files at once: what is written and told is in their order, whichever was done first.
-#[test]
-fn many_files_keep_their_order() {
-    let (scratch, paths) = (Scratch::new(), netlists());
-    let many: Vec<&PathBuf> = paths.iter().cycle().take(5 * paths.len()).collect();
-    let ended = ended(command(&scratch).args(&many), b"");
-    let texts = many.iter().map(|path| fs::read(path).unwrap());
-    let expected: Vec<u8> = texts.flat_map(|text| unloop(&text)).collect();
-    assert!(ended.stdout == expected);
-    let errors = String::from_utf8(ended.stderr).unwrap();
-    let progress = errors
-        .lines()
-        .filter(|line| line.contains(&format!("/{} ", many.len())));
-    let told: Vec<&str> = progress
-        .map(|line| line.rsplit_once(": ").unwrap().0)
-        .collect();
-    let names = (1..)
-        .zip(&many)
-        .map(|(number, path)| format!("{number}/{} {}", many.len(), path.display()));
-    assert_eq!(told, names.collect::<Vec<_>>());
-}

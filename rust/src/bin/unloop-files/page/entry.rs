@@ -7,6 +7,9 @@ use crate::source::Source;
 use unloop::declarations::name_at;
 use unloop::{Assignment, Block, Location, Refusal};
 
+/// The entries of a cover that are shown.
+const ENTRIES_SHOWN: usize = 200;
+
 /// A netlist and what became of it.
 pub struct Entry {
     /// The last part of the file's path.
@@ -191,9 +194,13 @@ fn cover(block: &Block) -> String {
                 .collect::<String>()
         )
     };
-    let rows: String = cover.iter().map(row).collect();
+    let rows: String = cover.iter().take(ENTRIES_SHOWN).map(row).collect();
+    let more = match cover.len().saturating_sub(ENTRIES_SHOWN) {
+        0 => String::new(),
+        more => format!("<p>And {more} more; --json tells them all.</p>\n"),
+    };
     format!(
         "<p>Every output settles, or the setting never comes, under these settings of the pins and no others.</p>\n\
-         <div class=\"scroll\" tabindex=\"0\"><table class=\"pins\">\n<thead><tr>{headers}</tr></thead>\n<tbody>\n{rows}</tbody>\n</table></div>\n"
+         <div class=\"scroll\" tabindex=\"0\"><table class=\"pins\">\n<thead><tr>{headers}</tr></thead>\n<tbody>\n{rows}</tbody>\n</table></div>\n{more}"
     )
 }

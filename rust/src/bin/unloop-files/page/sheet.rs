@@ -35,7 +35,7 @@ pub fn sheet(block: &Block, refusal: Option<Refusal>) -> String {
     };
     format!(
         "<div class=\"bench\">\n<ul class=\"pinlist\" aria-label=\"Pins\">\n{}</ul>\n<ul class=\"portlist\" aria-label=\"Outputs\">\n{}</ul>\n</div>\n\
-         <p id=\"verdict\" role=\"status\"></p>\n\
+         <p id=\"verdict\" role=\"status\"></p>\n<noscript><p>The sheet needs scripts.</p></noscript>\n\
          <p class=\"note\">{open} The values of the outputs under all {count} settings are stored in this page; they come from the proved operation Sheet, \
          and the page only looks them up.</p>\n<script type=\"application/json\" id=\"values\">{values}</script>\n",
         pins.iter().enumerate().map(pin).collect::<String>(),
