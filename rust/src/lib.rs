@@ -25,6 +25,7 @@
 pub mod audit;
 mod blif;
 mod block;
+mod copies;
 pub mod declarations;
 pub mod drawing;
 mod export;
@@ -44,6 +45,7 @@ mod verilog;
 
 pub use blif::blif;
 pub use block::Block;
+pub use copies::copies;
 pub use export::{module_name, OUTPUT_SUFFIX};
 pub use from_blif::{from_blif, BlifError};
 pub use gate::{Gate, Kind, Operand};

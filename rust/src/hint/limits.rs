@@ -1,5 +1,6 @@
 //! Limits: which one a text or a rendering passes, and by how much.
 
+use crate::copies::copies;
 use crate::declarations::{lines, LineKind};
 use crate::limits::{GATES, INPUTS, NEVERS, OUTPUTS};
 use crate::Block;
@@ -29,15 +30,4 @@ pub fn swollen(block: &Block) -> Option<String> {
 
 fn above(count: usize, most: usize, what: &str) -> String {
     format!("{count} {what}, {} more than {most}", count - most)
-}
-
-/// The gates that a rendering would have: each group is copied as often as it has gates (SPECIFICATION 6.1).
-fn copies(block: &Block) -> usize {
-    let groups = block.groups();
-    let mut sizes = vec![0; groups.count];
-    groups
-        .of_gates
-        .iter()
-        .for_each(|&group| sizes[usize::from(group)] += 1);
-    sizes.iter().map(|size| size * size).sum()
 }
