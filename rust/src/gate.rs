@@ -103,6 +103,12 @@ impl Block {
         self.stored_outputs().map(node).collect()
     }
 
+    /// The number of that input, or the gate's behind the inputs.
+    pub(crate) fn nodes_shown(&self) -> impl Iterator<Item = usize> + '_ {
+        self.stored_outputs()
+            .map(|output| output[NAME_WORDS].into())
+    }
+
     fn gate(&self, words: &[u16]) -> Gate {
         let count = usize::from(words[0] / 8);
         let operands = words[1..=count].iter();

@@ -25,6 +25,7 @@
 pub mod audit;
 mod blif;
 mod block;
+mod cell_table;
 mod cells;
 mod copies;
 pub mod declarations;
@@ -47,6 +48,7 @@ mod verilog;
 
 pub use blif::blif;
 pub use block::Block;
+pub use cell_table::{cell_table, CellTable, TableError};
 pub use cells::Cells;
 pub use copies::copies;
 pub use export::{module_name, OUTPUT_SUFFIX};

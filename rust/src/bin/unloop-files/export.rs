@@ -1,4 +1,4 @@
-//! `--verilog`, `--blif` and `--from-blif`: renderings for tools that nobody here wrote, and back.
+//! `--verilog`, `--blif`, `--cells` and `--from-blif`: renderings for tools that nobody here wrote, and back.
 
 use crate::options::Form;
 use crate::report::report;
@@ -7,7 +7,7 @@ use crate::source::{reason, Source};
 use crate::{put, tally, Stopped};
 use std::collections::HashSet;
 use std::process::ExitCode;
-use unloop::{blif, module_name, verilog, Block};
+use unloop::{blif, cell_table, module_name, verilog, Block, Refusal};
 
 /// Writes each rendering, or each original, in a form; what is refused is reported.
 pub fn run(form: Form, original: bool, sources: &[Source]) -> Result<ExitCode, String> {
@@ -15,36 +15,37 @@ pub fn run(form: Form, original: bool, sources: &[Source]) -> Result<ExitCode, S
     let mut taken = HashSet::new();
     for source in sources {
         let text = text(source)?;
-        let read = Block::read(&text);
-        let block = if original {
-            read
-        } else {
-            read.and_then(|block| block.render())
-        };
-        let block = match block {
-            Ok(block) => block,
+        let module = module_name(&source.stem());
+        let written = match written(form, original, &text, &module) {
+            Ok(written) => written,
             Err(refusal) => {
                 Screen::plain().say(&report(refusal, &source.name(), &text));
                 refused = true;
                 continue;
             }
         };
-        let module = module_name(&source.stem());
         if !taken.insert(module.clone()) {
             return Err(format!(
                 "{}: a FILE before it gives the name {module} too",
                 source.name()
             ));
         }
-        let written = match form {
-            Form::Verilog => verilog(&block, &module),
-            Form::Blif => blif(&block, &module),
-        };
         if let Err(Stopped) = put(written.as_bytes()) {
             return Ok(ExitCode::from(tally::ERROR));
         }
     }
     Ok(ExitCode::from(if refused { tally::REFUSED } else { 0 }))
+}
+
+/// The rendering of a text, or what it says itself, in a form.
+fn written(form: Form, original: bool, text: &[u8], name: &str) -> Result<String, Refusal> {
+    let read = Block::read(text)?;
+    let block = if original { read } else { read.render()? };
+    match form {
+        Form::Verilog => Ok(verilog(&block, name)),
+        Form::Blif => Ok(blif(&block, name)),
+        Form::Cells => cell_table(&block, name),
+    }
 }
 
 /// Writes the netlist text of a mapped model.

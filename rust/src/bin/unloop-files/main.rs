@@ -2,6 +2,7 @@
 //! What it does is in usage.txt.
 
 mod audit;
+mod cells;
 mod check;
 mod described;
 mod export;
@@ -44,6 +45,7 @@ fn answered(request: Request, program: Program) -> ExitCode {
     let done = match request {
         Request::Help => return written(USAGE, 0),
         Request::Sheet { settings, file } => return shown(Sheet { settings, file }),
+        Request::RunCells { settings, cells } => cells::run(&settings, &Source::File(cells)),
         Request::Render { files, into, json } => {
             Run::new(program, sources(files), into, json).map(Run::all)
         }

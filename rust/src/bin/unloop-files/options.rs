@@ -17,6 +17,10 @@ pub enum Request {
         settings: PathBuf,
         file: PathBuf,
     },
+    RunCells {
+        settings: PathBuf,
+        cells: PathBuf,
+    },
     Check {
         theirs: PathBuf,
         ours: PathBuf,
@@ -51,6 +55,7 @@ pub struct Target {
 pub enum Form {
     Verilog,
     Blif,
+    Cells,
 }
 
 /// What one run does; the default is to render.
@@ -60,6 +65,7 @@ enum Task {
     Render,
     Into(PathBuf),
     Sheet(PathBuf),
+    RunCells(PathBuf),
     Check(PathBuf),
     Audit(PathBuf),
     Export(Form),
@@ -73,10 +79,12 @@ impl Task {
             Task::Render => "",
             Task::Into(_) => "--into DIR",
             Task::Sheet(_) => "--sheet SETTINGS",
+            Task::RunCells(_) => "--run-cells SETTINGS",
             Task::Check(_) => "--check THEIRS",
             Task::Audit(_) => "--audit DIR",
             Task::Export(Form::Verilog) => "--verilog",
             Task::Export(Form::Blif) => "--blif",
+            Task::Export(Form::Cells) => "--cells",
             Task::FromBlif => "--from-blif",
             Task::Page(_) => "--page DIR",
         }
@@ -121,11 +129,13 @@ fn given(mut words: impl Iterator<Item = OsString>) -> Result<Option<Given>, Str
             Some("--original") => given.original = true,
             Some("--into") => given.tasks.push(Task::Into(operand("a DIR")?)),
             Some("--sheet") => given.tasks.push(Task::Sheet(operand("SETTINGS")?)),
+            Some("--run-cells") => given.tasks.push(Task::RunCells(operand("SETTINGS")?)),
             Some("--check") => given.tasks.push(Task::Check(operand("THEIRS")?)),
             Some("--audit") => given.tasks.push(Task::Audit(operand("a DIR")?)),
             Some("--page") => given.tasks.push(Task::Page(operand("a DIR")?)),
             Some("--verilog") => given.tasks.push(Task::Export(Form::Verilog)),
             Some("--blif") => given.tasks.push(Task::Export(Form::Blif)),
+            Some("--cells") => given.tasks.push(Task::Export(Form::Cells)),
             Some("--from-blif") => given.tasks.push(Task::FromBlif),
             Some("--") => {
                 given.files.extend(words.map(PathBuf::from));
@@ -173,7 +183,7 @@ fn request(mut given: Given) -> Result<Request, String> {
         }
     }
     if given.original && !matches!(task, Task::Export(_)) {
-        return Err("--original needs --verilog or --blif".to_string());
+        return Err("--original needs --verilog, --blif or --cells".to_string());
     }
     made(task, other.is_none() && fits, given)
 }
@@ -200,6 +210,10 @@ fn made(task: Task, fits: bool, given: Given) -> Result<Request, String> {
         Task::Sheet(settings) => match one(files) {
             Some([file]) => Request::Sheet { settings, file },
             None => return wrong("--sheet needs one FILE"),
+        },
+        Task::RunCells(settings) => match one(files) {
+            Some([cells]) => Request::RunCells { settings, cells },
+            None => return wrong("--run-cells SETTINGS needs one CELLS"),
         },
         Task::Check(theirs) => match one(files) {
             Some([ours]) if fits => Request::Check { theirs, ours, json },

@@ -39,7 +39,7 @@ impl Sheet {
 }
 
 /// The settings of a list, one a line.
-fn settings(path: &Path, pins: &[String]) -> Result<Vec<Assignment>, String> {
+pub fn settings(path: &Path, pins: &[String]) -> Result<Vec<Assignment>, String> {
     let name = shown(path);
     let text = fs::read_to_string(path).map_err(|error| format!("{name}: {}", reason(&error)))?;
     let numbered = text.lines().zip(1..);
@@ -74,7 +74,7 @@ fn table(block: &Block, settings: &[Assignment]) -> String {
 }
 
 /// The cells of a row, each as wide as the name above it.
-fn row(pins: &[String], given: &[String], ports: &[String], shown: &[String]) -> String {
+pub fn row(pins: &[String], given: &[String], ports: &[String], shown: &[String]) -> String {
     let side = |names: &[String], cells: &[String]| {
         let cells = names.iter().zip(cells);
         let cells = cells.map(|(name, cell)| format!("{cell:width$}", width = name.len()));
