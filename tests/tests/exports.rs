@@ -286,7 +286,7 @@ fn originals_and_refusals() {
     for (words, error) in [
         (
             &["--original", "ring.net"][..],
-            "--original needs --verilog or --blif",
+            "--original needs --verilog, --blif or --cells",
         ),
         (
             &["--blif", "--verilog", "ring.net"],
