@@ -22,6 +22,7 @@ const TABLE: &str = "\
 0 65534 65534 65534 34952
 # _1 or
 1 2 65534 65534 61166
+# outputs 2
 # output lamp 3
 # output a 0
 ";
@@ -220,7 +221,8 @@ fn what_is_no_table() {
         ("inputs 2 a key", "inputs 2 a", ":3: 2 inputs with 1 names"),
         ("inputs 2", "inputs 13", ":3: not a number of inputs: 13"),
         ("inputs", "pins", ": no line '# inputs NUMBER NAME ...'"),
-        ("lamp 3", "lamp 4", ":8: no node 4"),
+        ("lamp 3", "lamp 4", ":9: no node 4"),
+        ("# output a 0", "", ":8: 2 outputs with 1 lines"),
         ("# _1 or", "# inputs 1 b", ":6: a second table"),
     ];
     for (was, is, why) in wrong {
