@@ -46,3 +46,14 @@ bring_program() {
   [[ -e $root/target/bin/$1 ]] || rm -f "$root/target/stamp/$1" # rt goes by this alone, and wouldn't link the program again
   bring "$root/target/bin/$1" rt check "$1"
 }
+
+# All that the command `unloop` needs: the proved program, the proved library, and the driver over them.
+bring_command() {
+  program=$root/target/bin/unloop
+  library=$root/target/staticlib/libexports.a
+  driver=$root/target/driver/release/unloop-files
+  bring_program unloop
+  bring "$library" rt staticlib exports
+  sources=("$root/rust/src" "$root/rust/build.rs" "$root/rust/Cargo.toml" "$library")
+  bring "$driver" cargo build --release --offline --quiet --manifest-path "$root/rust/Cargo.toml" --target-dir "$root/target/driver"
+}

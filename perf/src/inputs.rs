@@ -1,8 +1,11 @@
 //! What the operations are measured on.
 
 use simulator::block::{Block, Gate, Kind, Source};
+use simulator::executed::root;
 use simulator::generate::{for_typical_blocks, large, long_texts, longest_written, widest_cover};
 use simulator::limits::{BLOCK_WORDS, GATES, WRITTEN_BYTES};
+use std::fs;
+use std::ops::Range;
 use unloop::raw;
 
 /// Inputs that are measured together, by name.
@@ -12,7 +15,7 @@ pub type Set<I> = (String, Vec<I>);
 pub type UnderSetting = (Vec<u16>, Vec<u8>);
 
 /// Seeds of the typical blocks: 16 sound ones with loops, two without a loop, two that aren't sound.
-const TYPICAL: std::ops::Range<u64> = 0..20;
+const TYPICAL: Range<u64> = 0..20;
 
 /// Twenty typical blocks, and one of the largest for each name.
 pub fn blocks(largest: &[&str]) -> Vec<Set<Vec<u16>>> {
@@ -78,9 +81,33 @@ fn written(words: &[u16]) -> Vec<u8> {
 }
 
 fn typical() -> Vec<Vec<u16>> {
+    typical_blocks(TYPICAL)
+}
+
+/// The typical blocks of these seeds.
+pub fn typical_blocks(seeds: Range<u64>) -> Vec<Vec<u16>> {
     let mut blocks = Vec::new();
-    for_typical_blocks(TYPICAL, |_, _, words| blocks.push(words.to_vec()));
+    for_typical_blocks(seeds, |_, _, words| blocks.push(words.to_vec()));
     blocks
+}
+
+/// All of the largest blocks.
+pub fn large_blocks() -> Vec<Vec<u16>> {
+    let blocks = large().into_iter();
+    blocks.map(|(_, block)| block.to_words()).collect()
+}
+
+/// The catalogue's netlists that can be read, by name.
+pub fn catalogue() -> Vec<Vec<u16>> {
+    let entries = fs::read_dir(root().join("catalogue")).expect("catalogue/");
+    let mut paths: Vec<_> = entries
+        .map(|entry| entry.expect("an entry").path())
+        .collect();
+    paths.retain(|path| path.extension().is_some_and(|ending| ending == "net"));
+    paths.sort();
+    let texts = paths.iter().map(|path| fs::read(path).expect("a netlist"));
+    let blocks = texts.filter_map(|text| unloop::Block::read(text).ok());
+    blocks.map(|block| block.words().to_vec()).collect()
 }
 
 /// One of the largest blocks.

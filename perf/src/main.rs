@@ -1,6 +1,8 @@
 //! Prints the times of both programs as a table, or with `--lines` as `NAME ratio seconds`: the library's processor time for one call on
 //! each input of the set, and its ratio to the plain program's. With `--growth`: how times grow with inputs and gates.
+//! With `--archive`: how small gzip and xz make stored blocks, before and after Gather.
 
+use perf::archive;
 use perf::growth;
 use perf::inputs::{self, Set, UnderSetting};
 use perf::measure::{Line, Operation};
@@ -13,7 +15,7 @@ use std::fmt::Debug;
 use std::process::ExitCode;
 use unloop::raw::{self, Record};
 
-const USAGE: &str = "usage: perf/run [--lines | --growth]";
+const USAGE: &str = "usage: perf/run [--lines | --growth | --archive]";
 
 fn main() -> ExitCode {
     let arguments: Vec<String> = env::args().skip(1).collect();
@@ -22,6 +24,10 @@ fn main() -> ExitCode {
         ["--lines"] => print_line,
         ["--growth"] => {
             growth::print();
+            return ExitCode::SUCCESS;
+        }
+        ["--archive"] => {
+            archive::print();
             return ExitCode::SUCCESS;
         }
         _ => {

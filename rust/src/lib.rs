@@ -22,21 +22,42 @@
 //! [`raw`] has the library's own functions on lent slices, for callers that allocate nothing; [`limits`] says how much
 //! room is enough.
 
+pub mod audit;
+mod blif;
 mod block;
+mod cell_table;
 mod cells;
+mod copies;
+pub mod declarations;
+pub mod drawing;
+mod export;
+mod from_blif;
+mod gate;
 mod gather;
+mod hint;
+pub mod json;
 pub mod limits;
 mod location;
+mod pins;
 pub mod raw;
 mod refusal;
 mod results;
 mod sheet;
 mod value;
+mod verilog;
 
+pub use blif::blif;
 pub use block::Block;
+pub use cell_table::{cell_table, CellTable, TableError};
 pub use cells::Cells;
+pub use copies::copies;
+pub use export::{module_name, OUTPUT_SUFFIX};
+pub use from_blif::{from_blif, BlifError};
+pub use gate::{Gate, Kind, Operand};
 pub use gather::Gathered;
+pub use hint::hint;
 pub use location::Location;
 pub use refusal::Refusal;
 pub use results::{Assignment, Disagreement, Groups, Settled, Verdict};
 pub use value::Value;
+pub use verilog::verilog;

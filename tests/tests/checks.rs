@@ -44,7 +44,12 @@ fn refused() {
     checked(LOOPED, 1, "", "theirs.net: looped\n");
     let told = "theirs.net: strangers\n  it has      pins a, c; ports none\n  but must be pins a, b; ports y, z\n";
     checked("(in a)\n(in c)\n", 1, "", told);
-    checked("(in _a)\n", 1, "", "theirs.net:1:5: form\n(in _a)\n    ^\n");
+    checked(
+        "(in _a)\n",
+        1,
+        "",
+        "theirs.net:1:5: form: expected a letter\n(in _a)\n    ^\n",
+    );
 }
 
 #[test]

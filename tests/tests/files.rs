@@ -45,7 +45,7 @@ fn standard_input() {
     let given = |text: &str| ended(&mut command(&scratch), text.as_bytes());
     told(given(PROGRAM_INPUT), 0, PROGRAM_OUTPUT, "");
     told(given(""), 0, "", "");
-    let errors = "<stdin>:1:7: form\n(in a)\n      ^\n";
+    let errors = "<stdin>:1:7: form: expected the line's end\n(in a)\n      ^\n";
     told(given("(in a)"), 1, "(refused 2 6)\n", errors);
 }
 
@@ -260,7 +260,7 @@ fn bad_usage() {
             &["--into", "out"],
             "--into needs a FILE: standard input has no name",
         ),
-        (&["--force", "a"], "--force needs --into DIR"),
+        (&["--force", "a"], "--force needs --into DIR or --page DIR"),
     ] {
         let errors = format!("unloop: {line} (see --help)\n");
         told(run(&scratch, words), 2, "", &errors);
@@ -403,4 +403,50 @@ fn catalogue() {
         "{errors}"
     );
     assert_eq!(ended.status.code(), Some(1));
+}
+
+/// Many files at once: what is written and told is in their order, whichever was done first.
+#[test]
+fn many_files_keep_their_order() {
+    let scratch = Scratch::new();
+    let folder = root().join("catalogue");
+    let paths = ["smallest", "scaler", "rate", "arbiter", "misspelt", "latch"];
+    let paths = paths.map(|name| folder.join(format!("{name}.net")));
+    let many: Vec<_> = paths.iter().cycle().take(120).collect();
+    let ended = ended(command(&scratch).args(&many), b"");
+    let texts = many.iter().map(|path| fs::read(path).unwrap());
+    let expected: Vec<u8> = texts.flat_map(|text| simulator::unloop(&text)).collect();
+    assert!(ended.stdout == expected);
+    let errors = String::from_utf8(ended.stderr).unwrap();
+    let progress = errors
+        .lines()
+        .filter(|line| line.contains(&format!("/{} ", many.len())));
+    let told: Vec<&str> = progress
+        .map(|line| line.rsplit_once(": ").unwrap().0)
+        .collect();
+    let names = (1..)
+        .zip(&many)
+        .map(|(number, path)| format!("{number}/{} {}", many.len(), path.display()));
+    assert_eq!(told, names.collect::<Vec<_>>());
+}
+
+/// Each rendering is there and whole, though many are written at once in the place of others.
+#[test]
+fn many_files_into_a_folder() {
+    let scratch = Scratch::new();
+    let names: Vec<String> = (0..150).map(|number| format!("{number}.net")).collect();
+    let text = |number: usize| format!("(in a{number})\n(gate p (not a{number}))\n(out y p)\n");
+    (0..150).for_each(|number| scratch.put(&names[number], text(number)));
+    for _ in 0..3 {
+        let mut command = command(&scratch);
+        let ended = ended(command.args(["--force", "--into", "out"]).args(&names), b"");
+        let errors = String::from_utf8(ended.stderr).unwrap();
+        let summary = "150 files: 150 rendered, 0 refused";
+        assert_eq!(errors.lines().last(), Some(summary), "{errors}");
+        assert_eq!(scratch.names("out").len(), 150);
+        for (number, name) in names.iter().enumerate() {
+            let expected = simulator::unloop(text(number).as_bytes());
+            assert_eq!(scratch.get(&format!("out/{name}")).into_bytes(), expected);
+        }
+    }
 }

@@ -38,6 +38,7 @@ fn of_an_undefined_gate_with_itself() {
     assert_eq!(settle(&words, &[], 3), (answer(0, 0, 0), vec![2, 2, 2]));
 }
 
+/// The second pass is for `p` where `s` is 1: the first leaves it undefined, though it makes `q` what `a` is.
 #[test]
 fn a_loop_is_rendered_whole() {
     let text = "(in a)\n(in s)\n(gate p (and s q))\n(gate q (xor a (and p (not s))))\n(out y q)\n";

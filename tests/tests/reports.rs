@@ -3,9 +3,12 @@
 mod session;
 
 use session::{command, run, told, with};
+use simulator::block::Block;
 use simulator::executed::{ended, Scratch};
 use simulator::generate::long_texts;
-use simulator::limits::{INPUTS, TEXT_BYTES};
+use simulator::limits::{GATES, INPUTS, TEXT_BYTES};
+use simulator::read;
+use simulator::render::copied;
 use std::ffi::OsStr;
 use std::os::unix::ffi::OsStrExt;
 
@@ -19,45 +22,53 @@ fn at_a_place(text: &[u8], output: &str, report: &str) {
 
 #[test]
 fn form() {
-    let report = "x.net:1:5: form\n(in _a)\n    ^\n";
+    let report = "x.net:1:5: form: expected a letter\n(in _a)\n    ^\n";
     at_a_place(b"(in _a)\n", "(refused 2 4)\n", report);
     // Cut off, in the first line and later.
     at_a_place(
         b"(in a)",
         "(refused 2 6)\n",
-        "x.net:1:7: form\n(in a)\n      ^\n",
+        "x.net:1:7: form: expected the line's end\n(in a)\n      ^\n",
     );
-    let report = "x.net:2:6: form\n(in b\n     ^\n";
+    let report = "x.net:2:6: form: expected a letter, a digit, _ or )\n(in b\n     ^\n";
     at_a_place(b"(in a)\n(in b", "(refused 2 12)\n", report);
     // At the LF that ends a line, on an empty line, at a line's first byte.
-    let report = "x.net:2:6: form\n(in b\n     ^\n";
+    let report = "x.net:2:6: form: expected a letter, a digit, _ or )\n(in b\n     ^\n";
     at_a_place(b"(in a)\n(in b\n(in c)\n", "(refused 2 12)\n", report);
     at_a_place(
         b"(in a)\n\n(in b)\n",
         "(refused 2 7)\n",
-        "x.net:2:1: form\n\n^\n",
+        "x.net:2:1: form: expected (\n\n^\n",
     );
-    at_a_place(b"\n", "(refused 2 0)\n", "x.net:1:1: form\n\n^\n");
+    at_a_place(
+        b"\n",
+        "(refused 2 0)\n",
+        "x.net:1:1: form: expected (\n\n^\n",
+    );
     let text = b"(in a)\n(in b)\n(gate p (and a b))\nout y p)\n";
-    at_a_place(text, "(refused 2 33)\n", "x.net:4:1: form\nout y p)\n^\n");
+    at_a_place(
+        text,
+        "(refused 2 33)\n",
+        "x.net:4:1: form: expected (\nout y p)\n^\n",
+    );
 }
 
 /// One column for each byte, and no byte that a terminal obeys.
 #[test]
 fn bytes_outside_of_text() {
     let text = b"(in a)\n(in \x1b[31m\t\xc3\xa9\x00\x7f~)\n";
-    let report = "x.net:2:5: form\n(in ?[31m?????~)\n    ^\n";
+    let report = "x.net:2:5: form: expected a letter\n(in ?[31m?????~)\n    ^\n";
     at_a_place(text, "(refused 2 11)\n", report);
-    let report = "x.net:1:7: form\n(in ab?)\n      ^\n";
+    let report = "x.net:1:7: form: expected a letter, a digit, _ or )\n(in ab?)\n      ^\n";
     at_a_place(b"(in ab\r)\n", "(refused 2 6)\n", report);
 }
 
 #[test]
 fn declared_twice_and_not_at_all() {
-    let report = "x.net:2:5: twice\n(in a)\n    ^\n";
+    let report = "x.net:2:5: twice: first in line 1, column 5\n(in a)\n    ^\n";
     at_a_place(b"(in a)\n(in a)\n", "(refused 4 11)\n", report);
     let text = b"(in a)\n(gate p (not a))\n(gate a (not p))\n";
-    let report = "x.net:3:7: twice\n(gate a (not p))\n      ^\n";
+    let report = "x.net:3:7: twice: first in line 1, column 5\n(gate a (not p))\n      ^\n";
     at_a_place(text, "(refused 4 30)\n", report);
     let text = b"(in a)\n(gate p (or a (not rest)))\n";
     let report = "x.net:2:20: unknown\n(gate p (or a (not rest)))\n                   ^\n";
@@ -68,16 +79,19 @@ fn declared_twice_and_not_at_all() {
 
 #[test]
 fn never_lines() {
-    let report = "x.net:2:7: form\n(never)\n      ^\n";
+    let report = "x.net:2:7: form: expected a space\n(never)\n      ^\n";
     at_a_place(b"(in a)\n(never)\n", "(refused 2 13)\n", report);
-    let report = "x.net:2:15: twice\n(never (a 1) (a 0))\n              ^\n";
+    let report =
+        "x.net:2:15: twice: first in line 2, column 9\n(never (a 1) (a 0))\n              ^\n";
     let text = b"(in a)\n(never (a 1) (a 0))\n(gate a (not 0))\n";
     at_a_place(text, "(refused 4 21)\n", report);
-    let report = "x.net:2:9: unknown\n(never (p 1))\n        ^\n";
+    let report =
+        "x.net:2:9: unknown: a gate, and never lines name inputs\n(never (p 1))\n        ^\n";
     let text = b"(in a)\n(never (p 1))\n(gate p (not a))\n";
     at_a_place(text, "(refused 5 15)\n", report);
     let lines = "(in a)\n".to_string() + &"(never (a 1))\n".repeat(9);
-    at_a_place(lines.as_bytes(), "(refused 3 0)\n", "x.net: crowded\n");
+    let report = "x.net: crowded: 9 never lines, 1 more than 8\n";
+    at_a_place(lines.as_bytes(), "(refused 3 0)\n", report);
     // The lowest setting that may come, and what settles or never comes.
     let text = b"(in a)\n(in b)\n(never (a 0) (b 0))\n(gate p (or a p))\n(out y p)\n";
     let report = "x.net: undecided\n  not settled with a = 0, b = 1: y undefined\n\
@@ -92,16 +106,30 @@ fn never_lines() {
 #[test]
 fn refusals_without_a_place() {
     let inputs: String = (0..=INPUTS).map(|i| format!("(in a{i})\n")).collect();
-    at_a_place(inputs.as_bytes(), "(refused 3 0)\n", "x.net: crowded\n");
+    let report = "x.net: crowded: 13 inputs, 1 more than 12\n";
+    at_a_place(inputs.as_bytes(), "(refused 3 0)\n", report);
     let ring = simulator::specimens::reversed_ring(33, 32) + "(out y g0)\n";
-    at_a_place(ring.as_bytes(), "(refused 8 0)\n", "x.net: swollen\n");
+    let block = Block::from_words(&read(ring.as_bytes(), usize::MAX).1);
+    let copies = copied(&block).gates.len();
+    let report = format!(
+        "x.net: swollen: {copies} gates in the rendering, {} more than {GATES}\n",
+        copies - GATES
+    );
+    at_a_place(ring.as_bytes(), "(refused 8 0)\n", &report);
 }
 
 #[test]
 fn longest_texts() {
     let (_, longest) = long_texts().pop().expect("texts");
     assert_eq!(longest.len(), TEXT_BYTES);
-    at_a_place(&longest, "(refused 3 0)\n", "x.net: crowded\n");
+    let text = String::from_utf8_lossy(&longest);
+    let gates = text.lines().filter(|line| line.starts_with("(gate "));
+    let gates: usize = gates.map(|line| line.matches('(').count() - 1).sum();
+    let report = format!(
+        "x.net: crowded: {gates} gates, {} more than {GATES}\n",
+        gates - GATES
+    );
+    at_a_place(&longest, "(refused 3 0)\n", &report);
     for length in [TEXT_BYTES + 1, TEXT_BYTES + 2, 3_000_000] {
         let mut text = longest.clone();
         text.resize(length, b'x');

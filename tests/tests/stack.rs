@@ -1,8 +1,8 @@
 //! No operation of the proved library needs a large stack: each runs on the largest blocks and texts in a thread that has little.
 //! A stack that is too small ends the whole test program.
 
-use simulator::generate::{large, long_texts};
-use simulator::limits::{BLOCK_WORDS, COVER_WORDS, GATES, WRITTEN_BYTES};
+use simulator::generate::{foreign_cells, large, long_texts, Random};
+use simulator::limits::{BLOCK_WORDS, CELL_WORDS, COVER_WORDS, GATES, INPUTS, WRITTEN_BYTES};
 use std::thread::Builder;
 use unloop::raw;
 
@@ -46,6 +46,47 @@ fn blocks() {
         with_stack(COVER_STACK_BYTES, || {
             assert_eq!(raw::cover(&words, &mut entries).number, 0);
         });
+    }
+}
+
+#[test]
+fn cells() {
+    let foreign = foreign_cells(&mut Random::new(0), INPUTS, GATES);
+    for (name, block) in large() {
+        let words = block.to_words();
+        let mut made = vec![0; CELL_WORDS * GATES];
+        let mut values = vec![0; GATES];
+        with_stack(STACK_BYTES, || {
+            let told = raw::cells(&words, &mut made);
+            assert_eq!(
+                told.number,
+                if block.is_straight() { 0 } else { 10 },
+                "{name}"
+            );
+            let setting = vec![1; block.inputs.len()];
+            let told = raw::run(setting.len(), &made[..told.count], &setting, &mut values);
+            assert_eq!(told.number, 0);
+            let told = raw::run(INPUTS, &foreign, &[1; INPUTS], &mut values);
+            assert_eq!((told.number, told.count), (0, GATES));
+        });
+    }
+}
+
+#[test]
+fn orders() {
+    for (_, block) in large() {
+        let words = block.to_words();
+        let mut gathered = vec![0; BLOCK_WORDS];
+        let mut order = vec![0; GATES];
+        let mut original = vec![0; BLOCK_WORDS];
+        with_stack(STACK_BYTES, || {
+            let told = raw::gather(&words, &mut gathered, &mut order);
+            assert_eq!((told.number, told.count), (0, words.len()));
+            let order = &order[..block.gates.len()];
+            let told = raw::scatter(&gathered[..words.len()], order, &mut original);
+            assert_eq!((told.number, told.count), (0, words.len()));
+        });
+        assert_eq!(original[..words.len()], words);
     }
 }
 

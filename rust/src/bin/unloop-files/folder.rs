@@ -7,6 +7,7 @@ use std::fs::{self, File, Metadata};
 use std::io::{self, ErrorKind, Write};
 use std::os::unix::fs::MetadataExt;
 use std::path::{Path, PathBuf};
+use std::sync::atomic::{AtomicUsize, Ordering};
 
 pub struct Folder {
     path: PathBuf,
@@ -81,12 +82,14 @@ struct Temporary(PathBuf);
 
 impl Temporary {
     fn new(folder: &Path) -> io::Result<(Temporary, File)> {
-        let mut number = 0;
+        // A name is taken once: another thread's file is never removed in the place of one that was renamed.
+        static TAKEN: AtomicUsize = AtomicUsize::new(0);
         loop {
+            let number = TAKEN.fetch_add(1, Ordering::Relaxed);
             let path = folder.join(format!(".unloop-{}-{number}", std::process::id()));
             match File::create_new(&path) {
                 Ok(file) => return Ok((Temporary(path), file)),
-                Err(error) if error.kind() == ErrorKind::AlreadyExists => number += 1,
+                Err(error) if error.kind() == ErrorKind::AlreadyExists => {}
                 Err(error) => return Err(error),
             }
         }

@@ -1,27 +1,32 @@
 //! Runs the program `unloop` on files and reports what it refused; `bin/unloop` starts it with the program's path.
 //! What it does is in usage.txt.
 
+mod audit;
+mod cells;
 mod check;
+mod described;
+mod export;
 mod folder;
 mod options;
+mod page;
+mod parallel;
 mod program;
 mod report;
+mod run;
 mod screen;
 mod sheet;
 mod source;
 mod tally;
 
-use check::Finding;
-use folder::Folder;
-use options::{Options, Request};
+use options::{Export, Request};
 use program::Program;
+use run::Run;
 use screen::Screen;
 use sheet::{Failure, Sheet};
 use source::Source;
-use std::io::{self, IsTerminal, Write};
+use std::io::{self, Write};
+use std::path::PathBuf;
 use std::process::ExitCode;
-use tally::{Outcome, Tally};
-use unloop::Refusal;
 
 const USAGE: &str = include_str!("usage.txt");
 
@@ -31,32 +36,46 @@ fn main() -> ExitCode {
         return failed("the first argument must be the program's path");
     };
     match options::parse(arguments) {
-        Ok(Request::Help) => match put(USAGE.as_bytes()) {
-            Ok(()) => ExitCode::SUCCESS,
-            Err(Stopped) => ExitCode::from(tally::ERROR),
-        },
-        Ok(Request::Run(options)) => match Run::new(Program(program.into()), options) {
-            Ok(run) => run.all(),
-            Err(reason) => failed(&reason),
-        },
-        Ok(Request::Sheet(sheet)) => shown(sheet),
-        Ok(Request::Check { theirs, ours }) => {
-            match check::check(&Source::File(theirs), &Source::File(ours)) {
-                Ok(finding) => found(finding),
-                Err(reason) => failed(&reason),
-            }
-        }
+        Ok(request) => answered(request, Program(program.into())),
         Err(reason) => failed(&reason),
+    }
+}
+
+fn answered(request: Request, program: Program) -> ExitCode {
+    let done = match request {
+        Request::Help => return written(USAGE, 0),
+        Request::Sheet { settings, file } => return shown(Sheet { settings, file }),
+        Request::RunCells { settings, cells } => cells::run(&settings, &Source::File(cells)),
+        Request::Render { files, into, json } => {
+            Run::new(program, sources(files), into, json).map(Run::all)
+        }
+        Request::Check { theirs, ours, json } => {
+            check::run(Source::File(theirs), Source::File(ours), json)
+        }
+        Request::Audit { folder, json } => audit::run(&folder, json),
+        Request::Export(Export {
+            form,
+            original,
+            files,
+        }) => export::run(form, original, &sources(files)),
+        Request::FromBlif(file) => export::from_blif(file.map_or(Source::Input, Source::File)),
+        Request::Page(target, files) => page::run(&target, files),
+    };
+    done.unwrap_or_else(|reason| failed(&reason))
+}
+
+/// The files given, or standard input.
+fn sources(files: Vec<PathBuf>) -> Vec<Source> {
+    match files.is_empty() {
+        true => vec![Source::Input],
+        false => files.into_iter().map(Source::File).collect(),
     }
 }
 
 /// Writes a sheet's table, or tells why there is none.
 fn shown(sheet: Sheet) -> ExitCode {
     match sheet.table() {
-        Ok(table) => match put(table.as_bytes()) {
-            Ok(()) => ExitCode::SUCCESS,
-            Err(Stopped) => ExitCode::from(tally::ERROR),
-        },
+        Ok(table) => written(&table, 0),
         Err(Failure::Refused {
             refusal,
             name,
@@ -69,17 +88,9 @@ fn shown(sheet: Sheet) -> ExitCode {
     }
 }
 
-/// Tells what a check came to.
-fn found(finding: Finding) -> ExitCode {
-    let (lines, status) = match finding {
-        Finding::Accepted(line) => (vec![line], 0),
-        Finding::Rejected(lines) => (lines, tally::REFUSED),
-        Finding::Refused(lines) => {
-            Screen::plain().say(&lines);
-            return ExitCode::from(tally::REFUSED);
-        }
-    };
-    match put(format!("{}\n", lines.join("\n")).as_bytes()) {
+/// Writes a text to standard output and ends with a status.
+fn written(text: &str, status: u8) -> ExitCode {
+    match put(text.as_bytes()) {
         Ok(()) => ExitCode::from(status),
         Err(Stopped) => ExitCode::from(tally::ERROR),
     }
@@ -104,104 +115,4 @@ fn put(bytes: &[u8]) -> Result<(), Stopped> {
         }
         Stopped
     })
-}
-
-/// A text, and what the program wrote for it.
-struct Answer {
-    text: Vec<u8>,
-    output: Vec<u8>,
-    refusal: Option<Refusal>,
-}
-
-struct Run {
-    program: Program,
-    sources: Vec<Source>,
-    folder: Option<Folder>,
-    screen: Screen,
-}
-
-impl Run {
-    fn new(program: Program, options: Options) -> Result<Run, String> {
-        let Options {
-            files, into, force, ..
-        } = options;
-        let folder = match into {
-            Some(path) => Some(Folder::open(path, force, &files)?),
-            None => None,
-        };
-        // Renderings on the same terminal would be overwritten.
-        let free = folder.is_some() || !io::stdout().is_terminal();
-        let screen = match folder.is_some() || files.len() > 1 {
-            true => Screen::with_progress(files.len(), free),
-            false => Screen::plain(),
-        };
-        let sources = match files.is_empty() {
-            true => vec![Source::Input],
-            false => files.into_iter().map(Source::File).collect(),
-        };
-        Ok(Run {
-            program,
-            sources,
-            folder,
-            screen,
-        })
-    }
-
-    fn all(mut self) -> ExitCode {
-        let mut tally = Tally::default();
-        for (index, source) in std::mem::take(&mut self.sources).iter().enumerate() {
-            self.screen.begin(index, &source.name());
-            let Ok(outcome) = self.one(source) else {
-                return ExitCode::from(tally::ERROR);
-            };
-            self.screen.end(index, &source.name(), outcome);
-            tally.count(outcome);
-        }
-        if self.folder.is_some() || tally.files() > 1 {
-            self.screen.say(&[tally.summary()]);
-        }
-        ExitCode::from(tally.status())
-    }
-
-    /// Deals with one file, and tells of a refusal or an error.
-    fn one(&mut self, source: &Source) -> Result<Outcome, Stopped> {
-        match self.answer(source) {
-            Ok(answer) => {
-                if self.folder.is_none() {
-                    put(&answer.output)?;
-                }
-                let Some(refusal) = answer.refusal else {
-                    return Ok(Outcome::Rendered);
-                };
-                let report = report::report(refusal, &source.name(), &answer.text);
-                self.screen.say(&report);
-                Ok(Outcome::Refused(refusal))
-            }
-            Err(reason) => {
-                self.screen.say(&[format!("unloop: {reason}")]);
-                Ok(Outcome::Error)
-            }
-        }
-    }
-
-    /// The program's answer; a rendering is then in the folder, if there is one.
-    fn answer(&mut self, source: &Source) -> Result<Answer, String> {
-        if let (Some(folder), Source::File(path)) = (&mut self.folder, source) {
-            folder.claim(path)?;
-        }
-        let named = |reason: String| format!("{}: {reason}", source.name());
-        let text = source
-            .text()
-            .map_err(|error| named(source::reason(&error)))?;
-        let output = self.program.run(&text).map_err(named)?;
-        let refusal = report::refusal_in(&output).map_err(named)?;
-        if let (Some(folder), Source::File(path), None) = (&self.folder, source, refusal) {
-            folder.put(path, &output)?;
-        }
-        Ok(Answer {
-            text,
-            output,
-            refusal,
-        })
-    }
 }

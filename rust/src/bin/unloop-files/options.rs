@@ -1,95 +1,245 @@
 //! The words of the command line.
 
-use crate::sheet::Sheet;
 use crate::source::shown;
 use std::ffi::OsString;
 use std::path::PathBuf;
 
-#[derive(Debug, Default)]
-pub struct Options {
-    pub files: Vec<PathBuf>,
-    pub into: Option<PathBuf>,
-    pub force: bool,
-    /// The netlist that is checked against the only FILE.
-    pub check: Option<PathBuf>,
-}
-
+/// What is asked for.
 #[derive(Debug)]
 pub enum Request {
     Help,
-    Run(Options),
-    Sheet(Sheet),
-    Check { theirs: PathBuf, ours: PathBuf },
+    Render {
+        files: Vec<PathBuf>,
+        into: Option<Target>,
+        json: bool,
+    },
+    Sheet {
+        settings: PathBuf,
+        file: PathBuf,
+    },
+    RunCells {
+        settings: PathBuf,
+        cells: PathBuf,
+    },
+    Check {
+        theirs: PathBuf,
+        ours: PathBuf,
+        json: bool,
+    },
+    Audit {
+        folder: PathBuf,
+        json: bool,
+    },
+    Export(Export),
+    FromBlif(Option<PathBuf>),
+    Page(Target, Vec<PathBuf>),
+}
+
+/// Files that are written in another form: their renderings, or they themselves.
+#[derive(Debug)]
+pub struct Export {
+    pub form: Form,
+    pub original: bool,
+    pub files: Vec<PathBuf>,
+}
+
+/// A folder that is written to.
+#[derive(Debug, PartialEq)]
+pub struct Target {
+    pub folder: PathBuf,
+    pub force: bool,
+}
+
+/// The forms that a block is written in for other tools.
+#[derive(Debug, Clone, Copy, PartialEq, Eq)]
+pub enum Form {
+    Verilog,
+    Blif,
+    Cells,
+}
+
+/// What one run does; the default is to render.
+#[derive(Debug, Default, PartialEq)]
+enum Task {
+    #[default]
+    Render,
+    Into(PathBuf),
+    Sheet(PathBuf),
+    RunCells(PathBuf),
+    Check(PathBuf),
+    Audit(PathBuf),
+    Export(Form),
+    FromBlif,
+    Page(PathBuf),
+}
+
+impl Task {
+    fn option(&self) -> &'static str {
+        match self {
+            Task::Render => "",
+            Task::Into(_) => "--into DIR",
+            Task::Sheet(_) => "--sheet SETTINGS",
+            Task::RunCells(_) => "--run-cells SETTINGS",
+            Task::Check(_) => "--check THEIRS",
+            Task::Audit(_) => "--audit DIR",
+            Task::Export(Form::Verilog) => "--verilog",
+            Task::Export(Form::Blif) => "--blif",
+            Task::Export(Form::Cells) => "--cells",
+            Task::FromBlif => "--from-blif",
+            Task::Page(_) => "--page DIR",
+        }
+    }
+}
+
+/// The words, sorted by what they are.
+#[derive(Default)]
+struct Given {
+    files: Vec<PathBuf>,
+    tasks: Vec<Task>,
+    force: bool,
+    json: bool,
+    original: bool,
 }
 
 /// What is asked for, or what is wrong with it in one line.
-pub fn parse(mut words: impl Iterator<Item = OsString>) -> Result<Request, String> {
-    let mut options = Options::default();
-    let mut settings = None;
+pub fn parse(words: impl Iterator<Item = OsString>) -> Result<Request, String> {
+    let request = match given(words).map_err(wrong)? {
+        Some(given) => request(given).map_err(wrong)?,
+        None => Request::Help,
+    };
+    Ok(request)
+}
+
+fn wrong(what: String) -> String {
+    format!("{what} (see --help)")
+}
+
+/// Nothing where help is asked for.
+fn given(mut words: impl Iterator<Item = OsString>) -> Result<Option<Given>, String> {
+    let mut given = Given::default();
     while let Some(word) = words.next() {
+        let mut operand = |what: &str| {
+            let next = words.next().map(PathBuf::from);
+            next.ok_or_else(|| format!("{} needs {what}", shown(word.as_ref())))
+        };
         match word.to_str() {
-            Some("--help") => return Ok(Request::Help),
-            Some("--force") => options.force = true,
-            Some("--into") => match words.next() {
-                Some(folder) => options.into = Some(folder.into()),
-                None => return Err(wrong("--into needs a DIR")),
-            },
-            Some("--sheet") => match words.next() {
-                Some(list) => settings = Some(PathBuf::from(list)),
-                None => return Err(wrong("--sheet needs SETTINGS")),
-            },
-            Some("--check") => match words.next() {
-                Some(theirs) => options.check = Some(theirs.into()),
-                None => return Err(wrong("--check needs THEIRS")),
-            },
+            Some("--help") => return Ok(None),
+            Some("--force") => given.force = true,
+            Some("--json") => given.json = true,
+            Some("--original") => given.original = true,
+            Some("--into") => given.tasks.push(Task::Into(operand("a DIR")?)),
+            Some("--sheet") => given.tasks.push(Task::Sheet(operand("SETTINGS")?)),
+            Some("--run-cells") => given.tasks.push(Task::RunCells(operand("SETTINGS")?)),
+            Some("--check") => given.tasks.push(Task::Check(operand("THEIRS")?)),
+            Some("--audit") => given.tasks.push(Task::Audit(operand("a DIR")?)),
+            Some("--page") => given.tasks.push(Task::Page(operand("a DIR")?)),
+            Some("--verilog") => given.tasks.push(Task::Export(Form::Verilog)),
+            Some("--blif") => given.tasks.push(Task::Export(Form::Blif)),
+            Some("--cells") => given.tasks.push(Task::Export(Form::Cells)),
+            Some("--from-blif") => given.tasks.push(Task::FromBlif),
             Some("--") => {
-                options.files.extend(words.map(PathBuf::from));
+                given.files.extend(words.map(PathBuf::from));
                 break;
             }
             _ if word.as_encoded_bytes().starts_with(b"-") => {
-                let option = shown(word.as_ref());
-                return Err(wrong(&format!("unknown option {option}")));
+                return Err(format!("unknown option {}", shown(word.as_ref())));
             }
-            _ => options.files.push(word.into()),
+            _ => given.files.push(word.into()),
         }
     }
-    if let Some(settings) = settings {
-        return sheet(settings, options).map(Request::Sheet);
-    }
-    if let Some(theirs) = options.check {
-        return checked(
-            theirs,
-            options.files,
-            options.into.is_some() || options.force,
-        );
-    }
-    if options.into.is_some() && options.files.is_empty() {
-        return Err(wrong("--into needs a FILE: standard input has no name"));
-    }
-    if options.force && options.into.is_none() {
-        return Err(wrong("--force needs --into DIR"));
-    }
-    Ok(Request::Run(options))
+    Ok(Some(given))
 }
 
-/// A sheet is of one file, and written to standard output.
-fn sheet(settings: PathBuf, options: Options) -> Result<Sheet, String> {
-    if options.into.is_some() || options.force || options.check.is_some() {
-        return Err(wrong("--sheet SETTINGS goes with no other option"));
+fn request(mut given: Given) -> Result<Request, String> {
+    let mut tasks = given.tasks.drain(..);
+    let task = tasks.next().unwrap_or_default();
+    let other = tasks.next();
+    drop(tasks);
+    let writes = matches!(task, Task::Into(_) | Task::Page(_));
+    let reports = matches!(
+        task,
+        Task::Render | Task::Into(_) | Task::Check(_) | Task::Audit(_)
+    );
+    let fits = (writes || !given.force) && (reports || !given.json);
+    match task {
+        Task::Render if given.force => {
+            return Err("--force needs --into DIR or --page DIR".to_string())
+        }
+        Task::Sheet(_) | Task::Check(_) => {}
+        _ => {
+            if let Some(other) = &other {
+                return Err(format!(
+                    "{} and {} don't go together",
+                    task.option(),
+                    other.option()
+                ));
+            }
+            if !fits {
+                return Err(format!(
+                    "{} doesn't go with --force or --json",
+                    task.option()
+                ));
+            }
+        }
     }
-    match <[PathBuf; 1]>::try_from(options.files) {
-        Ok([file]) => Ok(Sheet { settings, file }),
-        Err(_) => Err(wrong("--sheet needs one FILE")),
+    if given.original && !matches!(task, Task::Export(_)) {
+        return Err("--original needs --verilog, --blif or --cells".to_string());
     }
+    made(task, other.is_none() && fits, given)
 }
 
-fn checked(theirs: PathBuf, files: Vec<PathBuf>, renders: bool) -> Result<Request, String> {
-    match <[PathBuf; 1]>::try_from(files) {
-        Ok([ours]) if !renders => Ok(Request::Check { theirs, ours }),
-        _ => Err(wrong("--check THEIRS needs one FILE and no other option")),
-    }
+/// The request of a task; `fits`: no other option stands in its way.
+fn made(task: Task, fits: bool, given: Given) -> Result<Request, String> {
+    let Given {
+        files,
+        force,
+        json,
+        original,
+        ..
+    } = given;
+    let one = |files: Vec<PathBuf>| <[PathBuf; 1]>::try_from(files).ok();
+    let wrong = |what: &str| Err(what.to_string());
+    Ok(match task {
+        Task::Render => rendered(files, None, json),
+        Task::Into(folder) => rendered(
+            named(files, "--into")?,
+            Some(Target { folder, force }),
+            json,
+        ),
+        Task::Sheet(_) if !fits => return wrong("--sheet SETTINGS goes with no other option"),
+        Task::Sheet(settings) => match one(files) {
+            Some([file]) => Request::Sheet { settings, file },
+            None => return wrong("--sheet needs one FILE"),
+        },
+        Task::RunCells(settings) => match one(files) {
+            Some([cells]) => Request::RunCells { settings, cells },
+            None => return wrong("--run-cells SETTINGS needs one CELLS"),
+        },
+        Task::Check(theirs) => match one(files) {
+            Some([ours]) if fits => Request::Check { theirs, ours, json },
+            _ => return wrong("--check THEIRS needs one FILE and no other option"),
+        },
+        Task::Audit(folder) if files.is_empty() => Request::Audit { folder, json },
+        Task::Audit(_) => return wrong("--audit DIR takes no FILE"),
+        Task::Export(form) => Request::Export(Export {
+            form,
+            original,
+            files,
+        }),
+        Task::FromBlif if files.len() < 2 => Request::FromBlif(files.into_iter().next()),
+        Task::FromBlif => return wrong("--from-blif takes one FILE"),
+        Task::Page(folder) => Request::Page(Target { folder, force }, named(files, "--page")?),
+    })
 }
 
-fn wrong(what: &str) -> String {
-    format!("{what} (see --help)")
+fn rendered(files: Vec<PathBuf>, into: Option<Target>, json: bool) -> Request {
+    Request::Render { files, into, json }
+}
+
+/// The files, of which there must be one at least.
+fn named(files: Vec<PathBuf>, option: &str) -> Result<Vec<PathBuf>, String> {
+    match files.is_empty() {
+        true => Err(format!("{option} needs a FILE: standard input has no name")),
+        false => Ok(files),
+    }
 }

@@ -1,28 +1,26 @@
 //! How a refusal is told: as compilers do, with the line and a caret where there is a place.
 
-use unloop::{Assignment, Block, Location, Refusal, Value};
+use unloop::{hint, Assignment, Block, Location, Refusal, Value};
 
 /// The entries of a cover that are told.
 const ENTRIES_TOLD: usize = 8;
 
 /// The refusal that the program's output is, if it is one. No rendering begins so.
 pub fn refusal_in(output: &[u8]) -> Result<Option<Refusal>, String> {
-    let Some(line) = output.strip_prefix(b"(refused ") else {
+    if !output.starts_with(b"(refused ") {
         return Ok(None);
-    };
-    let refusal = std::str::from_utf8(line).ok().and_then(parsed);
+    }
+    let refusal = Refusal::of_line(output);
     let strange = || "the program's answer is no refusal that is known here".to_string();
     refusal.map(Some).ok_or_else(strange)
 }
 
-fn parsed(line: &str) -> Option<Refusal> {
-    let (number, detail) = line.strip_suffix(")\n")?.split_once(' ')?;
-    Refusal::from_parts(number.parse().ok()?, detail.parse().ok()?)
-}
-
-/// The lines that tell of a refusal.
+/// The lines that tell of a refusal: the place, the word, and behind it what helps.
 pub fn report(refusal: Refusal, name: &str, text: &[u8]) -> Vec<String> {
-    let word = refusal.word();
+    let word = match hint(refusal, text) {
+        Some(hint) => format!("{}: {hint}", refusal.word()),
+        None => refusal.word().to_string(),
+    };
     if let Some(place) = refusal.place() {
         let Location { row, column, line } = Location::of(text, place);
         return vec![
@@ -67,7 +65,7 @@ fn settings_told(text: &[u8], setting: usize) -> Vec<String> {
             true => "settles",
             false => "never comes",
         };
-        format!("  {what} with {}", fixed(&pins, entry))
+        format!("  {what} with {}", entry.pins(&pins))
     }));
     if cover.len() > ENTRIES_TOLD {
         lines.push(format!("  and {} more", cover.len() - ENTRIES_TOLD));
@@ -86,7 +84,7 @@ fn may_come(block: &Block, assignment: Assignment) -> bool {
 }
 
 /// The outputs that show no value under a setting.
-fn undefined(block: &Block, setting: usize) -> Vec<String> {
+pub fn undefined(block: &Block, setting: usize) -> Vec<String> {
     let shown = block.shown(&block.setting(setting)).unwrap_or_default();
     let ports = block.output_names().into_iter().zip(shown);
     ports
@@ -97,18 +95,5 @@ fn undefined(block: &Block, setting: usize) -> Vec<String> {
 
 /// The pins of a setting, as `a = 1, b = 0`.
 pub fn pins_of(block: &Block, setting: usize) -> String {
-    let all = Assignment {
-        fixed: u16::MAX,
-        ones: setting as u16,
-    };
-    fixed(&block.input_names(), all)
-}
-
-/// The pins that an assignment fixes, as `a = 1, b = 0`.
-fn fixed(pins: &[String], assignment: Assignment) -> String {
-    let shown = pins.iter().enumerate().filter_map(|(input, name)| {
-        let value = assignment.value(input)?;
-        Some(format!("{name} = {}", u8::from(value)))
-    });
-    shown.collect::<Vec<String>>().join(", ")
+    Assignment::of_setting(setting).pins(&block.input_names())
 }

@@ -39,37 +39,14 @@ impl Sheet {
 }
 
 /// The settings of a list, one a line.
-fn settings(path: &Path, pins: &[String]) -> Result<Vec<Assignment>, String> {
+pub fn settings(path: &Path, pins: &[String]) -> Result<Vec<Assignment>, String> {
     let name = shown(path);
     let text = fs::read_to_string(path).map_err(|error| format!("{name}: {}", reason(&error)))?;
     let numbered = text.lines().zip(1..);
-    let setting = |(line, row)| setting(line, pins).map_err(|why| format!("{name}:{row}: {why}"));
+    let setting = |(line, row)| {
+        Assignment::from_pins(line, pins).map_err(|why| format!("{name}:{row}: {why}"))
+    };
     numbered.map(setting).collect()
-}
-
-/// A setting as `a = 1, b = 0`; an empty line fixes nothing.
-fn setting(line: &str, pins: &[String]) -> Result<Assignment, String> {
-    let mut fixed = Assignment { fixed: 0, ones: 0 };
-    if line.trim().is_empty() {
-        return Ok(fixed);
-    }
-    for part in line.split(',') {
-        let wrong = || format!("not PIN = 0 or PIN = 1: {}", part.trim());
-        let (pin, value) = part.split_once('=').ok_or_else(wrong)?;
-        let value = match value.trim() {
-            "0" => 0,
-            "1" => 1,
-            _ => return Err(wrong()),
-        };
-        let input = pins.iter().position(|name| name == pin.trim());
-        let input = input.ok_or_else(|| format!("no input is named {}", pin.trim()))?;
-        if fixed.fixed >> input & 1 == 1 {
-            return Err(format!("{} is given twice", pin.trim()));
-        }
-        fixed.fixed |= 1 << input;
-        fixed.ones |= value << input;
-    }
-    Ok(fixed)
 }
 
 /// A free input is `-` and an undefined output `?`, each below its name.
@@ -97,7 +74,7 @@ fn table(block: &Block, settings: &[Assignment]) -> String {
 }
 
 /// The cells of a row, each as wide as the name above it.
-fn row(pins: &[String], given: &[String], ports: &[String], shown: &[String]) -> String {
+pub fn row(pins: &[String], given: &[String], ports: &[String], shown: &[String]) -> String {
     let side = |names: &[String], cells: &[String]| {
         let cells = names.iter().zip(cells);
         let cells = cells.map(|(name, cell)| format!("{cell:width$}", width = name.len()));

@@ -22,6 +22,39 @@ impl Source {
         }
     }
 
+    /// The file's path, where it is one.
+    pub fn path(&self) -> Option<&PathBuf> {
+        match self {
+            Source::Input => None,
+            Source::File(path) => Some(path),
+        }
+    }
+
+    /// The last part of the file's path.
+    pub fn last_part(&self) -> String {
+        let part = self.path().and_then(|path| path.file_name());
+        part.map_or_else(|| self.name(), |part| shown(part.as_ref()))
+    }
+
+    /// The file's name without its ending.
+    pub fn stem(&self) -> String {
+        let stem = self.path().and_then(|path| path.file_stem());
+        stem.map_or("stdin".to_string(), |stem| {
+            stem.to_string_lossy().into_owned()
+        })
+    }
+
+    /// All bytes, however many.
+    pub fn whole_text(&self) -> io::Result<Vec<u8>> {
+        let mut text = Vec::new();
+        match self {
+            Source::Input => io::stdin().lock().read_to_end(&mut text)?,
+            Source::File(path) => File::open(path)?.read_to_end(&mut text)?,
+        };
+        Ok(text)
+    }
+
+    /// The bytes of a netlist; of a text that is too long no more than tells so.
     pub fn text(&self) -> io::Result<Vec<u8>> {
         let mut text = Vec::new();
         match self {

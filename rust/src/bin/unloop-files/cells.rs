@@ -1,0 +1,54 @@
+//! `--run-cells`: the sheet of a table of cells, a row for each setting of a list.
+
+use crate::report::report;
+use crate::screen::Screen;
+use crate::sheet::{row, settings};
+use crate::source::{reason, shown, Source};
+use crate::{tally, written};
+use std::path::Path;
+use std::process::ExitCode;
+use unloop::{Assignment, CellTable, Refusal, TableError};
+
+/// Writes the ports that the cells show under each setting; a table that is none, or a setting that leaves an input open, is refused.
+pub fn run(list: &Path, source: &Source) -> Result<ExitCode, String> {
+    let name = source.name();
+    let text = source
+        .whole_text()
+        .map_err(|error| format!("{name}: {}", reason(&error)))?;
+    let table = match CellTable::read(&String::from_utf8_lossy(&text)) {
+        Ok(table) => table,
+        Err(TableError::Refused(refusal)) => return Ok(refused(refusal, &name)),
+        Err(TableError::Line { row, why }) => return Err(format!("{name}:{row}: {why}")),
+        Err(TableError::NoInputs) => {
+            return Err(format!("{name}: no line '# inputs NUMBER NAME ...'"))
+        }
+    };
+    let settings = settings(list, &table.inputs)?;
+    let ports: Vec<String> = table.outputs.iter().map(|(port, _)| port.clone()).collect();
+    let mut lines = row(&table.inputs, &table.inputs, &ports, &ports);
+    for (setting, number) in settings.into_iter().zip(1..) {
+        let given = values(setting, table.inputs.len());
+        match table.shown(&given) {
+            Ok(values) => lines += &row(&table.inputs, &digits(&given), &ports, &digits(&values)),
+            Err(refusal) => return Ok(refused(refusal, &format!("{}:{number}", shown(list)))),
+        }
+    }
+    Ok(written(&lines, 0))
+}
+
+/// The values of a setting's inputs up to the first that is open; a run refuses fewer than there are inputs.
+fn values(setting: Assignment, inputs: usize) -> Vec<bool> {
+    (0..inputs)
+        .map_while(|input| setting.value(input))
+        .collect()
+}
+
+fn digits(values: &[bool]) -> Vec<String> {
+    let digit = |&value: &bool| u8::from(value).to_string();
+    values.iter().map(digit).collect()
+}
+
+fn refused(refusal: Refusal, name: &str) -> ExitCode {
+    Screen::plain().say(&report(refusal, name, b""));
+    ExitCode::from(tally::REFUSED)
+}

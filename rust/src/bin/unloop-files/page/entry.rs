@@ -1,0 +1,206 @@
+//! A netlist's own page: its state, text, drawing, cover, sheet, and its rendering beside it.
+
+use super::html::{counted, escaped, framed};
+use super::{drawn, sheet};
+use crate::report;
+use crate::source::Source;
+use unloop::declarations::name_at;
+use unloop::{Assignment, Block, Location, Refusal};
+
+/// The entries of a cover that are shown.
+const ENTRIES_SHOWN: usize = 200;
+
+/// A netlist and what became of it.
+pub struct Entry {
+    /// The last part of the file's path.
+    pub name: String,
+    pub title: String,
+    /// The file of its page.
+    pub page: String,
+    pub text: Vec<u8>,
+    pub block: Result<Block, Refusal>,
+    pub rendering: Result<Block, Refusal>,
+}
+
+impl Entry {
+    pub fn new(source: &Source, page: String, text: Vec<u8>) -> Entry {
+        let block = Block::read(&text);
+        let rendering = block.clone().and_then(|block| block.render());
+        Entry {
+            name: source.last_part(),
+            title: source.stem(),
+            page,
+            text,
+            block,
+            rendering,
+        }
+    }
+
+    /// Its state as a class and in words; a refusal at a place has its line and column.
+    pub fn state(&self) -> (&'static str, String) {
+        let refusal = match self.rendering {
+            Ok(_) => return ("rendered", "rendered".to_string()),
+            Err(refusal) => refusal,
+        };
+        match (refusal, refusal.place()) {
+            (_, Some(place)) => {
+                let Location { row, column, .. } = Location::of(&self.text, place);
+                ("illegible", format!("{} {row}:{column}", refusal.word()))
+            }
+            (Refusal::NotSettled { .. } | Refusal::TooManyCopies, _) => {
+                ("undecided", refusal.word().to_string())
+            }
+            _ => ("illegible", refusal.word().to_string()),
+        }
+    }
+
+    /// The state in a sentence or two.
+    fn told(&self) -> Vec<String> {
+        match (&self.block, &self.rendering) {
+            (Ok(block), Ok(rendering)) => vec![format!(
+                "Settled under all {}. {}, {}; the loop-free rendering has {}.",
+                counted(block.settings_that_come(), "setting"),
+                counted(block.gates(), "gate"),
+                counted(block.loops().len(), "loop"),
+                counted(rendering.gates(), "gate line")
+            )],
+            (_, Err(refusal)) => report::report(*refusal, &self.name, &self.text),
+            (Err(_), Ok(_)) => Vec::new(),
+        }
+    }
+}
+
+pub fn page(entries: &[Entry], index: usize) -> String {
+    let entry = &entries[index];
+    let (class, state) = entry.state();
+    let link = |other: Option<&Entry>, word: &str| match other {
+        Some(other) => format!(
+            "<a rel=\"{word}\" href=\"{}\">{}</a>",
+            escaped(&other.page),
+            escaped(&other.title)
+        ),
+        None => "<span></span>".to_string(),
+    };
+    let before = index.checked_sub(1).map(|before| &entries[before]);
+    let nav = format!(
+        "<nav>{} <a href=\"index.html\">All netlists</a> {}</nav>",
+        link(before, "prev"),
+        link(entries.get(index + 1), "next")
+    );
+    let told = entry
+        .told()
+        .iter()
+        .map(|line| escaped(line))
+        .collect::<Vec<_>>()
+        .join("\n");
+    let mut body = format!(
+        "<header>\n{nav}\n<h1>{}</h1>\n<p><span class=\"state {class}\">{}</span></p>\n<pre class=\"told\">{told}</pre>\n</header>\n<main>\n",
+        escaped(&entry.title),
+        escaped(&state)
+    );
+    if let Ok(block) = &entry.block {
+        body += &section(
+            "Sheet",
+            &sheet::sheet(block, entry.rendering.as_ref().err().copied()),
+        );
+        body += &section("Drawing", &drawn::drawing(block, &entry.text));
+        body += &section("Cover", &cover(block));
+    }
+    body += &texts(entry);
+    framed(&entry.title, &format!("{body}</main>\n"))
+}
+
+fn section(title: &str, content: &str) -> String {
+    let id = title.to_lowercase();
+    format!("<section id=\"{id}\">\n<h2>{title}</h2>\n{content}</section>\n")
+}
+
+/// The original, its refusal marked, and the rendering beside it.
+fn texts(entry: &Entry) -> String {
+    let original = numbered(&entry.text, entry.block.as_ref().err().copied());
+    let Ok(rendering) = &entry.rendering else {
+        return section("Text", &original);
+    };
+    let lines = numbered(rendering.write().as_bytes(), None);
+    format!(
+        "<div class=\"beside\">\n{}{}</div>\n",
+        section("Text", &original),
+        section("Rendering", &lines)
+    )
+}
+
+/// The lines of a text, numbered, and what is refused in it marked: a byte, or a name.
+fn numbered(text: &[u8], refusal: Option<Refusal>) -> String {
+    let place = refusal.and_then(Refusal::place);
+    let marked = place.map(|place| Location::of(text, place));
+    let length = match (refusal, place) {
+        (Some(Refusal::SyntaxError { .. }), _) | (_, None) => 1,
+        (_, Some(place)) => name_at(text, place).len(),
+    };
+    let lines = text
+        .strip_suffix(b"\n")
+        .unwrap_or(text)
+        .split(|&byte| byte == b'\n');
+    let mut items = String::new();
+    for (line, row) in lines.zip(1..) {
+        let shown = |bytes: &[u8]| escaped(&String::from_utf8_lossy(bytes));
+        items += &match &marked {
+            Some(mark) if mark.row == row => {
+                let (before, rest) = line.split_at(line.len().min(mark.column - 1));
+                let (at, behind) = rest.split_at(rest.len().min(length));
+                let at = if at.is_empty() {
+                    "↵".to_string()
+                } else {
+                    shown(at)
+                };
+                format!(
+                    "<li class=\"refused\"><code>{}<mark>{at}</mark>{}</code></li>\n",
+                    shown(before),
+                    shown(behind)
+                )
+            }
+            _ => format!("<li><code>{}</code></li>\n", shown(line)),
+        };
+    }
+    format!("<div class=\"scroll\" tabindex=\"0\"><ol class=\"text\">\n{items}</ol></div>\n")
+}
+
+/// The cover as a table of pins.
+fn cover(block: &Block) -> String {
+    let (cover, pins) = (block.cover(), block.input_names());
+    match cover[..] {
+        [] => {
+            return "<p>Under no setting of the pins that may come does every output settle.</p>\n"
+                .to_string()
+        }
+        [Assignment { fixed: 0, .. }] => {
+            return "<p>Always: no pin needs to be set.</p>\n".to_string()
+        }
+        _ => {}
+    }
+    let headers: String = pins
+        .iter()
+        .map(|pin| format!("<th scope=\"col\">{}</th>", escaped(pin)))
+        .collect();
+    let cell = |entry: &Assignment, input: usize| match entry.value(input) {
+        Some(value) => format!("<td class=\"v{0}\">{0}</td>", u8::from(value)),
+        None => "<td class=\"free\">any</td>".to_string(),
+    };
+    let row = |entry: &Assignment| {
+        format!(
+            "<tr>{}</tr>\n",
+            (0..pins.len())
+                .map(|input| cell(entry, input))
+                .collect::<String>()
+        )
+    };
+    let rows: String = cover.iter().take(ENTRIES_SHOWN).map(row).collect();
+    let more = match cover.len().saturating_sub(ENTRIES_SHOWN) {
+        0 => String::new(),
+        more => format!("<p>And {more} more; --json tells them all.</p>\n"),
+    };
+    format!(
+        "<p>Every output settles, or the setting never comes, under these settings of the pins and no others.</p>\n\
+         <div class=\"scroll\" tabindex=\"0\"><table class=\"pins\">\n<thead><tr>{headers}</tr></thead>\n<tbody>\n{rows}</tbody>\n</table></div>\n{more}"
+    )
+}

@@ -1,0 +1,71 @@
+//! index.html: a row for each netlist, which page.js sorts and searches.
+
+use super::entry::Entry;
+use super::html::{counted, escaped, framed};
+
+/// As `23 netlists: 14 rendered, 9 refused`.
+pub fn summary(entries: &[Entry]) -> String {
+    let rendered = entries
+        .iter()
+        .filter(|entry| entry.rendering.is_ok())
+        .count();
+    format!(
+        "{}: {rendered} rendered, {} refused",
+        counted(entries.len(), "netlist"),
+        entries.len() - rendered
+    )
+}
+
+pub fn page(entries: &[Entry]) -> String {
+    let headers = ["Netlist", "State", "Gates", "Loops", "Rendering", "Settled"];
+    let headers: String = headers
+        .iter()
+        .map(|name| format!("<th scope=\"col\"><button type=\"button\">{name}</button></th>"))
+        .collect();
+    let rows: String = entries.iter().map(row).collect();
+    let body = format!(
+        "<header>\n<h1>Netlists</h1>\n<p>{}.</p>\n</header>\n<main>\n\
+         <p class=\"search\"><label for=\"search\">Search</label> <input id=\"search\" type=\"search\" placeholder=\"a name, or a state such as undecided\"> \
+         <span id=\"found\" role=\"status\"></span></p>\n\
+         <table id=\"overview\">\n<thead>\n<tr>{headers}</tr>\n</thead>\n<tbody>\n{rows}</tbody>\n</table>\n\
+         <p class=\"note\">Gates: of the original, inner ones counted. Loops: its strongly connected groups that are one. Rendering: the gate lines of the \
+         loop-free netlist. Settled: the settings of the pins under which every output is 0 or 1, of those that may come.</p>\n</main>\n",
+        escaped(&summary(entries))
+    );
+    framed("Netlists", &body)
+}
+
+/// A row; a cell's `data-value` is what it is sorted by.
+fn row(entry: &Entry) -> String {
+    let cell = |label: &str, value: Option<usize>, shown: String| {
+        let sorted = value.map_or("-1".to_string(), |value| value.to_string());
+        format!("<td data-label=\"{label}\" data-value=\"{sorted}\">{shown}</td>")
+    };
+    let number = |label: &str, value: Option<usize>| {
+        cell(
+            label,
+            value,
+            value.map_or("–".to_string(), |value| value.to_string()),
+        )
+    };
+    let block = entry.block.as_ref().ok();
+    let settled = block.map(|block| (block.verdict().settled, block.settings_that_come()));
+    let share =
+        settled.map(|(settled, of)| (settled * 1_000_000).checked_div(of).unwrap_or(1_000_000));
+    let told = settled.map_or("–".to_string(), |(settled, of)| {
+        format!("{settled} of {of}")
+    });
+    let (class, state) = entry.state();
+    format!(
+        "<tr><th scope=\"row\"><a href=\"{}\">{}</a></th>\
+         <td data-label=\"State\" data-value=\"{}\"><span class=\"state {class}\">{}</span></td>{}{}{}{}</tr>\n",
+        escaped(&entry.page),
+        escaped(&entry.title),
+        escaped(&state),
+        escaped(&state),
+        number("Gates", block.map(|block| block.gates())),
+        number("Loops", block.map(|block| block.loops().len())),
+        number("Rendering", entry.rendering.as_ref().ok().map(|block| block.gates())),
+        cell("Settled", share, told),
+    )
+}

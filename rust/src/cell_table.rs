@@ -1,0 +1,150 @@
+//! Cells as a table of decimal words for a board's filler, and back. What stands behind a `#` is a comment to a filler; some comments
+//! tell the names here: `# inputs N NAME ...` at the head, `# outputs N` and `# output PORT NODE` at the end; before each cell stands its gate.
+
+use crate::export::never_comments;
+use crate::limits::{CELL_WORDS, INPUTS};
+use crate::{Block, Cells, Refusal};
+
+const INPUTS_WORD: &str = "inputs";
+const OUTPUTS_WORD: &str = "outputs";
+const OUTPUT_WORD: &str = "output";
+
+/// A table of cells: what a written one says.
+#[derive(Debug, Clone, PartialEq, Eq)]
+pub struct CellTable {
+    pub cells: Cells,
+    /// The inputs' names, in order.
+    pub inputs: Vec<String>,
+    /// The ports, each with its node: an input's number, or a cell's behind the inputs.
+    pub outputs: Vec<(String, usize)>,
+}
+
+/// Why a text is no table.
+#[derive(Debug, Clone, PartialEq, Eq)]
+pub enum TableError {
+    /// The words are no cells over the inputs.
+    Refused(Refusal),
+    /// What is wrong with a line, counted from 1.
+    Line { row: usize, why: String },
+    /// No line tells the number of inputs.
+    NoInputs,
+}
+
+/// The table of a block in which no gate reads itself or a gate behind it; `name` is put at its head.
+///
+/// ```
+/// # use unloop::{cell_table, Block, CellTable, Refusal};
+/// let block = Block::read("(in a)\n(in b)\n(gate p (nor a b))\n(out y p)\n(out z b)\n")?;
+/// let text = cell_table(&block, "m")?;
+/// assert_eq!(text, "# cells m 1\n# inputs 2 a b\n# _0 nor\n0 1 65534 65534 4369\n# outputs 2\n# output y 2\n# output z 1\n");
+/// let table = CellTable::read(&text).expect("a table");
+/// assert_eq!(table.shown(&[false, false])?, [true, false]);
+/// # Ok::<(), Refusal>(())
+/// ```
+pub fn cell_table(block: &Block, name: &str) -> Result<String, Refusal> {
+    let cells = block.cells()?;
+    let inputs = [vec![cells.inputs().to_string()], block.input_names()].concat();
+    let mut lines = vec![format!("# cells {name} {}", block.gates())];
+    let nevers = never_comments(block);
+    lines.extend(nevers.iter().map(|line| format!("# {line}")));
+    lines.push(format!("# {INPUTS_WORD} {}", inputs.join(" ")));
+    let gates = block.gate_list();
+    for (number, words) in cells.words().chunks(CELL_WORDS).enumerate() {
+        let decimal: Vec<String> = words.iter().map(u16::to_string).collect();
+        lines.push(format!("# _{number} {}", gates[number].kind.word()));
+        lines.push(decimal.join(" "));
+    }
+    lines.push(format!("# {OUTPUTS_WORD} {}", block.outputs()));
+    let ports = block.output_names().into_iter().zip(block.nodes_shown());
+    lines.extend(ports.map(|(port, node)| format!("# {OUTPUT_WORD} {port} {node}")));
+    Ok(lines.join("\n") + "\n")
+}
+
+impl CellTable {
+    /// The table of a text: decimal words in any layout, the comments but those of the names skipped. Inputs without names are called by
+    /// their numbers; without an `# outputs` line each cell is a port, called as its gate is.
+    pub fn read(text: &str) -> Result<CellTable, TableError> {
+        let mut said = Said::default();
+        for (line, row) in text.lines().zip(1..) {
+            said.line(line, row)
+                .map_err(|why| TableError::Line { row, why })?;
+        }
+        let inputs = said.inputs.take().ok_or(TableError::NoInputs)?;
+        let words = std::mem::take(&mut said.words);
+        let cells = Cells::from_words(inputs.len(), words).map_err(TableError::Refused)?;
+        let outputs = said.shown(inputs.len(), cells.words().len() / CELL_WORDS)?;
+        Ok(CellTable {
+            cells,
+            inputs,
+            outputs,
+        })
+    }
+
+    /// The ports' values, from one value an input, by the library's Run.
+    pub fn shown(&self, setting: &[bool]) -> Result<Vec<bool>, Refusal> {
+        let mut nodes = setting.to_vec();
+        nodes.extend(self.cells.run(setting)?);
+        Ok(self.outputs.iter().map(|(_, node)| nodes[*node]).collect())
+    }
+}
+
+/// What the lines of a text say.
+#[derive(Default)]
+struct Said {
+    words: Vec<u16>,
+    inputs: Option<Vec<String>>,
+    /// The row of the line that tells how many outputs there are, and what it tells.
+    count: Option<(usize, String)>,
+    /// The row, the port and the node of each output.
+    outputs: Vec<(usize, String, String)>,
+}
+
+impl Said {
+    fn line(&mut self, line: &str, row: usize) -> Result<(), String> {
+        let (decimal, comment) = line.split_once('#').unwrap_or((line, ""));
+        for word in decimal.split_whitespace() {
+            let parsed = word.parse();
+            self.words
+                .push(parsed.map_err(|_| format!("not a word of 16 bits: {word}"))?);
+        }
+        match comment.split_whitespace().collect::<Vec<&str>>()[..] {
+            [INPUTS_WORD, ..] if self.inputs.is_some() => return Err("a second table".to_string()),
+            [INPUTS_WORD, count, ref names @ ..] => self.inputs = Some(named(count, names)?),
+            [OUTPUTS_WORD, count] => self.count = Some((row, count.to_string())),
+            [OUTPUT_WORD, port, node] => {
+                self.outputs.push((row, port.to_string(), node.to_string()))
+            }
+            _ => {}
+        }
+        Ok(())
+    }
+
+    /// The ports with their nodes, over so many inputs and cells.
+    fn shown(self, inputs: usize, cells: usize) -> Result<Vec<(String, usize)>, TableError> {
+        let Some((row, count)) = self.count else {
+            let port = |cell: usize| (format!("_{cell}"), inputs + cell);
+            return Ok((0..cells).map(port).collect());
+        };
+        if count != self.outputs.len().to_string() {
+            let why = format!("{count} outputs with {} lines", self.outputs.len());
+            return Err(TableError::Line { row, why });
+        }
+        let output = |(row, port, node): (usize, String, String)| {
+            let known = node.parse().ok().filter(|&node| node < inputs + cells);
+            let why = format!("no node {node}");
+            Ok((port, known.ok_or(TableError::Line { row, why })?))
+        };
+        self.outputs.into_iter().map(output).collect()
+    }
+}
+
+/// The names of so many inputs.
+fn named(count: &str, names: &[&str]) -> Result<Vec<String>, String> {
+    let known = count.parse().ok().filter(|&count: &usize| count <= INPUTS);
+    let count = known.ok_or_else(|| format!("not a number of inputs: {count}"))?;
+    match names.len() {
+        0 => Ok((0..count).map(|input| input.to_string()).collect()),
+        given if given == count => Ok(names.iter().map(|name| name.to_string()).collect()),
+        given => Err(format!("{count} inputs with {given} names")),
+    }
+}

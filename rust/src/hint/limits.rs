@@ -1,0 +1,33 @@
+//! Limits: which one a text or a rendering passes, and by how much.
+
+use crate::copies::copies;
+use crate::declarations::{lines, LineKind};
+use crate::limits::{GATES, INPUTS, NEVERS, OUTPUTS};
+use crate::Block;
+
+/// The limits that a text passes.
+pub fn passed(text: &[u8]) -> Option<String> {
+    let of = |kind: LineKind| lines(text).filter(|line| line.kind == kind).count();
+    let gates = lines(text).map(|line| line.gates()).sum();
+    let counts = [
+        (of(LineKind::Input), INPUTS, "inputs"),
+        (of(LineKind::Never), NEVERS, "never lines"),
+        (gates, GATES, "gates"),
+        (of(LineKind::Output), OUTPUTS, "outputs"),
+    ];
+    let over = counts.into_iter().filter(|(count, most, _)| count > most);
+    let told: Vec<String> = over
+        .map(|(count, most, what)| above(count, most, what))
+        .collect();
+    (!told.is_empty()).then(|| told.join("; "))
+}
+
+/// By how much a rendering passes the limit.
+pub fn swollen(block: &Block) -> Option<String> {
+    let copies = copies(block);
+    (copies > GATES).then(|| above(copies, GATES, "gates in the rendering"))
+}
+
+fn above(count: usize, most: usize, what: &str) -> String {
+    format!("{count} {what}, {} more than {most}", count - most)
+}

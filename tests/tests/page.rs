@@ -1,0 +1,371 @@
+//! `bin/unloop --page`: what the pages of the catalogue say, against the simulator, without a browser.
+
+mod session;
+
+use session::{command, run, told, with};
+use simulator::block::Block;
+use simulator::catalogue::cover_of;
+use simulator::executed::{ended, root, Scratch};
+use simulator::generate::Report;
+use simulator::groups::ordered_groups;
+use simulator::values::Network;
+use simulator::{read, unloop};
+use std::fs;
+use std::path::PathBuf;
+use std::process::Command;
+
+fn netlists() -> Vec<PathBuf> {
+    let entries = fs::read_dir(root().join("catalogue")).unwrap();
+    let paths = entries.map(|entry| entry.unwrap().path());
+    let mut paths: Vec<PathBuf> = paths
+        .filter(|path| path.extension().is_some_and(|e| e == "net"))
+        .collect();
+    paths.sort();
+    paths
+}
+
+fn stem(path: &PathBuf) -> String {
+    path.file_stem().unwrap().to_str().unwrap().to_string()
+}
+
+/// The pages of the catalogue in a folder `out`; `Graphviz` is not found where the path is empty.
+fn pages(dot: bool) -> Scratch {
+    let scratch = Scratch::new();
+    let mut command = command(&scratch);
+    if !dot {
+        command = Command::new(root().join("target/driver/release/unloop-files"));
+        command
+            .current_dir(scratch.path("."))
+            .env("PATH", "")
+            .arg("no-program");
+    }
+    let ended = ended(command.args(["--page", "out"]).args(netlists()), b"");
+    let (all, errors) = (netlists().len(), String::from_utf8(ended.stderr).unwrap());
+    assert!(
+        errors.starts_with(&format!("out/index.html: {all} netlists: ")),
+        "{errors}"
+    );
+    assert_eq!((ended.status.code(), ended.stdout.len()), (Some(1), 0));
+    scratch
+}
+
+/// What stands between two marks, each time.
+fn between<'a>(text: &'a str, before: &str, behind: &str) -> Vec<&'a str> {
+    let parts = text.split(before).skip(1);
+    parts
+        .map(|part| part.split_once(behind).expect("an end").0)
+        .collect()
+}
+
+fn plain(text: &str) -> String {
+    let text = text.replace("&lt;", "<").replace("&gt;", ">");
+    text.replace("&quot;", "\"").replace("&amp;", "&")
+}
+
+/// The gates of each loop.
+fn loops(block: &Block) -> Vec<Vec<usize>> {
+    let reads_itself = |gate: usize| block.gates[gate].gates_read().any(|read| read == gate);
+    let mut groups = ordered_groups(block);
+    groups.retain(|group| group.len() > 1 || reads_itself(group[0]));
+    groups
+}
+
+/// What the overview must say of a text: its state and the four numbers.
+fn expected_row(text: &[u8]) -> Vec<String> {
+    let (answer, words) = read(text, usize::MAX);
+    let written = String::from_utf8(unloop(text)).unwrap();
+    if answer.number != 0 {
+        let word = ["form", "twice", "unknown"]
+            [[2, 4, 5].iter().position(|&n| n == answer.number).unwrap()];
+        let before = String::from_utf8_lossy(&text[..answer.detail]).into_owned();
+        let column = 1 + before.rsplit('\n').next().unwrap().len();
+        let state = format!("{word} {}:{column}", 1 + before.matches('\n').count());
+        return vec![state, "–".into(), "–".into(), "–".into(), "–".into()];
+    }
+    let block = Block::from_words(&words);
+    let settled = Network::new(&block)
+        .counted_settings()
+        .iter()
+        .filter(|&&s| s)
+        .count();
+    let come = block.excluded_settings().iter().filter(|&&e| !e).count();
+    let state = match &written {
+        refused if refused.starts_with("(refused 9 ") => "undecided",
+        refused if refused.starts_with("(refused 8 ") => "swollen",
+        _ => "rendered",
+    };
+    let rendering = match state {
+        "rendered" => written.matches("(gate ").count().to_string(),
+        _ => "–".to_string(),
+    };
+    vec![
+        state.to_string(),
+        block.gates.len().to_string(),
+        loops(&block).len().to_string(),
+        rendering,
+        format!("{settled} of {come}"),
+    ]
+}
+
+#[test]
+fn overview_of_the_catalogue() {
+    let scratch = pages(true);
+    let index = scratch.get("out/index.html");
+    let rows = between(&index, "<tr><th scope=\"row\">", "</tr>");
+    assert_eq!(rows.len(), netlists().len());
+    for (row, path) in rows.iter().zip(netlists()) {
+        let link = format!("<a href=\"{0}.html\">{0}</a>", stem(&path));
+        assert!(row.starts_with(&link), "{row}");
+        let cells = between(row, "<td ", "</td>").into_iter();
+        let cells = cells.map(|cell| {
+            cell.trim_end_matches("</span>")
+                .rsplit('>')
+                .next()
+                .unwrap()
+                .to_string()
+        });
+        assert_eq!(
+            cells.collect::<Vec<_>>(),
+            expected_row(&fs::read(&path).unwrap()),
+            "{row}"
+        );
+    }
+    let mut names: Vec<String> = netlists().iter().map(|path| stem(path) + ".html").collect();
+    names.extend(["index.html", "page.css", "page.js"].map(String::from));
+    names.sort();
+    assert_eq!(scratch.names("out"), names);
+}
+
+/// Nothing is fetched from anywhere, and every link leads to a page of the folder.
+#[test]
+fn pages_stand_alone() {
+    let scratch = pages(true);
+    let names = scratch.names("out");
+    for name in &names {
+        let content = scratch.get(&format!("out/{name}"));
+        let _report = Report(|| name.clone());
+        for mark in ["src=\"", " href=\""] {
+            let links = between(&content, mark, "\"").into_iter();
+            links.for_each(|link| assert!(names.iter().any(|name| name == link), "{link}"));
+        }
+        assert!(
+            !content.contains("url(")
+                && !content.contains("@import")
+                && !content.contains("fetch(")
+        );
+    }
+}
+
+/// The value of every output under every setting, undefined pins among them, and the setting that it begins with.
+fn sheet_is_right(page: &str, block: &Block, refused_for: usize) {
+    let [values] = between(page, "id=\"values\">", "</script>")[..] else {
+        panic!("no values")
+    };
+    let [rows] = between(values, "\"rows\":\"", "\"")[..] else {
+        panic!("no rows")
+    };
+    let (n, network) = (block.inputs.len(), Network::new(block));
+    assert!(values.contains("\"base\":3,") && n <= 8);
+    assert!(values.contains(&format!("\"start\":{refused_for},")));
+    let mut expected = String::new();
+    for number in 0..3usize.pow(n as u32) {
+        let setting: Vec<u8> = (0..n)
+            .map(|i| (number / 3usize.pow(i as u32) % 3) as u8)
+            .collect();
+        expected.extend(
+            network
+                .shown(&setting)
+                .iter()
+                .map(|&value| ['0', '1', 'u'][usize::from(value)]),
+        );
+    }
+    assert!(rows == expected);
+}
+
+/// The numbered lines of a section are a text's.
+fn text_is_right(page: &str, section: &str, text: &str) {
+    let [section] = between(page, &format!("<section id=\"{section}\">"), "</section>")[..] else {
+        panic!("{section}")
+    };
+    let lines = between(section, "<code>", "</code>").into_iter();
+    let lines = lines.map(|line| {
+        plain(
+            &line
+                .replace("<mark>", "")
+                .replace("</mark>", "")
+                .replace('↵', ""),
+        ) + "\n"
+    });
+    assert_eq!(lines.collect::<String>(), text);
+}
+
+fn cover_is_right(page: &str, block: &Block, cover: &str) {
+    let [section] = between(page, "<section id=\"cover\">", "</section>")[..] else {
+        panic!("no cover")
+    };
+    match cover {
+        "" => return assert!(section.contains("Under no setting")),
+        "always\n" => return assert!(section.contains("Always: no pin needs to be set.")),
+        _ => {}
+    }
+    let [body] = between(section, "<tbody>", "</tbody>")[..] else {
+        panic!("no table")
+    };
+    let entry = |row: &str| {
+        let cells = between(row, "\">", "</td>").into_iter().zip(&block.inputs);
+        let fixed = cells.filter(|(value, _)| *value != "any");
+        let pins: Vec<String> = fixed
+            .map(|(value, name)| format!("{name} = {value}"))
+            .collect();
+        pins.join(", ") + "\n"
+    };
+    let rows = between(body, "<tr>", "</tr>").into_iter().map(entry);
+    assert_eq!(rows.collect::<String>(), cover);
+}
+
+#[test]
+fn pages_of_the_catalogue() {
+    let scratch = pages(true);
+    for path in netlists() {
+        let _report = Report(|| stem(&path));
+        let page = scratch.get(&format!("out/{}.html", stem(&path)));
+        let text = fs::read(&path).unwrap();
+        text_is_right(&page, "text", &String::from_utf8_lossy(&text));
+        let (answer, words) = read(&text, usize::MAX);
+        let written = String::from_utf8(unloop(&text)).unwrap();
+        if answer.number != 0 {
+            let [mark] = between(&page, "<mark>", "</mark>")[..] else {
+                panic!("no mark")
+            };
+            let rest = String::from_utf8_lossy(&text[answer.detail..]).into_owned();
+            assert!(
+                rest.starts_with(mark) || (mark == "↵" && rest.starts_with('\n')),
+                "{mark}"
+            );
+            continue;
+        }
+        let block = Block::from_words(&words);
+        let lowest = written
+            .strip_prefix("(refused 9 ")
+            .map(|rest| rest.trim_end_matches(")\n").parse().unwrap());
+        sheet_is_right(&page, &block, lowest.unwrap_or(0));
+        cover_is_right(&page, &block, &cover_of(&text).unwrap());
+        if !written.starts_with("(refused ") {
+            text_is_right(&page, "rendering", &written);
+        }
+        assert_eq!(page.matches("<svg ").count(), 1);
+    }
+}
+
+/// Without Graphviz: a box for each input, gate and output, those of a loop in its colour, and dashed wires where there is a loop.
+#[test]
+fn drawings_of_our_own() {
+    drop(pages(true)); // built
+    let scratch = pages(false);
+    for path in netlists() {
+        let (answer, words) = read(&fs::read(&path).unwrap(), usize::MAX);
+        if answer.number != 0 {
+            continue;
+        }
+        let _report = Report(|| stem(&path));
+        let (page, block) = (
+            scratch.get(&format!("out/{}.html", stem(&path))),
+            Block::from_words(&words),
+        );
+        let loops = loops(&block);
+        let (inputs, gates, outputs) = (block.inputs.len(), block.gates.len(), block.outputs.len());
+        assert_eq!(page.matches("<g class=\"node input\">").count(), inputs);
+        assert_eq!(page.matches("<g class=\"node output\">").count(), outputs);
+        let looped: usize = loops.iter().map(Vec::len).sum();
+        assert_eq!(
+            page.matches("<g class=\"node gate\">").count(),
+            gates - looped
+        );
+        for (number, members) in loops.iter().enumerate() {
+            assert_eq!(
+                page.matches(&format!("<g class=\"node gate loop{number}\">"))
+                    .count(),
+                members.len()
+            );
+        }
+        assert_eq!(
+            page.contains("class=\"wire inloop back\""),
+            !loops.is_empty()
+        );
+    }
+}
+
+#[test]
+fn names_and_what_is_overwritten() {
+    let scratch = with(&[
+        ("a/index.net", "(in a)\n(out y a)\n"),
+        ("a/x & y.net", "(in <"),
+        ("b/x & y.net", "(in b)\n"),
+        ("out/page.css", "kept"),
+    ]);
+    let words = ["--page", "new", "a/index.net", "a/x & y.net", "b/x & y.net"];
+    let report = "new/index.html: 3 netlists: 2 rendered, 1 refused\n";
+    told(run(&scratch, &words), 1, "", report);
+    let names = [
+        "index-2.html",
+        "index.html",
+        "page.css",
+        "page.js",
+        "x___y-2.html",
+        "x___y.html",
+    ];
+    assert_eq!(scratch.names("new"), names);
+    let page = scratch.get("new/x___y.html");
+    assert!(
+        page.contains("<h1>x &amp; y</h1>") && page.contains("<code>(in <mark>&lt;</mark></code>"),
+        "{page}"
+    );
+    let error = "unloop: new/index.html: exists already (--force replaces it)\n";
+    told(run(&scratch, &words), 2, "", error);
+    told(
+        run(&scratch, &[&["--force"], &words[..]].concat()),
+        1,
+        "",
+        report,
+    );
+    let words = ["--page", "out", "a/index.net"];
+    let error = "unloop: out/page.css: exists already (--force replaces it)\n";
+    told(run(&scratch, &words), 2, "", error);
+    assert_eq!(scratch.get("out/page.css"), "kept");
+    let error = "unloop: --page needs a FILE: standard input has no name (see --help)\n";
+    told(run(&scratch, &["--page", "out"]), 2, "", error);
+    told(
+        run(&scratch, &["--page", "o", "gone"]),
+        2,
+        "",
+        "unloop: gone: No such file or directory\n",
+    );
+}
+
+/// With more than eight inputs the values are of settings without undefined pins.
+#[test]
+fn many_inputs() {
+    let inputs: String = (0..9).map(|i| format!("(in a{i})\n")).collect();
+    let names: Vec<String> = (0..4).map(|i| format!("a{}", 2 * i)).collect();
+    let text = format!(
+        "{inputs}(gate p (xor {}))\n(gate q (nand p a8))\n(out y p)\n(out z q)\n",
+        names.join(" ")
+    );
+    let scratch = with(&[("x.net", &text)]);
+    assert_eq!(
+        run(&scratch, &["--page", "out", "x.net"]).status.code(),
+        Some(0)
+    );
+    let page = scratch.get("out/x.html");
+    let [rows] = between(&page, "\"rows\":\"", "\"")[..] else {
+        panic!("no rows")
+    };
+    let block = Block::from_words(&read(text.as_bytes(), usize::MAX).1);
+    let network = Network::new(&block);
+    let shown = (0..512).flat_map(|s| network.shown(&simulator::values::setting_bytes(s, 9)));
+    assert_eq!(
+        rows,
+        shown.map(|value| value.to_string()).collect::<String>()
+    );
+    assert!(page.contains("\"base\":2,"));
+}
