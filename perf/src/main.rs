@@ -1,6 +1,7 @@
 //! Prints the times of both programs as a table, or with `--lines` as `NAME ratio seconds`: the library's processor time for one call on
 //! each input of the set, and its ratio to the plain program's. With `--growth`: how times grow with inputs and gates.
 //! With `--archive`: how small gzip and xz make stored blocks, before and after Gather.
+//! With `--program`: the whole program on many entries, and on the hardest texts.
 
 use perf::archive;
 use perf::growth;
@@ -8,6 +9,7 @@ use perf::inputs::{self, Set, UnderSetting};
 use perf::measure::{Line, Operation};
 use perf::operations::{COVER, RENDER, VERDICT};
 use perf::plain;
+use perf::program;
 use perf::sheets::{self, SETTINGS};
 use simulator::limits::{BLOCK_WORDS, GATES, WRITTEN_BYTES};
 use std::env;
@@ -15,7 +17,7 @@ use std::fmt::Debug;
 use std::process::ExitCode;
 use unloop::raw::{self, Record};
 
-const USAGE: &str = "usage: perf/run [--lines | --growth | --archive]";
+const USAGE: &str = "usage: perf/run [--lines | --growth | --archive | --program]";
 
 fn main() -> ExitCode {
     let arguments: Vec<String> = env::args().skip(1).collect();
@@ -28,6 +30,10 @@ fn main() -> ExitCode {
         }
         ["--archive"] => {
             archive::print();
+            return ExitCode::SUCCESS;
+        }
+        ["--program"] => {
+            program::print();
             return ExitCode::SUCCESS;
         }
         _ => {
