@@ -45,22 +45,25 @@ tell_progress() {
 }
 
 # Runs `rt WORD NAMES` in the root, with no input and all output in a log, and ends with its status: LOG rt WORD NAMES.
+# rt stands in the foreground, so that an interrupt ends it too; what tells of it beside ends with the pipe that is held open meanwhile.
 run_rt() {
-  local log=$1 crates total status='' quarter=0 began=$SECONDS ended
+  local log=$1 crates total status=0 quarter=0 began=$SECONDS held teller
   shift
   mapfile -t crates < <(planned "${@:3}")
   total=${#crates[@]}
   : >"$log"
-  exec {ended}< <(
-    cd "$root"
-    "$@" </dev/null >"$log" 2>&1 9>&- && echo 0 || echo $?
+  exec {held}> >(
+    exec 9>&-
+    tell_progress
+    while read -r -t 1; (($? > 128)); do tell_progress; done
   )
-  tell_progress
-  while read -r -t 1 -u "$ended" status; (($? > 128)); do tell_progress; done
-  exec {ended}<&-
+  teller=$!
+  (cd "$root" && "$@") </dev/null >"$log" 2>&1 9>&- {held}>&- || status=$?
+  exec {held}>&-
+  wait "$teller" || true
   if [[ -t 2 ]]; then printf '\r%-78s\r' '' >&2; fi
   if [[ $status == 0 ]]; then printf '%s: %d crates are proved (%s)\n' "$command" "$total" "$(as_time $((SECONDS - began)))" >&2; fi
-  return "${status:-1}"
+  return "$status"
 }
 
 # What a log has of crates that are not proved, and what stands behind the last crate.
