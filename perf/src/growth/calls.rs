@@ -69,47 +69,42 @@ fn rendered(block: &[u16]) -> Vec<u16> {
 /// Every operation that takes any block.
 pub fn on_block(block: &[u16]) -> Vec<Named> {
     let old = Block::from_words(block).to_old_words();
-    let gates = block[1];
-    let turned = (block.to_vec(), (0..gates).rev().collect::<Vec<u16>>());
+    let turned = (block.to_vec(), (0..block[1]).rev().collect::<Vec<u16>>());
     let settle = (block.to_vec(), ones(block));
+    let bring = words(&old, BLOCK_WORDS, |old, block| raw::bring(old, block));
+    let settle = lent(settle, GATES, 0, |(block, setting), values| {
+        raw::settle(block, setting, values)
+    });
+    let groups = words(block, GATES, |block, numbers| raw::groups(block, numbers));
+    let gather = words(block, BLOCK_WORDS + GATES, |block, lent| {
+        let (gathered, order) = lent.split_at_mut(BLOCK_WORDS);
+        raw::gather(block, gathered, order)
+    });
+    let scatter = lent(turned, BLOCK_WORDS, 0, |(block, order), original| {
+        raw::scatter(block, order, original)
+    });
+    let mut calls = vec![
+        ("bring", bring),
+        ("settle", settle),
+        ("groups", groups),
+        ("gather", gather),
+        ("scatter", scatter),
+    ];
+    calls.extend(through_settings(block));
+    calls
+}
+
+/// Those that go through all settings.
+fn through_settings(block: &[u16]) -> Vec<Named> {
     let both = (block.to_vec(), rendered(block));
+    let compare = lent(both, 0, 0, |(ours, theirs), _: &mut [u8]| {
+        raw::compare(ours, theirs)
+    });
     vec![
-        (
-            "bring",
-            words(&old, BLOCK_WORDS, |old, block| raw::bring(old, block)),
-        ),
-        (
-            "settle",
-            lent(settle, GATES, 0, |(block, setting), values| {
-                raw::settle(block, setting, values)
-            }),
-        ),
         ("verdict", library(VERDICT, block)),
         ("cover", library(COVER, block)),
-        (
-            "groups",
-            words(block, GATES, |block, numbers| raw::groups(block, numbers)),
-        ),
         ("render", library(RENDER, block)),
-        (
-            "compare",
-            lent(both, 0, 0, |(ours, theirs), _: &mut [u8]| {
-                raw::compare(ours, theirs)
-            }),
-        ),
-        (
-            "gather",
-            words(block, BLOCK_WORDS + GATES, |block, lent| {
-                let (gathered, order) = lent.split_at_mut(BLOCK_WORDS);
-                raw::gather(block, gathered, order)
-            }),
-        ),
-        (
-            "scatter",
-            lent(turned, BLOCK_WORDS, 0, |(block, order), original| {
-                raw::scatter(block, order, original)
-            }),
-        ),
+        ("compare", compare),
     ]
 }
 
@@ -144,21 +139,11 @@ pub fn on_straight(block: &[u16]) -> Vec<Named> {
 
 /// Those that go through all settings, and the plain program's.
 pub fn on_settings(block: &[u16]) -> Vec<Named> {
-    let both = (block.to_vec(), rendered(block));
-    vec![
-        ("verdict", library(VERDICT, block)),
-        ("cover", library(COVER, block)),
-        ("render", library(RENDER, block)),
-        (
-            "compare",
-            lent(both, 0, 0, |(ours, theirs), _: &mut [u8]| {
-                raw::compare(ours, theirs)
-            }),
-        ),
-        ("plain verdict", plain(VERDICT, block)),
-        ("plain cover", plain(COVER, block)),
-        ("plain render", plain(RENDER, block)),
-    ]
+    let mut calls = through_settings(block);
+    calls.push(("plain verdict", plain(VERDICT, block)));
+    calls.push(("plain cover", plain(COVER, block)));
+    calls.push(("plain render", plain(RENDER, block)));
+    calls
 }
 
 fn library(operation: OnBlock, block: &[u16]) -> Call {
