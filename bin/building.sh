@@ -1,6 +1,7 @@
 # Sourced by the commands of this folder: builds what is missing or older than its sources. The command sets `command`, its own name, and
 # `root`, the repository, and before each `bring` the list `sources`.
 built=$root/target/built # stamps and logs of what is built here
+source "$root/bin/progress.sh"
 
 fail() {
   printf '%s: %s\n' "$command" "$1" >&2
@@ -18,15 +19,32 @@ is_stale() {
 
 # Makes a result by the command behind it, which is run in the root and has no input.
 make() {
-  local result=$1 stamp=$built/${1##*/} note=
+  local result=$1 stamp=$built/${1##*/} log=$built/${1##*/}.log status=0
   shift
   command -v "$1" >/dev/null || fail "'$1', which builds ${result#"$root/"}, is not on the PATH"
-  if [[ $1 == rt ]]; then note=' (the first time this takes minutes)'; fi
-  printf '%s: building %s%s\n' "$command" "${result#"$root/"}" "$note" >&2
+  if [[ $1 == rt ]]; then say_why; fi
+  printf '%s: building %s\n' "$command" "${result#"$root/"}" >&2
   touch "$stamp.begun"
-  (cd "$root" && "$@") </dev/null >"$stamp.log" 2>&1 9>&- || fail "'$*' failed: see $stamp.log"
-  [[ -e $result ]] || fail "'$*' made no $result: see $stamp.log"
+  if [[ $1 == rt ]]; then
+    run_rt "$log" "$@" || status=$?
+  else
+    (cd "$root" && "$@") </dev/null >"$log" 2>&1 9>&- || status=$?
+  fi
+  if [[ $status != 0 ]]; then
+    print_failure "$log"
+    fail "'$*' failed with status $status: see $log"
+  fi
+  [[ -e $result ]] || fail "'$*' made no $result: see $log"
   mv "$stamp.begun" "$stamp"
+}
+
+# Why there is anything to wait for, once.
+said_why=
+say_why() {
+  [[ -z $said_why ]] || return 0
+  said_why=yes
+  printf '%s: %s\n' "$command" 'what runs here is proved first, on this machine, from the sources in crates/' \
+    "$command" 'the first time this takes minutes; what is proved stays in target/, and later runs start at once' >&2
 }
 
 # The same where the result is stale; another run may be making it already.
@@ -35,16 +53,19 @@ bring() {
   mkdir -p "$built" 2>/dev/null || true
   [[ -w $built ]] || fail "${1#"$root/"} has to be built, and $built can't be written"
   exec 9>"$built/lock"
-  flock 9
+  if ! flock -n 9; then
+    printf '%s: waiting for another run, which is building already\n' "$command" >&2
+    flock 9
+  fi
   if is_stale "$1"; then make "$@"; fi
   exec 9>&-
 }
 
-# A program of the crate of this name.
+# A program of the crate of this name. Further crates are proved with it, side by side where they can be: NAME CRATES.
 bring_program() {
   sources=("$root/crates" "$root/crates.txt")
   [[ -e $root/target/bin/$1 ]] || rm -f "$root/target/stamp/$1" # rt goes by this alone, and wouldn't link the program again
-  bring "$root/target/bin/$1" rt check "$1"
+  bring "$root/target/bin/$1" rt check "$@"
 }
 
 # All that the command `unloop` needs: the proved program, the proved library, and the driver over them.
@@ -52,7 +73,7 @@ bring_command() {
   program=$root/target/bin/unloop
   library=$root/target/staticlib/libexports.a
   driver=$root/target/driver/release/unloop-files
-  bring_program unloop
+  bring_program unloop exports
   bring "$library" rt staticlib exports
   sources=("$root/rust/src" "$root/rust/build.rs" "$root/rust/Cargo.toml" "$library")
   bring "$driver" cargo build --release --offline --quiet --manifest-path "$root/rust/Cargo.toml" --target-dir "$root/target/driver"

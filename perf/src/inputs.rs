@@ -73,7 +73,8 @@ pub fn texts() -> Vec<Set<Vec<u8>>> {
         .collect()
 }
 
-fn written(words: &[u16]) -> Vec<u8> {
+/// The text of a block.
+pub fn written(words: &[u16]) -> Vec<u8> {
     let mut text = vec![0; WRITTEN_BYTES];
     let told = raw::write(words, &mut text);
     text.truncate(told.count);

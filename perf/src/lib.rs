@@ -7,4 +7,5 @@ pub mod inputs;
 pub mod measure;
 pub mod operations;
 pub mod plain;
+pub mod program;
 pub mod sheets;

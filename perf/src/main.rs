@@ -1,6 +1,8 @@
 //! Prints the times of both programs as a table, or with `--lines` as `NAME ratio seconds`: the library's processor time for one call on
-//! each input of the set, and its ratio to the plain program's. With `--growth`: how times grow with inputs and gates.
+//! each input of the set, and its ratio to the plain program's. With `--growth`: how the time of each operation grows with its
+//! size, with `--svg` also as docs/growth.svg.
 //! With `--archive`: how small gzip and xz make stored blocks, before and after Gather.
+//! With `--program`: the whole program on many entries, and on the hardest texts.
 
 use perf::archive;
 use perf::growth;
@@ -8,6 +10,7 @@ use perf::inputs::{self, Set, UnderSetting};
 use perf::measure::{Line, Operation};
 use perf::operations::{COVER, RENDER, VERDICT};
 use perf::plain;
+use perf::program;
 use perf::sheets::{self, SETTINGS};
 use simulator::limits::{BLOCK_WORDS, GATES, WRITTEN_BYTES};
 use std::env;
@@ -15,7 +18,7 @@ use std::fmt::Debug;
 use std::process::ExitCode;
 use unloop::raw::{self, Record};
 
-const USAGE: &str = "usage: perf/run [--lines | --growth | --archive]";
+const USAGE: &str = "usage: perf/run [--lines | --growth [--svg] | --archive | --program]";
 
 fn main() -> ExitCode {
     let arguments: Vec<String> = env::args().skip(1).collect();
@@ -23,11 +26,19 @@ fn main() -> ExitCode {
         [] => print_row,
         ["--lines"] => print_line,
         ["--growth"] => {
-            growth::print();
+            growth::print(false);
+            return ExitCode::SUCCESS;
+        }
+        ["--growth", "--svg"] => {
+            growth::print(true);
             return ExitCode::SUCCESS;
         }
         ["--archive"] => {
             archive::print();
+            return ExitCode::SUCCESS;
+        }
+        ["--program"] => {
+            program::print();
             return ExitCode::SUCCESS;
         }
         _ => {

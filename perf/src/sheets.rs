@@ -15,15 +15,15 @@ pub type Page = (Vec<u16>, Vec<Record>);
 /// Pages of the typical blocks, and of one of the largest for each name.
 pub fn pages(largest: &[&str]) -> Vec<Set<Page>> {
     let page = |words: Vec<u16>| {
-        let records = asked(usize::from(words[0]));
+        let records = asked(usize::from(words[0]), SETTINGS);
         (words, records)
     };
     let set = |(name, words): Set<Vec<u16>>| (name, words.into_iter().map(page).collect());
     blocks(largest).into_iter().map(set).collect()
 }
 
-/// Settings of n inputs, the first ones fixed or all.
-fn asked(n: usize) -> Vec<Record> {
+/// So many settings of n inputs, the first ones fixed or all.
+pub fn asked(n: usize, count: usize) -> Vec<Record> {
     let all = (1_usize << n) - 1;
     let record = |number: usize| {
         let fixed = if number % 4 == 0 { all >> 1 } else { all };
@@ -33,7 +33,7 @@ fn asked(n: usize) -> Vec<Record> {
             ..Record::default()
         }
     };
-    (0..SETTINGS).map(record).collect()
+    (0..count).map(record).collect()
 }
 
 /// All records in one call.

@@ -1,6 +1,6 @@
 //! The plain program answers as the proved library does, on generated blocks and texts and in slices of several lengths.
 
-use perf::inputs::{grown, named};
+use perf::inputs::named;
 use perf::{growth, plain};
 use simulator::generate::{
     for_blocks, for_texts, for_typical_blocks, large, long_texts, malformed, malformed_before,
@@ -152,9 +152,8 @@ fn measured_blocks() {
     let row = named("two-way-row").to_words();
     same_results(&row);
     same_searches(&row);
-    for (inputs, gates) in growth::rows().concat() {
-        let _report = Report(|| format!("{inputs} inputs, {gates} gates"));
-        let words = grown(inputs, gates);
+    for words in growth::blocks::all() {
+        let _report = Report(|| format!("{} inputs, {} gates", words[0], words[1]));
         same_results(&words);
         same_searches(&words);
     }
