@@ -1,9 +1,10 @@
 -- Batches in two slices of words: the start, a gate's step, a step more, and the end.
---   started-underway, started-inputs   the first pairs
+--   inputs-started, started-underway, started-inputs    the first pairs
 --   gatePair-evaluated, evaluated-gates, -inputs        one gate, from its words
 --   batch-none, batch-one, batch-then, batch-underway   sweeps
+--   walked-zeros, -ones, -long, -swept several gates, one after the other
 --   batch-settled, batch-decided       what the last sweep leaves
---   along-inside, along-visits         the order, there and back
+--   along-there, along-inside, along-visits             the order, there and back
 -- Assumes nothing.
 use mathlib.Core.Path.{_≡_, refl, sym, ap, ap₂, _∙_}
 use mathlib.Core.Logic.{⊎-elim}
@@ -16,9 +17,9 @@ use lib.Bits.{bitOr}
 use lib.Dec.{eqb, ltb}
 use lib.ListN.{length, getD, set, replicate, length-set, length-replicate}
 use lib.Seq.{ext-getD}
-use Rattle.laws.specs.Lists.{tab, member}
+use Rattle.laws.specs.Lists.{tab, placed, member}
 use Rattle.laws.proofs.Tests.{lt-or-le, or-neither, or-cases}
-use Rattle.laws.proofs.Tab.{length-tab, getD-tab, tab-ext}
+use Rattle.laws.proofs.Tab.{length-tab, getD-tab, tab-ext, tab-getD, keep-next, placed-all}
 use Rattle.laws.proofs.Lists.{map-replicate}
 use Rattle.laws.proofs.Quantifiers.{member-at, member-from}
 use Rattle.netlist.specs.Values.{Value, undefined}
@@ -41,8 +42,8 @@ use Rattle.lanes.specs.Nodes.{pairAt, inputsIn, gatesIn, gatePairAt}
 use Rattle.lanes.proofs.LaneLaws.{nothing-lane, nothing-proper}
 use Rattle.lanes.proofs.InputLaws.{inputPairs-proper, inputPairs-lane}
 use Rattle.lanes.proofs.NodeLaws.{gatePairAt-evaluated, head-legal, set-inputs, set-gates}
-use Rattle.batch.specs.Batch.{NodesLong, gatePair, Evaluated, BatchUnderway, BatchSwept, BatchSettled, Decided}
-use Rattle.batch.specs.Batch.{Started, startPair, placeOf, along}
+use Rattle.batch.specs.Batch.{NodesLong, Inside, gatePair, Evaluated, Walked, noGate, gateMore, BatchUnderway, BatchSwept, BatchSettled, Decided}
+use Rattle.batch.specs.Batch.{InputsPut, Started, startPair, placeOf, along}
 use Rattle.batch.proofs.Sweeping.{swept-none, swept-one, swept-then, swept-underway, swept-settled, defined-settled}
 
 -- ---- the start
@@ -96,6 +97,43 @@ module _ (n base : ℕ) where
                 below = λ i l. rw (values i) (start-below-settled b (map (lane i) x));
               });
         }
+
+-- every word 0, and then the inputs' pairs
+placed-rest : (f : ℕ → ℕ) (entry : List ℕ) (n more : ℕ) → ((k : ℕ) → n ≤ k → getD entry k 0 ≡ f k) → n + more ≤ length entry
+    → placed (tab f n) entry ≡ placed (tab f (n + more)) entry
+placed-rest f entry n zero h l = let e : n + 0 ≡ n = omega arith in rw e
+placed-rest f entry n (suc more) h l =
+    let e : n + suc more ≡ n + more + 1 = omega arith in
+    rw e
+    (placed-rest f entry n more h (omega arith)
+    ∙ keep-next f (n + more) entry (placed (tab f (n + more)) entry) 0 refl (omega arith) (h (n + more) (omega arith)))
+
+over-zeros : (f g : ℕ → ℕ) (n count : ℕ) → n ≤ count → ((k : ℕ) → k < n → f k ≡ g k) → ((k : ℕ) → n ≤ k → g k ≡ 0)
+    → placed (tab f n) (replicate count 0) ≡ tab g count
+over-zeros f g n count l same none =
+    let e : n + (count - n) ≡ count = omega arith in
+    let zeros : List ℕ = replicate count 0 in
+    let long : length zeros ≡ count = length-replicate count 0 in
+    rw (tab-ext f g n same)
+    (placed-rest g zeros n (count - n) (λ k h. getD-replicate-default count k 0 ∙ sym (none k h)) (omega (arith, long))
+    ∙ rw e (placed-all (tab g count) zeros (length-tab g count ∙ sym long)))
+
+pub inputs-started : {n base count : ℕ} {clearZeros clearOnes zeros ones : List ℕ} → n ≤ count → clearZeros ≡ replicate count 0
+    → clearOnes ≡ replicate count 0 → InputsPut n base clearZeros clearOnes zeros ones → Started n base count zeros ones
+unfolding nothing
+inputs-started {n} {base} {count} l cz co s =
+    record {
+      zerosAre =
+          s .zerosAre
+          ∙ rw cz
+          (over-zeros (λ k. inputPair n base k .zeros) (λ k. startPair n base k .zeros) n count l
+          (λ k h. ap (λ (p : Pair). p .zeros) (sym (startPair-input n base k h))) (λ k h. ap (λ (p : Pair). p .zeros) (startPair-gate n base k h)));
+      onesAre =
+          s .onesAre
+          ∙ rw co
+          (over-zeros (λ k. inputPair n base k .ones) (λ k. startPair n base k .ones) n count l
+          (λ k h. ap (λ (p : Pair). p .ones) (sym (startPair-input n base k h))) (λ k h. ap (λ (p : Pair). p .ones) (startPair-gate n base k h)));
+    }
 
 -- ---- sweeps
 
@@ -230,6 +268,27 @@ module _ {ws : List ℕ} {n gates : ℕ} (legible : Legible ws n gates) (few : n
           differ-yes (p .zeros) (getD zeros (n + j) 0) (p .ones) (getD ones (n + j) 0) h
           (ez ∙ ap (λ (q : Pair). q .zeros) was ∙ zeros-at zeros ones (n + j)) (eo ∙ ap (λ (q : Pair). q .ones) was ∙ ones-at zeros ones (n + j))
 
+-- several gates, one after the other
+module _ {ws : List ℕ} {n gates : ℕ} {zeros ones : List ℕ} where
+  pub walked-zeros : {js zeros′ ones′ : List ℕ} {changed : Bool} → Walked ws n gates zeros ones js zeros′ ones′ changed → length zeros′ ≡ length zeros
+  walked-zeros noGate = refl
+  walked-zeros (gateMore {zerosMid = mid} w j l e) = rw (e .zerosAre) (length-set mid (n + j) _) ∙ walked-zeros w
+
+  pub walked-ones : {js zeros′ ones′ : List ℕ} {changed : Bool} → Walked ws n gates zeros ones js zeros′ ones′ changed → length ones′ ≡ length ones
+  walked-ones noGate = refl
+  walked-ones (gateMore {onesMid = mid} w j l e) = rw (e .onesAre) (length-set mid (n + j) _) ∙ walked-ones w
+
+  pub walked-long : {b : Block} {js zeros′ ones′ : List ℕ} {changed : Bool} → Walked ws n gates zeros ones js zeros′ ones′ changed
+      → NodesLong b n zeros ones → NodesLong b n zeros′ ones′
+  walked-long w h = record { zerosLong = walked-zeros w ∙ h .zerosLong; onesLong = walked-ones w ∙ h .onesLong }
+
+  pub walked-swept : {js zeros′ ones′ : List ℕ} {changed : Bool} → Legible ws n gates → n ≤ maxInputs → BatchUnderway (decode ws) n zeros ones
+      → Walked ws n gates zeros ones js zeros′ ones′ changed → BatchSwept (decode ws) n js zeros ones zeros′ ones′ changed
+  walked-swept legible few u noGate = batch-none u
+  walked-swept legible few u (gateMore w j l e) =
+      let s = walked-swept legible few u w in
+      batch-then j s (batch-one legible few j l (batch-underway u s) e)
+
 -- ---- the order, there and back
 
 pub placeOf-inside : (back : Bool) (count i : ℕ) → i < count → placeOf back count i < count
@@ -242,15 +301,20 @@ unfolding placeOf
 placeOf-twice true count i l = omega arith
 placeOf-twice false count i l = refl
 
-module _ {m : ℕ} {order : List ℕ} (back : Bool) (v : Visits m order) where
-  pub along-inside : (i : ℕ) → i < length order → getD order (placeOf back (length order) i) 0 < m
-  along-inside i l = v .inside (placeOf back (length order) i) (placeOf-inside back (length order) i l)
+-- there is the order itself
+pub along-there : (order : List ℕ) → along false order ≡ order
+unfolding along placeOf
+along-there order = tab-getD 0 order (length order) refl
 
+pub along-inside : {m : ℕ} (order : List ℕ) (back : Bool) → Inside m order → (i : ℕ) → i < length order → getD order (placeOf back (length order) i) 0 < m
+along-inside order back v i l = v (placeOf back (length order) i) (placeOf-inside back (length order) i l)
+
+module _ {m : ℕ} {order : List ℕ} (back : Bool) (v : Visits m order) where
   pub along-visits : Visits m (along back order)
   unfolding along
   along-visits =
       record {
-        inside = λ i l. let h : i < length order = rw (length-tab f (length order)) at l in rw (getD-tab f (length order) i 0 h) (along-inside i h);
+        inside = λ i l. let h : i < length order = rw (length-tab f (length order)) at l in rw (getD-tab f (length order) i 0 h) (along-inside order back (v .inside) i h);
         every = found;
       }
     where
