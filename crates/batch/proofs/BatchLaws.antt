@@ -3,7 +3,8 @@
 --   gatePair-evaluated, evaluated-gates, -inputs        one gate, from its words
 --   batch-none, batch-one, batch-then, batch-underway   sweeps
 --   walked-zeros, -ones, -long, -swept several gates, one after the other
---   batch-settled, batch-decided       what the last sweep leaves
+--   advanced-swept, -still, -decided, -then, settled-batch   what sweeps leave on the way, and the last one
+--   inside-take, inside-drop           parts of the order
 --   along-there, along-inside, along-visits             the order, there and back
 -- Assumes nothing.
 use mathlib.Core.Path.{_≡_, refl, sym, ap, ap₂, _∙_}
@@ -15,8 +16,8 @@ use native.Mathlib.Omega.{arith}
 use borrow.Author.Tests.{lt-ltb, le-ltb, eq-eqb, eqb-true}
 use lib.Bits.{bitOr}
 use lib.Dec.{eqb, ltb}
-use lib.ListN.{length, getD, set, replicate, length-set, length-replicate}
-use lib.Seq.{ext-getD}
+use lib.ListN.{length, getD, set, take, drop, replicate, length-set, length-take, length-drop, length-replicate}
+use lib.Seq.{ext-getD, getD-take, getD-drop}
 use Rattle.laws.specs.Lists.{tab, placed, member}
 use Rattle.laws.proofs.Tests.{lt-or-le, or-neither, or-cases}
 use Rattle.laws.proofs.Tab.{length-tab, getD-tab, tab-ext, tab-getD, keep-next, placed-all}
@@ -42,7 +43,7 @@ use Rattle.lanes.specs.Nodes.{pairAt, inputsIn, gatesIn, gatePairAt}
 use Rattle.lanes.proofs.LaneLaws.{nothing-lane, nothing-proper}
 use Rattle.lanes.proofs.InputLaws.{inputPairs-proper, inputPairs-lane}
 use Rattle.lanes.proofs.NodeLaws.{gatePairAt-evaluated, head-legal, set-inputs, set-gates}
-use Rattle.batch.specs.Batch.{NodesLong, Inside, gatePair, Evaluated, Walked, noGate, gateMore, BatchUnderway, BatchSwept, BatchSettled, Decided}
+use Rattle.batch.specs.Batch.{NodesLong, Inside, gatePair, Evaluated, Walked, noGate, gateMore, BatchUnderway, BatchSwept, BatchSettled, Decided, Advanced}
 use Rattle.batch.specs.Batch.{InputsPut, Started, startPair, placeOf, along}
 use Rattle.batch.proofs.Sweeping.{swept-none, swept-one, swept-then, swept-underway, swept-settled, defined-settled}
 
@@ -331,7 +332,7 @@ module _ {m : ℕ} {order : List ℕ} (back : Bool) (v : Visits m order) where
 
 -- ---- the end
 
-settled-batch : {b : Block} {n base : ℕ} {zeros ones : List ℕ} → n ≡ inputCount b → base % 64 ≡ 0 → inputsIn n zeros ones ≡ inputPairs n base
+pub settled-batch : {b : Block} {n base : ℕ} {zeros ones : List ℕ} → n ≡ inputCount b → base % 64 ≡ 0 → inputsIn n zeros ones ≡ inputPairs n base
     → BatchUnderway b n zeros ones
     → ((i : ℕ) → i < lanesOf n → map (lane i) (gatesIn n (gateCount b) zeros ones) ≡ settled b (map (lane i) (inputsIn n zeros ones)))
     → BatchSettled b n base zeros ones
@@ -347,21 +348,48 @@ settled-batch {b} {n} {base} many aligned x u values =
           values i l ∙ ap (settled b) (ap (map (lane i)) x ∙ inputPairs-lane n base aligned i l ∙ ap (λ (k : ℕ). settingOf k (base + i)) many);
     }
 
--- a sweep over all gates that changes nothing
-pub batch-settled : {b : Block} {n base : ℕ} {order zeros ones zeros′ ones′ : List ℕ} {changed : Bool} → Visits (gateCount b) order → n ≡ inputCount b
-    → base % 64 ≡ 0 → inputsIn n zeros ones ≡ inputPairs n base → BatchUnderway b n zeros ones → BatchSwept b n order zeros ones zeros′ ones′ changed
-    → changed ≡ false → BatchSettled b n base zeros′ ones′
-batch-settled v many aligned x u s none =
-    settled-batch many aligned (s .inputsKept ∙ x) (batch-underway u s) (λ i l. rw (s .inputsKept) (swept-settled v (u .underway) (s .swept) none i l))
+-- gates were evaluated, and nothing is told
+pub advanced-swept : {b : Block} {n : ℕ} {js zeros ones zeros′ ones′ : List ℕ} {changed : Bool} → BatchUnderway b n zeros ones
+    → BatchSwept b n js zeros ones zeros′ ones′ changed → Advanced b n zeros ones zeros′ ones′ false
+advanced-swept u s = record { underway = batch-underway u s; inputsKept = s .inputsKept; settledLanes = λ e. absurd (false≢true e) }
 
--- no lane is undefined any more
-pub batch-decided : {b : Block} {n base used : ℕ} {zeros ones : List ℕ} → n ≡ inputCount b → base % 64 ≡ 0 → inputsIn n zeros ones ≡ inputPairs n base
-    → BatchUnderway b n zeros ones → used ≡ full (lanesOf n) → Decided used zeros ones → BatchSettled b n base zeros ones
+-- a sweep over all gates that changes nothing
+pub advanced-still : {b : Block} {n : ℕ} {order zeros ones zeros′ ones′ : List ℕ} {changed : Bool} → Visits (gateCount b) order → BatchUnderway b n zeros ones
+    → BatchSwept b n order zeros ones zeros′ ones′ changed → changed ≡ false → Advanced b n zeros ones zeros′ ones′ true
+advanced-still v u s none =
+    record {
+      underway = batch-underway u s;
+      inputsKept = s .inputsKept;
+      settledLanes = λ e i l. rw (s .inputsKept) (swept-settled v (u .underway) (s .swept) none i l);
+    }
+
+-- no lane is undefined any more, where that is told
+pub advanced-decided : {b : Block} {n used : ℕ} {zeros ones zeros′ ones′ : List ℕ} (done : Bool) → Advanced b n zeros ones zeros′ ones′ false
+    → used ≡ full (lanesOf n) → (done ≡ true → Decided used zeros′ ones′) → Advanced b n zeros ones zeros′ ones′ done
 unfolding gatesIn pairAt
-batch-decided {b} {n} {base} {used} {zeros} {ones} many aligned x u inUse d =
-    settled-batch many aligned x u (defined-settled (u .underway) each)
+advanced-decided {b} {n} {used} {zeros} {ones} {zeros′} {ones′} done a inUse d =
+    record {
+      underway = a .underway;
+      inputsKept = a .inputsKept;
+      settledLanes = λ e. defined-settled (a .underway .underway) (each (d e));
+    }
   where
-    each : (j : ℕ) → j < gateCount b → let p = getD (gatesIn n (gateCount b) zeros ones) j nothing in bitOr (p .zeros) (p .ones) ≡ full (lanesOf n)
-    each j l =
-        let there : n + j < length zeros = omega (arith, u .zerosLong) in
-        rw (getD-tab (λ j. pairAt zeros ones (n + j)) (gateCount b) j nothing l) (d .each (n + j) there ∙ inUse)
+    each : Decided used zeros′ ones′ → (j : ℕ) → j < gateCount b
+        → let p = getD (gatesIn n (gateCount b) zeros′ ones′) j nothing in bitOr (p .zeros) (p .ones) ≡ full (lanesOf n)
+    each t j l =
+        let there : n + j < length zeros′ = omega (arith, a .underway .zerosLong) in
+        rw (getD-tab (λ j. pairAt zeros′ ones′ (n + j)) (gateCount b) j nothing l) (t .each (n + j) there ∙ inUse)
+
+-- one after the other
+pub advanced-then : {b : Block} {n : ℕ} {zeros ones zeros′ ones′ zeros″ ones″ : List ℕ} {r s : Bool} → Advanced b n zeros ones zeros′ ones′ r
+    → Advanced b n zeros′ ones′ zeros″ ones″ s → Advanced b n zeros ones zeros″ ones″ s
+advanced-then f g = record { underway = g .underway; inputsKept = g .inputsKept ∙ f .inputsKept; settledLanes = g .settledLanes }
+
+-- a part of the order names gates too
+pub inside-take : {m : ℕ} (order : List ℕ) (k : ℕ) → Inside m order → Inside m (take k order)
+inside-take order k v i l =
+    let few = length-take k order in
+    rw (getD-take k order i 0 (omega (arith, few, l))) (v i (omega (arith, few, l)))
+
+pub inside-drop : {m : ℕ} (order : List ℕ) (k : ℕ) → Inside m order → Inside m (drop k order)
+inside-drop order k v i l = let few = length-drop k order in rw (getD-drop k order i 0) (v (k + i) (omega (arith, few, l)))

@@ -3,6 +3,7 @@
 --   Decidable, NodesLong     what deciding a batch asks
 --   gatePair, Evaluated, Walked   a gate's pair from its words, and what a single step and several leave
 --   BatchUnderway, BatchSwept, BatchSettled   the same in the two slices of words
+--   Sweepable, Advanced, roomIn   what a sweep asks and leaves, and how much can still change
 --   Decided                  nothing can change any more
 --   startPair, along         the first pair of each node; the order, there or back
 -- Assumes nothing.
@@ -97,6 +98,24 @@ pub record BatchSwept (b : Block) (n : ℕ) (js zeros ones zerosAfter onesAfter 
   pub onesLong : length onesAfter ≡ length ones
   pub inputsKept : inputsIn n zerosAfter onesAfter ≡ inputsIn n zeros ones
   pub swept : Swept b (lanesOf n) (inputsIn n zeros ones) js (gatesIn n (gateCount b) zeros ones) (gatesIn n (gateCount b) zerosAfter onesAfter) changed
+
+-- what a sweep over all gates asks, but for the pairs
+pub record Sweepable (ws : List ℕ) (n gates used : ℕ) (order : List ℕ) : Type 0 where
+  pub legible : Legible ws n gates
+  pub visits : Visits (gateCount (decode ws)) order
+  pub fewInputs : n ≤ maxInputs
+  pub usedIs : used ≡ full (lanesOf n)
+
+-- gates were evaluated, and where `done` is told, every gate has its settled value at every lane
+pub record Advanced (b : Block) (n : ℕ) (zeros ones zerosAfter onesAfter : List ℕ) (done : Bool) : Type 0 where
+  pub underway : BatchUnderway b n zerosAfter onesAfter
+  pub inputsKept : inputsIn n zerosAfter onesAfter ≡ inputsIn n zeros ones
+  pub settledLanes : done ≡ true → (s : ℕ) → s < lanesOf n
+      → map (lane s) (gatesIn n (gateCount b) zerosAfter onesAfter) ≡ settled b (map (lane s) (inputsIn n zerosAfter onesAfter))
+
+-- how far the words of the gates are from their greatest
+unfoldable pub roomIn : Block → ℕ → List ℕ → List ℕ → ℕ
+roomIn b n zeros ones = room (lanesOf n) (gatesIn n (gateCount b) zeros ones)
 
 -- at every lane in use the inputs have the values of that setting and the gates their settled values; no other lane has a bit
 pub record BatchSettled (b : Block) (n base : ℕ) (zeros ones : List ℕ) : Type 0 where
