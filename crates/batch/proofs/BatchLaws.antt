@@ -1,9 +1,11 @@
 -- Batches in two slices of words: the start, a gate's step, a step more, and the end.
---   started-underway, started-inputs   the first pairs
+--   inputs-started, started-underway, started-inputs    the first pairs
 --   gatePair-evaluated, evaluated-gates, -inputs        one gate, from its words
 --   batch-none, batch-one, batch-then, batch-underway   sweeps
---   batch-settled, batch-decided       what the last sweep leaves
---   along-inside, along-visits         the order, there and back
+--   walked-zeros, -ones, -long, -swept several gates, one after the other
+--   advanced-swept, -still, -decided, -then, settled-batch   what sweeps leave on the way, and the last one
+--   inside-take, inside-drop           parts of the order
+--   along-there, along-inside, along-visits             the order, there and back
 -- Assumes nothing.
 use mathlib.Core.Path.{_≡_, refl, sym, ap, ap₂, _∙_}
 use mathlib.Core.Logic.{⊎-elim}
@@ -14,11 +16,11 @@ use native.Mathlib.Omega.{arith}
 use borrow.Author.Tests.{lt-ltb, le-ltb, eq-eqb, eqb-true}
 use lib.Bits.{bitOr}
 use lib.Dec.{eqb, ltb}
-use lib.ListN.{length, getD, set, replicate, length-set, length-replicate}
-use lib.Seq.{ext-getD}
-use Rattle.laws.specs.Lists.{tab, member}
+use lib.ListN.{length, getD, set, take, drop, replicate, length-set, length-take, length-drop, length-replicate}
+use lib.Seq.{ext-getD, getD-take, getD-drop}
+use Rattle.laws.specs.Lists.{tab, placed, member}
 use Rattle.laws.proofs.Tests.{lt-or-le, or-neither, or-cases}
-use Rattle.laws.proofs.Tab.{length-tab, getD-tab, tab-ext}
+use Rattle.laws.proofs.Tab.{length-tab, getD-tab, tab-ext, tab-getD, keep-next, placed-all}
 use Rattle.laws.proofs.Lists.{map-replicate}
 use Rattle.laws.proofs.Quantifiers.{member-at, member-from}
 use Rattle.netlist.specs.Values.{Value, undefined}
@@ -41,8 +43,8 @@ use Rattle.lanes.specs.Nodes.{pairAt, inputsIn, gatesIn, gatePairAt}
 use Rattle.lanes.proofs.LaneLaws.{nothing-lane, nothing-proper}
 use Rattle.lanes.proofs.InputLaws.{inputPairs-proper, inputPairs-lane}
 use Rattle.lanes.proofs.NodeLaws.{gatePairAt-evaluated, head-legal, set-inputs, set-gates}
-use Rattle.batch.specs.Batch.{NodesLong, gatePair, Evaluated, BatchUnderway, BatchSwept, BatchSettled, Decided}
-use Rattle.batch.specs.Batch.{Started, startPair, placeOf, along}
+use Rattle.batch.specs.Batch.{NodesLong, Inside, gatePair, Evaluated, Walked, noGate, gateMore, BatchUnderway, BatchSwept, BatchSettled, Decided, Advanced}
+use Rattle.batch.specs.Batch.{InputsPut, Started, startPair, placeOf, along}
 use Rattle.batch.proofs.Sweeping.{swept-none, swept-one, swept-then, swept-underway, swept-settled, defined-settled}
 
 -- ---- the start
@@ -96,6 +98,43 @@ module _ (n base : ℕ) where
                 below = λ i l. rw (values i) (start-below-settled b (map (lane i) x));
               });
         }
+
+-- every word 0, and then the inputs' pairs
+placed-rest : (f : ℕ → ℕ) (entry : List ℕ) (n more : ℕ) → ((k : ℕ) → n ≤ k → getD entry k 0 ≡ f k) → n + more ≤ length entry
+    → placed (tab f n) entry ≡ placed (tab f (n + more)) entry
+placed-rest f entry n zero h l = let e : n + 0 ≡ n = omega arith in rw e
+placed-rest f entry n (suc more) h l =
+    let e : n + suc more ≡ n + more + 1 = omega arith in
+    rw e
+    (placed-rest f entry n more h (omega arith)
+    ∙ keep-next f (n + more) entry (placed (tab f (n + more)) entry) 0 refl (omega arith) (h (n + more) (omega arith)))
+
+over-zeros : (f g : ℕ → ℕ) (n count : ℕ) → n ≤ count → ((k : ℕ) → k < n → f k ≡ g k) → ((k : ℕ) → n ≤ k → g k ≡ 0)
+    → placed (tab f n) (replicate count 0) ≡ tab g count
+over-zeros f g n count l same none =
+    let e : n + (count - n) ≡ count = omega arith in
+    let zeros : List ℕ = replicate count 0 in
+    let long : length zeros ≡ count = length-replicate count 0 in
+    rw (tab-ext f g n same)
+    (placed-rest g zeros n (count - n) (λ k h. getD-replicate-default count k 0 ∙ sym (none k h)) (omega (arith, long))
+    ∙ rw e (placed-all (tab g count) zeros (length-tab g count ∙ sym long)))
+
+pub inputs-started : {n base count : ℕ} {clearZeros clearOnes zeros ones : List ℕ} → n ≤ count → clearZeros ≡ replicate count 0
+    → clearOnes ≡ replicate count 0 → InputsPut n base clearZeros clearOnes zeros ones → Started n base count zeros ones
+unfolding nothing
+inputs-started {n} {base} {count} l cz co s =
+    record {
+      zerosAre =
+          s .zerosAre
+          ∙ rw cz
+          (over-zeros (λ k. inputPair n base k .zeros) (λ k. startPair n base k .zeros) n count l
+          (λ k h. ap (λ (p : Pair). p .zeros) (sym (startPair-input n base k h))) (λ k h. ap (λ (p : Pair). p .zeros) (startPair-gate n base k h)));
+      onesAre =
+          s .onesAre
+          ∙ rw co
+          (over-zeros (λ k. inputPair n base k .ones) (λ k. startPair n base k .ones) n count l
+          (λ k h. ap (λ (p : Pair). p .ones) (sym (startPair-input n base k h))) (λ k h. ap (λ (p : Pair). p .ones) (startPair-gate n base k h)));
+    }
 
 -- ---- sweeps
 
@@ -230,6 +269,27 @@ module _ {ws : List ℕ} {n gates : ℕ} (legible : Legible ws n gates) (few : n
           differ-yes (p .zeros) (getD zeros (n + j) 0) (p .ones) (getD ones (n + j) 0) h
           (ez ∙ ap (λ (q : Pair). q .zeros) was ∙ zeros-at zeros ones (n + j)) (eo ∙ ap (λ (q : Pair). q .ones) was ∙ ones-at zeros ones (n + j))
 
+-- several gates, one after the other
+module _ {ws : List ℕ} {n gates : ℕ} {zeros ones : List ℕ} where
+  pub walked-zeros : {js zeros′ ones′ : List ℕ} {changed : Bool} → Walked ws n gates zeros ones js zeros′ ones′ changed → length zeros′ ≡ length zeros
+  walked-zeros noGate = refl
+  walked-zeros (gateMore {zerosMid = mid} w j l e) = rw (e .zerosAre) (length-set mid (n + j) _) ∙ walked-zeros w
+
+  pub walked-ones : {js zeros′ ones′ : List ℕ} {changed : Bool} → Walked ws n gates zeros ones js zeros′ ones′ changed → length ones′ ≡ length ones
+  walked-ones noGate = refl
+  walked-ones (gateMore {onesMid = mid} w j l e) = rw (e .onesAre) (length-set mid (n + j) _) ∙ walked-ones w
+
+  pub walked-long : {b : Block} {js zeros′ ones′ : List ℕ} {changed : Bool} → Walked ws n gates zeros ones js zeros′ ones′ changed
+      → NodesLong b n zeros ones → NodesLong b n zeros′ ones′
+  walked-long w h = record { zerosLong = walked-zeros w ∙ h .zerosLong; onesLong = walked-ones w ∙ h .onesLong }
+
+  pub walked-swept : {js zeros′ ones′ : List ℕ} {changed : Bool} → Legible ws n gates → n ≤ maxInputs → BatchUnderway (decode ws) n zeros ones
+      → Walked ws n gates zeros ones js zeros′ ones′ changed → BatchSwept (decode ws) n js zeros ones zeros′ ones′ changed
+  walked-swept legible few u noGate = batch-none u
+  walked-swept legible few u (gateMore w j l e) =
+      let s = walked-swept legible few u w in
+      batch-then j s (batch-one legible few j l (batch-underway u s) e)
+
 -- ---- the order, there and back
 
 pub placeOf-inside : (back : Bool) (count i : ℕ) → i < count → placeOf back count i < count
@@ -242,15 +302,20 @@ unfolding placeOf
 placeOf-twice true count i l = omega arith
 placeOf-twice false count i l = refl
 
-module _ {m : ℕ} {order : List ℕ} (back : Bool) (v : Visits m order) where
-  pub along-inside : (i : ℕ) → i < length order → getD order (placeOf back (length order) i) 0 < m
-  along-inside i l = v .inside (placeOf back (length order) i) (placeOf-inside back (length order) i l)
+-- there is the order itself
+pub along-there : (order : List ℕ) → along false order ≡ order
+unfolding along placeOf
+along-there order = tab-getD 0 order (length order) refl
 
+pub along-inside : {m : ℕ} (order : List ℕ) (back : Bool) → Inside m order → (i : ℕ) → i < length order → getD order (placeOf back (length order) i) 0 < m
+along-inside order back v i l = v (placeOf back (length order) i) (placeOf-inside back (length order) i l)
+
+module _ {m : ℕ} {order : List ℕ} (back : Bool) (v : Visits m order) where
   pub along-visits : Visits m (along back order)
   unfolding along
   along-visits =
       record {
-        inside = λ i l. let h : i < length order = rw (length-tab f (length order)) at l in rw (getD-tab f (length order) i 0 h) (along-inside i h);
+        inside = λ i l. let h : i < length order = rw (length-tab f (length order)) at l in rw (getD-tab f (length order) i 0 h) (along-inside order back (v .inside) i h);
         every = found;
       }
     where
@@ -267,7 +332,7 @@ module _ {m : ℕ} {order : List ℕ} (back : Bool) (v : Visits m order) where
 
 -- ---- the end
 
-settled-batch : {b : Block} {n base : ℕ} {zeros ones : List ℕ} → n ≡ inputCount b → base % 64 ≡ 0 → inputsIn n zeros ones ≡ inputPairs n base
+pub settled-batch : {b : Block} {n base : ℕ} {zeros ones : List ℕ} → n ≡ inputCount b → base % 64 ≡ 0 → inputsIn n zeros ones ≡ inputPairs n base
     → BatchUnderway b n zeros ones
     → ((i : ℕ) → i < lanesOf n → map (lane i) (gatesIn n (gateCount b) zeros ones) ≡ settled b (map (lane i) (inputsIn n zeros ones)))
     → BatchSettled b n base zeros ones
@@ -283,21 +348,48 @@ settled-batch {b} {n} {base} many aligned x u values =
           values i l ∙ ap (settled b) (ap (map (lane i)) x ∙ inputPairs-lane n base aligned i l ∙ ap (λ (k : ℕ). settingOf k (base + i)) many);
     }
 
--- a sweep over all gates that changes nothing
-pub batch-settled : {b : Block} {n base : ℕ} {order zeros ones zeros′ ones′ : List ℕ} {changed : Bool} → Visits (gateCount b) order → n ≡ inputCount b
-    → base % 64 ≡ 0 → inputsIn n zeros ones ≡ inputPairs n base → BatchUnderway b n zeros ones → BatchSwept b n order zeros ones zeros′ ones′ changed
-    → changed ≡ false → BatchSettled b n base zeros′ ones′
-batch-settled v many aligned x u s none =
-    settled-batch many aligned (s .inputsKept ∙ x) (batch-underway u s) (λ i l. rw (s .inputsKept) (swept-settled v (u .underway) (s .swept) none i l))
+-- gates were evaluated, and nothing is told
+pub advanced-swept : {b : Block} {n : ℕ} {js zeros ones zeros′ ones′ : List ℕ} {changed : Bool} → BatchUnderway b n zeros ones
+    → BatchSwept b n js zeros ones zeros′ ones′ changed → Advanced b n zeros ones zeros′ ones′ false
+advanced-swept u s = record { underway = batch-underway u s; inputsKept = s .inputsKept; settledLanes = λ e. absurd (false≢true e) }
 
--- no lane is undefined any more
-pub batch-decided : {b : Block} {n base used : ℕ} {zeros ones : List ℕ} → n ≡ inputCount b → base % 64 ≡ 0 → inputsIn n zeros ones ≡ inputPairs n base
-    → BatchUnderway b n zeros ones → used ≡ full (lanesOf n) → Decided used zeros ones → BatchSettled b n base zeros ones
+-- a sweep over all gates that changes nothing
+pub advanced-still : {b : Block} {n : ℕ} {order zeros ones zeros′ ones′ : List ℕ} {changed : Bool} → Visits (gateCount b) order → BatchUnderway b n zeros ones
+    → BatchSwept b n order zeros ones zeros′ ones′ changed → changed ≡ false → Advanced b n zeros ones zeros′ ones′ true
+advanced-still v u s none =
+    record {
+      underway = batch-underway u s;
+      inputsKept = s .inputsKept;
+      settledLanes = λ e i l. rw (s .inputsKept) (swept-settled v (u .underway) (s .swept) none i l);
+    }
+
+-- no lane is undefined any more, where that is told
+pub advanced-decided : {b : Block} {n used : ℕ} {zeros ones zeros′ ones′ : List ℕ} (done : Bool) → Advanced b n zeros ones zeros′ ones′ false
+    → used ≡ full (lanesOf n) → (done ≡ true → Decided used zeros′ ones′) → Advanced b n zeros ones zeros′ ones′ done
 unfolding gatesIn pairAt
-batch-decided {b} {n} {base} {used} {zeros} {ones} many aligned x u inUse d =
-    settled-batch many aligned x u (defined-settled (u .underway) each)
+advanced-decided {b} {n} {used} {zeros} {ones} {zeros′} {ones′} done a inUse d =
+    record {
+      underway = a .underway;
+      inputsKept = a .inputsKept;
+      settledLanes = λ e. defined-settled (a .underway .underway) (each (d e));
+    }
   where
-    each : (j : ℕ) → j < gateCount b → let p = getD (gatesIn n (gateCount b) zeros ones) j nothing in bitOr (p .zeros) (p .ones) ≡ full (lanesOf n)
-    each j l =
-        let there : n + j < length zeros = omega (arith, u .zerosLong) in
-        rw (getD-tab (λ j. pairAt zeros ones (n + j)) (gateCount b) j nothing l) (d .each (n + j) there ∙ inUse)
+    each : Decided used zeros′ ones′ → (j : ℕ) → j < gateCount b
+        → let p = getD (gatesIn n (gateCount b) zeros′ ones′) j nothing in bitOr (p .zeros) (p .ones) ≡ full (lanesOf n)
+    each t j l =
+        let there : n + j < length zeros′ = omega (arith, a .underway .zerosLong) in
+        rw (getD-tab (λ j. pairAt zeros′ ones′ (n + j)) (gateCount b) j nothing l) (t .each (n + j) there ∙ inUse)
+
+-- one after the other
+pub advanced-then : {b : Block} {n : ℕ} {zeros ones zeros′ ones′ zeros″ ones″ : List ℕ} {r s : Bool} → Advanced b n zeros ones zeros′ ones′ r
+    → Advanced b n zeros′ ones′ zeros″ ones″ s → Advanced b n zeros ones zeros″ ones″ s
+advanced-then f g = record { underway = g .underway; inputsKept = g .inputsKept ∙ f .inputsKept; settledLanes = g .settledLanes }
+
+-- a part of the order names gates too
+pub inside-take : {m : ℕ} (order : List ℕ) (k : ℕ) → Inside m order → Inside m (take k order)
+inside-take order k v i l =
+    let few = length-take k order in
+    rw (getD-take k order i 0 (omega (arith, few, l))) (v i (omega (arith, few, l)))
+
+pub inside-drop : {m : ℕ} (order : List ℕ) (k : ℕ) → Inside m order → Inside m (drop k order)
+inside-drop order k v i l = let few = length-drop k order in rw (getD-drop k order i 0) (v (k + i) (omega (arith, few, l)))

@@ -1,19 +1,20 @@
 -- A batch of settings decided in place: what the slices hold on the way, what a sweep leaves, and what is decided at the end.
 --   Underway, Swept          pairs of the gates on the way to the settled values, and after a list of gates was evaluated
 --   Decidable, NodesLong     what deciding a batch asks
---   gatePair, Evaluated      a gate's pair from its words, and what a single step leaves
+--   gatePair, Evaluated, Walked   a gate's pair from its words, and what a single step and several leave
 --   BatchUnderway, BatchSwept, BatchSettled   the same in the two slices of words
+--   Sweepable, Advanced, roomIn   what a sweep asks and leaves, and how much can still change
 --   Decided                  nothing can change any more
 --   startPair, along         the first pair of each node; the order, there or back
 -- Assumes nothing.
 use mathlib.Core.Path.{_≡_}
 use mathlib.Core.Bool.{Bool, true, false, cond, not, _||_}
-use mathlib.Core.List.{List, [], _∷_, map}
+use mathlib.Core.List.{List, [], _∷_, _++_, map}
 use Prim.Native.Nat.{ℕ, _+_, _-_, _*_, _%_, _^_, _≤_, _<_}
 use lib.Bits.{bitOr}
 use lib.Dec.{eqb, ltb}
 use lib.ListN.{length, getD, set}
-use Rattle.laws.specs.Lists.{tab}
+use Rattle.laws.specs.Lists.{tab, placed}
 use Rattle.netlist.specs.Limits.{maxInputs}
 use Rattle.netlist.specs.Netlist.{Block, inputCount, gateCount}
 use Rattle.netlist.specs.StoredBlock.{gateSize, decode}
@@ -76,6 +77,17 @@ pub record Evaluated (ws : List ℕ) (n gates j : ℕ) (zeros ones zerosAfter on
   pub changedIs : changed ≡ not (eqb (gatePair ws n gates j zeros ones .zeros) (getD zeros (n + j) 0))
       || not (eqb (gatePair ws n gates j zeros ones .ones) (getD ones (n + j) 0))
 
+-- each of the gates listed is one of m
+abbrev pub Inside : ℕ → List ℕ → Type 0
+Inside m order = (i : ℕ) → i < length order → getD order i 0 < m
+
+-- the gates listed were evaluated one after the other, each pair stored at once, and `changed` tells whether any is another
+pub data Walked (ws : List ℕ) (n gates : ℕ) (zeros ones : List ℕ) : List ℕ → List ℕ → List ℕ → Bool → Type 0 where
+  noGate : Walked ws n gates zeros ones [] zeros ones false
+  gateMore : {js zerosMid onesMid zerosAfter onesAfter : List ℕ} {r s : Bool} → Walked ws n gates zeros ones js zerosMid onesMid r → (j : ℕ)
+      → j < gateCount (decode ws) → Evaluated ws n gates j zerosMid onesMid zerosAfter onesAfter s
+      → Walked ws n gates zeros ones (js ++ (j ∷ [])) zerosAfter onesAfter (s || r)
+
 pub record BatchUnderway (b : Block) (n : ℕ) (zeros ones : List ℕ) : Type 0 where
   pub zerosLong : length zeros ≡ n + gateCount b
   pub onesLong : length ones ≡ n + gateCount b
@@ -86,6 +98,24 @@ pub record BatchSwept (b : Block) (n : ℕ) (js zeros ones zerosAfter onesAfter 
   pub onesLong : length onesAfter ≡ length ones
   pub inputsKept : inputsIn n zerosAfter onesAfter ≡ inputsIn n zeros ones
   pub swept : Swept b (lanesOf n) (inputsIn n zeros ones) js (gatesIn n (gateCount b) zeros ones) (gatesIn n (gateCount b) zerosAfter onesAfter) changed
+
+-- what a sweep over all gates asks, but for the pairs
+pub record Sweepable (ws : List ℕ) (n gates used : ℕ) (order : List ℕ) : Type 0 where
+  pub legible : Legible ws n gates
+  pub visits : Visits (gateCount (decode ws)) order
+  pub fewInputs : n ≤ maxInputs
+  pub usedIs : used ≡ full (lanesOf n)
+
+-- gates were evaluated, and where `done` is told, every gate has its settled value at every lane
+pub record Advanced (b : Block) (n : ℕ) (zeros ones zerosAfter onesAfter : List ℕ) (done : Bool) : Type 0 where
+  pub underway : BatchUnderway b n zerosAfter onesAfter
+  pub inputsKept : inputsIn n zerosAfter onesAfter ≡ inputsIn n zeros ones
+  pub settledLanes : done ≡ true → (s : ℕ) → s < lanesOf n
+      → map (lane s) (gatesIn n (gateCount b) zerosAfter onesAfter) ≡ settled b (map (lane s) (inputsIn n zerosAfter onesAfter))
+
+-- how far the words of the gates are from their greatest
+unfoldable pub roomIn : Block → ℕ → List ℕ → List ℕ → ℕ
+roomIn b n zeros ones = room (lanesOf n) (gatesIn n (gateCount b) zeros ones)
 
 -- at every lane in use the inputs have the values of that setting and the gates their settled values; no other lane has a bit
 pub record BatchSettled (b : Block) (n base : ℕ) (zeros ones : List ℕ) : Type 0 where
@@ -103,6 +133,11 @@ pub record Decided (used : ℕ) (zeros ones : List ℕ) : Type 0 where
 -- the pair of node k at first: an input's, or undefined at every lane
 unfoldable pub startPair : ℕ → ℕ → ℕ → Pair
 startPair n base k = cond (ltb k n) (inputPair n base k) nothing
+
+-- the inputs' pairs stand in front
+pub record InputsPut (n base : ℕ) (zeros ones zerosAfter onesAfter : List ℕ) : Type 0 where
+  pub zerosAre : zerosAfter ≡ placed (tab (λ k. inputPair n base k .zeros) n) zeros
+  pub onesAre : onesAfter ≡ placed (tab (λ k. inputPair n base k .ones) n) ones
 
 -- so many nodes, each with its first pair
 pub record Started (n base count : ℕ) (zeros ones : List ℕ) : Type 0 where

@@ -5,10 +5,9 @@ use lanes::inputs::input_pair;
 use lanes::inputs::used_lanes;
 use layout::offsets::GATE_SIZE;
 ghost use mathlib.Core.Path.{_≡_};
-ghost use mathlib.Core.Bool.{true};
+ghost use mathlib.Core.Bool.{true, false};
 ghost use Prim.Native.Nat.{_+_, _≤_, _<_, _%_};
-ghost use lib.ListN.{length};
-ghost use Rattle.laws.specs.Lists.{tab};
+ghost use lib.ListN.{length, replicate};
 ghost use Rattle.netlist.specs.Limits.{maxInputs};
 ghost use Rattle.netlist.specs.Netlist.{gateCount};
 ghost use Rattle.netlist.specs.StoredBlock.{decode};
@@ -16,36 +15,46 @@ ghost use Rattle.visiting.specs.Visits.{Visits};
 ghost use Rattle.batch.specs.Legible.{Legible};
 ghost use Rattle.lanes.specs.Pairs.{full};
 ghost use Rattle.lanes.specs.Batches.{lanesOf};
-ghost use Rattle.batch.specs.Batch.{Decidable, NodesLong, Evaluated, BatchUnderway, BatchSwept, BatchSettled, Decided};
-ghost use Rattle.batch.specs.Batch.{Started, startPair, placeOf, along};
+ghost use Rattle.batch.specs.Batch.{Decidable, NodesLong, Inside, Evaluated, Walked, BatchUnderway, BatchSettled, Decided};
+ghost use Rattle.batch.specs.Batch.{InputsPut, Started, placeOf, along, Sweepable, Advanced, roomIn};
 
-// The pair of node `k` at first.
-fn start_pair(n: usize, base: usize, k: usize) -> Pair
-    requires { ⌜ n ≤ maxInputs ⌝ }
-    ensures { λ r. ⌜ r ≡ startPair n base k ⌝ }
-{
-    if k < n {
-        return input_pair(n, base, k);
-    }
-    Pair { zeros: 0, ones: 0 }
-}
-
-// Every input's pair, and every gate undefined.
-pub fn start_batch(n: usize, base: usize, zeros: &mut [u64], ones: &mut [u64])
-    requires { ⌜ (n ≤ maxInputs) × (length (now zeros) ≡ length (now ones)) ⌝ }
-    ensures { λ r. ⌜ Started n base (length (now (zeros .entry))) (now (zeros .exit)) (now (ones .exit)) ⌝ }
+// Stores 0 in every word.
+fn clear(words: &mut [u64])
+    ensures { λ r. ⌜ now (words .exit) ≡ replicate (length (now (words .entry))) 0 ⌝ }
 {
     let mut k = 0;
-    while k < zeros.len() {
-        let pair = start_pair(n, base, k);
+    while k < words.len() {
+        words[k] = 0;
+        k += 1;
+    }
+}
+
+// Every input's pair.
+fn start_inputs(n: usize, base: usize, zeros: &mut [u64], ones: &mut [u64])
+    requires { ⌜ (n ≤ maxInputs) × (n ≤ length (now zeros)) × (length (now zeros) ≡ length (now ones)) ⌝ }
+    ensures { λ r. ⌜ InputsPut n base (now (zeros .entry)) (now (ones .entry)) (now (zeros .exit)) (now (ones .exit)) ⌝ }
+{
+    let mut k = 0;
+    while k < n {
+        let pair = input_pair(n, base, k);
         zeros[k] = pair.zeros;
         ones[k] = pair.ones;
         k += 1;
     }
 }
 
+// Every input's pair, and every gate undefined.
+pub fn start_batch(n: usize, base: usize, zeros: &mut [u64], ones: &mut [u64])
+    requires { ⌜ (n ≤ maxInputs) × (n ≤ length (now zeros)) × (length (now zeros) ≡ length (now ones)) ⌝ }
+    ensures { λ r. ⌜ Started n base (length (now (zeros .entry))) (now (zeros .exit)) (now (ones .exit)) ⌝ }
+{
+    clear(zeros);
+    clear(ones);
+    start_inputs(n, base, zeros, ones);
+}
+
 // Evaluates gate `j` and stores its pair; whether that is another.
-pub fn step(
+fn step(
     words: &[u16],
     n: usize,
     gates: usize,
@@ -79,7 +88,7 @@ fn place(back: bool, count: usize, i: usize) -> usize
 }
 
 // Evaluates the gates along `order`, or back along it, each pair stored at once; whether any changed.
-fn sweep(
+pub fn sweep(
     words: &[u16],
     n: usize,
     gates: usize,
@@ -89,10 +98,10 @@ fn sweep(
     zeros: &mut [u64],
     ones: &mut [u64],
 ) -> bool
-    requires { ⌜ Legible (now words) n gates × Visits (gateCount (decode (now words))) (now order) × (n ≤ maxInputs) × (used ≡ full (lanesOf n)) ⌝ }
-    requires { ⌜ BatchUnderway (decode (now words)) n (now zeros) (now ones) ⌝ }
+    requires { ⌜ Legible (now words) n gates × Inside (gateCount (decode (now words))) (now order) × (n ≤ maxInputs) × (used ≡ full (lanesOf n)) ⌝ }
+    requires { ⌜ NodesLong (decode (now words)) n (now zeros) (now ones) ⌝ }
     ensures { λ r. ⌜
-        BatchSwept (decode (now (words .entry))) n (along back (now (order .entry))) (now (zeros .entry)) (now (ones .entry)) (now (zeros .exit))
+        Walked (now (words .entry)) n gates (now (zeros .entry)) (now (ones .entry)) (along back (now (order .entry))) (now (zeros .exit))
         (now (ones .exit)) r
         ⌝ }
 {
@@ -122,8 +131,53 @@ fn is_decided(used: u64, zeros: &[u64], ones: &[u64]) -> bool
     true
 }
 
-// The settled values at every lane: sweeps until one changes nothing, or every lane is decided. The first two go there, since an order that enters a loop
-// at the wrong gate is right from the second on; then back and there by turns.
+// One sweep; whether nothing can change any more, since nothing changed or every lane is decided.
+fn sweep_decides(
+    words: &[u16],
+    n: usize,
+    gates: usize,
+    used: u64,
+    order: &[u16],
+    back: bool,
+    zeros: &mut [u64],
+    ones: &mut [u64],
+) -> bool
+    requires { ⌜ Sweepable (now words) n gates used (now order) × BatchUnderway (decode (now words)) n (now zeros) (now ones) ⌝ }
+    ensures { λ r. ⌜ Advanced (decode (now (words .entry))) n (now (zeros .entry)) (now (ones .entry)) (now (zeros .exit)) (now (ones .exit)) r ⌝ }
+    ensures { λ r. ⌜
+        (r ≡ false → roomIn (decode (now (words .entry))) n (now (zeros .exit)) (now (ones .exit))
+        < roomIn (decode (now (words .entry))) n (now (zeros .entry)) (now (ones .entry)))
+        ⌝ }
+{
+    if !sweep(words, n, gates, used, order, back, zeros, ones) {
+        return true;
+    }
+    is_decided(used, zeros, ones)
+}
+
+// A second sweep there. It goes on behind the middle only if something changed before it: an order that enters a loop at the wrong gate is right from the
+// second sweep on, and where a value runs against the order, the way back is shorter. Whether every lane is found decided.
+fn sweep_again(
+    words: &[u16],
+    n: usize,
+    gates: usize,
+    used: u64,
+    order: &[u16],
+    zeros: &mut [u64],
+    ones: &mut [u64],
+) -> bool
+    requires { ⌜ Sweepable (now words) n gates used (now order) × BatchUnderway (decode (now words)) n (now zeros) (now ones) ⌝ }
+    ensures { λ r. ⌜ Advanced (decode (now (words .entry))) n (now (zeros .entry)) (now (ones .entry)) (now (zeros .exit)) (now (ones .exit)) r ⌝ }
+{
+    let middle = order.len() / 2;
+    if !sweep(words, n, gates, used, &order[..middle], false, zeros, ones) {
+        return false;
+    }
+    sweep(words, n, gates, used, &order[middle..], false, zeros, ones);
+    is_decided(used, zeros, ones)
+}
+
+// The settled values at every lane: a sweep there, a second one, and then sweeps back and there by turns, until nothing can change any more.
 pub fn decide_batch(
     words: &[u16],
     n: usize,
@@ -138,13 +192,14 @@ pub fn decide_batch(
 {
     start_batch(n, base, zeros, ones);
     let used = used_lanes(n);
-    let mut back = false;
-    let mut again = true;
-    while sweep(words, n, gates, used, order, back, zeros, ones) {
-        if is_decided(used, zeros, ones) {
-            return;
-        }
-        back = !(back | again);
-        again = false;
+    if sweep_decides(words, n, gates, used, order, false, zeros, ones) {
+        return;
+    }
+    if sweep_again(words, n, gates, used, order, zeros, ones) {
+        return;
+    }
+    let mut back = true;
+    while !sweep_decides(words, n, gates, used, order, back, zeros, ones) {
+        back = !back;
     }
 }

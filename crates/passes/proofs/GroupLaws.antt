@@ -1,5 +1,5 @@
 -- One group's gates evaluated, pass after pass, on pairs of words.
---   stepped-none, -one, -then, -first    gates evaluated one after the other
+--   stepped-none, -one, -then, walked-stepped    gates evaluated one after the other
 --   settled-held, kept-put               the settled pairs, and those of the group put aside
 --   cleared-passed, passed-run, -more    no pass yet, so many, one more
 --   agree-settled                        the pairs agree at a lane exactly where the group is settled
@@ -36,12 +36,11 @@ use Rattle.lanes.specs.Batches.{lanesOf}
 use Rattle.lanes.specs.Nodes.{pairAt, inputsIn, gatesIn}
 use Rattle.lanes.proofs.LaneLaws.{nothing-lane, nothing-proper}
 use Rattle.lanes.proofs.RoundLaws.{getD-lane, evaluatedPair-lane, evaluatedPair-proper}
-use Rattle.batch.specs.Batch.{NodesLong, gatePair, Evaluated, BatchSettled}
+use Rattle.batch.specs.Batch.{NodesLong, gatePair, Evaluated, Walked, noGate, gateMore, BatchSettled}
 use Rattle.batch.proofs.Sweeping.{set-proper}
 use Rattle.batch.proofs.BatchLaws.{gate-legal, gatePair-evaluated, evaluated-gates, evaluated-inputs, evaluated-zeros, evaluated-ones, gatesIn-at}
 use Rattle.passes.specs.Pairs.{Apart, Put, ProperAt, agreeAt}
 use Rattle.passes.specs.Counting.{Evaluable, Held, Stepped, Passed, Kept}
-use Rattle.passes.proofs.PairLaws.{first-more, member-place}
 
 -- ---- gates evaluated one after the other
 
@@ -109,14 +108,13 @@ module _ {ws : List ℕ} {n gates : ℕ} (legible : Legible ws n gates) (few : n
           → lane s p ≡ evaluated (map (lane s) (inputsIn n zeros ones)) (map (lane s) (gatesIn n m zeros ones)) (gateOf (decode ws) j)
       value s k = rw is (evaluatedPair-lane (h .inputsProper) (h .gatesProper) s k (gateOf (decode ws) j) (gate-legal legible few j l))
 
--- one gate of the group more
-pub stepped-first : {ws : List ℕ} {n gates : ℕ} (group : List ℕ) (i : ℕ) {zeros ones zeros′ ones′ zeros″ ones″ : List ℕ} {changed : Bool} → i < length group
-    → Evaluable ws n gates group → Stepped (decode ws) n (take i group) zeros ones zeros′ ones′
-    → Evaluated ws n gates (getD group i 0) zeros′ ones′ zeros″ ones″ changed → Stepped (decode ws) n (take (i + 1) group) zeros ones zeros″ ones″
-stepped-first group i l v s e =
-    let j = getD group i 0 in
-    rw (first-more group i l)
-    (stepped-then s (stepped-one (v .legible) (v .fewInputs) j (v .there j (member-place group i l)) (s .held) e))
+-- several gates
+pub walked-stepped : {ws : List ℕ} {n gates : ℕ} {js zeros ones zeros′ ones′ : List ℕ} {changed : Bool} → Legible ws n gates → n ≤ maxInputs
+    → Held (decode ws) n zeros ones → Walked ws n gates zeros ones js zeros′ ones′ changed → Stepped (decode ws) n js zeros ones zeros′ ones′
+walked-stepped legible few h noGate = stepped-none h
+walked-stepped legible few h (gateMore w j l e) =
+    let s = walked-stepped legible few h w in
+    stepped-then s (stepped-one legible few j l (s .held) e)
 
 -- ---- nodes that are none of the group's gates
 

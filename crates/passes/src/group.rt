@@ -3,7 +3,7 @@
 use crate::Counted;
 use crate::pairs::lacks;
 use crate::pairs::put_pairs;
-use batch::in_place::step;
+use batch::in_place::sweep;
 use lanes::inputs::used_lanes;
 use layout::limits::MAX_GATES;
 ghost use mathlib.Core.Path.{_≡_};
@@ -31,11 +31,7 @@ fn pass(
         Stepped (decode (now (words .entry))) n (now (group .entry)) (now (zeros .entry)) (now (ones .entry)) (now (zeros .exit)) (now (ones .exit))
         ⌝ }
 {
-    let mut i = 0;
-    while i < group.len() {
-        step(words, n, gates, used, group[i] as usize, zeros, ones);
-        i += 1;
-    }
+    sweep(words, n, gates, used, group, false, zeros, ones);
 }
 
 // So many passes.

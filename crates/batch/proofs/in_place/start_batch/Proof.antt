@@ -1,100 +1,58 @@
--- `batch::in_place::start_batch` meets its contract: after k turns the first k nodes have their first pairs. Assumes nothing.
-use mathlib.Core.Path.{_≡_, refl, sym, ap, _∙_}
-use Prim.Native.Nat.{_-_, _≤_}
-use native.Mathlib.Omega.{arith}
+-- `batch::in_place::start_batch` meets its contract: the inputs' pairs over words of 0. Assumes nothing.
+use mathlib.Core.Path.{_≡_, sym, ap, _∙_}
+use mathlib.Core.List.{List}
+use Prim.Native.Nat.{ℕ}
 use borrow.Author.Needs.{needs}
-use lib.ListN.{length, length-set}
-use Rattle.laws.specs.Lists.{tab, placed}
-use Rattle.laws.proofs.Tab.{fill-next, placed-all, length-tab}
-use Rattle.lanes.specs.declared.Pair.{Pair}
-use Rattle.batch.specs.Batch.{startPair}
+use lib.ListN.{length, replicate, length-replicate}
+use Rattle.laws.proofs.Tab.{length-tab}
+use Rattle.batch.specs.Batch.{Started}
+use Rattle.batch.proofs.BatchLaws.{inputs-started}
 use Rattle.batch.proofs.in_place.start_batch.Statement.{statement}
 use Rattle.batch.proofs.in_place.start_batch.Tie as tie
 
-abbrev Inv-loop : tie.InvT-loop
-Inv-loop n base zeros₀ ones₀ k₀ zeros ones k =
-    (k ≤ length zeros₀)
-    × (zeros ≡ placed (tab (λ i. startPair n base i .zeros) k) zeros₀)
-    × (ones ≡ placed (tab (λ i. startPair n base i .ones) k) ones₀)
-    × (length zeros ≡ length zeros₀)
-    × (length ones ≡ length ones₀)
+-- the second call, from the third; the first call, from the second; and the entry, from the first
+abbrev second : tie.After-start-inputs → tie.After-clear2
+second f = f .before .before .before .before .before
 
-abbrev μ-loop : tie.MeasureT-loop
-μ-loop n base zeros₀ ones₀ k₀ zeros ones k = length zeros₀ - k
+abbrev first : tie.After-clear2 → tie.After-clear
+first d = d .before .before .before .before
 
-loop-holds : tie.Need-loop-holds Inv-loop μ-loop
-loop-holds c = (omega arith, refl, refl, refl, refl)
+abbrev start : tie.After-clear → tie.Start
+start d = d .before .before .before .before
 
-start-pair-requires : tie.Need-start-pair-requires Inv-loop μ-loop
-start-pair-requires c κs = search needs
+clear-requires : tie.Need-clear-requires
+clear-requires c κs = search needs
 
-mul-zeros : tie.Need-mul-zeros Inv-loop μ-loop
-mul-zeros c = omega arith
+clear-requires-2 : tie.Need-clear-requires-2
+clear-requires-2 c κs = search needs
 
-slice-write-zeros : tie.Need-slice-write-zeros Inv-loop μ-loop
-slice-write-zeros c = omega arith
+-- the words that a call has cleared are as many as before
+cleared : (words : List ℕ) {after : List ℕ} → after ≡ replicate (length words) 0 → length after ≡ length words
+cleared words e = rw e (length-replicate {A = ℕ} (length words) 0)
 
-mul-ones : tie.Need-mul-ones Inv-loop μ-loop
-mul-ones c = omega arith
+start-inputs-requires : tie.Need-start-inputs-requires
+start-inputs-requires c κs =
+    let d = c .before .before .before .before in
+    let s = start (first d) in
+    let p = s .pre in
+    let zeros = cleared (s .args .zeros .now) (first d .clear .ensures) in
+    (p .0, rw zeros (p .1), zeros ∙ p .2 ∙ sym (cleared (s .args .ones .now) (d .clear2 .ensures)))
 
-slice-write-ones : tie.Need-slice-write-ones Inv-loop μ-loop
-slice-write-ones c = omega arith
+done : (f : tie.After-start-inputs) → let a = start (first (second f)) .args in
+    Started (a .n) (a .base) (length (a .zeros .now)) (f .start-inputs .last .1 .1 .0) (f .start-inputs .last .1 .1 .1 .0)
+done f =
+    let d = second f in
+    let p = start (first d) .pre in
+    inputs-started (p .1) (first d .clear .ensures) (d .clear2 .ensures ∙ ap (λ (k : ℕ). replicate k 0) (sym (p .2))) (f .start-inputs .ensures)
 
-add-k : tie.Need-add-k Inv-loop μ-loop
-add-k c = omega arith
+same-length : tie.Need-same-length
+same-length c = let f = c .before .before .before .before in rw (done f .zerosAre) (length-tab _ _)
 
-loop-less : tie.Need-loop-less Inv-loop μ-loop
-loop-less c = omega arith
+same-length-2 : tie.Need-same-length-2
+same-length-2 c = let f = c .before .before .before .before in rw (done f .onesAre) (length-tab _ _ ∙ start (first (second f)) .pre .2)
 
-loop-again : tie.Need-loop-again Inv-loop μ-loop
-loop-again c =
-    let a = c .before .before .before .before .before .args in
-    let l = c .before .before .loop in
-    let e = c .start-pair .ensures in (
-      omega arith,
-      fill-next (λ i. startPair (a .n) (a .base) i .zeros) (l .k) (a .zeros .now) (l .zeros) _ (l .inv .1) (omega arith) (ap (λ (p : Pair). p .zeros) e),
-      fill-next (λ i. startPair (a .n) (a .base) i .ones) (l .k) (a .ones .now) (l .ones) _ (l .inv .2) (omega arith) (ap (λ (p : Pair). p .ones) e),
-      length-set (l .zeros) (l .k) _ ∙ l .inv .3,
-      length-set (l .ones) (l .k) _ ∙ l .inv .4,
-    )
-
-same-length : tie.Need-same-length Inv-loop μ-loop
-same-length c = c .before .loop .inv .3
-
-same-length-2 : tie.Need-same-length-2 Inv-loop μ-loop
-same-length-2 c = c .before .loop .inv .4
-
-returns : tie.Need-returns Inv-loop μ-loop
-returns c =
-    let a = c .before .before .before .before .args in
-    let l = c .before .loop in
-    let all : l .k ≡ length (a .zeros .now) = omega arith in
-    let many : length (a .zeros .now) ≡ length (a .ones .now) = c .before .before .before .before .pre .1 in
-    record {
-      zerosAre =
-          l .inv .1
-          ∙ rw all (placed-all (tab (λ i. startPair (a .n) (a .base) i .zeros) (length (a .zeros .now))) (a .zeros .now) (length-tab _ (length (a .zeros .now))));
-      onesAre =
-          l .inv .2
-          ∙ rw all
-          (placed-all (tab (λ i. startPair (a .n) (a .base) i .ones) (length (a .zeros .now))) (a .ones .now) (length-tab _ (length (a .zeros .now)) ∙ many));
-    }
+returns : tie.Need-returns
+returns c = done (c .before .before .before .before)
 
 pub start-batch-spec : {M : Type 1} → statement M
-start-batch-spec =
-    tie.close
-    (tie.spec
-    Inv-loop
-    μ-loop
-    loop-holds
-    start-pair-requires
-    mul-zeros
-    slice-write-zeros
-    mul-ones
-    slice-write-ones
-    add-k
-    loop-less
-    loop-again
-    same-length
-    same-length-2
-    returns)
+start-batch-spec = tie.close (tie.spec clear-requires clear-requires-2 start-inputs-requires same-length same-length-2 returns)

@@ -5,16 +5,14 @@ use native.Mathlib.Omega.{arith}
 use native.Mathlib.Numerals.{add-one}
 use lib.ListN.{getD, length}
 use Rattle.laws.specs.Lists.{tab}
-use Rattle.netlist.specs.StoredBlock.{decode}
-use Rattle.batch.specs.Batch.{BatchSwept, placeOf, along}
-use Rattle.batch.proofs.BatchLaws.{batch-none, batch-one, batch-then, batch-underway, underway-long, placeOf-inside, along-inside}
+use Rattle.batch.specs.Batch.{Walked, noGate, gateMore, placeOf, along}
+use Rattle.batch.proofs.BatchLaws.{walked-zeros, walked-ones, walked-long, placeOf-inside, along-inside}
 use Rattle.batch.proofs.in_place.sweep.Statement.{statement}
 use Rattle.batch.proofs.in_place.sweep.Tie as tie
 
 abbrev Inv-loop : tie.InvT-loop
 Inv-loop words n gates used order back zeros₀ ones₀ count changed₀ i₀ zeros ones changed i =
-    (i ≤ length order)
-    × BatchSwept (decode words) n (tab (λ k. getD order (placeOf back (length order) k) 0) i) zeros₀ ones₀ zeros ones changed
+    (i ≤ length order) × Walked words n gates zeros₀ ones₀ (tab (λ k. getD order (placeOf back (length order) k) 0) i) zeros ones changed
 
 abbrev μ-loop : tie.MeasureT-loop
 μ-loop words n gates used order back zeros₀ ones₀ count changed₀ i₀ zeros ones changed i = length order - i
@@ -30,7 +28,7 @@ placed c =
     rw (c .place .ensures) (placeOf-inside (start l .args .back) (length (start l .args .order .now)) (l .loop .i) (c .before .loop-test .taken))
 
 loop-holds : tie.Need-loop-holds Inv-loop μ-loop
-loop-holds c = let s = c .before .before .before .before in (omega arith, batch-none (s .pre .1))
+loop-holds c = (omega arith, noGate)
 
 place-requires : tie.Need-place-requires Inv-loop μ-loop
 place-requires c κs = omega arith
@@ -49,8 +47,8 @@ step-requires c κs =
     let p = c .before .before .before in
     let l = p .before .before in
     let s = start l in (
-      (rw (p .place .ensures) (along-inside (s .args .back) (s .pre .0 .1) (l .loop .i) (p .before .loop-test .taken)), s .pre .0 .0, s .pre .0 .2, s .pre .0 .3),
-      underway-long (batch-underway (s .pre .1) (l .loop .inv .1)),
+      (rw (p .place .ensures) (along-inside (s .args .order .now) (s .args .back) (s .pre .0 .1) (l .loop .i) (p .before .loop-test .taken)), s .pre .0 .0, s .pre .0 .2, s .pre .0 .3),
+      walked-long (l .loop .inv .1) (s .pre .1),
     )
 
 add-i : tie.Need-add-i Inv-loop μ-loop
@@ -67,16 +65,15 @@ loop-again c =
     let s = start l in
     let i = l .loop .i in
     let next = getD (s .args .order .now) (placeOf (s .args .back) (length (s .args .order .now)) i) 0 in
-    let there = along-inside (s .args .back) (s .pre .0 .1) i (p .before .loop-test .taken) in
+    let there = along-inside (s .args .order .now) (s .args .back) (s .pre .0 .1) i (p .before .loop-test .taken) in
     let done = rw (p .place .ensures) at (d .step .ensures) in
-    let one = batch-one (s .pre .0 .0) (s .pre .0 .2) next there (batch-underway (s .pre .1) (l .loop .inv .1)) done in
-    (omega arith, rw add-one (batch-then next (l .loop .inv .1) one))
+    (omega arith, rw add-one (gateMore (l .loop .inv .1) next there done))
 
 same-length : tie.Need-same-length Inv-loop μ-loop
-same-length c = c .before .loop .inv .1 .zerosLong
+same-length c = walked-zeros (c .before .loop .inv .1)
 
 same-length-2 : tie.Need-same-length-2 Inv-loop μ-loop
-same-length-2 c = c .before .loop .inv .1 .onesLong
+same-length-2 c = walked-ones (c .before .loop .inv .1)
 
 returns : tie.Need-returns Inv-loop μ-loop
 unfolding along
