@@ -1,0 +1,209 @@
+// The check of a certificate, gate by gate. A gate is its group's leader, or is reached from the leader through a gate that was entered before
+// it, and reaches the leader through an operand that is nearer to it; and an operand that another gate leads is of a group that was left before.
+use crate::notes::CALLER;
+use crate::notes::ENTERED;
+use crate::notes::FINISHED;
+use crate::notes::LOWEST;
+use crate::notes::NOTE_SIZE;
+use crate::notes::SLOTS;
+use layout::nodes::gate_named;
+use layout::offsets::GATE_SIZE;
+use layout::read::word_at;
+ghost use mathlib.Core.Path.{_≡_};
+ghost use mathlib.Core.Bool.{true};
+ghost use mathlib.Core.Logic.{_⊎_};
+ghost use Prim.Native.Nat.{_/_, _≤_, _<_};
+ghost use lib.ListN.{getD};
+ghost use Rattle.laws.specs.Lists.{any};
+ghost use Rattle.netlist.specs.Limits.{maxGates};
+ghost use Rattle.netlist.specs.Netlist.{gateCount};
+ghost use Rattle.netlist.specs.StoredBlock.{decode};
+ghost use Rattle.netlist.specs.Groups.{reads};
+ghost use Rattle.search.specs.Search.{wordGate, wordGates, GatesReady};
+ghost use Rattle.condensation.specs.Condensed.{distanceOf, outOfOrder, Entered, Leaving, Linked, Certified, Condensed};
+
+// How far gate k is from its leader: how low it gets, and then when it was left.
+fn distance(k: usize, notes: &[u16]) -> usize
+    requires { ⌜ k < maxGates ⌝ }
+    ensures { λ r. ⌜ r ≡ distanceOf (now (notes .entry)) k ⌝ }
+{
+    65536 * (word_at(notes, NOTE_SIZE * k + LOWEST) / SLOTS)
+        + word_at(notes, NOTE_SIZE * k + FINISHED)
+}
+
+// The gate that an operand of gate k names, or m.
+fn operand_gate(words: &[u16], n: usize, m: usize, gates: usize, k: usize, slot: usize) -> usize
+    requires { ⌜ (k < m) × GatesReady (now words) n m gates ⌝ }
+    ensures { λ r. ⌜ (r < m → reads (decode (now (words .entry))) k r ≡ true) ⌝ }
+{
+    let at = gates + GATE_SIZE * k;
+    if word_at(words, at) / 8 <= slot {
+        return m;
+    }
+    gate_named(word_at(words, at + 1 + slot), n, m)
+}
+
+// Gate k is read by one of its group that was entered before.
+fn is_entered(
+    words: &[u16],
+    n: usize,
+    m: usize,
+    gates: usize,
+    k: usize,
+    leaders: &[u16],
+    notes: &[u16],
+) -> bool
+    requires { ⌜ (k < m) × GatesReady (now words) n m gates ⌝ }
+    ensures { λ r. ⌜ (r ≡ true → Entered (decode (now (words .entry))) m (now (leaders .entry)) (now (notes .entry)) k) ⌝ }
+{
+    let caller = word_at(notes, NOTE_SIZE * k + CALLER);
+    let from = caller / SLOTS;
+    if m <= from {
+        return false;
+    }
+    if word_at(leaders, from) != word_at(leaders, k) {
+        return false;
+    }
+    if word_at(notes, NOTE_SIZE * k + ENTERED) <= word_at(notes, NOTE_SIZE * from + ENTERED) {
+        return false;
+    }
+    operand_gate(words, n, m, gates, from, caller % SLOTS) == k
+}
+
+// Gate k reads one of its group that is nearer to the leader.
+fn is_leaving(
+    words: &[u16],
+    n: usize,
+    m: usize,
+    gates: usize,
+    k: usize,
+    leaders: &[u16],
+    notes: &[u16],
+) -> bool
+    requires { ⌜ (k < m) × GatesReady (now words) n m gates ⌝ }
+    ensures { λ r. ⌜ (r ≡ true → Leaving (decode (now (words .entry))) m (now (leaders .entry)) (now (notes .entry)) k) ⌝ }
+{
+    let slot = word_at(notes, NOTE_SIZE * k + LOWEST) % SLOTS;
+    let to = operand_gate(words, n, m, gates, k, slot);
+    if m <= to {
+        return false;
+    }
+    if word_at(leaders, to) != word_at(leaders, k) {
+        return false;
+    }
+    distance(to, notes) < distance(k, notes)
+}
+
+// Gate k leads itself, or both.
+fn is_linked(
+    words: &[u16],
+    n: usize,
+    m: usize,
+    gates: usize,
+    k: usize,
+    leaders: &[u16],
+    notes: &[u16],
+) -> bool
+    requires { ⌜ (k < m) × GatesReady (now words) n m gates ⌝ }
+    ensures { λ r. ⌜ (r ≡ true → Linked (decode (now (words .entry))) m (now (leaders .entry)) (now (notes .entry)) k) ⌝ }
+{
+    if word_at(leaders, k) == k {
+        return true;
+    }
+    if !is_entered(words, n, m, gates, k, leaders, notes) {
+        return false;
+    }
+    is_leaving(words, n, m, gates, k, leaders, notes)
+}
+
+// The operand word names a gate that another gate leads, and that gate was not left before `leader`.
+fn is_out_of_order(
+    w: usize,
+    n: usize,
+    m: usize,
+    leaders: &[u16],
+    notes: &[u16],
+    leader: usize,
+) -> bool
+    requires { ⌜ (n ≤ 65535) × (m ≤ maxGates) × (leader < m) ⌝ }
+    ensures { λ r. ⌜ r ≡ any (outOfOrder (now (leaders .entry)) (now (notes .entry)) leader) (wordGate n m w) ⌝ }
+{
+    let k = gate_named(w, n, m);
+    if m <= k {
+        return false;
+    }
+    let other = word_at(leaders, k);
+    if other == leader {
+        return false;
+    }
+    word_at(notes, NOTE_SIZE * leader + FINISHED) <= word_at(notes, NOTE_SIZE * other + FINISHED)
+}
+
+// The gate at `at` reads such a gate.
+fn reads_out_of_order(
+    words: &[u16],
+    n: usize,
+    m: usize,
+    at: usize,
+    leaders: &[u16],
+    notes: &[u16],
+    leader: usize,
+) -> bool
+    requires { ⌜ (at ≤ 65535) × (n ≤ 65535) × (m ≤ maxGates) × (leader < m) ⌝ }
+    ensures { λ r. ⌜ r ≡ any (outOfOrder (now (leaders .entry)) (now (notes .entry)) leader) (wordGates (now (words .entry)) n m at (getD (now (words .entry)) at 0 / 8)) ⌝ }
+{
+    let count = word_at(words, at) / 8;
+    let mut i = 0;
+    while i < count {
+        if is_out_of_order(word_at(words, at + 1 + i), n, m, leaders, notes, leader) {
+            return true;
+        }
+        i += 1;
+    }
+    false
+}
+
+// Gate k's part of the certificate.
+fn passes(
+    words: &[u16],
+    n: usize,
+    m: usize,
+    gates: usize,
+    k: usize,
+    leaders: &[u16],
+    notes: &[u16],
+) -> bool
+    requires { ⌜ (k < m) × GatesReady (now words) n m gates ⌝ }
+    ensures { λ r. ⌜ (r ≡ true → Certified (decode (now (words .entry))) m (now (leaders .entry)) (now (notes .entry)) k) ⌝ }
+{
+    let leader = word_at(leaders, k);
+    if m <= leader {
+        return false;
+    }
+    if reads_out_of_order(words, n, m, gates + GATE_SIZE * k, leaders, notes, leader) {
+        return false;
+    }
+    is_linked(words, n, m, gates, k, leaders, notes)
+}
+
+// Every gate's part holds, so that the leaders are those of the groups.
+pub fn is_certified(
+    words: &[u16],
+    n: usize,
+    m: usize,
+    gates: usize,
+    leaders: &[u16],
+    notes: &[u16],
+) -> bool
+    requires { ⌜ GatesReady (now words) n m gates × (m ≡ gateCount (decode (now words))) ⌝ }
+    ensures { λ r. ⌜ (r ≡ true → Condensed (decode (now (words .entry))) m (now (leaders .entry))) ⌝ }
+{
+    let mut k = 0;
+    while k < m {
+        if !passes(words, n, m, gates, k, leaders, notes) {
+            return false;
+        }
+        k += 1;
+    }
+    true
+}
