@@ -1,6 +1,9 @@
-// The lowest gate of each gate's strongly connected group, its leader. Gates are taken one by one; one without a leader leads itself and those
-// gates that it reaches, past no gate that has a leader, and that reach it back. At last each group's lowest gate becomes its leader.
+// The lowest gate of each gate's strongly connected group, its leader. `condense` finds leaders and says whether they are certain. If not, gates
+// are taken one by one; one without a leader leads itself and those gates that it reaches, past no gate that has a leader, and that reach it
+// back. At last each group's lowest gate becomes its leader.
+use condensation::condense;
 use layout::fill::fill_words;
+use layout::limits::MAX_GATES;
 use layout::nodes::NONE;
 use layout::nodes::gate_named;
 use layout::offsets::GATE_SIZE;
@@ -197,7 +200,7 @@ fn lead_groups(
     queue: &mut [u16],
 )
     requires { ⌜ (m ≤ length (now leaders)) × LeadReady (now words) n m gates (now flags) (now queue) ⌝ }
-    ensures { λ r. ⌜ AllLed (decode (now (words .entry))) m (now (leaders .entry)) (now (leaders .exit)) ⌝ }
+    ensures { λ r. ⌜ AllLed (decode (now (words .entry))) m (now (leaders .exit)) ⌝ }
 {
     forget(m, leaders);
     let downward = reads_upward(words, n, m, gates);
@@ -231,17 +234,55 @@ fn first_led(leader: usize, k: usize, firsts: &mut [u16]) -> usize
 }
 
 // Each gate gets the first gate that has the same leader.
-fn lower(m: usize, leaders: &mut [u16], firsts: &mut [u16])
-    requires { ⌜ LowerReady m (now leaders) (now firsts) ⌝ }
-    ensures { λ r. ⌜ now (leaders .exit) ≡ placed (tab (firstLike (now (leaders .entry))) m) (now (leaders .entry)) ⌝ }
+fn lower(m: usize, leaders: &[u16], lowest: &mut [u16], firsts: &mut [u16])
+    requires { ⌜ LowerReady m (now leaders) (now lowest) (now firsts) ⌝ }
+    ensures { λ r. ⌜ now (lowest .exit) ≡ placed (tab (firstLike (now (leaders .entry))) m) (now (lowest .entry)) ⌝ }
 {
     forget(m, firsts);
     let mut k = 0;
     while k < m {
         let first = first_led(word_at(leaders, k), k, firsts);
-        leaders[k] = first as u16;
+        lowest[k] = first as u16;
         k += 1;
     }
+}
+
+// Every group has one of its gates for its leader: in linear time, if the answer is certified.
+fn lead_any(
+    words: &[u16],
+    n: usize,
+    m: usize,
+    gates: usize,
+    leaders: &mut [u16],
+    flags: &mut [u8],
+    queue: &mut [u16],
+)
+    requires { ⌜ (m ≤ length (now leaders)) × LeadReady (now words) n m gates (now flags) (now queue) ⌝ }
+    ensures { λ r. ⌜ AllLed (decode (now (words .entry))) m (now (leaders .exit)) ⌝ }
+{
+    forget(m, leaders);
+    if condense(words, n, m, gates, leaders, queue) {
+        return;
+    }
+    lead_groups(words, n, m, gates, leaders, flags, queue);
+}
+
+// With an array for the leaders that are found first.
+fn lead_with(
+    words: &[u16],
+    n: usize,
+    m: usize,
+    gates: usize,
+    leaders: &mut [u16],
+    flags: &mut [u8],
+    queue: &mut [u16],
+    found: &mut [u16],
+)
+    requires { ⌜ (m ≤ length (now leaders)) × (m ≤ length (now found)) × LeadReady (now words) n m gates (now flags) (now queue) ⌝ }
+    ensures { λ r. ⌜ now (leaders .exit) ≡ placed (tab (leaderOf (decode (now (words .entry)))) m) (now (leaders .entry)) ⌝ }
+{
+    lead_any(words, n, m, gates, found, flags, queue);
+    lower(m, found, leaders, queue);
 }
 
 // The lowest gate of each gate's group.
@@ -257,6 +298,6 @@ pub fn lead(
     requires { ⌜ (m ≤ length (now leaders)) × LeadReady (now words) n m gates (now flags) (now queue) ⌝ }
     ensures { λ r. ⌜ now (leaders .exit) ≡ placed (tab (leaderOf (decode (now (words .entry)))) m) (now (leaders .entry)) ⌝ }
 {
-    lead_groups(words, n, m, gates, leaders, flags, queue);
-    lower(m, leaders, queue);
+    let mut found = [0u16; MAX_GATES];
+    lead_with(words, n, m, gates, leaders, flags, queue, &mut found);
 }

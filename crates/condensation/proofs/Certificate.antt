@@ -15,7 +15,7 @@ use Rattle.netlist.specs.Netlist.{Block, gateCount}
 use Rattle.netlist.specs.Groups.{OperandPath, stay, step, reads, reaches, sameGroup}
 use Rattle.reach.proofs.Reach.{path-reaches, reaches-path}
 use Rattle.search.proofs.Searching.{path-more}
-use Rattle.condensation.specs.Condensed.{enteredAt, finishedAt, distanceOf, Entered, Leaving, Certified, Condensed}
+use Rattle.condensation.specs.Condensed.{enteredAt, finishedAt, distanceOf, Certified, Condensed}
 
 module _ (b : Block) (m : ℕ) (leaders notes : List ℕ) (certified : (k : ℕ) → k < m → Certified b m leaders notes k) where
   from-leader : (most k : ℕ) → k < m → enteredAt notes k ≤ most → OperandPath b (getD leaders k 0) k

@@ -5,16 +5,16 @@ use mathlib.Core.Path.{_≡_, refl, sym, _∙_}
 use mathlib.Core.Logic.{_⊎_, inl, inr, ⊎-elim}
 use mathlib.Core.Bool.{Bool, true, false, cond}
 use mathlib.Core.List.{List}
-use lib.ListN.{length, getD}
+use lib.ListN.{getD}
 use lib.Dec.{eqb, leb}
 use borrow.Author.Tests.{eqb-true, eq-eqb, ne-eqb, leb-false}
-use Rattle.laws.specs.Lists.{any, member}
+use Rattle.laws.specs.Lists.{any}
 use Rattle.laws.proofs.Tests.{bool-cases, not-both}
 use Rattle.laws.proofs.Quantifiers.{member-at, any-from}
 use Rattle.layout.specs.Nodes.{gateNamed}
 use Rattle.netlist.specs.StoredBlock.{decode}
 use Rattle.netlist.specs.Groups.{reads, readBy}
-use Rattle.search.specs.Search.{wordGate, wordGates, GatesReady}
+use Rattle.search.specs.Search.{wordGates, GatesReady}
 use Rattle.search.proofs.Searching.{gate-words}
 use Rattle.search.proofs.Operands.{one-gate, found-one}
 use Rattle.condensation.specs.Condensed.{finishedAt, outOfOrder}

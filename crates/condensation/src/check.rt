@@ -11,7 +11,6 @@ use layout::offsets::GATE_SIZE;
 use layout::read::word_at;
 ghost use mathlib.Core.Path.{_≡_};
 ghost use mathlib.Core.Bool.{true};
-ghost use mathlib.Core.Logic.{_⊎_};
 ghost use Prim.Native.Nat.{_/_, _≤_, _<_};
 ghost use lib.ListN.{getD};
 ghost use Rattle.laws.specs.Lists.{any};
@@ -150,7 +149,9 @@ fn reads_out_of_order(
     leader: usize,
 ) -> bool
     requires { ⌜ (at ≤ 65535) × (n ≤ 65535) × (m ≤ maxGates) × (leader < m) ⌝ }
-    ensures { λ r. ⌜ r ≡ any (outOfOrder (now (leaders .entry)) (now (notes .entry)) leader) (wordGates (now (words .entry)) n m at (getD (now (words .entry)) at 0 / 8)) ⌝ }
+    ensures { λ r. ⌜
+        r ≡ any (outOfOrder (now (leaders .entry)) (now (notes .entry)) leader) (wordGates (now (words .entry)) n m at (getD (now (words .entry)) at 0 / 8))
+        ⌝ }
 {
     let count = word_at(words, at) / 8;
     let mut i = 0;

@@ -109,10 +109,9 @@ same-length-3 c = c .before .loop .inv .2
 
 returns : tie.Need-returns Inv-loop μ-loop
 returns c =
-    let after-forget = c .before .before .before .before .before in
-    let s = after-forget .before .before .before .before .before .before in
-    turns-end (decode (s .args .words .now)) (s .args .m) (s .pre .1 .gatesAre) (s .pre .1 .search .whole .fewGates) (s .args .leaders .now) (s .pre .0)
-    (c .loop-test .left) (rw (after-forget .forget .ensures) at (c .before .loop .inv .0 (s .pre .1 .gatesAre) (s .pre .1 .search .whole .fewGates)))
+    let s = c .before .before .before .before .before .before .before .before .before .before .before in
+    turns-end (decode (s .args .words .now)) (s .args .m) (s .pre .1 .gatesAre) (s .pre .1 .search .whole .fewGates) (c .loop-test .left)
+    (c .before .loop .inv .0 (s .pre .1 .gatesAre) (s .pre .1 .search .whole .fewGates))
 
 pub lead-groups-spec : {M : Type 1} → statement M
 lead-groups-spec =

@@ -1,17 +1,13 @@
+-- `condensation::candidate::explore` meets its contract: the clock goes on by one in each turn, and the stack is never higher than it. Assumes nothing.
+use Prim.Native.Nat.{_≤_, _<_, _-_}
 use mathlib.Core.Path.{_≡_, _∙_}
-use native.Mathlib.Omega.{arith}
 use borrow.Author.Count.{falls}
 use borrow.Author.Tests.{ltb-true}
-use Prim.Native.Nat.{_≤_, _<_, _-_}
-use lib.ListN.{length}
 use borrow.Author.Needs.{needs}
+use native.Mathlib.Omega.{arith}
+use lib.ListN.{length}
 use Rattle.condensation.proofs.candidate.explore.Statement.{statement}
 use Rattle.condensation.proofs.candidate.explore.Tie as tie
-use Rattle.condensation.proofs.candidate.explore.Reads as reads
-use Rattle.condensation.proofs.candidate.explore.Lts as lts
-use Rattle.condensation.proofs.candidate.enter.Reads as enter-reads
-use Rattle.condensation.proofs.candidate.is_new.Reads as is-new-reads
-use Rattle.condensation.proofs.candidate.turn.Reads as turn-reads
 
 abbrev Inv-loop : tie.InvT-loop
 Inv-loop words n m gates root time leaders₀ notes₀ stack₀ now₀ top₀ cursor₀ leaders notes stack now top cursor =
@@ -21,43 +17,33 @@ abbrev μ-loop : tie.MeasureT-loop
 μ-loop words n m gates root time leaders₀ notes₀ stack₀ now₀ top₀ cursor₀ leaders notes stack now top cursor =
     8191 - now
 
--- src/candidate.rt:170:9
 is-new-requires : tie.Need-is-new-requires Inv-loop μ-loop
 is-new-requires c κs = search needs
 
--- src/candidate.rt:171:9
 same-length : tie.Need-same-length Inv-loop μ-loop
 same-length c = search needs
 
--- src/candidate.rt:171:9
 returns : tie.Need-returns Inv-loop μ-loop
 returns c = search needs
 
--- src/candidate.rt:173:19
 add-now : tie.Need-add-now Inv-loop μ-loop
 add-now c = search needs
 
--- src/candidate.rt:174:5
 enter-requires : tie.Need-enter-requires Inv-loop μ-loop
 enter-requires c κs = search needs
 
--- src/candidate.rt:176:22
 mul-cursor : tie.Need-mul-cursor Inv-loop μ-loop
 mul-cursor c = search needs
 
--- src/candidate.rt:177:5
 loop-holds : tie.Need-loop-holds Inv-loop μ-loop
 loop-holds c = search needs
 
--- src/candidate.rt:177:20
 mul-loop : tie.Need-mul-loop Inv-loop μ-loop
 mul-loop c = search needs
 
--- src/candidate.rt:178:9
 add-now-2 : tie.Need-add-now-2 Inv-loop μ-loop
 add-now-2 c = search needs
 
--- src/candidate.rt:179:13
 turn-requires : tie.Need-turn-requires Inv-loop μ-loop
 turn-requires c κs =
     let t = c .before .before .before in
@@ -65,14 +51,12 @@ turn-requires c κs =
     let early : now < 8191 = ltb-true now 8191 (t .if2 .taken) in
     search needs
 
--- src/candidate.rt:177:5
 loop-less : tie.Need-loop-less Inv-loop μ-loop
 loop-less c =
     let t = c .before .before .before .before .before .before .before .before .before .before in
     let now = t .before .before .loop .now in
     falls 8191 now (ltb-true now 8191 (t .if2 .taken))
 
--- src/candidate.rt:177:5
 loop-again : tie.Need-loop-again Inv-loop μ-loop
 loop-again c =
     let r = c .before .before .before .before .before .before in
@@ -87,35 +71,27 @@ loop-again c =
       r .turn .kept .1 .1 .1 .1 .1 .1 .1 .1 .1 .0 ∙ l .inv .5,
     )
 
--- src/candidate.rt:156:1
 same-length-2 : tie.Need-same-length-2 Inv-loop μ-loop
 same-length-2 c = search needs
 
--- src/candidate.rt:156:1
 same-length-3 : tie.Need-same-length-3 Inv-loop μ-loop
 same-length-3 c = search needs
 
--- src/candidate.rt:156:1
 same-length-4 : tie.Need-same-length-4 Inv-loop μ-loop
 same-length-4 c = search needs
 
--- src/candidate.rt:156:1
 returns-2 : tie.Need-returns-2 Inv-loop μ-loop
 returns-2 c = search needs
 
--- src/candidate.rt:156:1
 same-length-5 : tie.Need-same-length-5 Inv-loop μ-loop
 same-length-5 c = search needs
 
--- src/candidate.rt:156:1
 same-length-6 : tie.Need-same-length-6 Inv-loop μ-loop
 same-length-6 c = search needs
 
--- src/candidate.rt:156:1
 same-length-7 : tie.Need-same-length-7 Inv-loop μ-loop
 same-length-7 c = search needs
 
--- src/candidate.rt:156:1
 returns-3 : tie.Need-returns-3 Inv-loop μ-loop
 returns-3 c = search needs
 

@@ -1,13 +1,11 @@
-use borrow.Author.Needs.{needs}
-use lib.ListN.{length}
-use mathlib.Core.Path.{_≡_, _∙_}
-use native.Mathlib.Omega.{arith}
+-- `condensation::candidate::find_groups` meets its contract: every gate has its turn once. Assumes nothing.
 use Prim.Native.Nat.{_≤_, _-_}
+use mathlib.Core.Path.{_≡_, _∙_}
+use borrow.Author.Needs.{needs}
+use native.Mathlib.Omega.{arith}
+use lib.ListN.{length}
 use Rattle.condensation.proofs.candidate.find_groups.Statement.{statement}
 use Rattle.condensation.proofs.candidate.find_groups.Tie as tie
-use Rattle.condensation.proofs.candidate.find_groups.Reads as reads
-use Rattle.condensation.proofs.candidate.find_groups.Lts as lts
-use Rattle.condensation.proofs.candidate.explore.Reads as explore-reads
 
 abbrev Inv-loop : tie.InvT-loop
 Inv-loop words n m gates leaders₀ notes₀ stack₀ time₀ root₀ leaders notes stack time root =
@@ -16,23 +14,18 @@ Inv-loop words n m gates leaders₀ notes₀ stack₀ time₀ root₀ leaders no
 abbrev μ-loop : tie.MeasureT-loop
 μ-loop words n m gates leaders₀ notes₀ stack₀ time₀ root₀ leaders notes stack time root = m - root
 
--- src/candidate.rt:200:5
 loop-holds : tie.Need-loop-holds Inv-loop μ-loop
 loop-holds c = search needs
 
--- src/candidate.rt:201:9
 explore-requires : tie.Need-explore-requires Inv-loop μ-loop
 explore-requires c κs = search needs
 
--- src/candidate.rt:202:9
 add-root : tie.Need-add-root Inv-loop μ-loop
 add-root c = search needs
 
--- src/candidate.rt:200:5
 loop-less : tie.Need-loop-less Inv-loop μ-loop
 loop-less c = search needs
 
--- src/candidate.rt:200:5
 loop-again : tie.Need-loop-again Inv-loop μ-loop
 loop-again c =
     let r = c .before .before .before .before .before .before in
@@ -43,35 +36,27 @@ loop-again c =
       r .explore .kept .1 .1 .1 .1 .1 .1 .1 .1 .0 ∙ l .inv .3,
     )
 
--- src/candidate.rt:187:1
 same-length : tie.Need-same-length Inv-loop μ-loop
 same-length c = search needs
 
--- src/candidate.rt:187:1
 same-length-2 : tie.Need-same-length-2 Inv-loop μ-loop
 same-length-2 c = search needs
 
--- src/candidate.rt:187:1
 same-length-3 : tie.Need-same-length-3 Inv-loop μ-loop
 same-length-3 c = search needs
 
--- src/candidate.rt:187:1
 returns : tie.Need-returns Inv-loop μ-loop
 returns c = search needs
 
--- src/candidate.rt:187:1
 same-length-4 : tie.Need-same-length-4 Inv-loop μ-loop
 same-length-4 c = search needs
 
--- src/candidate.rt:187:1
 same-length-5 : tie.Need-same-length-5 Inv-loop μ-loop
 same-length-5 c = search needs
 
--- src/candidate.rt:187:1
 same-length-6 : tie.Need-same-length-6 Inv-loop μ-loop
 same-length-6 c = search needs
 
--- src/candidate.rt:187:1
 returns-2 : tie.Need-returns-2 Inv-loop μ-loop
 returns-2 c = search needs
 

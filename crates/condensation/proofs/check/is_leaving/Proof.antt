@@ -1,55 +1,40 @@
-use borrow.Author.Tests.{ltb-true}
+-- `condensation::check::is_leaving` meets its contract: each of its tests gives one part of `Leaving`. Assumes nothing.
 use mathlib.Core.Bool.{false≢true}
+use borrow.Author.Tests.{ltb-true}
 use borrow.Author.Needs.{needs}
 use Rattle.condensation.proofs.check.is_leaving.Statement.{statement}
 use Rattle.condensation.proofs.check.is_leaving.Tie as tie
-use Rattle.condensation.proofs.check.is_leaving.Reads as reads
-use Rattle.condensation.proofs.check.is_leaving.Lts as lts
-use Rattle.condensation.proofs.check.distance.Reads as distance-reads
-use Rattle.condensation.proofs.check.operand_gate.Reads as operand-gate-reads
-use Rattle.layout.proofs.read.word_at.Reads as word-at-reads
 
--- src/check.rt:85:31
 mul-word-at : tie.Need-mul-word-at
 mul-word-at c = search needs
 
--- src/check.rt:85:31
 add-word-at : tie.Need-add-word-at
 add-word-at c = search needs
 
--- src/check.rt:85:16
 word-at-requires : tie.Need-word-at-requires
 word-at-requires c κs = search needs
 
--- src/check.rt:86:9
 operand-gate-requires : tie.Need-operand-gate-requires
 operand-gate-requires c κs = search needs
 
--- src/check.rt:88:9
 returns : tie.Need-returns
 returns c = λ e. absurd (false≢true e)
 
--- src/check.rt:90:8
 word-at-requires-2 : tie.Need-word-at-requires-2
 word-at-requires-2 c κs = search needs
 
--- src/check.rt:90:32
 word-at-requires-3 : tie.Need-word-at-requires-3
 word-at-requires-3 c κs = search needs
 
--- src/check.rt:91:9
 returns-2 : tie.Need-returns-2
 returns-2 c = λ e. absurd (false≢true e)
 
--- src/check.rt:93:5
 distance-requires : tie.Need-distance-requires
 distance-requires c κs = search needs
 
--- src/check.rt:93:27
 distance-requires-2 : tie.Need-distance-requires-2
 distance-requires-2 c κs = search needs
 
--- src/check.rt:73:1
 returns-3 : tie.Need-returns-3
 returns-3 c =
     λ e. let same = c .before .before in

@@ -21,7 +21,9 @@ word-at-requires : tie.Need-word-at-requires Inv-loop μ-loop
 word-at-requires c κs = search needs
 
 loop-holds : tie.Need-loop-holds Inv-loop μ-loop
-loop-holds c = let a = c .before .before .before .before .args in (omega arith, no-words (outOfOrder (a .leaders .now) (a .notes .now) (a .leader)) (a .n) (a .m) (a .words .now) (a .at))
+loop-holds c =
+    let a = c .before .before .before .before .args in
+    (omega arith, no-words (outOfOrder (a .leaders .now) (a .notes .now) (a .leader)) (a .n) (a .m) (a .words .now) (a .at))
 
 add-word-at : tie.Need-add-word-at Inv-loop μ-loop
 add-word-at c = omega arith
@@ -42,7 +44,8 @@ returns c =
     let at-start = after-word-at .before .before .before .before in
     let a = at-start .args in
     rw (← after-word-at .word-at .ensures)
-    (sym (found-one (outOfOrder (a .leaders .now) (a .notes .now) (a .leader)) (a .n) (a .m) (a .words .now) (a .at) (at-loop .loop .i) (after-word-at .word-at .result / 8)
+    (sym (found-one (outOfOrder (a .leaders .now) (a .notes .now) (a .leader)) (a .n) (a .m) (a .words .now) (a .at) (at-loop .loop .i)
+    (after-word-at .word-at .result / 8)
     (c .before .before .before .loop-test .taken)
     (rw (← c .before .before .word-at2 .ensures) (sym (c .before .is-out-of-order .ensures) ∙ c .if1 .taken))))
 
