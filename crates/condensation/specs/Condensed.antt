@@ -10,6 +10,10 @@ use lib.Dec.{eqb, leb}
 use Rattle.netlist.specs.Netlist.{Block}
 use Rattle.netlist.specs.Groups.{reads, sameGroup}
 
+-- the code's candidate::CLOCK, the last place of a search
+abbrev pub clockEnd : ℕ
+clockEnd = 8191
+
 -- the code's notes: when the search entered gate k, the lowest place it gets to (with an operand's slot), and when the search left it
 abbrev pub enteredAt : List ℕ → ℕ → ℕ
 enteredAt notes k = getD notes (4 * k + 0) 0

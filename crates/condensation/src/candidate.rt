@@ -6,6 +6,7 @@ use crate::notes::FINISHED;
 use crate::notes::LOWEST;
 use crate::notes::NOTE_SIZE;
 use crate::notes::SLOTS;
+use crate::notes::WORD_VALUES;
 use layout::nodes::NONE;
 use layout::nodes::gate_named;
 use layout::offsets::GATE_SIZE;
@@ -14,6 +15,7 @@ ghost use mathlib.Core.Path.{_≡_};
 ghost use mathlib.Core.Bool.{true};
 ghost use Prim.Native.Nat.{_+_, _*_, _≤_, _<_};
 ghost use Rattle.netlist.specs.Limits.{maxGates};
+ghost use Rattle.condensation.specs.Condensed.{clockEnd};
 
 // The clock's end, above the number of turns: an operand each, and a gate entered and left each. SLOTS * CLOCK is a word.
 const CLOCK: usize = 8191;
@@ -21,7 +23,7 @@ const CLOCK: usize = 8191;
 // Stores a word, where it is one and has a place.
 fn put(table: &mut [u16], i: usize, value: usize) {
     if i < table.len() {
-        if value <= 65535 {
+        if value < WORD_VALUES {
             table[i] = value as u16;
         }
     }
@@ -125,7 +127,7 @@ fn turn(
     notes: &mut [u16],
     stack: &mut [u16],
 ) -> Standing
-    requires { ⌜ (n ≤ 65535) × (m ≤ maxGates) × (gates ≤ 1024) × (now ≤ 8191) × (cursor < 8 * m) × (top ≤ 8191) ⌝ }
+    requires { ⌜ (n ≤ 65535) × (m ≤ maxGates) × (gates ≤ 1024) × (now ≤ clockEnd) × (cursor < 8 * m) × (top ≤ clockEnd) ⌝ }
     ensures { λ r. ⌜ (r .cursor ≤ 65536) × (r .top ≤ top + 1) ⌝ }
 {
     let k = cursor / SLOTS;
@@ -164,8 +166,8 @@ fn explore(
     notes: &mut [u16],
     stack: &mut [u16],
 ) -> usize
-    requires { ⌜ (root < m) × (time < 8191) × (n ≤ 65535) × (m ≤ maxGates) × (gates ≤ 1024) ⌝ }
-    ensures { λ r. ⌜ r ≤ 8191 ⌝ }
+    requires { ⌜ (root < m) × (time < clockEnd) × (n ≤ 65535) × (m ≤ maxGates) × (gates ≤ 1024) ⌝ }
+    ensures { λ r. ⌜ r ≤ clockEnd ⌝ }
 {
     if !is_new(root, m, notes) {
         return time;

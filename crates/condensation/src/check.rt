@@ -6,6 +6,7 @@ use crate::notes::FINISHED;
 use crate::notes::LOWEST;
 use crate::notes::NOTE_SIZE;
 use crate::notes::SLOTS;
+use crate::notes::WORD_VALUES;
 use layout::nodes::gate_named;
 use layout::offsets::GATE_SIZE;
 use layout::read::word_at;
@@ -26,7 +27,7 @@ fn distance(k: usize, notes: &[u16]) -> usize
     requires { ⌜ k < maxGates ⌝ }
     ensures { λ r. ⌜ r ≡ distanceOf (now (notes .entry)) k ⌝ }
 {
-    65536 * (word_at(notes, NOTE_SIZE * k + LOWEST) / SLOTS)
+    WORD_VALUES * (word_at(notes, NOTE_SIZE * k + LOWEST) / SLOTS)
         + word_at(notes, NOTE_SIZE * k + FINISHED)
 }
 

@@ -9,9 +9,9 @@ ghost use Rattle.netlist.specs.StoredBlock.{decode};
 ghost use Rattle.search.specs.Search.{GatesReady};
 ghost use Rattle.condensation.specs.Condensed.{Condensed};
 
-pub mod candidate;
-pub mod check;
-pub mod notes;
+mod candidate;
+mod check;
+mod notes;
 
 // With room for each gate's notes.
 fn condense_with(

@@ -17,3 +17,6 @@ pub const CALLER: usize = 3;
 
 // More than a gate's operands.
 pub const SLOTS: usize = 8;
+
+// How many values a word has.
+pub const WORD_VALUES: usize = 65536;

@@ -6,16 +6,17 @@ use borrow.Author.Tests.{ltb-true}
 use borrow.Author.Needs.{needs}
 use native.Mathlib.Omega.{arith}
 use lib.ListN.{length}
+use Rattle.condensation.specs.Condensed.{clockEnd}
 use Rattle.condensation.proofs.candidate.explore.Statement.{statement}
 use Rattle.condensation.proofs.candidate.explore.Tie as tie
 
 abbrev Inv-loop : tie.InvT-loop
 Inv-loop words n m gates root time leaders₀ notes₀ stack₀ now₀ top₀ cursor₀ leaders notes stack now top cursor =
-    (now ≤ 8191) × (top ≤ now) × (cursor ≤ 65536) × (length leaders ≡ length leaders₀) × (length notes ≡ length notes₀) × (length stack ≡ length stack₀)
+    (now ≤ clockEnd) × (top ≤ now) × (cursor ≤ 65536) × (length leaders ≡ length leaders₀) × (length notes ≡ length notes₀) × (length stack ≡ length stack₀)
 
 abbrev μ-loop : tie.MeasureT-loop
 μ-loop words n m gates root time leaders₀ notes₀ stack₀ now₀ top₀ cursor₀ leaders notes stack now top cursor =
-    8191 - now
+    clockEnd - now
 
 is-new-requires : tie.Need-is-new-requires Inv-loop μ-loop
 is-new-requires c κs = search needs
@@ -48,21 +49,21 @@ turn-requires : tie.Need-turn-requires Inv-loop μ-loop
 turn-requires c κs =
     let t = c .before .before .before in
     let now = t .before .before .loop .now in
-    let early : now < 8191 = ltb-true now 8191 (t .if2 .taken) in
+    let early : now < clockEnd = ltb-true now clockEnd (t .if2 .taken) in
     search needs
 
 loop-less : tie.Need-loop-less Inv-loop μ-loop
 loop-less c =
     let t = c .before .before .before .before .before .before .before .before .before .before in
     let now = t .before .before .loop .now in
-    falls 8191 now (ltb-true now 8191 (t .if2 .taken))
+    falls clockEnd now (ltb-true now clockEnd (t .if2 .taken))
 
 loop-again : tie.Need-loop-again Inv-loop μ-loop
 loop-again c =
     let r = c .before .before .before .before .before .before in
     let t = r .before .before .before .before in
     let l = t .before .before .loop in
-    let early : l .now < 8191 = ltb-true (l .now) 8191 (t .if2 .taken) in (
+    let early : l .now < clockEnd = ltb-true (l .now) clockEnd (t .if2 .taken) in (
       omega arith,
       omega (arith, r .turn .ensures .1, l .inv .1),
       r .turn .ensures .0,

@@ -62,7 +62,7 @@ returns-4 c =
     record {
       from = called .word-at .result / 8;
       below = same .before .before .before .if1 .left;
-      same = rw (← same .before .before .word-at2 .ensures, ← same .before .word-at3 .ensures) (same .if2 .left);
+      same = omega (arith, same .before .before .word-at2 .ensures, same .before .word-at3 .ensures, same .if2 .left);
       before = omega (arith, c .before .before .word-at5 .ensures, c .before .before .before .word-at4 .ensures, c .before .if3 .left);
       reading = rw is at (c .operand-gate .ensures (rw is (s .pre .0)));
     }

@@ -2,6 +2,7 @@
 use mathlib.Core.Bool.{false≢true}
 use borrow.Author.Tests.{ltb-true}
 use borrow.Author.Needs.{needs}
+use native.Mathlib.Omega.{arith}
 use Rattle.condensation.proofs.check.is_leaving.Statement.{statement}
 use Rattle.condensation.proofs.check.is_leaving.Tie as tie
 
@@ -42,7 +43,7 @@ returns-3 c =
     record {
       to = met .before .operand-gate .result;
       below = met .if1 .left;
-      same = rw (← same .before .before .word-at2 .ensures, ← same .before .word-at3 .ensures) (same .if2 .left);
+      same = omega (arith, same .before .before .word-at2 .ensures, same .before .word-at3 .ensures, same .if2 .left);
       nearer = rw (← c .before .distance .ensures, ← c .distance2 .ensures) (ltb-true (c .before .distance .result) (c .distance2 .result) e);
       reading = met .before .operand-gate .ensures (met .if1 .left);
     }
