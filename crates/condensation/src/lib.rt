@@ -13,6 +13,9 @@ mod candidate;
 mod check;
 mod notes;
 
+// Below so many gates the arrays cost more than the slow way.
+const FEW_GATES: usize = 8;
+
 // With room for each gate's notes.
 fn condense_with(
     words: &[u16],
@@ -30,7 +33,7 @@ fn condense_with(
     check::is_certified(words, n, m, gates, leaders, notes)
 }
 
-// Gives each group one of its gates for its leader, where no gate has one yet; whether that is certain.
+// Gives each group one of its gates for its leader, where no gate has one yet; whether that is certain. Few gates are left to the slow way.
 pub fn condense(
     words: &[u16],
     n: usize,
@@ -42,6 +45,9 @@ pub fn condense(
     requires { ⌜ GatesReady (now words) n m gates × (m ≡ gateCount (decode (now words))) ⌝ }
     ensures { λ r. ⌜ (r ≡ true → Condensed (decode (now (words .entry))) m (now (leaders .exit))) ⌝ }
 {
+    if m < FEW_GATES {
+        return false;
+    }
     let mut notes = [0u16; NOTE_SIZE * MAX_GATES];
     condense_with(words, n, m, gates, leaders, &mut notes, stack)
 }
