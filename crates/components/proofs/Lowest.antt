@@ -18,7 +18,7 @@ use Rattle.netlist.specs.Netlist.{Block, gateCount}
 use Rattle.netlist.specs.Groups.{sameGroup}
 use Rattle.reach.proofs.SameGroup.{sameGroup-refl, sameGroup-sym, sameGroup-trans, sameGroup-below}
 use Rattle.condensation.specs.Condensed.{Condensed}
-use Rattle.components.specs.Leaders.{noLeader, leaderOf, Grouped, givenBy, GroupLed, takenAt, AllLed, firstLike, FirstLed, LowerReady}
+use Rattle.components.specs.Leaders.{noLeader, leaderOf, Grouped, givenBy, GroupLed, AllLed, firstLike, FirstLed, LowerReady}
 
 -- ---- slices
 
@@ -82,47 +82,28 @@ module _ (b : Block) (m : ℕ) (gatesAre : m ≡ gateCount b) (few : m ≤ 1024)
         both e = rw (eq-eqb (getD entry l 0) noLeader e, sameGroup-refl b l (subst (λ (c : ℕ). l < c) gatesAre lt)) refl
 
   -- t gates have had their turn
-  pub record Turns (downward : Bool) (t : ℕ) (entry leaders : List ℕ) : Type 0 where
+  pub record Turns (t : ℕ) (entry leaders : List ℕ) : Type 0 where
     pub within : t ≤ m
     pub sameLength : length leaders ≡ length entry
     pub grouped : Grouped b m leaders
-    pub led : (i : ℕ) → i < t → getD leaders (takenAt downward m i) 0 ≡ noLeader → ⊥
+    pub led : (i : ℕ) → i < t → getD leaders i 0 ≡ noLeader → ⊥
 
-  pub taken-below : (downward : Bool) (t : ℕ) → t < m → takenAt downward m t < m
-  unfolding takenAt
-  taken-below true t l = omega arith
-  taken-below false t l = l
+  pub turns-start : (entry : List ℕ) → Grouped b m entry → Turns 0 entry entry
+  turns-start entry g = record { within = omega arith; sameLength = refl; grouped = g; led = λ i l. absurd (not-suc-le-zero l) }
 
-  taken-back : (downward : Bool) (t : ℕ) → t < m → takenAt downward m (takenAt downward m t) ≡ t
-  unfolding takenAt
-  taken-back true t l = omega arith
-  taken-back false t l = refl
-
-  pub turns-start : (downward : Bool) (entry : List ℕ) → Grouped b m entry → Turns downward 0 entry entry
-  turns-start downward entry g =
-      record { within = omega arith; sameLength = refl; grouped = g; led = λ i l. absurd (not-suc-le-zero l) }
-
-  pub turns-next : {downward : Bool} {t : ℕ} {entry leaders leaders′ : List ℕ} → Turns downward t entry leaders → t < m → (l : ℕ) → l ≡ takenAt downward m t
-      → GroupLed b m l leaders leaders′ → Turns downward (t + 1) entry leaders′
-  turns-next {downward} {t} {entry} {leaders} {leaders′} s lt l is g =
-      let ll : l < m = rw is (taken-below downward t lt) in
+  pub turns-next : {t : ℕ} {entry leaders leaders′ : List ℕ} → Turns t entry leaders → t < m → GroupLed b m t leaders leaders′ → Turns (t + 1) entry leaders′
+  turns-next {t} {entry} {leaders} {leaders′} s lt g =
       record {
         within = omega arith;
         sameLength = g .sameLength ∙ s .sameLength;
-        grouped = grouped-next ll (s .grouped) g;
+        grouped = grouped-next lt (s .grouped) g;
         led =
-            λ i il. ⊎-elim (λ e. rw e (subst (λ (k : ℕ). getD leaders′ k 0 ≡ noLeader → ⊥) is (led-now ll (s .grouped) g)))
-            (λ ne. led-kept ll (s .grouped) g (takenAt downward m i) (taken-below downward i (omega arith)) (s .led i (omega arith))) (eq-or-ne i t);
+            λ i il. ⊎-elim (λ e. rw e (led-now lt (s .grouped) g))
+            (λ ne. led-kept lt (s .grouped) g i (omega (arith, s .within)) (s .led i (omega arith))) (eq-or-ne i t);
       }
 
-  pub turns-end : {downward : Bool} {t : ℕ} {entry leaders : List ℕ} → m ≤ t → Turns downward t entry leaders → AllLed b m leaders
-  turns-end {downward} {t} {entry} {leaders} ge s =
-      record {
-        grouped = s .grouped;
-        led =
-            λ j jl. subst (λ (k : ℕ). getD leaders k 0 ≡ noLeader → ⊥) (taken-back downward j jl)
-            (s .led (takenAt downward m j) (omega (arith, taken-below downward j jl)));
-      }
+  pub turns-end : {t : ℕ} {entry leaders : List ℕ} → m ≤ t → Turns t entry leaders → AllLed b m leaders
+  turns-end ge s = record { grouped = s .grouped; led = λ j jl. s .led j (omega arith) }
 
 -- what is certified is led
 pub condensed-led : {b : Block} {m : ℕ} {leaders : List ℕ} → m ≤ 1024 → Condensed b m leaders → AllLed b m leaders

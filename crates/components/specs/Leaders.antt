@@ -1,5 +1,5 @@
 -- The leader of a strongly connected group is its lowest gate; and how leaders are found, on arrays: a gate's leader, or the mark of none.
-use Prim.Native.Nat.{ℕ, _-_, _≤_, _<_}
+use Prim.Native.Nat.{ℕ, _≤_, _<_}
 use mathlib.Core.Path.{_≡_}
 use mathlib.Core.Logic.{_⊎_}
 use mathlib.Core.Bool.{Bool, true, false, cond, _&&_}
@@ -93,10 +93,6 @@ givenBy b l leaders j = cond (eqb (getD leaders l 0) noLeader && sameGroup b l j
 pub record GroupLed (b : Block) (m l : ℕ) (entry leaders : List ℕ) : Type 0 where
   pub sameLength : length leaders ≡ length entry
   pub first : (j : ℕ) → j < m → getD leaders j 0 ≡ givenBy b l entry j
-
--- the gate that is taken after t others, from either end
-unfoldable pub takenAt : Bool → ℕ → ℕ → ℕ
-takenAt downward m t = cond downward (m - 1 - t) t
 
 -- every group has a leader
 pub record AllLed (b : Block) (m : ℕ) (leaders : List ℕ) : Type 0 where

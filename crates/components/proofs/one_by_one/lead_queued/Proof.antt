@@ -1,12 +1,12 @@
--- `components::leaders::lead_queued` meets its contract: each sweep but the last leaves fewer gates without a leader. Assumes nothing.
+-- `components::one_by_one::lead_queued` meets its contract: each sweep but the last leaves fewer gates without a leader. Assumes nothing.
 use Prim.Native.Nat.{_+_}
 use mathlib.Core.Path.{_≡_, refl}
 use mathlib.Core.Bool.{false, cond}
 use Rattle.laws.proofs.Tests.{not-both}
 use Rattle.components.specs.Leaders.{Joined, none, unled, Quiet}
 use Rattle.components.proofs.Joining.{joined-length, joined-then, sweeps-less, sweep-quiet, still-ready}
-use Rattle.components.proofs.leaders.lead_queued.Statement.{statement}
-use Rattle.components.proofs.leaders.lead_queued.Tie as tie
+use Rattle.components.proofs.one_by_one.lead_queued.Statement.{statement}
+use Rattle.components.proofs.one_by_one.lead_queued.Tie as tie
 
 abbrev Inv-loop : tie.InvT-loop
 Inv-loop words n m gates leader queue count leaders₀ changed₀ leaders changed =

@@ -1,10 +1,10 @@
--- `components::leaders::lead_gate` meets its contract, by the ways through its tests. Assumes nothing.
+-- `components::one_by_one::lead_gate` meets its contract, by the ways through its tests. Assumes nothing.
 use mathlib.Core.Path.{_∙_, sym}
 use borrow.Author.Needs.{needs}
 use borrow.Author.Tests.{not-true, not-false}
 use Rattle.components.proofs.Joining.{led-before, reads-none, led-now}
-use Rattle.components.proofs.leaders.lead_gate.Statement.{statement}
-use Rattle.components.proofs.leaders.lead_gate.Tie as tie
+use Rattle.components.proofs.one_by_one.lead_gate.Statement.{statement}
+use Rattle.components.proofs.one_by_one.lead_gate.Tie as tie
 
 word-at-requires : tie.Need-word-at-requires
 word-at-requires c κs = search needs

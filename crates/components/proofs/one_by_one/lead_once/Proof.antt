@@ -1,10 +1,10 @@
--- `components::leaders::lead_once` meets its contract: `Sweeping` holds of the queued gates that are passed. Assumes nothing.
+-- `components::one_by_one::lead_once` meets its contract: `Sweeping` holds of the queued gates that are passed. Assumes nothing.
 use Prim.Native.Nat.{_-_}
 use native.Mathlib.Omega.{arith}
 use borrow.Author.Needs.{needs}
 use Rattle.components.proofs.Joining.{Sweeping, sweep-start, sweep-join, sweep-stay, sweep-end, joined-length}
-use Rattle.components.proofs.leaders.lead_once.Statement.{statement}
-use Rattle.components.proofs.leaders.lead_once.Tie as tie
+use Rattle.components.proofs.one_by_one.lead_once.Statement.{statement}
+use Rattle.components.proofs.one_by_one.lead_once.Tie as tie
 
 abbrev Inv-loop : tie.InvT-loop
 Inv-loop words n m gates leader queue count leaders₀ changed₀ left₀ leaders changed left =

@@ -1,4 +1,4 @@
--- `components::leaders::reads_led` meets its contract: none of the operand words passed so far names a gate that is led. Assumes nothing.
+-- `components::one_by_one::reads_led` meets its contract: none of the operand words passed so far names a gate that is led. Assumes nothing.
 use Prim.Native.Nat.{_-_, _/_, _≤_}
 use mathlib.Core.Path.{_≡_, _∙_, sym}
 use mathlib.Core.Bool.{false}
@@ -8,8 +8,8 @@ use Rattle.laws.specs.Lists.{any}
 use Rattle.search.specs.Search.{wordGates}
 use Rattle.search.proofs.Operands.{none-yet, found-one, no-words}
 use Rattle.components.specs.Leaders.{ledBy}
-use Rattle.components.proofs.leaders.reads_led.Statement.{statement}
-use Rattle.components.proofs.leaders.reads_led.Tie as tie
+use Rattle.components.proofs.one_by_one.reads_led.Statement.{statement}
+use Rattle.components.proofs.one_by_one.reads_led.Tie as tie
 
 abbrev Inv-loop : tie.InvT-loop
 Inv-loop words n m at leaders leader count i₀ i = (i ≤ count) × (any (ledBy leaders leader) (wordGates words n m at i) ≡ false)

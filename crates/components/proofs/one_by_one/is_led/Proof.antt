@@ -1,10 +1,9 @@
--- `components::leaders::is_led` meets its contract, by the gate that the word names. Assumes nothing.
+-- `components::one_by_one::is_led` meets its contract, by the gate that the word names. Assumes nothing.
 use borrow.Author.Needs.{needs}
-use native.Mathlib.Omega.{arith}
 use Rattle.search.proofs.Operands.{no-gate, one-gate}
 use Rattle.components.specs.Leaders.{ledBy}
-use Rattle.components.proofs.leaders.is_led.Statement.{statement}
-use Rattle.components.proofs.leaders.is_led.Tie as tie
+use Rattle.components.proofs.one_by_one.is_led.Statement.{statement}
+use Rattle.components.proofs.one_by_one.is_led.Tie as tie
 
 -- the function's entry
 abbrev start : tie.After-gate-named → tie.Start

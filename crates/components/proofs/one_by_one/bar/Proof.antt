@@ -1,4 +1,4 @@
--- `components::leaders::bar` meets its contract: after i turns the first i flags tell which gates have a leader. Assumes nothing.
+-- `components::one_by_one::bar` meets its contract: after i turns the first i flags tell which gates have a leader. Assumes nothing.
 use Prim.Native.Nat.{_-_, _≤_, _<_}
 use mathlib.Core.Path.{_≡_, refl, _∙_}
 use borrow.Author.Needs.{needs}
@@ -8,8 +8,8 @@ use Rattle.laws.specs.Lists.{tab, placed}
 use Rattle.laws.proofs.Tab.{fill-next}
 use Rattle.components.specs.Leaders.{barredBy}
 use Rattle.components.proofs.Joining.{barred-flag}
-use Rattle.components.proofs.leaders.bar.Statement.{statement}
-use Rattle.components.proofs.leaders.bar.Tie as tie
+use Rattle.components.proofs.one_by_one.bar.Statement.{statement}
+use Rattle.components.proofs.one_by_one.bar.Tie as tie
 
 abbrev Inv-loop : tie.InvT-loop
 Inv-loop m leaders flags₀ i₀ flags i = (i ≤ m) × (flags ≡ placed (tab (barredBy leaders) i) flags₀) × (length flags ≡ length flags₀)
