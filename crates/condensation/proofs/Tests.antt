@@ -1,5 +1,5 @@
 -- What the tests of one gate say: an operand that is named is read, and where no operand is out of order, each is in order. Cited by
--- `operand_gate` and `passes`. Assumes nothing.
+-- `operand_gate`, `is_out_of_order` and `passes`. Assumes nothing.
 use Prim.Native.Nat.{ℕ, _+_, _*_, _/_, _<_}
 use mathlib.Core.Path.{_≡_, refl, sym, _∙_}
 use mathlib.Core.Logic.{_⊎_, inl, inr, ⊎-elim}

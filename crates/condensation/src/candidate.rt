@@ -6,7 +6,7 @@ use crate::notes::FINISHED;
 use crate::notes::LOWEST;
 use crate::notes::NOTE_SIZE;
 use crate::notes::SLOTS;
-use crate::notes::WORD_VALUES;
+use crate::notes::put;
 use layout::nodes::NONE;
 use layout::nodes::gate_named;
 use layout::offsets::GATE_SIZE;
@@ -19,15 +19,6 @@ ghost use Rattle.condensation.specs.Condensed.{clockEnd};
 
 // The clock's end, above the number of turns: an operand each, and a gate entered and left each. SLOTS * CLOCK is a word.
 const CLOCK: usize = 8191;
-
-// Stores a word, where it is one and has a place.
-fn put(table: &mut [u16], i: usize, value: usize) {
-    if i < table.len() {
-        if value < WORD_VALUES {
-            table[i] = value as u16;
-        }
-    }
-}
 
 // The gate is there and was not entered.
 fn is_new(k: usize, m: usize, notes: &[u16]) -> bool

@@ -11,6 +11,7 @@ ghost use Rattle.condensation.specs.Condensed.{Condensed};
 
 mod candidate;
 mod check;
+mod links;
 mod notes;
 
 // Below so many gates the arrays cost more than the slow way.

@@ -6,7 +6,8 @@ pub const NOTE_SIZE: usize = 4;
 // The place at which the search entered the gate; 0: not yet.
 pub const ENTERED: usize = 0;
 
-// SLOTS * the lowest place of its group that it was found to get to + the slot of the operand that leads there.
+// SLOTS * the lowest place of its group that it was found to get to + the slot of the operand that leads there; in the end 0 for a leader, which
+// is nearest to itself.
 pub const LOWEST: usize = 1;
 
 // The place at which the search left it.
@@ -20,3 +21,12 @@ pub const SLOTS: usize = 8;
 
 // How many values a word has.
 pub const WORD_VALUES: usize = 65536;
+
+// Stores a word, where it is one and has a place.
+pub fn put(table: &mut [u16], i: usize, value: usize) {
+    if i < table.len() {
+        if value < WORD_VALUES {
+            table[i] = value as u16;
+        }
+    }
+}

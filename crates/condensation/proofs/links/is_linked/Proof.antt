@@ -1,11 +1,11 @@
--- `condensation::check::is_linked` meets its contract, by what its three tests say. Assumes nothing.
+-- `condensation::links::is_linked` meets its contract, by what its three tests say. Assumes nothing.
 use mathlib.Core.Bool.{false≢true}
 use mathlib.Core.Logic.{inl, inr}
 use mathlib.Core.Path.{sym, _∙_}
 use borrow.Author.Tests.{not-false}
 use borrow.Author.Needs.{needs}
-use Rattle.condensation.proofs.check.is_linked.Statement.{statement}
-use Rattle.condensation.proofs.check.is_linked.Tie as tie
+use Rattle.condensation.proofs.links.is_linked.Statement.{statement}
+use Rattle.condensation.proofs.links.is_linked.Tie as tie
 
 word-at-requires : tie.Need-word-at-requires
 word-at-requires c κs = search needs

@@ -1,12 +1,12 @@
--- `condensation::check::is_entered` meets its contract: each of its tests gives one part of `Entered`. Assumes nothing.
+-- `condensation::links::is_entered` meets its contract: each of its tests gives one part of `Entered`. Assumes nothing.
 use Prim.Native.Nat.{_/_}
 use mathlib.Core.Path.{_≡_}
 use mathlib.Core.Bool.{false≢true}
 use borrow.Author.Tests.{eqb-true}
 use borrow.Author.Needs.{needs}
 use native.Mathlib.Omega.{arith}
-use Rattle.condensation.proofs.check.is_entered.Statement.{statement}
-use Rattle.condensation.proofs.check.is_entered.Tie as tie
+use Rattle.condensation.proofs.links.is_entered.Statement.{statement}
+use Rattle.condensation.proofs.links.is_entered.Tie as tie
 
 mul-word-at : tie.Need-mul-word-at
 mul-word-at c = search needs

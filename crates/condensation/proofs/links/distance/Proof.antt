@@ -1,9 +1,9 @@
--- `condensation::check::distance` meets its contract: two words make a number that fits. Assumes nothing.
+-- `condensation::links::distance` meets its contract: two words make a number that fits. Assumes nothing.
 use Prim.Native.Nat.{_+_, _*_}
 use borrow.Author.Needs.{needs}
 use native.Mathlib.Omega.{arith}
-use Rattle.condensation.proofs.check.distance.Statement.{statement}
-use Rattle.condensation.proofs.check.distance.Tie as tie
+use Rattle.condensation.proofs.links.distance.Statement.{statement}
+use Rattle.condensation.proofs.links.distance.Tie as tie
 
 mul-word-at : tie.Need-mul-word-at
 mul-word-at c = search needs

@@ -1,9 +1,9 @@
--- `condensation::check::operand_gate` meets its contract: a gate that a word of gate k names is read by it. Assumes nothing.
+-- `condensation::links::operand_gate` meets its contract: a gate that a word of gate k names is read by it. Assumes nothing.
 use borrow.Author.Needs.{needs}
 use native.Mathlib.Omega.{arith}
 use Rattle.condensation.proofs.Tests.{named-read}
-use Rattle.condensation.proofs.check.operand_gate.Statement.{statement}
-use Rattle.condensation.proofs.check.operand_gate.Tie as tie
+use Rattle.condensation.proofs.links.operand_gate.Statement.{statement}
+use Rattle.condensation.proofs.links.operand_gate.Tie as tie
 
 mul-at : tie.Need-mul-at
 mul-at c = search needs

@@ -1,10 +1,10 @@
--- `condensation::check::is_leaving` meets its contract: each of its tests gives one part of `Leaving`. Assumes nothing.
+-- `condensation::links::is_leaving` meets its contract: each of its tests gives one part of `Leaving`. Assumes nothing.
 use mathlib.Core.Bool.{false≢true}
 use borrow.Author.Tests.{ltb-true}
 use borrow.Author.Needs.{needs}
 use native.Mathlib.Omega.{arith}
-use Rattle.condensation.proofs.check.is_leaving.Statement.{statement}
-use Rattle.condensation.proofs.check.is_leaving.Tie as tie
+use Rattle.condensation.proofs.links.is_leaving.Statement.{statement}
+use Rattle.condensation.proofs.links.is_leaving.Tie as tie
 
 mul-word-at : tie.Need-mul-word-at
 mul-word-at c = search needs
