@@ -3,7 +3,7 @@ use mathlib.Core.Path.{_≡_, refl, sym, _∙_, subst}
 use mathlib.Core.Logic.{_⊎_, inl, inr, ⊎-elim}
 use mathlib.Core.Bool.{Bool, true, false, cond}
 use mathlib.Core.List.{List}
-use Prim.Native.Nat.{ℕ, _≤_, _<_}
+use Prim.Native.Nat.{ℕ, _<_}
 use native.Mathlib.Omega.{arith}
 use lib.ListN.{length, getD, set, length-set}
 use lib.Seq.{getD-set-same, getD-set-other}
@@ -171,12 +171,6 @@ module _ (ws : List ℕ) (n m gates l : ℕ) (whole : GatesReady ws n m gates) (
             let no : joins ws n m gates l leaders k ≡ false = rw (q .2) at (quiet (q .0) (q .1)) in
             not-both (reads-joins leaders k j kl (e ∙ group-free k g) d (ih gj)) no
 
-    -- nothing is stored past the gates
-    joined-rest : {leaders : List ℕ} → Joined ws n m gates l queue count entry₁ leaders → (k : ℕ) → m ≤ k → getD leaders k 0 ≡ getD entry k 0
-    joined-rest none k h = getD-set-other entry l k l 0 (λ e. omega (arith, ready .below))
-    joined-rest (more {leaders = before} s q lt h) k le =
-        getD-set-other before (getD queue q 0) k l 0 (λ e. omega (arith, r .sound q lt .0)) ∙ joined-rest s k le
-
     found-at : {leaders : List ℕ} → Joined ws n m gates l queue count entry₁ leaders → Quiet ws n m gates l queue count leaders → (k : ℕ) → k < m
         → getD leaders k 0 ≡ givenBy b l entry k
     unfolding sameGroup givenBy
@@ -194,13 +188,12 @@ module _ (ws : List ℕ) (n m gates l : ℕ) (whole : GatesReady ws n m gates) (
         record {
           sameLength = joined-length ws n m gates l queue count (s .steps) ∙ length-set entry l l;
           first = found-at (s .steps) (s .quiet);
-          rest = joined-rest (s .steps);
         }
 
 -- a gate that has a leader changes nothing
 pub group-had : (b : Block) (m l : ℕ) (leaders : List ℕ) → (getD leaders l 0 ≡ noLeader → ⊥) → GroupLed b m l leaders leaders
 unfolding givenBy
-group-had b m l leaders had = record { sameLength = refl; first = λ k kl. rw (ne-eqb (getD leaders l 0) noLeader had) refl; rest = λ k h. refl }
+group-had b m l leaders had = record { sameLength = refl; first = λ k kl. rw (ne-eqb (getD leaders l 0) noLeader had) refl }
 
 -- ---- what the search needs
 

@@ -6,34 +6,21 @@ use mathlib.Core.List.{List, _++_}
 use Prim.Native.Nat.{ℕ, _+_, _≤_, _<_}
 use native.Mathlib.Nat.{not-suc-le-zero}
 use native.Mathlib.Omega.{arith}
-use lib.ListN.{length, getD, set, drop, replicate, length-append, length-drop, length-replicate, getD-replicate, List·getD-append}
-use lib.Seq.{getD-set-same, getD-set-other, ext-getD}
+use lib.ListN.{length, getD, set, drop, replicate, length-replicate, getD-replicate, List·getD-append}
+use lib.Seq.{getD-set-same, getD-set-other}
 use lib.Dec.{eqb}
 use borrow.Author.Tests.{eqb-true, eq-eqb, ne-eqb}
 use Rattle.laws.specs.Lists.{tab, placed, least}
 use Rattle.laws.proofs.Tests.{bool-cases, same-test, not-both, and-left, and-right, eq-or-ne, lt-or-le, not-true-false}
 use Rattle.laws.proofs.Least.{least-is, least-le, least-below, least-at}
-use Rattle.laws.proofs.Tab.{placed-tab, length-tab}
-use Rattle.laws.proofs.Slices.{length-placed, getD-past}
+use Rattle.laws.proofs.Tab.{tab-ext}
 use Rattle.netlist.specs.Netlist.{Block, gateCount}
 use Rattle.netlist.specs.Groups.{sameGroup}
 use Rattle.reach.proofs.SameGroup.{sameGroup-refl, sameGroup-sym, sameGroup-trans, sameGroup-below}
-use Rattle.components.specs.Leaders.{noLeader, leaderOf, Grouped, givenBy, GroupLed, takenAt, AllLed, firstLike, FirstLed, LowerReady}
+use Rattle.condensation.specs.Condensed.{Condensed}
+use Rattle.components.specs.Leaders.{noLeader, leaderOf, Grouped, givenBy, GroupLed, AllLed, firstLike, FirstLed, LowerReady}
 
 -- ---- slices
-
--- a slice is known by its first m elements and the rest
-placed-is : (f : ℕ → ℕ) (m : ℕ) (entry slice : List ℕ) → m ≤ length entry → length slice ≡ length entry → ((k : ℕ) → k < m → getD slice k 0 ≡ f k)
-    → ((k : ℕ) → m ≤ k → getD slice k 0 ≡ getD entry k 0) → slice ≡ placed (tab f m) entry
-placed-is f m entry slice room len first rest =
-    ext-getD 0 slice (placed (tab f m) entry) lengths
-    (λ k l. ⊎-elim (λ h. first k h ∙ sym (placed-tab f m entry k 0 h)) (λ h. rest k h ∙ sym (behind k h)) (lt-or-le k m))
-  where
-    lengths : length slice ≡ length (placed (tab f m) entry)
-    lengths = len ∙ sym (length-placed (tab f m) entry (rw (length-tab f m) room))
-
-    behind : (k : ℕ) → m ≤ k → getD (placed (tab f m) entry) k 0 ≡ getD entry k 0
-    behind k h = rw (length-tab f m) (getD-past (tab f m) entry m k 0 (length-tab f m) h)
 
 -- what `forget` stores
 forgotten : (m : ℕ) (entry : List ℕ) (k : ℕ) → k < m → getD (replicate m noLeader ++ drop m entry) k 0 ≡ noLeader
@@ -95,52 +82,36 @@ module _ (b : Block) (m : ℕ) (gatesAre : m ≡ gateCount b) (few : m ≤ 1024)
         both e = rw (eq-eqb (getD entry l 0) noLeader e, sameGroup-refl b l (subst (λ (c : ℕ). l < c) gatesAre lt)) refl
 
   -- t gates have had their turn
-  pub record Turns (downward : Bool) (t : ℕ) (entry leaders : List ℕ) : Type 0 where
+  pub record Turns (t : ℕ) (entry leaders : List ℕ) : Type 0 where
     pub within : t ≤ m
     pub sameLength : length leaders ≡ length entry
     pub grouped : Grouped b m leaders
-    pub led : (i : ℕ) → i < t → getD leaders (takenAt downward m i) 0 ≡ noLeader → ⊥
-    pub rest : (k : ℕ) → m ≤ k → getD leaders k 0 ≡ getD entry k 0
+    pub led : (i : ℕ) → i < t → getD leaders i 0 ≡ noLeader → ⊥
 
-  pub taken-below : (downward : Bool) (t : ℕ) → t < m → takenAt downward m t < m
-  unfolding takenAt
-  taken-below true t l = omega arith
-  taken-below false t l = l
+  pub turns-start : (entry : List ℕ) → Grouped b m entry → Turns 0 entry entry
+  turns-start entry g = record { within = omega arith; sameLength = refl; grouped = g; led = λ i l. absurd (not-suc-le-zero l) }
 
-  taken-back : (downward : Bool) (t : ℕ) → t < m → takenAt downward m (takenAt downward m t) ≡ t
-  unfolding takenAt
-  taken-back true t l = omega arith
-  taken-back false t l = refl
-
-  pub turns-start : (downward : Bool) (entry : List ℕ) → Grouped b m entry → Turns downward 0 entry entry
-  turns-start downward entry g =
-      record { within = omega arith; sameLength = refl; grouped = g; led = λ i l. absurd (not-suc-le-zero l); rest = λ k h. refl }
-
-  pub turns-next : {downward : Bool} {t : ℕ} {entry leaders leaders′ : List ℕ} → Turns downward t entry leaders → t < m → (l : ℕ) → l ≡ takenAt downward m t
-      → GroupLed b m l leaders leaders′ → Turns downward (t + 1) entry leaders′
-  turns-next {downward} {t} {entry} {leaders} {leaders′} s lt l is g =
-      let ll : l < m = rw is (taken-below downward t lt) in
+  pub turns-next : {t : ℕ} {entry leaders leaders′ : List ℕ} → Turns t entry leaders → t < m → GroupLed b m t leaders leaders′ → Turns (t + 1) entry leaders′
+  turns-next {t} {entry} {leaders} {leaders′} s lt g =
       record {
         within = omega arith;
         sameLength = g .sameLength ∙ s .sameLength;
-        grouped = grouped-next ll (s .grouped) g;
+        grouped = grouped-next lt (s .grouped) g;
         led =
-            λ i il. ⊎-elim (λ e. rw e (subst (λ (k : ℕ). getD leaders′ k 0 ≡ noLeader → ⊥) is (led-now ll (s .grouped) g)))
-            (λ ne. led-kept ll (s .grouped) g (takenAt downward m i) (taken-below downward i (omega arith)) (s .led i (omega arith))) (eq-or-ne i t);
-        rest = λ k h. g .rest k h ∙ s .rest k h;
+            λ i il. ⊎-elim (λ e. rw e (led-now lt (s .grouped) g))
+            (λ ne. led-kept lt (s .grouped) g i (omega (arith, s .within)) (s .led i (omega arith))) (eq-or-ne i t);
       }
 
-  pub turns-end : {downward : Bool} {t : ℕ} (entry : List ℕ) {leaders : List ℕ} → m ≤ length entry → m ≤ t
-      → Turns downward t (replicate m noLeader ++ drop m entry) leaders → AllLed b m entry leaders
-  turns-end {downward} {t} entry {leaders} room ge s =
-      record {
-        sameLength = s .sameLength ∙ rw (length-append, length-replicate {A = ℕ} m noLeader, length-drop) (omega arith);
-        grouped = s .grouped;
-        led =
-            λ j jl. subst (λ (k : ℕ). getD leaders k 0 ≡ noLeader → ⊥) (taken-back downward j jl)
-            (s .led (takenAt downward m j) (omega (arith, taken-below downward j jl)));
-        rest = λ k h. s .rest k h ∙ getD-past (replicate m noLeader) entry m k 0 (length-replicate {A = ℕ} m noLeader) h;
-      }
+  pub turns-end : {t : ℕ} {entry leaders : List ℕ} → m ≤ t → Turns t entry leaders → AllLed b m leaders
+  turns-end ge s = record { grouped = s .grouped; led = λ j jl. s .led j (omega arith) }
+
+-- what is certified is led
+pub condensed-led : {b : Block} {m : ℕ} {leaders : List ℕ} → m ≤ 1024 → Condensed b m leaders → AllLed b m leaders
+condensed-led few c =
+    record {
+      grouped = record { alike = c .alike; own = λ j l. inr (c .own j l) };
+      led = λ j l e. omega (arith, c .below j l);
+    }
 
 -- ---- the first gate that has a leader
 
@@ -206,10 +177,6 @@ module _ {leaders : List ℕ} {m k : ℕ} {firsts : List ℕ} (f : Firsts leader
           (λ h. let lt : getD firsts r 0 < k = h .0 in inr (omega arith, h .1, h .2))
           (f .known r rl))
 
--- a gate whose turn is still to come
-pub still-there : (f : ℕ → ℕ) (k : ℕ) (entry slice : List ℕ) → slice ≡ placed (tab f k) entry → getD slice k 0 ≡ getD entry k 0
-still-there f k entry slice e = rw (e, length-tab f k) (getD-past (tab f k) entry k k 0 (length-tab f k) (omega arith))
-
 -- what is found is not above the gate
 pub first-le : (leaders : List ℕ) (k : ℕ) → firstLike leaders k ≤ k
 unfolding firstLike
@@ -217,7 +184,7 @@ first-le leaders k = least-le (λ j. eqb (getD leaders j 0) (getD leaders k 0)) 
 
 -- ---- which is the group's lowest gate
 
-module _ {b : Block} {m : ℕ} {entry leaders : List ℕ} (gatesAre : m ≡ gateCount b) (a : AllLed b m entry leaders) where
+module _ {b : Block} {m : ℕ} {leaders : List ℕ} (gatesAre : m ≡ gateCount b) (a : AllLed b m leaders) where
   in-block : {j : ℕ} → j < m → j < gateCount b
   in-block {j} l = subst (λ (c : ℕ). j < c) gatesAre l
 
@@ -247,11 +214,11 @@ module _ {b : Block} {m : ℕ} {entry leaders : List ℕ} (gatesAre : m ≡ gate
       f-le : f ≤ k
       f-le = least-le test k
 
-  pub lower-ready : (firsts : List ℕ) → m ≤ 1024 → m ≤ length entry → m ≤ length firsts → LowerReady m leaders firsts
-  lower-ready firsts few room firstRoom =
+  pub lower-ready : (lowest firsts : List ℕ) → m ≤ 1024 → m ≤ length lowest → m ≤ length firsts → LowerReady m leaders lowest firsts
+  lower-ready lowest firsts few room firstRoom =
       record {
         few = few;
-        room = rw (a .sameLength) room;
+        room = room;
         firstRoom = firstRoom;
         below =
             λ j jl. ⊎-elim (λ h. absurd (a .led j jl h))
@@ -259,9 +226,5 @@ module _ {b : Block} {m : ℕ} {entry leaders : List ℕ} (gatesAre : m ≡ gate
             (a .grouped .own j jl);
       }
 
-  pub lowest-led : {final : List ℕ} → m ≤ length entry → final ≡ placed (tab (firstLike leaders) m) leaders → final ≡ placed (tab (leaderOf b) m) entry
-  lowest-led {final} room e =
-      placed-is (leaderOf b) m entry final room (rw (e, length-append, length-drop, length-tab (firstLike leaders) m) (omega (arith, a .sameLength)))
-      (λ k kl. rw e (placed-tab (firstLike leaders) m leaders k 0 kl) ∙ first-leads k kl)
-      (λ k h. rw e (rw (length-tab (firstLike leaders) m) (getD-past (tab (firstLike leaders) m) leaders m k 0 (length-tab (firstLike leaders) m) h))
-      ∙ a .rest k h)
+  pub lowest-led : (entry : List ℕ) {lowest : List ℕ} → lowest ≡ placed (tab (firstLike leaders) m) entry → lowest ≡ placed (tab (leaderOf b) m) entry
+  lowest-led entry e = e ∙ rw (tab-ext (firstLike leaders) (leaderOf b) m first-leads) refl

@@ -1,5 +1,5 @@
 -- The leader of a strongly connected group is its lowest gate; and how leaders are found, on arrays: a gate's leader, or the mark of none.
-use Prim.Native.Nat.{ℕ, _-_, _≤_, _<_}
+use Prim.Native.Nat.{ℕ, _≤_, _<_}
 use mathlib.Core.Path.{_≡_}
 use mathlib.Core.Logic.{_⊎_}
 use mathlib.Core.Bool.{Bool, true, false, cond, _&&_}
@@ -89,22 +89,15 @@ pub record TurnReady (ws : List ℕ) (m leader : ℕ) (leaders : List ℕ) : Typ
 unfoldable pub givenBy : Block → ℕ → List ℕ → ℕ → ℕ
 givenBy b l leaders j = cond (eqb (getD leaders l 0) noLeader && sameGroup b l j) l (getD leaders j 0)
 
--- what `lead_group` does; nothing is stored past the gates
+-- what `lead_group` does
 pub record GroupLed (b : Block) (m l : ℕ) (entry leaders : List ℕ) : Type 0 where
   pub sameLength : length leaders ≡ length entry
   pub first : (j : ℕ) → j < m → getD leaders j 0 ≡ givenBy b l entry j
-  pub rest : (j : ℕ) → m ≤ j → getD leaders j 0 ≡ getD entry j 0
-
--- the gate that is taken after t others, from either end
-unfoldable pub takenAt : Bool → ℕ → ℕ → ℕ
-takenAt downward m t = cond downward (m - 1 - t) t
 
 -- every group has a leader
-pub record AllLed (b : Block) (m : ℕ) (entry leaders : List ℕ) : Type 0 where
-  pub sameLength : length leaders ≡ length entry
+pub record AllLed (b : Block) (m : ℕ) (leaders : List ℕ) : Type 0 where
   pub grouped : Grouped b m leaders
   pub led : (j : ℕ) → j < m → getD leaders j 0 ≡ noLeader → ⊥
-  pub rest : (j : ℕ) → m ≤ j → getD leaders j 0 ≡ getD entry j 0
 
 -- the first gate with gate k's leader
 unfoldable pub firstLike : List ℕ → ℕ → ℕ
@@ -116,8 +109,8 @@ pub record FirstLed (leader k : ℕ) (firsts firsts′ : List ℕ) (first : ℕ)
   pub leaves : firsts′ ≡ cond (eqb (getD firsts leader 0) noLeader) (set firsts leader k) firsts
 
 -- what `lower` needs
-pub record LowerReady (m : ℕ) (leaders firsts : List ℕ) : Type 0 where
+pub record LowerReady (m : ℕ) (leaders lowest firsts : List ℕ) : Type 0 where
   pub few : m ≤ maxGates
-  pub room : m ≤ length leaders
+  pub room : m ≤ length lowest
   pub firstRoom : m ≤ length firsts
   pub below : (j : ℕ) → j < m → getD leaders j 0 < m

@@ -3,33 +3,31 @@ use Prim.Native.Nat.{_-_, _≤_, _<_}
 use mathlib.Core.Path.{_≡_, refl, _∙_}
 use borrow.Author.Needs.{needs}
 use native.Mathlib.Omega.{arith}
-use lib.ListN.{length, getD, length-set}
+use lib.ListN.{length, length-set}
 use Rattle.laws.specs.Lists.{tab, placed}
 use Rattle.laws.proofs.Tab.{fill-next}
 use Rattle.components.specs.Leaders.{firstLike}
-use Rattle.components.proofs.Lowest.{Firsts, firsts-none, first-is, first-le, firsts-next, still-there}
+use Rattle.components.proofs.Lowest.{Firsts, firsts-none, first-is, first-le, firsts-next}
 use Rattle.components.proofs.leaders.lower.Statement.{statement}
 use Rattle.components.proofs.leaders.lower.Tie as tie
 
 abbrev Inv-loop : tie.InvT-loop
-Inv-loop m leaders₀ firsts₀ k₀ leaders firsts k =
-    (k ≤ m) × (leaders ≡ placed (tab (firstLike leaders₀) k) leaders₀) × Firsts leaders₀ m k firsts × (length leaders ≡ length leaders₀)
+Inv-loop m leaders lowest₀ firsts₀ k₀ lowest firsts k =
+    (k ≤ m) × (lowest ≡ placed (tab (firstLike leaders) k) lowest₀) × Firsts leaders m k firsts × (length lowest ≡ length lowest₀)
     × (length firsts ≡ length firsts₀)
 
 abbrev μ-loop : tie.MeasureT-loop
-μ-loop m leaders₀ firsts₀ k₀ leaders firsts k = m - k
+μ-loop m leaders lowest₀ firsts₀ k₀ lowest firsts k = m - k
 
 forget-requires : tie.Need-forget-requires Inv-loop μ-loop
-forget-requires c κs = c .before .before .before .pre .firstRoom
+forget-requires c κs = c .before .before .before .before .pre .firstRoom
 
 loop-holds : tie.Need-loop-holds Inv-loop μ-loop
 loop-holds c =
-    let at-start = c .before .before .before .before .before .before in
-    let s = at-start in (
+    let s = c .before .before .before .before .before .before .before in (
       omega arith,
       refl,
-      rw (c .before .before .forget .ensures)
-          (firsts-none (s .args .leaders .now) (s .args .m) (s .args .firsts .now)),
+      rw (c .before .before .forget .ensures) (firsts-none (s .args .leaders .now) (s .args .m) (s .args .firsts .now)),
       refl,
       refl,
     )
@@ -39,75 +37,62 @@ word-at-requires c κs = search needs
 
 first-led-requires : tie.Need-first-led-requires Inv-loop μ-loop
 first-led-requires c κs =
-    let at-loop = c .before .before .before .before in
-    let after-forget = at-loop .before .before .before in
-    let s = after-forget .before .before .before .before in
-    let l = at-loop .loop in
+    let in-loop = c .before .before in
+    let after-forget = in-loop .before .before .before .before in
+    let s = after-forget .before .before .before .before .before in
+    let l = in-loop .before .loop in
     let w = c .before .word-at in
-    let is : w .result ≡ getD (s .args .leaders .now) (l .k) 0 = w .ensures ∙ still-there (firstLike (s .args .leaders .now)) (l .k)
-    (s .args .leaders .now) (l .leaders) (l .inv .1) in
-    let small : w .result < s .args .m = rw is (s .pre .below (l .k) (c .before .before .before .loop-test .taken)) in
-    (omega (arith, l .inv .4, after-forget .forget .kept .1 .0, s .pre .firstRoom), omega (arith, s .pre .few, c .before .before .before .loop-test .taken))
+    let small : w .result < s .args .m = rw (w .ensures) (s .pre .below (l .k) (in-loop .loop-test .taken)) in
+    (omega (arith, l .inv .4, after-forget .forget .kept .1 .0, s .pre .firstRoom), omega (arith, s .pre .few, in-loop .loop-test .taken))
 
-cast-leaders : tie.Need-cast-leaders Inv-loop μ-loop
-cast-leaders c =
-    let after-word-at = c .before .before .before .before in
-    let in-loop = after-word-at .before .before in
-    let at-loop = in-loop .before in
-    let s = at-loop .before .before .before .before .before .before .before in
-    let l = at-loop .loop in
-    let w = after-word-at .word-at in
-    let is : w .result ≡ getD (s .args .leaders .now) (l .k) 0 = w .ensures ∙ still-there (firstLike (s .args .leaders .now)) (l .k)
-    (s .args .leaders .now) (l .leaders) (l .inv .1) in
-    let small : w .result < s .args .m = rw is (s .pre .below (l .k) (in-loop .loop-test .taken)) in
+cast-lowest : tie.Need-cast-lowest Inv-loop μ-loop
+cast-lowest c =
+    let in-loop = c .before .before .before .before .before in
+    let s = in-loop .before .before .before .before .before .before .before .before .before in
+    let l = in-loop .before .loop in
+    let w = c .before .before .before .before .word-at in
+    let small : w .result < s .args .m = rw (w .ensures) (s .pre .below (l .k) (in-loop .loop-test .taken)) in
     let found : c .before .before .first-led .result ≡ firstLike (s .args .leaders .now) (l .k) = first-is (l .inv .2) (in-loop .loop-test .taken)
-    (s .pre .few) (w .result) is small (c .before .before .first-led .ensures) in
+    (s .pre .few) (w .result) (w .ensures) small (c .before .before .first-led .ensures) in
     omega (arith, first-le (s .args .leaders .now) (l .k), s .pre .few, in-loop .loop-test .taken)
 
-mul-leaders : tie.Need-mul-leaders Inv-loop μ-loop
-mul-leaders c =
-    let in-loop = c .before .before .before .before .before .before in
-    let after-slice-known2 = in-loop .before .before .before .before .before .before in
-    let at-start = after-slice-known2 .before .before in
-    omega (arith, at-start .pre .few, in-loop .loop-test .taken)
+mul-lowest : tie.Need-mul-lowest Inv-loop μ-loop
+mul-lowest c =
+    let in-loop = c .before .before .before .before .before in
+    let s = in-loop .before .before .before .before .before .before .before .before .before in
+    omega (arith, s .pre .few, in-loop .loop-test .taken)
 
-slice-write-leaders : tie.Need-slice-write-leaders Inv-loop μ-loop
-slice-write-leaders c =
-    let in-loop = c .before .before .before .before .before .before in
-    let at-loop = in-loop .before in
-    let at-start = at-loop .before .before .before .before .before .before .before in
-    omega (arith, at-start .pre .room, at-loop .loop .inv .3, in-loop .loop-test .taken)
+slice-write-lowest : tie.Need-slice-write-lowest Inv-loop μ-loop
+slice-write-lowest c =
+    let in-loop = c .before .before .before .before .before in
+    let s = in-loop .before .before .before .before .before .before .before .before .before in
+    omega (arith, s .pre .room, in-loop .before .loop .inv .3, in-loop .loop-test .taken)
 
 add-k : tie.Need-add-k Inv-loop μ-loop
 add-k c =
-    let in-loop = c .before .before .before .before .before .before in
-    let after-slice-known2 = in-loop .before .before .before .before .before .before in
-    let at-start = after-slice-known2 .before .before in
-    omega (arith, at-start .pre .few, in-loop .loop-test .taken)
+    let in-loop = c .before .before .before .before .before in
+    let s = in-loop .before .before .before .before .before .before .before .before .before in
+    omega (arith, s .pre .few, in-loop .loop-test .taken)
 
 loop-less : tie.Need-loop-less Inv-loop μ-loop
-loop-less c = omega (arith, c .before .before .before .before .before .before .loop-test .taken)
+loop-less c = omega (arith, c .before .before .before .before .before .loop-test .taken)
 
 loop-again : tie.Need-loop-again Inv-loop μ-loop
 loop-again c =
-    let after-word-at = c .before .before .before .before in
-    let in-loop = after-word-at .before .before in
-    let at-loop = in-loop .before in
-    let after-forget = at-loop .before .before .before in
-    let s = after-forget .before .before .before .before in
-    let l = at-loop .loop in
-    let w = after-word-at .word-at in
-    let is : w .result ≡ getD (s .args .leaders .now) (l .k) 0 = w .ensures ∙ still-there (firstLike (s .args .leaders .now)) (l .k)
-    (s .args .leaders .now) (l .leaders) (l .inv .1) in
-    let small : w .result < s .args .m = rw is (s .pre .below (l .k) (in-loop .loop-test .taken)) in
+    let in-loop = c .before .before .before .before .before in
+    let after-forget = in-loop .before .before .before .before in
+    let s = after-forget .before .before .before .before .before in
+    let l = in-loop .before .loop in
+    let w = c .before .before .before .before .word-at in
+    let small : w .result < s .args .m = rw (w .ensures) (s .pre .below (l .k) (in-loop .loop-test .taken)) in
     let found : c .before .before .first-led .result ≡ firstLike (s .args .leaders .now) (l .k) = first-is (l .inv .2) (in-loop .loop-test .taken)
-    (s .pre .few) (w .result) is small (c .before .before .first-led .ensures) in
-    let lt : l .k < length (s .args .leaders .now) = omega (arith, s .pre .room, in-loop .loop-test .taken) in (
+    (s .pre .few) (w .result) (w .ensures) small (c .before .before .first-led .ensures) in
+    let lt : l .k < length (s .args .lowest .now) = omega (arith, s .pre .room, in-loop .loop-test .taken) in (
       omega (arith, in-loop .loop-test .taken),
-      fill-next (firstLike (s .args .leaders .now)) (l .k) (s .args .leaders .now) (l .leaders) (c .before .before .first-led .result) (l .inv .1) lt found,
-      firsts-next (l .inv .2) (in-loop .loop-test .taken) (s .pre .few) (w .result) is small (c .before .before .first-led .ensures)
+      fill-next (firstLike (s .args .leaders .now)) (l .k) (s .args .lowest .now) (l .lowest) (c .before .before .first-led .result) (l .inv .1) lt found,
+      firsts-next (l .inv .2) (in-loop .loop-test .taken) (s .pre .few) (w .result) (w .ensures) small (c .before .before .first-led .ensures)
           (rw (l .inv .4, after-forget .forget .kept .1 .0) (s .pre .firstRoom)),
-      length-set (l .leaders) (l .k) (c .before .before .first-led .result) ∙ l .inv .3,
+      length-set (l .lowest) (l .k) (c .before .before .first-led .result) ∙ l .inv .3,
       c .before .before .first-led .kept .1 .1 .0 ∙ l .inv .4,
     )
 
@@ -119,9 +104,8 @@ same-length-2 c = c .before .loop .inv .4 ∙ c .before .before .before .before 
 
 returns : tie.Need-returns Inv-loop μ-loop
 returns c =
-    let after-slice-known2 = c .before .before .before .before .before .before in
-    let at-start = after-slice-known2 .before .before in
-    let all : c .before .loop .k ≡ at-start .args .m = omega arith in rw (← all) (c .before .loop .inv .1)
+    let s = c .before .before .before .before .before .before .before .before .before in
+    let all : c .before .loop .k ≡ s .args .m = omega arith in rw (← all) (c .before .loop .inv .1)
 
 pub lower-spec : {M : Type 1} → statement M
 lower-spec =
@@ -133,9 +117,9 @@ lower-spec =
     loop-holds
     word-at-requires
     first-led-requires
-    cast-leaders
-    mul-leaders
-    slice-write-leaders
+    cast-lowest
+    mul-lowest
+    slice-write-lowest
     add-k
     loop-less
     loop-again

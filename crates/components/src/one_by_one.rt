@@ -1,0 +1,168 @@
+// Leaders of groups, without a certificate. Gates are taken one by one; one without a leader leads itself and those gates that it reaches, past
+// no gate that has a leader, and that reach it back.
+use crate::leaders::forget;
+use layout::nodes::NONE;
+use layout::nodes::gate_named;
+use layout::offsets::GATE_SIZE;
+use layout::read::word_at;
+use search::walk::queue_reach;
+ghost use mathlib.Core.Path.{_≡_};
+ghost use Prim.Native.Nat.{_/_, _≤_, _<_};
+ghost use lib.ListN.{length, getD};
+ghost use Rattle.laws.specs.Lists.{any, tab, placed};
+ghost use Rattle.netlist.specs.Limits.{maxGates};
+ghost use Rattle.netlist.specs.StoredBlock.{decode};
+ghost use Rattle.search.specs.Search.{wordGate, wordGates, GatesReady};
+ghost use Rattle.components.specs.Leaders.{barredBy, ledBy, LedOne, Swept, Spread, QueueReady, TurnReady, LeadReady, GroupLed, AllLed};
+
+// Marks the gates that have a leader.
+fn bar(m: usize, leaders: &[u16], flags: &mut [u8])
+    requires { ⌜ (m ≤ length (now flags)) × (m ≤ maxGates) ⌝ }
+    ensures { λ r. ⌜ now (flags .exit) ≡ placed (tab (barredBy (now (leaders .entry))) m) (now (flags .entry)) ⌝ }
+{
+    let mut i = 0;
+    while i < m {
+        flags[i] = (word_at(leaders, i) != NONE) as u8;
+        i += 1;
+    }
+}
+
+// The operand word names a gate that `leader` leads.
+fn is_led(w: usize, n: usize, m: usize, leaders: &[u16], leader: usize) -> bool
+    requires { ⌜ (n ≤ 65535) × (m ≤ maxGates) ⌝ }
+    ensures { λ r. ⌜ r ≡ any (ledBy (now (leaders .entry)) leader) (wordGate n m w) ⌝ }
+{
+    let k = gate_named(w, n, m);
+    if m <= k {
+        return false;
+    }
+    word_at(leaders, k) == leader
+}
+
+// The gate at `at` reads such a gate.
+fn reads_led(words: &[u16], n: usize, m: usize, at: usize, leaders: &[u16], leader: usize) -> bool
+    requires { ⌜ (at ≤ 65535) × (n ≤ 65535) × (m ≤ maxGates) ⌝ }
+    ensures { λ r. ⌜ r ≡ any (ledBy (now (leaders .entry)) leader) (wordGates (now (words .entry)) n m at (getD (now (words .entry)) at 0 / 8)) ⌝ }
+{
+    let count = word_at(words, at) / 8;
+    let mut i = 0;
+    while i < count {
+        if is_led(word_at(words, at + 1 + i), n, m, leaders, leader) {
+            return true;
+        }
+        i += 1;
+    }
+    false
+}
+
+// Gate k, if it has no leader and reads a gate that `leader` leads, gets that leader; whether it did.
+fn lead_gate(
+    words: &[u16],
+    n: usize,
+    m: usize,
+    gates: usize,
+    leader: usize,
+    k: usize,
+    leaders: &mut [u16],
+) -> bool
+    requires { ⌜ (k < m) × (leader < m) × (m ≤ length (now leaders)) × GatesReady (now words) n m gates ⌝ }
+    ensures { λ r. ⌜ LedOne (now (words .entry)) n m gates leader k (now (leaders .entry)) (now (leaders .exit)) r ⌝ }
+{
+    if word_at(leaders, k) != NONE {
+        return false;
+    }
+    if !reads_led(words, n, m, gates + GATE_SIZE * k, leaders, leader) {
+        return false;
+    }
+    leaders[k] = leader as u16;
+    true
+}
+
+// The same for each queued gate, the last first; whether any got the leader.
+fn lead_once(
+    words: &[u16],
+    n: usize,
+    m: usize,
+    gates: usize,
+    leader: usize,
+    queue: &[u16],
+    count: usize,
+    leaders: &mut [u16],
+) -> bool
+    requires { ⌜ QueueReady (now words) n m gates leader (now queue) count (now leaders) ⌝ }
+    ensures { λ r. ⌜ Swept (now (words .entry)) n m gates leader (now (queue .entry)) count (now (leaders .entry)) (now (leaders .exit)) r ⌝ }
+{
+    let mut changed = false;
+    let mut left = count;
+    while 0 < left {
+        left -= 1;
+        if lead_gate(words, n, m, gates, leader, word_at(queue, left), leaders) {
+            changed = true;
+        }
+    }
+    changed
+}
+
+// The same until no queued gate gets the leader any more.
+fn lead_queued(
+    words: &[u16],
+    n: usize,
+    m: usize,
+    gates: usize,
+    leader: usize,
+    queue: &[u16],
+    count: usize,
+    leaders: &mut [u16],
+)
+    requires { ⌜ QueueReady (now words) n m gates leader (now queue) count (now leaders) ⌝ }
+    ensures { λ r. ⌜ Spread (now (words .entry)) n m gates leader (now (queue .entry)) count (now (leaders .entry)) (now (leaders .exit)) ⌝ }
+{
+    let mut changed = true;
+    while changed {
+        changed = lead_once(words, n, m, gates, leader, queue, count, leaders);
+    }
+}
+
+// If gate `leader` has no leader, its group gets it.
+fn lead_group(
+    words: &[u16],
+    n: usize,
+    m: usize,
+    gates: usize,
+    leader: usize,
+    leaders: &mut [u16],
+    flags: &mut [u8],
+    queue: &mut [u16],
+)
+    requires { ⌜ TurnReady (now words) m leader (now leaders) × LeadReady (now words) n m gates (now flags) (now queue) ⌝ }
+    ensures { λ r. ⌜ GroupLed (decode (now (words .entry))) m leader (now (leaders .entry)) (now (leaders .exit)) ⌝ }
+{
+    if word_at(leaders, leader) != NONE {
+        return;
+    }
+    bar(m, leaders, flags);
+    let count = queue_reach(words, n, m, gates, leader, flags, queue);
+    leaders[leader] = leader as u16;
+    lead_queued(words, n, m, gates, leader, queue, count, leaders);
+}
+
+// Every group has one of its gates for its leader.
+pub fn lead_groups(
+    words: &[u16],
+    n: usize,
+    m: usize,
+    gates: usize,
+    leaders: &mut [u16],
+    flags: &mut [u8],
+    queue: &mut [u16],
+)
+    requires { ⌜ (m ≤ length (now leaders)) × LeadReady (now words) n m gates (now flags) (now queue) ⌝ }
+    ensures { λ r. ⌜ AllLed (decode (now (words .entry))) m (now (leaders .exit)) ⌝ }
+{
+    forget(m, leaders);
+    let mut k = 0;
+    while k < m {
+        lead_group(words, n, m, gates, k, leaders, flags, queue);
+        k += 1;
+    }
+}

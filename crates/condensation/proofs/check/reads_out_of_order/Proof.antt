@@ -1,0 +1,90 @@
+-- `condensation::check::reads_out_of_order` meets its contract: none of the operand words passed so far names a gate that is out of order. Assumes nothing.
+use Prim.Native.Nat.{_-_, _/_, _≤_}
+use mathlib.Core.Path.{_≡_, _∙_, sym}
+use mathlib.Core.Bool.{false}
+use borrow.Author.Needs.{needs}
+use native.Mathlib.Omega.{arith}
+use Rattle.laws.specs.Lists.{any}
+use Rattle.search.specs.Search.{wordGates}
+use Rattle.search.proofs.Operands.{none-yet, found-one, no-words}
+use Rattle.condensation.specs.Condensed.{outOfOrder}
+use Rattle.condensation.proofs.check.reads_out_of_order.Statement.{statement}
+use Rattle.condensation.proofs.check.reads_out_of_order.Tie as tie
+
+abbrev Inv-loop : tie.InvT-loop
+Inv-loop words n m at leaders notes leader count i₀ i = (i ≤ count) × (any (outOfOrder leaders notes leader) (wordGates words n m at i) ≡ false)
+
+abbrev μ-loop : tie.MeasureT-loop
+μ-loop words n m at leaders notes leader count i₀ i = count - i
+
+word-at-requires : tie.Need-word-at-requires Inv-loop μ-loop
+word-at-requires c κs = search needs
+
+loop-holds : tie.Need-loop-holds Inv-loop μ-loop
+loop-holds c =
+    let a = c .before .before .before .before .args in
+    (omega arith, no-words (outOfOrder (a .leaders .now) (a .notes .now) (a .leader)) (a .n) (a .m) (a .words .now) (a .at))
+
+add-word-at : tie.Need-add-word-at Inv-loop μ-loop
+add-word-at c = omega arith
+
+add-word-at-2 : tie.Need-add-word-at-2 Inv-loop μ-loop
+add-word-at-2 c = omega arith
+
+word-at-requires-2 : tie.Need-word-at-requires-2 Inv-loop μ-loop
+word-at-requires-2 c κs = search needs
+
+is-out-of-order-requires : tie.Need-is-out-of-order-requires Inv-loop μ-loop
+is-out-of-order-requires c κs = let s = c .before .before .before .before .before .before .before in (s .pre .1, s .pre .2, s .pre .3)
+
+returns : tie.Need-returns Inv-loop μ-loop
+returns c =
+    let at-loop = c .before .before .before .before in
+    let after-word-at = at-loop .before in
+    let at-start = after-word-at .before .before .before .before in
+    let a = at-start .args in
+    rw (← after-word-at .word-at .ensures)
+    (sym (found-one (outOfOrder (a .leaders .now) (a .notes .now) (a .leader)) (a .n) (a .m) (a .words .now) (a .at) (at-loop .loop .i)
+    (after-word-at .word-at .result / 8)
+    (c .before .before .before .loop-test .taken)
+    (rw (← c .before .before .word-at2 .ensures) (sym (c .before .is-out-of-order .ensures) ∙ c .if1 .taken))))
+
+add-i : tie.Need-add-i Inv-loop μ-loop
+add-i c = omega arith
+
+loop-less : tie.Need-loop-less Inv-loop μ-loop
+loop-less c = omega arith
+
+loop-again : tie.Need-loop-again Inv-loop μ-loop
+loop-again c =
+    let at-loop = c .before .before .before .before in
+    let at-start = at-loop .before .before .before .before .before in
+    let a = at-start .args in
+    let l = at-loop .loop in (
+      omega arith,
+      none-yet (outOfOrder (a .leaders .now) (a .notes .now) (a .leader)) (a .n) (a .m) (a .words .now) (a .at) (l .i) (l .inv .1)
+          (rw (← c .before .before .word-at2 .ensures) (sym (c .before .is-out-of-order .ensures) ∙ c .if1 .left)),
+    )
+
+returns-2 : tie.Need-returns-2 Inv-loop μ-loop
+returns-2 c =
+    let all : c .before .loop .i ≡ c .before .before .word-at .result / 8 = omega arith in
+    rw (← c .before .before .word-at .ensures, ← all) (sym (c .before .loop .inv .1))
+
+pub reads-out-of-order-spec : {M : Type 1} → statement M
+reads-out-of-order-spec =
+    tie.close
+    (tie.spec
+    Inv-loop
+    μ-loop
+    word-at-requires
+    loop-holds
+    add-word-at
+    add-word-at-2
+    word-at-requires-2
+    is-out-of-order-requires
+    returns
+    add-i
+    loop-less
+    loop-again
+    returns-2)
