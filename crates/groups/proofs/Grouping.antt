@@ -1,22 +1,21 @@
 -- A group gets its number, gate by gate. Cited by `number_group`. Assumes nothing.
-use mathlib.Core.Path.{_≡_, refl, sym, _∙_}
+use mathlib.Core.Path.{_≡_, refl, _∙_}
 use mathlib.Core.Logic.{_⊎_, inl, inr, ⊎-elim}
-use mathlib.Core.Bool.{true, false, cond}
+use mathlib.Core.Bool.{false}
 use mathlib.Core.List.{List}
 use Prim.Native.Nat.{ℕ, _+_, _-_, _≤_, _<_}
 use native.Mathlib.Nat.{zero-add}
 use native.Mathlib.Omega.{arith}
-use lib.ListN.{length, getD, set}
+use lib.ListN.{length, getD}
 use borrow.Author.Tests.{eq-eqb, ne-eqb}
 use Rattle.laws.specs.Lists.{tab, placed}
-use Rattle.laws.proofs.Tests.{lt-or-le}
 use Rattle.laws.proofs.Tab.{placed-tab}
 use Rattle.links.specs.Links.{FirstFrom}
 use Rattle.links.proofs.Linking.{next-above}
 use Rattle.groups.specs.Numbering.{noNumber, unnumbered, renumbered}
-use Rattle.groups.specs.Ready.{inSet, Removed}
+use Rattle.groups.specs.Ready.{Removed}
 use Rattle.groups.specs.Waiting.{nobody, Waiting, GateReady, GateNumbered, GroupReady, GroupNumbered}
-use Rattle.groups.proofs.Leading.{lead-le, lead-self, lowest}
+use Rattle.groups.proofs.Leading.{lead-le, lowest}
 use Rattle.groups.proofs.Standing.{taken-out, taken-still, ended-still}
 use Rattle.groups.proofs.Filling.{renumber, kept-between}
 

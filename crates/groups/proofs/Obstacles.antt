@@ -1,8 +1,8 @@
 -- A group's search for a blocked gate, and the operands as a list. Cited by `seek`, `list_operands` and `number_gate`. Assumes nothing.
-use mathlib.Core.Path.{_≡_, refl, sym, ap, _∙_}
+use mathlib.Core.Path.{_≡_, refl, sym, _∙_}
 use mathlib.Core.Logic.{⊎-elim}
 use mathlib.Core.Bool.{Bool, true, false, cond, or-false}
-use mathlib.Core.List.{List, [], _∷_}
+use mathlib.Core.List.{List, []}
 use Prim.Native.Nat.{ℕ, _+_, _-_, _*_, _/_, _%_, _≤_, _<_}
 use native.Mathlib.Omega.{arith}
 use lib.ListN.{length, getD}
@@ -49,7 +49,8 @@ module _ {ws : List ℕ} {n m gates : ℕ} {leaders nexts numbers : List ℕ} {l
       unfolding blocked
       seek-more h i′ e fits =
           record {
-            passed = λ x a b c d. ⊎-elim (λ lt. k .passed x a lt c d) (λ le. ⊎-elim (at x) (λ ne. absurd (next .passed x (omega (arith, ne)) b c d)) (eq-or-ne x i))
+            passed = λ x a b c d. ⊎-elim (λ lt. k .passed x a lt c d)
+                (λ le. ⊎-elim (at x) (λ ne. absurd (next .passed x (omega (arith, ne)) b c d)) (eq-or-ne x i))
                 (lt-or-le x i);
             led = λ b. next .found b .1;
             small = fits;

@@ -17,7 +17,7 @@ use Rattle.laws.proofs.Tests.{eq-or-ne, lt-or-le, not-both}
 use Rattle.laws.proofs.Least.{least-below, least-at, least-is}
 use Rattle.netlist.specs.Assignments.{bit}
 use Rattle.lanes.proofs.BitLaws.{bit-low, bit-zero, bit-high, bit-or, bit-xor}
-use Rattle.judge.specs.Lanes.{hasLane, Tells}
+use Rattle.judge.specs.Lanes.{hasLane}
 use Rattle.judge.proofs.WordLaws.{tells-some}
 use Rattle.groups.specs.Ready.{inSet, Added, Removed}
 
@@ -156,11 +156,13 @@ module _ (ready : List ℕ) (at : ℕ) (none : NoneBelow ready at) where
           let s : (s : ℕ) × (s < 64) × (hasLane (getD ready at 0) (0 + s) ≡ true) =
           tells-some {lanes = 64} {base = 0} {p = hasLane (getD ready at 0)} {w = getD ready at 0}
           (record { within = fits; each = λ s l. rw zero-add refl }) ne in
-          ⊎-elim (λ h. h) (λ h. not-both (s .2) (rw (zero-add (s .0)) (least-below (hasLane (getD ready at 0)) 64 (s .0) (omega (arith, s .1))))) (lt-or-le r 64)
+          ⊎-elim (λ h. h) (λ h. not-both (s .2) (rw (zero-add (s .0)) (least-below (hasLane (getD ready at 0)) 64 (s .0) (omega (arith, s .1)))))
+          (lt-or-le r 64)
 
       below : (i : ℕ) → i < 64 * at + r → inSet ready i ≡ false
       below i h =
-          ⊎-elim (none i) (λ a. in-word i a (omega (arith, within)) ∙ least-below (hasLane (getD ready at 0)) 64 (i - 64 * at) (omega arith)) (lt-or-le i (64 * at))
+          ⊎-elim (none i) (λ a. in-word i a (omega (arith, within)) ∙ least-below (hasLane (getD ready at 0)) 64 (i - 64 * at) (omega arith))
+          (lt-or-le i (64 * at))
 
       at-it : 64 * at + r < 64 * length ready → inSet ready (64 * at + r) ≡ true
       at-it h =

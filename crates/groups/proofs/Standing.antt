@@ -7,7 +7,7 @@
 -- Assumes nothing.
 use mathlib.Core.Path.{_≡_, refl, sym, ap, _∙_, subst}
 use mathlib.Core.Logic.{_⊎_, inl, inr, ⊎-elim}
-use mathlib.Core.Bool.{Bool, true, false, not, _&&_, or-true, or-false}
+use mathlib.Core.Bool.{true, false, not, _&&_, or-true, or-false}
 use mathlib.Core.List.{List}
 use Prim.Native.Nat.{ℕ, _+_, _*_, _/_, _≤_, _<_}
 use native.Mathlib.Omega.{arith}
@@ -27,7 +27,8 @@ use Rattle.links.proofs.Linking.{next-above}
 use Rattle.search.specs.Search.{gateReads}
 use Rattle.groups.specs.Numbering.{noNumber, unnumbered, obstacle, numberedGates, leadsNext, NumberReady}
 use Rattle.groups.specs.Ready.{inSet, Added, Removed}
-use Rattle.groups.specs.Waiting.{blocked, Sought, Stand, nobody, IsReady, Waiting, Looked, StartReady, operandsOf, Pending, WakeReady, AllLinked, GateReady}
+use Rattle.groups.specs.Waiting.{blocked, Sought, Stand, nobody, IsReady, Waiting}
+use Rattle.groups.specs.Waiting.{Looked, StartReady, operandsOf, Pending, WakeReady, AllLinked, GateReady}
 use Rattle.groups.proofs.Leading.{done-member, lead-le, lead-self, lowest, waits, free}
 use Rattle.groups.proofs.Obstacles.{operand-of}
 
@@ -221,7 +222,8 @@ module _ {ws : List ℕ} {n m gates : ℕ} {leaders numbers : List ℕ} (r : Num
         → Looked ws n m gates leaders numbers leader (e / 4) places ready places′ ready′
         → Waiting ws n m gates leaders numbers m m (Pending (operandsOf ws n m gates) m key (e + 1)) places′ ready′
     wake-look at long k =
-        looked (Pending (operandsOf ws n m gates) m key (e + 1)) (s .waiting) k leads (stand .stuck here .0) leader-below (λ q. absurd (omega (arith, leader-below))) long leader-below
+        looked (Pending (operandsOf ws n m gates) m key (e + 1)) (s .waiting) k leads (stand .stuck here .0) leader-below
+        (λ q. absurd (omega (arith, leader-below))) long leader-below
         (not-true-false (inSet ready leader) (λ t. absurd (omega (arith, s .waiting .sound leader t .ended, here))))
         (λ i ne a. a) (λ i ne a. a)
         (λ i a b c. stand .cleared i (rw at a) b c)

@@ -54,7 +54,12 @@ numbers-none b m entry =
 pub bare-all : (m : ℕ) (numbers entry : List ℕ) → numbers ≡ replicate m noNumber ++ drop m entry → (l : ℕ) → l < m → unnumbered numbers l ≡ true
 unfolding unnumbered
 bare-all m numbers entry is l lm =
-    rw (is, List·getD-append {A = ℕ} (replicate m noNumber) (drop m entry) 0 l (rw (length-replicate {A = ℕ} m noNumber) lm), getD-replicate m l noNumber 0 lm) refl
+    rw (
+      is,
+      List·getD-append {A = ℕ} (replicate m noNumber) (drop m entry) 0 l (rw (length-replicate {A = ℕ} m noNumber) lm),
+      getD-replicate m l noNumber 0
+          lm,
+    ) refl
 
 pub kept-behind : (m : ℕ) (numbers entry : List ℕ) → numbers ≡ replicate m noNumber ++ drop m entry → drop m numbers ≡ drop m entry
 kept-behind m numbers entry is = rw is (drop-at (replicate m noNumber) (drop m entry) m (length-replicate {A = ℕ} m noNumber))

@@ -84,7 +84,9 @@ pub fn start(
     ready: &mut [u64],
 )
     requires { ⌜ StartReady (now words) n m gates (now leaders) (now nexts) (now numbers) (now places) (now ready) ⌝ }
-    ensures { λ r. ⌜ Waiting (now (words .entry)) n m gates (now (leaders .entry)) (now (numbers .entry)) m m nobody (now (places .exit)) (now (ready .exit)) ⌝ }
+    ensures { λ r. ⌜
+        Waiting (now (words .entry)) n m gates (now (leaders .entry)) (now (numbers .entry)) m m nobody (now (places .exit)) (now (ready .exit))
+        ⌝ }
 {
     let mut l = 0;
     while l < m {
@@ -162,7 +164,9 @@ fn wake(
         (k < m) × AllLinked (now words) n m gates (now leaders) (now nexts) (now readers) (now links) × Waiting (now words) n m gates (now leaders)
         (now numbers) m m (Pending (operandsOf (now words) n m gates) m k 0) (now places) (now ready)
         ⌝ }
-    ensures { λ r. ⌜ Waiting (now (words .entry)) n m gates (now (leaders .entry)) (now (numbers .entry)) m m nobody (now (places .exit)) (now (ready .exit)) ⌝ }
+    ensures { λ r. ⌜
+        Waiting (now (words .entry)) n m gates (now (leaders .entry)) (now (numbers .entry)) m m nobody (now (places .exit)) (now (ready .exit))
+        ⌝ }
 {
     let mut e = word_at(readers, k);
     while e < OPERAND_WORDS * m {

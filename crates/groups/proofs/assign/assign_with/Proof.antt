@@ -7,12 +7,15 @@ use Rattle.groups.proofs.assign.assign_with.Tie as tie
 
 lead-requires : tie.Need-lead-requires
 lead-requires c κs =
-    let s = c .before .before .before .before .before .before .before .before .before .before .before .before .before in (s .pre .0 .leaderRoom, ready-for (s .pre .0) (s .args .flags .now) (s .args .queue .now) refl refl)
+    let far = c .before .before .before .before .before .before .before .before .before .before .before in
+    let s = far .before .before in (s .pre .0 .leaderRoom, ready-for (s .pre .0) (s .args .flags .now) (s .args .queue .now) refl refl)
 
 number-groups-requires : tie.Need-number-groups-requires
 number-groups-requires c κs =
-    let s = c .before .before .before .before .before .before .before .before .before .before .before .before .before .before .before .before .before .before .before .before .before .before .before .before .before .before .before .before in
-    let l = c .before .before .before .before .before .before .before .before .before .before .before .before .before .before .lead in
+    let far = c .before .before .before .before .before .before .before .before .before .before .before in
+    let farther = far .before .before .before .before .before .before .before .before .before .before .before in
+    let s = farther .before .before .before .before .before .before in
+    let l = far .before .before .before .lead in
     let r = s .pre .1 in (
       number-for (s .pre .0) (l .last .1 .1 .1 .1 .0) (s .args .leaders .now) (l .ensures),
       record {

@@ -1,7 +1,6 @@
 -- `groups::numbering::number_all` meets its contract: each turn gives the next group its number. Assumes nothing.
-use borrow.Author.Needs.{needs}
 use native.Mathlib.Omega.{arith}
-use Prim.Native.Nat.{_-_, _≤_, _<_}
+use Prim.Native.Nat.{_-_, _≤_}
 use mathlib.Core.Path.{_≡_, refl, _∙_}
 use lib.ListN.{length}
 use Rattle.laws.specs.Lists.{tab, placed, least}
@@ -27,7 +26,9 @@ loop-holds : tie.Need-loop-holds Inv-loop μ-loop
 loop-holds c = let s = c .before .before .before .before .before .before .before .before in (omega arith, s .pre .numbersAre, refl, s .pre .waiting, refl, refl)
 
 lowest-requires : tie.Need-lowest-requires Inv-loop μ-loop
-lowest-requires c κs = rw (c .before .before .loop .inv .5) (c .before .before .before .before .before .before .before .before .before .before .before .pre .readyFew)
+lowest-requires c κs =
+    let far = c .before .before .before .before .before .before .before .before .before .before .before in
+    rw (c .before .before .loop .inv .5) (far .pre .readyFew)
 
 same-length : tie.Need-same-length Inv-loop μ-loop
 same-length c = c .before .before .before .before .loop .inv .2
@@ -40,11 +41,13 @@ same-length-3 c = c .before .before .before .before .loop .inv .5
 
 returns : tie.Need-returns Inv-loop μ-loop
 returns c =
-    let s = c .before .before .before .before .before .before .before .before .before .before .before .before .before in
+    let far = c .before .before .before .before .before .before .before .before .before .before .before in
+    let s = far .before .before in
     let l = c .before .before .before .before .loop in
     let r = s .pre .linked .prepared in
     numbers-end (l .g) (s .args .numbers .now) (l .numbers) r (l .inv .1)
-    (turn-last r (l .g) (s .args .numbers .now) (l .numbers) (l .inv .1) (s .args .m) (none-next r (l .inv .3) (c .before .lowest .ensures) (c .if1 .taken)) (l .inv .0)
+    (turn-last r (l .g) (s .args .numbers .now) (l .numbers) (l .inv .1) (s .args .m) (none-next r (l .inv .3) (c .before .lowest .ensures) (c .if1 .taken))
+    (l .inv .0)
     (omega arith))
 
 number-group-requires : tie.Need-number-group-requires Inv-loop μ-loop
@@ -62,21 +65,26 @@ number-group-requires c κs =
     }
 
 add-g : tie.Need-add-g Inv-loop μ-loop
-add-g c = omega (arith, c .before .before .before .before .before .before .before .before .before .before .before .before .before .loop-test .taken, c .before .before .before .before .before .before .before .before .before .before .before .before .before .before .before .before .before .before .before .before .before .before .before .pre .linked .prepared .whole .fewGates)
+add-g c =
+    let far = c .before .before .before .before .before .before .before .before .before .before .before in
+    let farther = far .before .before .before .before .before .before .before .before .before .before .before in
+    omega (arith, far .before .before .loop-test .taken, farther .before .pre .linked .prepared .whole .fewGates)
 
 loop-less : tie.Need-loop-less Inv-loop μ-loop
 loop-less c = omega (arith, c .before .before .before .before .before .before .before .before .before .before .before .before .before .loop-test .taken)
 
 loop-again : tie.Need-loop-again Inv-loop μ-loop
 loop-again c =
-    let s = c .before .before .before .before .before .before .before .before .before .before .before .before .before .before .before .before .before .before .before .before .before .before .before in
-    let l = c .before .before .before .before .before .before .before .before .before .before .before .before .before .before .loop in
+    let far = c .before .before .before .before .before .before .before .before .before .before .before in
+    let farther = far .before .before .before .before .before .before .before .before .before .before .before in
+    let s = farther .before in
+    let l = far .before .before .before .loop in
     let r = s .pre .linked .prepared in
     let n = c .before .before .before .before .before .before .number-group in
-    let j = c .before .before .before .before .before .before .before .before .before .before .before .lowest .result in
+    let j = far .lowest .result in
     let found = c .before .before .before .before .before .before .before .before .before .before .if1 .left in
     let next : j ≡ least (leadsNext (decode (s .args .words .now)) (s .args .m) (l .numbers) (s .args .leaders .now)) (s .args .m) = lowest-next r (l .inv .3)
-    (c .before .before .before .before .before .before .before .before .before .before .before .lowest .ensures) found in (
+    (far .lowest .ensures) found in (
       turn-within r (l .g) (s .args .numbers .now) (l .numbers) (l .inv .1) j next found,
       turn-numbers r (l .g) (s .args .numbers .now) (l .numbers) (l .inv .1) j next found (n .last .1 .1 .1 .1 .1 .1 .1 .1 .1 .1 .0) (n .ensures .numbersAre),
       n .kept .1 .1 .1 .1 .1 .1 .1 .1 .1 .1 .0 ∙ l .inv .2,

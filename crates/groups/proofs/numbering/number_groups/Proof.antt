@@ -33,7 +33,12 @@ same-length-7 c = search needs
 
 returns : tie.Need-returns
 returns c =
-    let s = c .before .before .before .before .before .before .before .before .before .before .before .before .before .before .before .before .before .before .before .before .before .before .before .before .before .before .before .before .before .before .before .before .before .before .before .before .before .before .before .before .before .before .before .before in numbers-behind (s .pre .0 .gatesAre) (c .before .before .before .before .before .before .before .before .before .before .before .before .before .before .before .before .before .before .before .before .before .before .before .before .before .before .before .prepare .ensures .behind) (c .before .before .before .before .before .before .number-all .ensures)
+    let far = c .before .before .before .before .before .before .before .before .before .before .before in
+    let farther = far .before .before .before .before .before .before .before .before .before .before .before in
+    let farthest = farther .before .before .before .before .before .before .before .before .before .before .before in
+    let s =
+    farthest .before .before .before .before .before .before .before .before .before .before .before in numbers-behind (s .pre .0 .gatesAre)
+    (farther .before .before .before .before .before .prepare .ensures .behind) (c .before .before .before .before .before .before .number-all .ensures)
 
 pub number-groups-spec : {M : Type 1} → statement M
 number-groups-spec =

@@ -1,8 +1,4 @@
 -- `groups::numbering::prepare` meets its contract, step by step. Assumes nothing.
-use native.Mathlib.Omega.{arith}
-use Prim.Native.Nat.{_≤_}
-use mathlib.Core.Path.{_≡_, _∙_}
-use lib.ListN.{length}
 use Rattle.netlist.specs.StoredBlock.{decode}
 use Rattle.groups.proofs.Turns.{numbers-none, bare-all, kept-behind, nexts-are, readers-are}
 use borrow.Author.Needs.{needs}
@@ -26,9 +22,12 @@ link-requires-2 c κs = search needs
 
 start-requires : tie.Need-start-requires
 start-requires c κs =
-    let s = c .before .before .before .before .before .before .before .before .before .before .before .before .before .before .before .before .before .before .before .before .before .before .before .before .before .before .before .before .before .before .before .before .before .before .before .before in
-    let linked = c .before .before .before .before .before .before .before .before .before .before .before .before .before .before .before .before .before .before .before .before .link in
-    let forgot = c .before .before .before .before .before .before .before .before .before .before .before .before .before .before .before .before .before .before .before .before .before .before .before .before .before .forget in
+    let far = c .before .before .before .before .before .before .before .before .before .before .before in
+    let farther = far .before .before .before .before .before .before .before .before .before .before .before in
+    let farthest = farther .before .before .before .before .before .before .before .before .before .before .before in
+    let s = farthest .before .before .before in
+    let linked = far .before .before .before .before .before .before .before .before .before .link in
+    let forgot = farther .before .before .before .forget in
     record {
       prepared = s .pre .0;
       linked = nexts-are (s .pre .0) (linked .ensures);
@@ -61,11 +60,14 @@ same-length-7 c = search needs
 
 returns : tie.Need-returns
 returns c =
-    let s = c .before .before .before .before .before .before .before .before .before .before .before .before .before .before .before .before .before .before .before .before .before .before .before .before .before .before .before .before .before .before .before .before .before .before .before .before .before .before .before .before .before in
-    let linked = c .before .before .before .before .before .before .before .before .before .before .before .before .before .before .before .before .before .before .before .before .before .before .before .before .before .link in
-    let forgot = c .before .before .before .before .before .before .before .before .before .before .before .before .before .before .before .before .before .before .before .before .before .before .before .before .before .before .before .before .before .before .forget in
-    let named = c .before .before .before .before .before .before .before .before .before .before .before .before .before .before .before .before .before .before .before .list-operands in
-    let read = c .before .before .before .before .before .before .before .before .before .before .before .before .before .link2 in
+    let far = c .before .before .before .before .before .before .before .before .before .before .before in
+    let farther = far .before .before .before .before .before .before .before .before .before .before .before in
+    let farthest = farther .before .before .before .before .before .before .before .before .before .before .before in
+    let s = farthest .before .before .before .before .before .before .before .before in
+    let linked = farther .before .before .before .link in
+    let forgot = farther .before .before .before .before .before .before .before .before .forget in
+    let named = far .before .before .before .before .before .before .before .before .list-operands in
+    let read = far .before .before .link2 in
     let a = s .args in
     record {
       all = record {
@@ -73,7 +75,8 @@ returns c =
           prepared = s .pre .0;
           nextsAre = nexts-are (s .pre .0) (linked .ensures);
           readersAre =
-              readers-are (a .words .now) (a .n) (a .m) (a .gates) (named .last .1 .1 .1 .1 .0) (a .operands .now) (read .last .1 .1 .1 .0) (read .last .1 .1 .1 .1 .0)
+              readers-are (a .words .now) (a .n) (a .m) (a .gates) (named .last .1 .1 .1 .1 .0) (a .operands .now) (read .last .1 .1 .1 .0)
+              (read .last .1 .1 .1 .1 .0)
               (named .ensures) (read .ensures);
         };
         numberRoom = rw (forgot .kept .1 .0) (s .pre .1 .numberRoom);

@@ -21,7 +21,9 @@ word-at-requires : tie.Need-word-at-requires Inv-loop μ-loop
 word-at-requires c κs = search needs
 
 loop-holds : tie.Need-loop-holds Inv-loop μ-loop
-loop-holds c = let a = c .before .before .before .before .args in (omega arith, no-words (obstacle (a .numbers .now) (a .leaders .now) (a .leader)) (a .n) (a .m) (a .words .now) (a .at))
+loop-holds c =
+    let a = c .before .before .before .before .args in
+    (omega arith, no-words (obstacle (a .numbers .now) (a .leaders .now) (a .leader)) (a .n) (a .m) (a .words .now) (a .at))
 
 add-word-at : tie.Need-add-word-at Inv-loop μ-loop
 add-word-at c = omega arith
@@ -33,7 +35,8 @@ word-at-requires-2 : tie.Need-word-at-requires-2 Inv-loop μ-loop
 word-at-requires-2 c κs = search needs
 
 is-obstacle-requires : tie.Need-is-obstacle-requires Inv-loop μ-loop
-is-obstacle-requires c κs = (c .before .before .before .before .before .before .before .pre .1, c .before .before .before .before .before .before .before .pre .2)
+is-obstacle-requires c κs =
+    (c .before .before .before .before .before .before .before .pre .1, c .before .before .before .before .before .before .before .pre .2)
 
 returns : tie.Need-returns Inv-loop μ-loop
 returns c =
@@ -42,7 +45,8 @@ returns c =
     let at-start = after-word-at .before .before .before .before in
     let a = at-start .args in
     rw (← after-word-at .word-at .ensures)
-    (sym (found-one (obstacle (a .numbers .now) (a .leaders .now) (a .leader)) (a .n) (a .m) (a .words .now) (a .at) (at-loop .loop .i) (after-word-at .word-at .result / 8)
+    (sym (found-one (obstacle (a .numbers .now) (a .leaders .now) (a .leader)) (a .n) (a .m) (a .words .now) (a .at) (at-loop .loop .i)
+    (after-word-at .word-at .result / 8)
     (c .before .before .before .loop-test .taken)
     (rw (← c .before .before .word-at2 .ensures) (sym (c .before .is-obstacle .ensures) ∙ c .if1 .taken))))
 

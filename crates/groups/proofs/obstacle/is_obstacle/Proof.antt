@@ -15,7 +15,9 @@ gate-named-requires c κs = search needs
 
 returns : tie.Need-returns
 returns c =
-    let a = c .before .before .before .before .args in no-gate (obstacle (a .numbers .now) (a .leaders .now) (a .leader)) (a .n) (a .m) (a .w) (c .before .gate-named .ensures) (c .if1 .taken)
+    let a =
+    c .before .before .before .before .args in no-gate (obstacle (a .numbers .now) (a .leaders .now) (a .leader)) (a .n) (a .m) (a .w)
+    (c .before .gate-named .ensures) (c .if1 .taken)
 
 word-at-requires : tie.Need-word-at-requires
 word-at-requires c κs = search needs
@@ -26,8 +28,10 @@ returns-2 c =
     let named = c .before .before .before in
     let a = c .before .before .before .before .before .before .args in
     let k = named .gate-named .result in
-    let no : obstacle (a .numbers .now) (a .leaders .now) (a .leader) k ≡ false = rw (ne-eqb (getD (a .numbers .now) k 0) noNumber (λ e. c .if2 .taken (c .before .word-at .ensures ∙ e))) refl in
-    sym no ∙ one-gate (obstacle (a .numbers .now) (a .leaders .now) (a .leader)) (a .n) (a .m) (a .w) (named .gate-named .ensures) (c .before .before .if1 .left)
+    let no : obstacle (a .numbers .now) (a .leaders .now) (a .leader) k ≡ false =
+    rw (ne-eqb (getD (a .numbers .now) k 0) noNumber (λ e. c .if2 .taken (c .before .word-at .ensures ∙ e))) refl in
+    sym no ∙ one-gate (obstacle (a .numbers .now) (a .leaders .now) (a .leader)) (a .n) (a .m) (a .w) (named .gate-named .ensures)
+    (c .before .before .if1 .left)
 
 word-at-requires-2 : tie.Need-word-at-requires-2
 word-at-requires-2 c κs = search needs
@@ -39,7 +43,8 @@ returns-3 c =
     let named = none .before .before .before in
     let a = c .before .before .before .before .before .before .before .args in
     let k = named .gate-named .result in
-    let bare : eqb (getD (a .numbers .now) k 0) noNumber ≡ true = eq-eqb (getD (a .numbers .now) k 0) noNumber (sym (none .before .word-at .ensures) ∙ none .if2 .left) in
+    let bare : eqb (getD (a .numbers .now) k 0) noNumber ≡ true =
+    eq-eqb (getD (a .numbers .now) k 0) noNumber (sym (none .before .word-at .ensures) ∙ none .if2 .left) in
     rw (c .word-at2 .ensures)
     ((rw (bare) refl)
     ∙ one-gate (obstacle (a .numbers .now) (a .leaders .now) (a .leader)) (a .n) (a .m) (a .w) (named .gate-named .ensures) (none .before .before .if1 .left))

@@ -1,8 +1,7 @@
 -- `groups::obstacle::seek` meets its contract: no gate of the group that was passed is blocked. Assumes nothing.
 use borrow.Author.Needs.{needs}
 use native.Mathlib.Omega.{arith}
-use Prim.Native.Nat.{_+_, _-_, _*_, _≤_}
-use mathlib.Core.Path.{_≡_}
+use Prim.Native.Nat.{_-_, _≤_}
 use Rattle.search.specs.Search.{gateReads}
 use Rattle.links.proofs.Linking.{next-above}
 use Rattle.groups.proofs.Obstacles.{Seeking, seek-none, seek-end, seek-found, seek-more}
@@ -17,7 +16,13 @@ abbrev μ-loop : tie.MeasureT-loop
 
 -- a link is a word
 small : (c : tie.After-word-at Inv-loop μ-loop) → c .word-at .result ≤ 65535
-small c = omega (arith, c .word-at .ensures, c .before .before .before .before .before .before .shared-slice-known3 .given (c .before .before .before .before .loop .i))
+small c =
+    omega (
+      arith,
+      c .word-at .ensures,
+      c .before .before .before .before .before .before .shared-slice-known3 .given
+          (c .before .before .before .before .loop .i),
+    )
 
 loop-holds : tie.Need-loop-holds Inv-loop μ-loop
 loop-holds c = seek-none (c .before .before .before .before .pre)
@@ -35,7 +40,9 @@ is-blocked-requires c κs =
 
 returns : tie.Need-returns Inv-loop μ-loop
 unfolding gateReads
-returns c = seek-found (c .before .before .before .before .before .before .before .before .pre) (c .before .before .before .loop .inv) (c .before .before .loop-test .taken) (c .before .is-blocked .ensures) (c .if1 .taken)
+returns c =
+    seek-found (c .before .before .before .before .before .before .before .before .pre) (c .before .before .before .loop .inv)
+    (c .before .before .loop-test .taken) (c .before .is-blocked .ensures) (c .if1 .taken)
 
 word-at-requires : tie.Need-word-at-requires Inv-loop μ-loop
 word-at-requires c κs = search needs
@@ -44,12 +51,18 @@ loop-less : tie.Need-loop-less Inv-loop μ-loop
 loop-less c =
     let s = c .before .before .before .before .before .before .before .before .before in
     let i = c .before .before .before .before .loop .i in
-    omega (arith, next-above (s .pre .linked i (c .before .before .before .loop-test .taken)) (c .before .before .before .loop-test .taken), c .word-at .ensures, small c)
+    omega (
+      arith,
+      next-above (s .pre .linked i (c .before .before .before .loop-test .taken)) (c .before .before .before .loop-test .taken),
+      c .word-at .ensures,
+      small c,
+    )
 
 loop-again : tie.Need-loop-again Inv-loop μ-loop
 unfolding gateReads
 loop-again c =
-    seek-more (c .before .before .before .before .before .before .before .before .before .pre) (c .before .before .before .before .loop .inv) (c .before .before .before .loop-test .taken) (c .before .before .is-blocked .ensures) (c .before .if1 .left) (c .word-at .result)
+    seek-more (c .before .before .before .before .before .before .before .before .before .pre) (c .before .before .before .before .loop .inv)
+    (c .before .before .before .loop-test .taken) (c .before .before .is-blocked .ensures) (c .before .if1 .left) (c .word-at .result)
     (c .word-at .ensures) (small c)
 
 returns-2 : tie.Need-returns-2 Inv-loop μ-loop

@@ -1,7 +1,7 @@
 -- `groups::operands::list_operands` meets its contract: each turn stores the gate that one operand names. Assumes nothing.
 use borrow.Author.Needs.{needs}
 use native.Mathlib.Omega.{arith}
-use Prim.Native.Nat.{_+_, _-_, _*_, _/_, _%_, _≤_}
+use Prim.Native.Nat.{_-_, _*_, _≤_}
 use mathlib.Core.Path.{_≡_, refl, _∙_}
 use lib.ListN.{length, length-set}
 use Rattle.laws.specs.Lists.{tab, placed}
@@ -65,7 +65,8 @@ loop-again c =
     let s = c .before .before .before .before .before .before in
     let l = c .before .before .before .loop in (
       omega (arith, c .before .before .loop-test .taken),
-      fill-next (operandAt (s .args .words .now) (s .args .n) (s .args .m) (s .args .gates)) (l .e) (s .args .operands .now) (l .operands) (c .gate-named .result)
+      fill-next (operandAt (s .args .words .now) (s .args .n) (s .args .m) (s .args .gates)) (l .e) (s .args .operands .now) (l .operands)
+          (c .gate-named .result)
           (l .inv .1) (omega (arith, c .before .before .loop-test .taken, s .pre .3))
           (c .gate-named .ensures ∙ rw (c .before .word-at .ensures) refl),
       length-set (l .operands) (l .e) (c .gate-named .result) ∙ l .inv .2,

@@ -1,8 +1,7 @@
 -- `groups::ready::lowest` meets its contract: no gate of the words passed is in the set. Assumes nothing.
 use borrow.Author.Needs.{needs}
 use native.Mathlib.Omega.{arith}
-use Prim.Native.Nat.{_-_, _*_, _≤_}
-use mathlib.Core.Path.{_≡_, sym, _∙_}
+use Prim.Native.Nat.{_-_, _≤_}
 use lib.ListN.{length, getD}
 use Rattle.laws.proofs.Least.{least-le}
 use Rattle.judge.specs.Lanes.{hasLane}
@@ -34,14 +33,21 @@ lowest-lane-requires c κs = search needs
 add-result : tie.Need-add-result Inv-loop μ-loop
 add-result c =
     let s = c .before .before .before .before .before .before in
-    omega (arith, c .lowest-lane .ensures, least-le (hasLane (getD (s .args .ready .now) (c .before .before .before .before .loop .at) 0)) 64, c .before .before .before .before .loop .inv .0, s .pre)
+    omega (
+      arith,
+      c .lowest-lane .ensures,
+      least-le (hasLane (getD (s .args .ready .now) (c .before .before .before .before .loop .at) 0)) 64,
+      c .before .before .before .before .loop .inv .0,
+      s .pre,
+    )
 
 returns : tie.Need-returns Inv-loop μ-loop
 returns c =
     let s = c .before .before .before .before .before .before in
     let l = c .before .before .before .before .loop in
     rw (c .lowest-lane .ensures)
-    (word-lowest (s .args .ready .now) (l .at) (l .inv .1) (omega (arith, c .before .before .shared-slice-known2 .given (l .at))) (c .before .if1 .taken) (c .before .before .before .loop-test .taken))
+    (word-lowest (s .args .ready .now) (l .at) (l .inv .1) (omega (arith, c .before .before .shared-slice-known2 .given (l .at))) (c .before .if1 .taken)
+    (c .before .before .before .loop-test .taken))
 
 add-at : tie.Need-add-at Inv-loop μ-loop
 add-at c = search needs

@@ -1,6 +1,5 @@
 -- `groups::waiting::look` meets its contract, by the two ways that a search ends. Assumes nothing.
 use native.Mathlib.Omega.{arith}
-use Prim.Native.Nat.{_<_}
 use Rattle.groups.proofs.Obstacles.{seek-leader}
 use Rattle.groups.proofs.Standing.{look-free, look-stuck}
 use borrow.Author.Needs.{needs}
@@ -14,13 +13,16 @@ cast-places : tie.Need-cast-places
 cast-places c = search needs
 
 mul-places : tie.Need-mul-places
-mul-places c = let s = c .before .before .before .before .before .before .before in omega (arith, seek-leader (s .pre .seeking), s .pre .seeking .prepared .whole .fewGates)
+mul-places c =
+    let s = c .before .before .before .before .before .before .before in omega
+    (arith, seek-leader (s .pre .seeking), s .pre .seeking .prepared .whole .fewGates)
 
 slice-write-places : tie.Need-slice-write-places
 slice-write-places c = let s = c .before .before .before .before .before .before .before in omega (arith, seek-leader (s .pre .seeking), s .pre .placeRoom)
 
 add-requires : tie.Need-add-requires
-add-requires c κs = let s = c .before .before .before .before .before .before .before .before .before in omega (arith, seek-leader (s .pre .seeking), s .pre .readyRoom)
+add-requires c κs =
+    let s = c .before .before .before .before .before .before .before .before .before in omega (arith, seek-leader (s .pre .seeking), s .pre .readyRoom)
 
 same-length : tie.Need-same-length
 same-length c = search needs
@@ -30,15 +32,19 @@ same-length-2 c = search needs
 
 returns : tie.Need-returns
 returns c =
-    let s = c .before .before .before .before .before .before .before .before .before .before .before .before in
-    look-free (c .before .before .before .before .before .seek .ensures) (s .args .places .now) (s .args .ready .now) (c .before .before .before .before .if1 .taken) (c .before .before .add .last .1 .0) (c .before .before .add .ensures)
+    let far = c .before .before .before .before .before .before .before .before .before .before .before in
+    let s = far .before in
+    look-free (c .before .before .before .before .before .seek .ensures) (s .args .places .now) (s .args .ready .now)
+    (c .before .before .before .before .if1 .taken) (c .before .before .add .last .1 .0) (c .before .before .add .ensures)
 
 same-length-3 : tie.Need-same-length-3
 same-length-3 c = search needs
 
 returns-2 : tie.Need-returns-2
 returns-2 c =
-    let s = c .before .before .before .before .before .before .before .before in look-stuck (c .before .seek .ensures) (s .args .places .now) (s .args .ready .now) (c .if1 .left)
+    let s =
+    c .before .before .before .before .before .before .before .before in look-stuck (c .before .seek .ensures) (s .args .places .now) (s .args .ready .now)
+    (c .if1 .left)
 
 pub look-spec : {M : Type 1} → statement M
 look-spec =

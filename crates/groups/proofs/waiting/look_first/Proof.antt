@@ -1,6 +1,5 @@
 -- `groups::waiting::look_first` meets its contract, by whether gate l leads a group. Assumes nothing.
-use native.Mathlib.Omega.{arith}
-use mathlib.Core.Path.{_≡_, sym, _∙_}
+use mathlib.Core.Path.{sym, _∙_}
 use Rattle.groups.proofs.Standing.{start-look, start-skip}
 use borrow.Author.Needs.{needs}
 use Rattle.groups.proofs.waiting.look_first.Statement.{statement}
@@ -13,7 +12,13 @@ look-requires : tie.Need-look-requires
 look-requires c κs =
     let s = c .before .before .before .before .before .before .before .before .before .before in
     record {
-      seeking = record { prepared = s .pre .prepared; linked = s .pre .linked; below = s .pre .below; led = sym (c .before .before .before .word-at .ensures) ∙ c .before .before .if1 .taken };
+      seeking = record {
+        prepared = s .pre .prepared;
+        linked = s .pre .linked;
+        below = s .pre .below;
+        led = sym
+            (c .before .before .before .word-at .ensures) ∙ c .before .before .if1 .taken;
+      };
       placeRoom = s .pre .waiting .placeRoom;
       readyRoom = s .pre .waiting .readyRoom;
     }
@@ -26,13 +31,18 @@ same-length-2 c = search needs
 
 returns : tie.Need-returns
 returns c =
-    let s = c .before .before .before .before .before .before .before .before .before .before .before .before .before .before .before in
-    start-look (s .pre .prepared) (s .pre .waiting) (s .pre .below) (sym (c .before .before .before .before .before .before .before .before .word-at .ensures) ∙ c .before .before .before .before .before .before .before .if1 .taken) (s .pre .bare)
+    let far = c .before .before .before .before .before .before .before .before .before .before .before in
+    let s = far .before .before .before .before in
+    start-look (s .pre .prepared) (s .pre .waiting) (s .pre .below)
+    (sym (c .before .before .before .before .before .before .before .before .word-at .ensures) ∙
+    c .before .before .before .before .before .before .before .if1 .taken) (s .pre .bare)
     (c .before .before .before .before .look .kept .1 .1 .1 .1 .1 .1 .1 .1 .1 .1 .0) (c .before .before .before .before .look .ensures)
 
 returns-2 : tie.Need-returns-2
 returns-2 c =
-    let s = c .before .before .before .before .before .before .before .before in start-skip (s .pre .waiting) (s .pre .below) (λ e. c .if1 .left (c .before .word-at .ensures ∙ e))
+    let s =
+    c .before .before .before .before .before .before .before .before in start-skip (s .pre .waiting) (s .pre .below)
+    (λ e. c .if1 .left (c .before .word-at .ensures ∙ e))
 
 pub look-first-spec : {M : Type 1} → statement M
 look-first-spec =

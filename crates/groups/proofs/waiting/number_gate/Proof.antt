@@ -14,7 +14,9 @@ slice-write-numbers : tie.Need-slice-write-numbers
 slice-write-numbers c = search needs
 
 wake-requires : tie.Need-wake-requires
-wake-requires c κs = let s = c .before .before .before .before .before .before .before .before .before .before .before in (s .pre .below, s .pre .linked, number-one (s .pre))
+wake-requires c κs =
+    let far = c .before .before .before .before .before .before .before .before .before .before .before in
+    let s = far in (s .pre .below, s .pre .linked, number-one (s .pre))
 
 same-length : tie.Need-same-length
 same-length c = search needs

@@ -1,7 +1,6 @@
 -- `groups::waiting::start` meets its contract: after l turns the groups of the leaders below l have looked. Assumes nothing.
-use borrow.Author.Needs.{needs}
 use native.Mathlib.Omega.{arith}
-use Prim.Native.Nat.{_+_, _-_, _≤_}
+use Prim.Native.Nat.{_-_, _≤_}
 use mathlib.Core.Path.{_≡_, refl, _∙_}
 use lib.ListN.{length}
 use Rattle.groups.specs.Waiting.{Waiting, nobody}
@@ -53,7 +52,9 @@ same-length-2 : tie.Need-same-length-2 Inv-loop μ-loop
 same-length-2 c = c .before .loop .inv .3
 
 returns : tie.Need-returns Inv-loop μ-loop
-returns c = let all : c .before .loop .l ≡ c .before .before .before .before .before .before .before .before .args .m = omega (arith, c .before .loop .inv .0, c .loop-test .left) in rw all at (c .before .loop .inv .1)
+returns c =
+    let all : c .before .loop .l ≡ c .before .before .before .before .before .before .before .before .args .m = omega
+    (arith, c .before .loop .inv .0, c .loop-test .left) in rw all at (c .before .loop .inv .1)
 
 pub start-spec : {M : Type 1} → statement M
 start-spec =

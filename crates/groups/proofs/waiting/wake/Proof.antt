@@ -1,8 +1,8 @@
 -- `groups::waiting::wake` meets its contract: only the readers from e on are still to be woken. Assumes nothing.
 use borrow.Author.Needs.{needs}
 use native.Mathlib.Omega.{arith}
-use Prim.Native.Nat.{_+_, _-_, _*_, _≤_, _<_}
-use mathlib.Core.Path.{_≡_, refl, sym, _∙_, subst}
+use Prim.Native.Nat.{_-_, _*_, _<_}
+use mathlib.Core.Path.{_≡_, refl, _∙_}
 use lib.ListN.{length, getD}
 use Rattle.links.specs.Links.{FirstFrom}
 use Rattle.groups.specs.Waiting.{Waiting, operandsOf, Pending}
@@ -47,24 +47,34 @@ wake-reader-requires c κs =
 word-at-requires-2 : tie.Need-word-at-requires-2 Inv-loop μ-loop
 word-at-requires-2 c κs = search needs
 
-abbrev turn : (c : tie.After-word-at2 Inv-loop μ-loop) → let a = c .before .before .before .before .before .before .before .before .before .before .before .before .before .before .before .before .before .before .before .args in
+-- the function's entry, and the turn that was made
+abbrev entry : tie.After-word-at2 Inv-loop μ-loop → tie.Start Inv-loop μ-loop
+entry c =
+    let far = c .before .before .before .before .before .before .before .before .before .before .before in
+    far .before .before .before .before .before .before .before .before
+
+abbrev woken : tie.After-word-at2 Inv-loop μ-loop → tie.After-wake-reader Inv-loop μ-loop
+woken c = c .before .before .before .before .before
+
+abbrev turn : (c : tie.After-word-at2 Inv-loop μ-loop) → let a = entry c .args in
     Waiting (a .words .now) (a .n) (a .m) (a .gates) (a .leaders .now) (a .numbers .now) (a .m) (a .m)
-    (Pending (operandsOf (a .words .now) (a .n) (a .m) (a .gates)) (a .m) (a .k) (c .word-at2 .result)) (c .before .before .before .before .before .wake-reader .last .1 .1 .1 .1 .1 .1 .1 .1 .0)
-    (c .before .before .before .before .before .wake-reader .last .1 .1 .1 .1 .1 .1 .1 .1 .1 .0)
+    (Pending (operandsOf (a .words .now) (a .n) (a .m) (a .gates)) (a .m) (a .k) (c .word-at2 .result)) (woken c .wake-reader .last .1 .1 .1 .1 .1 .1 .1 .1 .0)
+    (woken c .wake-reader .last .1 .1 .1 .1 .1 .1 .1 .1 .1 .0)
     × (c .word-at2 .result < 4 * a .m → getD (operandsOf (a .words .now) (a .n) (a .m) (a .gates)) (c .word-at2 .result) 0 ≡ a .k)
-    × (c .before .before .before .before .before .before .before .before .before .loop .e < c .word-at2 .result)
+    × (woken c .before .before .before .before .loop .e < c .word-at2 .result)
 turn c =
-    let s = c .before .before .before .before .before .before .before .before .before .before .before .before .before .before .before .before .before .before .before in
-    wake-turn (s .pre .1) (c .before .before .before .before .before .before .before .before .loop-test .taken) (s .pre .0) (c .before .before .before .before .before .before .before .before .before .loop .inv .1 (c .before .before .before .before .before .before .before .before .loop-test .taken)) (c .word-at2 .ensures)
-    (c .before .before .before .before .before .wake-reader .ensures)
+    let s = entry c in
+    let inside = woken c .before .before .before in
+    wake-turn (s .pre .1) (inside .loop-test .taken) (s .pre .0) (inside .before .loop .inv .1 (inside .loop-test .taken)) (c .word-at2 .ensures)
+    (woken c .wake-reader .ensures)
 
 loop-less : tie.Need-loop-less Inv-loop μ-loop
-loop-less c = omega (arith, turn c .2, c .before .before .before .before .before .before .before .before .loop-test .taken, c .before .before .before .before .before .before .before .before .before .before .before .before .before .before .before .before .before .before .before .pre .1 .prepared .whole .fewGates)
+loop-less c = omega (arith, turn c .2, woken c .before .before .before .loop-test .taken, entry c .pre .1 .prepared .whole .fewGates)
 
 loop-again : tie.Need-loop-again Inv-loop μ-loop
 loop-again c =
-    let l = c .before .before .before .before .before .before .before .before .before .loop in
-    (turn c .0, turn c .1, c .before .before .before .before .before .wake-reader .kept .1 .1 .1 .1 .1 .1 .1 .1 .0 ∙ l .inv .2, c .before .before .before .before .before .wake-reader .kept .1 .1 .1 .1 .1 .1 .1 .1 .1 .0 ∙ l .inv .3)
+    let l = woken c .before .before .before .before .loop in
+    (turn c .0, turn c .1, woken c .wake-reader .kept .1 .1 .1 .1 .1 .1 .1 .1 .0 ∙ l .inv .2, woken c .wake-reader .kept .1 .1 .1 .1 .1 .1 .1 .1 .1 .0 ∙ l .inv .3)
 
 same-length : tie.Need-same-length Inv-loop μ-loop
 same-length c = c .before .loop .inv .2

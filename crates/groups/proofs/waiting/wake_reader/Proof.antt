@@ -1,6 +1,6 @@
 -- `groups::waiting::wake_reader` meets its contract, by where the reader's group waits. Assumes nothing.
 use native.Mathlib.Omega.{arith}
-use mathlib.Core.Path.{_≡_, sym, _∙_}
+use mathlib.Core.Path.{sym, _∙_}
 use Rattle.groups.proofs.Standing.{wake-skip, wake-look}
 use borrow.Author.Needs.{needs}
 use Rattle.groups.proofs.waiting.wake_reader.Statement.{statement}
@@ -14,9 +14,16 @@ word-at-requires-2 c κs = search needs
 
 look-requires : tie.Need-look-requires
 look-requires c κs =
-    let s = c .before .before .before .before .before .before .before .before .before .before .before .before in
+    let far = c .before .before .before .before .before .before .before .before .before .before .before in
+    let s = far .before in
     record {
-      seeking = record { prepared = s .pre .prepared; linked = s .pre .linked; below = omega (arith, s .pre .below); led = sym (c .before .before .before .before .before .word-at .ensures) };
+      seeking = record {
+        prepared = s .pre .prepared;
+        linked = s .pre .linked;
+        below = omega (arith, s .pre .below);
+        led = sym
+            (c .before .before .before .before .before .word-at .ensures);
+      };
       placeRoom = s .pre .waiting .placeRoom;
       readyRoom = s .pre .waiting .readyRoom;
     }
@@ -29,8 +36,11 @@ same-length-2 c = search needs
 
 returns : tie.Need-returns
 returns c =
-    let s = c .before .before .before .before .before .before .before .before .before .before .before .before .before .before .before .before .before in
-    wake-look (s .pre .prepared) (s .pre) (c .before .before .before .before .before .before .before .before .before .before .word-at .ensures) (sym (c .before .before .before .before .before .before .before .before .word-at2 .ensures) ∙ c .before .before .before .before .before .before .before .if1 .taken) (c .before .before .before .before .look .kept .1 .1 .1 .1 .1 .1 .1 .1 .1 .1 .0)
+    let far = c .before .before .before .before .before .before .before .before .before .before .before in
+    let s = far .before .before .before .before .before .before in
+    wake-look (s .pre .prepared) (s .pre) (c .before .before .before .before .before .before .before .before .before .before .word-at .ensures)
+    (sym (c .before .before .before .before .before .before .before .before .word-at2 .ensures) ∙
+    c .before .before .before .before .before .before .before .if1 .taken) (c .before .before .before .before .look .kept .1 .1 .1 .1 .1 .1 .1 .1 .1 .1 .0)
     (c .before .before .before .before .look .ensures)
 
 same-length-3 : tie.Need-same-length-3
