@@ -18,7 +18,8 @@ use Rattle.netlist.specs.Gather.{arranged, numberAt, placeIn, gatheredOrder, ga
 use Rattle.encoding.proofs.Decoded.{decode-gateCount}
 use Rattle.encoding.proofs.RoundTrip.{whole-wellFormed}
 use Rattle.schedule.specs.Listing.{membersOf, Numbers, Appended}
-use Rattle.schedule.proofs.Blocks.{members-groups, front}
+use Rattle.schedule.proofs.Listing.{front}
+use Rattle.schedule.proofs.Blocks.{members-groups}
 use Rattle.copying.specs.Words.{Order}
 use Rattle.permute.specs.Renumbering.{Renumbers}
 use Rattle.permute.proofs.Permutation.{place-renumbers, inverse-at, inverse-renumbers}

@@ -28,7 +28,7 @@ module _ (ws : List ℕ) (room : ℕ) where
   unfolding groupsBlock inRoom groupNumbers
   groups-room = rw (length-tab (groupNumber (decode ws)) (gateCount (decode ws)), decode-gateCount ws) refl
 
-module _ {ws : List ℕ} {n m gates : ℕ} {numbers leaders queue flags : List ℕ} (a : AssignReady ws n m gates numbers leaders queue flags) where
+module _ {ws : List ℕ} {n m gates : ℕ} {leaders queue flags : List ℕ} (a : AssignReady ws n m gates leaders queue flags) where
   pub ready-for : (flags′ queue′ : List ℕ) → length flags′ ≡ length flags → length queue′ ≡ length queue → LeadReady ws n m gates flags′ queue′
   ready-for flags′ queue′ f q =
       let f′ : getD ws 1 0 ≤ length flags′ = rw (f, ← a .gatesAre) (a .flagRoom) in

@@ -2,13 +2,13 @@
 use mathlib.Core.Path.{_≡_, refl}
 use mathlib.Core.List.{List}
 use Prim.Native.Nat.{ℕ, zero, suc, _+_, _≤_, _<_}
-use native.Mathlib.Numerals.{add-one}
+use native.Mathlib.Nat.{add-zero}
 use native.Mathlib.Omega.{arith}
 use lib.ListN.{length, getD, set}
 use borrow.Author.Tests.{eq-eqb, ne-eqb}
 use Rattle.laws.specs.Lists.{tab, placed}
 use Rattle.laws.proofs.Tab.{fill-next, keep-next}
-use Rattle.groups.specs.Numbering.{renumbered, Lowest}
+use Rattle.groups.specs.Numbering.{renumbered}
 
 module _ (leaders : List ℕ) (leader g : ℕ) (entry numbers : List ℕ) (i : ℕ) (is : numbers ≡ placed (tab (renumbered leaders leader g entry) i) entry)
     (l : i < length entry) where
@@ -20,12 +20,14 @@ module _ (leaders : List ℕ) (leader g : ℕ) (entry numbers : List ℕ) (i : �
   unfolding renumbered
   keep-number h = keep-next (renumbered leaders leader g entry) i entry numbers 0 is l (rw (ne-eqb (getD leaders i 0) leader h) refl)
 
--- below the leader every gate keeps its number
-pub kept-below : (leaders : List ℕ) (leader g : ℕ) (entry : List ℕ) → Lowest leaders leader → (i : ℕ) → i ≤ leader → i ≤ length entry
-    → entry ≡ placed (tab (renumbered leaders leader g entry) i) entry
-kept-below leaders leader g entry lowest zero l fits = refl
-kept-below leaders leader g entry lowest (suc i) l fits =
-    let e : entry ≡ placed (tab (renumbered leaders leader g entry) i) entry = kept-below leaders leader g entry lowest i (omega arith) (omega arith) in
-    let more : entry ≡ placed (tab (renumbered leaders leader g entry) (i + 1)) entry = keep-number leaders leader g entry entry i e (omega arith)
-    (lowest i (omega arith)) in
-    rw add-one at more
+-- gates that the leader does not lead keep their numbers
+pub kept-between : (leaders : List ℕ) (leader g : ℕ) (entry numbers : List ℕ) (i d : ℕ) → numbers ≡ placed (tab (renumbered leaders leader g entry) i) entry
+    → i + d ≤ length entry → ((x : ℕ) → i ≤ x → x < i + d → getD leaders x 0 ≡ leader → ⊥)
+    → numbers ≡ placed (tab (renumbered leaders leader g entry) (i + d)) entry
+kept-between leaders leader g entry numbers i zero is fits apart = rw (add-zero i) is
+kept-between leaders leader g entry numbers i (suc d) is fits apart =
+    let e : i + suc d ≡ i + d + 1 = omega arith in
+    rw e
+    (keep-number leaders leader g entry numbers (i + d)
+    (kept-between leaders leader g entry numbers i d is (omega arith) (λ x a b. apart x a (omega arith))) (omega arith)
+    (apart (i + d) (omega arith) (omega arith)))

@@ -10,7 +10,7 @@ use lib.Dec.{eqb}
 use borrow.Author.Tests.{eqb-true, eq-eqb, not-true, not-false}
 use Rattle.laws.specs.Lists.{any, upTo, member}
 use Rattle.laws.proofs.Tests.{bool-cases, same-test, and-left, and-right, and-intro, not-both, not-true-false}
-use Rattle.laws.proofs.Quantifiers.{member-at, any-from}
+use Rattle.laws.proofs.Quantifiers.{member-at, member-from, any-at, any-from}
 use Rattle.netlist.specs.Netlist.{gateCount}
 use Rattle.netlist.specs.StoredBlock.{decode}
 use Rattle.netlist.specs.Groups.{readBy, reads, sameGroup, groupOf, mayBeNext}
@@ -18,10 +18,11 @@ use Rattle.reach.proofs.ListFacts.{member-keep, member-upTo, upTo-below}
 use Rattle.reach.proofs.SameGroup.{groupOf-member, groupOf-same, groupOf-below}
 use Rattle.reach.proofs.Next.{ready-reads, ready-intro, mayBeNext-intro, mayBeNext-ready}
 use Rattle.components.proofs.Leader.{leaders-same, leader-le, leader-same}
-use Rattle.groups.specs.Numbering.{unnumbered, obstacle, groupReads, outside, numberedGates, Lowest, NumberReady}
-use Rattle.groups.proofs.Obstacles.{read-by, reads-of}
+use Rattle.search.specs.Search.{gateReads}
+use Rattle.groups.specs.Numbering.{unnumbered, obstacle, numberedGates, Lowest, NumberReady}
+use Rattle.groups.specs.Waiting.{blocked}
 
-any-member : (test : ℕ → Bool) (ks : List ℕ) (k : ℕ) → member k ks ≡ true → test k ≡ true → any test ks ≡ true
+pub any-member : (test : ℕ → Bool) (ks : List ℕ) (k : ℕ) → member k ks ≡ true → test k ≡ true → any test ks ≡ true
 any-member test ks k h t =
     let r : (i : ℕ) × (i < length ks) × (getD ks i 0 ≡ k) = member-at k ks h in
     any-from test ks (r .0) 0 (r .1) (rw (r .2) t)
@@ -54,6 +55,12 @@ module _ {ws : List ℕ} {n m gates : ℕ} {leaders : List ℕ} (r : NumberReady
   pub lead-group : (j : ℕ) → j < m → sameGroup (decode ws) j (getD leaders j 0) ≡ true
   lead-group j l = rw (r .leads j l) (leader-same (decode ws) j (in-block l))
 
+  -- a leader leads itself
+  pub lead-self : (j : ℕ) → j < m → getD leaders (getD leaders j 0) 0 ≡ getD leaders j 0
+  lead-self j l =
+      let le : getD leaders j 0 ≤ j = lead-le j l in
+      sym (eqb-true (getD leaders j 0) (getD leaders (getD leaders j 0) 0) (lead-same j (getD leaders j 0) l (omega arith) ∙ lead-group j l))
+
   -- a leader is its group's lowest gate
   pub lowest : (leader : ℕ) → leader < m → Lowest leaders leader
   lowest leader l i il e = let le : getD leaders i 0 ≤ i = lead-le i (omega arith) in omega arith
@@ -72,38 +79,47 @@ module _ {ws : List ℕ} {n m gates : ℕ} {leaders : List ℕ} (r : NumberReady
         (λ e. groupOf-member (decode ws) j i (sym both ∙ eq-eqb (getD leaders j 0) (getD leaders i 0) (leads ∙ sym (eqb-true (getD leaders i 0) j e))))
         (λ e. eq-eqb (getD leaders i 0) j (sym (eqb-true (getD leaders j 0) (getD leaders i 0) (both ∙ groupOf-same (decode ws) j i e)) ∙ leads))
 
-    -- the group reads a gate outside itself that has no number
-    pub waits : (k : ℕ) → outside ws n m gates leaders j k ≡ true → unnumbered numbers k ≡ true → mayBeNext (decode ws) done j ≡ false
-    unfolding outside reads
-    waits k o u =
-        let w = read-by ws n m gates leaders j k (and-left (member k (groupReads ws n m gates leaders j m)) (not (eqb (getD leaders k 0) j)) o) in
+    -- a gate of the group reads an obstacle
+    waits-for : (i k : ℕ) → i < m → getD leaders i 0 ≡ j → member k (gateReads ws n m gates i) ≡ true → obstacle numbers leaders j k ≡ true
+        → mayBeNext (decode ws) done j ≡ false
+    unfolding obstacle reads
+    waits-for i k il e h o =
+        let u : unnumbered numbers k ≡ true = and-left (unnumbered numbers k) (not (eqb (getD leaders k 0) j)) o in
         let apart : eqb (getD leaders k 0) j ≡ false = not-true (eqb (getD leaders k 0) j)
-        (and-right (member k (groupReads ws n m gates leaders j m)) (not (eqb (getD leaders k 0) j)) o) in
-        let read : reads (decode ws) (w .0) k ≡ true = rw (r .whole .operands (w .0) (w .1)) at (w .3) in
-        let kl : k < m = from-block (r .inside (w .0) k read) in
+        (and-right (unnumbered numbers k) (not (eqb (getD leaders k 0) j)) o) in
+        let read : reads (decode ws) i k ≡ true = rw (r .whole .operands i il) at h in
+        let kl : k < m = from-block (r .inside i k read) in
         not-true-false (mayBeNext (decode ws) done j) (λ t.
         ⊎-elim
         (λ g. not-both (led k kl ∙ g) apart)
         (λ d. not-both d (done-member m numbers k kl ∙ ap not u))
-        (ready-reads (decode ws) done (groupOf (decode ws) j) (mayBeNext-ready (decode ws) done j t) (w .0) k
-        (sym (led (w .0) (w .1)) ∙ eq-eqb (getD leaders (w .0) 0) j (w .2)) read))
+        (ready-reads (decode ws) done (groupOf (decode ws) j) (mayBeNext-ready (decode ws) done j t) i k
+        (sym (led i il) ∙ eq-eqb (getD leaders i 0) j e) read))
 
-    -- it reads none
-    pub free : unnumbered numbers j ≡ true → any (obstacle numbers leaders j) (groupReads ws n m gates leaders j m) ≡ false
+    pub waits : (i : ℕ) → i < m → getD leaders i 0 ≡ j → blocked ws n m gates leaders numbers j i ≡ true → mayBeNext (decode ws) done j ≡ false
+    unfolding blocked
+    waits i il e h =
+        let f : (x : ℕ) × (x < length (gateReads ws n m gates i)) × (obstacle numbers leaders j (getD (gateReads ws n m gates i) x 0) ≡ true) =
+        any-at (obstacle numbers leaders j) (gateReads ws n m gates i) 0 h in
+        waits-for i (getD (gateReads ws n m gates i) (f .0) 0) il e (member-from _ (gateReads ws n m gates i) (f .0) (f .1) refl) (f .2)
+
+    -- none is
+    pub free : unnumbered numbers j ≡ true → ((i : ℕ) → i < m → getD leaders i 0 ≡ j → blocked ws n m gates leaders numbers j i ≡ false)
         → mayBeNext (decode ws) done j ≡ true
-    unfolding obstacle reads
+    unfolding blocked obstacle reads
     free u none =
         mayBeNext-intro (decode ws) done j (done-member m numbers j l ∙ ap not u)
         (ready-intro (decode ws) done (groupOf (decode ws) j) (λ i k im read.
         let kl : k < m = from-block (r .inside i k read) in
-        ⊎-elim inr (λ d. ⊎-elim inl (λ g. not-both (found i k im read kl d g) none) (bool-cases (member k (groupOf (decode ws) j))))
+        ⊎-elim inr (λ d. ⊎-elim inl (λ g. found i k im read kl d g) (bool-cases (member k (groupOf (decode ws) j))))
         (bool-cases (member k done))))
       where
         found : (i k : ℕ) → member i (groupOf (decode ws) j) ≡ true → member k (readBy (decode ws) i) ≡ true → k < m → member k done ≡ false
-            → member k (groupOf (decode ws) j) ≡ false → any (obstacle numbers leaders j) (groupReads ws n m gates leaders j m) ≡ true
+            → member k (groupOf (decode ws) j) ≡ false → {A : Type 0} → A
         found i k im read kl d g =
             let il : i < m = from-block (groupOf-below (decode ws) j i im) in
-            any-member (obstacle numbers leaders j) (groupReads ws n m gates leaders j m) k
-            (reads-of ws n m gates leaders j i k il (eqb-true (getD leaders i 0) j (led i il ∙ im)) (rw (r .whole .operands i il) read))
+            not-both
+            (any-member (obstacle numbers leaders j) (gateReads ws n m gates i) k (rw (r .whole .operands i il) read)
             (and-intro (unnumbered numbers k) (not (eqb (getD leaders k 0) j)) (not-false (unnumbered numbers k) (sym (done-member m numbers k kl) ∙ d))
-            (ap not (led k kl ∙ g)))
+            (ap not (led k kl ∙ g))))
+            (none i il (eqb-true (getD leaders i 0) j (led i il ∙ im)))

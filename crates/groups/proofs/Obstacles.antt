@@ -1,127 +1,106 @@
--- Searching a gate's words and a group's gates for an obstacle, by the ways through the code. Assumes nothing.
-use mathlib.Core.Path.{_≡_, refl, sym, _∙_, subst}
+-- A group's search for a blocked gate, and the operands as a list. Cited by `seek`, `list_operands` and `number_gate`. Assumes nothing.
+use mathlib.Core.Path.{_≡_, refl, sym, _∙_}
 use mathlib.Core.Logic.{⊎-elim}
-use mathlib.Core.Bool.{Bool, true, false, cond, _&&_}
+use mathlib.Core.Bool.{Bool, true, false, cond, or-false}
 use mathlib.Core.List.{List, []}
-use Prim.Native.Nat.{ℕ, zero, suc, _+_, _*_, _/_, _≤_, _<_}
-use native.Mathlib.Numerals.{add-one}
+use Prim.Native.Nat.{ℕ, _+_, _-_, _*_, _/_, _%_, _≤_, _<_}
 use native.Mathlib.Omega.{arith}
 use lib.ListN.{length, getD}
 use lib.Dec.{eqb, ltb}
-use borrow.Author.Tests.{eq-eqb, ne-eqb, lt-ltb, ltb-true}
+use borrow.Author.Tests.{eqb-true, ltb-true}
 use Rattle.laws.specs.Lists.{any, tab, joined, member}
-use Rattle.laws.proofs.Tests.{lt-or-le, eq-or-ne, not-both, and-left, and-right}
-use Rattle.laws.proofs.Quantifiers.{any-append}
+use Rattle.laws.proofs.Tests.{lt-or-le, eq-or-ne, not-both}
 use Rattle.laws.proofs.Tab.{length-tab, getD-tab}
-use Rattle.laws.proofs.Lists.{joined-snoc, member-head}
-use Rattle.reach.proofs.ListFacts.{member-joined, joined-member}
+use Rattle.reach.proofs.ListFacts.{joined-member}
 use Rattle.layout.specs.Nodes.{gateNamed}
+use Rattle.links.specs.Links.{FirstFrom}
 use Rattle.search.specs.Search.{wordGate, wordGates, gateReads}
 use Rattle.search.proofs.Marking.{named-gate, named-none}
-use Rattle.search.proofs.Operands.{none-yet}
-use Rattle.groups.specs.Numbering.{groupReads, Sought, Lowest}
+use Rattle.groups.specs.Numbering.{obstacle, NumberReady}
+use Rattle.groups.proofs.Leading.{lead-le}
+use Rattle.groups.specs.Waiting.{blocked, Sought, SeekReady, operandAt, operandsOf}
 
--- ---- lists one after the other
+-- ---- the gates of a group
 
-pub member-tab : (f : ℕ → List ℕ) (n i x : ℕ) → i < n → member x (f i) ≡ true → member x (joined (tab f n)) ≡ true
-member-tab f n i x l h = member-joined x (tab f n) i (rw (getD-tab f n i [] l) h)
+-- the leader is a gate
+pub seek-leader : {ws : List ℕ} {n m gates : ℕ} {leaders nexts : List ℕ} {leader from : ℕ} → SeekReady ws n m gates leaders nexts leader from → leader < m
+seek-leader {from = from} s = omega (arith, s .led, lead-le (s .prepared) from (s .below), s .below)
 
-pub tab-member : (f : ℕ → List ℕ) (n x : ℕ) → member x (joined (tab f n)) ≡ true → (i : ℕ) × (i < n) × (member x (f i) ≡ true)
+-- none of those from `from` to before i is blocked, and i is the next of them
+pub record Seeking (ws : List ℕ) (n m gates : ℕ) (leaders numbers : List ℕ) (leader from i : ℕ) : Type 0 where
+  pub passed : (x : ℕ) → from ≤ x → x < i → x < m → getD leaders x 0 ≡ leader → blocked ws n m gates leaders numbers leader x ≡ false
+  pub led : i < m → getD leaders i 0 ≡ leader
+  pub small : i ≤ 65535
+
+module _ {ws : List ℕ} {n m gates : ℕ} {leaders nexts numbers : List ℕ} {leader from : ℕ} (s : SeekReady ws n m gates leaders nexts leader from) where
+  pub seek-none : Seeking ws n m gates leaders numbers leader from from
+  seek-none = record { passed = λ x a b. absurd (omega arith); led = λ l. s .led; small = omega (arith, s .below, s .prepared .whole .fewGates) }
+
+  module _ {i : ℕ} (k : Seeking ws n m gates leaders numbers leader from i) where
+    pub seek-end : m ≤ i → Sought ws n m gates leaders numbers leader from i
+    seek-end l = record { passed = k .passed; found = λ h. absurd (omega arith); small = k .small }
+
+    module _ (l : i < m) {t : Bool} (tells : t ≡ any (obstacle numbers leaders leader) (gateReads ws n m gates i)) where
+      pub seek-found : t ≡ true → Sought ws n m gates leaders numbers leader from i
+      unfolding blocked
+      seek-found h = record { passed = k .passed; found = λ b. (k .led l, sym tells ∙ h); small = k .small }
+
+      pub seek-more : t ≡ false → (i′ : ℕ) → i′ ≡ getD nexts i 0 → i′ ≤ 65535 → Seeking ws n m gates leaders numbers leader from i′
+      unfolding blocked
+      seek-more h i′ e fits =
+          record {
+            passed = λ x a b c d. ⊎-elim (λ lt. k .passed x a lt c d)
+                (λ le. ⊎-elim (at x) (λ ne. absurd (next .passed x (omega (arith, ne)) b c d)) (eq-or-ne x i))
+                (lt-or-le x i);
+            led = λ b. next .found b .1;
+            small = fits;
+          }
+        where
+          next : FirstFrom leaders leader m (i + 1) i′
+          next = rw (e, ← k .led l) (s .linked i l)
+
+          at : (x : ℕ) → x ≡ i → any (obstacle numbers leaders leader) (gateReads ws n m gates x) ≡ false
+          at x q = rw q (sym tells ∙ h)
+
+-- ---- operands
+
+tab-member : (f : ℕ → List ℕ) (n x : ℕ) → member x (joined (tab f n)) ≡ true → (i : ℕ) × (i < n) × (member x (f i) ≡ true)
 tab-member f n x h =
     let r : (i : ℕ) × (i < length (tab f n)) × (member x (getD (tab f n) i []) ≡ true) = joined-member x (tab f n) h in
     let l : r .0 < n = rw (length-tab f n) at (r .1) in
     (r .0, l, rw (getD-tab f n (r .0) [] l) at (r .2))
 
--- ---- the words of a gate
+-- m, or a gate below it
+pub named-le : (n m w : ℕ) → gateNamed n m w ≤ m
+unfolding gateNamed
+named-le n m w = go (ltb w n) (ltb w (n + m)) refl
+  where
+    go : (s t : Bool) → ltb w (n + m) ≡ t → cond s m (cond t (w - n) m) ≤ m
+    go true t e = omega arith
+    go false true e = omega (arith, ltb-true w (n + m) e)
+    go false false e = omega arith
 
-module _ (test : ℕ → Bool) (n m : ℕ) where
-  -- k is the gate that word i names, and `t` tells whether it is one and passes
-  module _ (ws : List ℕ) (at i : ℕ) {w k : ℕ} (word : w ≡ getD ws (at + 1 + i) 0) (is : k ≡ gateNamed n m w) {t : Bool} (tells : t ≡ ltb k m && test k) where
-    pub word-passed : t ≡ false → any test (wordGates ws n m at i) ≡ false → any test (wordGates ws n m at (i + 1)) ≡ false
-    word-passed f h = none-yet test n m ws at i h (rw (← word) (⊎-elim one (λ l. rw (named-none n m w is l) refl) (lt-or-le k m)))
-      where
-        one : k < m → any test (wordGate n m w) ≡ false
-        one l = let no : test k ≡ false = rw (lt-ltb k m l) at (sym tells ∙ f) in rw (named-gate n m w is l, no) refl
+-- the word of a gate names it
+named-member : (n m w k : ℕ) → member k (wordGate n m w) ≡ true → gateNamed n m w ≡ k
+named-member n m w k h = ⊎-elim one none (lt-or-le (gateNamed n m w) m)
+  where
+    one : gateNamed n m w < m → gateNamed n m w ≡ k
+    one l = sym (eqb-true k (gateNamed n m w) (sym (or-false (eqb k (gateNamed n m w))) ∙ (rw (named-gate n m w refl l) at h)))
 
-    pub word-found : (count : ℕ) → i < count → t ≡ true → Sought test (wordGates ws n m at count) m k
-    unfolding wordGates
-    word-found count l y =
-        let lt : k < m = ltb-true k m (and-left (ltb k m) (test k) (sym tells ∙ y)) in
-        record {
-          found = λ b. (
-            member-tab (λ i. wordGate n m (getD ws (at + 1 + i) 0)) count i k l (rw (← word, named-gate n m w is lt) (member-head k [])),
-            and-right (ltb k m) (test k) (sym tells ∙ y),
-          );
-          none = λ ge. absurd (omega arith);
-        }
+    none : m ≤ gateNamed n m w → gateNamed n m w ≡ k
+    none l = not-both (rw (named-none n m w refl l) at h) refl
 
-  pub words-passed : (ws : List ℕ) (at count : ℕ) → any test (wordGates ws n m at count) ≡ false → Sought test (wordGates ws n m at count) m m
-  words-passed ws at count h = record { found = λ l. absurd (omega arith); none = λ l. h }
-
--- ---- the gates of a group
-
-module _ (ws : List ℕ) (n m gates : ℕ) (leaders : List ℕ) (leader : ℕ) where
-  reading : ℕ → List ℕ
-  reading i = cond (eqb (getD leaders i 0) leader) (gateReads ws n m gates i) []
-
-  reading-led : (i : ℕ) → getD leaders i 0 ≡ leader → reading i ≡ gateReads ws n m gates i
-  unfolding reading
-  reading-led i e = rw (eq-eqb (getD leaders i 0) leader e) refl
-
-  reading-other : (i : ℕ) → (getD leaders i 0 ≡ leader → ⊥) → reading i ≡ []
-  unfolding reading
-  reading-other i h = rw (ne-eqb (getD leaders i 0) leader h) refl
-
-  -- what the group reads is read by a gate that the leader leads
-  pub read-by : (k : ℕ) → member k (groupReads ws n m gates leaders leader m) ≡ true
-      → (i : ℕ) × (i < m) × (getD leaders i 0 ≡ leader) × (member k (gateReads ws n m gates i) ≡ true)
-  unfolding groupReads reading
-  read-by k h =
-      let r : (i : ℕ) × (i < m) × (member k (reading i) ≡ true) = tab-member reading m k h in
-      ⊎-elim
-      (λ e. (r .0, r .1, e, rw (reading-led (r .0) e) at (r .2)))
-      (λ ne. not-both (r .2) (rw (reading-other (r .0) ne) refl))
-      (eq-or-ne (getD leaders (r .0) 0) leader)
-
-  pub reads-of : (i k : ℕ) → i < m → getD leaders i 0 ≡ leader → member k (gateReads ws n m gates i) ≡ true
-      → member k (groupReads ws n m gates leaders leader m) ≡ true
-  unfolding groupReads reading
-  reads-of i k l e h = member-tab reading m i k l (rw (reading-led i e) h)
-
-  module _ (test : ℕ → Bool) where
-    group-none : any test (groupReads ws n m gates leaders leader 0) ≡ false
-    unfolding groupReads
-    group-none = refl
-
-    group-more : (i : ℕ) → any test (groupReads ws n m gates leaders leader i) ≡ false → any test (reading i) ≡ false
-        → any test (groupReads ws n m gates leaders leader (i + 1)) ≡ false
-    unfolding groupReads reading
-    group-more i h k = rw (add-one, joined-snoc (tab reading i) (reading i), any-append test (joined (tab reading i)) (reading i), h, k) refl
-
-    pub gate-other : (i : ℕ) → (getD leaders i 0 ≡ leader → ⊥) → any test (groupReads ws n m gates leaders leader i) ≡ false
-        → any test (groupReads ws n m gates leaders leader (i + 1)) ≡ false
-    gate-other i ne h = group-more i h (rw (reading-other i ne) refl)
-
-    pub gate-passed : (i k : ℕ) → getD leaders i 0 ≡ leader → m ≤ k → Sought test (wordGates ws n m (gates + 5 * i) (getD ws (gates + 5 * i) 0 / 8)) m k
-        → any test (groupReads ws n m gates leaders leader i) ≡ false → any test (groupReads ws n m gates leaders leader (i + 1)) ≡ false
-    unfolding gateReads
-    gate-passed i k e l s h = group-more i h (rw (reading-led i e) (s .none l))
-
-    pub gate-found : (i k : ℕ) → i < m → getD leaders i 0 ≡ leader → k < m
-        → Sought test (wordGates ws n m (gates + 5 * i) (getD ws (gates + 5 * i) 0 / 8)) m k → Sought test (groupReads ws n m gates leaders leader m) m k
-    unfolding gateReads
-    gate-found i k il e l s =
-        record {
-          found = λ lt. (reads-of i k il e (s .found lt .0), s .found lt .1);
-          none = λ ge. absurd (omega arith);
-        }
-
-    -- no gate below the leader is the group's
-    pub gates-below : Lowest leaders leader → (i : ℕ) → i ≤ leader → any test (groupReads ws n m gates leaders leader i) ≡ false
-    gates-below lowest zero l = group-none
-    gates-below lowest (suc i) l = rw (← add-one i) (gate-other i (lowest i (omega arith)) (gates-below lowest i (omega arith)))
-
-    pub gates-passed : (i : ℕ) → i ≡ m → any test (groupReads ws n m gates leaders leader i) ≡ false
-        → Sought test (groupReads ws n m gates leaders leader m) m m
-    gates-passed i e h =
-        record { found = λ l. absurd (omega arith); none = λ l. subst (λ (i : ℕ). any test (groupReads ws n m gates leaders leader i) ≡ false) e h }
+-- a gate that gate i reads is one of its operands
+module _ {ws : List ℕ} {n m gates : ℕ} {leaders : List ℕ} (r : NumberReady ws n m gates leaders) where
+  pub operand-of : (i k : ℕ) → i < m → member k (gateReads ws n m gates i) ≡ true
+      → (x : ℕ) × (x < 4 * m) × (getD (operandsOf ws n m gates) x 0 ≡ k) × (x / 4 ≡ i)
+  unfolding gateReads wordGates operandsOf operandAt
+  operand-of i k il h =
+      let o : (o : ℕ) × (o < getD ws (gates + 5 * i) 0 / 8) × (member k (wordGate n m (getD ws (gates + 5 * i + 1 + o) 0)) ≡ true) =
+      tab-member (λ o. wordGate n m (getD ws (gates + 5 * i + 1 + o) 0)) (getD ws (gates + 5 * i) 0 / 8) k h in
+      let few : o .0 < 4 = omega (arith, o .1, r .fewOperands i il) in
+      let x : ℕ = 4 * i + o .0 in
+      let xl : x < 4 * m = omega arith in
+      let part : x / 4 ≡ i = omega arith in
+      let rest : x % 4 ≡ o .0 = omega arith in
+      (x, xl, getD-tab (operandAt ws n m gates) (4 * m) x 0 xl ∙ rw (part, rest) (named-member n m (getD ws (gates + 5 * i + 1 + o .0) 0) k (o .2)), part)

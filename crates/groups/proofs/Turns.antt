@@ -3,18 +3,20 @@ use mathlib.Core.Path.{_≡_, refl, sym, ap, _∙_}
 use mathlib.Core.Logic.{⊎-elim}
 use mathlib.Core.Bool.{Bool, true, false, cond}
 use mathlib.Core.List.{List, [], _++_}
-use Prim.Native.Nat.{ℕ, zero, suc, _+_, _≤_, _<_}
+use Prim.Native.Nat.{ℕ, zero, suc, _+_, _*_, _≤_, _<_}
 use native.Mathlib.Nat.{le-antisymm}
 use native.Mathlib.Numerals.{add-one}
 use native.Mathlib.Omega.{arith}
-use lib.ListN.{length, getD, take, drop, replicate, length-replicate, replicate-append-replicate}
+use lib.ListN.{length, getD, take, drop, replicate, length-replicate, getD-replicate, replicate-append-replicate, List·getD-append}
 use lib.Seq.{take-all, drop-at}
 use lib.Dec.{eqb, ltb}
 use borrow.Author.Tests.{lt-ltb, le-ltb}
 use Rattle.laws.specs.Lists.{tab, placed, joined, member, least}
 use Rattle.laws.proofs.Tests.{not-both, lt-or-le}
-use Rattle.laws.proofs.Tab.{tab-ext, length-tab, placed-tab}
+use Rattle.laws.proofs.Tab.{tab-ext, length-tab, getD-tab, placed-tab}
 use Rattle.laws.proofs.Slices.{drop-placed}
+use Rattle.links.specs.Links.{Linked}
+use Rattle.links.proofs.Linking.{linked-as}
 use Rattle.netlist.specs.Netlist.{Block, gateCount}
 use Rattle.netlist.specs.StoredBlock.{decode}
 use Rattle.netlist.specs.Groups.{sameGroup, groupOf, groups, groupNumber, groupNumbers}
@@ -25,8 +27,9 @@ use Rattle.reach.proofs.Next.{mayBeNext-left}
 use Rattle.reach.proofs.Order.{length-groups, groups-all, nextGate-passes}
 use Rattle.reach.proofs.GroupNumber.{groupNumber-is, groupNumber-below, groupNumber-member}
 use Rattle.reach.proofs.Build.{groups-at}
-use Rattle.groups.specs.Numbering.{noNumber, leadsNext, renumbered, numberUpTo, NumberReady, Watching, GroupsNumbered}
-use Rattle.groups.proofs.Leading.{in-block, lead-same}
+use Rattle.groups.specs.Numbering.{noNumber, unnumbered, leadsNext, renumbered, numberUpTo, NumberReady, GroupsNumbered}
+use Rattle.groups.specs.Waiting.{NextsAre, operandAt, operandsOf}
+use Rattle.groups.proofs.Leading.{in-block, lead-le, lead-same}
 use Rattle.groups.proofs.Order.{State, next-leads, next-found}
 
 -- a list of one number
@@ -48,21 +51,30 @@ numbers-none b m entry =
     let e : tab (numberUpTo b 0) m ≡ replicate m noNumber = tab-constant (numberUpTo b 0) noNumber m (λ j l. none-number b j) in
     rw (e, length-replicate {A = ℕ} m noNumber, drop-at (replicate m noNumber) (drop m entry) m (length-replicate {A = ℕ} m noNumber)) refl
 
--- and no obstacle is known
-pub watching-none : {ws : List ℕ} {n m gates : ℕ} {leaders obstacles : List ℕ} (entry : List ℕ) → NumberReady ws n m gates leaders → m ≤ length obstacles
-    → obstacles ≡ replicate m noNumber ++ drop m entry → Watching ws n m gates leaders obstacles
-watching-none {m = m} {obstacles = obstacles} entry r room is =
-    record {
-      prepared = r;
-      room = room;
-      outsideOf = λ l il below. absurd (omega (arith, unknown l il, r .whole .fewGates));
-    }
-  where
-    same : obstacles ≡ placed (tab (λ j. noNumber) m) entry
-    same = is ∙ rw (tab-constant (λ j. noNumber) noNumber m (λ j l. refl), length-replicate {A = ℕ} m noNumber) refl
+pub bare-all : (m : ℕ) (numbers entry : List ℕ) → numbers ≡ replicate m noNumber ++ drop m entry → (l : ℕ) → l < m → unnumbered numbers l ≡ true
+unfolding unnumbered
+bare-all m numbers entry is l lm =
+    rw (
+      is,
+      List·getD-append {A = ℕ} (replicate m noNumber) (drop m entry) 0 l (rw (length-replicate {A = ℕ} m noNumber) lm),
+      getD-replicate m l noNumber 0
+          lm,
+    ) refl
 
-    unknown : (l : ℕ) → l < m → getD obstacles l 0 ≡ noNumber
-    unknown l il = rw same (placed-tab (λ j. noNumber) m entry l 0 il)
+pub kept-behind : (m : ℕ) (numbers entry : List ℕ) → numbers ≡ replicate m noNumber ++ drop m entry → drop m numbers ≡ drop m entry
+kept-behind m numbers entry is = rw is (drop-at (replicate m noNumber) (drop m entry) m (length-replicate {A = ℕ} m noNumber))
+
+-- ---- links
+
+pub nexts-are : {ws : List ℕ} {n m gates : ℕ} {leaders firsts nexts : List ℕ} → NumberReady ws n m gates leaders → Linked leaders m m 0 firsts nexts
+    → NextsAre leaders m nexts
+nexts-are r s j l = s .nextIs j (omega arith) l (omega (arith, lead-le r j l))
+
+pub readers-are : (ws : List ℕ) (n m gates : ℕ) (operands entry readers links : List ℕ) → operands ≡ placed (tab (operandAt ws n m gates) (4 * m)) entry
+    → Linked operands (4 * m) m 0 readers links → Linked (operandsOf ws n m gates) (4 * m) m 0 readers links
+unfolding operandsOf
+readers-are ws n m gates operands entry readers links is s =
+    linked-as (λ i l. rw is (placed-tab (operandAt ws n m gates) (4 * m) entry i 0 l ∙ sym (getD-tab (operandAt ws n m gates) (4 * m) i 0 l))) s
 
 module _ (b : Block) (inside : Inside b) where
   -- there is a next gate only while groups are left, and always then
@@ -147,24 +159,33 @@ module _ {ws : List ℕ} {n m gates : ℕ} {leaders : List ℕ} (r : NumberReady
             rw (led, number-now i il) (number-more (decode ws) (r .inside) g i j (sym next) (in-block r il) (in-block r l))
 
 -- the loop's end
-pub numbers-end : {ws : List ℕ} {n m gates : ℕ} {leaders : List ℕ} (g : ℕ) (entry numbers₀ numbers : List ℕ) → NumberReady ws n m gates leaders
-    → numbers₀ ≡ replicate m noNumber ++ drop m entry → numbers ≡ placed (tab (numberUpTo (decode ws) g) m) numbers₀ → g ≡ length (groups (decode ws))
-    → GroupsNumbered (decode ws) entry numbers g
+pub numbers-end : {ws : List ℕ} {n m gates : ℕ} {leaders : List ℕ} (g : ℕ) (numbers₀ numbers : List ℕ) → NumberReady ws n m gates leaders
+    → numbers ≡ placed (tab (numberUpTo (decode ws) g) m) numbers₀ → g ≡ length (groups (decode ws)) → GroupsNumbered (decode ws) numbers₀ numbers g
 unfolding groupNumbers
-numbers-end {ws} {n} {m} {gates} {leaders} g entry numbers₀ numbers r start is end =
+numbers-end {ws} {n} {m} {gates} {leaders} g numbers₀ numbers r is end =
     record {
       numbersAre =
           is
           ∙ rw (
             length-tab (numberUpTo (decode ws) g) m,
-            start,
-            drop-at (replicate m noNumber) (drop m entry) m (length-replicate {A = ℕ} m noNumber),
             length-tab (groupNumber (decode ws)) (gateCount (decode ws)),
             end,
             r .gatesAre,
           )
-          (ap (λ (l : List ℕ). l ++ drop (gateCount (decode ws)) entry) (all-numbered (decode ws) (r .inside)));
+          (ap (λ (l : List ℕ). l ++ drop (gateCount (decode ws)) numbers₀) (all-numbered (decode ws) (r .inside)));
       countIs = end;
+    }
+
+-- what stands behind the gates' numbers is the entry's
+pub numbers-behind : {b : Block} {m g : ℕ} {entry numbers₀ numbers : List ℕ} → m ≡ gateCount b → drop m numbers₀ ≡ drop m entry
+    → GroupsNumbered b numbers₀ numbers g → GroupsNumbered b entry numbers g
+unfolding groupNumbers
+numbers-behind {b} {m} {entry = entry} {numbers₀} is e d =
+    record {
+      numbersAre =
+          d .numbersAre
+          ∙ rw (length-tab (groupNumber b) (gateCount b), ← is) (ap (λ (l : List ℕ). tab (groupNumber b) m ++ l) e);
+      countIs = d .countIs;
     }
 
 pub end-late : {ws : List ℕ} {n m gates : ℕ} {leaders : List ℕ} (g : ℕ) → NumberReady ws n m gates leaders → g ≤ length (groups (decode ws)) → m ≤ g

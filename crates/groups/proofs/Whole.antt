@@ -74,4 +74,11 @@ module _ (ws : List ℕ) (whole : isTorn ws ≡ false) where
 
   pub number-ready : (leaders : List ℕ) → ((j : ℕ) → j < getD ws 1 0 → getD leaders j 0 ≡ leaderOf (decode ws) j)
       → NumberReady ws (getD ws 0 0) (getD ws 1 0) (gatesAt (getD ws 0 0) (getD ws 3 0)) leaders
-  number-ready leaders h = record { whole = gates-ready; gatesAre = sym (decode-gateCount ws); inside = whole-reads ws whole; leads = h }
+  number-ready leaders h =
+      record {
+        whole = gates-ready;
+        gatesAre = sym (decode-gateCount ws);
+        inside = whole-reads ws whole;
+        fewOperands = λ i l. whole-gate ws whole i l .count;
+        leads = h;
+      }

@@ -1,16 +1,16 @@
 -- Numbering groups one by one, on arrays: a gate's number, or the mark of none, and each gate's leader, the lowest gate of its group.
-use Prim.Native.Nat.{ℕ, _≤_, _<_}
+use Prim.Native.Nat.{ℕ, _+_, _*_, _/_, _≤_, _<_}
 use mathlib.Core.Path.{_≡_}
-use mathlib.Core.Bool.{Bool, true, false, cond, not, _&&_, _||_}
-use mathlib.Core.List.{List, []}
+use mathlib.Core.Bool.{Bool, false, cond, not, _&&_}
+use mathlib.Core.List.{List}
 use lib.ListN.{length, getD}
 use lib.Dec.{eqb, ltb}
-use Rattle.laws.specs.Lists.{any, keep, tab, placed, joined, upTo, member}
+use Rattle.laws.specs.Lists.{keep, placed, upTo}
 use Rattle.netlist.specs.Netlist.{Block, gateCount}
 use Rattle.netlist.specs.StoredBlock.{decode, isTorn, gatesAt}
 use Rattle.netlist.specs.Groups.{mayBeNext, groups, groupNumber, groupNumbers}
 use Rattle.reach.specs.Inside.{Inside}
-use Rattle.search.specs.Search.{gateReads, GatesReady}
+use Rattle.search.specs.Search.{GatesReady}
 use Rattle.components.specs.Leaders.{leaderOf}
 
 -- the code's layout::nodes::NONE
@@ -23,19 +23,6 @@ unnumbered numbers k = eqb (getD numbers k 0) noNumber
 -- a gate without a number, of another group than `leader` leads
 unfoldable pub obstacle : List ℕ → List ℕ → ℕ → ℕ → Bool
 obstacle numbers leaders leader k = unnumbered numbers k && not (eqb (getD leaders k 0) leader)
-
--- what the gates below `count` that `leader` leads read
-unfoldable pub groupReads : List ℕ → ℕ → ℕ → ℕ → List ℕ → ℕ → ℕ → List ℕ
-groupReads ws n m gates leaders leader count = joined (tab (λ i. cond (eqb (getD leaders i 0) leader) (gateReads ws n m gates i) []) count)
-
--- the group that `leader` leads reads gate k outside itself, whatever has a number
-unfoldable pub outside : List ℕ → ℕ → ℕ → ℕ → List ℕ → ℕ → ℕ → Bool
-outside ws n m gates leaders leader k = member k (groupReads ws n m gates leaders leader m) && not (eqb (getD leaders k 0) leader)
-
--- gate j's group needs no look: it has a number, a lower gate leads it, or the obstacle that is remembered has no number
-unfoldable pub passed : ℕ → List ℕ → List ℕ → List ℕ → ℕ → Bool
-passed m numbers leaders obstacles j =
-    not (unnumbered numbers j) || (not (eqb (getD leaders j 0) j) || (ltb (getD obstacles j 0) m && unnumbered numbers (getD obstacles j 0)))
 
 -- the gates that have a number
 unfoldable pub numberedGates : ℕ → List ℕ → List ℕ
@@ -58,22 +45,12 @@ pub record NumberReady (ws : List ℕ) (n m gates : ℕ) (leaders : List ℕ) : 
   pub whole : GatesReady ws n m gates
   pub gatesAre : m ≡ gateCount (decode ws)
   pub inside : Inside (decode ws)
+  pub fewOperands : (i : ℕ) → i < m → getD ws (gates + 5 * i) 0 / 8 ≤ 4
   pub leads : (j : ℕ) → j < m → getD leaders j 0 ≡ leaderOf (decode ws) j
-
--- r is one of these gates, and passes the test; or it is m or more, and none of them does
-pub record Sought (test : ℕ → Bool) (ks : List ℕ) (m r : ℕ) : Type 0 where
-  pub found : r < m → (member r ks ≡ true) × (test r ≡ true)
-  pub none : m ≤ r → any test ks ≡ false
 
 -- `leader` leads no lower gate
 abbrev pub Lowest : List ℕ → ℕ → Type 0
 Lowest leaders leader = (i : ℕ) → i < leader → getD leaders i 0 ≡ leader → ⊥
-
--- each remembered obstacle below m is a gate that the group reads outside itself
-pub record Watching (ws : List ℕ) (n m gates : ℕ) (leaders obstacles : List ℕ) : Type 0 where
-  pub prepared : NumberReady ws n m gates leaders
-  pub room : m ≤ length obstacles
-  pub outsideOf : (l : ℕ) → l < m → getD obstacles l 0 < m → outside ws n m gates leaders l (getD obstacles l 0) ≡ true
 
 -- the end of numbering
 pub record GroupsNumbered (b : Block) (entry exit : List ℕ) (count : ℕ) : Type 0 where
@@ -81,12 +58,11 @@ pub record GroupsNumbered (b : Block) (entry exit : List ℕ) (count : ℕ) : Ty
   pub countIs : count ≡ length (groups b)
 
 -- a whole block's words and header, and room for every gate in each array
-pub record AssignReady (ws : List ℕ) (n m gates : ℕ) (numbers leaders queue flags : List ℕ) : Type 0 where
+pub record AssignReady (ws : List ℕ) (n m gates : ℕ) (leaders queue flags : List ℕ) : Type 0 where
   pub whole : isTorn ws ≡ false
   pub inputsAre : n ≡ getD ws 0 0
   pub gatesAre : m ≡ getD ws 1 0
   pub firstIs : gates ≡ gatesAt (getD ws 0 0) (getD ws 3 0)
-  pub numberRoom : m ≤ length numbers
   pub leaderRoom : m ≤ length leaders
   pub queueRoom : m ≤ length queue
   pub flagRoom : m ≤ length flags

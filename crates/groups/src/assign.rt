@@ -1,7 +1,9 @@
 // The groups' numbers of a whole block.
 use crate::numbering::number_groups;
+use crate::ready::READY_WORDS;
 use components::leaders::lead;
 use layout::limits::MAX_GATES;
+use layout::offsets::OPERAND_WORDS;
 use layout::offsets::gates_at;
 use layout::offsets::gates_of;
 use layout::offsets::inputs_of;
@@ -11,8 +13,9 @@ ghost use Prim.Native.Nat.{_≤_};
 ghost use lib.ListN.{length, getD};
 ghost use Rattle.netlist.specs.StoredBlock.{decode, isTorn};
 ghost use Rattle.groups.specs.Numbering.{GroupsNumbered, AssignReady};
+ghost use Rattle.groups.specs.Waiting.{Rooms};
 
-// With arrays for the leaders and the search, each of at least m elements. The queue is used again for the obstacles found.
+// With arrays for the leaders and the search, each of at least m elements. The queue is used again for where each group waits.
 fn assign_with(
     words: &[u16],
     n: usize,
@@ -22,12 +25,33 @@ fn assign_with(
     leaders: &mut [u16],
     queue: &mut [u16],
     flags: &mut [u8],
+    nexts: &mut [u16],
+    readers: &mut [u16],
+    links: &mut [u16],
+    operands: &mut [u16],
+    ready: &mut [u64],
 ) -> usize
-    requires { ⌜ AssignReady (now words) n m gates (now numbers) (now leaders) (now queue) (now flags) ⌝ }
+    requires { ⌜
+        AssignReady (now words) n m gates (now leaders) (now queue) (now flags) × Rooms m (now numbers) (now nexts) (now readers) (now links) (now operands)
+        (now queue) (now ready)
+        ⌝ }
     ensures { λ r. ⌜ GroupsNumbered (decode (now (words .entry))) (now (numbers .entry)) (now (numbers .exit)) r ⌝ }
 {
     lead(words, n, m, gates, leaders, flags, queue);
-    number_groups(words, n, m, gates, leaders, numbers, queue)
+    number_groups(
+        words,
+        n,
+        m,
+        gates,
+        leaders,
+        numbers,
+        nexts,
+        readers,
+        links,
+        operands,
+        queue,
+        ready,
+    )
 }
 
 // Writes each gate's group number; how many groups there are.
@@ -41,6 +65,11 @@ pub fn assign(words: &[u16], numbers: &mut [u16]) -> usize
     let mut leaders = [0u16; MAX_GATES];
     let mut queue = [0u16; MAX_GATES];
     let mut flags = [0u8; MAX_GATES];
+    let mut nexts = [0u16; MAX_GATES];
+    let mut readers = [0u16; MAX_GATES];
+    let mut links = [0u16; MAX_GATES * OPERAND_WORDS];
+    let mut operands = [0u16; MAX_GATES * OPERAND_WORDS];
+    let mut ready = [0u64; READY_WORDS];
     assign_with(
         words,
         n,
@@ -50,5 +79,10 @@ pub fn assign(words: &[u16], numbers: &mut [u16]) -> usize
         &mut leaders,
         &mut queue,
         &mut flags,
+        &mut nexts,
+        &mut readers,
+        &mut links,
+        &mut operands,
+        &mut ready,
     )
 }

@@ -13,6 +13,9 @@ ghost use Rattle.netlist.specs.Operations.{groupsOf};
 pub mod assign;
 pub mod numbering;
 mod obstacle;
+mod operands;
+mod ready;
+mod waiting;
 
 // Groups (6, 11): each gate's group number, a word each; count: groups.
 pub fn groups(words: &[u16], numbers: &mut [u16]) -> Answer

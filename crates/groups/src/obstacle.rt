@@ -4,18 +4,27 @@ use layout::nodes::gate_named;
 use layout::offsets::GATE_SIZE;
 use layout::read::word_at;
 ghost use mathlib.Core.Path.{_≡_};
-ghost use mathlib.Core.Bool.{_&&_};
-ghost use Prim.Native.Nat.{_/_, _≤_, _<_};
+ghost use Prim.Native.Nat.{_/_, _≤_};
 ghost use lib.ListN.{getD};
-ghost use lib.Dec.{ltb};
+ghost use Rattle.laws.specs.Lists.{any};
 ghost use Rattle.netlist.specs.Limits.{maxGates};
-ghost use Rattle.search.specs.Search.{wordGates};
-ghost use Rattle.groups.specs.Numbering.{obstacle, groupReads, Sought, NumberReady};
+ghost use Rattle.search.specs.Search.{wordGate, wordGates};
+ghost use Rattle.groups.specs.Numbering.{obstacle};
+ghost use Rattle.groups.specs.Waiting.{SeekReady, Sought};
 
-// k is a gate without a number, of another group than `leader` leads.
-fn is_obstacle(k: usize, m: usize, numbers: &[u16], leaders: &[u16], leader: usize) -> bool
-    ensures { λ r. ⌜ r ≡ (ltb k m && obstacle (now (numbers .entry)) (now (leaders .entry)) leader k) ⌝ }
+// The operand word names a gate without a number, of another group than `leader` leads.
+fn is_obstacle(
+    w: usize,
+    n: usize,
+    m: usize,
+    numbers: &[u16],
+    leaders: &[u16],
+    leader: usize,
+) -> bool
+    requires { ⌜ (n ≤ 65535) × (m ≤ maxGates) ⌝ }
+    ensures { λ r. ⌜ r ≡ any (obstacle (now (numbers .entry)) (now (leaders .entry)) leader) (wordGate n m w) ⌝ }
 {
+    let k = gate_named(w, n, m);
     if m <= k {
         return false;
     }
@@ -25,8 +34,8 @@ fn is_obstacle(k: usize, m: usize, numbers: &[u16], leaders: &[u16], leader: usi
     word_at(leaders, k) != leader
 }
 
-// The first such gate that the gate at `at` reads, or m.
-fn obstacle_of_gate(
+// The gate at `at` reads such a gate.
+fn is_blocked(
     words: &[u16],
     n: usize,
     m: usize,
@@ -34,44 +43,45 @@ fn obstacle_of_gate(
     numbers: &[u16],
     leaders: &[u16],
     leader: usize,
-) -> usize
+) -> bool
     requires { ⌜ (at ≤ 65535) × (n ≤ 65535) × (m ≤ maxGates) ⌝ }
-    ensures { λ r. ⌜ Sought (obstacle (now (numbers .entry)) (now (leaders .entry)) leader) (wordGates (now (words .entry)) n m at (getD (now (words .entry)) at 0 / 8)) m r ⌝ }
+    ensures { λ r. ⌜
+        r ≡ any (obstacle (now (numbers .entry)) (now (leaders .entry)) leader)
+        (wordGates (now (words .entry)) n m at (getD (now (words .entry)) at 0 / 8))
+        ⌝ }
 {
     let count = word_at(words, at) / 8;
     let mut i = 0;
     while i < count {
-        let k = gate_named(word_at(words, at + 1 + i), n, m);
-        if is_obstacle(k, m, numbers, leaders, leader) {
-            return k;
+        if is_obstacle(word_at(words, at + 1 + i), n, m, numbers, leaders, leader) {
+            return true;
         }
         i += 1;
     }
-    m
+    false
 }
 
-// The first such gate that the group reads, or m; `leader` is its lowest gate.
-pub fn obstacle_of_group(
+// The first gate of the group that reads one, from gate `from` of the group on; m or more where none does.
+pub fn seek(
     words: &[u16],
     n: usize,
     m: usize,
     gates: usize,
-    numbers: &[u16],
     leaders: &[u16],
+    nexts: &[u16],
+    numbers: &[u16],
     leader: usize,
+    from: usize,
 ) -> usize
-    requires { ⌜ (leader < m) × NumberReady (now words) n m gates (now leaders) ⌝ }
-    ensures { λ r. ⌜ Sought (obstacle (now (numbers .entry)) (now (leaders .entry)) leader) (groupReads (now (words .entry)) n m gates (now (leaders .entry)) leader m) m r ⌝ }
+    requires { ⌜ SeekReady (now words) n m gates (now leaders) (now nexts) leader from ⌝ }
+    ensures { λ r. ⌜ Sought (now (words .entry)) n m gates (now (leaders .entry)) (now (numbers .entry)) leader from r ⌝ }
 {
-    let mut i = leader;
+    let mut i = from;
     while i < m {
-        if word_at(leaders, i) == leader {
-            let k = obstacle_of_gate(words, n, m, gates + GATE_SIZE * i, numbers, leaders, leader);
-            if k < m {
-                return k;
-            }
+        if is_blocked(words, n, m, gates + GATE_SIZE * i, numbers, leaders, leader) {
+            return i;
         }
-        i += 1;
+        i = word_at(nexts, i);
     }
-    m
+    i
 }

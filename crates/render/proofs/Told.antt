@@ -34,7 +34,8 @@ use Rattle.assignments.proofs.Blocks.{sound-lowest, lowest-sound}
 use Rattle.reach.proofs.Order.{length-groups}
 use Rattle.passes.specs.Counting.{Listing}
 use Rattle.schedule.specs.Listing.{Numbers, PassesAre, Appended, membersOf, planOf, ListReady, GroupsListed}
-use Rattle.schedule.proofs.Blocks.{count-few, plan-schedule, front, members-groups, members-long, members-front, starts-next, starts-within, starts-part}
+use Rattle.schedule.proofs.Listing.{front}
+use Rattle.schedule.proofs.Blocks.{count-few, plan-schedule, members-groups, members-long, members-front, starts-next, starts-within, starts-part}
 
 -- ---- the settings
 

@@ -7,21 +7,28 @@ use Rattle.groups.proofs.assign.assign_with.Tie as tie
 
 lead-requires : tie.Need-lead-requires
 lead-requires c κs =
-    let after-slice-known = c .before .before .before .before .before .before in
-    let at-start = after-slice-known .before .before in
-    let s = at-start in (s .pre .leaderRoom, ready-for (s .pre) (s .args .flags .now) (s .args .queue .now) refl refl)
+    let far = c .before .before .before .before .before .before .before .before .before .before .before in
+    let s = far .before .before in (s .pre .0 .leaderRoom, ready-for (s .pre .0) (s .args .flags .now) (s .args .queue .now) refl refl)
 
 number-groups-requires : tie.Need-number-groups-requires
 number-groups-requires c κs =
-    let after-flags = c .before .before .before .before .before .before in
-    let after-lead = after-flags .before .before .before in
-    let after-slice-known2 = after-lead .before .before .before .before .before .before in
-    let s = after-slice-known2 .before .before .before in
-    let l = after-lead .lead in (
-      s .pre .numberRoom,
-      rw (l .kept .1 .1 .1 .1 .1 .1 .0) (s .pre .queueRoom),
-      number-for (s .pre) (l .last .1 .1 .1 .1 .0) (s .args .leaders .now)
-          (l .ensures),
+    let far = c .before .before .before .before .before .before .before .before .before .before .before in
+    let farther = far .before .before .before .before .before .before .before .before .before .before .before in
+    let s = farther .before .before .before .before .before .before in
+    let l = far .before .before .before .lead in
+    let r = s .pre .1 in (
+      number-for (s .pre .0) (l .last .1 .1 .1 .1 .0) (s .args .leaders .now) (l .ensures),
+      record {
+        numberRoom = r .numberRoom;
+        nextRoom = r .nextRoom;
+        readerRoom = r .readerRoom;
+        linkRoom = r .linkRoom;
+        operandRoom = r .operandRoom;
+        placeRoom = rw (l .kept .1 .1 .1 .1 .1 .1 .0) (r .placeRoom);
+        readyRoom = r .readyRoom;
+        readyFew = r .readyFew;
+        empty = r .empty;
+      },
     )
 
 same-length : tie.Need-same-length
@@ -36,10 +43,37 @@ same-length-3 c = search needs
 same-length-4 : tie.Need-same-length-4
 same-length-4 c = search needs
 
+same-length-5 : tie.Need-same-length-5
+same-length-5 c = search needs
+
+same-length-6 : tie.Need-same-length-6
+same-length-6 c = search needs
+
+same-length-7 : tie.Need-same-length-7
+same-length-7 c = search needs
+
+same-length-8 : tie.Need-same-length-8
+same-length-8 c = search needs
+
+same-length-9 : tie.Need-same-length-9
+same-length-9 c = search needs
+
 returns : tie.Need-returns
 returns c = search needs
 
 pub assign-with-spec : {M : Type 1} → statement M
 assign-with-spec =
     tie.close
-    (tie.spec lead-requires number-groups-requires same-length same-length-2 same-length-3 same-length-4 returns)
+    (tie.spec
+    lead-requires
+    number-groups-requires
+    same-length
+    same-length-2
+    same-length-3
+    same-length-4
+    same-length-5
+    same-length-6
+    same-length-7
+    same-length-8
+    same-length-9
+    returns)

@@ -1,18 +1,23 @@
--- `groups::obstacle::is_obstacle` meets its contract, by the ways through its tests. Assumes nothing.
-use borrow.Author.Needs.{needs}
-use borrow.Author.Tests.{le-ltb, lt-ltb, eq-eqb, ne-eqb}
-use mathlib.Core.Path.{refl, _∙_, sym}
+-- `groups::obstacle::is_obstacle` meets its contract, by the gate that the word names and the ways through its tests. Assumes nothing.
+use borrow.Author.Tests.{eq-eqb, ne-eqb}
+use mathlib.Core.Path.{_≡_, refl, sym, _∙_}
+use mathlib.Core.Bool.{true, false}
+use lib.Dec.{eqb}
 use lib.ListN.{getD}
+use Rattle.search.proofs.Operands.{no-gate, one-gate}
 use Rattle.groups.specs.Numbering.{noNumber, unnumbered, obstacle}
+use borrow.Author.Needs.{needs}
 use Rattle.groups.proofs.obstacle.is_obstacle.Statement.{statement}
 use Rattle.groups.proofs.obstacle.is_obstacle.Tie as tie
 
--- the function's entry, from where k is below m
-abbrev start : tie.Else1 → tie.Start
-start c = c .before .before .before
+gate-named-requires : tie.Need-gate-named-requires
+gate-named-requires c κs = search needs
 
 returns : tie.Need-returns
-returns c = let a = c .before .before .before .args in rw (le-ltb (a .k) (a .m) (c .if1 .taken)) refl
+returns c =
+    let a =
+    c .before .before .before .before .args in no-gate (obstacle (a .numbers .now) (a .leaders .now) (a .leader)) (a .n) (a .m) (a .w)
+    (c .before .gate-named .ensures) (c .if1 .taken)
 
 word-at-requires : tie.Need-word-at-requires
 word-at-requires c κs = search needs
@@ -20,9 +25,13 @@ word-at-requires c κs = search needs
 returns-2 : tie.Need-returns-2
 unfolding obstacle unnumbered
 returns-2 c =
-    let below = c .before .before in
-    let a = start below .args in
-    rw (lt-ltb (a .k) (a .m) (below .if1 .left), ne-eqb (getD (a .numbers .now) (a .k) 0) noNumber (λ e. c .if2 .taken (c .before .word-at .ensures ∙ e))) refl
+    let named = c .before .before .before in
+    let a = c .before .before .before .before .before .before .args in
+    let k = named .gate-named .result in
+    let no : obstacle (a .numbers .now) (a .leaders .now) (a .leader) k ≡ false =
+    rw (ne-eqb (getD (a .numbers .now) k 0) noNumber (λ e. c .if2 .taken (c .before .word-at .ensures ∙ e))) refl in
+    sym no ∙ one-gate (obstacle (a .numbers .now) (a .leaders .now) (a .leader)) (a .n) (a .m) (a .w) (named .gate-named .ensures)
+    (c .before .before .if1 .left)
 
 word-at-requires-2 : tie.Need-word-at-requires-2
 word-at-requires-2 c κs = search needs
@@ -31,13 +40,16 @@ returns-3 : tie.Need-returns-3
 unfolding obstacle unnumbered
 returns-3 c =
     let none = c .before in
-    let below = none .before .before in
-    let a = start below .args in
-    rw (
-      lt-ltb (a .k) (a .m) (below .if1 .left),
-      eq-eqb (getD (a .numbers .now) (a .k) 0) noNumber (sym (none .before .word-at .ensures) ∙ none .if2 .left),
-      c .word-at2 .ensures,
-    ) refl
+    let named = none .before .before .before in
+    let a = c .before .before .before .before .before .before .before .args in
+    let k = named .gate-named .result in
+    let bare : eqb (getD (a .numbers .now) k 0) noNumber ≡ true =
+    eq-eqb (getD (a .numbers .now) k 0) noNumber (sym (none .before .word-at .ensures) ∙ none .if2 .left) in
+    rw (c .word-at2 .ensures)
+    ((rw (bare) refl)
+    ∙ one-gate (obstacle (a .numbers .now) (a .leaders .now) (a .leader)) (a .n) (a .m) (a .w) (named .gate-named .ensures) (none .before .before .if1 .left))
 
 pub is-obstacle-spec : {M : Type 1} → statement M
-is-obstacle-spec = tie.close (tie.spec returns word-at-requires returns-2 word-at-requires-2 returns-3)
+is-obstacle-spec =
+    tie.close
+    (tie.spec gate-named-requires returns word-at-requires returns-2 word-at-requires-2 returns-3)

@@ -14,7 +14,7 @@ use Rattle.netlist.specs.Answers.{testOf}
 use Rattle.netlist.specs.Operations.{render}
 use Rattle.encoding.proofs.Readers.{whole-parts}
 use Rattle.refusals.proofs.Promised.{passed, passed-false, failed, bare, keeps-bare, finished}
-use Rattle.schedule.proofs.Blocks.{count-few, plan-schedule}
+use Rattle.schedule.proofs.Blocks.{count-few, plan-schedule, members-groups, members-long}
 use Rattle.render.proofs.Cases.{roomed, render-left}
 use Rattle.render.proofs.Told.{rendered-size, scheduled, schedule-length}
 use Rattle.render.proofs.steps.finish.Statement.{statement}
@@ -118,11 +118,15 @@ fill-schedule-requires c κs =
     let t = testing (c .before) in
     let s = entry t in
     let a = s .pre .numbersAre in
-    rw (t .before .before .before .before .gates-of .ensures) (
-      a .few,
-      count-few a,
-      rw (plan-schedule a (now (s .args .passes)) (s .pre .passesAre), schedule-length (now (s .args .words)) (s .args .total) (s .pre .totalIs)) (omega (arith, s .pre .fits, s .pre .orderRoom)),
-    )
+    rw (t .before .before .before .before .gates-of .ensures)
+    (record {
+      few = a .few;
+      fewGroups = count-few a;
+      fewMembers = rw (members-groups a, members-long a) (a .few);
+      room =
+          rw (plan-schedule a (now (s .args .passes)) (s .pre .passesAre), schedule-length (now (s .args .words)) (s .args .total) (s .pre .totalIs))
+          (omega (arith, s .pre .fits, s .pre .orderRoom));
+    })
 
 write-rendering-requires : tie.Need-write-rendering-requires
 write-rendering-requires c κs =

@@ -1,0 +1,90 @@
+-- `groups::ready::lowest` meets its contract: no gate of the words passed is in the set. Assumes nothing.
+use borrow.Author.Needs.{needs}
+use native.Mathlib.Omega.{arith}
+use Prim.Native.Nat.{_-_, _≤_}
+use lib.ListN.{length, getD}
+use Rattle.laws.proofs.Least.{least-le}
+use Rattle.judge.specs.Lanes.{hasLane}
+use Rattle.groups.proofs.Sets.{NoneBelow, empty-word, word-lowest, none-lowest}
+use Rattle.groups.proofs.ready.lowest.Statement.{statement}
+use Rattle.groups.proofs.ready.lowest.Tie as tie
+
+abbrev Inv-loop : tie.InvT-loop
+Inv-loop ready at₀ at = (at ≤ length ready) × NoneBelow ready at
+
+abbrev μ-loop : tie.MeasureT-loop
+μ-loop ready at₀ at = length ready - at
+
+loop-holds : tie.Need-loop-holds Inv-loop μ-loop
+loop-holds c = (omega arith, λ i l. absurd (omega arith))
+
+mul-word : tie.Need-mul-word Inv-loop μ-loop
+mul-word c = search needs
+
+shared-slice-read-word : tie.Need-shared-slice-read-word Inv-loop μ-loop
+shared-slice-read-word c = search needs
+
+mul-result : tie.Need-mul-result Inv-loop μ-loop
+mul-result c = search needs
+
+lowest-lane-requires : tie.Need-lowest-lane-requires Inv-loop μ-loop
+lowest-lane-requires c κs = search needs
+
+add-result : tie.Need-add-result Inv-loop μ-loop
+add-result c =
+    let s = c .before .before .before .before .before .before in
+    omega (
+      arith,
+      c .lowest-lane .ensures,
+      least-le (hasLane (getD (s .args .ready .now) (c .before .before .before .before .loop .at) 0)) 64,
+      c .before .before .before .before .loop .inv .0,
+      s .pre,
+    )
+
+returns : tie.Need-returns Inv-loop μ-loop
+returns c =
+    let s = c .before .before .before .before .before .before in
+    let l = c .before .before .before .before .loop in
+    rw (c .lowest-lane .ensures)
+    (word-lowest (s .args .ready .now) (l .at) (l .inv .1) (omega (arith, c .before .before .shared-slice-known2 .given (l .at))) (c .before .if1 .taken)
+    (c .before .before .before .loop-test .taken))
+
+add-at : tie.Need-add-at Inv-loop μ-loop
+add-at c = search needs
+
+loop-less : tie.Need-loop-less Inv-loop μ-loop
+loop-less c = search needs
+
+loop-again : tie.Need-loop-again Inv-loop μ-loop
+loop-again c =
+    let s = c .before .before .before .before .before in
+    let l = c .before .before .before .loop in
+    (omega (arith, c .before .before .loop-test .taken), empty-word (s .args .ready .now) (l .at) (l .inv .1) (c .if1 .left))
+
+mul-result-2 : tie.Need-mul-result-2 Inv-loop μ-loop
+mul-result-2 c = search needs
+
+returns-2 : tie.Need-returns-2 Inv-loop μ-loop
+returns-2 c =
+    let s = c .before .before .before in
+    let l = c .before .loop in
+    none-lowest (s .args .ready .now) (l .at) (l .inv .1) (omega (arith, l .inv .0, c .loop-test .left))
+
+pub lowest-spec : {M : Type 1} → statement M
+lowest-spec =
+    tie.close
+    (tie.spec
+    Inv-loop
+    μ-loop
+    loop-holds
+    mul-word
+    shared-slice-read-word
+    mul-result
+    lowest-lane-requires
+    add-result
+    returns
+    add-at
+    loop-less
+    loop-again
+    mul-result-2
+    returns-2)

@@ -1,0 +1,49 @@
+// A set of gates: a bit for each, 64 to a word.
+use judge::words::lowest_lane;
+use layout::limits::MAX_GATES;
+ghost use mathlib.Core.Path.{_≡_};
+ghost use mathlib.Core.Bool.{true};
+ghost use Prim.Native.Nat.{_*_, _≤_, _<_};
+ghost use lib.ListN.{length};
+ghost use Rattle.laws.specs.Lists.{least};
+ghost use Rattle.netlist.specs.Limits.{maxGates};
+ghost use Rattle.groups.specs.Ready.{inSet, Added, Removed};
+
+const WORD_BITS: usize = 64;
+
+// A bit for each gate.
+pub const READY_WORDS: usize = MAX_GATES / WORD_BITS;
+
+// Adds gate l.
+pub fn add(l: usize, ready: &mut [u64])
+    requires { ⌜ l < 64 * length (now ready) ⌝ }
+    ensures { λ r. ⌜ Added l (now (ready .entry)) (now (ready .exit)) ⌝ }
+{
+    let at = l / WORD_BITS;
+    ready[at] = ready[at] | 1u64 << (l % WORD_BITS);
+}
+
+// Takes gate l, which is in it, out.
+pub fn remove(l: usize, ready: &mut [u64])
+    requires { ⌜ (l < 64 * length (now ready)) × (inSet (now ready) l ≡ true) ⌝ }
+    ensures { λ r. ⌜ Removed l (now (ready .entry)) (now (ready .exit)) ⌝ }
+{
+    let at = l / WORD_BITS;
+    ready[at] = ready[at] ^ 1u64 << (l % WORD_BITS);
+}
+
+// The lowest gate in it; 64 for each word where it is empty.
+pub fn lowest(ready: &[u64]) -> usize
+    requires { ⌜ length (now ready) ≤ maxGates ⌝ }
+    ensures { λ r. ⌜ r ≡ least (inSet (now (ready .entry))) (64 * length (now (ready .entry))) ⌝ }
+{
+    let mut at = 0;
+    while at < ready.len() {
+        let word = ready[at];
+        if word != 0 {
+            return WORD_BITS * at + lowest_lane(word);
+        }
+        at += 1;
+    }
+    WORD_BITS * at
+}

@@ -1,0 +1,2 @@
+-- Mathematics of links; no function of src/ is named.
+pub mod Linking
