@@ -162,6 +162,14 @@ unfolding lineGates
 named-le [] = omega arith
 named-le (g ∷ gs) = let h = named-le gs in omega arith
 
+-- Within the limits, few nodes have a name.
+pub node-room : (t : Tree) → isOverLimit t ≡ false → (c : Counts) → c ≡ treeCounts t → c .inputs + c .named ≤ maxInputs + maxGates
+unfolding treeCounts
+node-room t h c e =
+    let w = limits-within t h in
+    let g = named-le (t .gates) in
+    rw e (omega arith)
+
 -- Within the limits, tables of these lengths have room.
 pub table-room : {t : Tree} {text : List ℕ} → Prints t text → isOverLimit t ≡ false → (c : Counts) → c ≡ treeCounts t → (names places words : List ℕ)
     → length text ≤ maxText → maxInputs + maxGates + maxOutputs ≤ length names → maxInputs + maxGates + maxOutputs ≤ length places

@@ -9,6 +9,7 @@ use layout::limits::MAX_TEXT;
 use layout::offsets::GATE_SIZE;
 use layout::offsets::NEVER_SIZE;
 use layout::offsets::OUTPUT_SIZE;
+use names::index::INDEX_SIZE;
 use netlist::Answer;
 use netlist::Refusal;
 use netlist::Test;
@@ -45,6 +46,7 @@ fn read_split(text: &[u8], lines: NeverLines, rest: &[u8], block: &mut [u16]) ->
     let mut names = [0u64; NAMES];
     let mut places = [0usize; NAMES];
     let mut nodes = [0u16; NODES];
+    let mut index = [0u16; INDEX_SIZE];
     let mut masks = [0u16; NEVER_SIZE * MAX_NEVERS];
     let mut gates = [0u16; GATE_SIZE * MAX_GATES];
     let mut outputs = [0u16; OUTPUT_SIZE * MAX_OUTPUTS];
@@ -55,6 +57,7 @@ fn read_split(text: &[u8], lines: NeverLines, rest: &[u8], block: &mut [u16]) ->
         &mut names,
         &mut places,
         &mut nodes,
+        &mut index,
         &mut masks,
         &mut gates,
         &mut outputs,

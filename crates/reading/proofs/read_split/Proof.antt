@@ -1,8 +1,12 @@
 -- `reading::read_split` meets its contract: 3, and then the steps with room for every table. Assumes nothing.
 use native.Mathlib.Omega.{arith}
 use lib.ListN.{length}
+use Prim.Native.Nat.{_+_}
+use Rattle.netlist.specs.Limits.{maxInputs, maxGates}
 use Rattle.netlist.specs.declared.Refusal.the-variants.{OverLimit}
 use Rattle.netlist.specs.Answers.{inRoom}
+use Rattle.rounds.proofs.ListFacts.{getD-replicate-default}
+use Rattle.names.specs.Index.{hashes}
 use Rattle.refusals.proofs.Promised.{passed-false, failed, keeps-room}
 use Rattle.reading.proofs.Splits.{count-is, rest-prints, rest-short}
 use Rattle.reading.proofs.Outcomes.{read-tree}
@@ -52,9 +56,12 @@ slice-aggregate-read-with-5 c = search needs
 slice-aggregate-read-with-6 : tie.Need-slice-aggregate-read-with-6
 slice-aggregate-read-with-6 c = search needs
 
+slice-aggregate-read-with-7 : tie.Need-slice-aggregate-read-with-7
+slice-aggregate-read-with-7 c = search needs
+
 read-with-requires : tie.Need-read-with-requires
 read-with-requires c κs =
-    let e = c .before .before .before .before .before .before .before in
+    let e = c .before .before .before .before .before .before .before .before in
     let t = e .before .before in
     let p = entry t .pre in
     let s = p .split in
@@ -69,6 +76,8 @@ read-with-requires c κs =
       nameRoom = omega arith;
       placeRoom = omega arith;
       nodeRoom = omega arith;
+      indexRoom = omega arith;
+      indexEmpty = λ j. getD-replicate-default (hashes + maxInputs + maxGates + 1) j 0;
       maskRoom = omega arith;
       gateRoom = omega arith;
       outputRoom = omega arith;
@@ -95,6 +104,7 @@ read-split-spec =
     slice-aggregate-read-with-4
     slice-aggregate-read-with-5
     slice-aggregate-read-with-6
+    slice-aggregate-read-with-7
     read-with-requires
     same-length
     returns-2)
