@@ -25,16 +25,14 @@ pub record Prints (t : Tree) (text : List ℕ) : Type 0 where
   pub bare : t .nevers ≡ []
   pub printed : print t ≡ text
 
--- the counts as the bytes give them
+-- the counts of the first lines, with so many gates
+unfoldable pub lineCounts : List ℕ → ℕ → ℕ → Counts
+lineCounts text lines gates =
+    record { inputs = linesWith 105 text lines; named = linesWith 103 text lines; outputs = linesWith 111 text lines; gates = gates }
+
+-- the counts as the bytes give them: each line has one bracket of its own, each gate one more
 unfoldable pub countsOf : List ℕ → Counts
-countsOf text =
-    let lines = times 10 text in
-    record {
-      inputs = linesWith 105 text lines;
-      named = linesWith 103 text lines;
-      outputs = linesWith 111 text lines;
-      gates = times 40 text - lines;
-    }
+countsOf text = lineCounts text (times 10 text) (times 40 text - times 10 text)
 
 -- the counts as the tree gives them
 unfoldable pub treeCounts : Tree → Counts
@@ -80,7 +78,7 @@ pub record TableRoom (c : Counts) (text names places words : List ℕ) : Type 0 
   pub few : c .inputs ≤ maxInputs
   pub numberRoom : c .inputs + c .named + c .outputs ≤ length names
   pub placeRoom : c .inputs + c .named + c .outputs ≤ length places
-  pub nodeRoom : c .inputs + c .named ≤ length words
+  pub nodeRoom : c .inputs + c .named + c .outputs ≤ length words
 
 -- the index holds the names of the declared nodes
 abbrev pub NodesIndexed : Counts → List ℕ → List ℕ → Type 0

@@ -13,3 +13,9 @@ pub struct Counts {
     pub outputs: usize,
     pub gates: usize,
 }
+
+// A line: where it ends, behind its LF, and its gates.
+pub struct Line {
+    pub end: usize,
+    pub gates: usize,
+}

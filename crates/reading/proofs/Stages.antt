@@ -141,17 +141,14 @@ module _ (text : List ℕ) (lines : NeverLines) (rest : List ℕ) (c : Counts) (
             );
       }
 
-module _ {text : List ℕ} {lines : NeverLines} {rest names places nodes index masks gates outputs : List ℕ}
-    (a : ReadReady text lines rest names places nodes index masks gates outputs) (c : Counts) (counts : (t : Tree) → Prints t rest → c ≡ treeCounts t) where
-  counted : c ≡ treeCounts (plain (a .tree))
-  counted = counts (plain (a .tree)) (rest-prints (a .limited .split))
-
+module _ {text : List ℕ} {lines : NeverLines} {rest : List ℕ} {c : Counts} {names places nodes index masks gates outputs : List ℕ}
+    (a : ReadReady text lines rest c names places nodes index masks gates outputs) where
   pub tables-ready : TablesReady text lines rest c names places nodes index
   tables-ready =
       record {
         tree = a .tree;
         limited = a .limited;
-        counted = counted;
+        counted = a .counted;
         nameRoom = a .nameRoom;
         placeRoom = a .placeRoom;
         nodeRoom = a .nodeRoom;
@@ -163,13 +160,13 @@ module _ {text : List ℕ} {lines : NeverLines} {rest names places nodes index m
     pub twice : (entry : List ℕ) → IsFailed r → {answer : Answer} → answer ≡ refusalOf r → Promise (read text (length entry)) entry answer entry
     twice entry k e =
         let s = a .limited .split in
-        let d = h .done (a .tree) (a .limited) counted .1 in
+        let d = h .done (a .tree) (a .limited) (a .counted) .1 in
         failed-at (inRoom _) (keeps-room _) _ _ DuplicateDeclaration
         (read-within (a .tree) text (length entry) (s .is) (s .short) (a .limited .within)) d entry k e
 
     pub terms-ready : r ≡ Passed → TermsReady text lines rest c names′ nodes′ index′ masks gates outputs
     terms-ready e =
-        let d = h .done (a .tree) (a .limited) counted in
+        let d = h .done (a .tree) (a .limited) (a .counted) in
         record {
           resolving =
               record { tree = a .tree; limited = a .limited; here = d .0; indexed = d .2 e; gateRoom = a .gateRoom; outputRoom = a .outputRoom };

@@ -45,12 +45,14 @@ pub record Limited (t : Tree) (text : List ℕ) (lines : NeverLines) (rest : Lis
   pub split : Split t text lines rest
   pub within : isOverLimit t ≡ false
 
-pub record ReadReady (text : List ℕ) (lines : NeverLines) (rest names places nodes index masks gates outputs : List ℕ) : Type 0 where
+pub record ReadReady (text : List ℕ) (lines : NeverLines) (rest : List ℕ) (c : Counts) (names places nodes index masks gates outputs : List ℕ)
+    : Type 0 where
   pub tree : Tree
   pub limited : Limited tree text lines rest
+  pub counted : c ≡ treeCounts (plain tree)
   pub nameRoom : maxInputs + maxGates + maxOutputs ≤ length names
   pub placeRoom : maxInputs + maxGates + maxOutputs ≤ length places
-  pub nodeRoom : maxInputs + maxGates ≤ length nodes
+  pub nodeRoom : maxInputs + maxGates + maxOutputs ≤ length nodes
   pub indexRoom : hashes + (maxInputs + maxGates) < length index
   pub indexEmpty : (j : ℕ) → getD index j 0 ≡ 0
   pub maskRoom : neverSize * maxNevers ≤ length masks
@@ -63,7 +65,7 @@ pub record TablesReady (text : List ℕ) (lines : NeverLines) (rest : List ℕ) 
   pub counted : c ≡ treeCounts (plain tree)
   pub nameRoom : maxInputs + maxGates + maxOutputs ≤ length names
   pub placeRoom : maxInputs + maxGates + maxOutputs ≤ length places
-  pub nodeRoom : maxInputs + maxGates ≤ length nodes
+  pub nodeRoom : maxInputs + maxGates + maxOutputs ≤ length nodes
   pub indexRoom : hashes + (maxInputs + maxGates) < length index
   pub indexEmpty : (j : ℕ) → getD index j 0 ≡ 0
 

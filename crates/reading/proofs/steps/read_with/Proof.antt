@@ -1,21 +1,14 @@
--- `reading::steps::read_with` meets its contract: the counts, 4, and then the rest. Assumes nothing.
-use Rattle.reading.proofs.Splits.{rest-short}
+-- `reading::steps::read_with` meets its contract: 4, and then the rest. Assumes nothing.
 use Rattle.reading.proofs.Stages.{tables-ready, twice, terms-ready}
 use borrow.Author.Needs.{needs}
 use Rattle.reading.proofs.steps.read_with.Statement.{statement}
 use Rattle.reading.proofs.steps.read_with.Tie as tie
 
-abbrev entry : tie.After-counts → tie.Start
-entry c = c .before .before .before .before .before .before .before .before .before .before .before
-
-abbrev counted-at : tie.After-tables → tie.After-counts
-counted-at c = c .before .before .before .before .before
-
-counts-requires : tie.Need-counts-requires
-counts-requires c κs = rest-short (c .before .before .before .before .before .before .before .before .before .before .pre .limited .split)
+abbrev entry : tie.After-tables → tie.Start
+entry c = c .before .before .before .before .before .before .before .before .before .before .before .before .before .before .before
 
 tables-requires : tie.Need-tables-requires
-tables-requires c κs = let counted = c .before .before .before .before in tables-ready (entry counted .pre) _ (counted .counts .ensures)
+tables-requires c κs = tables-ready (c .before .before .before .before .before .before .before .before .before .before .before .before .before .before .pre)
 
 enum-told : tie.Need-enum-told
 enum-told c = search needs
@@ -41,16 +34,14 @@ same-length-4 c = search needs
 returns : tie.Need-returns
 returns c =
     let t = c .before .before .before .before .before .before .before .before .before .before .before in
-    let counted = counted-at t in
-    let s = entry counted in
-    twice (s .pre) _ (counted .counts .ensures) _ _ _ _ (t .tables .ensures) (s .args .block .now) (c .before .before .match .keys2) (c .refusal .ensures)
+    let s = entry t in
+    twice (s .pre) _ _ _ _ (t .tables .ensures) (s .args .block .now) (c .before .before .match .keys2) (c .refusal .ensures)
 
 read-terms-requires : tie.Need-read-terms-requires
 read-terms-requires c κs =
     let passed = c .before .before .before .before .before .before .before in
     let t = passed .before .before .before .before .before .before .before .before .before .before in
-    let counted = counted-at t in
-    terms-ready (entry counted .pre) _ (counted .counts .ensures) _ _ _ _ (t .tables .ensures) (passed .enum-told .given .1)
+    terms-ready (entry t .pre) _ _ _ _ (t .tables .ensures) (passed .enum-told .given .1)
 
 same-length-5 : tie.Need-same-length-5
 same-length-5 c = search needs
@@ -83,7 +74,6 @@ pub read-with-spec : {M : Type 1} → statement M
 read-with-spec =
     tie.close
     (tie.spec
-    counts-requires
     tables-requires
     enum-told
     enum-told-2
