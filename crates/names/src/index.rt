@@ -52,11 +52,11 @@ pub fn find_indexed(names: &[u64], index: &[u16], name: u64) -> usize
     ensures { λ r. ⌜ r ≡ indexOf (now (names .entry)) (length (now (names .entry))) name ⌝ }
 {
     let at = walk(names, index, name);
-    let entry = index[at] as usize;
-    if entry == 0 {
+    let found = index[at] as usize;
+    if found == 0 {
         return names.len();
     }
-    entry - 1
+    found - 1
 }
 
 // Enters name i behind those before it, or tells that it is one of them.

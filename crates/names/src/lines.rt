@@ -5,6 +5,7 @@ ghost use mathlib.Core.Bool.{cond};
 ghost use Prim.Native.Nat.{_+_, _-_, _≤_};
 ghost use lib.Dec.{eqb};
 ghost use lib.ListN.{length, drop};
+ghost use Rattle.netlist.specs.Limits.{maxText};
 ghost use Rattle.names.specs.Lines.{times, lengthWithLf, lineOpens};
 
 // 1 where the bytes are the same.
@@ -21,17 +22,18 @@ pub fn minus(a: usize, b: usize) -> usize
     if b <= a { a - b } else { 0 }
 }
 
-// How often `b` stands in `s`.
+// How often `b` stands in `s`. The count has 16 bits, so that a processor adds many at a time.
 pub fn count(s: &[u8], b: u8) -> usize
+    requires { ⌜ length (now s) ≤ maxText ⌝ }
     ensures { λ r. ⌜ r ≡ times b (now (s .entry)) ⌝ }
 {
-    let mut n = 0;
+    let mut n: u16 = 0;
     let mut i = 0;
     while i < s.len() {
-        n += one_if(s[i], b);
+        n += one_if(s[i], b) as u16;
         i += 1;
     }
-    n
+    n as usize
 }
 
 // The bytes up to the first LF, that LF counted.

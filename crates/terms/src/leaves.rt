@@ -7,7 +7,7 @@ use layout::nodes::CONSTANT_1;
 use layout::trim::trimmed_length;
 use names::index::find_indexed;
 use names::pack::name_length;
-use names::pack::pack;
+use names::pack::pack_first;
 ghost use mathlib.Core.Path.{_≡_};
 ghost use lib.ListN.{length};
 ghost use Rattle.names.specs.Index.{Indexed};
@@ -67,8 +67,9 @@ pub fn name_here(s: &[u8], names: &[u64], words: &[u16], index: &[u16], unknown:
     requires { ⌜ Indexed (now names) (length (now names)) (now index) ⌝ }
     ensures { λ r. ⌜ r ≡ nameHere (now (s .entry)) (now (names .entry)) (now (words .entry)) unknown ⌝ }
 {
-    let left = s.len() - name_length(s);
-    let i = find_indexed(names, index, pack(s));
+    let length = name_length(s);
+    let left = s.len() - length;
+    let i = find_indexed(names, index, pack_first(s, length));
     if i < names.len() {
         let word = words[i];
         let unknown = earlier(unknown, 0);

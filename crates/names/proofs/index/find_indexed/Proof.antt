@@ -10,20 +10,20 @@ use Rattle.names.proofs.index.find_indexed.Tie as tie
 walk-requires : tie.Need-walk-requires
 walk-requires c κs = search needs
 
-mul-entry : tie.Need-mul-entry
-mul-entry c =
+mul-found : tie.Need-mul-found
+mul-found c =
     let s = c .before .before .before in
     let h = ends-near (s .args .names .now) (s .args .index .now) (s .args .name) (length (s .args .names .now)) (c .walk .result) (s .pre) (c .walk .ensures) in
     omega arith
 
-shared-slice-read-entry : tie.Need-shared-slice-read-entry
-shared-slice-read-entry c =
+shared-slice-read-found : tie.Need-shared-slice-read-found
+shared-slice-read-found c =
     let s = c .before .before .before .before in
     ends-inside (s .args .names .now) (s .args .index .now) (s .args .name) (length (s .args .names .now)) (c .before .walk .result) (s .pre)
     (c .before .walk .ensures)
 
-cast-entry : tie.Need-cast-entry
-cast-entry c = search (needs, c .shared-slice-known3 .given (c .before .walk .result))
+cast-found : tie.Need-cast-found
+cast-found c = search (needs, c .shared-slice-known3 .given (c .before .walk .result))
 
 returns : tie.Need-returns
 returns c =
@@ -47,9 +47,9 @@ find-indexed-spec =
     tie.close
     (tie.spec
     walk-requires
-    mul-entry
-    shared-slice-read-entry
-    cast-entry
+    mul-found
+    shared-slice-read-found
+    cast-found
     returns
     sub-result
     returns-2)
