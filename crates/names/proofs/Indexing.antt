@@ -3,7 +3,8 @@
 --   ends-one, ends-near, ends-inside    a name's walk ends at one place, not far behind the last hash, in the index
 --   index-hit, index-miss               what the entry at the walk's end says of the name
 --   repeats-hit, repeats-miss           and of the next name of the table
---   index-more, index-none, nodes-none  one more name, stored at its walk's end; an empty index
+--   index-more                          one more name, stored at its walk's end
+--   index-none, index-new, nodes-none   an empty index
 -- Assumes nothing.
 use Prim.Native.Nat.{ℕ, zero, suc, _+_, _-_, _≤_, _<_}
 use mathlib.Core.Path.{_≡_, refl, sym, ap, _∙_}
@@ -13,11 +14,10 @@ use mathlib.Core.List.{List}
 use native.Mathlib.Nat.{le-antisymm, mod-lt}
 use native.Mathlib.Numerals.{add-one, unary-clauses}
 use native.Mathlib.Omega.{arith}
-use lib.ListN.{length, getD, set, take, length-set, length-take, List·getD-eq-default}
+use lib.ListN.{length, getD, set, take, replicate, length-set, length-take, length-replicate, getD-replicate, List·getD-eq-default}
 use lib.Seq.{getD-set-same, getD-set-other}
 use lib.Dec.{eqb}
 use borrow.Author.Tests.{eqb-true, eq-eqb, lt-ltb, le-ltb}
-use Rattle.netlist.specs.Limits.{maxInputs, maxGates}
 use Rattle.laws.proofs.Tests.{not-both, bool-cases, not-true-false, lt-or-le, eq-or-ne}
 use Rattle.laws.proofs.Least.{least-is}
 use Rattle.names.specs.Search.{isAt, indexOf, repeatsAt}
@@ -181,7 +181,7 @@ module _ (names index : List ℕ) (i at : ℕ) (h : Indexed names i index) (f : 
 
 -- ---- an empty index
 
-pub index-none : (names index : List ℕ) → length names ≤ maxInputs + maxGates → hashes + (maxInputs + maxGates) < length index
+pub index-none : (names index : List ℕ) → length names < 65536 → hashes + length names < length index
     → ((j : ℕ) → getD index j 0 ≡ 0) → Indexed names 0 index
 index-none names index few room none =
     record {
@@ -193,6 +193,14 @@ index-none names index few room none =
       stored = λ i l. absurd (omega arith);
     }
 
+-- of a new array
+pub index-new : (names : List ℕ) (n : ℕ) → length names < 65536 → hashes + length names < n → Indexed names 0 (replicate n 0)
+index-new names n few room =
+    index-none names (replicate n 0) few (rw length-replicate room)
+    (λ j. ⊎-elim (λ (l : j < n). getD-replicate n j 0 0 l) (λ (l : n ≤ j). List·getD-eq-default (replicate n 0) 0 (rw length-replicate l)) (lt-or-le j n))
+
 pub nodes-none : (c : Counts) (names places index : List ℕ) → IndexReady c names places index → Indexed (take (c .inputs + c .named) names) 0 index
 nodes-none c names places index r =
-    index-none (take (c .inputs + c .named) names) index (rw length-take (let f = r .few in omega arith)) (r .indexRoom) (r .empty)
+    let f = r .few in
+    let m = r .indexRoom in
+    index-none (take (c .inputs + c .named) names) index (rw length-take (omega arith)) (rw length-take (omega arith)) (r .empty)

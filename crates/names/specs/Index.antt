@@ -5,13 +5,16 @@ use mathlib.Core.Path.{_≡_}
 use mathlib.Core.Bool.{Bool, true, false}
 use mathlib.Core.List.{List}
 use lib.ListN.{length, getD}
-use Rattle.netlist.specs.Limits.{maxInputs, maxGates}
 use Rattle.laws.specs.Lists.{least}
 use Rattle.names.specs.Search.{isAt, repeatsAt}
 
--- a prime
+-- a prime, above the number of different names that a text has room for in a never line
 abbrev pub hashes : ℕ
-hashes = 3041
+hashes = 8101
+
+-- so many names have an index where they are too many to compare with each other: maxText / 6, as a pair has at least 6 bytes
+abbrev pub many : ℕ
+many = 10240
 
 unfoldable pub hashOf : ℕ → ℕ
 hashOf name = name % hashes
@@ -35,8 +38,8 @@ pub record Stored (names index : List ℕ) (i : ℕ) : Type 0 where
 
 -- the index holds the first `count` names, of which none repeats another. No entry stands further behind the last hash than there are names
 pub record Indexed (names : List ℕ) (count : ℕ) (index : List ℕ) : Type 0 where
-  pub few : length names ≤ maxInputs + maxGates
-  pub room : hashes + (maxInputs + maxGates) < length index
+  pub few : length names < 65536
+  pub room : hashes + length names < length index
   pub within : count ≤ length names
   pub entries : (j : ℕ) → getD index j 0 ≤ count
   pub beyond : (j : ℕ) → hashes + count ≤ j → getD index j 0 ≡ 0

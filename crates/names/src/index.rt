@@ -7,11 +7,14 @@ ghost use lib.ListN.{length, getD};
 ghost use Rattle.names.specs.Search.{indexOf};
 ghost use Rattle.names.specs.Index.{hashOf, stopsAt, Ends, Indexed, Entered, AllEntered};
 
-// A prime.
-const HASHES: u64 = 3041;
+// A prime, above the number of different names that one never line has room for.
+const HASHES: u64 = 8101;
 
-// The entries of an index. A walk begins at a hash and passes at most one entry for each name.
-pub const INDEX_SIZE: usize = HASHES as usize + MAX_INPUTS + MAX_GATES + 1;
+// The hashes as a number of entries: a walk begins at a hash and passes at most one entry for each name.
+pub const HASH_ENTRIES: usize = HASHES as usize;
+
+// The entries of an index of a text's nodes.
+pub const INDEX_SIZE: usize = HASH_ENTRIES + MAX_INPUTS + MAX_GATES + 1;
 
 // Where the walk of a name begins.
 fn hash(name: u64) -> usize
