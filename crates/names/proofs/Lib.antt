@@ -10,6 +10,7 @@ pub mod TreeWalk
 pub mod TreeCounts
 pub mod TreeTable
 pub mod Lookup
+pub mod Indexing
 pub mod Repeats
 pub mod TreeSearch
 pub mod PlainTree

@@ -18,7 +18,7 @@ use Rattle.netlist.specs.Syntax.{GateLine, Tree, isLegalGate, isLegalOutput}
 use Rattle.netlist.specs.Reading.{lineGates, isOverLimit}
 use Rattle.names.specs.Lines.{times, lineOffset, letterAt, linesWith}
 use Rattle.names.specs.Trees.{inputText, gateText, outputText, treeLines}
-use Rattle.names.specs.Results.{Prints, countsOf, treeCounts, isOver, TableRoom}
+use Rattle.names.specs.Results.{Prints, lineCounts, countsOf, treeCounts, isOver, TableRoom}
 use Rattle.names.specs.declared.Counts.{Counts}
 use Rattle.names.proofs.Starts.{times-append}
 use Rattle.names.proofs.JoinedLines.{line-count, times-joined}
@@ -124,13 +124,13 @@ module _ {t : Tree} {text : List ℕ} (p : Prints t text) where
 
   -- The counts of the bytes are the counts of the tree.
   pub counts-are : countsOf text ≡ treeCounts t
-  unfolding countsOf treeCounts
+  unfolding countsOf lineCounts treeCounts
   counts-are = rw (inputs-are p, named-are p, outputs-are p, gates-are)
 
-  -- 3: the limits, from the counts
-  pub limits-are : isOver (countsOf text) ≡ isOverLimit t
-  unfolding isOver treeCounts isOverLimit
-  limits-are = rw (counts-are, p .bare) (no-nevers (leb (length (t .inputs)) maxInputs) _ _)
+-- 3: the limits, from the counts
+pub limits-are : (t : Tree) → t .nevers ≡ [] → (c : Counts) → c ≡ treeCounts t → isOver c ≡ isOverLimit t
+unfolding isOver treeCounts isOverLimit
+limits-are t bare c e = rw (e, bare) (no-nevers (leb (length (t .inputs)) maxInputs) _ _)
 
 -- ---- within the limits there is room
 
@@ -162,10 +162,18 @@ unfolding lineGates
 named-le [] = omega arith
 named-le (g ∷ gs) = let h = named-le gs in omega arith
 
+-- Within the limits, few nodes have a name.
+pub node-room : (t : Tree) → isOverLimit t ≡ false → (c : Counts) → c ≡ treeCounts t → c .inputs + c .named ≤ maxInputs + maxGates
+unfolding treeCounts
+node-room t h c e =
+    let w = limits-within t h in
+    let g = named-le (t .gates) in
+    rw e (omega arith)
+
 -- Within the limits, tables of these lengths have room.
 pub table-room : {t : Tree} {text : List ℕ} → Prints t text → isOverLimit t ≡ false → (c : Counts) → c ≡ treeCounts t → (names places words : List ℕ)
     → length text ≤ maxText → maxInputs + maxGates + maxOutputs ≤ length names → maxInputs + maxGates + maxOutputs ≤ length places
-    → maxInputs + maxGates ≤ length words
+    → maxInputs + maxGates + maxOutputs ≤ length words
     → TableRoom c text names places words
 unfolding treeCounts
 table-room {t} p h c e names places words short a b d =

@@ -2,11 +2,11 @@
 use Prim.Native.Nat.{ℕ, zero, suc, _+_, _-_, _≤_, _<_}
 use mathlib.Core.Path.{_≡_, refl, sym, ap, ap₂, _∙_}
 use mathlib.Core.Bool.{Bool, true}
-use mathlib.Core.List.{List, [], _∷_, _++_, map, map-append}
+use mathlib.Core.List.{List, [], _∷_, _++_, map, map-append, append-assoc}
 use native.Mathlib.Nat.{add-zero}
 use native.Mathlib.Omega.{arith}
 use lib.ListN.{length, getD, take, drop, length-map}
-use lib.Seq.{take-length, getD-drop, drop-drop, take-append-add, take-append-le}
+use lib.Seq.{take-at, take-length, getD-drop, drop-drop, take-append-add, take-append-le}
 use borrow.Author.Tests.{lt-ltb, le-ltb}
 use Rattle.laws.specs.Lists.{all, sum, tab, placed}
 use Rattle.laws.proofs.Tests.{and-left, and-right}
@@ -17,7 +17,7 @@ use Rattle.netlist.specs.Netlist.{Name}
 use Rattle.netlist.specs.StoredBlock.{isPlainName, nodeWord}
 use Rattle.netlist.specs.Syntax.{GateLine, Tree, isLegalGate}
 use Rattle.netlist.specs.Reading.{Mention, Binding, lineGates, inputBindings, gateBindings, bindings}
-use Rattle.names.specs.Lines.{times, lineOffset, gatesTo, declaredPlace, placeAt, lineWord, wordAt}
+use Rattle.names.specs.Lines.{times, lineOffset, gatesTo, declaredPlace, placeAt, lineWord, wordAt, FilledTo}
 use Rattle.names.specs.Packed.{packed, nameHere, packedAt, packedThrough}
 use Rattle.names.specs.Trees.{inputText, gateText, outputText, treeLines}
 use Rattle.names.specs.Results.{Prints, treeCounts, declared, packedNames, namePlaces, nodeWords, Declared}
@@ -131,6 +131,11 @@ module _ {t : Tree} {text : List ℕ} (p : Prints t text) where
 
 -- ---- the tables as they are filled
 
+-- the front of what is filled
+front-tab : (f : ℕ → ℕ) (n m : ℕ) (entry : List ℕ) → take n (placed (tab f (n + m)) entry) ≡ tab f n
+front-tab f n m entry =
+    rw (tab-add f n m) (ap (take n) (append-assoc (tab f n) (tab (λ j. f (n + j)) m) _) ∙ take-at (tab f n) _ n (length-tab f n))
+
 module _ {t : Tree} {text : List ℕ} (p : Prints t text) where
   -- as many declarations as lines, as many bindings as inputs and named gates
   pub declared-length : length (declared t) ≡ length (t .inputs) + length (t .gates) + length (t .outputs)
@@ -144,20 +149,20 @@ module _ {t : Tree} {text : List ℕ} (p : Prints t text) where
 
   -- what the loops fill in are the tables of the tree
   pub tables-are : (c : Counts) (names places words names₀ places₀ words₀ : List ℕ) → c ≡ treeCounts t
-      → c .inputs + c .named + c .outputs ≤ length places₀
-      → places ≡ placed (tab (placeAt text) (c .inputs + c .named + c .outputs)) places₀
+      → FilledTo text (c .inputs) places₀ words₀ (c .inputs + c .named + c .outputs) places words
       → names ≡ placed (tab (packedThrough text places) (c .inputs + c .named + c .outputs)) names₀
-      → words ≡ placed (tab (wordAt text (c .inputs)) (c .inputs + c .named)) words₀
       → Declared t names places words
   unfolding treeCounts
-  tables-are c names places words names₀ places₀ words₀ counted room ps ns ws =
+  tables-are c names places words names₀ places₀ words₀ counted filled ns =
       let lines : c .inputs + c .named + c .outputs ≡ times 10 text = rw counted (omega (arith, lines-are p)) in
       let total : length (declared t) ≡ times 10 text = rw (declared-length, lines-are p) (omega arith) in
-      let nodes : c .inputs + c .named ≡ length (t .inputs) + length (t .gates) = rw counted refl in
+      let more : c .inputs + c .named + c .outputs ≡ length (t .inputs) + length (t .gates) + length (t .outputs) = rw counted refl in
       let inputs : c .inputs ≡ length (t .inputs) = rw counted refl in
-      let ps′ : places ≡ placed (tab (placeAt text) (times 10 text)) places₀ = rw lines at ps in
+      let ps′ : places ≡ placed (tab (placeAt text) (times 10 text)) places₀ = rw lines at (filled .placesAre) in
       let ns′ : names ≡ placed (tab (packedThrough text places) (times 10 text)) names₀ = rw lines at ns in
-      let ws′ : words ≡ placed (tab (wordAt text (length (t .inputs))) (length (t .inputs) + length (t .gates))) words₀ = rw (nodes, inputs) at ws in
+      let word = wordAt text (length (t .inputs)) in
+      let nodes = length (t .inputs) + length (t .gates) in
+      let ws′ : words ≡ placed (tab word (nodes + length (t .outputs))) words₀ = rw (more, inputs) at (filled .wordsAre) in
       let read : (i : ℕ) → i < times 10 text → getD places i 0 ≡ placeAt text i = λ i l.
       rw ps′ (placed-tab (placeAt text) (times 10 text) places₀ i 0 l) in
       record {
@@ -174,10 +179,5 @@ module _ {t : Tree} {text : List ℕ} (p : Prints t text) where
               (places-are p);
         };
         nodesAre =
-            rw (
-              bindings-length,
-              ws′,
-              take-placed (tab (wordAt text (length (t .inputs))) (length (t .inputs) + length (t .gates))) words₀
-                  (length (t .inputs) + length (t .gates)) (length-tab (wordAt text (length (t .inputs))) (length (t .inputs) + length (t .gates))),
-            ) (words-are p);
+            rw (bindings-length, ws′) (front-tab word nodes (length (t .outputs)) words₀ ∙ words-are p);
       }

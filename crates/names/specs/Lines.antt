@@ -1,11 +1,13 @@
 -- A text as lines, read from its bytes alone: where line i starts, which letter follows its bracket, where its declared name stands, and
 -- how many gates close up to its end. On the print of a legal tree these are the tree's own numbers (proofs/).
-use Prim.Native.Nat.{ℕ, zero, suc, _+_, _-_}
+use Prim.Native.Nat.{ℕ, zero, suc, _+_, _-_, _≤_}
+use mathlib.Core.Path.{_≡_}
 use mathlib.Core.Bool.{cond}
 use mathlib.Core.List.{List, [], _∷_}
-use lib.ListN.{getD, drop}
+use lib.ListN.{length, getD, drop}
 use lib.Dec.{eqb, ltb}
-use Rattle.laws.specs.Lists.{tab}
+use Rattle.laws.specs.Lists.{tab, placed}
+use Rattle.netlist.specs.Limits.{maxText, maxInputs}
 
 -- how often a number stands in a list
 abbrev pub times : ℕ → List ℕ → ℕ
@@ -57,3 +59,16 @@ wordAt text n i = lineWord n i (gatesTo text (suc i))
 -- how many of the first `count` lines begin with this letter
 unfoldable pub linesWith : ℕ → List ℕ → ℕ → ℕ
 linesWith letter text count = times letter (tab (letterAt text) count)
+
+-- ---- the tables of lines
+
+pub record FillReady (text : List ℕ) (n lines : ℕ) (places words : List ℕ) : Type 0 where
+  pub short : length text ≤ maxText
+  pub few : n ≤ maxInputs
+  pub placeRoom : lines ≤ length places
+  pub wordRoom : lines ≤ length words
+
+-- the places and nodes of the first i lines are filled in
+pub record FilledTo (text : List ℕ) (n : ℕ) (places words : List ℕ) (i : ℕ) (places′ words′ : List ℕ) : Type 0 where
+  pub placesAre : places′ ≡ placed (tab (placeAt text) i) places
+  pub wordsAre : words′ ≡ placed (tab (wordAt text n) i) words

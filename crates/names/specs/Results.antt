@@ -1,17 +1,22 @@
 -- What the functions of src/ answer, in terms of the tree that a text prints. Texts here have no never lines: Read leaves those out.
-use Prim.Native.Nat.{ℕ, _+_, _-_, _≤_}
+use Prim.Native.Nat.{ℕ, _+_, _-_, _≤_, _<_}
 use mathlib.Core.Path.{_≡_}
 use mathlib.Core.Bool.{Bool, true, not, _&&_}
 use mathlib.Core.List.{List, [], _++_, map}
-use lib.ListN.{length, take}
+use lib.ListN.{length, getD, take}
 use lib.Dec.{leb}
 use Rattle.laws.specs.Lists.{sum}
+use Rattle.netlist.specs.declared.Refusal.the-variants.{DuplicateDeclaration}
+use Rattle.netlist.specs.declared.Test.{Test}
+use Rattle.netlist.specs.declared.Test.the-variants.{Passed}
+use Rattle.netlist.specs.Answers.{testAt}
 use Rattle.netlist.specs.Limits.{maxText, maxInputs, maxGates, maxOutputs}
 use Rattle.netlist.specs.StoredBlock.{nodeWord}
 use Rattle.netlist.specs.Syntax.{Tree, isLegalTree, print}
-use Rattle.netlist.specs.Reading.{Mention, Binding, lineGates, declaredNodes, declaredPorts, bindings}
+use Rattle.netlist.specs.Reading.{Mention, Binding, lineGates, declaredNodes, declaredPorts, bindings, firstDuplicate}
 use Rattle.names.specs.Packed.{packed}
 use Rattle.names.specs.Lines.{times, linesWith}
+use Rattle.names.specs.Index.{hashes, Indexed}
 use Rattle.names.specs.declared.Counts.{Counts}
 
 -- the text is this tree's, which is legal and has no never lines
@@ -20,16 +25,14 @@ pub record Prints (t : Tree) (text : List ℕ) : Type 0 where
   pub bare : t .nevers ≡ []
   pub printed : print t ≡ text
 
--- the counts as the bytes give them
+-- the counts of the first lines, with so many gates
+unfoldable pub lineCounts : List ℕ → ℕ → ℕ → Counts
+lineCounts text lines gates =
+    record { inputs = linesWith 105 text lines; named = linesWith 103 text lines; outputs = linesWith 111 text lines; gates = gates }
+
+-- the counts as the bytes give them: each line has one bracket of its own, each gate one more
 unfoldable pub countsOf : List ℕ → Counts
-countsOf text =
-    let lines = times 10 text in
-    record {
-      inputs = linesWith 105 text lines;
-      named = linesWith 103 text lines;
-      outputs = linesWith 111 text lines;
-      gates = times 40 text - lines;
-    }
+countsOf text = lineCounts text (times 10 text) (times 40 text - times 10 text)
 
 -- the counts as the tree gives them
 unfoldable pub treeCounts : Tree → Counts
@@ -75,4 +78,22 @@ pub record TableRoom (c : Counts) (text names places words : List ℕ) : Type 0 
   pub few : c .inputs ≤ maxInputs
   pub numberRoom : c .inputs + c .named + c .outputs ≤ length names
   pub placeRoom : c .inputs + c .named + c .outputs ≤ length places
-  pub nodeRoom : c .inputs + c .named ≤ length words
+  pub nodeRoom : c .inputs + c .named + c .outputs ≤ length words
+
+-- the index holds the names of the declared nodes
+abbrev pub NodesIndexed : Counts → List ℕ → List ℕ → Type 0
+NodesIndexed c names index = Indexed (take (c .inputs + c .named) names) (length (take (c .inputs + c .named) names)) index
+
+-- the tables of names and places are filled for these counts, and the index is empty
+pub record IndexReady (c : Counts) (names places index : List ℕ) : Type 0 where
+  pub numberRoom : c .inputs + c .named + c .outputs ≤ length names
+  pub placeRoom : c .inputs + c .named + c .outputs ≤ length places
+  pub few : c .inputs + c .named ≤ maxInputs + maxGates
+  pub indexRoom : hashes + (maxInputs + maxGates) < length index
+  pub empty : (j : ℕ) → getD index j 0 ≡ 0
+
+-- the answer is 4's; where it passes, the index holds the names
+pub record Repeats (c : Counts) (names places index : List ℕ) (r : Test) : Type 0 where
+  pub answer : (t : Tree) → isLegalTree t ≡ true → t .nevers ≡ [] → c ≡ treeCounts t → NameTable t names places
+      → r ≡ testAt (firstDuplicate t) DuplicateDeclaration
+  pub indexed : r ≡ Passed → NodesIndexed c names index

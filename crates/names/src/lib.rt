@@ -1,4 +1,5 @@
 // What a text in form declares: counts and limits, its names with their places and node numbers, repeats, and the search for a name.
+pub mod index;
 pub mod lines;
 pub mod pack;
 pub mod search;
@@ -10,5 +11,11 @@ pub struct Counts {
     pub inputs: usize,
     pub named: usize,
     pub outputs: usize,
+    pub gates: usize,
+}
+
+// A line: where it ends, behind its LF, and its gates.
+pub struct Line {
+    pub end: usize,
     pub gates: usize,
 }

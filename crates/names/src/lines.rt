@@ -1,31 +1,39 @@
 // The lines of a text: where each starts, and what its bytes say of it.
-use layout::bytes::byte_at;
+use crate::Line;
 ghost use mathlib.Core.Path.{_≡_};
 ghost use mathlib.Core.Bool.{cond};
 ghost use Prim.Native.Nat.{_+_, _-_, _≤_};
 ghost use lib.Dec.{eqb};
 ghost use lib.ListN.{length, drop};
 ghost use Rattle.netlist.specs.Limits.{maxText};
-ghost use Rattle.names.specs.Lines.{times, lengthWithLf, lineOpens, linesWith};
+ghost use Rattle.names.specs.Lines.{times, lengthWithLf, lineOpens};
 
 // 1 where the bytes are the same.
-fn one_if(a: u8, b: u8) -> usize
+pub fn one_if(a: u8, b: u8) -> usize
     ensures { λ r. ⌜ r ≡ cond (eqb a b) 1 0 ⌝ }
 {
     if a == b { 1 } else { 0 }
 }
 
-// How often `b` stands in `s`.
+// The difference, or 0.
+pub fn minus(a: usize, b: usize) -> usize
+    ensures { λ r. ⌜ r ≡ a - b ⌝ }
+{
+    if b <= a { a - b } else { 0 }
+}
+
+// How often `b` stands in `s`. The count has 16 bits, so that a processor adds many at a time.
 pub fn count(s: &[u8], b: u8) -> usize
+    requires { ⌜ length (now s) ≤ maxText ⌝ }
     ensures { λ r. ⌜ r ≡ times b (now (s .entry)) ⌝ }
 {
-    let mut n = 0;
+    let mut n: u16 = 0;
     let mut i = 0;
     while i < s.len() {
-        n += one_if(s[i], b);
+        n += one_if(s[i], b) as u16;
         i += 1;
     }
-    n
+    n as usize
 }
 
 // The bytes up to the first LF, that LF counted.
@@ -66,27 +74,36 @@ pub fn opens(s: &[u8]) -> usize
     n
 }
 
-// The gates of the line that starts at `at`: a line has one bracket that is no gate's.
-pub fn line_gates(text: &[u8], at: usize) -> usize
-    requires { ⌜ at ≤ length (now text) ⌝ }
-    ensures { λ r. ⌜ r ≡ lineOpens (drop at (now (text .entry))) - 1 ⌝ }
-{
-    let n = opens(&text[at..]);
-    if n == 0 { 0 } else { n - 1 }
-}
-
-// How many of the first `lines` lines begin with this letter.
-pub fn lines_with(letter: u8, text: &[u8], lines: usize) -> usize
-    requires { ⌜ length (now text) ≤ maxText ⌝ }
-    ensures { λ r. ⌜ r ≡ linesWith letter (now (text .entry)) lines ⌝ }
+// The line at the front: its length with the LF, and the opening brackets before that.
+fn scan_line(s: &[u8]) -> Line
+    ensures { λ r. ⌜ (r .end ≡ lengthWithLf (now (s .entry))) × (r .gates ≡ lineOpens (now (s .entry)) - 1) ⌝ }
 {
     let mut n = 0;
-    let mut at = 0;
     let mut i = 0;
-    while i < lines {
-        n += one_if(byte_at(text, at + 1), letter);
-        at = next_line(text, at);
+    while i < s.len() {
+        if s[i] == b'\n' {
+            return Line {
+                end: i + 1,
+                gates: minus(n, 1),
+            };
+        }
+        n += one_if(s[i], b'(');
         i += 1;
     }
-    n
+    Line {
+        end: i,
+        gates: minus(n, 1),
+    }
+}
+
+// The line that starts at `at`: it has one bracket that is no gate's.
+pub fn line_at(text: &[u8], at: usize) -> Line
+    requires { ⌜ at ≤ length (now text) ⌝ }
+    ensures { λ r. ⌜ (r .end ≡ at + lengthWithLf (drop at (now (text .entry)))) × (r .gates ≡ lineOpens (drop at (now (text .entry))) - 1) ⌝ }
+{
+    let line = scan_line(&text[at..]);
+    Line {
+        end: at + line.end,
+        gates: line.gates,
+    }
 }

@@ -23,17 +23,25 @@ pub fn name_length(s: &[u8]) -> usize
     i
 }
 
-// The number of the name at the front of `s`.
-pub fn pack(s: &[u8]) -> u64
+// The number of the name at the front of `s`, which has n bytes.
+pub fn pack_first(s: &[u8], n: usize) -> u64
+    requires { ⌜ n ≡ length (nameFront maxName (now s)) ⌝ }
     ensures { λ r. ⌜ r ≡ packed (nameFront maxName (now (s .entry))) ⌝ }
 {
-    let mut i = name_length(s);
+    let mut i = n;
     let mut r: u64 = 0;
     while 0 < i {
         i -= 1;
         r = s[i] as u64 + 256 * r;
     }
     r
+}
+
+// The number of the name at the front of `s`.
+pub fn pack(s: &[u8]) -> u64
+    ensures { λ r. ⌜ r ≡ packed (nameFront maxName (now (s .entry))) ⌝ }
+{
+    pack_first(s, name_length(s))
 }
 
 // The number of the name at a place of the text.

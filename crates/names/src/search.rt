@@ -1,19 +1,24 @@
 // Searches in a table of names: the first that is equal to a given one, and the first that repeats one before it.
 use crate::Counts;
+use crate::index::HASH_ENTRIES;
+use crate::index::enter_all;
+use layout::limits::MAX_OUTPUTS;
+use layout::limits::MAX_TEXT;
 use netlist::Refusal;
 use netlist::Test;
 ghost use mathlib.Core.Path.{_≡_};
-ghost use mathlib.Core.Bool.{true};
-ghost use mathlib.Core.List.{[]};
-ghost use Prim.Native.Nat.{_+_, _≤_, _<_};
+ghost use Prim.Native.Nat.{_≤_, _<_};
 ghost use lib.ListN.{length};
 ghost use Rattle.laws.specs.Lists.{least};
-ghost use Rattle.netlist.specs.declared.Refusal.the-variants.{DuplicateDeclaration};
-ghost use Rattle.netlist.specs.Answers.{testAt};
-ghost use Rattle.netlist.specs.Syntax.{Tree, isLegalTree};
-ghost use Rattle.netlist.specs.Reading.{firstDuplicate};
-ghost use Rattle.names.specs.Results.{treeCounts, NameTable};
+ghost use Rattle.names.specs.Results.{IndexReady, Repeats};
+ghost use Rattle.names.specs.Index.{many};
 ghost use Rattle.names.specs.Search.{indexOf, repeatsAt};
+
+// So many names are compared with each other: ports, and the pairs of a never line that a text can have.
+const FEW: usize = MAX_OUTPUTS;
+
+// A text has no room for more pairs: each has at least 6 bytes.
+const MANY: usize = MAX_TEXT / 6;
 
 // The index of the first of `count` names that is this one, or `count`.
 pub fn find(names: &[u64], count: usize, name: u64) -> usize
@@ -38,8 +43,8 @@ fn repeats(names: &[u64], i: usize) -> bool
     find(names, i, names[i]) < i
 }
 
-// The index of the first name that is one of those before it, or the length.
-pub fn first_repeat(names: &[u64]) -> usize
+// The index of the first name that is one of those before it, or the length; each is compared with those before it.
+fn repeat_of_few(names: &[u64]) -> usize
     ensures { λ r. ⌜ r ≡ least (repeatsAt (now (names .entry))) (length (now (names .entry))) ⌝ }
 {
     let mut i = 0;
@@ -52,14 +57,37 @@ pub fn first_repeat(names: &[u64]) -> usize
     i
 }
 
+// The same; each is entered into an index.
+fn repeat_of_many(names: &[u64]) -> usize
+    requires { ⌜ length (now names) ≤ many ⌝ }
+    ensures { λ r. ⌜ r ≡ least (repeatsAt (now (names .entry))) (length (now (names .entry))) ⌝ }
+{
+    let mut index = [0u16; HASH_ENTRIES + MANY + 1];
+    enter_all(names, &mut index)
+}
+
+// The index of the first name that is one of those before it, or the length.
+pub fn first_repeat(names: &[u64]) -> usize
+    ensures { λ r. ⌜ r ≡ least (repeatsAt (now (names .entry))) (length (now (names .entry))) ⌝ }
+{
+    if names.len() <= FEW {
+        return repeat_of_few(names);
+    }
+    if names.len() <= MANY {
+        return repeat_of_many(names);
+    }
+    repeat_of_few(names)
+}
+
 // 4: the place of the earliest declaration that repeats another. Inputs and gates share one set of names, ports have another (SPECIFICATION 1.4).
-pub fn duplicate(c: Counts, names: &[u64], places: &[usize]) -> Test
-    requires { ⌜ (c .inputs + c .named + c .outputs ≤ length (now names)) × (c .inputs + c .named + c .outputs ≤ length (now places)) ⌝ }
-    ensures { λ r. ⌜ ((t : Tree) → isLegalTree t ≡ true → t .nevers ≡ [] → c ≡ treeCounts t → NameTable t (now (names .entry)) (now (places .entry)) → r ≡ testAt (firstDuplicate t) DuplicateDeclaration) ⌝ }
+// Enters the names of inputs and gates into the index; ports are few, and are compared with each other.
+pub fn duplicate(c: Counts, names: &[u64], places: &[usize], index: &mut [u16]) -> Test
+    requires { ⌜ IndexReady c (now names) (now places) (now index) ⌝ }
+    ensures { λ r. ⌜ Repeats c (now (names .entry)) (now (places .entry)) (now (index .exit)) r ⌝ }
 {
     let nodes = c.inputs + c.named;
     let ports = c.outputs;
-    let i = first_repeat(&names[..nodes]);
+    let i = enter_all(&names[..nodes], index);
     if i < nodes {
         let place = places[i];
         return Test::Failed(Refusal::DuplicateDeclaration(place));

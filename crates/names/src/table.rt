@@ -1,7 +1,6 @@
 // The table of declared names, in the order of the text: numbers of the names, their places, and the node numbers of inputs and gates.
 use crate::Counts;
-use crate::lines::line_gates;
-use crate::lines::next_line;
+use crate::lines::line_at;
 use crate::pack::pack_at;
 use layout::bytes::byte_at;
 ghost use mathlib.Core.Path.{_≡_};
@@ -9,7 +8,7 @@ ghost use Prim.Native.Nat.{_≤_};
 ghost use lib.ListN.{length};
 ghost use Rattle.laws.specs.Lists.{tab, placed};
 ghost use Rattle.netlist.specs.Limits.{maxText, maxInputs};
-ghost use Rattle.names.specs.Lines.{nameOffset, declaredPlace, placeAt, lineWord, wordAt};
+ghost use Rattle.names.specs.Lines.{nameOffset, declaredPlace, lineWord, FillReady, FilledTo};
 ghost use Rattle.netlist.specs.Syntax.{Tree};
 ghost use Rattle.names.specs.Packed.{packedThrough};
 ghost use Rattle.names.specs.Results.{Prints, treeCounts, TableRoom, Declared};
@@ -30,20 +29,6 @@ fn declared_at(text: &[u8], at: usize) -> usize
     ensures { λ r. ⌜ r ≡ declaredPlace (now (text .entry)) at ⌝ }
 {
     at + name_offset(byte_at(text, at + 1))
-}
-
-// The place of the name that each line declares.
-fn fill_places(text: &[u8], lines: usize, places: &mut [usize])
-    requires { ⌜ (length (now text) ≤ maxText) × (lines ≤ length (now places)) ⌝ }
-    ensures { λ r. ⌜ now (places .exit) ≡ placed (tab (placeAt (now (text .entry))) lines) (now (places .entry)) ⌝ }
-{
-    let mut at = 0;
-    let mut i = 0;
-    while i < lines {
-        places[i] = declared_at(text, at);
-        at = next_line(text, at);
-        i += 1;
-    }
 }
 
 // The number of the name at each of these places.
@@ -69,31 +54,31 @@ fn line_word(n: usize, i: usize, gates: usize) -> usize
     if gates == 0 { n } else { n + (gates - 1) }
 }
 
-// The node that each of the first lines declares.
-fn fill_words(text: &[u8], n: usize, nodes: usize, words: &mut [u16])
-    requires { ⌜ (length (now text) ≤ maxText) × (n ≤ maxInputs) × (nodes ≤ length (now words)) ⌝ }
-    ensures { λ r. ⌜ now (words .exit) ≡ placed (tab (wordAt (now (text .entry)) n) nodes) (now (words .entry)) ⌝ }
+// The place of the name that each line declares, and the node.
+fn fill_lines(text: &[u8], n: usize, lines: usize, places: &mut [usize], words: &mut [u16])
+    requires { ⌜ FillReady (now text) n lines (now places) (now words) ⌝ }
+    ensures { λ r. ⌜ FilledTo (now (text .entry)) n (now (places .entry)) (now (words .entry)) lines (now (places .exit)) (now (words .exit)) ⌝ }
 {
     let mut gates = 0;
     let mut at = 0;
     let mut i = 0;
-    while i < nodes {
-        gates += line_gates(text, at);
+    while i < lines {
+        let line = line_at(text, at);
+        gates += line.gates;
+        places[i] = declared_at(text, at);
         words[i] = line_word(n, i, gates) as u16;
-        at = next_line(text, at);
+        at = line.end;
         i += 1;
     }
 }
 
-// The tables of a text with these counts.
+// The tables of a text with these counts. Ports get a node that nobody asks for.
 pub fn declare(text: &[u8], c: Counts, names: &mut [u64], places: &mut [usize], words: &mut [u16])
     requires { ⌜ TableRoom c (now text) (now names) (now places) (now words) ⌝ }
     ensures { λ r. ⌜ ((t : Tree) → Prints t (now (text .entry)) → c ≡ treeCounts t → Declared t (now (names .exit)) (now (places .exit)) (now (words .exit))) ⌝ }
 {
     let inputs = c.inputs;
-    let nodes = inputs + c.named;
-    let lines = nodes + c.outputs;
-    fill_places(text, lines, places);
+    let lines = inputs + c.named + c.outputs;
+    fill_lines(text, inputs, lines, places, words);
     fill_names(text, places, lines, names);
-    fill_words(text, inputs, nodes, words);
 }

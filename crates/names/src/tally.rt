@@ -1,7 +1,10 @@
 // What a text has of each kind, and whether that is within the limits.
 use crate::Counts;
 use crate::lines::count;
-use crate::lines::lines_with;
+use crate::lines::minus;
+use crate::lines::next_line;
+use crate::lines::one_if;
+use layout::bytes::byte_at;
 use layout::limits::MAX_GATES;
 use layout::limits::MAX_INPUTS;
 use layout::limits::MAX_OUTPUTS;
@@ -9,20 +12,40 @@ use netlist::Refusal;
 use netlist::Test;
 use refusals::refuse_if;
 ghost use mathlib.Core.Path.{_≡_};
-ghost use Prim.Native.Nat.{_-_, _≤_};
+ghost use mathlib.Core.List.{[]};
+ghost use Prim.Native.Nat.{_≤_};
 ghost use lib.ListN.{length};
 ghost use Rattle.netlist.specs.Limits.{maxText};
 ghost use Rattle.netlist.specs.declared.Refusal.the-variants.{OverLimit};
 ghost use Rattle.netlist.specs.Answers.{testOf};
 ghost use Rattle.netlist.specs.Syntax.{Tree};
 ghost use Rattle.netlist.specs.Reading.{isOverLimit};
-ghost use Rattle.names.specs.Results.{Prints, countsOf, treeCounts, isOver};
+ghost use Rattle.names.specs.Results.{Prints, lineCounts, countsOf, treeCounts, isOver};
 
-// The difference, or 0.
-fn minus(a: usize, b: usize) -> usize
-    ensures { λ r. ⌜ r ≡ a - b ⌝ }
+// The first lines by their letters.
+fn count_lines(text: &[u8], lines: usize, gates: usize) -> Counts
+    requires { ⌜ length (now text) ≤ maxText ⌝ }
+    ensures { λ r. ⌜ r ≡ lineCounts (now (text .entry)) lines gates ⌝ }
 {
-    if b <= a { a - b } else { 0 }
+    let mut inputs = 0;
+    let mut named = 0;
+    let mut outputs = 0;
+    let mut at = 0;
+    let mut i = 0;
+    while i < lines {
+        let letter = byte_at(text, at + 1);
+        inputs += one_if(letter, b'i');
+        named += one_if(letter, b'g');
+        outputs += one_if(letter, b'o');
+        at = next_line(text, at);
+        i += 1;
+    }
+    Counts {
+        inputs,
+        named,
+        outputs,
+        gates,
+    }
 }
 
 // Each line has one bracket of its own, and each gate one more.
@@ -31,16 +54,7 @@ fn count_bytes(text: &[u8]) -> Counts
     ensures { λ r. ⌜ r ≡ countsOf (now (text .entry)) ⌝ }
 {
     let lines = count(text, b'\n');
-    let inputs = lines_with(b'i', text, lines);
-    let named = lines_with(b'g', text, lines);
-    let outputs = lines_with(b'o', text, lines);
-    let gates = minus(count(text, b'('), lines);
-    Counts {
-        inputs,
-        named,
-        outputs,
-        gates,
-    }
+    count_lines(text, lines, minus(count(text, b'('), lines))
 }
 
 // What the tree that the text prints has.
@@ -68,9 +82,8 @@ fn is_over(c: Counts) -> bool
 }
 
 // 3: more inputs, gates (inner ones counted) or outputs than the limits allow.
-pub fn limits(text: &[u8]) -> Test
-    requires { ⌜ length (now text) ≤ maxText ⌝ }
-    ensures { λ r. ⌜ ((t : Tree) → Prints t (now (text .entry)) → r ≡ testOf (isOverLimit t) OverLimit) ⌝ }
+pub fn limits(c: Counts) -> Test
+    ensures { λ r. ⌜ ((t : Tree) → t .nevers ≡ [] → c ≡ treeCounts t → r ≡ testOf (isOverLimit t) OverLimit) ⌝ }
 {
-    refuse_if(is_over(count_bytes(text)), Refusal::OverLimit)
+    refuse_if(is_over(c), Refusal::OverLimit)
 }

@@ -3,8 +3,9 @@
 --   nevers-stand: the never lines at their place
 --   inputs-are: a table of the inputs' numbers
 --   lines-ready: a text in form can be read
+--   none-counted: no line
 use Prim.Native.Nat.{ℕ, _+_, _≤_}
-use mathlib.Core.Path.{_≡_, refl, sym, _∙_}
+use mathlib.Core.Path.{_≡_, refl, sym, ap, _∙_}
 use mathlib.Core.Bool.{true, false}
 use mathlib.Core.List.{List, [], _∷_, map}
 use native.Mathlib.Omega.{arith}
@@ -111,3 +112,12 @@ lines-ready f n p c = record {
   is = nevers-stand (f .is) (f .stand);
   room = record { short = f .short; nameRoom = n; placeRoom = p; codeRoom = c };
 }
+
+-- no line is counted where there is none
+pub none-counted : (t : Tree) {lines : NeverLines} → lines ≡ neverLines t → lines .count ≡ 0 → t .nevers ≡ []
+unfolding neverLines
+none-counted t {lines} e z = go (t .nevers) (sym (ap (λ (l : NeverLines). l .count) e) ∙ z)
+  where
+    go : (ns : List (List Pair)) → length ns ≡ 0 → ns ≡ []
+    go [] h = refl
+    go (n ∷ ns) h = absurd (omega arith)

@@ -1,5 +1,6 @@
 // The never lines of a text in form (SPECIFICATION 1.3): where they stand, 4 and 5 among them, and their words in a stored block.
-// A line has no limit of pairs but the text's length, so each operation lends tables of MAX_PAIRS to what reads a line.
+// A line has no limit of pairs but the text's length, so each operation lends tables of MAX_PAIRS to what reads a line; with
+// no line to read it makes none.
 pub mod lines;
 pub mod tests;
 pub mod words;

@@ -79,6 +79,9 @@ pub fn fill_masks(text: &[u8], lines: NeverLines, inputs: &[u64], n: usize, out:
 {
     let at = lines.at;
     let count = lines.count;
+    if count == 0 {
+        return;
+    }
     let mut names = [0u64; MAX_PAIRS];
     let mut places = [0usize; MAX_PAIRS];
     let mut codes = [0u8; MAX_PAIRS];

@@ -26,9 +26,9 @@ use Rattle.netlist.specs.Answers.{testOf, testAt, refusalOf, done, refuseIf, in
 use Rattle.netlist.specs.Operations.{read}
 use Rattle.names.specs.declared.Counts.{Counts}
 use Rattle.names.specs.Plain.{plain, moved}
-use Rattle.names.specs.Results.{Prints, treeCounts, declared, packedNames, NameTable, Declared, TableRoom}
+use Rattle.names.specs.Results.{Prints, treeCounts, declared, packedNames, Declared, TableRoom, Repeats, IndexReady}
 use Rattle.names.proofs.TreeLines.{legal-parts}
-use Rattle.names.proofs.TreeCounts.{limits-within, table-room}
+use Rattle.names.proofs.TreeCounts.{limits-within, node-room, table-room}
 use Rattle.names.proofs.PlainTree.{plain-legal, nevers-few}
 use Rattle.names.proofs.PlainPlaces.{duplicate-whole, undeclared-whole}
 use Rattle.pairs.specs.Tables.{InputsAre}
@@ -78,69 +78,98 @@ module _ {t : Tree} {text : List ℕ} {lines : NeverLines} {rest : List ℕ} (s 
 
 -- ---- the tables and 4
 
-pub room-for : {text : List ℕ} {lines : NeverLines} {rest : List ℕ} {c : Counts} {names places nodes : List ℕ}
-    → TablesReady text lines rest c names places nodes → TableRoom c rest names places nodes
-room-for {text} {lines} {rest} {c} {names} {places} {nodes} a =
+lesser-none : (p q : Option ℕ) → lesser p q ≡ none → q ≡ none
+unfolding lesser
+lesser-none none q e = e
+lesser-none (some a) none e = refl
+lesser-none (some a) (some b) e = let z : _≡_ {A = ℕ} 0 1 = cc in absurd (omega arith)
+
+moved-none : (from to : ℕ) (p : Option ℕ) → moved from to p ≡ none → p ≡ none
+unfolding moved
+moved-none from to none e = refl
+moved-none from to (some a) e = let z : _≡_ {A = ℕ} 0 1 = cc in absurd (omega arith)
+
+pub room-for : {text : List ℕ} {lines : NeverLines} {rest : List ℕ} {c : Counts} {names places nodes index : List ℕ}
+    → TablesReady text lines rest c names places nodes index → TableRoom c rest names places nodes
+room-for {text} {lines} {rest} {c} {names} {places} {nodes} {index} a =
     let s = a .limited .split in
     table-room (rest-prints s) (plain-within (a .tree) (a .limited .within)) c (a .counted) names places nodes (rest-short s)
     (a .nameRoom) (a .placeRoom) (a .nodeRoom)
 
-module _ (text : List ℕ) (lines : NeverLines) (rest : List ℕ) (c : Counts) (names places nodes : List ℕ) (r : Test)
+-- the tables as `declare` leaves them
+pub index-ready : {text : List ℕ} {lines : NeverLines} {rest : List ℕ} {c : Counts} {names places nodes index : List ℕ}
+    → TablesReady text lines rest c names places nodes index → (names′ places′ : List ℕ) → length names′ ≡ length names → length places′ ≡ length places
+    → IndexReady c names′ places′ index
+index-ready {text} {lines} {rest} {c} {names} {places} {nodes} {index} a names′ places′ e f =
+    let r = room-for a in
+    let b = node-room (plain (a .tree)) (plain-within (a .tree) (a .limited .within)) c (a .counted) in
+    record { numberRoom = rw e (r .numberRoom); placeRoom = rw f (r .placeRoom); few = b; indexRoom = a .indexRoom; empty = a .indexEmpty }
+
+module _ (text : List ℕ) (lines : NeverLines) (rest : List ℕ) (c : Counts) (names places nodes index : List ℕ) (r : Test)
     (d : (t : Tree) → Prints t rest → c ≡ treeCounts t → Declared t names places nodes)
-    (u : (t : Tree) → isLegalTree t ≡ true → t .nevers ≡ [] → c ≡ treeCounts t → NameTable t names places
-    → r ≡ testAt (firstDuplicate t) DuplicateDeclaration) where
+    (u : Repeats c names places index r) where
   pub outside-repeat : (t : Tree) → Limited t text lines rest → c ≡ treeCounts (plain t) → r ≡ testAt (firstDuplicate (plain t)) DuplicateDeclaration
   outside-repeat t l e =
       let p = rest-prints (l .split) in
-      u (plain t) (p .legal) (p .bare) e (d (plain t) p e .table)
+      u .answer (plain t) (p .legal) (p .bare) e (d (plain t) p e .table)
+
+  -- where nothing repeats, nothing does outside never lines
+  outside-passed : (t : Tree) → Limited t text lines rest → c ≡ treeCounts (plain t)
+      → lesser (firstRepeatIn (t .nevers) (neverLinesAt t)) (moved (lines .at) (lines .end) (firstDuplicate (plain t))) ≡ none → r ≡ Passed
+  unfolding testAt
+  outside-passed t l e n =
+      rw (moved-none (lines .at) (lines .end) (firstDuplicate (plain t)) (lesser-none (firstRepeatIn (t .nevers) (neverLinesAt t)) _ n)) at
+      (outside-repeat t l e)
 
   pub tabled : (within′ moved′ answer : Test)
       → ((t : Tree) → TextOf t text → lines ≡ neverLines t → within′ ≡ testAt (firstRepeatIn (t .nevers) (neverLinesAt t)) DuplicateDeclaration)
       → ((p : Option ℕ) → r ≡ testAt p DuplicateDeclaration → moved′ ≡ testAt (moved (lines .at) (lines .end) p) DuplicateDeclaration)
       → ((p q : Option ℕ) → within′ ≡ testAt p DuplicateDeclaration → moved′ ≡ testAt q DuplicateDeclaration
       → answer ≡ testAt (lesser p q) DuplicateDeclaration)
-      → Tabled text lines rest c names nodes answer
+      → Tabled text lines rest c names nodes index answer
   tabled within′ moved′ answer f g h =
       record {
         done =
             λ t l e.
             let s = l .split in
             let p = rest-prints s in
-            let a = d (plain t) p e in (
+            let a = d (plain t) p e in
+            let told = h _ _ (f t (s .is) (s .stand)) (g _ (outside-repeat t l e)) in (
               record { prints = p; counted = e; within = plain-within t (l .within); numbersAre = a .table .numbersAre; nodesAre = a .nodesAre },
-              rw (repeat-whole s) (h _ _ (f t (s .is) (s .stand)) (g _ (outside-repeat t l e))),
+              rw (repeat-whole s) told,
+              λ passed′. u .indexed (outside-passed t l e (passed-none _ DuplicateDeclaration told passed′)),
             );
       }
 
-module _ {text : List ℕ} {lines : NeverLines} {rest names places nodes masks gates outputs : List ℕ}
-    (a : ReadReady text lines rest names places nodes masks gates outputs) (c : Counts) (counts : (t : Tree) → Prints t rest → c ≡ treeCounts t) where
-  counted : c ≡ treeCounts (plain (a .tree))
-  counted = counts (plain (a .tree)) (rest-prints (a .limited .split))
-
-  pub tables-ready : TablesReady text lines rest c names places nodes
+module _ {text : List ℕ} {lines : NeverLines} {rest : List ℕ} {c : Counts} {names places nodes index masks gates outputs : List ℕ}
+    (a : ReadReady text lines rest c names places nodes index masks gates outputs) where
+  pub tables-ready : TablesReady text lines rest c names places nodes index
   tables-ready =
       record {
         tree = a .tree;
         limited = a .limited;
-        counted = counted;
+        counted = a .counted;
         nameRoom = a .nameRoom;
         placeRoom = a .placeRoom;
         nodeRoom = a .nodeRoom;
+        indexRoom = a .indexRoom;
+        indexEmpty = a .indexEmpty;
       }
 
-  module _ (names′ nodes′ : List ℕ) (r : Test) (h : Tabled text lines rest c names′ nodes′ r) where
+  module _ (names′ nodes′ index′ : List ℕ) (r : Test) (h : Tabled text lines rest c names′ nodes′ index′ r) where
     pub twice : (entry : List ℕ) → IsFailed r → {answer : Answer} → answer ≡ refusalOf r → Promise (read text (length entry)) entry answer entry
     twice entry k e =
         let s = a .limited .split in
-        let d = h .done (a .tree) (a .limited) counted .1 in
+        let d = h .done (a .tree) (a .limited) (a .counted) .1 in
         failed-at (inRoom _) (keeps-room _) _ _ DuplicateDeclaration
         (read-within (a .tree) text (length entry) (s .is) (s .short) (a .limited .within)) d entry k e
 
-    pub terms-ready : r ≡ Passed → TermsReady text lines rest c names′ nodes′ masks gates outputs
+    pub terms-ready : r ≡ Passed → TermsReady text lines rest c names′ nodes′ index′ masks gates outputs
     terms-ready e =
-        let d = h .done (a .tree) (a .limited) counted in
+        let d = h .done (a .tree) (a .limited) (a .counted) in
         record {
-          resolving = record { tree = a .tree; limited = a .limited; here = d .0; gateRoom = a .gateRoom; outputRoom = a .outputRoom };
+          resolving =
+              record { tree = a .tree; limited = a .limited; here = d .0; indexed = d .2 e; gateRoom = a .gateRoom; outputRoom = a .outputRoom };
           single = passed-none (firstDuplicate (a .tree)) DuplicateDeclaration (d .1) e;
           maskRoom = a .maskRoom;
         }
@@ -163,8 +192,8 @@ inputs-in t c names legal e numbers =
 inputs-are : (t : Tree) {rest : List ℕ} {c : Counts} {names nodes : List ℕ} → TreeAt (plain t) rest c names nodes → InputsAre (t .inputs) (c .inputs) names
 inputs-are t {rest} {c} {names} h = inputs-in t c names (h .prints .legal) (h .counted) (h .numbersAre)
 
-module _ {text : List ℕ} {lines : NeverLines} {rest : List ℕ} {c : Counts} {names nodes gates outputs : List ℕ}
-    (a : Resolving text lines rest c names nodes gates outputs) where
+module _ {text : List ℕ} {lines : NeverLines} {rest : List ℕ} {c : Counts} {names nodes index gates outputs : List ℕ}
+    (a : Resolving text lines rest c names nodes index gates outputs) where
   pub inputs-ready : InputsReady (c .inputs) names
   inputs-ready = record { known = a .tree .inputs; are = inputs-are (a .tree) (a .here) }
 
@@ -204,9 +233,9 @@ module _ {text : List ℕ} {lines : NeverLines} {rest : List ℕ} {c : Counts} {
           written = λ z. record { gatesWritten = x .gatesWritten; outputsWritten = x .outputsWritten };
         }
 
-module _ {text : List ℕ} {lines : NeverLines} {rest : List ℕ} {c : Counts} {names nodes masks gates outputs : List ℕ}
-    (a : TermsReady text lines rest c names nodes masks gates outputs) where
-  abbrev resolving : Resolving text lines rest c names nodes gates outputs
+module _ {text : List ℕ} {lines : NeverLines} {rest : List ℕ} {c : Counts} {names nodes index masks gates outputs : List ℕ}
+    (a : TermsReady text lines rest c names nodes index masks gates outputs) where
+  abbrev resolving : Resolving text lines rest c names nodes index gates outputs
   resolving = a .resolving
 
   abbrev tree : Tree

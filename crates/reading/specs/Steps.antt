@@ -1,11 +1,11 @@
 -- What the steps of Read need and tell, of the legal tree that the text prints. Its names are read from the text without never lines.
 -- Assumes nothing.
-use Prim.Native.Nat.{ℕ, _+_, _*_, _≤_}
+use Prim.Native.Nat.{ℕ, _+_, _*_, _≤_, _<_}
 use mathlib.Core.Path.{_≡_}
 use mathlib.Core.Bool.{false}
 use mathlib.Core.List.{List, _++_, map}
 use mathlib.Core.Option.{none}
-use lib.ListN.{length, take, drop}
+use lib.ListN.{length, getD, take, drop}
 use Rattle.laws.specs.Lists.{placed, joined}
 use Rattle.netlist.specs.declared.Refusal.the-variants.{DuplicateDeclaration, UndeclaredName}
 use Rattle.netlist.specs.declared.Test.{Test}
@@ -16,8 +16,9 @@ use Rattle.netlist.specs.Syntax.{Tree}
 use Rattle.netlist.specs.Reading.{isOverLimit, firstDuplicate, firstUndeclared, blockOf}
 use Rattle.netlist.specs.Answers.{testAt}
 use Rattle.names.specs.declared.Counts.{Counts}
+use Rattle.names.specs.Index.{hashes}
 use Rattle.names.specs.Plain.{plain}
-use Rattle.names.specs.Results.{treeCounts, declared, packedNames}
+use Rattle.names.specs.Results.{treeCounts, declared, packedNames, NodesIndexed}
 use Rattle.terms.specs.Resolution.{TreeAt}
 use Rattle.nevers.specs.declared.NeverLines.{NeverLines}
 use Rattle.nevers.specs.Places.{TextOf, neverLines}
@@ -44,40 +45,47 @@ pub record Limited (t : Tree) (text : List ℕ) (lines : NeverLines) (rest : Lis
   pub split : Split t text lines rest
   pub within : isOverLimit t ≡ false
 
-pub record ReadReady (text : List ℕ) (lines : NeverLines) (rest names places nodes masks gates outputs : List ℕ) : Type 0 where
-  pub tree : Tree
-  pub limited : Limited tree text lines rest
-  pub nameRoom : maxInputs + maxGates + maxOutputs ≤ length names
-  pub placeRoom : maxInputs + maxGates + maxOutputs ≤ length places
-  pub nodeRoom : maxInputs + maxGates ≤ length nodes
-  pub maskRoom : neverSize * maxNevers ≤ length masks
-  pub gateRoom : gateSize * maxGates ≤ length gates
-  pub outputRoom : outputSize * maxOutputs ≤ length outputs
-
-pub record TablesReady (text : List ℕ) (lines : NeverLines) (rest : List ℕ) (c : Counts) (names places nodes : List ℕ) : Type 0 where
+pub record ReadReady (text : List ℕ) (lines : NeverLines) (rest : List ℕ) (c : Counts) (names places nodes index masks gates outputs : List ℕ)
+    : Type 0 where
   pub tree : Tree
   pub limited : Limited tree text lines rest
   pub counted : c ≡ treeCounts (plain tree)
   pub nameRoom : maxInputs + maxGates + maxOutputs ≤ length names
   pub placeRoom : maxInputs + maxGates + maxOutputs ≤ length places
-  pub nodeRoom : maxInputs + maxGates ≤ length nodes
+  pub nodeRoom : maxInputs + maxGates + maxOutputs ≤ length nodes
+  pub indexRoom : hashes + (maxInputs + maxGates) < length index
+  pub indexEmpty : (j : ℕ) → getD index j 0 ≡ 0
+  pub maskRoom : neverSize * maxNevers ≤ length masks
+  pub gateRoom : gateSize * maxGates ≤ length gates
+  pub outputRoom : outputSize * maxOutputs ≤ length outputs
 
--- the tables are the tree's, and the answer is 4's
-pub record Tabled (text : List ℕ) (lines : NeverLines) (rest : List ℕ) (c : Counts) (names nodes : List ℕ) (r : Test) : Type 0 where
+pub record TablesReady (text : List ℕ) (lines : NeverLines) (rest : List ℕ) (c : Counts) (names places nodes index : List ℕ) : Type 0 where
+  pub tree : Tree
+  pub limited : Limited tree text lines rest
+  pub counted : c ≡ treeCounts (plain tree)
+  pub nameRoom : maxInputs + maxGates + maxOutputs ≤ length names
+  pub placeRoom : maxInputs + maxGates + maxOutputs ≤ length places
+  pub nodeRoom : maxInputs + maxGates + maxOutputs ≤ length nodes
+  pub indexRoom : hashes + (maxInputs + maxGates) < length index
+  pub indexEmpty : (j : ℕ) → getD index j 0 ≡ 0
+
+-- the tables are the tree's, and the answer is 4's; where it passes, the index holds the names
+pub record Tabled (text : List ℕ) (lines : NeverLines) (rest : List ℕ) (c : Counts) (names nodes index : List ℕ) (r : Test) : Type 0 where
   pub done : (t : Tree) → Limited t text lines rest → c ≡ treeCounts (plain t)
-      → TreeAt (plain t) rest c names nodes × (r ≡ testAt (firstDuplicate t) DuplicateDeclaration)
+      → TreeAt (plain t) rest c names nodes × (r ≡ testAt (firstDuplicate t) DuplicateDeclaration) × (r ≡ Passed → NodesIndexed c names index)
 
 -- the tables stand
-pub record Resolving (text : List ℕ) (lines : NeverLines) (rest : List ℕ) (c : Counts) (names nodes gates outputs : List ℕ) : Type 0 where
+pub record Resolving (text : List ℕ) (lines : NeverLines) (rest : List ℕ) (c : Counts) (names nodes index gates outputs : List ℕ) : Type 0 where
   pub tree : Tree
   pub limited : Limited tree text lines rest
   pub here : TreeAt (plain tree) rest c names nodes
+  pub indexed : NodesIndexed c names index
   pub gateRoom : gateSize * maxGates ≤ length gates
   pub outputRoom : outputSize * maxOutputs ≤ length outputs
 
 -- nothing repeats
-pub record TermsReady (text : List ℕ) (lines : NeverLines) (rest : List ℕ) (c : Counts) (names nodes masks gates outputs : List ℕ) : Type 0 where
-  pub resolving : Resolving text lines rest c names nodes gates outputs
+pub record TermsReady (text : List ℕ) (lines : NeverLines) (rest : List ℕ) (c : Counts) (names nodes index masks gates outputs : List ℕ) : Type 0 where
+  pub resolving : Resolving text lines rest c names nodes index gates outputs
   pub single : firstDuplicate (resolving .tree) ≡ none
   pub maskRoom : neverSize * maxNevers ≤ length masks
 

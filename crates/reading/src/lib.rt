@@ -9,6 +9,8 @@ use layout::limits::MAX_TEXT;
 use layout::offsets::GATE_SIZE;
 use layout::offsets::NEVER_SIZE;
 use layout::offsets::OUTPUT_SIZE;
+use names::index::INDEX_SIZE;
+use names::tally::counts;
 use netlist::Answer;
 use netlist::Refusal;
 use netlist::Test;
@@ -28,23 +30,23 @@ mod plain;
 mod steps;
 mod words;
 
-// The nodes of the largest text that have a name, and all names that it declares.
-const NODES: usize = MAX_INPUTS + MAX_GATES;
-
-const NAMES: usize = NODES + MAX_OUTPUTS;
+// The names that the largest text declares.
+const NAMES: usize = MAX_INPUTS + MAX_GATES + MAX_OUTPUTS;
 
 // 3, and the tables that the steps fill.
 fn read_split(text: &[u8], lines: NeverLines, rest: &[u8], block: &mut [u16]) -> Answer
     requires { ⌜ SplitText (now text) lines (now rest) ⌝ }
     ensures { λ r. ⌜ Promise (read (now (text .entry)) (length (now (block .entry)))) (now (block .entry)) r (now (block .exit)) ⌝ }
 {
-    let tested = test_limits(rest, lines.count);
+    let c = counts(rest);
+    let tested = test_limits(c, lines.count);
     let Test::Passed = tested else {
         return refusal(tested);
     };
     let mut names = [0u64; NAMES];
     let mut places = [0usize; NAMES];
-    let mut nodes = [0u16; NODES];
+    let mut nodes = [0u16; NAMES];
+    let mut index = [0u16; INDEX_SIZE];
     let mut masks = [0u16; NEVER_SIZE * MAX_NEVERS];
     let mut gates = [0u16; GATE_SIZE * MAX_GATES];
     let mut outputs = [0u16; OUTPUT_SIZE * MAX_OUTPUTS];
@@ -52,9 +54,11 @@ fn read_split(text: &[u8], lines: NeverLines, rest: &[u8], block: &mut [u16]) ->
         text,
         lines,
         rest,
+        c,
         &mut names,
         &mut places,
         &mut nodes,
+        &mut index,
         &mut masks,
         &mut gates,
         &mut outputs,

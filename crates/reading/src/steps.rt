@@ -10,7 +10,6 @@ use layout::offsets::outputs_behind;
 use names::Counts;
 use names::search::duplicate;
 use names::table::declare;
-use names::tally::counts;
 use names::tally::limits;
 use netlist::Answer;
 use netlist::Refusal;
@@ -24,32 +23,29 @@ use refusals::refuse_if;
 use refusals::test_room;
 use terms::resolve;
 ghost use mathlib.Core.Path.{_≡_};
-ghost use Prim.Native.Nat.{_≤_};
 ghost use lib.ListN.{length};
 ghost use Rattle.netlist.specs.declared.Refusal.the-variants.{OverLimit};
-ghost use Rattle.netlist.specs.Limits.{maxText};
 ghost use Rattle.netlist.specs.Syntax.{Tree};
 ghost use Rattle.netlist.specs.Reading.{isOverLimit};
 ghost use Rattle.netlist.specs.Answers.{testOf, Promise};
 ghost use Rattle.netlist.specs.Operations.{read};
 ghost use Rattle.names.specs.Plain.{plain};
-ghost use Rattle.names.specs.Results.{Prints};
+ghost use Rattle.names.specs.Results.{treeCounts};
 ghost use Rattle.terms.specs.Resolution.{TreeAt};
 ghost use Rattle.reading.specs.Steps.{Limited, ReadReady, Tabled, TablesReady, Resolving, Known, TermsReady, WriteReady};
 
-// 3, of a text with so many never lines.
-pub fn test_limits(rest: &[u8], lines: usize) -> Test
-    requires { ⌜ length (now rest) ≤ maxText ⌝ }
-    ensures { λ r. ⌜ ((t : Tree) → Prints (plain t) (now (rest .entry)) → lines ≡ length (t .nevers) → r ≡ testOf (isOverLimit t) OverLimit) ⌝ }
+// 3, of a text with so many never lines and these counts without them.
+pub fn test_limits(c: Counts, lines: usize) -> Test
+    ensures { λ r. ⌜ ((t : Tree) → c ≡ treeCounts (plain t) → lines ≡ length (t .nevers) → r ≡ testOf (isOverLimit t) OverLimit) ⌝ }
 {
     let tested = refuse_if(MAX_NEVERS < lines, Refusal::OverLimit);
     let Test::Passed = tested else {
         return tested;
     };
-    limits(rest)
+    limits(c)
 }
 
-// The tables of the declared names, and 4.
+// The tables of the declared names, their index, and 4.
 fn tables(
     text: &[u8],
     lines: NeverLines,
@@ -58,13 +54,14 @@ fn tables(
     names: &mut [u64],
     places: &mut [usize],
     nodes: &mut [u16],
+    index: &mut [u16],
 ) -> Test
-    requires { ⌜ TablesReady (now text) lines (now rest) c (now names) (now places) (now nodes) ⌝ }
-    ensures { λ r. ⌜ Tabled (now (text .entry)) lines (now (rest .entry)) c (now (names .exit)) (now (nodes .exit)) r ⌝ }
+    requires { ⌜ TablesReady (now text) lines (now rest) c (now names) (now places) (now nodes) (now index) ⌝ }
+    ensures { λ r. ⌜ Tabled (now (text .entry)) lines (now (rest .entry)) c (now (names .exit)) (now (nodes .exit)) (now (index .exit)) r ⌝ }
 {
     declare(rest, c, names, places, nodes);
     let inside = test_repeats(text, lines);
-    let outside = moved_repeat(duplicate(c, names, places), lines.at, lines.end);
+    let outside = moved_repeat(duplicate(c, names, places, index), lines.at, lines.end);
     earlier_repeat(inside, outside)
 }
 
@@ -76,17 +73,18 @@ fn undeclared(
     c: Counts,
     names: &[u64],
     nodes: &[u16],
+    index: &[u16],
     gates: &mut [u16],
     outputs: &mut [u16],
 ) -> Test
-    requires { ⌜ Resolving (now text) lines (now rest) c (now names) (now nodes) (now gates) (now outputs) ⌝ }
+    requires { ⌜ Resolving (now text) lines (now rest) c (now names) (now nodes) (now index) (now gates) (now outputs) ⌝ }
     ensures { λ r. ⌜ ((t : Tree) → Limited t (now (text .entry)) lines (now (rest .entry)) → TreeAt (plain t) (now (rest .entry)) c (now (names .entry)) (now (nodes .entry)) → Known t (now (gates .entry)) (now (gates .exit)) (now (outputs .entry)) (now (outputs .exit)) r) ⌝ }
 {
     let tested = test_outsiders(text, lines, names, c.inputs);
     let Test::Passed = tested else {
         return tested;
     };
-    let found = resolve(rest, c, names, nodes, gates, outputs);
+    let found = resolve(rest, c, names, nodes, index, gates, outputs);
     moved_unknown(found, lines.at, lines.end)
 }
 
@@ -121,15 +119,16 @@ fn read_terms(
     c: Counts,
     names: &[u64],
     nodes: &[u16],
+    index: &[u16],
     masks: &mut [u16],
     gates: &mut [u16],
     outputs: &mut [u16],
     block: &mut [u16],
 ) -> Answer
-    requires { ⌜ TermsReady (now text) lines (now rest) c (now names) (now nodes) (now masks) (now gates) (now outputs) ⌝ }
+    requires { ⌜ TermsReady (now text) lines (now rest) c (now names) (now nodes) (now index) (now masks) (now gates) (now outputs) ⌝ }
     ensures { λ r. ⌜ Promise (read (now (text .entry)) (length (now (block .entry)))) (now (block .entry)) r (now (block .exit)) ⌝ }
 {
-    let tested = undeclared(text, lines, rest, c, names, nodes, gates, outputs);
+    let tested = undeclared(text, lines, rest, c, names, nodes, index, gates, outputs);
     let Test::Passed = tested else {
         return refusal(tested);
     };
@@ -142,19 +141,20 @@ pub fn read_with(
     text: &[u8],
     lines: NeverLines,
     rest: &[u8],
+    c: Counts,
     names: &mut [u64],
     places: &mut [usize],
     nodes: &mut [u16],
+    index: &mut [u16],
     masks: &mut [u16],
     gates: &mut [u16],
     outputs: &mut [u16],
     block: &mut [u16],
 ) -> Answer
-    requires { ⌜ ReadReady (now text) lines (now rest) (now names) (now places) (now nodes) (now masks) (now gates) (now outputs) ⌝ }
+    requires { ⌜ ReadReady (now text) lines (now rest) c (now names) (now places) (now nodes) (now index) (now masks) (now gates) (now outputs) ⌝ }
     ensures { λ r. ⌜ Promise (read (now (text .entry)) (length (now (block .entry)))) (now (block .entry)) r (now (block .exit)) ⌝ }
 {
-    let c = counts(rest);
-    let tested = tables(text, lines, rest, c, names, places, nodes);
+    let tested = tables(text, lines, rest, c, names, places, nodes, index);
     let Test::Passed = tested else {
         return refusal(tested);
     };
@@ -165,6 +165,7 @@ pub fn read_with(
         c,
         names,
         nodes,
+        index,
         masks,
         gates,
         outputs,

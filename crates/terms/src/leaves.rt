@@ -5,11 +5,12 @@ use layout::kinds::signature_of;
 use layout::nodes::CONSTANT_0;
 use layout::nodes::CONSTANT_1;
 use layout::trim::trimmed_length;
+use names::index::find_indexed;
 use names::pack::name_length;
-use names::pack::pack;
-use names::search::find;
+use names::pack::pack_first;
 ghost use mathlib.Core.Path.{_≡_};
 ghost use lib.ListN.{length};
+ghost use Rattle.names.specs.Index.{Indexed};
 ghost use Rattle.terms.specs.Leaves.{kindBehindX, kindHere, wordLength, nameLength, indexHere, earlier, nameHere, constantHere, leafHere};
 
 // The words of the constants.
@@ -60,13 +61,15 @@ fn earlier(first: usize, later: usize) -> usize
     if first == 0 { later } else { first }
 }
 
-// A name, looked up in the table; one that is not there counts as constant 0.
-pub fn name_here(s: &[u8], names: &[u64], words: &[u16], unknown: usize) -> Leaf
+// A name, looked up in the table through its index; one that is not there counts as constant 0.
+pub fn name_here(s: &[u8], names: &[u64], words: &[u16], index: &[u16], unknown: usize) -> Leaf
     requires { ⌜ length (now words) ≡ length (now names) ⌝ }
+    requires { ⌜ Indexed (now names) (length (now names)) (now index) ⌝ }
     ensures { λ r. ⌜ r ≡ nameHere (now (s .entry)) (now (names .entry)) (now (words .entry)) unknown ⌝ }
 {
-    let left = s.len() - name_length(s);
-    let i = find(names, names.len(), pack(s));
+    let length = name_length(s);
+    let left = s.len() - length;
+    let i = find_indexed(names, index, pack_first(s, length));
     if i < names.len() {
         let word = words[i];
         let unknown = earlier(unknown, 0);
@@ -85,8 +88,9 @@ pub fn name_here(s: &[u8], names: &[u64], words: &[u16], unknown: usize) -> Leaf
 }
 
 // An operand that is no expression.
-pub fn leaf_here(s: &[u8], names: &[u64], words: &[u16], unknown: usize) -> Leaf
+pub fn leaf_here(s: &[u8], names: &[u64], words: &[u16], index: &[u16], unknown: usize) -> Leaf
     requires { ⌜ length (now words) ≡ length (now names) ⌝ }
+    requires { ⌜ Indexed (now names) (length (now names)) (now index) ⌝ }
     ensures { λ r. ⌜ r ≡ leafHere (now (s .entry)) (now (names .entry)) (now (words .entry)) unknown ⌝ }
 {
     let c = byte_at(s, 0);
@@ -105,5 +109,5 @@ pub fn leaf_here(s: &[u8], names: &[u64], words: &[u16], unknown: usize) -> Leaf
             unknown,
         };
     }
-    name_here(s, names, words, unknown)
+    name_here(s, names, words, index, unknown)
 }

@@ -5,6 +5,7 @@ use lines::output_lines;
 use names::Counts;
 use netlist::Refusal;
 use netlist::Test;
+ghost use Rattle.names.specs.Results.{NodesIndexed};
 ghost use Rattle.terms.specs.Resolution.{ResolveReady, Resolved};
 
 mod leaves;
@@ -42,17 +43,19 @@ pub struct Walked {
     pub unknown: usize,
 }
 
-// Fills in the words of gates and outputs of a text with these counts and these tables of its declared names and their nodes. 5: the place
-// of the first used name that is not declared.
+// Fills in the words of gates and outputs of a text with these counts and these tables of its declared names and their nodes, whose
+// names the index holds. 5: the place of the first used name that is not declared.
 pub fn resolve(
     text: &[u8],
     c: Counts,
     names: &[u64],
     words: &[u16],
+    index: &[u16],
     gates: &mut [u16],
     outputs: &mut [u16],
 ) -> Test
     requires { ⌜ ResolveReady (now text) c (now names) (now words) (now gates) (now outputs) ⌝ }
+    requires { ⌜ NodesIndexed c (now names) (now index) ⌝ }
     ensures { λ r. ⌜ Resolved (now (text .entry)) c (now (names .entry)) (now (words .entry)) (now (gates .entry)) (now (gates .exit)) (now (outputs .entry)) (now (outputs .exit)) r ⌝ }
 {
     let length = text.len();
@@ -65,6 +68,7 @@ pub fn resolve(
         n,
         &names[..nodes],
         &words[..nodes],
+        index,
         gates,
     );
     let last = output_lines(
@@ -72,6 +76,7 @@ pub fn resolve(
         c.outputs,
         &names[..nodes],
         &words[..nodes],
+        index,
         walked.unknown,
         outputs,
     );

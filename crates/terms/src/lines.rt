@@ -12,6 +12,7 @@ ghost use Prim.Native.Nat.{ℕ, _+_, _*_, _≤_};
 ghost use lib.ListN.{length};
 ghost use lib.Seq.{sets};
 ghost use Rattle.netlist.specs.Limits.{maxGates, maxOutputs};
+ghost use Rattle.names.specs.Index.{Indexed};
 ghost use Rattle.terms.specs.Lines.{inputForm, gateForm, outputForm, LineHere, LineRead, LinesHere, LinesRead};
 ghost use Rattle.terms.specs.Ports.{portWords};
 
@@ -29,15 +30,27 @@ fn gate_line(
     n: usize,
     names: &[u64],
     words: &[u16],
+    index: &[u16],
     first: usize,
     unknown: usize,
     gates: &mut [u16],
 ) -> Walked
     requires { ⌜ LineHere gateForm maxGates (now s) n (now names) (now words) first (now gates) ⌝ }
+    requires { ⌜ Indexed (now names) (length (now names)) (now index) ⌝ }
     ensures { λ r. ⌜ LineRead gateForm (now (s .entry)) n (now (names .entry)) (now (words .entry)) first unknown (now (gates .entry)) (now (gates .exit)) r ⌝ }
 {
     let at = 7 + name_length(&s[6..]);
-    let one = operand(&s[at..], MAX_DEPTH, n, names, words, first, unknown, gates);
+    let one = operand(
+        &s[at..],
+        MAX_DEPTH,
+        n,
+        names,
+        words,
+        index,
+        first,
+        unknown,
+        gates,
+    );
     Walked {
         left: one.left - 2,
         number: one.gates,
@@ -63,15 +76,17 @@ fn output_line(
     s: &[u8],
     names: &[u64],
     words: &[u16],
+    index: &[u16],
     first: usize,
     unknown: usize,
     outputs: &mut [u16],
 ) -> Walked
     requires { ⌜ ((n : ℕ) × LineHere outputForm maxOutputs (now s) n (now names) (now words) first (now outputs)) ⌝ }
+    requires { ⌜ Indexed (now names) (length (now names)) (now index) ⌝ }
     ensures { λ r. ⌜ ((n : ℕ) → LineRead outputForm (now (s .entry)) n (now (names .entry)) (now (words .entry)) first unknown (now (outputs .entry)) (now (outputs .exit)) r) ⌝ }
 {
     let at = 6 + name_length(&s[5..]);
-    let shown = name_here(&s[at..], names, words, unknown);
+    let shown = name_here(&s[at..], names, words, index, unknown);
     put_output(outputs, first, pack(&s[5..]), shown.word);
     Walked {
         left: shown.left - 2,
@@ -101,9 +116,11 @@ pub fn gate_lines(
     n: usize,
     names: &[u64],
     words: &[u16],
+    index: &[u16],
     gates: &mut [u16],
 ) -> Walked
     requires { ⌜ LinesHere gateForm maxGates lines (now text) n (now names) (now words) (now gates) ⌝ }
+    requires { ⌜ Indexed (now names) (length (now names)) (now index) ⌝ }
     ensures { λ r. ⌜ LinesRead gateForm lines (now (text .entry)) n (now (names .entry)) (now (words .entry)) 0 (now (gates .entry)) (now (gates .exit)) r ⌝ }
 {
     let mut left = text.len();
@@ -116,6 +133,7 @@ pub fn gate_lines(
             n,
             names,
             words,
+            index,
             first,
             unknown,
             gates,
@@ -138,10 +156,12 @@ pub fn output_lines(
     lines: usize,
     names: &[u64],
     words: &[u16],
+    index: &[u16],
     seen: usize,
     outputs: &mut [u16],
 ) -> Walked
     requires { ⌜ ((n : ℕ) × LinesHere outputForm maxOutputs lines (now text) n (now names) (now words) (now outputs)) ⌝ }
+    requires { ⌜ Indexed (now names) (length (now names)) (now index) ⌝ }
     ensures { λ r. ⌜ ((n : ℕ) → LinesRead outputForm lines (now (text .entry)) n (now (names .entry)) (now (words .entry)) seen (now (outputs .entry)) (now (outputs .exit)) r) ⌝ }
 {
     let mut left = text.len();
@@ -153,6 +173,7 @@ pub fn output_lines(
             &text[text.len() - left..],
             names,
             words,
+            index,
             first,
             unknown,
             outputs,

@@ -12,6 +12,7 @@ ghost use mathlib.Core.List.{_∷_};
 ghost use Prim.Native.Nat.{_+_, _*_, _≤_};
 ghost use lib.ListN.{length};
 ghost use lib.Seq.{sets};
+ghost use Rattle.names.specs.Index.{Indexed};
 ghost use Rattle.terms.specs.Walk.{TermHere, TermRead, TermsHere, TermsRead};
 
 // Writes a gate's five words.
@@ -36,15 +37,17 @@ pub fn operand(
     n: usize,
     names: &[u64],
     words: &[u16],
+    index: &[u16],
     first: usize,
     unknown: usize,
     gates: &mut [u16],
 ) -> Found
     requires { ⌜ TermHere (now s) depth n (now names) (now words) first (now gates) ⌝ }
+    requires { ⌜ Indexed (now names) (length (now names)) (now index) ⌝ }
     ensures { λ r. ⌜ TermRead (now (s .entry)) depth n (now (names .entry)) (now (words .entry)) first unknown (now (gates .entry)) (now (gates .exit)) r ⌝ }
 {
     if byte_at(s, 0) != b'(' {
-        let leaf = leaf_here(s, names, words, unknown);
+        let leaf = leaf_here(s, names, words, index, unknown);
         return Found {
             left: leaf.left,
             word: leaf.word,
@@ -61,6 +64,7 @@ pub fn operand(
         n,
         names,
         words,
+        index,
         first,
         unknown,
         0,
@@ -83,6 +87,7 @@ fn operands(
     n: usize,
     names: &[u64],
     words: &[u16],
+    index: &[u16],
     first: usize,
     unknown: usize,
     i: usize,
@@ -90,6 +95,7 @@ fn operands(
     slots: &mut [u16],
 ) -> Listed
     requires { ⌜ TermsHere (now s) depth n (now names) (now words) first i (now gates) (now slots) ⌝ }
+    requires { ⌜ Indexed (now names) (length (now names)) (now index) ⌝ }
     ensures { λ r. ⌜ TermsRead (now (s .entry)) depth n (now (names .entry)) (now (words .entry)) first unknown i (now (gates .entry)) (now (gates .exit)) (now (slots .entry)) (now (slots .exit)) r ⌝ }
 {
     let length = s.len();
@@ -101,7 +107,17 @@ fn operands(
             unknown,
         };
     }
-    let one = operand(&s[1..], depth, n, names, words, first, unknown, gates);
+    let one = operand(
+        &s[1..],
+        depth,
+        n,
+        names,
+        words,
+        index,
+        first,
+        unknown,
+        gates,
+    );
     slots[i] = one.word;
     let at = length - one.left;
     operands(
@@ -110,6 +126,7 @@ fn operands(
         n,
         names,
         words,
+        index,
         one.gates,
         one.unknown,
         i + 1,

@@ -1,8 +1,13 @@
 -- `reading::read_split` meets its contract: 3, and then the steps with room for every table. Assumes nothing.
 use native.Mathlib.Omega.{arith}
 use lib.ListN.{length}
+use Prim.Native.Nat.{_+_}
+use Rattle.netlist.specs.Limits.{maxInputs, maxGates}
 use Rattle.netlist.specs.declared.Refusal.the-variants.{OverLimit}
 use Rattle.netlist.specs.Answers.{inRoom}
+use Rattle.rounds.proofs.ListFacts.{getD-replicate-default}
+use Rattle.names.specs.Index.{hashes}
+use Rattle.names.specs.Plain.{plain}
 use Rattle.refusals.proofs.Promised.{passed-false, failed, keeps-room}
 use Rattle.reading.proofs.Splits.{count-is, rest-prints, rest-short}
 use Rattle.reading.proofs.Outcomes.{read-tree}
@@ -10,11 +15,17 @@ use borrow.Author.Needs.{needs}
 use Rattle.reading.proofs.read_split.Statement.{statement}
 use Rattle.reading.proofs.read_split.Tie as tie
 
+abbrev counted-at : tie.After-test-limits → tie.After-counts
+counted-at c = c .before
+
 abbrev entry : tie.After-test-limits → tie.Start
-entry c = c .before .before .before .before
+entry c = counted-at c .before .before .before .before
+
+counts-requires : tie.Need-counts-requires
+counts-requires c κs = rest-short (c .before .before .before .pre .split)
 
 test-limits-requires : tie.Need-test-limits-requires
-test-limits-requires c κs = rest-short (c .before .before .before .pre .split)
+test-limits-requires c κs = search needs
 
 enum-told : tie.Need-enum-told
 enum-told c = search needs
@@ -32,7 +43,7 @@ returns c =
     let p = entry t .pre in
     let s = p .split in
     failed (inRoom _) (keeps-room _) _ _ OverLimit (read-tree (p .tree) (a .text .now) (length (a .block .now)) (s .is) (s .short))
-    (t .test-limits .ensures (p .tree) (rest-prints s) (count-is (s .is) (s .stand))) (a .block .now) (c .before .before .match .keys2) (c .refusal .ensures)
+    (t .test-limits .ensures (p .tree) (counted-at t .counts .ensures (plain (p .tree)) (rest-prints s)) (count-is (s .is) (s .stand))) (a .block .now) (c .before .before .match .keys2) (c .refusal .ensures)
 
 slice-aggregate-read-with : tie.Need-slice-aggregate-read-with
 slice-aggregate-read-with c = search needs
@@ -52,23 +63,30 @@ slice-aggregate-read-with-5 c = search needs
 slice-aggregate-read-with-6 : tie.Need-slice-aggregate-read-with-6
 slice-aggregate-read-with-6 c = search needs
 
+slice-aggregate-read-with-7 : tie.Need-slice-aggregate-read-with-7
+slice-aggregate-read-with-7 c = search needs
+
 read-with-requires : tie.Need-read-with-requires
 read-with-requires c κs =
-    let e = c .before .before .before .before .before .before .before in
+    let e = c .before .before .before .before .before .before .before .before in
     let t = e .before .before in
     let p = entry t .pre in
     let s = p .split in
+    let counted = counted-at t .counts .ensures (plain (p .tree)) (rest-prints s) in
     record {
       tree = p .tree;
       limited =
           record {
             split = s;
             within =
-                passed-false _ OverLimit (t .test-limits .ensures (p .tree) (rest-prints s) (count-is (s .is) (s .stand))) (e .enum-told .given .1);
+                passed-false _ OverLimit (t .test-limits .ensures (p .tree) counted (count-is (s .is) (s .stand))) (e .enum-told .given .1);
           };
+      counted = counted;
       nameRoom = omega arith;
       placeRoom = omega arith;
       nodeRoom = omega arith;
+      indexRoom = omega arith;
+      indexEmpty = λ j. getD-replicate-default (hashes + maxInputs + maxGates + 1) j 0;
       maskRoom = omega arith;
       gateRoom = omega arith;
       outputRoom = omega arith;
@@ -84,6 +102,7 @@ pub read-split-spec : {M : Type 1} → statement M
 read-split-spec =
     tie.close
     (tie.spec
+    counts-requires
     test-limits-requires
     enum-told
     enum-told-2
@@ -95,6 +114,7 @@ read-split-spec =
     slice-aggregate-read-with-4
     slice-aggregate-read-with-5
     slice-aggregate-read-with-6
+    slice-aggregate-read-with-7
     read-with-requires
     same-length
     returns-2)

@@ -17,26 +17,26 @@ use Rattle.terms.proofs.resolve.Tie as tie
 
 -- where the gate lines and the output lines begin
 gates-left : (c : tie.After-input-lines) →
-    let start = c .before .before .before .before .before .before .before in
+    let start = c .before .before .before .before .before .before .before .before in
     c .input-lines .result ≡ length
-    (gatesText (start .pre .tree) (start .args .text .now) (start .args .c) (start .args .names .now) (start .args .words .now) (start .pre .here))
+    (gatesText (start .pre .0 .tree) (start .args .text .now) (start .args .c) (start .args .names .now) (start .args .words .now) (start .pre .0 .here))
 gates-left c =
     let stage = c .before .before .before .before .before .before .before in
-    let start = stage in
-    inputs-left (start .pre .tree) (start .args .text .now) (start .args .c) (start .args .names .now) (start .args .words .now) (start .pre .here)
+    let start = stage .before in
+    inputs-left (start .pre .0 .tree) (start .args .text .now) (start .args .c) (start .args .names .now) (start .args .words .now) (start .pre .0 .here)
     (c .input-lines .result) (c .input-lines .ensures)
 
 outputs-left : (c : tie.After-gate-lines) →
     let earlier = c .before .before .before .before .before .before .before in
-    let start = earlier .before .before .before .before .before in
+    let start = earlier .before .before .before .before .before .before in
     c .gate-lines .result .left ≡ length
-    (outputsText (start .pre .tree) (start .args .text .now) (start .args .c) (start .args .names .now) (start .args .words .now) (start .pre .here))
+    (outputsText (start .pre .0 .tree) (start .args .text .now) (start .args .c) (start .args .names .now) (start .args .words .now) (start .pre .0 .here))
 outputs-left c =
     let stage = c .before .before .before .before .before in
     let at-input-lines = stage in
-    let start = at-input-lines .before .before .before .before .before .before .before in
-    gates-done (start .pre .tree) (start .args .text .now) (start .args .c) (start .args .names .now) (start .args .words .now) (start .pre .here)
-    (at-input-lines .input-lines .result) (start .args .gates .now) (c .gate-lines .last .1 .1 .1 .1 .1 .0) (c .gate-lines .result)
+    let start = at-input-lines .before .before .before .before .before .before .before .before in
+    gates-done (start .pre .0 .tree) (start .args .text .now) (start .args .c) (start .args .names .now) (start .args .words .now) (start .pre .0 .here)
+    (at-input-lines .input-lines .result) (start .args .gates .now) (c .gate-lines .last .1 .1 .1 .1 .1 .1 .0) (c .gate-lines .result)
     (gates-left (at-input-lines)) (c .gate-lines .ensures) .left
 
 -- what the two walks have done, of whatever tree
@@ -44,63 +44,63 @@ gates-walked : (c : tie.After-output-lines) →
     let earlier = c .before .before .before .before .before .before .before in
     let at-gate-lines = earlier .before in
     let earlier-2 = at-gate-lines .before .before .before .before .before .before .before in
-    let start = earlier-2 .before .before .before .before .before in
+    let start = earlier-2 .before .before .before .before .before .before in
     (t : Tree) (w : TreeAt t (start .args .text .now) (start .args .c) (start .args .names .now) (start .args .words .now))
     → LinesDone gateForm (start .args .c .inputs) (bindings t) (t .gates) (gateLinesAt t)
     (gatesText t (start .args .text .now) (start .args .c) (start .args .names .now) (start .args .words .now) w)
     (outputsText t (start .args .text .now) (start .args .c) (start .args .names .now) (start .args .words .now) w) 0 0 (start .args .gates .now)
-    (at-gate-lines .gate-lines .last .1 .1 .1 .1 .1 .0) (at-gate-lines .gate-lines .result)
+    (at-gate-lines .gate-lines .last .1 .1 .1 .1 .1 .1 .0) (at-gate-lines .gate-lines .result)
 gates-walked c t w =
     let earlier = c .before .before .before .before .before .before .before in
     let at-gate-lines = earlier .before in
     let at-input-lines = at-gate-lines .before .before .before .before .before in
-    let start = at-input-lines .before .before .before .before .before .before .before in
+    let start = at-input-lines .before .before .before .before .before .before .before .before in
     let a = start .args in
     let i = at-input-lines .input-lines in
     let g = at-gate-lines .gate-lines in
-    gates-done t (a .text .now) (a .c) (a .names .now) (a .words .now) w (i .result) (a .gates .now) (g .last .1 .1 .1 .1 .1 .0) (g .result)
+    gates-done t (a .text .now) (a .c) (a .names .now) (a .words .now) w (i .result) (a .gates .now) (g .last .1 .1 .1 .1 .1 .1 .0) (g .result)
     (inputs-left t (a .text .now) (a .c) (a .names .now) (a .words .now) w (i .result) (i .ensures)) (g .ensures)
 
 outputs-walked : (c : tie.After-output-lines) →
     let earlier = c .before .before .before .before .before .before .before in
     let at-gate-lines = earlier .before in
     let earlier-2 = at-gate-lines .before .before .before .before .before .before .before in
-    let start = earlier-2 .before .before .before .before .before in
+    let start = earlier-2 .before .before .before .before .before .before in
     (t : Tree) (w : TreeAt t (start .args .text .now) (start .args .c) (start .args .names .now) (start .args .words .now))
     → LinesDone outputForm (start .args .c .inputs) (bindings t) (t .outputs) (outputLinesAt t)
     (outputsText t (start .args .text .now) (start .args .c) (start .args .names .now) (start .args .words .now) w) []
-    0 (at-gate-lines .gate-lines .result .unknown) (start .args .outputs .now) (c .output-lines .last .1 .1 .1 .1 .1 .0) (c .output-lines .result)
+    0 (at-gate-lines .gate-lines .result .unknown) (start .args .outputs .now) (c .output-lines .last .1 .1 .1 .1 .1 .1 .0) (c .output-lines .result)
 outputs-walked c t w =
     let earlier = c .before .before .before .before .before .before .before in
     let at-gate-lines = earlier .before in
     let earlier-2 = at-gate-lines .before .before .before .before .before .before .before in
-    let start = earlier-2 .before .before .before .before .before in
+    let start = earlier-2 .before .before .before .before .before .before in
     let a = start .args in
     let g = at-gate-lines .gate-lines in
     let o = c .output-lines in
     outputs-done t (a .text .now) (a .c) (a .names .now) (a .words .now) w (g .result .left) (g .result .unknown) (a .outputs .now)
-    (o .last .1 .1 .1 .1 .1 .0) (o .result)
+    (o .last .1 .1 .1 .1 .1 .1 .0) (o .result)
     (gates-walked c t w .left) (o .ensures (a .c .inputs))
 
 add-nodes : tie.Need-add-nodes
 add-nodes c =
-    let start = c .before .before .before .before .before .before in
-    omega (arith, nodes-few (start .pre .tree) (start .args .text .now) (start .args .c) (start .args .names .now) (start .args .words .now) (start .pre .here))
+    let start = c .before .before .before .before .before .before .before in
+    omega (arith, nodes-few (start .pre .0 .tree) (start .args .text .now) (start .args .c) (start .args .names .now) (start .args .words .now) (start .pre .0 .here))
 
 input-lines-requires : tie.Need-input-lines-requires
 input-lines-requires c κs =
-    let start = c .before .before .before .before .before .before in
-    inputs-here (start .pre .tree) (start .args .text .now) (start .args .c) (start .args .names .now) (start .args .words .now) (start .pre .here)
+    let start = c .before .before .before .before .before .before .before in
+    inputs-here (start .pre .0 .tree) (start .args .text .now) (start .args .c) (start .args .names .now) (start .args .words .now) (start .pre .0 .here)
 
 sub-gate-lines : tie.Need-sub-gate-lines
 sub-gate-lines c =
     let stage = c .before .before .before .before .before .before .before in
-    let start = stage in
+    let start = stage .before in
     omega (
       arith,
       gates-left c,
-      gates-end (start .pre .tree) (start .args .text .now) (start .args .c) (start .args .names .now) (start .args .words .now)
-          (start .pre .here) .within,
+      gates-end (start .pre .0 .tree) (start .args .text .now) (start .args .c) (start .args .names .now) (start .args .words .now)
+          (start .pre .0 .here) .within,
     )
 
 sub-gate-lines-2 : tie.Need-sub-gate-lines-2
@@ -115,33 +115,35 @@ part-gate-lines-end c = search needs
 slice-aggregate-gate-lines : tie.Need-slice-aggregate-gate-lines
 slice-aggregate-gate-lines c =
     let earlier = c .before .before .before .before .before .before .before in
-    let start = earlier .before .before in
-    numbers-length (start .pre .tree) (start .args .text .now) (start .args .c) (start .args .names .now) (start .args .words .now) (start .pre .here)
+    let start = earlier .before .before .before in
+    numbers-length (start .pre .0 .tree) (start .args .text .now) (start .args .c) (start .args .names .now) (start .args .words .now) (start .pre .0 .here)
 
 slice-aggregate-gate-lines-2 : tie.Need-slice-aggregate-gate-lines-2
 slice-aggregate-gate-lines-2 c =
     let earlier = c .before .before .before .before .before .before .before in
-    let start = earlier .before .before .before in
-    values-length (start .pre .tree) (start .args .text .now) (start .args .c) (start .args .names .now) (start .args .words .now) (start .pre .here)
+    let start = earlier .before .before .before .before in
+    values-length (start .pre .0 .tree) (start .args .text .now) (start .args .c) (start .args .names .now) (start .args .words .now) (start .pre .0 .here)
 
 gate-lines-requires : tie.Need-gate-lines-requires
 gate-lines-requires c κs =
     let stage = c .before .before .before .before in
     let at-input-lines = stage in
-    let start = at-input-lines .before .before .before .before .before .before .before in
-    gates-here (start .pre .tree) (start .args .text .now) (start .args .c) (start .args .names .now) (start .args .words .now) (start .pre .here)
-    (at-input-lines .input-lines .result) (start .args .gates .now) (gates-left (at-input-lines)) (start .pre .gateRoom)
+    let start = at-input-lines .before .before .before .before .before .before .before .before in (
+      gates-here (start .pre .0 .tree) (start .args .text .now) (start .args .c) (start .args .names .now) (start .args .words .now) (start .pre .0 .here)
+          (at-input-lines .input-lines .result) (start .args .gates .now) (gates-left (at-input-lines)) (start .pre .0 .gateRoom),
+      start .pre .1,
+    )
 
 sub-output-lines : tie.Need-sub-output-lines
 sub-output-lines c =
     let stage = c .before .before .before in
     let earlier-10 = stage .before .before .before .before .before .before .before in
-    let start = earlier-10 .before .before .before .before .before in
+    let start = earlier-10 .before .before .before .before .before .before in
     omega (
       arith,
       outputs-left (stage),
-      outputs-end (start .pre .tree) (start .args .text .now) (start .args .c) (start .args .names .now)
-          (start .args .words .now) (start .pre .here) .within,
+      outputs-end (start .pre .0 .tree) (start .args .text .now) (start .args .c) (start .args .names .now)
+          (start .args .words .now) (start .pre .0 .here) .within,
     )
 
 sub-output-lines-2 : tie.Need-sub-output-lines-2
@@ -157,25 +159,28 @@ slice-aggregate-output-lines : tie.Need-slice-aggregate-output-lines
 slice-aggregate-output-lines c =
     let earlier = c .before .before .before .before .before .before .before in
     let earlier-2 = earlier .before .before .before .before .before .before .before in
-    let start = earlier-2 .before .before .before in
-    numbers-length (start .pre .tree) (start .args .text .now) (start .args .c) (start .args .names .now) (start .args .words .now) (start .pre .here)
+    let start = earlier-2 .before .before .before .before in
+    numbers-length (start .pre .0 .tree) (start .args .text .now) (start .args .c) (start .args .names .now) (start .args .words .now) (start .pre .0 .here)
 
 slice-aggregate-output-lines-2 : tie.Need-slice-aggregate-output-lines-2
 slice-aggregate-output-lines-2 c =
     let earlier = c .before .before .before .before .before .before .before in
     let earlier-2 = earlier .before .before .before .before .before .before .before in
-    let start = earlier-2 .before .before .before .before in
-    values-length (start .pre .tree) (start .args .text .now) (start .args .c) (start .args .names .now) (start .args .words .now) (start .pre .here)
+    let start = earlier-2 .before .before .before .before .before in
+    values-length (start .pre .0 .tree) (start .args .text .now) (start .args .c) (start .args .names .now) (start .args .words .now) (start .pre .0 .here)
 
 output-lines-requires : tie.Need-output-lines-requires
 output-lines-requires c κs =
     let stage = c .before .before .before .before .before .before .before in
     let at-gate-lines = stage in
     let earlier-2 = at-gate-lines .before .before .before .before .before .before .before in
-    let start = earlier-2 .before .before .before .before .before in (
-      start .args .c .inputs,
-      outputs-here (start .pre .tree) (start .args .text .now) (start .args .c) (start .args .names .now) (start .args .words .now)
-          (start .pre .here) (at-gate-lines .gate-lines .result .left) (start .args .outputs .now) (outputs-left (at-gate-lines)) (start .pre .outputRoom),
+    let start = earlier-2 .before .before .before .before .before .before in (
+      (
+        start .args .c .inputs,
+        outputs-here (start .pre .0 .tree) (start .args .text .now) (start .args .c) (start .args .names .now) (start .args .words .now)
+            (start .pre .0 .here) (at-gate-lines .gate-lines .result .left) (start .args .outputs .now) (outputs-left (at-gate-lines)) (start .pre .0 .outputRoom),
+      ),
+      start .pre .1,
     )
 
 same-length : tie.Need-same-length
@@ -190,36 +195,36 @@ returns c =
     let stage = stage-2 in
     let o = stage in
     let s = o .before .before .before .before .before .before .before .before .before .before .before .before .before .before .before .before .before
-    .before .before .before in
+    .before .before .before .before in
     let a = s .args in
     record {
       done = λ t w. known-done t (a .text .now) (a .c) (a .names .now) (a .words .now) w (a .gates .now)
-          (o .before .before .before .before .before .before .before .before .gate-lines .last .1 .1 .1 .1 .1 .0) (a .outputs .now)
-          (o .output-lines .last .1 .1 .1 .1 .1 .0) (o .before .before .before .before .before .before .before .before .gate-lines .result)
-          (o .output-lines .result) (gates-walked o t w) (outputs-walked o t w) (c .if1 .taken) (s .pre .gateRoom) (s .pre .outputRoom);
+          (o .before .before .before .before .before .before .before .before .gate-lines .last .1 .1 .1 .1 .1 .1 .0) (a .outputs .now)
+          (o .output-lines .last .1 .1 .1 .1 .1 .1 .0) (o .before .before .before .before .before .before .before .before .gate-lines .result)
+          (o .output-lines .result) (gates-walked o t w) (outputs-walked o t w) (c .if1 .taken) (s .pre .0 .gateRoom) (s .pre .0 .outputRoom);
     }
 
-add-t13 : tie.Need-add-t13
-add-t13 c =
+add-t14 : tie.Need-add-t14
+add-t14 c =
     let earlier = c .before .before .before .before .before .before .before in
     let earlier-2 = earlier .before .before .before .before .before .before .before in
     let earlier-3 = earlier-2 .before .before .before .before .before .before .before in
-    let start = earlier-3 .before .before .before in
+    let start = earlier-3 .before .before .before .before in
     omega (arith, start .good)
 
-sub-t15 : tie.Need-sub-t15
-sub-t15 c =
+sub-t16 : tie.Need-sub-t16
+sub-t16 c =
     let stage-2 = c .before .before .before .before .before in
     let stage = stage-2 in
     let o = stage in
     let s = o .before .before .before .before .before .before .before .before .before .before .before .before .before .before .before .before .before
-    .before .before .before in
+    .before .before .before .before in
     let a = s .args in
-    let t = s .pre .tree in let w = s .pre .here in omega (
+    let t = s .pre .0 .tree in let w = s .pre .0 .here in omega (
       arith,
       unknown-short t (a .text .now) (a .c) (a .names .now) (a .words .now) w (a .gates .now)
-          (o .before .before .before .before .before .before .before .before .gate-lines .last .1 .1 .1 .1 .1 .0) (a .outputs .now)
-          (o .output-lines .last .1 .1 .1 .1 .1 .0) (o .before .before .before .before .before .before .before .before .gate-lines .result)
+          (o .before .before .before .before .before .before .before .before .gate-lines .last .1 .1 .1 .1 .1 .1 .0) (a .outputs .now)
+          (o .output-lines .last .1 .1 .1 .1 .1 .1 .0) (o .before .before .before .before .before .before .before .before .gate-lines .result)
           (o .output-lines .result) (gates-walked o t w) (outputs-walked o t w),
     )
 
@@ -235,13 +240,13 @@ returns-2 c =
     let stage = stage-2 in
     let o = stage in
     let s = o .before .before .before .before .before .before .before .before .before .before .before .before .before .before .before .before .before
-    .before .before .before in
+    .before .before .before .before in
     let a = s .args in
     record {
       done = λ t w. undeclared-done t (a .text .now) (a .c) (a .names .now) (a .words .now) w (a .gates .now)
-          (o .before .before .before .before .before .before .before .before .gate-lines .last .1 .1 .1 .1 .1 .0) (a .outputs .now)
-          (o .output-lines .last .1 .1 .1 .1 .1 .0) (o .before .before .before .before .before .before .before .before .gate-lines .result)
-          (o .output-lines .result) (gates-walked o t w) (outputs-walked o t w) (c .before .if1 .left) (s .pre .gateRoom) (s .pre .outputRoom);
+          (o .before .before .before .before .before .before .before .before .gate-lines .last .1 .1 .1 .1 .1 .1 .0) (a .outputs .now)
+          (o .output-lines .last .1 .1 .1 .1 .1 .1 .0) (o .before .before .before .before .before .before .before .before .gate-lines .result)
+          (o .output-lines .result) (gates-walked o t w) (outputs-walked o t w) (c .before .if1 .left) (s .pre .0 .gateRoom) (s .pre .0 .outputRoom);
     }
 
 pub resolve-spec : {M : Type 1} → statement M
@@ -267,8 +272,8 @@ resolve-spec =
     same-length
     same-length-2
     returns
-    add-t13
-    sub-t15
+    add-t14
+    sub-t16
     same-length-3
     same-length-4
     returns-2)

@@ -25,6 +25,12 @@ shared-slice-read-one-if c = omega arith
 one-if-requires : tie.Need-one-if-requires Inv-loop μ-loop
 one-if-requires c κs = search needs
 
+cast-n : tie.Need-cast-n Inv-loop μ-loop
+cast-n c =
+    let s = c .before .before .before .before .before in
+    let l = c .before .before .before .loop in
+    omega (arith, c .one-if .ensures, one-le (eqb (getD (s .args .s .now) (l .i) 0) (s .args .b)))
+
 add-n : tie.Need-add-n Inv-loop μ-loop
 add-n c =
     let s = c .before .before .before .before .before in
@@ -46,6 +52,9 @@ loop-again c =
       times-more (s .args .s .now) (l .i) (omega arith) (s .args .b) (l .n) (c .one-if .result) (l .inv .2) (c .one-if .ensures),
     )
 
+cast-result : tie.Need-cast-result Inv-loop μ-loop
+cast-result c = let l = c .before .loop in omega (arith, l .inv .1)
+
 returns : tie.Need-returns Inv-loop μ-loop
 returns c =
     let l = c .before .loop in times-end (c .before .before .before .args .s .now) (l .i) (l .n) (omega arith) (c .before .before .before .args .b) (l .inv .2)
@@ -59,8 +68,10 @@ count-spec =
     loop-holds
     shared-slice-read-one-if
     one-if-requires
+    cast-n
     add-n
     add-i
     loop-less
     loop-again
+    cast-result
     returns)

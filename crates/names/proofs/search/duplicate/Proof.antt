@@ -1,23 +1,30 @@
 -- `names::search::duplicate` meets its contract. Assumes nothing.
-use Prim.Native.Nat.{_+_}
-use mathlib.Core.Path.{sym}
+use Prim.Native.Nat.{ℕ, _+_}
+use mathlib.Core.Path.{_≡_, sym}
 use native.Mathlib.Omega.{arith}
 use lib.Seq.{length-take-le}
 use borrow.Author.Needs.{needs}
+use Rattle.netlist.specs.declared.Refusal.{Refusal}
+use Rattle.netlist.specs.declared.Test.the-variants.{Failed, Passed}
+use Rattle.names.proofs.Indexing.{nodes-none}
 use Rattle.names.proofs.TreeSearch.{node-repeats, port-repeats, none-repeats}
 use Rattle.names.proofs.search.duplicate.Statement.{statement}
 use Rattle.names.proofs.search.duplicate.Tie as tie
 
+failed-passed : {A : Type 0} {why : Refusal} → Failed why ≡ Passed → A
+failed-passed e = let z : _≡_ {A = ℕ} 0 1 = cc in absurd (omega arith)
+
 add-nodes : tie.Need-add-nodes
 add-nodes c = search needs
 
-slice-aggregate-first-repeat : tie.Need-slice-aggregate-first-repeat
-slice-aggregate-first-repeat c =
-    let stage = c .before .before .before .before in
-    let s = stage in sym (length-take-le (s .args .c .inputs + s .args .c .named) (s .args .names .now) (omega arith))
+slice-aggregate-enter-all : tie.Need-slice-aggregate-enter-all
+slice-aggregate-enter-all c =
+    let s = c .before .before .before .before .before in
+    sym (length-take-le (s .args .c .inputs + s .args .c .named) (s .args .names .now) (let r = s .pre .numberRoom in omega arith))
 
-first-repeat-requires : tie.Need-first-repeat-requires
-first-repeat-requires c κs = search needs
+enter-all-requires : tie.Need-enter-all-requires
+enter-all-requires c κs =
+    let s = c .before .before .before .before .before .before in nodes-none (s .args .c) (s .args .names .now) (s .args .places .now) (s .args .index .now) (s .pre)
 
 mul-place : tie.Need-mul-place
 mul-place c = search needs
@@ -25,13 +32,19 @@ mul-place c = search needs
 shared-slice-read-place : tie.Need-shared-slice-read-place
 shared-slice-read-place c = search needs
 
+same-length : tie.Need-same-length
+same-length c = search needs
+
 returns : tie.Need-returns
 returns c =
-    let stage = c .before .before .before .before .before .before .before in
-    λ t legal bare counted table.
-    let s = stage in
-    node-repeats t legal bare (s .args .c) counted (s .args .names .now) (s .args .places .now) table (s .pre .0) (s .pre .1)
-    (c .before .before .first-repeat .result) (c .before .before .first-repeat .ensures) (c .before .if1 .taken)
+    let at-enter = c .before .before .before .before in
+    let s = at-enter .before .before .before .before .before .before .before in
+    record {
+      answer =
+          λ t legal bare counted table. node-repeats t legal bare (s .args .c) counted (s .args .names .now) (s .args .places .now) table
+          (s .pre .numberRoom) (s .pre .placeRoom) (at-enter .enter-all .result) (at-enter .enter-all .ensures .answer) (c .before .if1 .taken);
+      indexed = λ e. failed-passed e;
+    }
 
 add-first-repeat : tie.Need-add-first-repeat
 add-first-repeat c = search needs
@@ -48,8 +61,8 @@ part-first-repeat-start c = search needs
 part-first-repeat-end : tie.Need-part-first-repeat-end
 part-first-repeat-end c = search needs
 
-first-repeat-requires-2 : tie.Need-first-repeat-requires-2
-first-repeat-requires-2 c κs = search needs
+first-repeat-requires : tie.Need-first-repeat-requires
+first-repeat-requires c κs = search needs
 
 add-place : tie.Need-add-place
 add-place c = search needs
@@ -60,46 +73,63 @@ mul-place-2 c = search needs
 shared-slice-read-place-2 : tie.Need-shared-slice-read-place-2
 shared-slice-read-place-2 c = search needs
 
+same-length-2 : tie.Need-same-length-2
+same-length-2 c = search needs
+
 returns-2 : tie.Need-returns-2
 returns-2 c =
-    let at-if1 = c .before .before .before .before in
-    let at-first-repeat = at-if1 .before in
-    let stage = at-first-repeat .before .before .before .before .before in
-    λ t legal bare counted table.
-    let s = stage in
-    port-repeats t legal bare (s .args .c) counted (s .args .names .now) (s .args .places .now) table (s .pre .0) (s .pre .1)
-    (at-first-repeat .first-repeat .result) (at-first-repeat .first-repeat .ensures) (at-if1 .if1 .left) (c .before .before .first-repeat2 .result)
-    (c .before .before .first-repeat2 .ensures) (c .before .if2 .taken)
+    let at-port = c .before .before in
+    let at-if1 = at-port .before .before in
+    let at-enter = at-if1 .before .before .before in
+    let s = at-enter .before .before .before .before .before .before .before in
+    record {
+      answer =
+          λ t legal bare counted table. port-repeats t legal bare (s .args .c) counted (s .args .names .now) (s .args .places .now) table
+          (s .pre .numberRoom) (s .pre .placeRoom) (at-enter .enter-all .result) (at-enter .enter-all .ensures .answer) (at-if1 .if1 .left)
+          (at-port .first-repeat .result) (at-port .first-repeat .ensures) (c .before .if2 .taken);
+      indexed = λ e. failed-passed e;
+    }
+
+same-length-3 : tie.Need-same-length-3
+same-length-3 c = search needs
 
 returns-3 : tie.Need-returns-3
 returns-3 c =
-    let at-if1 = c .before .before .before in
-    let at-first-repeat = at-if1 .before in
-    let stage = at-first-repeat .before .before .before .before .before in
-    λ t legal bare counted table.
-    let s = stage in
-    none-repeats t legal bare (s .args .c) counted (s .args .names .now) (s .args .places .now) table (s .pre .0) (s .pre .1)
-    (at-first-repeat .first-repeat .result) (at-first-repeat .first-repeat .ensures) (at-if1 .if1 .left) (c .before .first-repeat2 .result)
-    (c .before .first-repeat2 .ensures) (c .if2 .left)
+    let at-port = c .before in
+    let at-if1 = at-port .before .before in
+    let at-enter = at-if1 .before .before .before in
+    let s = at-enter .before .before .before .before .before .before .before in
+    record {
+      answer =
+          λ t legal bare counted table. none-repeats t legal bare (s .args .c) counted (s .args .names .now) (s .args .places .now) table
+          (s .pre .numberRoom) (s .pre .placeRoom) (at-enter .enter-all .result) (at-enter .enter-all .ensures .answer) (at-if1 .if1 .left)
+          (at-port .first-repeat .result) (at-port .first-repeat .ensures) (c .if2 .left);
+      indexed =
+          λ _. at-enter .enter-all .ensures .indexed
+          (rw (length-take-le (s .args .c .inputs + s .args .c .named) (s .args .names .now) (let r = s .pre .numberRoom in omega arith)) (at-if1 .if1 .left));
+    }
 
 pub duplicate-spec : {M : Type 1} → statement M
 duplicate-spec =
     tie.close
     (tie.spec
     add-nodes
-    slice-aggregate-first-repeat
-    first-repeat-requires
+    slice-aggregate-enter-all
+    enter-all-requires
     mul-place
     shared-slice-read-place
+    same-length
     returns
     add-first-repeat
     mul-first-repeat
     sub-first-repeat
     part-first-repeat-start
     part-first-repeat-end
-    first-repeat-requires-2
+    first-repeat-requires
     add-place
     mul-place-2
     shared-slice-read-place-2
+    same-length-2
     returns-2
+    same-length-3
     returns-3)

@@ -1,15 +1,11 @@
--- `names::tally::limits` meets its contract, by the law on the counts of bytes. Assumes nothing.
+-- `names::tally::limits` meets its contract, by the law on the counts. Assumes nothing.
 use mathlib.Core.Path.{ap, _∙_}
-use borrow.Author.Needs.{needs}
 use Rattle.netlist.specs.declared.Refusal.the-variants.{OverLimit}
 use Rattle.netlist.specs.Answers.{testOf}
-use Rattle.names.specs.Results.{isOver}
 use Rattle.names.proofs.TreeCounts.{limits-are}
+use borrow.Author.Needs.{needs}
 use Rattle.names.proofs.tally.limits.Statement.{statement}
 use Rattle.names.proofs.tally.limits.Tie as tie
-
-count-bytes-requires : tie.Need-count-bytes-requires
-count-bytes-requires c κs = search needs
 
 is-over-requires : tie.Need-is-over-requires
 is-over-requires c κs = search needs
@@ -19,9 +15,8 @@ refuse-if-requires c κs = search needs
 
 returns : tie.Need-returns
 returns c =
-    λ t p.
-    let counted = c .before .before .count-bytes .ensures in
-    c .refuse-if .ensures ∙ ap (λ b. testOf b OverLimit) (c .before .is-over .ensures ∙ ap isOver counted ∙ limits-are p)
+    λ t bare counted.
+    c .refuse-if .ensures ∙ ap (λ b. testOf b OverLimit) (c .before .is-over .ensures ∙ limits-are t bare (c .before .before .args .c) counted)
 
 pub limits-spec : {M : Type 1} → statement M
-limits-spec = tie.close (tie.spec count-bytes-requires is-over-requires refuse-if-requires returns)
+limits-spec = tie.close (tie.spec is-over-requires refuse-if-requires returns)

@@ -5,9 +5,12 @@ use Prim.Native.Nat.{_*_, _≤_}
 use lib.ListN.{length}
 use native.Mathlib.Omega.{arith}
 use Rattle.nevers.proofs.LineWalk.{words-placed}
-use Rattle.nevers.proofs.TreePlaces.{nevers-stand, lines-ready}
+use Rattle.nevers.proofs.TreePlaces.{nevers-stand, lines-ready, none-counted}
 use Rattle.nevers.proofs.words.fill_masks.Statement.{statement}
 use Rattle.nevers.proofs.words.fill_masks.Tie as tie
+
+returns : tie.Need-returns
+returns c = λ t is e are. rw (none-counted t e (c .if1 .taken))
 
 slice-aggregate-masks-from : tie.Need-slice-aggregate-masks-from
 slice-aggregate-masks-from c = search needs
@@ -23,16 +26,16 @@ slice-aggregate-masks-from-4 c = search needs
 
 masks-from-requires : tie.Need-masks-from-requires
 masks-from-requires c κs =
-    let s = c .before .before .before .before .before .before .before .before in
+    let s = c .before .before .before .before .before .before .before .before .before in
     (lines-ready (s .pre .0) (search needs) (search needs) (search needs), (s .pre .1 .0, record { few = s .pre .1 .1; room = s .pre .1 .1 }, s .pre .1 .2))
 
 same-length : tie.Need-same-length
 same-length c = search needs
 
-returns : tie.Need-returns
-returns c =
+returns-2 : tie.Need-returns-2
+returns-2 c =
     λ t is e are.
-    let s = c .before .before .before .before .before .before .before .before .before .before .before .before .before .before .before in
+    let s = c .before .before .before .before .before .before .before .before .before .before .before .before .before .before .before .before in
     let stand = nevers-stand is e in
     let room : 2 * length (t .nevers) ≤ length (s .args .out .now) = omega (arith, stand .counted, s .pre .1 .2) in
     c .before .before .before .before .before .before .masks-from .ensures (t .nevers) (t .inputs) stand are
@@ -42,10 +45,11 @@ pub fill-masks-spec : {M : Type 1} → statement M
 fill-masks-spec =
     tie.close
     (tie.spec
+    returns
     slice-aggregate-masks-from
     slice-aggregate-masks-from-2
     slice-aggregate-masks-from-3
     slice-aggregate-masks-from-4
     masks-from-requires
     same-length
-    returns)
+    returns-2)

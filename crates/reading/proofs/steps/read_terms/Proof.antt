@@ -6,7 +6,7 @@ use Rattle.reading.proofs.steps.read_terms.Statement.{statement}
 use Rattle.reading.proofs.steps.read_terms.Tie as tie
 
 abbrev entry : tie.After-undeclared → tie.Start
-entry c = c .before .before .before .before .before .before .before .before .before .before .before
+entry c = c .before .before .before .before .before .before .before .before .before .before .before .before
 
 undeclared-requires : tie.Need-undeclared-requires
 undeclared-requires c κs = search needs

@@ -1,21 +1,14 @@
--- `reading::steps::read_with` meets its contract: the counts, 4, and then the rest. Assumes nothing.
-use Rattle.reading.proofs.Splits.{rest-short}
+-- `reading::steps::read_with` meets its contract: 4, and then the rest. Assumes nothing.
 use Rattle.reading.proofs.Stages.{tables-ready, twice, terms-ready}
 use borrow.Author.Needs.{needs}
 use Rattle.reading.proofs.steps.read_with.Statement.{statement}
 use Rattle.reading.proofs.steps.read_with.Tie as tie
 
-abbrev entry : tie.After-counts → tie.Start
-entry c = c .before .before .before .before .before .before .before .before .before .before
-
-abbrev counted-at : tie.After-tables → tie.After-counts
-counted-at c = c .before .before .before .before
-
-counts-requires : tie.Need-counts-requires
-counts-requires c κs = rest-short (c .before .before .before .before .before .before .before .before .before .pre .limited .split)
+abbrev entry : tie.After-tables → tie.Start
+entry c = c .before .before .before .before .before .before .before .before .before .before .before .before .before .before .before
 
 tables-requires : tie.Need-tables-requires
-tables-requires c κs = let counted = c .before .before .before in tables-ready (entry counted .pre) _ (counted .counts .ensures)
+tables-requires c κs = tables-ready (c .before .before .before .before .before .before .before .before .before .before .before .before .before .before .pre)
 
 enum-told : tie.Need-enum-told
 enum-told c = search needs
@@ -35,22 +28,20 @@ same-length-2 c = search needs
 same-length-3 : tie.Need-same-length-3
 same-length-3 c = search needs
 
+same-length-4 : tie.Need-same-length-4
+same-length-4 c = search needs
+
 returns : tie.Need-returns
 returns c =
-    let t = c .before .before .before .before .before .before .before .before .before in
-    let counted = counted-at t in
-    let s = entry counted in
-    twice (s .pre) _ (counted .counts .ensures) _ _ _ (t .tables .ensures) (s .args .block .now) (c .before .before .match .keys2) (c .refusal .ensures)
+    let t = c .before .before .before .before .before .before .before .before .before .before .before in
+    let s = entry t in
+    twice (s .pre) _ _ _ _ (t .tables .ensures) (s .args .block .now) (c .before .before .match .keys2) (c .refusal .ensures)
 
 read-terms-requires : tie.Need-read-terms-requires
 read-terms-requires c κs =
-    let passed = c .before .before .before .before .before .before in
-    let t = passed .before .before .before .before .before .before .before .before in
-    let counted = counted-at t in
-    terms-ready (entry counted .pre) _ (counted .counts .ensures) _ _ _ (t .tables .ensures) (passed .enum-told .given .1)
-
-same-length-4 : tie.Need-same-length-4
-same-length-4 c = search needs
+    let passed = c .before .before .before .before .before .before .before in
+    let t = passed .before .before .before .before .before .before .before .before .before .before in
+    terms-ready (entry t .pre) _ _ _ _ (t .tables .ensures) (passed .enum-told .given .1)
 
 same-length-5 : tie.Need-same-length-5
 same-length-5 c = search needs
@@ -70,6 +61,12 @@ same-length-9 c = search needs
 same-length-10 : tie.Need-same-length-10
 same-length-10 c = search needs
 
+same-length-11 : tie.Need-same-length-11
+same-length-11 c = search needs
+
+same-length-12 : tie.Need-same-length-12
+same-length-12 c = search needs
+
 returns-2 : tie.Need-returns-2
 returns-2 c = search needs
 
@@ -77,7 +74,6 @@ pub read-with-spec : {M : Type 1} → statement M
 read-with-spec =
     tie.close
     (tie.spec
-    counts-requires
     tables-requires
     enum-told
     enum-told-2
@@ -85,13 +81,15 @@ read-with-spec =
     same-length
     same-length-2
     same-length-3
+    same-length-4
     returns
     read-terms-requires
-    same-length-4
     same-length-5
     same-length-6
     same-length-7
     same-length-8
     same-length-9
     same-length-10
+    same-length-11
+    same-length-12
     returns-2)

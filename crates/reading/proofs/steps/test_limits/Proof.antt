@@ -1,4 +1,5 @@
 -- `reading::steps::test_limits` meets its contract. Assumes nothing.
+use mathlib.Core.Path.{refl}
 use Rattle.names.specs.Plain.{plain}
 use Rattle.reading.proofs.Splits.{too-many, few-enough}
 use borrow.Author.Needs.{needs}
@@ -21,9 +22,10 @@ limits-requires : tie.Need-limits-requires
 limits-requires c κs = search needs
 
 returns-2 : tie.Need-returns-2
+unfolding plain
 returns-2 c =
     λ t p e.
-    few-enough t _ e (c .before .before .before .refuse-if .ensures) (c .before .enum-told .given .1) (c .limits .ensures (plain t) p)
+    few-enough t _ e (c .before .before .before .refuse-if .ensures) (c .before .enum-told .given .1) (c .limits .ensures (plain t) refl p)
 
 pub test-limits-spec : {M : Type 1} → statement M
 test-limits-spec =

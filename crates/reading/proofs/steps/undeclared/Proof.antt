@@ -2,14 +2,14 @@
 use native.Mathlib.Omega.{arith}
 use Rattle.names.specs.Plain.{plain}
 use Rattle.reading.proofs.Splits.{nevers-form}
-use Rattle.reading.proofs.Stages.{inputs-ready, unknown-inside, unknown-near, part-near, unknown-outside}
+use Rattle.reading.proofs.Stages.{inputs-ready, resolve-ready, unknown-inside, unknown-near, part-near, unknown-outside}
 use borrow.Author.Needs.{needs}
 use Rattle.reading.proofs.steps.undeclared.Statement.{statement}
 use Rattle.reading.proofs.steps.undeclared.Tie as tie
 
 test-outsiders-requires : tie.Need-test-outsiders-requires
 test-outsiders-requires c κs =
-    let start = c .before .before .before .before .before .before in
+    let start = c .before .before .before .before .before .before .before in
     (nevers-form (start .pre .limited .split), inputs-ready (start .pre))
 
 enum-told : tie.Need-enum-told
@@ -24,12 +24,12 @@ returns c =
     λ t l h. unknown-inside _ (tested .test-outsiders .ensures) t l h (c .before .match .keys2) _ _
 
 resolve-requires : tie.Need-resolve-requires
-resolve-requires c κs = search needs
+resolve-requires c κs = let start = c .before .before .before .before .before .before .before .before .before .before .before .before in (resolve-ready (start .pre), start .pre .indexed)
 
 moved-unknown-requires : tie.Need-moved-unknown-requires
 moved-unknown-requires c κs =
     let resolved = c .before .before .before .before in
-    let start = resolved .before .before .before .before .before .before .before .before .before .before .before .before in
+    let start = resolved .before .before .before .before .before .before .before .before .before .before .before .before .before in
     let s = start .pre .limited .split in
     let answer = resolved .resolve .ensures .done (plain (start .pre .tree)) (start .pre .here) .answer in
     let part = part-near s in (unknown-near s answer, omega (arith, part .0), omega (arith, part .1))

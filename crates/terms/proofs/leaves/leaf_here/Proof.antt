@@ -11,22 +11,22 @@ use Rattle.terms.proofs.leaves.leaf_here.Tie as tie
 byte-at-requires : tie.Need-byte-at-requires
 byte-at-requires c κs = search needs
 
-sub-t8 : tie.Need-sub-t8
-sub-t8 c = byte-there (c .before .before .before .before .before .args .s .now) (c .before .byte-at .ensures) (c .if1 .taken) (omega arith)
+sub-t9 : tie.Need-sub-t9
+sub-t9 c = byte-there (c .before .before .before .before .before .before .args .s .now) (c .before .byte-at .ensures) (c .if1 .taken) (omega arith)
 
 returns : tie.Need-returns
 unfolding constantHere
 returns c =
-    let start = c .before .before .before .before .before in
+    let start = c .before .before .before .before .before .before in
     let a = start .args in leaf-0 (a .s .now) (a .names .now) (a .words .now) (a .unknown) (sym (c .before .byte-at .ensures) ∙ c .if1 .taken)
 
-sub-t9 : tie.Need-sub-t9
-sub-t9 c = byte-there (c .before .before .before .before .before .before .args .s .now) (c .before .before .byte-at .ensures) (c .if2 .taken) (omega arith)
+sub-t10 : tie.Need-sub-t10
+sub-t10 c = byte-there (c .before .before .before .before .before .before .before .args .s .now) (c .before .before .byte-at .ensures) (c .if2 .taken) (omega arith)
 
 returns-2 : tie.Need-returns-2
 unfolding constantHere
 returns-2 c =
-    let start = c .before .before .before .before .before .before in
+    let start = c .before .before .before .before .before .before .before in
     let a = start .args in leaf-1 (a .s .now) (a .names .now) (a .words .now) (a .unknown) (sym (c .before .before .byte-at .ensures) ∙ c .if2 .taken)
 
 name-here-requires : tie.Need-name-here-requires
@@ -35,11 +35,11 @@ name-here-requires c κs = search needs
 returns-3 : tie.Need-returns-3
 returns-3 c =
     let at-byte-at = c .before .before .before in
-    let start = at-byte-at .before .before .before .before in
+    let start = at-byte-at .before .before .before .before .before in
     let a = start .args in c .name-here .ensures ∙ leaf-name (a .s .now) (a .names .now) (a .words .now) (a .unknown)
     (λ e. c .before .before .if1 .left (at-byte-at .byte-at .ensures ∙ e)) (λ e. c .before .if2 .left (at-byte-at .byte-at .ensures ∙ e))
 
 pub leaf-here-spec : {M : Type 1} → statement M
 leaf-here-spec =
     tie.close
-    (tie.spec byte-at-requires sub-t8 returns sub-t9 returns-2 name-here-requires returns-3)
+    (tie.spec byte-at-requires sub-t9 returns sub-t10 returns-2 name-here-requires returns-3)

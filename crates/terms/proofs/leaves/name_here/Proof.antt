@@ -10,13 +10,13 @@ name-length-requires : tie.Need-name-length-requires
 name-length-requires c κs = search needs
 
 sub-left : tie.Need-sub-left
-sub-left c = omega (arith, c .name-length .ensures, front-shorter 8 (c .before .before .before .before .args .s .now))
+sub-left c = omega (arith, c .name-length .ensures, front-shorter 8 (c .before .before .before .before .before .args .s .now))
 
-pack-requires : tie.Need-pack-requires
-pack-requires c κs = search needs
+pack-first-requires : tie.Need-pack-first-requires
+pack-first-requires c κs = search needs
 
-find-requires : tie.Need-find-requires
-find-requires c κs = search needs
+find-indexed-requires : tie.Need-find-indexed-requires
+find-indexed-requires c κs = search needs
 
 mul-word : tie.Need-mul-word
 mul-word c = search needs
@@ -32,9 +32,9 @@ returns c =
     let at-find = c .before .before .before in
     let at-pack = at-find .before in
     let at-name-length = at-pack .before in
-    let start = at-name-length .before .before .before .before in
+    let start = at-name-length .before .before .before .before .before in
     let a = start .args in name-found (a .s .now) (a .names .now) (a .words .now) (a .unknown) (at-name-length .name-length .ensures)
-    (at-pack .pack .ensures) (at-find .find .ensures) (c .before .before .if1 .taken) (c .earlier .ensures)
+    (at-pack .pack-first .ensures) (at-find .find-indexed .ensures) (c .before .before .if1 .taken) (c .earlier .ensures)
 
 add-earlier : tie.Need-add-earlier
 add-earlier c = search needs
@@ -46,9 +46,9 @@ returns-2 : tie.Need-returns-2
 returns-2 c =
     let at-pack = c .before .before .before in
     let at-name-length = at-pack .before in
-    let start = at-name-length .before .before .before .before in
+    let start = at-name-length .before .before .before .before .before in
     let a = start .args in name-unknown (a .s .now) (a .names .now) (a .words .now) (a .unknown) (at-name-length .name-length .ensures)
-    (at-pack .pack .ensures) (c .before .before .find .ensures) (c .before .if1 .left) (c .earlier2 .ensures)
+    (at-pack .pack-first .ensures) (c .before .before .find-indexed .ensures) (c .before .if1 .left) (c .earlier2 .ensures)
 
 pub name-here-spec : {M : Type 1} → statement M
 name-here-spec =
@@ -56,8 +56,8 @@ name-here-spec =
     (tie.spec
     name-length-requires
     sub-left
-    pack-requires
-    find-requires
+    pack-first-requires
+    find-indexed-requires
     mul-word
     shared-slice-read-word
     earlier-requires

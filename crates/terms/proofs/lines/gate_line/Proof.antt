@@ -8,13 +8,13 @@ use Rattle.terms.proofs.lines.gate_line.Tie as tie
 
 sub-name-length : tie.Need-sub-name-length
 sub-name-length c =
-    let start = c .before .before .before .before in
-    let p = start .pre in omega (arith, gate-parts (start .args .s .now) _ refl (p .line) (p .rest) (p .here) .long)
+    let start = c .before .before .before .before .before in
+    let p = start .pre .0 in omega (arith, gate-parts (start .args .s .now) _ refl (p .line) (p .rest) (p .here) .long)
 
 part-name-length-start : tie.Need-part-name-length-start
 part-name-length-start c =
-    let start = c .before .before .before .before in
-    let p = start .pre in omega (arith, gate-parts (start .args .s .now) _ refl (p .line) (p .rest) (p .here) .long)
+    let start = c .before .before .before .before .before in
+    let p = start .pre .0 in omega (arith, gate-parts (start .args .s .now) _ refl (p .line) (p .rest) (p .here) .long)
 
 part-name-length-end : tie.Need-part-name-length-end
 part-name-length-end c = search needs
@@ -24,37 +24,39 @@ name-length-requires c κs = search needs
 
 add-at : tie.Need-add-at
 add-at c =
-    let start = c .before .before .before .before .before .before in
-    let a = start .args in let p = start .pre in omega
+    let start = c .before .before .before .before .before .before .before in
+    let a = start .args in let p = start .pre .0 in omega
     (arith, gate-parts (a .s .now) (c .name-length .result) (c .name-length .ensures) (p .line) (p .rest) (p .here) .long, start .good)
 
 sub-operand : tie.Need-sub-operand
 sub-operand c =
-    let start = c .before .before .before .before .before .before in
-    let a = start .args in let p = start .pre in gate-parts (a .s .now) (c .name-length .result) (c .name-length .ensures) (p .line) (p .rest) (p .here) .long
+    let start = c .before .before .before .before .before .before .before in
+    let a = start .args in let p = start .pre .0 in gate-parts (a .s .now) (c .name-length .result) (c .name-length .ensures) (p .line) (p .rest) (p .here) .long
 
 part-operand-start : tie.Need-part-operand-start
 part-operand-start c =
-    let start = c .before .before .before .before .before .before in
-    let a = start .args in let p = start .pre in gate-parts (a .s .now) (c .name-length .result) (c .name-length .ensures) (p .line) (p .rest) (p .here) .long
+    let start = c .before .before .before .before .before .before .before in
+    let a = start .args in let p = start .pre .0 in gate-parts (a .s .now) (c .name-length .result) (c .name-length .ensures) (p .line) (p .rest) (p .here) .long
 
 part-operand-end : tie.Need-part-operand-end
 part-operand-end c = search needs
 
 operand-requires : tie.Need-operand-requires
 operand-requires c κs =
-    let b = c .before .before in let a = b .before .before .before .before .before .before .args in
-    gate-here (a .s .now) (b .name-length .result) (b .name-length .ensures) (a .n) (a .names .now) (a .words .now) (a .first) (a .gates .now)
-    (b .before .before .before .before .before .before .pre)
+    let b = c .before .before in let a = b .before .before .before .before .before .before .before .args in (
+      gate-here (a .s .now) (b .name-length .result) (b .name-length .ensures) (a .n) (a .names .now) (a .words .now) (a .first) (a .gates .now)
+          (b .before .before .before .before .before .before .before .pre .0),
+      b .before .before .before .before .before .before .before .pre .1,
+    )
 
-sub-t12 : tie.Need-sub-t12
-sub-t12 c =
+sub-t13 : tie.Need-sub-t13
+sub-t13 c =
     let at-operand = c .before .before .before in
     let stage = at-operand .before .before .before in
-    let b = stage in let a = b .before .before .before .before .before .before .args in
+    let b = stage in let a = b .before .before .before .before .before .before .before .args in
     gate-left (a .s .now) (b .name-length .result) (b .name-length .ensures) (a .n) (a .names .now) (a .words .now) (a .first) (a .gates .now)
-    (a .unknown) (at-operand .operand .last .1 .1 .1 .1 .1 .1 .1 .0) (at-operand .operand .result) (at-operand .operand .ensures)
-    (b .before .before .before .before .before .before .pre)
+    (a .unknown) (at-operand .operand .last .1 .1 .1 .1 .1 .1 .1 .1 .0) (at-operand .operand .result) (at-operand .operand .ensures)
+    (b .before .before .before .before .before .before .before .pre .0)
 
 same-length : tie.Need-same-length
 same-length c = search needs
@@ -63,9 +65,9 @@ returns : tie.Need-returns
 returns c =
     let at-operand = c .before .before .before in
     let stage = at-operand .before .before .before in
-    let b = stage in let a = b .before .before .before .before .before .before .args in
+    let b = stage in let a = b .before .before .before .before .before .before .before .args in
     gate-read (a .s .now) (b .name-length .result) (b .name-length .ensures) (a .n) (a .names .now) (a .words .now) (a .first) (a .gates .now)
-    (a .unknown) (at-operand .operand .last .1 .1 .1 .1 .1 .1 .1 .0) (at-operand .operand .result) (at-operand .operand .ensures)
+    (a .unknown) (at-operand .operand .last .1 .1 .1 .1 .1 .1 .1 .1 .0) (at-operand .operand .result) (at-operand .operand .ensures)
 
 pub gate-line-spec : {M : Type 1} → statement M
 gate-line-spec =
@@ -80,6 +82,6 @@ gate-line-spec =
     part-operand-start
     part-operand-end
     operand-requires
-    sub-t12
+    sub-t13
     same-length
     returns)

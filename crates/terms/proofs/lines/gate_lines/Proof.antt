@@ -10,15 +10,15 @@ use Rattle.terms.proofs.lines.gate_lines.Statement.{statement}
 use Rattle.terms.proofs.lines.gate_lines.Tie as tie
 
 abbrev Inv-loop : tie.InvT-loop
-Inv-loop text lines n names words gates₀ left₀ first₀ unknown₀ i₀ gates left first unknown i =
+Inv-loop text lines n names words index gates₀ left₀ first₀ unknown₀ i₀ gates left first unknown i =
     LinesOn gateForm lines text n names words 0 gates₀ i left first unknown gates
 
 abbrev μ-loop : tie.MeasureT-loop
-μ-loop text lines n names words gates₀ left₀ first₀ unknown₀ i₀ gates left first unknown i = lines - i
+μ-loop text lines n names words index gates₀ left₀ first₀ unknown₀ i₀ gates left first unknown i = lines - i
 
 loop-holds : tie.Need-loop-holds Inv-loop μ-loop
 loop-holds c =
-    let start = c .before .before .before .before in
+    let start = c .before .before .before .before .before in
     let a = start .args in lines-start gateForm gate-lawful (a .lines) (a .text .now) (a .n) (a .names .now) (a .words .now) 0 (a .gates .now)
 
 sub-gate-line : tie.Need-sub-gate-line Inv-loop μ-loop
@@ -35,15 +35,17 @@ part-gate-line-end c = search needs
 
 gate-line-requires : tie.Need-gate-line-requires Inv-loop μ-loop
 gate-line-requires c κs = let b = c .before .before in
-    let a = b .before .before .before .before .before .before .args in
-    let l = b .before .loop in
-    line-here gateForm gate-lawful (a .lines) (a .text .now) (a .n) (a .names .now) (a .words .now) 0 (a .gates .now) (l .i) (l .left) (l .first)
-    (l .unknown) (l .gates) (l .inv) maxGates (b .before .before .before .before .before .before .pre) (b .loop-test .taken)
+    let a = b .before .before .before .before .before .before .before .args in
+    let l = b .before .loop in (
+      line-here gateForm gate-lawful (a .lines) (a .text .now) (a .n) (a .names .now) (a .words .now) 0 (a .gates .now) (l .i) (l .left) (l .first)
+          (l .unknown) (l .gates) (l .inv) maxGates (b .before .before .before .before .before .before .before .pre .0) (b .loop-test .taken),
+      b .before .before .before .before .before .before .before .pre .1,
+    )
 
 add-i : tie.Need-add-i Inv-loop μ-loop
 add-i c =
     let at-loop-test = c .before .before .before .before .before in
-    let at-fits = at-loop-test .before .before .before .before .before .before in
+    let at-fits = at-loop-test .before .before .before .before .before .before .before in
     omega (arith, at-loop-test .loop-test .taken, at-fits .fits .lines)
 
 loop-less : tie.Need-loop-less Inv-loop μ-loop
@@ -53,21 +55,21 @@ loop-again : tie.Need-loop-again Inv-loop μ-loop
 loop-again c =
     let stage = c .before .before .before .before .before in
     let b = stage in
-    let a = b .before .before .before .before .before .before .args in
+    let a = b .before .before .before .before .before .before .before .args in
     let l = b .before .loop in
     let g = c .before .before .gate-line in
     lines-step gateForm gate-lawful (a .lines) (a .text .now) (a .n) (a .names .now) (a .words .now) 0 (a .gates .now) (l .i) (l .left) (l .first)
-    (l .unknown) (l .gates) (l .inv) (g .last .1 .1 .1 .1 .1 .1 .0) (g .result) (g .ensures)
+    (l .unknown) (l .gates) (l .inv) (g .last .1 .1 .1 .1 .1 .1 .1 .0) (g .result) (g .ensures)
     (lines-kept gateForm gate-lawful (a .lines) (a .text .now) (a .n) (a .names .now) (a .words .now) 0 (a .gates .now) (l .i) (l .left) (l .first)
-    (l .unknown) (l .gates) (l .inv) (g .last .1 .1 .1 .1 .1 .1 .0) (g .result) (g .ensures) maxGates
-    (b .before .before .before .before .before .before .pre) (b .loop-test .taken)) (b .loop-test .taken)
+    (l .unknown) (l .gates) (l .inv) (g .last .1 .1 .1 .1 .1 .1 .1 .0) (g .result) (g .ensures) maxGates
+    (b .before .before .before .before .before .before .before .pre .0) (b .loop-test .taken)) (b .loop-test .taken)
 
 same-length : tie.Need-same-length Inv-loop μ-loop
 same-length c = c .before .loop .inv .same
 
 returns : tie.Need-returns Inv-loop μ-loop
 returns c =
-    let start = c .before .before .before .before .before .before in
+    let start = c .before .before .before .before .before .before .before in
     let a = start .args in
     let l = c .before .loop in
     lines-end gateForm gate-lawful (a .lines) (a .text .now) (a .n) (a .names .now) (a .words .now) 0 (a .gates .now) (l .i) (l .left) (l .first)

@@ -10,13 +10,13 @@ use Rattle.terms.proofs.lines.output_line.Tie as tie
 
 sub-name-length : tie.Need-sub-name-length
 sub-name-length c =
-    let start = c .before .before .before .before in
-    let p = start .pre .1 in omega (arith, output-parts (start .args .s .now) _ refl (p .line) (p .rest) (p .here) .long)
+    let start = c .before .before .before .before .before in
+    let p = start .pre .0 .1 in omega (arith, output-parts (start .args .s .now) _ refl (p .line) (p .rest) (p .here) .long)
 
 part-name-length-start : tie.Need-part-name-length-start
 part-name-length-start c =
-    let start = c .before .before .before .before in
-    let p = start .pre .1 in omega (arith, output-parts (start .args .s .now) _ refl (p .line) (p .rest) (p .here) .long)
+    let start = c .before .before .before .before .before in
+    let p = start .pre .0 .1 in omega (arith, output-parts (start .args .s .now) _ refl (p .line) (p .rest) (p .here) .long)
 
 part-name-length-end : tie.Need-part-name-length-end
 part-name-length-end c = search needs
@@ -26,20 +26,20 @@ name-length-requires c κs = search needs
 
 add-at : tie.Need-add-at
 add-at c =
-    let start = c .before .before .before .before .before .before in
-    let a = start .args in let p = start .pre .1 in omega
+    let start = c .before .before .before .before .before .before .before in
+    let a = start .args in let p = start .pre .0 .1 in omega
     (arith, output-parts (a .s .now) (c .name-length .result) (c .name-length .ensures) (p .line) (p .rest) (p .here) .long, start .good)
 
 sub-name-here : tie.Need-sub-name-here
 sub-name-here c =
-    let start = c .before .before .before .before .before .before in
-    let a = start .args in let p = start .pre .1 in output-parts (a .s .now) (c .name-length .result) (c .name-length .ensures) (p .line) (p .rest)
+    let start = c .before .before .before .before .before .before .before in
+    let a = start .args in let p = start .pre .0 .1 in output-parts (a .s .now) (c .name-length .result) (c .name-length .ensures) (p .line) (p .rest)
     (p .here) .long
 
 part-name-here-start : tie.Need-part-name-here-start
 part-name-here-start c =
-    let start = c .before .before .before .before .before .before in
-    let a = start .args in let p = start .pre .1 in output-parts (a .s .now) (c .name-length .result) (c .name-length .ensures) (p .line) (p .rest)
+    let start = c .before .before .before .before .before .before .before in
+    let a = start .args in let p = start .pre .0 .1 in output-parts (a .s .now) (c .name-length .result) (c .name-length .ensures) (p .line) (p .rest)
     (p .here) .long
 
 part-name-here-end : tie.Need-part-name-here-end
@@ -48,19 +48,20 @@ part-name-here-end c = search needs
 name-here-requires : tie.Need-name-here-requires
 name-here-requires c κs =
     let stage = c .before .before .before .before .before .before .before in
-    let b = stage in let p = b .pre .1 in table-lengths (b .pre .0) (p .bindings) (b .args .names .now) (b .args .words .now) (p .table)
+    let b = stage .before in
+    let p = b .pre .0 .1 in (table-lengths (b .pre .0 .0) (p .bindings) (b .args .names .now) (b .args .words .now) (p .table), b .pre .1)
 
 sub-pack : tie.Need-sub-pack
 sub-pack c =
     let earlier = c .before .before .before .before .before .before .before in
-    let start = earlier .before .before in
-    let p = start .pre .1 in omega (arith, output-parts (start .args .s .now) _ refl (p .line) (p .rest) (p .here) .long)
+    let start = earlier .before .before .before in
+    let p = start .pre .0 .1 in omega (arith, output-parts (start .args .s .now) _ refl (p .line) (p .rest) (p .here) .long)
 
 part-pack-start : tie.Need-part-pack-start
 part-pack-start c =
     let earlier = c .before .before .before .before .before .before .before in
-    let start = earlier .before .before in
-    let p = start .pre .1 in omega (arith, output-parts (start .args .s .now) _ refl (p .line) (p .rest) (p .here) .long)
+    let start = earlier .before .before .before in
+    let p = start .pre .0 .1 in omega (arith, output-parts (start .args .s .now) _ refl (p .line) (p .rest) (p .here) .long)
 
 part-pack-end : tie.Need-part-pack-end
 part-pack-end c = search needs
@@ -72,23 +73,23 @@ put-output-requires : tie.Need-put-output-requires
 unfolding outputForm
 put-output-requires c κs =
     let earlier = c .before .before .before .before .before .before .before in
-    let start = earlier .before .before .before .before in
-    let p = start .pre .1 in omega (arith, p .few, p .room)
+    let start = earlier .before .before .before .before .before in
+    let p = start .pre .0 .1 in omega (arith, p .few, p .room)
 
-sub-t9 : tie.Need-sub-t9
-sub-t9 c =
+sub-t10 : tie.Need-sub-t10
+sub-t10 c =
     let stage = c .before .before .before .before .before .before .before in
     let stage-2 = stage .before .before in
     let b = stage-2 in
-    let s = b .before .before .before .before .before .before in
-    let p = s .pre .1 in
+    let s = b .before .before .before .before .before .before .before in
+    let p = s .pre .0 .1 in
     let l = stage in
-    output-left (s .args .s .now) (b .name-length .result) (b .name-length .ensures) (s .pre .0) (s .args .names .now) (s .args .words .now)
+    output-left (s .args .s .now) (b .name-length .result) (b .name-length .ensures) (s .pre .0 .0) (s .args .names .now) (s .args .words .now)
     (s .args .first) (s .args .unknown) (s .args .outputs .now) (l .name-here .result) (l .name-here .ensures) (p .bindings) (p .line) (p .rest)
     (p .table) (p .here)
 
-add-t11 : tie.Need-add-t11
-add-t11 c = search needs
+add-t12 : tie.Need-add-t12
+add-t12 c = search needs
 
 same-length : tie.Need-same-length
 same-length c = search needs
@@ -101,7 +102,7 @@ returns c =
     let stage-2 = stage .before .before in
     λ n.
     let b = stage-2 in
-    let s = b .before .before .before .before .before .before in
+    let s = b .before .before .before .before .before .before .before in
     let l = stage in
     output-read (s .args .s .now) (b .name-length .result) (b .name-length .ensures) n (s .args .names .now) (s .args .words .now) (s .args .first)
     (s .args .unknown) (s .args .outputs .now) (l .name-here .result) (l .name-here .ensures) (at-put-output .put-output .last .0)
@@ -125,7 +126,7 @@ output-line-spec =
     part-pack-end
     pack-requires
     put-output-requires
-    sub-t9
-    add-t11
+    sub-t10
+    add-t12
     same-length
     returns)

@@ -29,24 +29,24 @@ use Rattle.terms.proofs.walk.put_gate.Reads as put-gate-reads
 use Rattle.terms.proofs.walk.+operand+operands.{statement}
 use Rattle.terms.proofs.walk.+operand+operands.Tie.{close}
 
-abbrev μ-operand : Measures 4 operand-kinds.ps ℕ
+abbrev μ-operand : Measures 5 operand-kinds.ps ℕ
 μ-operand κs a = length (a .0 .now)
 
-abbrev μ-operands : Measures 5 operands-kinds.ps ℕ
+abbrev μ-operands : Measures 6 operands-kinds.ps ℕ
 μ-operands κs a = length (a .0 .now)
 
-abbrev operand-at : ℕ → In 4 operand-kinds.ps
-operand-at t = and 4 operand-kinds.ps (is 4 operand-kinds.ps μ-operand t) operand.Pre
+abbrev operand-at : ℕ → In 5 operand-kinds.ps
+operand-at t = and 5 operand-kinds.ps (is 5 operand-kinds.ps μ-operand t) operand.Pre
 
-abbrev operand-below : ℕ → In 4 operand-kinds.ps
-operand-below t = and 4 operand-kinds.ps (falls 4 operand-kinds.ps _<_ μ-operand t) operand.Pre
+abbrev operand-below : ℕ → In 5 operand-kinds.ps
+operand-below t = and 5 operand-kinds.ps (falls 5 operand-kinds.ps _<_ μ-operand t) operand.Pre
 
-abbrev operands-at : ℕ → In 5 operands-kinds.ps
-operands-at t = and 5 operands-kinds.ps (is 5 operands-kinds.ps μ-operands t) operands.Pre
+abbrev operands-at : ℕ → In 6 operands-kinds.ps
+operands-at t = and 6 operands-kinds.ps (is 6 operands-kinds.ps μ-operands t) operands.Pre
 
-abbrev operands-below : ℕ → In 5 operands-kinds.ps
+abbrev operands-below : ℕ → In 6 operands-kinds.ps
 operands-below t =
-    and 5 operands-kinds.ps (falls 5 operands-kinds.ps _<_ μ-operands t) operands.Pre
+    and 6 operands-kinds.ps (falls 6 operands-kinds.ps _<_ μ-operands t) operands.Pre
 
 abbrev operand-claims : ℕ → operand-lts.Claims
 operand-claims t = (
@@ -69,47 +69,47 @@ operands-claims t = (byte-at-reads.Asked, byte-at-reads.Learnt, operand-below t,
 
 -- the first byte, and which expression it opens
 operand-byte : (t : ℕ) (c : operand-lts.Else1 (operand-claims t) (operand-at t) operand.Post)
-    → getD (c .before .before .before .before .before .before .args .s .now) 0 0 ≡ 40
+    → getD (c .before .before .before .before .before .before .before .args .s .now) 0 0 ≡ 40
 operand-byte t c = sym (c .before .byte-at .ensures) ∙ c .if1 .left
 
 operand-there : (t : ℕ) (c : operand-lts.Else1 (operand-claims t) (operand-at t) operand.Post)
-    → 0 < length (c .before .before .before .before .before .before .args .s .now)
-operand-there t c = byte-there (c .before .before .before .before .before .before .args .s .now) refl (operand-byte t c) (omega arith)
+    → 0 < length (c .before .before .before .before .before .before .before .args .s .now)
+operand-there t c = byte-there (c .before .before .before .before .before .before .before .args .s .now) refl (operand-byte t c) (omega arith)
 
 operand-inside : (t : ℕ) (c : operand-lts.After-word-length (operand-claims t) (operand-at t) operand.Post) (o : Term) (rest : List ℕ)
-    → TermAt o (c .before .before .before .before .before .before .before .before .before .args .depth) rest
-    (c .before .before .before .before .before .before .before .before .before .args .s .now)
-    → Inside o (c .before .before .before .before .before .before .before .before .before .args .depth) rest
-    (c .before .before .before .before .before .before .before .before .before .args .s .now) (c .before .kind-here .result) (c .word-length .result)
+    → TermAt o (c .before .before .before .before .before .before .before .before .before .before .args .depth) rest
+    (c .before .before .before .before .before .before .before .before .before .before .args .s .now)
+    → Inside o (c .before .before .before .before .before .before .before .before .before .before .args .depth) rest
+    (c .before .before .before .before .before .before .before .before .before .before .args .s .now) (c .before .kind-here .result) (c .word-length .result)
 operand-inside t c o rest w =
     let stage = c .before .before .before in
-    let start = stage .before .before .before .before .before .before in
+    let start = stage .before .before .before .before .before .before .before in
     let a = start .args in
     inside o (a .depth) rest (a .s .now) (c .before .kind-here .result) (c .word-length .result) w (operand-byte t (stage))
     (c .before .kind-here .ensures) (c .word-length .ensures)
 
 operand-inside-here : (t : ℕ) (c : operand-lts.After-word-length (operand-claims t) (operand-at t) operand.Post)
-    → Inside (c .before .before .before .before .before .before .before .before .before .pre .1 .term)
-    (c .before .before .before .before .before .before .before .before .before .args .depth)
-    (c .before .before .before .before .before .before .before .before .before .pre .1 .rest)
-    (c .before .before .before .before .before .before .before .before .before .args .s .now) (c .before .kind-here .result) (c .word-length .result)
+    → Inside (c .before .before .before .before .before .before .before .before .before .before .pre .1 .0 .term)
+    (c .before .before .before .before .before .before .before .before .before .before .args .depth)
+    (c .before .before .before .before .before .before .before .before .before .before .pre .1 .0 .rest)
+    (c .before .before .before .before .before .before .before .before .before .before .args .s .now) (c .before .kind-here .result) (c .word-length .result)
 operand-inside-here t c =
     let earlier = c .before .before .before .before .before .before .before in
-    let start = earlier .before .before in
-    let p = start .pre .1 in operand-inside t c (p .term) (p .rest) (p .here)
+    let start = earlier .before .before .before in
+    let p = start .pre .1 .0 in operand-inside t c (p .term) (p .rest) (p .here)
 
 operand-byte-at-requires : (t : ℕ) → operand-lts.Need-byte-at-requires (operand-claims t) (operand-at t) operand.Post
 operand-byte-at-requires t c κs = search needs
 
 operand-leaf-here-requires : (t : ℕ) → operand-lts.Need-leaf-here-requires (operand-claims t) (operand-at t) operand.Post
 operand-leaf-here-requires t c κs =
-    let start = c .before .before .before .before .before .before in
-    let p = start .pre .1 in let a = start .args in table-lengths (a .n) (p .bindings) (a .names .now) (a .words .now) (p .table)
+    let start = c .before .before .before .before .before .before .before in
+    let p = start .pre .1 .0 in let a = start .args in (table-lengths (a .n) (p .bindings) (a .names .now) (a .words .now) (p .table), start .pre .1 .1)
 
 operand-returns : (t : ℕ) → operand-lts.Need-returns (operand-claims t) (operand-at t) operand.Post
 operand-returns t c =
     let stage = c .before .before .before .before .before .before .before in
-    let start = stage in
+    let start = stage .before in
     let a = start .args in leaf-read (a .s .now) (a .depth) (a .n) (a .names .now) (a .words .now) (a .first) (a .gates .now) (a .unknown)
     (c .leaf-here .result) (c .leaf-here .ensures) (λ e. c .before .if1 .taken (c .before .before .byte-at .ensures ∙ e))
 
@@ -132,8 +132,8 @@ operand-add-at : (t : ℕ) → operand-lts.Need-add-at (operand-claims t) (opera
 operand-add-at t c =
     let stage = c .before .before .before .before .before .before .before in
     let earlier = stage in
-    let start = earlier .before .before in
-    let a = start .args in let p = start .pre .1 in omega (
+    let start = earlier .before .before .before in
+    let a = start .args in let p = start .pre .1 .0 in omega (
       arith,
       inner-within (a .s .now) (a .depth) (a .n) (a .names .now) (a .words .now) (a .first) (a .gates .now) (c .before .kind-here .result)
           (c .word-length .result) (p .term) (p .rest) (operand-inside-here t c),
@@ -144,16 +144,16 @@ operand-sub-operands : (t : ℕ) → operand-lts.Need-sub-operands (operand-clai
 operand-sub-operands t c =
     let stage = c .before .before .before .before .before .before .before in
     let earlier = stage in
-    let start = earlier .before .before in
-    let a = start .args in let p = start .pre .1 in inner-within (a .s .now) (a .depth) (a .n) (a .names .now) (a .words .now) (a .first) (a .gates .now)
+    let start = earlier .before .before .before in
+    let a = start .args in let p = start .pre .1 .0 in inner-within (a .s .now) (a .depth) (a .n) (a .names .now) (a .words .now) (a .first) (a .gates .now)
     (c .before .kind-here .result) (c .word-length .result) (p .term) (p .rest) (operand-inside-here t c)
 
 operand-part-operands-start : (t : ℕ) → operand-lts.Need-part-operands-start (operand-claims t) (operand-at t) operand.Post
 operand-part-operands-start t c =
     let stage = c .before .before .before .before .before .before .before in
     let earlier = stage in
-    let start = earlier .before .before in
-    let a = start .args in let p = start .pre .1 in inner-within (a .s .now) (a .depth) (a .n) (a .names .now) (a .words .now) (a .first) (a .gates .now)
+    let start = earlier .before .before .before in
+    let a = start .args in let p = start .pre .1 .0 in inner-within (a .s .now) (a .depth) (a .n) (a .names .now) (a .words .now) (a .first) (a .gates .now)
     (c .before .kind-here .result) (c .word-length .result) (p .term) (p .rest) (operand-inside-here t c)
 
 operand-part-operands-end : (t : ℕ) → operand-lts.Need-part-operands-end (operand-claims t) (operand-at t) operand.Post
@@ -167,66 +167,69 @@ operand-slice-aggregate-operands t c = search needs
 
 operand-operands-requires : (t : ℕ) → operand-lts.Need-operands-requires (operand-claims t) (operand-at t) operand.Post
 operand-operands-requires t c κs = let b = c .before .before .before in
-    let a = b .before .before .before .before .before .before .before .before .before .args in
-    let p = b .before .before .before .before .before .before .before .before .before .pre .1 in
+    let a = b .before .before .before .before .before .before .before .before .before .before .args in
+    let p = b .before .before .before .before .before .before .before .before .before .before .pre .1 .0 in
     let k = b .before .kind-here .result in
     let wide = b .word-length .result in (
       omega (
         arith,
         inner-shorter (a .s .now) (a .depth) (a .n) (a .names .now) (a .words .now) (a .first) (a .gates .now) k wide (p .term) (p .rest)
             (operand-inside-here t b),
-        b .before .before .before .before .before .before .before .before .before .pre .0,
+        b .before .before .before .before .before .before .before .before .before .before .pre .0,
       ),
-      list-here (a .s .now) (a .depth) (a .n) (a .names .now) (a .words .now) (a .first) (a .gates .now) k wide p (operand-inside-here t b),
+      (
+        list-here (a .s .now) (a .depth) (a .n) (a .names .now) (a .words .now) (a .first) (a .gates .now) k wide p (operand-inside-here t b),
+        b .before .before .before .before .before .before .before .before .before .before .pre .1 .1,
+      ),
     )
 
 -- what the operand list has left bounds the gate's number and its words
 operand-bounded : (t : ℕ) (c : operand-lts.After-operands (operand-claims t) (operand-at t) operand.Post)
-    → Bounded (c .before .before .before .before .before .before .before .before .before .before .before .before .before .args .s .now)
-    (c .before .before .before .before .before .before .before .before .before .before .before .before .before .args .depth)
-    (c .before .before .before .before .before .before .before .before .before .before .before .before .before .args .n)
-    (c .before .before .before .before .before .before .before .before .before .before .before .before .before .args .names .now)
-    (c .before .before .before .before .before .before .before .before .before .before .before .before .before .args .words .now)
-    (c .before .before .before .before .before .before .before .before .before .before .before .before .before .args .first)
-    (c .before .before .before .before .before .before .before .before .before .before .before .before .before .args .gates .now)
+    → Bounded (c .before .before .before .before .before .before .before .before .before .before .before .before .before .before .args .s .now)
+    (c .before .before .before .before .before .before .before .before .before .before .before .before .before .before .args .depth)
+    (c .before .before .before .before .before .before .before .before .before .before .before .before .before .before .args .n)
+    (c .before .before .before .before .before .before .before .before .before .before .before .before .before .before .args .names .now)
+    (c .before .before .before .before .before .before .before .before .before .before .before .before .before .before .args .words .now)
+    (c .before .before .before .before .before .before .before .before .before .before .before .before .before .before .args .first)
+    (c .before .before .before .before .before .before .before .before .before .before .before .before .before .before .args .gates .now)
     (c .before .before .before .before .before .kind-here .result) (c .before .before .before .before .word-length .result)
-    (c .operands .last .1 .1 .1 .1 .1 .1 .1 .1 .0) (c .operands .last .1 .1 .1 .1 .1 .1 .1 .1 .1 .0) (c .operands .result)
+    (c .operands .last .1 .1 .1 .1 .1 .1 .1 .1 .1 .0) (c .operands .last .1 .1 .1 .1 .1 .1 .1 .1 .1 .1 .0) (c .operands .result)
 operand-bounded t c =
     let stage = c .before .before .before .before in
     let at-word-length = stage in
     let at-kind-here = at-word-length .before in
     let earlier = at-kind-here .before .before .before .before .before .before .before in
-    let start = earlier .before in
+    let start = earlier .before .before in
     let a = start .args in
     bounded (a .s .now) (a .depth) (a .n) (a .names .now) (a .words .now) (a .first) (a .gates .now) (at-kind-here .kind-here .result)
-    (at-word-length .word-length .result) (a .unknown) (c .operands .last .1 .1 .1 .1 .1 .1 .1 .1 .0) (c .operands .last .1 .1 .1 .1 .1 .1 .1 .1 .1 .0)
-    (c .operands .result) (start .pre .1)
+    (at-word-length .word-length .result) (a .unknown) (c .operands .last .1 .1 .1 .1 .1 .1 .1 .1 .1 .0) (c .operands .last .1 .1 .1 .1 .1 .1 .1 .1 .1 .1 .0)
+    (c .operands .result) (start .pre .1 .0)
     (operand-inside-here t (at-word-length)) (c .operands .ensures)
 
 operand-slice-aggregate-put-gate : (t : ℕ) → operand-lts.Need-slice-aggregate-put-gate (operand-claims t) (operand-at t) operand.Post
-operand-slice-aggregate-put-gate t c = sym (c .before .before .before .before .before .operands .kept .1 .1 .1 .1 .1 .1 .1 .1 .1 .0)
+operand-slice-aggregate-put-gate t c = sym (c .before .before .before .before .before .operands .kept .1 .1 .1 .1 .1 .1 .1 .1 .1 .1 .0)
 
 operand-put-gate-requires : (t : ℕ) → operand-lts.Need-put-gate-requires (operand-claims t) (operand-at t) operand.Post
 operand-put-gate-requires t c κs =
     let stage = c .before .before .before .before .before in
     let at-operands = stage in
     let b = operand-bounded t (at-operands)
-    in (omega (arith, b .number, b .behind, b .room), ((b .kind, b .count), at-operands .operands .kept .1 .1 .1 .1 .1 .1 .1 .1 .1 .0))
+    in (omega (arith, b .number, b .behind, b .room), ((b .kind, b .count), at-operands .operands .kept .1 .1 .1 .1 .1 .1 .1 .1 .1 .1 .0))
 
-operand-add-t17 : (t : ℕ) → operand-lts.Need-add-t17 (operand-claims t) (operand-at t) operand.Post
-operand-add-t17 t c =
+operand-add-t18 : (t : ℕ) → operand-lts.Need-add-t18 (operand-claims t) (operand-at t) operand.Post
+operand-add-t18 t c =
     let earlier = c .before .before .before .before .before .before .before in
     let stage = earlier .before .before in
     let b = operand-bounded t (stage) in omega (arith, b .number, b .inputs)
 
-operand-cast-t33 : (t : ℕ) → operand-lts.Need-cast-t33 (operand-claims t) (operand-at t) operand.Post
-operand-cast-t33 t c =
+operand-cast-t34 : (t : ℕ) → operand-lts.Need-cast-t34 (operand-claims t) (operand-at t) operand.Post
+operand-cast-t34 t c =
     let earlier = c .before .before .before .before .before .before .before in
     let stage = earlier .before .before in
     let b = operand-bounded t (stage) in omega (arith, b .number, b .inputs)
 
-operand-add-t23 : (t : ℕ) → operand-lts.Need-add-t23 (operand-claims t) (operand-at t) operand.Post
-operand-add-t23 t c =
+operand-add-t24 : (t : ℕ) → operand-lts.Need-add-t24 (operand-claims t) (operand-at t) operand.Post
+operand-add-t24 t c =
     let earlier = c .before .before .before .before .before .before .before in
     let stage = earlier .before .before .before in
     let b = operand-bounded t (stage) in omega (arith, b .number, b .inputs)
@@ -235,7 +238,7 @@ operand-same-length : (t : ℕ) → operand-lts.Need-same-length (operand-claims
 operand-same-length t c =
     let at-put-gate = c .before .before .before .before in
     let at-operands = at-put-gate .before .before .before .before .before .before in
-    at-put-gate .put-gate .kept .0 ∙ at-operands .operands .kept .1 .1 .1 .1 .1 .1 .1 .1 .0
+    at-put-gate .put-gate .kept .0 ∙ at-operands .operands .kept .1 .1 .1 .1 .1 .1 .1 .1 .1 .0
 
 operand-returns-2 : (t : ℕ) → operand-lts.Need-returns-2 (operand-claims t) (operand-at t) operand.Post
 operand-returns-2 t c =
@@ -243,46 +246,46 @@ operand-returns-2 t c =
     let at-put-gate = stage-2 in
     let stage = at-put-gate .before .before .before .before .before .before in
     let b = stage in
-    let a = b .before .before .before .before .before .before .before .before .before .before .before .before .before .args in
+    let a = b .before .before .before .before .before .before .before .before .before .before .before .before .before .before .args in
     expression-read (a .s .now) (a .depth) (a .n) (a .names .now) (a .words .now) (a .first) (a .gates .now)
     (b .before .before .before .before .before .kind-here .result) (b .before .before .before .before .word-length .result) (a .unknown)
-    (b .operands .last .1 .1 .1 .1 .1 .1 .1 .1 .0) (at-put-gate .put-gate .last .0) (b .operands .last .1 .1 .1 .1 .1 .1 .1 .1 .1 .0)
+    (b .operands .last .1 .1 .1 .1 .1 .1 .1 .1 .1 .0) (at-put-gate .put-gate .last .0) (b .operands .last .1 .1 .1 .1 .1 .1 .1 .1 .1 .1 .0)
     (b .operands .result) (operand-inside t (b .before .before .before .before)) (b .operands .ensures) (at-put-gate .put-gate .ensures)
 
 -- another operand stands here
 another : (t : ℕ) (c : operands-lts.Else1 (operands-claims t) (operands-at t) operands.Post)
-    → getD (c .before .before .before .before .before .before .before .args .s .now) 0 0 ≡ 41 → ⊥
+    → getD (c .before .before .before .before .before .before .before .before .args .s .now) 0 0 ≡ 41 → ⊥
 another t c e = c .if1 .left (c .before .byte-at .ensures ∙ e)
 
 another-there : (t : ℕ) (c : operands-lts.Else1 (operands-claims t) (operands-at t) operands.Post)
-    → 0 < length (c .before .before .before .before .before .before .before .args .s .now)
+    → 0 < length (c .before .before .before .before .before .before .before .before .args .s .now)
 another-there t c =
     let stage = c .before .before .before .before .before .before .before in
-    let start = stage in
+    let start = stage .before in
     let a = start .args in more-there (a .s .now) (a .depth) (a .n) (a .names .now) (a .words .now) (a .first) (a .i) (a .gates .now) (a .slots .now)
-    (start .pre .1) (another t c)
+    (start .pre .1 .0) (another t c)
 
 another-left : (t : ℕ) (c : operands-lts.After-operand (operands-claims t) (operands-at t) operands.Post)
-    → c .operand .result .left < length (c .before .before .before .before .before .before .before .before .before .before .args .s .now)
+    → c .operand .result .left < length (c .before .before .before .before .before .before .before .before .before .before .before .args .s .now)
 another-left t c =
     let stage = c .before .before .before in
-    let start = stage .before .before .before .before .before .before .before in
+    let start = stage .before .before .before .before .before .before .before .before in
     let a = start .args in
-    left-shorter (a .s .now) (a .depth) (a .n) (a .names .now) (a .words .now) (a .first) (a .i) (a .gates .now) (a .slots .now) (start .pre .1)
-    (another t (stage)) (a .unknown) (c .operand .last .1 .1 .1 .1 .1 .1 .1 .0) (c .operand .result) (c .operand .ensures)
+    left-shorter (a .s .now) (a .depth) (a .n) (a .names .now) (a .words .now) (a .first) (a .i) (a .gates .now) (a .slots .now) (start .pre .1 .0)
+    (another t (stage)) (a .unknown) (c .operand .last .1 .1 .1 .1 .1 .1 .1 .1 .0) (c .operand .result) (c .operand .ensures)
 
 operands-byte-at-requires : (t : ℕ) → operands-lts.Need-byte-at-requires (operands-claims t) (operands-at t) operands.Post
 operands-byte-at-requires t c κs = search needs
 
-operands-sub-t16 : (t : ℕ) → operands-lts.Need-sub-t16 (operands-claims t) (operands-at t) operands.Post
-operands-sub-t16 t c =
-    let start = c .before .before .before .before .before .before .before in
+operands-sub-t17 : (t : ℕ) → operands-lts.Need-sub-t17 (operands-claims t) (operands-at t) operands.Post
+operands-sub-t17 t c =
+    let start = c .before .before .before .before .before .before .before .before in
     byte-there (start .args .s .now) (c .before .byte-at .ensures) (c .if1 .taken) (omega arith)
 
 operands-returns : (t : ℕ) → operands-lts.Need-returns (operands-claims t) (operands-at t) operands.Post
 operands-returns t c =
     let stage = c .before .before .before .before .before .before .before in
-    let start = stage in
+    let start = stage .before in
     let a = start .args in nil-read (a .s .now) (a .depth) (a .n) (a .names .now) (a .words .now) (a .first) (a .i) (a .gates .now) (a .slots .now)
     (a .unknown) (sym (c .before .byte-at .ensures) ∙ c .if1 .taken)
 
@@ -297,31 +300,34 @@ operands-part-operand-end t c = search needs
 
 operands-operand-requires : (t : ℕ) → operands-lts.Need-operand-requires (operands-claims t) (operands-at t) operands.Post
 operands-operand-requires t c κs = let b = c .before .before in
-    let a = b .before .before .before .before .before .before .before .args in (
-      omega (arith, rest-length (a .s .now) 1, another-there t b, b .before .before .before .before .before .before .before .pre .0),
-      operand-here (a .s .now) (a .depth) (a .n) (a .names .now) (a .words .now) (a .first) (a .i) (a .gates .now) (a .slots .now)
-          (b .before .before .before .before .before .before .before .pre .1) (another t b),
+    let a = b .before .before .before .before .before .before .before .before .args in (
+      omega (arith, rest-length (a .s .now) 1, another-there t b, b .before .before .before .before .before .before .before .before .pre .0),
+      (
+        operand-here (a .s .now) (a .depth) (a .n) (a .names .now) (a .words .now) (a .first) (a .i) (a .gates .now) (a .slots .now)
+            (b .before .before .before .before .before .before .before .before .pre .1 .0) (another t b),
+        b .before .before .before .before .before .before .before .before .pre .1 .1,
+      ),
     )
 
 operands-mul-slots : (t : ℕ) → operands-lts.Need-mul-slots (operands-claims t) (operands-at t) operands.Post
 operands-mul-slots t c =
     let stage-2 = c .before .before .before .before .before in
     let stage = stage-2 in
-    let b = stage in let a = b .before .before .before .before .before .before .before .args in
+    let b = stage in let a = b .before .before .before .before .before .before .before .before .args in
     omega (
       arith,
       slot-there (a .s .now) (a .depth) (a .n) (a .names .now) (a .words .now) (a .first) (a .i) (a .gates .now) (a .slots .now)
-          (b .before .before .before .before .before .before .before .pre .1) (another t b),
-      b .before .before .before .before .before .before .before .good,
+          (b .before .before .before .before .before .before .before .before .pre .1 .0) (another t b),
+      b .before .before .before .before .before .before .before .before .good,
     )
 
 operands-slice-write-slots : (t : ℕ) → operands-lts.Need-slice-write-slots (operands-claims t) (operands-at t) operands.Post
 operands-slice-write-slots t c =
     let stage-2 = c .before .before .before .before .before in
     let stage = stage-2 in
-    let b = stage in let a = b .before .before .before .before .before .before .before .args in
+    let b = stage in let a = b .before .before .before .before .before .before .before .before .args in
     slot-there (a .s .now) (a .depth) (a .n) (a .names .now) (a .words .now) (a .first) (a .i) (a .gates .now) (a .slots .now)
-    (b .before .before .before .before .before .before .before .pre .1) (another t b)
+    (b .before .before .before .before .before .before .before .before .pre .1 .0) (another t b)
 
 operands-sub-at : (t : ℕ) → operands-lts.Need-sub-at (operands-claims t) (operands-at t) operands.Post
 operands-sub-at t c = omega (arith, another-left t (c .before .before .before))
@@ -339,12 +345,12 @@ operands-add-operands : (t : ℕ) → operands-lts.Need-add-operands (operands-c
 operands-add-operands t c =
     let stage-2 = c .before .before .before .before .before .before .before in
     let stage = stage-2 in
-    let b = stage in let a = b .before .before .before .before .before .before .before .args in
+    let b = stage in let a = b .before .before .before .before .before .before .before .before .args in
     omega (
       arith,
       slot-there (a .s .now) (a .depth) (a .n) (a .names .now) (a .words .now) (a .first) (a .i) (a .gates .now) (a .slots .now)
-          (b .before .before .before .before .before .before .before .pre .1) (another t b),
-      b .before .before .before .before .before .before .before .good,
+          (b .before .before .before .before .before .before .before .before .pre .1 .0) (another t b),
+      b .before .before .before .before .before .before .before .before .good,
     )
 
 operands-operands-requires : (t : ℕ) → operands-lts.Need-operands-requires (operands-claims t) (operands-at t) operands.Post
@@ -352,32 +358,35 @@ operands-operands-requires t c κs =
     let stage-2 = c .before .before .before .before .before .before in
     let stage = stage-2 in
     let b = stage in
-    let a = b .before .before .before .before .before .before .before .before .before .before .args in
+    let a = b .before .before .before .before .before .before .before .before .before .before .before .args in
     let n = b .operand .result .left in (
       omega (
         arith,
         rest-length (a .s .now) (length (a .s .now) - n),
         another-left t b,
-        b .before .before .before .before .before .before .before .before .before .before .pre .0,
+        b .before .before .before .before .before .before .before .before .before .before .before .pre .0,
       ),
-      others-here (a .s .now) (a .depth) (a .n) (a .names .now) (a .words .now) (a .first) (a .i) (a .gates .now) (a .slots .now)
-          (b .before .before .before .before .before .before .before .before .before .before .pre .1) (another t (b .before .before .before)) (a .unknown)
-          (b .operand .last .1 .1 .1 .1 .1 .1 .1 .0) (b .operand .result) (b .operand .ensures),
+      (
+        others-here (a .s .now) (a .depth) (a .n) (a .names .now) (a .words .now) (a .first) (a .i) (a .gates .now) (a .slots .now)
+            (b .before .before .before .before .before .before .before .before .before .before .before .pre .1 .0) (another t (b .before .before .before)) (a .unknown)
+            (b .operand .last .1 .1 .1 .1 .1 .1 .1 .1 .0) (b .operand .result) (b .operand .ensures),
+        b .before .before .before .before .before .before .before .before .before .before .before .pre .1 .1,
+      ),
     )
 
 operands-same-length : (t : ℕ) → operands-lts.Need-same-length (operands-claims t) (operands-at t) operands.Post
 operands-same-length t c =
     let at-operands = c .before .before .before .before in
     let at-operand = at-operands .before .before .before .before .before .before .before in
-    at-operands .operands .kept .1 .1 .1 .1 .1 .1 .1 .1 .0 ∙ at-operand .operand .kept .1 .1 .1 .1 .1 .1 .1 .0
+    at-operands .operands .kept .1 .1 .1 .1 .1 .1 .1 .1 .1 .0 ∙ at-operand .operand .kept .1 .1 .1 .1 .1 .1 .1 .1 .0
 
 operands-same-length-2 : (t : ℕ) → operands-lts.Need-same-length-2 (operands-claims t) (operands-at t) operands.Post
 operands-same-length-2 t c =
     let at-operands = c .before .before .before .before in
     let at-operand = at-operands .before .before .before .before .before .before .before in
     let earlier = at-operand .before .before .before .before .before .before .before in
-    let start = earlier .before .before .before in
-    let a = start .args in at-operands .operands .kept .1 .1 .1 .1 .1 .1 .1 .1 .1 .0 ∙ length-set (a .slots .now) (a .i) (at-operand .operand .result .word)
+    let start = earlier .before .before .before .before in
+    let a = start .args in at-operands .operands .kept .1 .1 .1 .1 .1 .1 .1 .1 .1 .1 .0 ∙ length-set (a .slots .now) (a .i) (at-operand .operand .result .word)
 
 operands-returns-2 : (t : ℕ) → operands-lts.Need-returns-2 (operands-claims t) (operands-at t) operands.Post
 operands-returns-2 t c =
@@ -385,10 +394,10 @@ operands-returns-2 t c =
     let at-operands = stage-2 in
     let stage = at-operands .before .before .before .before .before .before .before in
     let b = stage in
-    let a = b .before .before .before .before .before .before .before .before .before .before .args in
+    let a = b .before .before .before .before .before .before .before .before .before .before .before .args in
     list-read (a .s .now) (a .depth) (a .n) (a .names .now) (a .words .now) (a .first) (a .i) (a .gates .now) (a .slots .now) (a .unknown)
-    (b .operand .last .1 .1 .1 .1 .1 .1 .1 .0) (at-operands .operands .last .1 .1 .1 .1 .1 .1 .1 .1 .0)
-    (at-operands .operands .last .1 .1 .1 .1 .1 .1 .1 .1 .1 .0) (b .operand .result) (at-operands .operands .result)
+    (b .operand .last .1 .1 .1 .1 .1 .1 .1 .1 .0) (at-operands .operands .last .1 .1 .1 .1 .1 .1 .1 .1 .1 .0)
+    (at-operands .operands .last .1 .1 .1 .1 .1 .1 .1 .1 .1 .1 .0) (b .operand .result) (at-operands .operands .result)
     (another t (b .before .before .before)) (b .operand .ensures) (at-operands .operands .ensures)
 
 pub +operand+operands-spec : {M : Type 1} → statement M
@@ -412,16 +421,16 @@ pub +operand+operands-spec : {M : Type 1} → statement M
     (operand-operands-requires t)
     (operand-slice-aggregate-put-gate t)
     (operand-put-gate-requires t)
-    (operand-add-t17 t)
-    (operand-cast-t33 t)
-    (operand-add-t23 t)
+    (operand-add-t18 t)
+    (operand-cast-t34 t)
+    (operand-add-t24 t)
     (operand-same-length t)
     (operand-returns-2 t))
     λ t. operands-lts.spec (operands-claims t)
     (operands-at t)
     operands.Post
     (operands-byte-at-requires t)
-    (operands-sub-t16 t)
+    (operands-sub-t17 t)
     (operands-returns t)
     (operands-sub-operand t)
     (operands-part-operand-start t)

@@ -1,49 +1,45 @@
--- `names::pack::pack` meets its contract: from the last byte down, one byte more in front. Assumes nothing.
+-- `names::pack::pack_first` meets its contract: from the last byte down, one byte more in front. Assumes nothing.
 use Prim.Native.Nat.{_≤_}
 use mathlib.Core.Path.{_≡_}
 use native.Mathlib.Omega.{arith}
 use lib.Seq.{drop-length}
 use lib.ListN.{length, drop}
-use borrow.Author.Needs.{needs}
 use Rattle.names.specs.Packed.{packed, nameFront}
 use Rattle.names.proofs.Packing.{packed-more, packed-more-fits, front-shorter}
-use Rattle.names.proofs.pack.pack.Statement.{statement}
-use Rattle.names.proofs.pack.pack.Tie as tie
+use Rattle.names.proofs.pack.pack_first.Statement.{statement}
+use Rattle.names.proofs.pack.pack_first.Tie as tie
 
 abbrev Inv-loop : tie.InvT-loop
-Inv-loop s i₀ r₀ i r = (i ≤ length (nameFront 8 s)) × (r ≡ packed (drop i (nameFront 8 s)))
+Inv-loop s n i₀ r₀ i r = (i ≤ length (nameFront 8 s)) × (r ≡ packed (drop i (nameFront 8 s)))
 
 abbrev μ-loop : tie.MeasureT-loop
-μ-loop s i₀ r₀ i r = i
-
-name-length-requires : tie.Need-name-length-requires Inv-loop μ-loop
-name-length-requires c κs = search needs
+μ-loop s n i₀ r₀ i r = i
 
 loop-holds : tie.Need-loop-holds Inv-loop μ-loop
 loop-holds c =
-    let f = nameFront 8 (c .before .before .args .s .now) in
-    let e : c .name-length .result ≡ length f = c .name-length .ensures in
+    let f = nameFront 8 (c .args .s .now) in
+    let e : c .args .n ≡ length f = c .pre in
     (omega arith, rw (e, drop-length f))
 
 sub-i : tie.Need-sub-i Inv-loop μ-loop
 sub-i c = omega arith
 
 shared-slice-read-r : tie.Need-shared-slice-read-r Inv-loop μ-loop
-shared-slice-read-r c = let l = c .before .before .loop in omega (arith, front-shorter 8 (c .before .before .before .before .before .args .s .now), l .inv .0)
+shared-slice-read-r c = let l = c .before .before .loop in omega (arith, front-shorter 8 (c .before .before .before .args .s .now), l .inv .0)
 
 cast-r : tie.Need-cast-r Inv-loop μ-loop
 cast-r c =
-    let start = c .before .before .before .before .before in
+    let start = c .before .before .before in
     let l = c .before .before .loop in omega (arith, packed-more-fits (start .args .s .now) (l .i) (l .r) (omega arith) (l .inv .0) (l .inv .1))
 
 mul-r : tie.Need-mul-r Inv-loop μ-loop
 mul-r c =
-    let start = c .before .before .before .before .before in
+    let start = c .before .before .before in
     let l = c .before .before .loop in omega (arith, packed-more-fits (start .args .s .now) (l .i) (l .r) (omega arith) (l .inv .0) (l .inv .1))
 
 add-r : tie.Need-add-r Inv-loop μ-loop
 add-r c =
-    let start = c .before .before .before .before .before in
+    let start = c .before .before .before in
     let l = c .before .before .loop in omega (arith, packed-more-fits (start .args .s .now) (l .i) (l .r) (omega arith) (l .inv .0) (l .inv .1))
 
 loop-less : tie.Need-loop-less Inv-loop μ-loop
@@ -51,19 +47,18 @@ loop-less c = omega arith
 
 loop-again : tie.Need-loop-again Inv-loop μ-loop
 loop-again c =
-    let start = c .before .before .before .before .before in
+    let start = c .before .before .before in
     let l = c .before .before .loop in (omega arith, packed-more (start .args .s .now) (l .i) (l .r) (omega arith) (l .inv .0) (l .inv .1))
 
 returns : tie.Need-returns Inv-loop μ-loop
 returns c = let l = c .before .loop in let z : l .i ≡ 0 = omega arith in rw z at (l .inv .1)
 
-pub pack-spec : {M : Type 1} → statement M
-pack-spec =
+pub pack-first-spec : {M : Type 1} → statement M
+pack-first-spec =
     tie.close
     (tie.spec
     Inv-loop
     μ-loop
-    name-length-requires
     loop-holds
     sub-i
     shared-slice-read-r

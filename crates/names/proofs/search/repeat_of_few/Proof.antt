@@ -1,4 +1,4 @@
--- `names::search::first_repeat` meets its contract: no name passed repeats one before it. Assumes nothing.
+-- `names::search::repeat_of_few` meets its contract: no name passed repeats one before it. Assumes nothing.
 use Prim.Native.Nat.{ℕ, _-_, _≤_, _<_}
 use mathlib.Core.Bool.{false}
 use mathlib.Core.Path.{_≡_, sym, _∙_}
@@ -6,8 +6,8 @@ use native.Mathlib.Omega.{arith}
 use lib.ListN.{length}
 use Rattle.names.specs.Search.{repeatsAt}
 use Rattle.names.proofs.Filling.{first-found, none-found, passed-more, none-before}
-use Rattle.names.proofs.search.first_repeat.Statement.{statement}
-use Rattle.names.proofs.search.first_repeat.Tie as tie
+use Rattle.names.proofs.search.repeat_of_few.Statement.{statement}
+use Rattle.names.proofs.search.repeat_of_few.Tie as tie
 
 abbrev Inv-loop : tie.InvT-loop
 Inv-loop names i₀ i = (i ≤ length names) × ((j : ℕ) → j < i → repeatsAt names j ≡ false)
@@ -50,8 +50,8 @@ returns-2 c =
     let l = c .before .loop in none-found (repeatsAt (c .before .before .before .args .names .now)) (length (c .before .before .before .args .names .now))
     (l .i) (l .inv .1) (l .inv .0) (omega arith)
 
-pub first-repeat-spec : {M : Type 1} → statement M
-first-repeat-spec =
+pub repeat-of-few-spec : {M : Type 1} → statement M
+repeat-of-few-spec =
     tie.close
     (tie.spec
     Inv-loop

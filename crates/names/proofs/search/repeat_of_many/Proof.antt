@@ -1,0 +1,21 @@
+-- `names::search::repeat_of_many` meets its contract: a new array is an empty index. Assumes nothing.
+use Prim.Native.Nat.{_+_}
+use native.Mathlib.Omega.{arith}
+use Rattle.names.specs.Index.{hashes, many}
+use Rattle.names.proofs.Indexing.{index-new}
+use borrow.Author.Needs.{needs}
+use Rattle.names.proofs.search.repeat_of_many.Statement.{statement}
+use Rattle.names.proofs.search.repeat_of_many.Tie as tie
+
+slice-aggregate-enter-all : tie.Need-slice-aggregate-enter-all
+slice-aggregate-enter-all c = search needs
+
+enter-all-requires : tie.Need-enter-all-requires
+enter-all-requires c κs =
+    let s = c .before .before in index-new (s .args .names .now) (hashes + many + 1) (omega arith) (omega arith)
+
+returns : tie.Need-returns
+returns c = search needs
+
+pub repeat-of-many-spec : {M : Type 1} → statement M
+repeat-of-many-spec = tie.close (tie.spec slice-aggregate-enter-all enter-all-requires returns)
