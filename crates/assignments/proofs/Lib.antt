@@ -12,7 +12,8 @@ pub mod SoundTable
 mod Subsets
 mod PairWalk
 mod Bounds
-mod Scan
+mod Weights
+mod Joining
 mod Entry
 pub mod Listing
 pub mod TableCover

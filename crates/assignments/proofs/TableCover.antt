@@ -2,7 +2,7 @@
 use mathlib.Core.Path.{_≡_, refl, sym, ap, subst, _∙_}
 use mathlib.Core.Bool.{Bool, true, false, not, _||_}
 use mathlib.Core.List.{List, map}
-use Prim.Native.Nat.{ℕ, _*_, _^_, _≤_}
+use Prim.Native.Nat.{ℕ, _*_, _^_, _≤_, _<_}
 use lib.Dec.{eqb}
 use lib.ListN.{length, getD}
 use Rattle.laws.specs.Lists.{upTo, placed}
@@ -12,12 +12,13 @@ use Rattle.netlist.specs.Limits.{maxInputs}
 use Rattle.netlist.specs.Assignments.{Assignment, fixes}
 use Rattle.netlist.specs.Cover.{without}
 use Rattle.assignments.specs.Over.{soundOver, minimalOver, coverOver}
-use Rattle.assignments.specs.Tables.{ternaryNumber, soundByte, soundTable, byteOf, weightOf, weightTable}
+use Rattle.assignments.specs.Tables.{ternaryNumber, settledBy, soundByte, byteOf, weightOf, weightTable, Filled}
 use Rattle.assignments.specs.Entries.{pairAt, withinAt, isEntry, entryAt, soundBy, neededBy, minimalBy, entryBy, entriesBelow, entriesBy}
 use Rattle.assignments.specs.Entries.{Weighed, EntriesWritten}
 use Rattle.assignments.proofs.ListFacts.{keep-ext}
 use Rattle.assignments.proofs.Numbers.{number-lt}
 use Rattle.assignments.proofs.SoundTable.{byte-number}
+use Rattle.assignments.proofs.Joining.{filled-all}
 use Rattle.assignments.proofs.Flat.{cover-flat}
 
 -- the weights that `fill_weights` leaves are right
@@ -33,14 +34,11 @@ weights-right {n} {size} {weights} entry h s e r = record {
 }
 
 -- the byte at an assignment's number says whether it is sound
-module _ (p : ℕ → Bool) (n : ℕ) (entry : List ℕ) where
-  abbrev table : List ℕ
-  table = placed (soundTable p n) entry
-
+module _ (p : ℕ → Bool) (n : ℕ) (table : List ℕ) (right : (j : ℕ) → j < 3 ^ n → getD table j 0 ≡ soundByte p n j) where
   sound-by : (a : Assignment) → soundBy table n a ≡ soundOver p n a
-  unfolding soundBy soundTable byteOf
+  unfolding soundBy byteOf
   sound-by a =
-      ap (λ (x : ℕ). eqb x 1) (placed-tab (soundByte p n) (3 ^ n) entry (ternaryNumber n a) 0 (number-lt n a) ∙ byte-number p n a)
+      ap (λ (x : ℕ). eqb x 1) (right (ternaryNumber n a) (number-lt n a) ∙ byte-number p n a)
       ∙ is-one (soundOver p n a)
     where
       is-one : (b : Bool) → eqb (byteOf b) 1 ≡ b
@@ -62,7 +60,8 @@ module _ (p : ℕ → Bool) (n : ℕ) (entry : List ℕ) where
   entries-cover = ap (map (pairAt n)) (keep-ext (entryBy table n) (entryAt p n) entry-by (upTo (2 ^ n * 2 ^ n))) ∙ sym (cover-flat p n)
 
 -- what is written by the table that `fill_sound` leaves is the cover
-pub cover-written : (p : ℕ → Bool) (n : ℕ) (sound entry : List ℕ) {before after : List ℕ} {count : ℕ} → sound ≡ placed (soundTable p n) entry
-    → EntriesWritten (entriesBy sound n) before after count → EntriesWritten (coverOver p n) before after count
-cover-written p n sound entry {before} {after} {count} e w =
-    subst (λ (xs : List Assignment). EntriesWritten xs before after count) (ap (λ (xs : List ℕ). entriesBy xs n) e ∙ entries-cover p n entry) w
+pub cover-written : {settled sound : List ℕ} {n k : ℕ} {before after : List ℕ} {count : ℕ} → Filled settled sound n (2 ^ n) k
+    → EntriesWritten (entriesBy sound n) before after count → EntriesWritten (coverOver (settledBy settled) n) before after count
+cover-written {settled} {sound} {n} {k} {before} {after} {count} f w =
+    subst (λ (xs : List Assignment). EntriesWritten xs before after count)
+    (entries-cover (settledBy settled) n sound (λ j l. f .right j (rw (filled-all f) l))) w

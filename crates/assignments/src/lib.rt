@@ -5,7 +5,6 @@ use layout::limits::MAX_ASSIGNMENTS;
 use layout::limits::MAX_SETTINGS;
 use tables::fill_sound;
 use tables::fill_weights;
-use tables::power_of_3;
 ghost use Prim.Native.Nat.{_^_, _≤_};
 ghost use lib.ListN.{length};
 ghost use Rattle.netlist.specs.Limits.{maxInputs};
@@ -39,8 +38,7 @@ fn cover_within(
     requires { ⌜ (n ≤ maxInputs) × (2 ^ n ≤ length (now settled)) × (3 ^ n ≤ length (now sound)) × (2 ^ n ≤ length (now weights)) ⌝ }
     ensures { λ r. ⌜ EntriesWritten (coverOver (settledBy (now (settled .entry))) n) (now (out .entry)) (now (out .exit)) r ⌝ }
 {
-    let size = power_of_3(n);
     fill_weights(n, weights);
-    fill_sound(settled, n, size, sound);
+    let size = fill_sound(settled, n, sound);
     write_entries(sound, weights, n, size, out)
 }

@@ -1,13 +1,10 @@
 -- `cover_within` meets its contract: the tables are right, so the entries that they show are the cover. Assumes nothing.
 use native.Mathlib.Omega.{arith}
-use Rattle.assignments.specs.Tables.{settledBy}
+use Rattle.assignments.proofs.Joining.{filled-all}
 use Rattle.assignments.proofs.TableCover.{weights-right, cover-written}
 use borrow.Author.Needs.{needs}
 use Rattle.assignments.proofs.cover_within.Statement.{statement}
 use Rattle.assignments.proofs.cover_within.Tie as tie
-
-power-of-3-requires : tie.Need-power-of-3-requires
-power-of-3-requires c κs = search needs
 
 fill-weights-requires : tie.Need-fill-weights-requires
 fill-weights-requires c κs = search needs
@@ -19,11 +16,10 @@ write-entries-requires : tie.Need-write-entries-requires
 write-entries-requires c κs =
     let sounded = c .before .before .before .before .before in
     let weighed = sounded .before .before .before .before in
-    let powered = weighed .before .before in
-    let start = powered .before .before .before .before .before in (
-      weights-right (start .args .weights .now) (start .pre .0) (powered .power-of-3 .ensures) (weighed .fill-weights .ensures)
+    let start = weighed .before .before .before .before .before .before in (
+      weights-right (start .args .weights .now) (start .pre .0) (filled-all (sounded .fill-sound .ensures)) (weighed .fill-weights .ensures)
           (omega (arith, weighed .fill-weights .kept .1 .0, start .pre .3)),
-      omega (arith, sounded .fill-sound .kept .1 .1 .1 .0, start .pre .2),
+      sounded .fill-sound .ensures .room,
     )
 
 same-length : tie.Need-same-length
@@ -39,16 +35,12 @@ returns : tie.Need-returns
 returns c =
     let written = c .before .before in
     let sounded = written .before .before .before .before .before .before in
-    let weighed = sounded .before .before .before .before in
-    let args = weighed .before .before .before .before .before .before .before .args in
-    cover-written (settledBy (args .settled .now)) (args .n) (sounded .fill-sound .last .1 .1 .1 .0) (args .sound .now)
-    (sounded .fill-sound .ensures) (written .write-entries .ensures)
+    cover-written (sounded .fill-sound .ensures) (written .write-entries .ensures)
 
 pub cover-within-spec : {M : Type 1} → statement M
 cover-within-spec =
     tie.close
     (tie.spec
-    power-of-3-requires
     fill-weights-requires
     fill-sound-requires
     write-entries-requires
