@@ -14,6 +14,7 @@ mod PairWalk
 mod Bounds
 mod Weights
 mod Joining
-mod Entry
+mod Dropping
+mod Rows
 pub mod Listing
 pub mod TableCover

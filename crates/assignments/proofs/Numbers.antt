@@ -18,11 +18,11 @@ use Rattle.assignments.proofs.Digits.{numeral-lt, numeral-less, digit-n
 use Rattle.assignments.proofs.Agree.{bit-lt, without-fixed, without-fixed-other, without-ones-other}
 
 -- the digit of a fixed input is its value, that of a free one is 2
-digit-fixed : (a : Assignment) (i : ℕ) → bit (a .fixed) i ≡ 1 → digitOf a i ≡ bit (a .ones) i
+pub digit-fixed : (a : Assignment) (i : ℕ) → bit (a .fixed) i ≡ 1 → digitOf a i ≡ bit (a .ones) i
 unfolding digitOf fixes
 digit-fixed a i e = rw (eq-eqb (bit (a .fixed) i) 1 e)
 
-digit-free : (a : Assignment) (i : ℕ) → (bit (a .fixed) i ≡ 1 → ⊥) → digitOf a i ≡ 2
+pub digit-free : (a : Assignment) (i : ℕ) → (bit (a .fixed) i ≡ 1 → ⊥) → digitOf a i ≡ 2
 unfolding digitOf fixes
 digit-free a i ne = rw (ne-eqb (bit (a .fixed) i) 1 ne)
 

@@ -3,6 +3,7 @@
 use entries::write_entries;
 use layout::limits::MAX_ASSIGNMENTS;
 use layout::limits::MAX_SETTINGS;
+use minimal::keep_minimal;
 use tables::fill_sound;
 use tables::fill_weights;
 ghost use Prim.Native.Nat.{_^_, _≤_};
@@ -13,6 +14,7 @@ ghost use Rattle.assignments.specs.Tables.{settledBy};
 ghost use Rattle.assignments.specs.Entries.{EntriesWritten};
 
 mod entries;
+mod minimal;
 mod pairs;
 mod tables;
 
@@ -40,5 +42,6 @@ fn cover_within(
 {
     fill_weights(n, weights);
     let size = fill_sound(settled, n, sound);
+    keep_minimal(n, size, sound);
     write_entries(sound, weights, n, size, out)
 }

@@ -12,14 +12,22 @@ fill-weights-requires c κs = search needs
 fill-sound-requires : tie.Need-fill-sound-requires
 fill-sound-requires c κs = search needs
 
+keep-minimal-requires : tie.Need-keep-minimal-requires
+keep-minimal-requires c κs =
+    let sounded = c .before .before .before in
+    let start = sounded .before .before .before .before .before .before .before .before .before .before in
+    (start .pre .0, filled-all (sounded .fill-sound .ensures), sounded .fill-sound .ensures .room)
+
 write-entries-requires : tie.Need-write-entries-requires
 write-entries-requires c κs =
-    let sounded = c .before .before .before .before .before in
+    let minimal = c .before .before .before .before .before in
+    let sounded = minimal .before .before .before .before in
     let weighed = sounded .before .before .before .before in
     let start = weighed .before .before .before .before .before .before in (
-      weights-right (start .args .weights .now) (start .pre .0) (filled-all (sounded .fill-sound .ensures)) (weighed .fill-weights .ensures)
+      weights-right (start .args .weights .now) (start .pre .0) (weighed .fill-weights .ensures)
           (omega (arith, weighed .fill-weights .kept .1 .0, start .pre .3)),
-      sounded .fill-sound .ensures .room,
+      filled-all (sounded .fill-sound .ensures),
+      omega (arith, minimal .keep-minimal .kept .1 .1 .0, sounded .fill-sound .ensures .room),
     )
 
 same-length : tie.Need-same-length
@@ -34,8 +42,9 @@ same-length-3 c = search needs
 returns : tie.Need-returns
 returns c =
     let written = c .before .before in
-    let sounded = written .before .before .before .before .before .before in
-    cover-written (sounded .fill-sound .ensures) (written .write-entries .ensures)
+    let minimal = written .before .before .before .before .before .before in
+    let sounded = minimal .before .before .before .before in
+    cover-written (sounded .fill-sound .ensures) (minimal .keep-minimal .ensures) (written .write-entries .ensures)
 
 pub cover-within-spec : {M : Type 1} → statement M
 cover-within-spec =
@@ -43,6 +52,7 @@ cover-within-spec =
     (tie.spec
     fill-weights-requires
     fill-sound-requires
+    keep-minimal-requires
     write-entries-requires
     same-length
     same-length-2

@@ -16,7 +16,7 @@ count-entries-requires c κs = search needs
 mul-if1 : tie.Need-mul-if1
 mul-if1 c =
     let args = c .before .before .before .before .args in
-    let f : length (entriesBy (args .sound .now) (args .n)) ≤ 2 ^ (args .n) * 2 ^ (args .n) = entries-few (args .sound .now) (args .n) in
+    let f : length (entriesBy (args .marks .now) (args .n)) ≤ 2 ^ (args .n) * 2 ^ (args .n) = entries-few (args .marks .now) (args .n) in
     let g : 2 ^ (args .n) * 2 ^ (args .n) ≤ 2 ^ (2 * maxInputs) = pairs-fit (c .before .before .before .before .pre .0 .few) in
     omega (arith, c .count-entries .ensures)
 
