@@ -16,7 +16,7 @@ use Rattle.laws.proofs.Lists.{joined-append, keep-append}
 use Rattle.laws.proofs.Slices.{set-placed}
 use Rattle.netlist.specs.Assignments.{Assignment}
 use Rattle.assignments.specs.Entries.{pairAt, withinAt, NextPair, entryBy, entriesBelow, entriesBy, Reached, Words, EntriesWritten}
-use Rattle.assignments.specs.Over.{assignmentWords}
+use Rattle.assignments.specs.Over.{assignmentWords, nothing}
 use Rattle.assignments.proofs.ListFacts.{keep-le, keep-upTo-suc}
 use Rattle.assignments.proofs.PairWalk.{first-pair}
 
@@ -202,3 +202,16 @@ with-room {entries} {entry} c r e = record { counted = c; written = rw (le-leb (
 pub without-room : {entries : List Assignment} {entry : List ℕ} {count : ℕ} → count ≡ length entries → length entry < 2 * count
     → EntriesWritten entries entry entry count
 without-room {entries} {entry} c r = record { counted = c; written = rw (lt-leb (2 * length entries) (length entry) (rw (← c) r)) }
+
+-- `write_nothing`: the same for the one entry that fixes nothing
+pub nothing-written : (entry : List ℕ) → 2 ≤ length entry → EntriesWritten (nothing ∷ []) entry (set (set entry 0 0) 1 0) 1
+unfolding assignmentWords
+nothing-written entry l = with-room refl l (zeros entry l)
+  where
+    zeros : (xs : List ℕ) → 2 ≤ length xs → set (set xs 0 0) 1 0 ≡ placed (assignmentWords (nothing ∷ [])) xs
+    zeros [] l = absurd (omega arith)
+    zeros (x ∷ []) l = absurd (omega arith)
+    zeros (x ∷ y ∷ xs) l = refl
+
+pub nothing-kept : (entry : List ℕ) → length entry < 2 → EntriesWritten (nothing ∷ []) entry entry 1
+nothing-kept entry l = without-room refl l

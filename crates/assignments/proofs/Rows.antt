@@ -13,8 +13,8 @@ use borrow.Author.Tests.{eq-eqb, ne-eqb}
 use Rattle.netlist.specs.Limits.{maxInputs}
 use Rattle.netlist.specs.Assignments.{bit}
 use Rattle.assignments.specs.Over.{masks}
-use Rattle.assignments.specs.Tables.{ternaryNumber, weightOf}
-use Rattle.assignments.specs.Entries.{pairAt, withinAt, PairBelow, soundAt, entryBy, Weighed, Row, Reached}
+use Rattle.assignments.specs.Tables.{ternaryNumber, weightOf, Weighed}
+use Rattle.assignments.specs.Entries.{pairAt, withinAt, PairBelow, soundAt, entryBy, Row, Reached}
 use Rattle.assignments.proofs.Agree.{within-at}
 use Rattle.assignments.proofs.Bounds.{three-fits}
 use Rattle.assignments.proofs.Covered.{bit-zero}

@@ -2,42 +2,31 @@
 use mathlib.Core.Path.{_≡_, refl, sym, ap, subst, _∙_}
 use mathlib.Core.Logic.{⊎-elim}
 use mathlib.Core.Bool.{Bool, true, false, not, _||_}
-use mathlib.Core.List.{List, map}
-use Prim.Native.Nat.{ℕ, _*_, _^_, _≤_, _<_}
+use mathlib.Core.List.{List, [], _∷_, map}
+use Prim.Native.Nat.{ℕ, _*_, _^_, _<_}
 use native.Mathlib.Nat.{mod-lt, div-lt-iff-lt-mul}
 use native.Mathlib.Omega.{arith}
 use lib.Dec.{eqb}
-use lib.ListN.{length, getD}
+use lib.ListN.{getD}
 use lib.Pow.{pow-pos}
 use borrow.Author.Tests.{eq-eqb, ne-eqb}
-use Rattle.laws.specs.Lists.{placed}
-use Rattle.laws.proofs.Tab.{placed-tab}
+use Rattle.laws.specs.Lists.{all, upTo}
 use Rattle.laws.proofs.Tests.{eq-or-ne}
-use Rattle.laws.proofs.Quantifiers.{all-ext}
-use Rattle.netlist.specs.Limits.{maxInputs}
+use Rattle.laws.proofs.Quantifiers.{all-below, all-ext}
 use Rattle.netlist.specs.Assignments.{Assignment, bit, fixes}
 use Rattle.netlist.specs.Cover.{without}
 use Rattle.assignments.specs.Digits.{ternaryDigit}
-use Rattle.assignments.specs.Over.{soundOver, minimalOver, coverOver, Consistent}
-use Rattle.assignments.specs.Tables.{ternaryNumber, settledBy, soundByte, byteOf, weightOf, weightTable, Filled}
+use Rattle.assignments.specs.Over.{soundOver, minimalOver, coverOver, nothing, Consistent}
+use Rattle.assignments.specs.Tables.{ternaryNumber, settledBy, soundByte, byteOf, Filled}
 use Rattle.assignments.specs.Entries.{pairAt, withinAt, isEntry, entryAt, soundAt, neededAt, minimalAt, OnlyMinimal}
-use Rattle.assignments.specs.Entries.{entryBy, entriesBelow, entriesBy, Weighed, EntriesWritten}
+use Rattle.assignments.specs.Entries.{entryBy, entriesBelow, entriesBy, EntriesWritten}
 use Rattle.assignments.proofs.Agree.{bit-lt}
 use Rattle.assignments.proofs.ListFacts.{keep-below}
 use Rattle.assignments.proofs.Numbers.{digit-fixed, digit-free, number-lt, number-digit, number-without}
 use Rattle.assignments.proofs.SoundTable.{byte-number}
 use Rattle.assignments.proofs.Joining.{filled-all}
+use Rattle.assignments.proofs.Covered.{nothing-sound-from, nothing-sound-cover}
 use Rattle.assignments.proofs.Flat.{cover-flat}
-
--- the weights that `fill_weights` leaves are right
-pub weights-right : {n : ℕ} {weights : List ℕ} (entry : List ℕ) → n ≤ maxInputs → weights ≡ placed (weightTable n) entry → 2 ^ n ≤ length weights
-    → Weighed weights n
-unfolding weightTable
-weights-right {n} {weights} entry h e r = record {
-  few = h;
-  room = r;
-  right = λ m l. ap (λ (xs : List ℕ). getD xs m 0) e ∙ placed-tab (weightOf n) (2 ^ n) entry m 0 l;
-}
 
 -- the byte at an assignment's number says whether it is sound, and whether an input can be dropped
 module _ (p : ℕ → Bool) (n : ℕ) (sound : List ℕ) (right : (j : ℕ) → j < 3 ^ n → getD sound j 0 ≡ soundByte p n j) where
@@ -95,3 +84,11 @@ pub cover-written : {settled sound marks : List ℕ} {n k : ℕ} {before after :
 cover-written {settled} {sound} {marks} {n} {k} {before} {after} {count} f m w =
     subst (λ (xs : List Assignment). EntriesWritten xs before after count)
     (entries-cover (settledBy settled) n sound (λ j l. f .right j (rw (filled-all f) l)) marks m) w
+
+-- where every setting is settled, it is the assignment that fixes nothing
+pub everywhere-written : (settled : List ℕ) (n : ℕ) {before after : List ℕ} {count : ℕ} → all (settledBy settled) (upTo (2 ^ n)) ≡ true
+    → EntriesWritten (nothing ∷ []) before after count → EntriesWritten (coverOver (settledBy settled) n) before after count
+everywhere-written settled n e w =
+    let h : soundOver (settledBy settled) n nothing ≡ true =
+    nothing-sound-from (settledBy settled) n (λ s l. all-below (settledBy settled) (2 ^ n) s e l) in
+    rw (nothing-sound-cover (settledBy settled) n h) w

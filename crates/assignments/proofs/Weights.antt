@@ -1,9 +1,14 @@
 -- The ternary weight of a mask from that of its half, and of the next mask. Cited by the laws of filling. Assumes nothing.
 use mathlib.Core.Path.{_≡_, refl, sym, ap, _∙_}
+use mathlib.Core.Logic.{⊎-elim}
+use mathlib.Core.List.{List}
 use Prim.Native.Nat.{ℕ, zero, suc, _+_, _-_, _*_, _/_, _%_, _^_, _≤_, _<_}
 use native.Mathlib.Nat.{pow-suc, mul-assoc, mul-comm, add-mul, div-div-eq-div-mul, div-one, mul-one, zero-mul, one-mul, div-eq-of-lt}
 use native.Mathlib.Numerals.{add-one}
 use native.Mathlib.Omega.{arith}
+use lib.ListN.{length, getD, set}
+use lib.Seq.{getD-set-same, getD-set-other}
+use Rattle.laws.proofs.Tests.{eq-or-ne}
 use Rattle.netlist.specs.Assignments.{bit}
 use Rattle.assignments.specs.Digits.{numeral}
 use Rattle.assignments.specs.Tables.{weightOf}
@@ -44,6 +49,14 @@ pub weight-top : (m x : ℕ) → x < 2 ^ m → weightOf (suc m) x ≡ weightOf m
 unfolding weightOf numeral bit
 weight-top m x l = rw (div-eq-of-lt l) (omega arith)
 
+-- .. so the weight of a mask's half is that of the same table
+pub weight-from-half : (n x : ℕ) → x < 2 ^ n → weightOf n x ≡ weightOf n (x / 2) * 3 + x % 2
+unfolding weightOf numeral
+weight-from-half zero x l = let m : x < 1 = l in let z : x ≡ 0 = omega arith in rw z
+weight-from-half (suc n) x l =
+    let e : 2 ^ suc n ≡ 2 ^ n * 2 = pow-suc 2 n in
+    weight-half n x ∙ rw (weight-top n (x / 2) (omega arith))
+
 -- the first mask, and the first with one more bit
 pub weight-none : (m : ℕ) → weightOf m 0 ≡ 0
 unfolding weightOf numeral
@@ -54,3 +67,17 @@ weight-none m =
 pub weight-power : (m : ℕ) → weightOf (m + 1) (2 ^ m) ≡ 3 ^ m
 unfolding weightOf numeral bit
 weight-power m = ap (weightOf (m + 1)) (sym (one-mul (2 ^ m))) ∙ weight-shift m 1 1 ∙ one-mul (3 ^ m)
+
+-- `fill_weights`: the first mask, and one mask more
+pub weights-first : (weights : List ℕ) (n m : ℕ) → 0 < length weights → m < 1 → getD (set weights 0 0) m 0 ≡ weightOf n m
+weights-first weights n m l b = let z : m ≡ 0 = omega arith in rw (z, weight-none n) (getD-set-same weights 0 0 0 l)
+
+pub weights-next : (weights : List ℕ) (n mask : ℕ) → ((m : ℕ) → m < mask → getD weights m 0 ≡ weightOf n m) → 0 < mask → mask < 2 ^ n → mask < length weights
+    → (m : ℕ) → m < mask + 1 → getD (set weights mask (3 * getD weights (mask / 2) 0 + mask % 2)) m 0 ≡ weightOf n m
+weights-next weights n mask right pos small there m l =
+    ⊎-elim
+    (λ (e : m ≡ mask).
+    rw (e, getD-set-same weights mask (3 * getD weights (mask / 2) 0 + mask % 2) 0 there, right (mask / 2) (omega arith))
+    (omega (arith, weight-from-half n mask small)))
+    (λ (ne : m ≡ mask → ⊥). getD-set-other weights mask m (3 * getD weights (mask / 2) 0 + mask % 2) 0 ne ∙ right m (omega arith))
+    (eq-or-ne m mask)

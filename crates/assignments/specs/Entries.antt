@@ -7,11 +7,10 @@ use mathlib.Core.List.{List, map}
 use lib.ListN.{length, getD}
 use lib.Dec.{eqb, leb}
 use Rattle.laws.specs.Lists.{all, upTo, keep, placed}
-use Rattle.netlist.specs.Limits.{maxInputs}
 use Rattle.netlist.specs.Assignments.{Assignment, isWithin}
 use Rattle.assignments.specs.Over.{soundOver, minimalOver, assignmentWords}
 use Rattle.assignments.specs.Digits.{ternaryDigit}
-use Rattle.assignments.specs.Tables.{ternaryNumber, weightOf}
+use Rattle.assignments.specs.Tables.{ternaryNumber, weightOf, Weighed}
 
 -- pair number q of two masks of n bits
 unfoldable pub pairAt : ℕ → ℕ → Assignment
@@ -66,12 +65,6 @@ entriesBelow marks n q = map (pairAt n) (keep (entryBy marks n) (upTo q))
 
 unfoldable pub entriesBy : List ℕ → ℕ → List Assignment
 entriesBy marks n = entriesBelow marks n (2 ^ n * 2 ^ n)
-
--- the weights of the masks of n bits
-pub record Weighed (weights : List ℕ) (n : ℕ) : Type 0 where
-  pub few : n ≤ maxInputs
-  pub room : 2 ^ n ≤ length weights
-  pub right : (m : ℕ) → m < 2 ^ n → getD weights m 0 ≡ weightOf n m
 
 -- the assignments with one first mask: `base` is the number of the one with no input at 1
 pub record Row (marks weights : List ℕ) (n base fixed : ℕ) : Type 0 where

@@ -41,8 +41,11 @@ soundByte p n k = byteOf (soundDigits p n (ternaryDigit 3 k))
 unfoldable pub weightOf : ℕ → ℕ → ℕ
 weightOf n m = numeral 3 (bit m) n
 
-unfoldable pub weightTable : ℕ → List ℕ
-weightTable n = tab (weightOf n) (2 ^ n)
+-- the weights of the masks of n bits
+pub record Weighed (weights : List ℕ) (n : ℕ) : Type 0 where
+  pub few : n ≤ maxInputs
+  pub room : 2 ^ n ≤ length weights
+  pub right : (m : ℕ) → m < 2 ^ n → getD weights m 0 ≡ weightOf n m
 
 -- where the byte of setting s goes, and right bytes below it
 pub record Filled (settled sound : List ℕ) (n s k : ℕ) : Type 0 where

@@ -4,10 +4,10 @@ ghost use mathlib.Core.Path.{_≡_};
 ghost use Prim.Native.Nat.{_+_, _*_, _^_, _≤_, _<_};
 ghost use lib.ListN.{length};
 ghost use Rattle.laws.specs.Lists.{placed};
-ghost use Rattle.assignments.specs.Entries.{entryBy, entriesBy, PairBelow, Weighed, Row, Reached};
+ghost use Rattle.assignments.specs.Entries.{entryBy, entriesBy, PairBelow, Row, Reached};
 ghost use Rattle.assignments.specs.Entries.{RowListed, EntriesWritten};
 ghost use Rattle.assignments.specs.Over.{assignmentWords};
-ghost use Rattle.assignments.specs.Tables.{weightOf};
+ghost use Rattle.assignments.specs.Tables.{weightOf, Weighed};
 
 // The number of the assignment with this first mask and no input at 1.
 fn row_base(weights: &[u32], n: usize, size: usize, fixed: usize) -> usize

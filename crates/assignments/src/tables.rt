@@ -1,38 +1,19 @@
 // The tables of Cover's core: a byte for each of the 3^n assignments of n inputs, and the ternary weight of each mask of n bits.
-ghost use mathlib.Core.Path.{_≡_};
 ghost use Prim.Native.Nat.{_+_, _*_, _^_, _≤_, _<_};
 ghost use lib.ListN.{length};
-ghost use Rattle.laws.specs.Lists.{placed};
 ghost use Rattle.netlist.specs.Limits.{maxInputs};
-ghost use Rattle.assignments.specs.Tables.{weightOf, weightTable, Filled, Joined};
+ghost use Rattle.assignments.specs.Tables.{Weighed, Filled, Joined};
 
-// The mask's n bits read as ternary digits.
-fn weight_of(n: usize, mask: usize) -> usize
-    requires { ⌜ n ≤ maxInputs ⌝ }
-    ensures { λ r. ⌜ r ≡ weightOf n mask ⌝ }
-{
-    let mut sum: usize = 0;
-    let mut power: usize = 1;
-    let mut i = 0;
-    while i < n {
-        if (mask >> i) % 2 == 1 {
-            sum += power;
-        }
-        power *= 3;
-        i += 1;
-    }
-    sum
-}
-
-// The weight of each mask of n bits.
+// The weight of each mask of n bits, its bits read as ternary digits: three times that of its half, and the lowest bit.
 pub fn fill_weights(n: usize, weights: &mut [u32])
     requires { ⌜ (n ≤ maxInputs) × (2 ^ n ≤ length (now weights)) ⌝ }
-    ensures { λ _. ⌜ now (weights .exit) ≡ placed (weightTable n) (now (weights .entry)) ⌝ }
+    ensures { λ _. ⌜ Weighed (now (weights .exit)) n ⌝ }
 {
     let count = 1usize << n;
-    let mut mask = 0;
+    weights[0] = 0;
+    let mut mask = 1;
     while mask < count {
-        weights[mask] = weight_of(n, mask) as u32;
+        weights[mask] = 3 * weights[mask / 2] + (mask % 2) as u32;
         mask += 1;
     }
 }

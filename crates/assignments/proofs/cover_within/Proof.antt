@@ -1,7 +1,7 @@
 -- `cover_within` meets its contract: the tables are right, so the entries that they show are the cover. Assumes nothing.
 use native.Mathlib.Omega.{arith}
 use Rattle.assignments.proofs.Joining.{filled-all}
-use Rattle.assignments.proofs.TableCover.{weights-right, cover-written}
+use Rattle.assignments.proofs.TableCover.{cover-written}
 use borrow.Author.Needs.{needs}
 use Rattle.assignments.proofs.cover_within.Statement.{statement}
 use Rattle.assignments.proofs.cover_within.Tie as tie
@@ -24,8 +24,7 @@ write-entries-requires c κs =
     let sounded = minimal .before .before .before .before in
     let weighed = sounded .before .before .before .before in
     let start = weighed .before .before .before .before .before .before in (
-      weights-right (start .args .weights .now) (start .pre .0) (weighed .fill-weights .ensures)
-          (omega (arith, weighed .fill-weights .kept .1 .0, start .pre .3)),
+      weighed .fill-weights .ensures,
       filled-all (sounded .fill-sound .ensures),
       omega (arith, minimal .keep-minimal .kept .1 .1 .0, sounded .fill-sound .ensures .room),
     )
