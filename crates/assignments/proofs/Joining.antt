@@ -2,16 +2,15 @@
 -- numbers. Assumes nothing.
 use mathlib.Core.Path.{_≡_, refl, sym, ap, _∙_}
 use mathlib.Core.Logic.{⊎-elim}
-use mathlib.Core.Bool.{Bool, true, false, cond, _&&_}
+use mathlib.Core.Bool.{Bool}
 use mathlib.Core.List.{List}
-use Prim.Native.Nat.{ℕ, zero, suc, _+_, _-_, _*_, _/_, _%_, _^_, _≤_, _<_}
-use native.Mathlib.Nat.{not-suc-le-zero, pow-suc, mul-assoc, mul-comm, mul-one, add-mul, div-one, div-div-eq-div-mul, div-eq-of-lt, one-le-pow, mod-lt}
-use native.Mathlib.Nat.{mul-le-mul-right, div-lt-iff-lt-mul}
+use Prim.Native.Nat.{ℕ, suc, _+_, _-_, _*_, _/_, _%_, _^_, _≤_, _<_}
+use native.Mathlib.Nat.{not-suc-le-zero, pow-suc, mul-assoc, mul-comm, add-mul, div-one, div-div-eq-div-mul, div-eq-of-lt, one-le-pow}
+use native.Mathlib.Nat.{div-lt-iff-lt-mul}
 use native.Mathlib.Numerals.{add-one}
 use native.Mathlib.Omega.{arith}
 use lib.Arith.{digits-lt, digits-div}
 use lib.Bits.{bitAnd}
-use lib.Dec.{eqb}
 use lib.ListN.{length, getD, set, length-set}
 use lib.Pow.{pow-add, pow-pos}
 use lib.Seq.{getD-set-same, getD-set-other}
@@ -20,7 +19,7 @@ use Rattle.laws.proofs.Tests.{eq-or-ne, lt-or-le}
 use Rattle.netlist.specs.Limits.{maxInputs}
 use Rattle.netlist.specs.Assignments.{bit}
 use Rattle.assignments.specs.Digits.{ternaryDigit, numeral}
-use Rattle.assignments.specs.Tables.{settledBy, soundByte, byteOf, soundDigits, weightOf, Filled, Joined}
+use Rattle.assignments.specs.Tables.{settledBy, soundByte, byteOf, weightOf, Filled, Joined}
 use Rattle.assignments.proofs.Agree.{bit-lt}
 use Rattle.assignments.proofs.Bounds.{power-next}
 use Rattle.assignments.proofs.Digits.{numeral-ext, numeral-digit, digit-numeral}
@@ -89,7 +88,7 @@ pub record Joining (settled sound : List ℕ) (n setting end power i : ℕ) : Ty
 
 -- the setting's own byte
 module _ {settled sound : List ℕ} {n s k : ℕ} (f : Filled settled sound n s k) (l : s < 2 ^ n) where
-  pub setting-number : k ≡ weightOf n s
+  setting-number : k ≡ weightOf n s
   setting-number = f .number ∙ rw (add-one n) (weight-top n s l)
 
   pub setting-below : k < 3 ^ n

@@ -22,18 +22,18 @@ use Rattle.assignments.proofs.PairWalk.{first-pair}
 
 module _ (table : List ℕ) (n q : ℕ) where
   -- one pair more: an entry, or none
-  pub entries-add : entryBy table n q ≡ true → entriesBelow table n (q + 1) ≡ entriesBelow table n q ++ (pairAt n q ∷ [])
+  entries-add : entryBy table n q ≡ true → entriesBelow table n (q + 1) ≡ entriesBelow table n q ++ (pairAt n q ∷ [])
   unfolding entriesBelow
   entries-add e =
       rw (add-one q, keep-upTo-suc (entryBy table n) q, e)
       (map-append (pairAt n) (keep (entryBy table n) (upTo q)) (q ∷ []))
 
-  pub entries-skip : entryBy table n q ≡ false → entriesBelow table n (q + 1) ≡ entriesBelow table n q
+  entries-skip : entryBy table n q ≡ false → entriesBelow table n (q + 1) ≡ entriesBelow table n q
   unfolding entriesBelow
   entries-skip e = rw (add-one q, keep-upTo-suc (entryBy table n) q, e, append-nil)
 
   -- an entry counts
-  pub count-add : entryBy table n q ≡ true → length (entriesBelow table n (q + 1)) ≡ length (entriesBelow table n q) + 1
+  count-add : entryBy table n q ≡ true → length (entriesBelow table n (q + 1)) ≡ length (entriesBelow table n q) + 1
   count-add e = rw (entries-add e, length-append (entriesBelow table n q) (pairAt n q ∷ []))
 
   -- those below q are the first of those below q + m
@@ -46,10 +46,10 @@ module _ (table : List ℕ) (n q : ℕ) where
       rw (tab-add (λ k. k) q m, keep-append (entryBy table n) (upTo q) (tab (λ j. q + j) m))
       (map-append (pairAt n) (keep (entryBy table n) (upTo q)) (keep (entryBy table n) (tab (λ j. q + j) m)))
 
-  pub count-le : (m : ℕ) → length (entriesBelow table n q) ≤ length (entriesBelow table n (q + m))
+  count-le : (m : ℕ) → length (entriesBelow table n q) ≤ length (entriesBelow table n (q + m))
   count-le m = rw (entries-more m, length-append (entriesBelow table n q) (later m)) (omega arith)
 
-  pub same-count : (m : ℕ) → length (entriesBelow table n (q + m)) ≤ length (entriesBelow table n q) → entriesBelow table n (q + m) ≡ entriesBelow table n q
+  same-count : (m : ℕ) → length (entriesBelow table n (q + m)) ≤ length (entriesBelow table n q) → entriesBelow table n (q + m) ≡ entriesBelow table n q
   same-count m h =
       let l : length (entriesBelow table n (q + m)) ≡ length (entriesBelow table n q) + length (later m) =
       ap length (entries-more m) ∙ length-append (entriesBelow table n q) (later m) in
@@ -72,7 +72,7 @@ module _ (table : List ℕ) (n : ℕ) where
   unfolding entryBy
   not-within x e = rw e
 
-  pub entries-jump : {q r : ℕ} → NextPair n q r → entriesBelow table n r ≡ entriesBelow table n (q + 1)
+  entries-jump : {q r : ℕ} → NextPair n q r → entriesBelow table n r ≡ entriesBelow table n (q + 1)
   entries-jump {q} {r} x =
       let l : q < r = x .above in
       ap (entriesBelow table n) (omega arith)

@@ -1,24 +1,21 @@
 -- The assignments with one first mask, in the order of their second masks: their numbers, and whether they are left in the table. Cited by the proofs of
 -- `row_base` and `is_left`, and of the loops. Assumes nothing.
-use mathlib.Core.Path.{_≡_, ap, sym, _∙_}
-use mathlib.Core.Bool.{true, false}
+use mathlib.Core.Path.{_≡_}
 use mathlib.Core.List.{List}
-use Prim.Native.Nat.{ℕ, _+_, _-_, _*_, _/_, _%_, _^_, _≤_, _<_}
-use native.Mathlib.Nat.{add-mul, one-mul, zero-div, zero-mod}
+use Prim.Native.Nat.{ℕ, _+_, _-_, _*_, _^_, _≤_, _<_}
+use native.Mathlib.Nat.{add-mul, one-mul}
 use native.Mathlib.Omega.{arith}
 use lib.Arith.{digits-lt, digits-div, digits-mod}
 use lib.Dec.{eqb}
-use lib.ListN.{length, getD}
-use borrow.Author.Tests.{eq-eqb, ne-eqb}
+use lib.ListN.{getD}
 use Rattle.netlist.specs.Limits.{maxInputs}
-use Rattle.netlist.specs.Assignments.{bit}
 use Rattle.assignments.specs.Over.{masks}
-use Rattle.assignments.specs.Tables.{ternaryNumber, weightOf, Weighed}
+use Rattle.assignments.specs.Tables.{ternaryNumber, weightOf}
 use Rattle.assignments.specs.Entries.{pairAt, withinAt, PairBelow, soundAt, entryBy, Row, Reached}
 use Rattle.assignments.proofs.Agree.{within-at}
 use Rattle.assignments.proofs.Bounds.{three-fits}
 use Rattle.assignments.proofs.Covered.{bit-zero}
-use Rattle.assignments.proofs.Numbers.{number-lt, number-weights, weight-lt}
+use Rattle.assignments.proofs.Numbers.{number-lt, number-weights}
 use Rattle.assignments.proofs.Weights.{weight-none}
 
 -- `row_base`: the weight of a mask is less than half of 3^n

@@ -73,7 +73,7 @@ module _ (p : ℕ → Bool) (n : ℕ) (sound : List ℕ) (right : (j : ℕ) → 
             legal : withinAt n q ≡ true → Consistent n (pairAt n q)
             legal h = record { fixed-lt = div-lt-iff-lt-mul (pow-pos n) .1 l; ones-lt = mod-lt q (pow-pos n); inside = h }
 
-    pub entries-cover : entriesBy marks n ≡ coverOver p n
+    entries-cover : entriesBy marks n ≡ coverOver p n
     unfolding entriesBy entriesBelow
     entries-cover = ap (map (pairAt n)) (keep-below (entryBy marks n) (entryAt p n) (2 ^ n * 2 ^ n) entry-by) ∙ sym (cover-flat p n)
 

@@ -1,10 +1,9 @@
 -- The ternary weight of a mask from that of its half, and of the next mask. Cited by the laws of filling. Assumes nothing.
-use mathlib.Core.Path.{_≡_, refl, sym, ap, _∙_}
+use mathlib.Core.Path.{_≡_, sym, ap, _∙_}
 use mathlib.Core.Logic.{⊎-elim}
 use mathlib.Core.List.{List}
-use Prim.Native.Nat.{ℕ, zero, suc, _+_, _-_, _*_, _/_, _%_, _^_, _≤_, _<_}
-use native.Mathlib.Nat.{pow-suc, mul-assoc, mul-comm, add-mul, div-div-eq-div-mul, div-one, mul-one, zero-mul, one-mul, div-eq-of-lt}
-use native.Mathlib.Numerals.{add-one}
+use Prim.Native.Nat.{ℕ, zero, suc, _+_, _-_, _*_, _/_, _%_, _^_, _<_}
+use native.Mathlib.Nat.{pow-suc, mul-assoc, mul-comm, div-div-eq-div-mul, div-one, mul-one, zero-mul, one-mul, div-eq-of-lt}
 use native.Mathlib.Omega.{arith}
 use lib.ListN.{length, getD, set}
 use lib.Seq.{getD-set-same, getD-set-other}
@@ -12,7 +11,6 @@ use Rattle.laws.proofs.Tests.{eq-or-ne}
 use Rattle.netlist.specs.Assignments.{bit}
 use Rattle.assignments.specs.Digits.{numeral}
 use Rattle.assignments.specs.Tables.{weightOf}
-use Rattle.assignments.proofs.Numbers.{weight-lt}
 
 bit-half : (x m : ℕ) → bit x (suc m) ≡ bit (x / 2) m
 unfolding bit

@@ -6,7 +6,7 @@ use mathlib.Core.List.{List}
 use lib.ListN.{length, getD}
 use lib.Dec.{eqb}
 use lib.Bits.{bitAnd}
-use Rattle.laws.specs.Lists.{all, upTo, tab}
+use Rattle.laws.specs.Lists.{all, upTo}
 use Rattle.netlist.specs.Limits.{maxInputs}
 use Rattle.netlist.specs.Assignments.{bit}
 use Rattle.netlist.specs.Assignments.{Assignment, fixes}

@@ -1,9 +1,8 @@
 -- `entries::count_entries` meets its contract: each turn counts a row. Assumes nothing.
-use Prim.Native.Nat.{ℕ, _+_, _-_, _*_, _^_, _≤_, _<_}
-use mathlib.Core.Path.{_≡_, refl, ap, _∙_}
+use Prim.Native.Nat.{_-_, _*_, _^_, _≤_}
+use mathlib.Core.Path.{_≡_}
 use native.Mathlib.Omega.{arith}
-use lib.ListN.{length}
-use Rattle.assignments.specs.Entries.{entriesBelow, entriesBy, Reached}
+use Rattle.assignments.specs.Entries.{entriesBy, Reached}
 use Rattle.assignments.proofs.Bounds.{shifted}
 use Rattle.assignments.proofs.Listing.{reached-first}
 use borrow.Author.Needs.{needs}

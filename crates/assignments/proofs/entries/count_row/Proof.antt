@@ -1,16 +1,13 @@
 -- `entries::count_row` meets its contract: the count is the number of entries among the pairs passed. Assumes nothing.
-use Prim.Native.Nat.{ℕ, _+_, _-_, _*_, _%_, _^_, _≤_, _<_}
-use mathlib.Core.Path.{_≡_, refl, sym, _∙_}
-use mathlib.Core.List.{List}
+use Prim.Native.Nat.{_+_, _-_, _*_, _^_, _≤_, _<_}
+use mathlib.Core.Path.{_≡_, sym, _∙_}
 use mathlib.Core.Logic.{⊎-elim}
 use native.Mathlib.Nat.{add-zero}
 use native.Mathlib.Omega.{arith}
-use lib.ListN.{length}
-use Rattle.netlist.specs.Limits.{maxInputs}
-use Rattle.assignments.specs.Entries.{entriesBelow, Reached, Words}
-use Rattle.assignments.proofs.Bounds.{two-fits, shifted, pairs-fit}
+use Rattle.assignments.specs.Entries.{Reached}
+use Rattle.assignments.proofs.Bounds.{shifted, pairs-fit}
 use Rattle.assignments.proofs.Rows.{row-below, row-end}
-use Rattle.assignments.proofs.Listing.{entries-few, reached-skip, reached-add, one-more, words-skip, words-add}
+use Rattle.assignments.proofs.Listing.{entries-few, reached-skip, reached-add, one-more}
 use borrow.Author.Needs.{needs}
 use Rattle.assignments.proofs.entries.count_row.Statement.{statement}
 use Rattle.assignments.proofs.entries.count_row.Tie as tie

@@ -1,7 +1,7 @@
 -- `entries::is_left` meets its contract: the sum is the assignment's number (`number-is`). Assumes nothing.
 use Prim.Native.Nat.{_+_, _^_, _≤_, _<_}
 use native.Mathlib.Omega.{arith}
-use lib.ListN.{length, getD}
+use lib.ListN.{getD}
 use Rattle.netlist.specs.Limits.{maxInputs}
 use Rattle.assignments.proofs.Rows.{number-below, left-is}
 use borrow.Author.Needs.{needs}

@@ -1,15 +1,14 @@
 -- `entries::list_entries` meets its contract: each turn lists a row; where all entries are counted, their words are there. Assumes nothing.
-use Prim.Native.Nat.{ℕ, _+_, _-_, _*_, _^_, _≤_, _<_}
-use mathlib.Core.Path.{_≡_, refl, ap, _∙_}
+use Prim.Native.Nat.{_-_, _*_, _^_, _≤_, _<_}
+use mathlib.Core.Path.{ap, _∙_}
 use native.Mathlib.Omega.{arith}
 use mathlib.Core.List.{List}
 use Rattle.laws.specs.Lists.{placed}
 use Rattle.netlist.specs.Assignments.{Assignment}
 use Rattle.assignments.specs.Over.{assignmentWords}
-use Rattle.assignments.specs.Entries.{entriesBelow, entriesBy, Reached, Words}
+use Rattle.assignments.specs.Entries.{Reached, Words}
 use Rattle.assignments.proofs.Bounds.{two-fits}
 use Rattle.assignments.proofs.Listing.{reached-first, words-first, all-reached, row-left}
-use borrow.Author.Needs.{needs}
 use Rattle.assignments.proofs.entries.list_entries.Statement.{statement}
 use Rattle.assignments.proofs.entries.list_entries.Tie as tie
 

@@ -1,5 +1,5 @@
 -- `entries::list_row` meets its contract: the words of the entries among the pairs passed stand in front (`Words`), and there is room for the next, since there is room for all. Assumes nothing.
-use Prim.Native.Nat.{ℕ, _+_, _-_, _*_, _%_, _^_, _≤_, _<_}
+use Prim.Native.Nat.{ℕ, _+_, _-_, _*_, _^_, _≤_, _<_}
 use mathlib.Core.Path.{_≡_, refl, sym, _∙_}
 use mathlib.Core.List.{List}
 use mathlib.Core.Logic.{⊎-elim}
@@ -8,10 +8,10 @@ use native.Mathlib.Omega.{arith}
 use lib.Arith.{digits-div, digits-mod}
 use lib.ListN.{length, length-set}
 use Rattle.netlist.specs.Limits.{maxInputs}
-use Rattle.assignments.specs.Entries.{entriesBelow, Reached, Words}
-use Rattle.assignments.proofs.Bounds.{two-fits, shifted, pairs-fit}
+use Rattle.assignments.specs.Entries.{Reached, Words}
+use Rattle.assignments.proofs.Bounds.{two-fits, shifted}
 use Rattle.assignments.proofs.Rows.{row-below, row-end}
-use Rattle.assignments.proofs.Listing.{entries-few, reached-skip, reached-add, one-more, words-skip, words-add}
+use Rattle.assignments.proofs.Listing.{reached-skip, reached-add, one-more, words-skip, words-add}
 use borrow.Author.Needs.{needs}
 use Rattle.assignments.proofs.entries.list_row.Statement.{statement}
 use Rattle.assignments.proofs.entries.list_row.Tie as tie

@@ -1,6 +1,4 @@
 -- `everywhere::write_nothing` meets its contract: one law for each of its two answers. Assumes nothing.
-use native.Mathlib.Omega.{arith}
-use mathlib.Core.Path.{refl}
 use Rattle.assignments.proofs.Listing.{nothing-written, nothing-kept}
 use borrow.Author.Needs.{needs}
 use Rattle.assignments.proofs.everywhere.write_nothing.Statement.{statement}

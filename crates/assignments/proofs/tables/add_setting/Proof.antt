@@ -1,13 +1,12 @@
 -- `tables::add_setting` meets its contract: while the setting's inputs are at 1 (`Joining`), both halves stand right below `end`. Assumes nothing.
-use Prim.Native.Nat.{_-_, _^_, _≤_}
+use Prim.Native.Nat.{_-_}
 use mathlib.Core.Path.{_≡_, refl, sym, _∙_}
 use mathlib.Core.Logic.{⊎-elim}
 use lib.ListN.{length, length-set}
 use Rattle.assignments.specs.Tables.{settledBy, byteOf}
 use native.Mathlib.Omega.{arith}
 use borrow.Author.Needs.{needs}
-use Rattle.netlist.specs.Limits.{maxInputs}
-use Rattle.assignments.proofs.Bounds.{three-fits, two-fits}
+use Rattle.assignments.proofs.Bounds.{three-fits}
 use Rattle.assignments.proofs.Joining.{byte-one, byte-none, Joining, setting-below, joining-start, joining-in, joining-room, joining-next, joining-end}
 use Rattle.assignments.proofs.tables.add_setting.Statement.{statement}
 use Rattle.assignments.proofs.tables.add_setting.Tie as tie
