@@ -118,6 +118,9 @@ module _ (b : ℕ) (pos : 0 < b) where
         numeral-less (ternaryDigit b k) (less (ternaryDigit b k) i c) n i c below (rw less-at (omega arith)) (λ j l ne. less-other j ne)
         ∙ numeral-digit k n small
 
+    pub lowered-le : c * b ^ i ≤ k
+    lowered-le = let e : numeral b (less (ternaryDigit b k) i c) n + c * b ^ i ≡ k = made in omega arith
+
     lowered : (j : ℕ) → j < n → ternaryDigit b (k - c * b ^ i) j ≡ less (ternaryDigit b k) i c j
     lowered j l =
         let e : numeral b (less (ternaryDigit b k) i c) n + c * b ^ i ≡ k = made in
