@@ -108,7 +108,8 @@ module _ {settled sound : List ℕ} {n s k : ℕ} (f : Filled settled sound n s 
         (omega (arith, f .number, ap (λ (m : ℕ). weightOf m s) (let z : n + 1 ≡ suc (n - 0) = omega arith in z)));
     right = λ j b.
         ⊎-elim
-        (λ (q : j ≡ k). rw (q, getD-set-same sound k v 0 (omega (arith, f .room, setting-below)), setting-number) (e ∙ sym (setting-byte n s l (settledBy settled))))
+        (λ (q : j ≡ k).
+        rw (q, getD-set-same sound k v 0 (omega (arith, f .room, setting-below)), setting-number) (e ∙ sym (setting-byte n s l (settledBy settled))))
         (λ (ne : j ≡ k → ⊥). getD-set-other sound k j v 0 ne ∙ f .right j (omega arith)) (eq-or-ne j k);
   }
 

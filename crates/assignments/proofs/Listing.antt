@@ -106,7 +106,8 @@ unfolding entriesBelow assignmentWords
 words-first marks first n = rw (zero-mul (2 ^ n)) (record { same-length = refl; words = refl })
 
 -- at an entry one more is counted, of all that there are
-pub one-more : {marks : List ℕ} {n q count : ℕ} → Reached marks n q count → q < 2 ^ n * 2 ^ n → entryBy marks n q ≡ true → count + 1 ≤ length (entriesBy marks n)
+pub one-more : {marks : List ℕ} {n q count : ℕ} → Reached marks n q count → q < 2 ^ n * 2 ^ n → entryBy marks n q ≡ true
+    → count + 1 ≤ length (entriesBy marks n)
 unfolding entriesBy
 one-more {marks} {n} {q} w l e =
     let k : q + 1 + (2 ^ n * 2 ^ n - (q + 1)) ≡ 2 ^ n * 2 ^ n = omega arith in

@@ -1,5 +1,5 @@
--- The entries of a cover as the code finds them: pairs of masks, tested against a table in which only sound and minimal assignments are left. Cited by the contracts of this
--- crate. Assumes nothing.
+-- The entries of a cover as the code finds them: pairs of masks, tested against a table in which only sound and minimal assignments are
+-- left. Cited by the contracts of this crate. Assumes nothing.
 use Prim.Native.Nat.{ℕ, _+_, _-_, _*_, _/_, _%_, _^_, _≤_, _<_}
 use mathlib.Core.Path.{_≡_}
 use mathlib.Core.Bool.{Bool, true, false, cond, not, _&&_, _||_}

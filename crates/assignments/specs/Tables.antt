@@ -12,6 +12,10 @@ use Rattle.netlist.specs.Assignments.{bit}
 use Rattle.netlist.specs.Assignments.{Assignment, fixes}
 use Rattle.assignments.specs.Digits.{ternaryDigit, numeral}
 
+-- up to so many inputs the tables are kept small
+abbrev pub fewInputs : ℕ
+fewInputs = 8
+
 -- the settings at which the table has a 1
 unfoldable pub settledBy : List ℕ → ℕ → Bool
 settledBy table s = eqb (getD table s 0) 1

@@ -12,7 +12,7 @@ ghost use Prim.Native.Nat.{_^_, _≤_};
 ghost use lib.ListN.{length};
 ghost use Rattle.netlist.specs.Limits.{maxInputs};
 ghost use Rattle.assignments.specs.Over.{coverOver};
-ghost use Rattle.assignments.specs.Tables.{settledBy};
+ghost use Rattle.assignments.specs.Tables.{settledBy, fewInputs};
 ghost use Rattle.assignments.specs.Entries.{EntriesWritten};
 
 mod entries;
@@ -21,7 +21,7 @@ mod minimal;
 mod pairs;
 mod tables;
 
-// Up to so many inputs the tables are small, and are not made larger than that.
+// Up to so many inputs the tables are small: what is made is also cleared.
 const FEW_INPUTS: usize = 8;
 
 const FEW_SETTINGS: usize = 1 << FEW_INPUTS;
@@ -47,7 +47,7 @@ pub fn cover_entries(settled: &[u8], n: usize, out: &mut [u16]) -> usize
 
 // The same for few inputs.
 fn cover_few(settled: &[u8], n: usize, out: &mut [u16]) -> usize
-    requires { ⌜ (n ≤ 8) × (2 ^ n ≤ length (now settled)) ⌝ }
+    requires { ⌜ (n ≤ fewInputs) × (2 ^ n ≤ length (now settled)) ⌝ }
     ensures { λ r. ⌜ EntriesWritten (coverOver (settledBy (now (settled .entry))) n) (now (out .entry)) (now (out .exit)) r ⌝ }
 {
     let mut sound = [0u8; FEW_ASSIGNMENTS];

@@ -21,7 +21,8 @@ returns : tie.Need-returns
 returns c =
     let tested = c .before .before .before .before .before in
     let start = c .before .before .before .before .before .before .before .before in
-    everywhere-written (start .args .settled .now) (start .args .n) (sym (tested .are-all-settled .ensures) ∙ c .before .before .before .before .if1 .taken) (c .before .before .write-nothing .ensures)
+    everywhere-written (start .args .settled .now) (start .args .n)
+    (sym (tested .are-all-settled .ensures) ∙ c .before .before .before .before .if1 .taken) (c .before .before .write-nothing .ensures)
 
 cover-few-requires : tie.Need-cover-few-requires
 cover-few-requires c κs = search needs

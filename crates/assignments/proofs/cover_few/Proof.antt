@@ -1,6 +1,7 @@
 -- `cover_few` meets its contract: its tables are long enough for few inputs. Assumes nothing.
 use native.Mathlib.Nat.{pow-le-pow-right}
 use native.Mathlib.Omega.{arith}
+use Rattle.assignments.specs.Tables.{fewInputs}
 use borrow.Author.Needs.{needs}
 use Rattle.assignments.proofs.cover_few.Statement.{statement}
 use Rattle.assignments.proofs.cover_few.Tie as tie
@@ -17,8 +18,8 @@ cover-within-requires c κs =
     let n = start .args .n in (
       omega (arith, start .pre .0),
       start .pre .1,
-      pow-le-pow-right {n = 3} (omega arith) {i = n} {j = 8} (start .pre .0),
-      pow-le-pow-right {n = 2} (omega arith) {i = n} {j = 8} (start .pre .0),
+      pow-le-pow-right {n = 3} (omega arith) {i = n} {j = fewInputs} (start .pre .0),
+      pow-le-pow-right {n = 2} (omega arith) {i = n} {j = fewInputs} (start .pre .0),
     )
 
 same-length : tie.Need-same-length

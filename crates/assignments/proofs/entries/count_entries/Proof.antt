@@ -30,7 +30,12 @@ count-row-requires : tie.Need-count-row-requires Inv-loop μ-loop
 count-row-requires c κs =
     let start = c .before .before .before .before .before in
     let loop = c .before .before .loop in (
-      record { weighed = start .pre .0; room = start .pre .2; legal = omega (arith, loop .inv .1, c .before .loop-test .taken); base-is = c .row-base .ensures },
+      record {
+        weighed = start .pre .0;
+        room = start .pre .2;
+        legal = omega (arith, loop .inv .1, c .before .loop-test .taken);
+        base-is = c .row-base .ensures;
+      },
       loop .inv .2,
     )
 

@@ -13,7 +13,8 @@ use Rattle.assignments.proofs.entries.list_entries.Statement.{statement
 use Rattle.assignments.proofs.entries.list_entries.Tie as tie
 
 abbrev Inv-loop : tie.InvT-loop
-Inv-loop marks weights n size total out₀ count₀ fixed₀ out count fixed = (fixed ≤ 2 ^ n) × Reached marks n (fixed * 2 ^ n) count × Words marks out₀ out n (fixed * 2 ^ n)
+Inv-loop marks weights n size total out₀ count₀ fixed₀ out count fixed =
+    (fixed ≤ 2 ^ n) × Reached marks n (fixed * 2 ^ n) count × Words marks out₀ out n (fixed * 2 ^ n)
 
 abbrev μ-loop : tie.MeasureT-loop
 μ-loop marks weights n size total out₀ count₀ fixed₀ out count fixed = 2 ^ n - fixed

@@ -1,4 +1,5 @@
--- `entries::list_row` meets its contract: the words of the entries among the pairs passed stand in front (`Words`), and there is room for the next, since there is room for all. Assumes nothing.
+-- `entries::list_row` meets its contract: the words of the entries among the pairs passed stand in front (`Words`), and there is
+-- room for the next, since there is room for all. Assumes nothing.
 use Prim.Native.Nat.{ℕ, _+_, _-_, _*_, _^_, _≤_, _<_}
 use mathlib.Core.Path.{_≡_, refl, sym, _∙_}
 use mathlib.Core.List.{List}

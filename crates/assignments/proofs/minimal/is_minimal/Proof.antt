@@ -19,7 +19,8 @@ abbrev μ-loop : tie.MeasureT-loop
 -- with the input of this turn free, the number is one of the table
 in-table : (c : tie.Then1 Inv-loop μ-loop)
     → (c .before .before .before .args .k + (2 - c .before .before .loop .rest % 3) * c .before .before .loop .power < 3 ^ (c .before .before .before .args .n))
-    × (3 ^ (c .before .before .before .args .n) ≤ 3 ^ maxInputs) × (3 ^ (c .before .before .before .args .n) ≤ length (c .before .before .before .args .sound .now))
+    × (3 ^ (c .before .before .before .args .n) ≤ 3 ^ maxInputs)
+    × (3 ^ (c .before .before .before .args .n) ≤ length (c .before .before .before .args .sound .now))
 in-table c =
     let start = c .before .before .before in (
       freed-lt (c .before .before .loop .inv) (c .before .loop-test .taken) (start .pre .1),

@@ -20,7 +20,9 @@ shl-count : tie.Need-shl-count
 shl-count c = search needs
 
 returns : tie.Need-returns
-returns c = (omega (arith, count-is (c .before)), next-row (c .before .pre .1) (c .before .pre .2) (c .before .pre .3) (count-is (c .before)) (c .if1 .taken))
+returns c =
+    let pre = c .before .pre in
+    (omega (arith, count-is (c .before)), next-row (pre .1) (pre .2) (pre .3) (count-is (c .before)) (c .if1 .taken))
 
 add-result : tie.Need-add-result
 add-result c = omega (arith, count-is (c .before), masks-fit (c .before))
@@ -29,7 +31,11 @@ sub-result : tie.Need-sub-result
 sub-result c = omega (arith, count-is (c .before), c .before .pre .1)
 
 returns-2 : tie.Need-returns-2
-returns-2 c = (omega (arith, and-le-r (c .before .args .ones + 1 * 2 ^ (c .before .args .n) % 2 ^ 64 - c .before .args .fixed) (c .before .args .fixed), c .before .pre .1), next-in-row (c .before .pre .1) (c .before .pre .2) (c .before .pre .3) (count-is (c .before)) (c .if1 .left))
+returns-2 c =
+    let args = c .before .args in
+    let pre = c .before .pre in
+    let seen = and-le-r (args .ones + 1 * 2 ^ (args .n) % 2 ^ 64 - args .fixed) (args .fixed) in
+    (omega (arith, seen, pre .1), next-in-row (pre .1) (pre .2) (pre .3) (count-is (c .before)) (c .if1 .left))
 
 pub next-ones-spec : {M : Type 1} → statement M
 next-ones-spec = tie.close (tie.spec shl-count returns add-result sub-result returns-2)

@@ -11,7 +11,8 @@ use Rattle.assignments.proofs.tables.fill_sound.Statement.{statement}
 use Rattle.assignments.proofs.tables.fill_sound.Tie as tie
 
 abbrev Inv-loop : tie.InvT-loop
-Inv-loop settled n sound₀ count k₀ setting₀ sound k setting = (setting ≤ 2 ^ n) × (count ≡ 2 ^ n) × (length sound ≡ length sound₀) × Filled settled sound n setting k
+Inv-loop settled n sound₀ count k₀ setting₀ sound k setting =
+    (setting ≤ 2 ^ n) × (count ≡ 2 ^ n) × (length sound ≡ length sound₀) × Filled settled sound n setting k
 
 abbrev μ-loop : tie.MeasureT-loop
 μ-loop settled n sound₀ count k₀ setting₀ sound k setting = 2 ^ n - setting
