@@ -2,20 +2,23 @@
 use mathlib.Core.Path.{_≡_, refl, sym, ap, _∙_}
 use mathlib.Core.Logic.{⊎-elim}
 use mathlib.Core.Bool.{Bool, true, false, cond, not, _&&_}
-use mathlib.Core.List.{List}
+use mathlib.Core.List.{List, [], _∷_, append-nil}
 use Prim.Native.Nat.{ℕ, _+_, _-_, _*_, _/_, _%_, _^_, _≤_, _<_}
 use native.Mathlib.Nat.{div-one, div-div-eq-div-mul, not-suc-le-zero}
+use native.Mathlib.Numerals.{add-one}
 use native.Mathlib.Omega.{arith}
 use lib.Dec.{eqb}
-use lib.ListN.{length, getD, set}
+use lib.ListN.{length, getD, set, length-append}
 use lib.Seq.{getD-set-same, getD-set-other}
 use borrow.Author.Tests.{eq-eqb, ne-eqb}
-use Rattle.laws.specs.Lists.{all, upTo}
+use Rattle.laws.specs.Lists.{all, keep, upTo}
 use Rattle.laws.proofs.Tests.{eq-or-ne}
 use Rattle.laws.proofs.Quantifiers.{all-next, all-not, all-ext}
 use Rattle.assignments.specs.Digits.{ternaryDigit, numeral}
-use Rattle.assignments.specs.Entries.{soundAt, neededAt, minimalAt, OnlyMinimal}
+use Rattle.assignments.specs.Entries.{soundAt, neededAt, minimalAt, isLeft, entriesBy, OnlyMinimal}
+use Rattle.assignments.proofs.ListFacts.{keep-below, keep-upTo-suc}
 use Rattle.assignments.proofs.Bounds.{power-next}
+use Rattle.assignments.proofs.Counting.{entries-left}
 use Rattle.assignments.proofs.Digits.{digit-lt, numeral-lt, numeral-less, numeral-digit}
 
 -- k with a 2 at digit i is still a number of n digits
@@ -97,46 +100,64 @@ scan-all {sound} {n} {k} {rest} {power} {i} s l =
     sym (ap (λ (m : ℕ). all (neededAt sound k) (upTo m)) (let e : n ≡ i = omega (arith, s .within) in e) ∙ s .so-far)
 
 -- `keep_minimal`
-pub minimal-none : (sound : List ℕ) (n : ℕ) → OnlyMinimal sound sound n 0
-minimal-none sound n = record { left = λ k l. absurd (not-suc-le-zero l); rest = λ k l. refl }
+pub minimal-none : (sound : List ℕ) (n : ℕ) → OnlyMinimal sound sound n 0 0
+minimal-none sound n = record { left = λ k l. absurd (not-suc-le-zero l); rest = λ k l. refl; counted = refl }
 
-module _ {sound marks : List ℕ} {n k : ℕ} (w : OnlyMinimal sound marks n k) where
+module _ {sound marks : List ℕ} {n k count : ℕ} (w : OnlyMinimal sound marks n k count) where
   same-minimal : minimalAt marks n k ≡ minimalAt sound n k
   unfolding minimalAt neededAt soundAt
   same-minimal =
       all-ext (neededAt marks k) (neededAt sound k) n
       (λ i l. rw (w .rest (k + (2 - ternaryDigit 3 k i) * 3 ^ i) (omega arith)))
 
+  same-sound : soundAt marks k ≡ soundAt sound k
+  unfolding soundAt
+  same-sound = rw (w .rest k (omega arith))
+
   -- the byte at k is left as it is
-  stays : soundAt sound k ≡ soundAt sound k && minimalAt sound n k → OnlyMinimal sound marks n (k + 1)
-  unfolding soundAt
-  stays e = record {
-    left = λ j l.
-        ⊎-elim (λ (q : j ≡ k). rw (q, w .rest k (omega arith)) e) (λ (ne : j ≡ k → ⊥). w .left j (omega arith)) (eq-or-ne j k);
-    rest = λ j l. w .rest j (omega arith);
-  }
+  left-next : soundAt marks k ≡ isLeft sound n k → (j : ℕ) → j < k + 1 → soundAt marks j ≡ isLeft sound n j
+  left-next e j l = ⊎-elim (λ (q : j ≡ k). rw q e) (λ (ne : j ≡ k → ⊥). w .left j (omega arith)) (eq-or-ne j k)
 
-  pub minimal-unsound : (getD marks k 0 ≡ 1 → ⊥) → OnlyMinimal sound marks n (k + 1)
-  unfolding soundAt
-  minimal-unsound ne = stays (rw (← w .rest k (omega arith), ne-eqb (getD marks k 0) 1 ne))
+  skipped : isLeft sound n k ≡ false → count ≡ length (keep (isLeft sound n) (upTo (k + 1)))
+  skipped e = w .counted ∙ sym (rw (add-one k, keep-upTo-suc (isLeft sound n) k, e, append-nil))
 
-  pub minimal-stays : minimalAt marks n k ≡ true → OnlyMinimal sound marks n (k + 1)
-  minimal-stays e = stays (rw (← same-minimal, e) (sym (and-true (soundAt sound k))))
+  pub minimal-unsound : (getD marks k 0 ≡ 1 → ⊥) → OnlyMinimal sound marks n (k + 1) count
+  unfolding soundAt isLeft
+  minimal-unsound ne =
+      let u : soundAt marks k ≡ false = ne-eqb (getD marks k 0) 1 ne in
+      let f : isLeft sound n k ≡ false = rw (← same-sound, u) in
+      record { left = left-next (u ∙ sym f); rest = λ j l. w .rest j (omega arith); counted = skipped f }
+
+  pub minimal-stays : getD marks k 0 ≡ 1 → minimalAt marks n k ≡ true → OnlyMinimal sound marks n (k + 1) (count + 1)
+  unfolding soundAt isLeft
+  minimal-stays h e =
+      let s : soundAt marks k ≡ true = eq-eqb (getD marks k 0) 1 h in
+      let f : isLeft sound n k ≡ true = rw (← same-sound, ← same-minimal, s, e) in
+      record {
+        left = left-next (s ∙ sym f);
+        rest = λ j l. w .rest j (omega arith);
+        counted =
+            rw (add-one k, keep-upTo-suc (isLeft sound n) k, f, length-append (keep (isLeft sound n) (upTo k)) (k ∷ []))
+            (ap (λ (c : ℕ). c + 1) (w .counted));
+      }
+
+  pub minimal-cleared : k < length marks → minimalAt marks n k ≡ false → OnlyMinimal sound (set marks k 0) n (k + 1) count
+  unfolding soundAt isLeft
+  minimal-cleared b e =
+      let f : isLeft sound n k ≡ false = rw (← same-minimal, e) (last (soundAt sound k)) in
+      record {
+        left = λ j l.
+            ⊎-elim (λ (q : j ≡ k). rw (q, getD-set-same marks k 0 0 b) (sym f))
+            (λ (ne : j ≡ k → ⊥). rw (getD-set-other marks k j 0 0 ne) (w .left j (omega arith))) (eq-or-ne j k);
+        rest = λ j l. getD-set-other marks k j 0 0 (λ q. omega arith) ∙ w .rest j (omega arith);
+        counted = skipped f;
+      }
     where
-      and-true : (b : Bool) → b && true ≡ b
-      and-true true = refl
-      and-true false = refl
+      last : (b : Bool) → b && false ≡ false
+      last true = refl
+      last false = refl
 
-  pub minimal-cleared : k < length marks → minimalAt marks n k ≡ false → OnlyMinimal sound (set marks k 0) n (k + 1)
-  unfolding soundAt
-  minimal-cleared b e = record {
-    left = λ j l.
-        ⊎-elim
-        (λ (q : j ≡ k). rw (q, getD-set-same marks k 0 0 b, ← same-minimal, e) (sym (and-false (soundAt sound k))))
-        (λ (ne : j ≡ k → ⊥). rw (getD-set-other marks k j 0 0 ne) (w .left j (omega arith))) (eq-or-ne j k);
-    rest = λ j l. getD-set-other marks k j 0 0 (λ q. omega arith) ∙ w .rest j (omega arith);
-  }
-    where
-      and-false : (b : Bool) → b && false ≡ false
-      and-false true = refl
-      and-false false = refl
+-- as many are counted as there are entries
+pub minimal-counted : {sound marks : List ℕ} {n count : ℕ} → OnlyMinimal sound marks n (3 ^ n) count → count ≡ length (entriesBy marks n)
+minimal-counted {sound} {marks} {n} w =
+    w .counted ∙ sym (ap length (keep-below (soundAt marks) (isLeft sound n) (3 ^ n) (w .left))) ∙ sym (entries-left marks n)

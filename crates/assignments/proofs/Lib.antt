@@ -14,6 +14,7 @@ mod PairWalk
 mod Bounds
 mod Weights
 mod Joining
+mod Counting
 mod Dropping
 mod Rows
 pub mod Listing

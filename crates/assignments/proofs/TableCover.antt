@@ -18,7 +18,7 @@ use Rattle.netlist.specs.Cover.{without}
 use Rattle.assignments.specs.Digits.{ternaryDigit}
 use Rattle.assignments.specs.Over.{soundOver, minimalOver, coverOver, nothing, Consistent}
 use Rattle.assignments.specs.Tables.{ternaryNumber, settledBy, soundByte, byteOf, Filled}
-use Rattle.assignments.specs.Entries.{pairAt, withinAt, isEntry, entryAt, soundAt, neededAt, minimalAt, OnlyMinimal}
+use Rattle.assignments.specs.Entries.{pairAt, withinAt, isEntry, entryAt, soundAt, neededAt, minimalAt, isLeft, OnlyMinimal}
 use Rattle.assignments.specs.Entries.{entryBy, entriesBelow, entriesBy, EntriesWritten}
 use Rattle.assignments.proofs.Agree.{bit-lt}
 use Rattle.assignments.proofs.ListFacts.{keep-below}
@@ -59,9 +59,9 @@ module _ (p : ℕ → Bool) (n : ℕ) (sound : List ℕ) (right : (j : ℕ) → 
   minimal-by a ok =
       all-ext (neededAt sound (ternaryNumber n a)) (λ i. not (fixes a i) || not (soundOver p n (without a i))) n (needed-by a ok)
 
-  module _ (marks : List ℕ) (w : OnlyMinimal sound marks n (3 ^ n)) where
+  module _ (marks : List ℕ) {total : ℕ} (w : OnlyMinimal sound marks n (3 ^ n) total) where
     entry-by : (q : ℕ) → q < 2 ^ n * 2 ^ n → entryBy marks n q ≡ entryAt p n q
-    unfolding entryBy withinAt entryAt isEntry pairAt
+    unfolding entryBy withinAt entryAt isEntry pairAt isLeft
     entry-by q l = go (withinAt n q) refl
       where
         go : (b : Bool) → withinAt n q ≡ b
@@ -79,7 +79,7 @@ module _ (p : ℕ → Bool) (n : ℕ) (sound : List ℕ) (right : (j : ℕ) → 
 
 -- what is written by the table that `fill_sound` and `keep_minimal` leave is the cover
 pub cover-written : {settled sound marks : List ℕ} {n k : ℕ} {before after : List ℕ} {count : ℕ} → Filled settled sound n (2 ^ n) k
-    → OnlyMinimal sound marks n (3 ^ n) → EntriesWritten (entriesBy marks n) before after count
+    → OnlyMinimal sound marks n (3 ^ n) count → EntriesWritten (entriesBy marks n) before after count
     → EntriesWritten (coverOver (settledBy settled) n) before after count
 cover-written {settled} {sound} {marks} {n} {k} {before} {after} {count} f m w =
     subst (λ (xs : List Assignment). EntriesWritten xs before after count)

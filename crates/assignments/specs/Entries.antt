@@ -50,10 +50,14 @@ neededAt table k i = eqb (ternaryDigit 3 k i) 2 || not (soundAt table (k + (2 - 
 unfoldable pub minimalAt : List ℕ → ℕ → ℕ → Bool
 minimalAt table n k = all (neededAt table k) (upTo n)
 
--- of the first m assignments only those are left that are minimal too
-pub record OnlyMinimal (sound marks : List ℕ) (n m : ℕ) : Type 0 where
-  pub left : (k : ℕ) → k < m → soundAt marks k ≡ soundAt sound k && minimalAt sound n k
+unfoldable pub isLeft : List ℕ → ℕ → ℕ → Bool
+isLeft sound n k = soundAt sound k && minimalAt sound n k
+
+-- of the first m assignments only those are left that are sound and minimal, and these are counted
+pub record OnlyMinimal (sound marks : List ℕ) (n m count : ℕ) : Type 0 where
+  pub left : (k : ℕ) → k < m → soundAt marks k ≡ isLeft sound n k
   pub rest : (k : ℕ) → m ≤ k → getD marks k 0 ≡ getD sound k 0
+  pub counted : count ≡ length (keep (isLeft sound n) (upTo m))
 
 -- the pair is an assignment that is left
 unfoldable pub entryBy : List ℕ → ℕ → ℕ → Bool

@@ -25,46 +25,6 @@ fn is_left(marks: &[u8], weights: &[u32], n: usize, base: usize, fixed: usize, o
     marks[base + weights[ones] as usize] == 1
 }
 
-// How many entries there are up to this first mask, from those before it.
-fn count_row(
-    marks: &[u8],
-    weights: &[u32],
-    n: usize,
-    base: usize,
-    fixed: usize,
-    before: usize,
-) -> usize
-    requires { ⌜ Row (now marks) (now weights) n base fixed × Reached (now marks) n (fixed * 2 ^ n) before ⌝ }
-    ensures { λ r. ⌜ Reached (now (marks .entry)) n ((fixed + 1) * 2 ^ n) r ⌝ }
-{
-    let end = 1usize << n;
-    let mut count = before;
-    let mut ones = 0;
-    while ones < end {
-        if is_left(marks, weights, n, base, fixed, ones) {
-            count += 1;
-        }
-        ones = next_ones(n, fixed, ones);
-    }
-    count
-}
-
-// How many entries there are.
-fn count_entries(marks: &[u8], weights: &[u32], n: usize, size: usize) -> usize
-    requires { ⌜ Weighed (now weights) n × (size ≡ 3 ^ n) × (3 ^ n ≤ length (now marks)) ⌝ }
-    ensures { λ r. ⌜ r ≡ length (entriesBy (now (marks .entry)) n) ⌝ }
-{
-    let end = 1usize << n;
-    let mut count: usize = 0;
-    let mut fixed = 0;
-    while fixed < end {
-        let base = row_base(weights, n, size, fixed);
-        count = count_row(marks, weights, n, base, fixed, count);
-        fixed += 1;
-    }
-    count
-}
-
 // The words of the entries with this first mask, behind those of the entries before it; how many entries these are together.
 fn list_row(
     marks: &[u8],
@@ -108,14 +68,19 @@ fn list_entries(marks: &[u8], weights: &[u32], n: usize, size: usize, total: usi
     }
 }
 
-// How many entries there are, and their words where `out` has room for all of them.
-pub fn write_entries(marks: &[u8], weights: &[u32], n: usize, size: usize, out: &mut [u16]) -> usize
-    requires { ⌜ Weighed (now weights) n × (size ≡ 3 ^ n) × (3 ^ n ≤ length (now marks)) ⌝ }
-    ensures { λ r. ⌜ EntriesWritten (entriesBy (now (marks .entry)) n) (now (out .entry)) (now (out .exit)) r ⌝ }
+// The words of the entries, where `out` has room for all of them; how many these are is known.
+pub fn write_entries(
+    marks: &[u8],
+    weights: &[u32],
+    n: usize,
+    size: usize,
+    total: usize,
+    out: &mut [u16],
+)
+    requires { ⌜ Weighed (now weights) n × (size ≡ 3 ^ n) × (3 ^ n ≤ length (now marks)) × (total ≡ length (entriesBy (now marks) n)) ⌝ }
+    ensures { λ _. ⌜ EntriesWritten (entriesBy (now (marks .entry)) n) (now (out .entry)) (now (out .exit)) total ⌝ }
 {
-    let total = count_entries(marks, weights, n, size);
     if 2 * total <= out.len() {
         list_entries(marks, weights, n, size, total, out);
     }
-    total
 }

@@ -68,6 +68,7 @@ fn cover_within(
 {
     fill_weights(n, weights);
     let size = fill_sound(settled, n, sound);
-    keep_minimal(n, size, sound);
-    write_entries(sound, weights, n, size, out)
+    let total = keep_minimal(n, size, sound);
+    write_entries(sound, weights, n, size, total, out);
+    total
 }

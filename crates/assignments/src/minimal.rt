@@ -28,17 +28,22 @@ fn is_minimal(sound: &[u8], n: usize, k: usize) -> bool
 }
 
 // Clears the bytes of the assignments that are not minimal, in ascending order: a dropped input makes the number greater, so that what is read is as it was.
-pub fn keep_minimal(n: usize, size: usize, sound: &mut [u8])
+// Gives the number of those left.
+pub fn keep_minimal(n: usize, size: usize, sound: &mut [u8]) -> usize
     requires { ⌜ (n ≤ maxInputs) × (size ≡ 3 ^ n) × (3 ^ n ≤ length (now sound)) ⌝ }
-    ensures { λ _. ⌜ OnlyMinimal (now (sound .entry)) (now (sound .exit)) n (3 ^ n) ⌝ }
+    ensures { λ r. ⌜ OnlyMinimal (now (sound .entry)) (now (sound .exit)) n (3 ^ n) r ⌝ }
 {
+    let mut count: usize = 0;
     let mut k = 0;
     while k < size {
         if sound[k] == 1 {
-            if !is_minimal(sound, n, k) {
+            if is_minimal(sound, n, k) {
+                count += 1;
+            } else {
                 sound[k] = 0;
             }
         }
         k += 1;
     }
+    count
 }

@@ -1,5 +1,6 @@
 -- `cover_within` meets its contract: the tables are right, so the entries that they show are the cover. Assumes nothing.
 use native.Mathlib.Omega.{arith}
+use Rattle.assignments.proofs.Dropping.{minimal-counted}
 use Rattle.assignments.proofs.Joining.{filled-all}
 use Rattle.assignments.proofs.TableCover.{cover-written}
 use borrow.Author.Needs.{needs}
@@ -27,6 +28,7 @@ write-entries-requires c κs =
       weighed .fill-weights .ensures,
       filled-all (sounded .fill-sound .ensures),
       omega (arith, minimal .keep-minimal .kept .1 .1 .0, sounded .fill-sound .ensures .room),
+      minimal-counted (minimal .keep-minimal .ensures),
     )
 
 same-length : tie.Need-same-length
