@@ -24,7 +24,7 @@ use Rattle.assignments.proofs.Digits.{numeral-lt, digit-numeral}
 use Rattle.assignments.proofs.Agree.{bit-lt, bits-eq, sound-at, sound-from, agrees-at, agrees-from, within-at, within-from}
 use Rattle.assignments.proofs.Cover.{minimal-at, Below, descend, entries-listed, listed-entries, entries-ascend}
 
-bit-zero : (i : ℕ) → bit 0 i ≡ 0
+pub bit-zero : (i : ℕ) → bit 0 i ≡ 0
 unfolding bit
 bit-zero i = rw (zero-div, zero-mod)
 

@@ -12,7 +12,10 @@ pub mod SoundTable
 mod Subsets
 mod PairWalk
 mod Bounds
-mod Scan
-mod Entry
+mod Weights
+mod Joining
+mod Counting
+mod Dropping
+mod Rows
 pub mod Listing
 pub mod TableCover

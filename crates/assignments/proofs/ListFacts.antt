@@ -149,3 +149,9 @@ module _ (q : ℕ → Bool) where
       before r =
           let l : r .0 < length (keep q (upTo n)) = r .1 in
           (r .0, rw (length-append (keep q (upTo n)) (n ∷ [])) (omega arith), List·getD-append (keep q (upTo n)) (n ∷ []) 0 (r .0) l ∙ r .2)
+
+-- two tests that agree below n keep the same numbers
+pub keep-below : (p q : ℕ → Bool) (n : ℕ) → ((k : ℕ) → k < n → p k ≡ q k) → keep p (upTo n) ≡ keep q (upTo n)
+keep-below p q zero h = refl
+keep-below p q (suc n) h =
+    rw (keep-upTo-suc p n, keep-upTo-suc q n, keep-below p q n (λ k l. h k (omega arith)), h n (omega arith))

@@ -1,49 +1,63 @@
--- What `count_entries` and `list_entries` know after q pairs, and how it grows: laws over plain lists. Assumes nothing.
+-- What is known of the entries among the first q pairs, and how it grows: laws over plain lists. Assumes nothing.
 use mathlib.Core.Path.{_≡_, refl, sym, ap, _∙_}
+use mathlib.Core.Logic.{⊎-elim}
 use mathlib.Core.Bool.{true, false}
 use mathlib.Core.List.{List, [], _∷_, _++_, map, append-nil, append-assoc, map-append}
 use Prim.Native.Nat.{ℕ, zero, suc, _+_, _-_, _*_, _/_, _%_, _^_, _≤_, _<_}
+use native.Mathlib.Nat.{zero-mul, mul-le-mul-right}
 use native.Mathlib.Numerals.{add-one}
 use native.Mathlib.Omega.{arith}
 use lib.ListN.{length, set, length-append, length-set, length-map}
 use borrow.Author.Tests.{le-leb, lt-leb}
 use Rattle.laws.specs.Lists.{keep, upTo, joined, placed, tab}
+use Rattle.laws.proofs.Tests.{lt-or-le}
 use Rattle.laws.proofs.Tab.{length-tab, tab-add}
 use Rattle.laws.proofs.Lists.{joined-append, keep-append}
 use Rattle.laws.proofs.Slices.{set-placed}
 use Rattle.netlist.specs.Assignments.{Assignment}
-use Rattle.assignments.specs.Entries.{pairAt, withinAt, PairBelow, NextPair, entryBy, entriesBelow, entriesBy, EntriesWritten}
-use Rattle.assignments.specs.Over.{assignmentWords}
+use Rattle.assignments.specs.Entries.{pairAt, withinAt, NextPair, entryBy, entriesBelow, entriesBy, Reached, Words, EntriesWritten}
+use Rattle.assignments.specs.Over.{assignmentWords, nothing}
 use Rattle.assignments.proofs.ListFacts.{keep-le, keep-upTo-suc}
 use Rattle.assignments.proofs.PairWalk.{first-pair}
 
 module _ (table : List ℕ) (n q : ℕ) where
   -- one pair more: an entry, or none
-  pub entries-add : entryBy table n q ≡ true → entriesBelow table n (q + 1) ≡ entriesBelow table n q ++ (pairAt n q ∷ [])
+  entries-add : entryBy table n q ≡ true → entriesBelow table n (q + 1) ≡ entriesBelow table n q ++ (pairAt n q ∷ [])
   unfolding entriesBelow
   entries-add e =
       rw (add-one q, keep-upTo-suc (entryBy table n) q, e)
       (map-append (pairAt n) (keep (entryBy table n) (upTo q)) (q ∷ []))
 
-  pub entries-skip : entryBy table n q ≡ false → entriesBelow table n (q + 1) ≡ entriesBelow table n q
+  entries-skip : entryBy table n q ≡ false → entriesBelow table n (q + 1) ≡ entriesBelow table n q
   unfolding entriesBelow
   entries-skip e = rw (add-one q, keep-upTo-suc (entryBy table n) q, e, append-nil)
 
   -- an entry counts
-  pub count-add : entryBy table n q ≡ true → length (entriesBelow table n (q + 1)) ≡ length (entriesBelow table n q) + 1
+  count-add : entryBy table n q ≡ true → length (entriesBelow table n (q + 1)) ≡ length (entriesBelow table n q) + 1
   count-add e = rw (entries-add e, length-append (entriesBelow table n q) (pairAt n q ∷ []))
 
-  -- no more of them below q than below q + m
-  pub count-le : (m : ℕ) → length (entriesBelow table n q) ≤ length (entriesBelow table n (q + m))
+  -- those below q are the first of those below q + m
+  abbrev later : ℕ → List Assignment
+  later m = map (pairAt n) (keep (entryBy table n) (tab (λ j. q + j) m))
+
+  entries-more : (m : ℕ) → entriesBelow table n (q + m) ≡ entriesBelow table n q ++ later m
   unfolding entriesBelow
-  count-le m =
-      rw (
-        tab-add (λ k. k) q m,
-        keep-append (entryBy table n) (upTo q) (tab (λ j. q + j) m),
-        length-map (keep (entryBy table n) (upTo q)) (pairAt n),
-        length-map,
-        length-append,
-      ) (omega arith)
+  entries-more m =
+      rw (tab-add (λ k. k) q m, keep-append (entryBy table n) (upTo q) (tab (λ j. q + j) m))
+      (map-append (pairAt n) (keep (entryBy table n) (upTo q)) (keep (entryBy table n) (tab (λ j. q + j) m)))
+
+  count-le : (m : ℕ) → length (entriesBelow table n q) ≤ length (entriesBelow table n (q + m))
+  count-le m = rw (entries-more m, length-append (entriesBelow table n q) (later m)) (omega arith)
+
+  same-count : (m : ℕ) → length (entriesBelow table n (q + m)) ≤ length (entriesBelow table n q) → entriesBelow table n (q + m) ≡ entriesBelow table n q
+  same-count m h =
+      let l : length (entriesBelow table n (q + m)) ≡ length (entriesBelow table n q) + length (later m) =
+      ap length (entries-more m) ∙ length-append (entriesBelow table n q) (later m) in
+      entries-more m ∙ ap (λ (xs : List Assignment). entriesBelow table n q ++ xs) (empty (later m) (omega arith)) ∙ append-nil (entriesBelow table n q)
+    where
+      empty : (xs : List Assignment) → length xs ≤ 0 → xs ≡ []
+      empty [] l = refl
+      empty (x ∷ xs) l = absurd (omega arith)
 
 -- the pairs passed over on the way to the next assignment are no entries
 module _ (table : List ℕ) (n : ℕ) where
@@ -58,7 +72,7 @@ module _ (table : List ℕ) (n : ℕ) where
   unfolding entryBy
   not-within x e = rw e
 
-  pub entries-jump : {q r : ℕ} → NextPair n q r → entriesBelow table n r ≡ entriesBelow table n (q + 1)
+  entries-jump : {q r : ℕ} → NextPair n q r → entriesBelow table n r ≡ entriesBelow table n (q + 1)
   entries-jump {q} {r} x =
       let l : q < r = x .above in
       ap (entriesBelow table n) (omega arith)
@@ -82,93 +96,103 @@ unfolding assignmentWords
 length-words [] = refl
 length-words (x ∷ xs) = let i : length (assignmentWords xs) ≡ 2 * length xs = length-words xs in omega arith
 
--- the entries among the first q pairs are written
-pub record Written (sound entry out : List ℕ) (n q pairs at : ℕ) : Type 0 where
-  pub within : q ≤ 2 ^ n * 2 ^ n
-  pub pairs-is : pairs ≡ 2 ^ n * 2 ^ n
-  pub legal : q < 2 ^ n * 2 ^ n → withinAt n q ≡ true
-  pub same-length : length out ≡ length entry
-  pub at-is : at ≡ 2 * length (entriesBelow sound n q)
-  pub words : out ≡ placed (assignmentWords (entriesBelow sound n q)) entry
+-- before the first row
+pub reached-first : (marks : List ℕ) (n : ℕ) → Reached marks n (0 * 2 ^ n) 0
+unfolding entriesBelow
+reached-first marks n = rw (zero-mul (2 ^ n)) (record { within = omega arith; legal = λ l. first-pair n; counted = refl })
 
-pub written-none : (sound entry : List ℕ) (n pairs : ℕ) → pairs ≡ 2 ^ n * 2 ^ n → Written sound entry entry n 0 pairs 0
+pub words-first : (marks first : List ℕ) (n : ℕ) → Words marks first first n (0 * 2 ^ n)
 unfolding entriesBelow assignmentWords
-written-none sound entry n pairs e = record { within = omega arith; pairs-is = e; legal = λ l. first-pair n; same-length = refl; at-is = refl; words = refl }
+words-first marks first n = rw (zero-mul (2 ^ n)) (record { same-length = refl; words = refl })
 
-module _ {sound entry out : List ℕ} {n q pairs at : ℕ} (w : Written sound entry out n q pairs at) (l : q < pairs) where
-  pub pair-below : PairBelow n q
-  pair-below = let b : q < 2 ^ n * 2 ^ n = rw (w .pairs-is) at l in record { below = b; within = w .legal b }
+-- at an entry one more is counted, of all that there are
+pub one-more : {marks : List ℕ} {n q count : ℕ} → Reached marks n q count → q < 2 ^ n * 2 ^ n → entryBy marks n q ≡ true
+    → count + 1 ≤ length (entriesBy marks n)
+unfolding entriesBy
+one-more {marks} {n} {q} w l e =
+    let k : q + 1 + (2 ^ n * 2 ^ n - (q + 1)) ≡ 2 ^ n * 2 ^ n = omega arith in
+    let le : length (entriesBelow marks n (q + 1)) ≤ length (entriesBelow marks n (2 ^ n * 2 ^ n)) =
+    rw k at (count-le marks n (q + 1) (2 ^ n * 2 ^ n - (q + 1))) in
+    let c : length (entriesBelow marks n (q + 1)) ≡ length (entriesBelow marks n q) + 1 = count-add marks n q e in
+    omega (arith, w .counted)
 
-  pub written-skip : {r : ℕ} → NextPair n q r → entryBy sound n q ≡ false → Written sound entry out n r pairs at
-  written-skip {r} x e =
-      let s : entriesBelow sound n r ≡ entriesBelow sound n q = entries-jump sound n x ∙ entries-skip sound n q e in
-      record {
-        within = x .end;
-        pairs-is = w .pairs-is;
-        legal = x .legal;
-        same-length = w .same-length;
-        at-is = rw s (w .at-is);
-        words = rw s (w .words);
-      }
+-- from pair q to the next one
+module _ {marks : List ℕ} {n q r count : ℕ} (w : Reached marks n q count) (x : NextPair n q r) where
+  pub reached-skip : entryBy marks n q ≡ false → Reached marks n r count
+  reached-skip e = record {
+    within = x .end;
+    legal = x .legal;
+    counted = rw (entries-jump marks n x, entries-skip marks n q e) (w .counted);
+  }
 
-  -- there is room at an entry; afterwards it is written
-  module _ (room : 2 * length (entriesBy sound n) ≤ length entry) (e : entryBy sound n q ≡ true) where
-    one-more : length (entriesBelow sound n q) + 1 ≤ length (entriesBy sound n)
-    unfolding entriesBy
-    one-more =
-        let b : q < 2 ^ n * 2 ^ n = pair-below .below in
-        let k : q + 1 + (2 ^ n * 2 ^ n - (q + 1)) ≡ 2 ^ n * 2 ^ n = omega arith in
-        let le : length (entriesBelow sound n (q + 1)) ≤ length (entriesBelow sound n (2 ^ n * 2 ^ n)) =
-        rw k at (count-le sound n (q + 1) (2 ^ n * 2 ^ n - (q + 1))) in
-        let c : length (entriesBelow sound n (q + 1)) ≡ length (entriesBelow sound n q) + 1 = count-add sound n q e in
-        omega arith
+  pub words-skip : entryBy marks n q ≡ false → {first out : List ℕ} → Words marks first out n q → Words marks first out n r
+  words-skip e {first} {out} v = record {
+    same-length = v .same-length;
+    words = rw (entries-jump marks n x, entries-skip marks n q e) (v .words);
+  }
 
-    pub at-room : at + 2 ≤ length entry
-    at-room = let m : length (entriesBelow sound n q) + 1 ≤ length (entriesBy sound n) = one-more in omega (arith, w .at-is)
+  module _ (e : entryBy marks n q ≡ true) where
+    pub reached-add : Reached marks n r (count + 1)
+    reached-add = record {
+      within = x .end;
+      legal = x .legal;
+      counted = rw (entries-jump marks n x, count-add marks n q e, w .counted);
+    }
 
     so-far : List ℕ
-    so-far = assignmentWords (entriesBelow sound n q)
+    so-far = assignmentWords (entriesBelow marks n q)
 
-    at-words : length so-far ≡ at
-    unfolding so-far
-    at-words = length-words (entriesBelow sound n q) ∙ sym (w .at-is)
-
-    next-words : assignmentWords (entriesBelow sound n (q + 1)) ≡ so-far ++ (q / 2 ^ n ∷ []) ++ (q % 2 ^ n ∷ [])
+    next-words : assignmentWords (entriesBelow marks n r) ≡ so-far ++ (q / 2 ^ n ∷ []) ++ (q % 2 ^ n ∷ [])
     unfolding so-far assignmentWords pairAt
     next-words =
-        ap assignmentWords (entries-add sound n q e) ∙ wordsOf-append (entriesBelow sound n q) (pairAt n q ∷ [])
+        ap assignmentWords (entries-jump marks n x ∙ entries-add marks n q e) ∙ wordsOf-append (entriesBelow marks n q) (pairAt n q ∷ [])
         ∙ sym (append-assoc so-far (q / 2 ^ n ∷ []) (q % 2 ^ n ∷ []))
 
-    pub written-add : {r ones : ℕ} → NextPair n q r → ones ≡ q % 2 ^ n
-        → Written sound entry (set (set out at (q / 2 ^ n)) (at + 1) ones) n r pairs (at + 2)
+    pub words-add : {fixed ones : ℕ} {first out : List ℕ} → fixed ≡ q / 2 ^ n → ones ≡ q % 2 ^ n → 2 * length (entriesBy marks n) ≤ length out
+        → Words marks first out n q → Words marks first (set (set out (2 * count) fixed) (2 * count + 1) ones) n r
     unfolding so-far
-    written-add {r} {ones} x o =
-        let j : entriesBelow sound n r ≡ entriesBelow sound n (q + 1) = entries-jump sound n x in
-        let m : at + 2 ≤ length entry = at-room in
-        let a : length so-far ≡ at = at-words in
-        let c : length (entriesBelow sound n (q + 1)) ≡ length (entriesBelow sound n q) + 1 = count-add sound n q e in
-        let first : set out at (q / 2 ^ n) ≡ placed (so-far ++ (q / 2 ^ n ∷ [])) entry =
-        rw (w .words, ← a) (set-placed so-far entry (length so-far) (q / 2 ^ n) refl (omega arith)) in
-        let here : length (so-far ++ (q / 2 ^ n ∷ [])) ≡ at + 1 = length-append so-far (q / 2 ^ n ∷ []) ∙ omega arith in
+    words-add {fixed} {ones} {first} {out} f o room v =
+        let a : length so-far ≡ 2 * count = length-words (entriesBelow marks n q) ∙ rw (w .counted) in
+        let m : count + 1 ≤ length (entriesBy marks n) = one-more w (omega (arith, x .above, x .end)) e in
+        let once : set out (2 * count) (q / 2 ^ n) ≡ placed (so-far ++ (q / 2 ^ n ∷ [])) first =
+        rw (v .words, ← a) (set-placed so-far first (length so-far) (q / 2 ^ n) refl (omega (arith, v .same-length))) in
+        let here : length (so-far ++ (q / 2 ^ n ∷ [])) ≡ 2 * count + 1 = length-append so-far (q / 2 ^ n ∷ []) ∙ omega arith in
         record {
-          within = x .end;
-          pairs-is = w .pairs-is;
-          legal = x .legal;
-          same-length = simp length-set (w .same-length);
-          at-is = rw j (omega (arith, w .at-is));
+          same-length = simp length-set (v .same-length);
           words =
-              rw (first, o, ← here)
-              (set-placed (so-far ++ (q / 2 ^ n ∷ [])) entry (length (so-far ++ (q / 2 ^ n ∷ []))) (q % 2 ^ n) refl (rw here (omega arith)))
-              ∙ ap (λ (xs : List ℕ). placed xs entry) (sym (ap assignmentWords j ∙ next-words));
+              rw (f, o, once, ← here)
+              (set-placed (so-far ++ (q / 2 ^ n ∷ [])) first (length (so-far ++ (q / 2 ^ n ∷ []))) (q % 2 ^ n) refl
+              (rw here (omega (arith, v .same-length))))
+              ∙ ap (λ (xs : List ℕ). placed xs first) (sym next-words);
         }
 
--- after the last pair all entries are written
-pub written-all : {sound entry out : List ℕ} {n q pairs at : ℕ} → Written sound entry out n q pairs at → pairs ≤ q
-    → out ≡ placed (assignmentWords (entriesBy sound n)) entry
-unfolding entriesBy
-written-all {sound} {entry} {out} {n} {q} w l =
-    let e : q ≡ 2 ^ n * 2 ^ n = omega arith in
-    w .words ∙ ap (λ (k : ℕ). placed (assignmentWords (entriesBelow sound n k)) entry) e
+-- where as many entries are counted as there are, none is left
+module _ {marks : List ℕ} {n q count : ℕ} (w : Reached marks n q count) where
+  pub all-reached : length (entriesBy marks n) ≤ count → entriesBelow marks n q ≡ entriesBy marks n
+  unfolding entriesBy
+  all-reached l =
+      let k : q + (2 ^ n * 2 ^ n - q) ≡ 2 ^ n * 2 ^ n = omega (arith, w .within) in
+      sym (rw k at (same-count marks n q (2 ^ n * 2 ^ n - q) (rw k (omega (arith, w .counted)))))
+
+  pub not-all : count < length (entriesBy marks n) → q < 2 ^ n * 2 ^ n
+  unfolding entriesBy
+  not-all l =
+      ⊎-elim (λ h. h)
+      (λ (h : 2 ^ n * 2 ^ n ≤ q).
+      let e : q ≡ 2 ^ n * 2 ^ n = omega (arith, w .within) in
+      let f : length (entriesBelow marks n q) ≡ length (entriesBelow marks n (2 ^ n * 2 ^ n)) = rw e in
+      absurd (omega (arith, w .counted)))
+      (lt-or-le q (2 ^ n * 2 ^ n))
+
+-- .. so there is a row left where not all are counted
+pub row-left : {marks : List ℕ} {n f count : ℕ} → Reached marks n (f * 2 ^ n) count → count < length (entriesBy marks n) → f < 2 ^ n
+row-left {marks} {n} {f} w l =
+    ⊎-elim (λ h. h)
+    (λ (h : 2 ^ n ≤ f).
+    let a : f * 2 ^ n < 2 ^ n * 2 ^ n = not-all w l in
+    let b : 2 ^ n * 2 ^ n ≤ f * 2 ^ n = mul-le-mul-right (2 ^ n) h in
+    absurd (omega arith))
+    (lt-or-le f (2 ^ n))
 
 -- `write_entries`: there is room, or there is not
 pub with-room : {entries : List Assignment} {entry exit : List ℕ} {count : ℕ} → count ≡ length entries → 2 * count ≤ length entry
@@ -179,3 +203,16 @@ with-room {entries} {entry} c r e = record { counted = c; written = rw (le-leb (
 pub without-room : {entries : List Assignment} {entry : List ℕ} {count : ℕ} → count ≡ length entries → length entry < 2 * count
     → EntriesWritten entries entry entry count
 without-room {entries} {entry} c r = record { counted = c; written = rw (lt-leb (2 * length entries) (length entry) (rw (← c) r)) }
+
+-- `write_nothing`: the same for the one entry that fixes nothing
+pub nothing-written : (entry : List ℕ) → 2 ≤ length entry → EntriesWritten (nothing ∷ []) entry (set (set entry 0 0) 1 0) 1
+unfolding assignmentWords
+nothing-written entry l = with-room refl l (zeros entry l)
+  where
+    zeros : (xs : List ℕ) → 2 ≤ length xs → set (set xs 0 0) 1 0 ≡ placed (assignmentWords (nothing ∷ [])) xs
+    zeros [] l = absurd (omega arith)
+    zeros (x ∷ []) l = absurd (omega arith)
+    zeros (x ∷ y ∷ xs) l = refl
+
+pub nothing-kept : (entry : List ℕ) → length entry < 2 → EntriesWritten (nothing ∷ []) entry entry 1
+nothing-kept entry l = without-room refl l

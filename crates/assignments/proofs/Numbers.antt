@@ -2,9 +2,8 @@
 -- Assumes nothing.
 use mathlib.Core.Path.{_≡_, refl, sym, _∙_}
 use mathlib.Core.Logic.{⊎-elim}
-use Prim.Native.Nat.{ℕ, zero, suc, _+_, _-_, _*_, _/_, _%_, _^_, _≤_, _<_}
-use native.Mathlib.Nat.{pow-suc, mul-assoc, add-mul, one-mul, zero-mul}
-use native.Mathlib.Numerals.{add-one}
+use Prim.Native.Nat.{ℕ, zero, suc, _+_, _-_, _*_, _^_, _≤_, _<_}
+use native.Mathlib.Nat.{pow-suc, mul-assoc, add-mul}
 use native.Mathlib.Omega.{arith}
 use borrow.Author.Tests.{eq-eqb, ne-eqb}
 use Rattle.laws.proofs.Tests.{eq-or-ne}
@@ -18,11 +17,11 @@ use Rattle.assignments.proofs.Digits.{numeral-lt, numeral-less, digit-n
 use Rattle.assignments.proofs.Agree.{bit-lt, without-fixed, without-fixed-other, without-ones-other}
 
 -- the digit of a fixed input is its value, that of a free one is 2
-digit-fixed : (a : Assignment) (i : ℕ) → bit (a .fixed) i ≡ 1 → digitOf a i ≡ bit (a .ones) i
+pub digit-fixed : (a : Assignment) (i : ℕ) → bit (a .fixed) i ≡ 1 → digitOf a i ≡ bit (a .ones) i
 unfolding digitOf fixes
 digit-fixed a i e = rw (eq-eqb (bit (a .fixed) i) 1 e)
 
-digit-free : (a : Assignment) (i : ℕ) → (bit (a .fixed) i ≡ 1 → ⊥) → digitOf a i ≡ 2
+pub digit-free : (a : Assignment) (i : ℕ) → (bit (a .fixed) i ≡ 1 → ⊥) → digitOf a i ≡ 2
 unfolding digitOf fixes
 digit-free a i ne = rw (ne-eqb (bit (a .fixed) i) 1 ne)
 
@@ -81,24 +80,6 @@ number-without n a i ok l e =
         (λ (g : bit (a .fixed) j ≡ 1). digit-fixed a j g ∙ sym (without-ones-other n a i ok l e j m ne) ∙ sym (digit-fixed (without a i) j (f ∙ g)))
         (λ (g : bit (a .fixed) j ≡ 1 → ⊥). digit-free a j g ∙ sym (digit-free (without a i) j (λ q. g (sym f ∙ q))))
         (eq-or-ne (bit (a .fixed) j) 1)
-
--- one more digit of a number
-pub numeral-one : (b : ℕ) (d : ℕ → ℕ) (i : ℕ) → d i ≡ 1 → numeral b d (i + 1) ≡ numeral b d i + b ^ i
-unfolding numeral
-numeral-one b d i e = rw (add-one i, e, one-mul (b ^ i))
-
-pub numeral-zero : (b : ℕ) (d : ℕ → ℕ) (i : ℕ) → d i ≡ 0 → numeral b d (i + 1) ≡ numeral b d i
-unfolding numeral
-numeral-zero b d i e = rw (add-one i, e, zero-mul (b ^ i)) (omega arith)
-
--- the weight of a mask's first bits, one bit more
-pub weight-one : (m i : ℕ) → m / 2 ^ i % 2 ≡ 1 → weightOf (i + 1) m ≡ weightOf i m + 3 ^ i
-unfolding weightOf bit
-weight-one m i e = numeral-one 3 (bit m) i e
-
-pub weight-zero : (m i : ℕ) → (m / 2 ^ i % 2 ≡ 1 → ⊥) → weightOf (i + 1) m ≡ weightOf i m
-unfolding weightOf bit
-weight-zero m i ne = let b : m / 2 ^ i % 2 < 2 = bit-lt m i in numeral-zero 3 (bit m) i (omega arith)
 
 pub weight-lt : (n m : ℕ) → weightOf n m < 3 ^ n
 unfolding weightOf

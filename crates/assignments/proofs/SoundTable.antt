@@ -6,6 +6,7 @@ use mathlib.Core.Bool.{Bool, true, false, cond, not, _&&_, _||_}
 use Prim.Native.Nat.{ℕ, _-_, _*_, _^_, _<_}
 use native.Mathlib.Nat.{one-mul}
 use native.Mathlib.Omega.{arith}
+use lib.Bits.{bitAnd}
 use lib.Dec.{eqb}
 use borrow.Author.Tests.{eq-eqb, eqb-true, ne-eqb}
 use Rattle.laws.proofs.Tests.{eq-or-ne, same-test, or-cases, or-left, or-right, and-left, and-right, and-intro}
@@ -130,7 +131,7 @@ module _ (p : ℕ → Bool) (n : ℕ) where
 
   -- the byte of an assignment with a free input, from the two that fix it
   pub byte-free : (k i : ℕ) → k < 3 ^ n → i < n → ternaryDigit 3 k i ≡ 2
-      → soundByte p n k ≡ cond (eqb (soundByte p n (k - 3 ^ i)) 1) (soundByte p n (k - 2 * 3 ^ i)) 0
+      → soundByte p n k ≡ bitAnd (soundByte p n (k - 3 ^ i)) (soundByte p n (k - 2 * 3 ^ i))
   unfolding soundByte byteOf
   byte-free k i small l free =
       ap byteOf (split (ternaryDigit 3 k) (ternaryDigit 3 (k - 2 * 3 ^ i)) (ternaryDigit 3 (k - 3 ^ i)) i free
@@ -146,6 +147,8 @@ module _ (p : ℕ → Bool) (n : ℕ) where
       one-kept : (j : ℕ) → j < n → (j ≡ i → ⊥) → ternaryDigit 3 (k - 3 ^ i) j ≡ ternaryDigit 3 k j
       one-kept j m ne = rw (one-mul (3 ^ i)) at (digit-kept 3 (omega arith) k n i 1 small l (omega arith) j m ne)
 
-      bytes : (a b : Bool) → byteOf (a && b) ≡ cond (eqb (byteOf a) 1) (byteOf b) 0
-      bytes true b = refl
-      bytes false b = refl
+      bytes : (a b : Bool) → byteOf (a && b) ≡ bitAnd (byteOf a) (byteOf b)
+      bytes true true = refl
+      bytes true false = refl
+      bytes false true = refl
+      bytes false false = refl

@@ -1,17 +1,16 @@
--- The entries of a cover as the code finds them: pairs of masks, tested against the table of soundness. Cited by the contracts of this
--- crate. Assumes nothing.
-use Prim.Native.Nat.{ℕ, _*_, _/_, _%_, _^_, _≤_, _<_}
+-- The entries of a cover as the code finds them: pairs of masks, tested against a table in which only sound and minimal assignments are
+-- left. Cited by the contracts of this crate. Assumes nothing.
+use Prim.Native.Nat.{ℕ, _+_, _-_, _*_, _/_, _%_, _^_, _≤_, _<_}
 use mathlib.Core.Path.{_≡_}
 use mathlib.Core.Bool.{Bool, true, false, cond, not, _&&_, _||_}
 use mathlib.Core.List.{List, map}
 use lib.ListN.{length, getD}
 use lib.Dec.{eqb, leb}
 use Rattle.laws.specs.Lists.{all, upTo, keep, placed}
-use Rattle.netlist.specs.Limits.{maxInputs}
-use Rattle.netlist.specs.Assignments.{Assignment, fixes, isWithin}
-use Rattle.netlist.specs.Cover.{without}
-use Rattle.assignments.specs.Over.{soundOver, minimalOver, masks, assignmentWords, Consistent}
-use Rattle.assignments.specs.Tables.{ternaryNumber, weightOf}
+use Rattle.netlist.specs.Assignments.{Assignment, isWithin}
+use Rattle.assignments.specs.Over.{soundOver, minimalOver, assignmentWords}
+use Rattle.assignments.specs.Digits.{ternaryDigit}
+use Rattle.assignments.specs.Tables.{ternaryNumber, weightOf, Weighed}
 
 -- pair number q of two masks of n bits
 unfoldable pub pairAt : ℕ → ℕ → Assignment
@@ -40,40 +39,59 @@ isEntry p n a = isWithin n (a .fixed) (a .ones) && (soundOver p n a && minimalOv
 unfoldable pub entryAt : (ℕ → Bool) → ℕ → ℕ → Bool
 entryAt p n q = isEntry p n (pairAt n q)
 
--- the same, with soundness read from a table
-unfoldable pub soundBy : List ℕ → ℕ → Assignment → Bool
-soundBy table n a = eqb (getD table (ternaryNumber n a) 0) 1
+-- assignment number k is sound, as a table has it
+unfoldable pub soundAt : List ℕ → ℕ → Bool
+soundAt table k = eqb (getD table k 0) 1
 
--- input i is free, or cannot be dropped
-unfoldable pub neededBy : List ℕ → ℕ → Assignment → ℕ → Bool
-neededBy table n a i = not (fixes a i) || not (soundBy table n (without a i))
+-- its input i is free, or cannot be dropped: with it free the number is greater by 2 or 1 times 3^i
+unfoldable pub neededAt : List ℕ → ℕ → ℕ → Bool
+neededAt table k i = eqb (ternaryDigit 3 k i) 2 || not (soundAt table (k + (2 - ternaryDigit 3 k i) * 3 ^ i))
 
-unfoldable pub minimalBy : List ℕ → ℕ → Assignment → Bool
-minimalBy table n a = all (neededBy table n a) (upTo n)
+unfoldable pub minimalAt : List ℕ → ℕ → ℕ → Bool
+minimalAt table n k = all (neededAt table k) (upTo n)
 
+unfoldable pub isLeft : List ℕ → ℕ → ℕ → Bool
+isLeft sound n k = soundAt sound k && minimalAt sound n k
+
+-- of the first m assignments only those are left that are sound and minimal, and these are counted
+pub record OnlyMinimal (sound marks : List ℕ) (n m count : ℕ) : Type 0 where
+  pub left : (k : ℕ) → k < m → soundAt marks k ≡ isLeft sound n k
+  pub rest : (k : ℕ) → m ≤ k → getD marks k 0 ≡ getD sound k 0
+  pub counted : count ≡ length (keep (isLeft sound n) (upTo m))
+
+-- the pair is an assignment that is left
 unfoldable pub entryBy : List ℕ → ℕ → ℕ → Bool
-entryBy table n q = withinAt n q && (soundBy table n (pairAt n q) && minimalBy table n (pairAt n q))
+entryBy marks n q = withinAt n q && soundAt marks (ternaryNumber n (pairAt n q))
 
 -- the entries among the first q pairs
 unfoldable pub entriesBelow : List ℕ → ℕ → ℕ → List Assignment
-entriesBelow table n q = map (pairAt n) (keep (entryBy table n) (upTo q))
+entriesBelow marks n q = map (pairAt n) (keep (entryBy marks n) (upTo q))
 
 unfoldable pub entriesBy : List ℕ → ℕ → List Assignment
-entriesBy table n = entriesBelow table n (2 ^ n * 2 ^ n)
+entriesBy marks n = entriesBelow marks n (2 ^ n * 2 ^ n)
 
--- the masks of an assignment of n inputs with its number, and a table with a byte for each number
-pub record Numbered (sound : List ℕ) (n fixed ones number : ℕ) : Type 0 where
-  pub few : n ≤ maxInputs
-  pub room : 3 ^ n ≤ length sound
-  pub legal : Consistent n (masks fixed ones)
-  pub is : number ≡ ternaryNumber n (masks fixed ones)
+-- the assignments with one first mask: `base` is the number of the one with no input at 1
+pub record Row (marks weights : List ℕ) (n base fixed : ℕ) : Type 0 where
+  pub weighed : Weighed weights n
+  pub room : 3 ^ n ≤ length marks
+  pub legal : fixed < 2 ^ n
+  pub base-is : base + 2 * weightOf n fixed + 1 ≡ 3 ^ n
 
--- the weights of the masks of n bits, and 3^n
-pub record Weighed (weights : List ℕ) (n size : ℕ) : Type 0 where
-  pub few : n ≤ maxInputs
-  pub size-is : size ≡ 3 ^ n
-  pub room : 2 ^ n ≤ length weights
-  pub right : (m : ℕ) → m < 2 ^ n → getD weights m 0 ≡ weightOf n m
+-- pair q is an assignment or the end, and the entries before it are counted
+pub record Reached (marks : List ℕ) (n q count : ℕ) : Type 0 where
+  pub within : q ≤ 2 ^ n * 2 ^ n
+  pub legal : q < 2 ^ n * 2 ^ n → withinAt n q ≡ true
+  pub counted : count ≡ length (entriesBelow marks n q)
+
+-- the words of the entries before pair q, in front of what the slice was at first
+pub record Words (marks first out : List ℕ) (n q : ℕ) : Type 0 where
+  pub same-length : length out ≡ length first
+  pub words : out ≡ placed (assignmentWords (entriesBelow marks n q)) first
+
+-- the entries with this first mask are written behind those before it
+pub record RowListed (marks entry exit : List ℕ) (n fixed count : ℕ) : Type 0 where
+  pub reached : Reached marks n ((fixed + 1) * 2 ^ n) count
+  pub row : (first : List ℕ) → Words marks first entry n (fixed * 2 ^ n) → Words marks first exit n ((fixed + 1) * 2 ^ n)
 
 -- the number of entries, and their words where there is room for them
 pub record EntriesWritten (entries : List Assignment) (entry exit : List ℕ) (count : ℕ) : Type 0 where

@@ -1,15 +1,20 @@
 -- The tables that Cover's code keeps: which settings are settled, and which of the 3^n assignments are sound. Assumes nothing.
-use Prim.Native.Nat.{ℕ, _^_, _≤_, _<_}
+use Prim.Native.Nat.{ℕ, _+_, _-_, _*_, _^_, _≤_, _<_}
 use mathlib.Core.Path.{_≡_}
 use mathlib.Core.Bool.{Bool, cond, not, _||_}
 use mathlib.Core.List.{List}
 use lib.ListN.{length, getD}
 use lib.Dec.{eqb}
-use Rattle.laws.specs.Lists.{all, upTo, tab}
+use lib.Bits.{bitAnd}
+use Rattle.laws.specs.Lists.{all, upTo}
 use Rattle.netlist.specs.Limits.{maxInputs}
 use Rattle.netlist.specs.Assignments.{bit}
 use Rattle.netlist.specs.Assignments.{Assignment, fixes}
 use Rattle.assignments.specs.Digits.{ternaryDigit, numeral}
+
+-- up to so many inputs the tables are kept small
+abbrev pub fewInputs : ℕ
+fewInputs = 8
 
 -- the settings at which the table has a 1
 unfoldable pub settledBy : List ℕ → ℕ → Bool
@@ -36,20 +41,26 @@ byteOf b = cond b 1 0
 unfoldable pub soundByte : (ℕ → Bool) → ℕ → ℕ → ℕ
 soundByte p n k = byteOf (soundDigits p n (ternaryDigit 3 k))
 
-unfoldable pub soundTable : (ℕ → Bool) → ℕ → List ℕ
-soundTable p n = tab (soundByte p n) (3 ^ n)
-
 -- a mask's bits read as ternary digits
 unfoldable pub weightOf : ℕ → ℕ → ℕ
 weightOf n m = numeral 3 (bit m) n
 
-unfoldable pub weightTable : ℕ → List ℕ
-weightTable n = tab (weightOf n) (2 ^ n)
+-- the weights of the masks of n bits
+pub record Weighed (weights : List ℕ) (n : ℕ) : Type 0 where
+  pub few : n ≤ maxInputs
+  pub room : 2 ^ n ≤ length weights
+  pub right : (m : ℕ) → m < 2 ^ n → getD weights m 0 ≡ weightOf n m
 
--- what the byte at k is found from: the settings, and the table right below k
-pub record SoundBelow (settled sound : List ℕ) (n k : ℕ) : Type 0 where
+-- where the byte of setting s goes, and right bytes below it
+pub record Filled (settled sound : List ℕ) (n s k : ℕ) : Type 0 where
   pub few : n ≤ maxInputs
   pub settings : 2 ^ n ≤ length settled
-  pub number : k < 3 ^ n
-  pub room : k ≤ length sound
+  pub room : 3 ^ n ≤ length sound
+  pub number : k ≡ weightOf (n + 1) s
   pub right : (j : ℕ) → j < k → getD sound j 0 ≡ soundByte (settledBy settled) n j
+
+-- the first m bytes from k on are 1 where both the byte `power` before and the one twice as far before are
+pub record Joined (entry exit : List ℕ) (k power m : ℕ) : Type 0 where
+  pub same-length : length exit ≡ length entry
+  pub kept : (j : ℕ) → j < k → getD exit j 0 ≡ getD entry j 0
+  pub both : (j : ℕ) → j < m → getD exit (k + j) 0 ≡ bitAnd (getD entry (k - power + j) 0) (getD entry (k - 2 * power + j) 0)

@@ -1,98 +1,86 @@
-// The entries of the cover: the pairs of masks that the table of soundness shows to be sound and minimal, in ascending order.
-use crate::pairs::next_pair;
+// The entries of the cover: the pairs of masks whose assignments are left in the table, in ascending order.
+use crate::pairs::next_ones;
 ghost use mathlib.Core.Path.{_≡_};
-ghost use Prim.Native.Nat.{_*_, _^_, _≤_};
+ghost use Prim.Native.Nat.{_+_, _*_, _^_, _≤_, _<_};
 ghost use lib.ListN.{length};
 ghost use Rattle.laws.specs.Lists.{placed};
-ghost use Rattle.assignments.specs.Entries.{minimalBy, entryBy, entriesBy, Numbered, Weighed, PairBelow, EntriesWritten};
-ghost use Rattle.assignments.specs.Over.{masks, assignmentWords, Consistent};
-ghost use Rattle.assignments.specs.Tables.{ternaryNumber};
+ghost use Rattle.assignments.specs.Entries.{entryBy, entriesBy, PairBelow, Row, Reached};
+ghost use Rattle.assignments.specs.Entries.{RowListed, EntriesWritten};
+ghost use Rattle.assignments.specs.Over.{assignmentWords};
+ghost use Rattle.assignments.specs.Tables.{weightOf, Weighed};
 
-// Whether no fixed input can be dropped: the assignment with input i free has a number greater by 2 or 1 times 3^i.
-fn is_minimal(sound: &[u8], n: usize, fixed: usize, ones: usize, number: usize) -> bool
-    requires { ⌜ Numbered (now sound) n fixed ones number ⌝ }
-    ensures { λ r. ⌜ r ≡ minimalBy (now (sound .entry)) n (masks fixed ones) ⌝ }
+// The number of the assignment with this first mask and no input at 1.
+fn row_base(weights: &[u32], n: usize, size: usize, fixed: usize) -> usize
+    requires { ⌜ Weighed (now weights) n × (size ≡ 3 ^ n) × (fixed < 2 ^ n) ⌝ }
+    ensures { λ r. ⌜ r + 2 * weightOf n fixed + 1 ≡ 3 ^ n ⌝ }
 {
-    let mut power: usize = 1;
-    let mut i = 0;
-    while i < n {
-        if (fixed >> i) % 2 == 1 {
-            let value = (ones >> i) % 2;
-            if sound[number + (2 - value) * power] == 1 {
-                return false;
-            }
-        }
-        power *= 3;
-        i += 1;
-    }
-    true
+    size - 1 - 2 * weights[fixed] as usize
 }
 
-// The number of an assignment, from the weights of its two masks.
-fn number_of(weights: &[u32], n: usize, size: usize, fixed: usize, ones: usize) -> usize
-    requires { ⌜ Weighed (now weights) n size × Consistent n (masks fixed ones) ⌝ }
-    ensures { λ r. ⌜ r ≡ ternaryNumber n (masks fixed ones) ⌝ }
+// Whether an assignment with this first mask is left: an input at 1 in place of 0 makes the number greater by its weight.
+fn is_left(marks: &[u8], weights: &[u32], n: usize, base: usize, fixed: usize, ones: usize) -> bool
+    requires { ⌜ Row (now marks) (now weights) n base fixed × (ones < 2 ^ n) × PairBelow n (fixed * 2 ^ n + ones) ⌝ }
+    ensures { λ r. ⌜ r ≡ entryBy (now (marks .entry)) n (fixed * 2 ^ n + ones) ⌝ }
 {
-    size - 1 + weights[ones] as usize - 2 * weights[fixed] as usize
+    marks[base + weights[ones] as usize] == 1
 }
 
-// Whether pair number q of masks, whose inputs at 1 are fixed ones, is an entry.
-fn is_entry(sound: &[u8], weights: &[u32], n: usize, size: usize, q: usize) -> bool
-    requires { ⌜ Weighed (now weights) n size × (3 ^ n ≤ length (now sound)) × PairBelow n q ⌝ }
-    ensures { λ r. ⌜ r ≡ entryBy (now (sound .entry)) n q ⌝ }
+// The words of the entries with this first mask, behind those of the entries before it; how many entries these are together.
+fn list_row(
+    marks: &[u8],
+    weights: &[u32],
+    n: usize,
+    base: usize,
+    fixed: usize,
+    before: usize,
+    out: &mut [u16],
+) -> usize
+    requires { ⌜ Row (now marks) (now weights) n base fixed × Reached (now marks) n (fixed * 2 ^ n) before ⌝ }
+    requires { ⌜ 2 * length (entriesBy (now marks) n) ≤ length (now out) ⌝ }
+    ensures { λ r. ⌜ RowListed (now (marks .entry)) (now (out .entry)) (now (out .exit)) n fixed r ⌝ }
 {
-    let fixed = q >> n;
-    let ones = q & ((1usize << n) - 1);
-    let number = number_of(weights, n, size, fixed, ones);
-    if sound[number] != 1 {
-        return false;
-    }
-    is_minimal(sound, n, fixed, ones, number)
-}
-
-// How many entries there are.
-fn count_entries(sound: &[u8], weights: &[u32], n: usize, size: usize) -> usize
-    requires { ⌜ Weighed (now weights) n size × (3 ^ n ≤ length (now sound)) ⌝ }
-    ensures { λ r. ⌜ r ≡ length (entriesBy (now (sound .entry)) n) ⌝ }
-{
-    let pairs = 1usize << (2 * n);
-    let mut count: usize = 0;
-    let mut q = 0;
-    while q < pairs {
-        if is_entry(sound, weights, n, size, q) {
+    let end = 1usize << n;
+    let mut count = before;
+    let mut ones = 0;
+    while ones < end {
+        if is_left(marks, weights, n, base, fixed, ones) {
+            out[2 * count] = fixed as u16;
+            out[2 * count + 1] = ones as u16;
             count += 1;
         }
-        q = next_pair(n, q);
+        ones = next_ones(n, fixed, ones);
     }
     count
 }
 
-// The entries' words into the beginning of `out`.
-fn list_entries(sound: &[u8], weights: &[u32], n: usize, size: usize, out: &mut [u16])
-    requires { ⌜ Weighed (now weights) n size × (3 ^ n ≤ length (now sound)) × (2 * length (entriesBy (now sound) n) ≤ length (now out)) ⌝ }
-    ensures { λ _. ⌜ now (out .exit) ≡ placed (assignmentWords (entriesBy (now (sound .entry)) n)) (now (out .entry)) ⌝ }
+// The words of all `total` entries into the beginning of `out`; the walk ends with the last of them.
+fn list_entries(marks: &[u8], weights: &[u32], n: usize, size: usize, total: usize, out: &mut [u16])
+    requires { ⌜ Weighed (now weights) n × (size ≡ 3 ^ n) × (3 ^ n ≤ length (now marks)) ⌝ }
+    requires { ⌜ (total ≡ length (entriesBy (now marks) n)) × (2 * length (entriesBy (now marks) n) ≤ length (now out)) ⌝ }
+    ensures { λ _. ⌜ now (out .exit) ≡ placed (assignmentWords (entriesBy (now (marks .entry)) n)) (now (out .entry)) ⌝ }
 {
-    let pairs = 1usize << (2 * n);
-    let mut at: usize = 0;
-    let mut q = 0;
-    while q < pairs {
-        if is_entry(sound, weights, n, size, q) {
-            out[at] = (q >> n) as u16;
-            out[at + 1] = (q & ((1usize << n) - 1)) as u16;
-            at += 2;
-        }
-        q = next_pair(n, q);
+    let mut count: usize = 0;
+    let mut fixed = 0;
+    while count < total {
+        let base = row_base(weights, n, size, fixed);
+        count = list_row(marks, weights, n, base, fixed, count, out);
+        fixed += 1;
     }
 }
 
-// How many entries there are, and their words where `out` has room for all of them.
-pub fn write_entries(sound: &[u8], weights: &[u32], n: usize, size: usize, out: &mut [u16]) -> usize
-    requires { ⌜ Weighed (now weights) n size × (3 ^ n ≤ length (now sound)) ⌝ }
-    ensures { λ r. ⌜ EntriesWritten (entriesBy (now (sound .entry)) n) (now (out .entry)) (now (out .exit)) r ⌝ }
+// The words of the entries, where `out` has room for all of them; how many these are is known.
+pub fn write_entries(
+    marks: &[u8],
+    weights: &[u32],
+    n: usize,
+    size: usize,
+    total: usize,
+    out: &mut [u16],
+)
+    requires { ⌜ Weighed (now weights) n × (size ≡ 3 ^ n) × (3 ^ n ≤ length (now marks)) × (total ≡ length (entriesBy (now marks) n)) ⌝ }
+    ensures { λ _. ⌜ EntriesWritten (entriesBy (now (marks .entry)) n) (now (out .entry)) (now (out .exit)) total ⌝ }
 {
-    let count = count_entries(sound, weights, n, size);
-    if 2 * count <= out.len() {
-        list_entries(sound, weights, n, size, out);
+    if 2 * total <= out.len() {
+        list_entries(marks, weights, n, size, total, out);
     }
-    count
 }

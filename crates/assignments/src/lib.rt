@@ -1,21 +1,32 @@
 // Cover's core (SPECIFICATION 4), over a table that says which settings are settled: the sound and minimal partial assignments of n inputs, in order.
 // The operation Cover simulates each setting once, and then calls `cover_entries`.
 use entries::write_entries;
+use everywhere::are_all_settled;
+use everywhere::write_nothing;
 use layout::limits::MAX_ASSIGNMENTS;
 use layout::limits::MAX_SETTINGS;
+use minimal::keep_minimal;
 use tables::fill_sound;
 use tables::fill_weights;
-use tables::power_of_3;
 ghost use Prim.Native.Nat.{_^_, _≤_};
 ghost use lib.ListN.{length};
 ghost use Rattle.netlist.specs.Limits.{maxInputs};
 ghost use Rattle.assignments.specs.Over.{coverOver};
-ghost use Rattle.assignments.specs.Tables.{settledBy};
+ghost use Rattle.assignments.specs.Tables.{settledBy, fewInputs};
 ghost use Rattle.assignments.specs.Entries.{EntriesWritten};
 
 mod entries;
+mod everywhere;
+mod minimal;
 mod pairs;
 mod tables;
+
+// Up to so many inputs the tables are small: what is made is also cleared.
+const FEW_INPUTS: usize = 8;
+
+const FEW_SETTINGS: usize = 1 << FEW_INPUTS;
+
+const FEW_ASSIGNMENTS: usize = 6561;
 
 // The number of entries; their words, two an entry, where `out` has room for all of them. `settled` has a 1 for each settled setting.
 // There are as many masks as settings.
@@ -23,8 +34,24 @@ pub fn cover_entries(settled: &[u8], n: usize, out: &mut [u16]) -> usize
     requires { ⌜ (n ≤ maxInputs) × (2 ^ n ≤ length (now settled)) ⌝ }
     ensures { λ r. ⌜ EntriesWritten (coverOver (settledBy (now (settled .entry))) n) (now (out .entry)) (now (out .exit)) r ⌝ }
 {
+    if are_all_settled(settled, n) {
+        return write_nothing(out);
+    }
+    if n <= FEW_INPUTS {
+        return cover_few(settled, n, out);
+    }
     let mut sound = [0u8; MAX_ASSIGNMENTS];
     let mut weights = [0u32; MAX_SETTINGS];
+    cover_within(settled, n, &mut sound, &mut weights, out)
+}
+
+// The same for few inputs.
+fn cover_few(settled: &[u8], n: usize, out: &mut [u16]) -> usize
+    requires { ⌜ (n ≤ fewInputs) × (2 ^ n ≤ length (now settled)) ⌝ }
+    ensures { λ r. ⌜ EntriesWritten (coverOver (settledBy (now (settled .entry))) n) (now (out .entry)) (now (out .exit)) r ⌝ }
+{
+    let mut sound = [0u8; FEW_ASSIGNMENTS];
+    let mut weights = [0u32; FEW_SETTINGS];
     cover_within(settled, n, &mut sound, &mut weights, out)
 }
 
@@ -39,8 +66,9 @@ fn cover_within(
     requires { ⌜ (n ≤ maxInputs) × (2 ^ n ≤ length (now settled)) × (3 ^ n ≤ length (now sound)) × (2 ^ n ≤ length (now weights)) ⌝ }
     ensures { λ r. ⌜ EntriesWritten (coverOver (settledBy (now (settled .entry))) n) (now (out .entry)) (now (out .exit)) r ⌝ }
 {
-    let size = power_of_3(n);
     fill_weights(n, weights);
-    fill_sound(settled, n, size, sound);
-    write_entries(sound, weights, n, size, out)
+    let size = fill_sound(settled, n, sound);
+    let total = keep_minimal(n, size, sound);
+    write_entries(sound, weights, n, size, total, out);
+    total
 }

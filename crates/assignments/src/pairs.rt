@@ -1,19 +1,17 @@
-// Pairs of masks by number, in ascending order: those whose inputs at 1 are fixed ones, 3^n of the 4^n.
-ghost use Prim.Native.Nat.{_≤_};
+// Pairs of masks in ascending order: those whose inputs at 1 are fixed ones, 3^n of the 4^n.
+ghost use Prim.Native.Nat.{_+_, _*_, _^_, _≤_, _<_};
 ghost use Rattle.netlist.specs.Limits.{maxInputs};
 ghost use Rattle.assignments.specs.Entries.{PairBelow, NextPair};
 
-// The next such pair after pair q, or the end: the next subset of the fixed inputs, where a carry passes the free ones; after the last subset, the empty
-// one of the next first mask.
-pub fn next_pair(n: usize, q: usize) -> usize
-    requires { ⌜ (n ≤ maxInputs) × PairBelow n q ⌝ }
-    ensures { λ r. ⌜ NextPair n q r ⌝ }
+// The second mask of the next such pair with this first mask, or the number of masks where there is none: the next subset of the fixed inputs, where a carry
+// passes the free ones.
+pub fn next_ones(n: usize, fixed: usize, ones: usize) -> usize
+    requires { ⌜ (n ≤ maxInputs) × (fixed < 2 ^ n) × (ones < 2 ^ n) × PairBelow n (fixed * 2 ^ n + ones) ⌝ }
+    ensures { λ r. ⌜ (r ≤ 2 ^ n) × NextPair n (fixed * 2 ^ n + ones) (fixed * 2 ^ n + r) ⌝ }
 {
     let count = 1usize << n;
-    let fixed = q >> n;
-    let ones = q & (count - 1);
     if ones == fixed {
-        return q - ones + count;
+        return count;
     }
-    q - ones + ((ones + count - fixed) & fixed)
+    (ones + count - fixed) & fixed
 }

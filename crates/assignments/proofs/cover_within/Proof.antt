@@ -1,13 +1,11 @@
 -- `cover_within` meets its contract: the tables are right, so the entries that they show are the cover. Assumes nothing.
 use native.Mathlib.Omega.{arith}
-use Rattle.assignments.specs.Tables.{settledBy}
-use Rattle.assignments.proofs.TableCover.{weights-right, cover-written}
+use Rattle.assignments.proofs.Dropping.{minimal-counted}
+use Rattle.assignments.proofs.Joining.{filled-all}
+use Rattle.assignments.proofs.TableCover.{cover-written}
 use borrow.Author.Needs.{needs}
 use Rattle.assignments.proofs.cover_within.Statement.{statement}
 use Rattle.assignments.proofs.cover_within.Tie as tie
-
-power-of-3-requires : tie.Need-power-of-3-requires
-power-of-3-requires c κs = search needs
 
 fill-weights-requires : tie.Need-fill-weights-requires
 fill-weights-requires c κs = search needs
@@ -15,15 +13,22 @@ fill-weights-requires c κs = search needs
 fill-sound-requires : tie.Need-fill-sound-requires
 fill-sound-requires c κs = search needs
 
+keep-minimal-requires : tie.Need-keep-minimal-requires
+keep-minimal-requires c κs =
+    let sounded = c .before .before .before in
+    let start = sounded .before .before .before .before .before .before .before .before .before .before in
+    (start .pre .0, filled-all (sounded .fill-sound .ensures), sounded .fill-sound .ensures .room)
+
 write-entries-requires : tie.Need-write-entries-requires
 write-entries-requires c κs =
-    let sounded = c .before .before .before .before .before in
+    let minimal = c .before .before .before .before .before in
+    let sounded = minimal .before .before .before .before in
     let weighed = sounded .before .before .before .before in
-    let powered = weighed .before .before in
-    let start = powered .before .before .before .before .before in (
-      weights-right (start .args .weights .now) (start .pre .0) (powered .power-of-3 .ensures) (weighed .fill-weights .ensures)
-          (omega (arith, weighed .fill-weights .kept .1 .0, start .pre .3)),
-      omega (arith, sounded .fill-sound .kept .1 .1 .1 .0, start .pre .2),
+    let start = weighed .before .before .before .before .before .before in (
+      weighed .fill-weights .ensures,
+      filled-all (sounded .fill-sound .ensures),
+      omega (arith, minimal .keep-minimal .kept .1 .1 .0, sounded .fill-sound .ensures .room),
+      minimal-counted (minimal .keep-minimal .ensures),
     )
 
 same-length : tie.Need-same-length
@@ -38,19 +43,17 @@ same-length-3 c = search needs
 returns : tie.Need-returns
 returns c =
     let written = c .before .before in
-    let sounded = written .before .before .before .before .before .before in
-    let weighed = sounded .before .before .before .before in
-    let args = weighed .before .before .before .before .before .before .before .args in
-    cover-written (settledBy (args .settled .now)) (args .n) (sounded .fill-sound .last .1 .1 .1 .0) (args .sound .now)
-    (sounded .fill-sound .ensures) (written .write-entries .ensures)
+    let minimal = written .before .before .before .before .before .before in
+    let sounded = minimal .before .before .before .before in
+    cover-written (sounded .fill-sound .ensures) (minimal .keep-minimal .ensures) (written .write-entries .ensures)
 
 pub cover-within-spec : {M : Type 1} → statement M
 cover-within-spec =
     tie.close
     (tie.spec
-    power-of-3-requires
     fill-weights-requires
     fill-sound-requires
+    keep-minimal-requires
     write-entries-requires
     same-length
     same-length-2

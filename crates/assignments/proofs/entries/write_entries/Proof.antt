@@ -10,15 +10,13 @@ use borrow.Author.Needs.{needs}
 use Rattle.assignments.proofs.entries.write_entries.Statement.{statement}
 use Rattle.assignments.proofs.entries.write_entries.Tie as tie
 
-count-entries-requires : tie.Need-count-entries-requires
-count-entries-requires c κs = search needs
-
 mul-if1 : tie.Need-mul-if1
 mul-if1 c =
-    let args = c .before .before .before .before .args in
-    let f : length (entriesBy (args .sound .now) (args .n)) ≤ 2 ^ (args .n) * 2 ^ (args .n) = entries-few (args .sound .now) (args .n) in
-    let g : 2 ^ (args .n) * 2 ^ (args .n) ≤ 2 ^ (2 * maxInputs) = pairs-fit (c .before .before .before .before .pre .0 .few) in
-    omega (arith, c .count-entries .ensures)
+    let start = c .before .before .before in
+    let args = start .args in
+    let f : length (entriesBy (args .marks .now) (args .n)) ≤ 2 ^ (args .n) * 2 ^ (args .n) = entries-few (args .marks .now) (args .n) in
+    let g : 2 ^ (args .n) * 2 ^ (args .n) ≤ 2 ^ (2 * maxInputs) = pairs-fit (start .pre .0 .few) in
+    omega (arith, start .pre .3)
 
 list-entries-requires : tie.Need-list-entries-requires
 list-entries-requires c κs = search needs
@@ -28,13 +26,13 @@ same-length c = search needs
 
 returns : tie.Need-returns
 returns c =
-    with-room (c .before .before .before .before .before .count-entries .ensures) (c .before .before .before .before .if1 .taken)
-    (c .before .before .list-entries .ensures)
+    let tested = c .before .before .before .before in
+    with-room (tested .before .before .before .before .pre .3) (tested .if1 .taken) (c .before .before .list-entries .ensures)
 
 returns-2 : tie.Need-returns-2
-returns-2 c = without-room (c .before .count-entries .ensures) (c .if1 .left)
+returns-2 c = without-room (c .before .before .before .before .pre .3) (c .if1 .left)
 
 pub write-entries-spec : {M : Type 1} → statement M
 write-entries-spec =
     tie.close
-    (tie.spec count-entries-requires mul-if1 list-entries-requires same-length returns returns-2)
+    (tie.spec mul-if1 list-entries-requires same-length returns returns-2)

@@ -1,0 +1,42 @@
+-- `entries::is_left` meets its contract: the sum is the assignment's number (`number-is`). Assumes nothing.
+use Prim.Native.Nat.{_+_, _^_, _≤_, _<_}
+use native.Mathlib.Omega.{arith}
+use lib.ListN.{getD}
+use Rattle.netlist.specs.Limits.{maxInputs}
+use Rattle.assignments.proofs.Rows.{number-below, left-is}
+use borrow.Author.Needs.{needs}
+use Rattle.assignments.proofs.entries.is_left.Statement.{statement}
+use Rattle.assignments.proofs.entries.is_left.Tie as tie
+
+small : (c : tie.Start)
+    → (c .args .base + getD (c .args .weights .now) (c .args .ones) 0 < 3 ^ (c .args .n)) × (3 ^ (c .args .n) ≤ 3 ^ maxInputs)
+small c = number-below (c .pre .0) (c .pre .1) (c .pre .2)
+
+mul-result : tie.Need-mul-result
+mul-result c = search needs
+
+shared-slice-read-result : tie.Need-shared-slice-read-result
+shared-slice-read-result c = search needs
+
+cast-result : tie.Need-cast-result
+cast-result c = omega (arith, small (c .before))
+
+add-result : tie.Need-add-result
+add-result c = omega (arith, small (c .before))
+
+shared-slice-read-result-2 : tie.Need-shared-slice-read-result-2
+shared-slice-read-result-2 c = omega (arith, small (c .before .before), c .before .before .pre .0 .room)
+
+returns : tie.Need-returns
+returns c = left-is (c .before .before .pre .0) (c .before .before .pre .1) (c .before .before .pre .2)
+
+pub is-left-spec : {M : Type 1} → statement M
+is-left-spec =
+    tie.close
+    (tie.spec
+    mul-result
+    shared-slice-read-result
+    cast-result
+    add-result
+    shared-slice-read-result-2
+    returns)

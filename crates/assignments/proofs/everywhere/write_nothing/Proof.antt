@@ -1,0 +1,24 @@
+-- `everywhere::write_nothing` meets its contract: one law for each of its two answers. Assumes nothing.
+use Rattle.assignments.proofs.Listing.{nothing-written, nothing-kept}
+use borrow.Author.Needs.{needs}
+use Rattle.assignments.proofs.everywhere.write_nothing.Statement.{statement}
+use Rattle.assignments.proofs.everywhere.write_nothing.Tie as tie
+
+slice-write-out : tie.Need-slice-write-out
+slice-write-out c = search needs
+
+slice-write-out-2 : tie.Need-slice-write-out-2
+slice-write-out-2 c = search needs
+
+same-length : tie.Need-same-length
+same-length c = search needs
+
+returns : tie.Need-returns
+returns c = nothing-written _ (c .if1 .taken)
+
+returns-2 : tie.Need-returns-2
+returns-2 c = nothing-kept _ (c .if1 .left)
+
+pub write-nothing-spec : {M : Type 1} → statement M
+write-nothing-spec =
+    tie.close (tie.spec slice-write-out slice-write-out-2 same-length returns returns-2)

@@ -1,0 +1,88 @@
+-- `minimal::keep_minimal` meets its contract: the bytes passed are cleared or right, the others as they were (`OnlyMinimal`). Assumes nothing.
+use Prim.Native.Nat.{_-_, _^_, _≤_, _<_}
+use mathlib.Core.Path.{_≡_, refl, sym, _∙_}
+use mathlib.Core.Logic.{⊎-elim}
+use native.Mathlib.Omega.{arith}
+use lib.ListN.{length, length-set}
+use borrow.Author.Needs.{needs}
+use Rattle.assignments.specs.Entries.{OnlyMinimal}
+use Rattle.assignments.proofs.Dropping.{minimal-none, minimal-unsound, minimal-stays, minimal-cleared}
+use Rattle.assignments.proofs.minimal.keep_minimal.Statement.{statement}
+use Rattle.assignments.proofs.minimal.keep_minimal.Tie as tie
+
+abbrev Inv-loop : tie.InvT-loop
+Inv-loop n size sound₀ count₀ k₀ sound count k = (k ≤ size) × (count ≤ k) × (length sound ≡ length sound₀) × OnlyMinimal sound₀ sound n k count
+
+abbrev μ-loop : tie.MeasureT-loop
+μ-loop n size sound₀ count₀ k₀ sound count k = size - k
+
+loop-holds : tie.Need-loop-holds Inv-loop μ-loop
+loop-holds c = (omega arith, omega arith, refl, minimal-none _ _)
+
+slice-read-if1 : tie.Need-slice-read-if1 Inv-loop μ-loop
+slice-read-if1 c = search needs
+
+is-minimal-requires : tie.Need-is-minimal-requires Inv-loop μ-loop
+is-minimal-requires c κs = search needs
+
+add-count : tie.Need-add-count Inv-loop μ-loop
+add-count c = search needs
+
+slice-write-sound : tie.Need-slice-write-sound Inv-loop μ-loop
+slice-write-sound c = search needs
+
+add-k : tie.Need-add-k Inv-loop μ-loop
+add-k c = search needs
+
+loop-less : tie.Need-loop-less Inv-loop μ-loop
+loop-less c = search needs
+
+loop-again : tie.Need-loop-again Inv-loop μ-loop
+loop-again c =
+    let loop = c .before .before .before .loop in
+    let start = c .before .before .before .before .before in
+    let l : loop .k < length (loop .sound) = omega (arith, loop .inv .2, start .pre .1, start .pre .2) in
+    let m : loop .k < start .args .size = c .before .before .loop-test .taken in
+    ⊎-elim
+    (λ w.
+    rw (w .4, w .5) (
+      omega arith,
+      omega (arith, loop .inv .1),
+      loop .inv .2,
+      minimal-stays (loop .inv .3) (w .0 .taken) (sym (w .2 .ensures) ∙ w .3 .taken),
+    ))
+    (⊎-elim
+    (λ w.
+    rw (w .4, w .5) (
+      omega arith,
+      omega (arith, loop .inv .1),
+      simp length-set (loop .inv .2),
+      minimal-cleared (loop .inv .3) l (sym (w .2 .ensures) ∙ w .3 .left),
+    ))
+    (λ w. rw (w .1, w .2) (omega arith, omega (arith, loop .inv .1), loop .inv .2, minimal-unsound (loop .inv .3) (w .0 .left))))
+    (c .if1 .came)
+
+same-length : tie.Need-same-length Inv-loop μ-loop
+same-length c = search needs
+
+returns : tie.Need-returns Inv-loop μ-loop
+returns c =
+    let e : c .before .loop .k ≡ 3 ^ (c .before .before .before .args .n) = omega arith in
+    rw e at (c .before .loop .inv .3)
+
+pub keep-minimal-spec : {M : Type 1} → statement M
+keep-minimal-spec =
+    tie.close
+    (tie.spec
+    Inv-loop
+    μ-loop
+    loop-holds
+    slice-read-if1
+    is-minimal-requires
+    add-count
+    slice-write-sound
+    add-k
+    loop-less
+    loop-again
+    same-length
+    returns)
