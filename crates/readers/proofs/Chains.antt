@@ -7,10 +7,10 @@ use mathlib.Core.Path.{_≡_, refl, sym, ap, _∙_}
 use mathlib.Core.Logic.{_⊎_, inl, inr, ⊎-elim}
 use mathlib.Core.Bool.{true, false}
 use mathlib.Core.List.{List, [], _∷_, map}
-use Prim.Native.Nat.{ℕ, suc, _+_, _-_, _*_, _/_, _≤_, _<_}
+use Prim.Native.Nat.{ℕ, zero, suc, _+_, _-_, _*_, _/_, _≤_, _<_}
 use native.Mathlib.Numerals.{add-one}
 use native.Mathlib.Omega.{arith}
-use lib.ListN.{length, getD, set}
+use lib.ListN.{length, getD, set, replicate}
 use lib.Seq.{getD-set-same, getD-set-other}
 use borrow.Author.Tests.{lt-ltb, le-ltb}
 use Rattle.laws.specs.Lists.{member, joined}
@@ -36,6 +36,11 @@ pub chain-end : {next : List ℕ} {e q : ℕ} → Chain next (suc e) q → q ≤
 chain-end at l = omega arith
 chain-end (behind c) l = omega arith
 
+-- what is in a list is no higher than its start
+pub chain-le : {next : List ℕ} {p q : ℕ} → Descends next → Chain next p q → p ≤ q
+chain-le d at = omega arith
+chain-le d (behind {q = q} c) = omega (arith, chain-le d c, d q)
+
 -- a store at or behind a list's start does not change the list
 chain-kept : {next : List ℕ} {p q : ℕ} (e a : ℕ) → Descends next → Chain next p q → q ≤ e → Chain (set next e a) p q
 chain-kept e a d at l = at
@@ -49,6 +54,12 @@ linked-gate {m} {k} e first next l = rw add-one (record { firstIs = rw (lt-ltb k
 
 pub linked-none : {m k : ℕ} (e : ℕ) (first next : List ℕ) → m ≤ k → Linked m k e first next first next
 linked-none {m} {k} e first next l = record { firstIs = rw (le-ltb k m l) refl; nextIs = rw (le-ltb k m l) refl }
+
+-- zeros
+pub empty : (n : ℕ) → Empty (replicate n 0)
+empty zero k = refl
+empty (suc n) zero = refl
+empty (suc n) (suc k) = empty n k
 
 -- no word is in a list
 pub linking-none : {ws : List ℕ} {n m gates : ℕ} {first next : List ℕ} → Empty first → Empty next → Linking ws n m gates first next 0
