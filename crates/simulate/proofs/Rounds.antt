@@ -28,7 +28,7 @@ abbrev pub Beyond : List ℕ → List ℕ → List ℕ → Type 0
 Beyond ws values entry = (j : ℕ) → getD ws 1 0 ≤ j → getD values j 0 ≡ getD entry j 0
 
 -- a list with other first elements
-front-placed : (m : ℕ) (values entry codes : List ℕ) → take m values ≡ codes → length codes ≡ m → length values ≡ length entry
+pub front-placed : (m : ℕ) (values entry codes : List ℕ) → take m values ≡ codes → length codes ≡ m → length values ≡ length entry
     → ((j : ℕ) → m ≤ j → getD values j 0 ≡ getD entry j 0) → values ≡ placed codes entry
 front-placed m values entry codes t long e h = sym (take-append-drop m values) ∙ rw (t, long) (ap (λ (r : List ℕ). codes ++ r) rest)
   where

@@ -45,11 +45,11 @@ use Rattle.simulate.proofs.Codes.{roundCodes-tab, length-roundCodes, co
 abbrev isDefinedByte : List ℕ → ℕ → Bool
 isDefinedByte values j = not (eqb (getD values j 0) 2)
 
-defined-le : (values : List ℕ) (m : ℕ) → definedBytes values m ≤ m
+pub defined-le : (values : List ℕ) (m : ℕ) → definedBytes values m ≤ m
 unfolding definedBytes
 defined-le values m = countBelow-le (isDefinedByte values) m
 
-defined-more : (values : List ℕ) (m j v : ℕ) → j < m → m ≤ length values → getD values j 0 ≡ 2 → (v ≡ 2 → ⊥)
+pub defined-more : (values : List ℕ) (m j v : ℕ) → j < m → m ≤ length values → getD values j 0 ≡ 2 → (v ≡ 2 → ⊥)
     → definedBytes (set values j v) m ≡ suc (definedBytes values m)
 unfolding definedBytes
 defined-more values m j v l fits was is =
@@ -268,13 +268,18 @@ copied-all h l = record { each = λ j. ⊎-elim (λ e. inl e) (λ e. inr (e .0, 
 
 -- ---- from one round to the next
 
-none-defined : (values : List ℕ) (m : ℕ) → ((j : ℕ) → j < m → getD values j 0 ≡ 2) → definedBytes values m ≡ 0
+pub none-defined : (values : List ℕ) (m : ℕ) → ((j : ℕ) → j < m → getD values j 0 ≡ 2) → definedBytes values m ≡ 0
 unfolding definedBytes
 none-defined values zero h = refl
 none-defined values (suc m) h = rw (none-defined values m (λ j l. h j (omega arith)), h m (omega arith)) refl
 
+-- a slice whose first m bytes were filled
+pub filled-at : (s entry : List ℕ) (m : ℕ) → s ≡ placed (replicate m 2) entry → (j : ℕ) → j < m → getD s j 0 ≡ 2
+filled-at s entry m e j l =
+    rw e (List·getD-append (replicate m 2) (drop (length (replicate m 2)) entry) 0 j (rw (length-replicate {A = ℕ} m 2) l) ∙ getD-replicate m j 2 0 l)
+
 -- a byte among the first m, as a value
-value-at : (l : List ℕ) (m k : ℕ) → k < m → m ≤ length l → getD (map valueOf (take m l)) k undefined ≡ valueOf (getD l k 0)
+pub value-at : (l : List ℕ) (m k : ℕ) → k < m → m ≤ length l → getD (map valueOf (take m l)) k undefined ≡ valueOf (getD l k 0)
 unfolding valueOf
 value-at l m k h fits =
     List·getD-map valueOf (take m l) k 2 ∙ ap valueOf (getD-take m l k 2 h ∙ getD-defaults l k 2 0 (omega arith))
@@ -337,9 +342,7 @@ module _ (ws setting : List ℕ) where
     first-bytes = rw (o, ← is) (take-placed (replicate m 2) old₀ m (length-replicate m 2))
 
     undefined-at : (s s₀ : List ℕ) → s ≡ placed (replicate m 2) s₀ → (j : ℕ) → j < getD ws 1 0 → getD s j 0 ≡ 2
-    undefined-at s s₀ e j l =
-        let below : j < m = rw is l in
-        rw e (List·getD-append (replicate m 2) (drop (length (replicate m 2)) s₀) 0 j (rw (length-replicate {A = ℕ} m 2) below) ∙ getD-replicate m j 2 0 below)
+    undefined-at s s₀ e j l = filled-at s s₀ m e j (rw is l)
 
     -- every gate can be evaluated
     pub first-ready : {n : ℕ} {queue : List ℕ} → isTorn ws ≡ false → n ≡ getD ws 0 0 → m ≤ length old → m ≤ length values → m ≤ length queue

@@ -1,5 +1,6 @@
 // One round from the gates that changed in the round before: only their readers can change. `old` has the values before the round, `values` gets those
 // behind it, and every gate that changes is put in the queue. A gate that is 0 or 1 stays so, and is not evaluated again.
+use crate::round::UNDEFINED;
 use crate::round::value_of_gate;
 use layout::fill::fill_bytes;
 use layout::offsets::OPERAND_WORDS;
@@ -12,9 +13,6 @@ ghost use Rattle.netlist.specs.GateTable.{gateTable};
 ghost use Rattle.readers.specs.Readers.{Descends, Readers};
 ghost use Rattle.simulate.specs.Rounded.{ForRounds};
 ghost use Rattle.simulate.specs.Changes.{Awake, UpdateReady, UpdatedOne, UpdatedList, UpdatedAll, Copied, CopyReady, Round, Started, Turned};
-
-// The byte of a gate that has no value.
-const UNDEFINED: u8 = 2;
 
 // Evaluates gate `j`, if it has no value, and queues it if it gets one; the queue's new end.
 fn update(

@@ -19,6 +19,9 @@ ghost use Rattle.netlist.specs.GateTable.{gateTable};
 ghost use Rattle.readers.specs.Readers.{Readers};
 ghost use Rattle.simulate.specs.Rounded.{InBlock, ForRounds, gateCode, Settled};
 
+// The byte of a gate that has no value.
+pub const UNDEFINED: u8 = 2;
+
 // The value of gate j, from the setting and the gates' values.
 pub fn value_of_gate(
     table: &[u8; 1792],
