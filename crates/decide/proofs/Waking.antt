@@ -333,4 +333,5 @@ module _ (ws setting : List ℕ) (m : ℕ) (is : m ≡ getD ws 1 0) (values entr
       all : stateOf ws exit ≡ settled (decode ws) (map valueOf setting)
       all =
           fixed-settled (decode ws) (map valueOf setting) (stateOf ws exit)
-          (length-map (take (getD ws 1 0) exit) valueOf ∙ length-take-le (getD ws 1 0) exit (omega arith) ∙ sym (decode-gateCount ws)) (r .underway .below) fixed
+          (length-map (take (getD ws 1 0) exit) valueOf ∙ length-take-le (getD ws 1 0) exit (omega arith) ∙ sym (decode-gateCount ws))
+          (r .underway .below) fixed

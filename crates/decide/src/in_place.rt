@@ -162,7 +162,9 @@ fn settle_with(
     requires { ⌜ now table ≡ gateTable ⌝ }
     requires { ⌜ ForRounds (now words) n m (length (now values)) × (m ≤ length (now queue)) ⌝ }
     requires { ⌜ Readers (decode (now words)) (getD (now words) 1 0) (now first) (now next) ⌝ }
-    ensures { λ r. ⌜ now (values .exit) ≡ placed (map code (settled (decode (now (words .entry))) (map valueOf (now (setting .entry))))) (now (values .entry)) ⌝ }
+    ensures { λ r. ⌜
+        now (values .exit) ≡ placed (map code (settled (decode (now (words .entry))) (map valueOf (now (setting .entry))))) (now (values .entry))
+        ⌝ }
 {
     fill_bytes(values, m, UNDEFINED);
     let end = update_all(table, words, n, m, setting, values, queue);
@@ -173,7 +175,9 @@ fn settle_with(
 pub fn settle_in_place(words: &[u16], setting: &[u8], values: &mut [u8])
     requires { ⌜ isTorn (now words) ≡ false ⌝ }
     requires { ⌜ getD (now words) 1 0 ≤ length (now values) ⌝ }
-    ensures { λ r. ⌜ now (values .exit) ≡ placed (map code (settled (decode (now (words .entry))) (map valueOf (now (setting .entry))))) (now (values .entry)) ⌝ }
+    ensures { λ r. ⌜
+        now (values .exit) ≡ placed (map code (settled (decode (now (words .entry))) (map valueOf (now (setting .entry))))) (now (values .entry))
+        ⌝ }
 {
     let table = gate_table();
     let mut first = [0u16; MAX_GATES];

@@ -246,13 +246,16 @@ copied-next {values} {queue} {head} {q} {old} {old′} h l =
     record { each = λ j. ⊎-elim (new j) (other j) (eq-or-ne j (getD queue q 0)) }
   where
     new : (j : ℕ) → j ≡ getD queue q 0
-        → (getD (set old′ (getD queue q 0) (getD values (getD queue q 0) 0)) j 0 ≡ getD values j 0) ⊎ ((getD (set old′ (getD queue q 0) (getD values (getD queue q 0) 0)) j 0 ≡ getD old j 0) × (QueuedIn queue head (q + 1) j → ⊥))
+        → (getD (set old′ (getD queue q 0) (getD values (getD queue q 0) 0)) j 0 ≡ getD values j 0)
+        ⊎ ((getD (set old′ (getD queue q 0) (getD values (getD queue q 0) 0)) j 0 ≡ getD old j 0) × (QueuedIn queue head (q + 1) j → ⊥))
     new j e = inl (rw e (getD-set-same old′ (getD queue q 0) (getD values (getD queue q 0) 0) 0 l))
 
     other : (j : ℕ) → (j ≡ getD queue q 0 → ⊥)
-        → (getD (set old′ (getD queue q 0) (getD values (getD queue q 0) 0)) j 0 ≡ getD values j 0) ⊎ ((getD (set old′ (getD queue q 0) (getD values (getD queue q 0) 0)) j 0 ≡ getD old j 0) × (QueuedIn queue head (q + 1) j → ⊥))
+        → (getD (set old′ (getD queue q 0) (getD values (getD queue q 0) 0)) j 0 ≡ getD values j 0)
+        ⊎ ((getD (set old′ (getD queue q 0) (getD values (getD queue q 0) 0)) j 0 ≡ getD old j 0) × (QueuedIn queue head (q + 1) j → ⊥))
     other j ne =
-        let kept : getD (set old′ (getD queue q 0) (getD values (getD queue q 0) 0)) j 0 ≡ getD old′ j 0 = getD-set-other old′ (getD queue q 0) j (getD values (getD queue q 0) 0) 0 ne in
+        let kept : getD (set old′ (getD queue q 0) (getD values (getD queue q 0) 0)) j 0 ≡ getD old′ j 0 =
+        getD-set-other old′ (getD queue q 0) j (getD values (getD queue q 0) 0) 0 ne in
         ⊎-elim (λ e. inl (kept ∙ e)) (λ e. inr (kept ∙ e .0, still (e .1))) (h .each j)
       where
         still : (QueuedIn queue head q j → ⊥) → QueuedIn queue head (q + 1) j → ⊥
@@ -368,7 +371,8 @@ module _ (ws setting : List ℕ) where
               (λ j l. undefined-at values values₀ v j l ∙ sym (undefined-at old old₀ o j l))
               (sym (none-defined values (getD ws 1 0) (undefined-at values values₀ v))) (λ q l. absurd (omega arith)) (rw is at u) low;
           last = first-bytes;
-          beyond = λ j l. u .updated .beyond j l ∙ rw (v, length-replicate {A = ℕ} m 2) (getD-past (replicate m 2) values₀ m j 0 (length-replicate m 2) (omega arith));
+          beyond = λ j l. u .updated .beyond j l
+              ∙ rw (v, length-replicate {A = ℕ} m 2) (getD-past (replicate m 2) values₀ m j 0 (length-replicate m 2) (omega arith));
         }
       where
         start : map valueOf (take (getD ws 1 0) old) ≡ replicate (getD ws 1 0) undefined
@@ -489,7 +493,8 @@ module _ (ws setting : List ℕ) where
       round-next {values′} {queue′} lv lq u =
           record {
             round =
-                round-from old′ (omega (arith, r .oldRoom)) (omega (arith, r .valueRoom)) (omega (arith, r .queueRoom)) copied-at (r .counted) (r .inside) u higher;
+                round-from old′ (omega (arith, r .oldRoom)) (omega (arith, r .valueRoom)) (omega (arith, r .queueRoom)) copied-at (r .counted)
+                (r .inside) u higher;
             last = copied-front;
             beyond = u .updated .beyond;
           }

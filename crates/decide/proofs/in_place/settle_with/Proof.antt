@@ -22,8 +22,8 @@ filled : (f : tie.After-fill-bytes)
 filled f =
     let s = start f in
     let p = s .pre .1 .0 .0 in
-    start-ready (now (s .args .words)) (now (s .args .setting)) (s .args .m) (p .gates) (f .fill-bytes .last .0) (now (s .args .values)) (f .fill-bytes .ensures)
-    (p .whole) (p .inputs) (omega (arith, p .fits, f .fill-bytes .kept .0)) (s .pre .1 .0 .1)
+    start-ready (now (s .args .words)) (now (s .args .setting)) (s .args .m) (p .gates) (f .fill-bytes .last .0) (now (s .args .values))
+    (f .fill-bytes .ensures) (p .whole) (p .inputs) (omega (arith, p .fits, f .fill-bytes .kept .0)) (s .pre .1 .0 .1)
 
 update-all-requires : tie.Need-update-all-requires
 update-all-requires c κs = let f = c .before .before .before .before in (start f .pre .0, filled f)
@@ -33,7 +33,8 @@ update-queued-requires c κs =
     let a = c .before .before .before .before .before .before in
     let f = a .before .before .before .before .before in
     let u = a .update-all .ensures in
-    (start f .pre .0, (woken-ready (u .woken) (filled f) (a .update-all .kept .1 .1 .1 .1 .1 .0) (a .update-all .kept .1 .1 .1 .1 .1 .1 .0), (start f .pre .1 .1, u .all)))
+    let ready = woken-ready (u .woken) (filled f) (a .update-all .kept .1 .1 .1 .1 .1 .0) (a .update-all .kept .1 .1 .1 .1 .1 .1 .0) in
+    (start f .pre .0, (ready, (start f .pre .1 .1, u .all)))
 
 same-length : tie.Need-same-length
 same-length c = search needs

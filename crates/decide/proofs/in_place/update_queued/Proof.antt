@@ -20,7 +20,9 @@ abbrev μ-loop : tie.MeasureT-loop
 μ-loop table words n m first next setting values₀ queue₀ tail end₀ q₀ values queue end q = m - q
 
 loop-holds : tie.Need-loop-holds Inv-loop μ-loop
-loop-holds c = let s = c .before .before .before .before .before .before in (omega arith, woken-none _ _ _ (s .pre .1 .0 .underway), s .pre .1 .1 .1, refl, refl)
+loop-holds c =
+    let s = c .before .before .before .before .before .before in
+    (omega arith, woken-none _ _ _ (s .pre .1 .0 .underway), s .pre .1 .1 .1, refl, refl)
 
 word-at-requires : tie.Need-word-at-requires Inv-loop μ-loop
 word-at-requires c κs = search needs
@@ -49,7 +51,9 @@ add-q : tie.Need-add-q Inv-loop μ-loop
 add-q c = omega arith
 
 loop-less : tie.Need-loop-less Inv-loop μ-loop
-loop-less c = omega (arith, few-queued (ready (c .before .before .before .before .before .before .before .before .before .before .before)), c .before .before .before .before .before .before .before .before .before .before .loop-test .taken)
+loop-less c =
+    let l = c .before .before .before .before .before .before .before .before .before .before in
+    omega (arith, few-queued (ready (l .before)), l .loop-test .taken)
 
 loop-again : tie.Need-loop-again Inv-loop μ-loop
 loop-again c =

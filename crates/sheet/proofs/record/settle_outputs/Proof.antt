@@ -29,7 +29,9 @@ returns c =
     let settling = c .before .before .before .before in
     let counted = settling .before .before in
     let a = counted .before .before .before .before .args in
-    c .show-outputs .ensures ∙ settled-values (now (a .words)) (a .fixed) (a .ones) (now (a .setting)) (now (a .values)) (counted .gates-of .ensures) (settling .settle-in-place .ensures)
+    c .show-outputs .ensures
+    ∙ settled-values (now (a .words)) (a .fixed) (a .ones) (now (a .setting)) (now (a .values)) (counted .gates-of .ensures)
+    (settling .settle-in-place .ensures)
 
 pub settle-outputs-spec : {M : Type 1} → statement M
 settle-outputs-spec =

@@ -27,10 +27,12 @@ cast-k : tie.Need-cast-k Inv-loop μ-loop
 cast-k c = omega (arith, c .shared-slice-known .given (c .before .before .loop .q))
 
 shared-slice-read-old : tie.Need-shared-slice-read-old Inv-loop μ-loop
-shared-slice-read-old c = omega (arith, c .before .before .before .before .pre .inside (c .before .before .before .loop .q) (c .before .before .loop-test .taken) .0)
+shared-slice-read-old c =
+    omega (arith, c .before .before .before .before .pre .inside (c .before .before .before .loop .q) (c .before .before .loop-test .taken) .0)
 
 slice-write-old : tie.Need-slice-write-old Inv-loop μ-loop
-slice-write-old c = omega (arith, c .before .before .before .before .pre .inside (c .before .before .before .loop .q) (c .before .before .loop-test .taken) .1)
+slice-write-old c =
+    omega (arith, c .before .before .before .before .pre .inside (c .before .before .before .loop .q) (c .before .before .loop-test .taken) .1)
 
 add-q : tie.Need-add-q Inv-loop μ-loop
 add-q c = omega arith

@@ -55,7 +55,8 @@ returns c =
     let g = d .before .before .before .before .before .before .fill-bytes2 in
     round-first (now (s .args .words)) (now (s .args .setting)) (s .args .m) (s .pre .1 .0 .gates) (f .last .0) (now (s .args .old)) (g .last .0)
     (now (s .args .values)) (f .ensures) (g .ensures) (omega (arith, f .kept .0, s .pre .1 .1))
-    (omega (arith, d .update-all .kept .1 .1 .1 .1 .1 .1 .0, g .kept .0, s .pre .1 .0 .fits)) (omega (arith, d .update-all .kept .1 .1 .1 .1 .1 .1 .1 .0, s .pre .1 .2))
+    (omega (arith, d .update-all .kept .1 .1 .1 .1 .1 .1 .0, g .kept .0, s .pre .1 .0 .fits))
+    (omega (arith, d .update-all .kept .1 .1 .1 .1 .1 .1 .1 .0, s .pre .1 .2))
     (d .update-all .ensures)
 
 pub first-round-spec : {M : Type 1} → statement M

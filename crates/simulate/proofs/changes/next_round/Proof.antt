@@ -8,7 +8,9 @@ use Rattle.simulate.proofs.changes.next_round.Statement.{statement}
 use Rattle.simulate.proofs.changes.next_round.Tie as tie
 
 copy-changed-requires : tie.Need-copy-changed-requires
-copy-changed-requires c κs = let s = c .before .before .before .before .before .before .before .before .before .before in copy-ready _ _ _ _ _ _ _ (s .pre .1 .1 .1) (s .pre .1 .1 .1 .valueRoom)
+copy-changed-requires c κs =
+    let s = c .before .before .before .before .before .before .before .before .before .before in
+    copy-ready _ _ _ _ _ _ _ (s .pre .1 .1 .1) (s .pre .1 .1 .1 .valueRoom)
 
 slice-reshare-prefix-update-changed : tie.Need-slice-reshare-prefix-update-changed
 slice-reshare-prefix-update-changed c = search needs

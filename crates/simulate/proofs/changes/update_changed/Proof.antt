@@ -56,7 +56,8 @@ loop-again c =
     let l = w .before .before .before .before in
     let s = start l in
     let u = d .update-readers .ensures in
-    let k : getD (l .loop .queue) (l .loop .q) 0 ≡ getD (now (s .args .queue)) (l .loop .q) 0 = l .loop .inv .1 .front (l .loop .q) (w .before .before .before .loop-test .taken) in (
+    let k : getD (l .loop .queue) (l .loop .q) 0 ≡ getD (now (s .args .queue)) (l .loop .q) 0 =
+    l .loop .inv .1 .front (l .loop .q) (w .before .before .before .loop-test .taken) in (
       omega arith,
       updated-then (l .loop .inv .1) (u .updated),
       awake-next (now (s .args .queue)) (s .pre .1 .1 .0) (l .loop .inv .2) (rw (w .word-at2 .ensures, w .before .word-at .ensures, k) at u),
@@ -73,7 +74,11 @@ same-length-2 c = c .before .loop .inv .4
 returns : tie.Need-returns Inv-loop μ-loop
 returns c =
     let l = c .before in
-    record { updated = l .loop .inv .1; done = awake-end _ _ _ (l .loop .values) (now (start l .args .queue)) (l .loop .q) (start l .args .tail) (l .loop .inv .2) (c .loop-test .left) }
+    let s = start l in
+    record {
+      updated = l .loop .inv .1;
+      done = awake-end _ _ _ (l .loop .values) (now (s .args .queue)) (l .loop .q) (s .args .tail) (l .loop .inv .2) (c .loop-test .left);
+    }
 
 pub update-changed-spec : {M : Type 1} → statement M
 update-changed-spec =

@@ -42,7 +42,9 @@ word-at-requires : tie.Need-word-at-requires Inv-loop μ-loop
 word-at-requires c κs = search needs
 
 loop-less : tie.Need-loop-less Inv-loop μ-loop
-loop-less c = let l = c .before .before .before .before .before .before .before .before .before in omega (arith, c .word-at .ensures, start l .pre .1 .1 .0 (l .loop .p - 1))
+loop-less c =
+    let l = c .before .before .before .before .before .before .before .before .before in
+    omega (arith, c .word-at .ensures, start l .pre .1 .1 .0 (l .loop .p - 1))
 
 loop-again : tie.Need-loop-again Inv-loop μ-loop
 loop-again c =

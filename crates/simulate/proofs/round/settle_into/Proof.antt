@@ -44,10 +44,11 @@ settle-with-requires : tie.Need-settle-with-requires
 settle-with-requires c κs =
     let s = c .before .before .before .before .before .before .before .before .before .before .before .before .before .before .before .before .before in
     let few = whole-parts (now (s .args .words)) (s .pre .0) .fewGates in
+    let n = c .before .before .before .before .before .before .inputs-of .ensures in
     let m = c .before .before .before .before .before .gates-of .ensures in (
       c .before .before .before .before .before .before .before .before .before .before .before .before .before .gate-table .ensures,
       (
-        (record { whole = s .pre .0; inputs = c .before .before .before .before .before .before .inputs-of .ensures; gates = m; fits = omega arith }, omega arith, omega arith),
+        (record { whole = s .pre .0; inputs = n; gates = m; fits = omega arith }, omega arith, omega arith),
         c .before .before .before .before .before .before .before .before .before .before .link-readers .ensures,
       ),
     )

@@ -42,7 +42,8 @@ head d = d .before .before .before .before .before
 
 -- a round that changed something
 more : (d : tie.After-next-round Inv-loop μ-loop)
-    → Rounding (now (start (head d) .args .words)) (now (start (head d) .args .setting)) (d .next-round .last .1 .1 .1 .1 .1 .1 .1 .1 .0) (d .next-round .last .1 .1 .1 .1 .1 .1 .1 .0)
+    → Rounding (now (start (head d) .args .words)) (now (start (head d) .args .setting)) (d .next-round .last .1 .1 .1 .1 .1 .1 .1 .1 .0)
+    (d .next-round .last .1 .1 .1 .1 .1 .1 .1 .0)
     (d .next-round .last .1 .1 .1 .1 .1 .1 .1 .1 .1 .0) (head d .loop .tail) (d .next-round .result) (head d .loop .count + 1)
 more d = rounding-more _ _ (head d .loop .inv .0) (d .before .before .before .before .loop-test .taken) (d .next-round .ensures)
 
