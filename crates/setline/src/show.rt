@@ -1,4 +1,5 @@
 // The show line of a block under a setting of its inputs, appended as in `writing::pieces`.
+use decide::in_place::settle_in_place;
 use layout::limits::MAX_GATES;
 use layout::offsets::NAME_SIZE;
 use layout::offsets::OUTPUT_SIZE;
@@ -11,7 +12,6 @@ use netlist::Answer;
 use netlist::Test;
 use refusals::refusal;
 use refusals::test_room;
-use simulate::round::settle_into;
 use ternary::gate::operand_value;
 use writing::pieces::put;
 use writing::pieces::put_all;
@@ -120,7 +120,7 @@ pub fn show(words: &[u16], setting: &[u8], out: &mut [u8]) -> Answer
     ensures { λ r. ⌜ Promise (inRoom (length (now (out .entry))) (counted (showLine (decode (now (words .entry))) (map valueOf (now (setting .entry)))))) (now (out .entry)) r (now (out .exit)) ⌝ }
 {
     let mut gates = [0u8; MAX_GATES];
-    settle_into(words, setting, &mut gates);
+    settle_in_place(words, setting, &mut gates);
     let m = gates_of(words);
     show_settled(words, setting, &gates[..m], out)
 }

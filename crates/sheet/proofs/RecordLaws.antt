@@ -21,7 +21,6 @@ use Rattle.laws.proofs.Slices.{take-placed}
 use Rattle.encoding.proofs.Decoded.{decode-inputCount, decode-gateCount}
 use Rattle.rounds.proofs.Values.{values-codes}
 use Rattle.rounds.proofs.Rounds.{length-settled}
-use Rattle.simulate.specs.Rounded.{Settled}
 use Rattle.sheet.specs.Shown.{settledRecord}
 use Rattle.sheet.proofs.MaskLaws.{length-settingBytes}
 
@@ -66,14 +65,15 @@ module _ (ws : List ℕ) (fixed ones : ℕ) where
       rw (p, e)
 
   -- the values that stand in front are the settled ones
-  pub settled-values : {setting values entry : List ℕ} {m count : ℕ} → m ≡ getD ws 1 0 → Settled ws setting entry values count
+  pub settled-values : (setting : List ℕ) {values : List ℕ} (entry : List ℕ) {m : ℕ} → m ≡ getD ws 1 0
+      → values ≡ placed (map code (settled (decode ws) (map valueOf setting))) entry
       → showing fixed ones (outputValues (decode ws) (map valueOf setting) (map valueOf (take m values)))
       ≡ showing fixed ones (settledOutputs (decode ws) (map valueOf setting))
   unfolding settledOutputs
-  settled-values {setting} {values} {entry} {m} e s =
+  settled-values setting {values} entry {m} e s =
       let x : List Value = settled (decode ws) (map valueOf setting) in
       let l : length (map code x) ≡ m = length-map x code ∙ length-settled (decode ws) (map valueOf setting) ∙ decode-gateCount ws ∙ sym e in
-      let p : take m values ≡ map code x = ap (take m) (s .values) ∙ take-placed (map code x) entry m l in
+      let p : take m values ≡ map code x = ap (take m) s ∙ take-placed (map code x) entry m l in
       rw (p, values-codes x)
 
 -- as many bytes stand in front as are asked for

@@ -1,6 +1,7 @@
 // The answer of one record, from its two masks of inputs.
 use crate::masks::fill_setting;
 use crate::outputs::show_outputs;
+use decide::in_place::settle_in_place;
 use layout::limits::MAX_GATES;
 use layout::limits::MAX_INPUTS;
 use layout::masks::are_masks;
@@ -9,7 +10,6 @@ use layout::offsets::inputs_of;
 use netlist::Record;
 use netlist::Refusal;
 use refusals::number_of;
-use simulate::round::settle_into;
 ghost use mathlib.Core.Path.{_≡_};
 ghost use mathlib.Core.Bool.{false};
 ghost use mathlib.Core.List.{map};
@@ -33,14 +33,14 @@ fn refuse(fixed: u16, ones: u16) -> Record
     }
 }
 
-// The outputs under the values that Settle finds; `values` is room for them.
+// The outputs under the settled values; `values` is room for them.
 fn settle_outputs(words: &[u16], fixed: u16, ones: u16, setting: &[u8], values: &mut [u8]) -> Record
     requires { ⌜ isTorn (now words) ≡ false ⌝ }
     requires { ⌜ getD (now words) 1 0 ≤ length (now values) ⌝ }
     ensures { λ r. ⌜ r ≡ showing fixed ones (settledOutputs (decode (now (words .entry))) (map valueOf (now (setting .entry)))) ⌝ }
 {
     let m = gates_of(words);
-    settle_into(words, setting, values);
+    settle_in_place(words, setting, values);
     show_outputs(words, fixed, ones, setting, &values[..m])
 }
 

@@ -1,4 +1,5 @@
 -- What the contracts of this crate add to the definitions of `netlist`.
 pub mod Tests
 pub mod Rounded
+pub mod Changes
 pub mod Passed

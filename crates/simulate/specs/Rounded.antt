@@ -1,10 +1,10 @@
 -- What the rounds in src/ ask of a block's words, and what they leave in the slice of values.
 use mathlib.Core.Path.{_≡_}
-use mathlib.Core.Bool.{Bool, false, not}
+use mathlib.Core.Bool.{false}
 use mathlib.Core.List.{List, map}
 use Prim.Native.Nat.{ℕ, _≤_, _<_}
-use lib.ListN.{getD, take}
-use Rattle.laws.specs.Lists.{same, placed}
+use lib.ListN.{getD}
+use Rattle.laws.specs.Lists.{placed}
 use Rattle.netlist.specs.Values.{code, valueOf}
 use Rattle.netlist.specs.Netlist.{gateOf}
 use Rattle.netlist.specs.StoredBlock.{decode, isTorn}
@@ -31,11 +31,6 @@ gateCode ws setting values j = code (evaluated (map valueOf setting) (map valueO
 -- the codes of all gates after one round from `values`
 unfoldable pub roundCodes : List ℕ → List ℕ → List ℕ → List ℕ
 roundCodes ws setting values = map code (round (decode ws) (map valueOf setting) (map valueOf values))
-
--- one round over the first m bytes of a slice; `changed`: it changed one of them
-pub record Rounded (ws setting : List ℕ) (m : ℕ) (entry exit : List ℕ) (changed : Bool) : Type 0 where
-  pub values : exit ≡ placed (roundCodes ws setting (take m entry)) entry
-  pub told : changed ≡ not (same (roundCodes ws setting (take m entry)) (take m entry))
 
 -- the settled values in the first bytes of a slice, and the number of rounds
 pub record Settled (ws setting entry exit : List ℕ) (count : ℕ) : Type 0 where

@@ -1,4 +1,5 @@
 // Settle and Pass, each in a file of its own, with the tests before them and the rounds and the sweep below them.
+mod changes;
 pub mod pass;
 pub mod round;
 pub mod setting;

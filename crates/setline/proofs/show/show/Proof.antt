@@ -8,17 +8,17 @@ use lib.Seq.{length-take-le}
 use Rattle.setline.proofs.ShowLaws.{gates-few, settled-front, show-is}
 
 -- the function's entry, and where the gates have settled
-abbrev start : tie.After-settle-into → tie.Start
+abbrev start : tie.After-settle-in-place → tie.Start
 start c = c .before .before .before .before .before
 
-abbrev settled-there : tie.After-gates-of → tie.After-settle-into
+abbrev settled-there : tie.After-gates-of → tie.After-settle-in-place
 settled-there c = c .before .before
 
-slice-aggregate-settle-into : tie.Need-slice-aggregate-settle-into
-slice-aggregate-settle-into c = search needs
+slice-aggregate-settle-in-place : tie.Need-slice-aggregate-settle-in-place
+slice-aggregate-settle-in-place c = search needs
 
-settle-into-requires : tie.Need-settle-into-requires
-settle-into-requires c κs = let s = c .before .before .before .before in (s .pre, gates-few (s .args .words .now) (s .pre))
+settle-in-place-requires : tie.Need-settle-in-place-requires
+settle-in-place-requires c κs = let s = c .before .before .before .before in (s .pre, gates-few (s .args .words .now) (s .pre))
 
 gates-of-requires : tie.Need-gates-of-requires
 gates-of-requires c κs = search needs
@@ -41,15 +41,15 @@ returns : tie.Need-returns
 returns c =
     let g = c .before .before .before .before .before in
     let a = start (settled-there g) .args in
-    let front = settled-front (a .words .now) (a .setting .now) _ (g .gates-of .ensures) (settled-there g .settle-into .ensures .values) in
+    let front = settled-front (a .words .now) (a .setting .now) _ (g .gates-of .ensures) (settled-there g .settle-in-place .ensures) in
     rw (← show-is (a .words .now) (a .setting .now) _ front) (c .before .before .show-settled .ensures)
 
 pub show-spec : {M : Type 1} → statement M
 show-spec =
     tie.close
     (tie.spec
-    slice-aggregate-settle-into
-    settle-into-requires
+    slice-aggregate-settle-in-place
+    settle-in-place-requires
     gates-of-requires
     array-share-prefix-gates
     slice-aggregate-show-settled

@@ -9,8 +9,8 @@ use Rattle.sheet.proofs.record.settle_outputs.Tie as tie
 gates-of-requires : tie.Need-gates-of-requires
 gates-of-requires c κs = search needs
 
-settle-into-requires : tie.Need-settle-into-requires
-settle-into-requires c κs = search needs
+settle-in-place-requires : tie.Need-settle-in-place-requires
+settle-in-place-requires c κs = search needs
 
 slice-reshare-prefix-show-outputs : tie.Need-slice-reshare-prefix-show-outputs
 slice-reshare-prefix-show-outputs c = search needs
@@ -29,14 +29,16 @@ returns c =
     let settling = c .before .before .before .before in
     let counted = settling .before .before in
     let a = counted .before .before .before .before .args in
-    c .show-outputs .ensures ∙ settled-values (now (a .words)) (a .fixed) (a .ones) (counted .gates-of .ensures) (settling .settle-into .ensures)
+    c .show-outputs .ensures
+    ∙ settled-values (now (a .words)) (a .fixed) (a .ones) (now (a .setting)) (now (a .values)) (counted .gates-of .ensures)
+    (settling .settle-in-place .ensures)
 
 pub settle-outputs-spec : {M : Type 1} → statement M
 settle-outputs-spec =
     tie.close
     (tie.spec
     gates-of-requires
-    settle-into-requires
+    settle-in-place-requires
     slice-reshare-prefix-show-outputs
     slice-aggregate-show-outputs
     show-outputs-requires

@@ -1,13 +1,26 @@
--- `simulate::round::settle_into` meets its contract: the spare room is as long as the most gates. Assumes nothing.
-use denote.Ref.{now}
+-- `simulate::round::settle_into` meets its contract: there is room for the most gates. Assumes nothing.
 use native.Mathlib.Omega.{arith}
+use denote.Ref.{now}
 use Rattle.encoding.proofs.Readers.{whole-parts}
+use Rattle.readers.proofs.Chains.{empty}
 use borrow.Author.Needs.{needs}
 use Rattle.simulate.proofs.round.settle_into.Statement.{statement}
 use Rattle.simulate.proofs.round.settle_into.Tie as tie
 
 gate-table-requires : tie.Need-gate-table-requires
 gate-table-requires c κs = search needs
+
+slice-aggregate-link-readers : tie.Need-slice-aggregate-link-readers
+slice-aggregate-link-readers c = search needs
+
+slice-aggregate-link-readers-2 : tie.Need-slice-aggregate-link-readers-2
+slice-aggregate-link-readers-2 c = search needs
+
+link-readers-requires : tie.Need-link-readers-requires
+link-readers-requires c κs =
+    let s = c .before .before .before .before .before .before in
+    let few = whole-parts (now (s .args .words)) (s .pre .0) .fewGates in
+    (s .pre .0, (record { firstRoom = few; nextRoom = omega arith }, empty 1024, empty 4096))
 
 inputs-of-requires : tie.Need-inputs-of-requires
 inputs-of-requires c κs = search needs
@@ -18,15 +31,25 @@ gates-of-requires c κs = search needs
 slice-aggregate-settle-with : tie.Need-slice-aggregate-settle-with
 slice-aggregate-settle-with c = search needs
 
+slice-aggregate-settle-with-2 : tie.Need-slice-aggregate-settle-with-2
+slice-aggregate-settle-with-2 c = search needs
+
+slice-aggregate-settle-with-3 : tie.Need-slice-aggregate-settle-with-3
+slice-aggregate-settle-with-3 c = search needs
+
+slice-aggregate-settle-with-4 : tie.Need-slice-aggregate-settle-with-4
+slice-aggregate-settle-with-4 c = search needs
+
 settle-with-requires : tie.Need-settle-with-requires
 settle-with-requires c κs =
-    let s = c .before .before .before .before .before .before .before .before .before in
-    let i = whole-parts (now (s .args .words)) (s .pre .0) in
-    let m = c .before .before .gates-of .ensures in (
-      c .before .before .before .before .before .gate-table .ensures,
+    let s = c .before .before .before .before .before .before .before .before .before .before .before .before .before .before .before .before .before in
+    let few = whole-parts (now (s .args .words)) (s .pre .0) .fewGates in
+    let n = c .before .before .before .before .before .before .inputs-of .ensures in
+    let m = c .before .before .before .before .before .gates-of .ensures in (
+      c .before .before .before .before .before .before .before .before .before .before .before .before .before .gate-table .ensures,
       (
-        record { whole = s .pre .0; inputs = c .before .before .before .inputs-of .ensures; gates = m; fits = omega arith },
-        omega (arith, i .fewGates),
+        (record { whole = s .pre .0; inputs = n; gates = m; fits = omega arith }, omega arith, omega arith),
+        c .before .before .before .before .before .before .before .before .before .before .link-readers .ensures,
       ),
     )
 
@@ -41,9 +64,15 @@ settle-into-spec =
     tie.close
     (tie.spec
     gate-table-requires
+    slice-aggregate-link-readers
+    slice-aggregate-link-readers-2
+    link-readers-requires
     inputs-of-requires
     gates-of-requires
     slice-aggregate-settle-with
+    slice-aggregate-settle-with-2
+    slice-aggregate-settle-with-3
+    slice-aggregate-settle-with-4
     settle-with-requires
     same-length
     returns)

@@ -1,0 +1,2 @@
+-- Mathematics of evaluation in place; no function of src/ is named.
+pub mod Waking

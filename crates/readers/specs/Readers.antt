@@ -1,0 +1,67 @@
+-- The operand words that name each gate, as linked lists in two slices. Word i of gate j has number 4 j + i; a number stands in the slices plus 1, and
+-- 0 ends a list. Cited by the contracts of this crate and of `simulate`. Assumes nothing.
+--   Chain     a number is in the list that starts at another
+--   Readers   what is promised: who reads a gate is in the gate's list, and lists descend
+--   Linking   the same of the words below a number
+use Prim.Native.Nat.{ℕ, suc, _+_, _*_, _/_, _≤_, _<_}
+use mathlib.Core.Path.{_≡_}
+use mathlib.Core.Bool.{true, false, cond}
+use mathlib.Core.List.{List}
+use lib.ListN.{length, getD, set}
+use lib.Dec.{ltb}
+use Rattle.layout.specs.Nodes.{gateNamed}
+use Rattle.netlist.specs.Limits.{maxGates}
+use Rattle.netlist.specs.Netlist.{Block}
+use Rattle.netlist.specs.Groups.{reads}
+use Rattle.netlist.specs.StoredBlock.{gatesAt, isTorn}
+
+-- p is in the list that starts at an index
+pub data Chain (next : List ℕ) (p : ℕ) : ℕ → Type 0 where
+  at : Chain next p p
+  behind : {q : ℕ} → Chain next p (getD next q 0) → Chain next p (suc q)
+
+-- each list goes down, so that it ends
+abbrev pub Descends : List ℕ → Type 0
+Descends next = (e : ℕ) → getD next e 0 ≤ e
+
+-- whoever reads gate k is in its list
+pub record Readers (b : Block) (m : ℕ) (first next : List ℕ) : Type 0 where
+  pub descends : Descends next
+  pub starts : (k : ℕ) → getD first k 0 ≤ 4 * m
+  pub found : (j k : ℕ) → j < m → reads b j k ≡ true → (e : ℕ) × (e / 4 ≡ j) × Chain next (suc e) (getD first k 0)
+
+-- nothing but zeros
+abbrev pub Empty : List ℕ → Type 0
+Empty list = (k : ℕ) → getD list k 0 ≡ 0
+
+-- an entry for each gate, and for each operand word
+pub record ReaderRoom (m : ℕ) (first next : List ℕ) : Type 0 where
+  pub firstRoom : m ≤ length first
+  pub nextRoom : 4 * m ≤ length next
+
+-- room to put word number e in a list
+pub record LinkRoom (n m e : ℕ) (first next : List ℕ) : Type 0 where
+  pub fewInputs : n ≤ 65535
+  pub fewGates : m ≤ maxGates
+  pub below : e < 4 * m
+  pub room : ReaderRoom m first next
+
+-- the words hold a whole block of n inputs and m gates, whose first stands at `gates`
+pub record LinkReady (ws : List ℕ) (n m gates : ℕ) (first next : List ℕ) : Type 0 where
+  pub whole : isTorn ws ≡ false
+  pub inputs : n ≡ getD ws 0 0
+  pub gatesAre : m ≡ getD ws 1 0
+  pub place : gates ≡ gatesAt (getD ws 0 0) (getD ws 3 0)
+  pub room : ReaderRoom m first next
+
+-- word number e, which names gate k, is put in front; m is no gate
+pub record Linked (m k e : ℕ) (first next first′ next′ : List ℕ) : Type 0 where
+  pub firstIs : first′ ≡ cond (ltb k m) (set first k (suc e)) first
+  pub nextIs : next′ ≡ cond (ltb k m) (set next e (getD first k 0)) next
+
+-- the words with numbers below e are in their lists
+pub record Linking (ws : List ℕ) (n m gates : ℕ) (first next : List ℕ) (e : ℕ) : Type 0 where
+  pub descends : Descends next
+  pub starts : (k : ℕ) → getD first k 0 ≤ e
+  pub found : (j i k : ℕ) → i < 4 → 4 * j + i < e → i < getD ws (gates + 5 * j) 0 / 8 → k < m → gateNamed n m (getD ws (gates + 5 * j + 1 + i) 0) ≡ k
+      → Chain next (suc (4 * j + i)) (getD first k 0)

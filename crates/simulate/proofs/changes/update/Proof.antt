@@ -1,0 +1,81 @@
+-- `simulate::changes::update` meets its contract: the gate has its value, gets none, or is queued. Assumes nothing.
+use Prim.Native.Nat.{_≤_, _<_}
+use native.Mathlib.Omega.{arith}
+use denote.Ref.{now}
+use lib.ListN.{getD}
+use Rattle.netlist.specs.Limits.{maxGates}
+use Rattle.encoding.proofs.Readers.{whole-parts}
+use Rattle.simulate.proofs.Updates.{one-kept, one-undefined, one-room, one-new}
+use borrow.Author.Needs.{needs}
+use Rattle.simulate.proofs.changes.update.Statement.{statement}
+use Rattle.simulate.proofs.changes.update.Tie as tie
+
+-- the function's entry, where the gate gets a value
+abbrev start : tie.Else2 → tie.Start
+start c = c .before .before .before .before .before .before .before .before .before
+
+-- few gates, and room for this one
+few : (s : tie.Start) → getD (now (s .args .words)) 1 0 ≤ maxGates
+few s = whole-parts (now (s .args .words)) (s .pre .1 .0 .whole) .fewGates
+
+room : (c : tie.Else2) → start c .args .end < getD (now (start c .args .words)) 1 0
+room c =
+    one-room (start c .pre .1 .0) (start c .args .j) (start c .pre .1 .1) (c .before .value-of-gate .result) (c .before .before .if1 .left) (c .if2 .left)
+
+slice-read-if1 : tie.Need-slice-read-if1
+slice-read-if1 c = search needs
+
+returns : tie.Need-returns
+returns c = let s = c .before .before .before .before .before .before .before in one-kept (s .pre .1 .0) (s .args .j) (s .pre .1 .1) (c .if1 .taken)
+
+value-of-gate-requires : tie.Need-value-of-gate-requires
+value-of-gate-requires c κs = search needs
+
+returns-2 : tie.Need-returns-2
+returns-2 c =
+    let s = c .before .before .before .before .before .before .before .before .before in
+    one-undefined (s .pre .1 .0) (s .args .j) (s .pre .1 .1) (c .before .before .if1 .left) (c .before .value-of-gate .ensures) (c .if2 .taken)
+
+slice-write-values : tie.Need-slice-write-values
+slice-write-values c = search needs
+
+cast-queue : tie.Need-cast-queue
+cast-queue c = omega (arith, few (start c), start c .pre .1 .1)
+
+mul-queue : tie.Need-mul-queue
+mul-queue c = omega (arith, few (start c), room c)
+
+slice-write-queue : tie.Need-slice-write-queue
+slice-write-queue c = omega (arith, room c, start c .pre .1 .0 .queueRoom)
+
+add-result : tie.Need-add-result
+add-result c = omega (arith, few (start c), room c)
+
+same-length : tie.Need-same-length
+same-length c = search needs
+
+same-length-2 : tie.Need-same-length-2
+same-length-2 c = search needs
+
+returns-3 : tie.Need-returns-3
+returns-3 c =
+    let s = start c in
+    one-new (s .pre .1 .0) (s .args .j) (s .pre .1 .1) (c .before .value-of-gate .result) (c .before .before .if1 .left) (c .if2 .left)
+    (c .before .value-of-gate .ensures)
+
+pub update-spec : {M : Type 1} → statement M
+update-spec =
+    tie.close
+    (tie.spec
+    slice-read-if1
+    returns
+    value-of-gate-requires
+    returns-2
+    slice-write-values
+    cast-queue
+    mul-queue
+    slice-write-queue
+    add-result
+    same-length
+    same-length-2
+    returns-3)
