@@ -111,7 +111,8 @@ operands-claims t = (
 )
 
 -- an expression's entry, from behind its kind; there the operands are left
-abbrev expression-start : (t : ℕ) → expression-lts.After-known-told (expression-claims t) (expression-at t) expression.Post → expression-lts.Start (expression-claims t) (expression-at t) expression.Post
+abbrev expression-start : (t : ℕ) → expression-lts.After-known-told (expression-claims t) (expression-at t) expression.Post
+    → expression-lts.Start (expression-claims t) (expression-at t) expression.Post
 expression-start t c = c .before .before .before .before .before
 
 expression-chain : (t : ℕ) (c : expression-lts.After-known-told (expression-claims t) (expression-at t) expression.Post) →
@@ -170,10 +171,12 @@ expression-returns-2 t c = let a = c .before .before .before .before .before .ar
     sym (expression-none (termReader (a .depth)) apply (a .s .now) (sym (c .before .left .given .1) ∙ c .before .before .before .kind .ensures))
 
 -- an operand's first byte and its entry, from where it is no leaf; and what the tests of that byte tell
-abbrev operand-byte : (t : ℕ) → operand-lts.Else3 (operand-claims t) (operand-at t) operand.Post → operand-lts.After-byte-at (operand-claims t) (operand-at t) operand.Post
+abbrev operand-byte : (t : ℕ) → operand-lts.Else3 (operand-claims t) (operand-at t) operand.Post
+    → operand-lts.After-byte-at (operand-claims t) (operand-at t) operand.Post
 operand-byte t c = c .before .before .before .before
 
-abbrev operand-start : (t : ℕ) → operand-lts.Else3 (operand-claims t) (operand-at t) operand.Post → operand-lts.Start (operand-claims t) (operand-at t) operand.Post
+abbrev operand-start : (t : ℕ) → operand-lts.Else3 (operand-claims t) (operand-at t) operand.Post
+    → operand-lts.Start (operand-claims t) (operand-at t) operand.Post
 operand-start t c = operand-byte t c .before .before
 
 start-is : (t : ℕ) (c : operand-lts.After-is-name-start (operand-claims t) (operand-at t) operand.Post)
@@ -280,10 +283,12 @@ operand-returns-6 t c =
     ∙ sym (no-leaf t n ∙ inner-expression (a .depth) (a .s .now) (b .before .if4 .left) (operand-byte t n .byte-at .ensures) (b .if5 .left))
 
 -- a list's entry, from behind its space, and the stage there, from behind its first operand; there the others are left
-abbrev operands-start : (t : ℕ) → operands-lts.Else4 (operands-claims t) (operands-at t) operands.Post → operands-lts.Start (operands-claims t) (operands-at t) operands.Post
+abbrev operands-start : (t : ℕ) → operands-lts.Else4 (operands-claims t) (operands-at t) operands.Post
+    → operands-lts.Start (operands-claims t) (operands-at t) operands.Post
 operands-start t c = c .before .before .before .before .before
 
-abbrev operands-space : (t : ℕ) → operands-lts.After-known-told (operands-claims t) (operands-at t) operands.Post → operands-lts.Else4 (operands-claims t) (operands-at t) operands.Post
+abbrev operands-space : (t : ℕ) → operands-lts.After-known-told (operands-claims t) (operands-at t) operands.Post
+    → operands-lts.Else4 (operands-claims t) (operands-at t) operands.Post
 operands-space t c = c .before .before .before .before .before
 
 space-there : (t : ℕ) (c : operands-lts.Else4 (operands-claims t) (operands-at t) operands.Post) → 0 < length (operands-start t c .args .s .now)
@@ -298,7 +303,8 @@ operands-chain t c =
     (list-more (termReader (a .depth)) (a .most) (a .needed) (a .s .now) (c .before .before .before .if1 .left) (c .before .before .byte-at .ensures)
     (c .before .if2 .left) (c .if4 .left))
 
-operands-chain-2 : (t : ℕ) (c : operands-lts.After-known-told (operands-claims t) (operands-at t) operands.Post) → let a = operands-start t (operands-space t c) .args in
+operands-chain-2 : (t : ℕ) (c : operands-lts.After-known-told (operands-claims t) (operands-at t) operands.Post)
+    → let a = operands-start t (operands-space t c) .args in
     Behind (termsReader (termReader (a .depth)) (a .most) (a .needed)) (a .s .now) (c .before .found .given .0 .0)
     (termsReader (termReader (a .depth)) (a .most - 1) (a .needed - 1))
 operands-chain-2 t c =

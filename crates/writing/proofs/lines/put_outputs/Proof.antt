@@ -22,7 +22,8 @@ loop-holds c = put-none
 put-output-requires : tie.Need-put-output-requires Inv-loop μ-loop
 put-output-requires c κs =
     let l = c .before .before in
-    ((start l .pre .0 .0, omega (arith, start l .pre .0, c .before .loop-test .taken)), put-short (l .loop .inv) (c .before .loop-test .taken) (start l .pre .1))
+    let more = c .before .loop-test .taken in
+    ((start l .pre .0 .0, omega (arith, start l .pre .0, more)), put-short (l .loop .inv) more (start l .pre .1))
 
 add-o : tie.Need-add-o Inv-loop μ-loop
 add-o c = omega (arith, start (c .before .before .before .before .before) .pre .0)
