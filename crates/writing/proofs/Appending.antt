@@ -6,7 +6,7 @@ use mathlib.Core.List.{List, [], _∷_, _++_, append-nil}
 use native.Mathlib.Nat.{add-zero, add-assoc}
 use native.Mathlib.Numerals.{add-one}
 use native.Mathlib.Omega.{arith}
-use lib.ListN.{length, set, getD, take, length-append}
+use lib.ListN.{length, getD, take, length-append}
 use lib.Seq.{length-sets, set-out, take-suc, length-take-le}
 use Rattle.laws.specs.Lists.{tab, joined}
 use Rattle.laws.proofs.Tests.{eq-or-ne}

@@ -2,13 +2,13 @@
 -- Assumes nothing.
 use Rattle.bench.proofs.serve_piece.Statement.{statement}
 use Rattle.bench.proofs.serve_piece.Tie as tie
-use Prim.Native.Nat.{ℕ, _≤_, _-_}
-use mathlib.Core.Path.{_≡_, refl, sym}
-use mathlib.Core.List.{List}
+use Prim.Native.Nat.{_≤_, _-_}
+use mathlib.Core.Path.{_≡_, refl, sym, ap, _∙_}
 use native.Mathlib.Omega.{arith}
 use borrow.Author.Needs.{needs}
-use lib.ListN.{length, take, drop, length-take, length-drop}
+use lib.ListN.{length, take, drop, length-drop}
 use lib.Seq.{length-take-le}
+use Rattle.laws.proofs.Elements.{rest-is-drop}
 use Rattle.session.specs.Session.{Ready}
 
 abbrev Inv-loop : tie.InvT-loop
@@ -32,7 +32,9 @@ start l = l .before .before .before .before .before .before
 -- `feed` has all that is left of the piece
 part-length : (l : tie.At-loop Inv-loop μ-loop) → let piece = start l .args .piece .now in
     length (take (length piece - l .loop .at) (drop (l .loop .at) piece)) ≡ length piece - l .loop .at
-part-length l = let le = l .loop .inv .0 in simp (length-take, length-drop) (omega (arith, le))
+part-length l =
+    let piece = start l .args .piece .now in
+    ap length (rest-is-drop piece (l .loop .at)) ∙ length-drop (l .loop .at) piece
 
 loop-holds : tie.Need-loop-holds Inv-loop μ-loop
 loop-holds c = (omega arith, c .before .before .before .before .before .pre, refl, refl, refl, refl)
