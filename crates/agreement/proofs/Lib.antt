@@ -5,7 +5,6 @@ pub mod PassCount
 pub mod CopyCount
 pub mod Copies
 pub mod Schedule
-pub mod Stages
 pub mod Block
 pub mod Itself
 pub mod Run

@@ -85,7 +85,8 @@ module _ (ws out cells : List ℕ) (r : Renders ws out) (c : RunsAs out cells) w
         rw (same-count, values-codes x)
         at (c .agrees .swept (bytesOfSetting n s) (length-bytes n s ∙ sym same-count) (bytes-low n s))
 
-    runs-at : (room : ℕ) → cellCount cells ≤ room → runCells n cells (bytesOfSetting n s) room ≡ done (cellValues n cells (bytesOfSetting n s)) (cellCount cells) 0
+    runs-at : (room : ℕ) → cellCount cells ≤ room
+        → runCells n cells (bytesOfSetting n s) room ≡ done (cellValues n cells (bytesOfSetting n s)) (cellCount cells) 0
     runs-at room l =
         run-done n cells (bytesOfSetting n s) room (rw same-count at (c .agrees .legal)) (length-bytes n s) (bytes-low n s) l
 

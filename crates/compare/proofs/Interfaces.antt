@@ -130,6 +130,6 @@ module _ (ours theirs : List ℕ) where
 pub ports-told : (ours theirs : List ℕ) {k at other : ℕ} {q : Bool} → q ≡ all (sameNameAt ours at theirs other outputSize) (upTo k)
     → k ≡ getD ours 2 0 → at ≡ outputsAt (getD ours 0 0) (getD ours 3 0) (getD ours 1 0)
     → other ≡ outputsAt (getD theirs 0 0) (getD theirs 3 0) (getD theirs 1 0) → getD theirs 0 0 ≡ getD ours 0 0
-    → q ≡ all (sameNameAt ours (outputsAt (getD ours 0 0) (getD ours 3 0) (getD ours 1 0)) theirs (outputsAt (getD ours 0 0) (getD theirs 3 0) (getD theirs 1 0)) outputSize)
-    (upTo (getD ours 2 0))
+    → q ≡ all (sameNameAt ours (outputsAt (getD ours 0 0) (getD ours 3 0) (getD ours 1 0)) theirs
+    (outputsAt (getD ours 0 0) (getD theirs 3 0) (getD theirs 1 0)) outputSize) (upTo (getD ours 2 0))
 ports-told ours theirs e k a o n = e ∙ rw (a, o, n, k) refl

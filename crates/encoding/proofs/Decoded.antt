@@ -1,5 +1,5 @@
--- The block that words hold, part by part, for every list of words: the counts, the names, the never lines, the gates, the outputs. Cited by Intact, by Readers and
--- by the proofs of code that reads words. Assumes nothing.
+-- The block that words hold, part by part, for every list of words: the counts, the names, the never lines, the gates, the outputs.
+-- Cited by Intact, by Readers and by the proofs of code that reads words. Assumes nothing.
 --   decode-inputCount, decode-gateCount, decode-outputCount, decode-neverCount: the counts are the first four words
 --   decode-input, decode-ports: the names, read from four words each
 --   decode-gate, decode-kind, decode-count, decode-operand: gate j and its parts
@@ -58,10 +58,11 @@ module _ (ws : List ℕ) where
   decode-output o d l = getD-tab (λ o. outputAt (getD ws 0 0) ws (outputsAt (getD ws 0 0) (getD ws 3 0) (getD ws 1 0) + outputSize * o)) (getD ws 2 0) o d l
 
   -- the ports
-  pub decode-ports : map (λ (o : Output). o .port) (decode ws .outputs) ≡ tab (λ o. nameAt ws (outputsAt (getD ws 0 0) (getD ws 3 0) (getD ws 1 0) + outputSize * o))
-      (getD ws 2 0)
+  pub decode-ports : map (λ (o : Output). o .port) (decode ws .outputs)
+      ≡ tab (λ o. nameAt ws (outputsAt (getD ws 0 0) (getD ws 3 0) (getD ws 1 0) + outputSize * o)) (getD ws 2 0)
   unfolding decode outputAt
-  decode-ports = map-tab (λ (o : Output). o .port) (λ o. outputAt (getD ws 0 0) ws (outputsAt (getD ws 0 0) (getD ws 3 0) (getD ws 1 0) + outputSize * o)) (getD ws 2 0)
+  decode-ports =
+      map-tab (λ (o : Output). o .port) (λ o. outputAt (getD ws 0 0) ws (outputsAt (getD ws 0 0) (getD ws 3 0) (getD ws 1 0) + outputSize * o)) (getD ws 2 0)
 
 -- ---- one gate of words
 
@@ -85,7 +86,9 @@ module _ (ws : List ℕ) (j : ℕ) (there : j < getD ws 1 0) where
   decode-kind = ap (λ (g : Gate). g .kind) (decode-gate ws j there) ∙ gateAt-kind (getD ws 0 0) ws (gatesAt (getD ws 0 0) (getD ws 3 0) + gateSize * j)
 
   pub decode-count : length (gateOf (decode ws) j .operands) ≡ getD ws (gatesAt (getD ws 0 0) (getD ws 3 0) + gateSize * j) 0 / 8
-  decode-count = ap (λ (g : Gate). length (g .operands)) (decode-gate ws j there) ∙ gateAt-count (getD ws 0 0) ws (gatesAt (getD ws 0 0) (getD ws 3 0) + gateSize * j)
+  decode-count =
+      ap (λ (g : Gate). length (g .operands)) (decode-gate ws j there)
+      ∙ gateAt-count (getD ws 0 0) ws (gatesAt (getD ws 0 0) (getD ws 3 0) + gateSize * j)
 
   -- operand i
   pub decode-operand : (i : ℕ) (d : Operand) → i < getD ws (gatesAt (getD ws 0 0) (getD ws 3 0) + gateSize * j) 0 / 8

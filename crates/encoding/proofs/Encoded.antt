@@ -104,7 +104,8 @@ module _ (b : Block) where
   encode-input j d h i l =
       ap (λ (p : ℕ). getD (encode b) p 0) (add-assoc inputsAt (nameSize * j) i)
       ∙ ap (λ (ws : List ℕ). getD ws (inputsAt + (nameSize * j + i)) 0) input-first
-      ∙ getD-middle (header b) (inputPart b) (neverPart b ++ (gatePart b ++ outputPart b)) inputsAt (nameSize * j + i) 0 refl (rw length-inputPart (omega arith))
+      ∙ getD-middle (header b) (inputPart b) (neverPart b ++ (gatePart b ++ outputPart b)) inputsAt (nameSize * j + i) 0 refl
+      (rw length-inputPart (omega arith))
       ∙ getD-joined nameWords nameSize length-nameWords (b .inputs) j i d 0 h l
 
   -- then the never lines
@@ -125,8 +126,8 @@ module _ (b : Block) where
   encode-gate j h i l =
       ap (λ (p : ℕ). getD (encode b) p 0) (add-assoc (gatesAt (inputCount b) (neverCount b)) (gateSize * j) i)
       ∙ ap (λ (ws : List ℕ). getD ws (gatesAt (inputCount b) (neverCount b) + (gateSize * j + i)) 0) encode-parts
-      ∙ getD-middle (header b ++ inputPart b ++ neverPart b) (gatePart b) (outputPart b) (gatesAt (inputCount b) (neverCount b)) (gateSize * j + i) 0 length-before-gates
-      (rw length-gatePart (omega arith))
+      ∙ getD-middle (header b ++ inputPart b ++ neverPart b) (gatePart b) (outputPart b) (gatesAt (inputCount b) (neverCount b)) (gateSize * j + i) 0
+      length-before-gates (rw length-gatePart (omega arith))
       ∙ getD-joined (gateWords (inputCount b)) gateSize (length-gateWords (inputCount b)) (b .gates) j i noGate 0 h l
 
   -- then the outputs
@@ -137,7 +138,6 @@ module _ (b : Block) where
       ap (λ (p : ℕ). getD (encode b) p 0) (add-assoc (outputsAt (inputCount b) (neverCount b) (gateCount b)) (outputSize * o) i)
       ∙ ap (λ (ws : List ℕ). getD ws (outputsAt (inputCount b) (neverCount b) (gateCount b) + (outputSize * o + i)) 0)
       (encode-parts ∙ sym (append-nil (header b ++ inputPart b ++ neverPart b ++ gatePart b ++ outputPart b)))
-      ∙ getD-middle (header b ++ inputPart b ++ neverPart b ++ gatePart b) (outputPart b) [] (outputsAt (inputCount b) (neverCount b) (gateCount b)) (outputSize * o + i) 0
-      length-before-outputs
-      (rw length-outputPart (omega arith))
+      ∙ getD-middle (header b ++ inputPart b ++ neverPart b ++ gatePart b) (outputPart b) []
+      (outputsAt (inputCount b) (neverCount b) (gateCount b)) (outputSize * o + i) 0 length-before-outputs (rw length-outputPart (omega arith))
       ∙ getD-joined (outputWords (inputCount b)) outputSize (length-outputWords (inputCount b)) (b .outputs) o i d 0 h l

@@ -156,7 +156,8 @@ module _ (ws : List ℕ) where
         portsDistinct = ap distinct (decode-ports ws) ∙ and-right (all isPlainName (tab port (getD ws 2 0))) (distinct (tab port (getD ws 2 0))) ports;
         nodesThere =
             all-tab-from (λ o. isNode (decode ws) (o .node)) output-at (getD ws 2 0)
-            (λ o l. isNode-operandOf (decode ws) (getD ws 0 0) (getD ws 1 0) (getD ws (outputsAt (getD ws 0 0) (getD ws 3 0) (getD ws 1 0) + outputSize * o + nameSize) 0)
+            (λ o l. isNode-operandOf (decode ws) (getD ws 0 0) (getD ws 1 0)
+            (getD ws (outputsAt (getD ws 0 0) (getD ws 3 0) (getD ws 1 0) + outputSize * o + nameSize) 0)
             (decode-inputCount ws) (decode-gateCount ws) few ∙ w .nodes o l);
       })
     where
@@ -186,7 +187,8 @@ module _ (ws : List ℕ) where
   encoded-length e = sym (ap length e) ∙ length-encode (decode ws) ∙ rw (decode-inputCount ws, decode-gateCount ws, decode-outputCount ws, decode-neverCount ws)
 
   -- and hold the words of its gates
-  gate-stands : encode (decode ws) ≡ ws → (j : ℕ) → j < getD ws 1 0 → GateStands (getD ws 0 0) ws (gatesAt (getD ws 0 0) (getD ws 3 0) + gateSize * j) (gate-at j)
+  gate-stands : encode (decode ws) ≡ ws → (j : ℕ) → j < getD ws 1 0
+      → GateStands (getD ws 0 0) ws (gatesAt (getD ws 0 0) (getD ws 3 0) + gateSize * j) (gate-at j)
   unfolding gate-at
   gate-stands e j l =
       rw (e, decode-inputCount ws, decode-neverCount ws, decode-gate ws j l) at (encode-gate (decode ws) j (rw (decode-gateCount ws) l))
@@ -208,8 +210,8 @@ module _ (ws : List ℕ) where
             ∙ and-intro (all isPlainName (tab name (getD ws 0 0))) (distinct (tab name (getD ws 0 0))) (w .inputNames) (w .inputsDistinct);
         nevers = λ i l. sym (never-rule i) ∙ all-tab-at (neverFits (decode ws)) never-at (getD ws 3 0) i (w .neversFit) l;
         gates =
-            λ j l. gateRule-from ws (gatesAt (getD ws 0 0) (getD ws 3 0) + gateSize * j) (decode ws) (getD ws 0 0) (getD ws 1 0) (decode-inputCount ws) (decode-gateCount ws)
-            (all-tab-at (gateFits (decode ws)) gate-at (getD ws 1 0) j (w .gatesFit) l)
+            λ j l. gateRule-from ws (gatesAt (getD ws 0 0) (getD ws 3 0) + gateSize * j) (decode ws) (getD ws 0 0) (getD ws 1 0) (decode-inputCount ws)
+            (decode-gateCount ws) (all-tab-at (gateFits (decode ws)) gate-at (getD ws 1 0) j (w .gatesFit) l)
             (stands-unused (getD ws 0 0) ws (gatesAt (getD ws 0 0) (getD ws 3 0) + gateSize * j) (gate-stands e j l));
         ports =
             namesRule-names ws (outputsAt (getD ws 0 0) (getD ws 3 0) (getD ws 1 0)) outputSize (getD ws 2 0)
@@ -217,7 +219,8 @@ module _ (ws : List ℕ) where
             (sym (ap (all isPlainName) (decode-ports ws)) ∙ all-map isPlainName port-of (decode ws .outputs) ∙ w .portNames)
             (sym (ap distinct (decode-ports ws)) ∙ w .portsDistinct);
         nodes =
-            λ o l. sym (isNode-operandOf (decode ws) (getD ws 0 0) (getD ws 1 0) (getD ws (outputsAt (getD ws 0 0) (getD ws 3 0) (getD ws 1 0) + outputSize * o + nameSize) 0)
+            λ o l. sym (isNode-operandOf (decode ws) (getD ws 0 0) (getD ws 1 0)
+            (getD ws (outputsAt (getD ws 0 0) (getD ws 3 0) (getD ws 1 0) + outputSize * o + nameSize) 0)
             (decode-inputCount ws) (decode-gateCount ws) few) ∙ all-tab-at (λ o. isNode (decode ws) (o .node)) output-at (getD ws 2 0) o (w .nodesThere) l;
       })
     where

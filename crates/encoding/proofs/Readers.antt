@@ -81,9 +81,12 @@ module _ (ws : List ℕ) (whole : isTorn ws ≡ false) where
   whole-gate j l = gateRule-parts ws (getD ws 0 0 + getD ws 1 0) (gatesAt (getD ws 0 0) (getD ws 3 0) + gateSize * j) (whole-parts .gates j l)
 
   -- an output's word is an input's number or a gate's
-  pub whole-node : (o : ℕ) → o < getD ws 2 0 → getD ws (outputsAt (getD ws 0 0) (getD ws 3 0) (getD ws 1 0) + outputSize * o + nameSize) 0 < getD ws 0 0 + getD ws 1 0
+  pub whole-node : (o : ℕ) → o < getD ws 2 0
+      → getD ws (outputsAt (getD ws 0 0) (getD ws 3 0) (getD ws 1 0) + outputSize * o + nameSize) 0 < getD ws 0 0 + getD ws 1 0
   unfolding nodeRule
-  whole-node o l = ltb-true (getD ws (outputsAt (getD ws 0 0) (getD ws 3 0) (getD ws 1 0) + outputSize * o + nameSize) 0) (getD ws 0 0 + getD ws 1 0) (whole-parts .nodes o l)
+  whole-node o l =
+      ltb-true (getD ws (outputsAt (getD ws 0 0) (getD ws 3 0) (getD ws 1 0) + outputSize * o + nameSize) 0) (getD ws 0 0 + getD ws 1 0)
+      (whole-parts .nodes o l)
 
 -- ---- well-formed blocks
 

@@ -90,7 +90,8 @@ encode-decode ws n m k lines en em ek el size unused =
     outputs = part-words ws (outputWords n) output (outputsAt n lines m) outputSize k (λ o l. outputWords-outputAt n ws (outputsAt n lines m + outputSize * o))
 
     whole : tab (λ i. getD ws i 0) (outputsAt n lines m + outputSize * k)
-        ≡ n ∷ m ∷ k ∷ lines ∷ from inputsAt (nameSize * n) ++ from (neversAt n) (neverSize * lines) ++ from (gatesAt n lines) (gateSize * m) ++ from (outputsAt n lines m) (outputSize * k)
+        ≡ n ∷ m ∷ k ∷ lines ∷ from inputsAt (nameSize * n) ++ from (neversAt n) (neverSize * lines)
+        ++ from (gatesAt n lines) (gateSize * m) ++ from (outputsAt n lines m) (outputSize * k)
     whole =
         let f : ℕ → ℕ = λ i. getD ws i 0 in
         rw (

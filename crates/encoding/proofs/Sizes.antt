@@ -18,8 +18,8 @@ use Rattle.laws.proofs.Lists.{all-joined}
 use Rattle.netlist.specs.Limits.{maxInputs, maxBlock}
 use Rattle.netlist.specs.Assignments.{Assignment, isWithin, areMasks}
 use Rattle.netlist.specs.Netlist.{Name, constant, Gate, Output, Block, inputCount, gateCount, outputCount, neverCount}
-use Rattle.netlist.specs.StoredBlock.{operandWords, neversAt, gatesAt, outputsAt, neverWords, neverFits, isLetter, isPlainName, nameWords, nodeWord, gateWords, outputWords, isNode}
-use Rattle.netlist.specs.StoredBlock.{isOperand, gateFits, encode, decode, isWellFormed, isTorn}
+use Rattle.netlist.specs.StoredBlock.{operandWords, neversAt, gatesAt, outputsAt, neverWords, neverFits, isLetter, isPlainName, nameWords, nodeWord}
+use Rattle.netlist.specs.StoredBlock.{gateWords, outputWords, isNode, isOperand, gateFits, encode, decode, isWellFormed, isTorn}
 use Rattle.encoding.proofs.ListFacts.{and-parts, all-map, getD-map}
 use Rattle.encoding.proofs.Names.{length-nameWords, legal-words}
 use Rattle.encoding.proofs.Nodes.{nodeWord-small, isNode-isOperand}

@@ -85,8 +85,8 @@ wellFormed-parts b h =
 pub few-nodes : (b : Block) → WellFormed b → inputCount b + gateCount b ≤ 65534
 few-nodes b w = omega (arith, w .fewInputs, w .fewGates)
 
--- A block with the inputs, the never lines and the ports of a well-formed one is well-formed, if it has no more gates than allowed, its gates fit and its outputs show
--- nodes that are there.
+-- A block with the inputs, the never lines and the ports of a well-formed one is well-formed, if it has no more gates than allowed, its gates
+-- fit and its outputs show nodes that are there.
 pub wellFormed-interface : (b c : Block) → isWellFormed b ≡ true
     → c .inputs ≡ b .inputs
     → c .nevers ≡ b .nevers

@@ -50,7 +50,9 @@ neither (suc (suc z)) o h l = absurd (omega arith)
 module _ {lanes : ℕ} {p : Pair} (proper : Proper lanes p) where
   undefinedIn-within : undefinedIn (full lanes) p < 2 ^ lanes
   unfolding undefinedIn full
-  undefinedIn-within = xor-lt lanes (full lanes) (bitOr (p .zeros) (p .ones)) (ones-lt lanes) (or-lt lanes (p .zeros) (p .ones) (proper .zerosWithin) (proper .onesWithin))
+  undefinedIn-within =
+      xor-lt lanes (full lanes) (bitOr (p .zeros) (p .ones)) (ones-lt lanes)
+      (or-lt lanes (p .zeros) (p .ones) (proper .zerosWithin) (proper .onesWithin))
 
   undefinedIn-lane : (s : ℕ) → s < lanes → hasLane (undefinedIn (full lanes) p) s ≡ not (isDefined (lane s p))
   unfolding undefinedIn hasLane lane
@@ -93,7 +95,8 @@ any-not-all p xs d = ⊎-elim yes-all not-all (bool-cases (all p xs))
 module _ {ws : List ℕ} {n base : ℕ} {zeros ones : List ℕ} (j : Judged ws n base zeros ones) {at : ℕ}
     (first : at ≡ outputsAt (getD ws 0 0) (getD ws 3 0) (getD ws 1 0)) where
   pair-is : (o : ℕ) → outputPair ws at (full (lanesOf n)) zeros ones o
-      ≡ operandPair (full (lanesOf n)) (inputsIn n zeros ones) (gatesIn n (gateCount (decode ws)) zeros ones) (operandOf n (getD ws (at + outputSize * o + nameSize) 0))
+      ≡ operandPair (full (lanesOf n)) (inputsIn n zeros ones) (gatesIn n (gateCount (decode ws)) zeros ones)
+      (operandOf n (getD ws (at + outputSize * o + nameSize) 0))
   unfolding outputPair
   pair-is o =
       wordPair-operand (full (lanesOf n)) n (gateCount (decode ws)) zeros ones (omega (arith, j .fewInputs)) (j .settled .zerosLong) (j .settled .onesLong)
@@ -121,7 +124,8 @@ module _ {ws : List ℕ} {n base : ℕ} {zeros ones : List ℕ} (j : Judged ws n
       let many : n ≡ inputCount b = j .inputs ∙ sym (decode-inputCount ws) in
       let d : Output = record { port = []; node = constant false } in
       let shows : Output → Value = outputValue (settingOf (inputCount b) (base + s)) (settledUnder b (base + s)) in
-      let values : lane s (outputPair ws at (full (lanesOf n)) zeros ones o) ≡ operandValue (settingOf n (base + s)) (settledUnder b (base + s)) (operandOf n word) =
+      let values : lane s (outputPair ws at (full (lanesOf n)) zeros ones o)
+      ≡ operandValue (settingOf n (base + s)) (settledUnder b (base + s)) (operandOf n word) =
       ap (lane s) (pair-is o) ∙ operandPair-lane (j .settled .inputsProper) (j .settled .gatesProper) s l (operandOf n word)
       ∙ rw (j .settled .setting s l, j .settled .settledLanes s l) in
       let inside : o < length (map shows (b .outputs)) = rw (as-many (base + s)) there in
@@ -164,7 +168,8 @@ module _ {ws : List ℕ} {n base : ℕ} {zeros ones : List ℕ} (j : Judged ws n
   unfolding unsettledWord unsettledBy
   unsettled-first zero l = tells-as (λ s. refl) tells-none
   unsettled-first (suc k) l =
-      tells-as (λ s. sym (any-first (λ o. isUndefinedAt (decode ws) o s) k)) (tells-or (unsettled-first k (omega arith)) (undefined-tells j first k (omega arith)))
+      tells-as (λ s. sym (any-first (λ o. isUndefinedAt (decode ws) o s) k))
+      (tells-or (unsettled-first k (omega arith)) (undefined-tells j first k (omega arith)))
 
   pub unsettled-tells : Tells (lanesOf n) base (isUnsettled (decode ws)) (unsettledWord ws at (full (lanesOf n)) zeros ones (getD ws 2 0))
   unsettled-tells = tells-as (unsettled-all ws) (unsettled-first (getD ws 2 0) (omega arith))

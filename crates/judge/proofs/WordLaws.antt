@@ -144,7 +144,8 @@ unfolding trailingZeros hasLane
 trailing-below zero a i l = absurd (omega arith)
 trailing-below (suc k) a i l = go (trailing-below k (a / 2)) (a % 2) i refl l
   where
-    go : ((i : ℕ) → i < trailingZeros k (a / 2) → hasLane (a / 2) i ≡ false) → (d i : ℕ) → a % 2 ≡ d → i < under d (trailingZeros k (a / 2)) → hasLane a i ≡ false
+    go : ((i : ℕ) → i < trailingZeros k (a / 2) → hasLane (a / 2) i ≡ false)
+        → (d i : ℕ) → a % 2 ≡ d → i < under d (trailingZeros k (a / 2)) → hasLane a i ≡ false
     go rest zero zero e m = rw (bit-first a, e)
     go rest zero (suc i) e m = rw (bit-next a i) (rest i (omega arith))
     go rest (suc d) i e m = absurd (omega arith)

@@ -21,7 +21,8 @@ use Rattle.netlist.specs.Values.{Value, undefined, val, invert}
 use Rattle.netlist.specs.Kinds.{gateValue}
 use Rattle.netlist.specs.Assignments.{bit}
 use Rattle.lanes.specs.declared.Pair.{Pair}
-use Rattle.lanes.specs.Pairs.{marked, lane, Proper, full, nothing, always, isConjunction, isParity, inverts, bothPair, eitherPair, parityPair, combined, neutral, folded, swapped, finished, pairOf}
+use Rattle.lanes.specs.Pairs.{marked, lane, Proper, full, nothing, always, isConjunction, isParity, inverts, bothPair, eitherPair, parityPair}
+use Rattle.lanes.specs.Pairs.{combined, neutral, folded, swapped, finished, pairOf}
 use Rattle.lanes.specs.PairRounds.{AllProper}
 use Rattle.lanes.proofs.BitLaws.{bit-low, bit-zero, bit-high, bit-and, bit-or, bit-full, le-by-bits}
 use Rattle.lanes.proofs.Folding.{both, either, differing, combinedValue, foldedValue, finishedValue, gateValue-folded}

@@ -44,8 +44,10 @@ unfolding arityFits
 one-operand g legal e =
     let few = leb (fewestOperands (g .kind)) (length (g .operands)) in
     let most = leb (length (g .operands)) (mostOperands (g .kind)) in
-    let lo : 1 ≤ length (g .operands) = rw (e, not-counts .0) at (leb-true (fewestOperands (g .kind)) (length (g .operands)) (and-left few most (legal .count))) in
-    let hi : length (g .operands) ≤ 1 = rw (e, not-counts .1) at (leb-true (length (g .operands)) (mostOperands (g .kind)) (and-right few most (legal .count))) in
+    let lo : 1 ≤ length (g .operands) = rw (e, not-counts .0) at
+    (leb-true (fewestOperands (g .kind)) (length (g .operands)) (and-left few most (legal .count))) in
+    let hi : length (g .operands) ≤ 1 = rw (e, not-counts .1) at
+    (leb-true (length (g .operands)) (mostOperands (g .kind)) (and-right few most (legal .count))) in
     omega arith
 
 module _ {lanes : ℕ} {x state : List Pair} (inputsProper : AllProper lanes x) (stateProper : AllProper lanes state) where
@@ -57,7 +59,9 @@ module _ {lanes : ℕ} {x state : List Pair} (inputsProper : AllProper lanes x) 
 
   pub evaluatedPair-proper : (g : Gate) → Proper lanes (evaluatedPair (full lanes) x state g)
   unfolding evaluatedPair
-  evaluatedPair-proper g = pairOf-proper (g .kind) (map (operandPair (full lanes) x state) (g .operands)) (proper-map (operandPair (full lanes) x state) operandPair-proper (g .operands))
+  evaluatedPair-proper g =
+      pairOf-proper (g .kind) (map (operandPair (full lanes) x state) (g .operands))
+      (proper-map (operandPair (full lanes) x state) operandPair-proper (g .operands))
 
   module _ (s : ℕ) (l : s < lanes) where
     pub operandPair-lane : (o : Operand) → lane s (operandPair (full lanes) x state o) ≡ operandValue (map (lane s) x) (map (lane s) state) o

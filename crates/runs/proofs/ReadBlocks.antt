@@ -9,7 +9,6 @@ use lib.ListN.{length}
 use lib.Dec.{leb, ltb}
 use borrow.Author.Tests.{leb-true, not-false}
 use Rattle.laws.specs.Lists.{sum}
-use Rattle.laws.proofs.Tests.{and-left}
 use Rattle.laws.proofs.Tab.{length-tab}
 use Rattle.netlist.specs.declared.Refusal.{Refusal}
 use Rattle.netlist.specs.declared.Refusal.the-variants.{TextTooLong, OverLimit, DuplicateDeclaration, UndeclaredName}
@@ -21,6 +20,7 @@ use Rattle.netlist.specs.Parse.{Parsed, got, stuck, parse}
 use Rattle.netlist.specs.Reading.{lineGates, isOverLimit, firstDuplicate, firstUndeclared, blockOf}
 use Rattle.netlist.specs.Answers.{done, refused, refuseIf, refuseAt}
 use Rattle.netlist.specs.Operations.{counted, readTree, readParsed, readText}
+use Rattle.encoding.proofs.ListFacts.{and-parts}
 
 pub record Accepted (text ws : List ℕ) : Type 0 where
   pub tree : Tree
@@ -61,18 +61,29 @@ module _ (text ws : List ℕ) (count detail : ℕ) where
       go true p h = not-refused h
       go false p h = in-parsed (parse text) refl h
 
-few-inputs : (t : Tree) → isOverLimit t ≡ false → length (t .inputs) ≤ maxInputs
+-- what the test of the limits says, part by part
+pub record WithinLimits (t : Tree) : Type 0 where
+  pub inputs : length (t .inputs) ≤ maxInputs
+  pub nevers : length (t .nevers) ≤ maxNevers
+  pub gates : sum (map lineGates (t .gates)) ≤ maxGates
+  pub outputs : length (t .outputs) ≤ maxOutputs
+
+pub within-limits : (t : Tree) → isOverLimit t ≡ false → WithinLimits t
 unfolding isOverLimit
-few-inputs t h =
+within-limits t h =
     let i = leb (length (t .inputs)) maxInputs in
     let l = leb (length (t .nevers)) maxNevers in
     let g = leb (sum (map lineGates (t .gates))) maxGates in
-    leb-true _ _ (and-left i l (and-left (i && l) g (and-left (i && l && g) (leb (length (t .outputs)) maxOutputs) (not-false _ h))))
+    let o = leb (length (t .outputs)) maxOutputs in
+    let e = and-parts (i && l && g) o (not-false (i && l && g && o) h) in
+    let d = and-parts (i && l) g (e .0) in
+    let c = and-parts i l (d .0) in
+    record { inputs = leb-true _ _ (c .0); nevers = leb-true _ _ (c .1); gates = leb-true _ _ (d .1); outputs = leb-true _ _ (e .1) }
 
 -- A block that was read has few enough inputs.
 pub read-few-inputs : (text ws : List ℕ) (count detail : ℕ) → readText text ≡ done ws count detail → inputCount (decode ws) ≤ maxInputs
 unfolding decode encode blockOf
 read-few-inputs text ws count detail e =
     let a = read-accepted text ws count detail e in
-    let f = few-inputs (a .tree) (a .within) in
+    let f = within-limits (a .tree) (a .within) .inputs in
     rw (a .words, length-tab) f

@@ -3,17 +3,16 @@
 use Prim.Native.Nat.{ℕ, zero, suc, _+_, _≤_}
 use mathlib.Core.Path.{_≡_, refl, sym, ap, ap₂, _∙_}
 use mathlib.Core.Bool.{Bool, true, false, cond, _&&_, _||_, false≢true, true≢false}
-use mathlib.Core.Option.{Option, none, some}
+use mathlib.Core.Option.{Option, none, some, Option·some-ne-none}
 use mathlib.Core.List.{List, [], _∷_, _++_, map, map-append, map-id, map-map}
 use native.Mathlib.Omega.{arith}
 use lib.ListN.{length, length-append, length-map}
-use lib.Dec.{leb}
-use borrow.Author.Tests.{leb-true, not-false, lt-ltb}
+use borrow.Author.Tests.{lt-ltb}
 use Rattle.laws.specs.Lists.{all, same, memberList, distinct, sum}
 use Rattle.laws.proofs.Tests.{and-left, and-right, and-intro}
 use Rattle.laws.proofs.Quantifiers.{all-append}
 use Rattle.laws.proofs.Same.{same-eq, same-refl}
-use Rattle.netlist.specs.Limits.{maxInputs, maxNevers, maxGates, maxOutputs, maxDepth}
+use Rattle.netlist.specs.Limits.{maxDepth}
 use Rattle.netlist.specs.Kinds.{isKind, arityFits}
 use Rattle.netlist.specs.Netlist.{Name, Operand, input, gate, constant, Output, Block, inputCount, gateCount}
 use Rattle.netlist.specs.StoredBlock.{isPlainName, isNodeName, isNode, isOperand, gateFits, isTorn}
@@ -28,16 +27,13 @@ use Rattle.netlist.specs.Answers.{done}
 use Rattle.netlist.specs.Operations.{readText}
 use Rattle.encoding.proofs.WellFormed.{WellFormed, wellFormed-from}
 use Rattle.encoding.proofs.RoundTrip.{encode-whole}
-use Rattle.encoding.proofs.ListFacts.{all-map}
+use Rattle.encoding.proofs.ListFacts.{and-parts, all-and, all-map}
 use Rattle.grammar.proofs.Sound.{parse-sound}
 use Rattle.grammar.proofs.WritingRefusals.{nameOf, mention-names}
-use Rattle.runs.proofs.ReadBlocks.{read-accepted}
+use Rattle.runs.proofs.ReadBlocks.{within-limits, read-accepted}
 use Rattle.runs.proofs.ReadNevers.{nevers-fit}
 
 -- ---- nothing twice
-
-none-not-some : {A : Type 0} {p : ℕ} → some p ≡ none → A
-none-not-some e = let z : _≡_ {A = ℕ} 0 1 = cc in absurd (omega arith)
 
 -- a name given before is not given again
 not-again : (ds : List Mention) (before : List Name) (x : Name) → firstRepeat before ds ≡ none → memberList x before ≡ true
@@ -49,7 +45,7 @@ not-again (d ∷ ds) before x e m = go (not-again ds (d .name ∷ before) x) (me
     go : (firstRepeat (d .name ∷ before) ds ≡ none → memberList x (d .name ∷ before) ≡ true → memberList x (map nameOf ds) ≡ false)
         → (t s : Bool) → memberList (d .name) before ≡ t → same x (d .name) ≡ s
         → cond t (some (d .place)) (firstRepeat (d .name ∷ before) ds) ≡ none → same x (d .name) || memberList x (map nameOf ds) ≡ false
-    go rec true s et es h = none-not-some h
+    go rec true s et es h = absurd (Option·some-ne-none _ h)
     go rec false true et es h = absurd (true≢false (sym m ∙ ap (λ (y : Name). memberList y before) (same-eq x (d .name) es) ∙ et))
     go rec false false et es h = rw es (rec h (rw es m))
 
@@ -61,7 +57,7 @@ no-repeat-distinct (d ∷ ds) before e = go (no-repeat-distinct ds (d .name ∷ 
     go : (firstRepeat (d .name ∷ before) ds ≡ none → distinct (map nameOf ds) ≡ true)
         → (t : Bool) → memberList (d .name) before ≡ t → cond t (some (d .place)) (firstRepeat (d .name ∷ before) ds) ≡ none
         → distinct (map nameOf (d ∷ ds)) ≡ true
-    go rec true et h = none-not-some h
+    go rec true et h = absurd (Option·some-ne-none _ h)
     go rec false et h = rw (not-again ds (d .name ∷ before) (d .name) h (rw (same-refl (d .name)) refl)) (rec h)
 
 -- what stands in front is not given twice either
@@ -73,19 +69,19 @@ front-unrepeated (d ∷ ds) es before e = go (front-unrepeated ds es (d .name �
     go : (firstRepeat (d .name ∷ before) (ds ++ es) ≡ none → firstRepeat (d .name ∷ before) ds ≡ none)
         → (t : Bool) → memberList (d .name) before ≡ t → cond t (some (d .place)) (firstRepeat (d .name ∷ before) (ds ++ es)) ≡ none
         → cond (memberList (d .name) before) (some (d .place)) (firstRepeat (d .name ∷ before) ds) ≡ none
-    go rec true et h = none-not-some h
+    go rec true et h = absurd (Option·some-ne-none _ h)
     go rec false et h = rw et (rec h)
 
 or-else-none : (a b : Option ℕ) → orElse a b ≡ none → (a ≡ none) × (b ≡ none)
 unfolding orElse
 or-else-none none b e = (refl, e)
-or-else-none (some p) b e = none-not-some e
+or-else-none (some p) b e = absurd (Option·some-ne-none _ e)
 
 lesser-none : (a b : Option ℕ) → lesser a b ≡ none → (a ≡ none) × (b ≡ none)
 unfolding lesser
 lesser-none none b e = (refl, e)
-lesser-none (some p) none e = none-not-some e
-lesser-none (some p) (some q) e = none-not-some e
+lesser-none (some p) none e = absurd (Option·some-ne-none _ e)
+lesser-none (some p) (some q) e = absurd (Option·some-ne-none _ e)
 
 module _ (t : Tree) (unrepeated : firstDuplicate t ≡ none) where
   declared-once : orElse (firstRepeat [] (declaredNodes t)) (firstRepeat [] (declaredPorts t)) ≡ none
@@ -130,8 +126,8 @@ module _ (b : Block) where
   unfolding BoundThere lookup
   lookup-there [] s m h = absurd (false≢true m)
   lookup-there (x ∷ xs) s m h =
-      go (lookup-there xs s) (same s (x .name)) m (and-left (isNode b (x .node)) (all (λ (y : Binding). isNode b (y .node)) xs) h)
-      (and-right (isNode b (x .node)) (all (λ (y : Binding). isNode b (y .node)) xs) h)
+      let p = and-parts (isNode b (x .node)) (all (λ (y : Binding). isNode b (y .node)) xs) h in
+      go (lookup-there xs s) (same s (x .name)) m (p .0) (p .1)
     where
       go : (memberList s (map (λ (y : Binding). y .name) xs) ≡ true → all (λ (y : Binding). isNode b (y .node)) xs ≡ true → isNode b (lookup xs s) ≡ true)
           → (t : Bool) → t || memberList s (map (λ (y : Binding). y .name) xs) ≡ true → isNode b (x .node) ≡ true
@@ -159,14 +155,13 @@ all-known declared (u ∷ us) e = go (memberList (u .name) declared) (all-known 
     go : (t : Bool) → (firstOutside declared us ≡ none → all (λ (v : Mention). memberList (v .name) declared) us ≡ true)
         → cond t (firstOutside declared us) (some (u .place)) ≡ none → t && all (λ (v : Mention). memberList (v .name) declared) us ≡ true
     go true rec h = rec h
-    go false rec h = none-not-some h
+    go false rec h = absurd (Option·some-ne-none _ h)
 
 known-parts : (declared : List Name) (us vs : List Mention) → Known declared (us ++ vs) → Known declared us × Known declared vs
 unfolding Known
 known-parts declared us vs h =
     let p : Mention → Bool = λ u. memberList (u .name) declared in
-    let e : all p us && all p vs ≡ true = sym (all-append p us vs) ∙ h in
-    (and-left (all p us) (all p vs) e, and-right (all p us) (all p vs) e)
+    and-parts (all p us) (all p vs) (sym (all-append p us vs) ∙ h)
 
 -- the names in never lines, pair by pair
 module _ (inputs : List Name) where
@@ -218,20 +213,20 @@ module _ (b : Block) (names : List Binding) (there : BoundThere b names) where
     term-fits (literal v) depth at first l k h = refl
     term-fits (apply kind ts) zero at first l k h = absurd (false≢true l)
     term-fits (apply kind ts) (suc depth) at first l k h =
-        let legal = and-left (isKind kind && arityFits kind (termCount ts)) (isLegalTerms ts depth) l in
-        let inner = terms-fit ts depth _ first (and-right (isKind kind && arityFits kind (termCount ts)) (isLegalTerms ts depth) l) k (omega arith) in
+        let legal = and-parts (isKind kind && arityFits kind (termCount ts)) (isLegalTerms ts depth) l in
+        let inner = terms-fit ts depth _ first (legal .1) k (omega arith) in
         let own = terms-operands ts _ first k (omega arith) in
         all-append (gateFits b) (termsGates ts names first) (record { kind = kind; operands = termsNodes ts names first } ∷ [])
-        ∙ rw (inner, nodes-count ts first, legal, own) refl
+        ∙ rw (inner, nodes-count ts first, legal .0, own) refl
 
     terms-fit : (ts : Terms) (depth at first : ℕ) → isLegalTerms ts depth ≡ true → Declares (termsMentions ts at) → first + gatesInside ts ≤ gateCount b
         → all (gateFits b) (termsGates ts names first) ≡ true
     terms-fit nil depth at first l k h = refl
     terms-fit (cons t ts) depth at first l k h =
         let p = known-parts _ _ _ k in
+        let q = and-parts (isLegalTerm t depth) (isLegalTerms ts depth) l in
         all-append (gateFits b) (termGates t names first) (termsGates ts names (first + gatesIn t))
-        ∙ and-intro _ _ (term-fits t depth _ first (and-left (isLegalTerm t depth) (isLegalTerms ts depth) l) (p .0) (omega arith))
-        (terms-fit ts depth _ (first + gatesIn t) (and-right (isLegalTerm t depth) (isLegalTerms ts depth) l) (p .1) (omega arith))
+        ∙ and-intro _ _ (term-fits t depth _ first (q .0) (p .0) (omega arith)) (terms-fit ts depth _ (first + gatesIn t) (q .1) (p .1) (omega arith))
 
   line-fits : (gs : List GateLine) (at first : ℕ) → all isLegalGate gs ≡ true → Declares (mentions printGate operandMentions gs at)
       → first + sum (map lineGates gs) ≤ gateCount b → all (gateFits b) (linesGates gs names first) ≡ true
@@ -239,11 +234,11 @@ module _ (b : Block) (names : List Binding) (there : BoundThere b names) where
   line-fits [] at first l k h = refl
   line-fits (g ∷ gs) at first l k h =
       let p = known-parts _ _ _ k in
-      let own = and-left (isLegalGate g) (all isLegalGate gs) l in
-      let term = and-right (isNodeName (g .name)) (isLegalTerm (apply (g .kind) (g .terms)) maxDepth) own in
+      let q = and-parts (isLegalGate g) (all isLegalGate gs) l in
+      let term = and-right (isNodeName (g .name)) (isLegalTerm (apply (g .kind) (g .terms)) maxDepth) (q .0) in
       all-append (gateFits b) (termGates (apply (g .kind) (g .terms)) names first) (linesGates gs names (first + lineGates g))
       ∙ and-intro _ _ (term-fits (apply (g .kind) (g .terms)) maxDepth _ first term (p .0) (omega arith))
-      (line-fits gs _ (first + lineGates g) (and-right (isLegalGate g) (all isLegalGate gs) l) (p .1) (omega arith))
+      (line-fits gs _ (first + lineGates g) (q .1) (p .1) (omega arith))
 
   shown-there : (os : List OutputLine) (at : ℕ) → Declares (mentions printOutput shownMention os at)
       → all (λ (o : OutputLine). isNode b (lookup names (o .shown))) os ≡ true
@@ -304,58 +299,28 @@ bound-names t =
 
 -- ---- the theorem
 
-record Within (t : Tree) : Type 0 where
-  inputs : length (t .inputs) ≤ maxInputs
-  nevers : length (t .nevers) ≤ maxNevers
-  gates : sum (map lineGates (t .gates)) ≤ maxGates
-  outputs : length (t .outputs) ≤ maxOutputs
-
-within-limits : (t : Tree) → isOverLimit t ≡ false → Within t
-unfolding isOverLimit
-within-limits t h =
-    let i = leb (length (t .inputs)) maxInputs in
-    let g = leb (sum (map lineGates (t .gates))) maxGates in
-    let o = leb (length (t .outputs)) maxOutputs in
-    let l = leb (length (t .nevers)) maxNevers in
-    let e = not-false (i && l && g && o) h in
-    let d = and-left (i && l && g) o e in
-    let c = and-left (i && l) g d in
-    record {
-      inputs = leb-true _ _ (and-left i l c);
-      nevers = leb-true _ _ (and-right i l c);
-      gates = leb-true _ _ (and-right (i && l) g d);
-      outputs = leb-true _ _ (and-right (i && l && g) o e);
-    }
-
 module _ (t : Tree) (legal : isLegalTree t ≡ true) (within : isOverLimit t ≡ false) (unrepeated : firstDuplicate t ≡ none)
     (declared : firstUndeclared t ≡ none) where
-  -- the lines before the outputs, and before the gates
-  legal-front : all isPlainName (t .inputs) && all isLegalNever (t .nevers) && all isLegalGate (t .gates) ≡ true
-  unfolding isLegalTree
-  legal-front = and-left _ (all isLegalOutput (t .outputs)) legal
+  -- the lines are legal, sort by sort
+  record Legal : Type 0 where
+    inputs : all isPlainName (t .inputs) ≡ true
+    nevers : all isLegalNever (t .nevers) ≡ true
+    gates : all isLegalGate (t .gates) ≡ true
+    ports : all (λ (o : OutputLine). isPlainName (o .port)) (t .outputs) ≡ true
 
-  legal-first : all isPlainName (t .inputs) && all isLegalNever (t .nevers) ≡ true
-  legal-first = and-left _ (all isLegalGate (t .gates)) legal-front
-
-  legal-inputs : all isPlainName (t .inputs) ≡ true
-  legal-inputs = and-left _ (all isLegalNever (t .nevers)) legal-first
-
-  legal-nevers : all isLegalNever (t .nevers) ≡ true
-  legal-nevers = and-right (all isPlainName (t .inputs)) _ legal-first
-
-  legal-gates : all isLegalGate (t .gates) ≡ true
-  legal-gates = and-right (all isPlainName (t .inputs) && all isLegalNever (t .nevers)) _ legal-front
-
-  legal-ports : all (λ (o : OutputLine). isPlainName (o .port)) (t .outputs) ≡ true
+  lines : Legal
   unfolding isLegalTree isLegalOutput
-  legal-ports = go (t .outputs) (and-right (all isPlainName (t .inputs) && all isLegalNever (t .nevers) && all isLegalGate (t .gates))
-      (all isLegalOutput (t .outputs)) legal)
-    where
-      go : (os : List OutputLine) → all isLegalOutput os ≡ true → all (λ (o : OutputLine). isPlainName (o .port)) os ≡ true
-      go [] h = refl
-      go (o ∷ os) h =
-          and-intro _ _ (and-left (isPlainName (o .port)) (isNodeName (o .shown)) (and-left (isLegalOutput o) (all isLegalOutput os) h))
-          (go os (and-right (isLegalOutput o) (all isLegalOutput os) h))
+  lines =
+      let i = all isPlainName (t .inputs) in
+      let n = all isLegalNever (t .nevers) in
+      let g = all isLegalGate (t .gates) in
+      let e = and-parts (i && n && g) (all isLegalOutput (t .outputs)) legal in
+      let d = and-parts (i && n) g (e .0) in
+      let c = and-parts i n (d .0) in
+      let named : OutputLine → Bool = λ o. isPlainName (o .port) in
+      let shows : OutputLine → Bool = λ o. isNodeName (o .shown) in
+      let ports = and-left (all named (t .outputs)) (all shows (t .outputs)) (sym (all-and named shows (t .outputs)) ∙ e .1) in
+      record { inputs = c .0; nevers = c .1; gates = d .1; ports = ports }
 
   count-is : gateCount (blockOf t) ≡ sum (map lineGates (t .gates))
   unfolding blockOf
@@ -393,11 +358,11 @@ module _ (t : Tree) (legal : isLegalTree t ≡ true) (within : isOverLimit t ≡
                   (λ (o : OutputLine). record { port = o .port; node = lookup (bindings t) (o .shown) }),
             );
         fewNevers = omega (arith, w .nevers, length-map (t .nevers) (assignmentOf (t .inputs)));
-        inputNames = legal-inputs;
+        inputNames = lines .inputs;
         inputsDistinct = inputs-distinct t unrepeated;
-        neversFit = nevers-fit (blockOf t) (t .nevers) legal-nevers nevers-known;
-        gatesFit = line-fits (blockOf t) (bindings t) bound-there (t .gates) _ 0 legal-gates (k .0) (omega (arith, count-is));
-        portNames = all-map _ _ (t .outputs) ∙ legal-ports;
+        neversFit = nevers-fit (blockOf t) (t .nevers) (lines .nevers) nevers-known;
+        gatesFit = line-fits (blockOf t) (bindings t) bound-there (t .gates) _ 0 (lines .gates) (k .0) (omega (arith, count-is));
+        portNames = all-map _ _ (t .outputs) ∙ lines .ports;
         portsDistinct = ap distinct (map-map _ _ (t .outputs)) ∙ ports-distinct t unrepeated;
         nodesThere = all-map _ _ (t .outputs) ∙ shown-there (blockOf t) (bindings t) bound-there (t .outputs) _ (k .1);
       }

@@ -6,7 +6,7 @@ use mathlib.Core.List.{List, [], _∷_, _++_, append-nil}
 use native.Mathlib.Nat.{add-zero, add-assoc}
 use native.Mathlib.Numerals.{add-one}
 use native.Mathlib.Omega.{arith}
-use lib.ListN.{length, set, getD, take, length-append}
+use lib.ListN.{length, getD, take, length-append}
 use lib.Seq.{length-sets, set-out, take-suc, length-take-le}
 use Rattle.laws.specs.Lists.{tab, joined}
 use Rattle.laws.proofs.Tests.{eq-or-ne}
@@ -79,6 +79,24 @@ pub short-turn : (f : ℕ → List ℕ) (i count : ℕ) {text : List ℕ} {at : 
 short-turn f i count l h a =
     let grow = pieces-grow f (suc i) count (omega arith) in
     record { small = omega (arith, ap length (pieces-more f i), length-append (pieces f i) (f i), h .small, a .endIs) }
+
+-- the invariant of such a loop: i pieces of `count` are there
+pub record PiecesPut (f : ℕ → List ℕ) (count : ℕ) (text : List ℕ) (at : ℕ) (text′ : List ℕ) (end i : ℕ) : Type 0 where
+  pub within : i ≤ count
+  pub there : Appended (pieces f i) text at text′ end
+
+pub put-none : {f : ℕ → List ℕ} {count : ℕ} {text : List ℕ} {at : ℕ} → PiecesPut f count text at text at 0
+put-none {f} {count} {text} {at} = record { within = omega arith; there = pieces-start f text at }
+
+module _ {f : ℕ → List ℕ} {count : ℕ} {text : List ℕ} {at : ℕ} {text₁ : List ℕ} {end₁ i : ℕ} (p : PiecesPut f count text at text₁ end₁ i) where
+  pub put-short : i < count → Short (pieces f count) at → Short (f i) end₁
+  put-short l h = short-turn f i count l h (p .there)
+
+  pub put-more : {text₂ : List ℕ} {end₂ : ℕ} → i < count → Appended (f i) text₁ end₁ text₂ end₂ → PiecesPut f count text at text₂ end₂ (i + 1)
+  put-more l a = record { within = omega arith; there = pieces-turn f i (p .there) a }
+
+  pub put-every : count ≤ i → Appended (pieces f count) text at text₁ end₁
+  put-every h = let all : i ≡ count = omega (arith, p .within) in rw (← all) (p .there)
 
 -- ---- the bytes of a slice in a loop
 

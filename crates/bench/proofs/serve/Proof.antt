@@ -17,6 +17,10 @@ Inv-loop text₀ words₀ line₀ out₀ state₀ more₀ turns₀ text words li
 abbrev μ-loop : tie.MeasureT-loop
 μ-loop text₀ words₀ line₀ out₀ state₀ more₀ turns₀ text words line out state more turns = turns
 
+-- what was served, from the turn's end
+abbrev served : tie.After-slice-known8 Inv-loop μ-loop → tie.After-serve-some Inv-loop μ-loop
+served c = c .before .before .before .before .before .before .before .before
+
 start-requires : tie.Need-start-requires Inv-loop μ-loop
 start-requires c κs = search needs
 
@@ -35,7 +39,7 @@ loop-less : tie.Need-loop-less Inv-loop μ-loop
 loop-less c = omega arith
 
 loop-again : tie.Need-loop-again Inv-loop μ-loop
-loop-again c = (c .before .before .before .before .before .before .before .before .serve-some .ensures, omega arith, omega arith, omega arith, omega arith)
+loop-again c = (served c .serve-some .ensures, omega arith, omega arith, omega arith, omega arith)
 
 finish-requires : tie.Need-finish-requires Inv-loop μ-loop
 finish-requires c κs = c .before .before .before .before .before .loop .inv .0

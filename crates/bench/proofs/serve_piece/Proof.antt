@@ -2,17 +2,14 @@
 -- Assumes nothing.
 use Rattle.bench.proofs.serve_piece.Statement.{statement}
 use Rattle.bench.proofs.serve_piece.Tie as tie
-use Prim.Native.Nat.{ℕ, _≤_, _-_}
-use mathlib.Core.Path.{_≡_, refl, sym}
-use mathlib.Core.List.{List}
+use Prim.Native.Nat.{_≤_, _-_}
+use mathlib.Core.Path.{_≡_, refl, sym, ap, _∙_}
 use native.Mathlib.Omega.{arith}
 use borrow.Author.Needs.{needs}
-use lib.ListN.{length, take, drop, length-take, length-drop}
+use lib.ListN.{length, take, drop, length-drop}
 use lib.Seq.{length-take-le}
+use Rattle.laws.proofs.Elements.{rest-is-drop}
 use Rattle.session.specs.Session.{Ready}
-
-part-length : (piece : List ℕ) (at : ℕ) → at ≤ length piece → length (take (length piece - at) (drop at piece)) ≡ length piece - at
-part-length piece at le = simp (length-take, length-drop) (omega arith)
 
 abbrev Inv-loop : tie.InvT-loop
 Inv-loop piece text₀ words₀ line₀ out₀ state₀ at₀ text words line out state at =
@@ -21,6 +18,23 @@ Inv-loop piece text₀ words₀ line₀ out₀ state₀ at₀ text words line ou
 
 abbrev μ-loop : tie.MeasureT-loop
 μ-loop piece text₀ words₀ line₀ out₀ state₀ at₀ text words line out state at = length piece - at
+
+-- what was fed, from the answers' write; the loop's head, from there; the function's entry, from the head
+abbrev fed : tie.After-slice-known8 Inv-loop μ-loop → tie.After-feed Inv-loop μ-loop
+fed c = c .before .before .before .before .before .before .before .before
+
+abbrev head : tie.After-feed Inv-loop μ-loop → tie.At-loop Inv-loop μ-loop
+head f = f .before .before .before .before .before .before .before
+
+abbrev start : tie.At-loop Inv-loop μ-loop → tie.Start Inv-loop μ-loop
+start l = l .before .before .before .before .before .before
+
+-- `feed` has all that is left of the piece
+part-length : (l : tie.At-loop Inv-loop μ-loop) → let piece = start l .args .piece .now in
+    length (take (length piece - l .loop .at) (drop (l .loop .at) piece)) ≡ length piece - l .loop .at
+part-length l =
+    let piece = start l .args .piece .now in
+    ap length (rest-is-drop piece (l .loop .at)) ∙ length-drop (l .loop .at) piece
 
 loop-holds : tie.Need-loop-holds Inv-loop μ-loop
 loop-holds c = (omega arith, c .before .before .before .before .before .pre, refl, refl, refl, refl)
@@ -38,38 +52,34 @@ feed-requires : tie.Need-feed-requires Inv-loop μ-loop
 feed-requires c κs = c .before .before .before .before .before .before .loop .inv .1
 
 slice-reshare-prefix-write-all : tie.Need-slice-reshare-prefix-write-all Inv-loop μ-loop
-slice-reshare-prefix-write-all c = c .before .before .before .before .before .before .before .before .feed .ensures .progress .output .within
+slice-reshare-prefix-write-all c = fed c .feed .ensures .progress .output .within
 
 slice-aggregate-write-all : tie.Need-slice-aggregate-write-all Inv-loop μ-loop
-slice-aggregate-write-all c =
-    sym (length-take-le _ _ (c .before .before .before .before .before .before .before .before .before .feed .ensures .progress .output .within))
+slice-aggregate-write-all c = sym (length-take-le _ _ (fed (c .before) .feed .ensures .progress .output .within))
 
 write-all-requires : tie.Need-write-all-requires Inv-loop μ-loop
 write-all-requires c κs = search needs
 
 add-at : tie.Need-add-at Inv-loop μ-loop
 add-at c =
-    let l = c .before .before .before .before .before .before .before .before .before .before .before .before .before .before .before .before .before .before in
-    let fed = c .before .before .before .before .before .before .before .before .before .before .before .feed in
-    let part = part-length (l .before .before .before .before .before .before .args .piece .now) (l .loop .at) (l .loop .inv .0) in
-    omega (arith, part, fed .ensures .progress .within)
+    let f = fed (c .before .before .before) in
+    let l = head f in
+    let part = part-length l in
+    omega (arith, part, l .loop .inv .0, f .feed .ensures .progress .within)
 
 loop-less : tie.Need-loop-less Inv-loop μ-loop
 loop-less c =
-    let l = c .before .before .before .before .before .before .before .before .before .before .before .before .before .before .before .before .before .before in
-    let fed = c .before .before .before .before .before .before .before .before .before .before .before .feed in
-    let part = part-length (l .before .before .before .before .before .before .args .piece .now) (l .loop .at) (l .loop .inv .0) in
-    let more = c .before .before .before .before .before .before .before .before .before .before .before .before .before .before .before .before .before
-    .loop-test .taken in
-    let moved = fed .ensures .moves (omega (arith, part, more)) in
-    omega (arith, part, more, moved, fed .ensures .progress .within)
+    let f = fed (c .before .before .before) in
+    let part = part-length (head f) in
+    let more = f .before .before .before .before .before .before .loop-test .taken in
+    let moved = f .feed .ensures .moves (omega (arith, part, more)) in
+    omega (arith, part, more, moved, f .feed .ensures .progress .within)
 
 loop-again : tie.Need-loop-again Inv-loop μ-loop
 loop-again c =
-    let l = c .before .before .before .before .before .before .before .before .before .before .before .before .before .before .before .before .before .before in
-    let fed = c .before .before .before .before .before .before .before .before .before .before .before .feed in
-    let part = part-length (l .before .before .before .before .before .before .args .piece .now) (l .loop .at) (l .loop .inv .0) in
-    (omega (arith, part, fed .ensures .progress .within), fed .ensures .progress .ready, omega arith, omega arith, omega arith, omega arith)
+    let f = fed (c .before .before .before) in
+    let part = part-length (head f) in
+    (omega (arith, part, f .feed .ensures .progress .within), f .feed .ensures .progress .ready, omega arith, omega arith, omega arith, omega arith)
 
 same-length : tie.Need-same-length Inv-loop μ-loop
 same-length c = omega arith

@@ -85,7 +85,8 @@ put-brought-requires c κs =
     let a = start (words-test w) .args in
     let old = a .old .now in
     let long = whole-long old (whole w) in
-    (long, omega (arith, ltb-false (length (a .block .now)) (length (brought old)) (passed-false _ NoRoom (room-told t) (e .enum-told3 .given .1)), length-brought old long))
+    let room = ltb-false (length (a .block .now)) (length (brought old)) (passed-false _ NoRoom (room-told t) (e .enum-told3 .given .1)) in
+    (long, omega (arith, room, length-brought old long))
 
 same-length : tie.Need-same-length
 same-length c = search needs

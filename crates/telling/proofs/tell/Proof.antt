@@ -9,6 +9,22 @@ use Rattle.telling.proofs.tell.Tie as tie
 use Rattle.writing.proofs.Appending.{appended-then}
 use Rattle.telling.proofs.Lines.{toldLine, number-short, line-told}
 
+-- what stands behind a piece, from what stands behind the next one; and the two numbers, from the first piece
+abbrev numbers : tie.After-put-all → tie.After-detail-of
+numbers f = f .before .before .before
+
+abbrev first : tie.After-put-decimal → tie.After-put-all
+first f = f .before .before .before .before
+
+abbrev second : tie.After-put-all2 → tie.After-put-decimal
+second f = f .before .before .before .before .before
+
+abbrev third : tie.After-put-decimal2 → tie.After-put-all2
+third f = f .before .before .before .before
+
+abbrev fourth : tie.After-put-all3 → tie.After-put-decimal2
+fourth f = f .before .before .before .before .before
+
 -- neither number has more than 20 digits, so every end is a small number
 digits : (c : tie.After-detail-of) → (length (decimal (c .before .number-of .result)) ≤ 20) × (length (decimal (c .detail-of .result)) ≤ 20)
 digits c = (number-short (c .before .number-of .result) (c .before .number-of .ok), number-short (c .detail-of .result) (c .detail-of .ok))
@@ -27,60 +43,39 @@ put-all-requires c κs = search needs
 
 put-decimal-requires : tie.Need-put-decimal-requires
 put-decimal-requires c κs =
-    let few = digits (c .before .before .before .before .before .before) in
-    record { small = omega (arith, few .0, few .1, c .before .before .before .put-all .ensures .endIs) }
+    let f = c .before .before .before in
+    let few = digits (numbers f) in
+    record { small = omega (arith, few .0, few .1, f .put-all .ensures .endIs) }
 
 slice-aggregate-put-all-2 : tie.Need-slice-aggregate-put-all-2
 slice-aggregate-put-all-2 c = search needs
 
 put-all-requires-2 : tie.Need-put-all-requires-2
 put-all-requires-2 c κs =
-    let few = digits (c .before .before .before .before .before .before .before .before .before .before .before) in
-    record {
-      small = omega (
-        arith,
-        few .0,
-        few .1,
-        c .before .before .before .before .before .before .before .before .put-all .ensures .endIs,
-        c .before .before .before .before .put-decimal .ensures .endIs,
-      );
-    }
+    let s = c .before .before .before .before in
+    let few = digits (numbers (first s)) in
+    record { small = omega (arith, few .0, few .1, first s .put-all .ensures .endIs, s .put-decimal .ensures .endIs) }
 
 put-decimal-requires-2 : tie.Need-put-decimal-requires-2
 put-decimal-requires-2 c κs =
-    let few = digits (c .before .before .before .before .before .before .before .before .before .before .before .before .before .before .before) in
-    record {
-      small = omega (
-        arith,
-        few .0,
-        few .1,
-        c .before .before .before .before .before .before .before .before .before .before .before .before .put-all .ensures .endIs,
-        c .before .before .before .before .before .before .before .before .put-decimal .ensures .endIs,
-        c .before .before .before .put-all2 .ensures .endIs,
-      );
-    }
+    let t = c .before .before .before in
+    let s = second t in
+    let few = digits (numbers (first s)) in
+    let e = first s .put-all .ensures .endIs in
+    record { small = omega (arith, few .0, few .1, e, s .put-decimal .ensures .endIs, t .put-all2 .ensures .endIs) }
 
 slice-aggregate-put-all-3 : tie.Need-slice-aggregate-put-all-3
 slice-aggregate-put-all-3 c = search needs
 
 put-all-requires-3 : tie.Need-put-all-requires-3
 put-all-requires-3 c κs =
-    let few = digits
-    (c .before .before .before .before .before .before .before .before .before .before .before .before .before .before .before .before .before .before
-    .before .before) in
-    record {
-      small = omega (
-        arith,
-        few .0,
-        few .1,
-        c .before .before .before .before .before .before .before .before .before .before .before .before .before .before .before
-            .before .before .put-all .ensures .endIs,
-        c .before .before .before .before .before .before .before .before .before .before .before .before .before
-            .put-decimal .ensures .endIs,
-        c .before .before .before .before .before .before .before .before .put-all2 .ensures .endIs,
-        c .before .before .before .before .put-decimal2 .ensures .endIs,
-      );
-    }
+    let d = c .before .before .before .before in
+    let t = third d in
+    let s = second t in
+    let few = digits (numbers (first s)) in
+    let e = first s .put-all .ensures .endIs in
+    let e₂ = s .put-decimal .ensures .endIs in
+    record { small = omega (arith, few .0, few .1, e, e₂, t .put-all2 .ensures .endIs, d .put-decimal2 .ensures .endIs) }
 
 same-length : tie.Need-same-length
 same-length c = search needs
@@ -88,23 +83,15 @@ same-length c = search needs
 returns : tie.Need-returns
 unfolding toldLine
 returns c =
-    let a = c .before .before .before .before .before .before .before .before .before .before .before .before .before .before .before .before .before
-    .before .before .before .before .before .before .before .before .before .args in
-    line-told (a .why) (a .out .now) _ _
-    (c .before .before .before .before .before .before .before .before .before .before .before .before .before .before .before .before .before .before
-    .before .before .before .before .before .before .before .before .pre) (c .before .before .before .before .before .before .before .before .before
-    .before .before .before .before .before .before .before .before .before .before .before .before .before .before .before .number-of .ensures) (c
-    .before .before .before .before .before .before .before .before .before .before .before .before .before .before .before .before .before .before
-    .before .before .before .before .before .detail-of .ensures) (c .before .before .before .before .before .before .before .before .before .before
-    .before .before .before .before .before .before .before .before .before .before .before .before .before .before .number-of .ok) (c .before .before
-    .before .before .before .before .before .before .before .before .before .before .before .before .before .before .before .before .before .before
-    .before .before .before .detail-of .ok)
-    (appended-then
-    (c .before .before .before .before .before .before .before .before .before .before .before .before .before .before .before .before .before .before
-    .before .before .put-all .ensures) (appended-then
-    (c .before .before .before .before .before .before .before .before .before .before .before .before .before .before .before .before .put-decimal
-    .ensures) (appended-then (c .before .before .before .before .before .before .before .before .before .before .before .put-all2 .ensures)
-    (appended-then (c .before .before .before .before .before .before .before .put-decimal2 .ensures) (c .before .before .put-all3 .ensures)))))
+    let e = c .before .before in
+    let d = fourth e in
+    let t = third d in
+    let s = second t in
+    let n = numbers (first s) in
+    let entry = n .before .before .before in
+    line-told (entry .args .why) (entry .args .out .now) _ _ (entry .pre) (n .before .number-of .ensures) (n .detail-of .ensures)
+    (n .before .number-of .ok) (n .detail-of .ok) (appended-then (first s .put-all .ensures) (appended-then (s .put-decimal .ensures)
+    (appended-then (t .put-all2 .ensures) (appended-then (d .put-decimal2 .ensures) (e .put-all3 .ensures)))))
 
 pub tell-spec : {M : Type 1} → statement M
 tell-spec =

@@ -4,34 +4,27 @@ use borrow.Author.Needs.{needs}
 use Rattle.form.proofs.lines.input_line.Statement.{statement}
 use Rattle.form.proofs.lines.input_line.Tie as tie
 use mathlib.Core.Bool.{false}
-use Prim.Native.Nat.{_-_}
+use mathlib.Core.List.{List}
+use Prim.Native.Nat.{ℕ}
 use Rattle.laws.specs.Lists.{ascii}
-use Rattle.form.specs.Scan.{scanOf, firstByte, inputReader, inputName, closing}
+use Rattle.form.specs.Scan.{firstByte, inputReader, inputName, closing}
 use Rattle.form.proofs.Shortens.{shortens-name}
-use Rattle.form.proofs.Chain.{At, lent-last, first-bad, first-next, then-bad, then-next, then-last}
+use Rattle.form.proofs.Chain.{Behind, first-bad, first-next, then-bad, then-next, then-last}
 use Rattle.form.proofs.LineSteps.{shortens-word, input-word, input-name}
 
--- behind part 1 of the line
-left-1 : (c : tie.After-known-told)
-    → At (scanOf (inputReader (c .before .before .before .before .before .before .args .s .now)))
-    (c .before .before .before .before .before .before .args .s .now) (c .before .found .given .0 .0) (λ t. scanOf (inputName t))
-left-1 c =
-    let at-word = c .before .before .before in
-    let start = at-word .before .before .before in
-    first-next input-word (shortens-word (ascii "in ")) (start .args .s .now) (at-word .word .ensures) (c .before .found .given .1)
+-- the text, from behind the first part of the line; and the stage behind a part, from behind the next one
+abbrev text : tie.After-known-told → List ℕ
+text c = c .before .before .before .before .before .before .args .s .now
 
--- behind part 2 of the line
-left-2 : (c : tie.After-known-told2) →
-    let earlier = c .before .before .before .before .before .before .before in
-    let start = earlier .before .before .before .before in
-    At (scanOf (inputReader (start .args .s .now))) (start .args .s .now) (c .before .found2 .given .0 .0) (λ t. scanOf (closing t))
-left-2 c =
-    let at-name = c .before .before .before in
-    let stage = at-name .before .before in
-    let b = stage in
-    then-next input-name (shortens-name (firstByte false)) (left-1 b)
-    (lent-last (b .before .found .given .0 .0) (b .before .before .before .before .before .before .args .s .now))
-    (at-name .name .ensures) (c .before .found2 .given .1)
+abbrev first : tie.After-known-told2 → tie.After-known-told
+first c = c .before .before .before .before .before
+
+-- what is left behind each part
+left-1 : (c : tie.After-known-told) → Behind inputReader (text c) (c .before .found .given .0 .0) inputName
+left-1 c = first-next input-word (shortens-word (ascii "in ")) (text c) (c .before .before .before .word .ensures) (c .before .found .given .1)
+
+left-2 : (c : tie.After-known-told2) → Behind inputReader (text (first c)) (c .before .found2 .given .0 .0) closing
+left-2 c = then-next input-name (shortens-name (firstByte false)) (left-1 (first c)) (c .before .before .before .name .ensures) (c .before .found2 .given .1)
 
 slice-aggregate-word : tie.Need-slice-aggregate-word
 slice-aggregate-word c = search needs
@@ -70,12 +63,7 @@ enum-told-2 : tie.Need-enum-told-2
 enum-told-2 c = search needs
 
 returns-2 : tie.Need-returns-2
-returns-2 c =
-    let stage-2 = c .before .before .before .before in
-    let stage = stage-2 in
-    let b = stage in
-    then-bad input-name (left-1 b) (lent-last (b .before .found .given .0 .0) (b .before .before .before .before .before .before .args .s .now))
-    (c .before .before .name .ensures) (c .enum-told2 .given .1)
+returns-2 c = then-bad input-name (left-1 (c .before .before .before .before)) (c .before .before .name .ensures) (c .enum-told2 .given .1)
 
 sub-at-2 : tie.Need-sub-at-2
 sub-at-2 c = left-2 c .within
@@ -96,10 +84,7 @@ word-requires-2 : tie.Need-word-requires-2
 word-requires-2 c κs = search needs
 
 returns-3 : tie.Need-returns-3
-returns-3 c = let b = c .before .before .before in
-    then-last closing (left-2 b)
-    (lent-last (b .before .found2 .given .0 .0)
-    (b .before .before .before .before .before .before .before .before .before .before .before .args .s .now)) (c .word2 .ensures)
+returns-3 c = then-last closing (left-2 (c .before .before .before)) (c .word2 .ensures)
 
 pub input-line-spec : {M : Type 1} → statement M
 input-line-spec =

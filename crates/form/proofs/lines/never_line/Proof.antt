@@ -5,37 +5,31 @@ use Rattle.form.proofs.lines.never_line.Statement.{statement}
 use Rattle.form.proofs.lines.never_line.Tie as tie
 use mathlib.Core.Path.{_≡_}
 use mathlib.Core.List.{List}
-use Prim.Native.Nat.{ℕ, _-_}
-use lib.ListN.{length, take, drop}
+use Prim.Native.Nat.{ℕ}
+use lib.ListN.{length}
 use Rattle.laws.specs.Lists.{ascii}
-use Rattle.form.specs.Scan.{scanOf, wordReader, neverReader, neverEnd}
-use Rattle.form.proofs.Chain.{At, lent-last, lent-last-length, first-bad, first-next, then-bad, then-next, then-last}
+use Rattle.form.specs.Scan.{wordReader, neverReader, neverEnd}
+use Rattle.form.proofs.Chain.{Behind, lent, lent-last-length, first-bad, first-next, then-bad, then-next, then-last}
 use Rattle.form.proofs.LineSteps.{shortens-word, shortens-never-pairs, never-word, never-pairs, never-bound}
 
--- the text at each stage
-abbrev text-1 : tie.After-known-told → List ℕ
-text-1 c = c .before .before .before .before .before .before .args .s .now
+-- the text, from behind the word; and the stage behind the word, from behind the pairs
+abbrev text : tie.After-known-told → List ℕ
+text c = c .before .before .before .before .before .before .args .s .now
 
-abbrev text-2 : tie.After-known-told2 → List ℕ
-text-2 c = text-1 (c .before .before .before .before .before)
+abbrev first : tie.After-known-told2 → tie.After-known-told
+first c = c .before .before .before .before .before
 
--- what is left behind the word and behind the pairs
-left-1 : (c : tie.After-known-told) → At (scanOf (neverReader (text-1 c))) (text-1 c) (c .before .found .given .0 .0) (λ t. scanOf (neverEnd t))
-left-1 c = first-next never-word (shortens-word (ascii "never")) (text-1 c) (c .before .before .before .word .ensures) (c .before .found .given .1)
+-- what is left behind the word and behind the pairs, whose bound is the length of what is lent
+left-1 : (c : tie.After-known-told) → Behind neverReader (text c) (c .before .found .given .0 .0) neverEnd
+left-1 c = first-next never-word (shortens-word (ascii "never")) (text c) (c .before .before .before .word .ensures) (c .before .found .given .1)
 
--- the pairs' bound is the length of what is lent
-lent-is : (c : tie.After-known-told) →
-    let n = c .before .found .given .0 .0 in
-    let at = length (text-1 c) - n in
-    length (take (length (text-1 c) - at) (drop at (text-1 c))) ≡ n
-lent-is c = lent-last-length (c .before .found .given .0 .0) (text-1 c) (left-1 c .within)
+lent-is : (c : tie.After-known-told) → let n = c .before .found .given .0 .0 in length (lent n (text c)) ≡ n
+lent-is c = lent-last-length (c .before .found .given .0 .0) (text c) (left-1 c .within)
 
-left-2 : (c : tie.After-known-told2)
-    → At (scanOf (neverReader (text-2 c))) (text-2 c) (c .before .found2 .given .0 .0) (λ t. scanOf (wordReader (ascii "\n") t))
+left-2 : (c : tie.After-known-told2) → Behind neverReader (text (first c)) (c .before .found2 .given .0 .0) (wordReader (ascii "\n"))
 left-2 c =
-    let b = c .before .before .before .before .before in
-    then-next never-pairs shortens-never-pairs (left-1 b) (lent-last (b .before .found .given .0 .0) (text-1 b))
-    (never-bound _ (b .before .found .given .0 .0) (lent-is b) (c .before .before .before .pairs .ensures)) (c .before .found2 .given .1)
+    let e = never-bound _ (first c .before .found .given .0 .0) (lent-is (first c)) (c .before .before .before .pairs .ensures) in
+    then-next never-pairs shortens-never-pairs (left-1 (first c)) e (c .before .found2 .given .1)
 
 slice-aggregate-word : tie.Need-slice-aggregate-word
 slice-aggregate-word c = search needs
@@ -78,7 +72,7 @@ enum-told-2 c = search needs
 returns-2 : tie.Need-returns-2
 returns-2 c =
     let b = c .before .before .before .before in
-    then-bad never-pairs (left-1 b) (lent-last (b .before .found .given .0 .0) (text-1 b))
+    then-bad never-pairs (left-1 b)
     (never-bound _ (b .before .found .given .0 .0) (lent-is b) (c .before .before .pairs .ensures)) (c .enum-told2 .given .1)
 
 sub-at-2 : tie.Need-sub-at-2
@@ -100,9 +94,7 @@ word-requires-2 : tie.Need-word-requires-2
 word-requires-2 c κs = search needs
 
 returns-3 : tie.Need-returns-3
-returns-3 c =
-    let b = c .before .before .before in
-    then-last (wordReader (ascii "\n")) (left-2 b) (lent-last (b .before .found2 .given .0 .0) (text-2 b)) (c .word2 .ensures)
+returns-3 c = then-last (wordReader (ascii "\n")) (left-2 (c .before .before .before)) (c .word2 .ensures)
 
 pub never-line-spec : {M : Type 1} → statement M
 never-line-spec =

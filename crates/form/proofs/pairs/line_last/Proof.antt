@@ -8,9 +8,9 @@ use mathlib.Core.List.{List}
 use Prim.Native.Nat.{ℕ}
 use Rattle.laws.specs.Lists.{ascii}
 use Rattle.netlist.specs.Parse.{nothingBehind}
-use Rattle.form.specs.Scan.{scanOf, lineLast}
+use Rattle.form.specs.Scan.{lineLast}
 use Rattle.form.proofs.ListFacts.{lastOnes, length-last}
-use Rattle.form.proofs.Chain.{At, first-bad, first-next}
+use Rattle.form.proofs.Chain.{Behind, first-bad, first-next}
 use Rattle.form.proofs.LineSteps.{shortens-word}
 use Rattle.form.proofs.PairSteps.{last-word, nothing-left, something-left}
 
@@ -18,7 +18,7 @@ abbrev text : tie.After-known-told → List ℕ
 text c = c .before .before .before .before .before .before .args .s .now
 
 -- behind the LF
-behind : (c : tie.After-known-told) → At (scanOf (lineLast (text c))) (text c) (c .before .found .given .0 .0) (λ t. scanOf {A = ℕ} (nothingBehind 0 t))
+behind : (c : tie.After-known-told) → Behind {B = ℕ} lineLast (text c) (c .before .found .given .0 .0) (nothingBehind 0)
 behind c = first-next last-word (shortens-word (ascii "\n")) (text c) (c .before .before .before .word .ensures) (c .before .found .given .1)
 
 slice-aggregate-word : tie.Need-slice-aggregate-word

@@ -7,37 +7,32 @@ use mathlib.Core.Bool.{true}
 use mathlib.Core.List.{List}
 use Prim.Native.Nat.{ℕ}
 use Rattle.laws.specs.Lists.{ascii}
-use Rattle.form.specs.Scan.{scanOf, firstByte, pairScan, pairName, pairValue, bitEnd}
+use Rattle.form.specs.Scan.{firstByte, pairScan, pairName, pairValue, bitEnd}
 use Rattle.form.proofs.Shortens.{shortens-name}
-use Rattle.form.proofs.Chain.{At, lent-last, first-bad, first-next, then-bad, then-next, then-last}
+use Rattle.form.proofs.Chain.{Behind, first-bad, first-next, then-bad, then-next, then-last}
 use Rattle.form.proofs.LineSteps.{shortens-word}
 use Rattle.form.proofs.PairSteps.{pair-word, pair-name, pair-value}
 
--- the text at each stage
-abbrev text-1 : tie.After-known-told → List ℕ
-text-1 c = c .before .before .before .before .before .before .args .s .now
+-- the text, from behind the opening bracket; and the stage behind a part, from behind the next one
+abbrev text : tie.After-known-told → List ℕ
+text c = c .before .before .before .before .before .before .args .s .now
 
-abbrev text-2 : tie.After-known-told2 → List ℕ
-text-2 c = text-1 (c .before .before .before .before .before)
+abbrev first : tie.After-known-told2 → tie.After-known-told
+first c = c .before .before .before .before .before
 
-abbrev text-3 : tie.After-known-told3 → List ℕ
-text-3 c = text-2 (c .before .before .before .before .before .before)
+abbrev second : tie.After-known-told3 → tie.After-known-told2
+second c = c .before .before .before .before .before .before
 
 -- what is left behind the opening bracket, the name and the space
-left-1 : (c : tie.After-known-told) → At (scanOf (pairScan (text-1 c))) (text-1 c) (c .before .found .given .0 .0) (λ t. scanOf (pairName t))
-left-1 c = first-next pair-word (shortens-word (ascii " (")) (text-1 c) (c .before .before .before .word .ensures) (c .before .found .given .1)
+left-1 : (c : tie.After-known-told) → Behind pairScan (text c) (c .before .found .given .0 .0) pairName
+left-1 c = first-next pair-word (shortens-word (ascii " (")) (text c) (c .before .before .before .word .ensures) (c .before .found .given .1)
 
-left-2 : (c : tie.After-known-told2) → At (scanOf (pairScan (text-2 c))) (text-2 c) (c .before .found2 .given .0 .0) (λ t. scanOf (pairValue t))
+left-2 : (c : tie.After-known-told2) → Behind pairScan (text (first c)) (c .before .found2 .given .0 .0) pairValue
 left-2 c =
-    let b = c .before .before .before .before .before in
-    then-next pair-name (shortens-name (firstByte true)) (left-1 b) (lent-last (b .before .found .given .0 .0) (text-1 b))
-    (c .before .before .before .name .ensures) (c .before .found2 .given .1)
+    then-next pair-name (shortens-name (firstByte true)) (left-1 (first c)) (c .before .before .before .name .ensures) (c .before .found2 .given .1)
 
-left-3 : (c : tie.After-known-told3) → At (scanOf (pairScan (text-3 c))) (text-3 c) (c .before .found3 .given .0 .0) (λ t. scanOf (bitEnd t))
-left-3 c =
-    let b = c .before .before .before .before .before .before in
-    then-next pair-value (shortens-word (ascii " ")) (left-2 b) (lent-last (b .before .found2 .given .0 .0) (text-2 b))
-    (c .before .before .before .word2 .ensures) (c .before .found3 .given .1)
+left-3 : (c : tie.After-known-told3) → Behind pairScan (text (first (second c))) (c .before .found3 .given .0 .0) bitEnd
+left-3 c = then-next pair-value (shortens-word (ascii " ")) (left-2 (second c)) (c .before .before .before .word2 .ensures) (c .before .found3 .given .1)
 
 slice-aggregate-word : tie.Need-slice-aggregate-word
 slice-aggregate-word c = search needs
@@ -76,9 +71,7 @@ enum-told-2 : tie.Need-enum-told-2
 enum-told-2 c = search needs
 
 returns-2 : tie.Need-returns-2
-returns-2 c =
-    let b = c .before .before .before .before in
-    then-bad pair-name (left-1 b) (lent-last (b .before .found .given .0 .0) (text-1 b)) (c .before .before .name .ensures) (c .enum-told2 .given .1)
+returns-2 c = then-bad pair-name (left-1 (c .before .before .before .before)) (c .before .before .name .ensures) (c .enum-told2 .given .1)
 
 sub-at-2 : tie.Need-sub-at-2
 sub-at-2 c = left-2 c .within
@@ -105,9 +98,7 @@ enum-told-3 : tie.Need-enum-told-3
 enum-told-3 c = search needs
 
 returns-3 : tie.Need-returns-3
-returns-3 c =
-    let b = c .before .before .before .before .before in
-    then-bad pair-value (left-2 b) (lent-last (b .before .found2 .given .0 .0) (text-2 b)) (c .before .before .word2 .ensures) (c .enum-told3 .given .1)
+returns-3 c = then-bad pair-value (left-2 (c .before .before .before .before .before)) (c .before .before .word2 .ensures) (c .enum-told3 .given .1)
 
 sub-at-3 : tie.Need-sub-at-3
 sub-at-3 c = left-3 c .within
@@ -125,9 +116,7 @@ value-end-requires : tie.Need-value-end-requires
 value-end-requires c κs = search needs
 
 returns-4 : tie.Need-returns-4
-returns-4 c =
-    let b = c .before .before in
-    then-last bitEnd (left-3 b) (lent-last (b .before .found3 .given .0 .0) (text-3 b)) (c .value-end .ensures)
+returns-4 c = then-last bitEnd (left-3 (c .before .before)) (c .value-end .ensures)
 
 pub pair-spec : {M : Type 1} → statement M
 pair-spec =

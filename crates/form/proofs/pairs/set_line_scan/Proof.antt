@@ -3,39 +3,32 @@
 use borrow.Author.Needs.{needs}
 use Rattle.form.proofs.pairs.set_line_scan.Statement.{statement}
 use Rattle.form.proofs.pairs.set_line_scan.Tie as tie
-use mathlib.Core.List.{List}
-use Prim.Native.Nat.{ℕ}
 use Rattle.laws.specs.Lists.{ascii}
 use Rattle.netlist.specs.SetLine.{setLineReader}
-use Rattle.form.specs.Scan.{scanOf, lineLast}
-use Rattle.form.proofs.Chain.{At, lent-last, first-bad, first-next, then-bad, then-next, then-last}
+use Rattle.form.specs.Scan.{lineLast}
+use Rattle.form.proofs.Chain.{Behind, first-bad, first-next, then-bad, then-next, then-last}
 use Rattle.form.proofs.LineSteps.{shortens-word}
 use Rattle.form.proofs.PairSteps.{setPairs, set-word, set-pairs, shortens-pairs}
 
--- the text and the greatest number of pairs at each stage
-abbrev text-1 : tie.After-known-told → List ℕ
-text-1 c = c .before .before .before .before .before .before .args .line .now
+-- the function's entry, from behind the word; and the stage behind the word, from behind the pairs
+abbrev start : tie.After-known-told → tie.Start
+start c = c .before .before .before .before .before .before
 
-abbrev most-1 : tie.After-known-told → ℕ
-most-1 c = c .before .before .before .before .before .before .args .most
-
-abbrev text-2 : tie.After-known-told2 → List ℕ
-text-2 c = text-1 (c .before .before .before .before .before)
-
-abbrev most-2 : tie.After-known-told2 → ℕ
-most-2 c = most-1 (c .before .before .before .before .before)
+abbrev first : tie.After-known-told2 → tie.After-known-told
+first c = c .before .before .before .before .before
 
 -- what is left behind the word and behind the pairs
-left-1 : (c : tie.After-known-told)
-    → At (scanOf (setLineReader (most-1 c) (text-1 c))) (text-1 c) (c .before .found .given .0 .0) (λ t. scanOf (setPairs (most-1 c) t))
-left-1 c = first-next (set-word (most-1 c)) (shortens-word (ascii "(set")) (text-1 c) (c .before .before .before .word .ensures) (c .before .found .given .1)
+left-1 : (c : tie.After-known-told) → let a = start c .args in
+    Behind (setLineReader (a .most)) (a .line .now) (c .before .found .given .0 .0) (setPairs (a .most))
+left-1 c =
+    let a = start c .args in
+    first-next (set-word (a .most)) (shortens-word (ascii "(set")) (a .line .now) (c .before .before .before .word .ensures) (c .before .found .given .1)
 
-left-2 : (c : tie.After-known-told2)
-    → At (scanOf (setLineReader (most-2 c) (text-2 c))) (text-2 c) (c .before .found2 .given .0 .0) (λ t. scanOf (lineLast t))
+left-2 : (c : tie.After-known-told2) → let a = start (first c) .args in
+    Behind (setLineReader (a .most)) (a .line .now) (c .before .found2 .given .0 .0) lineLast
 left-2 c =
-    let b = c .before .before .before .before .before in
-    then-next (set-pairs (most-1 b)) (shortens-pairs (most-1 b) 0) (left-1 b) (lent-last (b .before .found .given .0 .0) (text-1 b))
-    (c .before .before .before .pairs .ensures) (c .before .found2 .given .1)
+    let most = start (first c) .args .most in
+    then-next (set-pairs most) (shortens-pairs most 0) (left-1 (first c)) (c .before .before .before .pairs .ensures) (c .before .found2 .given .1)
 
 slice-aggregate-word : tie.Need-slice-aggregate-word
 slice-aggregate-word c = search needs
@@ -78,8 +71,7 @@ enum-told-2 c = search needs
 returns-2 : tie.Need-returns-2
 returns-2 c =
     let b = c .before .before .before .before in
-    then-bad (set-pairs (b .before .before .before .before .before .before .args .most)) (left-1 b) (lent-last (b .before .found .given .0 .0) (text-1 b))
-    (c .before .before .pairs .ensures) (c .enum-told2 .given .1)
+    then-bad (set-pairs (start b .args .most)) (left-1 b) (c .before .before .pairs .ensures) (c .enum-told2 .given .1)
 
 sub-at-2 : tie.Need-sub-at-2
 sub-at-2 c = left-2 c .within
@@ -97,9 +89,7 @@ line-last-requires : tie.Need-line-last-requires
 line-last-requires c κs = search needs
 
 returns-3 : tie.Need-returns-3
-returns-3 c =
-    let b = c .before .before in
-    then-last lineLast (left-2 b) (lent-last (b .before .found2 .given .0 .0) (text-2 b)) (c .line-last .ensures)
+returns-3 c = then-last lineLast (left-2 (c .before .before)) (c .line-last .ensures)
 
 pub set-line-scan-spec : {M : Type 1} → statement M
 set-line-scan-spec =

@@ -37,7 +37,7 @@ use Rattle.netlist.specs.Parse.{nameBytes, termReader, termsReader, exprReader}
 use Rattle.form.specs.Scan.{scanOf}
 use Rattle.form.proofs.Shortens.{shortens-term}
 use Rattle.form.proofs.Continues.{left-short}
-use Rattle.form.proofs.Chain.{At, lent-last, lent-rest, lent-last-length, lent-rest-length, then-bad, then-next, then-last, behind-first}
+use Rattle.form.proofs.Chain.{Behind, lent-rest, lent-last-length, lent-rest-length, then-bad, then-next, then-last, behind-first}
 use Rattle.form.proofs.Operands.{inner, start-there, operand-name, operand-0, operand-1, operand-inner, inner-deepest, inner-other, inner-expression}
 use Rattle.form.proofs.OperandLists.{operandThen, continues-operand, list-full, list-closed, list-needed, list-other, list-more, expression-kind}
 use Rattle.form.proofs.OperandLists.{expression-none}
@@ -110,18 +110,18 @@ operands-claims t = (
   operands.Post,
 )
 
--- behind the kind: the operands are left
-expression-chain : (t : ℕ) (c : expression-lts.After-known-told (expression-claims t) (expression-at t) expression.Post)
-    → At (scanOf
-    (exprReader {A = Term} (termReader (c .before .before .before .before .before .args .depth)) apply
-    (c .before .before .before .before .before .args .s .now)))
-    (c .before .before .before .before .before .args .s .now)
-    (c .before .kind2 .given .0 .1 .0)
-    (λ u. scanOf
-    (termsReader (termReader (c .before .before .before .before .before .args .depth)) (mostOperands (c .before .kind2 .given .0 .0))
-    (fewestOperands (c .before .kind2 .given .0 .0)) u))
+-- an expression's entry, from behind its kind; there the operands are left
+abbrev expression-start : (t : ℕ) → expression-lts.After-known-told (expression-claims t) (expression-at t) expression.Post
+    → expression-lts.Start (expression-claims t) (expression-at t) expression.Post
+expression-start t c = c .before .before .before .before .before
+
+expression-chain : (t : ℕ) (c : expression-lts.After-known-told (expression-claims t) (expression-at t) expression.Post) →
+    let a = expression-start t c .args in
+    let k = c .before .kind2 .given .0 .0 in
+    Behind (exprReader {A = Term} (termReader (a .depth)) apply) (a .s .now) (c .before .kind2 .given .0 .1 .0)
+    (termsReader (termReader (a .depth)) (mostOperands k) (fewestOperands k))
 expression-chain t c =
-    let a = c .before .before .before .before .before .args in
+    let a = expression-start t c .args in
     expression-kind (termReader (a .depth)) apply (a .s .now) (sym (c .before .kind2 .given .1) ∙ c .before .before .before .kind .ensures)
 
 expression-kind-requires : (t : ℕ) → expression-lts.Need-kind-requires (expression-claims t) (expression-at t) expression.Post
@@ -150,31 +150,35 @@ expression-part-operands-end t c = search needs
 
 expression-operands-requires : (t : ℕ) → expression-lts.Need-operands-requires (expression-claims t) (expression-at t) expression.Post
 expression-operands-requires t c κs = let b = c .before .before .before in
-    let s = b .before .before .before .before .before .args .s .now in
+    let start = expression-start t b in
     let n = b .before .kind2 .given .0 .1 .0 in
-    let w : n ≤ length s = expression-chain t b .within in
-    (omega (arith, lent-last-length n s w, b .before .before .before .before .before .pre .0), tt)
+    let w : n ≤ length (start .args .s .now) = expression-chain t b .within in
+    (omega (arith, lent-last-length n (start .args .s .now) w, start .pre .0), tt)
 
 expression-enum-known-left : (t : ℕ) → expression-lts.Need-enum-known-left (expression-claims t) (expression-at t) expression.Post
 expression-enum-known-left t c = search needs
 
 expression-returns : (t : ℕ) → expression-lts.Need-returns (expression-claims t) (expression-at t) expression.Post
 expression-returns t c =
-    let at-most-operands = c .before .before .before in
-    let stage = at-most-operands .before in
-    let b = stage in
-    let s = b .before .before .before .before .before .args .s .now in
-    let e = rw (at-most-operands .most-operands .ensures, c .before .before .fewest-operands .ensures) at (c .operands .ensures) in
-    then-last
-    (termsReader (termReader (b .before .before .before .before .before .args .depth)) (mostOperands (b .before .kind2 .given .0 .0))
-    (fewestOperands (b .before .kind2 .given .0 .0)))
-    (expression-chain t b) (lent-last (b .before .kind2 .given .0 .1 .0) s) e
+    let m = c .before .before .before in
+    let b = m .before in
+    let k = b .before .kind2 .given .0 .0 in
+    then-last (termsReader (termReader (expression-start t b .args .depth)) (mostOperands k) (fewestOperands k)) (expression-chain t b)
+    (rw (m .most-operands .ensures, c .before .before .fewest-operands .ensures) at (c .operands .ensures))
 
 expression-returns-2 : (t : ℕ) → expression-lts.Need-returns-2 (expression-claims t) (expression-at t) expression.Post
 expression-returns-2 t c = let a = c .before .before .before .before .before .args in
     sym (expression-none (termReader (a .depth)) apply (a .s .now) (sym (c .before .left .given .1) ∙ c .before .before .before .kind .ensures))
 
--- what the tests of an operand's first byte tell
+-- an operand's first byte and its entry, from where it is no leaf; and what the tests of that byte tell
+abbrev operand-byte : (t : ℕ) → operand-lts.Else3 (operand-claims t) (operand-at t) operand.Post
+    → operand-lts.After-byte-at (operand-claims t) (operand-at t) operand.Post
+operand-byte t c = c .before .before .before .before
+
+abbrev operand-start : (t : ℕ) → operand-lts.Else3 (operand-claims t) (operand-at t) operand.Post
+    → operand-lts.Start (operand-claims t) (operand-at t) operand.Post
+operand-start t c = operand-byte t c .before .before
+
 start-is : (t : ℕ) (c : operand-lts.After-is-name-start (operand-claims t) (operand-at t) operand.Post)
     → c .is-name-start .result ≡ isNameStart (getD (c .before .before .before .args .s .now) 0 0)
 start-is t c = c .is-name-start .ensures ∙ ap isNameStart (c .before .byte-at .ensures)
@@ -183,14 +187,16 @@ no-start : (t : ℕ) (c : operand-lts.Else1 (operand-claims t) (operand-at t) op
     → isNameStart (getD (c .before .before .before .before .args .s .now) 0 0) ≡ false
 no-start t c = sym (start-is t (c .before)) ∙ c .if1 .left
 
-no-leaf : (t : ℕ) (c : operand-lts.Else3 (operand-claims t) (operand-at t) operand.Post)
-    → scanOf (termReader (c .before .before .before .before .before .before .args .depth) (c .before .before .before .before .before .before .args .s .now))
-    ≡ scanOf (inner (c .before .before .before .before .before .before .args .depth) (c .before .before .before .before .before .before .args .s .now))
+no-leaf : (t : ℕ) (c : operand-lts.Else3 (operand-claims t) (operand-at t) operand.Post) → let a = operand-start t c .args in
+    scanOf (termReader (a .depth) (a .s .now)) ≡ scanOf (inner (a .depth) (a .s .now))
 no-leaf t c =
-    let at-byte-at = c .before .before .before .before in
-    let start = at-byte-at .before .before in
-    let a = start .args in
-    operand-inner (a .depth) (a .s .now) (no-start t (c .before .before)) (at-byte-at .byte-at .ensures) (c .before .if2 .left) (c .if3 .left)
+    let a = operand-start t c .args in
+    operand-inner (a .depth) (a .s .now) (no-start t (c .before .before)) (operand-byte t c .byte-at .ensures) (c .before .if2 .left) (c .if3 .left)
+
+bracket-there : (t : ℕ) (c : operand-lts.Else5 (operand-claims t) (operand-at t) operand.Post) → 0 < length (operand-start t (c .before .before) .args .s .now)
+bracket-there t c =
+    let n = c .before .before in
+    byte-there (operand-start t n .args .s .now) (operand-byte t n .byte-at .ensures) (c .if5 .left) (omega arith)
 
 operand-byte-at-requires : (t : ℕ) → operand-lts.Need-byte-at-requires (operand-claims t) (operand-at t) operand.Post
 operand-byte-at-requires t c κs = search needs
@@ -240,27 +246,21 @@ operand-returns-3 t c =
     sym (operand-1 (a .depth) (a .s .now) (no-start t (c .before .before)) (at-byte-at .byte-at .ensures) (c .before .if2 .left) (c .if3 .taken))
 
 operand-returns-4 : (t : ℕ) → operand-lts.Need-returns-4 (operand-claims t) (operand-at t) operand.Post
-operand-returns-4 t c = let a = c .before .before .before .before .before .before .before .args in
+operand-returns-4 t c =
+    let a = operand-start t (c .before) .args in
     sym (no-leaf t (c .before) ∙ inner-deepest (a .depth) (a .s .now) (c .if4 .taken))
 
 operand-returns-5 : (t : ℕ) → operand-lts.Need-returns-5 (operand-claims t) (operand-at t) operand.Post
 operand-returns-5 t c =
-    let at-byte-at = c .before .before .before .before .before .before in
-    let start = at-byte-at .before .before in
-    let a = start .args in
-    sym (no-leaf t (c .before .before) ∙ inner-other (a .depth) (a .s .now) (c .before .if4 .left) (at-byte-at .byte-at .ensures) (c .if5 .taken))
+    let n = c .before .before in
+    let a = operand-start t n .args in
+    sym (no-leaf t n ∙ inner-other (a .depth) (a .s .now) (c .before .if4 .left) (operand-byte t n .byte-at .ensures) (c .if5 .taken))
 
 operand-sub-expression : (t : ℕ) → operand-lts.Need-sub-expression (operand-claims t) (operand-at t) operand.Post
-operand-sub-expression t c =
-    let at-byte-at = c .before .before .before .before .before .before in
-    let start = at-byte-at .before .before in
-    byte-there (start .args .s .now) (at-byte-at .byte-at .ensures) (c .if5 .left) (omega arith)
+operand-sub-expression t c = bracket-there t c
 
 operand-part-expression-start : (t : ℕ) → operand-lts.Need-part-expression-start (operand-claims t) (operand-at t) operand.Post
-operand-part-expression-start t c =
-    let at-byte-at = c .before .before .before .before .before .before in
-    let start = at-byte-at .before .before in
-    byte-there (start .args .s .now) (at-byte-at .byte-at .ensures) (c .if5 .left) (omega arith)
+operand-part-expression-start t c = bracket-there t c
 
 operand-part-expression-end : (t : ℕ) → operand-lts.Need-part-expression-end (operand-claims t) (operand-at t) operand.Post
 operand-part-expression-end t c = search needs
@@ -269,44 +269,51 @@ operand-sub-expression-2 : (t : ℕ) → operand-lts.Need-sub-expression-2 (oper
 operand-sub-expression-2 t c = omega (arith, c .before .before .if4 .left)
 
 operand-expression-requires : (t : ℕ) → operand-lts.Need-expression-requires (operand-claims t) (operand-at t) operand.Post
-operand-expression-requires t c κs = let b = c .before in
-    let s = b .before .before .before .before .before .before .before .before .args .s .now in
-    let w : 0 < length s = byte-there s (b .before .before .before .before .before .before .byte-at .ensures) (b .if5 .left) (omega arith) in
-    (omega (arith, lent-rest-length s w, b .before .before .before .before .before .before .before .before .pre .0), tt)
+operand-expression-requires t c κs =
+    let b = c .before in
+    let start = operand-start t (b .before .before) in
+    (omega (arith, lent-rest-length (start .args .s .now) (bracket-there t b), bracket-there t b, start .pre .0), tt)
 
 operand-returns-6 : (t : ℕ) → operand-lts.Need-returns-6 (operand-claims t) (operand-at t) operand.Post
-operand-returns-6 t c = let b = c .before .before in
-    let a = b .before .before .before .before .before .before .before .before .args in
+operand-returns-6 t c =
+    let b = c .before .before in
+    let n = b .before .before in
+    let a = operand-start t n .args in
     c .expression .ensures ∙ ap (λ u. scanOf (exprReader {A = Term} (termReader (a .depth - 1)) apply u)) (rest-is-drop (a .s .now) 1)
-    ∙ sym (no-leaf t (b .before .before) ∙ inner-expression (a .depth) (a .s .now) (b .before .if4 .left)
-    (b .before .before .before .before .before .before .byte-at .ensures) (b .if5 .left))
+    ∙ sym (no-leaf t n ∙ inner-expression (a .depth) (a .s .now) (b .before .if4 .left) (operand-byte t n .byte-at .ensures) (b .if5 .left))
 
--- behind a list's space: an operand and the others are left; behind that operand: the others
-space-there : (t : ℕ) (c : operands-lts.Else4 (operands-claims t) (operands-at t) operands.Post)
-    → 0 < length (c .before .before .before .before .before .args .s .now)
-space-there t c = byte-there (c .before .before .before .before .before .args .s .now) (c .before .before .byte-at .ensures) (c .if4 .left) (omega arith)
+-- a list's entry, from behind its space, and the stage there, from behind its first operand; there the others are left
+abbrev operands-start : (t : ℕ) → operands-lts.Else4 (operands-claims t) (operands-at t) operands.Post
+    → operands-lts.Start (operands-claims t) (operands-at t) operands.Post
+operands-start t c = c .before .before .before .before .before
 
-operands-chain : (t : ℕ) (c : operands-lts.Else4 (operands-claims t) (operands-at t) operands.Post)
-    → let a = c .before .before .before .before .before .args in
-    At (scanOf (termsReader (termReader (a .depth)) (a .most) (a .needed) (a .s .now))) (a .s .now) (length (a .s .now) - 1)
-    (λ u. scanOf (operandThen (termReader (a .depth)) (termsReader (termReader (a .depth)) (a .most - 1) (a .needed - 1)) u))
+abbrev operands-space : (t : ℕ) → operands-lts.After-known-told (operands-claims t) (operands-at t) operands.Post
+    → operands-lts.Else4 (operands-claims t) (operands-at t) operands.Post
+operands-space t c = c .before .before .before .before .before
+
+space-there : (t : ℕ) (c : operands-lts.Else4 (operands-claims t) (operands-at t) operands.Post) → 0 < length (operands-start t c .args .s .now)
+space-there t c = byte-there (operands-start t c .args .s .now) (c .before .before .byte-at .ensures) (c .if4 .left) (omega arith)
+
+operands-chain : (t : ℕ) (c : operands-lts.Else4 (operands-claims t) (operands-at t) operands.Post) → let a = operands-start t c .args in
+    Behind (termsReader (termReader (a .depth)) (a .most) (a .needed)) (a .s .now) (length (a .s .now) - 1)
+    (operandThen (termReader (a .depth)) (termsReader (termReader (a .depth)) (a .most - 1) (a .needed - 1)))
 operands-chain t c =
-    let at-if1 = c .before .before .before in
-    let start = at-if1 .before .before in
-    let a = start .args in
+    let a = operands-start t c .args in
     behind-first (a .s .now) (space-there t c)
-    (list-more (termReader (a .depth)) (a .most) (a .needed) (a .s .now) (at-if1 .if1 .left) (c .before .before .byte-at .ensures) (c .before .if2 .left)
-    (c .if4 .left))
+    (list-more (termReader (a .depth)) (a .most) (a .needed) (a .s .now) (c .before .before .before .if1 .left) (c .before .before .byte-at .ensures)
+    (c .before .if2 .left) (c .if4 .left))
 
 operands-chain-2 : (t : ℕ) (c : operands-lts.After-known-told (operands-claims t) (operands-at t) operands.Post)
-    → let a = c .before .before .before .before .before .before .before .before .before .before .args in
-    At (scanOf (termsReader (termReader (a .depth)) (a .most) (a .needed) (a .s .now))) (a .s .now) (c .before .found .given .0 .0)
-    (λ u. scanOf (termsReader (termReader (a .depth)) (a .most - 1) (a .needed - 1) u))
+    → let a = operands-start t (operands-space t c) .args in
+    Behind (termsReader (termReader (a .depth)) (a .most) (a .needed)) (a .s .now) (c .before .found .given .0 .0)
+    (termsReader (termReader (a .depth)) (a .most - 1) (a .needed - 1))
 operands-chain-2 t c =
-    let b = c .before .before .before .before .before in
-    let a = b .before .before .before .before .before .args in
-    then-next (continues-operand (termReader (a .depth)) (termsReader (termReader (a .depth)) (a .most - 1) (a .needed - 1))) (shortens-term (a .depth))
-    (operands-chain t b) (lent-rest (a .s .now) (space-there t b)) (c .before .before .before .operand .ensures) (c .before .found .given .1)
+    let b = operands-space t c in
+    let a = operands-start t b .args in
+    let rest = termsReader (termReader (a .depth)) (a .most - 1) (a .needed - 1) in
+    then-next (continues-operand (termReader (a .depth)) rest) (shortens-term (a .depth)) (operands-chain t b)
+    (c .before .before .before .operand .ensures ∙ ap (λ u. scanOf (termReader (a .depth) u)) (lent-rest (a .s .now) (space-there t b)))
+    (c .before .found .given .1)
 
 operands-slice-aggregate-word : (t : ℕ) → operands-lts.Need-slice-aggregate-word (operands-claims t) (operands-at t) operands.Post
 operands-slice-aggregate-word t c = search needs
@@ -360,15 +367,10 @@ operands-part-operand-end : (t : ℕ) → operands-lts.Need-part-operand-end (op
 operands-part-operand-end t c = search needs
 
 operands-operand-requires : (t : ℕ) → operands-lts.Need-operand-requires (operands-claims t) (operands-at t) operands.Post
-operands-operand-requires t c κs = let b = c .before in (
-  omega (
-    arith,
-    lent-rest-length (b .before .before .before .before .before .args .s .now) (space-there t b),
-    space-there t b,
-    b .before .before .before .before .before .pre .0,
-  ),
-  tt,
-)
+operands-operand-requires t c κs =
+    let b = c .before in
+    let start = operands-start t b in
+    (omega (arith, lent-rest-length (start .args .s .now) (space-there t b), space-there t b, start .pre .0), tt)
 
 operands-enum-known-found : (t : ℕ) → operands-lts.Need-enum-known-found (operands-claims t) (operands-at t) operands.Post
 operands-enum-known-found t c = search needs
@@ -377,10 +379,12 @@ operands-enum-told : (t : ℕ) → operands-lts.Need-enum-told (operands-claims 
 operands-enum-told t c = search needs
 
 operands-returns-5 : (t : ℕ) → operands-lts.Need-returns-5 (operands-claims t) (operands-at t) operands.Post
-operands-returns-5 t c = let b = c .before .before .before .before in
-    let a = b .before .before .before .before .before .args in
-    then-bad (continues-operand (termReader (a .depth)) (termsReader (termReader (a .depth)) (a .most - 1) (a .needed - 1)))
-    (operands-chain t b) (lent-rest (a .s .now) (space-there t b)) (c .before .before .operand .ensures) (c .enum-told .given .1)
+operands-returns-5 t c =
+    let b = c .before .before .before .before in
+    let a = operands-start t b .args in
+    let rest = termsReader (termReader (a .depth)) (a .most - 1) (a .needed - 1) in
+    then-bad (continues-operand (termReader (a .depth)) rest) (operands-chain t b)
+    (c .before .before .operand .ensures ∙ ap (λ u. scanOf (termReader (a .depth) u)) (lent-rest (a .s .now) (space-there t b))) (c .enum-told .given .1)
 
 operands-sub-at : (t : ℕ) → operands-lts.Need-sub-at (operands-claims t) (operands-at t) operands.Post
 operands-sub-at t c = operands-chain-2 t c .within
@@ -399,26 +403,26 @@ operands-part-operands-end t c = search needs
 
 operands-sub-operands-2 : (t : ℕ) → operands-lts.Need-sub-operands-2 (operands-claims t) (operands-at t) operands.Post
 operands-sub-operands-2 t c =
-    let earlier = c .before .before .before .before .before .before .before in
-    let at-if1 = earlier .before .before .before in
-    omega (arith, at-if1 .if1 .left)
+    let b = operands-space t (c .before .before) in
+    omega (arith, b .before .before .before .if1 .left)
 
 operands-operands-requires : (t : ℕ) → operands-lts.Need-operands-requires (operands-claims t) (operands-at t) operands.Post
-operands-operands-requires t c κs = let b = c .before .before in
-    let d = b .before .before .before .before .before in
-    let s = d .before .before .before .before .before .args .s .now in
+operands-operands-requires t c κs =
+    let b = c .before .before in
+    let d = operands-space t b in
+    let start = operands-start t d in
+    let s = start .args .s .now in
     let n = b .before .found .given .0 .0 in
     let l : n ≤ length s - 1 = rw (lent-rest-length s (space-there t d)) at
-    (left-short (shortens-term (d .before .before .before .before .before .args .depth)) _
-    (sym (b .before .found .given .1) ∙ b .before .before .before .operand .ensures)) in
-    (omega (arith, lent-last-length n s (operands-chain-2 t b .within), space-there t d, d .before .before .before .before .before .pre .0), tt)
+    (left-short (shortens-term (start .args .depth)) _ (sym (b .before .found .given .1) ∙ b .before .before .before .operand .ensures)) in
+    (omega (arith, lent-last-length n s (operands-chain-2 t b .within), space-there t d, start .pre .0), tt)
 
 operands-returns-6 : (t : ℕ) → operands-lts.Need-returns-6 (operands-claims t) (operands-at t) operands.Post
-operands-returns-6 t c = let b = c .before .before .before in
-    let a = b .before .before .before .before .before .before .before .before .before .before .args in
-    let e = rw (c .before .before .one-less .ensures) at (c .operands .ensures) in
+operands-returns-6 t c =
+    let b = c .before .before .before in
+    let a = operands-start t (operands-space t b) .args in
     then-last (termsReader (termReader (a .depth)) (a .most - 1) (a .needed - 1)) (operands-chain-2 t b)
-    (lent-last (b .before .found .given .0 .0) (a .s .now)) e
+    (rw (c .before .before .one-less .ensures) at (c .operands .ensures))
 
 pub +expression+operand+operands-spec : {M : Type 1} → statement M
 +expression+operand+operands-spec =

@@ -15,7 +15,9 @@ gates-of-requires : tie.Need-gates-of-requires
 gates-of-requires c κs = search needs
 
 outputs-behind-requires : tie.Need-outputs-behind-requires
-outputs-behind-requires c κs = let known = c .before .before .before .shared-slice-known in (omega (arith, known .given 0), (omega (arith, known .given 3), omega (arith, known .given 1)))
+outputs-behind-requires c κs =
+    let known = c .before .before .before .shared-slice-known in
+    (omega (arith, known .given 0), (omega (arith, known .given 3), omega (arith, known .given 1)))
 
 returns : tie.Need-returns
 unfolding outputsAt gatesAt neversAt

@@ -1,40 +1,39 @@
 -- `writing::nevers::put_nevers` meets its contract: after i turns the first i lines are appended. Assumes nothing.
-use Prim.Native.Nat.{_-_, _≤_}
-use mathlib.Core.Path.{_≡_}
+use Prim.Native.Nat.{_-_}
 use native.Mathlib.Omega.{arith}
-use Rattle.writing.specs.Pieces.{Appended, pieces, neverLineText}
-use Rattle.writing.proofs.Appending.{appended-length, pieces-start, pieces-turn, short-turn}
+use Rattle.writing.specs.Pieces.{neverLineText}
+use Rattle.writing.proofs.Appending.{appended-length, PiecesPut, put-none, put-short, put-more, put-every}
 use Rattle.writing.proofs.nevers.put_nevers.Statement.{statement}
 use Rattle.writing.proofs.nevers.put_nevers.Tie as tie
 
 abbrev Inv-loop : tie.InvT-loop
-Inv-loop text₀ at words from count end₀ i₀ text end i = (i ≤ count) × Appended (pieces (neverLineText words from) i) text₀ at text end
+Inv-loop text₀ at words from count end₀ i₀ text end i = PiecesPut (neverLineText words from) count text₀ at text end i
 
 abbrev μ-loop : tie.MeasureT-loop
 μ-loop text₀ at words from count end₀ i₀ text end i = count - i
 
+-- the function's entry, from the loop's head
+abbrev start : tie.At-loop Inv-loop μ-loop → tie.Start Inv-loop μ-loop
+start l = l .before .before .before
+
 loop-holds : tie.Need-loop-holds Inv-loop μ-loop
-loop-holds c =
-    let a = c .before .before .args in
-    (omega arith, pieces-start (neverLineText (a .words .now) (a .from)) (a .text .now) (a .at))
+loop-holds c = put-none
 
 mul-put-never : tie.Need-mul-put-never Inv-loop μ-loop
-mul-put-never c = omega (arith, c .before .before .before .before .before .pre .0, c .before .before .loop .inv .0)
+mul-put-never c = omega (arith, start (c .before .before) .pre .0, c .before .loop-test .taken)
 
 add-put-never : tie.Need-add-put-never Inv-loop μ-loop
-add-put-never c = omega (arith, c .before .before .before .before .before .pre .0, c .before .before .loop .inv .0)
+add-put-never c = omega (arith, start (c .before .before) .pre .0, c .before .loop-test .taken)
 
 put-never-requires : tie.Need-put-never-requires Inv-loop μ-loop
 unfolding neverLineText
 put-never-requires c κs =
-    let start = c .before .before .before .before .before in
-    let a = start .args in
-    let l = c .before .before .loop in
-    let short = short-turn (neverLineText (a .words .now) (a .from)) (l .i) (a .count) (c .before .loop-test .taken) (start .pre .1) (l .inv .1) in
-    ((start .pre .0 .0, omega (arith, start .pre .0, l .inv .0)), short)
+    let l = c .before .before in
+    let more = c .before .loop-test .taken in
+    ((start l .pre .0 .0, omega (arith, start l .pre .0, more)), put-short (l .loop .inv) more (start l .pre .1))
 
 add-i : tie.Need-add-i Inv-loop μ-loop
-add-i c = omega (arith, c .before .before .before .before .before .before .before .before .pre .0)
+add-i c = omega (arith, start (c .before .before .before .before .before) .pre .0)
 
 loop-less : tie.Need-loop-less Inv-loop μ-loop
 loop-less c = omega arith
@@ -42,17 +41,14 @@ loop-less c = omega arith
 loop-again : tie.Need-loop-again Inv-loop μ-loop
 unfolding neverLineText
 loop-again c =
-    let a = c .before .before .before .before .before .before .before .before .args in
-    let l = c .before .before .before .before .before .loop in
-    (omega arith, pieces-turn (neverLineText (a .words .now) (a .from)) (l .i) (l .inv .1) (c .before .before .put-never .ensures))
+    let t = c .before .before .before .before in
+    put-more (t .before .loop .inv) (t .loop-test .taken) (c .before .before .put-never .ensures)
 
 same-length : tie.Need-same-length Inv-loop μ-loop
-same-length c = appended-length (c .before .loop .inv .1)
+same-length c = appended-length (c .before .loop .inv .there)
 
 returns : tie.Need-returns Inv-loop μ-loop
-returns c =
-    let all : c .before .loop .i ≡ c .before .before .before .before .args .count = omega arith in
-    rw (← all) (c .before .loop .inv .1)
+returns c = put-every (c .before .loop .inv) (c .loop-test .left)
 
 pub put-nevers-spec : {M : Type 1} → statement M
 put-nevers-spec =

@@ -14,6 +14,10 @@ Inv-loop text₀ at bytes end₀ i₀ text end i = (i ≤ length bytes) × Appen
 abbrev μ-loop : tie.MeasureT-loop
 μ-loop text₀ at bytes end₀ i₀ text end i = length bytes - i
 
+-- the function's entry, from the loop's head
+abbrev start : tie.At-loop Inv-loop μ-loop → tie.Start Inv-loop μ-loop
+start l = l .before .before .before
+
 loop-holds : tie.Need-loop-holds Inv-loop μ-loop
 loop-holds c =
     let a = c .before .before .args in
@@ -24,9 +28,8 @@ shared-slice-read-put c = omega arith
 
 put-requires : tie.Need-put-requires Inv-loop μ-loop
 put-requires c κs =
-    let a = c .before .before .before .before .before .before .args in
-    let l = c .before .before .before .loop in
-    short-byte (a .bytes .now) (l .i) _ (c .before .before .loop-test .taken) (c .before .before .before .before .before .before .pre) (l .inv .1)
+    let l = c .before .before .before in
+    short-byte (start l .args .bytes .now) (l .loop .i) _ (c .before .before .loop-test .taken) (start l .pre) (l .loop .inv .1)
 
 add-i : tie.Need-add-i Inv-loop μ-loop
 add-i c = omega arith
@@ -36,9 +39,9 @@ loop-less c = omega arith
 
 loop-again : tie.Need-loop-again Inv-loop μ-loop
 loop-again c =
-    let a = c .before .before .before .before .before .before .before .before .before .args in
-    let l = c .before .before .before .before .before .before .loop in
-    (omega arith, bytes-turn (a .bytes .now) (l .i) (c .before .before .before .before .before .loop-test .taken) (l .inv .1) (c .before .before .put .ensures))
+    let t = c .before .before .before .before .before in
+    let l = t .before in
+    (omega arith, bytes-turn (start l .args .bytes .now) (l .loop .i) (t .loop-test .taken) (l .loop .inv .1) (c .before .before .put .ensures))
 
 same-length : tie.Need-same-length Inv-loop μ-loop
 same-length c = appended-length (c .before .loop .inv .1)
