@@ -6,6 +6,7 @@ use refusals::reply_of;
 use sheet::record::answer_masks;
 use sheet::reply_to_sheet;
 ghost use mathlib.Core.Path.{_≡_};
+ghost use Prim.Native.Nat.{_≤_};
 ghost use lib.ListN.{length};
 ghost use Rattle.netlist.specs.Answers.{answerOf, Shows};
 ghost use Rattle.netlist.specs.Operations.{read, write, settle, verdict, coverOf, groupsOf};
@@ -102,6 +103,14 @@ pub extern "C" fn unloop_groups(block: &[u16], numbers: &mut [u16]) -> Reply
     ensures { λ r. ⌜ Replies (groupsOf (now (block .entry)) (length (now (numbers .entry)))) (now (numbers .entry)) r (now (numbers .exit)) ⌝ }
 {
     reply_of(groups::groups(block, numbers))
+}
+
+// For tests, no operation: 1 where the block's groups are found with a certificate, 0 where it is torn, has few gates or is left to the slow way.
+#[no_mangle]
+pub extern "C" fn unloop_certified(block: &[u16]) -> usize
+    ensures { λ r. ⌜ r ≤ 1 ⌝ }
+{
+    certified::is_certified(block) as usize
 }
 
 // Render: the rendered block; count: words.

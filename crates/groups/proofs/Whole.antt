@@ -57,7 +57,7 @@ module _ (ws : List ℕ) (whole : isTorn ws ≡ false) where
   unfolding gatesAt neversAt
   near = omega (arith, whole-parts ws whole .fewInputs, whole-parts ws whole .fewNevers)
 
-  gates-ready : GatesReady ws (getD ws 0 0) (getD ws 1 0) (gatesAt (getD ws 0 0) (getD ws 3 0))
+  pub gates-ready : GatesReady ws (getD ws 0 0) (getD ws 1 0) (gatesAt (getD ws 0 0) (getD ws 3 0))
   unfolding gateReads
   gates-ready =
       record {
