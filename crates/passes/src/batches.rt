@@ -65,6 +65,54 @@ fn count_at(
     counted.total
 }
 
+// The same. A group that has as many passes as gates needs no more, whatever the setting.
+fn count_needed(
+    words: &[u16],
+    n: usize,
+    gates: usize,
+    base: usize,
+    members: &[u16],
+    starts: &[u16],
+    g: usize,
+    passes: &mut [u16],
+    total: usize,
+    zeros: &mut [u64],
+    ones: &mut [u64],
+    settled_zeros: &mut [u64],
+    settled_ones: &mut [u64],
+) -> usize
+    requires { ⌜ BatchHeld (now words) n gates base (now zeros) (now ones) × (total ≤ maxCopies) × (g < length (groups (decode (now words)))) ⌝ }
+    requires { ⌜
+        Rooms (decode (now words)) (length (groups (decode (now words)))) (now members) (now starts) (now passes) (now zeros) (now ones)
+        (now «settled_zeros») (now «settled_ones»)
+        × Counting (decode (now words)) (length (groups (decode (now words)))) base g (base + lanesOf n) (now passes) total
+        ⌝ }
+    ensures counted { λ r. ⌜
+        Counting (decode (now (words .entry))) (length (groups (decode (now (words .entry))))) base (g + 1) (base + lanesOf n) (now (passes .exit)) r
+        × SameRest (length (groups (decode (now (words .entry))))) (now (passes .entry)) (now (passes .exit))
+        ⌝ }
+    ensures kept { λ r. ⌜ (now (zeros .exit) ≡ now (zeros .entry)) × (now (ones .exit) ≡ now (ones .entry)) ⌝ }
+{
+    if word_at(starts, g + 1) <= word_at(starts, g) + word_at(passes, g) {
+        return total;
+    }
+    count_at(
+        words,
+        n,
+        gates,
+        base,
+        members,
+        starts,
+        g,
+        passes,
+        total,
+        zeros,
+        ones,
+        settled_zeros,
+        settled_ones,
+    )
+}
+
 // Every group for the settings of the batch at `base`, whose settled pairs `zeros` and `ones` are.
 fn count_groups(
     words: &[u16],
@@ -94,7 +142,7 @@ fn count_groups(
     let mut sum = total;
     let mut g = 0;
     while g < count && sum <= MAX_GATES {
-        sum = count_at(
+        sum = count_needed(
             words,
             n,
             gates,
