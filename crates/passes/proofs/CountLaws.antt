@@ -2,7 +2,7 @@
 --   group-bounds, -size, -part     where a group stands
 --   group-batch, -ready            a group that can be counted
 --   rooms-kept, -counted, held-kept   slices of the same lengths
---   counting-first, -next, -known, -end, -start   one group more, and all of them
+--   counting-first, -next, -known, -end, -start, -full   one group more, and all of them
 --   rest-none, -one, -then         words that did not change
 --   counting-all                   all settings
 -- Assumes nothing.
@@ -35,7 +35,7 @@ use Rattle.agreement.proofs.PassCount.{passes-keep-from, at-enough, enough-from
 use Rattle.lanes.specs.Batches.{lanesOf}
 use Rattle.passes.specs.declared.Counted.{Counted}
 use Rattle.passes.specs.Counting.{Least, GroupBatch, GroupCounted, GroupReady}
-use Rattle.passes.specs.Counting.{Listing, copiesOf, EnoughBelow, Counting, SameRest, Rooms, BatchHeld, AllCounted}
+use Rattle.passes.specs.Counting.{Listing, copiesOf, EnoughBelow, Full, Counting, SameRest, Rooms, BatchHeld, AllCounted}
 
 -- ---- sums over the groups
 
@@ -217,6 +217,20 @@ module _ {b : Block} {count base done next total : ℕ} {passes : List ℕ} (c :
   pub counting-start : {next′ : ℕ} → Counting b count base 0 next′ passes total
   counting-start =
       record { least = c .least; totalIs = c .totalIs; most = c .most; before = c .before; inside = λ few g l. absurd (omega arith) }
+
+-- no group needs more, whatever the setting
+pub counting-full : {b : Block} {count base total : ℕ} {members starts passes : List ℕ} (next : ℕ) → Listing b count members starts
+    → Counting b count base 0 base passes total → Full count starts passes → Counting b count next 0 next passes total
+counting-full {b} {starts = starts} {passes = passes} next listing c full =
+    record {
+      least = c .least;
+      totalIs = c .totalIs;
+      most = c .most;
+      before = λ few g l s bound x.
+          passes-keep-from b (groupAt b g) s (length (groupAt b g)) (getD passes g 0) (omega (arith, group-size listing g l, full g l))
+          (size-settled b g (group-there listing g l) s);
+      inside = λ few g l. absurd (omega arith);
+    }
 
 -- ---- the start
 
