@@ -1,8 +1,8 @@
 -- The passes of all groups, group by group and batch by batch.
---   group-bounds, -part            where a group stands
+--   group-bounds, -size, -part     where a group stands
 --   group-batch, -ready            a group that can be counted
 --   rooms-kept, -counted, held-kept   slices of the same lengths
---   counting-first, -next, -end, -start   one group more, and all of them
+--   counting-first, -next, -known, -end, -start, -full   one group more, and all of them
 --   rest-none, -one, -then         words that did not change
 --   counting-all                   all settings
 -- Assumes nothing.
@@ -31,11 +31,11 @@ use Rattle.netlist.specs.Passes.{areEnough, passCount, copyCount}
 use Rattle.reach.proofs.Order.{groups-not-empty, groups-below}
 use Rattle.reach.proofs.ListFacts.{sum-at}
 use Rattle.agreement.specs.Copies.{groupAt}
-use Rattle.agreement.proofs.PassCount.{passes-keep-from, at-enough, enough-from, passCount-some, passCount-enough, passCount-from}
+use Rattle.agreement.proofs.PassCount.{passes-keep-from, at-enough, enough-from, size-settled, passCount-some, passCount-enough, passCount-from}
 use Rattle.lanes.specs.Batches.{lanesOf}
 use Rattle.passes.specs.declared.Counted.{Counted}
 use Rattle.passes.specs.Counting.{Least, GroupBatch, GroupCounted, GroupReady}
-use Rattle.passes.specs.Counting.{Listing, copiesOf, EnoughBelow, Counting, SameRest, Rooms, BatchHeld, AllCounted}
+use Rattle.passes.specs.Counting.{Listing, copiesOf, EnoughBelow, Full, Counting, SameRest, Rooms, BatchHeld, AllCounted}
 
 -- ---- sums over the groups
 
@@ -78,6 +78,20 @@ pub rest-one : (count : ℕ) (words : List ℕ) (g v : ℕ) → g < count → Sa
 rest-one count words g v l =
     record { long = length-set words g v; rest = λ i h. getD-set-other words g i v 0 (λ e. omega arith) }
 
+-- a group that has as many passes as gates
+pub counting-known : {b : Block} {count base g next total : ℕ} {passes : List ℕ} → Counting b count base g next passes total → g < length (groups b)
+    → length (groupAt b g) ≤ getD passes g 0 → Counting b count base (g + 1) next passes total
+counting-known {b} {g = g} {passes = passes} c l k =
+    record {
+      least = c .least;
+      totalIs = c .totalIs;
+      most = c .most;
+      before = c .before;
+      inside = λ small h m.
+          ⊎-elim (λ (i : h ≡ g). rw i (λ s bound x. passes-keep-from b (groupAt b g) s (length (groupAt b g)) (getD passes g 0) k (size-settled b g l s)))
+          (λ d. c .inside small h (omega arith)) (eq-or-ne h g);
+    }
+
 -- ---- one group
 
 module _ {b : Block} {count : ℕ} {members starts : List ℕ} (listing : Listing b count members starts) (g : ℕ) (l : g < count) where
@@ -91,6 +105,11 @@ module _ {b : Block} {count : ℕ} {members starts : List ℕ} (listing : Listin
 
   pub group-bounds : (from to : ℕ) → from ≡ getD starts g 0 → to ≡ getD starts (g + 1) 0 → (from ≤ to) × (to ≤ length members)
   group-bounds from to e f = rw (e, f) (listing .ordered g l, listing .within g l)
+
+  pub group-size : length (groupAt b g) ≡ getD starts (g + 1) 0 - getD starts g 0
+  group-size =
+      let e = ap length (sym (listing .part g l)) in
+      omega (arith, simp (length-take, length-drop) at e, listing .within g l)
 
   pub group-part : (from to : ℕ) → from ≡ getD starts g 0 → to ≡ getD starts (g + 1) 0 → take (to - from) (drop from members) ≡ groupAt b g
   group-part from to e f = rw (e, f) (listing .part g l)
@@ -198,6 +217,20 @@ module _ {b : Block} {count base done next total : ℕ} {passes : List ℕ} (c :
   pub counting-start : {next′ : ℕ} → Counting b count base 0 next′ passes total
   counting-start =
       record { least = c .least; totalIs = c .totalIs; most = c .most; before = c .before; inside = λ few g l. absurd (omega arith) }
+
+-- no group needs more, whatever the setting
+pub counting-full : {b : Block} {count base total : ℕ} {members starts passes : List ℕ} (next : ℕ) → Listing b count members starts
+    → Counting b count base 0 base passes total → Full count starts passes → Counting b count next 0 next passes total
+counting-full {b} {starts = starts} {passes = passes} next listing c full =
+    record {
+      least = c .least;
+      totalIs = c .totalIs;
+      most = c .most;
+      before = λ few g l s bound x.
+          passes-keep-from b (groupAt b g) s (length (groupAt b g)) (getD passes g 0) (omega (arith, group-size listing g l, full g l))
+          (size-settled b g (group-there listing g l) s);
+      inside = λ few g l. absurd (omega arith);
+    }
 
 -- ---- the start
 

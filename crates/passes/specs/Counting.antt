@@ -3,7 +3,7 @@
 --   Least                    a number of passes of which none is too many
 --   Passed, Kept             the pairs after so many passes, and the settled ones beside them
 --   PassReady, MorePasses, GroupReady, GroupCounted   one group for the settings of a batch
---   Listing, Counting, Rooms, BatchHeld, AllCounted   all groups
+--   Listing, Counting, Full, Rooms, BatchHeld, AllCounted   all groups
 -- Assumes nothing.
 use Prim.Native.Nat.{ℕ, _+_, _-_, _*_, _%_, _≤_, _<_}
 use mathlib.Core.Path.{_≡_}
@@ -144,6 +144,10 @@ pub record Counting (b : Block) (count base done next : ℕ) (passes : List ℕ)
   pub most : total ≤ maxCopies + maxCopies
   pub before : total ≤ maxCopies → (g : ℕ) → g < count → EnoughBelow b (groupAt b g) base (getD passes g 0)
   pub inside : total ≤ maxCopies → (g : ℕ) → g < done → EnoughBelow b (groupAt b g) next (getD passes g 0)
+
+-- each group has as many passes as gates
+abbrev pub Full : ℕ → List ℕ → List ℕ → Type 0
+Full count starts passes = (g : ℕ) → g < count → getD starts (g + 1) 0 ≤ getD starts g 0 + getD passes g 0
 
 -- behind the first `count` words nothing changed
 pub record SameRest (count : ℕ) (entry words : List ℕ) : Type 0 where

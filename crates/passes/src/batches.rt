@@ -8,6 +8,7 @@ use layout::limits::MAX_GATES;
 use layout::read::word_at;
 use verdict::settings::setting_count;
 ghost use mathlib.Core.Path.{_≡_};
+ghost use mathlib.Core.Bool.{true};
 ghost use Prim.Native.Nat.{_+_, _%_, _≤_, _<_};
 ghost use lib.ListN.{length};
 ghost use Rattle.netlist.specs.Limits.{maxCopies};
@@ -16,7 +17,7 @@ ghost use Rattle.netlist.specs.Rounds.{settingCount};
 ghost use Rattle.netlist.specs.Groups.{groups};
 ghost use Rattle.lanes.specs.Batches.{lanesOf};
 ghost use Rattle.batch.specs.Batch.{Decidable};
-ghost use Rattle.passes.specs.Counting.{Counting, SameRest, Rooms, BatchHeld, AllCounted};
+ghost use Rattle.passes.specs.Counting.{Full, Counting, SameRest, Rooms, BatchHeld, AllCounted};
 
 // One group more for the settings of the batch; the copies of all groups.
 fn count_at(
@@ -65,6 +66,54 @@ fn count_at(
     counted.total
 }
 
+// The same. A group that has as many passes as gates needs no more, whatever the setting.
+fn count_needed(
+    words: &[u16],
+    n: usize,
+    gates: usize,
+    base: usize,
+    members: &[u16],
+    starts: &[u16],
+    g: usize,
+    passes: &mut [u16],
+    total: usize,
+    zeros: &mut [u64],
+    ones: &mut [u64],
+    settled_zeros: &mut [u64],
+    settled_ones: &mut [u64],
+) -> usize
+    requires { ⌜ BatchHeld (now words) n gates base (now zeros) (now ones) × (total ≤ maxCopies) × (g < length (groups (decode (now words)))) ⌝ }
+    requires { ⌜
+        Rooms (decode (now words)) (length (groups (decode (now words)))) (now members) (now starts) (now passes) (now zeros) (now ones)
+        (now «settled_zeros») (now «settled_ones»)
+        × Counting (decode (now words)) (length (groups (decode (now words)))) base g (base + lanesOf n) (now passes) total
+        ⌝ }
+    ensures counted { λ r. ⌜
+        Counting (decode (now (words .entry))) (length (groups (decode (now (words .entry))))) base (g + 1) (base + lanesOf n) (now (passes .exit)) r
+        × SameRest (length (groups (decode (now (words .entry))))) (now (passes .entry)) (now (passes .exit))
+        ⌝ }
+    ensures kept { λ r. ⌜ (now (zeros .exit) ≡ now (zeros .entry)) × (now (ones .exit) ≡ now (ones .entry)) ⌝ }
+{
+    if word_at(starts, g + 1) <= word_at(starts, g) + word_at(passes, g) {
+        return total;
+    }
+    count_at(
+        words,
+        n,
+        gates,
+        base,
+        members,
+        starts,
+        g,
+        passes,
+        total,
+        zeros,
+        ones,
+        settled_zeros,
+        settled_ones,
+    )
+}
+
 // Every group for the settings of the batch at `base`, whose settled pairs `zeros` and `ones` are.
 fn count_groups(
     words: &[u16],
@@ -94,7 +143,7 @@ fn count_groups(
     let mut sum = total;
     let mut g = 0;
     while g < count && sum <= MAX_GATES {
-        sum = count_at(
+        sum = count_needed(
             words,
             n,
             gates,
@@ -161,6 +210,70 @@ fn count_batch(
     )
 }
 
+// Has every group as many passes as gates?
+fn are_full(count: usize, starts: &[u16], passes: &[u16]) -> bool
+    ensures { λ r. ⌜ (r ≡ true → Full count (now (starts .entry)) (now (passes .entry))) ⌝ }
+{
+    let mut g = 0;
+    while g < count {
+        if word_at(starts, g) + word_at(passes, g) < word_at(starts, g + 1) {
+            return false;
+        }
+        g += 1;
+    }
+    true
+}
+
+// The same as `count_batch`. Nothing is decided where no group can need more passes.
+fn count_open(
+    words: &[u16],
+    n: usize,
+    gates: usize,
+    order: &[u16],
+    base: usize,
+    count: usize,
+    members: &[u16],
+    starts: &[u16],
+    passes: &mut [u16],
+    total: usize,
+    zeros: &mut [u64],
+    ones: &mut [u64],
+    settled_zeros: &mut [u64],
+    settled_ones: &mut [u64],
+) -> usize
+    requires { ⌜
+        Decidable (now words) n gates (now order) (now zeros) (now ones) × (base % 64 ≡ 0) × (base + lanesOf n ≤ settingCount (decode (now words)))
+        ⌝ }
+    requires { ⌜
+        Rooms (decode (now words)) count (now members) (now starts) (now passes) (now zeros) (now ones) (now «settled_zeros») (now «settled_ones»)
+        × Counting (decode (now words)) count base 0 base (now passes) total
+        ⌝ }
+    ensures { λ r. ⌜
+        Counting (decode (now (words .entry))) count (base + lanesOf n) 0 (base + lanesOf n) (now (passes .exit)) r
+        × SameRest count (now (passes .entry)) (now (passes .exit))
+        ⌝ }
+{
+    if are_full(count, starts, passes) {
+        return total;
+    }
+    count_batch(
+        words,
+        n,
+        gates,
+        order,
+        base,
+        count,
+        members,
+        starts,
+        passes,
+        total,
+        zeros,
+        ones,
+        settled_zeros,
+        settled_ones,
+    )
+}
+
 // Writes each group's passes; the copies of all groups, or a number above the limit where they are too many.
 pub fn count_passes(
     words: &[u16],
@@ -188,7 +301,7 @@ pub fn count_passes(
     let mut total = members.len();
     let mut base = 0;
     while base < settings && total <= MAX_GATES {
-        total = count_batch(
+        total = count_open(
             words,
             n,
             gates,

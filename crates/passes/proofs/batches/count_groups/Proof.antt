@@ -25,7 +25,7 @@ abbrev μ-loop : tie.MeasureT-loop
 abbrev start : tie.At-loop Inv-loop μ-loop → tie.Start Inv-loop μ-loop
 start l = l .before .before .before .before .before .before .before .before .before
 
-abbrev head : tie.After-count-at Inv-loop μ-loop → tie.At-loop Inv-loop μ-loop
+abbrev head : tie.After-count-needed Inv-loop μ-loop → tie.At-loop Inv-loop μ-loop
 head d = d .before .before .before .before .before .before .before .before
 
 loop-holds : tie.Need-loop-holds Inv-loop μ-loop
@@ -33,8 +33,8 @@ loop-holds c =
     let s = c .before .before .before .before .before .before .before .before in
     (omega arith, counting-start (s .pre .1 .1), rest-none _ _, refl, refl, refl, refl)
 
-count-at-requires : tie.Need-count-at-requires Inv-loop μ-loop
-count-at-requires c κs =
+count-needed-requires : tie.Need-count-needed-requires Inv-loop μ-loop
+count-needed-requires c κs =
     let t = c .before .before .before .before .before in
     let l = t .before .before in
     let s = start l in
@@ -60,13 +60,13 @@ loop-again c =
     let s = start l in
     let i = l .loop .inv in
     let is = sym (s .pre .1 .0 .listing .countIs) in
-    let e = rw is at (d .count-at .ensures .0) in
-    let k = d .count-at .kept in (
+    let e = rw is at (d .count-needed .ensures .0) in
+    let k = d .count-needed .kept in (
       omega (arith, d .before .before .before .before .before .before .before .loop-test .taken),
       e .0,
       rest-then (i .2) (e .1),
-      d .count-at .ensures .1 .0 ∙ i .3,
-      d .count-at .ensures .1 .1 ∙ i .4,
+      d .count-needed .ensures .1 .0 ∙ i .3,
+      d .count-needed .ensures .1 .1 ∙ i .4,
       k .1 .1 .1 .1 .1 .1 .1 .1 .1 .1 .1 .0 ∙ i .5,
       k .1 .1 .1 .1 .1 .1 .1 .1 .1 .1 .1 .1 .0 ∙ i .6,
     )
@@ -118,7 +118,7 @@ count-groups-spec =
     Inv-loop
     μ-loop
     loop-holds
-    count-at-requires
+    count-needed-requires
     add-g
     loop-less
     loop-again

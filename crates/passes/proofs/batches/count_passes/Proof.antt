@@ -34,7 +34,7 @@ filled l = l .before .before .before .before .before
 abbrev start : tie.At-loop Inv-loop μ-loop → tie.Start Inv-loop μ-loop
 start l = entry (filled l)
 
-abbrev head : tie.After-count-batch Inv-loop μ-loop → tie.At-loop Inv-loop μ-loop
+abbrev head : tie.After-count-open Inv-loop μ-loop → tie.At-loop Inv-loop μ-loop
 head d = d .before .before .before .before .before .before .before .before
 
 -- as many settings as the block has
@@ -54,7 +54,7 @@ since-entry l =
 inside : (t : tie.In-loop Inv-loop μ-loop) → let l = t .before in l .loop .base < 2 ^ start l .args .n
 inside t = omega (arith, t .before .before .before .setting-count .ensures, t .loop-test .taken)
 
-next : (d : tie.After-count-batch Inv-loop μ-loop) → let l = head d in Place (start l .args .n) (l .loop .base + l .before .lane-count .result)
+next : (d : tie.After-count-open Inv-loop μ-loop) → let l = head d in Place (start l .args .n) (l .loop .base + l .before .lane-count .result)
 next d =
     let l = head d in
     place-next (l .before .lane-count .ensures) (l .before .before .setting-count .ensures) (l .loop .inv .0)
@@ -84,8 +84,8 @@ loop-holds c =
       refl,
     )
 
-count-batch-requires : tie.Need-count-batch-requires Inv-loop μ-loop
-count-batch-requires c κs =
+count-open-requires : tie.Need-count-open-requires Inv-loop μ-loop
+count-open-requires c κs =
     let t = c .before .before .before .before .before .before in
     let l = t .before in
     let s = start l in
@@ -120,9 +120,9 @@ loop-again c =
     let d = c .before .before .before .before .before .before .before .before .before .before in
     let l = head d in
     let i = l .loop .inv in
-    let k = d .count-batch .kept in
+    let k = d .count-open .kept in
     let is = sym (l .before .lane-count .ensures) in
-    let e = rw is at (d .count-batch .ensures) in (
+    let e = rw is at (d .count-open .ensures) in (
       next d,
       e .0,
       rest-then (i .2) (e .1),
@@ -192,7 +192,7 @@ count-passes-spec =
     setting-count-requires
     lane-count-requires
     loop-holds
-    count-batch-requires
+    count-open-requires
     add-base
     loop-less
     loop-again
