@@ -12,6 +12,17 @@ pub fn root() -> PathBuf {
     tests.parent().expect("tests/ stands in it").to_path_buf()
 }
 
+/// The netlists of the catalogue, by name.
+pub fn netlists() -> Vec<PathBuf> {
+    let entries = fs::read_dir(root().join("catalogue")).expect("a folder");
+    let paths = entries.map(|entry| entry.expect("an entry").path());
+    let mut found: Vec<PathBuf> = paths
+        .filter(|path| path.extension().is_some_and(|ending| ending == "net"))
+        .collect();
+    found.sort();
+    found
+}
+
 /// What target/bin/unloop writes to standard output for a text.
 pub fn written_by_the_program(text: &[u8]) -> Vec<u8> {
     let ended = ended(&mut Command::new(root().join("target/bin/unloop")), text);

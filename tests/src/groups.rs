@@ -32,6 +32,14 @@ pub fn ordered_groups(block: &Block) -> Vec<Vec<usize>> {
     order.iter().map(|&i| components[i].clone()).collect()
 }
 
+/// The gates of each loop: groups of several gates, and gates that read themselves.
+pub fn loops(block: &Block) -> Vec<Vec<usize>> {
+    let reads_itself = |gate: usize| block.gates[gate].gates_read().any(|read| read == gate);
+    let mut groups = ordered_groups(block);
+    groups.retain(|group| group.len() > 1 || reads_itself(group[0]));
+    groups
+}
+
 /// The components one by one: of those that wait for none, the one with the lowest gate is next.
 fn numbering(block: &Block, components: &[Vec<usize>], home: &[usize]) -> Vec<usize> {
     let reads = |index: usize| -> BTreeSet<usize> {

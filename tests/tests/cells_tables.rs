@@ -5,13 +5,12 @@ mod session;
 use session::{run, told, with};
 use simulator::block::Block;
 use simulator::cells;
-use simulator::executed::{root, Scratch};
+use simulator::executed::{netlists, Scratch};
 use simulator::generate::{for_blocks, Report, Size};
 use simulator::render::copied;
 use simulator::values::{setting_bytes, Network};
 use simulator::{read, render};
 use std::fs;
-use std::path::PathBuf;
 
 const NETLIST: &str = "(in a)\n(in key)\n(never (a 1) (key 0))\n(gate p (and a q))\n(gate q (or key p))\n(out lamp q)\n(out a a)\n";
 const TABLE: &str = "\
@@ -26,16 +25,6 @@ const TABLE: &str = "\
 # output lamp 3
 # output a 0
 ";
-
-fn netlists() -> Vec<PathBuf> {
-    let entries = fs::read_dir(root().join("catalogue")).unwrap();
-    let paths = entries.map(|entry| entry.unwrap().path());
-    let mut found: Vec<PathBuf> = paths
-        .filter(|path| path.extension().is_some_and(|ending| ending == "net"))
-        .collect();
-    found.sort();
-    found
-}
 
 /// Each setting of the pins, one a line.
 fn all_settings(pins: &[String]) -> String {

@@ -4,12 +4,11 @@ mod session;
 
 use session::{command, run, told, with};
 use simulator::block::Block;
-use simulator::executed::{ended, root, Scratch};
-use simulator::groups::ordered_groups;
+use simulator::executed::{ended, netlists, Scratch};
+use simulator::groups::loops;
 use simulator::values::Network;
 use simulator::{cover, read, unloop};
 use std::fs;
-use std::path::PathBuf;
 
 #[derive(Debug, Clone, PartialEq)]
 enum Json {
@@ -123,16 +122,6 @@ fn text(rest: &mut &str) -> String {
     }
 }
 
-fn netlists() -> Vec<PathBuf> {
-    let entries = fs::read_dir(root().join("catalogue")).unwrap();
-    let paths = entries.map(|entry| entry.unwrap().path());
-    let mut paths: Vec<PathBuf> = paths
-        .filter(|path| path.extension().is_some_and(|e| e == "net"))
-        .collect();
-    paths.sort();
-    paths
-}
-
 /// The pins that an entry's two masks fix, in the order of the inputs.
 fn pins(names: &[String], fixed: u16, ones: u16) -> Json {
     let fixed = (0..names.len()).filter(|i| fixed >> i & 1 == 1);
@@ -160,12 +149,7 @@ fn same_block(object: &Json, words: &[u16]) {
         ))
     );
     assert_eq!(object.number("gates"), block.gates.len());
-    let reads_itself = |gate: usize| block.gates[gate].gates_read().any(|read| read == gate);
-    let groups = ordered_groups(&block);
-    let loops = groups
-        .iter()
-        .filter(|group| group.len() > 1 || reads_itself(group[0]));
-    assert_eq!(object.number("loops"), loops.count());
+    assert_eq!(object.number("loops"), loops(&block).len());
     let come = block
         .excluded_settings()
         .iter()

@@ -5,24 +5,14 @@ mod session;
 use session::{command, run, told, with};
 use simulator::block::Block;
 use simulator::catalogue::cover_of;
-use simulator::executed::{ended, root, Scratch};
+use simulator::executed::{ended, netlists, root, Scratch};
 use simulator::generate::Report;
-use simulator::groups::ordered_groups;
+use simulator::groups::loops;
 use simulator::values::Network;
 use simulator::{read, unloop};
 use std::fs;
 use std::path::PathBuf;
 use std::process::Command;
-
-fn netlists() -> Vec<PathBuf> {
-    let entries = fs::read_dir(root().join("catalogue")).unwrap();
-    let paths = entries.map(|entry| entry.unwrap().path());
-    let mut paths: Vec<PathBuf> = paths
-        .filter(|path| path.extension().is_some_and(|e| e == "net"))
-        .collect();
-    paths.sort();
-    paths
-}
 
 fn stem(path: &PathBuf) -> String {
     path.file_stem().unwrap().to_str().unwrap().to_string()
@@ -60,14 +50,6 @@ fn between<'a>(text: &'a str, before: &str, behind: &str) -> Vec<&'a str> {
 fn plain(text: &str) -> String {
     let text = text.replace("&lt;", "<").replace("&gt;", ">");
     text.replace("&quot;", "\"").replace("&amp;", "&")
-}
-
-/// The gates of each loop.
-fn loops(block: &Block) -> Vec<Vec<usize>> {
-    let reads_itself = |gate: usize| block.gates[gate].gates_read().any(|read| read == gate);
-    let mut groups = ordered_groups(block);
-    groups.retain(|group| group.len() > 1 || reads_itself(group[0]));
-    groups
 }
 
 /// What the overview must say of a text: its state and the four numbers.
