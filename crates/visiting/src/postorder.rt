@@ -1,4 +1,5 @@
 // Depth-first search along operands. A gate is marked when it is pushed, and written when all gates that it reads are marked.
+use layout::nodes::gate_named;
 use layout::offsets::GATE_SIZE;
 use layout::read::word_at;
 ghost use mathlib.Core.Path.{_≡_};
@@ -75,7 +76,49 @@ fn write_from(
     end
 }
 
-// Writes every gate. The last gate is searched from first: a ring in ascending order then stays in it.
+// The same, or nothing where gate `root` is marked.
+fn write_new(
+    words: &[u16],
+    n: usize,
+    m: usize,
+    gates: usize,
+    root: usize,
+    flags: &mut [u8],
+    stack: &mut [u16],
+    order: &mut [u16],
+    tail: usize,
+) -> usize
+    requires { ⌜ Room n m gates (now flags) (now stack) (now order) × Written m (now flags) (now order) tail × (root < m) ⌝ }
+    ensures { λ r. ⌜ Grown m root (now (flags .entry)) (now (flags .exit)) (now (order .exit)) r ⌝ }
+{
+    if flags[root] != 0 {
+        return tail;
+    }
+    write_from(words, n, m, gates, root, flags, stack, order, tail)
+}
+
+// The first gate that gate j reads, if it reads several nodes; else j. A gate of several operands may break a loop whatever the gate in the loop that it
+// reads; a search from that one writes it before the others of the loop.
+fn entrance(words: &[u16], n: usize, m: usize, gates: usize, j: usize) -> usize
+    requires { ⌜ (n ≤ 65535) × (m ≤ maxGates) × (gates ≤ maxGates) × (j < m) ⌝ }
+    ensures { λ r. ⌜ r < m ⌝ }
+{
+    let at = gates + GATE_SIZE * j;
+    if word_at(words, at) / 8 < 2 {
+        return j;
+    }
+    let first = gate_named(word_at(words, at + 1), n, m);
+    if first < m {
+        return first;
+    }
+    let second = gate_named(word_at(words, at + 2), n, m);
+    if second < m {
+        return second;
+    }
+    j
+}
+
+// Writes every gate, from the last on.
 pub fn write_postorder(
     words: &[u16],
     n: usize,
@@ -92,8 +135,8 @@ pub fn write_postorder(
     let mut left = m;
     while 0 < left {
         left -= 1;
-        if flags[left] == 0 {
-            tail = write_from(words, n, m, gates, left, flags, stack, order, tail);
-        }
+        let root = entrance(words, n, m, gates, left);
+        tail = write_new(words, n, m, gates, root, flags, stack, order, tail);
+        tail = write_new(words, n, m, gates, left, flags, stack, order, tail);
     }
 }

@@ -16,12 +16,15 @@ Inv-loop words n m gates flags₀ stack₀ order₀ tail₀ left₀ flags stack 
 abbrev μ-loop : tie.MeasureT-loop
 μ-loop words n m gates flags₀ stack₀ order₀ tail₀ left₀ flags stack order tail left = left
 
--- the function's entry from the loop's head, and the loop's head from a search that was made
+-- the function's entry from the loop's head, the loop's head from the first search of a turn, and that search from the second
 abbrev start : tie.At-loop Inv-loop μ-loop → tie.Start Inv-loop μ-loop
 start l = l .before .before .before .before .before
 
-abbrev head : tie.After-write-from Inv-loop μ-loop → tie.At-loop Inv-loop μ-loop
-head f = f .before .before .before .before .before .before .before
+abbrev head : tie.After-write-new Inv-loop μ-loop → tie.At-loop Inv-loop μ-loop
+head f = f .before .before .before .before .before .before
+
+abbrev first : tie.After-write-new2 Inv-loop μ-loop → tie.After-write-new Inv-loop μ-loop
+first f = f .before .before .before .before .before .before .before .before .before .before
 
 loop-holds : tie.Need-loop-holds Inv-loop μ-loop
 loop-holds c = let s = c .before .before .before .before in (
@@ -37,52 +40,55 @@ loop-holds c = let s = c .before .before .before .before in (
 sub-left : tie.Need-sub-left Inv-loop μ-loop
 sub-left c = omega arith
 
-slice-read-if1 : tie.Need-slice-read-if1 Inv-loop μ-loop
-slice-read-if1 c = omega (arith, c .before .loop-test .taken, c .before .before .loop .inv .3, c .before .before .loop .inv .1 .flagRoom)
+entrance-requires : tie.Need-entrance-requires Inv-loop μ-loop
+entrance-requires c κs =
+    let w = c .before .loop .inv in
+    (w .1 .fewInputs, w .1 .fewGates, w .1 .near, omega (arith, c .loop-test .taken, w .3))
 
-write-from-requires : tie.Need-write-from-requires Inv-loop μ-loop
-write-from-requires c κs = let w = c .before .before .before .before .before .before .loop .inv in
-    (w .1, w .0, omega (arith, c .before .before .before .before .before .loop-test .taken, w .3), c .before .before .before .if1 .taken)
+write-new-requires : tie.Need-write-new-requires Inv-loop μ-loop
+write-new-requires c κs =
+    let d = c .before .before .before in
+    let w = d .before .before .loop .inv in
+    (w .1, w .0, d .entrance .ensures)
+
+-- the room after the first search
+room : (f : tie.After-write-new Inv-loop μ-loop) → let s = start (head f) in
+    Room (s .args .n) (s .args .m) (s .args .gates) (f .write-new .last .1 .1 .1 .1 .1 .0) (f .write-new .last .1 .1 .1 .1 .1 .1 .0)
+    (f .write-new .last .1 .1 .1 .1 .1 .1 .1 .0)
+room f =
+    let k = f .write-new .kept in
+    room-kept (head f .loop .inv .1) (k .1 .1 .1 .1 .1 .0) (k .1 .1 .1 .1 .1 .1 .0) (k .1 .1 .1 .1 .1 .1 .1 .0)
+
+write-new-requires-2 : tie.Need-write-new-requires-2 Inv-loop μ-loop
+write-new-requires-2 c κs =
+    let f = c .before .before .before .before .before .before .before .before .before in
+    let i = f .before .before .before .before .before in
+    (room f, f .write-new .ensures .written, omega (arith, i .loop-test .taken, i .before .loop .inv .3))
 
 loop-less : tie.Need-loop-less Inv-loop μ-loop
 loop-less c =
-    let made = c .before .before .before .before .before .before in
-    omega (arith, made .before .before .before .before .before .before .loop-test .taken)
+    let f = first (c .before .before .before .before .before .before) in
+    omega (arith, f .before .before .before .before .before .loop-test .taken)
 
 loop-again : tie.Need-loop-again Inv-loop μ-loop
 loop-again c =
     let made = c .before .before .before .before .before .before in
-    let s = start (head made) in
-    let l = head made .loop in
+    let before = first made in
+    let s = start (head before) in
+    let l = head before .loop in
     let w = l .inv in
-    let f = made .write-from in
-    let g = f .ensures in
-    let some = made .before .before .before .before .before .before .loop-test .taken in (
+    let j = before .write-new .kept in
+    let k = made .write-new2 .kept in
+    let g = made .write-new2 .ensures in
+    let some = before .before .before .before .before .before .loop-test .taken in (
       g .written,
-      room-kept (w .1) (f .kept .1 .1 .1 .1 .1 .0) (f .kept .1 .1 .1 .1 .1 .1 .0) (f .kept .1 .1 .1 .1 .1 .1 .1 .0),
-      done-next (s .args .m)
-          (l .left) (f .last .1 .1 .1 .1 .1 .0) (omega (arith, some)) (λ k lo hi z. w .2 k lo hi (g .kept k hi z)) (g .started),
+      room-kept (room before) (k .1 .1 .1 .1 .1 .0) (k .1 .1 .1 .1 .1 .1 .0) (k .1 .1 .1 .1 .1 .1 .1 .0),
+      done-next (s .args .m) (l .left) (made .write-new2 .last .1 .1 .1 .1 .1 .0) (omega (arith, some))
+          (λ i lo hi z. w .2 i lo hi (before .write-new .ensures .kept i hi (g .kept i hi z))) (g .started),
       omega (arith, w .3),
-      f .kept .1 .1 .1 .1 .1 .0 ∙ w .4,
-      f .kept .1 .1 .1 .1 .1 .1 .0 ∙ w .5,
-      f .kept .1 .1 .1 .1 .1 .1 .1 .0 ∙ w .6,
-    )
-
-loop-less-2 : tie.Need-loop-less-2 Inv-loop μ-loop
-loop-less-2 c = omega (arith, c .before .before .loop-test .taken)
-
-loop-again-2 : tie.Need-loop-again-2 Inv-loop μ-loop
-loop-again-2 c =
-    let l = c .before .before .before .loop in
-    let w = l .inv in (
-      w .0,
-      w .1,
-      done-next (start (c .before .before .before) .args .m) (l .left) (l .flags) (omega (arith, c .before .before .loop-test .taken)) (w .2)
-          (c .if1 .left),
-      omega (arith, w .3),
-      w .4,
-      w .5,
-      w .6,
+      k .1 .1 .1 .1 .1 .0 ∙ j .1 .1 .1 .1 .1 .0 ∙ w .4,
+      k .1 .1 .1 .1 .1 .1 .0 ∙ j .1 .1 .1 .1 .1 .1 .0 ∙ w .5,
+      k .1 .1 .1 .1 .1 .1 .1 .0 ∙ j .1 .1 .1 .1 .1 .1 .1 .0 ∙ w .6,
     )
 
 same-length : tie.Need-same-length Inv-loop μ-loop
@@ -109,12 +115,11 @@ write-postorder-spec =
     μ-loop
     loop-holds
     sub-left
-    slice-read-if1
-    write-from-requires
+    entrance-requires
+    write-new-requires
+    write-new-requires-2
     loop-less
     loop-again
-    loop-less-2
-    loop-again-2
     same-length
     same-length-2
     same-length-3
