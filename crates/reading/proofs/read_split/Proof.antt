@@ -43,7 +43,8 @@ returns c =
     let p = entry t .pre in
     let s = p .split in
     failed (inRoom _) (keeps-room _) _ _ OverLimit (read-tree (p .tree) (a .text .now) (length (a .block .now)) (s .is) (s .short))
-    (t .test-limits .ensures (p .tree) (counted-at t .counts .ensures (plain (p .tree)) (rest-prints s)) (count-is (s .is) (s .stand))) (a .block .now) (c .before .before .match .keys2) (c .refusal .ensures)
+    (t .test-limits .ensures (p .tree) (counted-at t .counts .ensures (plain (p .tree)) (rest-prints s)) (count-is (s .is) (s .stand))) (a .block .now)
+    (c .before .before .match .keys2) (c .refusal .ensures)
 
 slice-aggregate-read-with : tie.Need-slice-aggregate-read-with
 slice-aggregate-read-with c = search needs
