@@ -8,10 +8,10 @@ use Rattle.search.proofs.walk.visit.Statement.{statement}
 use Rattle.search.proofs.walk.visit.Tie as tie
 
 abbrev Inv-loop : tie.InvT-loop
-Inv-loop words n m at flags₀ queue₀ tail count end₀ i₀ flags queue end i = (i ≤ count) × Extended (wordGates words n m at i) flags₀ queue₀ tail flags queue end
+Inv-loop words nodes at flags₀ queue₀ tail count end₀ i₀ flags queue end i = (i ≤ count) × Extended (wordGates words (nodes .inputs) (nodes .gates) at i) flags₀ queue₀ tail flags queue end
 
 abbrev μ-loop : tie.MeasureT-loop
-μ-loop words n m at flags₀ queue₀ tail count end₀ i₀ flags queue end i = count - i
+μ-loop words nodes at flags₀ queue₀ tail count end₀ i₀ flags queue end i = count - i
 
 word-at-requires : tie.Need-word-at-requires Inv-loop μ-loop
 word-at-requires c κs = search needs
@@ -19,7 +19,7 @@ word-at-requires c κs = search needs
 loop-holds : tie.Need-loop-holds Inv-loop μ-loop
 loop-holds c =
     let a = c .before .before .before .before .args in
-    (search needs, rw (words-none (a .words .now) (a .n) (a .m) (a .at)) (extended-none (a .flags .now) (a .queue .now) (a .tail)))
+    (search needs, rw (words-none (a .words .now) (a .nodes .inputs) (a .nodes .gates) (a .at)) (extended-none (a .flags .now) (a .queue .now) (a .tail)))
 
 add-word-at : tie.Need-add-word-at Inv-loop μ-loop
 add-word-at c = omega arith
@@ -35,7 +35,7 @@ mark-word-requires c κs =
     let at-loop = c .before .before .before .before in
     let s = at-loop .before .before .before .before .before in
     let l = at-loop .loop in
-    (s .pre .1, room-kept (s .pre .2) (words-inside (s .args .words .now) (s .args .n) (s .args .m) (s .args .at) (l .i)) (l .inv .1))
+    (s .pre .1, room-kept (s .pre .2) (words-inside (s .args .words .now) (s .args .nodes .inputs) (s .args .nodes .gates) (s .args .at) (l .i)) (l .inv .1))
 
 add-i : tie.Need-add-i Inv-loop μ-loop
 add-i c = omega arith
@@ -52,7 +52,7 @@ loop-again c =
     let a = at-start .args in
     let l = at-loop .loop in (
       omega arith,
-      word-turn (a .words .now) (a .n) (a .m) (a .at) (l .i) (after-word-at2 .word-at2 .result) (after-word-at2 .word-at2 .ensures) (l .inv .1)
+      word-turn (a .words .now) (a .nodes .inputs) (a .nodes .gates) (a .at) (l .i) (after-word-at2 .word-at2 .result) (after-word-at2 .word-at2 .ensures) (l .inv .1)
           (after-mark-word .mark-word .ensures),
     )
 

@@ -1,15 +1,15 @@
--- `compare::interface::is_same` meets its contract: the words passed are the same. Assumes nothing.
-use mathlib.Core.Path.{_≡_, refl, sym}
+-- `layout::names::is_same` meets its contract: the words passed are the same. Assumes nothing.
+use mathlib.Core.Path.{_≡_, refl, sym, subst}
 use mathlib.Core.Bool.{true, false}
 use Prim.Native.Nat.{_≤_, _-_}
+use native.Mathlib.Nat.{le-antisymm}
 use borrow.Author.Needs.{needs}
 use Rattle.laws.specs.Lists.{all, upTo}
 use Rattle.laws.proofs.Quantifiers.{all-next, all-not}
 use borrow.Author.Tests.{eq-eqb, ne-eqb}
-use Rattle.block.proofs.TestLaws.{passed}
-use Rattle.compare.specs.Names.{sameWordAt}
-use Rattle.compare.proofs.interface.is_same.Statement.{statement}
-use Rattle.compare.proofs.interface.is_same.Tie as tie
+use Rattle.layout.specs.Names.{sameWordAt}
+use Rattle.layout.proofs.names.is_same.Statement.{statement}
+use Rattle.layout.proofs.names.is_same.Tie as tie
 
 abbrev Inv-loop : tie.InvT-loop
 Inv-loop ours at theirs other i₀ i = (i ≤ 4) × (all (sameWordAt ours at theirs other) (upTo i) ≡ true)
@@ -58,7 +58,8 @@ returns-2 : tie.Need-returns-2 Inv-loop μ-loop
 returns-2 c =
     let a = c .before .before .before .before .args in
     let l = c .before .loop in
-    passed (sameWordAt (a .ours .now) (a .at) (a .theirs .now) (a .other)) 4 (l .i) (l .inv .0) (c .loop-test .left) (l .inv .1)
+    let last : l .i ≡ 4 = le-antisymm (l .inv .0) (c .loop-test .left) in
+    subst (λ i. true ≡ all (sameWordAt (a .ours .now) (a .at) (a .theirs .now) (a .other)) (upTo i)) last (sym (l .inv .1))
 
 pub is-same-spec : {M : Type 1} → statement M
 is-same-spec =
