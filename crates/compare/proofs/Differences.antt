@@ -32,8 +32,8 @@ use Rattle.lanes.specs.Batches.{lanesOf}
 use Rattle.lanes.proofs.BitLaws.{bit-or, bit-xor}
 use Rattle.lanes.proofs.InputLaws.{lanesOf-most}
 use Rattle.batch.specs.Batch.{BatchSettled}
-use Rattle.judge.specs.Lanes.{hasLane, Tells}
-use Rattle.judge.proofs.WordLaws.{tells-as, tells-none, tells-and, tells-or, tells-no-lane, tells-some, tells-lowest}
+use Rattle.lanes.specs.Words.{hasLane, Tells}
+use Rattle.lanes.proofs.WordLaws.{tells-as, tells-none, tells-and, tells-or, tells-no-lane, tells-some, tells-lowest}
 use Rattle.judge.proofs.OutputLaws.{output-proper, output-lane, any-first}
 use Rattle.compare.specs.Words.{differingIn, portPair, differingWord, differingWords, differsAt}
 use Rattle.verdict.proofs.Batching.{Place, batch-more}

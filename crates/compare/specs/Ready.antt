@@ -9,7 +9,8 @@ use Rattle.netlist.specs.Rendering.{isStraight}
 use Rattle.netlist.specs.Compare.{disagrees}
 use Rattle.lanes.specs.Batches.{lanesOf}
 use Rattle.batch.specs.Batch.{Decidable}
-use Rattle.judge.specs.Lanes.{Tells, Judged}
+use Rattle.lanes.specs.Words.{Tells}
+use Rattle.judge.specs.Lanes.{Judged}
 
 -- both blocks are whole, theirs is straight, and they have as many inputs and outputs
 pub record Pair (ours theirs : List ℕ) : Type 0 where

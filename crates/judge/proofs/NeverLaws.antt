@@ -26,8 +26,9 @@ use Rattle.lanes.specs.Pairs.{full}
 use Rattle.lanes.specs.Batches.{lanesOf, pattern, inputPair}
 use Rattle.lanes.proofs.BitLaws.{bit-low, bit-and, bit-full}
 use Rattle.lanes.proofs.InputLaws.{lanesOf-most, pattern-bit}
-use Rattle.judge.specs.Lanes.{hasLane, Tells, agreesAt, mayCome}
-use Rattle.judge.proofs.WordLaws.{tells-as, tells-all, tells-none, tells-and, tells-or, tells-not}
+use Rattle.lanes.specs.Words.{hasLane, Tells}
+use Rattle.judge.specs.Lanes.{agreesAt, mayCome}
+use Rattle.lanes.proofs.WordLaws.{tells-as, tells-all, tells-none, tells-and, tells-or, tells-not}
 
 -- ---- one input
 

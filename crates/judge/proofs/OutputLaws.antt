@@ -33,8 +33,9 @@ use Rattle.lanes.specs.Nodes.{inputsIn, gatesIn, wordPair}
 use Rattle.lanes.proofs.BitLaws.{bit-low, bit-or, bit-xor, bit-full}
 use Rattle.lanes.proofs.RoundLaws.{operandPair-proper, operandPair-lane}
 use Rattle.lanes.proofs.NodeLaws.{wordPair-operand}
-use Rattle.judge.specs.Lanes.{hasLane, Tells, Judged, isUndefinedAt, isUnsettled, outputPair, undefinedIn, undefinedWord, unsettledWord}
-use Rattle.judge.proofs.WordLaws.{tells-as, tells-none, tells-or}
+use Rattle.lanes.specs.Words.{hasLane, Tells}
+use Rattle.judge.specs.Lanes.{Judged, isUndefinedAt, isUnsettled, outputPair, undefinedIn, undefinedWord, unsettledWord}
+use Rattle.lanes.proofs.WordLaws.{tells-as, tells-none, tells-or}
 
 -- the two bits of a lane in use, at which neither is set exactly where the value is undefined
 neither : (z o : ℕ) → z < 2 → o < 2 → eqb (differ 1 (max z o)) 1 ≡ not (isDefined (marked z o))

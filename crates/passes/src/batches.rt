@@ -2,7 +2,7 @@
 // the gates are evaluated along `order` for the settled pairs.
 use crate::group::count_group;
 use batch::in_place::decide_batch;
-use judge::words::lane_count;
+use lanes::words::lane_count;
 use layout::fill::fill_words;
 use layout::limits::MAX_GATES;
 use layout::read::word_at;

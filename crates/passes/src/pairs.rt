@@ -8,7 +8,7 @@ ghost use Rattle.netlist.specs.Limits.{maxInputs, maxGates};
 ghost use Rattle.netlist.specs.StoredBlock.{decode};
 ghost use Rattle.lanes.specs.Batches.{lanesOf};
 ghost use Rattle.lanes.specs.Nodes.{pairAt};
-ghost use Rattle.judge.specs.Lanes.{Tells};
+ghost use Rattle.lanes.specs.Words.{Tells};
 ghost use Rattle.passes.specs.Pairs.{Put, GatesIn, differenceOf, ProperAt, differAt, Lacks};
 
 // Stores the pairs that the group's gates have in a source, undefined past its end.

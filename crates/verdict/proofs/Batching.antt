@@ -34,8 +34,9 @@ use Rattle.lanes.specs.Pairs.{full}
 use Rattle.lanes.specs.Batches.{lanesOf}
 use Rattle.lanes.proofs.InputLaws.{lanesOf-most}
 use Rattle.batch.specs.Batch.{Decidable, BatchSettled}
-use Rattle.judge.specs.Lanes.{hasLane, Tells, Judged, mayCome, isUndefinedAt, isUnsettled, isUnsound, undefinedWord}
-use Rattle.judge.proofs.WordLaws.{tells-and, tells-no-lane, tells-some, tells-lowest, lane-bit}
+use Rattle.lanes.specs.Words.{hasLane, Tells}
+use Rattle.judge.specs.Lanes.{Judged, mayCome, isUndefinedAt, isUnsettled, isUnsound, undefinedWord}
+use Rattle.lanes.proofs.WordLaws.{tells-and, tells-no-lane, tells-some, tells-lowest, lane-bit}
 use Rattle.judge.proofs.OutputLaws.{undefined-tells, undefined-some, undefined-unsettled}
 use Rattle.verdict.specs.Flags.{soundFlag}
 use Rattle.verdict.specs.Batches.{FirstBatch, countedFrom, flagged}

@@ -9,7 +9,7 @@ use borrow.Author.Tests.{eq-eqb, ne-eqb}
 use lib.ListN.{getD}
 use Rattle.laws.proofs.Least.{least-is}
 use Rattle.netlist.specs.Assignments.{bit}
-use Rattle.judge.specs.Lanes.{hasLane}
+use Rattle.lanes.specs.Words.{hasLane}
 use Rattle.compare.specs.Words.{differsAt}
 use Rattle.compare.proofs.outputs.lowest_differing.Statement.{statement}
 use Rattle.compare.proofs.outputs.lowest_differing.Tie as tie

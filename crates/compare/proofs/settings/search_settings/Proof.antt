@@ -11,7 +11,7 @@ use Rattle.netlist.specs.Limits.{maxInputs}
 use Rattle.netlist.specs.StoredBlock.{decode}
 use Rattle.netlist.specs.Compare.{disagrees}
 use Rattle.lanes.proofs.InputLaws.{lanesOf-most}
-use Rattle.judge.specs.Lanes.{hasLane}
+use Rattle.lanes.specs.Words.{hasLane}
 use Rattle.verdict.proofs.Counting.{few-settings}
 use Rattle.verdict.proofs.Batching.{Place, place-first, place-next, lanesOf-some}
 use Rattle.compare.proofs.Differences.{marked-lowest, search-accepted, search-passed, search-marked}

@@ -5,7 +5,7 @@ use Rattle.netlist.specs.StoredBlock.{decode}
 use Rattle.encoding.proofs.Decoded.{decode-inputCount}
 use Rattle.lanes.specs.Batches.{lanesOf}
 use Rattle.lanes.proofs.InputLaws.{lanesOf-most}
-use Rattle.judge.proofs.WordLaws.{tells-count}
+use Rattle.lanes.proofs.WordLaws.{tells-count}
 use Rattle.verdict.specs.Batches.{countedFrom}
 use Rattle.verdict.proofs.Batching.{judged, count-coming}
 use borrow.Author.Needs.{needs}

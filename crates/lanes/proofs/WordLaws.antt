@@ -22,9 +22,9 @@ use Rattle.laws.proofs.Tests.{not-both, lt-or-le, bool-cases}
 use Rattle.laws.proofs.Counting.{countBelow-ext}
 use Rattle.laws.proofs.Least.{least-le, least-below, least-at, least-is}
 use Rattle.netlist.specs.Assignments.{bit}
 use Rattle.lanes.specs.Pairs.{full}
 use Rattle.lanes.proofs.BitLaws.{bit-low, bit-zero, bit-high, bit-and, bit-or, bit-xor, bit-full, eq-by-bits}
-use Rattle.judge.specs.Lanes.{hasLane, Tells}
+use Rattle.lanes.specs.Words.{hasLane, Tells}
 
 -- ---- two bits
 

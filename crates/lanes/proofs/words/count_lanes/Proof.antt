@@ -1,9 +1,9 @@
--- `judge::words::count_lanes` meets its contract. Assumes nothing.
+-- `lanes::words::count_lanes` meets its contract. Assumes nothing.
 use native.Mathlib.Omega.{arith}
 use lib.Count.{ones-le}
-use Rattle.judge.proofs.WordLaws.{ones-count}
-use Rattle.judge.proofs.words.count_lanes.Statement.{statement}
-use Rattle.judge.proofs.words.count_lanes.Tie as tie
+use Rattle.lanes.proofs.WordLaws.{ones-count}
+use Rattle.lanes.proofs.words.count_lanes.Statement.{statement}
+use Rattle.lanes.proofs.words.count_lanes.Tie as tie
 
 cast-result : tie.Need-cast-result
 cast-result c = record { fits = omega (arith, ones-le 64 (c .args .word) (c .fits .word .fits)) }

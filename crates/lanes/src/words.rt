@@ -1,11 +1,9 @@
 // How many lanes a batch has, and how many and which of them a word marks.
+use crate::inputs::LOW_INPUTS;
 ghost use mathlib.Core.Path.{_≡_};
 ghost use Rattle.laws.specs.Lists.{countBelow, least};
 ghost use Rattle.lanes.specs.Batches.{lanesOf};
-ghost use Rattle.judge.specs.Lanes.{hasLane};
-
-// As many settings as inputs 0 to 5 tell apart make a batch.
-const LOW_INPUTS: usize = 6;
+ghost use Rattle.lanes.specs.Words.{hasLane};
 
 const MOST_LANES: usize = 64;
 

@@ -1,11 +1,11 @@
--- `judge::words::lane_count` meets its contract. Assumes nothing.
+-- `lanes::words::lane_count` meets its contract. Assumes nothing.
 use mathlib.Core.Path.{sym}
 use native.Mathlib.Nat.{min-eq-right}
 use borrow.Author.Needs.{needs}
 use Rattle.lanes.specs.Batches.{lanesOf}
 use Rattle.lanes.proofs.InputLaws.{shifted-lanes}
-use Rattle.judge.proofs.words.lane_count.Statement.{statement}
-use Rattle.judge.proofs.words.lane_count.Tie as tie
+use Rattle.lanes.proofs.words.lane_count.Statement.{statement}
+use Rattle.lanes.proofs.words.lane_count.Tie as tie
 
 returns : tie.Need-returns
 unfolding lanesOf

@@ -1,9 +1,9 @@
--- `judge::words::lowest_lane` meets its contract: the zeros below the lowest bit. Assumes nothing.
+-- `lanes::words::lowest_lane` meets its contract: the zeros below the lowest bit. Assumes nothing.
 use native.Mathlib.Omega.{arith}
 use lib.Count.{trailing-le}
-use Rattle.judge.proofs.WordLaws.{trailing-least}
-use Rattle.judge.proofs.words.lowest_lane.Statement.{statement}
-use Rattle.judge.proofs.words.lowest_lane.Tie as tie
+use Rattle.lanes.proofs.WordLaws.{trailing-least}
+use Rattle.lanes.proofs.words.lowest_lane.Statement.{statement}
+use Rattle.lanes.proofs.words.lowest_lane.Tie as tie
 
 cast-result : tie.Need-cast-result
 cast-result c = record { fits = omega (arith, trailing-le 64 (c .args .word)) }
