@@ -44,7 +44,8 @@ gate-named-requires c κs = search needs
 
 cast-operands : tie.Need-cast-operands Inv-loop μ-loop
 cast-operands c =
-    let s = c .before .before .before .before .before .before .before .before in
+    let at-loop = c .before .before .before .before .before in
+    let s = at-loop .before .before .before in
     omega (arith, c .gate-named .ensures, named-le (s .args .nodes .inputs) (s .args .nodes .gates) (c .before .word-at .result), s .pre .1)
 
 mul-operands : tie.Need-mul-operands Inv-loop μ-loop
