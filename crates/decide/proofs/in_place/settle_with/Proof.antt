@@ -23,8 +23,8 @@ filled : (f : tie.After-fill-bytes)
 filled f =
     let s = start f in
     let p = s .pre .1 .0 .0 in
-    start-ready (now (s .args .words)) (now (s .args .setting)) (s .args .nodes .gates) (gates-are _ (p .nodesAre)) (f .fill-bytes .last .0) (now (s .args .values))
-    (f .fill-bytes .ensures) (p .whole) (p .nodesAre) (omega (arith, p .fits, f .fill-bytes .kept .0)) (s .pre .1 .0 .1)
+    start-ready (now (s .args .words)) (now (s .args .setting)) (s .args .nodes .gates) (gates-are _ (p .nodesAre)) (f .fill-bytes .last .0)
+    (now (s .args .values)) (f .fill-bytes .ensures) (p .whole) (p .nodesAre) (omega (arith, p .fits, f .fill-bytes .kept .0)) (s .pre .1 .0 .1)
 
 update-all-requires : tie.Need-update-all-requires
 update-all-requires c κs = let f = c .before .before .before .before in (start f .pre .0, filled f)
@@ -51,8 +51,8 @@ returns c =
     let s = start f in
     let r = d .update-queued .ensures in
     let long = d .update-queued .kept .1 .1 .1 .1 .1 .1 .0 ∙ a .update-all .kept .1 .1 .1 .1 .0 ∙ f .fill-bytes .kept .0 in
-    rested-settled (now (s .args .words)) (now (s .args .setting)) (s .args .nodes .gates) (gates-are _ (s .pre .1 .0 .0 .nodesAre)) (f .fill-bytes .last .0) (now (s .args .values))
-    (f .fill-bytes .ensures) (omega (arith, s .pre .1 .0 .0 .fits, long)) long
+    rested-settled (now (s .args .words)) (now (s .args .setting)) (s .args .nodes .gates) (gates-are _ (s .pre .1 .0 .0 .nodesAre)) (f .fill-bytes .last .0)
+    (now (s .args .values)) (f .fill-bytes .ensures) (omega (arith, s .pre .1 .0 .0 .fits, long)) long
     (record {
       underway = r .underway;
       beyond = λ j l. r .beyond j l ∙ a .update-all .ensures .woken .beyond j l;
