@@ -21,7 +21,7 @@ ghost use Rattle.netlist.specs.GateTable.{gateTable};
 ghost use Rattle.netlist.specs.Rounds.{settled};
 ghost use Rattle.readers.specs.Readers.{Descends, Readers};
 ghost use Rattle.simulate.specs.Rounded.{ForRounds};
-ghost use Rattle.decide.specs.InPlace.{Ready, Woken, WokenOne, WokenList, WokenAll, Resting, Rested};
+ghost use Rattle.decide.specs.InPlace.{Ready, WokenOne, WokenList, WokenAll, Resting, Rested};
 
 // Evaluates gate `j`, if it has no value, and queues it if it gets one; the queue's new end.
 fn update(
