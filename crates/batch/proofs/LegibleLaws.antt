@@ -5,14 +5,15 @@ use mathlib.Core.List.{List}
 use Prim.Native.Nat.{ℕ}
 use native.Mathlib.Omega.{arith}
 use lib.ListN.{getD}
+use Rattle.layout.specs.Nodes.{nodesOf}
 use Rattle.netlist.specs.StoredBlock.{neversAt, gatesAt, outputsAt, decode, isTorn}
 use Rattle.encoding.proofs.Decoded.{decode-inputCount, decode-gateCount, decode-gate}
 use Rattle.encoding.proofs.Readers.{whole-parts, whole-gate}
 use Rattle.batch.specs.Legible.{Legible}
 
 -- the words of a block, read from its counts
-pub legible : (ws : List ℕ) → isTorn ws ≡ false → Legible ws (getD ws 0 0) (gatesAt (getD ws 0 0) (getD ws 3 0))
-unfolding gatesAt neversAt outputsAt
+pub legible : (ws : List ℕ) → isTorn ws ≡ false → Legible ws (nodesOf ws)
+unfolding nodesOf gatesAt neversAt outputsAt
 legible ws h =
     record {
       near = omega (arith, whole-parts ws h .fewInputs, whole-parts ws h .fewNevers);
