@@ -13,12 +13,12 @@ use Rattle.passes.proofs.batches.count_groups.Statement.{statement}
 use Rattle.passes.proofs.batches.count_groups.Tie as tie
 
 abbrev Inv-loop : tie.InvT-loop
-Inv-loop words n gates base count members starts passes₀ total zeros₀ ones₀ kept-zeros₀ kept-ones₀ sum₀ g₀ passes zeros ones kept-zeros kept-ones sum g =
-    (g ≤ count) × Counting (decode words) count base g (base + lanesOf n) passes sum × SameRest count passes₀ passes × (zeros ≡ zeros₀) × (ones ≡ ones₀)
+Inv-loop words nodes base count members starts passes₀ total zeros₀ ones₀ kept-zeros₀ kept-ones₀ sum₀ g₀ passes zeros ones kept-zeros kept-ones sum g =
+    (g ≤ count) × Counting (decode words) count base g (base + lanesOf (nodes .inputs)) passes sum × SameRest count passes₀ passes × (zeros ≡ zeros₀) × (ones ≡ ones₀)
     × (length kept-zeros ≡ length kept-zeros₀) × (length kept-ones ≡ length kept-ones₀)
 
 abbrev μ-loop : tie.MeasureT-loop
-μ-loop words n gates base count members starts passes₀ total zeros₀ ones₀ kept-zeros₀ kept-ones₀ sum₀ g₀ passes zeros ones kept-zeros kept-ones sum g =
+μ-loop words nodes base count members starts passes₀ total zeros₀ ones₀ kept-zeros₀ kept-ones₀ sum₀ g₀ passes zeros ones kept-zeros kept-ones sum g =
     count - g
 
 -- the function's entry, from the loop's head; and the loop's head, from a group's count
