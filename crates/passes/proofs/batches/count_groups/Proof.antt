@@ -61,14 +61,14 @@ loop-again c =
     let i = l .loop .inv in
     let is = sym (s .pre .1 .0 .listing .countIs) in
     let e = rw is at (d .count-needed .ensures .0) in
-    let k = d .count-needed .kept in (
+    let k = d .count-needed .kept .1 .1 .1 .1 .1 .1 .1 .1 .1 .1 in (
       omega (arith, d .before .before .before .before .before .before .before .loop-test .taken),
       e .0,
       rest-then (i .2) (e .1),
       d .count-needed .ensures .1 .0 ∙ i .3,
       d .count-needed .ensures .1 .1 ∙ i .4,
-      k .1 .1 .1 .1 .1 .1 .1 .1 .1 .1 .1 .0 ∙ i .5,
-      k .1 .1 .1 .1 .1 .1 .1 .1 .1 .1 .1 .1 .0 ∙ i .6,
+      k .0 ∙ i .5,
+      k .1 .0 ∙ i .6,
     )
 
 same-length : tie.Need-same-length Inv-loop μ-loop

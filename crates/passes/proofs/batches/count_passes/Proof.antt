@@ -120,16 +120,16 @@ loop-again c =
     let d = c .before .before .before .before .before .before .before .before .before .before in
     let l = head d in
     let i = l .loop .inv in
-    let k = d .count-open .kept in
+    let k = d .count-open .kept .1 .1 .1 .1 .1 .1 .1 .1 .1 in
     let is = sym (l .before .lane-count .ensures) in
     let e = rw is at (d .count-open .ensures) in (
       next d,
       e .0,
       rest-then (i .2) (e .1),
-      k .1 .1 .1 .1 .1 .1 .1 .1 .1 .1 .0 ∙ i .3,
-      k .1 .1 .1 .1 .1 .1 .1 .1 .1 .1 .1 .0 ∙ i .4,
-      k .1 .1 .1 .1 .1 .1 .1 .1 .1 .1 .1 .1 .0 ∙ i .5,
-      k .1 .1 .1 .1 .1 .1 .1 .1 .1 .1 .1 .1 .1 .0 ∙ i .6,
+      k .0 ∙ i .3,
+      k .1 .0 ∙ i .4,
+      k .1 .1 .0 ∙ i .5,
+      k .1 .1 .1 .0 ∙ i .6,
     )
 
 same-length : tie.Need-same-length Inv-loop μ-loop
