@@ -1,11 +1,11 @@
 // The passes of every group. Group g of a block's `count` groups is `members[starts[g]..starts[g + 1]]`, and `passes[g]` has its passes so far;
 // the gates are evaluated along `order` for the settled pairs.
-use layout::nodes::Nodes;
 use crate::group::count_group;
 use batch::in_place::decide_batch;
 use lanes::words::lane_count;
 use layout::fill::fill_words;
 use layout::limits::MAX_GATES;
+use layout::nodes::Nodes;
 use layout::read::word_at;
 use verdict::settings::setting_count;
 ghost use mathlib.Core.Path.{_≡_};

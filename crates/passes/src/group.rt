@@ -1,11 +1,11 @@
 // The passes that one group needs for the settings of a batch. `zeros` and `ones` have a word for each input and each gate of the block; `used` has a bit at each lane in use.
-use layout::nodes::Nodes;
 use crate::Counted;
 use crate::pairs::lacks;
 use crate::pairs::put_pairs;
 use batch::in_place::sweep;
 use lanes::inputs::used_lanes;
 use layout::limits::MAX_GATES;
+use layout::nodes::Nodes;
 ghost use mathlib.Core.Path.{_≡_};
 ghost use Prim.Native.Nat.{_*_, _≤_};
 ghost use lib.ListN.{length};
@@ -17,14 +17,7 @@ ghost use Rattle.lanes.specs.Batches.{lanesOf};
 ghost use Rattle.passes.specs.Counting.{Evaluable, Held, Stepped, PassReady, MorePasses, GroupReady, GroupCounted};
 
 // One pass: evaluates the gates listed, each pair stored at once.
-fn pass(
-    words: &[u16],
-    nodes: Nodes,
-    used: u64,
-    group: &[u16],
-    zeros: &mut [u64],
-    ones: &mut [u64],
-)
+fn pass(words: &[u16], nodes: Nodes, used: u64, group: &[u16], zeros: &mut [u64], ones: &mut [u64])
     requires { ⌜ Evaluable (now words) nodes (now group) × (used ≡ full (lanesOf (nodes .inputs))) × Held (decode (now words)) (nodes .inputs) (now zeros) (now ones) ⌝ }
     ensures { λ r. ⌜
         Stepped (decode (now (words .entry))) (nodes .inputs) (now (group .entry)) (now (zeros .entry)) (now (ones .entry)) (now (zeros .exit)) (now (ones .exit))
@@ -119,7 +112,14 @@ pub fn count_group(
     ensures counted { λ r. ⌜ GroupCounted (decode (now (words .entry))) (nodes .inputs) base (now (group .entry)) passes total r ⌝ }
     ensures kept { λ r. ⌜ (now (zeros .exit) ≡ now (zeros .entry)) × (now (ones .exit) ≡ now (ones .entry)) ⌝ }
 {
-    put_pairs(nodes.inputs, group, zeros, ones, settled_zeros, settled_ones);
+    put_pairs(
+        nodes.inputs,
+        group,
+        zeros,
+        ones,
+        settled_zeros,
+        settled_ones,
+    );
     put_pairs(
         nodes.inputs,
         group,
@@ -128,7 +128,15 @@ pub fn count_group(
         zeros,
         ones,
     );
-    run_passes(words, nodes, used_lanes(nodes.inputs), group, passes, zeros, ones);
+    run_passes(
+        words,
+        nodes,
+        used_lanes(nodes.inputs),
+        group,
+        passes,
+        zeros,
+        ones,
+    );
     let counted = more_passes(
         words,
         nodes,
@@ -141,6 +149,13 @@ pub fn count_group(
         settled_zeros,
         settled_ones,
     );
-    put_pairs(nodes.inputs, group, settled_zeros, settled_ones, zeros, ones);
+    put_pairs(
+        nodes.inputs,
+        group,
+        settled_zeros,
+        settled_ones,
+        zeros,
+        ones,
+    );
     counted
 }

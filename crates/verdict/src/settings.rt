@@ -1,6 +1,5 @@
 // Which settings are settled and which never come, a batch of up to 64 at a time.
 // `zeros` and `ones` have exactly one word for each input and each gate; the gates are evaluated along `order`.
-use layout::nodes::Nodes;
 use batch::in_place::decide_batch;
 use judge::nevers::coming_lanes;
 use judge::outputs::undefined_lanes;
@@ -11,6 +10,7 @@ use lanes::inputs::used_lanes;
 use lanes::words::count_lanes;
 use lanes::words::lane_count;
 use lanes::words::lowest_lane;
+use layout::nodes::Nodes;
 use layout::offsets::outputs_at;
 use layout::offsets::outputs_of;
 use netlist::Answer;
