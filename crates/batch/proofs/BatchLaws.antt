@@ -25,6 +25,7 @@ use Rattle.laws.proofs.Lists.{map-replicate}
 use Rattle.laws.proofs.Quantifiers.{member-at, member-from}
 use Rattle.netlist.specs.Values.{Value, undefined}
 use Rattle.netlist.specs.Netlist.{Block, inputCount, gateCount, gateOf}
+use Rattle.layout.specs.declared.nodes.Nodes.{Nodes}
 use Rattle.netlist.specs.Limits.{maxInputs}
 use Rattle.netlist.specs.StoredBlock.{gateSize, gateAt, decode}
 use Rattle.netlist.specs.Rounds.{settled, settingOf, settledUnder}
@@ -202,40 +203,40 @@ unfolding gatesIn
 gatesIn-at n m zeros ones j l = getD-tab (λ j. pairAt zeros ones (n + j)) m j nothing l
 
 -- one gate, from its words
-module _ {ws : List ℕ} {n gates : ℕ} (legible : Legible ws n gates) (few : n ≤ maxInputs) (j : ℕ) (l : j < gateCount (decode ws)) where
+module _ {ws : List ℕ} {nodes : Nodes} (legible : Legible ws nodes) (few : nodes .inputs ≤ maxInputs) (j : ℕ) (l : j < gateCount (decode ws)) where
   pub gate-legal : LegalGate (gateOf (decode ws) j)
-  gate-legal = rw (← legible .gateIs j l) (head-legal n ws (gates + gateSize * j) (legible .legal j l))
+  gate-legal = rw (← legible .gateIs j l) (head-legal (nodes .inputs) ws (nodes .start + gateSize * j) (legible .legal j l))
 
-  module _ {zeros ones : List ℕ} (long : NodesLong (decode ws) n zeros ones) where
-    pub gatePair-evaluated : gatePair ws n gates j zeros ones
-        ≡ evaluatedPair (full (lanesOf n)) (inputsIn n zeros ones) (gatesIn n (gateCount (decode ws)) zeros ones) (gateOf (decode ws) j)
+  module _ {zeros ones : List ℕ} (long : NodesLong (decode ws) (nodes .inputs) zeros ones) where
+    pub gatePair-evaluated : gatePair ws nodes j zeros ones
+        ≡ evaluatedPair (full (lanesOf (nodes .inputs))) (inputsIn (nodes .inputs) zeros ones) (gatesIn (nodes .inputs) (gateCount (decode ws)) zeros ones) (gateOf (decode ws) j)
     unfolding gatePair
     gatePair-evaluated =
-        gatePairAt-evaluated (full (lanesOf n)) n (gateCount (decode ws)) zeros ones (omega arith) (long .zerosLong) (long .onesLong) ws (gates + gateSize * j)
-        ∙ ap (evaluatedPair (full (lanesOf n)) (inputsIn n zeros ones) (gatesIn n (gateCount (decode ws)) zeros ones)) (legible .gateIs j l)
+        gatePairAt-evaluated (full (lanesOf (nodes .inputs))) (nodes .inputs) (gateCount (decode ws)) zeros ones (omega arith) (long .zerosLong) (long .onesLong) ws (nodes .start + gateSize * j)
+        ∙ ap (evaluatedPair (full (lanesOf (nodes .inputs))) (inputsIn (nodes .inputs) zeros ones) (gatesIn (nodes .inputs) (gateCount (decode ws)) zeros ones)) (legible .gateIs j l)
 
     -- the words of the gates, with that pair stored
-    pub evaluated-gates : {zeros′ ones′ : List ℕ} {changed : Bool} → Evaluated ws n gates j zeros ones zeros′ ones′ changed
-        → gatesIn n (gateCount (decode ws)) zeros′ ones′ ≡ set (gatesIn n (gateCount (decode ws)) zeros ones) j (gatePair ws n gates j zeros ones)
+    pub evaluated-gates : {zeros′ ones′ : List ℕ} {changed : Bool} → Evaluated ws nodes j zeros ones zeros′ ones′ changed
+        → gatesIn (nodes .inputs) (gateCount (decode ws)) zeros′ ones′ ≡ set (gatesIn (nodes .inputs) (gateCount (decode ws)) zeros ones) j (gatePair ws nodes j zeros ones)
     evaluated-gates e =
         rw (e .zerosAre, e .onesAre)
-        (set-gates n (gateCount (decode ws)) zeros ones j (gatePair ws n gates j zeros ones) l (long .zerosLong) (long .onesLong))
+        (set-gates (nodes .inputs) (gateCount (decode ws)) zeros ones j (gatePair ws nodes j zeros ones) l (long .zerosLong) (long .onesLong))
 
-  pub evaluated-inputs : {zeros ones zeros′ ones′ : List ℕ} {changed : Bool} → Evaluated ws n gates j zeros ones zeros′ ones′ changed
-      → inputsIn n zeros′ ones′ ≡ inputsIn n zeros ones
+  pub evaluated-inputs : {zeros ones zeros′ ones′ : List ℕ} {changed : Bool} → Evaluated ws nodes j zeros ones zeros′ ones′ changed
+      → inputsIn (nodes .inputs) zeros′ ones′ ≡ inputsIn (nodes .inputs) zeros ones
   evaluated-inputs {zeros} {ones} e =
-      rw (e .zerosAre, e .onesAre) (set-inputs n (gateCount (decode ws)) zeros ones j (gatePair ws n gates j zeros ones))
+      rw (e .zerosAre, e .onesAre) (set-inputs (nodes .inputs) (gateCount (decode ws)) zeros ones j (gatePair ws nodes j zeros ones))
 
-  pub evaluated-zeros : {zeros ones zeros′ ones′ : List ℕ} {changed : Bool} → Evaluated ws n gates j zeros ones zeros′ ones′ changed
+  pub evaluated-zeros : {zeros ones zeros′ ones′ : List ℕ} {changed : Bool} → Evaluated ws nodes j zeros ones zeros′ ones′ changed
       → length zeros′ ≡ length zeros
-  evaluated-zeros {zeros} {ones} e = rw (e .zerosAre) (length-set zeros (n + j) (gatePair ws n gates j zeros ones .zeros))
+  evaluated-zeros {zeros} {ones} e = rw (e .zerosAre) (length-set zeros (nodes .inputs + j) (gatePair ws nodes j zeros ones .zeros))
 
-  pub evaluated-ones : {zeros ones zeros′ ones′ : List ℕ} {changed : Bool} → Evaluated ws n gates j zeros ones zeros′ ones′ changed
+  pub evaluated-ones : {zeros ones zeros′ ones′ : List ℕ} {changed : Bool} → Evaluated ws nodes j zeros ones zeros′ ones′ changed
       → length ones′ ≡ length ones
-  evaluated-ones {zeros} {ones} e = rw (e .onesAre) (length-set ones (n + j) (gatePair ws n gates j zeros ones .ones))
+  evaluated-ones {zeros} {ones} e = rw (e .onesAre) (length-set ones (nodes .inputs + j) (gatePair ws nodes j zeros ones .ones))
 
-  pub batch-one : {zeros ones zeros′ ones′ : List ℕ} {changed : Bool} → BatchUnderway (decode ws) n zeros ones
-      → Evaluated ws n gates j zeros ones zeros′ ones′ changed → BatchSwept (decode ws) n (j ∷ []) zeros ones zeros′ ones′ changed
+  pub batch-one : {zeros ones zeros′ ones′ : List ℕ} {changed : Bool} → BatchUnderway (decode ws) (nodes .inputs) zeros ones
+      → Evaluated ws nodes j zeros ones zeros′ ones′ changed → BatchSwept (decode ws) (nodes .inputs) (j ∷ []) zeros ones zeros′ ones′ changed
   batch-one {zeros} {ones} {zeros′} {ones′} {changed} u e =
       record {
         zerosLong = evaluated-zeros e;
@@ -249,42 +250,42 @@ module _ {ws : List ℕ} {n gates : ℕ} (legible : Legible ws n gates) (few : n
       m : ℕ
       m = gateCount (decode ws)
 
-      long : NodesLong (decode ws) n zeros ones
+      long : NodesLong (decode ws) (nodes .inputs) zeros ones
       long = underway-long u
 
       p : Pair
-      p = gatePair ws n gates j zeros ones
+      p = gatePair ws nodes j zeros ones
 
-      was : getD (gatesIn n m zeros ones) j nothing ≡ pairAt zeros ones (n + j)
-      was = gatesIn-at n m zeros ones j l
+      was : getD (gatesIn (nodes .inputs) m zeros ones) j nothing ≡ pairAt zeros ones (nodes .inputs + j)
+      was = gatesIn-at (nodes .inputs) m zeros ones j l
 
-      same : not (eqb (p .zeros) (getD zeros (n + j) 0)) || not (eqb (p .ones) (getD ones (n + j) 0)) ≡ false → p ≡ getD (gatesIn n m zeros ones) j nothing
+      same : not (eqb (p .zeros) (getD zeros (nodes .inputs + j) 0)) || not (eqb (p .ones) (getD ones (nodes .inputs + j) 0)) ≡ false → p ≡ getD (gatesIn (nodes .inputs) m zeros ones) j nothing
       same h =
-          let d = differ-no (p .zeros) (getD zeros (n + j) 0) (p .ones) (getD ones (n + j) 0) h in
-          rw was (same-pair zeros ones (n + j) p (d .0) (d .1))
+          let d = differ-no (p .zeros) (getD zeros (nodes .inputs + j) 0) (p .ones) (getD ones (nodes .inputs + j) 0) h in
+          rw was (same-pair zeros ones (nodes .inputs + j) p (d .0) (d .1))
 
-      other : not (eqb (p .zeros) (getD zeros (n + j) 0)) || not (eqb (p .ones) (getD ones (n + j) 0)) ≡ true
-          → p .zeros ≡ getD (gatesIn n m zeros ones) j nothing .zeros → p .ones ≡ getD (gatesIn n m zeros ones) j nothing .ones → ⊥
+      other : not (eqb (p .zeros) (getD zeros (nodes .inputs + j) 0)) || not (eqb (p .ones) (getD ones (nodes .inputs + j) 0)) ≡ true
+          → p .zeros ≡ getD (gatesIn (nodes .inputs) m zeros ones) j nothing .zeros → p .ones ≡ getD (gatesIn (nodes .inputs) m zeros ones) j nothing .ones → ⊥
       other h ez eo =
-          differ-yes (p .zeros) (getD zeros (n + j) 0) (p .ones) (getD ones (n + j) 0) h
-          (ez ∙ ap (λ (q : Pair). q .zeros) was ∙ zeros-at zeros ones (n + j)) (eo ∙ ap (λ (q : Pair). q .ones) was ∙ ones-at zeros ones (n + j))
+          differ-yes (p .zeros) (getD zeros (nodes .inputs + j) 0) (p .ones) (getD ones (nodes .inputs + j) 0) h
+          (ez ∙ ap (λ (q : Pair). q .zeros) was ∙ zeros-at zeros ones (nodes .inputs + j)) (eo ∙ ap (λ (q : Pair). q .ones) was ∙ ones-at zeros ones (nodes .inputs + j))
 
 -- several gates, one after the other
-module _ {ws : List ℕ} {n gates : ℕ} {zeros ones : List ℕ} where
-  pub walked-zeros : {js zeros′ ones′ : List ℕ} {changed : Bool} → Walked ws n gates zeros ones js zeros′ ones′ changed → length zeros′ ≡ length zeros
+module _ {ws : List ℕ} {nodes : Nodes} {zeros ones : List ℕ} where
+  pub walked-zeros : {js zeros′ ones′ : List ℕ} {changed : Bool} → Walked ws nodes zeros ones js zeros′ ones′ changed → length zeros′ ≡ length zeros
   walked-zeros noGate = refl
-  walked-zeros (gateMore {zerosMid = mid} w j l e) = rw (e .zerosAre) (length-set mid (n + j) _) ∙ walked-zeros w
+  walked-zeros (gateMore {zerosMid = mid} w j l e) = rw (e .zerosAre) (length-set mid (nodes .inputs + j) _) ∙ walked-zeros w
 
-  pub walked-ones : {js zeros′ ones′ : List ℕ} {changed : Bool} → Walked ws n gates zeros ones js zeros′ ones′ changed → length ones′ ≡ length ones
+  pub walked-ones : {js zeros′ ones′ : List ℕ} {changed : Bool} → Walked ws nodes zeros ones js zeros′ ones′ changed → length ones′ ≡ length ones
   walked-ones noGate = refl
-  walked-ones (gateMore {onesMid = mid} w j l e) = rw (e .onesAre) (length-set mid (n + j) _) ∙ walked-ones w
+  walked-ones (gateMore {onesMid = mid} w j l e) = rw (e .onesAre) (length-set mid (nodes .inputs + j) _) ∙ walked-ones w
 
-  pub walked-long : {b : Block} {js zeros′ ones′ : List ℕ} {changed : Bool} → Walked ws n gates zeros ones js zeros′ ones′ changed
-      → NodesLong b n zeros ones → NodesLong b n zeros′ ones′
+  pub walked-long : {b : Block} {js zeros′ ones′ : List ℕ} {changed : Bool} → Walked ws nodes zeros ones js zeros′ ones′ changed
+      → NodesLong b (nodes .inputs) zeros ones → NodesLong b (nodes .inputs) zeros′ ones′
   walked-long w h = record { zerosLong = walked-zeros w ∙ h .zerosLong; onesLong = walked-ones w ∙ h .onesLong }
 
-  pub walked-swept : {js zeros′ ones′ : List ℕ} {changed : Bool} → Legible ws n gates → n ≤ maxInputs → BatchUnderway (decode ws) n zeros ones
-      → Walked ws n gates zeros ones js zeros′ ones′ changed → BatchSwept (decode ws) n js zeros ones zeros′ ones′ changed
+  pub walked-swept : {js zeros′ ones′ : List ℕ} {changed : Bool} → Legible ws nodes → nodes .inputs ≤ maxInputs → BatchUnderway (decode ws) (nodes .inputs) zeros ones
+      → Walked ws nodes zeros ones js zeros′ ones′ changed → BatchSwept (decode ws) (nodes .inputs) js zeros ones zeros′ ones′ changed
   walked-swept legible few u noGate = batch-none u
   walked-swept legible few u (gateMore w j l e) =
       let s = walked-swept legible few u w in

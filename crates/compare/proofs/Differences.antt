@@ -17,6 +17,8 @@ use lib.ListN.{getD}
 use borrow.Author.Tests.{lt-ltb, le-ltb}
 use Rattle.laws.specs.Lists.{any, upTo, least}
 use Rattle.laws.proofs.Least.{least-le, least-below, least-at, least-is}
+use Rattle.layout.specs.declared.nodes.Nodes.{Nodes}
+use Rattle.layout.specs.Nodes.{nodesOf}
 use Rattle.netlist.specs.declared.Answer.the-variants.{Done}
 use Rattle.netlist.specs.Values.{code}
 use Rattle.netlist.specs.Netlist.{Block, outputCount}
@@ -142,12 +144,14 @@ module _ {ours theirs : List ℕ} {base : ℕ} {zeros ones theirZeros theirOnes 
 
 -- both blocks were decided, and the lanes of settings that count and of outputs that differ are known
 pub marked-batch : {ours theirs order theirOrder zeros ones theirZeros theirOnes : List ℕ}
-    → CompareReady ours theirs order theirOrder zeros ones theirZeros theirOnes → {n base used counted word : ℕ} {z o tz to : List ℕ} → n ≡ getD ours 0 0
-    → base % 64 ≡ 0 → BatchSettled (decode ours) n base z o → BatchSettled (decode theirs) n base tz to → used ≡ full (lanesOf n)
-    → Tells (lanesOf n) base (isCounted (decode ours)) counted → word ≡ differingWords ours theirs used z o tz to (getD ours 2 0)
+    → CompareReady ours theirs order theirOrder zeros ones theirZeros theirOnes → {nodes theirNodes : Nodes} {base used counted word : ℕ} {z o tz to : List ℕ}
+    → nodes ≡ nodesOf ours → theirNodes ≡ nodesOf theirs → base % 64 ≡ 0 → BatchSettled (decode ours) (nodes .inputs) base z o
+    → BatchSettled (decode theirs) (theirNodes .inputs) base tz to → used ≡ full (lanesOf (nodes .inputs))
+    → Tells (lanesOf (nodes .inputs)) base (isCounted (decode ours)) counted → word ≡ differingWords ours theirs used z o tz to (getD ours 2 0)
     → Marked ours theirs base z o tz to (bitAnd counted word)
-marked-batch r e aligned p q u t w =
-    let j = both-judged r e aligned p q in
+unfolding nodesOf
+marked-batch r e f aligned p q u t w =
+    let j = both-judged r e f aligned p q in
     record { judged = j; tells = marked-lanes j (u ∙ rw e) (rw e at t) w }
 
 -- the lowest lane of a word that is not 0

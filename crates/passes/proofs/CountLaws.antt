@@ -22,6 +22,7 @@ use Rattle.laws.proofs.Tests.{lt-or-le, eq-or-ne, not-both}
 use Rattle.laws.proofs.Tab.{length-tab, getD-tab, tab-ext, tab-getD, map-tab, placed-tab}
 use Rattle.laws.proofs.Slices.{length-placed, getD-past}
 use Rattle.laws.proofs.Lists.{sum-append}
+use Rattle.layout.specs.declared.nodes.Nodes.{Nodes}
 use Rattle.netlist.specs.Limits.{maxGates, maxCopies}
 use Rattle.netlist.specs.Netlist.{Block}
 use Rattle.netlist.specs.StoredBlock.{decode}
@@ -114,9 +115,9 @@ module _ {b : Block} {count : ℕ} {members starts : List ℕ} (listing : Listin
   pub group-part : (from to : ℕ) → from ≡ getD starts g 0 → to ≡ getD starts (g + 1) 0 → take (to - from) (drop from members) ≡ groupAt b g
   group-part from to e f = rw (e, f) (listing .part g l)
 
-module _ {ws : List ℕ} {n gates base count : ℕ} {members starts passes zeros ones settledZeros settledOnes : List ℕ}
-    (h : BatchHeld ws n gates base zeros ones) (rooms : Rooms (decode ws) count members starts passes zeros ones settledZeros settledOnes) where
-  pub group-batch : (g : ℕ) → g < count → GroupBatch ws n gates base (groupAt (decode ws) g)
+module _ {ws : List ℕ} {nodes : Nodes} {base count : ℕ} {members starts passes zeros ones settledZeros settledOnes : List ℕ}
+    (h : BatchHeld ws nodes base zeros ones) (rooms : Rooms (decode ws) count members starts passes zeros ones settledZeros settledOnes) where
+  pub group-batch : (g : ℕ) → g < count → GroupBatch ws nodes base (groupAt (decode ws) g)
   group-batch g l =
       record {
         evaluable = record { legible = h .legible; fewInputs = h .fewInputs; there = λ j m. groups-below (decode ws) j g m };
@@ -128,7 +129,7 @@ module _ {ws : List ℕ} {n gates base count : ℕ} {members starts passes zeros
 
   -- a group that can be counted
   pub group-ready : {done next total : ℕ} → Counting (decode ws) count base done next passes total → (g : ℕ) → g < count → total ≤ maxCopies
-      → GroupReady ws n gates base (groupAt (decode ws) g) (getD passes g 0) total zeros ones settledZeros settledOnes
+      → GroupReady ws nodes base (groupAt (decode ws) g) (getD passes g 0) total zeros ones settledZeros settledOnes
   unfolding copiesOf
   group-ready c g l few =
       let copies : ℕ → ℕ = λ i. length (groupAt (decode ws) i) * getD passes i 0 in
@@ -159,8 +160,8 @@ pub rooms-counted : {b : Block} {count : ℕ} {members starts passes zeros ones 
     → Rooms b (length (groups b)) members starts passes zeros ones settledZeros settledOnes
 rooms-counted r = rw (r .listing .countIs) at r
 
-pub held-kept : {ws : List ℕ} {n gates base : ℕ} {zeros ones zeros′ ones′ : List ℕ} → BatchHeld ws n gates base zeros ones → zeros′ ≡ zeros → ones′ ≡ ones
-    → BatchHeld ws n gates base zeros′ ones′
+pub held-kept : {ws : List ℕ} {nodes : Nodes} {base : ℕ} {zeros ones zeros′ ones′ : List ℕ} → BatchHeld ws nodes base zeros ones → zeros′ ≡ zeros → ones′ ≡ ones
+    → BatchHeld ws nodes base zeros′ ones′
 held-kept h e f = rw (e, f) h
 
 -- ---- all groups

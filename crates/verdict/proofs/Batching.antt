@@ -22,9 +22,11 @@ use Rattle.laws.specs.Lists.{countBelow, least, tab, placed}
 use Rattle.laws.proofs.Tests.{bool-cases, lt-or-le, not-both, and-intro, and-left, and-right}
 use Rattle.laws.proofs.Tab.{set-placed-tab}
 use Rattle.laws.proofs.Counting.{countBelow-ext}
+use Rattle.layout.specs.declared.nodes.Nodes.{Nodes}
+use Rattle.layout.specs.Nodes.{nodesOf}
 use Rattle.netlist.specs.Netlist.{Block, inputCount, gateCount}
 use Rattle.netlist.specs.Assignments.{bit}
-use Rattle.netlist.specs.StoredBlock.{gatesAt, outputsAt, decode, isTorn}
+use Rattle.netlist.specs.StoredBlock.{outputsAt, decode, isTorn}
 use Rattle.netlist.specs.Rounds.{settingCount, isSettled, isExcluded, isCounted, isSoundAt, lowestUnsettled}
 use Rattle.encoding.proofs.Decoded.{decode-inputCount, decode-gateCount}
 use Rattle.encoding.proofs.Readers.{whole-parts}
@@ -87,8 +89,9 @@ lanesOf-some n = pow-pos (min n 6)
 
 -- ---- a decided batch
 
-module _ {ws : List ℕ} {n gates : ℕ} {order zeros ones : List ℕ} (d : Decidable ws n gates order zeros ones) {zeros′ ones′ : List ℕ} where
-  pub judged : {base : ℕ} → base % 64 ≡ 0 → BatchSettled (decode ws) n base zeros′ ones′ → Judged ws n base zeros′ ones′
+module _ {ws : List ℕ} {nodes : Nodes} {order zeros ones : List ℕ} (d : Decidable ws nodes order zeros ones) {zeros′ ones′ : List ℕ} where
+  pub judged : {base : ℕ} → base % 64 ≡ 0 → BatchSettled (decode ws) (nodes .inputs) base zeros′ ones′
+      → Judged ws (nodes .inputs) base zeros′ ones′
   judged e s =
       record {
         settled = s;
@@ -97,7 +100,7 @@ module _ {ws : List ℕ} {n gates : ℕ} {order zeros ones : List ℕ} (d : Deci
         aligned = e;
       }
 
-  pub decidable-kept : length zeros′ ≡ length zeros → length ones′ ≡ length ones → Decidable ws n gates order zeros′ ones′
+  pub decidable-kept : length zeros′ ≡ length zeros → length ones′ ≡ length ones → Decidable ws nodes order zeros′ ones′
   decidable-kept e f =
       record {
         legible = d .legible;
@@ -108,14 +111,15 @@ module _ {ws : List ℕ} {n gates : ℕ} {order zeros ones : List ℕ} (d : Deci
       }
 
 -- whole words, an order over all gates, and a word for each node are what deciding a batch asks
-pub whole-decidable : (ws : List ℕ) (n m gates : ℕ) (order zeros ones : List ℕ) → isTorn ws ≡ false → n ≡ getD ws 0 0 → m ≡ getD ws 1 0
-    → gates ≡ gatesAt (getD ws 0 0) (getD ws 3 0) → Visits m order → length zeros ≡ n + m → length ones ≡ n + m → Decidable ws n gates order zeros ones
-whole-decidable ws n m gates order zeros ones h e f g v zl ol =
-    let c : m ≡ gateCount (decode ws) = f ∙ sym (decode-gateCount ws) in
+pub whole-decidable : (ws : List ℕ) (nodes : Nodes) (order zeros ones : List ℕ) → isTorn ws ≡ false → nodes ≡ nodesOf ws → Visits (nodes .gates) order
+    → length zeros ≡ nodes .inputs + nodes .gates → length ones ≡ nodes .inputs + nodes .gates → Decidable ws nodes order zeros ones
+unfolding nodesOf
+whole-decidable ws nodes order zeros ones h are v zl ol =
+    let c : nodes .gates ≡ gateCount (decode ws) = rw are (sym (decode-gateCount ws)) in
     record {
-      legible = rw (g, e) (legible ws h);
+      legible = rw are (legible ws h);
       visits = rw (← c) v;
-      fewInputs = rw e (whole-parts ws h .fewInputs);
+      fewInputs = rw are (whole-parts ws h .fewInputs);
       zerosLong = rw (← c) zl;
       onesLong = rw (← c) ol;
     }

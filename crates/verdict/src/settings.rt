@@ -1,4 +1,4 @@
-// Which settings are settled and which never come, for a block of n inputs whose gates' words start at `gates`, a batch of up to 64 at a time.
+// Which settings are settled and which never come, a batch of up to 64 at a time.
 // `zeros` and `ones` have exactly one word for each input and each gate; the gates are evaluated along `order`.
 use batch::in_place::decide_batch;
 use judge::nevers::coming_lanes;
@@ -10,6 +10,7 @@ use lanes::inputs::used_lanes;
 use lanes::words::count_lanes;
 use lanes::words::lane_count;
 use lanes::words::lowest_lane;
+use layout::nodes::Nodes;
 use layout::offsets::outputs_at;
 use layout::offsets::outputs_of;
 use netlist::Answer;
@@ -37,24 +38,23 @@ pub fn setting_count(n: usize) -> usize
 // The first batch that has a setting which may come and is not settled, or 2^n; the slices hold its settled values.
 fn unsettled_batch(
     words: &[u16],
-    n: usize,
-    gates: usize,
+    nodes: Nodes,
     order: &[u16],
     zeros: &mut [u64],
     ones: &mut [u64],
 ) -> usize
-    requires { ⌜ Decidable (now words) n gates (now order) (now zeros) (now ones) ⌝ }
-    ensures { λ r. ⌜ FirstBatch (decode (now (words .entry))) n r (now (zeros .exit)) (now (ones .exit)) ⌝ }
+    requires { ⌜ Decidable (now words) nodes (now order) (now zeros) (now ones) ⌝ }
+    ensures { λ r. ⌜ FirstBatch (decode (now (words .entry))) (nodes .inputs) r (now (zeros .exit)) (now (ones .exit)) ⌝ }
 {
-    let count = setting_count(n);
-    let lanes = lane_count(n);
-    let used = used_lanes(n);
+    let count = setting_count(nodes.inputs);
+    let lanes = lane_count(nodes.inputs);
+    let used = used_lanes(nodes.inputs);
     let at = outputs_at(words);
     let outputs = outputs_of(words);
     let mut base = 0;
     'batches: while base < count {
-        decide_batch(words, n, gates, order, base, zeros, ones);
-        let coming = coming_lanes(words, n, base);
+        decide_batch(words, nodes, order, base, zeros, ones);
+        let coming = coming_lanes(words, nodes.inputs, base);
         let mut o = 0;
         while o < outputs {
             if coming & undefined_lanes(words, at, o, used, zeros, ones) != 0 {
@@ -71,18 +71,17 @@ fn unsettled_batch(
 // undefined.
 pub fn lowest_unsettled(
     words: &[u16],
-    n: usize,
-    gates: usize,
+    nodes: Nodes,
     order: &[u16],
     zeros: &mut [u64],
     ones: &mut [u64],
 ) -> usize
-    requires { ⌜ Decidable (now words) n gates (now order) (now zeros) (now ones) ⌝ }
+    requires { ⌜ Decidable (now words) nodes (now order) (now zeros) (now ones) ⌝ }
     ensures { λ r. ⌜ r ≡ lowestUnsettled (decode (now (words .entry))) ⌝ }
 {
-    let base = unsettled_batch(words, n, gates, order, zeros, ones);
-    if base < setting_count(n) {
-        return base + lowest_lane(unsound_lanes(words, n, base, zeros, ones));
+    let base = unsettled_batch(words, nodes, order, zeros, ones);
+    if base < setting_count(nodes.inputs) {
+        return base + lowest_lane(unsound_lanes(words, nodes.inputs, base, zeros, ones));
     }
     base
 }
@@ -90,45 +89,43 @@ pub fn lowest_unsettled(
 // How many settings of the batch at `base` may come and are settled, when `lowest` is the lowest that may come and is not: below it none is decided.
 fn count_batch(
     words: &[u16],
-    n: usize,
-    gates: usize,
+    nodes: Nodes,
     order: &[u16],
     base: usize,
     lowest: usize,
     zeros: &mut [u64],
     ones: &mut [u64],
 ) -> usize
-    requires { ⌜ Decidable (now words) n gates (now order) (now zeros) (now ones) × (base % 64 ≡ 0) × (base < 2 ^ 32) ⌝ }
+    requires { ⌜ Decidable (now words) nodes (now order) (now zeros) (now ones) × (base % 64 ≡ 0) × (base < 2 ^ 32) ⌝ }
     requires { ⌜ lowest ≡ lowestUnsettled (decode (now words)) ⌝ }
-    ensures { λ r. ⌜ r ≡ countBelow (countedFrom (decode (now (words .entry))) base) (lanesOf n) ⌝ }
+    ensures { λ r. ⌜ r ≡ countBelow (countedFrom (decode (now (words .entry))) base) (lanesOf (nodes .inputs)) ⌝ }
 {
-    if base + lane_count(n) <= lowest {
-        return count_lanes(coming_lanes(words, n, base));
+    if base + lane_count(nodes.inputs) <= lowest {
+        return count_lanes(coming_lanes(words, nodes.inputs, base));
     }
-    decide_batch(words, n, gates, order, base, zeros, ones);
-    count_lanes(counted_lanes(words, n, base, zeros, ones))
+    decide_batch(words, nodes, order, base, zeros, ones);
+    count_lanes(counted_lanes(words, nodes.inputs, base, zeros, ones))
 }
 
 // How many settings that may come are settled, when `lowest` is the lowest other.
 pub fn count_settled(
     words: &[u16],
-    n: usize,
-    gates: usize,
+    nodes: Nodes,
     order: &[u16],
     lowest: usize,
     zeros: &mut [u64],
     ones: &mut [u64],
 ) -> usize
-    requires { ⌜ Decidable (now words) n gates (now order) (now zeros) (now ones) ⌝ }
+    requires { ⌜ Decidable (now words) nodes (now order) (now zeros) (now ones) ⌝ }
     requires { ⌜ lowest ≡ lowestUnsettled (decode (now words)) ⌝ }
     ensures { λ r. ⌜ r ≡ settledSettings (decode (now (words .entry))) ⌝ }
 {
-    let count = setting_count(n);
-    let lanes = lane_count(n);
+    let count = setting_count(nodes.inputs);
+    let lanes = lane_count(nodes.inputs);
     let mut settled = 0;
     let mut base = 0;
     while base < count {
-        settled += count_batch(words, n, gates, order, base, lowest, zeros, ones);
+        settled += count_batch(words, nodes, order, base, lowest, zeros, ones);
         base += lanes;
     }
     settled
@@ -149,23 +146,22 @@ fn write_flags(word: u64, base: usize, lanes: usize, flags: &mut [u8])
 // A flag for each setting: does it never come, or is it settled?
 pub fn fill_sound(
     words: &[u16],
-    n: usize,
-    gates: usize,
+    nodes: Nodes,
     order: &[u16],
     zeros: &mut [u64],
     ones: &mut [u64],
     sound: &mut [u8],
 )
-    requires { ⌜ Decidable (now words) n gates (now order) (now zeros) (now ones) ⌝ }
-    requires { ⌜ 2 ^ n ≤ length (now sound) ⌝ }
-    ensures { λ r. ⌜ now (sound .exit) ≡ placed (tab (soundFlag (decode (now (words .entry)))) (2 ^ n)) (now (sound .entry)) ⌝ }
+    requires { ⌜ Decidable (now words) nodes (now order) (now zeros) (now ones) ⌝ }
+    requires { ⌜ 2 ^ nodes .inputs ≤ length (now sound) ⌝ }
+    ensures { λ r. ⌜ now (sound .exit) ≡ placed (tab (soundFlag (decode (now (words .entry)))) (2 ^ nodes .inputs)) (now (sound .entry)) ⌝ }
 {
-    let count = setting_count(n);
-    let lanes = lane_count(n);
+    let count = setting_count(nodes.inputs);
+    let lanes = lane_count(nodes.inputs);
     let mut base = 0;
     while base < count {
-        decide_batch(words, n, gates, order, base, zeros, ones);
-        let word = sound_lanes(words, n, base, zeros, ones);
+        decide_batch(words, nodes, order, base, zeros, ones);
+        let word = sound_lanes(words, nodes.inputs, base, zeros, ones);
         write_flags(word, base, lanes, sound);
         base += lanes;
     }
@@ -174,17 +170,16 @@ pub fn fill_sound(
 // The count and the lowest other.
 pub fn search_settings(
     words: &[u16],
-    n: usize,
-    gates: usize,
+    nodes: Nodes,
     order: &[u16],
     zeros: &mut [u64],
     ones: &mut [u64],
 ) -> Answer
-    requires { ⌜ Decidable (now words) n gates (now order) (now zeros) (now ones) ⌝ }
+    requires { ⌜ Decidable (now words) nodes (now order) (now zeros) (now ones) ⌝ }
     ensures { λ r. ⌜ r ≡ Done (settledSettings (decode (now (words .entry)))) (lowestUnsettled (decode (now (words .entry)))) ⌝ }
 {
-    let lowest = lowest_unsettled(words, n, gates, order, zeros, ones);
-    let count = count_settled(words, n, gates, order, lowest, zeros, ones);
+    let lowest = lowest_unsettled(words, nodes, order, zeros, ones);
+    let count = count_settled(words, nodes, order, lowest, zeros, ones);
     Answer::Done {
         count: count,
         detail: lowest,

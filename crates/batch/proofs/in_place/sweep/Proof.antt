@@ -11,11 +11,11 @@ use Rattle.batch.proofs.in_place.sweep.Statement.{statement}
 use Rattle.batch.proofs.in_place.sweep.Tie as tie
 
 abbrev Inv-loop : tie.InvT-loop
-Inv-loop words n gates used order back zeros₀ ones₀ count changed₀ i₀ zeros ones changed i =
-    (i ≤ length order) × Walked words n gates zeros₀ ones₀ (tab (λ k. getD order (placeOf back (length order) k) 0) i) zeros ones changed
+Inv-loop words nodes used order back zeros₀ ones₀ count changed₀ i₀ zeros ones changed i =
+    (i ≤ length order) × Walked words nodes zeros₀ ones₀ (tab (λ k. getD order (placeOf back (length order) k) 0) i) zeros ones changed
 
 abbrev μ-loop : tie.MeasureT-loop
-μ-loop words n gates used order back zeros₀ ones₀ count changed₀ i₀ zeros ones changed i = length order - i
+μ-loop words nodes used order back zeros₀ ones₀ count changed₀ i₀ zeros ones changed i = length order - i
 
 -- the function's entry, from the loop's head
 abbrev start : tie.At-loop Inv-loop μ-loop → tie.Start Inv-loop μ-loop

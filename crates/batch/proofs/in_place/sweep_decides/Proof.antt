@@ -16,8 +16,8 @@ abbrev swept : tie.After-slice-known4 → tie.After-sweep
 swept c = c .before .before .before .before
 
 made : (d : tie.After-sweep) → let a = start d .args in
-    BatchSwept (decode (a .words .now)) (a .n) (along (a .back) (a .order .now)) (a .zeros .now) (a .ones .now) (d .sweep .last .1 .1 .1 .1 .1 .1 .0)
-    (d .sweep .last .1 .1 .1 .1 .1 .1 .1 .0) (d .sweep .result)
+    BatchSwept (decode (a .words .now)) (a .nodes .inputs) (along (a .back) (a .order .now)) (a .zeros .now) (a .ones .now) (d .sweep .last .1 .1 .1 .1 .1 .0)
+    (d .sweep .last .1 .1 .1 .1 .1 .1 .0) (d .sweep .result)
 made d = let p = start d .pre in walked-swept (p .0 .legible) (p .0 .fewInputs) (p .1) (d .sweep .ensures)
 
 sweep-requires : tie.Need-sweep-requires

@@ -36,7 +36,7 @@ part w =
     (w .word-at2 .ensures)
 
 counted : (c : tie.After-count-group) → let s = start (ends c) in
-    GroupCounted (decode (s .args .words .now)) (s .args .n) (s .args .base) (groupAt (decode (s .args .words .now)) (s .args .g))
+    GroupCounted (decode (s .args .words .now)) (s .args .nodes .inputs) (s .args .base) (groupAt (decode (s .args .words .now)) (s .args .g))
     (getD (s .args .passes .now) (s .args .g) 0) (s .args .total) (c .count-group .result)
 counted c = rw (part (ends c)) at (c .count-group .ensures .0)
 

@@ -13,12 +13,12 @@ use Rattle.passes.proofs.batches.count_groups.Statement.{statement}
 use Rattle.passes.proofs.batches.count_groups.Tie as tie
 
 abbrev Inv-loop : tie.InvT-loop
-Inv-loop words n gates base count members starts passes₀ total zeros₀ ones₀ kept-zeros₀ kept-ones₀ sum₀ g₀ passes zeros ones kept-zeros kept-ones sum g =
-    (g ≤ count) × Counting (decode words) count base g (base + lanesOf n) passes sum × SameRest count passes₀ passes × (zeros ≡ zeros₀) × (ones ≡ ones₀)
+Inv-loop words nodes base count members starts passes₀ total zeros₀ ones₀ kept-zeros₀ kept-ones₀ sum₀ g₀ passes zeros ones kept-zeros kept-ones sum g =
+    (g ≤ count) × Counting (decode words) count base g (base + lanesOf (nodes .inputs)) passes sum × SameRest count passes₀ passes × (zeros ≡ zeros₀) × (ones ≡ ones₀)
     × (length kept-zeros ≡ length kept-zeros₀) × (length kept-ones ≡ length kept-ones₀)
 
 abbrev μ-loop : tie.MeasureT-loop
-μ-loop words n gates base count members starts passes₀ total zeros₀ ones₀ kept-zeros₀ kept-ones₀ sum₀ g₀ passes zeros ones kept-zeros kept-ones sum g =
+μ-loop words nodes base count members starts passes₀ total zeros₀ ones₀ kept-zeros₀ kept-ones₀ sum₀ g₀ passes zeros ones kept-zeros kept-ones sum g =
     count - g
 
 -- the function's entry, from the loop's head; and the loop's head, from a group's count
@@ -61,14 +61,14 @@ loop-again c =
     let i = l .loop .inv in
     let is = sym (s .pre .1 .0 .listing .countIs) in
     let e = rw is at (d .count-needed .ensures .0) in
-    let k = d .count-needed .kept in (
+    let k = d .count-needed .kept .1 .1 .1 .1 .1 .1 .1 .1 .1 .1 in (
       omega (arith, d .before .before .before .before .before .before .before .loop-test .taken),
       e .0,
       rest-then (i .2) (e .1),
       d .count-needed .ensures .1 .0 ∙ i .3,
       d .count-needed .ensures .1 .1 ∙ i .4,
-      k .1 .1 .1 .1 .1 .1 .1 .1 .1 .1 .1 .0 ∙ i .5,
-      k .1 .1 .1 .1 .1 .1 .1 .1 .1 .1 .1 .1 .0 ∙ i .6,
+      k .0 ∙ i .5,
+      k .1 .0 ∙ i .6,
     )
 
 same-length : tie.Need-same-length Inv-loop μ-loop

@@ -16,12 +16,12 @@ use Rattle.passes.proofs.batches.count_passes.Statement.{statement}
 use Rattle.passes.proofs.batches.count_passes.Tie as tie
 
 abbrev Inv-loop : tie.InvT-loop
-Inv-loop words n gates order count members starts passes₀ zeros₀ ones₀ kept₀ kept′₀ settings lanes total₀ base₀ passes zeros ones kept kept′ total base =
-    Place n base × Counting (decode words) count base 0 base passes total × SameRest count passes₀ passes × (length zeros ≡ length zeros₀)
+Inv-loop words nodes order count members starts passes₀ zeros₀ ones₀ kept₀ kept′₀ settings lanes total₀ base₀ passes zeros ones kept kept′ total base =
+    Place (nodes .inputs) base × Counting (decode words) count base 0 base passes total × SameRest count passes₀ passes × (length zeros ≡ length zeros₀)
     × (length ones ≡ length ones₀) × (length kept ≡ length kept₀) × (length kept′ ≡ length kept′₀)
 
 abbrev μ-loop : tie.MeasureT-loop
-μ-loop words n gates order count members starts passes₀ zeros₀ ones₀ kept₀ kept′₀ settings lanes total₀ base₀ passes zeros ones kept kept′ total base =
+μ-loop words nodes order count members starts passes₀ zeros₀ ones₀ kept₀ kept′₀ settings lanes total₀ base₀ passes zeros ones kept kept′ total base =
     settings - base
 
 -- the function's entry, from the words filled and from the loop's head; and the loop's head, from a batch's count
@@ -41,7 +41,7 @@ head d = d .before .before .before .before .before .before .before .before
 settings-are : (l : tie.At-loop Inv-loop μ-loop) → l .before .before .setting-count .result ≡ settingCount (decode (start l .args .words .now))
 settings-are l =
     let s = start l in
-    setting-count (decode (s .args .words .now)) (s .args .n) (l .before .before .setting-count .result) (s .pre .0 .legible .inputs)
+    setting-count (decode (s .args .words .now)) (s .args .nodes .inputs) (l .before .before .setting-count .result) (s .pre .0 .legible .inputs)
     (l .before .before .setting-count .ensures)
 
 -- the words behind those of the groups are as at entry
@@ -51,10 +51,10 @@ since-entry l =
     rest-then (rest-first (s .pre .1 .listing) (s .args .passes .now) (s .pre .1 .passesRoom) (filled l .fill-words .ensures)) (l .loop .inv .2)
 
 -- a batch that is there, and the next
-inside : (t : tie.In-loop Inv-loop μ-loop) → let l = t .before in l .loop .base < 2 ^ start l .args .n
+inside : (t : tie.In-loop Inv-loop μ-loop) → let l = t .before in l .loop .base < 2 ^ start l .args .nodes .inputs
 inside t = omega (arith, t .before .before .before .setting-count .ensures, t .loop-test .taken)
 
-next : (d : tie.After-count-open Inv-loop μ-loop) → let l = head d in Place (start l .args .n) (l .loop .base + l .before .lane-count .result)
+next : (d : tie.After-count-open Inv-loop μ-loop) → let l = head d in Place (start l .args .nodes .inputs) (l .loop .base + l .before .lane-count .result)
 next d =
     let l = head d in
     place-next (l .before .lane-count .ensures) (l .before .before .setting-count .ensures) (l .loop .inv .0)
@@ -75,7 +75,7 @@ loop-holds c =
     let s = entry f in
     let r = s .pre .1 in
     let first = r .listing in (
-      place-first (s .args .n),
+      place-first (s .args .nodes .inputs),
       counting-first first (s .args .passes .now) (r .passesRoom) (f .fill-words .ensures),
       rest-none _ _,
       refl,
@@ -102,7 +102,7 @@ add-base : tie.Need-add-base Inv-loop μ-loop
 add-base c =
     let d = c .before .before .before .before .before .before .before .before .before .before in
     let s = start (head d) in
-    omega (arith, next d .within, few-settings (s .args .n) (s .pre .0 .fewInputs))
+    omega (arith, next d .within, few-settings (s .args .nodes .inputs) (s .pre .0 .fewInputs))
 
 loop-less : tie.Need-loop-less Inv-loop μ-loop
 loop-less c =
@@ -111,7 +111,7 @@ loop-less c =
     omega (
       arith,
       l .before .lane-count .ensures,
-      lanesOf-some (start l .args .n),
+      lanesOf-some (start l .args .nodes .inputs),
       d .before .before .before .before .before .before .before .loop-test .taken,
     )
 
@@ -120,16 +120,16 @@ loop-again c =
     let d = c .before .before .before .before .before .before .before .before .before .before in
     let l = head d in
     let i = l .loop .inv in
-    let k = d .count-open .kept in
+    let k = d .count-open .kept .1 .1 .1 .1 .1 .1 .1 .1 .1 in
     let is = sym (l .before .lane-count .ensures) in
     let e = rw is at (d .count-open .ensures) in (
       next d,
       e .0,
       rest-then (i .2) (e .1),
-      k .1 .1 .1 .1 .1 .1 .1 .1 .1 .1 .0 ∙ i .3,
-      k .1 .1 .1 .1 .1 .1 .1 .1 .1 .1 .1 .0 ∙ i .4,
-      k .1 .1 .1 .1 .1 .1 .1 .1 .1 .1 .1 .1 .0 ∙ i .5,
-      k .1 .1 .1 .1 .1 .1 .1 .1 .1 .1 .1 .1 .1 .0 ∙ i .6,
+      k .0 ∙ i .3,
+      k .1 .0 ∙ i .4,
+      k .1 .1 .0 ∙ i .5,
+      k .1 .1 .1 .0 ∙ i .6,
     )
 
 same-length : tie.Need-same-length Inv-loop μ-loop

@@ -12,11 +12,11 @@ use Rattle.passes.proofs.group.more_passes.Statement.{statement}
 use Rattle.passes.proofs.group.more_passes.Tie as tie
 
 abbrev Inv-loop : tie.InvT-loop
-Inv-loop words n gates base group passes total zeros₀ ones₀ settled-zeros settled-ones used size needed₀ sum₀ zeros ones needed sum =
-    Passing (decode words) n base group passes total zeros₀ ones₀ zeros ones needed sum
+Inv-loop words nodes base group passes total zeros₀ ones₀ settled-zeros settled-ones used size needed₀ sum₀ zeros ones needed sum =
+    Passing (decode words) (nodes .inputs) base group passes total zeros₀ ones₀ zeros ones needed sum
 
 abbrev μ-loop : tie.MeasureT-loop
-μ-loop words n gates base group passes total zeros₀ ones₀ settled-zeros settled-ones used size needed₀ sum₀ zeros ones needed sum = maxCopies + 1 - sum
+μ-loop words nodes base group passes total zeros₀ ones₀ settled-zeros settled-ones used size needed₀ sum₀ zeros ones needed sum = maxCopies + 1 - sum
 
 -- the function's entry, from the loop's head; and the loop's head, from a comparison
 abbrev start : tie.At-loop Inv-loop μ-loop → tie.Start Inv-loop μ-loop

@@ -18,7 +18,7 @@ lane-count-requires c κs = search needs
 add-if1 : tie.Need-add-if1
 add-if1 c =
     let s = c .before .before .before .before .before in
-    omega (arith, c .lane-count .ensures, lanesOf-most (s .args .n), s .pre .0 .2)
+    omega (arith, c .lane-count .ensures, lanesOf-most (s .args .nodes .inputs), s .pre .0 .2)
 
 coming-lanes-requires : tie.Need-coming-lanes-requires
 coming-lanes-requires c κs =
@@ -31,7 +31,7 @@ count-lanes-requires c κs = search needs
 returns : tie.Need-returns
 returns c =
     let s = c .before .before .before .before .before .before .before .before in
-    let n = s .args .n in
+    let n = s .args .nodes .inputs in
     c .count-lanes .ensures ∙ tells-count (lanesOf-most n) (c .before .coming-lanes .ensures)
     ∙ count-coming (decode (s .args .words .now)) (s .args .base) (lanesOf n)
     (rw (← s .pre .1, ← c .before .before .before .lane-count .ensures) (c .before .before .if1 .taken))
@@ -56,7 +56,7 @@ same-length-2 c = search needs
 returns-2 : tie.Need-returns-2
 unfolding countedFrom
 returns-2 c =
-    let n = c .before .before .before .before .before .before .before .before .before .before .before .before .before .before .before .before .before .args .n in
+    let n = c .before .before .before .before .before .before .before .before .before .before .before .before .before .before .before .before .before .args .nodes .inputs in
     c .count-lanes2 .ensures ∙ tells-count (lanesOf-most n) (c .before .counted-lanes .ensures)
 
 pub count-batch-spec : {M : Type 1} → statement M

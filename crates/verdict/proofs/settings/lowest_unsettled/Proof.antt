@@ -21,7 +21,7 @@ unsound-lanes-requires c κs =
     let u = c .before .before .before .before .before .before .before .before in
     let s = c .before .before .before .before .before .before .before .before .before .before .before .before .before .before .before in
     let f = u .unsettled-batch .ensures in
-    let inside : u .unsettled-batch .result < 2 ^ s .args .n = omega (arith, c .before .before .before .setting-count .ensures, c .before .before .if1 .taken) in
+    let inside : u .unsettled-batch .result < 2 ^ s .args .nodes .inputs = omega (arith, c .before .before .before .setting-count .ensures, c .before .before .if1 .taken) in
     judged (s .pre) (f .aligned inside) (f .settled inside)
 
 lowest-lane-requires : tie.Need-lowest-lane-requires
@@ -36,7 +36,7 @@ add-result c =
       c .lowest-lane .ensures,
       least-le (hasLane (c .before .unsound-lanes .result)) 64,
       u .unsettled-batch .ensures .within,
-      few-settings (s .args .n) (s .pre .fewInputs),
+      few-settings (s .args .nodes .inputs) (s .pre .fewInputs),
     )
 
 same-length : tie.Need-same-length
@@ -49,7 +49,7 @@ returns : tie.Need-returns
 returns c =
     let u = c .before .before .before .before .before .before .before .before .before .before in
     let s = c .before .before .before .before .before .before .before .before .before .before .before .before .before .before .before .before .before in
-    let inside : u .unsettled-batch .result < 2 ^ s .args .n = omega (arith, c .before .before .before .before .before .setting-count .ensures, c .before .before .before .before .if1 .taken) in
+    let inside : u .unsettled-batch .result < 2 ^ s .args .nodes .inputs = omega (arith, c .before .before .before .before .before .setting-count .ensures, c .before .before .before .before .if1 .taken) in
     ap (λ k. u .unsettled-batch .result + k) (c .lowest-lane .ensures)
     ∙ lowest-in-batch (s .pre .legible .inputs) (u .unsettled-batch .ensures) inside (c .before .unsound-lanes .ensures)
 

@@ -10,7 +10,7 @@ lowest-unsettled-requires c κs = search needs
 count-settled-requires : tie.Need-count-settled-requires
 count-settled-requires c κs =
     let e = c .before .before .before .before .before .before .lowest-unsettled in
-    (decidable-kept (c .before .before .before .before .before .before .before .before .before .before .before .before .before .pre) (e .kept .1 .1 .1 .1 .0) (e .kept .1 .1 .1 .1 .1 .0), e .ensures)
+    (decidable-kept (c .before .before .before .before .before .before .before .before .before .before .before .before .before .pre) (e .kept .1 .1 .1 .0) (e .kept .1 .1 .1 .1 .0), e .ensures)
 
 same-length : tie.Need-same-length
 same-length c = search needs
