@@ -10,13 +10,13 @@
 -- Assumes nothing.
 use mathlib.Core.Path.{_≡_, refl, sym, ap, _∙_}
 use mathlib.Core.Logic.{⊎-elim}
-use mathlib.Core.Bool.{Bool, true, false, not, cond, _&&_, _||_}
+use mathlib.Core.Bool.{Bool, true, false, not, cond, _||_}
 use mathlib.Core.List.{List}
 use Prim.Native.Nat.{ℕ, zero, suc, _+_, _-_, _*_, _%_, _^_, _≤_, _<_, min}
 use native.Mathlib.Nat.{add-zero, add-suc, add-assoc, min-le-left, min-eq-left, min-eq-right}
 use native.Mathlib.Omega.{arith}
 use lib.Bits.{bitAnd}
-use lib.ListN.{length, getD, set, length-set}
+use lib.ListN.{length, getD, length-set}
 use lib.Pow.{pow-mono, pow-pos, pow-add}
 use Rattle.laws.specs.Lists.{countBelow, least, tab, placed}
 use Rattle.laws.proofs.Tests.{bool-cases, lt-or-le, not-both, and-intro, and-left, and-right}

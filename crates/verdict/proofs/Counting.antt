@@ -1,16 +1,14 @@
 -- Settled settings: the lowest that may come and is not settled, and the count. Cited by this crate's functions. Assumes nothing.
 use mathlib.Core.Path.{_≡_, refl, sym}
-use mathlib.Core.Bool.{Bool, true, false, cond, not, _&&_, _||_}
+use mathlib.Core.Bool.{Bool, true, false, not, _&&_, _||_}
 use mathlib.Core.List.{List}
-use Prim.Native.Nat.{ℕ, _+_, _^_, _≤_, _<_}
+use Prim.Native.Nat.{ℕ, _^_, _≤_, _<_}
 use native.Mathlib.Omega.{arith}
-use native.Mathlib.Numerals.{add-one}
-use lib.ListN.{length, getD, set}
+use lib.ListN.{getD}
 use lib.Pow.{pow-mono}
-use Rattle.laws.specs.Lists.{countBelow, tab, placed}
-use Rattle.laws.proofs.Tab.{set-placed-tab}
+use Rattle.laws.specs.Lists.{countBelow}
 use Rattle.laws.proofs.Least.{least-le, least-below, least-is}
-use Rattle.laws.proofs.Counting.{countBelow-ext, countBelow-le}
+use Rattle.laws.proofs.Counting.{countBelow-le}
 use Rattle.netlist.specs.Limits.{maxInputs}
 use Rattle.netlist.specs.Netlist.{Block, inputCount}
 use Rattle.netlist.specs.Rounds.{settingCount, isSettled, isExcluded, isCounted, isSoundAt, settledSettings, lowestUnsettled}

@@ -1,5 +1,5 @@
 -- `verdict::settings::lowest_unsettled` meets its contract: in the first batch that has such a setting, the lowest lane. Assumes nothing.
-use mathlib.Core.Path.{_≡_, refl, sym, ap, _∙_}
+use mathlib.Core.Path.{ap, _∙_}
 use Prim.Native.Nat.{_+_, _^_, _<_}
 use native.Mathlib.Omega.{arith}
 use Rattle.laws.proofs.Least.{least-le}
