@@ -19,7 +19,9 @@ part-scan-line-end : tie.Need-part-scan-line-end
 part-scan-line-end c = search needs
 
 scan-line-requires : tie.Need-scan-line-requires
-scan-line-requires c κs = search needs
+scan-line-requires c κs =
+    let a = c .before .before .args in
+    rw (rest-is-drop (a .text .now) (a .at)) (omega (arith, length-drop (a .at) (a .text .now)))
 
 add-t5 : tie.Need-add-t5
 add-t5 c =
