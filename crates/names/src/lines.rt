@@ -6,7 +6,7 @@ ghost use Prim.Native.Nat.{_+_, _-_, _≤_};
 ghost use lib.Dec.{eqb};
 ghost use lib.ListN.{length, drop};
 ghost use Rattle.netlist.specs.Limits.{maxText};
-ghost use Rattle.names.specs.Lines.{times, lengthWithLf, lineOpens};
+ghost use Rattle.names.specs.Lines.{times, timesBehind, lengthWithLf, lineOpens};
 
 // 1 where the bytes are the same.
 pub fn one_if(a: u8, b: u8) -> usize
@@ -31,6 +31,20 @@ pub fn count(s: &[u8], b: u8) -> usize
     let mut i = 0;
     while i < s.len() {
         n += one_if(s[i], b) as u16;
+        i += 1;
+    }
+    n as usize
+}
+
+// How often `b` stands right behind `a` in `s`; counted likewise.
+pub fn count_behind(s: &[u8], a: u8, b: u8) -> usize
+    requires { ⌜ length (now s) ≤ maxText ⌝ }
+    ensures { λ r. ⌜ r ≡ timesBehind a b (now (s .entry)) ⌝ }
+{
+    let mut n: u16 = 0;
+    let mut i = 1;
+    while i < s.len() {
+        n += (one_if(s[i - 1], a) * one_if(s[i], b)) as u16;
         i += 1;
     }
     n as usize
