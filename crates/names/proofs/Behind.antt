@@ -66,6 +66,9 @@ pub behind-le : (a b : ℕ) (s : List ℕ) → timesBehind a b s ≤ length s
 behind-le a b [] = omega arith
 behind-le a b (x ∷ xs) = let h = behind-le a b xs in let o = one-le (eqb x a && isFirst b xs) in omega arith
 
+pub counted-le : (a b : ℕ) (s : List ℕ) {r : ℕ} → r ≡ timesBehind a b s → r ≤ length s
+counted-le a b s e = omega (arith, behind-le a b s)
+
 -- ---- a printed tree
 
 behind-append : (a b : ℕ) (xs ys : List ℕ) → times a xs ≡ 0 → timesBehind a b (xs ++ ys) ≡ timesBehind a b ys

@@ -28,7 +28,7 @@ returns c =
     let line = counted .before .before .line-length in
     let s = counted .before .before .before .before .args .s .now in
     let e : counted .count .result ≡ lineOpens s = rw (line .ensures) at (counted .count .ensures) ∙ opens-within s in
-    (line .ensures, rw (← e) (c .minus .ensures))
+    (line .ensures, omega (arith, e, c .minus .ensures))
 
 pub scan-line-spec : {M : Type 1} → statement M
 scan-line-spec =

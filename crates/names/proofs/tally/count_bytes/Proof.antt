@@ -2,7 +2,7 @@
 use native.Mathlib.Omega.{arith}
 use borrow.Author.Needs.{needs}
 use Rattle.names.specs.Results.{countsOf}
-use Rattle.names.proofs.Behind.{behind-le}
+use Rattle.names.proofs.Behind.{counted-le}
 use Rattle.names.proofs.tally.count_bytes.Statement.{statement}
 use Rattle.names.proofs.tally.count_bytes.Tie as tie
 
@@ -18,7 +18,7 @@ count-behind-requires-2 c κs = search needs
 add-minus : tie.Need-add-minus
 add-minus c =
     let text = c .before .before .before .before .args .text .now in
-    omega (arith, behind-le 40 105 text, behind-le 40 103 text, c .before .count-behind .ensures, c .count-behind2 .ensures)
+    omega (arith, counted-le _ _ text (c .before .count-behind .ensures), counted-le _ _ text (c .count-behind2 .ensures))
 
 minus-requires : tie.Need-minus-requires
 minus-requires c κs = search needs
