@@ -1,8 +1,8 @@
 // 4 and 5 among the never lines of a text.
-use crate::MAX_PAIRS;
 use crate::NeverLines;
 use crate::PAIRS_AT;
 use names::lines::next_line;
+use names::search::MAX_PAIRS;
 use netlist::Test;
 use pairs::given::test_outside;
 use pairs::given::test_repeat;

@@ -1,11 +1,11 @@
 // The words of never lines in a stored block: two masks a line.
-use crate::MAX_PAIRS;
 use crate::NeverLines;
 use crate::PAIRS_AT;
 use layout::gather::Masks;
 use layout::gather::masks_of;
 use layout::limits::MAX_INPUTS;
 use names::lines::next_line;
+use names::search::MAX_PAIRS;
 use pairs::given::fill_setting;
 use pairs::tables::fill_pairs;
 ghost use mathlib.Core.Path.{_≡_};
