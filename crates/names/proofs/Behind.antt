@@ -144,7 +144,8 @@ module _ (b : ℕ) (other : (k : ℕ) → isKind k ≡ true → (rest : List ℕ
       rw (mul-suc one (length xs)) (omega arith)
 
   behind-tree : {t : Tree} {text : List ℕ} → Prints t text
-      → timesBehind 40 b text ≡ cond (eqb 105 b) 1 0 * length (t .inputs) + (cond (eqb 103 b) 1 0 * length (t .gates) + cond (eqb 111 b) 1 0 * length (t .outputs))
+      → timesBehind 40 b text
+      ≡ cond (eqb 105 b) 1 0 * length (t .inputs) + (cond (eqb 103 b) 1 0 * length (t .gates) + cond (eqb 111 b) 1 0 * length (t .outputs))
   unfolding print printLines
   behind-tree {t} p =
       let q = legal-parts t (p .legal) in

@@ -20,7 +20,7 @@ ghost use Rattle.netlist.specs.Syntax.{Tree};
 ghost use Rattle.netlist.specs.Reading.{isOverLimit};
 ghost use Rattle.names.specs.Results.{Prints, countsOf, treeCounts, isOver};
 
-// Each line has one bracket of its own, and each gate one more. Behind it stand `in`, `gate`, `out` or the name of a kind, of which none begins with `i` or `g`.
+// Each line has one bracket of its own, and each gate one more. `i` and `g` stand behind those of inputs and of named gates alone: no kind begins with them.
 fn count_bytes(text: &[u8]) -> Counts
     requires { ⌜ length (now text) ≤ maxText ⌝ }
     ensures { λ r. ⌜ r ≡ countsOf (now (text .entry)) ⌝ }
