@@ -53,7 +53,8 @@ fn put_port(
 ) -> usize
     requires { ⌜ (from ≤ 600000) × (o ≤ 65535) ⌝ }
     requires { ⌜ Short (portPiece (now words) from (now setting) (now gates) o) at ⌝ }
-    ensures { λ r. ⌜ Appended (portPiece (now (words .entry)) from (now (setting .entry)) (now (gates .entry)) o) (now (text .entry)) at (now (text .exit)) r ⌝ }
+    ensures { λ r. ⌜ Appended (portPiece (now (words .entry)) from (now (setting .entry)) (now (gates .entry)) o) (now (text .entry)) at
+        (now (text .exit)) r ⌝ }
 {
     let port = from + OUTPUT_SIZE * o;
     let word = word_at(words, port + NAME_SIZE);
@@ -76,7 +77,8 @@ fn put_ports(
 ) -> usize
     requires { ⌜ (from ≤ 600000) × (k ≤ 65535) ⌝ }
     requires { ⌜ Short (pieces (portPiece (now words) from (now setting) (now gates)) k) at ⌝ }
-    ensures { λ r. ⌜ Appended (pieces (portPiece (now (words .entry)) from (now (setting .entry)) (now (gates .entry))) k) (now (text .entry)) at (now (text .exit)) r ⌝ }
+    ensures { λ r. ⌜ Appended (pieces (portPiece (now (words .entry)) from (now (setting .entry)) (now (gates .entry))) k) (now (text .entry)) at
+        (now (text .exit)) r ⌝ }
 {
     let mut end = at;
     let mut o = 0;
@@ -102,7 +104,9 @@ fn put_show(text: &mut [u8], words: &[u16], setting: &[u8], gates: &[u8]) -> usi
 // 11, and the line. The first pass is over a text of one byte, and only measures.
 fn show_settled(words: &[u16], setting: &[u8], gates: &[u8], out: &mut [u8]) -> Answer
     requires { ⌜ isTorn (now words) ≡ false ⌝ }
-    ensures { λ r. ⌜ Promise (inRoom (length (now (out .entry))) (counted (showText (now (words .entry)) (now (setting .entry)) (now (gates .entry))))) (now (out .entry)) r (now (out .exit)) ⌝ }
+    ensures { λ r. ⌜ Promise
+        (inRoom (length (now (out .entry))) (counted (showText (now (words .entry)) (now (setting .entry)) (now (gates .entry)))))
+        (now (out .entry)) r (now (out .exit)) ⌝ }
 {
     let mut small = [0u8; 1];
     let count = put_show(&mut small, words, setting, gates);
@@ -117,7 +121,9 @@ fn show_settled(words: &[u16], setting: &[u8], gates: &[u8], out: &mut [u8]) -> 
 // The show line of a block that is not torn, under a setting: 11, or its bytes; count: bytes.
 pub fn show(words: &[u16], setting: &[u8], out: &mut [u8]) -> Answer
     requires { ⌜ isTorn (now words) ≡ false ⌝ }
-    ensures { λ r. ⌜ Promise (inRoom (length (now (out .entry))) (counted (showLine (decode (now (words .entry))) (map valueOf (now (setting .entry)))))) (now (out .entry)) r (now (out .exit)) ⌝ }
+    ensures { λ r. ⌜ Promise
+        (inRoom (length (now (out .entry))) (counted (showLine (decode (now (words .entry))) (map valueOf (now (setting .entry))))))
+        (now (out .entry)) r (now (out .exit)) ⌝ }
 {
     let mut gates = [0u8; MAX_GATES];
     settle_in_place(words, setting, &mut gates);

@@ -61,7 +61,10 @@ slice-aggregate-put-all c = search needs
 
 put-all-requires : tie.Need-put-all-requires
 unfolding portPiece pairText
-put-all-requires c κs = short-first {xs = ascii " ("} _ (c .before .before .before .before .before .before .before .before .before .pre .1)
+put-all-requires c κs =
+    let at-word-at = c .before .before .before .before in
+    let the-start = at-word-at .before .before .before .before .before in
+    short-first {xs = ascii " ("} _ (the-start .pre .1)
 
 put-name-requires : tie.Need-put-name-requires
 unfolding portPiece pairText

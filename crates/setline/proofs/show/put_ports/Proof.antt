@@ -28,15 +28,20 @@ put-port-requires c κs =
     ((start .pre .0 .0, omega arith), short-turn f (l .o) (a .k) (c .before .loop-test .taken) (start .pre .1) (l .inv .1))
 
 add-o : tie.Need-add-o Inv-loop μ-loop
-add-o c = omega (arith, c .before .before .before .before .before .before .before .before .before .before .pre .0)
+add-o c =
+    let at-loop = c .before .before .before .before .before in
+    let start = at-loop .before .before .before .before .before in
+    omega (arith, start .pre .0)
 
 loop-less : tie.Need-loop-less Inv-loop μ-loop
 loop-less c = omega arith
 
 loop-again : tie.Need-loop-again Inv-loop μ-loop
 loop-again c =
-    let a = c .before .before .before .before .before .before .before .before .before .before .args in
-    let l = c .before .before .before .before .before .loop in
+    let at-loop = c .before .before .before .before .before in
+    let start = at-loop .before .before .before .before .before in
+    let a = start .args in
+    let l = at-loop .loop in
     let f = portPiece (a .words .now) (a .from) (a .setting .now) (a .gates .now) in
     (omega arith, pieces-turn f (l .o) (l .inv .1) (c .before .before .put-port .ensures))
 
