@@ -1,18 +1,16 @@
 // The show line of a block under a setting of its inputs, appended as in `writing::pieces`.
 use decide::in_place::settle_in_place;
 use layout::limits::MAX_GATES;
-use layout::offsets::NAME_SIZE;
 use layout::offsets::OUTPUT_SIZE;
 use layout::offsets::gates_of;
 use layout::offsets::inputs_of;
 use layout::offsets::outputs_at;
 use layout::offsets::outputs_of;
-use layout::read::word_at;
 use netlist::Answer;
 use netlist::Test;
 use refusals::refusal;
 use refusals::test_room;
-use ternary::gate::operand_value;
+use ternary::output::shown_value;
 use writing::pieces::put;
 use writing::pieces::put_all;
 use writing::pieces::put_name;
@@ -57,8 +55,7 @@ fn put_port(
         (now (text .exit)) r ⌝ }
 {
     let port = from + OUTPUT_SIZE * o;
-    let word = word_at(words, port + NAME_SIZE);
-    let value = operand_value(word, inputs_of(words), setting, gates);
+    let value = shown_value(words, inputs_of(words), port, setting, gates);
     let opened = put_all(text, at, b" (");
     let named = put_name(text, opened, words, port);
     let spaced = put(text, named, b' ');
