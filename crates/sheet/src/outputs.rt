@@ -1,14 +1,12 @@
 // A record's two masks of outputs, from the values of the inputs and of the gates.
 use layout::gather::defined_bit;
 use layout::gather::one_bit;
-use layout::offsets::NAME_SIZE;
 use layout::offsets::OUTPUT_SIZE;
 use layout::offsets::inputs_of;
 use layout::offsets::outputs_at;
 use layout::offsets::outputs_of;
-use layout::read::word_at;
 use netlist::Record;
-use ternary::gate::operand_value;
+use ternary::output::shown_value;
 ghost use mathlib.Core.Path.{_≡_};
 ghost use mathlib.Core.Bool.{false};
 ghost use mathlib.Core.List.{map};
@@ -22,8 +20,8 @@ fn output_value(words: &[u16], n: usize, o: usize, setting: &[u8], gates: &[u8])
     requires { ⌜ OfBlock (now words) n o ⌝ }
     ensures { λ r. ⌜ r ≡ outputCode (now (words .entry)) (now (setting .entry)) (now (gates .entry)) o ⌝ }
 {
-    let at = outputs_at(words) + OUTPUT_SIZE * o + NAME_SIZE;
-    operand_value(word_at(words, at), n, setting, gates)
+    let port = outputs_at(words) + OUTPUT_SIZE * o;
+    shown_value(words, n, port, setting, gates)
 }
 
 // The record that shows the outputs, the last one first.
