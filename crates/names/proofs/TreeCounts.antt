@@ -6,14 +6,14 @@ use mathlib.Core.List.{List, [], _∷_, map, map-append}
 use native.Mathlib.Omega.{arith}
 use lib.ListN.{length, length-append, length-map}
 use lib.Dec.{leb}
-use borrow.Author.Tests.{leb-true, not-false}
 use Rattle.laws.specs.Lists.{all, joined, sum}
 use Rattle.laws.proofs.Tests.{and-left, and-right}
 use Rattle.laws.proofs.Lists.{sum-append}
-use Rattle.netlist.specs.Limits.{maxText, maxInputs, maxNevers, maxGates, maxOutputs}
+use Rattle.netlist.specs.Limits.{maxText, maxInputs, maxGates, maxOutputs}
 use Rattle.netlist.specs.StoredBlock.{isPlainName}
 use Rattle.netlist.specs.Syntax.{GateLine, Tree, isLegalGate, isLegalOutput}
 use Rattle.netlist.specs.Reading.{lineGates, isOverLimit}
+use Rattle.grammar.proofs.Limits.{limits-within}
 use Rattle.names.specs.Lines.{times}
 use Rattle.names.specs.Trees.{inputText, gateText, outputText, treeLines}
 use Rattle.names.specs.Results.{Prints, countsOf, treeCounts, isOver, TableRoom}
@@ -92,28 +92,6 @@ unfolding isOver treeCounts isOverLimit
 limits-are t bare c e = rw (e, bare) (no-nevers (leb (length (t .inputs)) maxInputs) _ _)
 
 -- ---- within the limits there is room
-
-pub record WithinLimits (t : Tree) : Type 0 where
-  pub inputs : length (t .inputs) ≤ maxInputs
-  pub nevers : length (t .nevers) ≤ maxNevers
-  pub gates : sum (map lineGates (t .gates)) ≤ maxGates
-  pub outputs : length (t .outputs) ≤ maxOutputs
-
-pub limits-within : (t : Tree) → isOverLimit t ≡ false → WithinLimits t
-unfolding isOverLimit
-limits-within t h =
-    let a = leb (length (t .inputs)) maxInputs in
-    let l = leb (length (t .nevers)) maxNevers in
-    let b = leb (sum (map lineGates (t .gates))) maxGates in
-    let c = leb (length (t .outputs)) maxOutputs in
-    let all′ : a && l && b && c ≡ true = not-false _ h in
-    let front = and-left (a && l && b) c all′ in
-    record {
-      inputs = leb-true _ _ (and-left a l (and-left (a && l) b front));
-      nevers = leb-true _ _ (and-right a l (and-left (a && l) b front));
-      gates = leb-true _ _ (and-right (a && l) b front);
-      outputs = leb-true _ _ (and-right (a && l && b) c all′);
-    }
 
 -- a named gate is a gate
 pub named-le : (gs : List GateLine) → length gs ≤ sum (map lineGates gs)

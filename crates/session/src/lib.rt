@@ -8,7 +8,6 @@ use netlist_part::end_netlist;
 use netlist_part::netlist_byte;
 use set_lines::end_line;
 use set_lines::line_byte;
-ghost use mathlib.Core.Path.{_≡_};
 ghost use lib.ListN.{length};
 ghost use Rattle.runs.specs.Runs.{turn, ending};
 ghost use Rattle.session.specs.Session.{runOf, Ready, Fresh, Written, Stepped, Advanced};
