@@ -1,5 +1,4 @@
 -- `simulate::round::value_of_gate` meets its contract: the gates of a block that is not torn have legal head words. Assumes nothing.
-use mathlib.Core.Path.{_∙_}
 use Prim.Native.Nat.{_≤_}
 use native.Mathlib.Omega.{arith}
 use denote.Ref.{now}
@@ -38,7 +37,7 @@ returns : tie.Need-returns
 unfolding gateCode nodesOf
 returns c =
     let s = c .before .before .before .before .before in
-    c .gate-value .ensures ∙ rw (s .pre .1 .nodesAre, decode-gate (now (s .args .words)) (s .args .j) (s .pre .1 .below))
+    rw (decode-gate (now (s .args .words)) (s .args .j) (s .pre .1 .below)) (rw (s .pre .1 .nodesAre) at (c .gate-value .ensures))
 
 pub value-of-gate-spec : {M : Type 1} → statement M
 value-of-gate-spec = tie.close (tie.spec mul-gate-value add-gate-value gate-value-requires returns)
