@@ -152,14 +152,18 @@ operand-sub-operands : (t : ℕ) → operand-lts.Need-sub-operands (operand-clai
 operand-sub-operands t c =
     let at-byte-at = c .before .before .before .before in
     let start = at-byte-at .before .before .before .before .before .before in
-    let a = start .args in let p = start .pre .1 .0 in inner-within (a .s .now) (a .depth) (a .n) (a .names .now) (a .words .now) (a .seen .gates) (a .gates .now)
+    let a = start .args in
+    let p = start .pre .1 .0 in
+    inner-within (a .s .now) (a .depth) (a .n) (a .names .now) (a .words .now) (a .seen .gates) (a .gates .now)
     (c .before .kind-here .result) (c .word-length .result) (p .term) (p .rest) (operand-inside-here t c)
 
 operand-part-operands-start : (t : ℕ) → operand-lts.Need-part-operands-start (operand-claims t) (operand-at t) operand.Post
 operand-part-operands-start t c =
     let at-byte-at = c .before .before .before .before in
     let start = at-byte-at .before .before .before .before .before .before in
-    let a = start .args in let p = start .pre .1 .0 in inner-within (a .s .now) (a .depth) (a .n) (a .names .now) (a .words .now) (a .seen .gates) (a .gates .now)
+    let a = start .args in
+    let p = start .pre .1 .0 in
+    inner-within (a .s .now) (a .depth) (a .n) (a .names .now) (a .words .now) (a .seen .gates) (a .gates .now)
     (c .before .kind-here .result) (c .word-length .result) (p .term) (p .rest) (operand-inside-here t c)
 
 operand-part-operands-end : (t : ℕ) → operand-lts.Need-part-operands-end (operand-claims t) (operand-at t) operand.Post
@@ -188,7 +192,8 @@ operand-operands-requires t c κs =
         start .pre .0,
       ),
       (
-        list-here (a .s .now) (a .depth) (a .n) (a .names .now) (a .words .now) (a .seen .gates) (a .gates .now) k wide p (operand-inside-here t at-word-length),
+        list-here (a .s .now) (a .depth) (a .n) (a .names .now) (a .words .now) (a .seen .gates) (a .gates .now) k wide p
+            (operand-inside-here t at-word-length),
         start .pre .1 .1,
       ),
     )
