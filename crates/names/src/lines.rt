@@ -9,7 +9,7 @@ ghost use Rattle.netlist.specs.Limits.{maxText};
 ghost use Rattle.names.specs.Lines.{times, timesBehind, lengthWithLf, lineOpens};
 
 // 1 where the bytes are the same.
-pub fn one_if(a: u8, b: u8) -> usize
+fn one_if(a: u8, b: u8) -> usize
     ensures { λ r. ⌜ r ≡ cond (eqb a b) 1 0 ⌝ }
 {
     if a == b { 1 } else { 0 }

@@ -13,7 +13,7 @@ operand-value-requires : tie.Need-operand-value-requires
 operand-value-requires c κs = search needs
 
 returns : tie.Need-returns
-returns c = rw (c .before .word-at .ensures) at (c .operand-value .ensures)
+returns c = rw (c .operand-value .ensures, c .before .word-at .ensures)
 
 pub shown-value-spec : {M : Type 1} → statement M
 shown-value-spec = tie.close (tie.spec add-word-at word-at-requires operand-value-requires returns)
