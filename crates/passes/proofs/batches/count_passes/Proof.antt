@@ -48,7 +48,7 @@ settings-are l =
 since-entry : (l : tie.At-loop Inv-loop μ-loop) → SameRest (start l .args .count) (start l .args .passes .now) (l .loop .passes)
 since-entry l =
     let s = start l in
-    rest-then (rest-first (s .pre .1 .listing) (s .args .passes .now) (s .pre .1 .passesRoom) (filled l .fill-words .ensures)) (l .loop .inv .2)
+    rest-then (rest-first (s .pre .1 .listing) (s .args .passes .now) (s .pre .1 .passesRoom) _ (filled l .fill-words .ensures)) (l .loop .inv .2)
 
 -- a batch that is there, and the next
 inside : (t : tie.In-loop Inv-loop μ-loop) → let l = t .before in l .loop .base < 2 ^ start l .args .nodes .inputs
@@ -76,7 +76,7 @@ loop-holds c =
     let r = s .pre .1 in
     let first = r .listing in (
       place-first (s .args .nodes .inputs),
-      counting-first first (s .args .passes .now) (r .passesRoom) (f .fill-words .ensures),
+      counting-first first (s .args .passes .now) (r .passesRoom) _ (f .fill-words .ensures) (omega arith),
       rest-none _ _,
       refl,
       refl,
