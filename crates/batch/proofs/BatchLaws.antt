@@ -8,39 +8,35 @@
 --   along-there, along-inside, along-visits             the order, there and back
 -- Assumes nothing.
 use mathlib.Core.Path.{_≡_, refl, sym, ap, ap₂, _∙_}
-use mathlib.Core.Logic.{⊎-elim}
-use mathlib.Core.Bool.{Bool, true, false, not, cond, _||_, true≢false, false≢true}
+use mathlib.Core.Bool.{Bool, true, false, not, _||_, true≢false, false≢true}
 use mathlib.Core.List.{List, [], _∷_, _++_, map}
 use Prim.Native.Nat.{ℕ, zero, suc, _+_, _-_, _*_, _%_, _≤_, _<_}
 use native.Mathlib.Omega.{arith}
 use borrow.Author.Tests.{lt-ltb, le-ltb, eq-eqb, eqb-true}
 use lib.Bits.{bitOr}
-use lib.Dec.{eqb, ltb}
+use lib.Dec.{eqb}
 use lib.ListN.{length, getD, set, take, drop, replicate, length-set, length-take, length-drop, length-replicate}
 use lib.Seq.{ext-getD, getD-take, getD-drop}
 use Rattle.laws.specs.Lists.{tab, placed, member}
-use Rattle.laws.proofs.Tests.{lt-or-le, or-neither, or-cases}
 use Rattle.laws.proofs.Tab.{length-tab, getD-tab, tab-ext, tab-getD, keep-next, placed-all}
 use Rattle.laws.proofs.Lists.{map-replicate}
 use Rattle.laws.proofs.Quantifiers.{member-at, member-from}
-use Rattle.netlist.specs.Values.{Value, undefined}
+use Rattle.netlist.specs.Values.{undefined}
 use Rattle.netlist.specs.Netlist.{Block, inputCount, gateCount, gateOf}
 use Rattle.layout.specs.declared.nodes.Nodes.{Nodes}
 use Rattle.netlist.specs.Limits.{maxInputs}
-use Rattle.netlist.specs.StoredBlock.{gateSize, gateAt, decode}
+use Rattle.netlist.specs.StoredBlock.{gateSize, decode}
 use Rattle.netlist.specs.Rounds.{settled, settingOf, settledUnder}
-use Rattle.rounds.specs.Order.{BelowAll, Rising}
 use Rattle.rounds.proofs.ListFacts.{getD-replicate-default}
 use Rattle.rounds.proofs.AnyOrder.{start-below-settled}
 use Rattle.rounds.proofs.InPlace.{start-rising}
-use Rattle.ternary.specs.Legal.{LegalHead}
 use Rattle.visiting.specs.Visits.{Visits}
 use Rattle.batch.specs.Legible.{Legible}
 use Rattle.lanes.specs.declared.Pair.{Pair}
-use Rattle.lanes.specs.Pairs.{lane, Proper, full, nothing}
-use Rattle.lanes.specs.PairRounds.{evaluatedPair, LegalGate, AllProper}
+use Rattle.lanes.specs.Pairs.{lane, full, nothing}
+use Rattle.lanes.specs.PairRounds.{evaluatedPair, LegalGate}
 use Rattle.lanes.specs.Batches.{lanesOf, inputPair, inputPairs}
-use Rattle.lanes.specs.Nodes.{pairAt, inputsIn, gatesIn, gatePairAt}
+use Rattle.lanes.specs.Nodes.{pairAt, inputsIn, gatesIn}
 use Rattle.lanes.proofs.LaneLaws.{nothing-lane, nothing-proper}
 use Rattle.lanes.proofs.InputLaws.{inputPairs-proper, inputPairs-lane}
 use Rattle.lanes.proofs.NodeLaws.{gatePairAt-evaluated, head-legal, set-inputs, set-gates}

@@ -10,14 +10,14 @@
 use mathlib.Core.Path.{_≡_}
 use mathlib.Core.Bool.{Bool, true, false, cond, not, _||_}
 use mathlib.Core.List.{List, [], _∷_, _++_, map}
-use Prim.Native.Nat.{ℕ, _+_, _-_, _*_, _%_, _^_, _≤_, _<_}
+use Prim.Native.Nat.{ℕ, _+_, _-_, _*_, _^_, _≤_, _<_}
 use lib.Bits.{bitOr}
 use lib.Dec.{eqb, ltb}
 use lib.ListN.{length, getD, set}
 use Rattle.laws.specs.Lists.{tab, placed}
 use Rattle.layout.specs.declared.nodes.Nodes.{Nodes}
 use Rattle.netlist.specs.Limits.{maxInputs}
-use Rattle.netlist.specs.Netlist.{Block, inputCount, gateCount}
+use Rattle.netlist.specs.Netlist.{Block, gateCount}
 use Rattle.netlist.specs.StoredBlock.{gateSize, decode}
 use Rattle.netlist.specs.Rounds.{settled, settingOf, settledUnder}
 use Rattle.rounds.specs.Order.{BelowAll, Rising}

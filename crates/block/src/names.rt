@@ -9,10 +9,9 @@ ghost use mathlib.Core.Path.{_≡_};
 ghost use mathlib.Core.Bool.{_&&_};
 ghost use Prim.Native.Nat.{_≤_, _<_, _+_, _*_};
 ghost use lib.ListN.{getD};
-ghost use lib.Dec.{leb};
 ghost use Rattle.netlist.specs.Limits.{maxName, maxGates};
-ghost use Rattle.netlist.specs.StoredBlock.{isLetter, isDigit, isNameByte, bytesAt};
-ghost use Rattle.encoding.specs.Rules.{padded, nameRule, sameName, namesRule};
+ghost use Rattle.netlist.specs.StoredBlock.{bytesAt};
+ghost use Rattle.encoding.specs.Rules.{padded, nameRule, namesRule};
 ghost use Rattle.block.specs.Steps.{zerosFrom, otherName, othersBefore, newName};
 
 // Byte i of the eight bytes of the name whose words start at `at`.

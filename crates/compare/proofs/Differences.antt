@@ -6,12 +6,12 @@
 --   search-accepted, search-found      no setting disagrees; one does, and no lower one
 --   search-passed, search-marked       one batch more; the batch at which the search ends
 -- Assumes nothing.
-use mathlib.Core.Path.{_≡_, refl, sym, ap, _∙_}
-use mathlib.Core.Bool.{Bool, true, false, not, _&&_}
-use mathlib.Core.List.{List, []}
+use mathlib.Core.Path.{_≡_, refl, sym, _∙_}
+use mathlib.Core.Bool.{Bool, true, false, not}
+use mathlib.Core.List.{List}
 use Prim.Native.Nat.{ℕ, zero, suc, _+_, _%_, _^_, _≤_, _<_, max}
 use native.Mathlib.Omega.{arith}
-use lib.Bits.{bitAnd, bitOr, bitXor, differ, or-lt, xor-lt}
+use lib.Bits.{bitAnd, bitXor, differ, or-lt, xor-lt}
 use lib.Dec.{eqb}
 use lib.ListN.{getD}
 use borrow.Author.Tests.{lt-ltb, le-ltb}
@@ -21,11 +21,11 @@ use Rattle.layout.specs.declared.nodes.Nodes.{Nodes}
 use Rattle.layout.specs.Nodes.{nodesOf}
 use Rattle.netlist.specs.declared.Answer.the-variants.{Done}
 use Rattle.netlist.specs.Values.{code}
-use Rattle.netlist.specs.Netlist.{Block, outputCount}
+use Rattle.netlist.specs.Netlist.{Block}
 use Rattle.netlist.specs.Assignments.{bit}
 use Rattle.netlist.specs.StoredBlock.{decode}
 use Rattle.netlist.specs.Rounds.{settingCount, isCounted}
-use Rattle.netlist.specs.Answers.{done, answerOf}
+use Rattle.netlist.specs.Answers.{answerOf}
 use Rattle.netlist.specs.Compare.{differs, disagrees, lowestDisagreement, lowestDiffering, judgedAt, compareBlocks}
 use Rattle.encoding.proofs.Decoded.{decode-outputCount}
 use Rattle.lanes.specs.declared.Pair.{Pair}

@@ -5,7 +5,7 @@
 --   ports-near, few-ports, lowest-few   where a block's outputs stand, and how many there are
 --   setting-count                  the number of settings, as read
 -- Assumes nothing.
-use mathlib.Core.Path.{_≡_, refl, sym, _∙_}
+use mathlib.Core.Path.{_≡_, refl, _∙_}
 use mathlib.Core.Bool.{Bool, false}
 use mathlib.Core.List.{List}
 use Prim.Native.Nat.{ℕ, _+_, _%_, _^_, _≤_, _<_}

@@ -16,7 +16,7 @@ ghost use Rattle.laws.specs.Lists.{all, upTo};
 ghost use Rattle.netlist.specs.Limits.{maxGates};
 ghost use Rattle.netlist.specs.declared.Refusal.the-variants.{InterfaceMismatch};
 ghost use Rattle.netlist.specs.Answers.{testOf};
-ghost use Rattle.netlist.specs.StoredBlock.{nameSize, isTorn, decode};
+ghost use Rattle.netlist.specs.StoredBlock.{isTorn, decode};
 ghost use Rattle.netlist.specs.Compare.{sameInterface};
 ghost use Rattle.compare.specs.Names.{sameNameAt};
 

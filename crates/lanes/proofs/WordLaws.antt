@@ -8,7 +8,7 @@
 use mathlib.Core.Path.{_≡_, refl, sym, ap, _∙_}
 use mathlib.Core.Logic.{_⊎_, ⊎-elim}
 use mathlib.Core.Bool.{Bool, true, false, not, cond, _&&_, _||_}
-use Prim.Native.Nat.{ℕ, zero, suc, _+_, _-_, _*_, _/_, _%_, _^_, _≤_, _<_, min, max}
+use Prim.Native.Nat.{ℕ, zero, suc, _+_, _/_, _%_, _^_, _≤_, _<_, min, max}
 use native.Mathlib.Nat.{div-one, pow-suc}
 use native.Mathlib.Numerals.{one-add}
 use native.Mathlib.Omega.{arith}
@@ -16,11 +16,11 @@ use lib.Bits.{bitAnd, bitOr, bitXor, differ, and-lt, or-lt, xor-lt}
 use lib.Count.{ones, under, trailingZeros, ones-step, trailing-le}
 use lib.Dec.{eqb}
 use lib.Pow.{pow-pos, pow-mono, ones-lt, shr-shr}
-use borrow.Author.Tests.{eqb-true, eqb-false, eq-eqb, ne-eqb}
-use Rattle.laws.specs.Lists.{countBelow, leastFrom, least}
-use Rattle.laws.proofs.Tests.{not-both, lt-or-le, bool-cases}
+use borrow.Author.Tests.{eqb-false, eq-eqb}
+use Rattle.laws.specs.Lists.{countBelow, least}
+use Rattle.laws.proofs.Tests.{not-both, lt-or-le}
 use Rattle.laws.proofs.Counting.{countBelow-ext}
-use Rattle.laws.proofs.Least.{least-le, least-below, least-at, least-is}
+use Rattle.laws.proofs.Least.{least-below, least-at, least-is}
 use Rattle.netlist.specs.Assignments.{bit}
 use Rattle.lanes.specs.Pairs.{full}
 use Rattle.lanes.proofs.BitLaws.{bit-low, bit-zero, bit-high, bit-and, bit-or, bit-xor, bit-full, eq-by-bits}

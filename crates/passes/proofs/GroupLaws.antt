@@ -13,7 +13,7 @@ use Prim.Native.Nat.{ℕ, _+_, _-_, _≤_, _<_}
 use native.Mathlib.Numerals.{add-one}
 use native.Mathlib.Omega.{arith}
 use lib.Dec.{eqb}
-use lib.ListN.{length, getD, set, take, length-map, List·getD-eq-default}
+use lib.ListN.{length, getD, set, length-map, List·getD-eq-default}
 use lib.Seq.{ext-getD, getD-set-other}
 use Rattle.laws.specs.Lists.{all, member, repeated}
 use Rattle.laws.proofs.Tests.{not-both, bool-cases, lt-or-le}
@@ -41,7 +41,7 @@ use Rattle.batch.specs.Batch.{NodesLong, gatePair, Evaluated, Walked, noGate, g
 use Rattle.batch.proofs.Sweeping.{set-proper}
 use Rattle.batch.proofs.BatchLaws.{gate-legal, gatePair-evaluated, evaluated-gates, evaluated-inputs, evaluated-zeros, evaluated-ones, gatesIn-at}
 use Rattle.passes.specs.Pairs.{Apart, Put, ProperAt, agreeAt}
-use Rattle.passes.specs.Counting.{Evaluable, Held, Stepped, Passed, Kept}
+use Rattle.passes.specs.Counting.{Held, Stepped, Passed, Kept}
 
 -- ---- gates evaluated one after the other
 

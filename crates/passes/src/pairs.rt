@@ -4,7 +4,7 @@ use lanes::gate::pair_at;
 ghost use mathlib.Core.Path.{_≡_};
 ghost use Prim.Native.Nat.{_+_, _%_, _≤_};
 ghost use lib.ListN.{length, getD};
-ghost use Rattle.netlist.specs.Limits.{maxInputs, maxGates};
+ghost use Rattle.netlist.specs.Limits.{maxInputs};
 ghost use Rattle.netlist.specs.StoredBlock.{decode};
 ghost use Rattle.lanes.specs.Batches.{lanesOf};
 ghost use Rattle.lanes.specs.Nodes.{pairAt};

@@ -83,7 +83,7 @@ fn finish(
         return refusal(tested);
     };
     fill_schedule(m, numbers, count, passes, order);
-    write_rendering(words, n, m, k, order, total, newest, rendered);
+    write_rendering(words, order, total, newest, rendered);
     Answer::Done {
         count: size,
         detail: 0,

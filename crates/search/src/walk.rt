@@ -26,7 +26,9 @@ fn mark(k: usize, m: usize, flags: &mut [u8], queue: &mut [u16], tail: usize) ->
 // Marks the gate that an operand word names, if it names one.
 fn mark_word(w: usize, nodes: Nodes, flags: &mut [u8], queue: &mut [u16], tail: usize) -> usize
     requires { ⌜ (nodes .inputs ≤ 65535) × Room (nodes .gates) (now flags) (now queue) tail ⌝ }
-    ensures { λ r. ⌜ Extended (wordGate (nodes .inputs) (nodes .gates) w) (now (flags .entry)) (now (queue .entry)) tail (now (flags .exit)) (now (queue .exit)) r ⌝ }
+    ensures { λ r. ⌜
+        Extended (wordGate (nodes .inputs) (nodes .gates) w) (now (flags .entry)) (now (queue .entry)) tail (now (flags .exit)) (now (queue .exit)) r
+        ⌝ }
 {
     let k = gate_named(w, nodes.inputs, nodes.gates);
     if k < nodes.gates {
@@ -45,7 +47,10 @@ fn visit(
     tail: usize,
 ) -> usize
     requires { ⌜ (at ≤ 65535) × (nodes .inputs ≤ 65535) × Room (nodes .gates) (now flags) (now queue) tail ⌝ }
-    ensures { λ r. ⌜ Extended (wordGates (now (words .entry)) (nodes .inputs) (nodes .gates) at (getD (now (words .entry)) at 0 / 8)) (now (flags .entry)) (now (queue .entry)) tail (now (flags .exit)) (now (queue .exit)) r ⌝ }
+    ensures { λ r. ⌜
+        Extended (wordGates (now (words .entry)) (nodes .inputs) (nodes .gates) at (getD (now (words .entry)) at 0 / 8)) (now (flags .entry))
+        (now (queue .entry)) tail (now (flags .exit)) (now (queue .exit)) r
+        ⌝ }
 {
     let count = word_at(words, at) / 8;
     let mut end = tail;

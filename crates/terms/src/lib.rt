@@ -56,7 +56,8 @@ pub fn resolve(
 ) -> Test
     requires { ⌜ ResolveReady (now text) c (now names) (now words) (now gates) (now outputs) ⌝ }
     requires { ⌜ NodesIndexed c (now names) (now index) ⌝ }
-    ensures { λ r. ⌜ Resolved (now (text .entry)) c (now (names .entry)) (now (words .entry)) (now (gates .entry)) (now (gates .exit)) (now (outputs .entry)) (now (outputs .exit)) r ⌝ }
+    ensures { λ r. ⌜ Resolved (now (text .entry)) c (now (names .entry)) (now (words .entry)) (now (gates .entry)) (now (gates .exit))
+        (now (outputs .entry)) (now (outputs .exit)) r ⌝ }
 {
     let length = text.len();
     let n = c.inputs;

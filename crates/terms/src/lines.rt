@@ -83,7 +83,8 @@ fn output_line(
 ) -> Walked
     requires { ⌜ ((n : ℕ) × LineHere outputForm maxOutputs (now s) n (now names) (now words) first (now outputs)) ⌝ }
     requires { ⌜ Indexed (now names) (length (now names)) (now index) ⌝ }
-    ensures { λ r. ⌜ ((n : ℕ) → LineRead outputForm (now (s .entry)) n (now (names .entry)) (now (words .entry)) first unknown (now (outputs .entry)) (now (outputs .exit)) r) ⌝ }
+    ensures { λ r. ⌜ ((n : ℕ)
+        → LineRead outputForm (now (s .entry)) n (now (names .entry)) (now (words .entry)) first unknown (now (outputs .entry)) (now (outputs .exit)) r) ⌝ }
 {
     let at = 6 + name_length(&s[5..]);
     let shown = name_here(&s[at..], names, words, index, unknown);
@@ -162,7 +163,8 @@ pub fn output_lines(
 ) -> Walked
     requires { ⌜ ((n : ℕ) × LinesHere outputForm maxOutputs lines (now text) n (now names) (now words) (now outputs)) ⌝ }
     requires { ⌜ Indexed (now names) (length (now names)) (now index) ⌝ }
-    ensures { λ r. ⌜ ((n : ℕ) → LinesRead outputForm lines (now (text .entry)) n (now (names .entry)) (now (words .entry)) seen (now (outputs .entry)) (now (outputs .exit)) r) ⌝ }
+    ensures { λ r. ⌜ ((n : ℕ)
+        → LinesRead outputForm lines (now (text .entry)) n (now (names .entry)) (now (words .entry)) seen (now (outputs .entry)) (now (outputs .exit)) r) ⌝ }
 {
     let mut left = text.len();
     let mut first = 0;

@@ -96,7 +96,8 @@ fn operands(
 ) -> Listed
     requires { ⌜ TermsHere (now s) depth n (now names) (now words) first i (now gates) (now slots) ⌝ }
     requires { ⌜ Indexed (now names) (length (now names)) (now index) ⌝ }
-    ensures { λ r. ⌜ TermsRead (now (s .entry)) depth n (now (names .entry)) (now (words .entry)) first unknown i (now (gates .entry)) (now (gates .exit)) (now (slots .entry)) (now (slots .exit)) r ⌝ }
+    ensures { λ r. ⌜ TermsRead (now (s .entry)) depth n (now (names .entry)) (now (words .entry)) first unknown i (now (gates .entry))
+        (now (gates .exit)) (now (slots .entry)) (now (slots .exit)) r ⌝ }
 {
     let length = s.len();
     if byte_at(s, 0) == b')' {

@@ -3,11 +3,10 @@ use mathlib.Core.Path.{_≡_, sym, _∙_}
 use native.Mathlib.Omega.{arith}
 use borrow.Author.Needs.{needs}
 use borrow.Author.Tests.{not-true, not-false}
-use Rattle.netlist.specs.Netlist.{gateCount}
 use Rattle.netlist.specs.StoredBlock.{decode}
 use Rattle.lanes.specs.Batches.{inputPairs}
 use Rattle.lanes.specs.Nodes.{inputsIn}
-use Rattle.batch.specs.Batch.{BatchUnderway, BatchSettled, Advanced, Sweepable, roomIn}
+use Rattle.batch.specs.Batch.{BatchUnderway, Sweepable, roomIn}
 use Rattle.batch.proofs.BatchLaws.{started-inputs, started-underway, settled-batch}
 use Rattle.batch.proofs.in_place.decide_batch.Statement.{statement}
 use Rattle.batch.proofs.in_place.decide_batch.Tie as tie

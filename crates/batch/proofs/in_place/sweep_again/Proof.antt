@@ -1,5 +1,5 @@
 -- `batch::in_place::sweep_again` meets its contract: each half is a list of gates. Assumes nothing.
-use mathlib.Core.Path.{_≡_, sym, _∙_}
+use mathlib.Core.Path.{sym, _∙_}
 use mathlib.Core.Bool.{false}
 use Prim.Native.Nat.{_-_, _/_}
 use native.Mathlib.Nat.{min-eq-left}

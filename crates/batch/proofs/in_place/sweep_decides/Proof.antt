@@ -1,9 +1,9 @@
 -- `batch::in_place::sweep_decides` meets its contract: a sweep that changes nothing, or that defines a lane more. Assumes nothing.
-use mathlib.Core.Path.{_≡_, sym, _∙_}
+use mathlib.Core.Path.{sym, _∙_}
 use mathlib.Core.Bool.{false, true≢false}
 use borrow.Author.Tests.{not-true, not-false}
 use Rattle.netlist.specs.StoredBlock.{decode}
-use Rattle.batch.specs.Batch.{BatchSwept, Advanced, along, roomIn}
+use Rattle.batch.specs.Batch.{BatchSwept, along, roomIn}
 use Rattle.batch.proofs.BatchLaws.{underway-long, walked-swept, advanced-swept, advanced-still, advanced-decided, along-visits}
 use Rattle.batch.proofs.in_place.sweep_decides.Statement.{statement}
 use Rattle.batch.proofs.in_place.sweep_decides.Tie as tie

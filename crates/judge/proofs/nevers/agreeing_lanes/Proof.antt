@@ -3,7 +3,7 @@ use borrow.Author.Needs.{needs}
 use mathlib.Core.Path.{_≡_}
 use Prim.Native.Nat.{_-_, _≤_}
 use native.Mathlib.Omega.{arith}
-use Rattle.netlist.specs.Assignments.{Assignment, agrees}
+use Rattle.netlist.specs.Assignments.{agrees}
 use Rattle.lanes.specs.Batches.{lanesOf}
 use Rattle.lanes.specs.Words.{Tells}
 use Rattle.judge.proofs.NeverLaws.{agrees-none, agrees-more}

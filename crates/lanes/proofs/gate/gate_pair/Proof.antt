@@ -2,10 +2,6 @@
 use mathlib.Core.Path.{_∙_}
 use native.Mathlib.Omega.{arith}
 use borrow.Author.Needs.{needs}
-use Prim.Native.Nat.{_<_}
-use denote.Ref.{now}
-use lib.ListN.{length}
-use Rattle.ternary.proofs.Heads.{headOf}
 use Rattle.lanes.proofs.NodeLaws.{gate-headed}
 use Rattle.lanes.proofs.gate.gate_pair.Statement.{statement}
 use Rattle.lanes.proofs.gate.gate_pair.Tie as tie

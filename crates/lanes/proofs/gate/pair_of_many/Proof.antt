@@ -7,7 +7,7 @@ use borrow.Author.Needs.{needs}
 use lib.ListN.{getD, drop}
 use Rattle.encoding.proofs.Gates.{arity-four}
 use Rattle.ternary.proofs.Heads.{Head, headOf}
-use Rattle.lanes.specs.Pairs.{folded, finished, pairOf}
+use Rattle.lanes.specs.Pairs.{folded, pairOf}
 use Rattle.lanes.specs.Nodes.{operandsAt, gatePairAt}
 use Rattle.lanes.proofs.NodeLaws.{folded-none, folded-next}
 use Rattle.lanes.proofs.gate.pair_of_many.Statement.{statement}

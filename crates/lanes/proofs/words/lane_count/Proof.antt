@@ -1,5 +1,4 @@
 -- `lanes::words::lane_count` meets its contract. Assumes nothing.
-use mathlib.Core.Path.{sym}
 use native.Mathlib.Nat.{min-eq-right}
 use borrow.Author.Needs.{needs}
 use Rattle.lanes.specs.Batches.{lanesOf}

@@ -1,5 +1,5 @@
 -- `passes::batches::count_needed` meets its contract: as many passes as gates are enough. Assumes nothing.
-use mathlib.Core.Path.{_≡_, refl}
+use mathlib.Core.Path.{refl}
 use Prim.Native.Nat.{_+_, _≤_}
 use native.Mathlib.Omega.{arith}
 use borrow.Author.Needs.{needs}
@@ -9,7 +9,7 @@ use Rattle.netlist.specs.StoredBlock.{decode}
 use Rattle.netlist.specs.Groups.{groups}
 use Rattle.agreement.specs.Copies.{groupAt}
 use Rattle.passes.proofs.PassLaws.{sofar-small}
-use Rattle.passes.proofs.CountLaws.{group-size, group-batch, group-ready, counting-known, rest-none}
+use Rattle.passes.proofs.CountLaws.{group-size, group-ready, counting-known, rest-none}
 use Rattle.passes.proofs.batches.count_needed.Statement.{statement}
 use Rattle.passes.proofs.batches.count_needed.Tie as tie
 

@@ -102,10 +102,11 @@ loop-again c =
     let at = s .args .nodes .start + 5 * w .result in
     let lt : getD (l .queue) (l .head) 0 < s .args .nodes .gates = l .inv .0 .queued (l .head) (in-loop .loop-test .taken) .0 in
     let lt′ : w .result < s .args .nodes .gates = rw (w .ensures) lt in
-    let are : wordGates ws (s .args .nodes .inputs) (s .args .nodes .gates) at (getD ws at 0 / 8) ≡ readBy (decode ws) (getD (l .queue) (l .head) 0) = rw (← w .ensures)
+    let gates = wordGates ws (s .args .nodes .inputs) (s .args .nodes .gates) at (getD ws at 0 / 8) in
+    let are : gates ≡ readBy (decode ws) (getD (l .queue) (l .head) 0) = rw (← w .ensures)
     (gate-words (s .pre .1 .whole) (w .result) lt′) in
     let e = after-visit .visit .ensures in (
-      search-turn (l .inv .0) (wordGates ws (s .args .nodes .inputs) (s .args .nodes .gates) at (getD ws at 0 / 8)) are
+      search-turn (l .inv .0) gates are
           (words-inside ws (s .args .nodes .inputs) (s .args .nodes .gates) at (getD ws at 0 / 8)) (in-loop .loop-test .taken) e,
       flags-length e ∙ l .inv .1,
       queue-length e ∙ l .inv .2,

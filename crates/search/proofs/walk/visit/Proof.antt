@@ -2,13 +2,14 @@ use mathlib.Core.Path.{_≡_}
 use Prim.Native.Nat.{_-_, _/_, _≤_}
 use borrow.Author.Needs.{needs}
 use native.Mathlib.Omega.{arith}
-use Rattle.search.specs.Search.{wordGate, wordGates, Extended}
+use Rattle.search.specs.Search.{wordGates, Extended}
 use Rattle.search.proofs.Marking.{extended-none, room-kept, words-inside, words-none, word-turn, flags-length, queue-length}
 use Rattle.search.proofs.walk.visit.Statement.{statement}
 use Rattle.search.proofs.walk.visit.Tie as tie
 
 abbrev Inv-loop : tie.InvT-loop
-Inv-loop words nodes at flags₀ queue₀ tail count end₀ i₀ flags queue end i = (i ≤ count) × Extended (wordGates words (nodes .inputs) (nodes .gates) at i) flags₀ queue₀ tail flags queue end
+Inv-loop words nodes at flags₀ queue₀ tail count end₀ i₀ flags queue end i =
+    (i ≤ count) × Extended (wordGates words (nodes .inputs) (nodes .gates) at i) flags₀ queue₀ tail flags queue end
 
 abbrev μ-loop : tie.MeasureT-loop
 μ-loop words nodes at flags₀ queue₀ tail count end₀ i₀ flags queue end i = count - i
@@ -52,8 +53,8 @@ loop-again c =
     let a = at-start .args in
     let l = at-loop .loop in (
       omega arith,
-      word-turn (a .words .now) (a .nodes .inputs) (a .nodes .gates) (a .at) (l .i) (after-word-at2 .word-at2 .result) (after-word-at2 .word-at2 .ensures) (l .inv .1)
-          (after-mark-word .mark-word .ensures),
+      word-turn (a .words .now) (a .nodes .inputs) (a .nodes .gates) (a .at) (l .i) (after-word-at2 .word-at2 .result) (after-word-at2 .word-at2 .ensures)
+          (l .inv .1) (after-mark-word .mark-word .ensures),
     )
 
 same-length : tie.Need-same-length Inv-loop μ-loop

@@ -31,12 +31,16 @@ add-at c =
 sub-operand : tie.Need-sub-operand
 sub-operand c =
     let start = c .before .before .before .before .before .before .before in
-    let a = start .args in let p = start .pre .0 in gate-parts (a .s .now) (c .name-length .result) (c .name-length .ensures) (p .line) (p .rest) (p .here) .long
+    let a = start .args in
+    let p = start .pre .0 in
+    gate-parts (a .s .now) (c .name-length .result) (c .name-length .ensures) (p .line) (p .rest) (p .here) .long
 
 part-operand-start : tie.Need-part-operand-start
 part-operand-start c =
     let start = c .before .before .before .before .before .before .before in
-    let a = start .args in let p = start .pre .0 in gate-parts (a .s .now) (c .name-length .result) (c .name-length .ensures) (p .line) (p .rest) (p .here) .long
+    let a = start .args in
+    let p = start .pre .0 in
+    gate-parts (a .s .now) (c .name-length .result) (c .name-length .ensures) (p .line) (p .rest) (p .here) .long
 
 part-operand-end : tie.Need-part-operand-end
 part-operand-end c = search needs

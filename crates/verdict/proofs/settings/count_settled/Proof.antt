@@ -1,13 +1,12 @@
 -- `verdict::settings::count_settled` meets its contract: `settled` counts the settled settings of the batches passed. Assumes nothing.
-use mathlib.Core.Path.{_≡_, refl, sym, ap, _∙_}
-use Prim.Native.Nat.{ℕ, _-_, _+_, _^_, _≤_, _<_}
+use mathlib.Core.Path.{_≡_, refl, _∙_}
+use Prim.Native.Nat.{_-_, _+_, _^_, _≤_, _<_}
 use native.Mathlib.Omega.{arith}
 use borrow.Author.Needs.{needs}
 use lib.ListN.{length}
 use Rattle.laws.specs.Lists.{countBelow}
 use Rattle.netlist.specs.StoredBlock.{decode}
 use Rattle.netlist.specs.Rounds.{isCounted}
-use Rattle.lanes.specs.Batches.{lanesOf}
 use Rattle.verdict.proofs.Counting.{setting-count, count-le, count-end, few-settings}
 use Rattle.verdict.proofs.Batching.{Place, place-first, place-next, lanesOf-some, decidable-kept, count-batch, reached}
 use Rattle.verdict.proofs.settings.count_settled.Statement.{statement}

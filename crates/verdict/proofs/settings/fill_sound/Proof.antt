@@ -1,6 +1,6 @@
 -- `verdict::settings::fill_sound` meets its contract: after a batch the first bytes are flags up to its end. Assumes nothing.
-use mathlib.Core.Path.{_≡_, refl, sym, ap, _∙_}
-use Prim.Native.Nat.{ℕ, _+_, _-_, _^_, _≤_, _<_}
+use mathlib.Core.Path.{_≡_, refl, _∙_}
+use Prim.Native.Nat.{_+_, _-_, _^_, _≤_, _<_}
 use native.Mathlib.Omega.{arith}
 use borrow.Author.Needs.{needs}
 use lib.ListN.{length}
@@ -8,7 +8,6 @@ use Rattle.laws.specs.Lists.{tab, placed}
 use Rattle.netlist.specs.StoredBlock.{decode}
 use Rattle.lanes.specs.Batches.{lanesOf}
 use Rattle.lanes.proofs.InputLaws.{lanesOf-most}
-use Rattle.judge.specs.Lanes.{Judged}
 use Rattle.verdict.specs.Flags.{soundFlag}
 use Rattle.verdict.proofs.Counting.{few-settings}
 use Rattle.verdict.proofs.Batching.{Place, place-first, place-next, lanesOf-some, judged, decidable-kept, flagged-placed}

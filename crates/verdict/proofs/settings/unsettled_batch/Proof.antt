@@ -1,7 +1,6 @@
 -- `verdict::settings::unsettled_batch` meets its contract: every batch passed is settled where it may come, and the one at which the loops are left is not. Assumes nothing.
-use mathlib.Core.Path.{_≡_, refl, sym, ap, _∙_}
+use mathlib.Core.Path.{_≡_, refl, sym, _∙_}
 use mathlib.Core.Bool.{true}
-use mathlib.Core.List.{List}
 use Prim.Native.Nat.{ℕ, _-_, _+_, _^_, _≤_, _<_}
 use native.Mathlib.Omega.{arith}
 use borrow.Author.Needs.{needs}
@@ -12,7 +11,6 @@ use Rattle.netlist.specs.StoredBlock.{neversAt, gatesAt, outputsAt, decode}
 use Rattle.netlist.specs.Rounds.{isSoundAt}
 use Rattle.lanes.specs.Batches.{lanesOf}
 use Rattle.judge.specs.Lanes.{Judged, undefinedWord}
-use Rattle.encoding.proofs.Decoded.{decode-inputCount}
 use Rattle.verdict.proofs.Counting.{few-settings}
 use Rattle.verdict.proofs.Batching.{Place, place-first, place-next, lanesOf-some, judged, decidable-kept, passed-sound, found-unsound, batch-more}
 use Rattle.verdict.proofs.settings.unsettled_batch.Statement.{statement}

@@ -1,10 +1,10 @@
--- `gather::arranged::move_gate` meets its contract: the five words of gate j, of which the operands are mapped. Assumes nothing.
+-- `copying::entry::write_gate` meets its contract: the five words of gate j, of which the operands are mapped. Assumes nothing.
 use Prim.Native.Nat.{_+_, _*_}
 use native.Mathlib.Omega.{arith}
 use Rattle.copying.specs.Words.{copyWords}
 use borrow.Author.Needs.{needs}
-use Rattle.gather.proofs.arranged.move_gate.Statement.{statement}
-use Rattle.gather.proofs.arranged.move_gate.Tie as tie
+use Rattle.copying.proofs.entry.write_gate.Statement.{statement}
+use Rattle.copying.proofs.entry.write_gate.Tie as tie
 
 mul-from : tie.Need-mul-from
 mul-from c = search needs
@@ -19,16 +19,16 @@ shared-slice-read-count : tie.Need-shared-slice-read-count
 shared-slice-read-count c = search needs
 
 cast-count : tie.Need-cast-count
-cast-count c = let a = c .before .before .before .before .args in omega (arith, c .shared-slice-known3 .given (a .gates + 5 * a .j))
+cast-count c = let a = c .before .before .before .before .before .args in omega (arith, c .shared-slice-known3 .given (a .nodes .start + 5 * a .j))
 
-add-copy-entry : tie.Need-add-copy-entry
-add-copy-entry c = let a = c .before .before .before .before .args in omega (arith, c .shared-slice-known3 .given (a .gates + 5 * a .j))
+add-last : tie.Need-add-last
+add-last c = let a = c .before .before .before .before .before .args in omega (arith, c .shared-slice-known3 .given (a .nodes .start + 5 * a .j))
 
 mul-copy-entry : tie.Need-mul-copy-entry
 mul-copy-entry c = search needs
 
-add-copy-entry-2 : tie.Need-add-copy-entry-2
-add-copy-entry-2 c = search needs
+add-copy-entry : tie.Need-add-copy-entry
+add-copy-entry c = search needs
 
 copy-entry-requires : tie.Need-copy-entry-requires
 copy-entry-requires c κs = search needs
@@ -40,8 +40,8 @@ returns : tie.Need-returns
 unfolding copyWords
 returns c = c .before .before .copy-entry .ensures
 
-pub move-gate-spec : {M : Type 1} → statement M
-move-gate-spec =
+pub write-gate-spec : {M : Type 1} → statement M
+write-gate-spec =
     tie.close
     (tie.spec
     mul-from
@@ -49,9 +49,9 @@ move-gate-spec =
     mul-count
     shared-slice-read-count
     cast-count
-    add-copy-entry
+    add-last
     mul-copy-entry
-    add-copy-entry-2
+    add-copy-entry
     copy-entry-requires
     same-length
     returns)
