@@ -110,7 +110,8 @@ returns c =
     let count = c .before .before .before .setting-count in
     let block = decode (s .args .words .now) in
     let all : l .base ≡ count .result = omega (arith, l .inv .0 .within, count .ensures) in
-    l .inv .1 ∙ count-end block (l .base) (count .result) (setting-count block (s .args .nodes .inputs) (count .result) (s .pre .0 .legible .inputs) (count .ensures)) all
+    l .inv .1 ∙ count-end block (l .base) (count .result) (setting-count block (s .args .nodes .inputs) (count .result) (s .pre .0 .legible .inputs)
+    (count .ensures)) all
 
 pub count-settled-spec : {M : Type 1} → statement M
 count-settled-spec =
