@@ -40,7 +40,8 @@ use Rattle.lanes.specs.Nodes.{pairAt, inputsIn, gatesIn}
 use Rattle.lanes.proofs.LaneLaws.{nothing-lane, nothing-proper}
 use Rattle.lanes.proofs.InputLaws.{inputPairs-proper, inputPairs-lane}
 use Rattle.lanes.proofs.NodeLaws.{gatePairAt-evaluated, head-legal, set-inputs, set-gates}
-use Rattle.batch.specs.Batch.{NodesLong, Inside, gatePair, Evaluated, Walked, noGate, gateMore, BatchUnderway, BatchSwept, BatchSettled, Decided, Advanced}
+use Rattle.batch.specs.Batch.{NodesLong, Inside, gatePair, Evaluated, Walked, noGate, gateMore}
+use Rattle.batch.specs.Batch.{BatchUnderway, BatchSwept, BatchSettled, Decided, Advanced}
 use Rattle.batch.specs.Batch.{InputsPut, Started, startPair, placeOf, along}
 use Rattle.batch.proofs.Sweeping.{swept-none, swept-one, swept-then, swept-underway, swept-settled, defined-settled}
 
@@ -205,15 +206,19 @@ module _ {ws : List ℕ} {nodes : Nodes} (legible : Legible ws nodes) (few : nod
 
   module _ {zeros ones : List ℕ} (long : NodesLong (decode ws) (nodes .inputs) zeros ones) where
     pub gatePair-evaluated : gatePair ws nodes j zeros ones
-        ≡ evaluatedPair (full (lanesOf (nodes .inputs))) (inputsIn (nodes .inputs) zeros ones) (gatesIn (nodes .inputs) (gateCount (decode ws)) zeros ones) (gateOf (decode ws) j)
+        ≡ evaluatedPair (full (lanesOf (nodes .inputs))) (inputsIn (nodes .inputs) zeros ones) (gatesIn (nodes .inputs) (gateCount (decode ws)) zeros ones)
+        (gateOf (decode ws) j)
     unfolding gatePair
     gatePair-evaluated =
-        gatePairAt-evaluated (full (lanesOf (nodes .inputs))) (nodes .inputs) (gateCount (decode ws)) zeros ones (omega arith) (long .zerosLong) (long .onesLong) ws (nodes .start + gateSize * j)
-        ∙ ap (evaluatedPair (full (lanesOf (nodes .inputs))) (inputsIn (nodes .inputs) zeros ones) (gatesIn (nodes .inputs) (gateCount (decode ws)) zeros ones)) (legible .gateIs j l)
+        gatePairAt-evaluated (full (lanesOf (nodes .inputs))) (nodes .inputs) (gateCount (decode ws)) zeros ones (omega arith) (long .zerosLong)
+        (long .onesLong) ws (nodes .start + gateSize * j)
+        ∙ ap (evaluatedPair (full (lanesOf (nodes .inputs))) (inputsIn (nodes .inputs) zeros ones)
+        (gatesIn (nodes .inputs) (gateCount (decode ws)) zeros ones)) (legible .gateIs j l)
 
     -- the words of the gates, with that pair stored
     pub evaluated-gates : {zeros′ ones′ : List ℕ} {changed : Bool} → Evaluated ws nodes j zeros ones zeros′ ones′ changed
-        → gatesIn (nodes .inputs) (gateCount (decode ws)) zeros′ ones′ ≡ set (gatesIn (nodes .inputs) (gateCount (decode ws)) zeros ones) j (gatePair ws nodes j zeros ones)
+        → gatesIn (nodes .inputs) (gateCount (decode ws)) zeros′ ones′
+        ≡ set (gatesIn (nodes .inputs) (gateCount (decode ws)) zeros ones) j (gatePair ws nodes j zeros ones)
     evaluated-gates e =
         rw (e .zerosAre, e .onesAre)
         (set-gates (nodes .inputs) (gateCount (decode ws)) zeros ones j (gatePair ws nodes j zeros ones) l (long .zerosLong) (long .onesLong))
@@ -255,7 +260,8 @@ module _ {ws : List ℕ} {nodes : Nodes} (legible : Legible ws nodes) (few : nod
       was : getD (gatesIn (nodes .inputs) m zeros ones) j nothing ≡ pairAt zeros ones (nodes .inputs + j)
       was = gatesIn-at (nodes .inputs) m zeros ones j l
 
-      same : not (eqb (p .zeros) (getD zeros (nodes .inputs + j) 0)) || not (eqb (p .ones) (getD ones (nodes .inputs + j) 0)) ≡ false → p ≡ getD (gatesIn (nodes .inputs) m zeros ones) j nothing
+      same : not (eqb (p .zeros) (getD zeros (nodes .inputs + j) 0)) || not (eqb (p .ones) (getD ones (nodes .inputs + j) 0)) ≡ false
+          → p ≡ getD (gatesIn (nodes .inputs) m zeros ones) j nothing
       same h =
           let d = differ-no (p .zeros) (getD zeros (nodes .inputs + j) 0) (p .ones) (getD ones (nodes .inputs + j) 0) h in
           rw was (same-pair zeros ones (nodes .inputs + j) p (d .0) (d .1))
@@ -264,7 +270,8 @@ module _ {ws : List ℕ} {nodes : Nodes} (legible : Legible ws nodes) (few : nod
           → p .zeros ≡ getD (gatesIn (nodes .inputs) m zeros ones) j nothing .zeros → p .ones ≡ getD (gatesIn (nodes .inputs) m zeros ones) j nothing .ones → ⊥
       other h ez eo =
           differ-yes (p .zeros) (getD zeros (nodes .inputs + j) 0) (p .ones) (getD ones (nodes .inputs + j) 0) h
-          (ez ∙ ap (λ (q : Pair). q .zeros) was ∙ zeros-at zeros ones (nodes .inputs + j)) (eo ∙ ap (λ (q : Pair). q .ones) was ∙ ones-at zeros ones (nodes .inputs + j))
+          (ez ∙ ap (λ (q : Pair). q .zeros) was ∙ zeros-at zeros ones (nodes .inputs + j))
+          (eo ∙ ap (λ (q : Pair). q .ones) was ∙ ones-at zeros ones (nodes .inputs + j))
 
 -- several gates, one after the other
 module _ {ws : List ℕ} {nodes : Nodes} {zeros ones : List ℕ} where
@@ -280,7 +287,8 @@ module _ {ws : List ℕ} {nodes : Nodes} {zeros ones : List ℕ} where
       → NodesLong b (nodes .inputs) zeros ones → NodesLong b (nodes .inputs) zeros′ ones′
   walked-long w h = record { zerosLong = walked-zeros w ∙ h .zerosLong; onesLong = walked-ones w ∙ h .onesLong }
 
-  pub walked-swept : {js zeros′ ones′ : List ℕ} {changed : Bool} → Legible ws nodes → nodes .inputs ≤ maxInputs → BatchUnderway (decode ws) (nodes .inputs) zeros ones
+  pub walked-swept : {js zeros′ ones′ : List ℕ} {changed : Bool} → Legible ws nodes → nodes .inputs ≤ maxInputs
+      → BatchUnderway (decode ws) (nodes .inputs) zeros ones
       → Walked ws nodes zeros ones js zeros′ ones′ changed → BatchSwept (decode ws) (nodes .inputs) js zeros ones zeros′ ones′ changed
   walked-swept legible few u noGate = batch-none u
   walked-swept legible few u (gateMore w j l e) =
@@ -312,7 +320,8 @@ module _ {m : ℕ} {order : List ℕ} (back : Bool) (v : Visits m order) where
   unfolding along
   along-visits =
       record {
-        inside = λ i l. let h : i < length order = rw (length-tab f (length order)) at l in rw (getD-tab f (length order) i 0 h) (along-inside order back (v .inside) i h);
+        inside = λ i l. let h : i < length order = rw (length-tab f (length order)) at l in
+            rw (getD-tab f (length order) i 0 h) (along-inside order back (v .inside) i h);
         every = found;
       }
     where

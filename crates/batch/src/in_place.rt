@@ -143,7 +143,9 @@ fn sweep_decides(
     ones: &mut [u64],
 ) -> bool
     requires { ⌜ Sweepable (now words) nodes used (now order) × BatchUnderway (decode (now words)) (nodes .inputs) (now zeros) (now ones) ⌝ }
-    ensures { λ r. ⌜ Advanced (decode (now (words .entry))) (nodes .inputs) (now (zeros .entry)) (now (ones .entry)) (now (zeros .exit)) (now (ones .exit)) r ⌝ }
+    ensures { λ r. ⌜
+        Advanced (decode (now (words .entry))) (nodes .inputs) (now (zeros .entry)) (now (ones .entry)) (now (zeros .exit)) (now (ones .exit)) r
+        ⌝ }
     ensures { λ r. ⌜
         (r ≡ false → roomIn (decode (now (words .entry))) (nodes .inputs) (now (zeros .exit)) (now (ones .exit))
         < roomIn (decode (now (words .entry))) (nodes .inputs) (now (zeros .entry)) (now (ones .entry)))
@@ -166,7 +168,9 @@ fn sweep_again(
     ones: &mut [u64],
 ) -> bool
     requires { ⌜ Sweepable (now words) nodes used (now order) × BatchUnderway (decode (now words)) (nodes .inputs) (now zeros) (now ones) ⌝ }
-    ensures { λ r. ⌜ Advanced (decode (now (words .entry))) (nodes .inputs) (now (zeros .entry)) (now (ones .entry)) (now (zeros .exit)) (now (ones .exit)) r ⌝ }
+    ensures { λ r. ⌜
+        Advanced (decode (now (words .entry))) (nodes .inputs) (now (zeros .entry)) (now (ones .entry)) (now (zeros .exit)) (now (ones .exit)) r
+        ⌝ }
 {
     let middle = order.len() / 2;
     if !sweep(words, nodes, used, &order[..middle], false, zeros, ones) {

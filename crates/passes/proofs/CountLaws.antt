@@ -236,39 +236,39 @@ counting-full {b} {starts = starts} {passes = passes} next listing c full =
 -- ---- the start
 
 module _ {b : Block} {count : ℕ} {members starts : List ℕ} (listing : Listing b count members starts) {passes : List ℕ} (entry : List ℕ)
-    (room : count ≤ length entry) (are : passes ≡ placed (replicate count 1) entry) where
-  ones : List ℕ
-  ones = replicate count 1
+    (room : count ≤ length entry) (each : ℕ) (are : passes ≡ placed (replicate count each) entry) where
+  firsts : List ℕ
+  firsts = replicate count each
 
-  ones-long : length ones ≡ count
-  unfolding ones
-  ones-long = length-replicate {A = ℕ} count 1
+  firsts-long : length firsts ≡ count
+  unfolding firsts
+  firsts-long = length-replicate {A = ℕ} count each
 
-  one-each : (g : ℕ) → g < count → getD passes g 0 ≡ 1
-  unfolding ones
-  one-each g l = rw are (List·getD-append ones (drop (length ones) entry) 0 g (rw ones-long l) ∙ getD-replicate {A = ℕ} count g 1 0 l)
+  first-each : (g : ℕ) → g < count → getD passes g 0 ≡ each
+  unfolding firsts
+  first-each g l = rw are (List·getD-append firsts (drop (length firsts) entry) 0 g (rw firsts-long l) ∙ getD-replicate {A = ℕ} count g each 0 l)
 
-  pub counting-first : Counting b count 0 0 0 passes (length members)
+  pub counting-first : each ≡ 1 → Counting b count 0 0 0 passes (length members)
   unfolding copiesOf
-  counting-first =
+  counting-first one =
       record {
-        least = λ g l. rw (one-each g l) (record { some = omega arith; fewer = inl refl });
+        least = λ g l. rw (first-each g l, one) (record { some = omega arith; fewer = inl refl });
         totalIs =
             listing .membersLong
             ∙ ap sum
             (groups-tab b length count (listing .countIs)
-            ∙ tab-ext _ _ count (λ g l. rw (one-each g l) (sym (mul-one (length (groupAt b g))))));
+            ∙ tab-ext _ _ count (λ g l. rw (first-each g l, one) (sym (mul-one (length (groupAt b g))))));
         most = omega (arith, listing .few);
         before = λ few g l s m. absurd (omega arith);
         inside = λ few g l. absurd (omega arith);
       }
 
   pub rest-first : SameRest count entry passes
-  unfolding ones
+  unfolding firsts
   rest-first =
       record {
-        long = rw are (length-placed ones entry (rw ones-long room));
-        rest = λ g l. rw (are, ones-long) (getD-past ones entry count g 0 ones-long l);
+        long = rw are (length-placed firsts entry (rw firsts-long room));
+        rest = λ g l. rw (are, firsts-long) (getD-past firsts entry count g 0 firsts-long l);
       }
 
 -- ---- the end

@@ -99,19 +99,22 @@ module _ {ws : List ℕ} {nodes : Nodes} (legible : Legible ws nodes) (few : nod
       long : NodesLong (decode ws) (nodes .inputs) zeros ones
       long = held-long h
 
-      is : p ≡ evaluatedPair (full (lanesOf (nodes .inputs))) (inputsIn (nodes .inputs) zeros ones) (gatesIn (nodes .inputs) m zeros ones) (gateOf (decode ws) j)
+      is : p ≡ evaluatedPair (full (lanesOf (nodes .inputs))) (inputsIn (nodes .inputs) zeros ones) (gatesIn (nodes .inputs) m zeros ones)
+          (gateOf (decode ws) j)
       is = gatePair-evaluated legible few j l long
 
       isProper : Proper (lanesOf (nodes .inputs)) p
       isProper = rw is (evaluatedPair-proper (h .inputsProper) (h .gatesProper) (gateOf (decode ws) j))
 
       value : (s : ℕ) → s < lanesOf (nodes .inputs)
-          → lane s p ≡ evaluated (map (lane s) (inputsIn (nodes .inputs) zeros ones)) (map (lane s) (gatesIn (nodes .inputs) m zeros ones)) (gateOf (decode ws) j)
+          → lane s p ≡ evaluated (map (lane s) (inputsIn (nodes .inputs) zeros ones)) (map (lane s) (gatesIn (nodes .inputs) m zeros ones))
+          (gateOf (decode ws) j)
       value s k = rw is (evaluatedPair-lane (h .inputsProper) (h .gatesProper) s k (gateOf (decode ws) j) (gate-legal legible few j l))
 
 -- several gates
 pub walked-stepped : {ws : List ℕ} {nodes : Nodes} {js zeros ones zeros′ ones′ : List ℕ} {changed : Bool} → Legible ws nodes → nodes .inputs ≤ maxInputs
-    → Held (decode ws) (nodes .inputs) zeros ones → Walked ws nodes zeros ones js zeros′ ones′ changed → Stepped (decode ws) (nodes .inputs) js zeros ones zeros′ ones′
+    → Held (decode ws) (nodes .inputs) zeros ones → Walked ws nodes zeros ones js zeros′ ones′ changed
+    → Stepped (decode ws) (nodes .inputs) js zeros ones zeros′ ones′
 walked-stepped legible few h noGate = stepped-none h
 walked-stepped legible few h (gateMore w j l e) =
     let s = walked-stepped legible few h w in

@@ -51,7 +51,8 @@ pub record Passing (b : Block) (n base : ℕ) (group : List ℕ) (p₀ total₀ 
   pub onesOutside : (k : ℕ) → Apart n group k → getD ones k 0 ≡ getD ones₀ k 0
 
 pub passing-first : {ws : List ℕ} {nodes : Nodes} {base : ℕ} {group : List ℕ} {p total : ℕ} {zeros ones settledZeros settledOnes : List ℕ}
-    → PassReady ws nodes base group p total zeros ones settledZeros settledOnes → Passing (decode ws) (nodes .inputs) base group p total zeros ones zeros ones p total
+    → PassReady ws nodes base group p total zeros ones settledZeros settledOnes
+    → Passing (decode ws) (nodes .inputs) base group p total zeros ones zeros ones p total
 passing-first r =
     record { more = omega arith; totalIs = refl; soFar = r .soFar; passed = r .passed; zerosOutside = λ k a. refl; onesOutside = λ k a. refl }
 
@@ -87,7 +88,8 @@ module _ {ws : List ℕ} {nodes : Nodes} {base : ℕ} {group keptZeros keptOnes 
           onesOutside = λ k a. s .onesOutside k a ∙ c .onesOutside k a;
         }
 
-    pub passing-done : Held (decode ws) (nodes .inputs) zeros₀ ones₀ → (total ≤ maxCopies → Lacks (decode ws) (nodes .inputs) base group zeros ones keptZeros keptOnes false)
+    pub passing-done : Held (decode ws) (nodes .inputs) zeros₀ ones₀
+        → (total ≤ maxCopies → Lacks (decode ws) (nodes .inputs) base group zeros ones keptZeros keptOnes false)
         → MorePasses (decode ws) (nodes .inputs) base group p₀ total₀ zeros₀ ones₀ zeros ones (record { passes = p; total = total })
     passing-done held done =
         record {

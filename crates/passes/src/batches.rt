@@ -42,7 +42,8 @@ fn count_at(
         × Counting (decode (now words)) (length (groups (decode (now words)))) base g (base + lanesOf (nodes .inputs)) (now passes) total
         ⌝ }
     ensures counted { λ r. ⌜
-        Counting (decode (now (words .entry))) (length (groups (decode (now (words .entry))))) base (g + 1) (base + lanesOf (nodes .inputs)) (now (passes .exit)) r
+        Counting (decode (now (words .entry))) (length (groups (decode (now (words .entry))))) base (g + 1) (base + lanesOf (nodes .inputs))
+        (now (passes .exit)) r
         × SameRest (length (groups (decode (now (words .entry))))) (now (passes .entry)) (now (passes .exit))
         ⌝ }
     ensures kept { λ r. ⌜ (now (zeros .exit) ≡ now (zeros .entry)) × (now (ones .exit) ≡ now (ones .entry)) ⌝ }
@@ -87,7 +88,8 @@ fn count_needed(
         × Counting (decode (now words)) (length (groups (decode (now words)))) base g (base + lanesOf (nodes .inputs)) (now passes) total
         ⌝ }
     ensures counted { λ r. ⌜
-        Counting (decode (now (words .entry))) (length (groups (decode (now (words .entry))))) base (g + 1) (base + lanesOf (nodes .inputs)) (now (passes .exit)) r
+        Counting (decode (now (words .entry))) (length (groups (decode (now (words .entry))))) base (g + 1) (base + lanesOf (nodes .inputs))
+        (now (passes .exit)) r
         × SameRest (length (groups (decode (now (words .entry))))) (now (passes .entry)) (now (passes .exit))
         ⌝ }
     ensures kept { λ r. ⌜ (now (zeros .exit) ≡ now (zeros .entry)) × (now (ones .exit) ≡ now (ones .entry)) ⌝ }

@@ -1,4 +1,5 @@
-// The passes that one group needs for the settings of a batch. `zeros` and `ones` have a word for each input and each gate of the block; `used` has a bit at each lane in use.
+// The passes that one group needs for the settings of a batch. `zeros` and `ones` have a word for each input and each gate of the block; `used` has a
+// bit at each lane in use.
 use crate::Counted;
 use crate::pairs::lacks;
 use crate::pairs::put_pairs;
@@ -15,9 +16,11 @@ ghost use Rattle.passes.specs.Counting.{Evaluable, Held, Stepped, PassRe
 
 // One pass: evaluates the gates listed, each pair stored at once.
 fn pass(words: &[u16], nodes: Nodes, used: u64, group: &[u16], zeros: &mut [u64], ones: &mut [u64])
-    requires { ⌜ Evaluable (now words) nodes (now group) × (used ≡ full (lanesOf (nodes .inputs))) × Held (decode (now words)) (nodes .inputs) (now zeros) (now ones) ⌝ }
+    requires { ⌜ Evaluable (now words) nodes (now group) × (used ≡ full (lanesOf (nodes .inputs)))
+        × Held (decode (now words)) (nodes .inputs) (now zeros) (now ones) ⌝ }
     ensures { λ r. ⌜
-        Stepped (decode (now (words .entry))) (nodes .inputs) (now (group .entry)) (now (zeros .entry)) (now (ones .entry)) (now (zeros .exit)) (now (ones .exit))
+        Stepped (decode (now (words .entry))) (nodes .inputs) (now (group .entry)) (now (zeros .entry)) (now (ones .entry)) (now (zeros .exit))
+        (now (ones .exit))
         ⌝ }
 {
     sweep(words, nodes, used, group, false, zeros, ones);
@@ -33,9 +36,11 @@ fn run_passes(
     zeros: &mut [u64],
     ones: &mut [u64],
 )
-    requires { ⌜ Evaluable (now words) nodes (now group) × (used ≡ full (lanesOf (nodes .inputs))) × Held (decode (now words)) (nodes .inputs) (now zeros) (now ones) ⌝ }
+    requires { ⌜ Evaluable (now words) nodes (now group) × (used ≡ full (lanesOf (nodes .inputs)))
+        × Held (decode (now words)) (nodes .inputs) (now zeros) (now ones) ⌝ }
     ensures { λ r. ⌜
-        Stepped (decode (now (words .entry))) (nodes .inputs) (repeated passes (now (group .entry))) (now (zeros .entry)) (now (ones .entry)) (now (zeros .exit))
+        Stepped (decode (now (words .entry))) (nodes .inputs) (repeated passes (now (group .entry))) (now (zeros .entry)) (now (ones .entry))
+        (now (zeros .exit))
         (now (ones .exit))
         ⌝ }
 {
@@ -61,7 +66,8 @@ fn more_passes(
 ) -> Counted
     requires { ⌜ PassReady (now words) nodes base (now group) passes total (now zeros) (now ones) (now «settled_zeros») (now «settled_ones») ⌝ }
     ensures { λ r. ⌜
-        MorePasses (decode (now (words .entry))) (nodes .inputs) base (now (group .entry)) passes total (now (zeros .entry)) (now (ones .entry)) (now (zeros .exit))
+        MorePasses (decode (now (words .entry))) (nodes .inputs) base (now (group .entry)) passes total (now (zeros .entry)) (now (ones .entry))
+        (now (zeros .exit))
         (now (ones .exit)) r
         ⌝ }
 {

@@ -5,7 +5,7 @@
 --   whole-decidable                   words that are not torn
 --   passed-sound, found-unsound       what the outputs' words tell of a batch
 --   batch-more, lowest-in-batch       one batch more; the lowest setting in the first batch that has one
---   count-add, count-coming           how many are settled
+--   count-add, count-coming, reached  how many are settled
 --   flagged-length, flagged-placed    a byte for each setting
 -- Assumes nothing.
 use mathlib.Core.Path.{_≡_, refl, sym, ap, _∙_}
@@ -41,8 +41,8 @@ use Rattle.judge.specs.Lanes.{Judged, mayCome, isUndefinedAt, isUnsettled, isUn
 use Rattle.lanes.proofs.WordLaws.{tells-and, tells-no-lane, tells-some, tells-lowest, lane-bit}
 use Rattle.judge.proofs.OutputLaws.{undefined-tells, undefined-some, undefined-unsettled}
 use Rattle.verdict.specs.Flags.{soundFlag}
-use Rattle.verdict.specs.Batches.{FirstBatch, countedFrom, flagged}
-use Rattle.verdict.proofs.Counting.{lowest-found, below-lowest}
+use Rattle.verdict.specs.Batches.{FirstBatch, Reached, countedFrom, flagged}
+use Rattle.verdict.proofs.Counting.{lowest-found, sound-counted}
 
 -- ---- where a batch starts
 
@@ -214,11 +214,21 @@ pub count-add : (p : ℕ → Bool) (a k : ℕ) → countBelow p (a + k) ≡ coun
 count-add p a zero = rw (add-zero a) (sym (add-zero (countBelow p a)))
 count-add p a (suc k) = rw (add-suc a k, count-add p a k) (add-assoc (countBelow p a) (countBelow (λ s. p (a + s)) k) (cond (p (a + k)) 1 0))
 
--- below the lowest other
-pub count-coming : (b : Block) (base lanes : ℕ) → base + lanes ≤ lowestUnsettled b
+-- below the first batch with another
+pub count-coming : (b : Block) (base lanes : ℕ) {first : ℕ} → ((i : ℕ) → i < first → isSoundAt b i ≡ true) → base + lanes ≤ first
     → countBelow (λ s. mayCome b (base + s)) lanes ≡ countBelow (countedFrom b base) lanes
 unfolding countedFrom
-count-coming b base lanes h = countBelow-ext (λ s. mayCome b (base + s)) (countedFrom b base) lanes (λ s l. below-lowest b (base + s) (omega arith))
+count-coming b base lanes before h =
+    countBelow-ext (λ s. mayCome b (base + s)) (countedFrom b base) lanes (λ s l. sound-counted b (base + s) (before (base + s) (omega arith)))
+
+-- the batch at `base`, when the slices have not been changed up to the first batch with another
+pub reached : {b : Block} {n first base : ℕ} {zeros ones zeros′ ones′ : List ℕ} → FirstBatch b n first zeros ones → base < 2 ^ n
+    → (base ≤ first → (zeros′ ≡ zeros) × (ones′ ≡ ones)) → Reached b n first base zeros′ ones′
+reached f l kept =
+    record {
+      before = f .before;
+      held = λ e. let k = kept (omega arith) in rw (e, k .0, k .1) (f .settled (rw (← e) l));
+    }
 
 pub count-batch : (b : Block) (base : ℕ) {lanes step count more : ℕ} → step ≡ lanes → count ≡ countBelow (isCounted b) base
     → more ≡ countBelow (countedFrom b base) lanes → count + more ≡ countBelow (isCounted b) (base + step)

@@ -16,7 +16,7 @@ use layout::offsets::outputs_of;
 use netlist::Answer;
 ghost use mathlib.Core.Path.{_≡_};
 ghost use Prim.Native.Nat.{_+_, _%_, _^_, _≤_, _<_};
-ghost use lib.ListN.{length};
+ghost use lib.ListN.{length, getD};
 ghost use Rattle.laws.specs.Lists.{countBelow, tab, placed};
 ghost use Rattle.netlist.specs.Limits.{maxInputs};
 ghost use Rattle.netlist.specs.declared.Answer.the-variants.{Done};
@@ -24,8 +24,9 @@ ghost use Rattle.netlist.specs.StoredBlock.{decode};
 ghost use Rattle.netlist.specs.Rounds.{settledSettings, lowestUnsettled};
 ghost use Rattle.lanes.specs.Batches.{lanesOf};
 ghost use Rattle.batch.specs.Batch.{Decidable};
+ghost use Rattle.judge.specs.Lanes.{Judged};
 ghost use Rattle.verdict.specs.Flags.{soundFlag};
-ghost use Rattle.verdict.specs.Batches.{FirstBatch, countedFrom, flagged};
+ghost use Rattle.verdict.specs.Batches.{FirstBatch, Reached, countedFrom, flagged};
 
 // How many settings n inputs have.
 pub fn setting_count(n: usize) -> usize
@@ -67,8 +68,19 @@ fn unsettled_batch(
     base
 }
 
-// The lowest setting that may come and has an undefined output, or 2^n: in the first batch with such a setting, the lowest lane at which any output is
-// undefined.
+// The lowest setting that may come and has an undefined output, or 2^n, when `base` is the first batch with such a setting and the slices hold its settled
+// values: the lowest lane at which any output is undefined.
+fn lowest_in(words: &[u16], n: usize, base: usize, zeros: &[u64], ones: &[u64]) -> usize
+    requires { ⌜ (n ≡ getD (now words) 0 0) × (n ≤ maxInputs) × FirstBatch (decode (now words)) n base (now zeros) (now ones) ⌝ }
+    ensures { λ r. ⌜ r ≡ lowestUnsettled (decode (now (words .entry))) ⌝ }
+{
+    if base < setting_count(n) {
+        return base + lowest_lane(unsound_lanes(words, n, base, zeros, ones));
+    }
+    base
+}
+
+// The same, from all batches.
 pub fn lowest_unsettled(
     words: &[u16],
     nodes: Nodes,
@@ -79,45 +91,57 @@ pub fn lowest_unsettled(
     requires { ⌜ Decidable (now words) nodes (now order) (now zeros) (now ones) ⌝ }
     ensures { λ r. ⌜ r ≡ lowestUnsettled (decode (now (words .entry))) ⌝ }
 {
-    let base = unsettled_batch(words, nodes, order, zeros, ones);
-    if base < setting_count(nodes.inputs) {
-        return base + lowest_lane(unsound_lanes(words, nodes.inputs, base, zeros, ones));
-    }
-    base
+    let first = unsettled_batch(words, nodes, order, zeros, ones);
+    lowest_in(words, nodes.inputs, first, zeros, ones)
 }
 
-// How many settings of the batch at `base` may come and are settled, when `lowest` is the lowest that may come and is not: below it none is decided.
+// How many settings of the batch at `base` may come and are settled, when the slices hold its settled values.
+fn count_held(words: &[u16], n: usize, base: usize, zeros: &[u64], ones: &[u64]) -> usize
+    requires { ⌜ Judged (now words) n base (now zeros) (now ones) ⌝ }
+    ensures { λ r. ⌜ r ≡ countBelow (countedFrom (decode (now (words .entry))) base) (lanesOf n) ⌝ }
+{
+    count_lanes(counted_lanes(words, n, base, zeros, ones))
+}
+
+// How many settings of the batch at `base` may come and are settled, when `first` is the first batch with another: below it none is decided, and at it the
+// slices hold the settled values.
 fn count_batch(
     words: &[u16],
     nodes: Nodes,
     order: &[u16],
     base: usize,
-    lowest: usize,
+    first: usize,
     zeros: &mut [u64],
     ones: &mut [u64],
 ) -> usize
     requires { ⌜ Decidable (now words) nodes (now order) (now zeros) (now ones) × (base % 64 ≡ 0) × (base < 2 ^ 32) ⌝ }
-    requires { ⌜ lowest ≡ lowestUnsettled (decode (now words)) ⌝ }
-    ensures { λ r. ⌜ r ≡ countBelow (countedFrom (decode (now (words .entry))) base) (lanesOf (nodes .inputs)) ⌝ }
+    requires { ⌜ Reached (decode (now words)) (nodes .inputs) first base (now zeros) (now ones) ⌝ }
+    ensures counted { λ r. ⌜ r ≡ countBelow (countedFrom (decode (now (words .entry))) base) (lanesOf (nodes .inputs)) ⌝ }
+    ensures kept { λ r. ⌜
+        (base + lanesOf (nodes .inputs) ≤ first → (now (zeros .exit) ≡ now (zeros .entry)) × (now (ones .exit) ≡ now (ones .entry)))
+        ⌝ }
 {
-    if base + lane_count(nodes.inputs) <= lowest {
+    if base + lane_count(nodes.inputs) <= first {
         return count_lanes(coming_lanes(words, nodes.inputs, base));
     }
+    if base == first {
+        return count_held(words, nodes.inputs, base, zeros, ones);
+    }
     decide_batch(words, nodes, order, base, zeros, ones);
-    count_lanes(counted_lanes(words, nodes.inputs, base, zeros, ones))
+    count_held(words, nodes.inputs, base, zeros, ones)
 }
 
-// How many settings that may come are settled, when `lowest` is the lowest other.
-pub fn count_settled(
+// How many settings that may come are settled, when `first` is the first batch with another.
+fn count_settled(
     words: &[u16],
     nodes: Nodes,
     order: &[u16],
-    lowest: usize,
+    first: usize,
     zeros: &mut [u64],
     ones: &mut [u64],
 ) -> usize
     requires { ⌜ Decidable (now words) nodes (now order) (now zeros) (now ones) ⌝ }
-    requires { ⌜ lowest ≡ lowestUnsettled (decode (now words)) ⌝ }
+    requires { ⌜ FirstBatch (decode (now words)) (nodes .inputs) first (now zeros) (now ones) ⌝ }
     ensures { λ r. ⌜ r ≡ settledSettings (decode (now (words .entry))) ⌝ }
 {
     let count = setting_count(nodes.inputs);
@@ -125,7 +149,7 @@ pub fn count_settled(
     let mut settled = 0;
     let mut base = 0;
     while base < count {
-        settled += count_batch(words, nodes, order, base, lowest, zeros, ones);
+        settled += count_batch(words, nodes, order, base, first, zeros, ones);
         base += lanes;
     }
     settled
@@ -178,8 +202,9 @@ pub fn search_settings(
     requires { ⌜ Decidable (now words) nodes (now order) (now zeros) (now ones) ⌝ }
     ensures { λ r. ⌜ r ≡ Done (settledSettings (decode (now (words .entry)))) (lowestUnsettled (decode (now (words .entry)))) ⌝ }
 {
-    let lowest = lowest_unsettled(words, nodes, order, zeros, ones);
-    let count = count_settled(words, nodes, order, lowest, zeros, ones);
+    let first = unsettled_batch(words, nodes, order, zeros, ones);
+    let lowest = lowest_in(words, nodes.inputs, first, zeros, ones);
+    let count = count_settled(words, nodes, order, first, zeros, ones);
     Answer::Done {
         count: count,
         detail: lowest,

@@ -52,7 +52,8 @@ fn write_from(
     order: &mut [u16],
     tail: usize,
 ) -> usize
-    requires { ⌜ Room nodes (now flags) (now stack) (now order) × Written (nodes .gates) (now flags) (now order) tail × (root < nodes .gates) × (getD (now flags) root 0 ≡ 0) ⌝ }
+    requires { ⌜ Room nodes (now flags) (now stack) (now order) × Written (nodes .gates) (now flags) (now order) tail × (root < nodes .gates)
+        × (getD (now flags) root 0 ≡ 0) ⌝ }
     ensures { λ r. ⌜ Grown (nodes .gates) root (now (flags .entry)) (now (flags .exit)) (now (order .exit)) r ⌝ }
 {
     flags[root] = 1;

@@ -27,8 +27,10 @@ unfolding nodesOf
 write-postorder-requires c κs =
     let at = c .before .before .before in
     let s = start at in
-    let few : at .nodes-of .result .gates ≤ maxGates = rw (at .nodes-of .ensures) (whole-parts (s .args .words .now) (s .pre .0) .fewGates) in
-    (whole-room (s .args .words .now) (s .pre .0) (at .nodes-of .ensures) (omega arith) (omega arith) (s .pre .1), blank (at .nodes-of .result .gates) maxGates few)
+    let few : at .nodes-of .result .gates ≤ maxGates = rw (at .nodes-of .ensures) (whole-parts (s .args .words .now) (s .pre .0) .fewGates) in (
+      whole-room (s .args .words .now) (s .pre .0) (at .nodes-of .ensures) (omega arith) (omega arith) (s .pre .1),
+      blank (at .nodes-of .result .gates) maxGates few,
+    )
 
 same-length : tie.Need-same-length
 same-length c = search needs

@@ -66,8 +66,10 @@ begun : (f : tie.After-used-lanes Inv-loop μ-loop) → let a = start f .args in
 begun f =
     let s = start f in
     let g = f .before .before .before .before .before .start-batch .ensures in
-    let long = s .pre .0 .zerosLong in
-    (started-underway (s .args .nodes .inputs) (s .args .base) g (decode (s .args .words .now)) long, started-inputs (s .args .nodes .inputs) (s .args .base) g (omega arith))
+    let long = s .pre .0 .zerosLong in (
+      started-underway (s .args .nodes .inputs) (s .args .base) g (decode (s .args .words .now)) long,
+      started-inputs (s .args .nodes .inputs) (s .args .base) g (omega arith),
+    )
 
 sweep-decides-requires : tie.Need-sweep-decides-requires Inv-loop μ-loop
 sweep-decides-requires c κs = let f = c .before .before in (sweepable f, begun f .0)

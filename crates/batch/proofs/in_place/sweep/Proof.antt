@@ -47,7 +47,13 @@ step-requires c κs =
     let p = c .before .before .before in
     let l = p .before .before in
     let s = start l in (
-      (rw (p .place .ensures) (along-inside (s .args .order .now) (s .args .back) (s .pre .0 .1) (l .loop .i) (p .before .loop-test .taken)), s .pre .0 .0, s .pre .0 .2, s .pre .0 .3),
+      (
+        rw (p .place .ensures) (along-inside (s .args .order .now) (s .args .back) (s .pre .0 .1) (l .loop .i)
+            (p .before .loop-test .taken)),
+        s .pre .0 .0,
+        s .pre .0 .2,
+        s .pre .0 .3,
+      ),
       walked-long (l .loop .inv .1) (s .pre .1),
     )
 

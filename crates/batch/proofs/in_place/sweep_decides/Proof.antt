@@ -34,8 +34,10 @@ same-length-2 c = made (swept (c .before)) .onesLong
 returns : tie.Need-returns
 returns c =
     let d = swept (c .before) in
-    let s = start d in
-    (advanced-still (along-visits (s .args .back) (s .pre .0 .visits)) (s .pre .1) (made d) (not-true (d .sweep .result) (c .if1 .taken)), λ e. absurd (true≢false e))
+    let s = start d in (
+      advanced-still (along-visits (s .args .back) (s .pre .0 .visits)) (s .pre .1) (made d) (not-true (d .sweep .result) (c .if1 .taken)),
+      λ e. absurd (true≢false e),
+    )
 
 is-decided-requires : tie.Need-is-decided-requires
 is-decided-requires c κs =

@@ -43,8 +43,15 @@ add-if1 : tie.Need-add-if1
 add-if1 c =
     let s = start c in
     let r = s .pre .1 .0 .listing in
-    omega
-    (arith, small c, c .word-at3 .ensures, c .before .before .word-at2 .ensures, r .ordered (s .args .g) (s .pre .0 .2), r .within (s .args .g) (s .pre .0 .2), r .few)
+    omega (
+      arith,
+      small c,
+      c .word-at3 .ensures,
+      c .before .before .word-at2 .ensures,
+      r .ordered (s .args .g) (s .pre .0 .2),
+      r .within (s .args .g) (s .pre .0 .2),
+      r .few,
+    )
 
 same-length : tie.Need-same-length
 same-length c = search needs

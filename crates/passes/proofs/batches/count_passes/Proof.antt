@@ -24,9 +24,12 @@ abbrev μ-loop : tie.MeasureT-loop
 μ-loop words nodes order count members starts passes₀ zeros₀ ones₀ kept₀ kept′₀ settings lanes total₀ base₀ passes zeros ones kept kept′ total base =
     settings - base
 
--- the function's entry, from the words filled and from the loop's head; and the loop's head, from a batch's count
+-- the function's entry, from the words to be filled, from those filled and from the loop's head; the loop's head, from a batch's count; and that count
+abbrev lent : tie.After-fill-words-arg Inv-loop μ-loop → tie.Start Inv-loop μ-loop
+lent c = c .before .before .before .before .before .before .before .before .before .before
+
 abbrev entry : tie.After-fill-words Inv-loop μ-loop → tie.Start Inv-loop μ-loop
-entry f = f .before .before .before .before .before .before .before .before .before .before .before
+entry f = lent (f .before)
 
 abbrev filled : tie.At-loop Inv-loop μ-loop → tie.After-fill-words Inv-loop μ-loop
 filled l = l .before .before .before .before .before
@@ -36,6 +39,9 @@ start l = entry (filled l)
 
 abbrev head : tie.After-count-open Inv-loop μ-loop → tie.At-loop Inv-loop μ-loop
 head d = d .before .before .before .before .before .before .before .before
+
+abbrev opened : tie.After-slice-known11 Inv-loop μ-loop → tie.After-count-open Inv-loop μ-loop
+opened c = c .before .before .before .before .before .before .before .before .before .before
 
 -- as many settings as the block has
 settings-are : (l : tie.At-loop Inv-loop μ-loop) → l .before .before .setting-count .result ≡ settingCount (decode (start l .args .words .now))
@@ -48,7 +54,7 @@ settings-are l =
 since-entry : (l : tie.At-loop Inv-loop μ-loop) → SameRest (start l .args .count) (start l .args .passes .now) (l .loop .passes)
 since-entry l =
     let s = start l in
-    rest-then (rest-first (s .pre .1 .listing) (s .args .passes .now) (s .pre .1 .passesRoom) (filled l .fill-words .ensures)) (l .loop .inv .2)
+    rest-then (rest-first (s .pre .1 .listing) (s .args .passes .now) (s .pre .1 .passesRoom) _ (filled l .fill-words .ensures)) (l .loop .inv .2)
 
 -- a batch that is there, and the next
 inside : (t : tie.In-loop Inv-loop μ-loop) → let l = t .before in l .loop .base < 2 ^ start l .args .nodes .inputs
@@ -61,7 +67,7 @@ next d =
     (d .before .before .before .before .before .before .before .loop-test .taken)
 
 fill-words-requires : tie.Need-fill-words-requires Inv-loop μ-loop
-fill-words-requires c κs = c .before .before .before .before .before .before .before .before .before .before .pre .1 .passesRoom
+fill-words-requires c κs = lent c .pre .1 .passesRoom
 
 setting-count-requires : tie.Need-setting-count-requires Inv-loop μ-loop
 setting-count-requires c κs = entry (c .before .before) .pre .0 .fewInputs
@@ -76,7 +82,7 @@ loop-holds c =
     let r = s .pre .1 in
     let first = r .listing in (
       place-first (s .args .nodes .inputs),
-      counting-first first (s .args .passes .now) (r .passesRoom) (f .fill-words .ensures),
+      counting-first first (s .args .passes .now) (r .passesRoom) _ (f .fill-words .ensures) (omega arith),
       rest-none _ _,
       refl,
       refl,
@@ -100,13 +106,13 @@ count-open-requires c κs =
 
 add-base : tie.Need-add-base Inv-loop μ-loop
 add-base c =
-    let d = c .before .before .before .before .before .before .before .before .before .before in
+    let d = opened c in
     let s = start (head d) in
     omega (arith, next d .within, few-settings (s .args .nodes .inputs) (s .pre .0 .fewInputs))
 
 loop-less : tie.Need-loop-less Inv-loop μ-loop
 loop-less c =
-    let d = c .before .before .before .before .before .before .before .before .before .before in
+    let d = opened c in
     let l = head d in
     omega (
       arith,
@@ -117,7 +123,7 @@ loop-less c =
 
 loop-again : tie.Need-loop-again Inv-loop μ-loop
 loop-again c =
-    let d = c .before .before .before .before .before .before .before .before .before .before in
+    let d = opened c in
     let l = head d in
     let i = l .loop .inv in
     let k = d .count-open .kept .1 .1 .1 .1 .1 .1 .1 .1 .1 in

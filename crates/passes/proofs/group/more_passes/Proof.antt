@@ -53,21 +53,25 @@ pass-requires c κs =
     let l = head (c .before .before .before) in
     (start l .pre .batch .evaluable, l .before .used-lanes .ensures, l .loop .inv .passed .held)
 
+-- the turn's test, from its pass
+abbrev looked : tie.After-slice-known4 Inv-loop μ-loop → tie.After-lacks Inv-loop μ-loop
+looked c = c .before .before .before .before .before .before .before .before
+
 -- the passes and the copies fit
 small : (c : tie.After-lacks Inv-loop μ-loop) → head c .loop .needed ≤ maxCopies + maxCopies
 small c = let l = head c in sofar-small (start l .pre .batch .sizeSome) (l .loop .inv .soFar)
 
 add-needed : tie.Need-add-needed Inv-loop μ-loop
-add-needed c = omega (arith, small (c .before .before .before .before .before .before .before .before))
+add-needed c = omega (arith, small (looked c))
 
 add-sum : tie.Need-add-sum Inv-loop μ-loop
 add-sum c =
-    let l = head (c .before .before .before .before .before .before .before .before) in
+    let l = head (looked c) in
     omega (arith, l .loop .inv .soFar .most, start l .pre .batch .sizeFew)
 
 loop-less : tie.Need-loop-less Inv-loop μ-loop
 loop-less c =
-    let d = c .before .before .before .before .before .before .before .before in
+    let d = looked c in
     let l = head d in
     omega (arith, d .before .before .before .loop-test .taken, start l .pre .batch .sizeSome)
 

@@ -29,8 +29,11 @@ start l = l .before .before .before .before .before .before .before .before
 abbrev head : tie.After-decide-batch Inv-loop μ-loop → tie.At-loop Inv-loop μ-loop
 head d = d .before .before .before .before
 
+abbrev judging : tie.After-write-flags-arg Inv-loop μ-loop → tie.After-decide-batch Inv-loop μ-loop
+judging c = c .before .before .before .before .before .before .before .before
+
 abbrev decided : tie.After-write-flags Inv-loop μ-loop → tie.After-decide-batch Inv-loop μ-loop
-decided w = w .before .before .before .before .before .before .before .before .before
+decided w = judging (w .before)
 
 -- this batch is one of the block's
 inside : (d : tie.After-decide-batch Inv-loop μ-loop) → head d .loop .base < 2 ^ start (head d) .args .nodes .inputs
@@ -44,7 +47,9 @@ room d =
     (omega (arith, head d .loop .inv .0 .whole (inside d), s .pre .1), omega (arith, inside d, few-settings (s .args .nodes .inputs) (s .pre .0 .fewInputs)))
 
 next : (d : tie.After-decide-batch Inv-loop μ-loop) → Place (start (head d) .args .nodes .inputs) (head d .loop .base + head d .before .lane-count .result)
-next d = place-next (head d .before .lane-count .ensures) (head d .before .before .setting-count .ensures) (head d .loop .inv .0) (d .before .before .before .loop-test .taken)
+next d =
+    place-next (head d .before .lane-count .ensures) (head d .before .before .setting-count .ensures) (head d .loop .inv .0)
+    (d .before .before .before .loop-test .taken)
 
 setting-count-requires : tie.Need-setting-count-requires Inv-loop μ-loop
 setting-count-requires c κs = c .before .before .before .before .before .pre .0 .fewInputs
@@ -68,7 +73,7 @@ sound-lanes-requires c κs =
 
 write-flags-requires : tie.Need-write-flags-requires Inv-loop μ-loop
 write-flags-requires c κs =
-    let d = c .before .before .before .before .before .before .before .before in
+    let d = judging c in
     let r = room d in
     let e = head d .before .lane-count .ensures in
     (omega (arith, e, lanesOf-most (start (head d) .args .nodes .inputs)), omega (arith, r .1), omega (arith, e, r .0, head d .loop .inv .2))
@@ -93,7 +98,8 @@ loop-again c =
     let e = d .decide-batch in (
       next d,
       w .write-flags .ensures
-          ∙ flagged-placed (decode (s .args .words .now)) (s .args .sound .now) (head d .before .lane-count .ensures) (w .before .before .sound-lanes .ensures) (room d .0) (l .inv .1),
+          ∙ flagged-placed (decode (s .args .words .now)) (s .args .sound .now) (head d .before .lane-count .ensures)
+          (w .before .before .sound-lanes .ensures) (room d .0) (l .inv .1),
       w .write-flags .kept .1 .1 .1 .0 ∙ l .inv .2,
       e .kept .1 .1 .1 .1 .0 ∙ l .inv .3,
       e .kept .1 .1 .1 .1 .1 .0 ∙ l .inv .4,

@@ -1,4 +1,5 @@
--- `verdict::settings::unsettled_batch` meets its contract: every batch passed is settled where it may come, and the one at which the loops are left is not. Assumes nothing.
+-- `verdict::settings::unsettled_batch` meets its contract: every batch passed is settled where it may come, and the one at which the loops are left is not.
+-- Assumes nothing.
 use mathlib.Core.Path.{_≡_, refl, sym, _∙_}
 use mathlib.Core.Bool.{true}
 use Prim.Native.Nat.{ℕ, _-_, _+_, _^_, _≤_, _<_}
@@ -30,9 +31,13 @@ Inv-batches words nodes order zeros₀ ones₀ count lanes used at outputs base�
 abbrev μ-batches : tie.MeasureT-batches
 μ-batches words nodes order zeros₀ ones₀ count lanes used at outputs base₀ zeros ones base = count - base
 
--- the function's entry from the outer loop's head, that head from a decided batch, the batch from the inner loop's head, and that from an output
+-- the function's entry and the stage behind it, from the outer loop's head; that head from a decided batch, the batch from the inner loop's head, and
+-- that from an output
+abbrev first : tie.After-outputs-of Inv-loop μ-loop Inv-batches μ-batches → tie.After-shared-slice-known Inv-loop μ-loop Inv-batches μ-batches
+first c = c .before .before .before .before .before .before .before .before
+
 abbrev start : tie.At-batches Inv-loop μ-loop Inv-batches μ-batches → tie.Start Inv-loop μ-loop Inv-batches μ-batches
-start l = l .before .before .before .before .before .before .before .before .before .before
+start l = first (l .before) .before
 
 abbrev head : tie.After-decide-batch Inv-loop μ-loop Inv-batches μ-batches → tie.At-batches Inv-loop μ-loop Inv-batches μ-batches
 head d = d .before .before .before .before
@@ -52,7 +57,8 @@ values : (d : tie.After-decide-batch Inv-loop μ-loop Inv-batches μ-batches) �
     Judged (a .words .now) (a .nodes .inputs) (head d .batches .base) (d .decide-batch .last .1 .1 .1 .1 .0) (d .decide-batch .last .1 .1 .1 .1 .1 .0)
 values d = judged (start (head d) .pre) (head d .batches .inv .0 .aligned (inside d)) (d .decide-batch .ensures)
 
-next : (d : tie.After-decide-batch Inv-loop μ-loop Inv-batches μ-batches) → Place (start (head d) .args .nodes .inputs) (head d .batches .base + head d .before .before .before .before .lane-count .result)
+next : (d : tie.After-decide-batch Inv-loop μ-loop Inv-batches μ-batches)
+    → Place (start (head d) .args .nodes .inputs) (head d .batches .base + head d .before .before .before .before .lane-count .result)
 next d =
     let lanes = head d .before .before .before .before in
     place-next (lanes .lane-count .ensures) (lanes .before .setting-count .ensures) (head d .batches .inv .0) (d .before .before .before .batches-test .taken)
@@ -74,12 +80,13 @@ outputs-of-requires c κs = search needs
 
 batches-holds : tie.Need-batches-holds Inv-loop μ-loop Inv-batches μ-batches
 batches-holds c =
-    (place-first (c .before .before .before .before .before .before .before .before .before .args .nodes .inputs), λ k l. absurd (omega arith), refl, refl)
+    (place-first (first c .before .args .nodes .inputs), λ k l. absurd (omega arith), refl, refl)
 
 decide-batch-requires : tie.Need-decide-batch-requires Inv-loop μ-loop Inv-batches μ-batches
 decide-batch-requires c κs =
     let l = c .before .before .before in
-    let h : l .batches .base < 2 ^ start l .args .nodes .inputs = omega (arith, l .before .before .before .before .before .setting-count .ensures, c .before .before .batches-test .taken) in
+    let h : l .batches .base < 2 ^ start l .args .nodes .inputs =
+    omega (arith, l .before .before .before .before .before .setting-count .ensures, c .before .before .batches-test .taken) in
     (decidable-kept (start l .pre) (l .batches .inv .2) (l .batches .inv .3), l .batches .inv .0 .aligned h)
 
 coming-lanes-requires : tie.Need-coming-lanes-requires Inv-loop μ-loop Inv-batches μ-batches
@@ -96,7 +103,7 @@ unfolding outputsAt gatesAt neversAt
 undefined-lanes-requires c κs =
     let l = c .before .before .before in
     let h = head (found l) in
-    let known = h .before .before .before .before .before .before .before .before .before .shared-slice-known in
+    let known = first (h .before) .shared-slice-known in
     let s = found l .decide-batch .ensures in (
       omega (arith, h .before .before .outputs-at .ensures, known .given 0, known .given 1, known .given 3, start h .pre .legible .near),
       omega (arith, h .before .outputs-of .ensures, known .given 2, l .loop .inv .0),
@@ -117,7 +124,8 @@ loop-again c =
       omega arith,
       below-more
           (λ k. bitAnd (l .before .coming-lanes .result)
-          (undefinedWord (a .words .now) (h .before .before .outputs-at .result) (h .before .before .before .used-lanes .result) (found l .decide-batch .last .1 .1 .1 .1 .0)
+          (undefinedWord (a .words .now) (h .before .before .outputs-at .result) (h .before .before .before .used-lanes .result)
+          (found l .decide-batch .last .1 .1 .1 .1 .0)
           (found l .decide-batch .last .1 .1 .1 .1 .1 .0) k) ≡ 0)
           (l .loop .o) (l .loop .inv .1) (rw (← c .before .undefined-lanes .ensures) (c .if1 .left)),
     )
@@ -131,7 +139,12 @@ add-base c =
 batches-less : tie.Need-batches-less Inv-loop μ-loop Inv-batches μ-batches
 batches-less c =
     let d = found (c .before) in
-    omega (arith, head d .before .before .before .before .lane-count .ensures, lanesOf-some (start (head d) .args .nodes .inputs), d .before .before .before .batches-test .taken)
+    omega (
+      arith,
+      head d .before .before .before .before .lane-count .ensures,
+      lanesOf-some (start (head d) .args .nodes .inputs),
+      d .before .before .before .batches-test .taken,
+    )
 
 batches-again : tie.Need-batches-again Inv-loop μ-loop Inv-batches μ-batches
 batches-again c =
@@ -157,7 +170,8 @@ same-length-2 c = c .before .batches .inv .3
 returns : tie.Need-returns Inv-loop μ-loop Inv-batches μ-batches
 returns c =
     let l = c .before in
-    let past : (l .batches .base < 2 ^ start l .args .nodes .inputs) → ⊥ = λ h. omega (arith, l .before .before .before .before .before .setting-count .ensures) in
+    let past : (l .batches .base < 2 ^ start l .args .nodes .inputs) → ⊥ =
+    λ h. omega (arith, l .before .before .before .before .before .setting-count .ensures) in
     record {
       within = l .batches .inv .0 .within;
       before = l .batches .inv .1;
@@ -186,8 +200,10 @@ returns-2 c =
       whole = h .batches .inv .0 .whole;
       settled = λ i. d .decide-batch .ensures;
       some = λ i.
-          found-unsound (values d) (h .before .before .outputs-at .ensures) (h .before .before .before .used-lanes .ensures) (l .before .coming-lanes .ensures) (l .loop .o)
-          (omega (arith, h .before .outputs-of .ensures, u .before .before .before .loop-test .taken)) (λ z. c .if1 .taken (rw (u .undefined-lanes .ensures) z));
+          found-unsound (values d) (h .before .before .outputs-at .ensures) (h .before .before .before .used-lanes .ensures)
+          (l .before .coming-lanes .ensures) (l .loop .o)
+          (omega (arith, h .before .outputs-of .ensures, u .before .before .before .loop-test .taken))
+          (λ z. c .if1 .taken (rw (u .undefined-lanes .ensures) z));
     }
 
 pub unsettled-batch-spec : {M : Type 1} → statement M

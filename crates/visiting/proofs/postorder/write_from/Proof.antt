@@ -113,8 +113,12 @@ loop-again c =
       w .5,
     )
 
+-- the loop's head, from the second way
+abbrev else-head : tie.Else1 Inv-loop μ-loop → tie.At-loop Inv-loop μ-loop
+else-head c = c .before .before .before .before .before .before .before .before
+
 cast-order : tie.Need-cast-order Inv-loop μ-loop
-cast-order c = omega (arith, top (c .before .before .before .before .before), c .before .before .before .before .before .before .before .before .loop .inv .2 .fewGates)
+cast-order c = omega (arith, top (c .before .before .before .before .before), else-head c .loop .inv .2 .fewGates)
 
 mul-order : tie.Need-mul-order Inv-loop μ-loop
 mul-order c = let w = c .before .before .before .before .before .before .before .before .loop .inv in
@@ -159,7 +163,8 @@ same-length-3 c = c .before .loop .inv .5
 
 returns : tie.Need-returns Inv-loop μ-loop
 returns c = let s = c .before .before .before .before .before .before in
-    grown (s .args .nodes .gates) (s .args .root) (s .pre .2) (s .pre .0 .flagRoom) (walk-end (c .before .loop .inv .0) (c .loop-test .left)) (c .before .loop .inv .1)
+    grown (s .args .nodes .gates) (s .args .root) (s .pre .2) (s .pre .0 .flagRoom) (walk-end (c .before .loop .inv .0) (c .loop-test .left))
+    (c .before .loop .inv .1)
 
 pub write-from-spec : {M : Type 1} → statement M
 write-from-spec =

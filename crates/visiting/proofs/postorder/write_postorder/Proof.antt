@@ -10,7 +10,8 @@ use Rattle.visiting.proofs.postorder.write_postorder.Tie as tie
 
 abbrev Inv-loop : tie.InvT-loop
 Inv-loop words nodes flags₀ stack₀ order₀ tail₀ left₀ flags stack order tail left =
-    Written (nodes .gates) flags order tail × Room nodes flags stack order × ((k : ℕ) → left ≤ k → k < nodes .gates → getD flags k 0 ≡ 0 → ⊥) × (left ≤ nodes .gates)
+    Written (nodes .gates) flags order tail × Room nodes flags stack order × ((k : ℕ) → left ≤ k → k < nodes .gates → getD flags k 0 ≡ 0 → ⊥)
+    × (left ≤ nodes .gates)
     × (length flags ≡ length flags₀) × (length stack ≡ length stack₀) × (length order ≡ length order₀)
 
 abbrev μ-loop : tie.MeasureT-loop
