@@ -27,7 +27,8 @@ fn output_value(words: &[u16], n: usize, o: usize, setting: &[u8], gates: &[u8])
 // The record that shows the outputs, the last one first.
 pub fn show_outputs(words: &[u16], fixed: u16, ones: u16, setting: &[u8], gates: &[u8]) -> Record
     requires { ⌜ isTorn (now words) ≡ false ⌝ }
-    ensures { λ r. ⌜ r ≡ showing fixed ones (outputValues (decode (now (words .entry))) (map valueOf (now (setting .entry))) (map valueOf (now (gates .entry)))) ⌝ }
+    ensures { λ r. ⌜ r ≡ showing fixed ones
+        (outputValues (decode (now (words .entry))) (map valueOf (now (setting .entry))) (map valueOf (now (gates .entry)))) ⌝ }
 {
     let n = inputs_of(words);
     let mut defined: u16 = 0;
