@@ -138,7 +138,7 @@ write-rendering-requires c κs =
     let written = rw (o .before .gates-of .ensures) at (f .fill-schedule .ensures) in
     record {
       whole = s .pre .whole;
-      totalIs = sym (schedule-length (now (s .args .words)) (s .args .total) (s .pre .totalIs));
+      totalIs = omega (arith, schedule-length (now (s .args .words)) (s .args .total) (s .pre .totalIs));
       fewCopies = s .pre .fits;
       scheduled =
           scheduled (now (s .args .words)) (now (s .args .numbers)) (now (s .args .passes)) (s .args .count) (s .args .total) (now (s .args .order))
