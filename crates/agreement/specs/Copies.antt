@@ -2,9 +2,9 @@
 use Prim.Native.Nat.{ℕ, _<_}
 use mathlib.Core.Path.{_≡_}
 use mathlib.Core.Bool.{false}
-use mathlib.Core.List.{List, [], _++_, map}
+use mathlib.Core.List.{List, [], map}
 use lib.ListN.{getD, take}
-use Rattle.laws.specs.Lists.{joined, repeated}
+use Rattle.laws.specs.Lists.{joined}
 use Rattle.netlist.specs.Values.{Value}
 use Rattle.netlist.specs.Netlist.{Operand, input, gate, constant, Block}
 use Rattle.netlist.specs.Rounds.{operandValue}
@@ -36,10 +36,6 @@ groupAt b t = getD (groups b) t []
 -- the gates of the first t groups
 abbrev pub gatesBefore : Block → ℕ → List ℕ
 gatesBefore b t = joined (take t (groups b))
-
--- the gates copied when the first t groups are done, and of group t p whole passes and i gates of the next
-unfoldable pub copiedBy : Block → ℕ → ℕ → ℕ → List ℕ
-copiedBy b t p i = scheduleOf b (take t (groups b)) ++ (repeated p (groupAt b t) ++ take i (groupAt b t))
 
 -- what stands for the gates when copy i is made
 unfoldable pub newestAt : Block → ℕ → List Operand

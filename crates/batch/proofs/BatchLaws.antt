@@ -8,42 +8,40 @@
 --   along-there, along-inside, along-visits             the order, there and back
 -- Assumes nothing.
 use mathlib.Core.Path.{_≡_, refl, sym, ap, ap₂, _∙_}
-use mathlib.Core.Logic.{⊎-elim}
-use mathlib.Core.Bool.{Bool, true, false, not, cond, _||_, true≢false, false≢true}
+use mathlib.Core.Bool.{Bool, true, false, not, _||_, true≢false, false≢true}
 use mathlib.Core.List.{List, [], _∷_, _++_, map}
 use Prim.Native.Nat.{ℕ, zero, suc, _+_, _-_, _*_, _%_, _≤_, _<_}
 use native.Mathlib.Omega.{arith}
 use borrow.Author.Tests.{lt-ltb, le-ltb, eq-eqb, eqb-true}
 use lib.Bits.{bitOr}
-use lib.Dec.{eqb, ltb}
+use lib.Dec.{eqb}
 use lib.ListN.{length, getD, set, take, drop, replicate, length-set, length-take, length-drop, length-replicate}
 use lib.Seq.{ext-getD, getD-take, getD-drop}
 use Rattle.laws.specs.Lists.{tab, placed, member}
-use Rattle.laws.proofs.Tests.{lt-or-le, or-neither, or-cases}
 use Rattle.laws.proofs.Tab.{length-tab, getD-tab, tab-ext, tab-getD, keep-next, placed-all}
 use Rattle.laws.proofs.Lists.{map-replicate}
 use Rattle.laws.proofs.Quantifiers.{member-at, member-from}
-use Rattle.netlist.specs.Values.{Value, undefined}
+use Rattle.netlist.specs.Values.{undefined}
 use Rattle.netlist.specs.Netlist.{Block, inputCount, gateCount, gateOf}
+use Rattle.layout.specs.declared.nodes.Nodes.{Nodes}
 use Rattle.netlist.specs.Limits.{maxInputs}
-use Rattle.netlist.specs.StoredBlock.{gateSize, gateAt, decode}
+use Rattle.netlist.specs.StoredBlock.{gateSize, decode}
 use Rattle.netlist.specs.Rounds.{settled, settingOf, settledUnder}
-use Rattle.rounds.specs.Order.{BelowAll, Rising}
 use Rattle.rounds.proofs.ListFacts.{getD-replicate-default}
 use Rattle.rounds.proofs.AnyOrder.{start-below-settled}
 use Rattle.rounds.proofs.InPlace.{start-rising}
-use Rattle.ternary.specs.Legal.{LegalHead}
 use Rattle.visiting.specs.Visits.{Visits}
 use Rattle.batch.specs.Legible.{Legible}
 use Rattle.lanes.specs.declared.Pair.{Pair}
-use Rattle.lanes.specs.Pairs.{lane, Proper, full, nothing}
-use Rattle.lanes.specs.PairRounds.{evaluatedPair, LegalGate, AllProper}
+use Rattle.lanes.specs.Pairs.{lane, full, nothing}
+use Rattle.lanes.specs.PairRounds.{evaluatedPair, LegalGate}
 use Rattle.lanes.specs.Batches.{lanesOf, inputPair, inputPairs}
-use Rattle.lanes.specs.Nodes.{pairAt, inputsIn, gatesIn, gatePairAt}
+use Rattle.lanes.specs.Nodes.{pairAt, inputsIn, gatesIn}
 use Rattle.lanes.proofs.LaneLaws.{nothing-lane, nothing-proper}
 use Rattle.lanes.proofs.InputLaws.{inputPairs-proper, inputPairs-lane}
 use Rattle.lanes.proofs.NodeLaws.{gatePairAt-evaluated, head-legal, set-inputs, set-gates}
-use Rattle.batch.specs.Batch.{NodesLong, Inside, gatePair, Evaluated, Walked, noGate, gateMore, BatchUnderway, BatchSwept, BatchSettled, Decided, Advanced}
+use Rattle.batch.specs.Batch.{NodesLong, Inside, gatePair, Evaluated, Walked, noGate, gateMore}
+use Rattle.batch.specs.Batch.{BatchUnderway, BatchSwept, BatchSettled, Decided, Advanced}
 use Rattle.batch.specs.Batch.{InputsPut, Started, startPair, placeOf, along}
 use Rattle.batch.proofs.Sweeping.{swept-none, swept-one, swept-then, swept-underway, swept-settled, defined-settled}
 
@@ -202,40 +200,44 @@ unfolding gatesIn
 gatesIn-at n m zeros ones j l = getD-tab (λ j. pairAt zeros ones (n + j)) m j nothing l
 
 -- one gate, from its words
-module _ {ws : List ℕ} {n gates : ℕ} (legible : Legible ws n gates) (few : n ≤ maxInputs) (j : ℕ) (l : j < gateCount (decode ws)) where
+module _ {ws : List ℕ} {nodes : Nodes} (legible : Legible ws nodes) (few : nodes .inputs ≤ maxInputs) (j : ℕ) (l : j < gateCount (decode ws)) where
   pub gate-legal : LegalGate (gateOf (decode ws) j)
-  gate-legal = rw (← legible .gateIs j l) (head-legal n ws (gates + gateSize * j) (legible .legal j l))
+  gate-legal = rw (← legible .gateIs j l) (head-legal (nodes .inputs) ws (nodes .start + gateSize * j) (legible .legal j l))
 
-  module _ {zeros ones : List ℕ} (long : NodesLong (decode ws) n zeros ones) where
-    pub gatePair-evaluated : gatePair ws n gates j zeros ones
-        ≡ evaluatedPair (full (lanesOf n)) (inputsIn n zeros ones) (gatesIn n (gateCount (decode ws)) zeros ones) (gateOf (decode ws) j)
+  module _ {zeros ones : List ℕ} (long : NodesLong (decode ws) (nodes .inputs) zeros ones) where
+    pub gatePair-evaluated : gatePair ws nodes j zeros ones
+        ≡ evaluatedPair (full (lanesOf (nodes .inputs))) (inputsIn (nodes .inputs) zeros ones) (gatesIn (nodes .inputs) (gateCount (decode ws)) zeros ones)
+        (gateOf (decode ws) j)
     unfolding gatePair
     gatePair-evaluated =
-        gatePairAt-evaluated (full (lanesOf n)) n (gateCount (decode ws)) zeros ones (omega arith) (long .zerosLong) (long .onesLong) ws (gates + gateSize * j)
-        ∙ ap (evaluatedPair (full (lanesOf n)) (inputsIn n zeros ones) (gatesIn n (gateCount (decode ws)) zeros ones)) (legible .gateIs j l)
+        gatePairAt-evaluated (full (lanesOf (nodes .inputs))) (nodes .inputs) (gateCount (decode ws)) zeros ones (omega arith) (long .zerosLong)
+        (long .onesLong) ws (nodes .start + gateSize * j)
+        ∙ ap (evaluatedPair (full (lanesOf (nodes .inputs))) (inputsIn (nodes .inputs) zeros ones)
+        (gatesIn (nodes .inputs) (gateCount (decode ws)) zeros ones)) (legible .gateIs j l)
 
     -- the words of the gates, with that pair stored
-    pub evaluated-gates : {zeros′ ones′ : List ℕ} {changed : Bool} → Evaluated ws n gates j zeros ones zeros′ ones′ changed
-        → gatesIn n (gateCount (decode ws)) zeros′ ones′ ≡ set (gatesIn n (gateCount (decode ws)) zeros ones) j (gatePair ws n gates j zeros ones)
+    pub evaluated-gates : {zeros′ ones′ : List ℕ} {changed : Bool} → Evaluated ws nodes j zeros ones zeros′ ones′ changed
+        → gatesIn (nodes .inputs) (gateCount (decode ws)) zeros′ ones′
+        ≡ set (gatesIn (nodes .inputs) (gateCount (decode ws)) zeros ones) j (gatePair ws nodes j zeros ones)
     evaluated-gates e =
         rw (e .zerosAre, e .onesAre)
-        (set-gates n (gateCount (decode ws)) zeros ones j (gatePair ws n gates j zeros ones) l (long .zerosLong) (long .onesLong))
+        (set-gates (nodes .inputs) (gateCount (decode ws)) zeros ones j (gatePair ws nodes j zeros ones) l (long .zerosLong) (long .onesLong))
 
-  pub evaluated-inputs : {zeros ones zeros′ ones′ : List ℕ} {changed : Bool} → Evaluated ws n gates j zeros ones zeros′ ones′ changed
-      → inputsIn n zeros′ ones′ ≡ inputsIn n zeros ones
+  pub evaluated-inputs : {zeros ones zeros′ ones′ : List ℕ} {changed : Bool} → Evaluated ws nodes j zeros ones zeros′ ones′ changed
+      → inputsIn (nodes .inputs) zeros′ ones′ ≡ inputsIn (nodes .inputs) zeros ones
   evaluated-inputs {zeros} {ones} e =
-      rw (e .zerosAre, e .onesAre) (set-inputs n (gateCount (decode ws)) zeros ones j (gatePair ws n gates j zeros ones))
+      rw (e .zerosAre, e .onesAre) (set-inputs (nodes .inputs) (gateCount (decode ws)) zeros ones j (gatePair ws nodes j zeros ones))
 
-  pub evaluated-zeros : {zeros ones zeros′ ones′ : List ℕ} {changed : Bool} → Evaluated ws n gates j zeros ones zeros′ ones′ changed
+  pub evaluated-zeros : {zeros ones zeros′ ones′ : List ℕ} {changed : Bool} → Evaluated ws nodes j zeros ones zeros′ ones′ changed
       → length zeros′ ≡ length zeros
-  evaluated-zeros {zeros} {ones} e = rw (e .zerosAre) (length-set zeros (n + j) (gatePair ws n gates j zeros ones .zeros))
+  evaluated-zeros {zeros} {ones} e = rw (e .zerosAre) (length-set zeros (nodes .inputs + j) (gatePair ws nodes j zeros ones .zeros))
 
-  pub evaluated-ones : {zeros ones zeros′ ones′ : List ℕ} {changed : Bool} → Evaluated ws n gates j zeros ones zeros′ ones′ changed
+  pub evaluated-ones : {zeros ones zeros′ ones′ : List ℕ} {changed : Bool} → Evaluated ws nodes j zeros ones zeros′ ones′ changed
       → length ones′ ≡ length ones
-  evaluated-ones {zeros} {ones} e = rw (e .onesAre) (length-set ones (n + j) (gatePair ws n gates j zeros ones .ones))
+  evaluated-ones {zeros} {ones} e = rw (e .onesAre) (length-set ones (nodes .inputs + j) (gatePair ws nodes j zeros ones .ones))
 
-  pub batch-one : {zeros ones zeros′ ones′ : List ℕ} {changed : Bool} → BatchUnderway (decode ws) n zeros ones
-      → Evaluated ws n gates j zeros ones zeros′ ones′ changed → BatchSwept (decode ws) n (j ∷ []) zeros ones zeros′ ones′ changed
+  pub batch-one : {zeros ones zeros′ ones′ : List ℕ} {changed : Bool} → BatchUnderway (decode ws) (nodes .inputs) zeros ones
+      → Evaluated ws nodes j zeros ones zeros′ ones′ changed → BatchSwept (decode ws) (nodes .inputs) (j ∷ []) zeros ones zeros′ ones′ changed
   batch-one {zeros} {ones} {zeros′} {ones′} {changed} u e =
       record {
         zerosLong = evaluated-zeros e;
@@ -249,42 +251,45 @@ module _ {ws : List ℕ} {n gates : ℕ} (legible : Legible ws n gates) (few : n
       m : ℕ
       m = gateCount (decode ws)
 
-      long : NodesLong (decode ws) n zeros ones
+      long : NodesLong (decode ws) (nodes .inputs) zeros ones
       long = underway-long u
 
       p : Pair
-      p = gatePair ws n gates j zeros ones
+      p = gatePair ws nodes j zeros ones
 
-      was : getD (gatesIn n m zeros ones) j nothing ≡ pairAt zeros ones (n + j)
-      was = gatesIn-at n m zeros ones j l
+      was : getD (gatesIn (nodes .inputs) m zeros ones) j nothing ≡ pairAt zeros ones (nodes .inputs + j)
+      was = gatesIn-at (nodes .inputs) m zeros ones j l
 
-      same : not (eqb (p .zeros) (getD zeros (n + j) 0)) || not (eqb (p .ones) (getD ones (n + j) 0)) ≡ false → p ≡ getD (gatesIn n m zeros ones) j nothing
+      same : not (eqb (p .zeros) (getD zeros (nodes .inputs + j) 0)) || not (eqb (p .ones) (getD ones (nodes .inputs + j) 0)) ≡ false
+          → p ≡ getD (gatesIn (nodes .inputs) m zeros ones) j nothing
       same h =
-          let d = differ-no (p .zeros) (getD zeros (n + j) 0) (p .ones) (getD ones (n + j) 0) h in
-          rw was (same-pair zeros ones (n + j) p (d .0) (d .1))
+          let d = differ-no (p .zeros) (getD zeros (nodes .inputs + j) 0) (p .ones) (getD ones (nodes .inputs + j) 0) h in
+          rw was (same-pair zeros ones (nodes .inputs + j) p (d .0) (d .1))
 
-      other : not (eqb (p .zeros) (getD zeros (n + j) 0)) || not (eqb (p .ones) (getD ones (n + j) 0)) ≡ true
-          → p .zeros ≡ getD (gatesIn n m zeros ones) j nothing .zeros → p .ones ≡ getD (gatesIn n m zeros ones) j nothing .ones → ⊥
+      other : not (eqb (p .zeros) (getD zeros (nodes .inputs + j) 0)) || not (eqb (p .ones) (getD ones (nodes .inputs + j) 0)) ≡ true
+          → p .zeros ≡ getD (gatesIn (nodes .inputs) m zeros ones) j nothing .zeros → p .ones ≡ getD (gatesIn (nodes .inputs) m zeros ones) j nothing .ones → ⊥
       other h ez eo =
-          differ-yes (p .zeros) (getD zeros (n + j) 0) (p .ones) (getD ones (n + j) 0) h
-          (ez ∙ ap (λ (q : Pair). q .zeros) was ∙ zeros-at zeros ones (n + j)) (eo ∙ ap (λ (q : Pair). q .ones) was ∙ ones-at zeros ones (n + j))
+          differ-yes (p .zeros) (getD zeros (nodes .inputs + j) 0) (p .ones) (getD ones (nodes .inputs + j) 0) h
+          (ez ∙ ap (λ (q : Pair). q .zeros) was ∙ zeros-at zeros ones (nodes .inputs + j))
+          (eo ∙ ap (λ (q : Pair). q .ones) was ∙ ones-at zeros ones (nodes .inputs + j))
 
 -- several gates, one after the other
-module _ {ws : List ℕ} {n gates : ℕ} {zeros ones : List ℕ} where
-  pub walked-zeros : {js zeros′ ones′ : List ℕ} {changed : Bool} → Walked ws n gates zeros ones js zeros′ ones′ changed → length zeros′ ≡ length zeros
+module _ {ws : List ℕ} {nodes : Nodes} {zeros ones : List ℕ} where
+  pub walked-zeros : {js zeros′ ones′ : List ℕ} {changed : Bool} → Walked ws nodes zeros ones js zeros′ ones′ changed → length zeros′ ≡ length zeros
   walked-zeros noGate = refl
-  walked-zeros (gateMore {zerosMid = mid} w j l e) = rw (e .zerosAre) (length-set mid (n + j) _) ∙ walked-zeros w
+  walked-zeros (gateMore {zerosMid = mid} w j l e) = rw (e .zerosAre) (length-set mid (nodes .inputs + j) _) ∙ walked-zeros w
 
-  pub walked-ones : {js zeros′ ones′ : List ℕ} {changed : Bool} → Walked ws n gates zeros ones js zeros′ ones′ changed → length ones′ ≡ length ones
+  pub walked-ones : {js zeros′ ones′ : List ℕ} {changed : Bool} → Walked ws nodes zeros ones js zeros′ ones′ changed → length ones′ ≡ length ones
   walked-ones noGate = refl
-  walked-ones (gateMore {onesMid = mid} w j l e) = rw (e .onesAre) (length-set mid (n + j) _) ∙ walked-ones w
+  walked-ones (gateMore {onesMid = mid} w j l e) = rw (e .onesAre) (length-set mid (nodes .inputs + j) _) ∙ walked-ones w
 
-  pub walked-long : {b : Block} {js zeros′ ones′ : List ℕ} {changed : Bool} → Walked ws n gates zeros ones js zeros′ ones′ changed
-      → NodesLong b n zeros ones → NodesLong b n zeros′ ones′
+  pub walked-long : {b : Block} {js zeros′ ones′ : List ℕ} {changed : Bool} → Walked ws nodes zeros ones js zeros′ ones′ changed
+      → NodesLong b (nodes .inputs) zeros ones → NodesLong b (nodes .inputs) zeros′ ones′
   walked-long w h = record { zerosLong = walked-zeros w ∙ h .zerosLong; onesLong = walked-ones w ∙ h .onesLong }
 
-  pub walked-swept : {js zeros′ ones′ : List ℕ} {changed : Bool} → Legible ws n gates → n ≤ maxInputs → BatchUnderway (decode ws) n zeros ones
-      → Walked ws n gates zeros ones js zeros′ ones′ changed → BatchSwept (decode ws) n js zeros ones zeros′ ones′ changed
+  pub walked-swept : {js zeros′ ones′ : List ℕ} {changed : Bool} → Legible ws nodes → nodes .inputs ≤ maxInputs
+      → BatchUnderway (decode ws) (nodes .inputs) zeros ones
+      → Walked ws nodes zeros ones js zeros′ ones′ changed → BatchSwept (decode ws) (nodes .inputs) js zeros ones zeros′ ones′ changed
   walked-swept legible few u noGate = batch-none u
   walked-swept legible few u (gateMore w j l e) =
       let s = walked-swept legible few u w in
@@ -315,7 +320,8 @@ module _ {m : ℕ} {order : List ℕ} (back : Bool) (v : Visits m order) where
   unfolding along
   along-visits =
       record {
-        inside = λ i l. let h : i < length order = rw (length-tab f (length order)) at l in rw (getD-tab f (length order) i 0 h) (along-inside order back (v .inside) i h);
+        inside = λ i l. let h : i < length order = rw (length-tab f (length order)) at l in
+            rw (getD-tab f (length order) i 0 h) (along-inside order back (v .inside) i h);
         every = found;
       }
     where

@@ -4,19 +4,20 @@ use mathlib.Core.Bool.{false}
 use mathlib.Core.List.{List}
 use Prim.Native.Nat.{ℕ}
 use native.Mathlib.Omega.{arith}
-use lib.ListN.{getD}
-use Rattle.netlist.specs.StoredBlock.{neversAt, gatesAt, decode, isTorn}
+use Rattle.layout.specs.Nodes.{nodesOf}
+use Rattle.netlist.specs.StoredBlock.{neversAt, gatesAt, outputsAt, isTorn}
 use Rattle.encoding.proofs.Decoded.{decode-inputCount, decode-gateCount, decode-gate}
 use Rattle.encoding.proofs.Readers.{whole-parts, whole-gate}
 use Rattle.batch.specs.Legible.{Legible}
 
 -- the words of a block, read from its counts
-pub legible : (ws : List ℕ) → isTorn ws ≡ false → Legible ws (getD ws 0 0) (gatesAt (getD ws 0 0) (getD ws 3 0))
-unfolding gatesAt neversAt
+pub legible : (ws : List ℕ) → isTorn ws ≡ false → Legible ws (nodesOf ws)
+unfolding nodesOf gatesAt neversAt outputsAt
 legible ws h =
     record {
       near = omega (arith, whole-parts ws h .fewInputs, whole-parts ws h .fewNevers);
       fewGates = rw (decode-gateCount ws) (whole-parts ws h .fewGates);
+      long = rw (decode-gateCount ws) (omega (arith, whole-parts ws h .sized));
       inputs = sym (decode-inputCount ws);
       legal = λ j l. let g = whole-gate ws h j (rw (decode-gateCount ws) at l) in record { kind = g .known; count = g .arity };
       gateIs = λ j l. sym (decode-gate ws j (rw (decode-gateCount ws) at l));

@@ -12,7 +12,6 @@ use Prim.Native.Nat.{ℕ, zero, suc, _+_, _-_, _*_, _^_, _≤_, _<_, max}
 use native.Mathlib.Nat.{not-suc-le-zero, le-of-suc-le-suc, le-refl}
 use native.Mathlib.Omega.{arith}
 use lib.Bits.{bitOr}
-use lib.Dec.{eqb}
 use lib.ListN.{length, getD, set, length-set, length-map}
 use lib.Seq.{ext-getD}
 use Rattle.laws.proofs.Tests.{or-neither, or-cases, eq-or-ne}
@@ -21,7 +20,6 @@ use Rattle.netlist.specs.Values.{Value, undefined, val}
 use Rattle.netlist.specs.Assignments.{bit}
 use Rattle.netlist.specs.Netlist.{Block, gateCount, gateOf}
 use Rattle.netlist.specs.Rounds.{evaluated, settled}
-use Rattle.rounds.specs.Order.{Below, BelowAll, Rising}
 use Rattle.netlist.specs.Steps.{stepAt, run}
 use Rattle.rounds.proofs.Values.{below-of-eq}
 use Rattle.rounds.proofs.Rounds.{length-settled}

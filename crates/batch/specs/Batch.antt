@@ -10,13 +10,14 @@
 use mathlib.Core.Path.{_≡_}
 use mathlib.Core.Bool.{Bool, true, false, cond, not, _||_}
 use mathlib.Core.List.{List, [], _∷_, _++_, map}
-use Prim.Native.Nat.{ℕ, _+_, _-_, _*_, _%_, _^_, _≤_, _<_}
+use Prim.Native.Nat.{ℕ, _+_, _-_, _*_, _^_, _≤_, _<_}
 use lib.Bits.{bitOr}
 use lib.Dec.{eqb, ltb}
 use lib.ListN.{length, getD, set}
 use Rattle.laws.specs.Lists.{tab, placed}
+use Rattle.layout.specs.declared.nodes.Nodes.{Nodes}
 use Rattle.netlist.specs.Limits.{maxInputs}
-use Rattle.netlist.specs.Netlist.{Block, inputCount, gateCount}
+use Rattle.netlist.specs.Netlist.{Block, gateCount}
 use Rattle.netlist.specs.StoredBlock.{gateSize, decode}
 use Rattle.netlist.specs.Rounds.{settled, settingOf, settledUnder}
 use Rattle.rounds.specs.Order.{BelowAll, Rising}
@@ -54,39 +55,39 @@ pub record Swept (b : Block) (lanes : ℕ) (x : List Pair) (js : List ℕ) (stat
 -- ---- in two slices of words, one for each node
 
 -- what deciding a batch asks: legible words, an order over all gates, a base that is a multiple of 64, and a word for each node
-pub record Decidable (ws : List ℕ) (n gates : ℕ) (order : List ℕ) (zeros ones : List ℕ) : Type 0 where
-  pub legible : Legible ws n gates
+pub record Decidable (ws : List ℕ) (nodes : Nodes) (order : List ℕ) (zeros ones : List ℕ) : Type 0 where
+  pub legible : Legible ws nodes
   pub visits : Visits (gateCount (decode ws)) order
-  pub fewInputs : n ≤ maxInputs
-  pub zerosLong : length zeros ≡ n + gateCount (decode ws)
-  pub onesLong : length ones ≡ n + gateCount (decode ws)
+  pub fewInputs : nodes .inputs ≤ maxInputs
+  pub zerosLong : length zeros ≡ nodes .inputs + gateCount (decode ws)
+  pub onesLong : length ones ≡ nodes .inputs + gateCount (decode ws)
 
 -- a word for each input and each gate
 pub record NodesLong (b : Block) (n : ℕ) (zeros ones : List ℕ) : Type 0 where
   pub zerosLong : length zeros ≡ n + gateCount b
   pub onesLong : length ones ≡ n + gateCount b
 
--- the pair of gate j, when the gates' words start at `gates`
-unfoldable pub gatePair : List ℕ → ℕ → ℕ → ℕ → List ℕ → List ℕ → Pair
-gatePair ws n gates j zeros ones = gatePairAt (full (lanesOf n)) zeros ones ws (gates + gateSize * j)
+-- the pair of gate j, of a block with these nodes
+unfoldable pub gatePair : List ℕ → Nodes → ℕ → List ℕ → List ℕ → Pair
+gatePair ws nodes j zeros ones = gatePairAt (full (lanesOf (nodes .inputs))) zeros ones ws (nodes .start + gateSize * j)
 
 -- gate j was evaluated and its pair stored, and `changed` tells whether it is another
-pub record Evaluated (ws : List ℕ) (n gates j : ℕ) (zeros ones zerosAfter onesAfter : List ℕ) (changed : Bool) : Type 0 where
-  pub zerosAre : zerosAfter ≡ set zeros (n + j) (gatePair ws n gates j zeros ones .zeros)
-  pub onesAre : onesAfter ≡ set ones (n + j) (gatePair ws n gates j zeros ones .ones)
-  pub changedIs : changed ≡ not (eqb (gatePair ws n gates j zeros ones .zeros) (getD zeros (n + j) 0))
-      || not (eqb (gatePair ws n gates j zeros ones .ones) (getD ones (n + j) 0))
+pub record Evaluated (ws : List ℕ) (nodes : Nodes) (j : ℕ) (zeros ones zerosAfter onesAfter : List ℕ) (changed : Bool) : Type 0 where
+  pub zerosAre : zerosAfter ≡ set zeros (nodes .inputs + j) (gatePair ws nodes j zeros ones .zeros)
+  pub onesAre : onesAfter ≡ set ones (nodes .inputs + j) (gatePair ws nodes j zeros ones .ones)
+  pub changedIs : changed ≡ not (eqb (gatePair ws nodes j zeros ones .zeros) (getD zeros (nodes .inputs + j) 0))
+      || not (eqb (gatePair ws nodes j zeros ones .ones) (getD ones (nodes .inputs + j) 0))
 
 -- each of the gates listed is one of m
 abbrev pub Inside : ℕ → List ℕ → Type 0
 Inside m order = (i : ℕ) → i < length order → getD order i 0 < m
 
 -- the gates listed were evaluated one after the other, each pair stored at once, and `changed` tells whether any is another
-pub data Walked (ws : List ℕ) (n gates : ℕ) (zeros ones : List ℕ) : List ℕ → List ℕ → List ℕ → Bool → Type 0 where
-  noGate : Walked ws n gates zeros ones [] zeros ones false
-  gateMore : {js zerosMid onesMid zerosAfter onesAfter : List ℕ} {r s : Bool} → Walked ws n gates zeros ones js zerosMid onesMid r → (j : ℕ)
-      → j < gateCount (decode ws) → Evaluated ws n gates j zerosMid onesMid zerosAfter onesAfter s
-      → Walked ws n gates zeros ones (js ++ (j ∷ [])) zerosAfter onesAfter (s || r)
+pub data Walked (ws : List ℕ) (nodes : Nodes) (zeros ones : List ℕ) : List ℕ → List ℕ → List ℕ → Bool → Type 0 where
+  noGate : Walked ws nodes zeros ones [] zeros ones false
+  gateMore : {js zerosMid onesMid zerosAfter onesAfter : List ℕ} {r s : Bool} → Walked ws nodes zeros ones js zerosMid onesMid r → (j : ℕ)
+      → j < gateCount (decode ws) → Evaluated ws nodes j zerosMid onesMid zerosAfter onesAfter s
+      → Walked ws nodes zeros ones (js ++ (j ∷ [])) zerosAfter onesAfter (s || r)
 
 pub record BatchUnderway (b : Block) (n : ℕ) (zeros ones : List ℕ) : Type 0 where
   pub zerosLong : length zeros ≡ n + gateCount b
@@ -100,11 +101,11 @@ pub record BatchSwept (b : Block) (n : ℕ) (js zeros ones zerosAfter onesAfter 
   pub swept : Swept b (lanesOf n) (inputsIn n zeros ones) js (gatesIn n (gateCount b) zeros ones) (gatesIn n (gateCount b) zerosAfter onesAfter) changed
 
 -- what a sweep over all gates asks, but for the pairs
-pub record Sweepable (ws : List ℕ) (n gates used : ℕ) (order : List ℕ) : Type 0 where
-  pub legible : Legible ws n gates
+pub record Sweepable (ws : List ℕ) (nodes : Nodes) (used : ℕ) (order : List ℕ) : Type 0 where
+  pub legible : Legible ws nodes
   pub visits : Visits (gateCount (decode ws)) order
-  pub fewInputs : n ≤ maxInputs
-  pub usedIs : used ≡ full (lanesOf n)
+  pub fewInputs : nodes .inputs ≤ maxInputs
+  pub usedIs : used ≡ full (lanesOf (nodes .inputs))
 
 -- gates were evaluated, and where `done` is told, every gate has its settled value at every lane
 pub record Advanced (b : Block) (n : ℕ) (zeros ones zerosAfter onesAfter : List ℕ) (done : Bool) : Type 0 where

@@ -2,15 +2,18 @@
 use mathlib.Core.Path.{_≡_}
 use mathlib.Core.List.{List}
 use Prim.Native.Nat.{ℕ, _+_, _*_, _≤_, _<_}
+use lib.ListN.{length}
+use Rattle.layout.specs.declared.nodes.Nodes.{Nodes}
 use Rattle.netlist.specs.Netlist.{inputCount, gateCount, gateOf}
 use Rattle.netlist.specs.Limits.{maxGates}
 use Rattle.netlist.specs.StoredBlock.{gateSize, gateAt, decode}
 use Rattle.ternary.specs.Legal.{LegalHead}
 
--- the words hold a block of n inputs whose gates' words start at `gates`, each with a legal head
-pub record Legible (ws : List ℕ) (n gates : ℕ) : Type 0 where
-  pub near : gates ≤ maxGates
+-- the words hold a block with these inputs, whose gates' words are all inside, each with a legal head
+pub record Legible (ws : List ℕ) (nodes : Nodes) : Type 0 where
+  pub near : nodes .start ≤ maxGates
   pub fewGates : gateCount (decode ws) ≤ maxGates
-  pub inputs : n ≡ inputCount (decode ws)
-  pub legal : (j : ℕ) → j < gateCount (decode ws) → LegalHead ws (gates + gateSize * j)
-  pub gateIs : (j : ℕ) → j < gateCount (decode ws) → gateAt n ws (gates + gateSize * j) ≡ gateOf (decode ws) j
+  pub long : nodes .start + gateSize * gateCount (decode ws) ≤ length ws
+  pub inputs : nodes .inputs ≡ inputCount (decode ws)
+  pub legal : (j : ℕ) → j < gateCount (decode ws) → LegalHead ws (nodes .start + gateSize * j)
+  pub gateIs : (j : ℕ) → j < gateCount (decode ws) → gateAt (nodes .inputs) ws (nodes .start + gateSize * j) ≡ gateOf (decode ws) j

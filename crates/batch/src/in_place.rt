@@ -3,6 +3,7 @@ use lanes::Pair;
 use lanes::gate::gate_pair;
 use lanes::inputs::input_pair;
 use lanes::inputs::used_lanes;
+use layout::nodes::Nodes;
 use layout::offsets::GATE_SIZE;
 ghost use mathlib.Core.Path.{_≡_};
 ghost use mathlib.Core.Bool.{true, false};
@@ -11,7 +12,6 @@ ghost use lib.ListN.{length, replicate};
 ghost use Rattle.netlist.specs.Limits.{maxInputs};
 ghost use Rattle.netlist.specs.Netlist.{gateCount};
 ghost use Rattle.netlist.specs.StoredBlock.{decode};
-ghost use Rattle.visiting.specs.Visits.{Visits};
 ghost use Rattle.batch.specs.Legible.{Legible};
 ghost use Rattle.lanes.specs.Pairs.{full};
 ghost use Rattle.lanes.specs.Batches.{lanesOf};
@@ -56,21 +56,20 @@ pub fn start_batch(n: usize, base: usize, zeros: &mut [u64], ones: &mut [u64])
 // Evaluates gate `j` and stores its pair; whether that is another.
 fn step(
     words: &[u16],
-    n: usize,
-    gates: usize,
+    nodes: Nodes,
     used: u64,
     j: usize,
     zeros: &mut [u64],
     ones: &mut [u64],
 ) -> bool
-    requires { ⌜ (j < gateCount (decode (now words))) × Legible (now words) n gates × (n ≤ maxInputs) × (used ≡ full (lanesOf n)) ⌝ }
-    requires { ⌜ NodesLong (decode (now words)) n (now zeros) (now ones) ⌝ }
+    requires { ⌜ (j < gateCount (decode (now words))) × Legible (now words) nodes × (nodes .inputs ≤ maxInputs) × (used ≡ full (lanesOf (nodes .inputs))) ⌝ }
+    requires { ⌜ NodesLong (decode (now words)) (nodes .inputs) (now zeros) (now ones) ⌝ }
     ensures { λ r. ⌜
-        Evaluated (now (words .entry)) n gates j (now (zeros .entry)) (now (ones .entry)) (now (zeros .exit)) (now (ones .exit)) r
+        Evaluated (now (words .entry)) nodes j (now (zeros .entry)) (now (ones .entry)) (now (zeros .exit)) (now (ones .exit)) r
         ⌝ }
 {
-    let pair = gate_pair(words, gates + GATE_SIZE * j, used, zeros, ones);
-    let k = n + j;
+    let pair = gate_pair(words, nodes.start + GATE_SIZE * j, used, zeros, ones);
+    let k = nodes.inputs + j;
     let zero = pair.zeros;
     let one = pair.ones;
     let changed = (zero != zeros[k]) | (one != ones[k]);
@@ -90,18 +89,20 @@ fn place(back: bool, count: usize, i: usize) -> usize
 // Evaluates the gates along `order`, or back along it, each pair stored at once; whether any changed.
 pub fn sweep(
     words: &[u16],
-    n: usize,
-    gates: usize,
+    nodes: Nodes,
     used: u64,
     order: &[u16],
     back: bool,
     zeros: &mut [u64],
     ones: &mut [u64],
 ) -> bool
-    requires { ⌜ Legible (now words) n gates × Inside (gateCount (decode (now words))) (now order) × (n ≤ maxInputs) × (used ≡ full (lanesOf n)) ⌝ }
-    requires { ⌜ NodesLong (decode (now words)) n (now zeros) (now ones) ⌝ }
+    requires { ⌜
+        Legible (now words) nodes × Inside (gateCount (decode (now words))) (now order) × (nodes .inputs ≤ maxInputs)
+        × (used ≡ full (lanesOf (nodes .inputs)))
+        ⌝ }
+    requires { ⌜ NodesLong (decode (now words)) (nodes .inputs) (now zeros) (now ones) ⌝ }
     ensures { λ r. ⌜
-        Walked (now (words .entry)) n gates (now (zeros .entry)) (now (ones .entry)) (along back (now (order .entry))) (now (zeros .exit))
+        Walked (now (words .entry)) nodes (now (zeros .entry)) (now (ones .entry)) (along back (now (order .entry))) (now (zeros .exit))
         (now (ones .exit)) r
         ⌝ }
 {
@@ -110,7 +111,7 @@ pub fn sweep(
     let mut i = 0;
     while i < count {
         let at = place(back, count, i);
-        changed = step(words, n, gates, used, order[at] as usize, zeros, ones) | changed;
+        changed = step(words, nodes, used, order[at] as usize, zeros, ones) | changed;
         i += 1;
     }
     changed
@@ -134,22 +135,23 @@ fn is_decided(used: u64, zeros: &[u64], ones: &[u64]) -> bool
 // One sweep; whether nothing can change any more, since nothing changed or every lane is decided.
 fn sweep_decides(
     words: &[u16],
-    n: usize,
-    gates: usize,
+    nodes: Nodes,
     used: u64,
     order: &[u16],
     back: bool,
     zeros: &mut [u64],
     ones: &mut [u64],
 ) -> bool
-    requires { ⌜ Sweepable (now words) n gates used (now order) × BatchUnderway (decode (now words)) n (now zeros) (now ones) ⌝ }
-    ensures { λ r. ⌜ Advanced (decode (now (words .entry))) n (now (zeros .entry)) (now (ones .entry)) (now (zeros .exit)) (now (ones .exit)) r ⌝ }
+    requires { ⌜ Sweepable (now words) nodes used (now order) × BatchUnderway (decode (now words)) (nodes .inputs) (now zeros) (now ones) ⌝ }
     ensures { λ r. ⌜
-        (r ≡ false → roomIn (decode (now (words .entry))) n (now (zeros .exit)) (now (ones .exit))
-        < roomIn (decode (now (words .entry))) n (now (zeros .entry)) (now (ones .entry)))
+        Advanced (decode (now (words .entry))) (nodes .inputs) (now (zeros .entry)) (now (ones .entry)) (now (zeros .exit)) (now (ones .exit)) r
+        ⌝ }
+    ensures { λ r. ⌜
+        (r ≡ false → roomIn (decode (now (words .entry))) (nodes .inputs) (now (zeros .exit)) (now (ones .exit))
+        < roomIn (decode (now (words .entry))) (nodes .inputs) (now (zeros .entry)) (now (ones .entry)))
         ⌝ }
 {
-    if !sweep(words, n, gates, used, order, back, zeros, ones) {
+    if !sweep(words, nodes, used, order, back, zeros, ones) {
         return true;
     }
     is_decided(used, zeros, ones)
@@ -159,47 +161,47 @@ fn sweep_decides(
 // second sweep on, and where a value runs against the order, the way back is shorter. Whether every lane is found decided.
 fn sweep_again(
     words: &[u16],
-    n: usize,
-    gates: usize,
+    nodes: Nodes,
     used: u64,
     order: &[u16],
     zeros: &mut [u64],
     ones: &mut [u64],
 ) -> bool
-    requires { ⌜ Sweepable (now words) n gates used (now order) × BatchUnderway (decode (now words)) n (now zeros) (now ones) ⌝ }
-    ensures { λ r. ⌜ Advanced (decode (now (words .entry))) n (now (zeros .entry)) (now (ones .entry)) (now (zeros .exit)) (now (ones .exit)) r ⌝ }
+    requires { ⌜ Sweepable (now words) nodes used (now order) × BatchUnderway (decode (now words)) (nodes .inputs) (now zeros) (now ones) ⌝ }
+    ensures { λ r. ⌜
+        Advanced (decode (now (words .entry))) (nodes .inputs) (now (zeros .entry)) (now (ones .entry)) (now (zeros .exit)) (now (ones .exit)) r
+        ⌝ }
 {
     let middle = order.len() / 2;
-    if !sweep(words, n, gates, used, &order[..middle], false, zeros, ones) {
+    if !sweep(words, nodes, used, &order[..middle], false, zeros, ones) {
         return false;
     }
-    sweep(words, n, gates, used, &order[middle..], false, zeros, ones);
+    sweep(words, nodes, used, &order[middle..], false, zeros, ones);
     is_decided(used, zeros, ones)
 }
 
 // The settled values at every lane: a sweep there, a second one, and then sweeps back and there by turns, until nothing can change any more.
 pub fn decide_batch(
     words: &[u16],
-    n: usize,
-    gates: usize,
+    nodes: Nodes,
     order: &[u16],
     base: usize,
     zeros: &mut [u64],
     ones: &mut [u64],
 )
-    requires { ⌜ Decidable (now words) n gates (now order) (now zeros) (now ones) × (base % 64 ≡ 0) ⌝ }
-    ensures { λ r. ⌜ BatchSettled (decode (now (words .entry))) n base (now (zeros .exit)) (now (ones .exit)) ⌝ }
+    requires { ⌜ Decidable (now words) nodes (now order) (now zeros) (now ones) × (base % 64 ≡ 0) ⌝ }
+    ensures { λ r. ⌜ BatchSettled (decode (now (words .entry))) (nodes .inputs) base (now (zeros .exit)) (now (ones .exit)) ⌝ }
 {
-    start_batch(n, base, zeros, ones);
-    let used = used_lanes(n);
-    if sweep_decides(words, n, gates, used, order, false, zeros, ones) {
+    start_batch(nodes.inputs, base, zeros, ones);
+    let used = used_lanes(nodes.inputs);
+    if sweep_decides(words, nodes, used, order, false, zeros, ones) {
         return;
     }
-    if sweep_again(words, n, gates, used, order, zeros, ones) {
+    if sweep_again(words, nodes, used, order, zeros, ones) {
         return;
     }
     let mut back = true;
-    while !sweep_decides(words, n, gates, used, order, back, zeros, ones) {
+    while !sweep_decides(words, nodes, used, order, back, zeros, ones) {
         back = !back;
     }
 }

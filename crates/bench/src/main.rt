@@ -10,7 +10,6 @@ use session::feed;
 use session::finish;
 use session::is_over;
 use session::start;
-ghost use lib.ListN.{length};
 ghost use Rattle.session.specs.Session.{Ready, Room};
 
 // The state behind what was read, and whether to read on.

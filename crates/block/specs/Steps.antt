@@ -12,10 +12,6 @@ use Rattle.encoding.specs.Rules.{nameRule, sameName, namesRule, neverRule, node
 abbrev pub zerosFrom : List ℕ → ℕ → Bool
 zerosFrom bytes i = all (eqb 0) (drop i bytes)
 
--- word i of two names
-abbrev pub sameWord : List ℕ → ℕ → ℕ → ℕ → Bool
-sameWord ws at other i = eqb (getD ws (at + i) 0) (getD ws (other + i) 0)
-
 -- of names `size` words apart from `at` on, i is not j
 abbrev pub otherName : List ℕ → ℕ → ℕ → ℕ → ℕ → Bool
 otherName ws at size j i = not (sameName ws (at + size * i) (at + size * j))

@@ -1,56 +1,31 @@
 // The names of inputs and the ports: each legal, none twice.
+use layout::bytes::is_letter;
+use layout::bytes::is_name_byte;
 use layout::limits::MAX_NAME;
+use layout::names::is_same;
 use layout::offsets::NAME_SIZE;
 use layout::read::word_at;
 ghost use mathlib.Core.Path.{_≡_};
 ghost use mathlib.Core.Bool.{_&&_};
 ghost use Prim.Native.Nat.{_≤_, _<_, _+_, _*_};
 ghost use lib.ListN.{getD};
-ghost use lib.Dec.{leb};
 ghost use Rattle.netlist.specs.Limits.{maxName, maxGates};
-ghost use Rattle.netlist.specs.StoredBlock.{isLetter, isDigit, isNameByte, bytesAt};
-ghost use Rattle.encoding.specs.Rules.{padded, nameRule, sameName, namesRule};
+ghost use Rattle.netlist.specs.StoredBlock.{bytesAt};
+ghost use Rattle.encoding.specs.Rules.{padded, nameRule, namesRule};
 ghost use Rattle.block.specs.Steps.{zerosFrom, otherName, othersBefore, newName};
 
-fn is_between(low: usize, high: usize, c: usize) -> bool
-    ensures { λ r. ⌜ r ≡ leb low c && leb c high ⌝ }
-{
-    low <= c && c <= high
-}
-
-fn is_letter(c: usize) -> bool
-    ensures { λ r. ⌜ r ≡ isLetter c ⌝ }
-{
-    is_between(b'a' as usize, b'z' as usize, c)
-}
-
-fn is_digit(c: usize) -> bool
-    ensures { λ r. ⌜ r ≡ isDigit c ⌝ }
-{
-    is_between(b'0' as usize, b'9' as usize, c)
-}
-
-// What may stand in a name.
-fn is_name_byte(c: usize) -> bool
-    ensures { λ r. ⌜ r ≡ isNameByte c ⌝ }
-{
-    if is_letter(c) {
-        return true;
-    }
-    if is_digit(c) {
-        return true;
-    }
-    c == b'_' as usize
-}
-
 // Byte i of the eight bytes of the name whose words start at `at`.
-fn byte_at(words: &[u16], at: usize, i: usize) -> usize
+fn byte_at(words: &[u16], at: usize, i: usize) -> u8
     requires { ⌜ at ≤ 65535 ⌝ }
     requires { ⌜ i < maxName ⌝ }
     ensures { λ r. ⌜ r ≡ getD (bytesAt (now (words .entry)) at) i 0 ⌝ }
 {
     let word = word_at(words, at + i / 2);
-    if i % 2 == 0 { word % 256 } else { word / 256 }
+    if i % 2 == 0 {
+        (word % 256) as u8
+    } else {
+        (word / 256) as u8
+    }
 }
 
 // Are the bytes from i on all zero?
@@ -96,22 +71,6 @@ fn is_legal(words: &[u16], at: usize) -> bool
     is_letter(byte_at(words, at, 0)) && is_padded(words, at)
 }
 
-// Are the names at two places the same?
-fn is_same(words: &[u16], at: usize, other: usize) -> bool
-    requires { ⌜ at ≤ 65535 ⌝ }
-    requires { ⌜ other ≤ 65535 ⌝ }
-    ensures { λ r. ⌜ r ≡ sameName (now (words .entry)) at other ⌝ }
-{
-    let mut i = 0;
-    while i < NAME_SIZE {
-        if word_at(words, at + i) != word_at(words, other + i) {
-            return false;
-        }
-        i += 1;
-    }
-    true
-}
-
 // Of names `size` words apart from `at` on: do numbers i and j differ?
 fn differ(words: &[u16], at: usize, size: usize, j: usize, i: usize) -> bool
     requires { ⌜ at ≤ 8192 ⌝ }
@@ -120,7 +79,7 @@ fn differ(words: &[u16], at: usize, size: usize, j: usize, i: usize) -> bool
     requires { ⌜ i ≤ maxGates ⌝ }
     ensures { λ r. ⌜ r ≡ otherName (now (words .entry)) at size j i ⌝ }
 {
-    !is_same(words, at + size * i, at + size * j)
+    !is_same(words, at + size * i, words, at + size * j)
 }
 
 // Does name j differ from all before it?

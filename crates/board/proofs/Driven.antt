@@ -22,7 +22,6 @@ use Rattle.netlist.specs.StoredBlock.{decode, isNode}
 use Rattle.netlist.specs.Rounds.{operandValue, settingOf, settingCount, isExcluded, outputValue, outputsUnder}
 use Rattle.netlist.specs.Rendering.{sweep}
 use Rattle.netlist.specs.Answers.{done, numberOf, countOf}
-use Rattle.netlist.specs.Operations.{pass}
 use Rattle.netlist.specs.Cells.{makeCells, cellCount, operandBit, cellValues, runCells}
 use Rattle.encoding.proofs.ListFacts.{getD-map, all-map}
 use Rattle.encoding.proofs.WellFormed.{wellFormed-parts}

@@ -6,13 +6,11 @@
 --   encode-brought, whole-before       the words of today are the old ones with a fourth count; what the old rules say
 --   bring-start, bring-room            the conditions one after the other
 use mathlib.Core.Path.{_≡_, refl, sym, ap, subst, _∙_}
-use mathlib.Core.Logic.{⊎-elim}
-use mathlib.Core.Bool.{Bool, true, false, not, _&&_, false≢true}
-use mathlib.Core.List.{List, [], _∷_, _++_, map, append-nil}
-use Prim.Native.Nat.{ℕ, zero, suc, _+_, _*_, _-_, _≤_, _<_}
-use native.Mathlib.Nat.{not-suc-le-zero}
+use mathlib.Core.Bool.{Bool, true, false, _&&_}
+use mathlib.Core.List.{List, [], _∷_, map, append-nil}
+use Prim.Native.Nat.{ℕ, zero, suc, _+_, _-_, _≤_, _<_}
 use native.Mathlib.Omega.{arith}
-use lib.ListN.{length, getD, take, drop}
+use lib.ListN.{length, getD, drop}
 use lib.Dec.{leb, ltb}
 use borrow.Author.Tests.{leb-true, le-leb, not-false}
 use Rattle.laws.specs.Lists.{same, joined, tab}
@@ -20,8 +18,8 @@ use Rattle.laws.proofs.Tab.{tab-getD}
 use Rattle.laws.proofs.Tests.{and-left, and-right, same-test}
 use Rattle.laws.proofs.Same.{same-eq, eq-same}
 use Rattle.netlist.specs.Limits.{maxBlock}
-use Rattle.netlist.specs.Netlist.{Block, inputCount, gateCount, outputCount}
-use Rattle.netlist.specs.StoredBlock.{nameWords, neverWords, gateWords, outputWords, encode, decode, isWellFormed, isTorn}
+use Rattle.netlist.specs.Netlist.{Block, inputCount}
+use Rattle.netlist.specs.StoredBlock.{nameWords, encode, decode, isWellFormed, isTorn}
 use Rattle.netlist.specs.declared.Refusal.the-variants.{MalformedBlock, NoRoom}
 use Rattle.netlist.specs.Answers.{done, refuseIf, inRoom}
 use Rattle.netlist.specs.Operations.{counted}

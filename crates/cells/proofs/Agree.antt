@@ -11,7 +11,6 @@ use native.Mathlib.Omega.{arith}
 use lib.ListN.{length, getD, length-append}
 use lib.Dec.{eqb}
 use borrow.Author.Tests.{ltb-true}
-use Rattle.laws.specs.Lists.{all}
 use Rattle.laws.proofs.Tab.{getD-tab, tab-ext, tab-getD, map-tab}
 use Rattle.netlist.specs.Values.{Value, val, code, valueOf}
 use Rattle.netlist.specs.Kinds.{gateValue}

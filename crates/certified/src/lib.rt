@@ -4,9 +4,7 @@ use block::check_words;
 use components::leaders::forget;
 use condensation::condense;
 use layout::limits::MAX_GATES;
-use layout::offsets::gates_at;
-use layout::offsets::gates_of;
-use layout::offsets::inputs_of;
+use layout::nodes::nodes_of;
 use netlist::Test;
 ghost use mathlib.Core.Path.{_≡_};
 ghost use mathlib.Core.Bool.{false};
@@ -18,9 +16,9 @@ ghost use Rattle.netlist.specs.StoredBlock.{isTorn};
 fn condense_whole(words: &[u16], leaders: &mut [u16], stack: &mut [u16]) -> bool
     requires { ⌜ (isTorn (now words) ≡ false) × (getD (now words) 1 0 ≤ length (now leaders)) ⌝ }
 {
-    let m = gates_of(words);
-    forget(m, leaders);
-    condense(words, inputs_of(words), m, gates_at(words), leaders, stack)
+    let nodes = nodes_of(words);
+    forget(nodes.gates, leaders);
+    condense(words, nodes, leaders, stack)
 }
 
 // False for a torn block, and for one of few gates, which is left to the slow way.

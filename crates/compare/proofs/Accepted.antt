@@ -1,18 +1,18 @@
 -- Compare answers by the two sentences of the definitions: accepted exactly when all outputs agree under every settled setting of ours, and a
 -- disagreement is the lowest. Assumes nothing.
-use mathlib.Core.Path.{_≡_, refl, sym, ap, _∙_}
+use mathlib.Core.Path.{_≡_, refl, ap}
 use mathlib.Core.Logic.{⊎-elim}
-use mathlib.Core.Bool.{Bool, true, false, cond, not, _&&_}
-use mathlib.Core.List.{List, []}
-use Prim.Native.Nat.{ℕ, _+_, _≤_, _<_}
+use mathlib.Core.Bool.{true, false, cond, not}
+use mathlib.Core.List.{[]}
+use Prim.Native.Nat.{ℕ, _+_, _<_}
 use native.Mathlib.Omega.{arith}
 use lib.ListN.{getD}
 use lib.Dec.{eqb, ltb}
-use borrow.Author.Tests.{eqb-true, eq-eqb, not-true, not-false, lt-ltb, le-ltb}
+use borrow.Author.Tests.{eqb-true, eq-eqb, not-false, lt-ltb, le-ltb}
 use Rattle.laws.specs.Lists.{any, upTo, least}
 use Rattle.laws.proofs.Tests.{not-true-false, not-both, and-left, and-right, lt-or-le}
 use Rattle.laws.proofs.Quantifiers.{any-below, below-any}
-use Rattle.laws.proofs.Least.{least-le, least-below, least-at, least-is}
+use Rattle.laws.proofs.Least.{least-below, least-at, least-is}
 use Rattle.netlist.specs.Values.{undefined, code}
 use Rattle.netlist.specs.Netlist.{Block, outputCount}
 use Rattle.netlist.specs.Rounds.{settingCount, outputsUnder, isCounted}

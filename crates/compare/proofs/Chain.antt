@@ -1,6 +1,6 @@
 -- Compare's outcome as a chain of conditions, and what the tests passed say of the two blocks. Cited by `compare`. Assumes nothing.
 use mathlib.Core.Path.{_≡_, refl}
-use mathlib.Core.Bool.{true, false, not}
+use mathlib.Core.Bool.{false, not}
 use mathlib.Core.List.{List}
 use Prim.Native.Nat.{ℕ}
 use borrow.Author.Tests.{not-false}

@@ -6,24 +6,26 @@
 --   search-accepted, search-found      no setting disagrees; one does, and no lower one
 --   search-passed, search-marked       one batch more; the batch at which the search ends
 -- Assumes nothing.
-use mathlib.Core.Path.{_≡_, refl, sym, ap, _∙_}
-use mathlib.Core.Bool.{Bool, true, false, not, _&&_}
-use mathlib.Core.List.{List, []}
+use mathlib.Core.Path.{_≡_, refl, sym, _∙_}
+use mathlib.Core.Bool.{Bool, true, false, not}
+use mathlib.Core.List.{List}
 use Prim.Native.Nat.{ℕ, zero, suc, _+_, _%_, _^_, _≤_, _<_, max}
 use native.Mathlib.Omega.{arith}
-use lib.Bits.{bitAnd, bitOr, bitXor, differ, or-lt, xor-lt}
+use lib.Bits.{bitAnd, bitXor, differ, or-lt, xor-lt}
 use lib.Dec.{eqb}
 use lib.ListN.{getD}
 use borrow.Author.Tests.{lt-ltb, le-ltb}
 use Rattle.laws.specs.Lists.{any, upTo, least}
 use Rattle.laws.proofs.Least.{least-le, least-below, least-at, least-is}
+use Rattle.layout.specs.declared.nodes.Nodes.{Nodes}
+use Rattle.layout.specs.Nodes.{nodesOf}
 use Rattle.netlist.specs.declared.Answer.the-variants.{Done}
 use Rattle.netlist.specs.Values.{code}
-use Rattle.netlist.specs.Netlist.{Block, outputCount}
+use Rattle.netlist.specs.Netlist.{Block}
 use Rattle.netlist.specs.Assignments.{bit}
 use Rattle.netlist.specs.StoredBlock.{decode}
 use Rattle.netlist.specs.Rounds.{settingCount, isCounted}
-use Rattle.netlist.specs.Answers.{done, answerOf}
+use Rattle.netlist.specs.Answers.{answerOf}
 use Rattle.netlist.specs.Compare.{differs, disagrees, lowestDisagreement, lowestDiffering, judgedAt, compareBlocks}
 use Rattle.encoding.proofs.Decoded.{decode-outputCount}
 use Rattle.lanes.specs.declared.Pair.{Pair}
@@ -32,8 +34,8 @@ use Rattle.lanes.specs.Batches.{lanesOf}
 use Rattle.lanes.proofs.BitLaws.{bit-or, bit-xor}
 use Rattle.lanes.proofs.InputLaws.{lanesOf-most}
 use Rattle.batch.specs.Batch.{BatchSettled}
-use Rattle.judge.specs.Lanes.{hasLane, Tells}
-use Rattle.judge.proofs.WordLaws.{tells-as, tells-none, tells-and, tells-or, tells-no-lane, tells-some, tells-lowest}
+use Rattle.lanes.specs.Words.{hasLane, Tells}
+use Rattle.lanes.proofs.WordLaws.{tells-as, tells-none, tells-and, tells-or, tells-no-lane, tells-some, tells-lowest}
 use Rattle.judge.proofs.OutputLaws.{output-proper, output-lane, any-first}
 use Rattle.compare.specs.Words.{differingIn, portPair, differingWord, differingWords, differsAt}
 use Rattle.verdict.proofs.Batching.{Place, batch-more}
@@ -142,12 +144,14 @@ module _ {ours theirs : List ℕ} {base : ℕ} {zeros ones theirZeros theirOnes 
 
 -- both blocks were decided, and the lanes of settings that count and of outputs that differ are known
 pub marked-batch : {ours theirs order theirOrder zeros ones theirZeros theirOnes : List ℕ}
-    → CompareReady ours theirs order theirOrder zeros ones theirZeros theirOnes → {n base used counted word : ℕ} {z o tz to : List ℕ} → n ≡ getD ours 0 0
-    → base % 64 ≡ 0 → BatchSettled (decode ours) n base z o → BatchSettled (decode theirs) n base tz to → used ≡ full (lanesOf n)
-    → Tells (lanesOf n) base (isCounted (decode ours)) counted → word ≡ differingWords ours theirs used z o tz to (getD ours 2 0)
+    → CompareReady ours theirs order theirOrder zeros ones theirZeros theirOnes → {nodes theirNodes : Nodes} {base used counted word : ℕ} {z o tz to : List ℕ}
+    → nodes ≡ nodesOf ours → theirNodes ≡ nodesOf theirs → base % 64 ≡ 0 → BatchSettled (decode ours) (nodes .inputs) base z o
+    → BatchSettled (decode theirs) (theirNodes .inputs) base tz to → used ≡ full (lanesOf (nodes .inputs))
+    → Tells (lanesOf (nodes .inputs)) base (isCounted (decode ours)) counted → word ≡ differingWords ours theirs used z o tz to (getD ours 2 0)
     → Marked ours theirs base z o tz to (bitAnd counted word)
-marked-batch r e aligned p q u t w =
-    let j = both-judged r e aligned p q in
+unfolding nodesOf
+marked-batch r e f aligned p q u t w =
+    let j = both-judged r e f aligned p q in
     record { judged = j; tells = marked-lanes j (u ∙ rw e) (rw e at t) w }
 
 -- the lowest lane of a word that is not 0

@@ -1,9 +1,8 @@
 -- Two blocks have the same interface when the words of their names are the same. Cited by `interface`. Assumes nothing.
 use mathlib.Core.Path.{_≡_, refl, sym, ap, _∙_}
-use mathlib.Core.Bool.{Bool, true, false, not, _&&_}
+use mathlib.Core.Bool.{Bool, true, false, not}
 use mathlib.Core.List.{List, [], _∷_}
-use Prim.Native.Nat.{ℕ, _+_, _*_, _<_}
-use native.Mathlib.Omega.{arith}
+use Prim.Native.Nat.{ℕ, _+_, _*_}
 use lib.ListN.{length, getD}
 use borrow.Author.Tests.{not-true, not-false}
 use Rattle.laws.specs.Lists.{same, all, tab, upTo}
@@ -11,7 +10,7 @@ use Rattle.laws.proofs.Tests.{and-left, and-right, not-true-false, not-both, sa
 use Rattle.laws.proofs.Same.{same-eq, eq-same, same-refl}
 use Rattle.laws.proofs.Tab.{length-tab, getD-tab, tab-ext}
 use Rattle.laws.proofs.Quantifiers.{all-below, below-all, all-ext}
-use Rattle.netlist.specs.Netlist.{Name, Output, outputCount}
+use Rattle.netlist.specs.Netlist.{Name}
 use Rattle.netlist.specs.StoredBlock.{nameSize, outputSize, inputsAt, outputsAt, nameAt, decode}
 use Rattle.netlist.specs.Compare.{sameNames, ports, sameInterface}
 use Rattle.encoding.proofs.Names.{names-same}

@@ -16,7 +16,7 @@ use Rattle.netlist.specs.StoredBlock.{encode, decode, isWellFormed, isTorn}
 use Rattle.netlist.specs.Rounds.{settingOf, settingCount, settledUnder, outputsUnder, isSettled, isExcluded, isCounted, lowestUnsettled, outputValue}
 use Rattle.netlist.specs.Cover.{isSound}
 use Rattle.netlist.specs.Passes.{copyCount}
-use Rattle.netlist.specs.Rendering.{rendering, isStraight, sweep}
+use Rattle.netlist.specs.Rendering.{rendering, sweep}
 use Rattle.netlist.specs.Answers.{done, refuseIf}
 use Rattle.netlist.specs.Operations.{counted, renderBlock, renderWords}
 use Rattle.netlist.specs.Compare.{ports, sameInterface, compare, Accepts}

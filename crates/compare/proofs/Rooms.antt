@@ -5,7 +5,7 @@
 --   ports-near, few-ports, lowest-few   where a block's outputs stand, and how many there are
 --   setting-count                  the number of settings, as read
 -- Assumes nothing.
-use mathlib.Core.Path.{_≡_, refl, sym, _∙_}
+use mathlib.Core.Path.{_≡_, refl, _∙_}
 use mathlib.Core.Bool.{Bool, false}
 use mathlib.Core.List.{List}
 use Prim.Native.Nat.{ℕ, _+_, _%_, _^_, _≤_, _<_}
@@ -14,6 +14,8 @@ use lib.ListN.{length, getD, take}
 use lib.Seq.{length-take-le}
 use Rattle.laws.specs.Lists.{least}
 use Rattle.laws.proofs.Least.{least-le}
+use Rattle.layout.specs.declared.nodes.Nodes.{Nodes}
+use Rattle.layout.specs.Nodes.{nodesOf}
 use Rattle.netlist.specs.StoredBlock.{neversAt, gatesAt, outputsAt, decode, isTorn}
 use Rattle.netlist.specs.Rounds.{settingCount}
 use Rattle.encoding.proofs.Decoded.{decode-inputCount}
@@ -25,21 +27,22 @@ use Rattle.compare.specs.Ready.{Pair, CompareReady, BothJudged}
 
 module _ {ours theirs order theirOrder zeros ones theirZeros theirOnes : List ℕ}
     (r : CompareReady ours theirs order theirOrder zeros ones theirZeros theirOnes) where
-  pub decidable-at : {n gates : ℕ} → n ≡ getD ours 0 0 → gates ≡ gatesAt (getD ours 0 0) (getD ours 3 0) → Decidable ours n gates order zeros ones
-  decidable-at e f = rw (f, e) (r .ready)
+  pub decidable-at : {nodes : Nodes} → nodes ≡ nodesOf ours → Decidable ours nodes order zeros ones
+  decidable-at e = rw e (r .ready)
 
-  pub theirs-at : {n gates : ℕ} → n ≡ getD ours 0 0 → gates ≡ gatesAt (getD theirs 0 0) (getD theirs 3 0)
-      → Decidable theirs n gates theirOrder theirZeros theirOnes
-  theirs-at e f = let same = e ∙ sym (r .pair .inputs) in rw (f, same) (r .theirReady)
+  pub theirs-at : {nodes : Nodes} → nodes ≡ nodesOf theirs → Decidable theirs nodes theirOrder theirZeros theirOnes
+  theirs-at e = rw e (r .theirReady)
 
   -- what two decided batches hold
-  pub both-judged : {n base : ℕ} {z o tz to : List ℕ} → n ≡ getD ours 0 0 → base % 64 ≡ 0 → BatchSettled (decode ours) n base z o
-      → BatchSettled (decode theirs) n base tz to → BothJudged ours theirs base z o tz to
-  both-judged e aligned p q =
+  pub both-judged : {nodes theirNodes : Nodes} {base : ℕ} {z o tz to : List ℕ} → nodes ≡ nodesOf ours → theirNodes ≡ nodesOf theirs → base % 64 ≡ 0
+      → BatchSettled (decode ours) (nodes .inputs) base z o → BatchSettled (decode theirs) (theirNodes .inputs) base tz to
+      → BothJudged ours theirs base z o tz to
+  unfolding nodesOf
+  both-judged e f aligned p q =
       record {
         pair = r .pair;
         our-values = judged (r .ready) aligned (rw e at p);
-        their-values = judged (theirs-at refl refl) aligned (rw e at q);
+        their-values = rw (← r .pair .inputs) (judged (r .theirReady) aligned (rw f at q));
       }
 
   -- slices of the same lengths are as good
@@ -55,12 +58,13 @@ pub compare-ready : (ours theirs order theirOrder zeros ones theirZeros theirOne
     → n + others ≤ length theirOnes
     → CompareReady ours theirs (take m order) (take others theirOrder) (take (n + m) zeros) (take (n + m) ones) (take (n + others) theirZeros)
     (take (n + others) theirOnes)
+unfolding nodesOf
 compare-ready ours theirs order theirOrder zeros ones theirZeros theirOnes p e f g v w a b c d =
     record {
       pair = p;
-      ready = whole-decidable ours (getD ours 0 0) (getD ours 1 0) _ _ _ _ (p .our-whole) refl refl refl (rw f v)
+      ready = whole-decidable ours (nodesOf ours) _ _ _ (p .our-whole) refl (rw f v)
           (length-take-le _ zeros a ∙ rw (e, f)) (length-take-le _ ones b ∙ rw (e, f));
-      theirReady = whole-decidable theirs (getD theirs 0 0) (getD theirs 1 0) _ _ _ _ (p .their-whole) refl refl refl (rw g w)
+      theirReady = whole-decidable theirs (nodesOf theirs) _ _ _ (p .their-whole) refl (rw g w)
           (length-take-le _ theirZeros c ∙ rw (e, g, p .inputs)) (length-take-le _ theirOnes d ∙ rw (e, g, p .inputs));
     }
 

@@ -4,12 +4,14 @@ use mathlib.Core.Path.{_≡_}
 use mathlib.Core.Bool.{true, false}
 use mathlib.Core.List.{List}
 use lib.ListN.{getD}
-use Rattle.netlist.specs.StoredBlock.{gatesAt, decode, isTorn}
+use Rattle.layout.specs.Nodes.{nodesOf}
+use Rattle.netlist.specs.StoredBlock.{decode, isTorn}
 use Rattle.netlist.specs.Rendering.{isStraight}
 use Rattle.netlist.specs.Compare.{disagrees}
 use Rattle.lanes.specs.Batches.{lanesOf}
 use Rattle.batch.specs.Batch.{Decidable}
-use Rattle.judge.specs.Lanes.{Tells, Judged}
+use Rattle.lanes.specs.Words.{Tells}
+use Rattle.judge.specs.Lanes.{Judged}
 
 -- both blocks are whole, theirs is straight, and they have as many inputs and outputs
 pub record Pair (ours theirs : List ℕ) : Type 0 where
@@ -22,8 +24,8 @@ pub record Pair (ours theirs : List ℕ) : Type 0 where
 -- both can be decided in the slices
 pub record CompareReady (ours theirs order theirOrder zeros ones theirZeros theirOnes : List ℕ) : Type 0 where
   pub pair : Pair ours theirs
-  pub ready : Decidable ours (getD ours 0 0) (gatesAt (getD ours 0 0) (getD ours 3 0)) order zeros ones
-  pub theirReady : Decidable theirs (getD theirs 0 0) (gatesAt (getD theirs 0 0) (getD theirs 3 0)) theirOrder theirZeros theirOnes
+  pub ready : Decidable ours (nodesOf ours) order zeros ones
+  pub theirReady : Decidable theirs (nodesOf theirs) theirOrder theirZeros theirOnes
 
 -- the slices hold the settled values of both in the batch at `base`
 pub record BothJudged (ours theirs : List ℕ) (base : ℕ) (zeros ones theirZeros theirOnes : List ℕ) : Type 0 where

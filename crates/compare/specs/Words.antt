@@ -9,7 +9,8 @@ use lib.Bits.{bitOr, bitXor}
 use lib.ListN.{getD}
 use Rattle.netlist.specs.StoredBlock.{outputsAt}
 use Rattle.lanes.specs.declared.Pair.{Pair}
-use Rattle.judge.specs.Lanes.{hasLane, outputPair}
+use Rattle.lanes.specs.Words.{hasLane}
+use Rattle.judge.specs.Lanes.{outputPair}
 
 unfoldable pub differingIn : Pair → Pair → ℕ
 differingIn p q = bitOr (bitXor (p .zeros) (q .zeros)) (bitXor (p .ones) (q .ones))

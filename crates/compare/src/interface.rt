@@ -1,11 +1,11 @@
 // Refusal 12: do two blocks have the same input names and the same ports, in the same order? Names are compared word by word.
+use layout::names::is_same;
 use layout::offsets::INPUTS_AT;
 use layout::offsets::NAME_SIZE;
 use layout::offsets::OUTPUT_SIZE;
 use layout::offsets::inputs_of;
 use layout::offsets::outputs_at;
 use layout::offsets::outputs_of;
-use layout::read::word_at;
 use netlist::Refusal;
 use netlist::Test;
 use refusals::refuse_if;
@@ -16,25 +16,9 @@ ghost use Rattle.laws.specs.Lists.{all, upTo};
 ghost use Rattle.netlist.specs.Limits.{maxGates};
 ghost use Rattle.netlist.specs.declared.Refusal.the-variants.{InterfaceMismatch};
 ghost use Rattle.netlist.specs.Answers.{testOf};
-ghost use Rattle.netlist.specs.StoredBlock.{nameSize, isTorn, decode};
+ghost use Rattle.netlist.specs.StoredBlock.{isTorn, decode};
 ghost use Rattle.netlist.specs.Compare.{sameInterface};
-ghost use Rattle.compare.specs.Names.{sameWordAt, sameNameAt};
-
-// Do the two places hold the same name?
-fn is_same(ours: &[u16], at: usize, theirs: &[u16], other: usize) -> bool
-    requires { ⌜ at ≤ 65535 ⌝ }
-    requires { ⌜ other ≤ 65535 ⌝ }
-    ensures { λ r. ⌜ r ≡ all (sameWordAt (now (ours .entry)) at (now (theirs .entry)) other) (upTo nameSize) ⌝ }
-{
-    let mut i = 0;
-    while i < NAME_SIZE {
-        if word_at(ours, at + i) != word_at(theirs, other + i) {
-            return false;
-        }
-        i += 1;
-    }
-    true
-}
+ghost use Rattle.compare.specs.Names.{sameNameAt};
 
 // Names `size` words apart: are the first `count` of ours those of theirs, one by one?
 fn are_same(

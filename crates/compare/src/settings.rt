@@ -4,10 +4,10 @@ use crate::outputs::any_differing;
 use crate::outputs::lowest_differing;
 use batch::in_place::decide_batch;
 use judge::settled::counted_lanes;
-use judge::words::lane_count;
-use judge::words::lowest_lane;
 use lanes::inputs::used_lanes;
-use layout::offsets::gates_at;
+use lanes::words::lane_count;
+use lanes::words::lowest_lane;
+use layout::nodes::nodes_of;
 use layout::offsets::gates_of;
 use layout::offsets::inputs_of;
 use netlist::Answer;
@@ -41,11 +41,12 @@ fn disagreeing_lanes(
         Marked (now (ours .entry)) (now (theirs .entry)) base (now (zeros .exit)) (now (ones .exit)) (now (lows .exit)) (now (highs .exit)) r
         ⌝ }
 {
-    let n = inputs_of(ours);
-    decide_batch(ours, n, gates_at(ours), order, base, zeros, ones);
-    decide_batch(theirs, n, gates_at(theirs), path, base, lows, highs);
-    let counted = counted_lanes(ours, n, base, zeros, ones);
-    counted & any_differing(ours, theirs, used_lanes(n), zeros, ones, lows, highs)
+    let nodes = nodes_of(ours);
+    decide_batch(ours, nodes, order, base, zeros, ones);
+    decide_batch(theirs, nodes_of(theirs), path, base, lows, highs);
+    let counted = counted_lanes(ours, nodes.inputs, base, zeros, ones);
+    let used = used_lanes(nodes.inputs);
+    counted & any_differing(ours, theirs, used, zeros, ones, lows, highs)
 }
 
 // The batches in ascending order, up to the first disagreement: the lowest lane, and there the lowest output.

@@ -13,6 +13,7 @@ use Rattle.laws.specs.Lists.{any, tab, placed}
 use Rattle.laws.proofs.Tests.{bool-cases, not-both, and-left, and-right, and-intro, eq-or-ne}
 use Rattle.laws.proofs.Quantifiers.{any-at, any-from, member-at, member-from}
 use Rattle.laws.proofs.Tab.{placed-tab}
+use Rattle.layout.specs.declared.nodes.Nodes.{Nodes}
 use Rattle.netlist.specs.Netlist.{Block, gateCount}
 use Rattle.netlist.specs.StoredBlock.{decode}
 use Rattle.netlist.specs.Groups.{OperandPath, stay, step, reads, readBy, reaches, sameGroup}
@@ -22,10 +23,13 @@ use Rattle.search.specs.Search.{gateReads, GatesReady, SearchReady, StartReady,
 use Rattle.components.specs.Leaders.{noLeader, barredBy, ledBy, joins, Joined, none, more, Quiet, Spread, QueueReady, TurnReady, givenBy, GroupLed}
 use Rattle.components.proofs.Joining.{joins-free, joined-length}
 
-module _ (ws : List ℕ) (n m gates l : ℕ) (whole : GatesReady ws n m gates) (gatesAre : m ≡ gateCount (decode ws)) (entry : List ℕ)
-    (ready : TurnReady ws m l entry) (free : getD entry l 0 ≡ noLeader) where
+module _ (ws : List ℕ) (nodes : Nodes) (l : ℕ) (whole : GatesReady ws nodes) (gatesAre : nodes .gates ≡ gateCount (decode ws)) (entry : List ℕ)
+    (ready : TurnReady ws (nodes .gates) l entry) (free : getD entry l 0 ≡ noLeader) where
   abbrev b : Block
   b = decode ws
+
+  abbrev m : ℕ
+  m = nodes .gates
 
   below : {k : ℕ} → k < m → k < gateCount b
   below {k} h = subst (λ (g : ℕ). k < g) gatesAre h
@@ -83,11 +87,11 @@ module _ (ws : List ℕ) (n m gates l : ℕ) (whole : GatesReady ws n m gates) (
     -- ---- what joins is of the group
 
     -- a gate that joins reads one that gate l leads
-    joins-reads : (leaders : List ℕ) (k : ℕ) → k < m → joins ws n m gates l leaders k ≡ true → (j : ℕ) × (reads b k j ≡ true) × (getD leaders j 0 ≡ l)
+    joins-reads : (leaders : List ℕ) (k : ℕ) → k < m → joins ws nodes l leaders k ≡ true → (j : ℕ) × (reads b k j ≡ true) × (getD leaders j 0 ≡ l)
     unfolding joins ledBy reads
     joins-reads leaders k kl h =
         let e : any (ledBy leaders l) (readBy b k) ≡ true = rw (whole .operands k kl) at
-        (and-right (eqb (getD leaders k 0) noLeader) (any (ledBy leaders l) (gateReads ws n m gates k)) h) in
+        (and-right (eqb (getD leaders k 0) noLeader) (any (ledBy leaders l) (gateReads ws nodes k)) h) in
         let a = any-at (ledBy leaders l) (readBy b k) 0 e in (
           getD (readBy b k) (a .0) 0,
           member-from (getD (readBy b k) (a .0) 0) (readBy b k) (a .0) (a .1) refl,
@@ -96,26 +100,26 @@ module _ (ws : List ℕ) (n m gates l : ℕ) (whole : GatesReady ws n m gates) (
 
     -- and a gate without a leader that reads such a one joins
     reads-joins : (leaders : List ℕ) (k j : ℕ) → k < m → getD leaders k 0 ≡ noLeader → reads b k j ≡ true → getD leaders j 0 ≡ l
-        → joins ws n m gates l leaders k ≡ true
+        → joins ws nodes l leaders k ≡ true
     unfolding joins ledBy reads
     reads-joins leaders k j kl free d e =
         let a = member-at j (readBy b k) d in
         let t : ledBy leaders l (getD (readBy b k) (a .0) 0) ≡ true = rw (a .2) (eq-eqb (getD leaders j 0) l e) in
-        and-intro (eqb (getD leaders k 0) noLeader) (any (ledBy leaders l) (gateReads ws n m gates k)) (eq-eqb (getD leaders k 0) noLeader free)
+        and-intro (eqb (getD leaders k 0) noLeader) (any (ledBy leaders l) (gateReads ws nodes k)) (eq-eqb (getD leaders k 0) noLeader free)
         (rw (whole .operands k kl) (any-from (ledBy leaders l) (readBy b k) (a .0) 0 (a .1) t))
 
     -- gate l keeps itself for its leader
-    joined-start : {leaders : List ℕ} → Joined ws n m gates l queue count entry₁ leaders → getD leaders l 0 ≡ l
+    joined-start : {leaders : List ℕ} → Joined ws nodes l queue count entry₁ leaders → getD leaders l 0 ≡ l
     joined-start none = at-l
     joined-start (more {leaders = before} s q lt h) = getD-set-other before (getD queue q 0) l l 0 (other (joined-start s)) ∙ joined-start s
       where
         other : getD before l 0 ≡ l → l ≡ getD queue q 0 → ⊥
         other ih e =
-            let f : getD before l 0 ≡ noLeader = rw (← e) at (joins-free ws n m gates l before (getD queue q 0) h) in let g : l ≡ noLeader = sym ih ∙ f in
+            let f : getD before l 0 ≡ noLeader = rw (← e) at (joins-free ws nodes l before (getD queue q 0) h) in let g : l ≡ noLeader = sym ih ∙ f in
             omega (arith, small)
 
     -- a gate keeps what it had, or is of the group and has gate l
-    joined-sound : {leaders : List ℕ} → Joined ws n m gates l queue count entry₁ leaders → (k : ℕ) → k < m
+    joined-sound : {leaders : List ℕ} → Joined ws nodes l queue count entry₁ leaders → (k : ℕ) → k < m
         → (getD leaders k 0 ≡ getD entry k 0) ⊎ ((getD leaders k 0 ≡ l) × (sameGroup b l k ≡ true))
     unfolding sameGroup
     joined-sound none k kl =
@@ -141,12 +145,12 @@ module _ (ws : List ℕ) (n m gates l : ℕ) (whole : GatesReady ws n m gates) (
         here : ((j : ℕ) → j < m → (getD before j 0 ≡ getD entry j 0) ⊎ ((getD before j 0 ≡ l) × (sameGroup b l j ≡ true))) → k ≡ getD queue q 0
             → (getD (set before (getD queue q 0) l) k 0 ≡ getD entry k 0) ⊎ ((getD (set before (getD queue q 0) l) k 0 ≡ l) × (sameGroup b l k ≡ true))
         here ih e =
-            let room : getD queue q 0 < length before = rw (joined-length ws n m gates l queue count s, length-set) (omega (arith, at .0, ready .room)) in
+            let room : getD queue q 0 < length before = rw (joined-length ws nodes l queue count s, length-set) (omega (arith, at .0, ready .room)) in
             inr (rw e (getD-set-same before (getD queue q 0) l 0 room, group ih))
 
     -- ---- and at last all of it has joined
 
-    joined-complete : {leaders : List ℕ} → Joined ws n m gates l queue count entry₁ leaders → Quiet ws n m gates l queue count leaders → (k : ℕ)
+    joined-complete : {leaders : List ℕ} → Joined ws nodes l queue count entry₁ leaders → Quiet ws nodes l queue count leaders → (k : ℕ)
         → sameGroup b l k ≡ true → OperandPath b k l → getD leaders k 0 ≡ l
     unfolding sameGroup
     joined-complete s quiet k g stay = joined-start s
@@ -168,10 +172,10 @@ module _ (ws : List ℕ) (n m gates l : ℕ) (whole : GatesReady ws n m gates) (
         still : (sameGroup b l j ≡ true → getD leaders j 0 ≡ l) → getD leaders k 0 ≡ getD entry k 0 → ⊥
         still ih e =
             let q = group-queued k g in
-            let no : joins ws n m gates l leaders k ≡ false = rw (q .2) at (quiet (q .0) (q .1)) in
+            let no : joins ws nodes l leaders k ≡ false = rw (q .2) at (quiet (q .0) (q .1)) in
             not-both (reads-joins leaders k j kl (e ∙ group-free k g) d (ih gj)) no
 
-    found-at : {leaders : List ℕ} → Joined ws n m gates l queue count entry₁ leaders → Quiet ws n m gates l queue count leaders → (k : ℕ) → k < m
+    found-at : {leaders : List ℕ} → Joined ws nodes l queue count entry₁ leaders → Quiet ws nodes l queue count leaders → (k : ℕ) → k < m
         → getD leaders k 0 ≡ givenBy b l entry k
     unfolding sameGroup givenBy
     found-at {leaders} s quiet k kl = rw (eq-eqb (getD entry l 0) noLeader free) (⊎-elim inside outside (bool-cases (sameGroup b l k)))
@@ -183,10 +187,10 @@ module _ (ws : List ℕ) (n m gates l : ℕ) (whole : GatesReady ws n m gates) (
         outside g = rw g (⊎-elim (λ e. e) (λ e. not-both (e .1) g) (joined-sound s k kl))
 
     -- the group has its leader
-    pub group-found : {leaders : List ℕ} → Spread ws n m gates l queue count entry₁ leaders → GroupLed b m l entry leaders
+    pub group-found : {leaders : List ℕ} → Spread ws nodes l queue count entry₁ leaders → GroupLed b m l entry leaders
     group-found s =
         record {
-          sameLength = joined-length ws n m gates l queue count (s .steps) ∙ length-set entry l l;
+          sameLength = joined-length ws nodes l queue count (s .steps) ∙ length-set entry l l;
           first = found-at (s .steps) (s .quiet);
         }
 
@@ -216,10 +220,10 @@ start-ready leaders flags entry m l e lt free =
     bit false = inr refl
 
 -- a search needs only the lengths of its flags and its queue
-pub still-room : {ws : List ℕ} {n m gates : ℕ} {flags queue flags′ queue′ : List ℕ} → SearchReady ws n m gates flags queue → length flags′ ≡ length flags
-    → length queue′ ≡ length queue → SearchReady ws n m gates flags′ queue′
+pub still-room : {ws : List ℕ} {nodes : Nodes} {flags queue flags′ queue′ : List ℕ} → SearchReady ws nodes flags queue → length flags′ ≡ length flags
+    → length queue′ ≡ length queue → SearchReady ws nodes flags′ queue′
 still-room s e f = record { whole = s .whole; flagRoom = rw e (s .flagRoom); queueRoom = rw f (s .queueRoom) }
 
-pub queue-ready : {ws : List ℕ} {n m gates l count : ℕ} {leaders barred queue : List ℕ} → GatesReady ws n m gates → TurnReady ws m l leaders
-    → Reached (decode ws) m l barred queue count → QueueReady ws n m gates l queue count (set leaders l l)
+pub queue-ready : {ws : List ℕ} {nodes : Nodes} {l count : ℕ} {leaders barred queue : List ℕ} → GatesReady ws nodes → TurnReady ws (nodes .gates) l leaders
+    → Reached (decode ws) (nodes .gates) l barred queue count → QueueReady ws nodes l queue count (set leaders l l)
 queue-ready w a r = record { whole = w; below = a .below; room = rw length-set (a .room); queued = λ q lt. r .sound q lt .0 }

@@ -7,6 +7,7 @@ use mathlib.Core.List.{List}
 use lib.ListN.{length, getD, set}
 use lib.Dec.{eqb}
 use Rattle.laws.specs.Lists.{any, countBelow, least}
+use Rattle.layout.specs.declared.nodes.Nodes.{Nodes}
 use Rattle.netlist.specs.Limits.{maxGates}
 use Rattle.netlist.specs.Netlist.{Block, gateCount}
 use Rattle.netlist.specs.StoredBlock.{decode}
@@ -29,50 +30,50 @@ unfoldable pub ledBy : List ℕ → ℕ → ℕ → Bool
 ledBy leaders leader k = eqb (getD leaders k 0) leader
 
 -- gate k has no leader, and reads a gate that `leader` leads
-unfoldable pub joins : List ℕ → ℕ → ℕ → ℕ → ℕ → List ℕ → ℕ → Bool
-joins ws n m gates leader leaders k = eqb (getD leaders k 0) noLeader && any (ledBy leaders leader) (gateReads ws n m gates k)
+unfoldable pub joins : List ℕ → Nodes → ℕ → List ℕ → ℕ → Bool
+joins ws nodes leader leaders k = eqb (getD leaders k 0) noLeader && any (ledBy leaders leader) (gateReads ws nodes k)
 
 -- what `lead_gate` does
-pub record LedOne (ws : List ℕ) (n m gates leader k : ℕ) (leaders leaders′ : List ℕ) (did : Bool) : Type 0 where
-  pub answer : did ≡ joins ws n m gates leader leaders k
+pub record LedOne (ws : List ℕ) (nodes : Nodes) (leader k : ℕ) (leaders leaders′ : List ℕ) (did : Bool) : Type 0 where
+  pub answer : did ≡ joins ws nodes leader leaders k
   pub leaves : leaders′ ≡ cond did (set leaders k leader) leaders
 
 -- queued gates that join `leader`, one after the other, in any order
-pub data Joined (ws : List ℕ) (n m gates leader : ℕ) (queue : List ℕ) (count : ℕ) (entry : List ℕ) : List ℕ → Type 0 where
-  none : Joined ws n m gates leader queue count entry entry
-  more : {leaders : List ℕ} → Joined ws n m gates leader queue count entry leaders → (q : ℕ) → q < count
-      → joins ws n m gates leader leaders (getD queue q 0) ≡ true → Joined ws n m gates leader queue count entry (set leaders (getD queue q 0) leader)
+pub data Joined (ws : List ℕ) (nodes : Nodes) (leader : ℕ) (queue : List ℕ) (count : ℕ) (entry : List ℕ) : List ℕ → Type 0 where
+  none : Joined ws nodes leader queue count entry entry
+  more : {leaders : List ℕ} → Joined ws nodes leader queue count entry leaders → (q : ℕ) → q < count
+      → joins ws nodes leader leaders (getD queue q 0) ≡ true → Joined ws nodes leader queue count entry (set leaders (getD queue q 0) leader)
 
 -- how many gates have no leader
 unfoldable pub unled : List ℕ → ℕ → ℕ
 unled leaders m = countBelow (λ k. eqb (getD leaders k 0) noLeader) m
 
 -- no queued gate joins
-abbrev pub Quiet : List ℕ → ℕ → ℕ → ℕ → ℕ → List ℕ → ℕ → List ℕ → Type 0
-Quiet ws n m gates leader queue count leaders = (q : ℕ) → q < count → joins ws n m gates leader leaders (getD queue q 0) ≡ false
+abbrev pub Quiet : List ℕ → Nodes → ℕ → List ℕ → ℕ → List ℕ → Type 0
+Quiet ws nodes leader queue count leaders = (q : ℕ) → q < count → joins ws nodes leader leaders (getD queue q 0) ≡ false
 
 -- what `lead_once` does
-pub record Swept (ws : List ℕ) (n m gates leader : ℕ) (queue : List ℕ) (count : ℕ) (leaders leaders′ : List ℕ) (changed : Bool) : Type 0 where
-  pub steps : Joined ws n m gates leader queue count leaders leaders′
-  pub quiet : changed ≡ false → (leaders′ ≡ leaders) × Quiet ws n m gates leader queue count leaders
-  pub fewer : changed ≡ true → unled leaders′ m < unled leaders m
+pub record Swept (ws : List ℕ) (nodes : Nodes) (leader : ℕ) (queue : List ℕ) (count : ℕ) (leaders leaders′ : List ℕ) (changed : Bool) : Type 0 where
+  pub steps : Joined ws nodes leader queue count leaders leaders′
+  pub quiet : changed ≡ false → (leaders′ ≡ leaders) × Quiet ws nodes leader queue count leaders
+  pub fewer : changed ≡ true → unled leaders′ (nodes .gates) < unled leaders (nodes .gates)
 
 -- what `lead_queued` does
-pub record Spread (ws : List ℕ) (n m gates leader : ℕ) (queue : List ℕ) (count : ℕ) (leaders leaders′ : List ℕ) : Type 0 where
-  pub steps : Joined ws n m gates leader queue count leaders leaders′
-  pub quiet : Quiet ws n m gates leader queue count leaders′
+pub record Spread (ws : List ℕ) (nodes : Nodes) (leader : ℕ) (queue : List ℕ) (count : ℕ) (leaders leaders′ : List ℕ) : Type 0 where
+  pub steps : Joined ws nodes leader queue count leaders leaders′
+  pub quiet : Quiet ws nodes leader queue count leaders′
 
 -- what both need
-pub record QueueReady (ws : List ℕ) (n m gates leader : ℕ) (queue : List ℕ) (count : ℕ) (leaders : List ℕ) : Type 0 where
-  pub whole : GatesReady ws n m gates
-  pub below : leader < m
-  pub room : m ≤ length leaders
-  pub queued : (q : ℕ) → q < count → getD queue q 0 < m
+pub record QueueReady (ws : List ℕ) (nodes : Nodes) (leader : ℕ) (queue : List ℕ) (count : ℕ) (leaders : List ℕ) : Type 0 where
+  pub whole : GatesReady ws nodes
+  pub below : leader < nodes .gates
+  pub room : nodes .gates ≤ length leaders
+  pub queued : (q : ℕ) → q < count → getD queue q 0 < nodes .gates
 
--- a whole block's words, n and m, and room for a search
-pub record LeadReady (ws : List ℕ) (n m gates : ℕ) (flags queue : List ℕ) : Type 0 where
-  pub search : SearchReady ws n m gates flags queue
-  pub gatesAre : m ≡ gateCount (decode ws)
+-- a whole block's words, its nodes, and room for a search
+pub record LeadReady (ws : List ℕ) (nodes : Nodes) (flags queue : List ℕ) : Type 0 where
+  pub search : SearchReady ws nodes flags queue
+  pub gatesAre : nodes .gates ≡ gateCount (decode ws)
 
 -- gates of one group have the same leader, or all none; a leader is one of its group
 pub record Grouped (b : Block) (m : ℕ) (leaders : List ℕ) : Type 0 where

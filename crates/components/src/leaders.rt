@@ -5,6 +5,7 @@ use condensation::condense;
 use layout::fill::fill_words;
 use layout::limits::MAX_GATES;
 use layout::nodes::NONE;
+use layout::nodes::Nodes;
 use layout::read::word_at;
 ghost use mathlib.Core.Path.{_≡_};
 ghost use Prim.Native.Nat.{_≤_, _<_};
@@ -51,56 +52,38 @@ fn lower(m: usize, leaders: &[u16], lowest: &mut [u16], firsts: &mut [u16])
 }
 
 // Every group has one of its gates for its leader: in linear time, if the answer is certified.
-fn lead_any(
-    words: &[u16],
-    n: usize,
-    m: usize,
-    gates: usize,
-    leaders: &mut [u16],
-    flags: &mut [u8],
-    queue: &mut [u16],
-)
-    requires { ⌜ (m ≤ length (now leaders)) × LeadReady (now words) n m gates (now flags) (now queue) ⌝ }
-    ensures { λ r. ⌜ AllLed (decode (now (words .entry))) m (now (leaders .exit)) ⌝ }
+fn lead_any(words: &[u16], nodes: Nodes, leaders: &mut [u16], flags: &mut [u8], queue: &mut [u16])
+    requires { ⌜ (nodes .gates ≤ length (now leaders)) × LeadReady (now words) nodes (now flags) (now queue) ⌝ }
+    ensures { λ r. ⌜ AllLed (decode (now (words .entry))) (nodes .gates) (now (leaders .exit)) ⌝ }
 {
-    forget(m, leaders);
-    if condense(words, n, m, gates, leaders, queue) {
+    forget(nodes.gates, leaders);
+    if condense(words, nodes, leaders, queue) {
         return;
     }
-    lead_groups(words, n, m, gates, leaders, flags, queue);
+    lead_groups(words, nodes, leaders, flags, queue);
 }
 
 // With an array for the leaders that are found first.
 fn lead_with(
     words: &[u16],
-    n: usize,
-    m: usize,
-    gates: usize,
+    nodes: Nodes,
     leaders: &mut [u16],
     flags: &mut [u8],
     queue: &mut [u16],
     found: &mut [u16],
 )
-    requires { ⌜ (m ≤ length (now leaders)) × (m ≤ length (now found)) × LeadReady (now words) n m gates (now flags) (now queue) ⌝ }
-    ensures { λ r. ⌜ now (leaders .exit) ≡ placed (tab (leaderOf (decode (now (words .entry)))) m) (now (leaders .entry)) ⌝ }
+    requires { ⌜ (nodes .gates ≤ length (now leaders)) × (nodes .gates ≤ length (now found)) × LeadReady (now words) nodes (now flags) (now queue) ⌝ }
+    ensures { λ r. ⌜ now (leaders .exit) ≡ placed (tab (leaderOf (decode (now (words .entry)))) (nodes .gates)) (now (leaders .entry)) ⌝ }
 {
-    lead_any(words, n, m, gates, found, flags, queue);
-    lower(m, found, leaders, queue);
+    lead_any(words, nodes, found, flags, queue);
+    lower(nodes.gates, found, leaders, queue);
 }
 
 // The lowest gate of each gate's group.
-pub fn lead(
-    words: &[u16],
-    n: usize,
-    m: usize,
-    gates: usize,
-    leaders: &mut [u16],
-    flags: &mut [u8],
-    queue: &mut [u16],
-)
-    requires { ⌜ (m ≤ length (now leaders)) × LeadReady (now words) n m gates (now flags) (now queue) ⌝ }
-    ensures { λ r. ⌜ now (leaders .exit) ≡ placed (tab (leaderOf (decode (now (words .entry)))) m) (now (leaders .entry)) ⌝ }
+pub fn lead(words: &[u16], nodes: Nodes, leaders: &mut [u16], flags: &mut [u8], queue: &mut [u16])
+    requires { ⌜ (nodes .gates ≤ length (now leaders)) × LeadReady (now words) nodes (now flags) (now queue) ⌝ }
+    ensures { λ r. ⌜ now (leaders .exit) ≡ placed (tab (leaderOf (decode (now (words .entry)))) (nodes .gates)) (now (leaders .entry)) ⌝ }
 {
     let mut found = [0u16; MAX_GATES];
-    lead_with(words, n, m, gates, leaders, flags, queue, &mut found);
+    lead_with(words, nodes, leaders, flags, queue, &mut found);
 }

@@ -2,6 +2,7 @@
 // no gate that has a leader, and that reach it back.
 use crate::leaders::forget;
 use layout::nodes::NONE;
+use layout::nodes::Nodes;
 use layout::nodes::gate_named;
 use layout::offsets::GATE_SIZE;
 use layout::read::word_at;
@@ -28,26 +29,29 @@ fn bar(m: usize, leaders: &[u16], flags: &mut [u8])
 }
 
 // The operand word names a gate that `leader` leads.
-fn is_led(w: usize, n: usize, m: usize, leaders: &[u16], leader: usize) -> bool
-    requires { ⌜ (n ≤ 65535) × (m ≤ maxGates) ⌝ }
-    ensures { λ r. ⌜ r ≡ any (ledBy (now (leaders .entry)) leader) (wordGate n m w) ⌝ }
+fn is_led(w: usize, nodes: Nodes, leaders: &[u16], leader: usize) -> bool
+    requires { ⌜ (nodes .inputs ≤ 65535) × (nodes .gates ≤ maxGates) ⌝ }
+    ensures { λ r. ⌜ r ≡ any (ledBy (now (leaders .entry)) leader) (wordGate (nodes .inputs) (nodes .gates) w) ⌝ }
 {
-    let k = gate_named(w, n, m);
-    if m <= k {
+    let k = gate_named(w, nodes.inputs, nodes.gates);
+    if nodes.gates <= k {
         return false;
     }
     word_at(leaders, k) == leader
 }
 
 // The gate at `at` reads such a gate.
-fn reads_led(words: &[u16], n: usize, m: usize, at: usize, leaders: &[u16], leader: usize) -> bool
-    requires { ⌜ (at ≤ 65535) × (n ≤ 65535) × (m ≤ maxGates) ⌝ }
-    ensures { λ r. ⌜ r ≡ any (ledBy (now (leaders .entry)) leader) (wordGates (now (words .entry)) n m at (getD (now (words .entry)) at 0 / 8)) ⌝ }
+fn reads_led(words: &[u16], nodes: Nodes, at: usize, leaders: &[u16], leader: usize) -> bool
+    requires { ⌜ (at ≤ 65535) × (nodes .inputs ≤ 65535) × (nodes .gates ≤ maxGates) ⌝ }
+    ensures { λ r. ⌜
+        r ≡ any (ledBy (now (leaders .entry)) leader)
+        (wordGates (now (words .entry)) (nodes .inputs) (nodes .gates) at (getD (now (words .entry)) at 0 / 8))
+        ⌝ }
 {
     let count = word_at(words, at) / 8;
     let mut i = 0;
     while i < count {
-        if is_led(word_at(words, at + 1 + i), n, m, leaders, leader) {
+        if is_led(word_at(words, at + 1 + i), nodes, leaders, leader) {
             return true;
         }
         i += 1;
@@ -56,22 +60,14 @@ fn reads_led(words: &[u16], n: usize, m: usize, at: usize, leaders: &[u16], lead
 }
 
 // Gate k, if it has no leader and reads a gate that `leader` leads, gets that leader; whether it did.
-fn lead_gate(
-    words: &[u16],
-    n: usize,
-    m: usize,
-    gates: usize,
-    leader: usize,
-    k: usize,
-    leaders: &mut [u16],
-) -> bool
-    requires { ⌜ (k < m) × (leader < m) × (m ≤ length (now leaders)) × GatesReady (now words) n m gates ⌝ }
-    ensures { λ r. ⌜ LedOne (now (words .entry)) n m gates leader k (now (leaders .entry)) (now (leaders .exit)) r ⌝ }
+fn lead_gate(words: &[u16], nodes: Nodes, leader: usize, k: usize, leaders: &mut [u16]) -> bool
+    requires { ⌜ (k < nodes .gates) × (leader < nodes .gates) × (nodes .gates ≤ length (now leaders)) × GatesReady (now words) nodes ⌝ }
+    ensures { λ r. ⌜ LedOne (now (words .entry)) nodes leader k (now (leaders .entry)) (now (leaders .exit)) r ⌝ }
 {
     if word_at(leaders, k) != NONE {
         return false;
     }
-    if !reads_led(words, n, m, gates + GATE_SIZE * k, leaders, leader) {
+    if !reads_led(words, nodes, nodes.start + GATE_SIZE * k, leaders, leader) {
         return false;
     }
     leaders[k] = leader as u16;
@@ -81,22 +77,20 @@ fn lead_gate(
 // The same for each queued gate, the last first; whether any got the leader.
 fn lead_once(
     words: &[u16],
-    n: usize,
-    m: usize,
-    gates: usize,
+    nodes: Nodes,
     leader: usize,
     queue: &[u16],
     count: usize,
     leaders: &mut [u16],
 ) -> bool
-    requires { ⌜ QueueReady (now words) n m gates leader (now queue) count (now leaders) ⌝ }
-    ensures { λ r. ⌜ Swept (now (words .entry)) n m gates leader (now (queue .entry)) count (now (leaders .entry)) (now (leaders .exit)) r ⌝ }
+    requires { ⌜ QueueReady (now words) nodes leader (now queue) count (now leaders) ⌝ }
+    ensures { λ r. ⌜ Swept (now (words .entry)) nodes leader (now (queue .entry)) count (now (leaders .entry)) (now (leaders .exit)) r ⌝ }
 {
     let mut changed = false;
     let mut left = count;
     while 0 < left {
         left -= 1;
-        if lead_gate(words, n, m, gates, leader, word_at(queue, left), leaders) {
+        if lead_gate(words, nodes, leader, word_at(queue, left), leaders) {
             changed = true;
         }
     }
@@ -106,63 +100,57 @@ fn lead_once(
 // The same until no queued gate gets the leader any more.
 fn lead_queued(
     words: &[u16],
-    n: usize,
-    m: usize,
-    gates: usize,
+    nodes: Nodes,
     leader: usize,
     queue: &[u16],
     count: usize,
     leaders: &mut [u16],
 )
-    requires { ⌜ QueueReady (now words) n m gates leader (now queue) count (now leaders) ⌝ }
-    ensures { λ r. ⌜ Spread (now (words .entry)) n m gates leader (now (queue .entry)) count (now (leaders .entry)) (now (leaders .exit)) ⌝ }
+    requires { ⌜ QueueReady (now words) nodes leader (now queue) count (now leaders) ⌝ }
+    ensures { λ r. ⌜ Spread (now (words .entry)) nodes leader (now (queue .entry)) count (now (leaders .entry)) (now (leaders .exit)) ⌝ }
 {
     let mut changed = true;
     while changed {
-        changed = lead_once(words, n, m, gates, leader, queue, count, leaders);
+        changed = lead_once(words, nodes, leader, queue, count, leaders);
     }
 }
 
 // If gate `leader` has no leader, its group gets it.
 fn lead_group(
     words: &[u16],
-    n: usize,
-    m: usize,
-    gates: usize,
+    nodes: Nodes,
     leader: usize,
     leaders: &mut [u16],
     flags: &mut [u8],
     queue: &mut [u16],
 )
-    requires { ⌜ TurnReady (now words) m leader (now leaders) × LeadReady (now words) n m gates (now flags) (now queue) ⌝ }
-    ensures { λ r. ⌜ GroupLed (decode (now (words .entry))) m leader (now (leaders .entry)) (now (leaders .exit)) ⌝ }
+    requires { ⌜ TurnReady (now words) (nodes .gates) leader (now leaders) × LeadReady (now words) nodes (now flags) (now queue) ⌝ }
+    ensures { λ r. ⌜ GroupLed (decode (now (words .entry))) (nodes .gates) leader (now (leaders .entry)) (now (leaders .exit)) ⌝ }
 {
     if word_at(leaders, leader) != NONE {
         return;
     }
-    bar(m, leaders, flags);
-    let count = queue_reach(words, n, m, gates, leader, flags, queue);
+    bar(nodes.gates, leaders, flags);
+    let count = queue_reach(words, nodes, leader, flags, queue);
     leaders[leader] = leader as u16;
-    lead_queued(words, n, m, gates, leader, queue, count, leaders);
+    lead_queued(words, nodes, leader, queue, count, leaders);
 }
 
 // Every group has one of its gates for its leader.
 pub fn lead_groups(
     words: &[u16],
-    n: usize,
-    m: usize,
-    gates: usize,
+    nodes: Nodes,
     leaders: &mut [u16],
     flags: &mut [u8],
     queue: &mut [u16],
 )
-    requires { ⌜ (m ≤ length (now leaders)) × LeadReady (now words) n m gates (now flags) (now queue) ⌝ }
-    ensures { λ r. ⌜ AllLed (decode (now (words .entry))) m (now (leaders .exit)) ⌝ }
+    requires { ⌜ (nodes .gates ≤ length (now leaders)) × LeadReady (now words) nodes (now flags) (now queue) ⌝ }
+    ensures { λ r. ⌜ AllLed (decode (now (words .entry))) (nodes .gates) (now (leaders .exit)) ⌝ }
 {
-    forget(m, leaders);
+    forget(nodes.gates, leaders);
     let mut k = 0;
-    while k < m {
-        lead_group(words, n, m, gates, k, leaders, flags, queue);
+    while k < nodes.gates {
+        lead_group(words, nodes, k, leaders, flags, queue);
         k += 1;
     }
 }

@@ -11,6 +11,7 @@ use borrow.Author.Tests.{eqb-true, eq-eqb, ne-eqb, leb-false}
 use Rattle.laws.specs.Lists.{any}
 use Rattle.laws.proofs.Tests.{bool-cases, not-both}
 use Rattle.laws.proofs.Quantifiers.{member-at, any-from}
+use Rattle.layout.specs.declared.nodes.Nodes.{Nodes}
 use Rattle.layout.specs.Nodes.{gateNamed}
 use Rattle.netlist.specs.StoredBlock.{decode}
 use Rattle.netlist.specs.Groups.{reads, readBy}
@@ -19,19 +20,19 @@ use Rattle.search.proofs.Searching.{gate-words}
 use Rattle.search.proofs.Operands.{one-gate, found-one}
 use Rattle.condensation.specs.Condensed.{finishedAt, outOfOrder}
 
-module _ {ws : List ℕ} {n m gates : ℕ} (g : GatesReady ws n m gates) (k : ℕ) (l : k < m) where
+module _ {ws : List ℕ} {nodes : Nodes} (g : GatesReady ws nodes) (k : ℕ) (l : k < nodes .gates) where
   -- the gate r that the word w in a slot names
-  pub named-read : (slot w r : ℕ) → slot < getD ws (gates + 5 * k) 0 / 8 → w ≡ getD ws (gates + 5 * k + 1 + slot) 0 → r ≡ gateNamed n m w → r < m
-      → reads (decode ws) k r ≡ true
+  pub named-read : (slot w r : ℕ) → slot < getD ws (nodes .start + 5 * k) 0 / 8 → w ≡ getD ws (nodes .start + 5 * k + 1 + slot) 0
+      → r ≡ gateNamed (nodes .inputs) (nodes .gates) w → r < nodes .gates → reads (decode ws) k r ≡ true
   unfolding reads
   named-read slot w r few is names small =
       rw (← gate-words g k l)
-      (found-one (eqb r) n m ws (gates + 5 * k) slot (getD ws (gates + 5 * k) 0 / 8) few
-      (rw (← is) (sym (one-gate (eqb r) n m w names small) ∙ eq-eqb r r refl)))
+      (found-one (eqb r) (nodes .inputs) (nodes .gates) ws (nodes .start + 5 * k) slot (getD ws (nodes .start + 5 * k) 0 / 8) few
+      (rw (← is) (sym (one-gate (eqb r) (nodes .inputs) (nodes .gates) w names small) ∙ eq-eqb r r refl)))
 
   pub in-order : (leaders notes : List ℕ) (leader : ℕ) {r : Bool}
-      → r ≡ any (outOfOrder leaders notes leader) (wordGates ws n m (gates + 5 * k) (getD ws (gates + 5 * k) 0 / 8)) → r ≡ false → (j : ℕ)
-      → reads (decode ws) k j ≡ true → (getD leaders j 0 ≡ leader) ⊎ (finishedAt notes (getD leaders j 0) < finishedAt notes leader)
+      → r ≡ any (outOfOrder leaders notes leader) (wordGates ws (nodes .inputs) (nodes .gates) (nodes .start + 5 * k) (getD ws (nodes .start + 5 * k) 0 / 8))
+      → r ≡ false → (j : ℕ) → reads (decode ws) k j ≡ true → (getD leaders j 0 ≡ leader) ⊎ (finishedAt notes (getD leaders j 0) < finishedAt notes leader)
   unfolding reads outOfOrder
   in-order leaders notes leader is none j h =
       let i = member-at j (readBy (decode ws) k) h in

@@ -8,6 +8,7 @@ use crate::notes::NOTE_SIZE;
 use crate::notes::SLOTS;
 use crate::notes::put;
 use layout::nodes::NONE;
+use layout::nodes::Nodes;
 use layout::nodes::gate_named;
 use layout::offsets::GATE_SIZE;
 use layout::read::word_at;
@@ -99,8 +100,9 @@ fn finish(
     top
 }
 
-// Where the search stands: at an operand, and how high the stack is.
+// Where the search stands: the clock's time, the operand that it is at, and how high the stack is.
 struct Standing {
+    time: usize,
     cursor: usize,
     top: usize,
 }
@@ -108,38 +110,45 @@ struct Standing {
 // One turn: takes the cursor's operand, or leaves the cursor's gate behind its last one.
 fn turn(
     words: &[u16],
-    n: usize,
-    m: usize,
-    gates: usize,
-    now: usize,
-    cursor: usize,
-    top: usize,
+    nodes: Nodes,
+    standing: Standing,
     leaders: &mut [u16],
     notes: &mut [u16],
     stack: &mut [u16],
 ) -> Standing
-    requires { ⌜ (n ≤ 65535) × (m ≤ maxGates) × (gates ≤ 1024) × (now ≤ clockEnd) × (cursor < 8 * m) × (top ≤ clockEnd) ⌝ }
-    ensures { λ r. ⌜ (r .cursor ≤ 65536) × (r .top ≤ top + 1) ⌝ }
+    requires { ⌜ (nodes .inputs ≤ 65535) × (nodes .gates ≤ maxGates) × (nodes .start ≤ 1024) ⌝ }
+    requires { ⌜ (standing .time < clockEnd) × (standing .cursor < 8 * nodes .gates) × (standing .top ≤ clockEnd) ⌝ }
+    ensures { λ r. ⌜ (r .time ≡ standing .time + 1) × (r .top ≤ standing .top + 1) ⌝ }
 {
+    let time = standing.time + 1;
+    let cursor = standing.cursor;
+    let top = standing.top;
     let k = cursor / SLOTS;
-    let at = gates + GATE_SIZE * k;
+    let at = nodes.start + GATE_SIZE * k;
     if word_at(words, at) / 8 <= cursor % SLOTS {
-        let rest = finish(k, now, top, leaders, notes, stack);
+        let rest = finish(k, time, top, leaders, notes, stack);
         return Standing {
+            time,
             cursor: word_at(notes, NOTE_SIZE * k + CALLER) + 1,
             top: rest,
         };
     }
-    let operand = gate_named(word_at(words, at + 1 + cursor % SLOTS), n, m);
-    if is_new(operand, m, notes) {
-        enter(operand, cursor, now, notes, top, stack);
+    let operand = gate_named(
+        word_at(words, at + 1 + cursor % SLOTS),
+        nodes.inputs,
+        nodes.gates,
+    );
+    if is_new(operand, nodes.gates, notes) {
+        enter(operand, cursor, time, notes, top, stack);
         return Standing {
+            time,
             cursor: SLOTS * operand,
             top: top + 1,
         };
     }
-    meet(operand, m, cursor, leaders, notes);
+    meet(operand, nodes.gates, cursor, leaders, notes);
     Standing {
+        time,
         cursor: cursor + 1,
         top,
     }
@@ -148,50 +157,46 @@ fn turn(
 // Searches from gate `root`, if it was not entered; the clock's time afterwards.
 fn explore(
     words: &[u16],
-    n: usize,
-    m: usize,
-    gates: usize,
+    nodes: Nodes,
     root: usize,
     time: usize,
     leaders: &mut [u16],
     notes: &mut [u16],
     stack: &mut [u16],
 ) -> usize
-    requires { ⌜ (root < m) × (time < clockEnd) × (n ≤ 65535) × (m ≤ maxGates) × (gates ≤ 1024) ⌝ }
+    requires { ⌜ (root < nodes .gates) × (time < clockEnd) × (nodes .inputs ≤ 65535) × (nodes .gates ≤ maxGates) × (nodes .start ≤ 1024) ⌝ }
     ensures { λ r. ⌜ r ≤ clockEnd ⌝ }
 {
-    if !is_new(root, m, notes) {
+    if !is_new(root, nodes.gates, notes) {
         return time;
     }
-    let mut now = time + 1;
+    let now = time + 1;
     enter(root, NONE, now, notes, 0, stack);
-    let mut top = 1;
-    let mut cursor = SLOTS * root;
-    while cursor < SLOTS * m && now < CLOCK {
-        now += 1;
-        let next = turn(words, n, m, gates, now, cursor, top, leaders, notes, stack);
-        cursor = next.cursor;
-        top = next.top;
+    let mut standing = Standing {
+        time: now,
+        cursor: SLOTS * root,
+        top: 1,
+    };
+    while standing.cursor < SLOTS * nodes.gates && standing.time < CLOCK {
+        standing = turn(words, nodes, standing, leaders, notes, stack);
     }
-    now
+    standing.time
 }
 
 // Searches from every gate.
 pub fn find_groups(
     words: &[u16],
-    n: usize,
-    m: usize,
-    gates: usize,
+    nodes: Nodes,
     leaders: &mut [u16],
     notes: &mut [u16],
     stack: &mut [u16],
 )
-    requires { ⌜ (n ≤ 65535) × (m ≤ maxGates) × (gates ≤ 1024) ⌝ }
+    requires { ⌜ (nodes .inputs ≤ 65535) × (nodes .gates ≤ maxGates) × (nodes .start ≤ 1024) ⌝ }
 {
     let mut time = 0;
     let mut root = 0;
-    while root < m && time < CLOCK {
-        time = explore(words, n, m, gates, root, time, leaders, notes, stack);
+    while root < nodes.gates && time < CLOCK {
+        time = explore(words, nodes, root, time, leaders, notes, stack);
         root += 1;
     }
 }

@@ -3,6 +3,7 @@
 use crate::links::is_linked;
 use crate::notes::FINISHED;
 use crate::notes::NOTE_SIZE;
+use layout::nodes::Nodes;
 use layout::nodes::gate_named;
 use layout::offsets::GATE_SIZE;
 use layout::read::word_at;
@@ -18,19 +19,12 @@ ghost use Rattle.search.specs.Search.{wordGate, wordGates, GatesReady};
 ghost use Rattle.condensation.specs.Condensed.{outOfOrder, Certified, Condensed};
 
 // The operand word names a gate that another gate leads, and that gate was not left before `leader`.
-fn is_out_of_order(
-    w: usize,
-    n: usize,
-    m: usize,
-    leaders: &[u16],
-    notes: &[u16],
-    leader: usize,
-) -> bool
-    requires { ⌜ (n ≤ 65535) × (m ≤ maxGates) × (leader < m) ⌝ }
-    ensures { λ r. ⌜ r ≡ any (outOfOrder (now (leaders .entry)) (now (notes .entry)) leader) (wordGate n m w) ⌝ }
+fn is_out_of_order(w: usize, nodes: Nodes, leaders: &[u16], notes: &[u16], leader: usize) -> bool
+    requires { ⌜ (nodes .inputs ≤ 65535) × (nodes .gates ≤ maxGates) × (leader < nodes .gates) ⌝ }
+    ensures { λ r. ⌜ r ≡ any (outOfOrder (now (leaders .entry)) (now (notes .entry)) leader) (wordGate (nodes .inputs) (nodes .gates) w) ⌝ }
 {
-    let k = gate_named(w, n, m);
-    if m <= k {
+    let k = gate_named(w, nodes.inputs, nodes.gates);
+    if nodes.gates <= k {
         return false;
     }
     let other = word_at(leaders, k);
@@ -43,22 +37,22 @@ fn is_out_of_order(
 // The gate at `at` reads such a gate.
 fn reads_out_of_order(
     words: &[u16],
-    n: usize,
-    m: usize,
+    nodes: Nodes,
     at: usize,
     leaders: &[u16],
     notes: &[u16],
     leader: usize,
 ) -> bool
-    requires { ⌜ (at ≤ 65535) × (n ≤ 65535) × (m ≤ maxGates) × (leader < m) ⌝ }
+    requires { ⌜ (at ≤ 65535) × (nodes .inputs ≤ 65535) × (nodes .gates ≤ maxGates) × (leader < nodes .gates) ⌝ }
     ensures { λ r. ⌜
-        r ≡ any (outOfOrder (now (leaders .entry)) (now (notes .entry)) leader) (wordGates (now (words .entry)) n m at (getD (now (words .entry)) at 0 / 8))
+        r ≡ any (outOfOrder (now (leaders .entry)) (now (notes .entry)) leader)
+        (wordGates (now (words .entry)) (nodes .inputs) (nodes .gates) at (getD (now (words .entry)) at 0 / 8))
         ⌝ }
 {
     let count = word_at(words, at) / 8;
     let mut i = 0;
     while i < count {
-        if is_out_of_order(word_at(words, at + 1 + i), n, m, leaders, notes, leader) {
+        if is_out_of_order(word_at(words, at + 1 + i), nodes, leaders, notes, leader) {
             return true;
         }
         i += 1;
@@ -67,43 +61,35 @@ fn reads_out_of_order(
 }
 
 // Gate k's part of the certificate.
-fn passes(
-    words: &[u16],
-    n: usize,
-    m: usize,
-    gates: usize,
-    k: usize,
-    leaders: &[u16],
-    notes: &[u16],
-) -> bool
-    requires { ⌜ (k < m) × GatesReady (now words) n m gates ⌝ }
-    ensures { λ r. ⌜ (r ≡ true → Certified (decode (now (words .entry))) m (now (leaders .entry)) (now (notes .entry)) k) ⌝ }
+fn passes(words: &[u16], nodes: Nodes, k: usize, leaders: &[u16], notes: &[u16]) -> bool
+    requires { ⌜ (k < nodes .gates) × GatesReady (now words) nodes ⌝ }
+    ensures { λ r. ⌜ (r ≡ true → Certified (decode (now (words .entry))) (nodes .gates) (now (leaders .entry)) (now (notes .entry)) k) ⌝ }
 {
     let leader = word_at(leaders, k);
-    if m <= leader {
+    if nodes.gates <= leader {
         return false;
     }
-    if reads_out_of_order(words, n, m, gates + GATE_SIZE * k, leaders, notes, leader) {
+    if reads_out_of_order(
+        words,
+        nodes,
+        nodes.start + GATE_SIZE * k,
+        leaders,
+        notes,
+        leader,
+    ) {
         return false;
     }
-    is_linked(words, n, m, gates, k, leaders, notes)
+    is_linked(words, nodes, k, leaders, notes)
 }
 
 // Every gate's part holds, so that the leaders are those of the groups.
-pub fn is_certified(
-    words: &[u16],
-    n: usize,
-    m: usize,
-    gates: usize,
-    leaders: &[u16],
-    notes: &[u16],
-) -> bool
-    requires { ⌜ GatesReady (now words) n m gates × (m ≡ gateCount (decode (now words))) ⌝ }
-    ensures { λ r. ⌜ (r ≡ true → Condensed (decode (now (words .entry))) m (now (leaders .entry))) ⌝ }
+pub fn is_certified(words: &[u16], nodes: Nodes, leaders: &[u16], notes: &[u16]) -> bool
+    requires { ⌜ GatesReady (now words) nodes × (nodes .gates ≡ gateCount (decode (now words))) ⌝ }
+    ensures { λ r. ⌜ (r ≡ true → Condensed (decode (now (words .entry))) (nodes .gates) (now (leaders .entry))) ⌝ }
 {
     let mut k = 0;
-    while k < m {
-        if !passes(words, n, m, gates, k, leaders, notes) {
+    while k < nodes.gates {
+        if !passes(words, nodes, k, leaders, notes) {
             return false;
         }
         k += 1;

@@ -7,6 +7,7 @@ use crate::notes::LOWEST;
 use crate::notes::NOTE_SIZE;
 use crate::notes::SLOTS;
 use crate::notes::WORD_VALUES;
+use layout::nodes::Nodes;
 use layout::nodes::gate_named;
 use layout::offsets::GATE_SIZE;
 use layout::read::word_at;
@@ -28,34 +29,26 @@ fn distance(k: usize, notes: &[u16]) -> usize
         + word_at(notes, NOTE_SIZE * k + FINISHED)
 }
 
-// The gate that an operand of gate k names, or m.
-fn operand_gate(words: &[u16], n: usize, m: usize, gates: usize, k: usize, slot: usize) -> usize
-    requires { ⌜ (k < m) × GatesReady (now words) n m gates ⌝ }
-    ensures { λ r. ⌜ (r < m → reads (decode (now (words .entry))) k r ≡ true) ⌝ }
+// The gate that an operand of gate k names, or the number of gates.
+fn operand_gate(words: &[u16], nodes: Nodes, k: usize, slot: usize) -> usize
+    requires { ⌜ (k < nodes .gates) × GatesReady (now words) nodes ⌝ }
+    ensures { λ r. ⌜ (r < nodes .gates → reads (decode (now (words .entry))) k r ≡ true) ⌝ }
 {
-    let at = gates + GATE_SIZE * k;
+    let at = nodes.start + GATE_SIZE * k;
     if word_at(words, at) / 8 <= slot {
-        return m;
+        return nodes.gates;
     }
-    gate_named(word_at(words, at + 1 + slot), n, m)
+    gate_named(word_at(words, at + 1 + slot), nodes.inputs, nodes.gates)
 }
 
 // Gate k is read by one of its group that was entered before.
-fn is_entered(
-    words: &[u16],
-    n: usize,
-    m: usize,
-    gates: usize,
-    k: usize,
-    leaders: &[u16],
-    notes: &[u16],
-) -> bool
-    requires { ⌜ (k < m) × GatesReady (now words) n m gates ⌝ }
-    ensures { λ r. ⌜ (r ≡ true → Entered (decode (now (words .entry))) m (now (leaders .entry)) (now (notes .entry)) k) ⌝ }
+fn is_entered(words: &[u16], nodes: Nodes, k: usize, leaders: &[u16], notes: &[u16]) -> bool
+    requires { ⌜ (k < nodes .gates) × GatesReady (now words) nodes ⌝ }
+    ensures { λ r. ⌜ (r ≡ true → Entered (decode (now (words .entry))) (nodes .gates) (now (leaders .entry)) (now (notes .entry)) k) ⌝ }
 {
     let caller = word_at(notes, NOTE_SIZE * k + CALLER);
     let from = caller / SLOTS;
-    if m <= from {
+    if nodes.gates <= from {
         return false;
     }
     if word_at(leaders, from) != word_at(leaders, k) {
@@ -64,25 +57,17 @@ fn is_entered(
     if word_at(notes, NOTE_SIZE * k + ENTERED) <= word_at(notes, NOTE_SIZE * from + ENTERED) {
         return false;
     }
-    operand_gate(words, n, m, gates, from, caller % SLOTS) == k
+    operand_gate(words, nodes, from, caller % SLOTS) == k
 }
 
 // Gate k reads one of its group that is nearer to the leader.
-fn is_leaving(
-    words: &[u16],
-    n: usize,
-    m: usize,
-    gates: usize,
-    k: usize,
-    leaders: &[u16],
-    notes: &[u16],
-) -> bool
-    requires { ⌜ (k < m) × GatesReady (now words) n m gates ⌝ }
-    ensures { λ r. ⌜ (r ≡ true → Leaving (decode (now (words .entry))) m (now (leaders .entry)) (now (notes .entry)) k) ⌝ }
+fn is_leaving(words: &[u16], nodes: Nodes, k: usize, leaders: &[u16], notes: &[u16]) -> bool
+    requires { ⌜ (k < nodes .gates) × GatesReady (now words) nodes ⌝ }
+    ensures { λ r. ⌜ (r ≡ true → Leaving (decode (now (words .entry))) (nodes .gates) (now (leaders .entry)) (now (notes .entry)) k) ⌝ }
 {
     let slot = word_at(notes, NOTE_SIZE * k + LOWEST) % SLOTS;
-    let to = operand_gate(words, n, m, gates, k, slot);
-    if m <= to {
+    let to = operand_gate(words, nodes, k, slot);
+    if nodes.gates <= to {
         return false;
     }
     if word_at(leaders, to) != word_at(leaders, k) {
@@ -92,23 +77,15 @@ fn is_leaving(
 }
 
 // Gate k leads itself, or both.
-pub fn is_linked(
-    words: &[u16],
-    n: usize,
-    m: usize,
-    gates: usize,
-    k: usize,
-    leaders: &[u16],
-    notes: &[u16],
-) -> bool
-    requires { ⌜ (k < m) × GatesReady (now words) n m gates ⌝ }
-    ensures { λ r. ⌜ (r ≡ true → Linked (decode (now (words .entry))) m (now (leaders .entry)) (now (notes .entry)) k) ⌝ }
+pub fn is_linked(words: &[u16], nodes: Nodes, k: usize, leaders: &[u16], notes: &[u16]) -> bool
+    requires { ⌜ (k < nodes .gates) × GatesReady (now words) nodes ⌝ }
+    ensures { λ r. ⌜ (r ≡ true → Linked (decode (now (words .entry))) (nodes .gates) (now (leaders .entry)) (now (notes .entry)) k) ⌝ }
 {
     if word_at(leaders, k) == k {
         return true;
     }
-    if !is_entered(words, n, m, gates, k, leaders, notes) {
+    if !is_entered(words, nodes, k, leaders, notes) {
         return false;
     }
-    is_leaving(words, n, m, gates, k, leaders, notes)
+    is_leaving(words, nodes, k, leaders, notes)
 }

@@ -1,9 +1,8 @@
 -- If the program writes a text, it is faithful: from Render's promise and the round trip of Write and Read. Assumes nothing.
-use mathlib.Core.Path.{_≡_, refl, sym, ap, _∙_}
+use mathlib.Core.Path.{_≡_, refl, ap, _∙_}
 use mathlib.Core.Bool.{Bool, true, false, not}
 use mathlib.Core.List.{List}
 use Prim.Native.Nat.{ℕ}
-use native.Mathlib.Omega.{arith}
 use lib.Dec.{ltb}
 use borrow.Author.Tests.{ltb-false}
 use Rattle.netlist.specs.declared.Refusal.the-variants.{MalformedBlock, TooManyCopies, NotSettled}

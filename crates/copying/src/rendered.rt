@@ -1,14 +1,18 @@
 // The rendering's words (SPECIFICATION 6): head, input names and never lines, a copy of each scheduled gate, outputs at last copies.
+use crate::entry::Entry;
 use crate::entry::copy_entry;
 use crate::entry::copy_words;
+use crate::entry::write_gate;
 use layout::fill::fill_words;
 use layout::nodes::CONSTANT_0;
+use layout::nodes::Nodes;
+use layout::nodes::nodes_of;
 use layout::offsets::GATE_SIZE;
 use layout::offsets::INPUTS_AT;
 use layout::offsets::NAME_SIZE;
 use layout::offsets::OUTPUT_SIZE;
-use layout::offsets::gates_at;
 use layout::offsets::nevers_of;
+use layout::offsets::outputs_of;
 ghost use mathlib.Core.Path.{_≡_};
 ghost use mathlib.Core.List.{[], _∷_};
 ghost use Prim.Native.Nat.{_+_, _*_, _≤_, _<_};
@@ -31,82 +35,63 @@ fn write_header(n: usize, total: usize, k: usize, l: usize, out: &mut [u16])
     out[3] = l as u16;
 }
 
-// Writes copy `t`, which is of gate `j`, and makes it the newest of its gate. The first gate's words stand at `gates`.
-fn copy_gate(
-    words: &[u16],
-    gates: usize,
-    n: usize,
-    m: usize,
-    j: usize,
-    t: usize,
-    newest: &mut [u16],
-    out: &mut [u16],
-)
-    requires { ⌜ (j < m) × GateRoom (now words) gates n m (t + 1) (now newest) (now out) ⌝ }
-    ensures { λ r. ⌜ now (out .exit) ≡ sets (now (out .entry)) (gates + 5 * t) (copyWords (now (words .entry)) gates n m j (now (newest .entry))) ⌝ }
-    ensures { λ r. ⌜ now (newest .exit) ≡ set (now (newest .entry)) j (n + t) ⌝ }
+// Writes copy `t`, which is of gate `j`, and makes it the newest of its gate.
+fn copy_gate(words: &[u16], nodes: Nodes, j: usize, t: usize, newest: &mut [u16], out: &mut [u16])
+    requires { ⌜ (j < nodes .gates) × GateRoom (now words) nodes (t + 1) (now newest) (now out) ⌝ }
+    ensures { λ r. ⌜ now (out .exit) ≡ sets (now (out .entry)) (nodes .start + 5 * t) (copyWords (now (words .entry)) nodes j (now (newest .entry))) ⌝ }
+    ensures { λ r. ⌜ now (newest .exit) ≡ set (now (newest .entry)) j (nodes .inputs + t) ⌝ }
 {
-    let from = gates + GATE_SIZE * j;
-    let count = words[from] as usize / 8;
-    copy_entry(
-        words,
-        from,
-        n,
-        m,
-        1,
-        1 + count,
-        newest,
-        out,
-        gates + GATE_SIZE * t,
-    );
-    newest[j] = (n + t) as u16;
+    write_gate(words, nodes, j, t, newest, out);
+    newest[j] = (nodes.inputs + t) as u16;
 }
 
 // Writes the copies of the first `total` gates of `order`.
 fn copy_gates(
     words: &[u16],
-    gates: usize,
-    n: usize,
-    m: usize,
+    nodes: Nodes,
     order: &[u16],
     total: usize,
     newest: &mut [u16],
     out: &mut [u16],
 )
-    requires { ⌜ Order m total (now order) × GateRoom (now words) gates n m total (now newest) (now out) ⌝ }
-    ensures { λ r. ⌜ now (out .exit) ≡ sets (now (out .entry)) gates (joined (tab (copyAt (now (words .entry)) gates n m (now (order .entry)) (now (newest .entry))) total)) ⌝ }
-    ensures { λ r. ⌜ now (newest .exit) ≡ tableAfter n (now (order .entry)) (now (newest .entry)) total ⌝ }
+    requires { ⌜ Order (nodes .gates) total (now order) × GateRoom (now words) nodes total (now newest) (now out) ⌝ }
+    ensures { λ r. ⌜
+        now (out .exit) ≡ sets (now (out .entry)) (nodes .start)
+        (joined (tab (copyAt (now (words .entry)) nodes (now (order .entry)) (now (newest .entry))) total))
+        ⌝ }
+    ensures { λ r. ⌜ now (newest .exit) ≡ tableAfter (nodes .inputs) (now (order .entry)) (now (newest .entry)) total ⌝ }
 {
     let mut t = 0;
     while t < total {
-        copy_gate(words, gates, n, m, order[t] as usize, t, newest, out);
+        copy_gate(words, nodes, order[t] as usize, t, newest, out);
         t += 1;
     }
 }
 
-// Writes the `k` outputs that stand at `from`, each at what stands for its node in the end.
+// Writes the `k` outputs, each at what stands for its node in the end.
 pub fn copy_outputs(
     words: &[u16],
-    from: usize,
-    n: usize,
-    m: usize,
+    nodes: Nodes,
     k: usize,
     newest: &[u16],
     out: &mut [u16],
     to: usize,
 )
-    requires { ⌜ EntryRoom (now words) from n m (now newest) (now out) to k ⌝ }
-    ensures { λ r. ⌜ now (out .exit) ≡ sets (now (out .entry)) to (joined (tab (shownAt (now (words .entry)) from n m (now (newest .entry))) k)) ⌝ }
+    requires { ⌜ EntryRoom (now words) nodes (nodes .start + 5 * nodes .gates) (now newest) (now out) to k ⌝ }
+    ensures { λ r. ⌜ now (out .exit) ≡ sets (now (out .entry)) to (joined (tab (shownAt (now (words .entry)) nodes (now (newest .entry))) k)) ⌝ }
 {
+    let from = nodes.start + GATE_SIZE * nodes.gates;
     let mut o = 0;
     while o < k {
+        let at = from + OUTPUT_SIZE * o;
         copy_entry(
             words,
-            from + OUTPUT_SIZE * o,
-            n,
-            m,
-            NAME_SIZE,
-            OUTPUT_SIZE,
+            nodes,
+            Entry {
+                from: at,
+                first: NAME_SIZE,
+                last: OUTPUT_SIZE,
+            },
             newest,
             out,
             to + OUTPUT_SIZE * o,
@@ -118,32 +103,28 @@ pub fn copy_outputs(
 // Writes the rendering of the block that `words` hold; `order` is its schedule, and `newest` is altered.
 pub fn write_rendering(
     words: &[u16],
-    n: usize,
-    m: usize,
-    k: usize,
     order: &[u16],
     total: usize,
     newest: &mut [u16],
     out: &mut [u16],
 )
-    requires { ⌜ CopyReady (now words) n m k (now order) total (now newest) (now out) ⌝ }
+    requires { ⌜ CopyReady (now words) (now order) total (now newest) (now out) ⌝ }
     ensures { λ r. ⌜ now (out .exit) ≡ placed (encode (rendering (decode (now (words .entry))))) (now (out .entry)) ⌝ }
 {
-    let gates = gates_at(words);
-    write_header(n, total, k, nevers_of(words), out);
+    let nodes = nodes_of(words);
+    let k = outputs_of(words);
+    write_header(nodes.inputs, total, k, nevers_of(words), out);
     // The names and the never lines.
-    copy_words(words, INPUTS_AT, gates - INPUTS_AT, out);
+    copy_words(words, INPUTS_AT, nodes.start - INPUTS_AT, out);
     // No gate has a copy: constant 0 stands for each.
-    fill_words(newest, m, CONSTANT_0 as u16);
-    copy_gates(words, gates, n, m, order, total, newest, out);
+    fill_words(newest, nodes.gates, CONSTANT_0 as u16);
+    copy_gates(words, nodes, order, total, newest, out);
     copy_outputs(
         words,
-        gates + GATE_SIZE * m,
-        n,
-        m,
+        nodes,
         k,
         newest,
         out,
-        gates + GATE_SIZE * total,
+        nodes.start + GATE_SIZE * total,
     );
 }

@@ -1,5 +1,5 @@
 // Which settings never come or are settled: they are decided up to 64 at a time, along the order of `visiting`.
-use layout::offsets;
+use layout::nodes::nodes_of;
 use verdict::settings::fill_sound;
 use visiting::order_gates;
 ghost use mathlib.Core.Path.{_≡_};
@@ -19,17 +19,15 @@ pub fn tabulate(
     requires { ⌜ CoverRoom (now order) (now zeros) (now ones) (now settled) ⌝ }
     ensures { λ _. ⌜ Tabulated (decode (now (words .entry))) (now (settled .exit)) ⌝ }
 {
-    let n = offsets::inputs_of(words);
-    let m = offsets::gates_of(words);
-    let gates = offsets::gates_at(words);
+    let nodes = nodes_of(words);
+    let count = nodes.inputs + nodes.gates;
     order_gates(words, order);
     fill_sound(
         words,
-        n,
-        gates,
-        &order[..m],
-        &mut zeros[..n + m],
-        &mut ones[..n + m],
+        nodes,
+        &order[..nodes.gates],
+        &mut zeros[..count],
+        &mut ones[..count],
         settled,
     );
 }

@@ -18,6 +18,8 @@ use Rattle.laws.proofs.Tests.{bool-cases, eq-or-ne, not-both}
 use Rattle.laws.proofs.Lists.{map-set}
 use Rattle.laws.proofs.Elements.{getD-defaults}
 use Rattle.laws.proofs.Slices.{take-placed, getD-past}
+use Rattle.layout.specs.declared.nodes.Nodes.{Nodes}
+use Rattle.layout.specs.Nodes.{nodesOf}
 use Rattle.netlist.specs.Values.{Value, undefined, val, code, valueOf}
 use Rattle.netlist.specs.Netlist.{Block, gateCount, gateOf}
 use Rattle.netlist.specs.Groups.{reads}
@@ -34,7 +36,7 @@ use Rattle.readers.specs.Readers.{Chain, Descends, Readers}
 use Rattle.readers.proofs.Chains.{chain-le, chain-step, chain-end}
 use Rattle.simulate.specs.Rounded.{gateCode}
 use Rattle.simulate.specs.Changes.{definedBytes, QueuedIn}
-use Rattle.simulate.proofs.Codes.{codes-start}
+use Rattle.simulate.proofs.Codes.{gates-are, codes-start}
 use Rattle.simulate.proofs.Updates.{defined-le, defined-more, none-defined, filled-at, value-at}
 use Rattle.simulate.proofs.Rounds.{front-placed}
 use Rattle.decide.specs.InPlace.{stateOf, Underway, Ready, AtRest, RestOrWait, rests, waits, Resting, Woken, WokenOne, WokenList, Rested}
@@ -53,7 +55,8 @@ woken-none values queue end u =
       counted = refl;
     }
 
-module _ {ws setting : List ℕ} {n m : ℕ} {values queue : List ℕ} {end : ℕ} (r : Ready ws n m setting values queue end) (j : ℕ) (jl : j < m) where
+module _ {ws setting : List ℕ} {nodes : Nodes} {values queue : List ℕ} {end : ℕ} (r : Ready ws nodes setting values queue end) (j : ℕ)
+    (jl : j < nodes .gates) where
   abbrev x : List Value
   x = map valueOf setting
 
@@ -61,7 +64,7 @@ module _ {ws setting : List ℕ} {n m : ℕ} {values queue : List ℕ} {end : �
   v = stateOf ws values
 
   l : j < getD ws 1 0
-  l = rw (← r .gates) jl
+  l = rw (← gates-are ws (r .nodesAre)) jl
 
   -- gate j's byte is the code of its value
   byte-is : getD values j 0 ≡ code (getD v j undefined)
@@ -80,10 +83,10 @@ module _ {ws setting : List ℕ} {n m : ℕ} {values queue : List ℕ} {end : �
       go (val b) e = ap code (r .underway .rising j b e) ∙ sym (byte-is ∙ ap code e)
 
   -- a gate that gets none
-  pub one-undefined : {a : ℕ} → getD values j 0 ≡ 2 → a ≡ gateCode ws setting (take m values) j → a ≡ 2
+  pub one-undefined : {a : ℕ} → getD values j 0 ≡ 2 → a ≡ gateCode ws setting (take (nodes .gates) values) j → a ≡ 2
       → WokenOne ws setting values queue end j values queue end
   one-undefined was is none =
-      record { woken = woken-none values queue end (r .underway); one = rests (rw (r .gates) at (sym is) ∙ none ∙ sym was) }
+      record { woken = woken-none values queue end (r .underway); one = rests (rw (gates-are ws (r .nodesAre)) at (sym is) ∙ none ∙ sym was) }
 
   module _ (a : ℕ) (was : getD values j 0 ≡ 2) (some : a ≡ 2 → ⊥) where
     -- there is room for a gate that gets one,
@@ -93,13 +96,13 @@ module _ {ws setting : List ℕ} {n m : ℕ} {values queue : List ℕ} {end : �
         defined-more values (getD ws 1 0) j a l (r .valueRoom) was some in
         omega (arith, defined-le (set values j a) (getD ws 1 0), r .counted)
 
-    module _ (is : a ≡ gateCode ws setting (take m values) j) where
+    module _ (is : a ≡ gateCode ws setting (take (nodes .gates) values) j) where
       abbrev here′ : Value
       here′ = evaluated x v (gateOf (decode ws) j)
 
       code-is : a ≡ code here′
       unfolding gateCode
-      code-is = rw (r .gates) at is
+      code-is = rw (gates-are ws (r .nodesAre)) at is
 
       -- the state makes a step
       stepped : stateOf ws (set values j a) ≡ stepAt (decode ws) x j v
@@ -141,7 +144,7 @@ module _ {ws setting : List ℕ} {n m : ℕ} {values queue : List ℕ} {end : �
       self : RestOrWait ws setting (set values j a) (set queue end j) end (end + 1) j
       self =
           ⊎-elim (λ h. waits (j, h, queued))
-          (λ h. rests (elsewhere j h ∙ sym (rw (r .gates) at is) ∙ sym (getD-set-same values j a 0 (omega (arith, l, r .valueRoom)))))
+          (λ h. rests (elsewhere j h ∙ sym (rw (gates-are ws (r .nodesAre)) at is) ∙ sym (getD-set-same values j a 0 (omega (arith, l, r .valueRoom)))))
           (bool-cases (reads (decode ws) j j))
 
       -- which is queued
@@ -177,13 +180,12 @@ module _ {ws setting values queue : List ℕ} {end : ℕ} {values′ queue′ : 
   rest-on {head} {j} h l (rests e) = widen h (u .rest j l e)
   rest-on h l (waits w) = waits (w .0, w .1, (w .2 .0, w .2 .1, omega (arith, w .2 .2, u .ordered), u .front (w .2 .0) (w .2 .2) ∙ w .2 .3))
 
-  pub woken-ready : {n m : ℕ} → Ready ws n m setting values queue end → length values′ ≡ length values → length queue′ ≡ length queue
-      → Ready ws n m setting values′ queue′ end′
+  pub woken-ready : {nodes : Nodes} → Ready ws nodes setting values queue end → length values′ ≡ length values → length queue′ ≡ length queue
+      → Ready ws nodes setting values′ queue′ end′
   woken-ready r e f =
       record {
         whole = r .whole;
-        inputs = r .inputs;
-        gates = r .gates;
+        nodesAre = r .nodesAre;
         valueRoom = omega (arith, r .valueRoom);
         queueRoom = omega (arith, r .queueRoom);
         underway = u .underway;
@@ -275,8 +277,8 @@ resting-end {ws} {setting} {values} {queue} {q} {end} h z j l = go (h j l)
     go (waits s) = absurd (omega (arith, s .2 .1, s .2 .2))
 
 -- the queue has room for every gate
-pub few-queued : {ws : List ℕ} {n m : ℕ} {setting values queue : List ℕ} {end : ℕ} → Ready ws n m setting values queue end → end ≤ m
-few-queued {ws} {n} {m} {setting} {values} r = omega (arith, defined-le values (getD ws 1 0), r .counted, r .gates)
+pub few-queued : {ws : List ℕ} {nodes : Nodes} {setting values queue : List ℕ} {end : ℕ} → Ready ws nodes setting values queue end → end ≤ nodes .gates
+few-queued {ws} {nodes} {setting} {values} r = omega (arith, defined-le values (getD ws 1 0), r .counted, gates-are ws (r .nodesAre))
 
 -- ---- the start and the end
 
@@ -286,13 +288,12 @@ module _ (ws setting : List ℕ) (m : ℕ) (is : m ≡ getD ws 1 0) (values entr
       rw (decode-gateCount ws, ← is, e, take-placed (replicate m 2) entry m (length-replicate m 2), ← codes-start m) (values-codes (replicate m undefined))
 
   -- nothing has a value
-  pub start-ready : {n : ℕ} {queue : List ℕ} → isTorn ws ≡ false → n ≡ getD ws 0 0 → m ≤ length values → m ≤ length queue
-      → Ready ws n m setting values queue 0
-  start-ready whole inputs valueRoom queueRoom =
+  pub start-ready : {nodes : Nodes} {queue : List ℕ} → isTorn ws ≡ false → nodes ≡ nodesOf ws → m ≤ length values → m ≤ length queue
+      → Ready ws nodes setting values queue 0
+  start-ready whole are valueRoom queueRoom =
       record {
         whole = whole;
-        inputs = inputs;
-        gates = is;
+        nodesAre = are;
         valueRoom = omega arith;
         queueRoom = omega arith;
         underway =

@@ -8,6 +8,8 @@ use mathlib.Core.Path.{_≡_}
 use mathlib.Core.Bool.{true, false}
 use mathlib.Core.List.{List, map}
 use lib.ListN.{length, getD, take}
+use Rattle.layout.specs.declared.nodes.Nodes.{Nodes}
+use Rattle.layout.specs.Nodes.{nodesOf}
 use Rattle.netlist.specs.Values.{Value, code, valueOf}
 use Rattle.netlist.specs.Groups.{reads}
 use Rattle.netlist.specs.StoredBlock.{decode, isTorn}
@@ -27,11 +29,10 @@ pub record Underway (ws setting values : List ℕ) : Type 0 where
   pub rising : Rising (decode ws) (map valueOf setting) (stateOf ws values)
   pub below : BelowAll (stateOf ws values) (settled (decode ws) (map valueOf setting))
 
--- a block of n inputs and m gates that is not torn, room for its gates, and a queue as long as the gates that are 0 or 1
-pub record Ready (ws : List ℕ) (n m : ℕ) (setting values queue : List ℕ) (end : ℕ) : Type 0 where
+-- a block that is not torn, room for its gates, and a queue as long as the gates that are 0 or 1
+pub record Ready (ws : List ℕ) (nodes : Nodes) (setting values queue : List ℕ) (end : ℕ) : Type 0 where
   pub whole : isTorn ws ≡ false
-  pub inputs : n ≡ getD ws 0 0
-  pub gates : m ≡ getD ws 1 0
+  pub nodesAre : nodes ≡ nodesOf ws
   pub valueRoom : getD ws 1 0 ≤ length values
   pub queueRoom : getD ws 1 0 ≤ length queue
   pub underway : Underway ws setting values

@@ -1,9 +1,9 @@
 // In `values` each gate's value is stored as soon as it is found. A gate that is 0 or 1 stays so, and is not evaluated again.
 use layout::fill::fill_bytes;
 use layout::limits::MAX_GATES;
+use layout::nodes::Nodes;
+use layout::nodes::nodes_of;
 use layout::offsets::OPERAND_WORDS;
-use layout::offsets::gates_of;
-use layout::offsets::inputs_of;
 use layout::read::word_at;
 use readers::link_readers;
 use simulate::round::UNDEFINED;
@@ -21,14 +21,13 @@ ghost use Rattle.netlist.specs.GateTable.{gateTable};
 ghost use Rattle.netlist.specs.Rounds.{settled};
 ghost use Rattle.readers.specs.Readers.{Descends, Readers};
 ghost use Rattle.simulate.specs.Rounded.{ForRounds};
-ghost use Rattle.decide.specs.InPlace.{Ready, Woken, WokenOne, WokenList, WokenAll, Resting, Rested};
+ghost use Rattle.decide.specs.InPlace.{Ready, WokenOne, WokenList, WokenAll, Resting, Rested};
 
 // Evaluates gate `j`, if it has no value, and queues it if it gets one; the queue's new end.
 fn update(
     table: &[u8; 1792],
     words: &[u16],
-    n: usize,
-    m: usize,
+    nodes: Nodes,
     j: usize,
     setting: &[u8],
     values: &mut [u8],
@@ -36,7 +35,7 @@ fn update(
     end: usize,
 ) -> usize
     requires { ⌜ now table ≡ gateTable ⌝ }
-    requires { ⌜ Ready (now words) n m (now setting) (now values) (now queue) end × (j < m) ⌝ }
+    requires { ⌜ Ready (now words) nodes (now setting) (now values) (now queue) end × (j < nodes .gates) ⌝ }
     ensures { λ r. ⌜
         WokenOne (now (words .entry)) (now (setting .entry)) (now (values .entry)) (now (queue .entry)) end j (now (values .exit)) (now (queue .exit)) r
         ⌝ }
@@ -44,7 +43,7 @@ fn update(
     if values[j] != UNDEFINED {
         return end;
     }
-    let value = value_of_gate(table, words, n, j, setting, &values[..m]);
+    let value = value_of_gate(table, words, nodes, j, setting, &values[..nodes.gates]);
     if value == UNDEFINED {
         return end;
     }
@@ -57,22 +56,21 @@ fn update(
 fn update_all(
     table: &[u8; 1792],
     words: &[u16],
-    n: usize,
-    m: usize,
+    nodes: Nodes,
     setting: &[u8],
     values: &mut [u8],
     queue: &mut [u16],
 ) -> usize
     requires { ⌜ now table ≡ gateTable ⌝ }
-    requires { ⌜ Ready (now words) n m (now setting) (now values) (now queue) 0 ⌝ }
+    requires { ⌜ Ready (now words) nodes (now setting) (now values) (now queue) 0 ⌝ }
     ensures { λ r. ⌜
         WokenAll (now (words .entry)) (now (setting .entry)) (now (values .entry)) (now (queue .entry)) (now (values .exit)) (now (queue .exit)) r
         ⌝ }
 {
     let mut end = 0;
     let mut j = 0;
-    while j < m {
-        end = update(table, words, n, m, j, setting, values, queue, end);
+    while j < nodes.gates {
+        end = update(table, words, nodes, j, setting, values, queue, end);
         j += 1;
     }
     end
@@ -82,8 +80,7 @@ fn update_all(
 fn update_readers(
     table: &[u8; 1792],
     words: &[u16],
-    n: usize,
-    m: usize,
+    nodes: Nodes,
     next: &[u16],
     from: usize,
     setting: &[u8],
@@ -92,8 +89,8 @@ fn update_readers(
     tail: usize,
 ) -> usize
     requires { ⌜ now table ≡ gateTable ⌝ }
-    requires { ⌜ Ready (now words) n m (now setting) (now values) (now queue) tail ⌝ }
-    requires { ⌜ Descends (now next) × (from ≤ 4 * m) ⌝ }
+    requires { ⌜ Ready (now words) nodes (now setting) (now values) (now queue) tail ⌝ }
+    requires { ⌜ Descends (now next) × (from ≤ 4 * nodes .gates) ⌝ }
     ensures { λ r. ⌜
         WokenList (now (words .entry)) (now (setting .entry)) (now (values .entry)) (now (queue .entry)) tail (now (next .entry)) from (now (values .exit))
         (now (queue .exit)) r
@@ -106,8 +103,7 @@ fn update_readers(
         end = update(
             table,
             words,
-            n,
-            m,
+            nodes,
             e / OPERAND_WORDS,
             setting,
             values,
@@ -123,8 +119,7 @@ fn update_readers(
 fn update_queued(
     table: &[u8; 1792],
     words: &[u16],
-    n: usize,
-    m: usize,
+    nodes: Nodes,
     first: &[u16],
     next: &[u16],
     setting: &[u8],
@@ -133,7 +128,7 @@ fn update_queued(
     tail: usize,
 )
     requires { ⌜ now table ≡ gateTable ⌝ }
-    requires { ⌜ Ready (now words) n m (now setting) (now values) (now queue) tail ⌝ }
+    requires { ⌜ Ready (now words) nodes (now setting) (now values) (now queue) tail ⌝ }
     requires { ⌜ Readers (decode (now words)) (getD (now words) 1 0) (now first) (now next) ⌝ }
     requires { ⌜ Resting (now words) (now setting) (now values) (now queue) 0 tail ⌝ }
     ensures { λ r. ⌜ Rested (now (words .entry)) (now (setting .entry)) (now (values .entry)) (now (values .exit)) ⌝ }
@@ -142,7 +137,7 @@ fn update_queued(
     let mut q = 0;
     while q < end {
         let from = word_at(first, word_at(queue, q));
-        end = update_readers(table, words, n, m, next, from, setting, values, queue, end);
+        end = update_readers(table, words, nodes, next, from, setting, values, queue, end);
         q += 1;
     }
 }
@@ -151,8 +146,7 @@ fn update_queued(
 fn settle_with(
     table: &[u8; 1792],
     words: &[u16],
-    n: usize,
-    m: usize,
+    nodes: Nodes,
     first: &[u16],
     next: &[u16],
     setting: &[u8],
@@ -160,15 +154,25 @@ fn settle_with(
     queue: &mut [u16],
 )
     requires { ⌜ now table ≡ gateTable ⌝ }
-    requires { ⌜ ForRounds (now words) n m (length (now values)) × (m ≤ length (now queue)) ⌝ }
+    requires { ⌜ ForRounds (now words) nodes (length (now values)) × (nodes .gates ≤ length (now queue)) ⌝ }
     requires { ⌜ Readers (decode (now words)) (getD (now words) 1 0) (now first) (now next) ⌝ }
     ensures { λ r. ⌜
         now (values .exit) ≡ placed (map code (settled (decode (now (words .entry))) (map valueOf (now (setting .entry))))) (now (values .entry))
         ⌝ }
 {
-    fill_bytes(values, m, UNDEFINED);
-    let end = update_all(table, words, n, m, setting, values, queue);
-    update_queued(table, words, n, m, first, next, setting, values, queue, end);
+    fill_bytes(values, nodes.gates, UNDEFINED);
+    let end = update_all(table, words, nodes, setting, values, queue);
+    update_queued(
+        table,
+        words,
+        nodes,
+        first,
+        next,
+        setting,
+        values,
+        queue,
+        end,
+    );
 }
 
 // The settled values into the first bytes of `values`.
@@ -187,8 +191,7 @@ pub fn settle_in_place(words: &[u16], setting: &[u8], values: &mut [u8])
     settle_with(
         &table,
         words,
-        inputs_of(words),
-        gates_of(words),
+        nodes_of(words),
         &first,
         &next,
         setting,

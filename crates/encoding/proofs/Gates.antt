@@ -9,7 +9,7 @@ use native.Mathlib.Nat.{add-zero, add-assoc}
 use native.Mathlib.Omega.{arith}
 use lib.ListN.{length, getD, length-map, List·getD-eq-default}
 use lib.Dec.{eqb, leb, ltb}
-use borrow.Author.Tests.{eqb-true, leb-true, lt-ltb, le-ltb, eq-eqb, ne-eqb}
+use borrow.Author.Tests.{eqb-true, leb-true, lt-ltb, le-ltb, eq-eqb}
 use Rattle.laws.specs.Lists.{all, tab, upTo}
 use Rattle.laws.proofs.Tests.{and-left, and-right, and-intro, lt-or-le}
 use Rattle.laws.proofs.Tab.{length-tab, getD-tab, tab-ext, map-tab, tab-add}

@@ -1,6 +1,6 @@
 -- The rules of the stored block, one by one on the words, as the code tests them. proofs/ shows that together they say "not torn".
-use Prim.Native.Nat.{ℕ, zero, suc, _+_, _*_, _/_, _%_}
-use mathlib.Core.Bool.{Bool, true, false, cond, not, _&&_, _||_}
+use Prim.Native.Nat.{ℕ, _+_, _*_, _/_, _%_}
+use mathlib.Core.Bool.{Bool, true, cond, not, _&&_, _||_}
 use mathlib.Core.List.{List, [], _∷_}
 use lib.ListN.{length, getD}
 use lib.Dec.{eqb, leb, ltb}
@@ -8,7 +8,8 @@ use Rattle.laws.specs.Lists.{all, upTo}
 use Rattle.netlist.specs.Limits.{maxInputs, maxNevers, maxGates, maxOutputs}
 use Rattle.netlist.specs.Assignments.{areMasks}
 use Rattle.netlist.specs.Kinds.{isKind, arityFits}
-use Rattle.netlist.specs.StoredBlock.{nameSize, neverSize, gateSize, outputSize, operandWords, inputsAt, neversAt, gatesAt, outputsAt, isLetter, isNameByte, bytesAt}
+use Rattle.netlist.specs.StoredBlock.{nameSize, neverSize, gateSize, outputSize, operandWords, inputsAt}
+use Rattle.netlist.specs.StoredBlock.{neversAt, gatesAt, outputsAt, isLetter, isNameByte, bytesAt}
 
 -- name bytes, and then only zeros
 unfoldable pub padded : List ℕ → Bool

@@ -52,7 +52,9 @@ pub extern "C" fn unloop_bring(old: &[u16], block: &mut [u16]) -> Reply
 // Settle: the settled value of each gate; count: rounds.
 #[no_mangle]
 pub extern "C" fn unloop_settle(block: &[u16], setting: &[u8], values: &mut [u8]) -> Reply
-    ensures { λ r. ⌜ Replies (settle (now (block .entry)) (now (setting .entry)) (length (now (values .entry)))) (now (values .entry)) r (now (values .exit)) ⌝ }
+    ensures { λ r. ⌜
+        Replies (settle (now (block .entry)) (now (setting .entry)) (length (now (values .entry)))) (now (values .entry)) r (now (values .exit))
+        ⌝ }
 {
     reply_of(simulate::settle::settle(block, setting, values))
 }
@@ -175,7 +177,9 @@ pub extern "C" fn unloop_gather(block: &[u16], gathered: &mut [u16], order: &mut
 // Scatter: the block with its gates in the order that they had, from the list of their old numbers; count: words.
 #[no_mangle]
 pub extern "C" fn unloop_scatter(block: &[u16], order: &[u16], original: &mut [u16]) -> Reply
-    ensures { λ r. ⌜ Replies (scatter (now (block .entry)) (now (order .entry)) (length (now (original .entry)))) (now (original .entry)) r (now (original .exit)) ⌝ }
+    ensures { λ r. ⌜
+        Replies (scatter (now (block .entry)) (now (order .entry)) (length (now (original .entry)))) (now (original .entry)) r (now (original .exit))
+        ⌝ }
 {
     reply_of(gather::scatter(block, order, original))
 }

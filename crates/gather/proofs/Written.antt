@@ -17,6 +17,8 @@ use Rattle.laws.proofs.Quantifiers.{all-at}
 use Rattle.laws.proofs.Tab.{length-tab, getD-tab, tab-add, tab-ext, tab-getD, map-tab, placed-tab}
 use Rattle.laws.proofs.Stores.{sets-append, sets-joined-next, length-joined-tab}
 use Rattle.laws.proofs.Slices.{sets-placed}
+use Rattle.layout.specs.declared.nodes.Nodes.{Nodes}
+use Rattle.layout.specs.Nodes.{nodesOf}
 use Rattle.netlist.specs.Limits.{maxInputs, maxGates, maxOutputs}
 use Rattle.netlist.specs.Netlist.{Operand, input, gate, constant, Gate, Output, Block, gateCount, gateOf}
 use Rattle.netlist.specs.StoredBlock.{neversAt, gatesAt, outputsAt, nodeWord, gateWords, outputWords}
@@ -30,7 +32,7 @@ use Rattle.encoding.proofs.RoundTrip.{whole-wellFormed, whole-encode}
 use Rattle.encoding.proofs.Readers.{whole-parts, wellFormed-gate, wellFormed-output}
 use Rattle.reach.proofs.ListFacts.{map-same}
 use Rattle.copying.specs.Words.{wordFrom, copyWords, shownAt, Order}
-use Rattle.copying.proofs.Words.{length-entry}
+use Rattle.copying.proofs.Words.{length-copy}
 use Rattle.copying.proofs.Copied.{Stands}
 use Rattle.copying.proofs.Written.{front-written, copy-written, outputs-written, encode-of}
 use Rattle.permute.proofs.Arranged.{arranged-count, arranged-outputCount}
@@ -46,17 +48,17 @@ ordered-as e o = rw e o
 
 -- ---- a gate more
 
-length-movedAt : (ws : List ℕ) (gates n m : ℕ) (order table : List ℕ) (t : ℕ) → length (movedAt ws gates n m order table t) ≡ 5
-unfolding movedAt copyWords
-length-movedAt ws gates n m order table t = length-entry ws (gates + 5 * getD order t 0) n m 1 _ table
-
-pub moved-next : (ws : List ℕ) (gates n m : ℕ) (order table entry out out′ : List ℕ) (t : ℕ)
-    → out ≡ sets entry gates (joined (tab (movedAt ws gates n m order table) t))
-    → out′ ≡ sets out (gates + 5 * t) (copyWords ws gates n m (getD order t 0) table)
-    → out′ ≡ sets entry gates (joined (tab (movedAt ws gates n m order table) (t + 1)))
+length-movedAt : (ws : List ℕ) (nodes : Nodes) (order table : List ℕ) (t : ℕ) → length (movedAt ws nodes order table t) ≡ 5
 unfolding movedAt
-moved-next ws gates n m order table entry out out′ t e h =
-    sets-joined-next (movedAt ws gates n m order table) 5 (length-movedAt ws gates n m order table) entry out out′ gates t e h
+length-movedAt ws nodes order table t = length-copy ws nodes (getD order t 0) table
+
+pub moved-next : (ws : List ℕ) (nodes : Nodes) (order table entry out out′ : List ℕ) (t : ℕ)
+    → out ≡ sets entry (nodes .start) (joined (tab (movedAt ws nodes order table) t))
+    → out′ ≡ sets out (nodes .start + 5 * t) (copyWords ws nodes (getD order t 0) table)
+    → out′ ≡ sets entry (nodes .start) (joined (tab (movedAt ws nodes order table) (t + 1)))
+unfolding movedAt
+moved-next ws nodes order table entry out out′ t e h =
+    sets-joined-next (movedAt ws nodes order table) 5 (length-movedAt ws nodes order table) entry out out′ (nodes .start) t e h
 
 -- ---- new numbers stand for the gates as newest copies do
 
@@ -64,10 +66,12 @@ moved-next ws gates n m order table entry out out′ t e h =
 newest : List ℕ → ℕ → List Operand
 newest numbers m = tab (λ j. gate (numberAt numbers j)) m
 
-table-stands : (n m : ℕ) (numbers entry table : List ℕ) → table ≡ placed (tab (newWord n numbers) m) entry → Stands n m table (newest numbers m)
+table-stands : (nodes : Nodes) (numbers entry table : List ℕ) → table ≡ placed (tab (newWord (nodes .inputs) numbers) (nodes .gates)) entry
+    → Stands nodes table (newest numbers (nodes .gates))
 unfolding newest newWord nodeWord numberAt
-table-stands n m numbers entry table is j l =
-    rw (is, getD-tab (λ j. gate (getD numbers j 0)) m j (constant false) l) (placed-tab (newWord n numbers) m entry j 0 l)
+table-stands nodes numbers entry table is j l =
+    rw (is, getD-tab (λ j. gate (getD numbers j 0)) (nodes .gates) j (constant false) l)
+    (placed-tab (newWord (nodes .inputs) numbers) (nodes .gates) entry j 0 l)
 
 module _ (b : Block) (numbers : List ℕ) where
   operand-renumbered : (o : Operand) → isOperand b o ≡ true → copiedOperand (newest numbers (gateCount b)) o ≡ renumbered (numberAt numbers) o
@@ -91,34 +95,41 @@ module _ (b : Block) (numbers : List ℕ) where
 -- ---- the parts
 
 -- the counts, the names and the never lines
-front-words : (ws : List ℕ) (at : ℕ) → at ≡ gatesAt (getD ws 0 0) (getD ws 3 0)
-    → tab (wordFrom ws 0) at ≡ (getD ws 0 0 ∷ getD ws 1 0 ∷ getD ws 2 0 ∷ getD ws 3 0 ∷ []) ++ tab (wordFrom ws 4) (4 * getD ws 0 0 + 2 * getD ws 3 0)
-unfolding wordFrom gatesAt neversAt
-front-words ws at e =
-    let split : at ≡ 4 + (4 * getD ws 0 0 + 2 * getD ws 3 0) = omega arith in
+front-words : (ws : List ℕ)
+    → tab (wordFrom ws 0) (nodesOf ws .start)
+    ≡ (getD ws 0 0 ∷ getD ws 1 0 ∷ getD ws 2 0 ∷ getD ws 3 0 ∷ []) ++ tab (wordFrom ws 4) (4 * getD ws 0 0 + 2 * getD ws 3 0)
+unfolding wordFrom gatesAt neversAt nodesOf
+front-words ws =
+    let split : nodesOf ws .start ≡ 4 + (4 * getD ws 0 0 + 2 * getD ws 3 0) = omega arith in
     rw split
     (tab-add (wordFrom ws 0) 4 (4 * getD ws 0 0 + 2 * getD ws 3 0)
     ∙ ap (λ (r : List ℕ). (getD ws 0 0 ∷ getD ws 1 0 ∷ getD ws 2 0 ∷ getD ws 3 0 ∷ []) ++ r)
     (tab-ext (λ i. wordFrom ws 0 (4 + i)) (wordFrom ws 4) (4 * getD ws 0 0 + 2 * getD ws 3 0)
     (λ i l. ap (λ (p : ℕ). getD ws p 0) (zero-add (4 + i)))))
 
-module _ (ws order numbers : List ℕ) (n m k : ℕ) (whole : isTorn ws ≡ false) (inputsAre : n ≡ getD ws 0 0) (gatesAre : m ≡ getD ws 1 0)
-    (outputsAre : k ≡ getD ws 2 0) (listed : Order m m order) (table : List ℕ) (stands : Stands n m table (newest numbers m)) where
+module _ (ws order numbers : List ℕ) (whole : isTorn ws ≡ false) (listed : Order (getD ws 1 0) (getD ws 1 0) order) (table : List ℕ)
+    (stands : Stands (nodesOf ws) table (newest numbers (getD ws 1 0))) where
+  abbrev n : ℕ
+  n = getD ws 0 0
+
+  abbrev m : ℕ
+  m = getD ws 1 0
+
   fits : isWellFormed (decode ws) ≡ true
   fits = whole-wellFormed ws whole
 
   count : gateCount (decode ws) ≡ m
-  count = decode-gateCount ws ∙ sym gatesAre
+  count = decode-gateCount ws
 
   -- the gates in the order listed
   abbrev placedGate : ℕ → Gate
   placedGate t = renumberedGate (numberAt numbers) (gateOf (decode ws) (getD order t 0))
 
-  gate-words : (t : ℕ) → t < m → movedAt ws (gatesAt n (getD ws 3 0)) n m order table t ≡ gateWords n (placedGate t)
+  gate-words : (t : ℕ) → t < m → movedAt ws (nodesOf ws) order table t ≡ gateWords n (placedGate t)
   unfolding movedAt
   gate-words t l =
       let below : getD order t 0 < m = listed .inside t l in
-      copy-written ws n m k whole inputsAre gatesAre outputsAre table (newest numbers m) stands (getD order t 0) below
+      copy-written ws whole table (newest numbers m) stands (getD order t 0) below
       ∙ ap (gateWords n)
       (rw (← count)
       (gate-renumbered (decode ws) numbers (gateOf (decode ws) (getD order t 0)) (wellFormed-gate (decode ws) fits (getD order t 0) (rw count below))))
@@ -126,18 +137,18 @@ module _ (ws order numbers : List ℕ) (n m k : ℕ) (whole : isTorn ws ≡ fals
   listed-gates : arrangement ws order numbers .gates ≡ tab placedGate m
   unfolding arrangement arranged
   listed-gates =
-      let all : take (getD ws 1 0) order ≡ tab (λ t. getD order t 0) m = rw (← gatesAre)
-      (sym (tab-ext (λ t. getD order t 0) (λ t. getD (take m order) t 0) m (λ t l. sym (getD-take m order t 0 l))
-      ∙ tab-getD 0 (take m order) m (length-take-le m order (listed .listed)))) in
+      let all : take m order ≡ tab (λ t. getD order t 0) m =
+      sym (tab-ext (λ t. getD order t 0) (λ t. getD (take m order) t 0) m (λ t l. sym (getD-take m order t 0 l))
+      ∙ tab-getD 0 (take m order) m (length-take-le m order (listed .listed))) in
       rw all (map-tab (λ j. renumberedGate (numberAt numbers) (gateOf (decode ws) j)) (λ t. getD order t 0) m)
 
-  gates-words : joined (tab (movedAt ws (gatesAt n (getD ws 3 0)) n m order table) m) ≡ joined (map (gateWords n) (arrangement ws order numbers .gates))
+  gates-words : joined (tab (movedAt ws (nodesOf ws) order table) m) ≡ joined (map (gateWords n) (arrangement ws order numbers .gates))
   gates-words = rw listed-gates (ap joined (tab-ext _ (λ t. gateWords n (placedGate t)) m gate-words ∙ sym (map-tab (gateWords n) placedGate m)))
 
-  outputs-words : joined (tab (shownAt ws (outputsAt n (getD ws 3 0) m) n m table) k) ≡ joined (map (outputWords n) (arrangement ws order numbers .outputs))
+  outputs-words : joined (tab (shownAt ws (nodesOf ws) table) (getD ws 2 0)) ≡ joined (map (outputWords n) (arrangement ws order numbers .outputs))
   unfolding arrangement arranged
   outputs-words =
-      outputs-written ws n m k whole inputsAre gatesAre outputsAre table (newest numbers m) stands
+      outputs-written ws whole table (newest numbers m) stands
       ∙ ap (λ (os : List Output). joined (map (outputWords n) os))
       (map-same _ (renumberedOutput (numberAt numbers)) (decode ws .outputs) noOutput
       (λ o l. rw (← count) (output-renumbered (decode ws) numbers (getD (decode ws .outputs) o noOutput) (wellFormed-output (decode ws) fits o noOutput l))))
@@ -145,45 +156,46 @@ module _ (ws order numbers : List ℕ) (n m k : ℕ) (whole : isTorn ws ≡ fals
 -- ---- all of it
 
 -- the numbers that the code computes with are small, and the slices long enough
-pub record Sizes (ws : List ℕ) (n m k at : ℕ) : Type 0 where
-  pub fewInputs : n ≤ maxInputs
-  pub fewGates : m ≤ maxGates
-  pub fewOutputs : k ≤ maxOutputs
-  pub words : length ws ≡ at + 5 * m + 5 * k
+pub record Sizes (ws : List ℕ) (nodes : Nodes) : Type 0 where
+  pub fewInputs : nodes .inputs ≤ maxInputs
+  pub fewGates : nodes .gates ≤ maxGates
+  pub gatesAre : nodes .gates ≡ getD ws 1 0
+  pub fewOutputs : getD ws 2 0 ≤ maxOutputs
+  pub words : length ws ≡ nodes .start + 5 * nodes .gates + 5 * getD ws 2 0
 
-module _ (ws : List ℕ) (n m k at : ℕ) (whole : isTorn ws ≡ false) (inputsAre : n ≡ getD ws 0 0) (gatesAre : m ≡ getD ws 1 0)
-    (outputsAre : k ≡ getD ws 2 0) (atIs : at ≡ gatesAt (getD ws 0 0) (getD ws 3 0)) where
-  pub sizes : Sizes ws n m k at
-  unfolding outputsAt
-  sizes =
-      let p = whole-parts ws whole in
-      record {
-        fewInputs = rw inputsAre (p .fewInputs);
-        fewGates = rw gatesAre (p .fewGates);
-        fewOutputs = rw outputsAre (p .fewOutputs);
-        words = rw (gatesAre, outputsAre, atIs) (p .sized);
-      }
+pub sizes : (ws : List ℕ) {nodes : Nodes} → isTorn ws ≡ false → nodes ≡ nodesOf ws → Sizes ws nodes
+unfolding outputsAt nodesOf
+sizes ws whole are =
+    let p = whole-parts ws whole in
+    rw are (record { fewInputs = p .fewInputs; fewGates = p .fewGates; gatesAre = refl; fewOutputs = p .fewOutputs; words = p .sized })
 
-  pub arranged-written : (order numbers entry table out out₁ out₂ out₃ : List ℕ) → Order m m order → length ws ≤ length out
-      → table ≡ placed (tab (newWord n numbers) m) entry
-      → out₁ ≡ sets out 0 (tab (wordFrom ws 0) at)
-      → out₂ ≡ sets out₁ at (joined (tab (movedAt ws at n m order table) m))
-      → out₃ ≡ sets out₂ (at + 5 * m) (joined (tab (shownAt ws (at + 5 * m) n m table) k))
-      → out₃ ≡ placed (encode (arrangement ws order numbers)) out
-  unfolding outputsAt arrangement arranged
-  arranged-written order numbers entry table out out₁ out₂ out₃ listed room et e₁ e₂ e₃ =
-      rw (e₃, e₂, e₁)
-      (ap (λ (l : List ℕ). sets l (at + 5 * m) outputs) (sets-append front out 0 at gates (rw (length-tab (wordFrom ws 0) at) (omega arith)))
+module _ (ws : List ℕ) (whole : isTorn ws ≡ false) (order numbers entry table out : List ℕ) (listed : Order (getD ws 1 0) (getD ws 1 0) order)
+    (room : length ws ≤ length out) where
+  -- the parts, stored one after the other
+  stored : table ≡ placed (tab (newWord (nodesOf ws .inputs) numbers) (nodesOf ws .gates)) entry
+      → sets (sets (sets out 0 (tab (wordFrom ws 0) (nodesOf ws .start))) (nodesOf ws .start)
+      (joined (tab (movedAt ws (nodesOf ws) order table) (nodesOf ws .gates))))
+      (nodesOf ws .start + 5 * nodesOf ws .gates) (joined (tab (shownAt ws (nodesOf ws) table) (getD ws 2 0)))
+      ≡ placed (encode (arrangement ws order numbers)) out
+  unfolding arrangement arranged nodesOf
+  stored et =
+      ap (λ (l : List ℕ). sets l (at + 5 * m) outputs) (sets-append front out 0 at gates (rw (length-tab (wordFrom ws 0) at) (omega arith)))
       ∙ sets-append (front ++ gates) out 0 (at + 5 * m) outputs
       (rw (
         length-append front gates,
         length-tab (wordFrom ws 0) at,
-        length-joined-tab (movedAt ws at n m order table) 5 (length-movedAt ws at n m order table) m,
+        length-joined-tab (movedAt ws (nodesOf ws) order table) 5 (length-movedAt ws (nodesOf ws) order table) m,
       )
       (omega arith))
       ∙ ap (sets out 0) (sym encoded)
-      ∙ sets-placed (encode c) out (rw long room))
+      ∙ sets-placed (encode c) out (rw long room)
     where
+      m : ℕ
+      m = getD ws 1 0
+
+      at : ℕ
+      at = nodesOf ws .start
+
       c : Block
       c = arrangement ws order numbers
 
@@ -191,34 +203,34 @@ module _ (ws : List ℕ) (n m k at : ℕ) (whole : isTorn ws ≡ false) (inputsA
       front = tab (wordFrom ws 0) at
 
       gates : List ℕ
-      gates = joined (tab (movedAt ws at n m order table) m)
+      gates = joined (tab (movedAt ws (nodesOf ws) order table) m)
 
       outputs : List ℕ
-      outputs = joined (tab (shownAt ws (at + 5 * m) n m table) k)
+      outputs = joined (tab (shownAt ws (nodesOf ws) table) (getD ws 2 0))
 
-      stands : Stands n m table (newest numbers m)
-      stands = table-stands n m numbers entry table et
+      stands : Stands (nodesOf ws) table (newest numbers m)
+      stands = table-stands (nodesOf ws) numbers entry table et
 
-      place : at ≡ gatesAt n (getD ws 3 0)
-      place = rw inputsAre atIs
-
-      taken : length (take (getD ws 1 0) order) ≡ m
-      taken = length-take-le (getD ws 1 0) order (rw (← gatesAre) (listed .listed)) ∙ sym gatesAre
+      taken : length (take m order) ≡ m
+      taken = length-take-le m order (listed .listed)
 
       long : length (encode c) ≡ length ws
       long =
-          arranged-length (take (getD ws 1 0) order) (numberAt numbers) (decode ws) (taken ∙ gatesAre ∙ sym (decode-gateCount ws))
-          ∙ ap {B = ℕ} length (whole-encode ws whole)
-
-      head : front ≡ (n ∷ m ∷ k ∷ getD ws 3 0 ∷ []) ++ tab (wordFrom ws 4) (4 * getD ws 0 0 + 2 * getD ws 3 0)
-      head = front-words ws at atIs ∙ rw (← inputsAre, ← gatesAre, ← outputsAre) refl
+          arranged-length (take m order) (numberAt numbers) (decode ws) (taken ∙ sym (decode-gateCount ws)) ∙ ap {B = ℕ} length (whole-encode ws whole)
 
       encoded : encode c ≡ front ++ gates ++ outputs
       encoded =
-          encode-of c n m k (getD ws 3 0) (tab (wordFrom ws 4) (4 * getD ws 0 0 + 2 * getD ws 3 0)) gates outputs (decode-inputCount ws ∙ sym inputsAre)
-          (arranged-count (take (getD ws 1 0) order) (numberAt numbers) (decode ws) ∙ taken)
-          (arranged-outputCount (take (getD ws 1 0) order) (numberAt numbers) (decode ws) ∙ decode-outputCount ws ∙ sym outputsAre)
+          encode-of c (getD ws 0 0) m (getD ws 2 0) (getD ws 3 0) (tab (wordFrom ws 4) (4 * getD ws 0 0 + 2 * getD ws 3 0)) gates outputs
+          (decode-inputCount ws) (arranged-count (take m order) (numberAt numbers) (decode ws) ∙ taken)
+          (arranged-outputCount (take m order) (numberAt numbers) (decode ws) ∙ decode-outputCount ws)
           (decode-neverCount ws) (front-written ws)
-          (rw place (gates-words ws order numbers n m k whole inputsAre gatesAre outputsAre listed table stands))
-          (rw place (outputs-words ws order numbers n m k whole inputsAre gatesAre outputsAre listed table stands))
-          ∙ ap (λ (r : List ℕ). r ++ gates ++ outputs) (sym head)
+          (gates-words ws order numbers whole listed table stands) (outputs-words ws order numbers whole listed table stands)
+          ∙ ap (λ (r : List ℕ). r ++ gates ++ outputs) (sym (front-words ws))
+
+  pub arranged-written : (nodes : Nodes) (k : ℕ) (out₁ out₂ out₃ : List ℕ) → nodes ≡ nodesOf ws → k ≡ getD ws 2 0
+      → table ≡ placed (tab (newWord (nodes .inputs) numbers) (nodes .gates)) entry
+      → out₁ ≡ sets out 0 (tab (wordFrom ws 0) (nodes .start))
+      → out₂ ≡ sets out₁ (nodes .start) (joined (tab (movedAt ws nodes order table) (nodes .gates)))
+      → out₃ ≡ sets out₂ (nodes .start + 5 * nodes .gates) (joined (tab (shownAt ws nodes table) k))
+      → out₃ ≡ placed (encode (arrangement ws order numbers)) out
+  arranged-written nodes k out₁ out₂ out₃ are ek et e₁ e₂ e₃ = rw (e₃, e₂, e₁, are, ek) (stored (rw are at et))

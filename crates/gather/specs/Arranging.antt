@@ -4,6 +4,7 @@ use mathlib.Core.Path.{_≡_}
 use mathlib.Core.Bool.{false}
 use mathlib.Core.List.{List}
 use lib.ListN.{length, getD, take}
+use Rattle.layout.specs.declared.nodes.Nodes.{Nodes}
 use Rattle.netlist.specs.Netlist.{Block}
 use Rattle.netlist.specs.StoredBlock.{decode, isTorn}
 use Rattle.netlist.specs.Gather.{arranged, numberAt}
@@ -14,8 +15,8 @@ unfoldable pub newWord : ℕ → List ℕ → ℕ → ℕ
 newWord n numbers j = n + getD numbers j 0
 
 -- the words of the gate at place t
-unfoldable pub movedAt : List ℕ → ℕ → ℕ → ℕ → List ℕ → List ℕ → ℕ → List ℕ
-movedAt ws gates n m order table t = copyWords ws gates n m (getD order t 0) table
+unfoldable pub movedAt : List ℕ → Nodes → List ℕ → List ℕ → ℕ → List ℕ
+movedAt ws nodes order table t = copyWords ws nodes (getD order t 0) table
 
 -- the block of the words, its gates as the first numbers of `order` say, and numbered by `numbers`
 unfoldable pub arrangement : List ℕ → List ℕ → List ℕ → Block

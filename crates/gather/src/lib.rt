@@ -60,7 +60,9 @@ pub fn gather(words: &[u16], gathered: &mut [u16], order: &mut [u16]) -> Answer
 // Scatter of a block that is not torn: with arrays for any block.
 fn scatter_block(words: &[u16], order: &[u16], original: &mut [u16]) -> Answer
     requires { ⌜ isTorn (now words) ≡ false ⌝ }
-    ensures { λ r. ⌜ Promise (scatterOf (now (words .entry)) (now (order .entry)) (length (now (original .entry)))) (now (original .entry)) r (now (original .exit)) ⌝ }
+    ensures { λ r. ⌜
+        Promise (scatterOf (now (words .entry)) (now (order .entry)) (length (now (original .entry)))) (now (original .entry)) r (now (original .exit))
+        ⌝ }
 {
     let mut places = [0u16; MAX_GATES];
     let mut table = [0u16; MAX_GATES];
@@ -69,7 +71,9 @@ fn scatter_block(words: &[u16], order: &[u16], original: &mut [u16]) -> Answer
 
 // Scatter (6, 13, 11): the block with its gates back in their old order, from the list of their old numbers; count: words.
 pub fn scatter(words: &[u16], order: &[u16], original: &mut [u16]) -> Answer
-    ensures { λ r. ⌜ Promise (scatterOf (now (words .entry)) (now (order .entry)) (length (now (original .entry)))) (now (original .entry)) r (now (original .exit)) ⌝ }
+    ensures { λ r. ⌜
+        Promise (scatterOf (now (words .entry)) (now (order .entry)) (length (now (original .entry)))) (now (original .entry)) r (now (original .exit))
+        ⌝ }
 {
     let tested = check_words(words);
     let Test::Passed = tested else {

@@ -60,7 +60,9 @@ pub fn scatter_with(
     original: &mut [u16],
 ) -> Answer
     requires { ⌜ ScatterReady (now words) (now places) (now table) ⌝ }
-    ensures { λ r. ⌜ Promise (scatter (now (words .entry)) (now (order .entry)) (length (now (original .entry)))) (now (original .entry)) r (now (original .exit)) ⌝ }
+    ensures { λ r. ⌜
+        Promise (scatter (now (words .entry)) (now (order .entry)) (length (now (original .entry)))) (now (original .entry)) r (now (original .exit))
+        ⌝ }
 {
     let listed = find_places(order, gates_of(words), places);
     let tested = refuse_if(!listed, Refusal::NotAPermutation);

@@ -16,6 +16,7 @@ pub mod Bounded
 pub mod RefusedText
 pub mod SetLines
 pub mod Places
+pub mod Limits
 pub mod Adequacy
 pub mod WellFormed
 pub mod WritingNames

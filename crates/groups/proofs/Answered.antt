@@ -13,6 +13,8 @@ use Rattle.netlist.specs.Groups.{groups, groupNumber, groupNumbers}
 use Rattle.netlist.specs.Answers.{done, refuseIf, inRoom}
 use Rattle.netlist.specs.Operations.{groupsBlock, groupsOf}
 use Rattle.encoding.proofs.Decoded.{decode-gateCount}
+use Rattle.layout.specs.declared.nodes.Nodes.{Nodes}
+use Rattle.layout.specs.Nodes.{nodesOf}
 use Rattle.components.specs.Leaders.{leaderOf, LeadReady}
 use Rattle.groups.specs.Numbering.{NumberReady, AssignReady}
 use Rattle.groups.proofs.Whole.{search-ready, number-ready}
@@ -28,14 +30,14 @@ module _ (ws : List ℕ) (room : ℕ) where
   unfolding groupsBlock inRoom groupNumbers
   groups-room = rw (length-tab (groupNumber (decode ws)) (gateCount (decode ws)), decode-gateCount ws) refl
 
-module _ {ws : List ℕ} {n m gates : ℕ} {leaders queue flags : List ℕ} (a : AssignReady ws n m gates leaders queue flags) where
-  pub ready-for : (flags′ queue′ : List ℕ) → length flags′ ≡ length flags → length queue′ ≡ length queue → LeadReady ws n m gates flags′ queue′
+module _ {ws : List ℕ} {nodes : Nodes} {leaders queue flags : List ℕ} (a : AssignReady ws nodes leaders queue flags) where
+  pub ready-for : (flags′ queue′ : List ℕ) → length flags′ ≡ length flags → length queue′ ≡ length queue → LeadReady ws nodes flags′ queue′
   ready-for flags′ queue′ f q =
-      let f′ : getD ws 1 0 ≤ length flags′ = rw (f, ← a .gatesAre) (a .flagRoom) in
-      let q′ : getD ws 1 0 ≤ length queue′ = rw (q, ← a .gatesAre) (a .queueRoom) in
-      rw (a .firstIs, a .inputsAre, a .gatesAre) (search-ready ws (a .whole) flags′ queue′ f′ q′)
+      let f′ : nodesOf ws .gates ≤ length flags′ = rw (f, ← a .nodesAre) (a .flagRoom) in
+      let q′ : nodesOf ws .gates ≤ length queue′ = rw (q, ← a .nodesAre) (a .queueRoom) in
+      rw (a .nodesAre) (search-ready ws (a .whole) flags′ queue′ f′ q′)
 
-  pub number-for : (leaders′ entry : List ℕ) → leaders′ ≡ placed (tab (leaderOf (decode ws)) m) entry → NumberReady ws n m gates leaders′
+  pub number-for : (leaders′ entry : List ℕ) → leaders′ ≡ placed (tab (leaderOf (decode ws)) (nodes .gates)) entry → NumberReady ws nodes leaders′
   number-for leaders′ entry e =
-      rw (a .firstIs, a .inputsAre, a .gatesAre)
-      (number-ready ws (a .whole) leaders′ (λ j l. rw e (placed-tab (leaderOf (decode ws)) m entry j 0 (rw (a .gatesAre) l))))
+      rw (a .nodesAre)
+      (number-ready ws (a .whole) leaders′ (λ j l. rw e (placed-tab (leaderOf (decode ws)) (nodes .gates) entry j 0 (rw (a .nodesAre) l))))

@@ -12,6 +12,7 @@ use Rattle.laws.specs.Lists.{any, tab, joined, member}
 use Rattle.laws.proofs.Tests.{lt-or-le, eq-or-ne, not-both}
 use Rattle.laws.proofs.Tab.{length-tab, getD-tab}
 use Rattle.reach.proofs.ListFacts.{joined-member}
+use Rattle.layout.specs.declared.nodes.Nodes.{Nodes}
 use Rattle.layout.specs.Nodes.{gateNamed}
 use Rattle.links.specs.Links.{FirstFrom}
 use Rattle.search.specs.Search.{wordGate, wordGates, gateReads}
@@ -23,29 +24,30 @@ use Rattle.groups.specs.Waiting.{blocked, Sought, SeekReady, operandAt, 
 -- ---- the gates of a group
 
 -- the leader is a gate
-pub seek-leader : {ws : List ℕ} {n m gates : ℕ} {leaders nexts : List ℕ} {leader from : ℕ} → SeekReady ws n m gates leaders nexts leader from → leader < m
+pub seek-leader : {ws : List ℕ} {nodes : Nodes} {leaders nexts : List ℕ} {leader from : ℕ} → SeekReady ws nodes leaders nexts leader from
+    → leader < nodes .gates
 seek-leader {from = from} s = omega (arith, s .led, lead-le (s .prepared) from (s .below), s .below)
 
 -- none of those from `from` to before i is blocked, and i is the next of them
-pub record Seeking (ws : List ℕ) (n m gates : ℕ) (leaders numbers : List ℕ) (leader from i : ℕ) : Type 0 where
-  pub passed : (x : ℕ) → from ≤ x → x < i → x < m → getD leaders x 0 ≡ leader → blocked ws n m gates leaders numbers leader x ≡ false
-  pub led : i < m → getD leaders i 0 ≡ leader
+pub record Seeking (ws : List ℕ) (nodes : Nodes) (leaders numbers : List ℕ) (leader from i : ℕ) : Type 0 where
+  pub passed : (x : ℕ) → from ≤ x → x < i → x < nodes .gates → getD leaders x 0 ≡ leader → blocked ws nodes leaders numbers leader x ≡ false
+  pub led : i < nodes .gates → getD leaders i 0 ≡ leader
   pub small : i ≤ 65535
 
-module _ {ws : List ℕ} {n m gates : ℕ} {leaders nexts numbers : List ℕ} {leader from : ℕ} (s : SeekReady ws n m gates leaders nexts leader from) where
-  pub seek-none : Seeking ws n m gates leaders numbers leader from from
+module _ {ws : List ℕ} {nodes : Nodes} {leaders nexts numbers : List ℕ} {leader from : ℕ} (s : SeekReady ws nodes leaders nexts leader from) where
+  pub seek-none : Seeking ws nodes leaders numbers leader from from
   seek-none = record { passed = λ x a b. absurd (omega arith); led = λ l. s .led; small = omega (arith, s .below, s .prepared .whole .fewGates) }
 
-  module _ {i : ℕ} (k : Seeking ws n m gates leaders numbers leader from i) where
-    pub seek-end : m ≤ i → Sought ws n m gates leaders numbers leader from i
+  module _ {i : ℕ} (k : Seeking ws nodes leaders numbers leader from i) where
+    pub seek-end : nodes .gates ≤ i → Sought ws nodes leaders numbers leader from i
     seek-end l = record { passed = k .passed; found = λ h. absurd (omega arith); small = k .small }
 
-    module _ (l : i < m) {t : Bool} (tells : t ≡ any (obstacle numbers leaders leader) (gateReads ws n m gates i)) where
-      pub seek-found : t ≡ true → Sought ws n m gates leaders numbers leader from i
+    module _ (l : i < nodes .gates) {t : Bool} (tells : t ≡ any (obstacle numbers leaders leader) (gateReads ws nodes i)) where
+      pub seek-found : t ≡ true → Sought ws nodes leaders numbers leader from i
       unfolding blocked
       seek-found h = record { passed = k .passed; found = λ b. (k .led l, sym tells ∙ h); small = k .small }
 
-      pub seek-more : t ≡ false → (i′ : ℕ) → i′ ≡ getD nexts i 0 → i′ ≤ 65535 → Seeking ws n m gates leaders numbers leader from i′
+      pub seek-more : t ≡ false → (i′ : ℕ) → i′ ≡ getD nexts i 0 → i′ ≤ 65535 → Seeking ws nodes leaders numbers leader from i′
       unfolding blocked
       seek-more h i′ e fits =
           record {
@@ -56,10 +58,10 @@ module _ {ws : List ℕ} {n m gates : ℕ} {leaders nexts numbers : List ℕ} {l
             small = fits;
           }
         where
-          next : FirstFrom leaders leader m (i + 1) i′
+          next : FirstFrom leaders leader (nodes .gates) (i + 1) i′
           next = rw (e, ← k .led l) (s .linked i l)
 
-          at : (x : ℕ) → x ≡ i → any (obstacle numbers leaders leader) (gateReads ws n m gates x) ≡ false
+          at : (x : ℕ) → x ≡ i → any (obstacle numbers leaders leader) (gateReads ws nodes x) ≡ false
           at x q = rw q (sym tells ∙ h)
 
 -- ---- operands
@@ -91,16 +93,18 @@ named-member n m w k h = ⊎-elim one none (lt-or-le (gateNamed n m w) m)
     none l = not-both (rw (named-none n m w refl l) at h) refl
 
 -- a gate that gate i reads is one of its operands
-module _ {ws : List ℕ} {n m gates : ℕ} {leaders : List ℕ} (r : NumberReady ws n m gates leaders) where
-  pub operand-of : (i k : ℕ) → i < m → member k (gateReads ws n m gates i) ≡ true
-      → (x : ℕ) × (x < 4 * m) × (getD (operandsOf ws n m gates) x 0 ≡ k) × (x / 4 ≡ i)
+module _ {ws : List ℕ} {nodes : Nodes} {leaders : List ℕ} (r : NumberReady ws nodes leaders) where
+  pub operand-of : (i k : ℕ) → i < nodes .gates → member k (gateReads ws nodes i) ≡ true
+      → (x : ℕ) × (x < 4 * nodes .gates) × (getD (operandsOf ws nodes) x 0 ≡ k) × (x / 4 ≡ i)
   unfolding gateReads wordGates operandsOf operandAt
   operand-of i k il h =
-      let o : (o : ℕ) × (o < getD ws (gates + 5 * i) 0 / 8) × (member k (wordGate n m (getD ws (gates + 5 * i + 1 + o) 0)) ≡ true) =
-      tab-member (λ o. wordGate n m (getD ws (gates + 5 * i + 1 + o) 0)) (getD ws (gates + 5 * i) 0 / 8) k h in
+      let word : ℕ → ℕ = λ o. getD ws (nodes .start + 5 * i + 1 + o) 0 in
+      let o : (o : ℕ) × (o < getD ws (nodes .start + 5 * i) 0 / 8) × (member k (wordGate (nodes .inputs) (nodes .gates) (word o)) ≡ true) =
+      tab-member (λ o. wordGate (nodes .inputs) (nodes .gates) (word o)) (getD ws (nodes .start + 5 * i) 0 / 8) k h in
       let few : o .0 < 4 = omega (arith, o .1, r .fewOperands i il) in
       let x : ℕ = 4 * i + o .0 in
-      let xl : x < 4 * m = omega arith in
+      let xl : x < 4 * nodes .gates = omega arith in
       let part : x / 4 ≡ i = omega arith in
       let rest : x % 4 ≡ o .0 = omega arith in
-      (x, xl, getD-tab (operandAt ws n m gates) (4 * m) x 0 xl ∙ rw (part, rest) (named-member n m (getD ws (gates + 5 * i + 1 + o .0) 0) k (o .2)), part)
+      let named : gateNamed (nodes .inputs) (nodes .gates) (word (o .0)) ≡ k = named-member (nodes .inputs) (nodes .gates) (word (o .0)) k (o .2) in
+      (x, xl, getD-tab (operandAt ws nodes) (4 * nodes .gates) x 0 xl ∙ rw (part, rest) named, part)

@@ -17,8 +17,8 @@ use Rattle.laws.proofs.Tests.{eq-or-ne, lt-or-le, not-both}
 use Rattle.laws.proofs.Least.{least-below, least-at, least-is}
 use Rattle.netlist.specs.Assignments.{bit}
 use Rattle.lanes.proofs.BitLaws.{bit-low, bit-zero, bit-high, bit-or, bit-xor}
-use Rattle.judge.specs.Lanes.{hasLane}
-use Rattle.judge.proofs.WordLaws.{tells-some}
+use Rattle.lanes.specs.Words.{hasLane}
+use Rattle.lanes.proofs.WordLaws.{tells-some}
 use Rattle.groups.specs.Ready.{inSet, Added, Removed}
 
 -- ---- one bit

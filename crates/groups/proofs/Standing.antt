@@ -22,23 +22,25 @@ use Rattle.laws.proofs.Least.{least-below, least-at, least-is}
 use Rattle.netlist.specs.StoredBlock.{decode}
 use Rattle.netlist.specs.Groups.{mayBeNext}
 use Rattle.reach.proofs.Next.{mayBeNext-left}
+use Rattle.layout.specs.declared.nodes.Nodes.{Nodes}
 use Rattle.links.specs.Links.{FirstFrom}
 use Rattle.links.proofs.Linking.{next-above}
 use Rattle.search.specs.Search.{gateReads}
 use Rattle.groups.specs.Numbering.{noNumber, unnumbered, obstacle, numberedGates, leadsNext, NumberReady}
 use Rattle.groups.specs.Ready.{inSet, Added, Removed}
-use Rattle.groups.specs.Waiting.{blocked, Sought, Stand, nobody, IsReady, Waiting}
+use Rattle.groups.specs.Waiting.{blocked, Sought, Stand, nobody, IsReady, Waiting, AllWaiting}
 use Rattle.groups.specs.Waiting.{Looked, StartReady, operandsOf, Pending, WakeReady, AllLinked, GateReady}
 use Rattle.groups.proofs.Leading.{done-member, lead-le, lead-self, lowest, waits, free}
 use Rattle.groups.proofs.Obstacles.{operand-of}
 
 -- ---- a look at one group
 
-module _ {ws : List ℕ} {n m gates : ℕ} {leaders numbers : List ℕ} where
+module _ {ws : List ℕ} {nodes : Nodes} {leaders numbers : List ℕ} where
   -- where the group stands after a look, if no gate of it below `from` was blocked
-  looked-stand : {leader from : ℕ} {places ready places′ ready′ : List ℕ} (k : Looked ws n m gates leaders numbers leader from places ready places′ ready′)
-      → unnumbered numbers leader ≡ true → ((i : ℕ) → i < from → i < m → getD leaders i 0 ≡ leader → blocked ws n m gates leaders numbers leader i ≡ false)
-      → (excused : ℕ → Type 0) → Stand ws n m gates leaders numbers excused leader (k .place)
+  looked-stand : {leader from : ℕ} {places ready places′ ready′ : List ℕ} (k : Looked ws nodes leaders numbers leader from places ready places′ ready′)
+      → unnumbered numbers leader ≡ true
+      → ((i : ℕ) → i < from → i < nodes .gates → getD leaders i 0 ≡ leader → blocked ws nodes leaders numbers leader i ≡ false)
+      → (excused : ℕ → Type 0) → Stand ws nodes leaders numbers excused leader (k .place)
   looked-stand {leader} {from} k u below excused =
       record {
         cleared = λ i a b c. ⊎-elim (λ l. below i l b c) (λ l. k .sought .passed i l a b c) (lt-or-le i from);
@@ -46,9 +48,9 @@ module _ {ws : List ℕ} {n m gates : ℕ} {leaders numbers : List ℕ} where
       }
 
   -- the two ways through a look
-  module _ {leader from place : ℕ} (s : Sought ws n m gates leaders numbers leader from place) (places ready : List ℕ) where
-    pub look-free : m ≤ place → (ready′ : List ℕ) → Added leader ready ready′
-        → Looked ws n m gates leaders numbers leader from places ready (set places leader place) ready′
+  module _ {leader from place : ℕ} (s : Sought ws nodes leaders numbers leader from place) (places ready : List ℕ) where
+    pub look-free : nodes .gates ≤ place → (ready′ : List ℕ) → Added leader ready ready′
+        → Looked ws nodes leaders numbers leader from places ready (set places leader place) ready′
     look-free l ready′ a =
         record {
           place = place;
@@ -59,13 +61,13 @@ module _ {ws : List ℕ} {n m gates : ℕ} {leaders numbers : List ℕ} where
           stuck = λ h. absurd (omega arith);
         }
 
-    pub look-stuck : place < m → Looked ws n m gates leaders numbers leader from places ready (set places leader place) ready
+    pub look-stuck : place < nodes .gates → Looked ws nodes leaders numbers leader from places ready (set places leader place) ready
     look-stuck l =
         record { place = place; sought = s; placesAre = refl; kept = λ i ne. refl; free = λ h. absurd (omega arith); stuck = λ h. refl }
 
   -- it stands where it stood
   stand-as : {excused excused′ : ℕ → Type 0} {l p : ℕ} → (getD leaders p 0 ≡ l → excused p → excused′ p)
-      → Stand ws n m gates leaders numbers excused l p → Stand ws n m gates leaders numbers excused′ l p
+      → Stand ws nodes leaders numbers excused l p → Stand ws nodes leaders numbers excused′ l p
   stand-as f s =
       record {
         cleared = s .cleared;
@@ -74,7 +76,7 @@ module _ {ws : List ℕ} {n m gates : ℕ} {leaders numbers : List ℕ} where
 
   waiting-as : {upto h : ℕ} {excused excused′ : ℕ → Type 0} {places ready : List ℕ}
       → ((l : ℕ) → l < upto → getD leaders l 0 ≡ l → getD leaders (getD places l 0) 0 ≡ l → excused (getD places l 0) → excused′ (getD places l 0))
-      → Waiting ws n m gates leaders numbers upto h excused places ready → Waiting ws n m gates leaders numbers upto h excused′ places ready
+      → Waiting ws nodes leaders numbers upto h excused places ready → Waiting ws nodes leaders numbers upto h excused′ places ready
   waiting-as f w =
       record {
         placeRoom = w .placeRoom;
@@ -87,8 +89,8 @@ module _ {ws : List ℕ} {n m gates : ℕ} {leaders numbers : List ℕ} where
   -- ---- the first looks
 
   module _ {nexts : List ℕ} where
-    pub start-none : {places ready : List ℕ} → StartReady ws n m gates leaders nexts numbers places ready
-        → Waiting ws n m gates leaders numbers 0 m nobody places ready
+    pub start-none : {places ready : List ℕ} → StartReady ws nodes leaders nexts numbers places ready
+        → Waiting ws nodes leaders numbers 0 (nodes .gates) nobody places ready
     start-none s =
         record {
           placeRoom = s .placeRoom;
@@ -98,8 +100,8 @@ module _ {ws : List ℕ} {n m gates : ℕ} {leaders numbers : List ℕ} where
           complete = λ l r. absurd (omega (arith, r .below));
         }
 
-  module _ {l : ℕ} {places ready : List ℕ} (w : Waiting ws n m gates leaders numbers l m nobody places ready) (lm : l < m) where
-    pub start-skip : (getD leaders l 0 ≡ l → ⊥) → Waiting ws n m gates leaders numbers (l + 1) m nobody places ready
+  module _ {l : ℕ} {places ready : List ℕ} (w : Waiting ws nodes leaders numbers l (nodes .gates) nobody places ready) (lm : l < nodes .gates) where
+    pub start-skip : (getD leaders l 0 ≡ l → ⊥) → Waiting ws nodes leaders numbers (l + 1) (nodes .gates) nobody places ready
     start-skip ne =
         record {
           placeRoom = w .placeRoom;
@@ -117,12 +119,12 @@ module _ {ws : List ℕ} {n m gates : ℕ} {leaders numbers : List ℕ} where
   -- ---- a look among others
 
   module _ {upto upto′ h l from : ℕ} {excused : ℕ → Type 0} (excused′ : ℕ → Type 0) {places ready places′ ready′ : List ℕ}
-      (w : Waiting ws n m gates leaders numbers upto h excused places ready)
-      (k : Looked ws n m gates leaders numbers l from places ready places′ ready′) (leads : getD leaders l 0 ≡ l)
-      (bare : unnumbered numbers l ≡ true) (lm : l < m) (apart : l ≡ h → ⊥) (long : length ready′ ≡ length ready) (inside : l < upto′)
+      (w : Waiting ws nodes leaders numbers upto h excused places ready)
+      (k : Looked ws nodes leaders numbers l from places ready places′ ready′) (leads : getD leaders l 0 ≡ l)
+      (bare : unnumbered numbers l ≡ true) (lm : l < nodes .gates) (apart : l ≡ h → ⊥) (long : length ready′ ≡ length ready) (inside : l < upto′)
       (out : inSet ready l ≡ false)
       (up : (i : ℕ) → (i ≡ l → ⊥) → i < upto → i < upto′) (down : (i : ℕ) → (i ≡ l → ⊥) → i < upto′ → i < upto)
-      (below : (i : ℕ) → i < from → i < m → getD leaders i 0 ≡ l → blocked ws n m gates leaders numbers l i ≡ false)
+      (below : (i : ℕ) → i < from → i < nodes .gates → getD leaders i 0 ≡ l → blocked ws nodes leaders numbers l i ≡ false)
       (still : (i : ℕ) → (i ≡ l → ⊥) → i < upto → getD leaders i 0 ≡ i → getD leaders (getD places i 0) 0 ≡ i → excused (getD places i 0)
       → excused′ (getD places i 0)) where
     at-it : getD places′ l 0 ≡ k .place
@@ -131,24 +133,24 @@ module _ {ws : List ℕ} {n m gates : ℕ} {leaders numbers : List ℕ} where
     at-other : (i : ℕ) → (i ≡ l → ⊥) → getD places′ i 0 ≡ getD places i 0
     at-other i ne = rw (k .placesAre) (getD-set-other places l i (k .place) 0 ne)
 
-    look-stands : (i : ℕ) → i < upto′ → getD leaders i 0 ≡ i → Stand ws n m gates leaders numbers excused′ i (getD places′ i 0)
+    look-stands : (i : ℕ) → i < upto′ → getD leaders i 0 ≡ i → Stand ws nodes leaders numbers excused′ i (getD places′ i 0)
     look-stands i a b = ⊎-elim same other (eq-or-ne i l)
       where
-        same : i ≡ l → Stand ws n m gates leaders numbers excused′ i (getD places′ i 0)
+        same : i ≡ l → Stand ws nodes leaders numbers excused′ i (getD places′ i 0)
         same e =
-            let it : Stand ws n m gates leaders numbers excused′ l (getD places′ l 0) = subst (Stand ws n m gates leaders numbers excused′ l) (sym at-it)
+            let it : Stand ws nodes leaders numbers excused′ l (getD places′ l 0) = subst (Stand ws nodes leaders numbers excused′ l) (sym at-it)
             (looked-stand k bare below excused′) in
             rw e it
 
-        other : (i ≡ l → ⊥) → Stand ws n m gates leaders numbers excused′ i (getD places′ i 0)
+        other : (i ≡ l → ⊥) → Stand ws nodes leaders numbers excused′ i (getD places′ i 0)
         other ne =
-            subst (Stand ws n m gates leaders numbers excused′ i) (sym (at-other i ne))
+            subst (Stand ws nodes leaders numbers excused′ i) (sym (at-other i ne))
             (stand-as (still i ne (down i ne a) b) (w .stands i (down i ne a) b))
 
-    look-sound : (i : ℕ) → inSet ready′ i ≡ true → IsReady m upto′ h leaders numbers places′ i
+    look-sound : (i : ℕ) → inSet ready′ i ≡ true → IsReady (nodes .gates) upto′ h leaders numbers places′ i
     look-sound i t = ⊎-elim same other (eq-or-ne i l)
       where
-        same : i ≡ l → IsReady m upto′ h leaders numbers places′ i
+        same : i ≡ l → IsReady (nodes .gates) upto′ h leaders numbers places′ i
         same e =
             rw e
             (record {
@@ -156,22 +158,22 @@ module _ {ws : List ℕ} {n m gates : ℕ} {leaders numbers : List ℕ} where
               other = apart;
               leads = leads;
               bare = bare;
-              ended = rw at-it (⊎-elim (λ s. not-both (sym (k .stuck s) ∙ rw e at t) out) (λ q. q) (lt-or-le (k .place) m));
+              ended = rw at-it (⊎-elim (λ s. not-both (sym (k .stuck s) ∙ rw e at t) out) (λ q. q) (lt-or-le (k .place) (nodes .gates)));
             })
 
-        other : (i ≡ l → ⊥) → IsReady m upto′ h leaders numbers places′ i
+        other : (i ≡ l → ⊥) → IsReady (nodes .gates) upto′ h leaders numbers places′ i
         other ne =
             let r = w .sound i (sym (k .kept i ne) ∙ t) in
             record { below = up i ne (r .below); other = r .other; leads = r .leads; bare = r .bare; ended = rw (at-other i ne) (r .ended) }
 
-    look-complete : (i : ℕ) → IsReady m upto′ h leaders numbers places′ i → inSet ready′ i ≡ true
+    look-complete : (i : ℕ) → IsReady (nodes .gates) upto′ h leaders numbers places′ i → inSet ready′ i ≡ true
     look-complete i r =
         ⊎-elim (λ e. rw e (k .free (rw (e, at-it) at (r .ended))))
         (λ ne. k .kept i ne ∙ w .complete i
         (record { below = down i ne (r .below); other = r .other; leads = r .leads; bare = r .bare; ended = rw (at-other i ne) at (r .ended) }))
         (eq-or-ne i l)
 
-    looked : Waiting ws n m gates leaders numbers upto′ h excused′ places′ ready′
+    looked : Waiting ws nodes leaders numbers upto′ h excused′ places′ ready′
     looked =
         record {
           placeRoom = rw (k .placesAre, length-set) (w .placeRoom);
@@ -183,10 +185,10 @@ module _ {ws : List ℕ} {n m gates : ℕ} {leaders numbers : List ℕ} where
 
 -- ---- the first looks
 
-module _ {ws : List ℕ} {n m gates : ℕ} {leaders numbers : List ℕ} (r : NumberReady ws n m gates leaders) where
-  pub start-look : {l : ℕ} {places ready places′ ready′ : List ℕ} → Waiting ws n m gates leaders numbers l m nobody places ready → l < m
-      → getD leaders l 0 ≡ l → unnumbered numbers l ≡ true → length ready′ ≡ length ready → Looked ws n m gates leaders numbers l l places ready places′ ready′
-      → Waiting ws n m gates leaders numbers (l + 1) m nobody places′ ready′
+module _ {ws : List ℕ} {nodes : Nodes} {leaders numbers : List ℕ} (r : NumberReady ws nodes leaders) where
+  pub start-look : {l : ℕ} {places ready places′ ready′ : List ℕ} → Waiting ws nodes leaders numbers l (nodes .gates) nobody places ready → l < nodes .gates
+      → getD leaders l 0 ≡ l → unnumbered numbers l ≡ true → length ready′ ≡ length ready → Looked ws nodes leaders numbers l l places ready places′ ready′
+      → Waiting ws nodes leaders numbers (l + 1) (nodes .gates) nobody places′ ready′
   start-look {l} {places} {ready} w lm leads bare long k =
       looked nobody w k leads bare lm (λ e. absurd (omega arith)) long (omega arith)
       (not-true-false (inSet ready l) (λ t. absurd (omega (arith, w .sound l t .below))))
@@ -195,34 +197,34 @@ module _ {ws : List ℕ} {n m gates : ℕ} {leaders numbers : List ℕ} (r : Num
 
   -- ---- readers
 
-  module _ {nexts : List ℕ} {e : ℕ} {places ready : List ℕ} (s : WakeReady ws n m gates leaders nexts numbers e places ready) {leader : ℕ}
+  module _ {nexts : List ℕ} {e : ℕ} {places ready : List ℕ} (s : WakeReady ws nodes leaders nexts numbers e places ready) {leader : ℕ}
       (is : leader ≡ getD leaders (e / 4) 0) where
     abbrev key : ℕ
-    key = getD (operandsOf ws n m gates) e 0
+    key = getD (operandsOf ws nodes) e 0
 
-    within : e / 4 < m
+    within : e / 4 < nodes .gates
     within = omega (arith, s .below)
 
-    leader-below : leader < m
+    leader-below : leader < nodes .gates
     leader-below = omega (arith, is, lead-le r (e / 4) within, within)
 
     -- any other operand that is pending is still
-    later : (i : ℕ) → (getD places i 0 ≡ e / 4 → ⊥) → Pending (operandsOf ws n m gates) m key e (getD places i 0)
-        → Pending (operandsOf ws n m gates) m key (e + 1) (getD places i 0)
+    later : (i : ℕ) → (getD places i 0 ≡ e / 4 → ⊥) → Pending ws nodes key e (getD places i 0)
+        → Pending ws nodes key (e + 1) (getD places i 0)
     later i ne p = (p .0, ⊎-elim (λ q. absurd (ne (sym (p .4) ∙ rw q refl))) (λ d. omega (arith, d, p .1)) (eq-or-ne (p .0) e), p .2, p .3, p .4)
 
     -- the reader's group does not wait at the reader
     pub wake-skip : (getD places leader 0 ≡ e / 4 → ⊥)
-        → Waiting ws n m gates leaders numbers m m (Pending (operandsOf ws n m gates) m key (e + 1)) places ready
+        → AllWaiting ws nodes leaders numbers (Pending ws nodes key (e + 1)) places ready
     wake-skip ne =
         waiting-as (λ i a b c p. later i (λ q. let same : leader ≡ i = is ∙ (rw q at c) in ne (rw same q)) p) (s .waiting)
 
     -- it does, and looks again
     pub wake-look : getD places leader 0 ≡ e / 4 → {places′ ready′ : List ℕ} → length ready′ ≡ length ready
-        → Looked ws n m gates leaders numbers leader (e / 4) places ready places′ ready′
-        → Waiting ws n m gates leaders numbers m m (Pending (operandsOf ws n m gates) m key (e + 1)) places′ ready′
+        → Looked ws nodes leaders numbers leader (e / 4) places ready places′ ready′
+        → AllWaiting ws nodes leaders numbers (Pending ws nodes key (e + 1)) places′ ready′
     wake-look at long k =
-        looked (Pending (operandsOf ws n m gates) m key (e + 1)) (s .waiting) k leads (stand .stuck here .0) leader-below
+        looked (Pending ws nodes key (e + 1)) (s .waiting) k leads (stand .stuck here .0) leader-below
         (λ q. absurd (omega (arith, leader-below))) long leader-below
         (not-true-false (inSet ready leader) (λ t. absurd (omega (arith, s .waiting .sound leader t .ended, here))))
         (λ i ne a. a) (λ i ne a. a)
@@ -232,44 +234,43 @@ module _ {ws : List ℕ} {n m gates : ℕ} {leaders numbers : List ℕ} (r : Num
         leads : getD leaders leader 0 ≡ leader
         leads = rw is (lead-self r (e / 4) within)
 
-        stand : Stand ws n m gates leaders numbers (Pending (operandsOf ws n m gates) m key e) leader (getD places leader 0)
+        stand : Stand ws nodes leaders numbers (Pending ws nodes key e) leader (getD places leader 0)
         stand = s .waiting .stands leader leader-below leads
 
-        here : getD places leader 0 < m
+        here : getD places leader 0 < nodes .gates
         here = rw at within
 
-module _ {ws : List ℕ} {n m gates : ℕ} {leaders numbers places ready : List ℕ} where
+module _ {ws : List ℕ} {nodes : Nodes} {leaders numbers places ready : List ℕ} where
   -- from one reader to the next
-  pub wake-from : (operands : List ℕ) {k from e : ℕ} → FirstFrom operands k (4 * m) from e
-      → Waiting ws n m gates leaders numbers m m (Pending operands m k from) places ready
-      → Waiting ws n m gates leaders numbers m m (Pending operands m k e) places ready
-  wake-from operands {e = e} f w =
+  pub wake-from : {k from e : ℕ} → FirstFrom (operandsOf ws nodes) k (4 * nodes .gates) from e
+      → AllWaiting ws nodes leaders numbers (Pending ws nodes k from) places ready → AllWaiting ws nodes leaders numbers (Pending ws nodes k e) places ready
+  wake-from {e = e} f w =
       waiting-as (λ i a b c p. (p .0, ⊎-elim (λ l. absurd (f .passed (p .0) (p .1) l (p .2) (p .3))) (λ l. l) (lt-or-le (p .0) e), p .2, p .3, p .4)) w
 
   -- the same in a turn of the loop
-  pub wake-turn : {nexts readers links : List ℕ} {k e e′ : ℕ} → AllLinked ws n m gates leaders nexts readers links → e < 4 * m → k < m
-      → getD (operandsOf ws n m gates) e 0 ≡ k → e′ ≡ getD links e 0
-      → Waiting ws n m gates leaders numbers m m (Pending (operandsOf ws n m gates) m (getD (operandsOf ws n m gates) e 0) (e + 1)) places ready
-      → Waiting ws n m gates leaders numbers m m (Pending (operandsOf ws n m gates) m k e′) places ready
-      × (e′ < 4 * m → getD (operandsOf ws n m gates) e′ 0 ≡ k) × (e < e′)
+  pub wake-turn : {nexts readers links : List ℕ} {k e e′ : ℕ} → AllLinked ws nodes leaders nexts readers links → e < 4 * nodes .gates → k < nodes .gates
+      → getD (operandsOf ws nodes) e 0 ≡ k → e′ ≡ getD links e 0
+      → AllWaiting ws nodes leaders numbers (Pending ws nodes (getD (operandsOf ws nodes) e 0) (e + 1)) places ready
+      → AllWaiting ws nodes leaders numbers (Pending ws nodes k e′) places ready
+      × (e′ < 4 * nodes .gates → getD (operandsOf ws nodes) e′ 0 ≡ k) × (e < e′)
   wake-turn {k = k} {e} {e′} a l kl is eq w =
-      let f : FirstFrom (operandsOf ws n m gates) (getD (operandsOf ws n m gates) e 0) (4 * m) (e + 1) e′ = rw eq
+      let f : FirstFrom (operandsOf ws nodes) (getD (operandsOf ws nodes) e 0) (4 * nodes .gates) (e + 1) e′ = rw eq
       (a .readersAre .nextIs e (omega arith) l (rw is kl)) in (
-        subst (λ (key : ℕ). Waiting ws n m gates leaders numbers m m (Pending (operandsOf ws n m gates) m key e′) places ready) is
-            (wake-from (operandsOf ws n m gates) f w),
+        subst (λ (key : ℕ). AllWaiting ws nodes leaders numbers (Pending ws nodes key e′) places ready) is
+            (wake-from f w),
         λ h. f .found h .1 ∙ is,
         next-above f l,
       )
 
   -- no reader is left
-  pub wake-all : (operands : List ℕ) (k : ℕ) {e : ℕ} → 4 * m ≤ e → Waiting ws n m gates leaders numbers m m (Pending operands m k e) places ready
-      → Waiting ws n m gates leaders numbers m m nobody places ready
-  wake-all operands k l w = waiting-as (λ i a b c p. absurd (omega (arith, p .1, p .2))) w
+  pub wake-all : (k : ℕ) {e : ℕ} → 4 * nodes .gates ≤ e → AllWaiting ws nodes leaders numbers (Pending ws nodes k e) places ready
+      → AllWaiting ws nodes leaders numbers nobody places ready
+  wake-all k l w = waiting-as (λ i a b c p. absurd (omega (arith, p .1, p .2))) w
 
 -- ---- a gate gets its number
 
-module _ {ws : List ℕ} {n m gates : ℕ} {leaders nexts readers links : List ℕ} {k g : ℕ} {numbers places ready : List ℕ}
-    (s : GateReady ws n m gates leaders nexts readers links k g numbers places ready) where
+module _ {ws : List ℕ} {nodes : Nodes} {leaders nexts readers links : List ℕ} {k g : ℕ} {numbers places ready : List ℕ}
+    (s : GateReady ws nodes leaders nexts readers links k g numbers places ready) where
   abbrev h : ℕ
   h = getD leaders k 0
 
@@ -291,9 +292,9 @@ module _ {ws : List ℕ} {n m gates : ℕ} {leaders nexts readers links : List �
   had-none : (x : ℕ) → unnumbered (set numbers k g) x ≡ true → unnumbered numbers x ≡ true
   had-none x u = sym (others x (not-it x u)) ∙ u
 
-  blocked-less : (l i : ℕ) → blocked ws n m gates leaders numbers l i ≡ false → blocked ws n m gates leaders (set numbers k g) l i ≡ false
+  blocked-less : (l i : ℕ) → blocked ws nodes leaders numbers l i ≡ false → blocked ws nodes leaders (set numbers k g) l i ≡ false
   unfolding blocked obstacle
-  blocked-less l i f = not-true-false (any (obstacle (set numbers k g) leaders l) (gateReads ws n m gates i)) (λ t. not-both (was t) f)
+  blocked-less l i f = not-true-false (any (obstacle (set numbers k g) leaders l) (gateReads ws nodes i)) (λ t. not-both (was t) f)
     where
       as-before : (x : ℕ) → obstacle (set numbers k g) leaders l x ≡ true → obstacle numbers leaders l x ≡ true
       as-before x t =
@@ -301,31 +302,31 @@ module _ {ws : List ℕ} {n m gates : ℕ} {leaders nexts readers links : List �
           (had-none x (and-left (unnumbered (set numbers k g) x) (not (eqb (getD leaders x 0) l)) t))
           (and-right (unnumbered (set numbers k g) x) (not (eqb (getD leaders x 0) l)) t)
 
-      was : any (obstacle (set numbers k g) leaders l) (gateReads ws n m gates i) ≡ true → any (obstacle numbers leaders l) (gateReads ws n m gates i) ≡ true
+      was : any (obstacle (set numbers k g) leaders l) (gateReads ws nodes i) ≡ true → any (obstacle numbers leaders l) (gateReads ws nodes i) ≡ true
       was t =
-          let f : (x : ℕ) × (x < length (gateReads ws n m gates i)) × (obstacle (set numbers k g) leaders l (getD (gateReads ws n m gates i) x 0) ≡ true) =
-          any-at (obstacle (set numbers k g) leaders l) (gateReads ws n m gates i) 0 t in
-          any-from (obstacle numbers leaders l) (gateReads ws n m gates i) (f .0) 0 (f .1) (as-before (getD (gateReads ws n m gates i) (f .0) 0) (f .2))
+          let f : (x : ℕ) × (x < length (gateReads ws nodes i)) × (obstacle (set numbers k g) leaders l (getD (gateReads ws nodes i) x 0) ≡ true) =
+          any-at (obstacle (set numbers k g) leaders l) (gateReads ws nodes i) 0 t in
+          any-from (obstacle numbers leaders l) (gateReads ws nodes i) (f .0) 0 (f .1) (as-before (getD (gateReads ws nodes i) (f .0) 0) (f .2))
 
   -- a gate that was blocked is, or it reads gate k
-  blocked-or : (l i : ℕ) → blocked ws n m gates leaders numbers l i ≡ true
-      → (blocked ws n m gates leaders (set numbers k g) l i ≡ true) ⊎ (member k (gateReads ws n m gates i) ≡ true)
+  blocked-or : (l i : ℕ) → blocked ws nodes leaders numbers l i ≡ true
+      → (blocked ws nodes leaders (set numbers k g) l i ≡ true) ⊎ (member k (gateReads ws nodes i) ≡ true)
   unfolding blocked obstacle
   blocked-or l i t =
-      let f : (x : ℕ) × (x < length (gateReads ws n m gates i)) × (obstacle numbers leaders l (getD (gateReads ws n m gates i) x 0) ≡ true) =
-      any-at (obstacle numbers leaders l) (gateReads ws n m gates i) 0 t in
+      let f : (x : ℕ) × (x < length (gateReads ws nodes i)) × (obstacle numbers leaders l (getD (gateReads ws nodes i) x 0) ≡ true) =
+      any-at (obstacle numbers leaders l) (gateReads ws nodes i) 0 t in
       ⊎-elim
-      (λ e. inr (member-from k (gateReads ws n m gates i) (f .0) (f .1) e))
-      (λ ne. inl (any-from (obstacle (set numbers k g) leaders l) (gateReads ws n m gates i) (f .0) 0 (f .1)
-      (rw (others (getD (gateReads ws n m gates i) (f .0) 0) ne) (f .2))))
-      (eq-or-ne (getD (gateReads ws n m gates i) (f .0) 0) k)
+      (λ e. inr (member-from k (gateReads ws nodes i) (f .0) (f .1) e))
+      (λ ne. inl (any-from (obstacle (set numbers k g) leaders l) (gateReads ws nodes i) (f .0) 0 (f .1)
+      (rw (others (getD (gateReads ws nodes i) (f .0) 0) ne) (f .2))))
+      (eq-or-ne (getD (gateReads ws nodes i) (f .0) 0) k)
 
   -- a leader but h is not gate k
   no-leader : (l : ℕ) → getD leaders l 0 ≡ l → (l ≡ h → ⊥) → l ≡ k → ⊥
   no-leader l leads ne e = ne (sym leads ∙ ap (λ (x : ℕ). getD leaders x 0) e)
 
-  stands-now : (l : ℕ) → l < m → getD leaders l 0 ≡ l
-      → Stand ws n m gates leaders (set numbers k g) (Pending (operandsOf ws n m gates) m k 0) l (getD places l 0)
+  stands-now : (l : ℕ) → l < nodes .gates → getD leaders l 0 ≡ l
+      → Stand ws nodes leaders (set numbers k g) (Pending ws nodes k 0) l (getD places l 0)
   stands-now l lm leads =
       record {
         cleared = λ i a b c. blocked-less l i (old .cleared i a b c);
@@ -337,13 +338,13 @@ module _ {ws : List ℕ} {n m gates : ℕ} {leaders nexts readers links : List �
         );
       }
     where
-      old : Stand ws n m gates leaders numbers nobody l (getD places l 0)
+      old : Stand ws nodes leaders numbers nobody l (getD places l 0)
       old = s .waiting .stands l lm leads
 
-      pending : {p : ℕ} → (x : ℕ) × (x < 4 * m) × (getD (operandsOf ws n m gates) x 0 ≡ k) × (x / 4 ≡ p) → Pending (operandsOf ws n m gates) m k 0 p
+      pending : {p : ℕ} → (x : ℕ) × (x < 4 * nodes .gates) × (getD (operandsOf ws nodes) x 0 ≡ k) × (x / 4 ≡ p) → Pending ws nodes k 0 p
       pending o = (o .0, omega arith, o .1, o .2, o .3)
 
-  pub number-one : Waiting ws n m gates leaders (set numbers k g) m m (Pending (operandsOf ws n m gates) m k 0) places ready
+  pub number-one : AllWaiting ws nodes leaders (set numbers k g) (Pending ws nodes k 0) places ready
   number-one =
       record {
         placeRoom = s .waiting .placeRoom;
@@ -366,10 +367,10 @@ module _ {ws : List ℕ} {n m gates : ℕ} {leaders nexts readers links : List �
 
 -- ---- a group is taken
 
-module _ {ws : List ℕ} {n m gates : ℕ} {leaders numbers places ready : List ℕ} (w : Waiting ws n m gates leaders numbers m m nobody places ready) where
+module _ {ws : List ℕ} {nodes : Nodes} {leaders numbers places ready : List ℕ} (w : AllWaiting ws nodes leaders numbers nobody places ready) where
   -- out of the set
   pub taken-out : (h : ℕ) (ready′ : List ℕ) → length ready′ ≡ length ready → Removed h ready ready′
-      → Waiting ws n m gates leaders numbers m h nobody places ready′
+      → Waiting ws nodes leaders numbers (nodes .gates) h nobody places ready′
   taken-out h ready′ long out =
       record {
         placeRoom = w .placeRoom;
@@ -386,7 +387,7 @@ module _ {ws : List ℕ} {n m gates : ℕ} {leaders numbers places ready : List 
 
   -- it has its number
   module _ (h : ℕ) (has : unnumbered numbers h ≡ false) where
-    pub taken-still : Waiting ws n m gates leaders numbers m h nobody places ready
+    pub taken-still : Waiting ws nodes leaders numbers (nodes .gates) h nobody places ready
     taken-still =
         record {
           placeRoom = w .placeRoom;
@@ -398,55 +399,56 @@ module _ {ws : List ℕ} {n m gates : ℕ} {leaders numbers places ready : List 
               (record { below = r .below; other = λ e. absurd (omega (arith, r .below)); leads = r .leads; bare = r .bare; ended = r .ended });
         }
 
-    pub ended-still : h < m → getD leaders h 0 ≡ h → m ≤ getD places h 0
-    ended-still l leads = ⊎-elim (λ p. not-both (w .stands h l leads .stuck p .0) has) (λ p. p) (lt-or-le (getD places h 0) m)
+    pub ended-still : h < nodes .gates → getD leaders h 0 ≡ h → nodes .gates ≤ getD places h 0
+    ended-still l leads = ⊎-elim (λ p. not-both (w .stands h l leads .stuck p .0) has) (λ p. p) (lt-or-le (getD places h 0) (nodes .gates))
 
 -- ---- the groups that may be next
 
-module _ {ws : List ℕ} {n m gates : ℕ} {leaders numbers places ready : List ℕ} (r : NumberReady ws n m gates leaders)
-    (w : Waiting ws n m gates leaders numbers m m nobody places ready) where
-  set-next : (l : ℕ) → l < m → inSet ready l ≡ leadsNext (decode ws) m numbers leaders l
+module _ {ws : List ℕ} {nodes : Nodes} {leaders numbers places ready : List ℕ} (r : NumberReady ws nodes leaders)
+    (w : AllWaiting ws nodes leaders numbers nobody places ready) where
+  set-next : (l : ℕ) → l < nodes .gates → inSet ready l ≡ leadsNext (decode ws) (nodes .gates) numbers leaders l
   unfolding leadsNext
-  set-next l lm = same-test (inSet ready l) (eqb (getD leaders l 0) l && mayBeNext (decode ws) (numberedGates m numbers) l) forth back
+  set-next l lm = same-test (inSet ready l) (eqb (getD leaders l 0) l && mayBeNext (decode ws) (numberedGates (nodes .gates) numbers) l) forth back
     where
-      forth : inSet ready l ≡ true → eqb (getD leaders l 0) l && mayBeNext (decode ws) (numberedGates m numbers) l ≡ true
+      forth : inSet ready l ≡ true → eqb (getD leaders l 0) l && mayBeNext (decode ws) (numberedGates (nodes .gates) numbers) l ≡ true
       forth t =
           let q = w .sound l t in
-          and-intro (eqb (getD leaders l 0) l) (mayBeNext (decode ws) (numberedGates m numbers) l) (eq-eqb (getD leaders l 0) l (q .leads))
+          and-intro (eqb (getD leaders l 0) l) (mayBeNext (decode ws) (numberedGates (nodes .gates) numbers) l) (eq-eqb (getD leaders l 0) l (q .leads))
           (free r numbers l lm (q .leads) (q .bare) (λ i il e. w .stands l lm (q .leads) .cleared i (omega (arith, q .ended)) il e))
 
-      back : eqb (getD leaders l 0) l && mayBeNext (decode ws) (numberedGates m numbers) l ≡ true → inSet ready l ≡ true
+      back : eqb (getD leaders l 0) l && mayBeNext (decode ws) (numberedGates (nodes .gates) numbers) l ≡ true → inSet ready l ≡ true
       back t =
           let leads : getD leaders l 0 ≡ l = eqb-true (getD leaders l 0) l (and-left (eqb (getD leaders l 0) l) _ t) in
-          let may : mayBeNext (decode ws) (numberedGates m numbers) l ≡ true = and-right (eqb (getD leaders l 0) l) _ t in
+          let may : mayBeNext (decode ws) (numberedGates (nodes .gates) numbers) l ≡ true = and-right (eqb (getD leaders l 0) l) _ t in
           w .complete l
           (record {
             below = lm;
             other = λ e. absurd (omega arith);
             leads = leads;
-            bare = not-false (unnumbered numbers l) (sym (done-member m numbers l lm) ∙ mayBeNext-left (decode ws) (numberedGates m numbers) l may);
-            ended = ⊎-elim (λ p. not-both may (stuck-waits leads p)) (λ p. p) (lt-or-le (getD places l 0) m);
+            bare = not-false (unnumbered numbers l)
+                (sym (done-member (nodes .gates) numbers l lm) ∙ mayBeNext-left (decode ws) (numberedGates (nodes .gates) numbers) l may);
+            ended = ⊎-elim (λ p. not-both may (stuck-waits leads p)) (λ p. p) (lt-or-le (getD places l 0) (nodes .gates));
           })
         where
-          stuck-waits : getD leaders l 0 ≡ l → getD places l 0 < m → mayBeNext (decode ws) (numberedGates m numbers) l ≡ false
+          stuck-waits : getD leaders l 0 ≡ l → getD places l 0 < nodes .gates → mayBeNext (decode ws) (numberedGates (nodes .gates) numbers) l ≡ false
           stuck-waits leads p =
               let q = w .stands l lm leads .stuck p in
               ⊎-elim (λ t. waits r numbers l lm leads (getD places l 0) p (q .1) t) (λ z. absurd z) (q .2)
 
   module _ {j : ℕ} (is : j ≡ least (inSet ready) (64 * length ready)) where
     -- the lowest of the set is the next
-    pub lowest-next : j < m → j ≡ least (leadsNext (decode ws) m numbers leaders) m
+    pub lowest-next : j < nodes .gates → j ≡ least (leadsNext (decode ws) (nodes .gates) numbers leaders) (nodes .gates)
     lowest-next l =
-        sym (least-is (leadsNext (decode ws) m numbers leaders) m j (omega arith)
+        sym (least-is (leadsNext (decode ws) (nodes .gates) numbers leaders) (nodes .gates) j (omega arith)
         (λ i il. sym (set-next i (omega arith)) ∙ least-below (inSet ready) (64 * length ready) i (rw (← is) il))
         (λ jl. sym (set-next j l) ∙ rw is (least-at (inSet ready) (64 * length ready) (rw (← is) (omega (arith, w .readyRoom))))))
 
     -- an empty set has none
-    pub none-next : m ≤ j → m ≡ least (leadsNext (decode ws) m numbers leaders) m
+    pub none-next : nodes .gates ≤ j → nodes .gates ≡ least (leadsNext (decode ws) (nodes .gates) numbers leaders) (nodes .gates)
     none-next l =
-        sym (least-is (leadsNext (decode ws) m numbers leaders) m m (omega arith)
+        sym (least-is (leadsNext (decode ws) (nodes .gates) numbers leaders) (nodes .gates) (nodes .gates) (omega arith)
         (λ i il. sym (set-next i il) ∙ least-below (inSet ready) (64 * length ready) i (rw (← is) (omega arith))) (λ q. absurd (omega arith)))
 
     -- it is in the set
-    pub lowest-in : j < m → inSet ready j ≡ true
+    pub lowest-in : j < nodes .gates → inSet ready j ≡ true
     lowest-in l = rw is (least-at (inSet ready) (64 * length ready) (rw (← is) (omega (arith, w .readyRoom))))

@@ -15,6 +15,7 @@ use Rattle.laws.specs.Lists.{tab, placed, joined, member, least}
 use Rattle.laws.proofs.Tests.{not-both, lt-or-le}
 use Rattle.laws.proofs.Tab.{tab-ext, length-tab, getD-tab, placed-tab}
 use Rattle.laws.proofs.Slices.{drop-placed}
+use Rattle.layout.specs.declared.nodes.Nodes.{Nodes}
 use Rattle.links.specs.Links.{Linked}
 use Rattle.links.proofs.Linking.{linked-as}
 use Rattle.netlist.specs.Netlist.{Block, gateCount}
@@ -66,15 +67,15 @@ kept-behind m numbers entry is = rw is (drop-at (replicate m noNumber) (drop m e
 
 -- ---- links
 
-pub nexts-are : {ws : List ℕ} {n m gates : ℕ} {leaders firsts nexts : List ℕ} → NumberReady ws n m gates leaders → Linked leaders m m 0 firsts nexts
-    → NextsAre leaders m nexts
+pub nexts-are : {ws : List ℕ} {nodes : Nodes} {leaders firsts nexts : List ℕ} → NumberReady ws nodes leaders
+    → Linked leaders (nodes .gates) (nodes .gates) 0 firsts nexts → NextsAre leaders (nodes .gates) nexts
 nexts-are r s j l = s .nextIs j (omega arith) l (omega (arith, lead-le r j l))
 
-pub readers-are : (ws : List ℕ) (n m gates : ℕ) (operands entry readers links : List ℕ) → operands ≡ placed (tab (operandAt ws n m gates) (4 * m)) entry
-    → Linked operands (4 * m) m 0 readers links → Linked (operandsOf ws n m gates) (4 * m) m 0 readers links
+pub readers-are : (ws : List ℕ) (nodes : Nodes) (operands entry readers links : List ℕ) → operands ≡ placed (tab (operandAt ws nodes) (4 * nodes .gates)) entry
+    → Linked operands (4 * nodes .gates) (nodes .gates) 0 readers links → Linked (operandsOf ws nodes) (4 * nodes .gates) (nodes .gates) 0 readers links
 unfolding operandsOf
-readers-are ws n m gates operands entry readers links is s =
-    linked-as (λ i l. rw is (placed-tab (operandAt ws n m gates) (4 * m) entry i 0 l ∙ sym (getD-tab (operandAt ws n m gates) (4 * m) i 0 l))) s
+readers-are ws nodes operands entry readers links is s =
+    linked-as (λ i l. rw is (placed-tab (operandAt ws nodes) (4 * nodes .gates) entry i 0 l ∙ sym (getD-tab (operandAt ws nodes) (4 * nodes .gates) i 0 l))) s
 
 module _ (b : Block) (inside : Inside b) where
   -- there is a next gate only while groups are left, and always then
@@ -123,51 +124,53 @@ module _ (b : Block) (inside : Inside b) where
       (λ j l. rw (lt-ltb (groupNumber b j) (length (groups b)) (groupNumber-below b inside j l)) refl)
 
 -- a turn of the loop: gate j leads the next group
-module _ {ws : List ℕ} {n m gates : ℕ} {leaders : List ℕ} (r : NumberReady ws n m gates leaders) (g : ℕ) (numbers₀ numbers : List ℕ)
-    (is : numbers ≡ placed (tab (numberUpTo (decode ws) g) m) numbers₀) (j : ℕ) (found : j ≡ least (leadsNext (decode ws) m numbers leaders) m) where
-  number-now : (i : ℕ) → i < m → getD numbers i 0 ≡ numberUpTo (decode ws) g i
-  number-now i l = rw is (placed-tab (numberUpTo (decode ws) g) m numbers₀ i 0 l)
+module _ {ws : List ℕ} {nodes : Nodes} {leaders : List ℕ} (r : NumberReady ws nodes leaders) (g : ℕ) (numbers₀ numbers : List ℕ)
+    (is : numbers ≡ placed (tab (numberUpTo (decode ws) g) (nodes .gates)) numbers₀) (j : ℕ)
+    (found : j ≡ least (leadsNext (decode ws) (nodes .gates) numbers leaders) (nodes .gates)) where
+  number-now : (i : ℕ) → i < nodes .gates → getD numbers i 0 ≡ numberUpTo (decode ws) g i
+  number-now i l = rw is (placed-tab (numberUpTo (decode ws) g) (nodes .gates) numbers₀ i 0 l)
 
-  now : State ws n m gates g leaders numbers
+  now : State ws nodes g leaders numbers
   now = record { prepared = r; numbersAre = number-now }
 
   next : j ≡ nextGate (decode ws) (joined (take g (groups (decode ws))))
   next = found ∙ next-found now
 
   -- there is none: all groups have their numbers
-  pub turn-last : g ≤ length (groups (decode ws)) → m ≤ j → g ≡ length (groups (decode ws))
+  pub turn-last : g ≤ length (groups (decode ws)) → nodes .gates ≤ j → g ≡ length (groups (decode ws))
   turn-last le h = none-next (decode ws) (r .inside) g le (rw (← next, ← r .gatesAre) h)
 
-  module _ (l : j < m) where
+  module _ (l : j < nodes .gates) where
     pub turn-within : g + 1 ≤ length (groups (decode ws))
     turn-within = rw add-one (next-within (decode ws) (r .inside) g (rw (← next) (in-block r l)))
 
     -- the gates that j leads are those of the next group
-    pub turn-numbers : (numbers′ : List ℕ) → numbers′ ≡ placed (tab (renumbered leaders j g numbers) m) numbers
-        → numbers′ ≡ placed (tab (numberUpTo (decode ws) (g + 1)) m) numbers₀
+    pub turn-numbers : (numbers′ : List ℕ) → numbers′ ≡ placed (tab (renumbered leaders j g numbers) (nodes .gates)) numbers
+        → numbers′ ≡ placed (tab (numberUpTo (decode ws) (g + 1)) (nodes .gates)) numbers₀
     unfolding renumbered
     turn-numbers numbers′ e =
-        let behind : drop m numbers ≡ drop m numbers₀ = rw is
-        (drop-placed (tab (numberUpTo (decode ws) g) m) numbers₀ m (length-tab (numberUpTo (decode ws) g) m)) in
+        let behind : drop (nodes .gates) numbers ≡ drop (nodes .gates) numbers₀ = rw is
+        (drop-placed (tab (numberUpTo (decode ws) g) (nodes .gates)) numbers₀ (nodes .gates) (length-tab (numberUpTo (decode ws) g) (nodes .gates))) in
         e
-        ∙ rw (length-tab (renumbered leaders j g numbers) m, length-tab (numberUpTo (decode ws) (g + 1)) m, behind)
-        (ap (λ (l : List ℕ). l ++ drop m numbers₀) (tab-ext (renumbered leaders j g numbers) (numberUpTo (decode ws) (g + 1)) m each))
+        ∙ rw (length-tab (renumbered leaders j g numbers) (nodes .gates), length-tab (numberUpTo (decode ws) (g + 1)) (nodes .gates), behind)
+        (ap (λ (l : List ℕ). l ++ drop (nodes .gates) numbers₀) (tab-ext (renumbered leaders j g numbers) (numberUpTo (decode ws) (g + 1)) (nodes .gates) each))
       where
-        each : (i : ℕ) → i < m → cond (eqb (getD leaders i 0) j) g (getD numbers i 0) ≡ numberUpTo (decode ws) (g + 1) i
+        each : (i : ℕ) → i < nodes .gates → cond (eqb (getD leaders i 0) j) g (getD numbers i 0) ≡ numberUpTo (decode ws) (g + 1) i
         each i il =
             let led : eqb (getD leaders i 0) j ≡ sameGroup (decode ws) i j = rw (next-leads now j l next) at (lead-same r i j il l) in
             rw (led, number-now i il) (number-more (decode ws) (r .inside) g i j (sym next) (in-block r il) (in-block r l))
 
 -- the loop's end
-pub numbers-end : {ws : List ℕ} {n m gates : ℕ} {leaders : List ℕ} (g : ℕ) (numbers₀ numbers : List ℕ) → NumberReady ws n m gates leaders
-    → numbers ≡ placed (tab (numberUpTo (decode ws) g) m) numbers₀ → g ≡ length (groups (decode ws)) → GroupsNumbered (decode ws) numbers₀ numbers g
+pub numbers-end : {ws : List ℕ} {nodes : Nodes} {leaders : List ℕ} (g : ℕ) (numbers₀ numbers : List ℕ) → NumberReady ws nodes leaders
+    → numbers ≡ placed (tab (numberUpTo (decode ws) g) (nodes .gates)) numbers₀ → g ≡ length (groups (decode ws))
+    → GroupsNumbered (decode ws) numbers₀ numbers g
 unfolding groupNumbers
-numbers-end {ws} {n} {m} {gates} {leaders} g numbers₀ numbers r is end =
+numbers-end {ws} {nodes} {leaders} g numbers₀ numbers r is end =
     record {
       numbersAre =
           is
           ∙ rw (
-            length-tab (numberUpTo (decode ws) g) m,
+            length-tab (numberUpTo (decode ws) g) (nodes .gates),
             length-tab (groupNumber (decode ws)) (gateCount (decode ws)),
             end,
             r .gatesAre,
@@ -188,6 +191,6 @@ numbers-behind {b} {m} {entry = entry} {numbers₀} is e d =
       countIs = d .countIs;
     }
 
-pub end-late : {ws : List ℕ} {n m gates : ℕ} {leaders : List ℕ} (g : ℕ) → NumberReady ws n m gates leaders → g ≤ length (groups (decode ws)) → m ≤ g
+pub end-late : {ws : List ℕ} {nodes : Nodes} {leaders : List ℕ} (g : ℕ) → NumberReady ws nodes leaders → g ≤ length (groups (decode ws)) → nodes .gates ≤ g
     → g ≡ length (groups (decode ws))
-end-late {ws} {m = m} g r le h = let t : length (groups (decode ws)) ≤ gateCount (decode ws) = length-groups (decode ws) in omega (arith, r .gatesAre)
+end-late {ws} g r le h = let t : length (groups (decode ws)) ≤ gateCount (decode ws) = length-groups (decode ws) in omega (arith, r .gatesAre)

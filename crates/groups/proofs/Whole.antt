@@ -14,6 +14,7 @@ use Rattle.netlist.specs.Groups.{gateOperand, readBy}
 use Rattle.encoding.proofs.Nodes.{operandOf-input, operandOf-zero, operandOf-one, operandOf-gate}
 use Rattle.encoding.proofs.Readers.{OperandWord, whole-parts, whole-gate, whole-reads}
 use Rattle.encoding.proofs.Decoded.{decode-gate, decode-gateCount}
+use Rattle.layout.specs.Nodes.{nodesOf}
 use Rattle.search.specs.Search.{wordGate, wordGates, gateReads, GatesReady}
 use Rattle.search.proofs.Marking.{word-gate, word-none}
 use Rattle.components.specs.Leaders.{leaderOf, LeadReady}
@@ -33,8 +34,8 @@ word-operand n m w few (inr (inl e)) = rw (e, word-none n m 65534 (inr few), ope
 word-operand n m w few (inr (inr e)) = rw (e, word-none n m 65535 (inr (omega arith)), operandOf-one n (omega arith)) refl
 
 module _ (ws : List ℕ) (whole : isTorn ws ≡ false) where
-  nodes : getD ws 0 0 + getD ws 1 0 ≤ 65534
-  nodes = omega (arith, whole-parts ws whole .fewInputs, whole-parts ws whole .fewGates)
+  few-nodes : getD ws 0 0 + getD ws 1 0 ≤ 65534
+  few-nodes = omega (arith, whole-parts ws whole .fewInputs, whole-parts ws whole .fewGates)
 
   -- a whole gate's words are read as the gate's operands
   operands : (i : ℕ) → i < getD ws 1 0 → wordGates ws (getD ws 0 0) (getD ws 1 0) (gatesAt (getD ws 0 0) (getD ws 3 0) + 5 * i)
@@ -51,14 +52,14 @@ module _ (ws : List ℕ) (whole : isTorn ws ≡ false) where
       (tab-ext (λ k. wordGate (getD ws 0 0) (getD ws 1 0) (getD ws (gatesAt (getD ws 0 0) (getD ws 3 0) + 5 * i + 1 + k) 0))
       (λ k. gateOperand (operandOf (getD ws 0 0) (getD ws (gatesAt (getD ws 0 0) (getD ws 3 0) + gateSize * i + 1 + k) 0)))
       (getD ws (gatesAt (getD ws 0 0) (getD ws 3 0) + 5 * i) 0 / 8)
-      (λ k kl. word-operand (getD ws 0 0) (getD ws 1 0) (getD ws (gatesAt (getD ws 0 0) (getD ws 3 0) + 5 * i + 1 + k) 0) nodes (w .operands k kl))))
+      (λ k kl. word-operand (getD ws 0 0) (getD ws 1 0) (getD ws (gatesAt (getD ws 0 0) (getD ws 3 0) + 5 * i + 1 + k) 0) few-nodes (w .operands k kl))))
 
   near : gatesAt (getD ws 0 0) (getD ws 3 0) ≤ 1024
   unfolding gatesAt neversAt
   near = omega (arith, whole-parts ws whole .fewInputs, whole-parts ws whole .fewNevers)
 
-  pub gates-ready : GatesReady ws (getD ws 0 0) (getD ws 1 0) (gatesAt (getD ws 0 0) (getD ws 3 0))
-  unfolding gateReads
+  pub gates-ready : GatesReady ws (nodesOf ws)
+  unfolding gateReads nodesOf
   gates-ready =
       record {
         fewInputs = omega (arith, whole-parts ws whole .fewInputs);
@@ -68,12 +69,12 @@ module _ (ws : List ℕ) (whole : isTorn ws ≡ false) where
         inside = λ i k l r. rw (← decode-gateCount ws) (whole-reads ws whole i k r);
       }
 
-  pub search-ready : (flags queue : List ℕ) → getD ws 1 0 ≤ length flags → getD ws 1 0 ≤ length queue
-      → LeadReady ws (getD ws 0 0) (getD ws 1 0) (gatesAt (getD ws 0 0) (getD ws 3 0)) flags queue
+  pub search-ready : (flags queue : List ℕ) → nodesOf ws .gates ≤ length flags → nodesOf ws .gates ≤ length queue → LeadReady ws (nodesOf ws) flags queue
+  unfolding nodesOf
   search-ready flags queue f q = record { search = record { whole = gates-ready; flagRoom = f; queueRoom = q }; gatesAre = sym (decode-gateCount ws) }
 
-  pub number-ready : (leaders : List ℕ) → ((j : ℕ) → j < getD ws 1 0 → getD leaders j 0 ≡ leaderOf (decode ws) j)
-      → NumberReady ws (getD ws 0 0) (getD ws 1 0) (gatesAt (getD ws 0 0) (getD ws 3 0)) leaders
+  pub number-ready : (leaders : List ℕ) → ((j : ℕ) → j < nodesOf ws .gates → getD leaders j 0 ≡ leaderOf (decode ws) j) → NumberReady ws (nodesOf ws) leaders
+  unfolding nodesOf
   number-ready leaders h =
       record {
         whole = gates-ready;

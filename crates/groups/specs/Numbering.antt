@@ -7,9 +7,11 @@ use lib.ListN.{length, getD}
 use lib.Dec.{eqb, ltb}
 use Rattle.laws.specs.Lists.{keep, placed, upTo}
 use Rattle.netlist.specs.Netlist.{Block, gateCount}
-use Rattle.netlist.specs.StoredBlock.{decode, isTorn, gatesAt}
+use Rattle.netlist.specs.StoredBlock.{decode, isTorn}
 use Rattle.netlist.specs.Groups.{mayBeNext, groups, groupNumber, groupNumbers}
 use Rattle.reach.specs.Inside.{Inside}
+use Rattle.layout.specs.declared.nodes.Nodes.{Nodes}
+use Rattle.layout.specs.Nodes.{nodesOf}
 use Rattle.search.specs.Search.{GatesReady}
 use Rattle.components.specs.Leaders.{leaderOf}
 
@@ -41,12 +43,12 @@ unfoldable pub numberUpTo : Block → ℕ → ℕ → ℕ
 numberUpTo b g j = cond (ltb (groupNumber b j) g) (groupNumber b j) noNumber
 
 -- what numbering needs: whole words, leaders, and room
-pub record NumberReady (ws : List ℕ) (n m gates : ℕ) (leaders : List ℕ) : Type 0 where
-  pub whole : GatesReady ws n m gates
-  pub gatesAre : m ≡ gateCount (decode ws)
+pub record NumberReady (ws : List ℕ) (nodes : Nodes) (leaders : List ℕ) : Type 0 where
+  pub whole : GatesReady ws nodes
+  pub gatesAre : nodes .gates ≡ gateCount (decode ws)
   pub inside : Inside (decode ws)
-  pub fewOperands : (i : ℕ) → i < m → getD ws (gates + 5 * i) 0 / 8 ≤ 4
-  pub leads : (j : ℕ) → j < m → getD leaders j 0 ≡ leaderOf (decode ws) j
+  pub fewOperands : (i : ℕ) → i < nodes .gates → getD ws (nodes .start + 5 * i) 0 / 8 ≤ 4
+  pub leads : (j : ℕ) → j < nodes .gates → getD leaders j 0 ≡ leaderOf (decode ws) j
 
 -- `leader` leads no lower gate
 abbrev pub Lowest : List ℕ → ℕ → Type 0
@@ -57,12 +59,10 @@ pub record GroupsNumbered (b : Block) (entry exit : List ℕ) (count : ℕ) : Ty
   pub numbersAre : exit ≡ placed (groupNumbers b) entry
   pub countIs : count ≡ length (groups b)
 
--- a whole block's words and header, and room for every gate in each array
-pub record AssignReady (ws : List ℕ) (n m gates : ℕ) (leaders queue flags : List ℕ) : Type 0 where
+-- a whole block's words and nodes, and room for every gate in each array
+pub record AssignReady (ws : List ℕ) (nodes : Nodes) (leaders queue flags : List ℕ) : Type 0 where
   pub whole : isTorn ws ≡ false
-  pub inputsAre : n ≡ getD ws 0 0
-  pub gatesAre : m ≡ getD ws 1 0
-  pub firstIs : gates ≡ gatesAt (getD ws 0 0) (getD ws 3 0)
-  pub leaderRoom : m ≤ length leaders
-  pub queueRoom : m ≤ length queue
-  pub flagRoom : m ≤ length flags
+  pub nodesAre : nodes ≡ nodesOf ws
+  pub leaderRoom : nodes .gates ≤ length leaders
+  pub queueRoom : nodes .gates ≤ length queue
+  pub flagRoom : nodes .gates ≤ length flags

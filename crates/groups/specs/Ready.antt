@@ -5,7 +5,7 @@ use mathlib.Core.Bool.{Bool, not, _&&_, _||_}
 use mathlib.Core.List.{List}
 use lib.ListN.{getD}
 use lib.Dec.{eqb}
-use Rattle.judge.specs.Lanes.{hasLane}
+use Rattle.lanes.specs.Words.{hasLane}
 
 unfoldable pub inSet : List ℕ → ℕ → Bool
 inSet ready l = hasLane (getD ready (l / 64) 0) (l % 64)

@@ -3,10 +3,9 @@ use crate::numbering::number_groups;
 use crate::ready::READY_WORDS;
 use components::leaders::lead;
 use layout::limits::MAX_GATES;
+use layout::nodes::Nodes;
+use layout::nodes::nodes_of;
 use layout::offsets::OPERAND_WORDS;
-use layout::offsets::gates_at;
-use layout::offsets::gates_of;
-use layout::offsets::inputs_of;
 ghost use mathlib.Core.Path.{_≡_};
 ghost use mathlib.Core.Bool.{false};
 ghost use Prim.Native.Nat.{_≤_};
@@ -15,12 +14,10 @@ ghost use Rattle.netlist.specs.StoredBlock.{decode, isTorn};
 ghost use Rattle.groups.specs.Numbering.{GroupsNumbered, AssignReady};
 ghost use Rattle.groups.specs.Waiting.{Rooms};
 
-// With arrays for the leaders and the search, each of at least m elements. The queue is used again for where each group waits.
+// With arrays for the leaders and the search, each with room for every gate. The queue is used again for where each group waits.
 fn assign_with(
     words: &[u16],
-    n: usize,
-    m: usize,
-    gates: usize,
+    nodes: Nodes,
     numbers: &mut [u16],
     leaders: &mut [u16],
     queue: &mut [u16],
@@ -32,17 +29,15 @@ fn assign_with(
     ready: &mut [u64],
 ) -> usize
     requires { ⌜
-        AssignReady (now words) n m gates (now leaders) (now queue) (now flags) × Rooms m (now numbers) (now nexts) (now readers) (now links) (now operands)
-        (now queue) (now ready)
+        AssignReady (now words) nodes (now leaders) (now queue) (now flags)
+        × Rooms (nodes .gates) (now numbers) (now nexts) (now readers) (now links) (now operands) (now queue) (now ready)
         ⌝ }
     ensures { λ r. ⌜ GroupsNumbered (decode (now (words .entry))) (now (numbers .entry)) (now (numbers .exit)) r ⌝ }
 {
-    lead(words, n, m, gates, leaders, flags, queue);
+    lead(words, nodes, leaders, flags, queue);
     number_groups(
         words,
-        n,
-        m,
-        gates,
+        nodes,
         leaders,
         numbers,
         nexts,
@@ -59,9 +54,7 @@ pub fn assign(words: &[u16], numbers: &mut [u16]) -> usize
     requires { ⌜ (isTorn (now words) ≡ false) × (getD (now words) 1 0 ≤ length (now numbers)) ⌝ }
     ensures { λ r. ⌜ GroupsNumbered (decode (now (words .entry))) (now (numbers .entry)) (now (numbers .exit)) r ⌝ }
 {
-    let n = inputs_of(words);
-    let m = gates_of(words);
-    let gates = gates_at(words);
+    let nodes = nodes_of(words);
     let mut leaders = [0u16; MAX_GATES];
     let mut queue = [0u16; MAX_GATES];
     let mut flags = [0u8; MAX_GATES];
@@ -72,9 +65,7 @@ pub fn assign(words: &[u16], numbers: &mut [u16]) -> usize
     let mut ready = [0u64; READY_WORDS];
     assign_with(
         words,
-        n,
-        m,
-        gates,
+        nodes,
         numbers,
         &mut leaders,
         &mut queue,

@@ -5,6 +5,7 @@ use crate::ready::remove;
 use crate::waiting::number_gate;
 use crate::waiting::start;
 use components::leaders::forget;
+use layout::nodes::Nodes;
 use layout::offsets::OPERAND_WORDS;
 use layout::read::word_at;
 use links::link;
@@ -15,9 +16,7 @@ ghost use Rattle.groups.specs.Waiting.{GroupReady, GroupNumbered, AllRea
 // Gives number g to every gate that `leader` leads; the group is ready.
 fn number_group(
     words: &[u16],
-    n: usize,
-    m: usize,
-    gates: usize,
+    nodes: Nodes,
     leaders: &[u16],
     nexts: &[u16],
     readers: &[u16],
@@ -28,20 +27,18 @@ fn number_group(
     places: &mut [u16],
     ready: &mut [u64],
 )
-    requires { ⌜ GroupReady (now words) n m gates (now leaders) (now nexts) (now readers) (now links) leader g (now numbers) (now places) (now ready) ⌝ }
+    requires { ⌜ GroupReady (now words) nodes (now leaders) (now nexts) (now readers) (now links) leader g (now numbers) (now places) (now ready) ⌝ }
     ensures { λ r. ⌜
-        GroupNumbered (now (words .entry)) n m gates (now (leaders .entry)) leader g (now (numbers .entry)) (now (numbers .exit)) (now (places .exit))
+        GroupNumbered (now (words .entry)) nodes (now (leaders .entry)) leader g (now (numbers .entry)) (now (numbers .exit)) (now (places .exit))
         (now (ready .exit))
         ⌝ }
 {
     remove(leader, ready);
     let mut k = leader;
-    while k < m {
+    while k < nodes.gates {
         number_gate(
             words,
-            n,
-            m,
-            gates,
+            nodes,
             leaders,
             nexts,
             readers,
@@ -59,9 +56,7 @@ fn number_group(
 // Group after group gets its number, the ready one with the lowest gate first; how many groups there are.
 fn number_all(
     words: &[u16],
-    n: usize,
-    m: usize,
-    gates: usize,
+    nodes: Nodes,
     leaders: &[u16],
     nexts: &[u16],
     readers: &[u16],
@@ -70,20 +65,18 @@ fn number_all(
     places: &mut [u16],
     ready: &mut [u64],
 ) -> usize
-    requires { ⌜ AllReady (now words) n m gates (now leaders) (now nexts) (now readers) (now links) (now numbers) (now places) (now ready) ⌝ }
+    requires { ⌜ AllReady (now words) nodes (now leaders) (now nexts) (now readers) (now links) (now numbers) (now places) (now ready) ⌝ }
     ensures { λ r. ⌜ GroupsNumbered (decode (now (words .entry))) (now (numbers .entry)) (now (numbers .exit)) r ⌝ }
 {
     let mut g = 0;
-    while g < m {
+    while g < nodes.gates {
         let j = lowest(ready);
-        if m <= j {
+        if nodes.gates <= j {
             return g;
         }
         number_group(
             words,
-            n,
-            m,
-            gates,
+            nodes,
             leaders,
             nexts,
             readers,
@@ -102,9 +95,7 @@ fn number_all(
 // No gate has a number; the gates of each group and the readers of each gate are linked; every group has looked once.
 fn prepare(
     words: &[u16],
-    n: usize,
-    m: usize,
-    gates: usize,
+    nodes: Nodes,
     leaders: &[u16],
     nexts: &mut [u16],
     readers: &mut [u16],
@@ -115,27 +106,31 @@ fn prepare(
     ready: &mut [u64],
 )
     requires { ⌜
-        NumberReady (now words) n m gates (now leaders) × Rooms m (now numbers) (now nexts) (now readers) (now links) (now operands) (now places)
-        (now ready)
+        NumberReady (now words) nodes (now leaders)
+        × Rooms (nodes .gates) (now numbers) (now nexts) (now readers) (now links) (now operands) (now places) (now ready)
         ⌝ }
     ensures { λ r. ⌜
-        Prepared (now (words .entry)) n m gates (now (leaders .entry)) (now (numbers .entry)) (now (nexts .exit)) (now (readers .exit))
+        Prepared (now (words .entry)) nodes (now (leaders .entry)) (now (numbers .entry)) (now (nexts .exit)) (now (readers .exit))
         (now (links .exit)) (now (numbers .exit)) (now (places .exit)) (now (ready .exit))
         ⌝ }
 {
-    forget(m, numbers);
-    link(leaders, m, m, places, nexts);
-    list_operands(words, n, m, gates, operands);
-    link(operands, OPERAND_WORDS * m, m, readers, links);
-    start(words, n, m, gates, leaders, nexts, numbers, places, ready);
+    forget(nodes.gates, numbers);
+    link(leaders, nodes.gates, nodes.gates, places, nexts);
+    list_operands(words, nodes, operands);
+    link(
+        operands,
+        OPERAND_WORDS * nodes.gates,
+        nodes.gates,
+        readers,
+        links,
+    );
+    start(words, nodes, leaders, nexts, numbers, places, ready);
 }
 
 // Each gate's group number; how many groups there are. The other arrays are used on the way.
 pub fn number_groups(
     words: &[u16],
-    n: usize,
-    m: usize,
-    gates: usize,
+    nodes: Nodes,
     leaders: &[u16],
     numbers: &mut [u16],
     nexts: &mut [u16],
@@ -146,16 +141,14 @@ pub fn number_groups(
     ready: &mut [u64],
 ) -> usize
     requires { ⌜
-        NumberReady (now words) n m gates (now leaders) × Rooms m (now numbers) (now nexts) (now readers) (now links) (now operands) (now places)
-        (now ready)
+        NumberReady (now words) nodes (now leaders)
+        × Rooms (nodes .gates) (now numbers) (now nexts) (now readers) (now links) (now operands) (now places) (now ready)
         ⌝ }
     ensures { λ r. ⌜ GroupsNumbered (decode (now (words .entry))) (now (numbers .entry)) (now (numbers .exit)) r ⌝ }
 {
     prepare(
         words,
-        n,
-        m,
-        gates,
+        nodes,
         leaders,
         nexts,
         readers,
@@ -167,9 +160,7 @@ pub fn number_groups(
     );
     number_all(
         words,
-        n,
-        m,
-        gates,
+        nodes,
         leaders,
         nexts,
         readers,

@@ -1,5 +1,5 @@
 // A set of gates: a bit for each, 64 to a word.
-use judge::words::lowest_lane;
+use lanes::words::lowest_lane;
 use layout::limits::MAX_GATES;
 ghost use mathlib.Core.Path.{_≡_};
 ghost use mathlib.Core.Bool.{true};

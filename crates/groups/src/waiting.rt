@@ -2,19 +2,18 @@
 // readers go on looking.
 use crate::obstacle::seek;
 use crate::ready::add;
+use layout::nodes::Nodes;
 use layout::offsets::OPERAND_WORDS;
 use layout::read::word_at;
 ghost use Prim.Native.Nat.{_+_, _<_};
 ghost use lib.ListN.{getD};
 ghost use Rattle.groups.specs.Waiting.{LookReady, Looked, Waiting, nobody, StartReady, FirstReady, operandsOf, Pending, WakeReady};
-ghost use Rattle.groups.specs.Waiting.{AllLinked, GateReady, GateNumbered};
+ghost use Rattle.groups.specs.Waiting.{AllWaiting, AllLinked, GateReady, GateNumbered};
 
 // The group that `leader` leads looks for an obstacle from gate `from` on: it waits where it finds one, or it is ready.
 fn look(
     words: &[u16],
-    n: usize,
-    m: usize,
-    gates: usize,
+    nodes: Nodes,
     leaders: &[u16],
     nexts: &[u16],
     numbers: &[u16],
@@ -23,15 +22,15 @@ fn look(
     places: &mut [u16],
     ready: &mut [u64],
 )
-    requires { ⌜ LookReady (now words) n m gates (now leaders) (now nexts) leader from (now places) (now ready) ⌝ }
+    requires { ⌜ LookReady (now words) nodes (now leaders) (now nexts) leader from (now places) (now ready) ⌝ }
     ensures { λ r. ⌜
-        Looked (now (words .entry)) n m gates (now (leaders .entry)) (now (numbers .entry)) leader from (now (places .entry)) (now (ready .entry))
+        Looked (now (words .entry)) nodes (now (leaders .entry)) (now (numbers .entry)) leader from (now (places .entry)) (now (ready .entry))
         (now (places .exit)) (now (ready .exit))
         ⌝ }
 {
-    let place = seek(words, n, m, gates, leaders, nexts, numbers, leader, from);
+    let place = seek(words, nodes, leaders, nexts, numbers, leader, from);
     places[leader] = place as u16;
-    if m <= place {
+    if nodes.gates <= place {
         add(leader, ready);
     }
 }
@@ -39,9 +38,7 @@ fn look(
 // Gate l, if it leads a group, has it look for the first time, from l on.
 fn look_first(
     words: &[u16],
-    n: usize,
-    m: usize,
-    gates: usize,
+    nodes: Nodes,
     leaders: &[u16],
     nexts: &[u16],
     numbers: &[u16],
@@ -49,59 +46,34 @@ fn look_first(
     places: &mut [u16],
     ready: &mut [u64],
 )
-    requires { ⌜ FirstReady (now words) n m gates (now leaders) (now nexts) (now numbers) l (now places) (now ready) ⌝ }
+    requires { ⌜ FirstReady (now words) nodes (now leaders) (now nexts) (now numbers) l (now places) (now ready) ⌝ }
     ensures { λ r. ⌜
-        Waiting (now (words .entry)) n m gates (now (leaders .entry)) (now (numbers .entry)) (l + 1) m nobody (now (places .exit)) (now (ready .exit))
+        Waiting (now (words .entry)) nodes (now (leaders .entry)) (now (numbers .entry)) (l + 1) (nodes .gates) nobody (now (places .exit)) (now (ready .exit))
         ⌝ }
 {
     if word_at(leaders, l) == l {
-        look(
-            words,
-            n,
-            m,
-            gates,
-            leaders,
-            nexts,
-            numbers,
-            l,
-            l,
-            places,
-            ready,
-        );
+        look(words, nodes, leaders, nexts, numbers, l, l, places, ready);
     }
 }
 
 // Every group looks for the first time, from its lowest gate on.
 pub fn start(
     words: &[u16],
-    n: usize,
-    m: usize,
-    gates: usize,
+    nodes: Nodes,
     leaders: &[u16],
     nexts: &[u16],
     numbers: &[u16],
     places: &mut [u16],
     ready: &mut [u64],
 )
-    requires { ⌜ StartReady (now words) n m gates (now leaders) (now nexts) (now numbers) (now places) (now ready) ⌝ }
+    requires { ⌜ StartReady (now words) nodes (now leaders) (now nexts) (now numbers) (now places) (now ready) ⌝ }
     ensures { λ r. ⌜
-        Waiting (now (words .entry)) n m gates (now (leaders .entry)) (now (numbers .entry)) m m nobody (now (places .exit)) (now (ready .exit))
+        AllWaiting (now (words .entry)) nodes (now (leaders .entry)) (now (numbers .entry)) nobody (now (places .exit)) (now (ready .exit))
         ⌝ }
 {
     let mut l = 0;
-    while l < m {
-        look_first(
-            words,
-            n,
-            m,
-            gates,
-            leaders,
-            nexts,
-            numbers,
-            l,
-            places,
-            ready,
-        );
+    while l < nodes.gates {
+        look_first(words, nodes, leaders, nexts, numbers, l, places, ready);
         l += 1;
     }
 }
@@ -109,9 +81,7 @@ pub fn start(
 // The gate that operand e names got its number: the reader's group looks again, if it waits at the reader.
 fn wake_reader(
     words: &[u16],
-    n: usize,
-    m: usize,
-    gates: usize,
+    nodes: Nodes,
     leaders: &[u16],
     nexts: &[u16],
     numbers: &[u16],
@@ -119,11 +89,10 @@ fn wake_reader(
     places: &mut [u16],
     ready: &mut [u64],
 )
-    requires { ⌜ WakeReady (now words) n m gates (now leaders) (now nexts) (now numbers) e (now places) (now ready) ⌝ }
+    requires { ⌜ WakeReady (now words) nodes (now leaders) (now nexts) (now numbers) e (now places) (now ready) ⌝ }
     ensures { λ r. ⌜
-        Waiting (now (words .entry)) n m gates (now (leaders .entry)) (now (numbers .entry)) m m
-        (Pending (operandsOf (now (words .entry)) n m gates) m (getD (operandsOf (now (words .entry)) n m gates) e 0) (e + 1)) (now (places .exit))
-        (now (ready .exit))
+        AllWaiting (now (words .entry)) nodes (now (leaders .entry)) (now (numbers .entry))
+        (Pending (now (words .entry)) nodes (getD (operandsOf (now (words .entry)) nodes) e 0) (e + 1)) (now (places .exit)) (now (ready .exit))
         ⌝ }
 {
     let i = e / OPERAND_WORDS;
@@ -131,9 +100,7 @@ fn wake_reader(
     if word_at(places, leader) == i {
         look(
             words,
-            n,
-            m,
-            gates,
+            nodes,
             leaders,
             nexts,
             numbers,
@@ -148,9 +115,7 @@ fn wake_reader(
 // Gate k got its number: each of its readers is woken. They stand in `links`, from `readers[k]` on.
 fn wake(
     words: &[u16],
-    n: usize,
-    m: usize,
-    gates: usize,
+    nodes: Nodes,
     leaders: &[u16],
     nexts: &[u16],
     readers: &[u16],
@@ -161,27 +126,16 @@ fn wake(
     ready: &mut [u64],
 )
     requires { ⌜
-        (k < m) × AllLinked (now words) n m gates (now leaders) (now nexts) (now readers) (now links) × Waiting (now words) n m gates (now leaders)
-        (now numbers) m m (Pending (operandsOf (now words) n m gates) m k 0) (now places) (now ready)
+        (k < nodes .gates) × AllLinked (now words) nodes (now leaders) (now nexts) (now readers) (now links)
+        × AllWaiting (now words) nodes (now leaders) (now numbers) (Pending (now words) nodes k 0) (now places) (now ready)
         ⌝ }
     ensures { λ r. ⌜
-        Waiting (now (words .entry)) n m gates (now (leaders .entry)) (now (numbers .entry)) m m nobody (now (places .exit)) (now (ready .exit))
+        AllWaiting (now (words .entry)) nodes (now (leaders .entry)) (now (numbers .entry)) nobody (now (places .exit)) (now (ready .exit))
         ⌝ }
 {
     let mut e = word_at(readers, k);
-    while e < OPERAND_WORDS * m {
-        wake_reader(
-            words,
-            n,
-            m,
-            gates,
-            leaders,
-            nexts,
-            numbers,
-            e,
-            places,
-            ready,
-        );
+    while e < OPERAND_WORDS * nodes.gates {
+        wake_reader(words, nodes, leaders, nexts, numbers, e, places, ready);
         e = word_at(links, e);
     }
 }
@@ -189,9 +143,7 @@ fn wake(
 // Gate k gets number g, and its readers are woken.
 pub fn number_gate(
     words: &[u16],
-    n: usize,
-    m: usize,
-    gates: usize,
+    nodes: Nodes,
     leaders: &[u16],
     nexts: &[u16],
     readers: &[u16],
@@ -202,18 +154,16 @@ pub fn number_gate(
     places: &mut [u16],
     ready: &mut [u64],
 )
-    requires { ⌜ GateReady (now words) n m gates (now leaders) (now nexts) (now readers) (now links) k g (now numbers) (now places) (now ready) ⌝ }
+    requires { ⌜ GateReady (now words) nodes (now leaders) (now nexts) (now readers) (now links) k g (now numbers) (now places) (now ready) ⌝ }
     ensures { λ r. ⌜
-        GateNumbered (now (words .entry)) n m gates (now (leaders .entry)) k g (now (numbers .entry)) (now (numbers .exit)) (now (places .exit))
+        GateNumbered (now (words .entry)) nodes (now (leaders .entry)) k g (now (numbers .entry)) (now (numbers .exit)) (now (places .exit))
         (now (ready .exit))
         ⌝ }
 {
     numbers[k] = g as u16;
     wake(
         words,
-        n,
-        m,
-        gates,
+        nodes,
         leaders,
         nexts,
         readers,

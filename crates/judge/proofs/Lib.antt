@@ -1,5 +1,4 @@
 -- Mathematics of words of lanes; no function of src/ is named.
-pub mod WordLaws
 pub mod NeverLaws
 pub mod OutputLaws
 pub mod SettledLaws

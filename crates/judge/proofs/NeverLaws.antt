@@ -4,21 +4,21 @@
 --   lines-none, lines-more, lines-all   one never line more of a block
 --   coming-tells                        the settings that may come
 -- Assumes nothing.
-use mathlib.Core.Path.{_≡_, refl, sym, ap, _∙_}
+use mathlib.Core.Path.{_≡_, refl, sym, _∙_}
 use mathlib.Core.Bool.{Bool, true, false, not, _&&_, _||_}
 use mathlib.Core.List.{List, [], _∷_}
-use Prim.Native.Nat.{ℕ, zero, suc, _+_, _*_, _%_, _^_, _≤_, _<_, min}
+use Prim.Native.Nat.{ℕ, zero, suc, _+_, _*_, _%_, _<_, min}
 use native.Mathlib.Numerals.{add-one}
 use native.Mathlib.Omega.{arith}
 use lib.Bits.{bitAnd, bitOr, bitXor, and-le-r}
 use lib.Dec.{eqb}
 use lib.ListN.{getD}
 use lib.Pow.{ones-lt}
-use borrow.Author.Tests.{eq-eqb, ne-eqb}
+use borrow.Author.Tests.{ne-eqb}
 use Rattle.laws.specs.Lists.{any, tab, upTo}
 use Rattle.laws.proofs.Quantifiers.{all-append, any-append}
 use Rattle.netlist.specs.Assignments.{bit, Assignment, fixes, agrees}
-use Rattle.netlist.specs.Netlist.{Block, inputCount}
+use Rattle.netlist.specs.Netlist.{Block}
 use Rattle.netlist.specs.StoredBlock.{neverSize, neversAt, neverAt, decode}
 use Rattle.netlist.specs.Rounds.{isExcluded}
 use Rattle.encoding.proofs.Decoded.{decode-inputCount}
@@ -26,8 +26,9 @@ use Rattle.lanes.specs.Pairs.{full}
 use Rattle.lanes.specs.Batches.{lanesOf, pattern, inputPair}
 use Rattle.lanes.proofs.BitLaws.{bit-low, bit-and, bit-full}
 use Rattle.lanes.proofs.InputLaws.{lanesOf-most, pattern-bit}
-use Rattle.judge.specs.Lanes.{hasLane, Tells, agreesAt, mayCome}
-use Rattle.judge.proofs.WordLaws.{tells-as, tells-all, tells-none, tells-and, tells-or, tells-not}
+use Rattle.lanes.specs.Words.{hasLane, Tells}
+use Rattle.judge.specs.Lanes.{agreesAt, mayCome}
+use Rattle.lanes.proofs.WordLaws.{tells-as, tells-all, tells-none, tells-and, tells-or, tells-not}
 
 -- ---- one input
 

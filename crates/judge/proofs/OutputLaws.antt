@@ -7,11 +7,11 @@
 -- Assumes nothing.
 use mathlib.Core.Path.{_≡_, refl, sym, ap, _∙_}
 use mathlib.Core.Logic.{⊎-elim}
-use mathlib.Core.Bool.{Bool, true, false, not, cond, _||_}
+use mathlib.Core.Bool.{Bool, true, false, not, _||_}
 use mathlib.Core.List.{List, [], _∷_, map}
 use Prim.Native.Nat.{ℕ, zero, suc, _+_, _*_, _^_, _≤_, _<_, max}
 use native.Mathlib.Omega.{arith}
-use lib.Bits.{bitOr, bitXor, differ, or-lt, xor-lt}
+use lib.Bits.{bitOr, differ, or-lt, xor-lt}
 use lib.Dec.{eqb}
 use lib.ListN.{length, getD, length-map, List·getD-map}
 use lib.Pow.{ones-lt}
@@ -19,7 +19,7 @@ use Rattle.laws.specs.Lists.{all, any, upTo}
 use Rattle.laws.proofs.Elements.{getD-defaults}
 use Rattle.laws.proofs.Quantifiers.{all-at, all-from, any-append, any-below, below-any}
 use Rattle.laws.proofs.Tests.{bool-cases, not-both, not-true-false}
-use Rattle.netlist.specs.Values.{Value, undefined, val, isDefined}
+use Rattle.netlist.specs.Values.{Value, undefined, isDefined}
 use Rattle.netlist.specs.Assignments.{bit}
 use Rattle.netlist.specs.Netlist.{constant, Output, inputCount, gateCount}
 use Rattle.netlist.specs.StoredBlock.{nameSize, outputSize, outputsAt, operandOf, outputAt, decode}
@@ -29,12 +29,13 @@ use Rattle.lanes.specs.declared.Pair.{Pair}
 use Rattle.lanes.specs.Pairs.{marked, lane, Proper, full}
 use Rattle.lanes.specs.Batches.{lanesOf}
 use Rattle.lanes.specs.PairRounds.{operandPair}
-use Rattle.lanes.specs.Nodes.{inputsIn, gatesIn, wordPair}
+use Rattle.lanes.specs.Nodes.{inputsIn, gatesIn}
 use Rattle.lanes.proofs.BitLaws.{bit-low, bit-or, bit-xor, bit-full}
 use Rattle.lanes.proofs.RoundLaws.{operandPair-proper, operandPair-lane}
 use Rattle.lanes.proofs.NodeLaws.{wordPair-operand}
-use Rattle.judge.specs.Lanes.{hasLane, Tells, Judged, isUndefinedAt, isUnsettled, outputPair, undefinedIn, undefinedWord, unsettledWord}
-use Rattle.judge.proofs.WordLaws.{tells-as, tells-none, tells-or}
+use Rattle.lanes.specs.Words.{hasLane, Tells}
+use Rattle.judge.specs.Lanes.{Judged, isUndefinedAt, isUnsettled, outputPair, undefinedIn, undefinedWord, unsettledWord}
+use Rattle.lanes.proofs.WordLaws.{tells-as, tells-none, tells-or}
 
 -- the two bits of a lane in use, at which neither is set exactly where the value is undefined
 neither : (z o : ℕ) → z < 2 → o < 2 → eqb (differ 1 (max z o)) 1 ≡ not (isDefined (marked z o))

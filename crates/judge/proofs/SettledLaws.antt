@@ -2,15 +2,16 @@
 --   unsound-tells, counted-tells, sound-tells
 --   ends-near        where a block's outputs stand
 -- Assumes nothing.
-use mathlib.Core.Path.{_≡_, refl, sym, _∙_}
+use mathlib.Core.Path.{_≡_, refl}
 use mathlib.Core.Bool.{Bool, true, false, not, _&&_, _||_}
 use Prim.Native.Nat.{ℕ}
 use lib.Bits.{bitAnd, bitXor}
 use Rattle.netlist.specs.Netlist.{Block}
 use Rattle.netlist.specs.Rounds.{isSettled, isExcluded, isCounted, isSoundAt}
 use Rattle.lanes.specs.Pairs.{full}
-use Rattle.judge.specs.Lanes.{Tells, mayCome, isUnsettled, isUnsound}
-use Rattle.judge.proofs.WordLaws.{tells-as, tells-and, tells-not}
+use Rattle.lanes.specs.Words.{Tells}
+use Rattle.judge.specs.Lanes.{mayCome, isUnsettled, isUnsound}
+use Rattle.lanes.proofs.WordLaws.{tells-as, tells-and, tells-not}
 
 module _ {lanes base : ℕ} (b : Block) {v w : ℕ} where
   pub unsound-tells : Tells lanes base (mayCome b) v → Tells lanes base (isUnsettled b) w → Tells lanes base (isUnsound b) (bitAnd v w)

@@ -1,5 +1,4 @@
 -- Words with a bit at each lane of a batch whose setting passes a test. Cited by the contracts of this crate, of `verdict` and of `compare`.
---   hasLane, Tells                  the bit of a lane; a word that has the bits of a test
 --   agreesAt, mayCome, isUndefinedAt, isUnsettled, isUnsound   the tests
 --   undefinedWord, unsettledWord    the lanes at which an output, or one of the first outputs, is undefined
 --   Judged                          a batch that was decided
@@ -7,7 +6,7 @@
 use mathlib.Core.Path.{_≡_}
 use mathlib.Core.Bool.{Bool, not, _||_}
 use mathlib.Core.List.{List}
-use Prim.Native.Nat.{ℕ, zero, suc, _+_, _*_, _%_, _^_, _≤_, _<_}
+use Prim.Native.Nat.{ℕ, zero, suc, _+_, _*_, _%_, _≤_}
 use lib.Bits.{bitOr, bitXor}
 use lib.Dec.{eqb}
 use lib.ListN.{getD}
@@ -20,15 +19,6 @@ use Rattle.netlist.specs.Rounds.{outputsUnder, isSettled, isExcluded, isSoundAt
 use Rattle.lanes.specs.declared.Pair.{Pair}
 use Rattle.lanes.specs.Nodes.{wordPair}
 use Rattle.batch.specs.Batch.{BatchSettled}
-
-unfoldable pub hasLane : ℕ → ℕ → Bool
-hasLane word s = eqb (bit word s) 1
-
--- of a batch of so many settings from number `base` on: the word has a bit at lane s exactly where setting base + s passes the test, and no bit
--- past the last lane
-pub record Tells (lanes base : ℕ) (test : ℕ → Bool) (word : ℕ) : Type 0 where
-  pub within : word < 2 ^ lanes
-  pub each : (s : ℕ) → s < lanes → hasLane word s ≡ test (base + s)
 
 -- ---- tests of setting number s
 

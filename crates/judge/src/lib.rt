@@ -2,4 +2,3 @@
 pub mod nevers;
 pub mod outputs;
 pub mod settled;
-pub mod words;

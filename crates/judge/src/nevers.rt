@@ -13,7 +13,8 @@ ghost use Rattle.netlist.specs.Assignments.{agrees};
 ghost use Rattle.netlist.specs.StoredBlock.{neverAt, decode};
 ghost use Rattle.netlist.specs.Rounds.{isExcluded};
 ghost use Rattle.lanes.specs.Batches.{lanesOf};
-ghost use Rattle.judge.specs.Lanes.{Tells, agreesAt, mayCome};
+ghost use Rattle.lanes.specs.Words.{Tells};
+ghost use Rattle.judge.specs.Lanes.{agreesAt, mayCome};
 
 // Where input `i` has an assignment's value, or is not fixed.
 fn agreeing_at(n: usize, base: usize, fixed: usize, values: usize, i: usize) -> u64

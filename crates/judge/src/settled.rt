@@ -7,7 +7,8 @@ use layout::offsets::outputs_of;
 ghost use Rattle.netlist.specs.StoredBlock.{decode};
 ghost use Rattle.netlist.specs.Rounds.{isCounted, isSoundAt};
 ghost use Rattle.lanes.specs.Batches.{lanesOf};
-ghost use Rattle.judge.specs.Lanes.{Tells, Judged, isUnsettled, isUnsound};
+ghost use Rattle.lanes.specs.Words.{Tells};
+ghost use Rattle.judge.specs.Lanes.{Judged, isUnsettled, isUnsound};
 
 // Where some output is undefined.
 fn undecided_lanes(words: &[u16], n: usize, base: usize, zeros: &[u64], ones: &[u64]) -> u64

@@ -5,8 +5,8 @@
 --   bit-base-low, bit-base-high     of a batch's setting
 --   le-by-bits, eq-by-bits          two words compared bit by bit
 -- Assumes nothing.
-use mathlib.Core.Path.{_≡_, refl, sym, ap, _∙_}
-use Prim.Native.Nat.{ℕ, zero, suc, _+_, _-_, _*_, _/_, _%_, _^_, _≤_, _<_, min, max, zero-le}
+use mathlib.Core.Path.{_≡_, sym, ap, _∙_}
+use Prim.Native.Nat.{ℕ, zero, suc, _+_, _-_, _/_, _%_, _^_, _≤_, _<_, min, max, zero-le}
 use native.Mathlib.Nat.{lt-of-le-of-lt, min-le-left, max-le, div-eq-of-lt, div-one, zero-div, le-antisymm, pow-suc}
 use native.Mathlib.Numerals.{add-one, one-add}
 use native.Mathlib.Omega.{arith}

@@ -14,7 +14,7 @@ use Prim.Native.Nat.{ℕ, zero, suc, _+_, _-_, _*_, _%_, _^_, _≤_, _<_, min}
 use native.Mathlib.Nat.{min-le-right, min-eq-left, min-eq-right}
 use native.Mathlib.Omega.{arith}
 use borrow.Author.Tests.{lt-ltb, le-ltb, ne-eqb, eqb-true, eqb-false}
-use lib.Bits.{bitAnd, bitXor, differ, and-lt, xor-lt, and-le-r}
+use lib.Bits.{bitAnd, differ, xor-lt, and-le-r}
 use lib.Dec.{eqb, ltb}
 use lib.ListN.{getD, List·getD-eq-default}
 use lib.Pow.{pow-mono, pow-lt, pow-pos, ones-lt}
@@ -23,14 +23,13 @@ use Rattle.laws.proofs.Tests.{lt-or-le}
 use Rattle.laws.proofs.Quantifiers.{all-below}
 use Rattle.laws.proofs.Tab.{map-tab, tab-ext, length-tab, getD-tab}
 use Rattle.netlist.specs.Values.{Value, val}
-use Rattle.netlist.specs.Netlist.{Block, inputCount}
+use Rattle.netlist.specs.Netlist.{Block}
 use Rattle.netlist.specs.Assignments.{bit}
 use Rattle.netlist.specs.Rounds.{settingOf, afterRounds}
-use Rattle.lanes.specs.declared.Pair.{Pair}
 use Rattle.lanes.specs.Pairs.{marked, lane, Proper, full, nothing}
 use Rattle.lanes.specs.PairRounds.{afterPairRounds, AllProper}
 use Rattle.lanes.specs.Batches.{lanesOf, patterns, pattern, inputPair, inputPairs}
-use Rattle.lanes.proofs.BitLaws.{bit-low, bit-zero, bit-high, bit-and, bit-xor, bit-full, bit-base-low, bit-base-high}
+use Rattle.lanes.proofs.BitLaws.{bit-low, bit-zero, bit-and, bit-xor, bit-full, bit-base-low, bit-base-high}
 use Rattle.lanes.proofs.LaneLaws.{nothing-proper}
 use Rattle.lanes.proofs.RoundLaws.{LegalGates, afterPairRounds-lane}
 

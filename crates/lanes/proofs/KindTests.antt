@@ -1,13 +1,13 @@
 -- Which operation a kind is, from its number. Cited by the proofs of `gate::combine` and its neighbours. Assumes nothing.
-use mathlib.Core.Path.{_≡_, refl}
+use mathlib.Core.Path.{_≡_}
 use mathlib.Core.Logic.{_⊎_, inl, inr, ⊎-elim}
-use mathlib.Core.Bool.{true, false, cond}
+use mathlib.Core.Bool.{true, false}
 use Prim.Native.Nat.{ℕ, _≤_, _<_}
 use native.Mathlib.Omega.{arith}
 use borrow.Author.Tests.{ne-eqb}
 use Rattle.laws.proofs.Tests.{eq-or-ne}
 use Rattle.lanes.specs.declared.Pair.{Pair}
-use Rattle.lanes.specs.Pairs.{isConjunction, isParity, inverts, bothPair, eitherPair, parityPair, combined, swapped, finished, neutral, always}
+use Rattle.lanes.specs.Pairs.{isConjunction, isParity, inverts, bothPair, eitherPair, parityPair, combined, swapped, finished}
 
 module _ (k : ℕ) where
   pub conjunction-yes : (k ≡ 1) ⊎ (k ≡ 3) → isConjunction k ≡ true

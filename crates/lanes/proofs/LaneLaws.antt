@@ -4,14 +4,13 @@
 --   *-proper                        proper pairs give proper pairs
 --   pairOf-lane, pairOf-proper      one gate
 -- Assumes nothing.
-use mathlib.Core.Path.{_≡_, refl, sym, ap, _∙_}
+use mathlib.Core.Path.{_≡_, refl, sym, _∙_}
 use mathlib.Core.Bool.{Bool, true, false, cond}
 use mathlib.Core.List.{List, [], _∷_, map}
 use Prim.Native.Nat.{ℕ, zero, suc, _+_, _^_, _≤_, _<_, min, max, zero-le}
 use native.Mathlib.Omega.{arith}
 use lib.Bits.{bitAnd, bitOr, and-lt, or-lt}
-use lib.Dec.{eqb}
-use lib.ListN.{length, getD, length-map}
+use lib.ListN.{length, length-map}
 use lib.Pow.{pow-pos, ones-lt}
 use mathlib.Core.Logic.{⊎-elim}
 use Rattle.laws.proofs.Tests.{lt-or-le}

@@ -6,3 +6,4 @@ pub mod RoundLaws
 pub mod InputLaws
 pub mod KindTests
 pub mod NodeLaws
+pub mod WordLaws

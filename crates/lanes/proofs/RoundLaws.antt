@@ -5,23 +5,22 @@
 --   afterPairRounds-lane, -proper  so many rounds
 -- Assumes nothing.
 use mathlib.Core.Path.{_≡_, refl, sym, ap, _∙_}
-use mathlib.Core.Bool.{Bool, true}
 use mathlib.Core.List.{List, [], _∷_, map}
 use Prim.Native.Nat.{ℕ, zero, suc, _≤_, _<_, zero-le, suc-le-suc}
 use native.Mathlib.Omega.{arith}
 use borrow.Author.Tests.{leb-true}
 use lib.Dec.{leb}
-use lib.ListN.{length, getD, replicate, length-map, List·getD-map}
+use lib.ListN.{length, getD, length-map, List·getD-map}
 use Rattle.laws.proofs.Tests.{and-left, and-right}
 use Rattle.laws.proofs.Lists.{map-replicate}
-use Rattle.netlist.specs.Values.{Value, undefined, val}
+use Rattle.netlist.specs.Values.{undefined}
 use Rattle.netlist.specs.Kinds.{fewestOperands, mostOperands, arityFits, gateValue}
 use Rattle.netlist.specs.Netlist.{Operand, input, gate, constant, Gate, Block, gateCount, gateOf}
 use Rattle.netlist.specs.Rounds.{operandValue, evaluated, round, afterRounds}
 use Rattle.layout.proofs.KindLaws.{not-counts, kind-last}
 use Rattle.rounds.proofs.ListFacts.{getD-replicate-default}
 use Rattle.lanes.specs.declared.Pair.{Pair}
-use Rattle.lanes.specs.Pairs.{lane, Proper, full, nothing, pairOf}
+use Rattle.lanes.specs.Pairs.{lane, Proper, full, nothing}
 use Rattle.lanes.specs.PairRounds.{operandPair, evaluatedPair, pairRound, afterPairRounds, LegalGate, AllProper}
 use Rattle.lanes.proofs.LaneLaws.{nothing-lane, always-lane, nothing-proper, always-proper, pairOf-lane, pairOf-proper}
 

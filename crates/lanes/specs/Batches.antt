@@ -1,6 +1,6 @@
 -- The settings of a batch, from number `base` on, and the pair of each input under them. Assumes nothing.
-use Prim.Native.Nat.{ℕ, _-_, _^_, min}
-use mathlib.Core.Bool.{true, cond}
+use Prim.Native.Nat.{ℕ, _^_, min}
+use mathlib.Core.Bool.{cond}
 use mathlib.Core.List.{List, [], _∷_}
 use lib.Bits.{bitAnd, bitXor}
 use lib.Dec.{eqb, ltb}

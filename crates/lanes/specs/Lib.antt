@@ -3,3 +3,4 @@ pub mod Pairs
 pub mod PairRounds
 pub mod Batches
 pub mod Nodes
+pub mod Words

@@ -11,7 +11,6 @@ use mathlib.Core.List.{List, [], _∷_}
 use lib.Bits.{bitAnd, bitOr}
 use lib.Dec.{eqb}
 use Rattle.netlist.specs.Values.{Value, undefined, val}
-use Rattle.netlist.specs.Kinds.{isNot, isXor, isXnor}
 use Rattle.netlist.specs.Assignments.{bit}
 use Rattle.lanes.specs.declared.Pair.{Pair}
 

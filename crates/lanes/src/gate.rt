@@ -1,12 +1,11 @@
 // One gate's pair from its words and the pairs of the inputs and gates. `zeros` and `ones` have a word for each node, the inputs first, so
-// that an operand word is its own index; `used` has a bit at each lane in use.
+// that an operand word is its own index; `used` has a bit at each lane in use. A gate's words are all in the slice, so that none is tested for.
 use super::Pair;
 use layout::nodes::CONSTANT_0;
 use layout::nodes::CONSTANT_1;
-use layout::read::word_at;
 ghost use mathlib.Core.Path.{_≡_};
-ghost use Prim.Native.Nat.{_<_};
-ghost use lib.ListN.{length};
+ghost use Prim.Native.Nat.{_+_, _<_};
+ghost use lib.ListN.{length, getD};
 ghost use Rattle.ternary.specs.Legal.{LegalHead};
 ghost use Rattle.lanes.specs.Pairs.{neutral, combined, finished, pairOf};
 ghost use Rattle.lanes.specs.Nodes.{pairAt, wordPair, operandsFrom, gatePairAt};
@@ -25,6 +24,14 @@ const NOR: usize = 20;
 const XOR: usize = 21;
 
 const XNOR: usize = 22;
+
+// The word at `i`, which is one of the slice's.
+fn word_in(words: &[u16], i: usize) -> usize
+    requires { ⌜ i < length (now words) ⌝ }
+    ensures { λ r. ⌜ r ≡ getD (now (words .entry)) i 0 ⌝ }
+{
+    words[i] as usize
+}
 
 // The pair at `k`; undefined past the end.
 pub fn pair_at(zeros: &[u64], ones: &[u64], k: usize) -> Pair
@@ -119,10 +126,10 @@ fn pair_of_one(
     zeros: &[u64],
     ones: &[u64],
 ) -> Pair
-    requires { ⌜ (at < length (now words)) × (length (now zeros) ≡ length (now ones)) ⌝ }
+    requires { ⌜ (at + 4 < length (now words)) × (length (now zeros) ≡ length (now ones)) ⌝ }
     ensures { λ r. ⌜ r ≡ pairOf used kind (operandsFrom used (now (zeros .entry)) (now (ones .entry)) (now (words .entry)) at 1) ⌝ }
 {
-    let p = operand_pair(word_at(words, at + 1), used, zeros, ones);
+    let p = operand_pair(word_in(words, at + 1), used, zeros, ones);
     finish(kind, combine(kind, p, first_pair(kind, used)))
 }
 
@@ -135,11 +142,11 @@ fn pair_of_two(
     zeros: &[u64],
     ones: &[u64],
 ) -> Pair
-    requires { ⌜ (at < length (now words)) × (length (now zeros) ≡ length (now ones)) ⌝ }
+    requires { ⌜ (at + 4 < length (now words)) × (length (now zeros) ≡ length (now ones)) ⌝ }
     ensures { λ r. ⌜ r ≡ pairOf used kind (operandsFrom used (now (zeros .entry)) (now (ones .entry)) (now (words .entry)) at 2) ⌝ }
 {
-    let p = operand_pair(word_at(words, at + 1), used, zeros, ones);
-    let q = operand_pair(word_at(words, at + 2), used, zeros, ones);
+    let p = operand_pair(word_in(words, at + 1), used, zeros, ones);
+    let q = operand_pair(word_in(words, at + 2), used, zeros, ones);
     finish(
         kind,
         combine(kind, p, combine(kind, q, first_pair(kind, used))),
@@ -148,17 +155,17 @@ fn pair_of_two(
 
 // The pair of the gate whose words start at `at`, operand by operand.
 fn pair_of_many(words: &[u16], at: usize, used: u64, zeros: &[u64], ones: &[u64]) -> Pair
-    requires { ⌜ LegalHead (now words) at × (length (now zeros) ≡ length (now ones)) ⌝ }
+    requires { ⌜ LegalHead (now words) at × (at + 4 < length (now words)) × (length (now zeros) ≡ length (now ones)) ⌝ }
     ensures { λ r. ⌜ r ≡ gatePairAt used (now (zeros .entry)) (now (ones .entry)) (now (words .entry)) at ⌝ }
 {
-    let head = word_at(words, at);
+    let head = word_in(words, at);
     let kind = head % 8;
     let mut pair = first_pair(kind, used);
     let mut i = head / 8;
     while 0 < i {
         pair = combine(
             kind,
-            operand_pair(word_at(words, at + i), used, zeros, ones),
+            operand_pair(word_in(words, at + i), used, zeros, ones),
             pair,
         );
         i -= 1;
@@ -168,10 +175,10 @@ fn pair_of_many(words: &[u16], at: usize, used: u64, zeros: &[u64], ones: &[u64]
 
 // The same. Most gates have one or two operands: for these the kind is known where its operation is compiled.
 pub fn gate_pair(words: &[u16], at: usize, used: u64, zeros: &[u64], ones: &[u64]) -> Pair
-    requires { ⌜ LegalHead (now words) at × (length (now zeros) ≡ length (now ones)) ⌝ }
+    requires { ⌜ LegalHead (now words) at × (at + 4 < length (now words)) × (length (now zeros) ≡ length (now ones)) ⌝ }
     ensures { λ r. ⌜ r ≡ gatePairAt used (now (zeros .entry)) (now (ones .entry)) (now (words .entry)) at ⌝ }
 {
-    match word_at(words, at) {
+    match word_in(words, at) {
         NOT => pair_of_one(0, words, at, used, zeros, ones),
         AND => pair_of_two(1, words, at, used, zeros, ones),
         OR => pair_of_two(2, words, at, used, zeros, ones),

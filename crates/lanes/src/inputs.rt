@@ -6,7 +6,7 @@ ghost use Rattle.lanes.specs.Pairs.{full};
 ghost use Rattle.lanes.specs.Batches.{lanesOf, pattern, inputPair};
 
 // The settings of a batch have six inputs to tell them apart.
-const LOW_INPUTS: usize = 6;
+pub const LOW_INPUTS: usize = 6;
 
 // Bit s of number i is bit i of s.
 const PATTERNS: [u64; 6] = [

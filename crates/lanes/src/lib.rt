@@ -1,6 +1,7 @@
 // Sixty-four settings at a time: one gate's values under them as a pair of words, and the gate's pair from its operands' pairs.
 pub mod gate;
 pub mod inputs;
+pub mod words;
 
 // Bit s of `zeros` marks value 0 under setting s of a batch, bit s of `ones` value 1; neither: undefined.
 pub struct Pair {

@@ -7,7 +7,6 @@ use mathlib.Core.Path.{_≡_, refl, ap, _∙_}
 use mathlib.Core.List.{List, [], _∷_, _++_}
 use Prim.Native.Nat.{ℕ, zero, suc, _+_, _<_}
 use native.Mathlib.Numerals.{add-one}
-use native.Mathlib.Omega.{arith}
 use lib.ListN.{length, set, replicate, length-append, length-set}
 use Rattle.laws.specs.Lists.{placed}
 use Rattle.laws.proofs.Slices.{set-placed}

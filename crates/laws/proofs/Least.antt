@@ -2,11 +2,11 @@
 --   least-le, least-below, least-at   within the bound; none below passes; it passes if it is below the bound
 --   least-is, least-first             what has these properties is it; it is at most what passes
 -- Assumes nothing.
-use mathlib.Core.Path.{_≡_, refl, sym, _∙_, subst}
+use mathlib.Core.Path.{_≡_, refl}
 use mathlib.Core.Logic.{_⊎_, inl, inr, ⊎-elim}
-use mathlib.Core.Bool.{Bool, true, false, cond, true≢false}
+use mathlib.Core.Bool.{Bool, true, false, cond}
 use Prim.Native.Nat.{ℕ, zero, suc, _+_, _≤_, _<_}
-use native.Mathlib.Nat.{add-zero, zero-add, le-refl, le-antisymm}
+use native.Mathlib.Nat.{le-antisymm}
 use native.Mathlib.Omega.{arith}
 use Rattle.laws.specs.Lists.{leastFrom, least}
 use Rattle.laws.proofs.Tests.{eq-or-ne, lt-or-le, not-both}

@@ -6,6 +6,7 @@ pub mod gather;
 pub mod kinds;
 pub mod limits;
 pub mod masks;
+pub mod names;
 pub mod nodes;
 pub mod offsets;
 pub mod read;

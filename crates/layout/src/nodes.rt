@@ -1,7 +1,17 @@
-// Operand words: nodes and constants (SPECIFICATION 2.3), and the mark of an empty entry in a table of gates.
+// A block's nodes, operand words that name them or constants (SPECIFICATION 2.3), and the mark of an empty entry in a table of gates.
+use crate::offsets::gates_at;
+use crate::offsets::gates_of;
+use crate::offsets::inputs_of;
 ghost use mathlib.Core.Path.{_≡_};
 ghost use Prim.Native.Nat.{_≤_};
-ghost use Rattle.layout.specs.Nodes.{gateNamed};
+ghost use Rattle.layout.specs.Nodes.{gateNamed, nodesOf};
+
+// What every search and sweep of a block goes by: how many inputs and gates it has, and where the first gate's words start.
+pub struct Nodes {
+    pub inputs: usize,
+    pub gates: usize,
+    pub start: usize,
+}
 
 pub const CONSTANT_0: usize = 65534;
 
@@ -23,4 +33,15 @@ pub fn gate_named(word: usize, n: usize, m: usize) -> usize
         return word - n;
     }
     m
+}
+
+// The nodes of a block.
+pub fn nodes_of(words: &[u16]) -> Nodes
+    ensures { λ r. ⌜ r ≡ nodesOf (now (words .entry)) ⌝ }
+{
+    Nodes {
+        inputs: inputs_of(words),
+        gates: gates_of(words),
+        start: gates_at(words),
+    }
 }

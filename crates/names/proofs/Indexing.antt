@@ -7,9 +7,9 @@
 --   index-none, index-new, nodes-none   an empty index
 -- Assumes nothing.
 use Prim.Native.Nat.{ℕ, zero, suc, _+_, _-_, _≤_, _<_}
-use mathlib.Core.Path.{_≡_, refl, sym, ap, _∙_}
-use mathlib.Core.Logic.{_⊎_, inl, inr, ⊎-elim}
-use mathlib.Core.Bool.{Bool, true, false}
+use mathlib.Core.Path.{_≡_, refl, sym, _∙_}
+use mathlib.Core.Logic.{_⊎_, ⊎-elim}
+use mathlib.Core.Bool.{true, false}
 use mathlib.Core.List.{List}
 use native.Mathlib.Nat.{le-antisymm, mod-lt}
 use native.Mathlib.Numerals.{add-one, unary-clauses}
@@ -18,7 +18,7 @@ use lib.ListN.{length, getD, set, take, replicate, length-set, length-take, leng
 use lib.Seq.{getD-set-same, getD-set-other}
 use lib.Dec.{eqb}
 use borrow.Author.Tests.{eqb-true, eq-eqb, lt-ltb, le-ltb}
-use Rattle.laws.proofs.Tests.{not-both, bool-cases, not-true-false, lt-or-le, eq-or-ne}
+use Rattle.laws.proofs.Tests.{not-both, not-true-false, lt-or-le, eq-or-ne}
 use Rattle.laws.proofs.Least.{least-is}
 use Rattle.names.specs.Search.{isAt, indexOf, repeatsAt}
 use Rattle.names.specs.declared.Counts.{Counts}

@@ -6,6 +6,7 @@ pub mod Filling
 pub mod Packing
 pub mod JoinedLines
 pub mod TreeLines
+pub mod Behind
 pub mod TreeWalk
 pub mod TreeCounts
 pub mod TreeTable

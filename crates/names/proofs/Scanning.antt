@@ -1,14 +1,14 @@
 -- What one more byte adds to a count, to a line's length and to a line's brackets: the turns of the loops over bytes. Assumes nothing.
 use Prim.Native.Nat.{ℕ, suc, _+_, _-_, _≤_, _<_}
-use mathlib.Core.Path.{_≡_}
+use mathlib.Core.Path.{_≡_, refl}
 use mathlib.Core.Bool.{Bool, true, false, cond}
 use mathlib.Core.List.{List, [], _∷_}
 use native.Mathlib.Numerals.{add-one}
 use native.Mathlib.Omega.{arith}
-use lib.ListN.{length, getD, drop, drop-of-length-le}
+use lib.ListN.{length, getD, take, drop, drop-of-length-le, length-take}
 use lib.Seq.{drop-cons}
 use lib.Dec.{eqb}
-use borrow.Author.Tests.{ne-eqb}
+use borrow.Author.Tests.{eqb-true, ne-eqb}
 use Rattle.names.specs.Lines.{times, lengthWithLf, lineOpens}
 
 module _ (s : List ℕ) (i : ℕ) (inside : i < length s) where
@@ -72,6 +72,20 @@ lineOpens-le (x ∷ xs) = go (eqb x 10) (eqb x 40) (lineOpens-le xs)
     go true d h = omega arith
     go false true h = omega arith
     go false false h = omega arith
+
+-- a line at the front is a part of so many bytes
+pub line-part : (s : List ℕ) {end : ℕ} → end ≡ lengthWithLf s → end ≡ length (take end s)
+line-part s {end} e = let l = lineLength-le s in rw (length-take end s) (omega arith)
+
+-- the brackets of a line are those among its bytes: its LF is none
+pub opens-within : (s : List ℕ) → times 40 (take (lengthWithLf s) s) ≡ lineOpens s
+opens-within [] = refl
+opens-within (x ∷ xs) = go (eqb x 10) refl (opens-within xs)
+  where
+    go : (b : Bool) → eqb x 10 ≡ b → times 40 (take (lengthWithLf xs) xs) ≡ lineOpens xs
+        → times 40 (take (suc (cond b 0 (lengthWithLf xs))) (x ∷ xs)) ≡ cond b 0 (cond (eqb x 40) 1 0 + lineOpens xs)
+    go true e h = rw (eqb-true x 10 e)
+    go false e h = rw h
 
 pub times-le : (b : ℕ) (s : List ℕ) → times b s ≤ length s
 times-le b [] = omega arith

@@ -1,16 +1,15 @@
 -- Line by line through a text: starts stay inside, and each turn of the loops over lines adds one line. Assumes nothing.
 use Prim.Native.Nat.{ℕ, zero, suc, _+_, _-_, _≤_, _<_}
-use mathlib.Core.Path.{_≡_, refl, _∙_}
+use mathlib.Core.Path.{_≡_, refl}
 use mathlib.Core.Bool.{Bool, true, false, cond}
 use mathlib.Core.List.{List, [], _∷_, _++_}
 use native.Mathlib.Numerals.{add-one}
 use native.Mathlib.Omega.{arith}
-use lib.ListN.{length, getD, drop, length-drop}
+use lib.ListN.{length, drop, length-drop}
 use lib.Dec.{eqb, ltb}
 use borrow.Author.Tests.{ltb-true}
-use Rattle.laws.specs.Lists.{tab}
-use Rattle.names.specs.Lines.{times, lengthWithLf, lineOpens, lineOffset, gatesTo, letterAt, nameOffset, lineWord, linesWith}
-use Rattle.names.proofs.Scanning.{one-le, lineLength-le, lineOpens-le}
+use Rattle.names.specs.Lines.{times, lengthWithLf, lineOpens, lineOffset, gatesTo, nameOffset, lineWord}
+use Rattle.names.proofs.Scanning.{lineLength-le, lineOpens-le}
 
 pub start-le : (text : List ℕ) (i : ℕ) → lineOffset text i ≤ length text
 unfolding lineOffset
@@ -49,24 +48,6 @@ module _ (text : List ℕ) (i at : ℕ) (here′ : at ≡ lineOffset text i) whe
       let g = gatesTo-le text (i + 1) in
       let s = start-le text (i + 1) in
       omega arith
-
-  pub with-more : (letter n one byte : ℕ) → n ≡ linesWith letter text i → byte ≡ getD text (at + 1) 0 → one ≡ cond (eqb byte letter) 1 0
-      → n + one ≡ linesWith letter text (i + 1)
-  unfolding linesWith letterAt
-  with-more letter n one byte e f g =
-      let v : one ≡ cond (eqb (letterAt text i) letter) 1 0 = g ∙ rw (f, here′) in
-      let w : linesWith letter text (i + 1) ≡ linesWith letter text i + (cond (eqb (letterAt text i) letter) 1 0 + 0) = rw (add-one i)
-      (times-append letter (tab (letterAt text) i) (letterAt text i ∷ [])) in
-      omega arith
-
--- no more lines than lines
-pub with-le : (letter : ℕ) (text : List ℕ) (i : ℕ) → linesWith letter text i ≤ i
-unfolding linesWith letterAt
-with-le letter text zero = omega arith
-with-le letter text (suc i) =
-    let h = with-le letter text i in
-    let o = one-le (eqb (getD text (lineOffset text i + 1) 0) letter) in
-    rw (times-append letter (tab (letterAt text) i) (letterAt text i ∷ [])) (omega arith)
 
 -- what stands before a declared name is at most 6 bytes
 pub offset-le : (letter : ℕ) → nameOffset letter ≤ 6

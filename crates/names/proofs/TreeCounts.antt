@@ -1,29 +1,26 @@
 -- The counts that the bytes of a tree's text give are the tree's, and so are the limits. Assumes nothing.
-use Prim.Native.Nat.{ℕ, zero, suc, _+_, _-_, _≤_}
+use Prim.Native.Nat.{ℕ, _+_, _-_, _≤_}
 use mathlib.Core.Path.{_≡_, refl, sym, _∙_}
 use mathlib.Core.Bool.{Bool, true, false, not, _&&_}
-use mathlib.Core.List.{List, [], _∷_, _++_, map, map-append}
+use mathlib.Core.List.{List, [], _∷_, map, map-append}
 use native.Mathlib.Omega.{arith}
-use lib.ListN.{length, replicate, length-append, length-map}
-use lib.Seq.{getD-drop}
-use lib.Dec.{eqb, leb}
-use borrow.Author.Tests.{leb-true, not-false}
-use Rattle.laws.specs.Lists.{all, joined, sum, tab}
+use lib.ListN.{length, length-append, length-map}
+use lib.Dec.{leb}
+use Rattle.laws.specs.Lists.{all, joined, sum}
 use Rattle.laws.proofs.Tests.{and-left, and-right}
-use Rattle.laws.proofs.Tab.{tab-ext}
 use Rattle.laws.proofs.Lists.{sum-append}
-use Rattle.netlist.specs.Limits.{maxText, maxInputs, maxNevers, maxGates, maxOutputs}
+use Rattle.netlist.specs.Limits.{maxText, maxInputs, maxGates, maxOutputs}
 use Rattle.netlist.specs.StoredBlock.{isPlainName}
 use Rattle.netlist.specs.Syntax.{GateLine, Tree, isLegalGate, isLegalOutput}
 use Rattle.netlist.specs.Reading.{lineGates, isOverLimit}
-use Rattle.names.specs.Lines.{times, lineOffset, letterAt, linesWith}
+use Rattle.grammar.proofs.Limits.{limits-within}
+use Rattle.names.specs.Lines.{times}
 use Rattle.names.specs.Trees.{inputText, gateText, outputText, treeLines}
-use Rattle.names.specs.Results.{Prints, lineCounts, countsOf, treeCounts, isOver, TableRoom}
+use Rattle.names.specs.Results.{Prints, countsOf, treeCounts, isOver, TableRoom}
 use Rattle.names.specs.declared.Counts.{Counts}
-use Rattle.names.proofs.Starts.{times-append}
 use Rattle.names.proofs.JoinedLines.{line-count, times-joined}
 use Rattle.names.proofs.TreeLines.{TreeLine, legal-parts, tree-lines, print-lines, input-line, gate-line, output-line}
-use Rattle.names.proofs.TreeWalk.{letters-walk}
+use Rattle.names.proofs.Behind.{inputs-are, named-are}
 
 -- the text of a tree is its lines
 pub text-is : {t : Tree} {text : List ℕ} → Prints t text → text ≡ joined (treeLines t)
@@ -33,52 +30,11 @@ pub line-total : (t : Tree) → length (treeLines t) ≡ length (t .inputs) + (l
 unfolding treeLines
 line-total t = simp (length-append, length-map)
 
--- ---- lines by their letter
-
-times-replicate : (b n c : ℕ) → eqb c b ≡ true → times b (replicate n c) ≡ n
-times-replicate b zero c e = refl
-times-replicate b (suc n) c e = let h = times-replicate b n c e in rw e (omega arith)
-
-times-others : (b n c : ℕ) → eqb c b ≡ false → times b (replicate n c) ≡ 0
-times-others b zero c e = refl
-times-others b (suc n) c e = let h = times-others b n c e in rw e (omega arith)
+-- ---- lines
 
 module _ {t : Tree} {text : List ℕ} (p : Prints t text) where
   pub lines-are : times 10 text ≡ length (t .inputs) + (length (t .gates) + length (t .outputs))
   lines-are = rw (text-is p) (line-count (treeLines t) (tree-lines t (p .legal)) ∙ line-total t)
-
-  letters : tab (letterAt text) (times 10 text) ≡ replicate (length (t .inputs)) 105
-      ++ (replicate (length (t .gates)) 103 ++ replicate (length (t .outputs)) 111)
-  unfolding letterAt
-  letters =
-      rw (text-is p, line-count (treeLines t) (tree-lines t (p .legal)))
-      (tab-ext _ _ (length (treeLines t)) (λ i l. sym (getD-drop (lineOffset (joined (treeLines t)) i) (joined (treeLines t)) 1 0)) ∙ letters-walk t (p .legal))
-
-  split : (b : ℕ) → linesWith b text (times 10 text) ≡ times b (replicate (length (t .inputs)) 105)
-      + (times b (replicate (length (t .gates)) 103) + times b (replicate (length (t .outputs)) 111))
-  unfolding linesWith
-  split b = rw (letters, times-append b (replicate (length (t .inputs)) 105), times-append b (replicate (length (t .gates)) 103))
-
-  pub inputs-are : linesWith 105 text (times 10 text) ≡ length (t .inputs)
-  inputs-are =
-      let a = times-replicate 105 (length (t .inputs)) 105 refl in
-      let b = times-others 105 (length (t .gates)) 103 refl in
-      let c = times-others 105 (length (t .outputs)) 111 refl in
-      omega (arith, split 105)
-
-  pub named-are : linesWith 103 text (times 10 text) ≡ length (t .gates)
-  named-are =
-      let a = times-others 103 (length (t .inputs)) 105 refl in
-      let b = times-replicate 103 (length (t .gates)) 103 refl in
-      let c = times-others 103 (length (t .outputs)) 111 refl in
-      omega (arith, split 103)
-
-  pub outputs-are : linesWith 111 text (times 10 text) ≡ length (t .outputs)
-  outputs-are =
-      let a = times-others 111 (length (t .inputs)) 105 refl in
-      let b = times-others 111 (length (t .gates)) 103 refl in
-      let c = times-replicate 111 (length (t .outputs)) 111 refl in
-      omega (arith, split 111)
 
 -- ---- gates: each line has one bracket of its own, each gate one more
 
@@ -122,10 +78,13 @@ module _ {t : Tree} {text : List ℕ} (p : Prints t text) where
   pub gates-are : times 40 text - times 10 text ≡ sum (map lineGates (t .gates))
   gates-are = omega (arith, all-opens, lines-are p)
 
+  outputs-are : times 10 text - (length (t .inputs) + length (t .gates)) ≡ length (t .outputs)
+  outputs-are = omega (arith, lines-are p)
+
   -- The counts of the bytes are the counts of the tree.
   pub counts-are : countsOf text ≡ treeCounts t
-  unfolding countsOf lineCounts treeCounts
-  counts-are = rw (inputs-are p, named-are p, outputs-are p, gates-are)
+  unfolding countsOf treeCounts
+  counts-are = rw (inputs-are p, named-are p, outputs-are, gates-are)
 
 -- 3: the limits, from the counts
 pub limits-are : (t : Tree) → t .nevers ≡ [] → (c : Counts) → c ≡ treeCounts t → isOver c ≡ isOverLimit t
@@ -133,28 +92,6 @@ unfolding isOver treeCounts isOverLimit
 limits-are t bare c e = rw (e, bare) (no-nevers (leb (length (t .inputs)) maxInputs) _ _)
 
 -- ---- within the limits there is room
-
-pub record WithinLimits (t : Tree) : Type 0 where
-  pub inputs : length (t .inputs) ≤ maxInputs
-  pub nevers : length (t .nevers) ≤ maxNevers
-  pub gates : sum (map lineGates (t .gates)) ≤ maxGates
-  pub outputs : length (t .outputs) ≤ maxOutputs
-
-pub limits-within : (t : Tree) → isOverLimit t ≡ false → WithinLimits t
-unfolding isOverLimit
-limits-within t h =
-    let a = leb (length (t .inputs)) maxInputs in
-    let l = leb (length (t .nevers)) maxNevers in
-    let b = leb (sum (map lineGates (t .gates))) maxGates in
-    let c = leb (length (t .outputs)) maxOutputs in
-    let all′ : a && l && b && c ≡ true = not-false _ h in
-    let front = and-left (a && l && b) c all′ in
-    record {
-      inputs = leb-true _ _ (and-left a l (and-left (a && l) b front));
-      nevers = leb-true _ _ (and-right a l (and-left (a && l) b front));
-      gates = leb-true _ _ (and-right (a && l) b front);
-      outputs = leb-true _ _ (and-right (a && l && b) c all′);
-    }
 
 -- a named gate is a gate
 pub named-le : (gs : List GateLine) → length gs ≤ sum (map lineGates gs)

@@ -45,13 +45,13 @@ name-bytes start s h = and-right (leb 1 (length s) && leb (length s) 8 && start 
 pub times-name : (b : ℕ) → b ≤ 47 → (start : ℕ → Bool) (s : Name) → isLegalName start s ≡ true → times b s ≡ 0
 times-name b l start s h = times-name-bytes b l s (name-bytes start s h)
 
-keyword-bytes : (k : ℕ) → isKind k ≡ true → all isNameByte (keyword k) ≡ true
+pub keyword-bytes : (k : ℕ) → isKind k ≡ true → all isNameByte (keyword k) ≡ true
 unfolding keyword isNameByte isLetter isDigit isUnderscore signatureOf
 keyword-bytes = by-kind (λ k. all isNameByte (keyword k) ≡ true) refl refl refl refl refl refl refl
 
 -- ---- brackets and LFs of a term
 
-kind-legal : (k : ℕ) (ts : Terms) (d : ℕ) → isLegalTerm (apply k ts) (suc d) ≡ true → (isKind k ≡ true) × (isLegalTerms ts d ≡ true)
+pub kind-legal : (k : ℕ) (ts : Terms) (d : ℕ) → isLegalTerm (apply k ts) (suc d) ≡ true → (isKind k ≡ true) × (isLegalTerms ts d ≡ true)
 unfolding isLegalTerm
 kind-legal k ts d h =
     let ab : isKind k && arityFits k (termCount ts) ≡ true = and-left (isKind k && arityFits k (termCount ts)) (isLegalTerms ts d) h in

@@ -149,7 +149,8 @@ module _ (t : Tree) (f : Mention → ℕ) (xs : List ℕ) (held : take (length (
 -- ---- 4: the earliest repeated declaration
 
 module _ (t : Tree) (legal : isLegalTree t ≡ true) (bare : t .nevers ≡ []) (c : Counts) (counted : c ≡ treeCounts t) (names places : List ℕ)
-    (table : NameTable t names places) (nameRoom : c .inputs + c .named + c .outputs ≤ length names) (placeRoom : c .inputs + c .named + c .outputs ≤ length places) where
+    (table : NameTable t names places) (nameRoom : c .inputs + c .named + c .outputs ≤ length names)
+    (placeRoom : c .inputs + c .named + c .outputs ≤ length places) where
   abbrev nodes : ℕ
   nodes = c .inputs + c .named
 

@@ -6,7 +6,7 @@ use mathlib.Core.Bool.{Bool, true, false, _&&_}
 use mathlib.Core.List.{List, [], _∷_, _++_, map, append-assoc, append-nil}
 use native.Mathlib.Nat.{add-zero, zero-add, add-assoc}
 use native.Mathlib.Omega.{arith}
-use lib.ListN.{length, getD, drop, replicate}
+use lib.ListN.{length, getD, drop}
 use lib.Dec.{leb}
 use borrow.Author.Tests.{leb-true}
 use Rattle.laws.specs.Lists.{ascii, all, joined, sum, tab}
@@ -150,21 +150,3 @@ declared-walk t h bare =
       mentions-walk printOutput portMention _ (λ x at. refl) (t .outputs) b,
     )
     (append-assoc i g o))
-
--- ---- the letters
-
-walk-same : {A : Type 0} (line : A → List ℕ) (c : ℕ) (xs : List A) (at : ℕ) → walk line (λ x at. c) xs at ≡ replicate (length xs) c
-walk-same line c [] at = refl
-walk-same line c (x ∷ xs) at = rw (walk-same line c xs (at + length (line x)))
-
-pub letters-walk : (t : Tree) → isLegalTree t ≡ true
-    → tab (λ i. getD (drop (lineOffset (joined (treeLines t)) i) (joined (treeLines t))) 1 0) (length (treeLines t))
-    ≡ replicate (length (t .inputs)) 105 ++ (replicate (length (t .gates)) 103 ++ replicate (length (t .outputs)) 111)
-unfolding inputText gateText outputText printInput printGate printOutput
-letters-walk t h =
-    tree-walk (λ at rest. getD rest 1 0) (λ x at. 105) (λ x at. 103) (λ x at. 111) (λ x at rest l. refl) (λ x at rest l. refl) (λ x at rest l. refl) t h
-    ∙ rw (
-      walk-same inputText 105 (t .inputs) 0,
-      walk-same gateText 103 (t .gates) (size inputText (t .inputs)),
-      walk-same outputText 111 (t .outputs) (size inputText (t .inputs) + size gateText (t .gates)),
-    )

@@ -12,9 +12,9 @@ use Rattle.names.specs.Search.{isAt, repeatsAt}
 abbrev pub hashes : ℕ
 hashes = 8101
 
--- so many names have an index where they are too many to compare with each other: maxText / 6, as a pair has at least 6 bytes
-abbrev pub many : ℕ
-many = 10240
+-- the most pairs of a line: maxText / 6, as a pair has at least 6 bytes
+abbrev pub maxPairs : ℕ
+maxPairs = 10240
 
 unfoldable pub hashOf : ℕ → ℕ
 hashOf name = name % hashes

@@ -1,8 +1,8 @@
--- A text as lines, read from its bytes alone: where line i starts, which letter follows its bracket, where its declared name stands, and
+-- A text as lines, read from its bytes alone: where line i starts, where its declared name stands, and
 -- how many gates close up to its end. On the print of a legal tree these are the tree's own numbers (proofs/).
 use Prim.Native.Nat.{ℕ, zero, suc, _+_, _-_, _≤_}
 use mathlib.Core.Path.{_≡_}
-use mathlib.Core.Bool.{cond}
+use mathlib.Core.Bool.{Bool, false, cond, _&&_}
 use mathlib.Core.List.{List, [], _∷_}
 use lib.ListN.{length, getD, drop}
 use lib.Dec.{eqb, ltb}
@@ -13,6 +13,16 @@ use Rattle.netlist.specs.Limits.{maxText, maxInputs}
 abbrev pub times : ℕ → List ℕ → ℕ
 times b [] = 0
 times b (x ∷ xs) = cond (eqb x b) 1 0 + times b xs
+
+-- the first of a list is this number
+abbrev pub isFirst : ℕ → List ℕ → Bool
+isFirst b [] = false
+isFirst b (x ∷ xs) = eqb x b
+
+-- how often b stands right behind a
+abbrev pub timesBehind : ℕ → ℕ → List ℕ → ℕ
+timesBehind a b [] = 0
+timesBehind a b (x ∷ xs) = cond (eqb x a && isFirst b xs) 1 0 + timesBehind a b xs
 
 -- the bytes up to the first LF, that LF counted
 abbrev pub lengthWithLf : List ℕ → ℕ
@@ -34,10 +44,6 @@ unfoldable pub gatesTo : List ℕ → ℕ → ℕ
 gatesTo text zero = 0
 gatesTo text (suc i) = gatesTo text i + (lineOpens (drop (lineOffset text i) text) - 1)
 
--- the letter behind the bracket of line i: `i`, `g` or `o`
-unfoldable pub letterAt : List ℕ → ℕ → ℕ
-letterAt text i = getD text (lineOffset text i + 1) 0
-
 -- "(in ", "(gate " or "(out " stands before the name
 unfoldable pub nameOffset : ℕ → ℕ
 nameOffset letter = cond (eqb letter 105) 4 (cond (eqb letter 103) 6 5)
@@ -55,10 +61,6 @@ lineWord n i gates = cond (ltb i n) i (n + (gates - 1))
 
 unfoldable pub wordAt : List ℕ → ℕ → ℕ → ℕ
 wordAt text n i = lineWord n i (gatesTo text (suc i))
-
--- how many of the first `count` lines begin with this letter
-unfoldable pub linesWith : ℕ → List ℕ → ℕ → ℕ
-linesWith letter text count = times letter (tab (letterAt text) count)
 
 -- ---- the tables of lines
 

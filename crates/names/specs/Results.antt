@@ -15,7 +15,7 @@ use Rattle.netlist.specs.StoredBlock.{nodeWord}
 use Rattle.netlist.specs.Syntax.{Tree, isLegalTree, print}
 use Rattle.netlist.specs.Reading.{Mention, Binding, lineGates, declaredNodes, declaredPorts, bindings, firstDuplicate}
 use Rattle.names.specs.Packed.{packed}
-use Rattle.names.specs.Lines.{times, linesWith}
+use Rattle.names.specs.Lines.{times, timesBehind}
 use Rattle.names.specs.Index.{hashes, Indexed}
 use Rattle.names.specs.declared.Counts.{Counts}
 
@@ -25,14 +25,16 @@ pub record Prints (t : Tree) (text : List ℕ) : Type 0 where
   pub bare : t .nevers ≡ []
   pub printed : print t ≡ text
 
--- the counts of the first lines, with so many gates
-unfoldable pub lineCounts : List ℕ → ℕ → ℕ → Counts
-lineCounts text lines gates =
-    record { inputs = linesWith 105 text lines; named = linesWith 103 text lines; outputs = linesWith 111 text lines; gates = gates }
-
--- the counts as the bytes give them: each line has one bracket of its own, each gate one more
+-- the counts as the bytes give them: each line has one bracket of its own, each gate one more; `i` and `g` stand behind those of inputs and of named
+-- gates alone
 unfoldable pub countsOf : List ℕ → Counts
-countsOf text = lineCounts text (times 10 text) (times 40 text - times 10 text)
+countsOf text =
+    record {
+      inputs = timesBehind 40 105 text;
+      named = timesBehind 40 103 text;
+      outputs = times 10 text - (timesBehind 40 105 text + timesBehind 40 103 text);
+      gates = times 40 text - times 10 text;
+    }
 
 -- the counts as the tree gives them
 unfoldable pub treeCounts : Tree → Counts

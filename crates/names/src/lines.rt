@@ -6,10 +6,10 @@ ghost use Prim.Native.Nat.{_+_, _-_, _≤_};
 ghost use lib.Dec.{eqb};
 ghost use lib.ListN.{length, drop};
 ghost use Rattle.netlist.specs.Limits.{maxText};
-ghost use Rattle.names.specs.Lines.{times, lengthWithLf, lineOpens};
+ghost use Rattle.names.specs.Lines.{times, timesBehind, lengthWithLf, lineOpens};
 
 // 1 where the bytes are the same.
-pub fn one_if(a: u8, b: u8) -> usize
+fn one_if(a: u8, b: u8) -> usize
     ensures { λ r. ⌜ r ≡ cond (eqb a b) 1 0 ⌝ }
 {
     if a == b { 1 } else { 0 }
@@ -31,6 +31,20 @@ pub fn count(s: &[u8], b: u8) -> usize
     let mut i = 0;
     while i < s.len() {
         n += one_if(s[i], b) as u16;
+        i += 1;
+    }
+    n as usize
+}
+
+// How often `b` stands right behind `a` in `s`; counted likewise.
+pub fn count_behind(s: &[u8], a: u8, b: u8) -> usize
+    requires { ⌜ length (now s) ≤ maxText ⌝ }
+    ensures { λ r. ⌜ r ≡ timesBehind a b (now (s .entry)) ⌝ }
+{
+    let mut n: u16 = 0;
+    let mut i = 1;
+    while i < s.len() {
+        n += (one_if(s[i - 1], a) * one_if(s[i], b)) as u16;
         i += 1;
     }
     n as usize
@@ -76,30 +90,21 @@ pub fn opens(s: &[u8]) -> usize
 
 // The line at the front: its length with the LF, and the opening brackets before that.
 fn scan_line(s: &[u8]) -> Line
+    requires { ⌜ length (now s) ≤ maxText ⌝ }
     ensures { λ r. ⌜ (r .end ≡ lengthWithLf (now (s .entry))) × (r .gates ≡ lineOpens (now (s .entry)) - 1) ⌝ }
 {
-    let mut n = 0;
-    let mut i = 0;
-    while i < s.len() {
-        if s[i] == b'\n' {
-            return Line {
-                end: i + 1,
-                gates: minus(n, 1),
-            };
-        }
-        n += one_if(s[i], b'(');
-        i += 1;
-    }
+    let end = line_length(s);
     Line {
-        end: i,
-        gates: minus(n, 1),
+        end,
+        gates: minus(count(&s[..end], b'('), 1),
     }
 }
 
 // The line that starts at `at`: it has one bracket that is no gate's.
 pub fn line_at(text: &[u8], at: usize) -> Line
-    requires { ⌜ at ≤ length (now text) ⌝ }
-    ensures { λ r. ⌜ (r .end ≡ at + lengthWithLf (drop at (now (text .entry)))) × (r .gates ≡ lineOpens (drop at (now (text .entry))) - 1) ⌝ }
+    requires { ⌜ (at ≤ length (now text)) × (length (now text) ≤ maxText) ⌝ }
+    ensures { λ r. ⌜ (r .end ≡ at + lengthWithLf (drop at (now (text .entry))))
+        × (r .gates ≡ lineOpens (drop at (now (text .entry))) - 1) ⌝ }
 {
     let line = scan_line(&text[at..]);
     Line {

@@ -11,14 +11,14 @@ ghost use Prim.Native.Nat.{_≤_, _<_};
 ghost use lib.ListN.{length};
 ghost use Rattle.laws.specs.Lists.{least};
 ghost use Rattle.names.specs.Results.{IndexReady, Repeats};
-ghost use Rattle.names.specs.Index.{many};
+ghost use Rattle.names.specs.Index.{maxPairs};
 ghost use Rattle.names.specs.Search.{indexOf, repeatsAt};
 
 // So many names are compared with each other: ports, and the pairs of a never line that a text can have.
 const FEW: usize = MAX_OUTPUTS;
 
-// A text has no room for more pairs: each has at least 6 bytes.
-const MANY: usize = MAX_TEXT / 6;
+// The most pairs of a line: a pair ` (a 0)` has at least 6 bytes.
+pub const MAX_PAIRS: usize = MAX_TEXT / 6;
 
 // The index of the first of `count` names that is this one, or `count`.
 pub fn find(names: &[u64], count: usize, name: u64) -> usize
@@ -59,10 +59,10 @@ fn repeat_of_few(names: &[u64]) -> usize
 
 // The same; each is entered into an index.
 fn repeat_of_many(names: &[u64]) -> usize
-    requires { ⌜ length (now names) ≤ many ⌝ }
+    requires { ⌜ length (now names) ≤ maxPairs ⌝ }
     ensures { λ r. ⌜ r ≡ least (repeatsAt (now (names .entry))) (length (now (names .entry))) ⌝ }
 {
-    let mut index = [0u16; HASH_ENTRIES + MANY + 1];
+    let mut index = [0u16; HASH_ENTRIES + MAX_PAIRS + 1];
     enter_all(names, &mut index)
 }
 
@@ -73,7 +73,7 @@ pub fn first_repeat(names: &[u64]) -> usize
     if names.len() <= FEW {
         return repeat_of_few(names);
     }
-    if names.len() <= MANY {
+    if names.len() <= MAX_PAIRS {
         return repeat_of_many(names);
     }
     repeat_of_few(names)

@@ -75,7 +75,8 @@ fn fill_lines(text: &[u8], n: usize, lines: usize, places: &mut [usize], words: 
 // The tables of a text with these counts. Ports get a node that nobody asks for.
 pub fn declare(text: &[u8], c: Counts, names: &mut [u64], places: &mut [usize], words: &mut [u16])
     requires { ⌜ TableRoom c (now text) (now names) (now places) (now words) ⌝ }
-    ensures { λ r. ⌜ ((t : Tree) → Prints t (now (text .entry)) → c ≡ treeCounts t → Declared t (now (names .exit)) (now (places .exit)) (now (words .exit))) ⌝ }
+    ensures { λ r. ⌜ ((t : Tree) → Prints t (now (text .entry)) → c ≡ treeCounts t
+        → Declared t (now (names .exit)) (now (places .exit)) (now (words .exit))) ⌝ }
 {
     let inputs = c.inputs;
     let lines = inputs + c.named + c.outputs;

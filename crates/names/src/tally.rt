@@ -1,10 +1,8 @@
 // What a text has of each kind, and whether that is within the limits.
 use crate::Counts;
 use crate::lines::count;
+use crate::lines::count_behind;
 use crate::lines::minus;
-use crate::lines::next_line;
-use crate::lines::one_if;
-use layout::bytes::byte_at;
 use layout::limits::MAX_GATES;
 use layout::limits::MAX_INPUTS;
 use layout::limits::MAX_OUTPUTS;
@@ -20,41 +18,22 @@ ghost use Rattle.netlist.specs.declared.Refusal.the-variants.{OverLimit};
 ghost use Rattle.netlist.specs.Answers.{testOf};
 ghost use Rattle.netlist.specs.Syntax.{Tree};
 ghost use Rattle.netlist.specs.Reading.{isOverLimit};
-ghost use Rattle.names.specs.Results.{Prints, lineCounts, countsOf, treeCounts, isOver};
+ghost use Rattle.names.specs.Results.{Prints, countsOf, treeCounts, isOver};
 
-// The first lines by their letters.
-fn count_lines(text: &[u8], lines: usize, gates: usize) -> Counts
-    requires { ⌜ length (now text) ≤ maxText ⌝ }
-    ensures { λ r. ⌜ r ≡ lineCounts (now (text .entry)) lines gates ⌝ }
-{
-    let mut inputs = 0;
-    let mut named = 0;
-    let mut outputs = 0;
-    let mut at = 0;
-    let mut i = 0;
-    while i < lines {
-        let letter = byte_at(text, at + 1);
-        inputs += one_if(letter, b'i');
-        named += one_if(letter, b'g');
-        outputs += one_if(letter, b'o');
-        at = next_line(text, at);
-        i += 1;
-    }
-    Counts {
-        inputs,
-        named,
-        outputs,
-        gates,
-    }
-}
-
-// Each line has one bracket of its own, and each gate one more.
+// Each line has one bracket of its own, and each gate one more. `i` and `g` stand behind those of inputs and of named gates alone: no kind begins with them.
 fn count_bytes(text: &[u8]) -> Counts
     requires { ⌜ length (now text) ≤ maxText ⌝ }
     ensures { λ r. ⌜ r ≡ countsOf (now (text .entry)) ⌝ }
 {
     let lines = count(text, b'\n');
-    count_lines(text, lines, minus(count(text, b'('), lines))
+    let inputs = count_behind(text, b'(', b'i');
+    let named = count_behind(text, b'(', b'g');
+    Counts {
+        inputs,
+        named,
+        outputs: minus(lines, inputs + named),
+        gates: minus(count(text, b'('), lines),
+    }
 }
 
 // What the tree that the text prints has.

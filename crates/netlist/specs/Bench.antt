@@ -5,10 +5,10 @@ use mathlib.Core.Bool.{Bool, true, cond, _&&_}
 use mathlib.Core.List.{List, [], _∷_, _++_, map}
 use lib.ListN.{length}
 use lib.Dec.{eqb}
-use Rattle.laws.specs.Lists.{ascii, same, joined}
+use Rattle.laws.specs.Lists.{ascii, joined}
 use Rattle.netlist.specs.declared.Refusal.the-variants.{SyntaxError, DuplicateDeclaration, UndeclaredName, MalformedBlock}
-use Rattle.netlist.specs.Values.{Value, undefined, val}
-use Rattle.netlist.specs.Netlist.{Name, Output, Block, inputCount}
+use Rattle.netlist.specs.Values.{Value}
+use Rattle.netlist.specs.Netlist.{Output, Block, inputCount}
 use Rattle.netlist.specs.StoredBlock.{decode, isTorn}
 use Rattle.netlist.specs.Rounds.{settled, outputValue}
 use Rattle.netlist.specs.Parse.{Parsed, got, stuck}

@@ -1,7 +1,7 @@
 -- SPECIFICATION 7.14: Bring. Blocks stored before there were never lines have three counts at their head; a fourth, 0, makes them blocks of today.
 use Prim.Native.Nat.{ℕ}
 use mathlib.Core.Bool.{Bool, not, _&&_}
-use mathlib.Core.List.{List, [], _∷_, _++_, map}
+use mathlib.Core.List.{List, _∷_, _++_, map}
 use lib.ListN.{take, drop}
 use lib.Dec.{leb}
 use Rattle.laws.specs.Lists.{same, joined}

@@ -6,7 +6,8 @@ use Prim.Native.Nat.{ℕ}
 use Prim.Native.String.{String}
 use Rattle.laws.specs.Lists.{same, all}
 use Rattle.netlist.specs.Values.{code, valueOf, invert, isDefined}
-use Rattle.netlist.specs.Kinds.{row, rows, rowOf, isNot, isXor, isXnor, isKind, signatureOf, fewestOperands, mostOperands, arityFits, keyword, ruled, ones, parity, gateValue}
+use Rattle.netlist.specs.Kinds.{row, rows, rowOf, isNot, isXor, isXnor, isKind, signatureOf}
+use Rattle.netlist.specs.Kinds.{fewestOperands, mostOperands, arityFits, keyword, ruled, ones, parity, gateValue}
 use Rattle.netlist.specs.StoredBlock.{gatesAt, outputsAt, isLetter, isDigit, isUnderscore, isNameByte, isNameStart, isLegalName, isPlainName}
 use Rattle.netlist.specs.StoredBlock.{isNodeName, nameWords, bytesAt, nameAt, nodeWord, operandOf, gateWords, gateAt, outputWords, outputAt, encode}
 use Rattle.netlist.specs.StoredBlock.{decode, isNode, isOperand, gateFits, isWellFormed, isTorn}
@@ -84,5 +85,18 @@ comparisons =
 
 -- All of them come out as stated.
 pub comparisons-hold : all holds comparisons ≡ true
-unfolding code valueOf invert isDefined row rows rowOf isNot isXor isXnor isKind signatureOf fewestOperands mostOperands arityFits keyword ruled ones parity gateValue gatesAt outputsAt isLetter isDigit isUnderscore isNameByte isNameStart isLegalName isPlainName isNodeName nameWords bytesAt nameAt nodeWord operandOf gateWords gateAt outputWords outputAt encode decode isNode isOperand gateFits isWellFormed isTorn operandValue evaluated round afterRounds isStable rounds settled bit settingOf settingCount settledUnder isSettled outputValue gateOperand readBy isStraight pure stop onTest ifNext expect onParsed bind nameBytes nameAfter nameReader kindReader spaced termsReader exprReader leafOr termReader addInput addGate addOutput inputLine gateLine outputLine atEnd line outputsReader gatesReader textReader parse gatesIn lineGates isOverLimit mentions linesLength gateLinesAt outputLinesAt inputMention gateMention portMention shownMention termMentions operandMentions declaredNodes declaredPorts usedNames firstRepeat orElse firstDuplicate firstOutside firstUndeclared inputBindings gateBindings bindings lookup termNode termsNodes termGates linesGates blockOf refusalNumber refusalDetail numberOf countOf detailOf refuseIf refuseAt answerOf leftIn counted readTree readParsed readText report blockWords with sameNames ports sameInterface outputsUnder differs disagrees lowestDisagreement lowestDiffering judgedAt compareBlocks compare holds texts accepted looped comparisons neversAt neverWords neverAt neverFits areMasks isExcluded isCounted isSoundAt printNever neverPairs addNever neverLine neversReader neverLinesAt neverMentions excludedNames lesser firstRepeatIn assignmentOf fixes agrees isWithin maskOf isOne valueText pairText printPair bitReader pairReader spacedPair pairsReader pairMention givenValue printLines printInput printGate printOutput printTerm
+unfolding code valueOf invert isDefined row rows rowOf isNot isXor isXnor isKind signatureOf fewestOperands mostOperands arityFits keyword ruled ones
+    parity gateValue gatesAt outputsAt isLetter isDigit isUnderscore isNameByte isNameStart isLegalName isPlainName isNodeName nameWords bytesAt
+    nameAt nodeWord operandOf gateWords gateAt outputWords outputAt encode decode isNode isOperand gateFits isWellFormed isTorn operandValue evaluated
+    round afterRounds isStable rounds settled bit settingOf settingCount settledUnder isSettled outputValue gateOperand readBy isStraight pure stop
+    onTest ifNext expect onParsed bind nameBytes nameAfter nameReader kindReader spaced termsReader exprReader leafOr termReader addInput addGate
+    addOutput inputLine gateLine outputLine atEnd line outputsReader gatesReader textReader parse gatesIn lineGates isOverLimit mentions linesLength
+    gateLinesAt outputLinesAt inputMention gateMention portMention shownMention termMentions operandMentions declaredNodes declaredPorts usedNames
+    firstRepeat orElse firstDuplicate firstOutside firstUndeclared inputBindings gateBindings bindings lookup termNode termsNodes termGates linesGates
+    blockOf refusalNumber refusalDetail numberOf countOf detailOf refuseIf refuseAt answerOf leftIn counted readTree readParsed readText report
+    blockWords with sameNames ports sameInterface outputsUnder differs disagrees lowestDisagreement lowestDiffering judgedAt compareBlocks compare
+    holds texts accepted looped comparisons neversAt neverWords neverAt neverFits areMasks isExcluded isCounted isSoundAt printNever neverPairs
+    addNever neverLine neversReader neverLinesAt neverMentions excludedNames lesser firstRepeatIn assignmentOf fixes agrees isWithin maskOf isOne
+    valueText pairText printPair bitReader pairReader spacedPair pairsReader pairMention givenValue printLines printInput printGate printOutput
+    printTerm
 comparisons-hold = refl

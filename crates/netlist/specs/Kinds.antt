@@ -1,7 +1,7 @@
 -- SPECIFICATION 3.2: the kinds, the table of controlling values, and one gate's value from its operands' values.
 -- Kinds are numbers: 0 not, 1 and, 2 or, 3 nand, 4 nor, 5 xor, 6 xnor.
 use Prim.Native.Nat.{ℕ, suc, _-_, _%_}
-use mathlib.Core.Bool.{Bool, true, false, cond, _&&_}
+use mathlib.Core.Bool.{Bool, cond, _&&_}
 use mathlib.Core.List.{List, [], _∷_, _++_, map}
 use Prim.Native.String.{String}
 use lib.ListN.{getD}

@@ -1,6 +1,6 @@
 -- A netlist as a record: what the text (SPECIFICATION 1) and the stored block (2) both stand for, and what the meaning is defined on.
 use Prim.Native.Nat.{ℕ}
-use mathlib.Core.Bool.{Bool, true, false}
+use mathlib.Core.Bool.{Bool}
 use mathlib.Core.List.{List, []}
 use lib.ListN.{length, getD}
 use Rattle.netlist.specs.Assignments.{Assignment}

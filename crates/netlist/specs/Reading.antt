@@ -1,7 +1,7 @@
 -- SPECIFICATION 1.2, 1.4 and refusals 3 to 5 of 7.2: the counts, the declared and the used names with their places, and the netlist of
 -- a tree.
-use Prim.Native.Nat.{ℕ, zero, suc, _+_}
-use mathlib.Core.Bool.{Bool, true, false, cond, not, _&&_}
+use Prim.Native.Nat.{ℕ, suc, _+_}
+use mathlib.Core.Bool.{Bool, false, cond, not, _&&_}
 use mathlib.Core.List.{List, [], _∷_, _++_, map}
 use mathlib.Core.Option.{Option, none, some}
 use lib.ListN.{length}
@@ -11,7 +11,7 @@ use Rattle.netlist.specs.Limits.{maxInputs, maxNevers, maxGates, maxOutp
 use Rattle.netlist.specs.Values.{Value, undefined, val, isDefined}
 use Rattle.netlist.specs.Assignments.{Assignment, maskOf, isOne}
 use Rattle.netlist.specs.Kinds.{keyword}
-use Rattle.netlist.specs.Netlist.{Name, Operand, input, gate, constant, Gate, Output, Block}
+use Rattle.netlist.specs.Netlist.{Name, Operand, input, gate, constant, Gate, Block}
 use Rattle.netlist.specs.Syntax.{Term, Terms, name, literal, apply, nil, cons, GateLine, OutputLine, Pair, Tree}
 use Rattle.netlist.specs.Syntax.{printTerm, printPair, printInput, printNever, printGate, printOutput}
 

@@ -1,8 +1,8 @@
 -- SPECIFICATION 3.3, 3.4: rounds, settled values, settings. The last two counts are those of Verdict (7.6).
 use Prim.Native.Nat.{ℕ, zero, suc, _^_}
 use mathlib.Core.Bool.{Bool, not, _&&_, _||_}
-use mathlib.Core.List.{List, [], _∷_, map}
-use lib.ListN.{length, getD, replicate}
+use mathlib.Core.List.{List, map}
+use lib.ListN.{getD, replicate}
 use lib.Dec.{eqb}
 use Rattle.laws.specs.Lists.{same, all, any, tab, countBelow, least}
 use Rattle.netlist.specs.Values.{Value, undefined, val, code, isDefined}

@@ -1,12 +1,12 @@
 -- A sheet of settings in one call: what each record is filled with, and what the call answers.
-use Prim.Native.Nat.{ℕ, _+_, _*_, _^_}
-use mathlib.Core.Bool.{Bool, true, false, cond, not, _&&_}
-use mathlib.Core.List.{List, [], _∷_, map}
-use lib.Dec.{eqb, ltb}
+use Prim.Native.Nat.{ℕ}
+use mathlib.Core.Bool.{Bool, cond, not}
+use mathlib.Core.List.{List, [], map}
+use lib.Dec.{eqb}
 use Rattle.laws.specs.Lists.{tab}
 use Rattle.netlist.specs.declared.Refusal.the-variants.{MalformedBlock, BadSetting}
 use Rattle.netlist.specs.declared.Record.{Record}
-use Rattle.netlist.specs.Values.{Value, undefined, val, valueOf, isDefined}
+use Rattle.netlist.specs.Values.{Value, valueOf, isDefined}
 use Rattle.netlist.specs.Netlist.{Block, inputCount}
 use Rattle.netlist.specs.StoredBlock.{decode, isTorn}
 use Rattle.netlist.specs.Assignments.{bit, maskOf, isOne, areMasks}

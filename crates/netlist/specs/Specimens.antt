@@ -305,7 +305,9 @@ specimens =
     ∷ (toSettle (blockWords "(gate p (not p))\n(gate q (xor p p))\n(gate r (xnor p p))\n") [] 3 ⇒ 0 ∷ 0 ∷ 0 ∷ 2 ∷ 2 ∷ 2 ∷ [])
     -- 9.7: a loop with xor, rendered whole
     ∷ (toUnloop (ascii parityLoop)
-    ⇒ ascii "(in a)\n(in s)\n(gate _0 (not s))\n(gate _1 (and s 0))\n(gate _2 (and _1 _0))\n(gate _3 (xor a _2))\n(gate _4 (and s _3))\n(gate _5 (and _4 _0))\n(gate _6 (xor a _5))\n(out y _6)\n")
+    ⇒ ascii "(in a)\n(in s)\n(gate _0 (not s))\n(gate _1 (and s 0))\n(gate _2 (and _1 _0))\n"
+    ++ ascii "(gate _3 (xor a _2))\n(gate _4 (and s _3))\n(gate _5 (and _4 _0))\n(gate _6 (xor a _5))\n"
+    ++ ascii "(out y _6)\n")
     -- 9.4, 9.6, 9.7: the order of conditions: 6 before 7 before 11, 10 before 7, 9 before 11
     ∷ (toSettle [] (3 ∷ []) 0 ⇒ with 6 0)
     ∷ (toSettle (blockWords kinds) (3 ∷ []) 0 ⇒ with 7 0)
@@ -325,7 +327,8 @@ specimens =
     ∷ (toUnloop (ascii "(in a)\n(gate _0 (not a))\n(gate _1 (and _0 a 1))\n(out y _0)\n")
     ⇒ ascii "(in a)\n(gate _0 (not a))\n(gate _1 (and _0 a 1))\n(out y _0)\n")
     ∷ (toUnloop (ascii "(gate p (not (not (not (not (not (not (not (not 1)))))))))\n")
-    ⇒ ascii "(gate _0 (not 1))\n(gate _1 (not _0))\n(gate _2 (not _1))\n(gate _3 (not _2))\n(gate _4 (not _3))\n(gate _5 (not _4))\n(gate _6 (not _5))\n(gate _7 (not _6))\n")
+    ⇒ ascii "(gate _0 (not 1))\n(gate _1 (not _0))\n(gate _2 (not _1))\n(gate _3 (not _2))\n(gate _4 (not _3))\n"
+    ++ ascii "(gate _5 (not _4))\n(gate _6 (not _5))\n(gate _7 (not _6))\n")
     ∷ (toUnloop (ascii "(in _a)\n") ⇒ ascii "(refused 2 4)\n")
     -- 9.3, malformed: fewer than four words; one word too many; a zero byte inside a name; a name twice; an operand that is no node;
     -- kind 7; an xor of one; a `not` of two; an operand behind the count; an output that shows a constant. Four that are whole stand between them
@@ -456,7 +459,8 @@ specimens =
     ∷ (toAnswerLine (blockWords board) (ascii "(set (a u))\n") 0 ⇒ with 2 8)
     -- the bench: a refused line is answered and the next one read; a last line cut off; an empty line among the set lines
     ∷ (toBench (ascii board ++ ascii "\n(set (b 1) (a 0))\n(set)\n(set (a 2))\n\n(set (a 1) (a 0))\n(set (h 1))\n(set (a 1))\n(set (a")
-    ⇒ ascii "(show (z 1) (y 0) (x 0))\n(show (z u) (y u) (x u))\n(refused 2 8)\n(refused 2 0)\n(refused 4 12)\n(refused 5 6)\n(show (z 1) (y u) (x 1))\n(refused 2 7)\n")
+    ⇒ ascii "(show (z 1) (y 0) (x 0))\n(show (z u) (y u) (x u))\n(refused 2 8)\n(refused 2 0)\n(refused 4 12)\n"
+    ++ ascii "(refused 5 6)\n(show (z 1) (y u) (x 1))\n(refused 2 7)\n")
     ∷ (toBench (ascii "(in a)\n\n(set (a 1))\n(set)") ⇒ ascii "(show)\n(refused 2 5)\n")
     -- an empty netlist; a netlist alone; a refused one ends the run; the netlist ends at the first empty line
     ∷ (toBench (ascii "\n(set)\n") ⇒ ascii "(show)\n")
@@ -474,5 +478,29 @@ specimens =
 
 -- All of them come out as stated.
 pub specimens-hold : all right specimens ≡ true
-unfolding code valueOf invert isDefined row rows rowOf isNot isXor isXnor isKind signatureOf fewestOperands mostOperands arityFits keyword ruled ones parity gateValue gatesAt outputsAt isLetter isDigit isUnderscore isNameByte isNameStart isLegalName isPlainName isNodeName nameWords bytesAt nameAt nodeWord operandOf gateWords gateAt outputWords outputAt encode decode isNode isOperand gateFits isWellFormed isTorn operandValue evaluated round afterRounds isStable rounds settled bit settingOf settingCount settledUnder isSettled settledSettings lowestUnsettled fixes agrees isSoundUnder isSound without isMinimal isWithin assignmentsAt assignments cover coverEntries gateOperand readBy reads has grown grownTimes reach reaches sameGroup groupOf isReady mayBeNext groupsAfter groups groupNumber groupNumbers beforePasses afterPasses areSettled areEnough passCount copyCount passes schedule noCopies copiedOperand copied copies newestAfter lastCopies rendering isStraight sweepFrom sweep printTerm printInput printGate printOutput printLines print pure stop onTest ifNext expect onParsed bind nameBytes nameAfter nameReader kindReader spaced termsReader exprReader leafOr termReader addInput addGate addOutput inputLine gateLine outputLine atEnd line outputsReader gatesReader textReader parse gatesIn lineGates isOverLimit mentions linesLength gateLinesAt outputLinesAt inputMention gateMention portMention shownMention termMentions operandMentions declaredNodes declaredPorts usedNames firstRepeat orElse firstDuplicate firstOutside firstUndeclared inputBindings gateBindings bindings lookup termNode termsNodes termGates linesGates blockOf digits decimal gateName nodeNameOf termOf termsOf flatLine flatTree writtenText clamped startBefore untilLf lineStart lineEnd lineLength lineAt refusalNumber refusalDetail numberOf countOf detailOf refuseIf refuseAt inRoom answerOf leftIn counted readTree readParsed readText read isBadSetting settleBlock settle verdict coverBlock coverOf groupsBlock groupsOf renderBlock renderWords render passBlock pass writeWords write inputByte settingBytes isBadMasks maskOf isOne outputValues showing refusedRecord settledOutputs recordOf answeredRecord sheetRecords sheet chained refusalLine shown unloop outputValue outputsUnder valueText pairText printPair bitReader pairReader spacedPair pairsReader setLineReader pairMention givenNames givenValue givenValues portText showLine pairsOutcome parsedOutcome lineOutcome answerLine lineAnswer netlistFrom settingsFrom netlistPart settingsPart lastLine linesFrom linesOf lineAnswers benchAfter bench report asks fields answered right blockWords _⇒_ with specimen4 shown4 specimen6 rendered6 spare kinds board parities parityLoop ring specimens neversAt neverWords neverAt neverFits areMasks isExcluded isCounted isSoundAt printNever neverPairs addNever neverLine neversReader neverLinesAt neverMentions excludedNames lesser firstRepeatIn assignmentOf pairsOf encodeBefore brought isTornBefore bringWords bring never11 never4 neverAny inputLines tooManyInputs stepAt run truthBit truthWord cellWords cellsOf makeWords makeCells cellCount cellAt cellsIn isEarlier readsEarlier areLegalCells isBadRun operandBit numberOfBits cellValue runFrom cellValues runCells renumbered renumberedGate renumberedOutput arranged numberAt placeIn gatheredOrder gathered lacksRoom gatherWith gatheredWords gather gatherList isPermutation inverse scattered scatter unordered ordered orderOf straightCells
+unfolding code valueOf invert isDefined row rows rowOf isNot isXor isXnor isKind signatureOf fewestOperands mostOperands arityFits keyword ruled ones
+    parity gateValue gatesAt outputsAt isLetter isDigit isUnderscore isNameByte isNameStart isLegalName isPlainName isNodeName nameWords bytesAt
+    nameAt nodeWord operandOf gateWords gateAt outputWords outputAt encode decode isNode isOperand gateFits isWellFormed isTorn operandValue evaluated
+    round afterRounds isStable rounds settled bit settingOf settingCount settledUnder isSettled settledSettings lowestUnsettled fixes agrees
+    isSoundUnder isSound without isMinimal isWithin assignmentsAt assignments cover coverEntries gateOperand readBy reads has grown grownTimes reach
+    reaches sameGroup groupOf isReady mayBeNext groupsAfter groups groupNumber groupNumbers beforePasses afterPasses areSettled areEnough passCount
+    copyCount passes schedule noCopies copiedOperand copied copies newestAfter lastCopies rendering isStraight sweepFrom sweep printTerm printInput
+    printGate printOutput printLines print pure stop onTest ifNext expect onParsed bind nameBytes nameAfter nameReader kindReader spaced termsReader
+    exprReader leafOr termReader addInput addGate addOutput inputLine gateLine outputLine atEnd line outputsReader gatesReader textReader parse
+    gatesIn lineGates isOverLimit mentions linesLength gateLinesAt outputLinesAt inputMention gateMention portMention shownMention termMentions
+    operandMentions declaredNodes declaredPorts usedNames firstRepeat orElse firstDuplicate firstOutside firstUndeclared inputBindings gateBindings
+    bindings lookup termNode termsNodes termGates linesGates blockOf digits decimal gateName nodeNameOf termOf termsOf flatLine flatTree writtenText
+    clamped startBefore untilLf lineStart lineEnd lineLength lineAt refusalNumber refusalDetail numberOf countOf detailOf refuseIf refuseAt inRoom
+    answerOf leftIn counted readTree readParsed readText read isBadSetting settleBlock settle verdict coverBlock coverOf groupsBlock groupsOf
+    renderBlock renderWords render passBlock pass writeWords write inputByte settingBytes isBadMasks maskOf isOne outputValues showing refusedRecord
+    settledOutputs recordOf answeredRecord sheetRecords sheet chained refusalLine shown unloop outputValue outputsUnder valueText pairText printPair
+    bitReader pairReader spacedPair pairsReader setLineReader pairMention givenNames givenValue givenValues portText showLine pairsOutcome
+    parsedOutcome lineOutcome answerLine lineAnswer netlistFrom settingsFrom netlistPart settingsPart lastLine linesFrom linesOf lineAnswers
+    benchAfter bench report asks fields answered right blockWords _⇒_ with specimen4 shown4 specimen6 rendered6 spare kinds board parities parityLoop
+    ring specimens neversAt neverWords neverAt neverFits areMasks isExcluded isCounted isSoundAt printNever neverPairs addNever neverLine neversReader
+    neverLinesAt neverMentions excludedNames lesser firstRepeatIn assignmentOf pairsOf encodeBefore brought isTornBefore bringWords bring never11
+    never4 neverAny inputLines tooManyInputs stepAt run truthBit truthWord cellWords cellsOf makeWords makeCells cellCount cellAt cellsIn isEarlier
+    readsEarlier areLegalCells isBadRun operandBit numberOfBits cellValue runFrom cellValues runCells renumbered renumberedGate renumberedOutput
+    arranged numberAt placeIn gatheredOrder gathered lacksRoom gatherWith gatheredWords gather gatherList isPermutation inverse scattered scatter
+    unordered ordered orderOf straightCells
 specimens-hold = refl

@@ -6,8 +6,8 @@ use lib.ListN.{getD}
 use lib.Dec.{eqb, ltb}
 use Rattle.laws.specs.Lists.{ascii, keep, upTo, tab}
 use Rattle.netlist.specs.Assignments.{bit, Assignment, fixes}
-use Rattle.netlist.specs.Netlist.{Name, Operand, input, gate, constant, Gate, Output, Block, inputCount, gateCount, gateOf}
-use Rattle.netlist.specs.Syntax.{Term, Terms, name, literal, apply, nil, cons, GateLine, OutputLine, Pair, Tree, print}
+use Rattle.netlist.specs.Netlist.{Name, Operand, input, gate, constant, Output, Block, inputCount, gateCount, gateOf}
+use Rattle.netlist.specs.Syntax.{Term, Terms, name, literal, nil, cons, GateLine, Pair, Tree, print}
 
 -- the decimal digits of a number, at most this many
 unfoldable pub digits : ℕ → ℕ → List ℕ

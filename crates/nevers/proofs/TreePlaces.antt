@@ -16,6 +16,7 @@ use Rattle.netlist.specs.StoredBlock.{isPlainName}
 use Rattle.netlist.specs.Syntax.{Pair, Tree, isLegalNever, printInput, printNever, printGate, printOutput, printLines, print}
 use Rattle.netlist.specs.Reading.{linesLength, neverLinesAt, gateLinesAt}
 use Rattle.grammar.proofs.Places.{printInput-split, printNever-split, nevers-at}
+use Rattle.names.specs.Index.{maxPairs}
 use Rattle.names.specs.Packed.{packed}
 use Rattle.names.specs.Trees.{inputText}
 use Rattle.names.proofs.TreeLines.{printed-lines, all-lines, legal-parts, input-line}
@@ -23,7 +24,7 @@ use Rattle.pairs.specs.Tables.{InputsAre}
 use Rattle.pairs.proofs.TableLaws.{plain-bytes}
 use Rattle.nevers.specs.declared.NeverLines.{NeverLines}
 use Rattle.nevers.specs.Places.{TextOf, neverLines, NeversAt}
-use Rattle.nevers.specs.Ready.{maxPairs, InForm, LinesReady}
+use Rattle.nevers.specs.Ready.{InForm, LinesReady}
 use Rattle.nevers.specs.Runs.{lettered, RunAt, Ran}
 use Rattle.nevers.proofs.NeverText.{never-line}
 

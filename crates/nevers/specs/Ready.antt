@@ -6,13 +6,10 @@ use lib.ListN.{length}
 use Rattle.netlist.specs.Limits.{maxText, maxInputs}
 use Rattle.netlist.specs.Netlist.{Name}
 use Rattle.netlist.specs.Syntax.{Pair, Tree}
+use Rattle.names.specs.Index.{maxPairs}
 use Rattle.pairs.specs.Tables.{InputsAre}
 use Rattle.nevers.specs.declared.NeverLines.{NeverLines}
 use Rattle.nevers.specs.Places.{TextOf, neverLines, NeverAt, NeversAt}
-
--- maxText / 6: a pair has at least 6 bytes
-abbrev pub maxPairs : ℕ
-maxPairs = 10240
 
 pub record InForm (text : List ℕ) (lines : NeverLines) : Type 0 where
   pub short : length text ≤ maxText

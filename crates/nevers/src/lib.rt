@@ -12,8 +12,5 @@ pub struct NeverLines {
     pub count: usize,
 }
 
-// The most pairs of a line: a text has MAX_TEXT bytes, and a pair ` (a 0)` at least 6 of them.
-const MAX_PAIRS: usize = 10240;
-
 // The bytes of `(never`, behind which the pairs stand.
 const PAIRS_AT: usize = 6;

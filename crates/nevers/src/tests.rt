@@ -1,8 +1,8 @@
 // 4 and 5 among the never lines of a text.
-use crate::MAX_PAIRS;
 use crate::NeverLines;
 use crate::PAIRS_AT;
 use names::lines::next_line;
+use names::search::MAX_PAIRS;
 use netlist::Test;
 use pairs::given::test_outside;
 use pairs::given::test_repeat;
@@ -61,7 +61,8 @@ fn repeat_from(
 // 4: the place of the first name that stands before it in its line.
 pub fn test_repeats(text: &[u8], lines: NeverLines) -> Test
     requires { ⌜ InForm (now text) lines ⌝ }
-    ensures { λ r. ⌜ ((t : Tree) → TextOf t (now (text .entry)) → lines ≡ neverLines t → r ≡ testAt (firstRepeatIn (t .nevers) (neverLinesAt t)) DuplicateDeclaration) ⌝ }
+    ensures { λ r. ⌜ ((t : Tree) → TextOf t (now (text .entry)) → lines ≡ neverLines t
+        → r ≡ testAt (firstRepeatIn (t .nevers) (neverLinesAt t)) DuplicateDeclaration) ⌝ }
 {
     let at = lines.at;
     let count = lines.count;
@@ -86,7 +87,8 @@ fn line_outside(
 ) -> Test
     requires { ⌜ LineReady at (now text) (now names) (now places) (now codes) ⌝ }
     requires { ⌜ InputsReady n (now inputs) ⌝ }
-    ensures { λ r. ⌜ ((ps : List Pair) (known : List Name) → NeverAt at ps (now (text .entry)) → InputsAre known n (now (inputs .entry)) → r ≡ testAt (firstOutside known (neverMentions ps at)) UndeclaredName) ⌝ }
+    ensures { λ r. ⌜ ((ps : List Pair) (known : List Name) → NeverAt at ps (now (text .entry)) → InputsAre known n (now (inputs .entry))
+        → r ≡ testAt (firstOutside known (neverMentions ps at)) UndeclaredName) ⌝ }
 {
     let count = fill_pairs(text, at + PAIRS_AT, names, places, codes);
     test_outside(names, places, count, inputs, n)
@@ -105,7 +107,8 @@ fn outside_from(
 ) -> Test
     requires { ⌜ LinesReady from count (now text) (now names) (now places) (now codes) ⌝ }
     requires { ⌜ InputsReady n (now inputs) ⌝ }
-    ensures { λ r. ⌜ ((ns : List (List Pair)) (known : List Name) → NeversAt from count ns (now (text .entry)) → InputsAre known n (now (inputs .entry)) → r ≡ testAt (firstOutside known (linesMentions ns from)) UndeclaredName) ⌝ }
+    ensures { λ r. ⌜ ((ns : List (List Pair)) (known : List Name) → NeversAt from count ns (now (text .entry))
+        → InputsAre known n (now (inputs .entry)) → r ≡ testAt (firstOutside known (linesMentions ns from)) UndeclaredName) ⌝ }
 {
     let mut at = from;
     let mut left = count;
@@ -124,7 +127,8 @@ fn outside_from(
 pub fn test_outsiders(text: &[u8], lines: NeverLines, inputs: &[u64], n: usize) -> Test
     requires { ⌜ InForm (now text) lines ⌝ }
     requires { ⌜ InputsReady n (now inputs) ⌝ }
-    ensures { λ r. ⌜ ((t : Tree) → TextOf t (now (text .entry)) → lines ≡ neverLines t → InputsAre (t .inputs) n (now (inputs .entry)) → r ≡ testAt (firstOutside (t .inputs) (excludedNames t)) UndeclaredName) ⌝ }
+    ensures { λ r. ⌜ ((t : Tree) → TextOf t (now (text .entry)) → lines ≡ neverLines t → InputsAre (t .inputs) n (now (inputs .entry))
+        → r ≡ testAt (firstOutside (t .inputs) (excludedNames t)) UndeclaredName) ⌝ }
 {
     let at = lines.at;
     let count = lines.count;

@@ -1,11 +1,11 @@
 // The words of never lines in a stored block: two masks a line.
-use crate::MAX_PAIRS;
 use crate::NeverLines;
 use crate::PAIRS_AT;
 use layout::gather::Masks;
 use layout::gather::masks_of;
 use layout::limits::MAX_INPUTS;
 use names::lines::next_line;
+use names::search::MAX_PAIRS;
 use pairs::given::fill_setting;
 use pairs::tables::fill_pairs;
 ghost use mathlib.Core.Path.{_≡_};
@@ -36,7 +36,8 @@ fn line_masks(
 ) -> Masks
     requires { ⌜ LineReady at (now text) (now names) (now places) (now codes) ⌝ }
     requires { ⌜ InputsReady n (now inputs) × ValueRoom n (now setting) ⌝ }
-    ensures { λ r. ⌜ ((ps : List Pair) (known : List Name) → NeverAt at ps (now (text .entry)) → InputsAre known n (now (inputs .entry)) → r ≡ masksOf (map (givenValue ps) known)) ⌝ }
+    ensures { λ r. ⌜ ((ps : List Pair) (known : List Name) → NeverAt at ps (now (text .entry)) → InputsAre known n (now (inputs .entry))
+        → r ≡ masksOf (map (givenValue ps) known)) ⌝ }
 {
     let count = fill_pairs(text, at + PAIRS_AT, names, places, codes);
     fill_setting(names, codes, count, inputs, n, setting);
@@ -58,7 +59,8 @@ fn masks_from(
 )
     requires { ⌜ LinesReady from count (now text) (now names) (now places) (now codes) ⌝ }
     requires { ⌜ InputsReady n (now inputs) × ValueRoom n (now setting) × (2 * count ≤ length (now out)) ⌝ }
-    ensures { λ r. ⌜ ((ns : List (List Pair)) (known : List Name) → NeversAt from count ns (now (text .entry)) → InputsAre known n (now (inputs .entry)) → now (out .exit) ≡ sets (now (out .entry)) 0 (linesWords known ns)) ⌝ }
+    ensures { λ r. ⌜ ((ns : List (List Pair)) (known : List Name) → NeversAt from count ns (now (text .entry))
+        → InputsAre known n (now (inputs .entry)) → now (out .exit) ≡ sets (now (out .entry)) 0 (linesWords known ns)) ⌝ }
 {
     let mut at = from;
     let mut i = 0;
@@ -75,7 +77,8 @@ fn masks_from(
 pub fn fill_masks(text: &[u8], lines: NeverLines, inputs: &[u64], n: usize, out: &mut [u16])
     requires { ⌜ InForm (now text) lines ⌝ }
     requires { ⌜ InputsReady n (now inputs) × (n ≤ maxInputs) × (2 * lines .count ≤ length (now out)) ⌝ }
-    ensures { λ r. ⌜ ((t : Tree) → TextOf t (now (text .entry)) → lines ≡ neverLines t → InputsAre (t .inputs) n (now (inputs .entry)) → now (out .exit) ≡ placed (linesWords (t .inputs) (t .nevers)) (now (out .entry))) ⌝ }
+    ensures { λ r. ⌜ ((t : Tree) → TextOf t (now (text .entry)) → lines ≡ neverLines t → InputsAre (t .inputs) n (now (inputs .entry))
+        → now (out .exit) ≡ placed (linesWords (t .inputs) (t .nevers)) (now (out .entry))) ⌝ }
 {
     let at = lines.at;
     let count = lines.count;

@@ -20,7 +20,8 @@ ghost use Rattle.pairs.specs.Tables.{pairMentions, isOutside, NamesAre, 
 // 4: the place of the first name that is one of those before it.
 pub fn test_repeat(names: &[u64], places: &[usize], count: usize) -> Test
     requires { ⌜ (count ≤ length (now names)) × (count ≤ length (now places)) ⌝ }
-    ensures { λ r. ⌜ ((ps : List Pair) (at : ℕ) → all isLegalPair ps ≡ true → count ≡ length ps → NamesAre ps (now (names .entry)) → PlacesAre ps at (now (places .entry)) → r ≡ testAt (firstRepeat [] (pairMentions ps at)) DuplicateDeclaration) ⌝ }
+    ensures { λ r. ⌜ ((ps : List Pair) (at : ℕ) → all isLegalPair ps ≡ true → count ≡ length ps → NamesAre ps (now (names .entry))
+        → PlacesAre ps at (now (places .entry)) → r ≡ testAt (firstRepeat [] (pairMentions ps at)) DuplicateDeclaration) ⌝ }
 {
     let i = first_repeat(&names[..count]);
     if i < count {
@@ -56,7 +57,9 @@ fn first_outside(names: &[u64], count: usize, inputs: &[u64], n: usize) -> usize
 // 5: the place of the first name that is none of the inputs.
 pub fn test_outside(names: &[u64], places: &[usize], count: usize, inputs: &[u64], n: usize) -> Test
     requires { ⌜ (count ≤ length (now names)) × (count ≤ length (now places)) × (n ≤ length (now inputs)) ⌝ }
-    ensures { λ r. ⌜ ((ps : List Pair) (at : ℕ) (known : List Name) → all isLegalPair ps ≡ true → count ≡ length ps → NamesAre ps (now (names .entry)) → PlacesAre ps at (now (places .entry)) → InputsAre known n (now (inputs .entry)) → r ≡ testAt (firstOutside known (pairMentions ps at)) UndeclaredName) ⌝ }
+    ensures { λ r. ⌜ ((ps : List Pair) (at : ℕ) (known : List Name) → all isLegalPair ps ≡ true → count ≡ length ps → NamesAre ps (now (names .entry))
+        → PlacesAre ps at (now (places .entry)) → InputsAre known n (now (inputs .entry))
+        → r ≡ testAt (firstOutside known (pairMentions ps at)) UndeclaredName) ⌝ }
 {
     let i = first_outside(names, count, inputs, n);
     if i < count {
@@ -85,7 +88,8 @@ pub fn fill_setting(
     setting: &mut [u8],
 )
     requires { ⌜ (count ≤ length (now names)) × (count ≤ length (now codes)) × (n ≤ length (now inputs)) × (n ≤ length (now setting)) ⌝ }
-    ensures { λ r. ⌜ now (setting .exit) ≡ placed (tab (inputCode (now (names .entry)) (now (codes .entry)) count (now (inputs .entry))) n) (now (setting .entry)) ⌝ }
+    ensures { λ r. ⌜ now (setting .exit) ≡ placed (tab (inputCode (now (names .entry)) (now (codes .entry)) count (now (inputs .entry))) n)
+        (now (setting .entry)) ⌝ }
 {
     let mut j = 0;
     while j < n {

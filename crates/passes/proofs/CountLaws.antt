@@ -22,6 +22,7 @@ use Rattle.laws.proofs.Tests.{lt-or-le, eq-or-ne, not-both}
 use Rattle.laws.proofs.Tab.{length-tab, getD-tab, tab-ext, tab-getD, map-tab, placed-tab}
 use Rattle.laws.proofs.Slices.{length-placed, getD-past}
 use Rattle.laws.proofs.Lists.{sum-append}
+use Rattle.layout.specs.declared.nodes.Nodes.{Nodes}
 use Rattle.netlist.specs.Limits.{maxGates, maxCopies}
 use Rattle.netlist.specs.Netlist.{Block}
 use Rattle.netlist.specs.StoredBlock.{decode}
@@ -114,9 +115,9 @@ module _ {b : Block} {count : ℕ} {members starts : List ℕ} (listing : Listin
   pub group-part : (from to : ℕ) → from ≡ getD starts g 0 → to ≡ getD starts (g + 1) 0 → take (to - from) (drop from members) ≡ groupAt b g
   group-part from to e f = rw (e, f) (listing .part g l)
 
-module _ {ws : List ℕ} {n gates base count : ℕ} {members starts passes zeros ones settledZeros settledOnes : List ℕ}
-    (h : BatchHeld ws n gates base zeros ones) (rooms : Rooms (decode ws) count members starts passes zeros ones settledZeros settledOnes) where
-  pub group-batch : (g : ℕ) → g < count → GroupBatch ws n gates base (groupAt (decode ws) g)
+module _ {ws : List ℕ} {nodes : Nodes} {base count : ℕ} {members starts passes zeros ones settledZeros settledOnes : List ℕ}
+    (h : BatchHeld ws nodes base zeros ones) (rooms : Rooms (decode ws) count members starts passes zeros ones settledZeros settledOnes) where
+  pub group-batch : (g : ℕ) → g < count → GroupBatch ws nodes base (groupAt (decode ws) g)
   group-batch g l =
       record {
         evaluable = record { legible = h .legible; fewInputs = h .fewInputs; there = λ j m. groups-below (decode ws) j g m };
@@ -128,7 +129,7 @@ module _ {ws : List ℕ} {n gates base count : ℕ} {members starts passes zeros
 
   -- a group that can be counted
   pub group-ready : {done next total : ℕ} → Counting (decode ws) count base done next passes total → (g : ℕ) → g < count → total ≤ maxCopies
-      → GroupReady ws n gates base (groupAt (decode ws) g) (getD passes g 0) total zeros ones settledZeros settledOnes
+      → GroupReady ws nodes base (groupAt (decode ws) g) (getD passes g 0) total zeros ones settledZeros settledOnes
   unfolding copiesOf
   group-ready c g l few =
       let copies : ℕ → ℕ = λ i. length (groupAt (decode ws) i) * getD passes i 0 in
@@ -159,8 +160,8 @@ pub rooms-counted : {b : Block} {count : ℕ} {members starts passes zeros ones 
     → Rooms b (length (groups b)) members starts passes zeros ones settledZeros settledOnes
 rooms-counted r = rw (r .listing .countIs) at r
 
-pub held-kept : {ws : List ℕ} {n gates base : ℕ} {zeros ones zeros′ ones′ : List ℕ} → BatchHeld ws n gates base zeros ones → zeros′ ≡ zeros → ones′ ≡ ones
-    → BatchHeld ws n gates base zeros′ ones′
+pub held-kept : {ws : List ℕ} {nodes : Nodes} {base : ℕ} {zeros ones zeros′ ones′ : List ℕ} → BatchHeld ws nodes base zeros ones → zeros′ ≡ zeros → ones′ ≡ ones
+    → BatchHeld ws nodes base zeros′ ones′
 held-kept h e f = rw (e, f) h
 
 -- ---- all groups
@@ -235,39 +236,39 @@ counting-full {b} {starts = starts} {passes = passes} next listing c full =
 -- ---- the start
 
 module _ {b : Block} {count : ℕ} {members starts : List ℕ} (listing : Listing b count members starts) {passes : List ℕ} (entry : List ℕ)
-    (room : count ≤ length entry) (are : passes ≡ placed (replicate count 1) entry) where
-  ones : List ℕ
-  ones = replicate count 1
+    (room : count ≤ length entry) (each : ℕ) (are : passes ≡ placed (replicate count each) entry) where
+  firsts : List ℕ
+  firsts = replicate count each
 
-  ones-long : length ones ≡ count
-  unfolding ones
-  ones-long = length-replicate {A = ℕ} count 1
+  firsts-long : length firsts ≡ count
+  unfolding firsts
+  firsts-long = length-replicate {A = ℕ} count each
 
-  one-each : (g : ℕ) → g < count → getD passes g 0 ≡ 1
-  unfolding ones
-  one-each g l = rw are (List·getD-append ones (drop (length ones) entry) 0 g (rw ones-long l) ∙ getD-replicate {A = ℕ} count g 1 0 l)
+  first-each : (g : ℕ) → g < count → getD passes g 0 ≡ each
+  unfolding firsts
+  first-each g l = rw are (List·getD-append firsts (drop (length firsts) entry) 0 g (rw firsts-long l) ∙ getD-replicate {A = ℕ} count g each 0 l)
 
-  pub counting-first : Counting b count 0 0 0 passes (length members)
+  pub counting-first : each ≡ 1 → Counting b count 0 0 0 passes (length members)
   unfolding copiesOf
-  counting-first =
+  counting-first one =
       record {
-        least = λ g l. rw (one-each g l) (record { some = omega arith; fewer = inl refl });
+        least = λ g l. rw (first-each g l, one) (record { some = omega arith; fewer = inl refl });
         totalIs =
             listing .membersLong
             ∙ ap sum
             (groups-tab b length count (listing .countIs)
-            ∙ tab-ext _ _ count (λ g l. rw (one-each g l) (sym (mul-one (length (groupAt b g))))));
+            ∙ tab-ext _ _ count (λ g l. rw (first-each g l, one) (sym (mul-one (length (groupAt b g))))));
         most = omega (arith, listing .few);
         before = λ few g l s m. absurd (omega arith);
         inside = λ few g l. absurd (omega arith);
       }
 
   pub rest-first : SameRest count entry passes
-  unfolding ones
+  unfolding firsts
   rest-first =
       record {
-        long = rw are (length-placed ones entry (rw ones-long room));
-        rest = λ g l. rw (are, ones-long) (getD-past ones entry count g 0 ones-long l);
+        long = rw are (length-placed firsts entry (rw firsts-long room));
+        rest = λ g l. rw (are, firsts-long) (getD-past firsts entry count g 0 firsts-long l);
       }
 
 -- ---- the end

@@ -13,12 +13,13 @@ use Prim.Native.Nat.{ℕ, _+_, _-_, _≤_, _<_}
 use native.Mathlib.Numerals.{add-one}
 use native.Mathlib.Omega.{arith}
 use lib.Dec.{eqb}
-use lib.ListN.{length, getD, set, take, length-map, List·getD-eq-default}
+use lib.ListN.{length, getD, set, length-map, List·getD-eq-default}
 use lib.Seq.{ext-getD, getD-set-other}
 use Rattle.laws.specs.Lists.{all, member, repeated}
 use Rattle.laws.proofs.Tests.{not-both, bool-cases, lt-or-le}
 use Rattle.laws.proofs.Tab.{length-tab, tab-ext}
 use Rattle.laws.proofs.Lists.{map-set, member-left, member-right, member-head, member-rest}
+use Rattle.layout.specs.declared.nodes.Nodes.{Nodes}
 use Rattle.netlist.specs.Values.{undefined, code}
 use Rattle.netlist.specs.Netlist.{Block, inputCount, gateCount, gateOf}
 use Rattle.netlist.specs.Limits.{maxInputs}
@@ -40,7 +41,7 @@ use Rattle.batch.specs.Batch.{NodesLong, gatePair, Evaluated, Walked, noGate, g
 use Rattle.batch.proofs.Sweeping.{set-proper}
 use Rattle.batch.proofs.BatchLaws.{gate-legal, gatePair-evaluated, evaluated-gates, evaluated-inputs, evaluated-zeros, evaluated-ones, gatesIn-at}
 use Rattle.passes.specs.Pairs.{Apart, Put, ProperAt, agreeAt}
-use Rattle.passes.specs.Counting.{Evaluable, Held, Stepped, Passed, Kept}
+use Rattle.passes.specs.Counting.{Held, Stepped, Passed, Kept}
 
 -- ---- gates evaluated one after the other
 
@@ -68,9 +69,9 @@ module _ {b : Block} {n : ℕ} where
             g .lanewise s l ∙ rw (f .inputsKept, f .lanewise s l) (sym (run-append b x js ks (map (lane s) (gatesIn n (gateCount b) zeros ones))));
       }
 
-module _ {ws : List ℕ} {n gates : ℕ} (legible : Legible ws n gates) (few : n ≤ maxInputs) (j : ℕ) (l : j < gateCount (decode ws)) where
-  pub stepped-one : {zeros ones zeros′ ones′ : List ℕ} {changed : Bool} → Held (decode ws) n zeros ones
-      → Evaluated ws n gates j zeros ones zeros′ ones′ changed → Stepped (decode ws) n (j ∷ []) zeros ones zeros′ ones′
+module _ {ws : List ℕ} {nodes : Nodes} (legible : Legible ws nodes) (few : nodes .inputs ≤ maxInputs) (j : ℕ) (l : j < gateCount (decode ws)) where
+  pub stepped-one : {zeros ones zeros′ ones′ : List ℕ} {changed : Bool} → Held (decode ws) (nodes .inputs) zeros ones
+      → Evaluated ws nodes j zeros ones zeros′ ones′ changed → Stepped (decode ws) (nodes .inputs) (j ∷ []) zeros ones zeros′ ones′
   unfolding run stepAt
   stepped-one {zeros} {ones} {zeros′} {ones′} h e =
       record {
@@ -82,35 +83,38 @@ module _ {ws : List ℕ} {n gates : ℕ} (legible : Legible ws n gates) (few : n
               gatesProper = rw (evaluated-gates legible few j l long e) (set-proper j (h .gatesProper) isProper);
             };
         inputsKept = evaluated-inputs legible few j l e;
-        zerosOutside = λ k a. rw (e .zerosAre) (getD-set-other zeros (n + j) k (p .zeros) 0 (a j (member-head j [])));
-        onesOutside = λ k a. rw (e .onesAre) (getD-set-other ones (n + j) k (p .ones) 0 (a j (member-head j [])));
+        zerosOutside = λ k a. rw (e .zerosAre) (getD-set-other zeros (nodes .inputs + j) k (p .zeros) 0 (a j (member-head j [])));
+        onesOutside = λ k a. rw (e .onesAre) (getD-set-other ones (nodes .inputs + j) k (p .ones) 0 (a j (member-head j [])));
         lanewise = λ s h.
-            ap (map (lane s)) (evaluated-gates legible few j l long e) ∙ map-set (lane s) (gatesIn n m zeros ones) j p
-            ∙ ap (set (map (lane s) (gatesIn n m zeros ones)) j) (value s h);
+            ap (map (lane s)) (evaluated-gates legible few j l long e) ∙ map-set (lane s) (gatesIn (nodes .inputs) m zeros ones) j p
+            ∙ ap (set (map (lane s) (gatesIn (nodes .inputs) m zeros ones)) j) (value s h);
       }
     where
       m : ℕ
       m = gateCount (decode ws)
 
       p : Pair
-      p = gatePair ws n gates j zeros ones
+      p = gatePair ws nodes j zeros ones
 
-      long : NodesLong (decode ws) n zeros ones
+      long : NodesLong (decode ws) (nodes .inputs) zeros ones
       long = held-long h
 
-      is : p ≡ evaluatedPair (full (lanesOf n)) (inputsIn n zeros ones) (gatesIn n m zeros ones) (gateOf (decode ws) j)
+      is : p ≡ evaluatedPair (full (lanesOf (nodes .inputs))) (inputsIn (nodes .inputs) zeros ones) (gatesIn (nodes .inputs) m zeros ones)
+          (gateOf (decode ws) j)
       is = gatePair-evaluated legible few j l long
 
-      isProper : Proper (lanesOf n) p
+      isProper : Proper (lanesOf (nodes .inputs)) p
       isProper = rw is (evaluatedPair-proper (h .inputsProper) (h .gatesProper) (gateOf (decode ws) j))
 
-      value : (s : ℕ) → s < lanesOf n
-          → lane s p ≡ evaluated (map (lane s) (inputsIn n zeros ones)) (map (lane s) (gatesIn n m zeros ones)) (gateOf (decode ws) j)
+      value : (s : ℕ) → s < lanesOf (nodes .inputs)
+          → lane s p ≡ evaluated (map (lane s) (inputsIn (nodes .inputs) zeros ones)) (map (lane s) (gatesIn (nodes .inputs) m zeros ones))
+          (gateOf (decode ws) j)
       value s k = rw is (evaluatedPair-lane (h .inputsProper) (h .gatesProper) s k (gateOf (decode ws) j) (gate-legal legible few j l))
 
 -- several gates
-pub walked-stepped : {ws : List ℕ} {n gates : ℕ} {js zeros ones zeros′ ones′ : List ℕ} {changed : Bool} → Legible ws n gates → n ≤ maxInputs
-    → Held (decode ws) n zeros ones → Walked ws n gates zeros ones js zeros′ ones′ changed → Stepped (decode ws) n js zeros ones zeros′ ones′
+pub walked-stepped : {ws : List ℕ} {nodes : Nodes} {js zeros ones zeros′ ones′ : List ℕ} {changed : Bool} → Legible ws nodes → nodes .inputs ≤ maxInputs
+    → Held (decode ws) (nodes .inputs) zeros ones → Walked ws nodes zeros ones js zeros′ ones′ changed
+    → Stepped (decode ws) (nodes .inputs) js zeros ones zeros′ ones′
 walked-stepped legible few h noGate = stepped-none h
 walked-stepped legible few h (gateMore w j l e) =
     let s = walked-stepped legible few h w in

@@ -30,8 +30,9 @@ use Rattle.lanes.specs.Pairs.{marked, lane, Proper}
 use Rattle.lanes.specs.Batches.{lanesOf}
 use Rattle.lanes.specs.Nodes.{pairAt}
 use Rattle.lanes.proofs.BitLaws.{bit-or, bit-xor}
-use Rattle.judge.specs.Lanes.{hasLane, Tells, mayCome}
-use Rattle.judge.proofs.WordLaws.{tells-and, tells-or, tells-none, tells-as, tells-no-lane, tells-some}
+use Rattle.lanes.specs.Words.{hasLane, Tells}
+use Rattle.judge.specs.Lanes.{mayCome}
+use Rattle.lanes.proofs.WordLaws.{tells-and, tells-or, tells-none, tells-as, tells-no-lane, tells-some}
 use Rattle.passes.specs.Pairs.{GatesIn, Put, differenceOf, ProperAt, agreeAt, differAt, Lacks}
 
 -- the first i + 1 gates

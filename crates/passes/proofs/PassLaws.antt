@@ -14,6 +14,7 @@ use native.Mathlib.Omega.{arith}
 use lib.ListN.{length, getD}
 use Rattle.laws.specs.Lists.{repeated}
 use Rattle.laws.proofs.Tests.{not-both, not-true-false}
+use Rattle.layout.specs.declared.nodes.Nodes.{Nodes}
 use Rattle.netlist.specs.Limits.{maxCopies}
 use Rattle.netlist.specs.Netlist.{Block}
 use Rattle.netlist.specs.StoredBlock.{decode}
@@ -49,16 +50,17 @@ pub record Passing (b : Block) (n base : ℕ) (group : List ℕ) (p₀ total₀ 
   pub zerosOutside : (k : ℕ) → Apart n group k → getD zeros k 0 ≡ getD zeros₀ k 0
   pub onesOutside : (k : ℕ) → Apart n group k → getD ones k 0 ≡ getD ones₀ k 0
 
-pub passing-first : {ws : List ℕ} {n gates base : ℕ} {group : List ℕ} {p total : ℕ} {zeros ones settledZeros settledOnes : List ℕ}
-    → PassReady ws n gates base group p total zeros ones settledZeros settledOnes → Passing (decode ws) n base group p total zeros ones zeros ones p total
+pub passing-first : {ws : List ℕ} {nodes : Nodes} {base : ℕ} {group : List ℕ} {p total : ℕ} {zeros ones settledZeros settledOnes : List ℕ}
+    → PassReady ws nodes base group p total zeros ones settledZeros settledOnes
+    → Passing (decode ws) (nodes .inputs) base group p total zeros ones zeros ones p total
 passing-first r =
     record { more = omega arith; totalIs = refl; soFar = r .soFar; passed = r .passed; zerosOutside = λ k a. refl; onesOutside = λ k a. refl }
 
-module _ {ws : List ℕ} {n gates base : ℕ} {group keptZeros keptOnes : List ℕ} (g : GroupBatch ws n gates base group)
-    (kept : Kept (decode ws) n base group keptZeros keptOnes) where
+module _ {ws : List ℕ} {nodes : Nodes} {base : ℕ} {group keptZeros keptOnes : List ℕ} (g : GroupBatch ws nodes base group)
+    (kept : Kept (decode ws) (nodes .inputs) base group keptZeros keptOnes) where
   -- a gate lacks its settled value under a setting that may come
-  lacks-enough : {p : ℕ} {zeros ones : List ℕ} → Passed (decode ws) n base group p zeros ones
-      → Lacks (decode ws) n base group zeros ones keptZeros keptOnes true → areEnough (decode ws) group p ≡ false
+  lacks-enough : {p : ℕ} {zeros ones : List ℕ} → Passed (decode ws) (nodes .inputs) base group p zeros ones
+      → Lacks (decode ws) (nodes .inputs) base group zeros ones keptZeros keptOnes true → areEnough (decode ws) group p ≡ false
   lacks-enough {p} c l =
       let w = l .some refl in
       not-true-false (areEnough (decode ws) group p)
@@ -66,10 +68,10 @@ module _ {ws : List ℕ} {n gates base : ℕ} {group keptZeros keptOnes : List �
       (sym (agree-settled (g .evaluable .there) c kept (w .0) (w .1)) ∙ w .3))
 
   module _ {p₀ total₀ : ℕ} {zeros₀ ones₀ zeros ones : List ℕ} {p total : ℕ}
-      (c : Passing (decode ws) n base group p₀ total₀ zeros₀ ones₀ zeros ones p total) where
-    pub passing-more : {zeros′ ones′ : List ℕ} → total ≤ maxCopies → Lacks (decode ws) n base group zeros ones keptZeros keptOnes true
-        → Stepped (decode ws) n group zeros ones zeros′ ones′
-        → Passing (decode ws) n base group p₀ total₀ zeros₀ ones₀ zeros′ ones′ (p + 1) (total + length group)
+      (c : Passing (decode ws) (nodes .inputs) base group p₀ total₀ zeros₀ ones₀ zeros ones p total) where
+    pub passing-more : {zeros′ ones′ : List ℕ} → total ≤ maxCopies → Lacks (decode ws) (nodes .inputs) base group zeros ones keptZeros keptOnes true
+        → Stepped (decode ws) (nodes .inputs) group zeros ones zeros′ ones′
+        → Passing (decode ws) (nodes .inputs) base group p₀ total₀ zeros₀ ones₀ zeros′ ones′ (p + 1) (total + length group)
     passing-more few lacks s =
         let more = times-more (length group) p in
         record {
@@ -86,8 +88,9 @@ module _ {ws : List ℕ} {n gates base : ℕ} {group keptZeros keptOnes : List �
           onesOutside = λ k a. s .onesOutside k a ∙ c .onesOutside k a;
         }
 
-    pub passing-done : Held (decode ws) n zeros₀ ones₀ → (total ≤ maxCopies → Lacks (decode ws) n base group zeros ones keptZeros keptOnes false)
-        → MorePasses (decode ws) n base group p₀ total₀ zeros₀ ones₀ zeros ones (record { passes = p; total = total })
+    pub passing-done : Held (decode ws) (nodes .inputs) zeros₀ ones₀
+        → (total ≤ maxCopies → Lacks (decode ws) (nodes .inputs) base group zeros ones keptZeros keptOnes false)
+        → MorePasses (decode ws) (nodes .inputs) base group p₀ total₀ zeros₀ ones₀ zeros ones (record { passes = p; total = total })
     passing-done held done =
         record {
           counted =

@@ -14,6 +14,7 @@ use lib.Dec.{ltb}
 use lib.ListN.{length, getD, take, drop}
 use Rattle.laws.specs.Lists.{member, sum, tab, placed}
 use Rattle.netlist.specs.Values.{undefined}
+use Rattle.layout.specs.declared.nodes.Nodes.{Nodes}
 use Rattle.netlist.specs.Limits.{maxInputs, maxGates, maxCopies}
 use Rattle.netlist.specs.Netlist.{Block, inputCount, gateCount}
 use Rattle.netlist.specs.StoredBlock.{decode}
@@ -34,9 +35,9 @@ use Rattle.passes.specs.Pairs.{Apart, ProperAt}
 -- ---- gates evaluated on pairs of words
 
 -- the gates listed can be evaluated from the words
-pub record Evaluable (ws : List ℕ) (n gates : ℕ) (group : List ℕ) : Type 0 where
-  pub legible : Legible ws n gates
-  pub fewInputs : n ≤ maxInputs
+pub record Evaluable (ws : List ℕ) (nodes : Nodes) (group : List ℕ) : Type 0 where
+  pub legible : Legible ws nodes
+  pub fewInputs : nodes .inputs ≤ maxInputs
   pub there : (j : ℕ) → member j group ≡ true → j < gateCount (decode ws)
 
 -- proper pairs, one for each input and each gate
@@ -77,10 +78,10 @@ pub record Kept (b : Block) (n base : ℕ) (group zeros ones : List ℕ) : Type 
       → lane s (pairAt zeros ones (n + j)) ≡ getD (settledUnder b (base + s)) j undefined
 
 -- a batch of settings, and a group of some gates
-pub record GroupBatch (ws : List ℕ) (n gates base : ℕ) (group : List ℕ) : Type 0 where
-  pub evaluable : Evaluable ws n gates group
+pub record GroupBatch (ws : List ℕ) (nodes : Nodes) (base : ℕ) (group : List ℕ) : Type 0 where
+  pub evaluable : Evaluable ws nodes group
   pub aligned : base % 64 ≡ 0
-  pub whole : base + lanesOf n ≤ settingCount (decode ws)
+  pub whole : base + lanesOf (nodes .inputs) ≤ settingCount (decode ws)
   pub sizeSome : 0 < length group
   pub sizeFew : length group ≤ maxGates
 
@@ -90,11 +91,11 @@ pub record SoFar (b : Block) (group : List ℕ) (p total : ℕ) : Type 0 where
   pub part : length group * p ≤ total
   pub most : total ≤ maxCopies + maxCopies
 
-pub record PassReady (ws : List ℕ) (n gates base : ℕ) (group : List ℕ) (p total : ℕ) (zeros ones settledZeros settledOnes : List ℕ) : Type 0 where
-  pub batch : GroupBatch ws n gates base group
+pub record PassReady (ws : List ℕ) (nodes : Nodes) (base : ℕ) (group : List ℕ) (p total : ℕ) (zeros ones settledZeros settledOnes : List ℕ) : Type 0 where
+  pub batch : GroupBatch ws nodes base group
   pub soFar : SoFar (decode ws) group p total
-  pub passed : Passed (decode ws) n base group p zeros ones
-  pub kept : Kept (decode ws) n base group settledZeros settledOnes
+  pub passed : Passed (decode ws) (nodes .inputs) base group p zeros ones
+  pub kept : Kept (decode ws) (nodes .inputs) base group settledZeros settledOnes
 
 -- r are the passes needed for the settings before and for those of the batch, unless the copies are too many
 pub record GroupCounted (b : Block) (n base : ℕ) (group : List ℕ) (p total : ℕ) (r : Counted) : Type 0 where
@@ -110,10 +111,10 @@ pub record MorePasses (b : Block) (n base : ℕ) (group : List ℕ) (p total : �
   pub zerosOutside : (k : ℕ) → Apart n group k → getD zeros′ k 0 ≡ getD zeros k 0
   pub onesOutside : (k : ℕ) → Apart n group k → getD ones′ k 0 ≡ getD ones k 0
 
-pub record GroupReady (ws : List ℕ) (n gates base : ℕ) (group : List ℕ) (p total : ℕ) (zeros ones settledZeros settledOnes : List ℕ) : Type 0 where
-  pub batch : GroupBatch ws n gates base group
+pub record GroupReady (ws : List ℕ) (nodes : Nodes) (base : ℕ) (group : List ℕ) (p total : ℕ) (zeros ones settledZeros settledOnes : List ℕ) : Type 0 where
+  pub batch : GroupBatch ws nodes base group
   pub soFar : SoFar (decode ws) group p total
-  pub settled : BatchSettled (decode ws) n base zeros ones
+  pub settled : BatchSettled (decode ws) (nodes .inputs) base zeros ones
   pub zerosRoom : length settledZeros ≡ length zeros
   pub onesRoom : length settledOnes ≡ length ones
 
@@ -162,12 +163,12 @@ pub record Rooms (b : Block) (count : ℕ) (members starts passes zeros ones set
   pub onesRoom : length settledOnes ≡ length ones
 
 -- the settled pairs of the batch at `base`
-pub record BatchHeld (ws : List ℕ) (n gates base : ℕ) (zeros ones : List ℕ) : Type 0 where
-  pub legible : Legible ws n gates
-  pub fewInputs : n ≤ maxInputs
+pub record BatchHeld (ws : List ℕ) (nodes : Nodes) (base : ℕ) (zeros ones : List ℕ) : Type 0 where
+  pub legible : Legible ws nodes
+  pub fewInputs : nodes .inputs ≤ maxInputs
   pub aligned : base % 64 ≡ 0
-  pub whole : base + lanesOf n ≤ settingCount (decode ws)
-  pub settled : BatchSettled (decode ws) n base zeros ones
+  pub whole : base + lanesOf (nodes .inputs) ≤ settingCount (decode ws)
+  pub settled : BatchSettled (decode ws) (nodes .inputs) base zeros ones
 
 -- Each group's passes, and the copies that they make; where those are too many, a number above the limit is told.
 pub record AllCounted (b : Block) (entry passes : List ℕ) (total : ℕ) : Type 0 where

@@ -2,9 +2,10 @@
 // the gates are evaluated along `order` for the settled pairs.
 use crate::group::count_group;
 use batch::in_place::decide_batch;
-use judge::words::lane_count;
+use lanes::words::lane_count;
 use layout::fill::fill_words;
 use layout::limits::MAX_GATES;
+use layout::nodes::Nodes;
 use layout::read::word_at;
 use verdict::settings::setting_count;
 ghost use mathlib.Core.Path.{_≡_};
@@ -22,8 +23,7 @@ ghost use Rattle.passes.specs.Counting.{Full, Counting, SameRest, Rooms,
 // One group more for the settings of the batch; the copies of all groups.
 fn count_at(
     words: &[u16],
-    n: usize,
-    gates: usize,
+    nodes: Nodes,
     base: usize,
     members: &[u16],
     starts: &[u16],
@@ -35,14 +35,15 @@ fn count_at(
     settled_zeros: &mut [u64],
     settled_ones: &mut [u64],
 ) -> usize
-    requires { ⌜ BatchHeld (now words) n gates base (now zeros) (now ones) × (total ≤ maxCopies) × (g < length (groups (decode (now words)))) ⌝ }
+    requires { ⌜ BatchHeld (now words) nodes base (now zeros) (now ones) × (total ≤ maxCopies) × (g < length (groups (decode (now words)))) ⌝ }
     requires { ⌜
         Rooms (decode (now words)) (length (groups (decode (now words)))) (now members) (now starts) (now passes) (now zeros) (now ones)
         (now «settled_zeros») (now «settled_ones»)
-        × Counting (decode (now words)) (length (groups (decode (now words)))) base g (base + lanesOf n) (now passes) total
+        × Counting (decode (now words)) (length (groups (decode (now words)))) base g (base + lanesOf (nodes .inputs)) (now passes) total
         ⌝ }
     ensures counted { λ r. ⌜
-        Counting (decode (now (words .entry))) (length (groups (decode (now (words .entry))))) base (g + 1) (base + lanesOf n) (now (passes .exit)) r
+        Counting (decode (now (words .entry))) (length (groups (decode (now (words .entry))))) base (g + 1) (base + lanesOf (nodes .inputs))
+        (now (passes .exit)) r
         × SameRest (length (groups (decode (now (words .entry))))) (now (passes .entry)) (now (passes .exit))
         ⌝ }
     ensures kept { λ r. ⌜ (now (zeros .exit) ≡ now (zeros .entry)) × (now (ones .exit) ≡ now (ones .entry)) ⌝ }
@@ -51,8 +52,7 @@ fn count_at(
     let end = word_at(starts, g + 1);
     let counted = count_group(
         words,
-        n,
-        gates,
+        nodes,
         base,
         &members[start..end],
         passes[g] as usize,
@@ -69,8 +69,7 @@ fn count_at(
 // The same. A group that has as many passes as gates needs no more, whatever the setting.
 fn count_needed(
     words: &[u16],
-    n: usize,
-    gates: usize,
+    nodes: Nodes,
     base: usize,
     members: &[u16],
     starts: &[u16],
@@ -82,14 +81,15 @@ fn count_needed(
     settled_zeros: &mut [u64],
     settled_ones: &mut [u64],
 ) -> usize
-    requires { ⌜ BatchHeld (now words) n gates base (now zeros) (now ones) × (total ≤ maxCopies) × (g < length (groups (decode (now words)))) ⌝ }
+    requires { ⌜ BatchHeld (now words) nodes base (now zeros) (now ones) × (total ≤ maxCopies) × (g < length (groups (decode (now words)))) ⌝ }
     requires { ⌜
         Rooms (decode (now words)) (length (groups (decode (now words)))) (now members) (now starts) (now passes) (now zeros) (now ones)
         (now «settled_zeros») (now «settled_ones»)
-        × Counting (decode (now words)) (length (groups (decode (now words)))) base g (base + lanesOf n) (now passes) total
+        × Counting (decode (now words)) (length (groups (decode (now words)))) base g (base + lanesOf (nodes .inputs)) (now passes) total
         ⌝ }
     ensures counted { λ r. ⌜
-        Counting (decode (now (words .entry))) (length (groups (decode (now (words .entry))))) base (g + 1) (base + lanesOf n) (now (passes .exit)) r
+        Counting (decode (now (words .entry))) (length (groups (decode (now (words .entry))))) base (g + 1) (base + lanesOf (nodes .inputs))
+        (now (passes .exit)) r
         × SameRest (length (groups (decode (now (words .entry))))) (now (passes .entry)) (now (passes .exit))
         ⌝ }
     ensures kept { λ r. ⌜ (now (zeros .exit) ≡ now (zeros .entry)) × (now (ones .exit) ≡ now (ones .entry)) ⌝ }
@@ -99,8 +99,7 @@ fn count_needed(
     }
     count_at(
         words,
-        n,
-        gates,
+        nodes,
         base,
         members,
         starts,
@@ -117,8 +116,7 @@ fn count_needed(
 // Every group for the settings of the batch at `base`, whose settled pairs `zeros` and `ones` are.
 fn count_groups(
     words: &[u16],
-    n: usize,
-    gates: usize,
+    nodes: Nodes,
     base: usize,
     count: usize,
     members: &[u16],
@@ -130,13 +128,13 @@ fn count_groups(
     settled_zeros: &mut [u64],
     settled_ones: &mut [u64],
 ) -> usize
-    requires { ⌜ BatchHeld (now words) n gates base (now zeros) (now ones) ⌝ }
+    requires { ⌜ BatchHeld (now words) nodes base (now zeros) (now ones) ⌝ }
     requires { ⌜
         Rooms (decode (now words)) count (now members) (now starts) (now passes) (now zeros) (now ones) (now «settled_zeros») (now «settled_ones»)
         × Counting (decode (now words)) count base 0 base (now passes) total
         ⌝ }
     ensures { λ r. ⌜
-        Counting (decode (now (words .entry))) count (base + lanesOf n) 0 (base + lanesOf n) (now (passes .exit)) r
+        Counting (decode (now (words .entry))) count (base + lanesOf (nodes .inputs)) 0 (base + lanesOf (nodes .inputs)) (now (passes .exit)) r
         × SameRest count (now (passes .entry)) (now (passes .exit))
         ⌝ }
 {
@@ -145,8 +143,7 @@ fn count_groups(
     while g < count && sum <= MAX_GATES {
         sum = count_needed(
             words,
-            n,
-            gates,
+            nodes,
             base,
             members,
             starts,
@@ -166,8 +163,7 @@ fn count_groups(
 // The same, settled pairs and all.
 fn count_batch(
     words: &[u16],
-    n: usize,
-    gates: usize,
+    nodes: Nodes,
     order: &[u16],
     base: usize,
     count: usize,
@@ -181,22 +177,21 @@ fn count_batch(
     settled_ones: &mut [u64],
 ) -> usize
     requires { ⌜
-        Decidable (now words) n gates (now order) (now zeros) (now ones) × (base % 64 ≡ 0) × (base + lanesOf n ≤ settingCount (decode (now words)))
+        Decidable (now words) nodes (now order) (now zeros) (now ones) × (base % 64 ≡ 0) × (base + lanesOf (nodes .inputs) ≤ settingCount (decode (now words)))
         ⌝ }
     requires { ⌜
         Rooms (decode (now words)) count (now members) (now starts) (now passes) (now zeros) (now ones) (now «settled_zeros») (now «settled_ones»)
         × Counting (decode (now words)) count base 0 base (now passes) total
         ⌝ }
     ensures { λ r. ⌜
-        Counting (decode (now (words .entry))) count (base + lanesOf n) 0 (base + lanesOf n) (now (passes .exit)) r
+        Counting (decode (now (words .entry))) count (base + lanesOf (nodes .inputs)) 0 (base + lanesOf (nodes .inputs)) (now (passes .exit)) r
         × SameRest count (now (passes .entry)) (now (passes .exit))
         ⌝ }
 {
-    decide_batch(words, n, gates, order, base, zeros, ones);
+    decide_batch(words, nodes, order, base, zeros, ones);
     count_groups(
         words,
-        n,
-        gates,
+        nodes,
         base,
         count,
         members,
@@ -227,8 +222,7 @@ fn are_full(count: usize, starts: &[u16], passes: &[u16]) -> bool
 // The same as `count_batch`. Nothing is decided where no group can need more passes.
 fn count_open(
     words: &[u16],
-    n: usize,
-    gates: usize,
+    nodes: Nodes,
     order: &[u16],
     base: usize,
     count: usize,
@@ -242,14 +236,14 @@ fn count_open(
     settled_ones: &mut [u64],
 ) -> usize
     requires { ⌜
-        Decidable (now words) n gates (now order) (now zeros) (now ones) × (base % 64 ≡ 0) × (base + lanesOf n ≤ settingCount (decode (now words)))
+        Decidable (now words) nodes (now order) (now zeros) (now ones) × (base % 64 ≡ 0) × (base + lanesOf (nodes .inputs) ≤ settingCount (decode (now words)))
         ⌝ }
     requires { ⌜
         Rooms (decode (now words)) count (now members) (now starts) (now passes) (now zeros) (now ones) (now «settled_zeros») (now «settled_ones»)
         × Counting (decode (now words)) count base 0 base (now passes) total
         ⌝ }
     ensures { λ r. ⌜
-        Counting (decode (now (words .entry))) count (base + lanesOf n) 0 (base + lanesOf n) (now (passes .exit)) r
+        Counting (decode (now (words .entry))) count (base + lanesOf (nodes .inputs)) 0 (base + lanesOf (nodes .inputs)) (now (passes .exit)) r
         × SameRest count (now (passes .entry)) (now (passes .exit))
         ⌝ }
 {
@@ -258,8 +252,7 @@ fn count_open(
     }
     count_batch(
         words,
-        n,
-        gates,
+        nodes,
         order,
         base,
         count,
@@ -277,8 +270,7 @@ fn count_open(
 // Writes each group's passes; the copies of all groups, or a number above the limit where they are too many.
 pub fn count_passes(
     words: &[u16],
-    n: usize,
-    gates: usize,
+    nodes: Nodes,
     order: &[u16],
     count: usize,
     members: &[u16],
@@ -289,22 +281,21 @@ pub fn count_passes(
     settled_zeros: &mut [u64],
     settled_ones: &mut [u64],
 ) -> usize
-    requires { ⌜ Decidable (now words) n gates (now order) (now zeros) (now ones) ⌝ }
+    requires { ⌜ Decidable (now words) nodes (now order) (now zeros) (now ones) ⌝ }
     requires { ⌜
         Rooms (decode (now words)) count (now members) (now starts) (now passes) (now zeros) (now ones) (now «settled_zeros») (now «settled_ones»)
         ⌝ }
     ensures { λ r. ⌜ AllCounted (decode (now (words .entry))) (now (passes .entry)) (now (passes .exit)) r ⌝ }
 {
     fill_words(passes, count, 1);
-    let settings = setting_count(n);
-    let lanes = lane_count(n);
+    let settings = setting_count(nodes.inputs);
+    let lanes = lane_count(nodes.inputs);
     let mut total = members.len();
     let mut base = 0;
     while base < settings && total <= MAX_GATES {
         total = count_open(
             words,
-            n,
-            gates,
+            nodes,
             order,
             base,
             count,

@@ -4,11 +4,11 @@ use lanes::gate::pair_at;
 ghost use mathlib.Core.Path.{_≡_};
 ghost use Prim.Native.Nat.{_+_, _%_, _≤_};
 ghost use lib.ListN.{length, getD};
-ghost use Rattle.netlist.specs.Limits.{maxInputs, maxGates};
+ghost use Rattle.netlist.specs.Limits.{maxInputs};
 ghost use Rattle.netlist.specs.StoredBlock.{decode};
 ghost use Rattle.lanes.specs.Batches.{lanesOf};
 ghost use Rattle.lanes.specs.Nodes.{pairAt};
-ghost use Rattle.judge.specs.Lanes.{Tells};
+ghost use Rattle.lanes.specs.Words.{Tells};
 ghost use Rattle.passes.specs.Pairs.{Put, GatesIn, differenceOf, ProperAt, differAt, Lacks};
 
 // Stores the pairs that the group's gates have in a source, undefined past its end.

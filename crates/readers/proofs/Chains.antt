@@ -8,7 +8,6 @@ use mathlib.Core.Logic.{_⊎_, inl, inr, ⊎-elim}
 use mathlib.Core.Bool.{true, false}
 use mathlib.Core.List.{List, [], _∷_, map}
 use Prim.Native.Nat.{ℕ, zero, suc, _+_, _-_, _*_, _/_, _≤_, _<_}
-use native.Mathlib.Numerals.{add-one}
 use native.Mathlib.Omega.{arith}
 use lib.ListN.{length, getD, set, replicate}
 use lib.Seq.{getD-set-same, getD-set-other}
@@ -16,7 +15,8 @@ use borrow.Author.Tests.{lt-ltb, le-ltb}
 use Rattle.laws.specs.Lists.{member, joined}
 use Rattle.laws.proofs.Tests.{lt-or-le, eq-or-ne}
 use Rattle.laws.proofs.Lists.{member-first}
-use Rattle.layout.specs.Nodes.{gateNamed}
+use Rattle.layout.specs.declared.nodes.Nodes.{Nodes}
+use Rattle.layout.specs.Nodes.{gateNamed, nodesOf}
 use Rattle.netlist.specs.Limits.{maxInputs, maxGates}
 use Rattle.netlist.specs.Netlist.{Operand, input, gate, constant, gateOf}
 use Rattle.netlist.specs.Groups.{gateOperand, readBy, reads}
@@ -24,7 +24,7 @@ use Rattle.netlist.specs.StoredBlock.{neversAt, gatesAt, nodeWord, operandOf, d
 use Rattle.encoding.proofs.Nodes.{nodeWord-operandOf}
 use Rattle.encoding.proofs.Readers.{whole-parts, whole-gate, whole-reads}
 use Rattle.encoding.proofs.Decoded.{decode-gateCount, decode-count, decode-operand}
-use Rattle.readers.specs.Readers.{Chain, at, behind, Descends, Readers, Empty, ReaderRoom, LinkReady, Linked, Linking}
+use Rattle.readers.specs.Readers.{Chain, at, behind, Descends, Readers, Empty, ReaderRoom, LinkReady, Linked, Linking, named}
 
 -- a list that is not at its end: the word in front, or one behind it
 pub chain-step : {next : List ℕ} {p q : ℕ} → Chain next p q → (p ≡ q) ⊎ Chain next p (getD next (q - 1) 0)
@@ -48,12 +48,9 @@ chain-kept {next} {p} e a d (behind {q = q} c) l =
     let same : getD (set next e a) q 0 ≡ getD next q 0 = getD-set-other next e q a 0 (λ f. omega arith) in
     behind {q = q} (rw same (chain-kept e a d c (omega (arith, d q))))
 
--- what `link` does, for a gate and for none
-pub linked-gate : {m k : ℕ} (e : ℕ) (first next : List ℕ) → k < m → Linked m k e first next (set first k (e + 1)) (set next e (getD first k 0))
-linked-gate {m} {k} e first next l = rw add-one (record { firstIs = rw (lt-ltb k m l) refl; nextIs = rw (lt-ltb k m l) refl })
-
-pub linked-none : {m k : ℕ} (e : ℕ) (first next : List ℕ) → m ≤ k → Linked m k e first next first next
-linked-none {m} {k} e first next l = record { firstIs = rw (le-ltb k m l) refl; nextIs = rw (le-ltb k m l) refl }
+-- a word that names no gate is put nowhere
+pub linked-none : {m k e : ℕ} {first next : List ℕ} → m ≤ k → Linked m k e first next first next
+linked-none {m} {k} l = record { firstIs = rw (le-ltb k m l) refl; nextIs = rw (le-ltb k m l) refl }
 
 -- zeros
 pub empty : (n : ℕ) → Empty (replicate n 0)
@@ -62,7 +59,7 @@ empty (suc n) zero = refl
 empty (suc n) (suc k) = empty n k
 
 -- no word is in a list
-pub linking-none : {ws : List ℕ} {n m gates : ℕ} {first next : List ℕ} → Empty first → Empty next → Linking ws n m gates first next 0
+pub linking-none : {ws : List ℕ} {nodes : Nodes} {first next : List ℕ} → Empty first → Empty next → Linking ws nodes first next 0
 linking-none f g =
     record {
       descends = λ e. rw (g e) (omega arith);
@@ -70,12 +67,12 @@ linking-none f g =
       found = λ j i k four l. absurd (omega arith);
     }
 
-module _ {ws : List ℕ} {n m gates : ℕ} {first next : List ℕ} (j i : ℕ) (h : Linking ws n m gates first next (4 * j + i)) (four : i < 4) where
+module _ {ws : List ℕ} {nodes : Nodes} {first next : List ℕ} (j i : ℕ) (h : Linking ws nodes first next (4 * j + i)) (four : i < 4) where
   abbrev e : ℕ
   e = 4 * j + i
 
   -- a word that names no gate
-  pub linking-over : m ≤ gateNamed n m (getD ws (gates + 5 * j + 1 + i) 0) → Linking ws n m gates first next (4 * j + (i + 1))
+  pub linking-over : nodes .gates ≤ named ws nodes j i → Linking ws nodes first next (4 * j + (i + 1))
   linking-over no-one =
       record {
         descends = h .descends;
@@ -89,9 +86,9 @@ module _ {ws : List ℕ} {n m gates : ℕ} {first next : List ℕ} (j i : ℕ) (
       }
 
   -- a word that names one
-  module _ (room : ReaderRoom m first next) (named : gateNamed n m (getD ws (gates + 5 * j + 1 + i) 0) < m) (below : e < 4 * m) where
+  module _ (room : ReaderRoom (nodes .gates) first next) (is-gate : named ws nodes j i < nodes .gates) (below : e < 4 * nodes .gates) where
     abbrev g : ℕ
-    g = gateNamed n m (getD ws (gates + 5 * j + 1 + i) 0)
+    g = named ws nodes j i
 
     at-first : getD (set first g (suc e)) g 0 ≡ suc e
     at-first = getD-set-same first g (suc e) 0 (omega (arith, room .firstRoom))
@@ -129,7 +126,7 @@ module _ {ws : List ℕ} {n m gates : ℕ} {first next : List ℕ} (j i : ℕ) (
         other : (k ≡ g → ⊥) → getD (set first g (suc e)) k 0 ≤ 4 * j + (i + 1)
         other ne = rw (getD-set-other first g k (suc e) 0 ne) (omega (arith, h .starts k))
 
-    pub linking-more : Linking ws n m gates (set first g (suc e)) (set next e (getD first g 0)) (4 * j + (i + 1))
+    pub linking-more : Linking ws nodes (set first g (suc e)) (set next e (getD first g 0)) (4 * j + (i + 1))
     linking-more =
         record {
           descends = down;
@@ -144,49 +141,50 @@ module _ {ws : List ℕ} {n m gates : ℕ} {first next : List ℕ} (j i : ℕ) (
         }
 
 -- either way
-pub linking-next : {ws : List ℕ} {n m gates : ℕ} {first next first′ next′ : List ℕ} (j i : ℕ) → Linking ws n m gates first next (4 * j + i) → i < 4
-    → ReaderRoom m first next → 4 * j + i < 4 * m
-    → Linked m (gateNamed n m (getD ws (gates + 5 * j + 1 + i) 0)) (4 * j + i) first next first′ next′ → Linking ws n m gates first′ next′ (4 * j + (i + 1))
-linking-next {ws} {n} {m} {gates} {first} {next} {first′} {next′} j i h four room below d =
+pub linking-next : {ws : List ℕ} {nodes : Nodes} {first next first′ next′ : List ℕ} (j i : ℕ) → Linking ws nodes first next (4 * j + i) → i < 4
+    → ReaderRoom (nodes .gates) first next → 4 * j + i < 4 * nodes .gates
+    → Linked (nodes .gates) (named ws nodes j i) (4 * j + i) first next first′ next′ → Linking ws nodes first′ next′ (4 * j + (i + 1))
+linking-next {ws} {nodes} {first} {next} {first′} {next′} j i h four room below d =
     ⊎-elim
-    (λ l. rw (d .firstIs, d .nextIs, lt-ltb (gateNamed n m (getD ws (gates + 5 * j + 1 + i) 0)) m l) (linking-more j i h four room l below))
-    (λ l. rw (d .firstIs, d .nextIs, le-ltb (gateNamed n m (getD ws (gates + 5 * j + 1 + i) 0)) m l) (linking-over j i h four l))
-    (lt-or-le (gateNamed n m (getD ws (gates + 5 * j + 1 + i) 0)) m)
+    (λ l. rw (d .firstIs, d .nextIs, lt-ltb (named ws nodes j i) (nodes .gates) l) (linking-more j i h four room l below))
+    (λ l. rw (d .firstIs, d .nextIs, le-ltb (named ws nodes j i) (nodes .gates) l) (linking-over j i h four l))
+    (lt-or-le (named ws nodes j i) (nodes .gates))
 
 -- a gate's words behind its count are in no list
-pub linking-gate : {ws : List ℕ} {n m gates : ℕ} {first next : List ℕ} (j i : ℕ) → Linking ws n m gates first next (4 * j + i) → i ≤ 4
-    → getD ws (gates + 5 * j) 0 / 8 ≤ i → Linking ws n m gates first next (4 * j + 4)
-linking-gate {ws} {n} {m} {gates} j i h four done =
+pub linking-gate : {ws : List ℕ} {nodes : Nodes} {first next : List ℕ} (j i : ℕ) → Linking ws nodes first next (4 * j + i) → i ≤ 4
+    → getD ws (nodes .start + 5 * j) 0 / 8 ≤ i → Linking ws nodes first next (4 * j + 4)
+linking-gate {ws} {nodes} j i h four done =
     record {
       descends = h .descends;
       starts = λ k. omega (arith, h .starts k);
       found = λ j′ i′ k four′ l count below is. ⊎-elim
           (λ l′. h .found j′ i′ k four′ l′ count below is)
           (λ l′. let same-gate : j′ ≡ j = omega arith in
-          let few : i′ < getD ws (gates + 5 * j) 0 / 8 = rw same-gate at count in absurd (omega arith))
+          let few : i′ < getD ws (nodes .start + 5 * j) 0 / 8 = rw same-gate at count in absurd (omega arith))
           (lt-or-le (4 * j′ + i′) (4 * j + i));
     }
 
 -- the numbers of a whole block are small
-pub record Few (n m gates : ℕ) : Type 0 where
-  pub inputs : n ≤ maxInputs
-  pub gatesMost : m ≤ maxGates
-  pub near : gates ≤ maxGates
+pub record Few (nodes : Nodes) : Type 0 where
+  pub inputsMost : nodes .inputs ≤ maxInputs
+  pub gatesMost : nodes .gates ≤ maxGates
+  pub near : nodes .start ≤ maxGates
 
-pub ready-few : {ws : List ℕ} {n m gates : ℕ} {first next : List ℕ} → LinkReady ws n m gates first next → Few n m gates
-unfolding gatesAt neversAt
+pub ready-few : {ws : List ℕ} {nodes : Nodes} {first next : List ℕ} → LinkReady ws nodes first next → Few nodes
+unfolding gatesAt neversAt nodesOf
 ready-few {ws} r =
     let w = whole-parts ws (r .whole) in
-    record {
-      inputs = omega (arith, w .fewInputs, r .inputs);
-      gatesMost = omega (arith, w .fewGates, r .gatesAre);
-      near = omega (arith, w .fewInputs, w .fewNevers, r .place);
-    }
+    rw (r .nodesAre) (record {
+      inputsMost = w .fewInputs;
+      gatesMost = w .fewGates;
+      near = omega (arith, w .fewInputs, w .fewNevers);
+    })
 
 -- and so is a gate's count
-pub ready-count : {ws : List ℕ} {n m gates : ℕ} {first next : List ℕ} → LinkReady ws n m gates first next → (j : ℕ) → j < m
-    → getD ws (gates + 5 * j) 0 / 8 ≤ 4
-ready-count {ws} r j l = rw (r .place) (whole-gate ws (r .whole) j (rw (← r .gatesAre) l) .count)
+pub ready-count : {ws : List ℕ} {nodes : Nodes} {first next : List ℕ} → LinkReady ws nodes first next → (j : ℕ) → j < nodes .gates
+    → getD ws (nodes .start + 5 * j) 0 / 8 ≤ 4
+unfolding nodesOf
+ready-count {ws} r j l = rw (r .nodesAre) (whole-gate ws (r .whole) j (rw (r .nodesAre) at l) .count)
 
 -- an operand that is a gate
 named-operand : (os : List Operand) (k : ℕ) → member k (joined (map gateOperand os)) ≡ true
@@ -211,9 +209,9 @@ module _ (ws : List ℕ) (whole : isTorn ws ≡ false) where
   abbrev gates : ℕ
   gates = gatesAt (getD ws 0 0) (getD ws 3 0)
 
-  named : (k : ℕ) → k < m → gateNamed n m (n + k) ≡ k
+  names-gate : (k : ℕ) → k < m → gateNamed n m (n + k) ≡ k
   unfolding gateNamed
-  named k l =
+  names-gate k l =
       let back : n + k - n ≡ k = omega arith in
       rw (le-ltb (n + k) n (omega arith), lt-ltb (n + k) (n + m) (omega arith), back) refl
 
@@ -228,10 +226,11 @@ module _ (ws : List ℕ) (whole : isTorn ws ≡ false) where
       let w = getD ws (gates + 5 * j + 1 + o .0) 0 in
       let is : operandOf n w ≡ gate k = sym (decode-operand ws j l (o .0) (gate k) there) ∙ o .2 (gate k) in
       let word : w ≡ n + k = sym (nodeWord-operandOf n w) ∙ ap (nodeWord n) is in
-      (o .0, there, rw word (named k few), few)
+      (o .0, there, rw word (names-gate k few), few)
 
   -- all words are in
-  pub linked-readers : {first next : List ℕ} → Linking ws n m gates first next (4 * m) → Readers (decode ws) m first next
+  pub linked-readers : {first next : List ℕ} → Linking ws (nodesOf ws) first next (4 * m) → Readers (decode ws) m first next
+  unfolding nodesOf
   linked-readers {first} {next} h =
       record {
         descends = h .descends;

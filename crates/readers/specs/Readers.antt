@@ -9,11 +9,12 @@ use mathlib.Core.Bool.{true, false, cond}
 use mathlib.Core.List.{List}
 use lib.ListN.{length, getD, set}
 use lib.Dec.{ltb}
-use Rattle.layout.specs.Nodes.{gateNamed}
+use Rattle.layout.specs.declared.nodes.Nodes.{Nodes}
+use Rattle.layout.specs.Nodes.{gateNamed, nodesOf}
 use Rattle.netlist.specs.Limits.{maxGates}
 use Rattle.netlist.specs.Netlist.{Block}
 use Rattle.netlist.specs.Groups.{reads}
-use Rattle.netlist.specs.StoredBlock.{gatesAt, isTorn}
+use Rattle.netlist.specs.StoredBlock.{isTorn}
 
 -- p is in the list that starts at an index
 pub data Chain (next : List ℕ) (p : ℕ) : ℕ → Type 0 where
@@ -40,28 +41,30 @@ pub record ReaderRoom (m : ℕ) (first next : List ℕ) : Type 0 where
   pub nextRoom : 4 * m ≤ length next
 
 -- room to put word number e in a list
-pub record LinkRoom (n m e : ℕ) (first next : List ℕ) : Type 0 where
-  pub fewInputs : n ≤ 65535
-  pub fewGates : m ≤ maxGates
-  pub below : e < 4 * m
-  pub room : ReaderRoom m first next
+pub record LinkRoom (nodes : Nodes) (e : ℕ) (first next : List ℕ) : Type 0 where
+  pub fewInputs : nodes .inputs ≤ 65535
+  pub fewGates : nodes .gates ≤ maxGates
+  pub below : e < 4 * nodes .gates
+  pub room : ReaderRoom (nodes .gates) first next
 
--- the words hold a whole block of n inputs and m gates, whose first stands at `gates`
-pub record LinkReady (ws : List ℕ) (n m gates : ℕ) (first next : List ℕ) : Type 0 where
+-- the words hold a whole block with these nodes
+pub record LinkReady (ws : List ℕ) (nodes : Nodes) (first next : List ℕ) : Type 0 where
   pub whole : isTorn ws ≡ false
-  pub inputs : n ≡ getD ws 0 0
-  pub gatesAre : m ≡ getD ws 1 0
-  pub place : gates ≡ gatesAt (getD ws 0 0) (getD ws 3 0)
-  pub room : ReaderRoom m first next
+  pub nodesAre : nodes ≡ nodesOf ws
+  pub room : ReaderRoom (nodes .gates) first next
 
 -- word number e, which names gate k, is put in front; m is no gate
 pub record Linked (m k e : ℕ) (first next first′ next′ : List ℕ) : Type 0 where
   pub firstIs : first′ ≡ cond (ltb k m) (set first k (suc e)) first
   pub nextIs : next′ ≡ cond (ltb k m) (set next e (getD first k 0)) next
 
+-- the gate that operand word i of gate j names
+abbrev pub named : List ℕ → Nodes → ℕ → ℕ → ℕ
+named ws nodes j i = gateNamed (nodes .inputs) (nodes .gates) (getD ws (nodes .start + 5 * j + 1 + i) 0)
+
 -- the words with numbers below e are in their lists
-pub record Linking (ws : List ℕ) (n m gates : ℕ) (first next : List ℕ) (e : ℕ) : Type 0 where
+pub record Linking (ws : List ℕ) (nodes : Nodes) (first next : List ℕ) (e : ℕ) : Type 0 where
   pub descends : Descends next
   pub starts : (k : ℕ) → getD first k 0 ≤ e
-  pub found : (j i k : ℕ) → i < 4 → 4 * j + i < e → i < getD ws (gates + 5 * j) 0 / 8 → k < m → gateNamed n m (getD ws (gates + 5 * j + 1 + i) 0) ≡ k
+  pub found : (j i k : ℕ) → i < 4 → 4 * j + i < e → i < getD ws (nodes .start + 5 * j) 0 / 8 → k < nodes .gates → named ws nodes j i ≡ k
       → Chain next (suc (4 * j + i)) (getD first k 0)

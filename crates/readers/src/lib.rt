@@ -1,11 +1,10 @@
 // Which gates read each gate. Operand word i of gate j is numbered 4 j + i; the words that name a gate form a linked list, whose first number is in
 // `first`, at the gate, and whose further numbers are in `next`, at the word before. A number stands there plus 1; 0 ends a list.
+use layout::nodes::Nodes;
 use layout::nodes::gate_named;
+use layout::nodes::nodes_of;
 use layout::offsets::GATE_SIZE;
 use layout::offsets::OPERAND_WORDS;
-use layout::offsets::gates_at;
-use layout::offsets::gates_of;
-use layout::offsets::inputs_of;
 use layout::read::word_at;
 ghost use mathlib.Core.Path.{_≡_};
 ghost use mathlib.Core.Bool.{false};
@@ -16,39 +15,31 @@ ghost use Rattle.netlist.specs.StoredBlock.{decode, isTorn};
 ghost use Rattle.readers.specs.Readers.{LinkRoom, LinkReady, Linked, Linking, Empty, ReaderRoom, Readers};
 
 // Puts word number `e` in front of the list of the gate that `word` names, if it names one.
-fn link(word: usize, n: usize, m: usize, e: usize, first: &mut [u16], next: &mut [u16])
-    requires { ⌜ LinkRoom n m e (now first) (now next) ⌝ }
-    ensures { λ r. ⌜ Linked m (gateNamed n m word) e (now (first .entry)) (now (next .entry)) (now (first .exit)) (now (next .exit)) ⌝ }
+fn link(word: usize, nodes: Nodes, e: usize, first: &mut [u16], next: &mut [u16])
+    requires { ⌜ LinkRoom nodes e (now first) (now next) ⌝ }
+    ensures { λ r. ⌜ Linked (nodes .gates) (gateNamed (nodes .inputs) (nodes .gates) word) e (now (first .entry)) (now (next .entry))
+        (now (first .exit)) (now (next .exit)) ⌝ }
 {
-    let k = gate_named(word, n, m);
-    if k < m {
+    let k = gate_named(word, nodes.inputs, nodes.gates);
+    if k < nodes.gates {
         next[e] = first[k];
         first[k] = (e + 1) as u16;
     }
 }
 
-// Puts the operand words of gate `j` in their lists. The first gate's words stand at `gates`.
-fn link_gate(
-    words: &[u16],
-    n: usize,
-    m: usize,
-    gates: usize,
-    j: usize,
-    first: &mut [u16],
-    next: &mut [u16],
-)
-    requires { ⌜ LinkReady (now words) n m gates (now first) (now next) × (j < m) ⌝ }
-    requires { ⌜ Linking (now words) n m gates (now first) (now next) (4 * j) ⌝ }
-    ensures { λ r. ⌜ Linking (now (words .entry)) n m gates (now (first .exit)) (now (next .exit)) (4 * j + 4) ⌝ }
+// Puts the operand words of gate `j` in their lists.
+fn link_gate(words: &[u16], nodes: Nodes, j: usize, first: &mut [u16], next: &mut [u16])
+    requires { ⌜ LinkReady (now words) nodes (now first) (now next) × (j < nodes .gates) ⌝ }
+    requires { ⌜ Linking (now words) nodes (now first) (now next) (4 * j) ⌝ }
+    ensures { λ r. ⌜ Linking (now (words .entry)) nodes (now (first .exit)) (now (next .exit)) (4 * j + 4) ⌝ }
 {
-    let at = gates + GATE_SIZE * j;
+    let at = nodes.start + GATE_SIZE * j;
     let count = word_at(words, at) / 8;
     let mut i = 0;
     while i < count {
         link(
             word_at(words, at + 1 + i),
-            n,
-            m,
+            nodes,
             OPERAND_WORDS * j + i,
             first,
             next,
@@ -63,12 +54,10 @@ pub fn link_readers(words: &[u16], first: &mut [u16], next: &mut [u16])
     requires { ⌜ ReaderRoom (getD (now words) 1 0) (now first) (now next) × Empty (now first) × Empty (now next) ⌝ }
     ensures { λ r. ⌜ Readers (decode (now (words .entry))) (getD (now (words .entry)) 1 0) (now (first .exit)) (now (next .exit)) ⌝ }
 {
-    let n = inputs_of(words);
-    let m = gates_of(words);
-    let gates = gates_at(words);
+    let nodes = nodes_of(words);
     let mut j = 0;
-    while j < m {
-        link_gate(words, n, m, gates, j, first, next);
+    while j < nodes.gates {
+        link_gate(words, nodes, j, first, next);
         j += 1;
     }
 }

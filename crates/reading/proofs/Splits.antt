@@ -16,7 +16,7 @@ use Rattle.netlist.specs.declared.Refusal.the-variants.{OverLimit}
 use Rattle.netlist.specs.declared.Test.{Test}
 use Rattle.netlist.specs.declared.Test.the-variants.{Passed}
 use Rattle.netlist.specs.Limits.{maxText, maxNevers}
-use Rattle.netlist.specs.Syntax.{Tree, print}
+use Rattle.netlist.specs.Syntax.{Tree}
 use Rattle.netlist.specs.Reading.{neverLinesAt, gateLinesAt, outputLinesAt, isOverLimit}
 use Rattle.netlist.specs.Answers.{testOf}
 use Rattle.grammar.proofs.Places.{print-measure}

@@ -28,7 +28,8 @@ use Rattle.names.specs.declared.Counts.{Counts}
 use Rattle.names.specs.Plain.{plain, moved}
 use Rattle.names.specs.Results.{Prints, treeCounts, declared, packedNames, Declared, TableRoom, Repeats, IndexReady}
 use Rattle.names.proofs.TreeLines.{legal-parts}
-use Rattle.names.proofs.TreeCounts.{limits-within, node-room, table-room}
+use Rattle.grammar.proofs.Limits.{limits-within}
+use Rattle.names.proofs.TreeCounts.{node-room, table-room}
 use Rattle.names.proofs.PlainTree.{plain-legal, nevers-few}
 use Rattle.names.proofs.PlainPlaces.{duplicate-whole, undeclared-whole}
 use Rattle.pairs.specs.Tables.{InputsAre}

@@ -75,7 +75,8 @@ pub fn moved_unknown(tested: Test, from: usize, to: usize) -> Test
 
 // Of two answers of 4, the one with the lesser place.
 pub fn earlier_repeat(one: Test, other: Test) -> Test
-    ensures { λ r. ⌜ ((p q : Option ℕ) → one ≡ testAt p DuplicateDeclaration → other ≡ testAt q DuplicateDeclaration → r ≡ testAt (lesser p q) DuplicateDeclaration) ⌝ }
+    ensures { λ r. ⌜ ((p q : Option ℕ) → one ≡ testAt p DuplicateDeclaration → other ≡ testAt q DuplicateDeclaration
+        → r ≡ testAt (lesser p q) DuplicateDeclaration) ⌝ }
 {
     let Test::Failed(first) = one else {
         return other;

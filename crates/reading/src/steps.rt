@@ -78,7 +78,9 @@ fn undeclared(
     outputs: &mut [u16],
 ) -> Test
     requires { ⌜ Resolving (now text) lines (now rest) c (now names) (now nodes) (now index) (now gates) (now outputs) ⌝ }
-    ensures { λ r. ⌜ ((t : Tree) → Limited t (now (text .entry)) lines (now (rest .entry)) → TreeAt (plain t) (now (rest .entry)) c (now (names .entry)) (now (nodes .entry)) → Known t (now (gates .entry)) (now (gates .exit)) (now (outputs .entry)) (now (outputs .exit)) r) ⌝ }
+    ensures { λ r. ⌜ ((t : Tree) → Limited t (now (text .entry)) lines (now (rest .entry))
+        → TreeAt (plain t) (now (rest .entry)) c (now (names .entry)) (now (nodes .entry))
+        → Known t (now (gates .entry)) (now (gates .exit)) (now (outputs .entry)) (now (outputs .exit)) r) ⌝ }
 {
     let tested = test_outsiders(text, lines, names, c.inputs);
     let Test::Passed = tested else {

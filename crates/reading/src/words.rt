@@ -76,7 +76,8 @@ pub fn put_block(
     block: &mut [u16],
 )
     requires { ⌜ PutReady c lines (now names) (now masks) (now gates) (now outputs) (now block) ⌝ }
-    ensures { λ r. ⌜ now (block .exit) ≡ sets (now (block .entry)) 0 (blockWords c lines (now (names .entry)) (now (masks .entry)) (now (gates .entry)) (now (outputs .entry))) ⌝ }
+    ensures { λ r. ⌜ now (block .exit) ≡ sets (now (block .entry)) 0
+        (blockWords c lines (now (names .entry)) (now (masks .entry)) (now (gates .entry)) (now (outputs .entry))) ⌝ }
 {
     let n = c.inputs;
     let m = c.gates;

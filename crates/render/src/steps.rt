@@ -2,8 +2,8 @@
 use copying::rendered::write_rendering;
 use groups::assign::assign;
 use layout::limits::MAX_GATES;
+use layout::nodes::nodes_of;
 use layout::offsets::OUTPUT_SIZE;
-use layout::offsets::gates_at;
 use layout::offsets::gates_of;
 use layout::offsets::inputs_of;
 use layout::offsets::nevers_of;
@@ -38,16 +38,14 @@ fn lowest_along(words: &[u16], order: &[u16], zeros: &mut [u64], ones: &mut [u64
     requires { ⌜ LowestReady (now words) (now order) (now zeros) (now ones) ⌝ }
     ensures { λ r. ⌜ r ≡ lowestUnsettled (decode (now (words .entry))) ⌝ }
 {
-    let n = inputs_of(words);
-    let m = gates_of(words);
-    let gates = gates_at(words);
+    let nodes = nodes_of(words);
+    let size = nodes.inputs + nodes.gates;
     lowest_unsettled(
         words,
-        n,
-        gates,
-        &order[..m],
-        &mut zeros[..n + m],
-        &mut ones[..n + m],
+        nodes,
+        &order[..nodes.gates],
+        &mut zeros[..size],
+        &mut ones[..size],
     )
 }
 
@@ -85,7 +83,7 @@ fn finish(
         return refusal(tested);
     };
     fill_schedule(m, numbers, count, passes, order);
-    write_rendering(words, n, m, k, order, total, newest, rendered);
+    write_rendering(words, order, total, newest, rendered);
     Answer::Done {
         count: size,
         detail: 0,
@@ -112,23 +110,20 @@ fn count_along(
         ⌝ }
     ensures { λ r. ⌜ AllCounted (decode (now (words .entry))) (now (passes .entry)) (now (passes .exit)) r ⌝ }
 {
-    let n = inputs_of(words);
-    let m = gates_of(words);
-    let gates = gates_at(words);
-    let nodes = n + m;
+    let nodes = nodes_of(words);
+    let size = nodes.inputs + nodes.gates;
     count_passes(
         words,
-        n,
-        gates,
-        &order[..m],
+        nodes,
+        &order[..nodes.gates],
         count,
-        &members[..m],
+        &members[..nodes.gates],
         starts,
         passes,
-        &mut zeros[..nodes],
-        &mut ones[..nodes],
-        &mut settled_zeros[..nodes],
-        &mut settled_ones[..nodes],
+        &mut zeros[..size],
+        &mut ones[..size],
+        &mut settled_zeros[..size],
+        &mut settled_ones[..size],
     )
 }
 

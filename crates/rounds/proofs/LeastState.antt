@@ -12,7 +12,7 @@ use lib.ListN.{getD}
 use Rattle.laws.proofs.Tests.{lt-or-le}
 use Rattle.netlist.specs.Values.{Value, undefined}
 use Rattle.netlist.specs.Netlist.{Block, gateCount, gateOf}
-use Rattle.netlist.specs.Rounds.{evaluated, round, afterRounds, rounds, settled}
+use Rattle.netlist.specs.Rounds.{evaluated, afterRounds, rounds, settled}
 use Rattle.rounds.specs.Order.{Below, BelowOn, BelowAll, Closed}
 use Rattle.rounds.proofs.Values.{below-of-eq, below-of-undefined, below-trans, below-antisym}
 use Rattle.rounds.proofs.Evaluation.{evaluated-mono}

@@ -1,11 +1,11 @@
 -- A set line in form has at most maxSetLine bytes; so of a longer line its first heldBytes bytes are answered as the whole line. Assumes nothing.
 use Prim.Native.Nat.{ℕ, suc, _+_, _*_, _-_, _≤_, _<_}
-use mathlib.Core.Path.{_≡_, refl, sym, ap, _∙_}
-use mathlib.Core.Bool.{Bool, true, false, _&&_, and-eq-true-iff}
+use mathlib.Core.Path.{_≡_, refl, ap}
+use mathlib.Core.Bool.{Bool, true, false, and-eq-true-iff}
 use mathlib.Core.Logic.{_⊎_, inl, inr}
 use mathlib.Core.List.{List, [], _∷_, _++_}
 use native.Mathlib.Omega.{arith}
-use lib.ListN.{length, take, length-append, length-take}
+use lib.ListN.{length, take, length-append}
 use lib.Seq.{take-take, take-all, length-take-le}
 use lib.Dec.{leb}
 use borrow.Author.Tests.{leb-true}
@@ -14,14 +14,14 @@ use Rattle.laws.proofs.Tests.{lt-or-le}
 use Rattle.netlist.specs.declared.Refusal.the-variants.{SyntaxError}
 use Rattle.netlist.specs.Limits.{maxInputs, maxName}
 use Rattle.netlist.specs.Values.{val}
-use Rattle.netlist.specs.Netlist.{Name, Block, inputCount}
-use Rattle.netlist.specs.StoredBlock.{isNodeName, isLegalName}
-use Rattle.netlist.specs.Syntax.{printLines, LegalOf, ViableOf, FirstBadOf}
+use Rattle.netlist.specs.Netlist.{Block, inputCount}
+use Rattle.netlist.specs.StoredBlock.{isNodeName}
+use Rattle.netlist.specs.Syntax.{printLines}
 use Rattle.netlist.specs.Parse.{Parsed, got, stuck}
 use Rattle.netlist.specs.Syntax.{Pair, valueText, pairText, printPair, isLegalPair}
 use Rattle.netlist.specs.SetLine.{printSetLine, isLegalSetLine, LegalLine, ViableLine, FirstBadInLine}
 use Rattle.netlist.specs.SetLine.{setLineReader}
-use Rattle.netlist.specs.Answers.{Outcome, refused}
+use Rattle.netlist.specs.Answers.{refused}
 use Rattle.netlist.specs.Bench.{lineOutcome, parsedOutcome, lineAnswer}
 use Rattle.grammar.proofs.FirstBad.{first-bad-one}
 use Rattle.grammar.proofs.WritingLength.{name-short}

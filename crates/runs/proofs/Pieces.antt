@@ -3,14 +3,12 @@
 use Prim.Native.Nat.{ℕ, zero, suc, _+_, _≤_, _<_}
 use mathlib.Core.Path.{_≡_, refl, sym, ap, _∙_}
 use mathlib.Core.Bool.{Bool, true, false, cond, _&&_}
-use mathlib.Core.Logic.{_⊎_, inl, inr}
-use mathlib.Core.List.{List, [], _∷_, _++_, map, append-assoc, append-nil}
+use mathlib.Core.List.{List, [], _∷_, _++_, append-assoc, append-nil}
 use native.Mathlib.Omega.{arith}
 use lib.ListN.{length, take, length-append}
 use lib.Dec.{eqb, ltb}
-use borrow.Author.Tests.{lt-ltb, le-ltb, ltb-true, ltb-false}
+use borrow.Author.Tests.{lt-ltb, ltb-false}
 use Rattle.laws.specs.Lists.{joined}
-use Rattle.netlist.specs.declared.Refusal.{Refusal}
 use Rattle.netlist.specs.declared.Refusal.the-variants.{TextTooLong}
 use Rattle.netlist.specs.Limits.{maxText, maxInputs}
 use Rattle.netlist.specs.Netlist.{inputCount}
@@ -20,7 +18,7 @@ use Rattle.netlist.specs.Operations.{readText}
 use Rattle.netlist.specs.Program.{refusalLine}
 use Rattle.netlist.specs.Line.{lf}
 use Rattle.netlist.specs.Bench.{lineAnswer, lineAnswers, lastLine, linesFrom, linesOf, netlistFrom, settingsFrom, netlistPart, settingsPart, benchAfter, bench}
-use Rattle.runs.specs.Runs.{heldBytes, Run, inNetlist, inLines, over, start, Turn, silent, ended, held, opened, turn, after, outputs, ending}
+use Rattle.runs.specs.Runs.{heldBytes, Run, inNetlist, inLines, over, start, Turn, silent, ended, opened, turn, after, outputs, ending}
 use Rattle.runs.specs.Runs.{afterAll, outputsAll}
 use Rattle.runs.proofs.LongLines.{held-answer}
 use Rattle.runs.proofs.ReadBlocks.{read-few-inputs}

@@ -1,26 +1,24 @@
 -- What is known of a text that was read: it is a tree's, the tree passed every test, and the words are its block's. Assumes nothing.
 use Prim.Native.Nat.{ℕ, _≤_}
 use mathlib.Core.Path.{_≡_, refl}
-use mathlib.Core.Bool.{Bool, true, false, _&&_}
+use mathlib.Core.Bool.{Bool, true, false}
 use mathlib.Core.Option.{Option, none, some}
-use mathlib.Core.List.{List, map}
+use mathlib.Core.List.{List}
 use native.Mathlib.Omega.{arith}
 use lib.ListN.{length}
-use lib.Dec.{leb, ltb}
-use borrow.Author.Tests.{leb-true, not-false}
-use Rattle.laws.specs.Lists.{sum}
+use lib.Dec.{ltb}
 use Rattle.laws.proofs.Tab.{length-tab}
 use Rattle.netlist.specs.declared.Refusal.{Refusal}
 use Rattle.netlist.specs.declared.Refusal.the-variants.{TextTooLong, OverLimit, DuplicateDeclaration, UndeclaredName}
-use Rattle.netlist.specs.Limits.{maxText, maxInputs, maxNevers, maxGates, maxOutputs}
+use Rattle.netlist.specs.Limits.{maxText, maxInputs}
 use Rattle.netlist.specs.Netlist.{inputCount}
 use Rattle.netlist.specs.StoredBlock.{encode, decode}
 use Rattle.netlist.specs.Syntax.{Tree}
 use Rattle.netlist.specs.Parse.{Parsed, got, stuck, parse}
-use Rattle.netlist.specs.Reading.{lineGates, isOverLimit, firstDuplicate, firstUndeclared, blockOf}
+use Rattle.netlist.specs.Reading.{isOverLimit, firstDuplicate, firstUndeclared, blockOf}
 use Rattle.netlist.specs.Answers.{done, refused, refuseIf, refuseAt}
 use Rattle.netlist.specs.Operations.{counted, readTree, readParsed, readText}
-use Rattle.encoding.proofs.ListFacts.{and-parts}
+use Rattle.grammar.proofs.Limits.{limits-within}
 
 pub record Accepted (text ws : List ℕ) : Type 0 where
   pub tree : Tree
@@ -61,29 +59,10 @@ module _ (text ws : List ℕ) (count detail : ℕ) where
       go true p h = not-refused h
       go false p h = in-parsed (parse text) refl h
 
--- what the test of the limits says, part by part
-pub record WithinLimits (t : Tree) : Type 0 where
-  pub inputs : length (t .inputs) ≤ maxInputs
-  pub nevers : length (t .nevers) ≤ maxNevers
-  pub gates : sum (map lineGates (t .gates)) ≤ maxGates
-  pub outputs : length (t .outputs) ≤ maxOutputs
-
-pub within-limits : (t : Tree) → isOverLimit t ≡ false → WithinLimits t
-unfolding isOverLimit
-within-limits t h =
-    let i = leb (length (t .inputs)) maxInputs in
-    let l = leb (length (t .nevers)) maxNevers in
-    let g = leb (sum (map lineGates (t .gates))) maxGates in
-    let o = leb (length (t .outputs)) maxOutputs in
-    let e = and-parts (i && l && g) o (not-false (i && l && g && o) h) in
-    let d = and-parts (i && l) g (e .0) in
-    let c = and-parts i l (d .0) in
-    record { inputs = leb-true _ _ (c .0); nevers = leb-true _ _ (c .1); gates = leb-true _ _ (d .1); outputs = leb-true _ _ (e .1) }
-
 -- A block that was read has few enough inputs.
 pub read-few-inputs : (text ws : List ℕ) (count detail : ℕ) → readText text ≡ done ws count detail → inputCount (decode ws) ≤ maxInputs
 unfolding decode encode blockOf
 read-few-inputs text ws count detail e =
     let a = read-accepted text ws count detail e in
-    let f = within-limits (a .tree) (a .within) .inputs in
+    let f = limits-within (a .tree) (a .within) .inputs in
     rw (a .words, length-tab) f

@@ -30,7 +30,8 @@ use Rattle.encoding.proofs.RoundTrip.{encode-whole}
 use Rattle.encoding.proofs.ListFacts.{and-parts, all-and, all-map}
 use Rattle.grammar.proofs.Sound.{parse-sound}
 use Rattle.grammar.proofs.WritingRefusals.{nameOf, mention-names}
-use Rattle.runs.proofs.ReadBlocks.{within-limits, read-accepted}
+use Rattle.grammar.proofs.Limits.{limits-within}
+use Rattle.runs.proofs.ReadBlocks.{read-accepted}
 use Rattle.runs.proofs.ReadNevers.{nevers-fit}
 
 -- ---- nothing twice
@@ -344,7 +345,7 @@ module _ (t : Tree) (legal : isLegalTree t ≡ true) (within : isOverLimit t ≡
   pub block-wellFormed : WellFormed (blockOf t)
   unfolding blockOf usedNames Known
   block-wellFormed =
-      let w = within-limits t within in
+      let w = limits-within t within in
       let k = known-parts (map (λ (x : Binding). x .name) (bindings t)) (mentions printGate operandMentions (t .gates) (gateLinesAt t))
       (mentions printOutput shownMention (t .outputs) (outputLinesAt t)) uses-known in
       record {

@@ -1,7 +1,7 @@
 -- The bench as a run over the bytes of its input, in bounded memory: where it stands, what one byte makes of that, what a piece of input
 -- makes of it, and what it writes at the input's end. That this is `bench` of the whole input is a theorem (proofs/Pieces.antt).
 use Prim.Native.Nat.{ℕ, suc, _+_, _*_}
-use mathlib.Core.Bool.{Bool, true, false, cond, _&&_}
+use mathlib.Core.Bool.{Bool, true, cond, _&&_}
 use mathlib.Core.List.{List, [], _∷_, _++_}
 use lib.ListN.{length, take}
 use lib.Dec.{eqb, ltb}

@@ -15,6 +15,7 @@ use Rattle.laws.specs.Lists.{all, member}
 use Rattle.laws.proofs.Tests.{eq-or-ne, lt-or-le, or-cases, or-left, or-right}
 use Rattle.laws.proofs.Quantifiers.{member-at, member-from, all-at}
 use Rattle.laws.proofs.Counting.{countBelow-le}
+use Rattle.layout.specs.declared.nodes.Nodes.{Nodes}
 use Rattle.netlist.specs.Netlist.{Block}
 use Rattle.netlist.specs.StoredBlock.{decode}
 use Rattle.netlist.specs.Groups.{OperandPath, stay, step, reads, readBy}
@@ -267,7 +268,7 @@ search-reached {start = start} {queue = queue} {tail = tail} barred s e inside =
     before k h = ⊎-elim (λ same. inr (rw same (s .started))) (λ ne. inl (sym (getD-set-other barred start k 1 0 ne) ∙ h)) (eq-or-ne k start)
 
 -- a gate's words, read as its operands
-pub gate-words : {ws : List ℕ} {n m gates : ℕ} → GatesReady ws n m gates → (i : ℕ) → i < m
-    → wordGates ws n m (gates + 5 * i) (getD ws (gates + 5 * i) 0 / 8) ≡ readBy (decode ws) i
+pub gate-words : {ws : List ℕ} {nodes : Nodes} → GatesReady ws nodes → (i : ℕ) → i < nodes .gates
+    → wordGates ws (nodes .inputs) (nodes .gates) (nodes .start + 5 * i) (getD ws (nodes .start + 5 * i) 0 / 8) ≡ readBy (decode ws) i
 unfolding gateReads
 gate-words g i l = g .operands i l

@@ -8,6 +8,7 @@ use lib.ListN.{length, getD, set}
 use lib.Seq.{sets}
 use lib.Dec.{eqb, ltb}
 use Rattle.laws.specs.Lists.{tab, joined, countBelow}
+use Rattle.layout.specs.declared.nodes.Nodes.{Nodes}
 use Rattle.layout.specs.Nodes.{gateNamed}
 use Rattle.netlist.specs.Netlist.{Block}
 use Rattle.netlist.specs.Groups.{OperandPath, reads, readBy}
@@ -31,9 +32,9 @@ unfoldable pub fresh : List ℕ → List ℕ → List ℕ
 fresh flags [] = []
 fresh flags (k ∷ ks) = cond (eqb (getD flags k 0) 0) (k ∷ fresh (set flags k 1) ks) (fresh (set flags k 1) ks)
 
--- the gates that gate i reads, by its words; the first gate's words stand at `gates`
-unfoldable pub gateReads : List ℕ → ℕ → ℕ → ℕ → ℕ → List ℕ
-gateReads ws n m gates i = wordGates ws n m (gates + 5 * i) (getD ws (gates + 5 * i) 0 / 8)
+-- the gates that gate i reads, by its words
+unfoldable pub gateReads : List ℕ → Nodes → ℕ → List ℕ
+gateReads ws nodes i = wordGates ws (nodes .inputs) (nodes .gates) (nodes .start + 5 * i) (getD ws (nodes .start + 5 * i) 0 / 8)
 
 -- how many of the first m flags are set
 unfoldable pub setFlags : List ℕ → ℕ → ℕ
@@ -68,18 +69,18 @@ pub record Searching (b : Block) (m start : ℕ) (barred flags queue : List ℕ)
   pub found : (k : ℕ) → k < m → getD flags k 0 ≡ 1 → (getD barred k 0 ≡ 1) ⊎ Queued queue tail k
 
 -- the words are read as the block's gates
-pub record GatesReady (ws : List ℕ) (n m gates : ℕ) : Type 0 where
-  pub fewInputs : n ≤ 65535
-  pub fewGates : m ≤ 1024
-  pub near : gates ≤ 1024
-  pub operands : (i : ℕ) → i < m → gateReads ws n m gates i ≡ readBy (decode ws) i
-  pub inside : (i k : ℕ) → i < m → reads (decode ws) i k ≡ true → k < m
+pub record GatesReady (ws : List ℕ) (nodes : Nodes) : Type 0 where
+  pub fewInputs : nodes .inputs ≤ 65535
+  pub fewGates : nodes .gates ≤ 1024
+  pub near : nodes .start ≤ 1024
+  pub operands : (i : ℕ) → i < nodes .gates → gateReads ws nodes i ≡ readBy (decode ws) i
+  pub inside : (i k : ℕ) → i < nodes .gates → reads (decode ws) i k ≡ true → k < nodes .gates
 
 -- room for a search
-pub record SearchReady (ws : List ℕ) (n m gates : ℕ) (flags queue : List ℕ) : Type 0 where
-  pub whole : GatesReady ws n m gates
-  pub flagRoom : m ≤ length flags
-  pub queueRoom : m ≤ length queue
+pub record SearchReady (ws : List ℕ) (nodes : Nodes) (flags queue : List ℕ) : Type 0 where
+  pub whole : GatesReady ws nodes
+  pub flagRoom : nodes .gates ≤ length flags
+  pub queueRoom : nodes .gates ≤ length queue
 
 -- `start` is there and not barred, and a flag is 0 or 1
 pub record StartReady (m start : ℕ) (flags : List ℕ) : Type 0 where

@@ -1,4 +1,5 @@
 // Breadth-first search along operands: what one gate reaches.
+use layout::nodes::Nodes;
 use layout::nodes::gate_named;
 use layout::offsets::GATE_SIZE;
 use layout::read::word_at;
@@ -23,20 +24,15 @@ fn mark(k: usize, m: usize, flags: &mut [u8], queue: &mut [u16], tail: usize) ->
 }
 
 // Marks the gate that an operand word names, if it names one.
-fn mark_word(
-    w: usize,
-    n: usize,
-    m: usize,
-    flags: &mut [u8],
-    queue: &mut [u16],
-    tail: usize,
-) -> usize
-    requires { ⌜ (n ≤ 65535) × Room m (now flags) (now queue) tail ⌝ }
-    ensures { λ r. ⌜ Extended (wordGate n m w) (now (flags .entry)) (now (queue .entry)) tail (now (flags .exit)) (now (queue .exit)) r ⌝ }
+fn mark_word(w: usize, nodes: Nodes, flags: &mut [u8], queue: &mut [u16], tail: usize) -> usize
+    requires { ⌜ (nodes .inputs ≤ 65535) × Room (nodes .gates) (now flags) (now queue) tail ⌝ }
+    ensures { λ r. ⌜
+        Extended (wordGate (nodes .inputs) (nodes .gates) w) (now (flags .entry)) (now (queue .entry)) tail (now (flags .exit)) (now (queue .exit)) r
+        ⌝ }
 {
-    let k = gate_named(w, n, m);
-    if k < m {
-        return mark(k, m, flags, queue, tail);
+    let k = gate_named(w, nodes.inputs, nodes.gates);
+    if k < nodes.gates {
+        return mark(k, nodes.gates, flags, queue, tail);
     }
     tail
 }
@@ -44,39 +40,38 @@ fn mark_word(
 // Marks the gates that the gate at `at` reads.
 fn visit(
     words: &[u16],
-    n: usize,
-    m: usize,
+    nodes: Nodes,
     at: usize,
     flags: &mut [u8],
     queue: &mut [u16],
     tail: usize,
 ) -> usize
-    requires { ⌜ (at ≤ 65535) × (n ≤ 65535) × Room m (now flags) (now queue) tail ⌝ }
-    ensures { λ r. ⌜ Extended (wordGates (now (words .entry)) n m at (getD (now (words .entry)) at 0 / 8)) (now (flags .entry)) (now (queue .entry)) tail (now (flags .exit)) (now (queue .exit)) r ⌝ }
+    requires { ⌜ (at ≤ 65535) × (nodes .inputs ≤ 65535) × Room (nodes .gates) (now flags) (now queue) tail ⌝ }
+    ensures { λ r. ⌜
+        Extended (wordGates (now (words .entry)) (nodes .inputs) (nodes .gates) at (getD (now (words .entry)) at 0 / 8)) (now (flags .entry))
+        (now (queue .entry)) tail (now (flags .exit)) (now (queue .exit)) r
+        ⌝ }
 {
     let count = word_at(words, at) / 8;
     let mut end = tail;
     let mut i = 0;
     while i < count {
-        end = mark_word(word_at(words, at + 1 + i), n, m, flags, queue, end);
+        end = mark_word(word_at(words, at + 1 + i), nodes, flags, queue, end);
         i += 1;
     }
     end
 }
 
 // Queues gate `start` and every gate that it reaches past no gate that was marked before; how many they are. They are marked too.
-// The first gate's words stand at `gates`.
 pub fn queue_reach(
     words: &[u16],
-    n: usize,
-    m: usize,
-    gates: usize,
+    nodes: Nodes,
     start: usize,
     flags: &mut [u8],
     queue: &mut [u16],
 ) -> usize
-    requires { ⌜ StartReady m start (now flags) × SearchReady (now words) n m gates (now flags) (now queue) ⌝ }
-    ensures { λ r. ⌜ Reached (decode (now (words .entry))) m start (now (flags .entry)) (now (queue .exit)) r ⌝ }
+    requires { ⌜ StartReady (nodes .gates) start (now flags) × SearchReady (now words) nodes (now flags) (now queue) ⌝ }
+    ensures { λ r. ⌜ Reached (decode (now (words .entry))) (nodes .gates) start (now (flags .entry)) (now (queue .exit)) r ⌝ }
 {
     flags[start] = 1;
     queue[0] = start as u16;
@@ -84,7 +79,14 @@ pub fn queue_reach(
     let mut tail = 1;
     while head < tail {
         let i = word_at(queue, head);
-        tail = visit(words, n, m, gates + GATE_SIZE * i, flags, queue, tail);
+        tail = visit(
+            words,
+            nodes,
+            nodes.start + GATE_SIZE * i,
+            flags,
+            queue,
+            tail,
+        );
         head += 1;
     }
     tail

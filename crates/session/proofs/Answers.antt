@@ -1,33 +1,31 @@
 -- Every answer has room, and what is shown of an outcome is what the bench writes. Assumes nothing.
-use Prim.Native.Nat.{ℕ, _+_, _*_, _≤_, _<_}
-use mathlib.Core.Path.{_≡_, refl, sym, ap, _∙_}
-use mathlib.Core.Bool.{Bool, true, false, and-eq-true-iff}
-use mathlib.Core.Option.{Option}
+use Prim.Native.Nat.{ℕ, _+_, _*_, _≤_}
+use mathlib.Core.Path.{_≡_, refl, sym}
+use mathlib.Core.Bool.{true, false, and-eq-true-iff}
 use mathlib.Core.List.{List, [], _∷_, _++_, map}
 use native.Mathlib.Omega.{arith}
-use lib.ListN.{length, take, length-append}
-use Rattle.laws.specs.Lists.{ascii, all, joined, placed}
+use lib.ListN.{length, length-append}
+use Rattle.laws.specs.Lists.{ascii, all, joined}
 use Rattle.laws.proofs.Slices.{placed-room, take-placed}
 use Rattle.netlist.specs.declared.Refusal.{Refusal}
 use Rattle.netlist.specs.declared.Answer.{Answer}
 use Rattle.netlist.specs.declared.Answer.the-variants.{Done, Refused}
-use Rattle.netlist.specs.Limits.{maxOutputs, maxName}
+use Rattle.netlist.specs.Limits.{maxName}
 use Rattle.netlist.specs.Values.{Value, undefined, val}
-use Rattle.netlist.specs.Netlist.{Output, Block, inputCount, outputCount}
+use Rattle.netlist.specs.Netlist.{Output, Block, inputCount}
 use Rattle.netlist.specs.StoredBlock.{isPlainName, isTorn, decode}
 use Rattle.netlist.specs.Rounds.{settled, outputValue}
 use Rattle.netlist.specs.Parse.{Parsed, got, stuck}
 use Rattle.netlist.specs.Syntax.{Pair, valueText, pairText}
 use Rattle.netlist.specs.SetLine.{setLineReader}
-use Rattle.netlist.specs.Answers.{Outcome, done, refused, refuseIf, refuseAt, inRoom, answerOf, leftIn, Promise}
-use Rattle.netlist.specs.Operations.{counted}
-use Rattle.netlist.specs.Program.{refusalLine, shown}
+use Rattle.netlist.specs.Answers.{Outcome, refused, refuseIf, inRoom, Promise}
+use Rattle.netlist.specs.Program.{shown}
 use Rattle.netlist.specs.Bench.{givenValues, portText, showLine, pairsOutcome, parsedOutcome, lineOutcome, answerLine, lineAnswer}
 use Rattle.encoding.proofs.WellFormed.{WellFormed, wellFormed-parts}
 use Rattle.encoding.proofs.RoundTrip.{whole-wellFormed}
 use Rattle.grammar.proofs.WritingLength.{name-short}
 use Rattle.telling.specs.Shown.{Shown}
-use Rattle.telling.proofs.Told.{Fits, in-room, told-refused, kept-refused, told-done, shown-refused, shown-gave, shown-is}
+use Rattle.telling.proofs.Told.{Fits, told-refused, kept-refused, told-done, shown-refused, shown-gave}
 use Rattle.telling.proofs.Sizes.{counted-fits, refused-fits, at-fits}
 use Rattle.session.specs.Session.{maxAnswer, Written}
 

@@ -1,5 +1,5 @@
 -- The bytes of a piece, one after the other. Assumes nothing.
-use Prim.Native.Nat.{ℕ, suc, _+_, _≤_, _<_}
+use Prim.Native.Nat.{ℕ, _+_, _≤_, _<_}
 use mathlib.Core.Path.{_≡_, refl, sym, ap, _∙_}
 use mathlib.Core.List.{List, [], _∷_, _++_, append-nil}
 use native.Mathlib.Numerals.{add-one}
@@ -11,7 +11,7 @@ use Rattle.laws.proofs.Tests.{lt-or-le}
 use Rattle.runs.specs.Runs.{Run, turn, after, outputs}
 use Rattle.runs.proofs.Pieces.{after-append, outputs-append}
 use Rattle.session.specs.declared.State.{State}
-use Rattle.session.specs.Session.{runOf, Room, Ready, Stepped, Written, Progressed, Advanced}
+use Rattle.session.specs.Session.{runOf, Room, Ready, Stepped, Progressed, Advanced}
 use Rattle.session.proofs.Answers.{nothing-written}
 
 module _ (r : Run) (piece : List ℕ) (n : ℕ) (l : n < length piece) where

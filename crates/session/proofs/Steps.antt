@@ -1,6 +1,6 @@
 -- One step of the code is one turn of the run: for each way through the code, what it leaves in the state and the buffers. Assumes nothing.
 use Prim.Native.Nat.{ℕ, zero, suc, _+_, _≤_, _<_}
-use mathlib.Core.Path.{_≡_, refl, sym, ap, ap₂, _∙_}
+use mathlib.Core.Path.{_≡_, refl, sym, ap, _∙_}
 use mathlib.Core.Bool.{Bool, true, false, _&&_}
 use mathlib.Core.Logic.{_⊎_, inl, inr}
 use mathlib.Core.List.{List, [], _∷_, _++_, append-nil}
@@ -8,7 +8,7 @@ use native.Mathlib.Numerals.{add-one}
 use native.Mathlib.Omega.{arith}
 use lib.ListN.{length, take, set, length-append, length-set}
 use lib.Seq.{take-all, length-take-le, take-suc-set, take-append-le}
-use lib.Dec.{eqb, ltb}
+use lib.Dec.{eqb}
 use borrow.Author.Tests.{lt-ltb, le-ltb}
 use Rattle.netlist.specs.declared.Refusal.{Refusal}
 use Rattle.netlist.specs.declared.Refusal.the-variants.{TextTooLong}
@@ -17,14 +17,14 @@ use Rattle.netlist.specs.declared.Answer.the-variants.{Done, Refused}
 use Rattle.netlist.specs.Limits.{maxText, maxBlock}
 use Rattle.netlist.specs.StoredBlock.{isTorn, decode}
 use Rattle.netlist.specs.Line.{lf}
-use Rattle.netlist.specs.Answers.{Outcome, done, refused, Promise}
+use Rattle.netlist.specs.Answers.{refused, Promise}
 use Rattle.netlist.specs.Operations.{readText, read}
-use Rattle.netlist.specs.Program.{refusalLine, shown}
+use Rattle.netlist.specs.Program.{shown}
 use Rattle.netlist.specs.Bench.{lineAnswer, lineAnswers, lastLine, benchAfter}
-use Rattle.runs.specs.Runs.{heldBytes, Run, inNetlist, inLines, over, Turn, silent, ended, held, opened, turn, ending}
+use Rattle.runs.specs.Runs.{heldBytes, inNetlist, inLines, opened, turn, ending}
 use Rattle.runs.proofs.Whole.{read-whole}
 use Rattle.telling.specs.Shown.{Shown}
-use Rattle.telling.proofs.Told.{Fits, Gave, told-refused, told-done, gave-within}
+use Rattle.telling.proofs.Told.{Gave, told-refused, told-done, gave-within}
 use Rattle.telling.proofs.Sizes.{read-fits}
 use Rattle.session.specs.declared.State.{State}
 use Rattle.session.specs.declared.State.the-variants.{Netlist, Lines, Ended}

@@ -2,8 +2,8 @@
 -- crates/runs, which is the bench. Assumes nothing.
 use Prim.Native.Nat.{ℕ, _+_, _*_, _≤_, _<_}
 use mathlib.Core.Path.{_≡_}
-use mathlib.Core.Bool.{Bool, true, false}
-use mathlib.Core.List.{List, []}
+use mathlib.Core.Bool.{false}
+use mathlib.Core.List.{List}
 use lib.ListN.{length, take}
 use Rattle.netlist.specs.Limits.{maxText, maxOutputs, maxName, maxBlock}
 use Rattle.netlist.specs.StoredBlock.{isTorn}

@@ -8,7 +8,6 @@ use netlist_part::end_netlist;
 use netlist_part::netlist_byte;
 use set_lines::end_line;
 use set_lines::line_byte;
-ghost use mathlib.Core.Path.{_≡_};
 ghost use lib.ListN.{length};
 ghost use Rattle.runs.specs.Runs.{turn, ending};
 ghost use Rattle.session.specs.Session.{runOf, Ready, Fresh, Written, Stepped, Advanced};
@@ -75,7 +74,8 @@ fn feed_byte(
     out: &mut [u8],
 ) -> Fed
     requires { ⌜ Ready state (now text) (now words) (now line) (now out) ⌝ }
-    ensures { λ r. ⌜ Stepped (turn (runOf state (now (text .entry)) (now (words .entry)) (now (line .entry))) byte) (r .state) (now (text .exit)) (now (words .exit)) (now (line .exit)) (now (out .exit)) (r .written) ⌝ }
+    ensures { λ r. ⌜ Stepped (turn (runOf state (now (text .entry)) (now (words .entry)) (now (line .entry))) byte) (r .state) (now (text .exit))
+        (now (words .exit)) (now (line .exit)) (now (out .exit)) (r .written) ⌝ }
 {
     match state {
         State::Netlist { length, fresh } => netlist_byte(length, fresh, byte, text, words, out),
@@ -100,7 +100,8 @@ pub fn feed(
     out: &mut [u8],
 ) -> Progress
     requires { ⌜ Ready state (now text) (now words) (now line) (now out) ⌝ }
-    ensures { λ r. ⌜ Advanced (runOf state (now (text .entry)) (now (words .entry)) (now (line .entry))) (now (piece .entry)) (r .state) (now (text .exit)) (now (words .exit)) (now (line .exit)) (now (out .exit)) (r .taken) (r .written) ⌝ }
+    ensures { λ r. ⌜ Advanced (runOf state (now (text .entry)) (now (words .entry)) (now (line .entry))) (now (piece .entry)) (r .state)
+        (now (text .exit)) (now (words .exit)) (now (line .exit)) (now (out .exit)) (r .taken) (r .written) ⌝ }
 {
     let mut state = state;
     let mut taken = 0;

@@ -18,7 +18,9 @@ ghost use Rattle.session.specs.Session.{maxAnswer, Stepped, Written};
 // Reads the block; a refusal ends the run.
 fn open(held: usize, text: &[u8], words: &mut [u16], out: &mut [u8]) -> Fed
     requires { ⌜ (held ≤ length (now text)) × (maxBlock ≤ length (now words)) × (maxAnswer ≤ length (now out)) ⌝ }
-    ensures { λ r. ⌜ ((line : List ℕ) → Stepped (opened (readText (take held (now (text .entry))))) (r .state) (now (text .entry)) (now (words .exit)) line (now (out .exit)) (r .written)) ⌝ }
+    ensures { λ r. ⌜ ((line : List ℕ)
+        → Stepped (opened (readText (take held (now (text .entry))))) (r .state) (now (text .entry))
+        (now (words .exit)) line (now (out .exit)) (r .written)) ⌝ }
 {
     match read(&text[..held], words) {
         Answer::Refused(why) => {
@@ -48,7 +50,9 @@ pub fn netlist_byte(
     out: &mut [u8],
 ) -> Fed
     requires { ⌜ (held ≤ maxText) × (maxText ≤ length (now text)) × (maxBlock ≤ length (now words)) × (maxAnswer ≤ length (now out)) ⌝ }
-    ensures { λ r. ⌜ ((line : List ℕ) → Stepped (turn (inNetlist fresh (take held (now (text .entry)))) byte) (r .state) (now (text .exit)) (now (words .exit)) line (now (out .exit)) (r .written)) ⌝ }
+    ensures { λ r. ⌜ ((line : List ℕ)
+        → Stepped (turn (inNetlist fresh (take held (now (text .entry)))) byte) (r .state) (now (text .exit))
+        (now (words .exit)) line (now (out .exit)) (r .written)) ⌝ }
 {
     if fresh && byte == b'\n' {
         return open(held, text, words, out);

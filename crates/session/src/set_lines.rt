@@ -49,7 +49,9 @@ pub fn line_byte(
     out: &mut [u8],
 ) -> Fed
     requires { ⌜ LineRoom count held (now words) (now line) (now out) ⌝ }
-    ensures { λ r. ⌜ ((text : List ℕ) → Stepped (turn (inLines (take count (now (words .entry))) (take held (now (line .entry)))) byte) (r .state) text (now (words .entry)) (now (line .exit)) (now (out .exit)) (r .written)) ⌝ }
+    ensures { λ r. ⌜ ((text : List ℕ)
+        → Stepped (turn (inLines (take count (now (words .entry))) (take held (now (line .entry)))) byte) (r .state) text
+        (now (words .entry)) (now (line .exit)) (now (out .exit)) (r .written)) ⌝ }
 {
     let kept = hold(line, held, byte);
     if byte != b'\n' {

@@ -38,7 +38,9 @@ fn answer_tables(
     out: &mut [u8],
 ) -> Answer
     requires { ⌜ TablesReady (now words) (now names) (now places) (now codes) count (now inputs) (now setting) ⌝ }
-    ensures { λ r. ⌜ ((ps : List Pair) → TablesFor (now (words .entry)) ps (now (names .entry)) (now (places .entry)) (now (codes .entry)) count (now (inputs .entry)) → Promise (inRoom (length (now (out .entry))) (pairsOutcome (decode (now (words .entry))) ps)) (now (out .entry)) r (now (out .exit))) ⌝ }
+    ensures { λ r. ⌜ ((ps : List Pair)
+        → TablesFor (now (words .entry)) ps (now (names .entry)) (now (places .entry)) (now (codes .entry)) count (now (inputs .entry))
+        → Promise (inRoom (length (now (out .entry))) (pairsOutcome (decode (now (words .entry))) ps)) (now (out .entry)) r (now (out .exit))) ⌝ }
 {
     let n = inputs_of(words);
     let tested = test_repeat(names, places, count);
@@ -66,7 +68,8 @@ fn answer_with(
 ) -> Answer
     requires { ⌜ InForm (now words) (now line) ⌝ }
     requires { ⌜ TableRoom (now names) (now places) (now codes) (now inputs) (now setting) ⌝ }
-    ensures { λ r. ⌜ ((ps : List Pair) → LineFor (now (words .entry)) ps (now (line .entry)) → Promise (inRoom (length (now (out .entry))) (pairsOutcome (decode (now (words .entry))) ps)) (now (out .entry)) r (now (out .exit))) ⌝ }
+    ensures { λ r. ⌜ ((ps : List Pair) → LineFor (now (words .entry)) ps (now (line .entry))
+        → Promise (inRoom (length (now (out .entry))) (pairsOutcome (decode (now (words .entry))) ps)) (now (out .entry)) r (now (out .exit))) ⌝ }
 {
     let count = fill_pairs(line, PAIRS_AT, names, places, codes);
     fill_inputs(words, inputs_of(words), inputs);
@@ -76,7 +79,8 @@ fn answer_with(
 // A line in form: room for the tables of at most MAX_INPUTS pairs.
 fn answer_pairs(words: &[u16], line: &[u8], out: &mut [u8]) -> Answer
     requires { ⌜ InForm (now words) (now line) ⌝ }
-    ensures { λ r. ⌜ ((ps : List Pair) → LineFor (now (words .entry)) ps (now (line .entry)) → Promise (inRoom (length (now (out .entry))) (pairsOutcome (decode (now (words .entry))) ps)) (now (out .entry)) r (now (out .exit))) ⌝ }
+    ensures { λ r. ⌜ ((ps : List Pair) → LineFor (now (words .entry)) ps (now (line .entry))
+        → Promise (inRoom (length (now (out .entry))) (pairsOutcome (decode (now (words .entry))) ps)) (now (out .entry)) r (now (out .exit))) ⌝ }
 {
     let mut names = [0u64; MAX_INPUTS];
     let mut places = [0usize; MAX_INPUTS];

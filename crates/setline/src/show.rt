@@ -1,18 +1,16 @@
 // The show line of a block under a setting of its inputs, appended as in `writing::pieces`.
 use decide::in_place::settle_in_place;
 use layout::limits::MAX_GATES;
-use layout::offsets::NAME_SIZE;
 use layout::offsets::OUTPUT_SIZE;
 use layout::offsets::gates_of;
 use layout::offsets::inputs_of;
 use layout::offsets::outputs_at;
 use layout::offsets::outputs_of;
-use layout::read::word_at;
 use netlist::Answer;
 use netlist::Test;
 use refusals::refusal;
 use refusals::test_room;
-use ternary::gate::operand_value;
+use ternary::output::shown_value;
 use writing::pieces::put;
 use writing::pieces::put_all;
 use writing::pieces::put_name;
@@ -53,11 +51,11 @@ fn put_port(
 ) -> usize
     requires { ⌜ (from ≤ 600000) × (o ≤ 65535) ⌝ }
     requires { ⌜ Short (portPiece (now words) from (now setting) (now gates) o) at ⌝ }
-    ensures { λ r. ⌜ Appended (portPiece (now (words .entry)) from (now (setting .entry)) (now (gates .entry)) o) (now (text .entry)) at (now (text .exit)) r ⌝ }
+    ensures { λ r. ⌜ Appended (portPiece (now (words .entry)) from (now (setting .entry)) (now (gates .entry)) o) (now (text .entry)) at
+        (now (text .exit)) r ⌝ }
 {
     let port = from + OUTPUT_SIZE * o;
-    let word = word_at(words, port + NAME_SIZE);
-    let value = operand_value(word, inputs_of(words), setting, gates);
+    let value = shown_value(words, inputs_of(words), port, setting, gates);
     let opened = put_all(text, at, b" (");
     let named = put_name(text, opened, words, port);
     let spaced = put(text, named, b' ');
@@ -76,7 +74,8 @@ fn put_ports(
 ) -> usize
     requires { ⌜ (from ≤ 600000) × (k ≤ 65535) ⌝ }
     requires { ⌜ Short (pieces (portPiece (now words) from (now setting) (now gates)) k) at ⌝ }
-    ensures { λ r. ⌜ Appended (pieces (portPiece (now (words .entry)) from (now (setting .entry)) (now (gates .entry))) k) (now (text .entry)) at (now (text .exit)) r ⌝ }
+    ensures { λ r. ⌜ Appended (pieces (portPiece (now (words .entry)) from (now (setting .entry)) (now (gates .entry))) k) (now (text .entry)) at
+        (now (text .exit)) r ⌝ }
 {
     let mut end = at;
     let mut o = 0;
@@ -102,7 +101,9 @@ fn put_show(text: &mut [u8], words: &[u16], setting: &[u8], gates: &[u8]) -> usi
 // 11, and the line. The first pass is over a text of one byte, and only measures.
 fn show_settled(words: &[u16], setting: &[u8], gates: &[u8], out: &mut [u8]) -> Answer
     requires { ⌜ isTorn (now words) ≡ false ⌝ }
-    ensures { λ r. ⌜ Promise (inRoom (length (now (out .entry))) (counted (showText (now (words .entry)) (now (setting .entry)) (now (gates .entry))))) (now (out .entry)) r (now (out .exit)) ⌝ }
+    ensures { λ r. ⌜ Promise
+        (inRoom (length (now (out .entry))) (counted (showText (now (words .entry)) (now (setting .entry)) (now (gates .entry)))))
+        (now (out .entry)) r (now (out .exit)) ⌝ }
 {
     let mut small = [0u8; 1];
     let count = put_show(&mut small, words, setting, gates);
@@ -117,7 +118,9 @@ fn show_settled(words: &[u16], setting: &[u8], gates: &[u8], out: &mut [u8]) -> 
 // The show line of a block that is not torn, under a setting: 11, or its bytes; count: bytes.
 pub fn show(words: &[u16], setting: &[u8], out: &mut [u8]) -> Answer
     requires { ⌜ isTorn (now words) ≡ false ⌝ }
-    ensures { λ r. ⌜ Promise (inRoom (length (now (out .entry))) (counted (showLine (decode (now (words .entry))) (map valueOf (now (setting .entry)))))) (now (out .entry)) r (now (out .exit)) ⌝ }
+    ensures { λ r. ⌜ Promise
+        (inRoom (length (now (out .entry))) (counted (showLine (decode (now (words .entry))) (map valueOf (now (setting .entry))))))
+        (now (out .entry)) r (now (out .exit)) ⌝ }
 {
     let mut gates = [0u8; MAX_GATES];
     settle_in_place(words, setting, &mut gates);

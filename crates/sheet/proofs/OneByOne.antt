@@ -1,17 +1,15 @@
 -- A sheet is one call of Settle after another: each record is what is read off the answer to its own setting. Assumes nothing.
-use mathlib.Core.Path.{_≡_, refl, sym, ap, _∙_}
-use mathlib.Core.Bool.{Bool, true, false, cond, not, _||_}
+use mathlib.Core.Path.{_≡_, refl, _∙_}
+use mathlib.Core.Bool.{Bool, true, false, cond}
 use mathlib.Core.List.{List, [], _∷_, map}
 use Prim.Native.Nat.{ℕ, _≤_}
 use native.Mathlib.Omega.{arith}
-use lib.ListN.{length, getD}
-use lib.Dec.{ltb, eqb, leb}
+use lib.ListN.{getD}
+use lib.Dec.{eqb, leb}
 use borrow.Author.Tests.{le-ltb, le-leb, eq-eqb}
-use Rattle.laws.specs.Lists.{all}
-use Rattle.laws.proofs.Tests.{bool-cases}
 use Rattle.laws.proofs.Quantifiers.{all-tab-from}
 use Rattle.netlist.specs.declared.Record.{Record}
-use Rattle.netlist.specs.Values.{Value, code, valueOf}
+use Rattle.netlist.specs.Values.{code, valueOf}
 use Rattle.netlist.specs.Netlist.{Block, inputCount, gateCount}
 use Rattle.netlist.specs.StoredBlock.{decode, isTorn}
 use Rattle.netlist.specs.Assignments.{bit}
@@ -20,7 +18,7 @@ use Rattle.netlist.specs.Answers.{Outcome, done, refused, refuseIf, refusalNumb
 use Rattle.netlist.specs.Operations.{isBadSetting, settle}
 use Rattle.netlist.specs.Sheet.{inputByte, settingBytes, isBadMasks, outputValues, showing, settledOutputs, refusedRecord, recordOf, answeredRecord}
 use Rattle.netlist.specs.Sheet.{sheetRecords}
-use Rattle.encoding.proofs.Decoded.{decode-inputCount, decode-gateCount}
+use Rattle.encoding.proofs.Decoded.{decode-gateCount}
 use Rattle.rounds.proofs.Values.{values-codes}
 use Rattle.simulate.proofs.Outcomes.{settle-chain, settle-room}
 use Rattle.sheet.proofs.MaskLaws.{length-settingBytes}

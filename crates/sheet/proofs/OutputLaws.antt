@@ -72,6 +72,6 @@ gathered-record {vs} {o} fixed ones g z =
     rw (g .defineds, g .ones, p)
 
 -- the code that is found at the place of output o's node
-pub output-code : (ws setting gates : List ℕ) {n o at w : ℕ} → OfBlock ws n o → at ≡ outputsAt (getD ws 0 0) (getD ws 3 0) (getD ws 1 0)
-    → w ≡ getD ws (at + outputSize * o + nameSize) 0 → code (wordValue n setting gates w) ≡ outputCode ws setting gates o
-output-code ws setting gates {n} {o} h e f = rw (f, e, h .inputs) (sym (code-at ws setting gates o (h .below)))
+pub output-code : (ws setting gates : List ℕ) {n o at : ℕ} → OfBlock ws n o → at ≡ outputsAt (getD ws 0 0) (getD ws 3 0) (getD ws 1 0)
+    → code (wordValue n setting gates (getD ws (at + outputSize * o + nameSize) 0)) ≡ outputCode ws setting gates o
+output-code ws setting gates {n} {o} h e = rw (e, h .inputs) (sym (code-at ws setting gates o (h .below)))

@@ -5,12 +5,9 @@ use mathlib.Core.List.{List, [], map}
 use Prim.Native.Nat.{ℕ, _≤_}
 use native.Mathlib.Omega.{arith}
 use lib.ListN.{length, getD, take, length-map, length-take}
-use Rattle.netlist.specs.declared.Answer.{Answer}
 use Rattle.netlist.specs.declared.Answer.the-variants.{Done, Refused}
 use Rattle.netlist.specs.declared.Refusal.the-variants.{MalformedBlock}
-use Rattle.netlist.specs.declared.Record.{Record}
 use Rattle.netlist.specs.Values.{Value, code, valueOf}
-use Rattle.netlist.specs.Netlist.{inputCount}
 use Rattle.netlist.specs.StoredBlock.{decode, isTorn}
 use Rattle.netlist.specs.Assignments.{areMasks}
 use Rattle.netlist.specs.Rounds.{settled}

@@ -1,14 +1,13 @@
 -- The records after some turns, and what the reply says of the turns. Assumes nothing.
-use mathlib.Core.Path.{_≡_, refl, sym, _∙_, ap}
+use mathlib.Core.Path.{_≡_, refl, _∙_, ap}
 use mathlib.Core.Logic.{⊎-elim}
-use mathlib.Core.Bool.{Bool, true, false}
+use mathlib.Core.Bool.{true, false}
 use Prim.Native.Nat.{ℕ, zero, suc, _<_, _≤_}
 use native.Mathlib.Nat.{not-suc-le-zero, le-of-suc-le-suc}
 use native.Mathlib.Omega.{arith}
 use mathlib.Core.List.{List, [], _∷_, map}
 use lib.ListN.{length, getD, set}
 use Rattle.laws.proofs.Tests.{bool-cases}
-use Rattle.netlist.specs.declared.Answer.{Answer}
 use Rattle.netlist.specs.declared.Record.{Record}
 use Rattle.netlist.specs.declared.Reply.{Reply}
 use Rattle.netlist.specs.StoredBlock.{decode, isTorn}

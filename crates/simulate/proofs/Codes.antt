@@ -6,6 +6,8 @@ use Prim.Native.Nat.{ℕ, zero, suc, _+_, _*_, _<_}
 use lib.ListN.{length, getD, replicate}
 use Rattle.laws.specs.Lists.{tab}
 use Rattle.laws.proofs.Tab.{map-tab, tab-getD, length-tab}
+use Rattle.layout.specs.declared.nodes.Nodes.{Nodes}
+use Rattle.layout.specs.Nodes.{nodesOf}
 use Rattle.netlist.specs.Values.{Value, undefined, code, valueOf}
 use Rattle.netlist.specs.Netlist.{gateOf}
 use Rattle.netlist.specs.StoredBlock.{decode, isTorn, gatesAt, gateSize}
@@ -15,6 +17,11 @@ use Rattle.encoding.proofs.Readers.{whole-gate}
 use Rattle.rounds.proofs.Values.{values-codes}
 use Rattle.ternary.specs.Legal.{LegalHead}
 use Rattle.simulate.specs.Rounded.{gateCode, roundCodes}
+
+-- how many gates a block has, by its nodes
+pub gates-are : {nodes : Nodes} (ws : List ℕ) → nodes ≡ nodesOf ws → nodes .gates ≡ getD ws 1 0
+unfolding nodesOf
+gates-are ws e = rw e refl
 
 -- the gates of a block that is not torn have legal head words
 pub legal-head : (ws : List ℕ) (j : ℕ) → isTorn ws ≡ false → j < getD ws 1 0 → LegalHead ws (gatesAt (getD ws 0 0) (getD ws 3 0) + gateSize * j)

@@ -21,6 +21,8 @@ use Rattle.laws.proofs.Elements.{getD-defaults}
 use Rattle.laws.proofs.Slices.{take-placed, getD-past}
 use Rattle.laws.proofs.Quantifiers.{any-below, below-any}
 use Rattle.laws.proofs.Counting.{countBelow-ext, countBelow-le, countBelow-one}
+use Rattle.layout.specs.declared.nodes.Nodes.{Nodes}
+use Rattle.layout.specs.Nodes.{nodesOf}
 use Rattle.netlist.specs.Values.{Value, undefined, val, code, valueOf}
 use Rattle.netlist.specs.Netlist.{gateOf}
 use Rattle.netlist.specs.Groups.{reads}
@@ -38,7 +40,7 @@ use Rattle.readers.proofs.Chains.{chain-le, chain-step, chain-end}
 use Rattle.simulate.specs.Rounded.{gateCode, roundCodes}
 use Rattle.simulate.specs.Changes.{definedBytes, QueuedIn, Done, Steady, UpdateReady, Updated, UpdatedOne, UpdatedList, UpdatedAll, Awake}
 use Rattle.simulate.specs.Changes.{CopyReady, Copied, Round, Started, Turned}
-use Rattle.simulate.proofs.Codes.{roundCodes-tab, length-roundCodes, codes-start}
+use Rattle.simulate.proofs.Codes.{gates-are, roundCodes-tab, length-roundCodes, codes-start}
 
 -- ---- how many gates are 0 or 1
 
@@ -76,7 +78,7 @@ module _ {ws setting old : List ℕ} where
         counted = refl;
       }
 
-  module _ {n : ℕ} {values queue : List ℕ} {end : ℕ} (r : UpdateReady ws n setting old values queue end) (j : ℕ) (l : j < getD ws 1 0) where
+  module _ {nodes : Nodes} {values queue : List ℕ} {end : ℕ} (r : UpdateReady ws nodes setting old values queue end) (j : ℕ) (l : j < getD ws 1 0) where
     -- a gate that has its value already
     pub one-kept : (getD values j 0 ≡ 2 → ⊥) → UpdatedOne ws setting old values queue end j values queue end
     one-kept h = record { updated = updated-none values queue end; done = ⊎-elim (λ e. absurd (h e)) (λ d. d) (r .steady j l) }
@@ -125,13 +127,13 @@ module _ {ws setting old : List ℕ} where
   updated-done u j l d = ⊎-elim (λ e. e ∙ d) (λ n. n .0) (u .each j l)
 
   -- what is asked holds on
-  pub updated-ready : {n : ℕ} {values queue : List ℕ} {end : ℕ} {values′ queue′ : List ℕ} {end′ : ℕ} → UpdateReady ws n setting old values queue end
+  pub updated-ready : {nodes : Nodes} {values queue : List ℕ} {end : ℕ} {values′ queue′ : List ℕ} {end′ : ℕ} → UpdateReady ws nodes setting old values queue end
       → Updated ws setting old values queue end values′ queue′ end′ → length values′ ≡ length values → length queue′ ≡ length queue
-      → UpdateReady ws n setting old values′ queue′ end′
-  updated-ready {n} {values} {queue} {end} {values′} r u e f =
+      → UpdateReady ws nodes setting old values′ queue′ end′
+  updated-ready {nodes} {values} {queue} {end} {values′} r u e f =
       record {
         whole = r .whole;
-        inputs = r .inputs;
+        nodesAre = r .nodesAre;
         gates = r .gates;
         valueRoom = omega (arith, r .valueRoom);
         queueRoom = omega (arith, r .queueRoom);
@@ -348,12 +350,12 @@ module _ (ws setting : List ℕ) where
     undefined-at s s₀ e j l = filled-at s s₀ m e j (rw is l)
 
     -- every gate can be evaluated
-    pub first-ready : {n : ℕ} {queue : List ℕ} → isTorn ws ≡ false → n ≡ getD ws 0 0 → m ≤ length old → m ≤ length values → m ≤ length queue
-        → UpdateReady ws n setting (take m old) values queue 0
-    first-ready whole inputs oldRoom valueRoom queueRoom =
+    pub first-ready : {nodes : Nodes} {queue : List ℕ} → isTorn ws ≡ false → nodes ≡ nodesOf ws → m ≤ length old → m ≤ length values → m ≤ length queue
+        → UpdateReady ws nodes setting (take m old) values queue 0
+    first-ready whole are oldRoom valueRoom queueRoom =
         record {
           whole = whole;
-          inputs = inputs;
+          nodesAre = are;
           gates = length-take-le m old oldRoom ∙ is;
           valueRoom = omega arith;
           queueRoom = omega arith;
@@ -472,15 +474,15 @@ module _ (ws setting : List ℕ) where
       copied-front = sym (same-front values old′ (getD ws 1 0) (r .valueRoom) (omega (arith, r .oldRoom)) copied-at)
 
       -- the readers of what changed can be evaluated
-      pub next-ready : {n : ℕ} → isTorn ws ≡ false → n ≡ getD ws 0 0 → UpdateReady ws n setting (take (getD ws 1 0) old′) values queue tail
-      next-ready whole inputs =
+      pub next-ready : {nodes : Nodes} → isTorn ws ≡ false → nodes ≡ nodesOf ws → UpdateReady ws nodes setting (take (nodes .gates) old′) values queue tail
+      next-ready {nodes} whole are =
           record {
             whole = whole;
-            inputs = inputs;
-            gates = length-take-le (getD ws 1 0) old′ (omega (arith, r .oldRoom));
+            nodesAre = are;
+            gates = rw (gates-are ws are) (length-take-le (getD ws 1 0) old′ (omega (arith, r .oldRoom)));
             valueRoom = r .valueRoom;
             queueRoom = r .queueRoom;
-            steady = rw copied-front still-steady;
+            steady = rw (gates-are ws are, copied-front) still-steady;
             counted = r .counted;
           }
 

@@ -11,6 +11,8 @@ use mathlib.Core.List.{List, map}
 use lib.ListN.{length, getD, take, replicate}
 use lib.Dec.{eqb}
 use Rattle.laws.specs.Lists.{countBelow}
+use Rattle.layout.specs.declared.nodes.Nodes.{Nodes}
+use Rattle.layout.specs.Nodes.{nodesOf}
 use Rattle.netlist.specs.Values.{valueOf}
 use Rattle.netlist.specs.Groups.{reads}
 use Rattle.netlist.specs.StoredBlock.{decode, isTorn}
@@ -34,10 +36,10 @@ Done ws setting old values j = getD values j 0 ≡ gateCode ws setting old j
 abbrev pub Steady : List ℕ → List ℕ → List ℕ → List ℕ → Type 0
 Steady ws setting old values = (j : ℕ) → j < getD ws 1 0 → (getD values j 0 ≡ 2) ⊎ Done ws setting old values j
 
--- a block of n inputs that is not torn, a byte for each of its gates in `old`, room for its gates, and a queue as long as the gates that are 0 or 1
-pub record UpdateReady (ws : List ℕ) (n : ℕ) (setting old values queue : List ℕ) (end : ℕ) : Type 0 where
+-- a block that is not torn, a byte for each of its gates in `old`, room for its gates, and a queue as long as the gates that are 0 or 1
+pub record UpdateReady (ws : List ℕ) (nodes : Nodes) (setting old values queue : List ℕ) (end : ℕ) : Type 0 where
   pub whole : isTorn ws ≡ false
-  pub inputs : n ≡ getD ws 0 0
+  pub nodesAre : nodes ≡ nodesOf ws
   pub gates : length old ≡ getD ws 1 0
   pub valueRoom : getD ws 1 0 ≤ length values
   pub queueRoom : getD ws 1 0 ≤ length queue

@@ -5,24 +5,25 @@ use mathlib.Core.List.{List, map}
 use Prim.Native.Nat.{ℕ, _≤_, _<_}
 use lib.ListN.{getD}
 use Rattle.laws.specs.Lists.{placed}
+use Rattle.layout.specs.declared.nodes.Nodes.{Nodes}
+use Rattle.layout.specs.Nodes.{nodesOf}
 use Rattle.netlist.specs.Values.{code, valueOf}
 use Rattle.netlist.specs.Netlist.{gateOf}
 use Rattle.netlist.specs.StoredBlock.{decode, isTorn}
 use Rattle.netlist.specs.Rounds.{evaluated, round, rounds, settled}
 use Rattle.netlist.specs.Rendering.{sweep}
 
--- gate j of a block that is not torn, of n inputs
-pub record InBlock (ws : List ℕ) (n j : ℕ) : Type 0 where
+-- gate j of a block that is not torn
+pub record InBlock (ws : List ℕ) (nodes : Nodes) (j : ℕ) : Type 0 where
   pub whole : isTorn ws ≡ false
-  pub inputs : n ≡ getD ws 0 0
+  pub nodesAre : nodes ≡ nodesOf ws
   pub below : j < getD ws 1 0
 
--- a block that is not torn, of n inputs and m gates, whose values a slice of `room` bytes holds
-pub record ForRounds (ws : List ℕ) (n m room : ℕ) : Type 0 where
+-- a block that is not torn, whose values a slice of `room` bytes holds
+pub record ForRounds (ws : List ℕ) (nodes : Nodes) (room : ℕ) : Type 0 where
   pub whole : isTorn ws ≡ false
-  pub inputs : n ≡ getD ws 0 0
-  pub gates : m ≡ getD ws 1 0
-  pub fits : m ≤ room
+  pub nodesAre : nodes ≡ nodesOf ws
+  pub fits : nodes .gates ≤ room
 
 -- the code of gate j's value, from the bytes of the setting and of the gates' values
 unfoldable pub gateCode : List ℕ → List ℕ → List ℕ → ℕ → ℕ

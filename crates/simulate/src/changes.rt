@@ -3,6 +3,7 @@
 use crate::round::UNDEFINED;
 use crate::round::value_of_gate;
 use layout::fill::fill_bytes;
+use layout::nodes::Nodes;
 use layout::offsets::OPERAND_WORDS;
 use layout::read::word_at;
 ghost use mathlib.Core.Path.{_≡_};
@@ -14,11 +15,17 @@ ghost use Rattle.readers.specs.Readers.{Descends, Readers};
 ghost use Rattle.simulate.specs.Rounded.{ForRounds};
 ghost use Rattle.simulate.specs.Changes.{Awake, UpdateReady, UpdatedOne, UpdatedList, UpdatedAll, Copied, CopyReady, Round, Started, Turned};
 
+// Where the gates that one round changed stand in the queue: from `head` on, before `tail`.
+pub struct Span {
+    pub head: usize,
+    pub tail: usize,
+}
+
 // Evaluates gate `j`, if it has no value, and queues it if it gets one; the queue's new end.
 fn update(
     table: &[u8; 1792],
     words: &[u16],
-    n: usize,
+    nodes: Nodes,
     j: usize,
     setting: &[u8],
     old: &[u8],
@@ -27,7 +34,7 @@ fn update(
     end: usize,
 ) -> usize
     requires { ⌜ now table ≡ gateTable ⌝ }
-    requires { ⌜ UpdateReady (now words) n (now setting) (now old) (now values) (now queue) end × (j < getD (now words) 1 0) ⌝ }
+    requires { ⌜ UpdateReady (now words) nodes (now setting) (now old) (now values) (now queue) end × (j < getD (now words) 1 0) ⌝ }
     ensures { λ r. ⌜
         UpdatedOne (now (words .entry)) (now (setting .entry)) (now (old .entry)) (now (values .entry)) (now (queue .entry)) end j (now (values .exit))
         (now (queue .exit)) r
@@ -36,7 +43,7 @@ fn update(
     if values[j] != UNDEFINED {
         return end;
     }
-    let value = value_of_gate(table, words, n, j, setting, old);
+    let value = value_of_gate(table, words, nodes, j, setting, old);
     if value == UNDEFINED {
         return end;
     }
@@ -49,15 +56,14 @@ fn update(
 fn update_all(
     table: &[u8; 1792],
     words: &[u16],
-    n: usize,
-    m: usize,
+    nodes: Nodes,
     setting: &[u8],
     old: &[u8],
     values: &mut [u8],
     queue: &mut [u16],
 ) -> usize
     requires { ⌜ now table ≡ gateTable ⌝ }
-    requires { ⌜ UpdateReady (now words) n (now setting) (now old) (now values) (now queue) 0 × (m ≡ getD (now words) 1 0) ⌝ }
+    requires { ⌜ UpdateReady (now words) nodes (now setting) (now old) (now values) (now queue) 0 ⌝ }
     ensures { λ r. ⌜
         UpdatedAll (now (words .entry)) (now (setting .entry)) (now (old .entry)) (now (values .entry)) (now (queue .entry)) 0 (now (values .exit))
         (now (queue .exit)) r
@@ -65,8 +71,8 @@ fn update_all(
 {
     let mut end = 0;
     let mut j = 0;
-    while j < m {
-        end = update(table, words, n, j, setting, old, values, queue, end);
+    while j < nodes.gates {
+        end = update(table, words, nodes, j, setting, old, values, queue, end);
         j += 1;
     }
     end
@@ -76,7 +82,7 @@ fn update_all(
 fn update_readers(
     table: &[u8; 1792],
     words: &[u16],
-    n: usize,
+    nodes: Nodes,
     next: &[u16],
     from: usize,
     setting: &[u8],
@@ -86,7 +92,7 @@ fn update_readers(
     tail: usize,
 ) -> usize
     requires { ⌜ now table ≡ gateTable ⌝ }
-    requires { ⌜ UpdateReady (now words) n (now setting) (now old) (now values) (now queue) tail ⌝ }
+    requires { ⌜ UpdateReady (now words) nodes (now setting) (now old) (now values) (now queue) tail ⌝ }
     requires { ⌜ Descends (now next) × (from ≤ 4 * getD (now words) 1 0) ⌝ }
     ensures { λ r. ⌜
         UpdatedList (now (words .entry)) (now (setting .entry)) (now (old .entry)) (now (values .entry)) (now (queue .entry)) tail (now (next .entry)) from
@@ -100,7 +106,7 @@ fn update_readers(
         end = update(
             table,
             words,
-            n,
+            nodes,
             e / OPERAND_WORDS,
             setting,
             old,
@@ -113,37 +119,36 @@ fn update_readers(
     end
 }
 
-// The same for the readers of the gates that are queued from `head` to `tail`.
+// The same for the readers of the gates that the round before changed.
 fn update_changed(
     table: &[u8; 1792],
     words: &[u16],
-    n: usize,
+    nodes: Nodes,
     first: &[u16],
     next: &[u16],
     setting: &[u8],
     old: &[u8],
     values: &mut [u8],
     queue: &mut [u16],
-    head: usize,
-    tail: usize,
+    changed: Span,
 ) -> usize
     requires { ⌜ now table ≡ gateTable ⌝ }
-    requires { ⌜ UpdateReady (now words) n (now setting) (now old) (now values) (now queue) tail × (head ≤ tail) ⌝ }
+    requires { ⌜ UpdateReady (now words) nodes (now setting) (now old) (now values) (now queue) (changed .tail) × (changed .head ≤ changed .tail) ⌝ }
     requires { ⌜ Readers (decode (now words)) (getD (now words) 1 0) (now first) (now next) ⌝ }
-    requires { ⌜ Awake (now words) (now setting) (now old) (now values) (now queue) head tail ⌝ }
+    requires { ⌜ Awake (now words) (now setting) (now old) (now values) (now queue) (changed .head) (changed .tail) ⌝ }
     ensures { λ r. ⌜
-        UpdatedAll (now (words .entry)) (now (setting .entry)) (now (old .entry)) (now (values .entry)) (now (queue .entry)) tail (now (values .exit))
-        (now (queue .exit)) r
+        UpdatedAll (now (words .entry)) (now (setting .entry)) (now (old .entry)) (now (values .entry)) (now (queue .entry)) (changed .tail)
+        (now (values .exit)) (now (queue .exit)) r
         ⌝ }
 {
-    let mut end = tail;
-    let mut q = head;
-    while q < tail {
+    let mut end = changed.tail;
+    let mut q = changed.head;
+    while q < changed.tail {
         let from = word_at(first, word_at(queue, q));
         end = update_readers(
             table,
             words,
-            n,
+            nodes,
             next,
             from,
             setting,
@@ -157,13 +162,13 @@ fn update_changed(
     end
 }
 
-// Copies the values of the gates that are queued from `head` to `tail`.
-fn copy_changed(values: &[u8], queue: &[u16], head: usize, tail: usize, old: &mut [u8])
-    requires { ⌜ CopyReady (now values) (now queue) head tail (now old) ⌝ }
-    ensures { λ r. ⌜ Copied (now (values .entry)) (now (queue .entry)) head tail (now (old .entry)) (now (old .exit)) ⌝ }
+// Copies the values of the gates that the round before changed.
+fn copy_changed(values: &[u8], queue: &[u16], changed: Span, old: &mut [u8])
+    requires { ⌜ CopyReady (now values) (now queue) (changed .head) (changed .tail) (now old) ⌝ }
+    ensures { λ r. ⌜ Copied (now (values .entry)) (now (queue .entry)) (changed .head) (changed .tail) (now (old .entry)) (now (old .exit)) ⌝ }
 {
-    let mut q = head;
-    while q < tail {
+    let mut q = changed.head;
+    while q < changed.tail {
         let k = queue[q] as usize;
         old[k] = values[k];
         q += 1;
@@ -174,59 +179,63 @@ fn copy_changed(values: &[u8], queue: &[u16], head: usize, tail: usize, old: &mu
 pub fn first_round(
     table: &[u8; 1792],
     words: &[u16],
-    n: usize,
-    m: usize,
+    nodes: Nodes,
     setting: &[u8],
     values: &mut [u8],
     old: &mut [u8],
     queue: &mut [u16],
 ) -> usize
     requires { ⌜ now table ≡ gateTable ⌝ }
-    requires { ⌜ ForRounds (now words) n m (length (now values)) × (m ≤ length (now old)) × (m ≤ length (now queue)) ⌝ }
+    requires { ⌜ ForRounds (now words) nodes (length (now values)) × (nodes .gates ≤ length (now old)) × (nodes .gates ≤ length (now queue)) ⌝ }
     ensures { λ r. ⌜
         Started (now (words .entry)) (now (setting .entry)) (now (values .entry)) (now (old .exit)) (now (values .exit)) (now (queue .exit)) r
         ⌝ }
 {
-    fill_bytes(old, m, UNDEFINED);
-    fill_bytes(values, m, UNDEFINED);
-    update_all(table, words, n, m, setting, &old[..m], values, queue)
+    fill_bytes(old, nodes.gates, UNDEFINED);
+    fill_bytes(values, nodes.gates, UNDEFINED);
+    update_all(
+        table,
+        words,
+        nodes,
+        setting,
+        &old[..nodes.gates],
+        values,
+        queue,
+    )
 }
 
-// One round more; the end of the gates that it changed, which are queued from `tail` on.
+// One round more, from what the round before changed; the end of the gates that it changed itself, which are queued behind those.
 pub fn next_round(
     table: &[u8; 1792],
     words: &[u16],
-    n: usize,
-    m: usize,
+    nodes: Nodes,
     first: &[u16],
     next: &[u16],
     setting: &[u8],
     values: &mut [u8],
     old: &mut [u8],
     queue: &mut [u16],
-    head: usize,
-    tail: usize,
+    changed: Span,
 ) -> usize
     requires { ⌜ now table ≡ gateTable ⌝ }
-    requires { ⌜ ForRounds (now words) n m (length (now values)) ⌝ }
+    requires { ⌜ ForRounds (now words) nodes (length (now values)) ⌝ }
     requires { ⌜ Readers (decode (now words)) (getD (now words) 1 0) (now first) (now next) ⌝ }
-    requires { ⌜ Round (now words) (now setting) (now old) (now values) (now queue) head tail ⌝ }
+    requires { ⌜ Round (now words) (now setting) (now old) (now values) (now queue) (changed .head) (changed .tail) ⌝ }
     ensures { λ r. ⌜
-        Turned (now (words .entry)) (now (setting .entry)) (now (values .entry)) (now (old .exit)) (now (values .exit)) (now (queue .exit)) tail r
+        Turned (now (words .entry)) (now (setting .entry)) (now (values .entry)) (now (old .exit)) (now (values .exit)) (now (queue .exit)) (changed .tail) r
         ⌝ }
 {
-    copy_changed(values, queue, head, tail, old);
+    copy_changed(values, queue, changed, old);
     update_changed(
         table,
         words,
-        n,
+        nodes,
         first,
         next,
         setting,
-        &old[..m],
+        &old[..nodes.gates],
         values,
         queue,
-        head,
-        tail,
+        changed,
     )
 }

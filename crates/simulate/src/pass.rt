@@ -8,7 +8,6 @@ use netlist::Answer;
 use netlist::Test;
 use refusals::refusal;
 use refusals::test_room;
-ghost use lib.ListN.{length};
 ghost use Rattle.simulate.specs.Passed.{PassPromise};
 
 // Pass (6, 10, 7, 11): the values of a straight block in one sweep, equal to Settle's; count: gates.

@@ -1,12 +1,12 @@
 // Rounds of a block that is not torn: in the first all gates are evaluated, in a later one those that read a gate that the one before changed.
+use crate::changes::Span;
 use crate::changes::first_round;
 use crate::changes::next_round;
 use layout::limits::MAX_GATES;
+use layout::nodes::Nodes;
+use layout::nodes::nodes_of;
 use layout::offsets::GATE_SIZE;
 use layout::offsets::OPERAND_WORDS;
-use layout::offsets::gates_at;
-use layout::offsets::gates_of;
-use layout::offsets::inputs_of;
 use readers::link_readers;
 use ternary::gate::gate_value;
 use ternary::table::gate_table;
@@ -26,20 +26,20 @@ pub const UNDEFINED: u8 = 2;
 pub fn value_of_gate(
     table: &[u8; 1792],
     words: &[u16],
-    n: usize,
+    nodes: Nodes,
     j: usize,
     setting: &[u8],
     gates: &[u8],
 ) -> u8
     requires { ⌜ now table ≡ gateTable ⌝ }
-    requires { ⌜ InBlock (now words) n j ⌝ }
+    requires { ⌜ InBlock (now words) nodes j ⌝ }
     ensures { λ r. ⌜ r ≡ gateCode (now (words .entry)) (now (setting .entry)) (now (gates .entry)) j ⌝ }
 {
     gate_value(
         table,
         words,
-        n,
-        gates_at(words) + GATE_SIZE * j,
+        nodes.inputs,
+        nodes.start + GATE_SIZE * j,
         setting,
         gates,
     )
@@ -50,8 +50,7 @@ pub fn value_of_gate(
 fn settle_with(
     table: &[u8; 1792],
     words: &[u16],
-    n: usize,
-    m: usize,
+    nodes: Nodes,
     first: &[u16],
     next: &[u16],
     setting: &[u8],
@@ -60,27 +59,25 @@ fn settle_with(
     queue: &mut [u16],
 ) -> usize
     requires { ⌜ now table ≡ gateTable ⌝ }
-    requires { ⌜ ForRounds (now words) n m (length (now values)) × (m ≤ length (now old)) × (m ≤ length (now queue)) ⌝ }
+    requires { ⌜ ForRounds (now words) nodes (length (now values)) × (nodes .gates ≤ length (now old)) × (nodes .gates ≤ length (now queue)) ⌝ }
     requires { ⌜ Readers (decode (now words)) (getD (now words) 1 0) (now first) (now next) ⌝ }
     ensures { λ r. ⌜ Settled (now (words .entry)) (now (setting .entry)) (now (values .entry)) (now (values .exit)) r ⌝ }
 {
     let mut head = 0;
-    let mut tail = first_round(table, words, n, m, setting, values, old, queue);
+    let mut tail = first_round(table, words, nodes, setting, values, old, queue);
     let mut count = 0;
     while head < tail {
         let end = next_round(
             table,
             words,
-            n,
-            m,
+            nodes,
             first,
             next,
             setting,
             values,
             old,
             queue,
-            head,
-            tail,
+            Span { head, tail },
         );
         head = tail;
         tail = end;
@@ -104,8 +101,7 @@ pub fn settle_into(words: &[u16], setting: &[u8], values: &mut [u8]) -> usize
     settle_with(
         &table,
         words,
-        inputs_of(words),
-        gates_of(words),
+        nodes_of(words),
         &first,
         &next,
         setting,

@@ -1,7 +1,7 @@
 // One sweep of a block that is not torn, straight into the slice for the values.
 use crate::round::value_of_gate;
-use layout::offsets::gates_of;
-use layout::offsets::inputs_of;
+use layout::nodes::Nodes;
+use layout::nodes::nodes_of;
 use ternary::table::gate_table;
 ghost use mathlib.Core.Path.{_≡_};
 ghost use mathlib.Core.Bool.{false};
@@ -13,21 +13,14 @@ ghost use Rattle.netlist.specs.GateTable.{gateTable};
 ghost use Rattle.simulate.specs.Rounded.{ForRounds, sweepCodes};
 
 // Each gate once, in ascending order, from the setting and the values that this sweep has found so far.
-fn sweep_gates(
-    table: &[u8; 1792],
-    words: &[u16],
-    n: usize,
-    m: usize,
-    setting: &[u8],
-    values: &mut [u8],
-)
+fn sweep_gates(table: &[u8; 1792], words: &[u16], nodes: Nodes, setting: &[u8], values: &mut [u8])
     requires { ⌜ now table ≡ gateTable ⌝ }
-    requires { ⌜ ForRounds (now words) n m (length (now values)) ⌝ }
+    requires { ⌜ ForRounds (now words) nodes (length (now values)) ⌝ }
     ensures { λ r. ⌜ now (values .exit) ≡ placed (sweepCodes (now (words .entry)) (now (setting .entry))) (now (values .entry)) ⌝ }
 {
     let mut j = 0;
-    while j < m {
-        let found = value_of_gate(table, words, n, j, setting, &values[..j]);
+    while j < nodes.gates {
+        let found = value_of_gate(table, words, nodes, j, setting, &values[..j]);
         values[j] = found;
         j += 1;
     }
@@ -41,7 +34,7 @@ pub fn sweep_into(words: &[u16], setting: &[u8], values: &mut [u8]) -> usize
     ensures { λ r. ⌜ r ≡ getD (now (words .entry)) 1 0 ⌝ }
 {
     let table = gate_table();
-    let m = gates_of(words);
-    sweep_gates(&table, words, inputs_of(words), m, setting, values);
-    m
+    let nodes = nodes_of(words);
+    sweep_gates(&table, words, nodes, setting, values);
+    nodes.gates
 }

@@ -24,7 +24,8 @@ use Rattle.names.specs.Packed.{packed}
 use Rattle.names.specs.declared.Counts.{Counts}
 use Rattle.names.specs.Results.{treeCounts, declared, packedNames, nodeWords}
 use Rattle.names.proofs.TreeLines.{legal-parts}
-use Rattle.names.proofs.TreeCounts.{WithinLimits, limits-within, sum-none, named-le}
+use Rattle.grammar.proofs.Limits.{WithinLimits, limits-within}
+use Rattle.names.proofs.TreeCounts.{sum-none, named-le}
 use Rattle.names.proofs.TreeTable.{bindings-length}
 use Rattle.names.proofs.TreeSearch.{bound-names, nodes-length}
 use Rattle.terms.specs.Walk.{Table, declaredNames}

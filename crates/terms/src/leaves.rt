@@ -11,7 +11,7 @@ use names::pack::pack_first;
 ghost use mathlib.Core.Path.{_≡_};
 ghost use lib.ListN.{length};
 ghost use Rattle.names.specs.Index.{Indexed};
-ghost use Rattle.terms.specs.Leaves.{kindBehindX, kindHere, wordLength, nameLength, indexHere, earlier, nameHere, constantHere, leafHere};
+ghost use Rattle.terms.specs.Leaves.{kindBehindX, kindHere, wordLength, earlier, nameHere, leafHere};
 
 // The words of the constants.
 const ZERO: u16 = CONSTANT_0 as u16;

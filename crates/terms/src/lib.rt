@@ -19,6 +19,12 @@ pub struct Leaf {
     pub unknown: usize,
 }
 
+// What stands before an operand: the gates that have closed, and `unknown` as in `Found`.
+pub struct Seen {
+    pub gates: usize,
+    pub unknown: usize,
+}
+
 // An operand: the bytes left behind it, its node's word, the gates that have closed, and one more than the bytes left from the first
 // undeclared name on, or 0.
 pub struct Found {
@@ -56,7 +62,8 @@ pub fn resolve(
 ) -> Test
     requires { ⌜ ResolveReady (now text) c (now names) (now words) (now gates) (now outputs) ⌝ }
     requires { ⌜ NodesIndexed c (now names) (now index) ⌝ }
-    ensures { λ r. ⌜ Resolved (now (text .entry)) c (now (names .entry)) (now (words .entry)) (now (gates .entry)) (now (gates .exit)) (now (outputs .entry)) (now (outputs .exit)) r ⌝ }
+    ensures { λ r. ⌜ Resolved (now (text .entry)) c (now (names .entry)) (now (words .entry)) (now (gates .entry)) (now (gates .exit))
+        (now (outputs .entry)) (now (outputs .exit)) r ⌝ }
 {
     let length = text.len();
     let n = c.inputs;

@@ -1,4 +1,5 @@
 // The walk over lines. Each line's reader gets the rest of the text.
+use crate::Seen;
 use crate::Walked;
 use crate::leaves::name_here;
 use crate::walk::operand;
@@ -31,26 +32,16 @@ fn gate_line(
     names: &[u64],
     words: &[u16],
     index: &[u16],
-    first: usize,
-    unknown: usize,
+    seen: Seen,
     gates: &mut [u16],
 ) -> Walked
-    requires { ⌜ LineHere gateForm maxGates (now s) n (now names) (now words) first (now gates) ⌝ }
+    requires { ⌜ LineHere gateForm maxGates (now s) n (now names) (now words) (seen .gates) (now gates) ⌝ }
     requires { ⌜ Indexed (now names) (length (now names)) (now index) ⌝ }
-    ensures { λ r. ⌜ LineRead gateForm (now (s .entry)) n (now (names .entry)) (now (words .entry)) first unknown (now (gates .entry)) (now (gates .exit)) r ⌝ }
+    ensures { λ r. ⌜ LineRead gateForm (now (s .entry)) n (now (names .entry)) (now (words .entry)) (seen .gates) (seen .unknown) (now (gates .entry))
+        (now (gates .exit)) r ⌝ }
 {
     let at = 7 + name_length(&s[6..]);
-    let one = operand(
-        &s[at..],
-        MAX_DEPTH,
-        n,
-        names,
-        words,
-        index,
-        first,
-        unknown,
-        gates,
-    );
+    let one = operand(&s[at..], MAX_DEPTH, n, names, words, index, seen, gates);
     Walked {
         left: one.left - 2,
         number: one.gates,
@@ -83,7 +74,8 @@ fn output_line(
 ) -> Walked
     requires { ⌜ ((n : ℕ) × LineHere outputForm maxOutputs (now s) n (now names) (now words) first (now outputs)) ⌝ }
     requires { ⌜ Indexed (now names) (length (now names)) (now index) ⌝ }
-    ensures { λ r. ⌜ ((n : ℕ) → LineRead outputForm (now (s .entry)) n (now (names .entry)) (now (words .entry)) first unknown (now (outputs .entry)) (now (outputs .exit)) r) ⌝ }
+    ensures { λ r. ⌜ ((n : ℕ)
+        → LineRead outputForm (now (s .entry)) n (now (names .entry)) (now (words .entry)) first unknown (now (outputs .entry)) (now (outputs .exit)) r) ⌝ }
 {
     let at = 6 + name_length(&s[5..]);
     let shown = name_here(&s[at..], names, words, index, unknown);
@@ -134,8 +126,10 @@ pub fn gate_lines(
             names,
             words,
             index,
-            first,
-            unknown,
+            Seen {
+                gates: first,
+                unknown,
+            },
             gates,
         );
         left = one.left;
@@ -162,7 +156,8 @@ pub fn output_lines(
 ) -> Walked
     requires { ⌜ ((n : ℕ) × LinesHere outputForm maxOutputs lines (now text) n (now names) (now words) (now outputs)) ⌝ }
     requires { ⌜ Indexed (now names) (length (now names)) (now index) ⌝ }
-    ensures { λ r. ⌜ ((n : ℕ) → LinesRead outputForm lines (now (text .entry)) n (now (names .entry)) (now (words .entry)) seen (now (outputs .entry)) (now (outputs .exit)) r) ⌝ }
+    ensures { λ r. ⌜ ((n : ℕ)
+        → LinesRead outputForm lines (now (text .entry)) n (now (names .entry)) (now (words .entry)) seen (now (outputs .entry)) (now (outputs .exit)) r) ⌝ }
 {
     let mut left = text.len();
     let mut first = 0;

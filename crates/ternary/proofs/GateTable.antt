@@ -19,7 +19,7 @@ use borrow.Author.Tests.{eqb-true, leb-true, ne-eqb}
 use Rattle.laws.specs.Lists.{any, keep, tab}
 use Rattle.laws.proofs.Tests.{and-left, and-right, eq-or-ne}
 use Rattle.laws.proofs.Tab.{length-tab, getD-tab, map-tab}
-use Rattle.netlist.specs.Values.{Value, undefined, val, code, valueOf, invert}
+use Rattle.netlist.specs.Values.{Value, undefined, val, code}
 use Rattle.netlist.specs.Kinds.{rowOf, isNot, isXor, isXnor, fewestOperands, mostOperands, arityFits, ruled, gateValue}
 use Rattle.netlist.specs.GateTable.{absent, tableIndex, kindAt, codesAt, tableSize, isPresent, hasGap, presentValues, entryOf, tableEntry}
 use Rattle.netlist.specs.GateTable.{gateTable, operandCode, gateIndex}

@@ -1,23 +1,22 @@
 -- A gate's head word: what a legal one says, and the gate's value from it and the operands' words. Assumes nothing.
 use mathlib.Core.Path.{_≡_}
 use mathlib.Core.Logic.{⊎-elim}
-use mathlib.Core.Bool.{true, false}
+use mathlib.Core.Bool.{true}
 use mathlib.Core.List.{List, map}
 use Prim.Native.Nat.{ℕ, _+_, _/_, _%_, _≤_, _<_}
-use native.Mathlib.Nat.{add-zero}
 use native.Mathlib.Omega.{arith}
 use lib.ListN.{length, getD, List·getD-eq-default}
-use lib.Dec.{eqb, leb}
-use borrow.Author.Tests.{leb-true, ne-eqb}
+use lib.Dec.{leb}
+use borrow.Author.Tests.{leb-true}
 use Rattle.laws.specs.Lists.{tab}
 use Rattle.laws.proofs.Tab.{map-tab}
-use Rattle.laws.proofs.Tests.{and-left, and-right, lt-or-le}
-use Rattle.netlist.specs.Values.{valueOf, invert}
-use Rattle.netlist.specs.Kinds.{fewestOperands, mostOperands, arityFits, gateValue}
+use Rattle.laws.proofs.Tests.{and-left, lt-or-le}
+use Rattle.netlist.specs.Values.{valueOf}
+use Rattle.netlist.specs.Kinds.{fewestOperands, arityFits, gateValue}
 use Rattle.netlist.specs.Rounds.{operandValue, evaluated}
 use Rattle.netlist.specs.StoredBlock.{operandOf, gateAt}
 use Rattle.layout.proofs.KindLaws.{not-counts, kind-last}
-use Rattle.ternary.specs.Legal.{LegalHead, wordValue, valueFrom}
+use Rattle.ternary.specs.Legal.{LegalHead, valueFrom}
 
 module _ (words : List ℕ) (at : ℕ) (l : LegalHead words at) where
   head-kind : getD words at 0 % 8 ≤ 6

@@ -1,3 +1,4 @@
-// One gate's value from a block's words. Callers cite specs of `netlist`.
+// The values of one gate and of one output from a block's words. Callers cite specs of `netlist`.
 pub mod gate;
+pub mod output;
 pub mod table;

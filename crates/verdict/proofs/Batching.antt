@@ -5,26 +5,28 @@
 --   whole-decidable                   words that are not torn
 --   passed-sound, found-unsound       what the outputs' words tell of a batch
 --   batch-more, lowest-in-batch       one batch more; the lowest setting in the first batch that has one
---   count-add, count-coming           how many are settled
+--   count-add, count-coming, reached  how many are settled
 --   flagged-length, flagged-placed    a byte for each setting
 -- Assumes nothing.
 use mathlib.Core.Path.{_≡_, refl, sym, ap, _∙_}
 use mathlib.Core.Logic.{⊎-elim}
-use mathlib.Core.Bool.{Bool, true, false, not, cond, _&&_, _||_}
+use mathlib.Core.Bool.{Bool, true, false, not, cond, _||_}
 use mathlib.Core.List.{List}
 use Prim.Native.Nat.{ℕ, zero, suc, _+_, _-_, _*_, _%_, _^_, _≤_, _<_, min}
 use native.Mathlib.Nat.{add-zero, add-suc, add-assoc, min-le-left, min-eq-left, min-eq-right}
 use native.Mathlib.Omega.{arith}
 use lib.Bits.{bitAnd}
-use lib.ListN.{length, getD, set, length-set}
+use lib.ListN.{length, getD, length-set}
 use lib.Pow.{pow-mono, pow-pos, pow-add}
 use Rattle.laws.specs.Lists.{countBelow, least, tab, placed}
 use Rattle.laws.proofs.Tests.{bool-cases, lt-or-le, not-both, and-intro, and-left, and-right}
 use Rattle.laws.proofs.Tab.{set-placed-tab}
 use Rattle.laws.proofs.Counting.{countBelow-ext}
+use Rattle.layout.specs.declared.nodes.Nodes.{Nodes}
+use Rattle.layout.specs.Nodes.{nodesOf}
 use Rattle.netlist.specs.Netlist.{Block, inputCount, gateCount}
 use Rattle.netlist.specs.Assignments.{bit}
-use Rattle.netlist.specs.StoredBlock.{gatesAt, outputsAt, decode, isTorn}
+use Rattle.netlist.specs.StoredBlock.{outputsAt, decode, isTorn}
 use Rattle.netlist.specs.Rounds.{settingCount, isSettled, isExcluded, isCounted, isSoundAt, lowestUnsettled}
 use Rattle.encoding.proofs.Decoded.{decode-inputCount, decode-gateCount}
 use Rattle.encoding.proofs.Readers.{whole-parts}
@@ -34,12 +36,13 @@ use Rattle.lanes.specs.Pairs.{full}
 use Rattle.lanes.specs.Batches.{lanesOf}
 use Rattle.lanes.proofs.InputLaws.{lanesOf-most}
 use Rattle.batch.specs.Batch.{Decidable, BatchSettled}
-use Rattle.judge.specs.Lanes.{hasLane, Tells, Judged, mayCome, isUndefinedAt, isUnsettled, isUnsound, undefinedWord}
-use Rattle.judge.proofs.WordLaws.{tells-and, tells-no-lane, tells-some, tells-lowest, lane-bit}
+use Rattle.lanes.specs.Words.{hasLane, Tells}
+use Rattle.judge.specs.Lanes.{Judged, mayCome, isUndefinedAt, isUnsettled, isUnsound, undefinedWord}
+use Rattle.lanes.proofs.WordLaws.{tells-and, tells-no-lane, tells-some, tells-lowest, lane-bit}
 use Rattle.judge.proofs.OutputLaws.{undefined-tells, undefined-some, undefined-unsettled}
 use Rattle.verdict.specs.Flags.{soundFlag}
-use Rattle.verdict.specs.Batches.{FirstBatch, countedFrom, flagged}
-use Rattle.verdict.proofs.Counting.{lowest-found, below-lowest}
+use Rattle.verdict.specs.Batches.{FirstBatch, Reached, countedFrom, flagged}
+use Rattle.verdict.proofs.Counting.{lowest-found, sound-counted}
 
 -- ---- where a batch starts
 
@@ -86,8 +89,9 @@ lanesOf-some n = pow-pos (min n 6)
 
 -- ---- a decided batch
 
-module _ {ws : List ℕ} {n gates : ℕ} {order zeros ones : List ℕ} (d : Decidable ws n gates order zeros ones) {zeros′ ones′ : List ℕ} where
-  pub judged : {base : ℕ} → base % 64 ≡ 0 → BatchSettled (decode ws) n base zeros′ ones′ → Judged ws n base zeros′ ones′
+module _ {ws : List ℕ} {nodes : Nodes} {order zeros ones : List ℕ} (d : Decidable ws nodes order zeros ones) {zeros′ ones′ : List ℕ} where
+  pub judged : {base : ℕ} → base % 64 ≡ 0 → BatchSettled (decode ws) (nodes .inputs) base zeros′ ones′
+      → Judged ws (nodes .inputs) base zeros′ ones′
   judged e s =
       record {
         settled = s;
@@ -96,7 +100,7 @@ module _ {ws : List ℕ} {n gates : ℕ} {order zeros ones : List ℕ} (d : Deci
         aligned = e;
       }
 
-  pub decidable-kept : length zeros′ ≡ length zeros → length ones′ ≡ length ones → Decidable ws n gates order zeros′ ones′
+  pub decidable-kept : length zeros′ ≡ length zeros → length ones′ ≡ length ones → Decidable ws nodes order zeros′ ones′
   decidable-kept e f =
       record {
         legible = d .legible;
@@ -107,14 +111,15 @@ module _ {ws : List ℕ} {n gates : ℕ} {order zeros ones : List ℕ} (d : Deci
       }
 
 -- whole words, an order over all gates, and a word for each node are what deciding a batch asks
-pub whole-decidable : (ws : List ℕ) (n m gates : ℕ) (order zeros ones : List ℕ) → isTorn ws ≡ false → n ≡ getD ws 0 0 → m ≡ getD ws 1 0
-    → gates ≡ gatesAt (getD ws 0 0) (getD ws 3 0) → Visits m order → length zeros ≡ n + m → length ones ≡ n + m → Decidable ws n gates order zeros ones
-whole-decidable ws n m gates order zeros ones h e f g v zl ol =
-    let c : m ≡ gateCount (decode ws) = f ∙ sym (decode-gateCount ws) in
+pub whole-decidable : (ws : List ℕ) (nodes : Nodes) (order zeros ones : List ℕ) → isTorn ws ≡ false → nodes ≡ nodesOf ws → Visits (nodes .gates) order
+    → length zeros ≡ nodes .inputs + nodes .gates → length ones ≡ nodes .inputs + nodes .gates → Decidable ws nodes order zeros ones
+unfolding nodesOf
+whole-decidable ws nodes order zeros ones h are v zl ol =
+    let c : nodes .gates ≡ gateCount (decode ws) = rw are (sym (decode-gateCount ws)) in
     record {
-      legible = rw (g, e) (legible ws h);
+      legible = rw are (legible ws h);
       visits = rw (← c) v;
-      fewInputs = rw e (whole-parts ws h .fewInputs);
+      fewInputs = rw are (whole-parts ws h .fewInputs);
       zerosLong = rw (← c) zl;
       onesLong = rw (← c) ol;
     }
@@ -209,11 +214,21 @@ pub count-add : (p : ℕ → Bool) (a k : ℕ) → countBelow p (a + k) ≡ coun
 count-add p a zero = rw (add-zero a) (sym (add-zero (countBelow p a)))
 count-add p a (suc k) = rw (add-suc a k, count-add p a k) (add-assoc (countBelow p a) (countBelow (λ s. p (a + s)) k) (cond (p (a + k)) 1 0))
 
--- below the lowest other
-pub count-coming : (b : Block) (base lanes : ℕ) → base + lanes ≤ lowestUnsettled b
+-- below the first batch with another
+pub count-coming : (b : Block) (base lanes : ℕ) {first : ℕ} → ((i : ℕ) → i < first → isSoundAt b i ≡ true) → base + lanes ≤ first
     → countBelow (λ s. mayCome b (base + s)) lanes ≡ countBelow (countedFrom b base) lanes
 unfolding countedFrom
-count-coming b base lanes h = countBelow-ext (λ s. mayCome b (base + s)) (countedFrom b base) lanes (λ s l. below-lowest b (base + s) (omega arith))
+count-coming b base lanes before h =
+    countBelow-ext (λ s. mayCome b (base + s)) (countedFrom b base) lanes (λ s l. sound-counted b (base + s) (before (base + s) (omega arith)))
+
+-- the batch at `base`, when the slices have not been changed up to the first batch with another
+pub reached : {b : Block} {n first base : ℕ} {zeros ones zeros′ ones′ : List ℕ} → FirstBatch b n first zeros ones → base < 2 ^ n
+    → (base ≤ first → (zeros′ ≡ zeros) × (ones′ ≡ ones)) → Reached b n first base zeros′ ones′
+reached f l kept =
+    record {
+      before = f .before;
+      held = λ e. let k = kept (omega arith) in rw (e, k .0, k .1) (f .settled (rw (← e) l));
+    }
 
 pub count-batch : (b : Block) (base : ℕ) {lanes step count more : ℕ} → step ≡ lanes → count ≡ countBelow (isCounted b) base
     → more ≡ countBelow (countedFrom b base) lanes → count + more ≡ countBelow (isCounted b) (base + step)

@@ -1,26 +1,20 @@
 -- Settled settings: the lowest that may come and is not settled, and the count. Cited by this crate's functions. Assumes nothing.
 use mathlib.Core.Path.{_≡_, refl, sym}
-use mathlib.Core.Bool.{Bool, true, false, cond, not, _&&_, _||_}
+use mathlib.Core.Bool.{Bool, true, false, not, _&&_, _||_}
 use mathlib.Core.List.{List}
-use Prim.Native.Nat.{ℕ, _+_, _^_, _≤_, _<_}
+use Prim.Native.Nat.{ℕ, _^_, _≤_, _<_}
 use native.Mathlib.Omega.{arith}
-use native.Mathlib.Numerals.{add-one}
-use lib.ListN.{length, getD, set}
+use lib.ListN.{getD}
 use lib.Pow.{pow-mono}
-use Rattle.laws.specs.Lists.{countBelow, tab, placed}
-use Rattle.laws.proofs.Tab.{set-placed-tab}
-use Rattle.laws.proofs.Least.{least-le, least-below, least-is}
-use Rattle.laws.proofs.Counting.{countBelow-ext, countBelow-le}
+use Rattle.laws.specs.Lists.{countBelow}
+use Rattle.laws.proofs.Least.{least-is}
+use Rattle.laws.proofs.Counting.{countBelow-le}
 use Rattle.netlist.specs.Limits.{maxInputs}
 use Rattle.netlist.specs.Netlist.{Block, inputCount}
 use Rattle.netlist.specs.Rounds.{settingCount, isSettled, isExcluded, isCounted, isSoundAt, settledSettings, lowestUnsettled}
 use Rattle.netlist.specs.StoredBlock.{decode}
 use Rattle.encoding.proofs.Decoded.{decode-inputCount}
 use Rattle.judge.specs.Lanes.{mayCome}
-
-not-false-true : (a : Bool) → not a ≡ false → a ≡ true
-not-false-true true h = refl
-not-false-true false h = sym h
 
 module _ (b : Block) where
   -- there are 2^n settings
@@ -36,22 +30,14 @@ module _ (b : Block) where
       sym (least-is (λ s. not (isSoundAt b s)) (settingCount b) r (rw (← e) l) (λ i m. rw (before i m) refl)
       (λ m. rw (at (rw e m)) refl))
 
-  pub lowest-le : (count : ℕ) → count ≡ settingCount b → lowestUnsettled b ≤ count
-  unfolding lowestUnsettled
-  lowest-le count e = rw e (least-le (λ s. not (isSoundAt b s)) (settingCount b))
-
-  sound-counted : (s : ℕ) → isSoundAt b s ≡ true → mayCome b s ≡ isCounted b s
+  -- of those that are not unsettled, the ones that may come are settled
+  pub sound-counted : (s : ℕ) → isSoundAt b s ≡ true → mayCome b s ≡ isCounted b s
   unfolding isSoundAt isCounted mayCome
   sound-counted s = go (isExcluded b s) (isSettled b s)
     where
       go : (e t : Bool) → e || t ≡ true → not e ≡ not e && t
       go true t h = refl
       go false t h = sym h
-
-  -- below the lowest other, those that may come are settled
-  pub below-lowest : (s : ℕ) → s < lowestUnsettled b → mayCome b s ≡ isCounted b s
-  unfolding lowestUnsettled
-  below-lowest s l = sound-counted s (not-false-true (isSoundAt b s) (least-below (λ s. not (isSoundAt b s)) (settingCount b) s l))
 
   pub count-le : (s : ℕ) → countBelow (isCounted b) s ≤ s
   count-le s = countBelow-le (isCounted b) s

@@ -2,7 +2,7 @@
 use block::check_words;
 use layout::limits::MAX_GATES;
 use layout::limits::MAX_INPUTS;
-use layout::offsets;
+use layout::nodes::nodes_of;
 use netlist::Answer;
 use netlist::Test;
 use refusals::refusal;
@@ -26,17 +26,15 @@ fn whole_verdict(words: &[u16], order: &mut [u16], zeros: &mut [u64], ones: &mut
     requires { ⌜ length (now ones) ≡ maxInputs + maxGates ⌝ }
     ensures { λ r. ⌜ Told (verdictOf (now (words .entry))) r ⌝ }
 {
-    let n = offsets::inputs_of(words);
-    let m = offsets::gates_of(words);
-    let gates = offsets::gates_at(words);
+    let nodes = nodes_of(words);
+    let count = nodes.inputs + nodes.gates;
     order_gates(words, order);
     settings::search_settings(
         words,
-        n,
-        gates,
-        &order[..m],
-        &mut zeros[..n + m],
-        &mut ones[..n + m],
+        nodes,
+        &order[..nodes.gates],
+        &mut zeros[..count],
+        &mut ones[..count],
     )
 }
 

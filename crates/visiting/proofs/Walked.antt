@@ -14,6 +14,8 @@ use Rattle.laws.proofs.Tests.{eq-or-ne}
 use Rattle.laws.proofs.Quantifiers.{member-from}
 use Rattle.laws.proofs.Counting.{countBelow-le, countBelow-all}
 use Rattle.netlist.specs.Limits.{maxGates}
+use Rattle.layout.specs.declared.nodes.Nodes.{Nodes}
+use Rattle.layout.specs.Nodes.{nodesOf}
 use Rattle.netlist.specs.StoredBlock.{isTorn, neversAt, gatesAt}
 use Rattle.encoding.proofs.Readers.{whole-parts}
 use Rattle.search.specs.Search.{Queued, setFlags}
@@ -171,8 +173,8 @@ pub top-below : {m : ℕ} {flags stack order : List ℕ} {depth tail : ℕ} (k :
     → k ≡ getD stack (depth - 1) 0 → k < m
 top-below k w some is = rw is (w .pushed _ (omega arith))
 
-pub room-kept : {n m gates : ℕ} {flags stack order flags′ stack′ order′ : List ℕ} → Room n m gates flags stack order → length flags′ ≡ length flags
-    → length stack′ ≡ length stack → length order′ ≡ length order → Room n m gates flags′ stack′ order′
+pub room-kept : {nodes : Nodes} {flags stack order flags′ stack′ order′ : List ℕ} → Room nodes flags stack order → length flags′ ≡ length flags
+    → length stack′ ≡ length stack → length order′ ≡ length order → Room nodes flags′ stack′ order′
 room-kept r e f g = record {
   fewInputs = r .fewInputs;
   fewGates = r .fewGates;
@@ -188,17 +190,17 @@ pub blank : (m n : ℕ) → m ≤ n → Blank m (replicate n 0)
 blank m n most k l = getD-replicate n k 0 0 (omega arith)
 
 -- arrays of that many elements have room for a whole block's gates
-pub whole-room : (ws : List ℕ) {n m gates : ℕ} {flags stack order : List ℕ} → isTorn ws ≡ false → n ≡ getD ws 0 0 → m ≡ getD ws 1 0
-    → gates ≡ gatesAt (getD ws 0 0) (getD ws 3 0) → maxGates ≤ length flags → maxGates ≤ length stack → getD ws 1 0 ≤ length order
-    → Room n m gates flags stack order
-unfolding gatesAt neversAt
-whole-room ws whole inputs gates first f s o =
+pub whole-room : (ws : List ℕ) {nodes : Nodes} {flags stack order : List ℕ} → isTorn ws ≡ false → nodes ≡ nodesOf ws → maxGates ≤ length flags
+    → maxGates ≤ length stack → getD ws 1 0 ≤ length order → Room nodes flags stack order
+unfolding nodesOf gatesAt neversAt
+whole-room ws whole are f s o =
     let parts = whole-parts ws whole in
-    record {
+    rw are
+    (record {
       fewInputs = omega (arith, parts .fewInputs);
       fewGates = omega (arith, parts .fewGates);
       near = omega (arith, parts .fewInputs, parts .fewNevers);
       flagRoom = omega (arith, parts .fewGates);
       stackRoom = omega (arith, parts .fewGates);
-      orderRoom = rw gates o;
-    }
+      orderRoom = o;
+    })

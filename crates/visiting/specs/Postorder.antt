@@ -5,23 +5,24 @@ use mathlib.Core.Path.{_≡_}
 use mathlib.Core.Logic.{_⊎_}
 use mathlib.Core.List.{List}
 use lib.ListN.{length, getD}
+use Rattle.layout.specs.declared.nodes.Nodes.{Nodes}
 use Rattle.netlist.specs.Limits.{maxGates}
 use Rattle.search.specs.Search.{Queued, setFlags}
 
 -- the operand word names a gate whose flag is 0
-pub record Unmarked (n m : ℕ) (flags : List ℕ) (w : ℕ) : Type 0 where
-  pub gate : n ≤ w
-  pub below : w < n + m
-  pub free : getD flags (w - n) 0 ≡ 0
+pub record Unmarked (nodes : Nodes) (flags : List ℕ) (w : ℕ) : Type 0 where
+  pub gate : nodes .inputs ≤ w
+  pub below : w < nodes .inputs + nodes .gates
+  pub free : getD flags (w - nodes .inputs) 0 ≡ 0
 
 -- room for every gate in each array
-pub record Room (n m gates : ℕ) (flags stack order : List ℕ) : Type 0 where
-  pub fewInputs : n ≤ 65535
-  pub fewGates : m ≤ maxGates
-  pub near : gates ≤ maxGates
-  pub flagRoom : m ≤ length flags
-  pub stackRoom : m ≤ length stack
-  pub orderRoom : m ≤ length order
+pub record Room (nodes : Nodes) (flags stack order : List ℕ) : Type 0 where
+  pub fewInputs : nodes .inputs ≤ 65535
+  pub fewGates : nodes .gates ≤ maxGates
+  pub near : nodes .start ≤ maxGates
+  pub flagRoom : nodes .gates ≤ length flags
+  pub stackRoom : nodes .gates ≤ length stack
+  pub orderRoom : nodes .gates ≤ length order
 
 -- no gate is marked
 abbrev pub Blank : ℕ → List ℕ → Type 0

@@ -1,5 +1,5 @@
 -- `bring::brought_word` meets its contract: a law for each part of the words. Assumes nothing.
-use mathlib.Core.Path.{_≡_, sym, _∙_}
+use mathlib.Core.Path.{sym}
 use native.Mathlib.Omega.{arith}
 use borrow.Author.Needs.{needs}
 use Rattle.bring.proofs.Words.{word-before, word-four, word-after}

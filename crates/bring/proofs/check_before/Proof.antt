@@ -1,5 +1,5 @@
 -- `bring::check_before` meets its contract: what the old rules refuse at once, and then what is left. Assumes nothing.
-use mathlib.Core.Path.{_≡_, refl}
+use mathlib.Core.Path.{refl}
 use native.Mathlib.Omega.{arith}
 use borrow.Author.Needs.{needs}
 use Rattle.netlist.specs.Answers.{testOf}

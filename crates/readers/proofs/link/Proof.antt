@@ -1,6 +1,9 @@
 -- `readers::link` meets its contract. Assumes nothing.
+use mathlib.Core.Path.{refl}
+use native.Mathlib.Numerals.{add-one}
 use borrow.Author.Needs.{needs}
-use Rattle.readers.proofs.Chains.{linked-gate, linked-none}
+use borrow.Author.Tests.{lt-ltb}
+use Rattle.readers.proofs.Chains.{linked-none}
 use Rattle.readers.proofs.link.Statement.{statement}
 use Rattle.readers.proofs.link.Tie as tie
 
@@ -39,15 +42,13 @@ same-length-2 c = search needs
 
 returns : tie.Need-returns
 returns c =
-    let named = c .before .before in
+    let named = c .before .before .before in
     let a = named .before .before .before .args in
-    rw (← named .gate-named .ensures) (linked-gate (a .e) (a .first .now) (a .next .now) (c .before .if1 .taken))
+    let is-gate = lt-ltb (named .gate-named .result) (a .nodes .gates) (c .before .if1 .taken) in
+    rw (← named .gate-named .ensures) (record { firstIs = rw (is-gate, add-one) refl; nextIs = rw is-gate refl })
 
 returns-2 : tie.Need-returns-2
-returns-2 c =
-    let named = c .before in
-    let a = named .before .before .before .args in
-    rw (← named .gate-named .ensures) (linked-none (a .e) (a .first .now) (a .next .now) (c .if1 .left))
+returns-2 c = rw (← c .before .before .gate-named .ensures) (linked-none (c .if1 .left))
 
 pub link-spec : {M : Type 1} → statement M
 link-spec =

@@ -10,32 +10,36 @@ use Rattle.readers.proofs.link_gate.Statement.{statement}
 use Rattle.readers.proofs.link_gate.Tie as tie
 
 abbrev Inv-loop : tie.InvT-loop
-Inv-loop words n m gates j first₀ next₀ at count i₀ first next i =
-    (i ≤ count) × Linking words n m gates first next (4 * j + i) × (length first ≡ length first₀) × (length next ≡ length next₀)
+Inv-loop words nodes j first₀ next₀ at count i₀ first next i =
+    (i ≤ count) × Linking words nodes first next (4 * j + i) × (length first ≡ length first₀) × (length next ≡ length next₀)
 
 abbrev μ-loop : tie.MeasureT-loop
-μ-loop words n m gates j first₀ next₀ at count i₀ first next i = count - i
+μ-loop words nodes j first₀ next₀ at count i₀ first next i = count - i
 
 mul-at : tie.Need-mul-at Inv-loop μ-loop
 mul-at c = omega (arith, ready-few (c .before .before .before .pre .0 .0))
 
 add-at : tie.Need-add-at Inv-loop μ-loop
-add-at c = omega (arith, ready-few (c .before .before .before .pre .0 .0))
+add-at c = omega (arith, ready-few (c .before .before .before .before .pre .0 .0))
 
 word-at-requires : tie.Need-word-at-requires Inv-loop μ-loop
 word-at-requires c κs = search needs
 
 loop-holds : tie.Need-loop-holds Inv-loop μ-loop
 loop-holds c =
-    let s = c .before .before .before .before in
+    let s = c .before .before .before .before .before in
     let same : 4 * s .args .j + 0 ≡ 4 * s .args .j = omega arith in
     (omega arith, rw same (s .pre .1), refl, refl)
 
+-- the function's entry, from the loop's head
+abbrev start : tie.At-loop Inv-loop μ-loop → tie.Start Inv-loop μ-loop
+start l = l .before .before .before .before .before .before
+
 add-word-at : tie.Need-add-word-at Inv-loop μ-loop
-add-word-at c = omega (arith, ready-few (c .before .before .before .before .before .before .pre .0 .0))
+add-word-at c = omega (arith, ready-few (start (c .before) .pre .0 .0))
 
 add-word-at-2 : tie.Need-add-word-at-2 Inv-loop μ-loop
-add-word-at-2 c = omega (arith, ready-few (c .before .before .before .before .before .before .pre .0 .0))
+add-word-at-2 c = omega (arith, ready-few (start (c .before) .pre .0 .0))
 
 word-at-requires-2 : tie.Need-word-at-requires-2 Inv-loop μ-loop
 word-at-requires-2 c κs = search needs
@@ -49,13 +53,13 @@ add-link c = omega arith
 -- the gate has at most four operands
 count-small : (l : tie.At-loop Inv-loop μ-loop) → l .before .word-at .result / 8 ≤ 4
 count-small l =
-    let s = l .before .before .before .before .before in
+    let s = start l in
     rw (l .before .word-at .ensures) (ready-count (s .pre .0 .0) (s .args .j) (s .pre .0 .1))
 
 link-requires : tie.Need-link-requires Inv-loop μ-loop
 link-requires c κs =
     let l = c .before .before .before .before in
-    let s = l .before .before .before .before .before in
+    let s = start l in
     let r = s .pre .0 .0 in
     let few = ready-few r in
     record {
@@ -76,14 +80,14 @@ loop-again c =
     let d = c .before .before .before .before in
     let w = d .before .before .before in
     let l = w .before .before in
-    let s = l .before .before .before .before .before in
+    let s = start l in
     let r = s .pre .0 .0 in (
       omega arith,
       linking-next (s .args .j) (l .loop .i) (l .loop .inv .1) (omega (arith, count-small l))
           (record { firstRoom = omega (arith, r .room .firstRoom); nextRoom = omega (arith, r .room .nextRoom) })
           (omega (arith, count-small l)) (rw (w .word-at2 .ensures) at (d .link .ensures)),
-      d .link .kept .1 .1 .1 .1 .0 ∙ l .loop .inv .2,
-      d .link .kept .1 .1 .1 .1 .1 .0 ∙ l .loop .inv .3,
+      d .link .kept .1 .1 .1 .0 ∙ l .loop .inv .2,
+      d .link .kept .1 .1 .1 .1 .0 ∙ l .loop .inv .3,
     )
 
 same-length : tie.Need-same-length Inv-loop μ-loop
@@ -95,7 +99,7 @@ same-length-2 c = c .before .loop .inv .3
 returns : tie.Need-returns Inv-loop μ-loop
 returns c =
     let l = c .before in
-    let s = l .before .before .before .before .before in
+    let s = start l in
     linking-gate (s .args .j) (l .loop .i) (l .loop .inv .1) (omega (arith, count-small l)) (rw (l .before .word-at .ensures) at (c .loop-test .left))
 
 pub link-gate-spec : {M : Type 1} → statement M

@@ -5,54 +5,45 @@ use native.Mathlib.Omega.{arith}
 use denote.Ref.{now}
 use borrow.Author.Needs.{needs}
 use lib.ListN.{length}
+use Rattle.layout.specs.Nodes.{nodesOf}
 use Rattle.readers.specs.Readers.{LinkReady, Linking}
 use Rattle.readers.proofs.Chains.{linking-none, linked-readers}
 use Rattle.readers.proofs.link_readers.Statement.{statement}
 use Rattle.readers.proofs.link_readers.Tie as tie
 
 abbrev Inv-loop : tie.InvT-loop
-Inv-loop words first₀ next₀ n m gates j₀ first next j =
-    (j ≤ m) × Linking words n m gates first next (4 * j) × (length first ≡ length first₀) × (length next ≡ length next₀)
+Inv-loop words first₀ next₀ nodes j₀ first next j =
+    (j ≤ nodes .gates) × Linking words nodes first next (4 * j) × (length first ≡ length first₀) × (length next ≡ length next₀)
 
 abbrev μ-loop : tie.MeasureT-loop
-μ-loop words first₀ next₀ n m gates j₀ first next j = m - j
+μ-loop words first₀ next₀ nodes j₀ first next j = nodes .gates - j
 
-inputs-of-requires : tie.Need-inputs-of-requires Inv-loop μ-loop
-inputs-of-requires c κs = search needs
-
-gates-of-requires : tie.Need-gates-of-requires Inv-loop μ-loop
-gates-of-requires c κs = search needs
-
-gates-at-requires : tie.Need-gates-at-requires Inv-loop μ-loop
-gates-at-requires c κs = search needs
+nodes-of-requires : tie.Need-nodes-of-requires Inv-loop μ-loop
+nodes-of-requires c κs = search needs
 
 loop-holds : tie.Need-loop-holds Inv-loop μ-loop
-loop-holds c = let s = c .before .before .before .before .before .before in (omega arith, linking-none (s .pre .1 .1) (s .pre .1 .2), refl, refl)
+loop-holds c = let s = c .before .before .before .before in (omega arith, linking-none (s .pre .1 .1) (s .pre .1 .2), refl, refl)
 
 -- the function's entry, from the loop's head
 abbrev start : tie.At-loop Inv-loop μ-loop → tie.Start Inv-loop μ-loop
-start l = l .before .before .before .before .before .before .before
+start l = l .before .before .before .before .before
 
 -- the words and the slices are ready for a further gate
-ready : (l : tie.At-loop Inv-loop μ-loop)
-    → LinkReady (now (start l .args .words)) (l .before .before .before .inputs-of .result) (l .before .before .gates-of .result)
-    (l .before .gates-at .result) (l .loop .first) (l .loop .next)
+ready : (l : tie.At-loop Inv-loop μ-loop) → LinkReady (now (start l .args .words)) (l .before .nodes-of .result) (l .loop .first) (l .loop .next)
+unfolding nodesOf
 ready l =
     let s = start l in
+    let are = l .before .nodes-of .ensures in
     record {
       whole = s .pre .0;
-      inputs = l .before .before .before .inputs-of .ensures;
-      gatesAre = l .before .before .gates-of .ensures;
-      place = l .before .gates-at .ensures;
+      nodesAre = are;
       room =
-          record {
-            firstRoom = omega (arith, s .pre .1 .0 .firstRoom, l .before .before .gates-of .ensures);
-            nextRoom = omega (arith, s .pre .1 .0 .nextRoom, l .before .before .gates-of .ensures);
-          };
+          rw are
+          (record { firstRoom = omega (arith, s .pre .1 .0 .firstRoom, l .loop .inv .2); nextRoom = omega (arith, s .pre .1 .0 .nextRoom, l .loop .inv .3) });
     }
 
 link-gate-requires : tie.Need-link-gate-requires Inv-loop μ-loop
-link-gate-requires c κs = let l = c .before .before .before in ((ready l, omega arith), l .loop .inv .1)
+link-gate-requires c κs = let l = c .before .before .before .before in ((ready l, c .before .before .if1 .taken), l .loop .inv .1)
 
 add-j : tie.Need-add-j Inv-loop μ-loop
 add-j c = omega arith
@@ -63,28 +54,27 @@ loop-less c = omega arith
 loop-again : tie.Need-loop-again Inv-loop μ-loop
 loop-again c =
     let d = c .before .before .before .before in
-    let l = d .before .before .before .before in
+    let l = d .before .before .before .before .before in
     let next : 4 * (l .loop .j + 1) ≡ 4 * l .loop .j + 4 = omega arith in (
       omega arith,
       rw next (d .link-gate .ensures),
-      d .link-gate .kept .1 .1 .1 .1 .1 .0 ∙ l .loop .inv .2,
-      d .link-gate .kept .1 .1 .1 .1 .1 .1 .0 ∙ l .loop .inv .3,
+      d .link-gate .kept .1 .1 .1 .0 ∙ l .loop .inv .2,
+      d .link-gate .kept .1 .1 .1 .1 .0 ∙ l .loop .inv .3,
     )
 
 same-length : tie.Need-same-length Inv-loop μ-loop
-same-length c = c .before .loop .inv .2
+same-length c = c .before .before .loop .inv .2
 
 same-length-2 : tie.Need-same-length-2 Inv-loop μ-loop
-same-length-2 c = c .before .loop .inv .3
+same-length-2 c = c .before .before .loop .inv .3
 
 returns : tie.Need-returns Inv-loop μ-loop
+unfolding nodesOf
 returns c =
-    let l = c .before in
+    let l = c .before .before in
     let s = start l in
-    let m = l .before .before .gates-of .ensures in
-    let all : l .loop .j ≡ l .before .before .gates-of .result = omega arith in
-    linked-readers (now (s .args .words)) (s .pre .0)
-    (rw (all, l .before .before .before .inputs-of .ensures, m, l .before .gates-at .ensures) at (l .loop .inv .1))
+    let all : l .loop .j ≡ l .before .nodes-of .result .gates = omega arith in
+    linked-readers (now (s .args .words)) (s .pre .0) (rw (all, l .before .nodes-of .ensures) at (l .loop .inv .1))
 
 pub link-readers-spec : {M : Type 1} → statement M
 link-readers-spec =
@@ -92,9 +82,7 @@ link-readers-spec =
     (tie.spec
     Inv-loop
     μ-loop
-    inputs-of-requires
-    gates-of-requires
-    gates-at-requires
+    nodes-of-requires
     loop-holds
     link-gate-requires
     add-j

@@ -69,18 +69,20 @@ slice-aggregate-read-with-7 c = search needs
 
 read-with-requires : tie.Need-read-with-requires
 read-with-requires c κs =
-    let e = c .before .before .before .before .before .before .before .before in
-    let t = e .before .before in
-    let p = entry t .pre in
+    let at-names = c .before .before .before .before .before .before .before in
+    let at-enum-told = at-names .before in
+    let at-test-limits = at-enum-told .before .before in
+    let p = entry at-test-limits .pre in
     let s = p .split in
-    let counted = counted-at t .counts .ensures (plain (p .tree)) (rest-prints s) in
+    let counted = counted-at at-test-limits .counts .ensures (plain (p .tree)) (rest-prints s) in
     record {
       tree = p .tree;
       limited =
           record {
             split = s;
             within =
-                passed-false _ OverLimit (t .test-limits .ensures (p .tree) counted (count-is (s .is) (s .stand))) (e .enum-told .given .1);
+                passed-false _ OverLimit (at-test-limits .test-limits .ensures (p .tree) counted (count-is (s .is) (s .stand)))
+                (at-enum-told .enum-told .given .1);
           };
       counted = counted;
       nameRoom = omega arith;

@@ -37,12 +37,16 @@ loop-less c = omega arith
 
 loop-again : tie.Need-loop-again Inv-loop μ-loop
 loop-again c =
-    let l = c .before .before .before .before .before .before .before .before .before .before .before .before .before .before .before .before in
-    let none = eqb-true (l .loop .written) 0
-    (c .before .before .before .before .before .before .before .before .before .before .before .before .before .before .if1 .taken) in (
-      one-byte (l .loop .inv .0)
-          (c .before .before .before .before .before .before .before .before .before .before .before .before .before .before .before .loop-test .taken) none
-          (c .before .before .before .before .before .before .before .before .feed-byte .ensures)
+    let at-text = c .before .before .before .before .before .before .before in
+    let at-feed-byte = at-text .before in
+    let in-if1 = at-feed-byte .before .before .before .before .before .before in
+    let in-loop = in-if1 .before in
+    let at-loop = in-loop .before in
+    let none = eqb-true (at-loop .loop .written) 0
+    (in-if1 .if1 .taken) in (
+      one-byte (at-loop .loop .inv .0)
+          (in-loop .loop-test .taken) none
+          (at-feed-byte .feed-byte .ensures)
           (record { textRoom = omega arith; wordRoom = omega arith; lineRoom = omega arith; outRoom = omega arith }),
       omega arith,
       omega arith,

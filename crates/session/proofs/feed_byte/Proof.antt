@@ -9,16 +9,19 @@ enum-known-state c = search needs
 
 netlist-byte-requires : tie.Need-netlist-byte-requires
 netlist-byte-requires c κs =
-    let s = c .before .before .before .before .before .before .before .before .before .before in
-    let r = s .pre .room in
-    (netlist-ready (s .pre) (c .before .before .before .before .state .given .1), r .textRoom, r .wordRoom, r .outRoom)
+    let at-state = c .before .before .before .before in
+    let start = at-state .before .before .before .before .before .before in
+    let r = start .pre .room in
+    (netlist-ready (start .pre) (at-state .state .given .1), r .textRoom, r .wordRoom, r .outRoom)
 
 enum-known-state-2 : tie.Need-enum-known-state-2
 enum-known-state-2 c = search needs
 
 line-byte-requires : tie.Need-line-byte-requires
 line-byte-requires c κs =
-    line-ready (c .before .before .before .before .before .before .before .before .before .before .pre) (c .before .before .before .before .state2 .given .1)
+    let at-state2 = c .before .before .before .before in
+    let start = at-state2 .before .before .before .before .before .before in
+    line-ready (start .pre) (at-state2 .state2 .given .1)
 
 enum-told : tie.Need-enum-told
 enum-told c = search needs
@@ -34,10 +37,13 @@ same-length-3 c = search needs
 
 returns : tie.Need-returns
 returns c =
-    let x = c .before .before .before .before .before .before .before .before .before .before .before .before .before .before .before .before .before .args in
+    let at-netlist-byte = c .before .before .before .before .before .before in
+    let at-state = at-netlist-byte .before .before .before .before .before in
+    let start = at-state .before .before .before .before .before .before in
+    let x = start .args in
     netlist-step (x .text .now) (x .words .now) (x .line .now) (x .byte)
-    (c .before .before .before .before .before .before .before .before .before .before .before .state .given .1)
-    (c .before .before .before .before .before .before .netlist-byte .ensures _)
+    (at-state .state .given .1)
+    (at-netlist-byte .netlist-byte .ensures _)
 
 same-length-4 : tie.Need-same-length-4
 same-length-4 c = search needs
@@ -50,9 +56,12 @@ same-length-6 c = search needs
 
 returns-2 : tie.Need-returns-2
 returns-2 c =
-    let x = c .before .before .before .before .before .before .before .before .before .before .before .before .before .before .before .args in
+    let at-line-byte = c .before .before .before .before in
+    let at-state2 = at-line-byte .before .before .before .before .before in
+    let start = at-state2 .before .before .before .before .before .before in
+    let x = start .args in
     line-step (x .text .now) (x .words .now) (x .line .now) (x .byte)
-    (c .before .before .before .before .before .before .before .before .before .state2 .given .1) (c .before .before .before .before .line-byte .ensures _)
+    (at-state2 .state2 .given .1) (at-line-byte .line-byte .ensures _)
 
 returns-3 : tie.Need-returns-3
 returns-3 c =

@@ -10,9 +10,10 @@ enum-known-state c = search needs
 
 end-netlist-requires : tie.Need-end-netlist-requires
 end-netlist-requires c κs =
-    let s = c .before .before .before .before .before .before .before .before .before in
-    let r = s .pre .room in
-    let few = netlist-ready (s .pre) (c .before .before .before .state .given .1) in
+    let at-state = c .before .before .before in
+    let start = at-state .before .before .before .before .before .before in
+    let r = start .pre .room in
+    let few = netlist-ready (start .pre) (at-state .state .given .1) in
     (omega arith, r .wordRoom, r .outRoom)
 
 enum-known-state-2 : tie.Need-enum-known-state-2
@@ -20,7 +21,9 @@ enum-known-state-2 c = search needs
 
 end-line-requires : tie.Need-end-line-requires
 end-line-requires c κs =
-    line-ready (c .before .before .before .before .before .before .before .before .before .pre) (c .before .before .before .state2 .given .1)
+    let at-state2 = c .before .before .before in
+    let start = at-state2 .before .before .before .before .before .before in
+    line-ready (start .pre) (at-state2 .state2 .given .1)
 
 enum-told : tie.Need-enum-told
 enum-told c = search needs
@@ -33,9 +36,12 @@ same-length-2 c = search needs
 
 returns : tie.Need-returns
 returns c =
-    let x = c .before .before .before .before .before .before .before .before .before .before .before .before .before .before .args in
-    netlist-ending (x .text .now) (x .words .now) (x .line .now) (c .before .before .before .before .before .before .before .before .state .given .1)
-    (c .before .before .before .before .end-netlist .ensures)
+    let at-end-netlist = c .before .before .before .before in
+    let at-state = at-end-netlist .before .before .before .before in
+    let start = at-state .before .before .before .before .before .before in
+    let x = start .args in
+    netlist-ending (x .text .now) (x .words .now) (x .line .now) (at-state .state .given .1)
+    (at-end-netlist .end-netlist .ensures)
 
 same-length-3 : tie.Need-same-length-3
 same-length-3 c = search needs
@@ -45,8 +51,10 @@ same-length-4 c = search needs
 
 returns-2 : tie.Need-returns-2
 returns-2 c =
-    let x = c .before .before .before .before .before .before .before .before .before .before .before .before .args in
-    line-ending (x .text .now) (x .words .now) (x .line .now) (c .before .before .before .before .before .before .state2 .given .1)
+    let at-state2 = c .before .before .before .before .before .before in
+    let start = at-state2 .before .before .before .before .before .before in
+    let x = start .args in
+    line-ending (x .text .now) (x .words .now) (x .line .now) (at-state2 .state2 .given .1)
     (c .before .before .end-line .ensures)
 
 returns-3 : tie.Need-returns-3

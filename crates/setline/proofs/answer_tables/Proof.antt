@@ -54,7 +54,10 @@ inputs-of-requires : tie.Need-inputs-of-requires
 inputs-of-requires c κs = search needs
 
 test-repeat-requires : tie.Need-test-repeat-requires
-test-repeat-requires c κs = let f = c .before .before .before .before .before .before .before .before .pre .for in
+test-repeat-requires c κs =
+    let at-shared-slice-known = c .before .before .before .before .before .before .before in
+    let the-start = at-shared-slice-known .before in
+    let f = the-start .pre .for in
     (names-room (f .tabled), places-room (f .tabled))
 
 enum-told : tie.Need-enum-told
@@ -114,7 +117,10 @@ slice-aggregate-show : tie.Need-slice-aggregate-show
 slice-aggregate-show c = sym (length-take-le _ _ (filled-room _ _ _ (c .before .before .before .fill-setting .ensures)))
 
 show-requires : tie.Need-show-requires
-show-requires c κs = start (first (c .before .before .before .before .before .before .before .before)) .pre .for .whole
+show-requires c κs =
+    let at-match2-keys1 = c .before .before .before .before .before .before .before in
+    let at-test-outside = at-match2-keys1 .before in
+    start (first at-test-outside) .pre .for .whole
 
 same-length : tie.Need-same-length
 same-length c = search needs
@@ -124,11 +130,13 @@ same-length-2 c = search needs
 
 returns-3 : tie.Need-returns-3
 returns-3 c =
+    let at-fill-setting = c .before .before .before .before .before .before .before in
+    let at-enum-told3 = at-fill-setting .before .before in
+    let at-test-outside = at-enum-told3 .before .before in
     λ ps f.
-    let told = c .before .before .before .before .before .before .before .before .before in
-    let t = told .before .before in
-    let shown = passed-at (inRoom _) (keeps-room _) _ _ UndeclaredName (behind-repeat t ps f) (outside-told t ps f) (told .enum-told3 .given .1) in
-    rw (shown, ← line-setting f _ (first t .before .inputs-of .ensures) (c .before .before .before .before .before .before .before .fill-setting .ensures))
+    let t = at-test-outside in
+    let shown = passed-at (inRoom _) (keeps-room _) _ _ UndeclaredName (behind-repeat t ps f) (outside-told t ps f) (at-enum-told3 .enum-told3 .given .1) in
+    rw (shown, ← line-setting f _ (first at-test-outside .before .inputs-of .ensures) (at-fill-setting .fill-setting .ensures))
     (c .before .before .show .ensures)
 
 pub answer-tables-spec : {M : Type 1} → statement M

@@ -14,26 +14,32 @@ pairs-filled c = c .before .before .before .before .before .before .before .befo
 
 fill-pairs-requires : tie.Need-fill-pairs-requires
 fill-pairs-requires c κs =
-    let s = c .before .before .before .before .before .before .before .before .before .before .before in pair-room (s .pre .0) (s .pre .1)
+    let at-slice-known2 = c .before .before .before .before .before .before .before in
+    let the-start = at-slice-known2 .before .before .before .before in
+    pair-room (the-start .pre .0) (the-start .pre .1)
 
 inputs-of-requires : tie.Need-inputs-of-requires
 inputs-of-requires c κs = search needs
 
 fill-inputs-requires : tie.Need-fill-inputs-requires
 fill-inputs-requires c κs =
-    let s = start (c .before .before .before .before .before .before .before .before) in
+    let at-names = c .before .before .before .before .before .before .before in
+    let at-fill-pairs = at-names .before in
+    let s = start at-fill-pairs in
     let n = inputs-few (s .args .words .now) (s .pre .0 .for .whole) in
     (omega (arith, n, c .before .inputs-of .ensures), omega (arith, n, c .before .inputs-of .ensures, s .pre .1 .inputRoom))
 
 answer-tables-requires : tie.Need-answer-tables-requires
 answer-tables-requires c κs =
-    let filled = c .before .before .before .before .before .before .before .before in
-    let s = start (pairs-filled filled) in
+    let at-inputs = c .before .before .before .before .before .before .before in
+    let at-fill-inputs = at-inputs .before in
+    let at-inputs-of = at-fill-inputs .before .before in
+    let s = start (pairs-filled at-fill-inputs) in
     let f = s .pre .0 in
     record {
       pairs = f .pairs;
-      for = tables-for (f .for) _ (pairs-filled filled .fill-pairs .ensures (f .pairs) (pairs-at (f .for .is))) (filled .before .before .inputs-of .ensures)
-          (filled .fill-inputs .ensures);
+      for = tables-for (f .for) _ (pairs-filled at-fill-inputs .fill-pairs .ensures (f .pairs) (pairs-at (f .for .is))) (at-inputs-of .inputs-of .ensures)
+          (at-fill-inputs .fill-inputs .ensures);
       settingRoom = s .pre .1 .settingRoom;
     }
 
@@ -57,11 +63,14 @@ same-length-6 c = search needs
 
 returns : tie.Need-returns
 returns c =
+    let at-answer-tables = c .before .before .before .before in
+    let at-slice-known10 = at-answer-tables .before .before .before .before .before .before .before in
+    let at-fill-inputs = at-slice-known10 .before .before in
+    let at-inputs-of = at-fill-inputs .before .before in
     λ ps f.
-    let filled = c .before .before .before .before .before .before .before .before .before .before .before .before .before in
-    c .before .before .before .before .answer-tables .ensures ps
-    (tables-for f _ (pairs-filled filled .fill-pairs .ensures ps (pairs-at (f .is))) (filled .before .before .inputs-of .ensures)
-    (filled .fill-inputs .ensures))
+    at-answer-tables .answer-tables .ensures ps
+    (tables-for f _ (pairs-filled at-fill-inputs .fill-pairs .ensures ps (pairs-at (f .is))) (at-inputs-of .inputs-of .ensures)
+    (at-fill-inputs .fill-inputs .ensures))
 
 pub answer-with-spec : {M : Type 1} → statement M
 answer-with-spec =

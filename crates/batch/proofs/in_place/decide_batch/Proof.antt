@@ -3,21 +3,20 @@ use mathlib.Core.Path.{_≡_, sym, _∙_}
 use native.Mathlib.Omega.{arith}
 use borrow.Author.Needs.{needs}
 use borrow.Author.Tests.{not-true, not-false}
-use Rattle.netlist.specs.Netlist.{gateCount}
 use Rattle.netlist.specs.StoredBlock.{decode}
 use Rattle.lanes.specs.Batches.{inputPairs}
 use Rattle.lanes.specs.Nodes.{inputsIn}
-use Rattle.batch.specs.Batch.{BatchUnderway, BatchSettled, Advanced, Sweepable, roomIn}
+use Rattle.batch.specs.Batch.{BatchUnderway, Sweepable, roomIn}
 use Rattle.batch.proofs.BatchLaws.{started-inputs, started-underway, settled-batch}
 use Rattle.batch.proofs.in_place.decide_batch.Statement.{statement}
 use Rattle.batch.proofs.in_place.decide_batch.Tie as tie
 
 abbrev Inv-loop : tie.InvT-loop
-Inv-loop words n gates order base zeros₀ ones₀ used back₀ zeros ones back =
-    BatchUnderway (decode words) n zeros ones × (inputsIn n zeros ones ≡ inputPairs n base)
+Inv-loop words nodes order base zeros₀ ones₀ used back₀ zeros ones back =
+    BatchUnderway (decode words) (nodes .inputs) zeros ones × (inputsIn (nodes .inputs) zeros ones ≡ inputPairs (nodes .inputs) base)
 
 abbrev μ-loop : tie.MeasureT-loop
-μ-loop words n gates order base zeros₀ ones₀ used back₀ zeros ones back = roomIn (decode words) n zeros ones
+μ-loop words nodes order base zeros₀ ones₀ used back₀ zeros ones back = roomIn (decode words) (nodes .inputs) zeros ones
 
 -- the entry and the calls before, from the call of `used_lanes` on
 abbrev start : tie.After-used-lanes Inv-loop μ-loop → tie.Start Inv-loop μ-loop
@@ -46,7 +45,7 @@ last c = c .before .before .before .before
 
 -- what every sweep asks
 sweepable : (f : tie.After-used-lanes Inv-loop μ-loop) → let a = start f .args in
-    Sweepable (a .words .now) (a .n) (a .gates) (f .used-lanes .result) (a .order .now)
+    Sweepable (a .words .now) (a .nodes) (f .used-lanes .result) (a .order .now)
 sweepable f =
     let p = start f .pre .0 in
     record { legible = p .legible; visits = p .visits; fewInputs = p .fewInputs; usedIs = f .used-lanes .ensures }
@@ -63,12 +62,14 @@ used-lanes-requires c κs = search needs
 begun : (f : tie.After-used-lanes Inv-loop μ-loop) → let a = start f .args in
     let z = f .before .before .before .before .before .start-batch .last .1 .1 .0 in
     let o = f .before .before .before .before .before .start-batch .last .1 .1 .1 .0 in
-    BatchUnderway (decode (a .words .now)) (a .n) z o × (inputsIn (a .n) z o ≡ inputPairs (a .n) (a .base))
+    BatchUnderway (decode (a .words .now)) (a .nodes .inputs) z o × (inputsIn (a .nodes .inputs) z o ≡ inputPairs (a .nodes .inputs) (a .base))
 begun f =
     let s = start f in
     let g = f .before .before .before .before .before .start-batch .ensures in
-    let long = s .pre .0 .zerosLong in
-    (started-underway (s .args .n) (s .args .base) g (decode (s .args .words .now)) long, started-inputs (s .args .n) (s .args .base) g (omega arith))
+    let long = s .pre .0 .zerosLong in (
+      started-underway (s .args .nodes .inputs) (s .args .base) g (decode (s .args .words .now)) long,
+      started-inputs (s .args .nodes .inputs) (s .args .base) g (omega arith),
+    )
 
 sweep-decides-requires : tie.Need-sweep-decides-requires Inv-loop μ-loop
 sweep-decides-requires c κs = let f = c .before .before in (sweepable f, begun f .0)
@@ -108,7 +109,7 @@ same-length-4 c =
 
 -- the inputs' pairs are those of the start
 kept : (d : tie.After-sweep-again Inv-loop μ-loop) → let a = start (lanes (earlier d)) .args in
-    inputsIn (a .n) (d .sweep-again .last .1 .1 .1 .1 .1 .0) (d .sweep-again .last .1 .1 .1 .1 .1 .1 .0) ≡ inputPairs (a .n) (a .base)
+    inputsIn (a .nodes .inputs) (d .sweep-again .last .1 .1 .1 .1 .0) (d .sweep-again .last .1 .1 .1 .1 .1 .0) ≡ inputPairs (a .nodes .inputs) (a .base)
 kept d =
     let e = earlier d in
     d .sweep-again .ensures .inputsKept ∙ e .sweep-decides .ensures .0 .inputsKept ∙ begun (lanes e) .1

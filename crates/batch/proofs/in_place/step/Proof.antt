@@ -1,6 +1,7 @@
 -- `batch::in_place::step` meets its contract. Assumes nothing.
 use Rattle.batch.specs.Batch.{gatePair}
 use mathlib.Core.Path.{sym, _∙_}
+use native.Mathlib.Omega.{arith}
 use borrow.Author.Needs.{needs}
 use Rattle.batch.proofs.in_place.step.Statement.{statement}
 use Rattle.batch.proofs.in_place.step.Tie as tie
@@ -13,8 +14,10 @@ add-gate-pair c = search needs
 
 gate-pair-requires : tie.Need-gate-pair-requires
 gate-pair-requires c κs =
-    let s = c .before .before .before .before .before in
-    (s .pre .0 .1 .legal (s .args .j) (s .pre .0 .0), s .pre .1 .zerosLong ∙ sym (s .pre .1 .onesLong))
+    let s = c .before .before .before .before .before .before in
+    let there = s .pre .0 .0 in
+    let l = s .pre .0 .1 in
+    (l .legal (s .args .j) there, omega (arith, there, l .long), s .pre .1 .zerosLong ∙ sym (s .pre .1 .onesLong))
 
 add-k : tie.Need-add-k
 add-k c = search needs
@@ -52,8 +55,8 @@ same-length-2 c = search needs
 returns : tie.Need-returns
 unfolding gatePair
 returns c =
-    let g = c .before .before in
-    let s = g .before .before .before .before .before .before in
+    let g = c .before .before .before in
+    let s = g .before .before .before .before .before .before .before in
     let e = rw (s .pre .0 .3) at (g .gate-pair .ensures) in
     record { zerosAre = rw e; onesAre = rw e; changedIs = rw e }
 

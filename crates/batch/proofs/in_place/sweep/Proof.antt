@@ -11,11 +11,11 @@ use Rattle.batch.proofs.in_place.sweep.Statement.{statement}
 use Rattle.batch.proofs.in_place.sweep.Tie as tie
 
 abbrev Inv-loop : tie.InvT-loop
-Inv-loop words n gates used order back zeros₀ ones₀ count changed₀ i₀ zeros ones changed i =
-    (i ≤ length order) × Walked words n gates zeros₀ ones₀ (tab (λ k. getD order (placeOf back (length order) k) 0) i) zeros ones changed
+Inv-loop words nodes used order back zeros₀ ones₀ count changed₀ i₀ zeros ones changed i =
+    (i ≤ length order) × Walked words nodes zeros₀ ones₀ (tab (λ k. getD order (placeOf back (length order) k) 0) i) zeros ones changed
 
 abbrev μ-loop : tie.MeasureT-loop
-μ-loop words n gates used order back zeros₀ ones₀ count changed₀ i₀ zeros ones changed i = length order - i
+μ-loop words nodes used order back zeros₀ ones₀ count changed₀ i₀ zeros ones changed i = length order - i
 
 -- the function's entry, from the loop's head
 abbrev start : tie.At-loop Inv-loop μ-loop → tie.Start Inv-loop μ-loop
@@ -47,7 +47,13 @@ step-requires c κs =
     let p = c .before .before .before in
     let l = p .before .before in
     let s = start l in (
-      (rw (p .place .ensures) (along-inside (s .args .order .now) (s .args .back) (s .pre .0 .1) (l .loop .i) (p .before .loop-test .taken)), s .pre .0 .0, s .pre .0 .2, s .pre .0 .3),
+      (
+        rw (p .place .ensures) (along-inside (s .args .order .now) (s .args .back) (s .pre .0 .1) (l .loop .i)
+            (p .before .loop-test .taken)),
+        s .pre .0 .0,
+        s .pre .0 .2,
+        s .pre .0 .3,
+      ),
       walked-long (l .loop .inv .1) (s .pre .1),
     )
 

@@ -1,5 +1,5 @@
 -- `batch::in_place::sweep_again` meets its contract: each half is a list of gates. Assumes nothing.
-use mathlib.Core.Path.{_≡_, sym, _∙_}
+use mathlib.Core.Path.{sym, _∙_}
 use mathlib.Core.Bool.{false}
 use Prim.Native.Nat.{_-_, _/_}
 use native.Mathlib.Nat.{min-eq-left}
@@ -26,11 +26,13 @@ abbrev second : tie.After-slice-known6 → tie.After-sweep2
 second c = c .before .before .before .before
 
 one : (d : tie.After-sweep) → let a = start d .args in
-    Advanced (decode (a .words .now)) (a .n) (a .zeros .now) (a .ones .now) (d .sweep .last .1 .1 .1 .1 .1 .1 .0) (d .sweep .last .1 .1 .1 .1 .1 .1 .1 .0) false
+    Advanced (decode (a .words .now)) (a .nodes .inputs) (a .zeros .now) (a .ones .now) (d .sweep .last .1 .1 .1 .1 .1 .0)
+    (d .sweep .last .1 .1 .1 .1 .1 .1 .0) false
 one d = let p = start d .pre in advanced-swept (p .1) (walked-swept (p .0 .legible) (p .0 .fewInputs) (p .1) (d .sweep .ensures))
 
 both : (d : tie.After-sweep2) → let a = start (earlier d) .args in
-    Advanced (decode (a .words .now)) (a .n) (a .zeros .now) (a .ones .now) (d .sweep2 .last .1 .1 .1 .1 .1 .1 .0) (d .sweep2 .last .1 .1 .1 .1 .1 .1 .1 .0)
+    Advanced (decode (a .words .now)) (a .nodes .inputs) (a .zeros .now) (a .ones .now) (d .sweep2 .last .1 .1 .1 .1 .1 .0)
+    (d .sweep2 .last .1 .1 .1 .1 .1 .1 .0)
     false
 both d =
     let f = one (earlier d) in

@@ -1,9 +1,9 @@
 -- `batch::in_place::sweep_decides` meets its contract: a sweep that changes nothing, or that defines a lane more. Assumes nothing.
-use mathlib.Core.Path.{_≡_, sym, _∙_}
+use mathlib.Core.Path.{sym, _∙_}
 use mathlib.Core.Bool.{false, true≢false}
 use borrow.Author.Tests.{not-true, not-false}
 use Rattle.netlist.specs.StoredBlock.{decode}
-use Rattle.batch.specs.Batch.{BatchSwept, Advanced, along, roomIn}
+use Rattle.batch.specs.Batch.{BatchSwept, along, roomIn}
 use Rattle.batch.proofs.BatchLaws.{underway-long, walked-swept, advanced-swept, advanced-still, advanced-decided, along-visits}
 use Rattle.batch.proofs.in_place.sweep_decides.Statement.{statement}
 use Rattle.batch.proofs.in_place.sweep_decides.Tie as tie
@@ -16,8 +16,8 @@ abbrev swept : tie.After-slice-known4 → tie.After-sweep
 swept c = c .before .before .before .before
 
 made : (d : tie.After-sweep) → let a = start d .args in
-    BatchSwept (decode (a .words .now)) (a .n) (along (a .back) (a .order .now)) (a .zeros .now) (a .ones .now) (d .sweep .last .1 .1 .1 .1 .1 .1 .0)
-    (d .sweep .last .1 .1 .1 .1 .1 .1 .1 .0) (d .sweep .result)
+    BatchSwept (decode (a .words .now)) (a .nodes .inputs) (along (a .back) (a .order .now)) (a .zeros .now) (a .ones .now) (d .sweep .last .1 .1 .1 .1 .1 .0)
+    (d .sweep .last .1 .1 .1 .1 .1 .1 .0) (d .sweep .result)
 made d = let p = start d .pre in walked-swept (p .0 .legible) (p .0 .fewInputs) (p .1) (d .sweep .ensures)
 
 sweep-requires : tie.Need-sweep-requires
@@ -34,8 +34,10 @@ same-length-2 c = made (swept (c .before)) .onesLong
 returns : tie.Need-returns
 returns c =
     let d = swept (c .before) in
-    let s = start d in
-    (advanced-still (along-visits (s .args .back) (s .pre .0 .visits)) (s .pre .1) (made d) (not-true (d .sweep .result) (c .if1 .taken)), λ e. absurd (true≢false e))
+    let s = start d in (
+      advanced-still (along-visits (s .args .back) (s .pre .0 .visits)) (s .pre .1) (made d) (not-true (d .sweep .result) (c .if1 .taken)),
+      λ e. absurd (true≢false e),
+    )
 
 is-decided-requires : tie.Need-is-decided-requires
 is-decided-requires c κs =

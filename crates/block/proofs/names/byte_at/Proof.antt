@@ -1,4 +1,6 @@
 -- `block::names::byte_at` meets its contract: two bytes to a word, the lower half first. Assumes nothing.
+use Prim.Native.Nat.{_+_, _/_}
+use native.Mathlib.Omega.{arith}
 use borrow.Author.Needs.{needs}
 use borrow.Author.Tests.{eq-eqb, ne-eqb}
 use Rattle.block.proofs.NameLaws.{byte-is}
@@ -11,6 +13,14 @@ add-word-at c = search needs
 word-at-requires : tie.Need-word-at-requires
 word-at-requires c κs = search needs
 
+cast-result : tie.Need-cast-result
+cast-result c = search needs
+
+cast-result-2 : tie.Need-cast-result-2
+cast-result-2 c =
+    let known = c .before .before in
+    omega (arith, c .before .word-at .ensures, known .shared-slice-known .given (known .before .args .at + known .before .args .i / 2))
+
 returns : tie.Need-returns
 returns c =
     let a = c .before .before .before .args in rw
@@ -22,4 +32,4 @@ returns-2 c =
     (← byte-is (a .words .now) (a .at) (a .i) (search needs), ne-eqb _ 0 (c .if1 .left), c .before .word-at .ensures)
 
 pub byte-at-spec : {M : Type 1} → statement M
-byte-at-spec = tie.close (tie.spec add-word-at word-at-requires returns returns-2)
+byte-at-spec = tie.close (tie.spec add-word-at word-at-requires cast-result cast-result-2 returns returns-2)

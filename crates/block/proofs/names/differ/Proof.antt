@@ -5,6 +5,7 @@ use mathlib.Core.Bool.{not}
 use borrow.Author.Needs.{needs}
 use native.Mathlib.Omega.{arith}
 use Rattle.block.proofs.NameLaws.{place-le}
+use Rattle.encoding.specs.Rules.{sameName}
 use Rattle.block.proofs.names.differ.Statement.{statement}
 use Rattle.block.proofs.names.differ.Tie as tie
 
@@ -40,6 +41,7 @@ is-same-requires c κs =
     )
 
 returns : tie.Need-returns
+unfolding sameName
 returns c = ap not (c .is-same .ensures)
 
 pub differ-spec : {M : Type 1} → statement M

@@ -1,5 +1,4 @@
 -- `compare::outputs::differing_lanes` meets its contract. Assumes nothing.
-use denote.Ref.{now}
 use borrow.Author.Needs.{needs}
 use Rattle.compare.specs.Words.{differingIn, portPair, differingWord}
 use Rattle.compare.proofs.Rooms.{ports-near, few-ports}

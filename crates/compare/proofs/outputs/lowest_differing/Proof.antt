@@ -1,6 +1,6 @@
 -- `compare::outputs::lowest_differing` meets its contract: every output passed shows the same at the lane. Assumes nothing.
-use mathlib.Core.Path.{_≡_, sym, ap, _∙_}
-use mathlib.Core.Bool.{Bool, true, false}
+use mathlib.Core.Path.{_≡_, sym}
+use mathlib.Core.Bool.{Bool, false}
 use Prim.Native.Nat.{ℕ, _-_, _≤_, _<_}
 use native.Mathlib.Omega.{arith}
 use borrow.Author.Count.{below-more}
@@ -9,7 +9,7 @@ use borrow.Author.Tests.{eq-eqb, ne-eqb}
 use lib.ListN.{getD}
 use Rattle.laws.proofs.Least.{least-is}
 use Rattle.netlist.specs.Assignments.{bit}
-use Rattle.judge.specs.Lanes.{hasLane}
+use Rattle.lanes.specs.Words.{hasLane}
 use Rattle.compare.specs.Words.{differsAt}
 use Rattle.compare.proofs.outputs.lowest_differing.Statement.{statement}
 use Rattle.compare.proofs.outputs.lowest_differing.Tie as tie

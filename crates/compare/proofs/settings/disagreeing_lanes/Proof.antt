@@ -8,51 +8,51 @@ use Rattle.compare.proofs.Rooms.{decidable-at, theirs-at}
 use Rattle.compare.proofs.settings.disagreeing_lanes.Statement.{statement}
 use Rattle.compare.proofs.settings.disagreeing_lanes.Tie as tie
 
--- the function's entry, the counts, ours decided, and theirs
-abbrev start : tie.After-inputs-of → tie.Start
+-- the function's entry, the nodes of ours, ours decided, and theirs
+abbrev start : tie.After-nodes-of → tie.Start
 start c = c .before .before .before .before .before .before .before .before .before
 
-abbrev read : tie.After-decide-batch → tie.After-gates-at
+abbrev read : tie.After-decide-batch → tie.After-nodes-of
 read d = d .before .before .before
 
-abbrev first : tie.After-gates-at2 → tie.After-decide-batch
+abbrev first : tie.After-nodes-of2 → tie.After-decide-batch
 first c = c .before .before .before .before .before
 
 abbrev second : tie.After-slice-known8 → tie.After-decide-batch2
 second c = c .before .before .before .before
 
+abbrev others : tie.After-decide-batch2 → tie.After-nodes-of2
+others d = d .before .before .before
+
 abbrev ours : tie.After-decide-batch2 → tie.After-decide-batch
-ours d = first (d .before .before .before)
+ours d = first (others d)
 
 abbrev entry : tie.After-decide-batch → tie.Start
-entry d = start (read d .before)
+entry d = start (read d)
 
-inputs-of-requires : tie.Need-inputs-of-requires
-inputs-of-requires c κs = search needs
-
-gates-at-requires : tie.Need-gates-at-requires
-gates-at-requires c κs = search needs
+nodes-of-requires : tie.Need-nodes-of-requires
+nodes-of-requires c κs = search needs
 
 decide-batch-requires : tie.Need-decide-batch-requires
 decide-batch-requires c κs =
-    let g = c .before .before in
-    let p = start (g .before) .pre in
-    (decidable-at (p .0) (g .before .inputs-of .ensures) (g .gates-at .ensures), p .1)
+    let n = c .before .before in
+    let p = start n .pre in
+    (decidable-at (p .0) (n .nodes-of .ensures), p .1)
 
-gates-at-requires-2 : tie.Need-gates-at-requires-2
-gates-at-requires-2 c κs = search needs
+nodes-of-requires-2 : tie.Need-nodes-of-requires-2
+nodes-of-requires-2 c κs = search needs
 
 decide-batch-requires-2 : tie.Need-decide-batch-requires-2
 decide-batch-requires-2 c κs =
-    let g = c .before .before in
-    let d = first g in
-    (theirs-at (entry d .pre .0) (read d .before .inputs-of .ensures) (g .gates-at2 .ensures), omega (arith, entry d .pre .1))
+    let n = c .before .before in
+    let d = first n in
+    (theirs-at (entry d .pre .0) (n .nodes-of2 .ensures), omega (arith, entry d .pre .1))
 
 counted-lanes-requires : tie.Need-counted-lanes-requires
 counted-lanes-requires c κs =
     let d = ours (second (c .before .before)) in
     let p = entry d .pre in
-    judged (decidable-at (p .0) (read d .before .inputs-of .ensures) (read d .gates-at .ensures)) (p .1) (d .decide-batch .ensures)
+    judged (decidable-at (p .0) (read d .nodes-of .ensures)) (p .1) (d .decide-batch .ensures)
 
 used-lanes-requires : tie.Need-used-lanes-requires
 used-lanes-requires c κs = search needs
@@ -83,17 +83,16 @@ returns c =
     let d2 = second (u .before .before .before .before) in
     let d = ours d2 in
     let p = entry d .pre in
-    marked-batch (p .0) (read d .before .inputs-of .ensures) (p .1) (d .decide-batch .ensures) (d2 .decide-batch2 .ensures) (u .used-lanes .ensures)
-    (u .before .counted-lanes .ensures) (c .any-differing .ensures)
+    marked-batch (p .0) (read d .nodes-of .ensures) (others d2 .nodes-of2 .ensures) (p .1) (d .decide-batch .ensures) (d2 .decide-batch2 .ensures)
+    (u .used-lanes .ensures) (u .before .counted-lanes .ensures) (c .any-differing .ensures)
 
 pub disagreeing-lanes-spec : {M : Type 1} → statement M
 disagreeing-lanes-spec =
     tie.close
     (tie.spec
-    inputs-of-requires
-    gates-at-requires
+    nodes-of-requires
     decide-batch-requires
-    gates-at-requires-2
+    nodes-of-requires-2
     decide-batch-requires-2
     counted-lanes-requires
     used-lanes-requires

@@ -1,17 +1,18 @@
 -- `compare::settings::search_settings` meets its contract: no setting of a batch passed disagrees. Assumes nothing.
 use mathlib.Core.Path.{_≡_, refl, sym, _∙_}
 use mathlib.Core.Bool.{false}
-use Prim.Native.Nat.{ℕ, _-_, _+_, _^_, _≤_, _<_}
+use Prim.Native.Nat.{ℕ, _-_, _+_, _≤_, _<_}
 use native.Mathlib.Omega.{arith}
 use denote.Ref.{now}
 use borrow.Author.Needs.{needs}
 use lib.ListN.{length, getD}
 use Rattle.laws.proofs.Least.{least-le}
+use Rattle.layout.specs.Nodes.{nodesOf}
 use Rattle.netlist.specs.Limits.{maxInputs}
 use Rattle.netlist.specs.StoredBlock.{decode}
 use Rattle.netlist.specs.Compare.{disagrees}
 use Rattle.lanes.proofs.InputLaws.{lanesOf-most}
-use Rattle.judge.specs.Lanes.{hasLane}
+use Rattle.lanes.specs.Words.{hasLane}
 use Rattle.verdict.proofs.Counting.{few-settings}
 use Rattle.verdict.proofs.Batching.{Place, place-first, place-next, lanesOf-some}
 use Rattle.compare.proofs.Differences.{marked-lowest, search-accepted, search-passed, search-marked}
@@ -52,6 +53,7 @@ found c = c .before .before .before .before .before
 
 -- few inputs, and where the next batch starts
 few : (l : tie.At-loop Inv-loop μ-loop) → counts l .inputs-of .result ≤ maxInputs
+unfolding nodesOf
 few l = omega (arith, counts l .inputs-of .ensures, entry l .pre .ready .fewInputs)
 
 next : (d : tie.After-disagreeing-lanes Inv-loop μ-loop) → Place (counts (head d) .inputs-of .result) (head d .loop .base + head d .before .lane-count .result)
@@ -66,6 +68,7 @@ used-lanes-requires : tie.Need-used-lanes-requires Inv-loop μ-loop
 used-lanes-requires c κs = search needs
 
 setting-count-requires : tie.Need-setting-count-requires Inv-loop μ-loop
+unfolding nodesOf
 setting-count-requires c κs = omega (arith, c .before .inputs-of .ensures, start (c .before) .pre .ready .fewInputs)
 
 lane-count-requires : tie.Need-lane-count-requires Inv-loop μ-loop

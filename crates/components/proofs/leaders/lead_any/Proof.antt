@@ -29,8 +29,8 @@ lead-groups-requires c κs =
     let r = c .before .before .before .before .before .before .before .before in
     let forgot = r .before .before .before .before .before in
     let s = forgot .before .before .before .before .before .before in (
-      rw (r .condense .kept .1 .1 .1 .1 .0, forgot .forget .kept .1 .0) (s .pre .0),
-      record { search = still-room (s .pre .1 .search) refl (r .condense .kept .1 .1 .1 .1 .1 .0); gatesAre = s .pre .1 .gatesAre },
+      rw (r .condense .kept .1 .1 .0, forgot .forget .kept .1 .0) (s .pre .0),
+      record { search = still-room (s .pre .1 .search) refl (r .condense .kept .1 .1 .1 .0); gatesAre = s .pre .1 .gatesAre },
     )
 
 same-length-3 : tie.Need-same-length-3

@@ -12,8 +12,8 @@ lower-requires c κs =
     let led = c .before .before .before .before .before .before .before .before .before in
     let s = led .before .before .before .before .before .before .before .before .before in
     let r = led .lead-any in
-    lower-ready (s .pre .2 .gatesAre) (r .ensures) (s .args .leaders .now) (r .last .1 .1 .1 .1 .1 .1 .0) (s .pre .2 .search .whole .fewGates) (s .pre .0)
-    (rw (r .kept .1 .1 .1 .1 .1 .1 .0) (s .pre .2 .search .queueRoom))
+    lower-ready (s .pre .2 .gatesAre) (r .ensures) (s .args .leaders .now) (r .last .1 .1 .1 .1 .0) (s .pre .2 .search .whole .fewGates) (s .pre .0)
+    (rw (r .kept .1 .1 .1 .1 .0) (s .pre .2 .search .queueRoom))
 
 same-length : tie.Need-same-length
 same-length c = search needs

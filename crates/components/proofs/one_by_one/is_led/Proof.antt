@@ -14,7 +14,9 @@ gate-named-requires c κs = search needs
 
 returns : tie.Need-returns
 returns c =
-    let a = start (c .before) .args in no-gate (ledBy (a .leaders .now) (a .leader)) (a .n) (a .m) (a .w) (c .before .gate-named .ensures) (c .if1 .taken)
+    let named = c .before .before in
+    let a = start named .args in
+    no-gate (ledBy (a .leaders .now) (a .leader)) (a .nodes .inputs) (a .nodes .gates) (a .w) (named .gate-named .ensures) (c .if1 .taken)
 
 word-at-requires : tie.Need-word-at-requires
 word-at-requires c κs = search needs
@@ -22,9 +24,10 @@ word-at-requires c κs = search needs
 returns-2 : tie.Need-returns-2
 unfolding ledBy
 returns-2 c =
-    let named = c .before .before in
+    let named = c .before .before .before in
     let a = start named .args in
-    rw (c .word-at .ensures) (one-gate (ledBy (a .leaders .now) (a .leader)) (a .n) (a .m) (a .w) (named .gate-named .ensures) (c .before .if1 .left))
+    rw (c .word-at .ensures)
+    (one-gate (ledBy (a .leaders .now) (a .leader)) (a .nodes .inputs) (a .nodes .gates) (a .w) (named .gate-named .ensures) (c .before .if1 .left))
 
 pub is-led-spec : {M : Type 1} → statement M
 is-led-spec = tie.close (tie.spec gate-named-requires returns word-at-requires returns-2)

@@ -15,7 +15,7 @@ same-length c = search needs
 returns : tie.Need-returns
 returns c =
     let at-start = c .before .before .before .before .before in
-    let a = at-start .args in led-before (a .words .now) (a .n) (a .m) (a .gates) (a .leader) (a .k) (a .leaders .now)
+    let a = at-start .args in led-before (a .words .now) (a .nodes) (a .leader) (a .k) (a .leaders .now)
     (λ e. c .if1 .taken (c .before .word-at .ensures ∙ e))
 
 mul-reads-led : tie.Need-mul-reads-led
@@ -32,9 +32,9 @@ same-length-2 c = search needs
 
 returns-2 : tie.Need-returns-2
 returns-2 c =
-    let after-slice-known = c .before .before .before .before .before .before in
-    let at-start = after-slice-known .before .before in
-    let a = at-start .args in reads-none (a .words .now) (a .n) (a .m) (a .gates) (a .leader) (a .k) (a .leaders .now) (c .before .reads-led .result)
+    let after-word-at = c .before .before .before .before .before in
+    let at-start = after-word-at .before .before .before .before in
+    let a = at-start .args in reads-none (a .words .now) (a .nodes) (a .leader) (a .k) (a .leaders .now) (c .before .reads-led .result)
     (c .before .reads-led .ensures) (not-true _ (c .if2 .taken))
 
 cast-leaders : tie.Need-cast-leaders
@@ -51,10 +51,10 @@ same-length-3 c = search needs
 
 returns-3 : tie.Need-returns-3
 returns-3 c =
-    let after-word-at = c .before .before .before .before in
+    let after-word-at = c .before .before .before .before .before in
     let at-start = after-word-at .before .before .before .before in
-    let a = at-start .args in led-now (a .words .now) (a .n) (a .m) (a .gates) (a .leader) (a .k) (a .leaders .now) (c .before .reads-led .result)
-    (sym (after-word-at .word-at .ensures) ∙ c .before .before .before .if1 .left) (c .before .reads-led .ensures) (not-false _ (c .if2 .left))
+    let a = at-start .args in led-now (a .words .now) (a .nodes) (a .leader) (a .k) (a .leaders .now) (c .before .reads-led .result)
+    (sym (after-word-at .word-at .ensures) ∙ c .before .before .before .before .if1 .left) (c .before .reads-led .ensures) (not-false _ (c .if2 .left))
 
 pub lead-gate-spec : {M : Type 1} → statement M
 lead-gate-spec =

@@ -17,7 +17,7 @@ same-length c = search needs
 returns : tie.Need-returns
 returns c =
     let at-start = c .before .before .before .before .before .before .before in
-    let s = at-start in group-had (decode (s .args .words .now)) (s .args .m) (s .args .leader) (s .args .leaders .now)
+    let s = at-start in group-had (decode (s .args .words .now)) (s .args .nodes .gates) (s .args .leader) (s .args .leaders .now)
     (λ e. c .if1 .taken (c .before .word-at .ensures ∙ e))
 
 bar-requires : tie.Need-bar-requires
@@ -30,8 +30,8 @@ queue-reach-requires c κs =
     let after-word-at = at-else1 .before in
     let at-start = after-word-at .before .before .before .before .before .before in
     let s = at-start in (
-      start-ready (s .args .leaders .now) (after-bar .bar .last .1 .1 .0) (s .args .flags .now) (s .args .m) (s .args .leader) (after-bar .bar .ensures)
-          (s .pre .0 .below) (sym (after-word-at .word-at .ensures) ∙ at-else1 .if1 .left),
+      start-ready (s .args .leaders .now) (after-bar .bar .last .1 .1 .0) (s .args .flags .now) (s .args .nodes .gates) (s .args .leader)
+          (after-bar .bar .ensures) (s .pre .0 .below) (sym (after-word-at .word-at .ensures) ∙ at-else1 .if1 .left),
       still-room (s .pre .1 .search) (after-bar .bar .kept .1 .1 .0) refl,
     )
 
@@ -58,7 +58,7 @@ same-length-2 c =
     let after-slice-known4 = after-queue .before .before .before .before .before .before in
     let after-word-at = after-slice-known4 .before .before .before .before .before .before in
     let at-start = after-word-at .before .before .before .before .before .before in
-    let s = at-start in c .before .before .lead-queued .kept .1 .1 .1 .1 .1 .1 .1 .0 ∙ length-set (s .args .leaders .now) (s .args .leader)
+    let s = at-start in c .before .before .lead-queued .kept .1 .1 .1 .1 .1 .0 ∙ length-set (s .args .leaders .now) (s .args .leader)
     (s .args .leader)
 
 same-length-3 : tie.Need-same-length-3
@@ -75,10 +75,10 @@ returns-2 c =
     let at-else1 = after-bar .before .before .before in
     let after-word-at = at-else1 .before in
     let s = after-word-at .before .before .before .before .before .before in
-    group-found (s .args .words .now) (s .args .n) (s .args .m) (s .args .gates) (s .args .leader) (s .pre .1 .search .whole) (s .pre .1 .gatesAre)
+    group-found (s .args .words .now) (s .args .nodes) (s .args .leader) (s .pre .1 .search .whole) (s .pre .1 .gatesAre)
     (s .args .leaders .now) (s .pre .0) (sym (after-word-at .word-at .ensures) ∙ at-else1 .if1 .left)
-    (after-queue-reach .queue-reach .last .1 .1 .1 .1 .1 .1 .0) (after-queue-reach .queue-reach .result) (after-bar .bar .last .1 .1 .0)
-    (barred-at (s .args .leaders .now) (after-bar .bar .last .1 .1 .0) (s .args .flags .now) (s .args .m) (after-bar .bar .ensures))
+    (after-queue-reach .queue-reach .last .1 .1 .1 .1 .0) (after-queue-reach .queue-reach .result) (after-bar .bar .last .1 .1 .0)
+    (barred-at (s .args .leaders .now) (after-bar .bar .last .1 .1 .0) (s .args .flags .now) (s .args .nodes .gates) (after-bar .bar .ensures))
     (after-queue-reach .queue-reach .ensures) (c .before .before .lead-queued .ensures)
 
 pub lead-group-spec : {M : Type 1} → statement M

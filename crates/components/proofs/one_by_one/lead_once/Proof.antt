@@ -7,15 +7,15 @@ use Rattle.components.proofs.one_by_one.lead_once.Statement.{statement}
 use Rattle.components.proofs.one_by_one.lead_once.Tie as tie
 
 abbrev Inv-loop : tie.InvT-loop
-Inv-loop words n m gates leader queue count leaders₀ changed₀ left₀ leaders changed left =
-    Sweeping words n m gates leader queue count leaders₀ leaders changed left
+Inv-loop words nodes leader queue count leaders₀ changed₀ left₀ leaders changed left =
+    Sweeping words nodes leader queue count leaders₀ leaders changed left
 
 abbrev μ-loop : tie.MeasureT-loop
-μ-loop words n m gates leader queue count leaders₀ changed₀ left₀ leaders changed left = left
+μ-loop words nodes leader queue count leaders₀ changed₀ left₀ leaders changed left = left
 
 loop-holds : tie.Need-loop-holds Inv-loop μ-loop
 loop-holds c =
-    let a = c .before .before .before .args in sweep-start (a .words .now) (a .n) (a .m) (a .gates) (a .leader) (a .queue .now) (a .count) (a .leaders .now)
+    let a = c .before .before .before .args in sweep-start (a .words .now) (a .nodes) (a .leader) (a .queue .now) (a .count) (a .leaders .now)
 
 sub-left : tie.Need-sub-left Inv-loop μ-loop
 sub-left c = omega arith
@@ -31,7 +31,7 @@ lead-gate-requires c κs =
       rw (c .before .word-at .ensures) (s .pre .queued (l .left - 1) (omega (arith, c .before .before .loop-test .taken, here))),
       s .pre .below,
       rw
-          (joined-length (s .args .words .now) (s .args .n) (s .args .m) (s .args .gates) (s .args .leader) (s .args .queue .now) (s .args .count)
+          (joined-length (s .args .words .now) (s .args .nodes) (s .args .leader) (s .args .queue .now) (s .args .count)
           (l .inv .steps)) (s .pre .room),
       s .pre .whole,
     )
@@ -46,7 +46,7 @@ loop-again c =
     let at-loop = in-loop .before in
     let s = at-loop .before .before .before .before in
     let l = at-loop .loop in
-    sweep-join (s .args .words .now) (s .args .n) (s .args .m) (s .args .gates) (s .args .leader) (s .args .queue .now) (s .args .count) (s .pre) (l .inv)
+    sweep-join (s .args .words .now) (s .args .nodes) (s .args .leader) (s .args .queue .now) (s .args .count) (s .pre) (l .inv)
     (in-loop .loop-test .taken) (after-word-at .word-at .result) (after-word-at .word-at .ensures) (c .before .before .before .lead-gate .ensures)
     (c .if1 .taken)
 
@@ -60,19 +60,19 @@ loop-again-2 c =
     let at-loop = in-loop .before in
     let s = at-loop .before .before .before .before in
     let l = at-loop .loop in
-    sweep-stay (s .args .words .now) (s .args .n) (s .args .m) (s .args .gates) (s .args .leader) (s .args .queue .now) (s .args .count) (s .pre) (l .inv)
+    sweep-stay (s .args .words .now) (s .args .nodes) (s .args .leader) (s .args .queue .now) (s .args .count) (s .pre) (l .inv)
     (in-loop .loop-test .taken) (after-word-at .word-at .result) (after-word-at .word-at .ensures) (c .before .before .before .lead-gate .ensures)
     (c .if1 .left)
 
 same-length : tie.Need-same-length Inv-loop μ-loop
 same-length c =
     let at-start = c .before .before .before .before .before in
-    let a = at-start .args in joined-length (a .words .now) (a .n) (a .m) (a .gates) (a .leader) (a .queue .now) (a .count) (c .before .loop .inv .steps)
+    let a = at-start .args in joined-length (a .words .now) (a .nodes) (a .leader) (a .queue .now) (a .count) (c .before .loop .inv .steps)
 
 returns : tie.Need-returns Inv-loop μ-loop
 returns c =
     let at-start = c .before .before .before .before .before in
-    let a = at-start .args in sweep-end (a .words .now) (a .n) (a .m) (a .gates) (a .leader) (a .queue .now) (a .count) (c .before .loop .inv)
+    let a = at-start .args in sweep-end (a .words .now) (a .nodes) (a .leader) (a .queue .now) (a .count) (c .before .loop .inv)
     (c .loop-test .left)
 
 pub lead-once-spec : {M : Type 1} → statement M

@@ -12,16 +12,18 @@ use Rattle.components.proofs.one_by_one.reads_led.Statement.{statement}
 use Rattle.components.proofs.one_by_one.reads_led.Tie as tie
 
 abbrev Inv-loop : tie.InvT-loop
-Inv-loop words n m at leaders leader count i₀ i = (i ≤ count) × (any (ledBy leaders leader) (wordGates words n m at i) ≡ false)
+Inv-loop words nodes at leaders leader count i₀ i = (i ≤ count) × (any (ledBy leaders leader) (wordGates words (nodes .inputs) (nodes .gates) at i) ≡ false)
 
 abbrev μ-loop : tie.MeasureT-loop
-μ-loop words n m at leaders leader count i₀ i = count - i
+μ-loop words nodes at leaders leader count i₀ i = count - i
 
 word-at-requires : tie.Need-word-at-requires Inv-loop μ-loop
 word-at-requires c κs = search needs
 
 loop-holds : tie.Need-loop-holds Inv-loop μ-loop
-loop-holds c = let a = c .before .before .before .args in (omega arith, no-words (ledBy (a .leaders .now) (a .leader)) (a .n) (a .m) (a .words .now) (a .at))
+loop-holds c =
+    let a = c .before .before .before .args in
+    (omega arith, no-words (ledBy (a .leaders .now) (a .leader)) (a .nodes .inputs) (a .nodes .gates) (a .words .now) (a .at))
 
 add-word-at : tie.Need-add-word-at Inv-loop μ-loop
 add-word-at c = omega arith
@@ -42,8 +44,8 @@ returns c =
     let at-start = after-word-at .before .before .before in
     let a = at-start .args in
     rw (← after-word-at .word-at .ensures)
-    (sym (found-one (ledBy (a .leaders .now) (a .leader)) (a .n) (a .m) (a .words .now) (a .at) (at-loop .loop .i) (after-word-at .word-at .result / 8)
-    (c .before .before .before .loop-test .taken)
+    (sym (found-one (ledBy (a .leaders .now) (a .leader)) (a .nodes .inputs) (a .nodes .gates) (a .words .now) (a .at) (at-loop .loop .i)
+    (after-word-at .word-at .result / 8) (c .before .before .before .loop-test .taken)
     (rw (← c .before .before .word-at2 .ensures) (sym (c .before .is-led .ensures) ∙ c .if1 .taken))))
 
 add-i : tie.Need-add-i Inv-loop μ-loop
@@ -59,7 +61,7 @@ loop-again c =
     let a = at-start .args in
     let l = at-loop .loop in (
       omega arith,
-      none-yet (ledBy (a .leaders .now) (a .leader)) (a .n) (a .m) (a .words .now) (a .at) (l .i) (l .inv .1)
+      none-yet (ledBy (a .leaders .now) (a .leader)) (a .nodes .inputs) (a .nodes .gates) (a .words .now) (a .at) (l .i) (l .inv .1)
           (rw (← c .before .before .word-at2 .ensures) (sym (c .before .is-led .ensures) ∙ c .if1 .left)),
     )
 

@@ -1,7 +1,6 @@
 -- `condensation::candidate::explore` meets its contract: the clock goes on by one in each turn, and the stack is never higher than it. Assumes nothing.
 use Prim.Native.Nat.{_≤_, _<_, _-_}
 use mathlib.Core.Path.{_≡_, _∙_}
-use borrow.Author.Count.{falls}
 use borrow.Author.Tests.{ltb-true}
 use borrow.Author.Needs.{needs}
 use native.Mathlib.Omega.{arith}
@@ -11,12 +10,18 @@ use Rattle.condensation.proofs.candidate.explore.Statement.{statement}
 use Rattle.condensation.proofs.candidate.explore.Tie as tie
 
 abbrev Inv-loop : tie.InvT-loop
-Inv-loop words n m gates root time leaders₀ notes₀ stack₀ now₀ top₀ cursor₀ leaders notes stack now top cursor =
-    (now ≤ clockEnd) × (top ≤ now) × (cursor ≤ 65536) × (length leaders ≡ length leaders₀) × (length notes ≡ length notes₀) × (length stack ≡ length stack₀)
+Inv-loop words nodes root time leaders₀ notes₀ stack₀ now standing₀ leaders notes stack standing =
+    (standing .time ≤ clockEnd) × (standing .top ≤ standing .time) × (length leaders ≡ length leaders₀) × (length notes ≡ length notes₀)
+    × (length stack ≡ length stack₀)
 
 abbrev μ-loop : tie.MeasureT-loop
-μ-loop words n m gates root time leaders₀ notes₀ stack₀ now₀ top₀ cursor₀ leaders notes stack now top cursor =
-    clockEnd - now
+μ-loop words nodes root time leaders₀ notes₀ stack₀ now standing₀ leaders notes stack standing = clockEnd - standing .time
+
+-- the function's entry
+abbrev start : tie.At-loop Inv-loop μ-loop → tie.Start Inv-loop μ-loop
+start c =
+    let new = c .before .before .before .before .before .before .before .before in
+    new .before .before .before .before .before .before .before
 
 is-new-requires : tie.Need-is-new-requires Inv-loop μ-loop
 is-new-requires c κs = search needs
@@ -33,43 +38,43 @@ add-now c = search needs
 enter-requires : tie.Need-enter-requires Inv-loop μ-loop
 enter-requires c κs = search needs
 
-mul-cursor : tie.Need-mul-cursor Inv-loop μ-loop
-mul-cursor c = search needs
+mul-t19 : tie.Need-mul-t19 Inv-loop μ-loop
+mul-t19 c = search needs
 
 loop-holds : tie.Need-loop-holds Inv-loop μ-loop
 loop-holds c = search needs
 
-mul-loop : tie.Need-mul-loop Inv-loop μ-loop
-mul-loop c = search needs
-
-add-now-2 : tie.Need-add-now-2 Inv-loop μ-loop
-add-now-2 c = search needs
+mul-if2 : tie.Need-mul-if2 Inv-loop μ-loop
+mul-if2 c = search needs
 
 turn-requires : tie.Need-turn-requires Inv-loop μ-loop
 turn-requires c κs =
     let t = c .before .before .before in
-    let now = t .before .before .loop .now in
-    let early : now < clockEnd = ltb-true now clockEnd (t .if2 .taken) in
-    search needs
+    let at-loop = t .before .before .before .before .before in
+    let s = start at-loop in
+    let time = at-loop .loop .standing .time in
+    let early : time < clockEnd = ltb-true time clockEnd (t .if3 .taken) in
+    ((s .pre .2, s .pre .3, s .pre .4), (early, t .before .before .if2 .taken, omega (arith, at-loop .loop .inv .1)))
 
 loop-less : tie.Need-loop-less Inv-loop μ-loop
 loop-less c =
-    let t = c .before .before .before .before .before .before .before .before .before .before in
-    let now = t .before .before .loop .now in
-    falls clockEnd now (ltb-true now clockEnd (t .if2 .taken))
+    let r = c .before .before .before .before .before .before in
+    let t = r .before .before .before .before in
+    let time = t .before .before .before .before .before .loop .standing .time in
+    let early : time < clockEnd = ltb-true time clockEnd (t .if3 .taken) in
+    omega (arith, r .turn .ensures .0)
 
 loop-again : tie.Need-loop-again Inv-loop μ-loop
 loop-again c =
     let r = c .before .before .before .before .before .before in
     let t = r .before .before .before .before in
-    let l = t .before .before .loop in
-    let early : l .now < clockEnd = ltb-true (l .now) clockEnd (t .if2 .taken) in (
-      omega arith,
-      omega (arith, r .turn .ensures .1, l .inv .1),
-      r .turn .ensures .0,
-      r .turn .kept .1 .1 .1 .1 .1 .1 .1 .0 ∙ l .inv .3,
-      r .turn .kept .1 .1 .1 .1 .1 .1 .1 .1 .0 ∙ l .inv .4,
-      r .turn .kept .1 .1 .1 .1 .1 .1 .1 .1 .1 .0 ∙ l .inv .5,
+    let l = t .before .before .before .before .before .loop in
+    let early : l .standing .time < clockEnd = ltb-true (l .standing .time) clockEnd (t .if3 .taken) in (
+      omega (arith, r .turn .ensures .0),
+      omega (arith, r .turn .ensures .0, r .turn .ensures .1, l .inv .1),
+      r .turn .kept .1 .1 .1 .0 ∙ l .inv .2,
+      r .turn .kept .1 .1 .1 .1 .0 ∙ l .inv .3,
+      r .turn .kept .1 .1 .1 .1 .1 .0 ∙ l .inv .4,
     )
 
 same-length-2 : tie.Need-same-length-2 Inv-loop μ-loop
@@ -107,10 +112,9 @@ explore-spec =
     returns
     add-now
     enter-requires
-    mul-cursor
+    mul-t19
     loop-holds
-    mul-loop
-    add-now-2
+    mul-if2
     turn-requires
     loop-less
     loop-again

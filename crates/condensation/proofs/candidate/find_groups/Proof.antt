@@ -8,11 +8,11 @@ use Rattle.condensation.proofs.candidate.find_groups.Statement.{stateme
 use Rattle.condensation.proofs.candidate.find_groups.Tie as tie
 
 abbrev Inv-loop : tie.InvT-loop
-Inv-loop words n m gates leaders₀ notes₀ stack₀ time₀ root₀ leaders notes stack time root =
-    (root ≤ m) × (length leaders ≡ length leaders₀) × (length notes ≡ length notes₀) × (length stack ≡ length stack₀)
+Inv-loop words nodes leaders₀ notes₀ stack₀ time₀ root₀ leaders notes stack time root =
+    (root ≤ nodes .gates) × (length leaders ≡ length leaders₀) × (length notes ≡ length notes₀) × (length stack ≡ length stack₀)
 
 abbrev μ-loop : tie.MeasureT-loop
-μ-loop words n m gates leaders₀ notes₀ stack₀ time₀ root₀ leaders notes stack time root = m - root
+μ-loop words nodes leaders₀ notes₀ stack₀ time₀ root₀ leaders notes stack time root = nodes .gates - root
 
 loop-holds : tie.Need-loop-holds Inv-loop μ-loop
 loop-holds c = search needs
@@ -29,11 +29,11 @@ loop-less c = search needs
 loop-again : tie.Need-loop-again Inv-loop μ-loop
 loop-again c =
     let r = c .before .before .before .before .before .before in
-    let l = r .before .before .before .before .before .before .loop in (
+    let l = r .before .before .before .before .before .before .before .loop in (
       omega arith,
-      r .explore .kept .1 .1 .1 .1 .1 .1 .0 ∙ l .inv .1,
-      r .explore .kept .1 .1 .1 .1 .1 .1 .1 .0 ∙ l .inv .2,
-      r .explore .kept .1 .1 .1 .1 .1 .1 .1 .1 .0 ∙ l .inv .3,
+      r .explore .kept .1 .1 .1 .1 .0 ∙ l .inv .1,
+      r .explore .kept .1 .1 .1 .1 .1 .0 ∙ l .inv .2,
+      r .explore .kept .1 .1 .1 .1 .1 .1 .0 ∙ l .inv .3,
     )
 
 same-length : tie.Need-same-length Inv-loop μ-loop

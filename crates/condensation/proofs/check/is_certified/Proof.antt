@@ -14,16 +14,16 @@ use Rattle.condensation.proofs.check.is_certified.Statement.{statement}
 use Rattle.condensation.proofs.check.is_certified.Tie as tie
 
 abbrev Inv-loop : tie.InvT-loop
-Inv-loop words n m gates leaders notes k₀ k = (k ≤ m) × ((j : ℕ) → j < k → Certified (decode words) m leaders notes j)
+Inv-loop words nodes leaders notes k₀ k = (k ≤ nodes .gates) × ((j : ℕ) → j < k → Certified (decode words) (nodes .gates) leaders notes j)
 
 abbrev μ-loop : tie.MeasureT-loop
-μ-loop words n m gates leaders notes k₀ k = m - k
+μ-loop words nodes leaders notes k₀ k = nodes .gates - k
 
 loop-holds : tie.Need-loop-holds Inv-loop μ-loop
 loop-holds c = (omega arith, λ j l. absurd (not-suc-le-zero l))
 
 passes-requires : tie.Need-passes-requires Inv-loop μ-loop
-passes-requires c κs = (c .loop-test .taken, c .before .before .before .before .before .pre .0)
+passes-requires c κs = (c .if1 .taken, c .before .before .before .before .before .before .pre .0)
 
 returns : tie.Need-returns Inv-loop μ-loop
 returns c = λ e. absurd (false≢true e)
@@ -36,17 +36,17 @@ loop-less c = omega arith
 
 loop-again : tie.Need-loop-again Inv-loop μ-loop
 loop-again c =
-    let l = c .before .before .before .loop in (
+    let l = c .before .before .before .before .loop in (
       omega arith,
-      λ j jl. ⊎-elim (λ e. rw e (c .before .passes .ensures (not-false (c .before .passes .result) (c .if1 .left))))
+      λ j jl. ⊎-elim (λ e. rw e (c .before .passes .ensures (not-false (c .before .passes .result) (c .if2 .left))))
           (λ ne. l .inv .1 j (omega arith)) (eq-or-ne j (l .k)),
     )
 
 returns-2 : tie.Need-returns-2 Inv-loop μ-loop
 returns-2 c =
-    λ e. let s = c .before .before .before .before .before in
-    let l = c .before .loop in
-    condensed (decode (s .args .words .now)) (s .args .m) (s .args .leaders .now) (s .args .notes .now) (λ k kl. l .inv .1 k (omega arith))
+    λ e. let l = c .before .before .loop in
+    let s = c .before .before .before .before .before .before in
+    condensed (decode (s .args .words .now)) (s .args .nodes .gates) (s .args .leaders .now) (s .args .notes .now) (λ k kl. l .inv .1 k (omega arith))
     (s .pre .0 .inside) (s .pre .1)
 
 pub is-certified-spec : {M : Type 1} → statement M

@@ -17,18 +17,20 @@ gate-named-requires c κs = search needs
 
 returns : tie.Need-returns
 returns c =
-    let a = start (c .before) .args in
-    no-gate (outOfOrder (a .leaders .now) (a .notes .now) (a .leader)) (a .n) (a .m) (a .w) (c .before .gate-named .ensures) (c .if1 .taken)
+    let named = c .before .before in
+    let a = start named .args in
+    no-gate (outOfOrder (a .leaders .now) (a .notes .now) (a .leader)) (a .nodes .inputs) (a .nodes .gates) (a .w) (named .gate-named .ensures) (c .if1 .taken)
 
 word-at-requires : tie.Need-word-at-requires
 word-at-requires c κs = search needs
 
 returns-2 : tie.Need-returns-2
 returns-2 c =
-    let named = c .before .before .before in
+    let named = c .before .before .before .before in
     let a = start named .args in
     order-same (a .leaders .now) (a .notes .now) (a .leader) (named .gate-named .result) (sym (c .before .word-at .ensures) ∙ c .if2 .taken)
-    ∙ one-gate (outOfOrder (a .leaders .now) (a .notes .now) (a .leader)) (a .n) (a .m) (a .w) (named .gate-named .ensures) (c .before .before .if1 .left)
+    ∙ one-gate (outOfOrder (a .leaders .now) (a .notes .now) (a .leader)) (a .nodes .inputs) (a .nodes .gates) (a .w)
+    (named .gate-named .ensures) (c .before .before .if1 .left)
 
 mul-word-at : tie.Need-mul-word-at
 mul-word-at c = search needs
@@ -41,12 +43,12 @@ word-at-requires-2 c κs = search needs
 
 mul-word-at-2 : tie.Need-mul-word-at-2
 mul-word-at-2 c =
-    let named = c .before .before .before .before in
+    let named = c .before .before .before .before .before in
     omega (arith, c .before .before .word-at .ensures, named .before .before .shared-slice-known .given (named .gate-named .result))
 
 add-word-at-2 : tie.Need-add-word-at-2
 add-word-at-2 c =
-    let named = c .before .before .before .before in
+    let named = c .before .before .before .before .before in
     omega (arith, c .before .before .word-at .ensures, named .before .before .shared-slice-known .given (named .gate-named .result))
 
 word-at-requires-3 : tie.Need-word-at-requires-3
@@ -55,12 +57,13 @@ word-at-requires-3 c κs = search needs
 returns-3 : tie.Need-returns-3
 returns-3 c =
     let other = c .before .before .before in
-    let named = other .before .before in
+    let named = other .before .before .before in
     let a = start named .args in
     rw (c .before .word-at2 .ensures, c .word-at3 .ensures)
     (order-other (a .leaders .now) (a .notes .now) (a .leader) (named .gate-named .result) (other .word-at .result) (other .word-at .ensures)
     (c .before .before .if2 .left)
-    ∙ one-gate (outOfOrder (a .leaders .now) (a .notes .now) (a .leader)) (a .n) (a .m) (a .w) (named .gate-named .ensures) (other .before .if1 .left))
+    ∙ one-gate (outOfOrder (a .leaders .now) (a .notes .now) (a .leader)) (a .nodes .inputs) (a .nodes .gates) (a .w)
+    (named .gate-named .ensures) (other .before .if1 .left))
 
 pub is-out-of-order-spec : {M : Type 1} → statement M
 is-out-of-order-spec =

@@ -29,10 +29,10 @@ is-linked-requires c κs = search needs
 returns-3 : tie.Need-returns-3
 returns-3 c =
     λ e. let sorted = c .before in
-    let led = sorted .before .before .before in
+    let led = sorted .before .before .before .before .before in
     let s = led .before .before .before .before in
     record {
-      below = rw (← led .word-at .ensures) (sorted .before .before .if1 .left);
+      below = rw (← led .word-at .ensures) (sorted .before .before .before .if1 .left);
       linked = c .is-linked .ensures e;
       ordered = rw (← led .word-at .ensures) (in-order (s .pre .1) (s .args .k) (s .pre .0)
           (s .args .leaders .now) (s .args .notes .now) (led .word-at .result)

@@ -12,10 +12,11 @@ use Rattle.condensation.proofs.check.reads_out_of_order.Statement.{stat
 use Rattle.condensation.proofs.check.reads_out_of_order.Tie as tie
 
 abbrev Inv-loop : tie.InvT-loop
-Inv-loop words n m at leaders notes leader count i₀ i = (i ≤ count) × (any (outOfOrder leaders notes leader) (wordGates words n m at i) ≡ false)
+Inv-loop words nodes at leaders notes leader count i₀ i =
+    (i ≤ count) × (any (outOfOrder leaders notes leader) (wordGates words (nodes .inputs) (nodes .gates) at i) ≡ false)
 
 abbrev μ-loop : tie.MeasureT-loop
-μ-loop words n m at leaders notes leader count i₀ i = count - i
+μ-loop words nodes at leaders notes leader count i₀ i = count - i
 
 word-at-requires : tie.Need-word-at-requires Inv-loop μ-loop
 word-at-requires c κs = search needs
@@ -23,7 +24,7 @@ word-at-requires c κs = search needs
 loop-holds : tie.Need-loop-holds Inv-loop μ-loop
 loop-holds c =
     let a = c .before .before .before .before .args in
-    (omega arith, no-words (outOfOrder (a .leaders .now) (a .notes .now) (a .leader)) (a .n) (a .m) (a .words .now) (a .at))
+    (omega arith, no-words (outOfOrder (a .leaders .now) (a .notes .now) (a .leader)) (a .nodes .inputs) (a .nodes .gates) (a .words .now) (a .at))
 
 add-word-at : tie.Need-add-word-at Inv-loop μ-loop
 add-word-at c = omega arith
@@ -44,7 +45,7 @@ returns c =
     let at-start = after-word-at .before .before .before .before in
     let a = at-start .args in
     rw (← after-word-at .word-at .ensures)
-    (sym (found-one (outOfOrder (a .leaders .now) (a .notes .now) (a .leader)) (a .n) (a .m) (a .words .now) (a .at) (at-loop .loop .i)
+    (sym (found-one (outOfOrder (a .leaders .now) (a .notes .now) (a .leader)) (a .nodes .inputs) (a .nodes .gates) (a .words .now) (a .at) (at-loop .loop .i)
     (after-word-at .word-at .result / 8)
     (c .before .before .before .loop-test .taken)
     (rw (← c .before .before .word-at2 .ensures) (sym (c .before .is-out-of-order .ensures) ∙ c .if1 .taken))))
@@ -62,7 +63,7 @@ loop-again c =
     let a = at-start .args in
     let l = at-loop .loop in (
       omega arith,
-      none-yet (outOfOrder (a .leaders .now) (a .notes .now) (a .leader)) (a .n) (a .m) (a .words .now) (a .at) (l .i) (l .inv .1)
+      none-yet (outOfOrder (a .leaders .now) (a .notes .now) (a .leader)) (a .nodes .inputs) (a .nodes .gates) (a .words .now) (a .at) (l .i) (l .inv .1)
           (rw (← c .before .before .word-at2 .ensures) (sym (c .before .is-out-of-order .ensures) ∙ c .if1 .left)),
     )
 

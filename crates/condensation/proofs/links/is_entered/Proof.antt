@@ -56,7 +56,7 @@ operand-gate-requires c κs = search needs
 returns-4 : tie.Need-returns-4
 returns-4 c =
     λ e. let same = c .before .before .before .before in
-    let called = same .before .before .before .before in
+    let called = same .before .before .before .before .before in
     let s = called .before .before .before .before in
     let is : c .operand-gate .result ≡ s .args .k = eqb-true (c .operand-gate .result) (s .args .k) e in
     record {

@@ -41,11 +41,11 @@ returns-3 c =
     λ e. let same = c .before .before in
     let met = same .before .before .before in
     record {
-      to = met .before .operand-gate .result;
+      to = met .before .before .operand-gate .result;
       below = met .if1 .left;
       same = omega (arith, same .before .before .word-at2 .ensures, same .before .word-at3 .ensures, same .if2 .left);
       nearer = rw (← c .before .distance .ensures, ← c .distance2 .ensures) (ltb-true (c .before .distance .result) (c .distance2 .result) e);
-      reading = met .before .operand-gate .ensures (met .if1 .left);
+      reading = met .before .before .operand-gate .ensures (met .if1 .left);
     }
 
 pub is-leaving-spec : {M : Type 1} → statement M

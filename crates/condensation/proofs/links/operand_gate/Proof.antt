@@ -31,9 +31,9 @@ gate-named-requires c κs = search needs
 
 returns-2 : tie.Need-returns-2
 returns-2 c =
-    let s = c .before .before .before .before in
-    named-read (s .before .pre .1) (s .before .args .k) (s .before .pre .0) (s .before .args .slot)
-    (c .before .word-at2 .result) (c .gate-named .result) (rw (← c .before .before .before .word-at .ensures) (c .before .before .if1 .left))
+    let s = c .before .before .before .before .before .before in
+    named-read (s .pre .1) (s .args .k) (s .pre .0) (s .args .slot) (c .before .word-at2 .result) (c .gate-named .result)
+    (rw (← c .before .before .before .word-at .ensures) (c .before .before .if1 .left))
     (c .before .word-at2 .ensures) (c .gate-named .ensures)
 
 pub operand-gate-spec : {M : Type 1} → statement M

@@ -11,11 +11,11 @@ use Rattle.copying.proofs.entry.copy_entry.Statement.{statement}
 use Rattle.copying.proofs.entry.copy_entry.Tie as tie
 
 abbrev Inv-loop : tie.InvT-loop
-Inv-loop words from n m first last newest out₀ to i₀ out i =
-    (i ≤ 5) × (out ≡ sets out₀ to (tab (entryWord words from n m first last newest) i)) × (length out ≡ length out₀)
+Inv-loop words nodes entry newest out₀ to i₀ out i =
+    (i ≤ 5) × (out ≡ sets out₀ to (tab (entryWord words nodes entry newest) i)) × (length out ≡ length out₀)
 
 abbrev μ-loop : tie.MeasureT-loop
-μ-loop words from n m first last newest out₀ to i₀ out i = 5 - i
+μ-loop words nodes entry newest out₀ to i₀ out i = 5 - i
 
 loop-holds : tie.Need-loop-holds Inv-loop μ-loop
 loop-holds c = (omega arith, refl, refl)
@@ -43,7 +43,7 @@ loop-again c =
     let a = c .before .before .before .before .before .before .args in
     let l = c .before .before .loop in (
       omega arith,
-      sets-next (entryWord (a .words .now) (a .from) (a .n) (a .m) (a .first) (a .last) (a .newest .now)) (a .out .now) (l .out) (a .to)
+      sets-next (entryWord (a .words .now) (a .nodes) (a .entry) (a .newest .now)) (a .out .now) (l .out) (a .to)
           (l .i) (c .entry-word .result) (l .inv .1) (c .entry-word .ensures),
       length-set (l .out) (a .to + l .i) (c .entry-word .result) ∙ l .inv .2,
     )

@@ -21,19 +21,19 @@ mapped-requires c κs = search needs
 
 returns : tie.Need-returns
 returns c =
-    let a = c .before .before .before .before .before .before .args in
+    let a = c .before .before .before .before .before .before .before .before .before .args in
     c .mapped .ensures
-    ∙ sym (entry-mapped (a .words .now) (a .from) (a .n) (a .m) (a .first) (a .last) (a .newest .now) (a .i) (omega arith) (omega arith))
+    ∙ sym (entry-mapped (a .words .now) (a .nodes) (a .entry) (a .newest .now) (a .i) (omega arith) (omega arith))
 
 returns-2 : tie.Need-returns-2
 returns-2 c =
-    let a = c .before .before .before .before .before .args in
-    sym (entry-kept (a .words .now) (a .from) (a .n) (a .m) (a .first) (a .last) (a .newest .now) (a .i) (inr (c .if2 .left)))
+    let a = c .before .before .before .before .before .before .before .before .args in
+    sym (entry-kept (a .words .now) (a .nodes) (a .entry) (a .newest .now) (a .i) (inr (c .if2 .left)))
 
 returns-3 : tie.Need-returns-3
 returns-3 c =
-    let a = c .before .before .before .before .args in
-    sym (entry-kept (a .words .now) (a .from) (a .n) (a .m) (a .first) (a .last) (a .newest .now) (a .i) (inl (c .if1 .left)))
+    let a = c .before .before .before .before .before .before .args in
+    sym (entry-kept (a .words .now) (a .nodes) (a .entry) (a .newest .now) (a .i) (inl (c .if1 .left)))
 
 pub entry-word-spec : {M : Type 1} → statement M
 entry-word-spec =

@@ -1,7 +1,6 @@
 -- `copying::entry::mapped` meets its contract, by the gate that the word names. Assumes nothing.
 use mathlib.Core.Path.{sym}
 use borrow.Author.Needs.{needs}
-use native.Mathlib.Omega.{arith}
 use Rattle.copying.proofs.Words.{mapped-named, mapped-none}
 use Rattle.copying.proofs.entry.mapped.Statement.{statement}
 use Rattle.copying.proofs.entry.mapped.Tie as tie
@@ -21,15 +20,15 @@ shared-slice-read-result c = search needs
 
 returns : tie.Need-returns
 returns c =
-    let named = c .before .before in
+    let named = c .before .before .before in
     let a = start named .args in
-    sym (mapped-named (a .n) (a .m) (a .newest .now) (a .w) (named .gate-named .ensures) (c .before .if1 .taken))
+    sym (mapped-named (a .nodes) (a .newest .now) (a .w) (named .gate-named .ensures) (c .before .if1 .taken))
 
 returns-2 : tie.Need-returns-2
 returns-2 c =
-    let named = c .before in
+    let named = c .before .before in
     let a = start named .args in
-    sym (mapped-none (a .n) (a .m) (a .newest .now) (a .w) (named .gate-named .ensures) (c .if1 .left))
+    sym (mapped-none (a .nodes) (a .newest .now) (a .w) (named .gate-named .ensures) (c .if1 .left))
 
 pub mapped-spec : {M : Type 1} → statement M
 mapped-spec = tie.close (tie.spec gate-named-requires mul-result shared-slice-read-result returns returns-2)

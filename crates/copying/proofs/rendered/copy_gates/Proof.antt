@@ -12,12 +12,12 @@ use Rattle.copying.proofs.rendered.copy_gates.Statement.{statement}
 use Rattle.copying.proofs.rendered.copy_gates.Tie as tie
 
 abbrev Inv-loop : tie.InvT-loop
-Inv-loop words gates n m order total newest₀ out₀ t₀ newest out t =
-    (t ≤ total) × (out ≡ sets out₀ gates (joined (tab (copyAt words gates n m order newest₀) t))) × (newest ≡ tableAfter n order newest₀ t)
+Inv-loop words nodes order total newest₀ out₀ t₀ newest out t =
+    (t ≤ total) × (out ≡ sets out₀ (nodes .start) (joined (tab (copyAt words nodes order newest₀) t))) × (newest ≡ tableAfter (nodes .inputs) order newest₀ t)
     × (length out ≡ length out₀) × (length newest ≡ length newest₀)
 
 abbrev μ-loop : tie.MeasureT-loop
-μ-loop words gates n m order total newest₀ out₀ t₀ newest out t = total - t
+μ-loop words nodes order total newest₀ out₀ t₀ newest out t = total - t
 
 loop-holds : tie.Need-loop-holds Inv-loop μ-loop
 unfolding tableAfter
@@ -53,11 +53,11 @@ loop-again c =
     let l = at-loop .loop in
     let g = after-copy-gate .copy-gate in (
       omega arith,
-      copies-next (a .words .now) (a .gates) (a .n) (a .m) (a .order .now) (a .newest .now) (a .out .now) (l .newest) (l .out) _ (l .t)
+      copies-next (a .words .now) (a .nodes) (a .order .now) (a .newest .now) (a .out .now) (l .newest) (l .out) _ (l .t)
           (l .inv .1) (l .inv .2) (g .ensures .0),
-      table-next (a .n) (a .order .now) (a .newest .now) (l .t) (l .newest) _ (l .inv .2) (g .ensures .1),
-      g .kept .1 .1 .1 .1 .1 .1 .1 .0 ∙ l .inv .3,
-      g .kept .1 .1 .1 .1 .1 .1 .0 ∙ l .inv .4,
+      table-next (a .nodes .inputs) (a .order .now) (a .newest .now) (l .t) (l .newest) _ (l .inv .2) (g .ensures .1),
+      g .kept .1 .1 .1 .1 .1 .0 ∙ l .inv .3,
+      g .kept .1 .1 .1 .1 .0 ∙ l .inv .4,
     )
 
 same-length : tie.Need-same-length Inv-loop μ-loop

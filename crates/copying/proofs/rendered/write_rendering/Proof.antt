@@ -6,21 +6,15 @@ use borrow.Author.Needs.{needs}
 use Rattle.copying.proofs.rendered.write_rendering.Statement.{statement}
 use Rattle.copying.proofs.rendered.write_rendering.Tie as tie
 
--- what the sizes are, at the function's entry
-known : (s : tie.Start) → Sizes (s .args .words .now) (s .args .n) (s .args .m) (s .args .k) (s .args .total) (s .args .out .now)
-known s =
-    sizes (s .args .words .now) (s .args .n) (s .args .m) (s .args .k) (s .args .order .now) (s .args .total) (s .args .newest .now)
-    (s .args .out .now) (s .pre)
-
 -- the function's entry, and the calls one before the other
-abbrev placing : tie.After-write-header → tie.After-gates-at
-placing c = c .before .before .before
+abbrev start : tie.After-nodes-of → tie.Start
+start c = c .before .before .before .before .before
 
-abbrev start : tie.After-write-header → tie.Start
-start c = placing c .before .before .before .before .before
+abbrev placing : tie.After-write-header → tie.After-nodes-of
+placing c = c .before .before .before .before
 
 abbrev heading : tie.After-copy-words → tie.After-write-header
-heading c = c .before .before .before .before
+heading c = c .before .before .before .before .before
 
 abbrev naming : tie.After-fill-words → tie.After-copy-words
 naming c = c .before .before .before .before
@@ -28,8 +22,17 @@ naming c = c .before .before .before .before
 abbrev clearing : tie.After-copy-gates → tie.After-fill-words
 clearing c = c .before .before .before .before .before
 
-gates-at-requires : tie.Need-gates-at-requires
-gates-at-requires c κs = search needs
+-- what the sizes are
+known : (p : tie.After-nodes-of) → Sizes (start p .args .words .now) (p .nodes-of .result) (start p .args .total) (start p .args .out .now)
+known p =
+    let s = start p in
+    sizes (s .args .words .now) (s .args .order .now) (s .args .total) (s .args .newest .now) (s .args .out .now) (s .pre) (p .nodes-of .ensures)
+
+nodes-of-requires : tie.Need-nodes-of-requires
+nodes-of-requires c κs = search needs
+
+outputs-of-requires : tie.Need-outputs-of-requires
+outputs-of-requires c κs = search needs
 
 nevers-of-requires : tie.Need-nevers-of-requires
 nevers-of-requires c κs = search needs
@@ -37,75 +40,69 @@ nevers-of-requires c κs = search needs
 write-header-requires : tie.Need-write-header-requires
 write-header-requires c κs =
     let lines = c .before in
-    let s = lines .before .before .before .before .before .before in
-    omega (arith, known s, s .pre .fewCopies, lines .nevers-of .ensures)
+    let p = lines .before .before in
+    omega (arith, known p, start p .pre .fewCopies, lines .before .outputs-of .ensures, lines .nevers-of .ensures)
 
 sub-copy-words : tie.Need-sub-copy-words
-sub-copy-words c = let h = c .before .before in omega (arith, known (start h), placing h .gates-at .ensures)
+sub-copy-words c = omega (arith, known (placing (c .before .before .before)))
 
 copy-words-requires : tie.Need-copy-words-requires
 copy-words-requires c κs =
-    let h = c .before .before .before in
-    omega (arith, known (start h), placing h .gates-at .ensures, h .write-header .kept .1 .1 .1 .1 .0)
+    let h = c .before .before .before .before in
+    omega (arith, known (placing h), h .write-header .kept .1 .1 .1 .1 .0)
 
 cast-fill-words : tie.Need-cast-fill-words
 cast-fill-words c = search needs
 
 fill-words-requires : tie.Need-fill-words-requires
-fill-words-requires c κs = search needs
+fill-words-requires c κs =
+    let p = placing (heading (c .before .before .before)) in
+    omega (arith, known p, start p .pre .table)
 
 copy-gates-requires : tie.Need-copy-gates-requires
 copy-gates-requires c κs =
     let z = c .before .before .before .before in
     let w = naming z in
-    let s = start (heading w) in (
-      ordered (s .args .words .now) (s .args .n) (s .args .m) (s .args .k) (s .args .order .now) (s .args .total) (s .args .newest .now)
-          (s .args .out .now) (s .pre),
+    let p = placing (heading w) in
+    let s = start p in (
+      ordered (s .args .words .now) (s .args .order .now) (s .args .total) (s .args .newest .now) (s .args .out .now) (s .pre) (p .nodes-of .ensures),
       omega (
         arith,
-        known s,
+        known p,
         s .pre .fewCopies,
         s .pre .table,
         z .fill-words .kept .0,
         w .copy-words .kept .1 .1 .1 .0,
         heading w .write-header .kept .1 .1 .1 .1 .0,
-        placing (heading w) .gates-at .ensures,
       ),
     )
 
 mul-copy-outputs : tie.Need-mul-copy-outputs
-mul-copy-outputs c = let g = c .before .before .before .before in omega (arith, known (start (heading (naming (clearing g)))))
+mul-copy-outputs c =
+    let g = c .before .before .before .before .before .before in
+    omega (arith, start (placing (heading (naming (clearing g)))) .pre .fewCopies)
 
 add-copy-outputs : tie.Need-add-copy-outputs
 add-copy-outputs c =
-    let g = c .before .before .before .before in
-    let h = heading (naming (clearing g)) in
-    omega (arith, known (start h), placing h .gates-at .ensures)
-
-mul-copy-outputs-2 : tie.Need-mul-copy-outputs-2
-mul-copy-outputs-2 c = search needs
-
-add-copy-outputs-2 : tie.Need-add-copy-outputs-2
-add-copy-outputs-2 c =
-    let g = c .before .before .before .before .before .before in
-    let h = heading (naming (clearing g)) in
-    omega (arith, known (start h), start h .pre .fewCopies, placing h .gates-at .ensures)
+    let g = c .before .before .before .before .before .before .before in
+    let p = placing (heading (naming (clearing g))) in
+    omega (arith, known p, start p .pre .fewCopies)
 
 copy-outputs-requires : tie.Need-copy-outputs-requires
 copy-outputs-requires c κs =
-    let g = c .before .before .before .before .before .before in
+    let g = c .before .before .before .before .before .before .before in
     let w = naming (clearing g) in
-    let s = start (heading w) in
+    let p = placing (heading w) in
     omega (
       arith,
-      known s,
-      s .pre .table,
-      g .copy-gates .kept .1 .1 .1 .1 .1 .1 .0,
-      g .copy-gates .kept .1 .1 .1 .1 .1 .1 .1 .0,
+      known p,
+      start p .pre .table,
+      heading w .before .before .before .outputs-of .ensures,
+      g .copy-gates .kept .1 .1 .1 .1 .0,
+      g .copy-gates .kept .1 .1 .1 .1 .1 .0,
       clearing g .fill-words .kept .0,
       w .copy-words .kept .1 .1 .1 .0,
       heading w .write-header .kept .1 .1 .1 .1 .0,
-      placing (heading w) .gates-at .ensures,
     )
 
 same-length : tie.Need-same-length
@@ -117,19 +114,21 @@ same-length-2 c = search needs
 returns : tie.Need-returns
 returns c =
     let out = c .before .before in
-    let g = out .before .before .before .before .before .before .before in
+    let g = out .before .before .before .before .before .before .before .before in
     let w = naming (clearing g) in
-    let s = start (heading w) in
-    rendering-written (s .args .words .now) (s .args .n) (s .args .m) (s .args .k) (s .args .order .now) (s .args .total) (s .args .newest .now)
-    (s .args .out .now) (s .pre) _ _ _ _ _ _ _ _ (placing (heading w) .gates-at .ensures) (heading w .before .before .nevers-of .ensures)
-    (heading w .write-header .ensures) (w .copy-words .ensures) (clearing g .fill-words .ensures)
-    (g .copy-gates .ensures .0) (g .copy-gates .ensures .1) (out .copy-outputs .ensures)
+    let lines = heading w .before .before in
+    let p = placing (heading w) in
+    let s = start p in
+    rendering-written (s .args .words .now) (s .args .order .now) (s .args .total) (s .args .newest .now) (s .args .out .now) (s .pre) _ _ _ _ _ _ _ _ _
+    (p .nodes-of .ensures) (lines .before .outputs-of .ensures) (lines .nevers-of .ensures) (heading w .write-header .ensures) (w .copy-words .ensures)
+    (clearing g .fill-words .ensures) (g .copy-gates .ensures .0) (g .copy-gates .ensures .1) (out .copy-outputs .ensures)
 
 pub write-rendering-spec : {M : Type 1} → statement M
 write-rendering-spec =
     tie.close
     (tie.spec
-    gates-at-requires
+    nodes-of-requires
+    outputs-of-requires
     nevers-of-requires
     write-header-requires
     sub-copy-words
@@ -139,8 +138,6 @@ write-rendering-spec =
     copy-gates-requires
     mul-copy-outputs
     add-copy-outputs
-    mul-copy-outputs-2
-    add-copy-outputs-2
     copy-outputs-requires
     same-length
     same-length-2

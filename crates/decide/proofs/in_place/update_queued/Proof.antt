@@ -6,18 +6,19 @@ use native.Mathlib.Omega.{arith}
 use denote.Ref.{now}
 use borrow.Author.Needs.{needs}
 use lib.ListN.{length}
+use Rattle.simulate.proofs.Codes.{gates-are}
 use Rattle.decide.specs.InPlace.{Ready, Woken, Resting}
 use Rattle.decide.proofs.Waking.{woken-none, woken-then, woken-ready, few-queued, resting-next, resting-end}
 use Rattle.decide.proofs.in_place.update_queued.Statement.{statement}
 use Rattle.decide.proofs.in_place.update_queued.Tie as tie
 
 abbrev Inv-loop : tie.InvT-loop
-Inv-loop table words n m first next setting values₀ queue₀ tail end₀ q₀ values queue end q =
+Inv-loop table words nodes first next setting values₀ queue₀ tail end₀ q₀ values queue end q =
     (q ≤ end) × Woken words setting values₀ queue₀ tail values queue end × Resting words setting values queue q end
     × (length values ≡ length values₀) × (length queue ≡ length queue₀)
 
 abbrev μ-loop : tie.MeasureT-loop
-μ-loop table words n m first next setting values₀ queue₀ tail end₀ q₀ values queue end q = m - q
+μ-loop table words nodes first next setting values₀ queue₀ tail end₀ q₀ values queue end q = nodes .gates - q
 
 loop-holds : tie.Need-loop-holds Inv-loop μ-loop
 loop-holds c =
@@ -36,7 +37,7 @@ start l = l .before .before .before .before .before .before .before
 
 -- a further gate can be evaluated
 ready : (l : tie.At-loop Inv-loop μ-loop)
-    → Ready (now (start l .args .words)) (start l .args .n) (start l .args .m) (now (start l .args .setting)) (l .loop .values) (l .loop .queue) (l .loop .end)
+    → Ready (now (start l .args .words)) (start l .args .nodes) (now (start l .args .setting)) (l .loop .values) (l .loop .queue) (l .loop .end)
 ready l = woken-ready (l .loop .inv .1) (start l .pre .1 .0) (l .loop .inv .3) (l .loop .inv .4)
 
 update-readers-requires : tie.Need-update-readers-requires Inv-loop μ-loop
@@ -45,7 +46,7 @@ update-readers-requires c κs =
     let s = start l in
     let r = s .pre .1 .1 .0 in
     let w = c .before .before in
-    (s .pre .0, (ready l, (r .descends, omega (arith, r .starts (w .before .word-at .result), w .word-at2 .ensures, s .pre .1 .0 .gates))))
+    (s .pre .0, (ready l, (r .descends, omega (arith, r .starts (w .before .word-at .result), w .word-at2 .ensures, gates-are _ (s .pre .1 .0 .nodesAre)))))
 
 add-q : tie.Need-add-q Inv-loop μ-loop
 add-q c = omega arith
@@ -66,8 +67,8 @@ loop-again c =
       omega (arith, u .woken .ordered, some),
       woken-then (l .loop .inv .1) (u .woken),
       resting-next (s .pre .1 .1 .0) some (l .loop .inv .2) (rw (w .word-at2 .ensures, w .before .word-at .ensures) at u),
-      d .update-readers .kept .1 .1 .1 .1 .1 .1 .1 .0 ∙ l .loop .inv .3,
-      d .update-readers .kept .1 .1 .1 .1 .1 .1 .1 .1 .0 ∙ l .loop .inv .4,
+      d .update-readers .kept .1 .1 .1 .1 .1 .1 .0 ∙ l .loop .inv .3,
+      d .update-readers .kept .1 .1 .1 .1 .1 .1 .1 .0 ∙ l .loop .inv .4,
     )
 
 same-length : tie.Need-same-length Inv-loop μ-loop

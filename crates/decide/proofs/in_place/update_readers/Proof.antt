@@ -5,19 +5,20 @@ use Prim.Native.Nat.{_-_, _≤_}
 use native.Mathlib.Omega.{arith}
 use denote.Ref.{now}
 use borrow.Author.Needs.{needs}
-use lib.ListN.{length}
+use lib.ListN.{length, getD}
+use Rattle.simulate.proofs.Codes.{gates-are}
 use Rattle.decide.specs.InPlace.{Ready, Woken}
 use Rattle.decide.proofs.Waking.{Awaiting, woken-none, woken-then, woken-ready, awaiting-next, awaiting-end}
 use Rattle.decide.proofs.in_place.update_readers.Statement.{statement}
 use Rattle.decide.proofs.in_place.update_readers.Tie as tie
 
 abbrev Inv-loop : tie.InvT-loop
-Inv-loop table words n m next from setting values₀ queue₀ tail end₀ p₀ values queue end p =
+Inv-loop table words nodes next from setting values₀ queue₀ tail end₀ p₀ values queue end p =
     (p ≤ from) × Woken words setting values₀ queue₀ tail values queue end × Awaiting words setting values queue tail end next from p
     × (length values ≡ length values₀) × (length queue ≡ length queue₀)
 
 abbrev μ-loop : tie.MeasureT-loop
-μ-loop table words n m next from setting values₀ queue₀ tail end₀ p₀ values queue end p = p
+μ-loop table words nodes next from setting values₀ queue₀ tail end₀ p₀ values queue end p = p
 
 loop-holds : tie.Need-loop-holds Inv-loop μ-loop
 loop-holds c = let s = c .before .before .before .before .before in (omega arith, woken-none _ _ _ (s .pre .1 .0 .underway), λ e r. inr r, refl, refl)
@@ -31,8 +32,12 @@ start l = l .before .before .before .before .before .before
 
 -- a further gate can be evaluated
 ready : (l : tie.At-loop Inv-loop μ-loop)
-    → Ready (now (start l .args .words)) (start l .args .n) (start l .args .m) (now (start l .args .setting)) (l .loop .values) (l .loop .queue) (l .loop .end)
+    → Ready (now (start l .args .words)) (start l .args .nodes) (now (start l .args .setting)) (l .loop .values) (l .loop .queue) (l .loop .end)
 ready l = woken-ready (l .loop .inv .1) (start l .pre .1 .0) (l .loop .inv .3) (l .loop .inv .4)
+
+-- so many gates there are
+gates : (s : tie.Start Inv-loop μ-loop) → s .args .nodes .gates ≡ getD (now (s .args .words)) 1 0
+gates s = gates-are _ (s .pre .1 .0 .nodesAre)
 
 update-requires : tie.Need-update-requires Inv-loop μ-loop
 update-requires c κs = let l = c .before .before .before in (start l .pre .0, (ready l, omega (arith, start l .pre .1 .1 .1, l .loop .inv .0)))
@@ -53,10 +58,10 @@ loop-again c =
     let u = d .update .ensures in (
       omega (arith, c .word-at .ensures, s .pre .1 .1 .0 (l .loop .p - 1)),
       woken-then (l .loop .inv .1) (u .woken),
-      awaiting-next (s .pre .1 .1 .0) (omega (arith, s .pre .1 .1 .1, s .pre .1 .0 .gates)) (l .loop .inv .1 .ordered) (l .loop .inv .2) u
+      awaiting-next (s .pre .1 .1 .0) (omega (arith, s .pre .1 .1 .1, gates s)) (l .loop .inv .1 .ordered) (l .loop .inv .2) u
           (c .word-at .ensures),
-      d .update .kept .1 .1 .1 .1 .1 .1 .0 ∙ l .loop .inv .3,
-      d .update .kept .1 .1 .1 .1 .1 .1 .1 .0 ∙ l .loop .inv .4,
+      d .update .kept .1 .1 .1 .1 .1 .0 ∙ l .loop .inv .3,
+      d .update .kept .1 .1 .1 .1 .1 .1 .0 ∙ l .loop .inv .4,
     )
 
 same-length : tie.Need-same-length Inv-loop μ-loop

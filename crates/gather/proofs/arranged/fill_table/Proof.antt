@@ -11,15 +11,15 @@ use Rattle.gather.proofs.arranged.fill_table.Statement.{statement}
 use Rattle.gather.proofs.arranged.fill_table.Tie as tie
 
 abbrev Inv-loop : tie.InvT-loop
-Inv-loop n m numbers table₀ j₀ table j = (j ≤ m) × Filling table₀ table (tab (newWord n numbers) j) j
+Inv-loop nodes numbers table₀ j₀ table j = (j ≤ nodes .gates) × Filling table₀ table (tab (newWord (nodes .inputs) numbers) j) j
 
 abbrev μ-loop : tie.MeasureT-loop
-μ-loop n m numbers table₀ j₀ table j = m - j
+μ-loop nodes numbers table₀ j₀ table j = nodes .gates - j
 
 -- a new number is a gate's
-number-below : (c : tie.After-shared-slice-known Inv-loop μ-loop) → getD (c .before .before .before .args .numbers .now) (c .before .before .loop .j) 0
-    < c .before .before .before .args .m
-number-below c = c .before .before .before .pre .1 .inside (c .before .before .loop .j) (c .before .loop-test .taken)
+number-below : (c : tie.Then1 Inv-loop μ-loop) → getD (c .before .before .before .args .numbers .now) (c .before .before .loop .j) 0
+    < c .before .before .before .args .nodes .gates
+number-below c = c .before .before .before .pre .1 .inside (c .before .before .loop .j) (c .if1 .taken)
 
 loop-holds : tie.Need-loop-holds Inv-loop μ-loop
 loop-holds c = (omega arith, filling-none _)
@@ -31,13 +31,13 @@ shared-slice-read-table : tie.Need-shared-slice-read-table Inv-loop μ-loop
 shared-slice-read-table c = omega arith
 
 cast-table : tie.Need-cast-table Inv-loop μ-loop
-cast-table c = omega (arith, c .shared-slice-known .given (c .before .before .loop .j))
+cast-table c = omega (arith, c .shared-slice-known .given (c .before .before .before .loop .j))
 
 add-table : tie.Need-add-table Inv-loop μ-loop
-add-table c = omega (arith, number-below c)
+add-table c = omega (arith, number-below (c .before .before))
 
 cast-table-2 : tie.Need-cast-table-2 Inv-loop μ-loop
-cast-table-2 c = omega (arith, number-below c)
+cast-table-2 c = omega (arith, number-below (c .before .before))
 
 mul-table-2 : tie.Need-mul-table-2 Inv-loop μ-loop
 mul-table-2 c = omega arith
@@ -53,15 +53,16 @@ loop-less c = omega arith
 
 loop-again : tie.Need-loop-again Inv-loop μ-loop
 unfolding newWord
-loop-again c = (omega arith, filling-more (c .before .before .loop .inv .1) (omega arith) _ (rw add-one refl))
+loop-again c = (omega arith, filling-more (c .before .before .before .before .loop .inv .1) (omega arith) _ (rw add-one refl))
 
 same-length : tie.Need-same-length Inv-loop μ-loop
-same-length c = c .before .loop .inv .1 .kept
+same-length c = c .before .before .loop .inv .1 .kept
 
 returns : tie.Need-returns Inv-loop μ-loop
 returns c =
-    let e : c .before .loop .j ≡ c .before .before .args .m = omega arith in
-    rw (← e) (c .before .loop .inv .1 .holds)
+    let l = c .before .before in
+    let e : l .loop .j ≡ l .before .args .nodes .gates = omega arith in
+    rw (← e) (l .loop .inv .1 .holds)
 
 pub fill-table-spec : {M : Type 1} → statement M
 fill-table-spec =

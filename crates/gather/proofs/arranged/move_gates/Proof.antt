@@ -11,27 +11,27 @@ use Rattle.gather.proofs.arranged.move_gates.Statement.{statement}
 use Rattle.gather.proofs.arranged.move_gates.Tie as tie
 
 abbrev Inv-loop : tie.InvT-loop
-Inv-loop words gates n m order table out₀ t₀ out t =
-    (t ≤ m) × (out ≡ sets out₀ gates (joined (tab (movedAt words gates n m order table) t))) × (length out ≡ length out₀)
+Inv-loop words nodes order table out₀ t₀ out t =
+    (t ≤ nodes .gates) × (out ≡ sets out₀ (nodes .start) (joined (tab (movedAt words nodes order table) t))) × (length out ≡ length out₀)
 
 abbrev μ-loop : tie.MeasureT-loop
-μ-loop words gates n m order table out₀ t₀ out t = m - t
+μ-loop words nodes order table out₀ t₀ out t = nodes .gates - t
 
 loop-holds : tie.Need-loop-holds Inv-loop μ-loop
 loop-holds c = (omega arith, refl, refl)
 
-mul-move-gate : tie.Need-mul-move-gate Inv-loop μ-loop
-mul-move-gate c = omega arith
+mul-write-gate : tie.Need-mul-write-gate Inv-loop μ-loop
+mul-write-gate c = omega arith
 
-shared-slice-read-move-gate : tie.Need-shared-slice-read-move-gate Inv-loop μ-loop
-shared-slice-read-move-gate c = omega arith
+shared-slice-read-write-gate : tie.Need-shared-slice-read-write-gate Inv-loop μ-loop
+shared-slice-read-write-gate c = omega arith
 
-cast-move-gate : tie.Need-cast-move-gate Inv-loop μ-loop
-cast-move-gate c = omega (arith, c .shared-slice-known4 .given (c .before .before .loop .t))
+cast-write-gate : tie.Need-cast-write-gate Inv-loop μ-loop
+cast-write-gate c = omega (arith, c .shared-slice-known4 .given (c .before .before .before .loop .t))
 
-move-gate-requires : tie.Need-move-gate-requires Inv-loop μ-loop
-move-gate-requires c κs =
-    let at-loop = c .before .before .before in
+write-gate-requires : tie.Need-write-gate-requires Inv-loop μ-loop
+write-gate-requires c κs =
+    let at-loop = c .before .before .before .before in
     let at-start = at-loop .before .before .before .before .before in
     (at-start .pre .0 .inside (at-loop .loop .t) (omega arith), omega arith)
 
@@ -43,22 +43,24 @@ loop-less c = omega arith
 
 loop-again : tie.Need-loop-again Inv-loop μ-loop
 loop-again c =
-    let g = c .before .before .move-gate in
-    let at-loop = c .before .before .before .before .before .before in
+    let g = c .before .before .write-gate in
+    let at-loop = c .before .before .before .before .before .before .before in
     let a = at-loop .before .before .before .before .before .args in
     let l = at-loop .loop in (
       omega arith,
-      moved-next (a .words .now) (a .gates) (a .n) (a .m) (a .order .now) (a .table .now) (a .out .now) (l .out) _ (l .t) (l .inv .1) (g .ensures),
-      g .kept .1 .1 .1 .1 .1 .1 .1 .0 ∙ l .inv .2,
+      moved-next (a .words .now) (a .nodes) (a .order .now) (a .table .now) (a .out .now) (l .out) _ (l .t) (l .inv .1) (g .ensures),
+      g .kept .1 .1 .1 .1 .1 .0 ∙ l .inv .2,
     )
 
 same-length : tie.Need-same-length Inv-loop μ-loop
-same-length c = c .before .loop .inv .2
+same-length c = c .before .before .loop .inv .2
 
 returns : tie.Need-returns Inv-loop μ-loop
 returns c =
-    let all : c .before .loop .t ≡ c .before .before .before .before .before .before .args .m = omega arith in
-    rw all at (c .before .loop .inv .1)
+    let l = c .before .before in
+    let s = l .before .before .before .before .before in
+    let all : l .loop .t ≡ s .args .nodes .gates = omega arith in
+    rw all at (l .loop .inv .1)
 
 pub move-gates-spec : {M : Type 1} → statement M
 move-gates-spec =
@@ -67,10 +69,10 @@ move-gates-spec =
     Inv-loop
     μ-loop
     loop-holds
-    mul-move-gate
-    shared-slice-read-move-gate
-    cast-move-gate
-    move-gate-requires
+    mul-write-gate
+    shared-slice-read-write-gate
+    cast-write-gate
+    write-gate-requires
     add-t
     loop-less
     loop-again

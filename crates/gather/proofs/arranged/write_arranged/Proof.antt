@@ -1,20 +1,17 @@
 -- `gather::arranged::write_arranged` meets its contract: the front as it is, the gates in the order listed, and the outputs, one after the other,
 -- are the encoding of the arranged block. Assumes nothing.
-use mathlib.Core.Path.{refl}
 use native.Mathlib.Omega.{arith}
-use lib.ListN.{getD}
-use Rattle.copying.specs.Words.{Order}
 use Rattle.gather.proofs.Written.{ordered-as, Sizes, sizes, arranged-written}
 use borrow.Author.Needs.{needs}
 use Rattle.gather.proofs.arranged.write_arranged.Statement.{statement}
 use Rattle.gather.proofs.arranged.write_arranged.Tie as tie
 
 -- the function's entry, and the calls one before the other
-abbrev start : tie.After-gates-at → tie.Start
-start c = c .before .before .before .before .before .before .before .before
+abbrev start : tie.After-nodes-of → tie.Start
+start c = c .before .before .before .before .before .before
 
-abbrev placing : tie.After-fill-table → tie.After-gates-at
-placing c = c .before .before
+abbrev placing : tie.After-fill-table → tie.After-nodes-of
+placing c = c .before .before .before .before
 
 abbrev filling : tie.After-copy-words → tie.After-fill-table
 filling c = c .before .before .before .before
@@ -25,38 +22,23 @@ fronting c = c .before .before .before .before .before
 abbrev moving : tie.After-outputs-of → tie.After-move-gates
 moving c = c .before .before .before
 
--- what the sizes are, and the list and the numbers
-known : (c : tie.After-gates-at)
-    → Sizes (start c .args .words .now) (c .before .before .inputs-of .result) (c .before .gates-of .result) (getD (start c .args .words .now) 2 0)
-    (c .gates-at .result)
-known c =
-    sizes _ _ _ _ _ (start c .pre .whole) (c .before .before .inputs-of .ensures) (c .before .gates-of .ensures) refl (c .gates-at .ensures)
+-- what the sizes are
+known : (p : tie.After-nodes-of) → Sizes (start p .args .words .now) (p .nodes-of .result)
+known p = sizes (start p .args .words .now) (start p .pre .whole) (p .nodes-of .ensures)
 
-listed : (c : tie.After-gates-at) → Order (c .before .gates-of .result) (c .before .gates-of .result) (start c .args .order .now)
-listed c = ordered-as (c .before .gates-of .ensures) (start c .pre .gates)
-
-numbered : (c : tie.After-gates-at) → Order (c .before .gates-of .result) (c .before .gates-of .result) (start c .args .numbers .now)
-numbered c = ordered-as (c .before .gates-of .ensures) (start c .pre .numbered)
-
-inputs-of-requires : tie.Need-inputs-of-requires
-inputs-of-requires c κs = search needs
-
-gates-of-requires : tie.Need-gates-of-requires
-gates-of-requires c κs = search needs
-
-gates-at-requires : tie.Need-gates-at-requires
-gates-at-requires c κs = search needs
+nodes-of-requires : tie.Need-nodes-of-requires
+nodes-of-requires c κs = search needs
 
 mul-outputs : tie.Need-mul-outputs
-mul-outputs c = omega (arith, known c)
+mul-outputs c = omega (arith, known (c .before))
 
 add-outputs : tie.Need-add-outputs
-add-outputs c = omega (arith, known c)
+add-outputs c = omega (arith, known (c .before .before))
 
 fill-table-requires : tie.Need-fill-table-requires
 fill-table-requires c κs =
-    let p = c .before in
-    (omega (arith, known p), numbered p, omega (arith, p .before .gates-of .ensures, start p .pre .tableRoom))
+    let p = c .before .before .before in
+    (omega (arith, known p), ordered-as (known p .gatesAre) (start p .pre .numbered), omega (arith, known p, start p .pre .tableRoom))
 
 copy-words-requires : tie.Need-copy-words-requires
 copy-words-requires c κs =
@@ -67,14 +49,13 @@ move-gates-requires : tie.Need-move-gates-requires
 move-gates-requires c κs =
     let w = c .before .before .before .before in
     let p = placing (filling w) in (
-      listed p,
+      ordered-as (known p .gatesAre) (start p .pre .gates),
       omega (
         arith,
         known p,
         start p .pre .room,
         start p .pre .tableRoom,
-        p .before .gates-of .ensures,
-        filling w .fill-table .kept .1 .1 .1 .0,
+        filling w .fill-table .kept .1 .1 .0,
         w .copy-words .kept .1 .1 .1 .0,
       ),
     )
@@ -92,11 +73,10 @@ copy-outputs-requires c κs =
       known p,
       start p .pre .room,
       start p .pre .tableRoom,
-      p .before .gates-of .ensures,
       o .outputs-of .ensures,
-      filling w .fill-table .kept .1 .1 .1 .0,
+      filling w .fill-table .kept .1 .1 .0,
       w .copy-words .kept .1 .1 .1 .0,
-      moving o .move-gates .kept .1 .1 .1 .1 .1 .1 .0,
+      moving o .move-gates .kept .1 .1 .1 .1 .0,
     )
 
 same-length : tie.Need-same-length
@@ -112,17 +92,15 @@ returns c =
     let w = fronting (moving o) in
     let p = placing (filling w) in
     let s = start p in
-    arranged-written (s .args .words .now) _ _ _ _ (s .pre .whole) (p .before .before .inputs-of .ensures) (p .before .gates-of .ensures)
-    (o .outputs-of .ensures) (p .gates-at .ensures) (s .args .order .now) (s .args .numbers .now) (s .args .table .now) _ (s .args .out .now) _ _ _
-    (listed p) (s .pre .room) (filling w .fill-table .ensures) (w .copy-words .ensures) (moving o .move-gates .ensures) (out .copy-outputs .ensures)
+    arranged-written (s .args .words .now) (s .pre .whole) (s .args .order .now) (s .args .numbers .now) (s .args .table .now) _ (s .args .out .now)
+    (s .pre .gates) (s .pre .room) _ _ _ _ _ (p .nodes-of .ensures) (o .outputs-of .ensures) (filling w .fill-table .ensures)
+    (w .copy-words .ensures) (moving o .move-gates .ensures) (out .copy-outputs .ensures)
 
 pub write-arranged-spec : {M : Type 1} → statement M
 write-arranged-spec =
     tie.close
     (tie.spec
-    inputs-of-requires
-    gates-of-requires
-    gates-at-requires
+    nodes-of-requires
     mul-outputs
     add-outputs
     fill-table-requires

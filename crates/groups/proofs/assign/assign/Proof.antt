@@ -1,20 +1,18 @@
 -- `groups::assign::assign` meets its contract: every array has room for the 1,024 gates that a block may have. Assumes nothing.
 use native.Mathlib.Omega.{arith}
 use Prim.Native.Nat.{_≤_}
+use mathlib.Core.Path.{_≡_, ap}
+use lib.ListN.{getD}
+use Rattle.layout.specs.declared.nodes.Nodes.{Nodes}
+use Rattle.layout.specs.Nodes.{nodesOf}
 use Rattle.encoding.proofs.Readers.{whole-parts}
 use Rattle.groups.proofs.Sets.{set-empty}
 use borrow.Author.Needs.{needs}
 use Rattle.groups.proofs.assign.assign.Statement.{statement}
 use Rattle.groups.proofs.assign.assign.Tie as tie
 
-inputs-of-requires : tie.Need-inputs-of-requires
-inputs-of-requires c κs = search needs
-
-gates-of-requires : tie.Need-gates-of-requires
-gates-of-requires c κs = search needs
-
-gates-at-requires : tie.Need-gates-at-requires
-gates-at-requires c κs = search needs
+nodes-of-requires : tie.Need-nodes-of-requires
+nodes-of-requires c κs = search needs
 
 slice-aggregate-assign-with : tie.Need-slice-aggregate-assign-with
 slice-aggregate-assign-with c = search needs
@@ -40,23 +38,30 @@ slice-aggregate-assign-with-7 c = search needs
 slice-aggregate-assign-with-8 : tie.Need-slice-aggregate-assign-with-8
 slice-aggregate-assign-with-8 c = search needs
 
+-- the function's entry, and the call of `nodes_of`
+abbrev at-start : tie.After-nodes-of → tie.Start
+at-start c = c .before .before .before
+
+abbrev counted : tie.After-flags → tie.After-nodes-of
+counted c = c .before .before .before .before
+
 assign-with-requires : tie.Need-assign-with-requires
+unfolding nodesOf
 assign-with-requires c κs =
-    let after-gates-of = c .before .before .before .before .before .before .before .before .before .before in
-    let s = c .before .before .before .before .before .before .before .before .before .before .before .before .before .before in
+    let head = counted (c .before .before .before .before .before) in
+    let s = at-start head in
     let few = whole-parts (s .args .words .now) (s .pre .0) .fewGates in
-    let m : after-gates-of .gates-of .result ≤ 1024 = omega (arith, after-gates-of .gates-of .ensures) in (
+    let is : head .nodes-of .result .gates ≡ getD (s .args .words .now) 1 0 = ap (λ (x : Nodes). x .gates) (head .nodes-of .ensures) in
+    let m : head .nodes-of .result .gates ≤ 1024 = omega (arith, is) in (
       record {
         whole = s .pre .0;
-        inputsAre = c .before .before .before .before .before .before .before .before .before .before .before .inputs-of .ensures;
-        gatesAre = after-gates-of .gates-of .ensures;
-        firstIs = c .before .before .before .before .before .before .before .before .before .gates-at .ensures;
+        nodesAre = head .nodes-of .ensures;
         leaderRoom = m;
         queueRoom = m;
         flagRoom = m;
       },
       record {
-        numberRoom = rw (after-gates-of .gates-of .ensures) (s .pre .1);
+        numberRoom = rw is (s .pre .1);
         nextRoom = m;
         readerRoom = m;
         linkRoom = omega arith;
@@ -78,9 +83,7 @@ pub assign-spec : {M : Type 1} → statement M
 assign-spec =
     tie.close
     (tie.spec
-    inputs-of-requires
-    gates-of-requires
-    gates-at-requires
+    nodes-of-requires
     slice-aggregate-assign-with
     slice-aggregate-assign-with-2
     slice-aggregate-assign-with-3

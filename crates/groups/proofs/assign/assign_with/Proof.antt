@@ -5,26 +5,31 @@ use borrow.Author.Needs.{needs}
 use Rattle.groups.proofs.assign.assign_with.Statement.{statement}
 use Rattle.groups.proofs.assign.assign_with.Tie as tie
 
+-- the function's entry, and the call of `lead`
+abbrev at-start : tie.After-lead-arg → tie.Start
+at-start c = c .before .before .before .before .before .before .before .before .before .before .before
+
+abbrev led : tie.After-number-groups-arg → tie.After-lead
+led c = c .before .before .before .before .before .before .before
+
 lead-requires : tie.Need-lead-requires
 lead-requires c κs =
-    let far = c .before .before .before .before .before .before .before .before .before .before .before in
-    let s = far .before .before in (s .pre .0 .leaderRoom, ready-for (s .pre .0) (s .args .flags .now) (s .args .queue .now) refl refl)
+    let s = at-start (c .before .before) in (s .pre .0 .leaderRoom, ready-for (s .pre .0) (s .args .flags .now) (s .args .queue .now) refl refl)
 
 number-groups-requires : tie.Need-number-groups-requires
 number-groups-requires c κs =
-    let far = c .before .before .before .before .before .before .before .before .before .before .before in
-    let farther = far .before .before .before .before .before .before .before .before .before .before .before in
-    let s = farther .before .before .before .before .before .before in
-    let l = far .before .before .before .lead in
+    let behind = led (c .before .before .before .before .before .before .before) in
+    let s = at-start (behind .before .before .before) in
+    let l = behind .lead in
     let r = s .pre .1 in (
-      number-for (s .pre .0) (l .last .1 .1 .1 .1 .0) (s .args .leaders .now) (l .ensures),
+      number-for (s .pre .0) (l .last .1 .1 .0) (s .args .leaders .now) (l .ensures),
       record {
         numberRoom = r .numberRoom;
         nextRoom = r .nextRoom;
         readerRoom = r .readerRoom;
         linkRoom = r .linkRoom;
         operandRoom = r .operandRoom;
-        placeRoom = rw (l .kept .1 .1 .1 .1 .1 .1 .0) (r .placeRoom);
+        placeRoom = rw (l .kept .1 .1 .1 .1 .0) (r .placeRoom);
         readyRoom = r .readyRoom;
         readyFew = r .readyFew;
         empty = r .empty;

@@ -31,14 +31,24 @@ same-length-6 c = search needs
 same-length-7 : tie.Need-same-length-7
 same-length-7 c = search needs
 
+-- the function's entry, and its two calls
+abbrev at-start : tie.After-prepare-arg → tie.Start
+at-start c = c .before .before .before .before .before .before .before .before .before .before
+
+abbrev at-prepare : tie.After-prepare → tie.After-prepare-arg
+at-prepare c = c .before .before .before .before .before .before .before
+
+abbrev prepared : tie.After-numbers → tie.After-prepare
+prepared c = c .before .before .before .before .before .before .before .before .before
+
+abbrev numbers-lent : tie.After-number-all → tie.After-number-all-arg
+numbers-lent c = c .before .before .before .before .before .before
+
 returns : tie.Need-returns
 returns c =
-    let far = c .before .before .before .before .before .before .before .before .before .before .before in
-    let farther = far .before .before .before .before .before .before .before .before .before .before .before in
-    let farthest = farther .before .before .before .before .before .before .before .before .before .before .before in
-    let s =
-    farthest .before .before .before .before .before .before .before .before .before .before .before in numbers-behind (s .pre .0 .gatesAre)
-    (farther .before .before .before .before .before .prepare .ensures .behind) (c .before .before .before .before .before .before .number-all .ensures)
+    let all = c .before .before .before .before .before .before in
+    let p = prepared (numbers-lent all .before .before .before .before .before .before) in
+    numbers-behind (at-start (at-prepare p) .pre .0 .gatesAre) (p .prepare .ensures .behind) (all .number-all .ensures)
 
 pub number-groups-spec : {M : Type 1} → statement M
 number-groups-spec =

@@ -20,20 +20,33 @@ mul-link c = search needs
 link-requires-2 : tie.Need-link-requires-2
 link-requires-2 c κs = search needs
 
+-- the function's entry, and its calls before the last, from the call behind each
+abbrev at-start : tie.After-forget-arg → tie.Start
+at-start c = c .before .before .before .before .before .before .before .before .before .before
+
+abbrev forgotten : tie.After-link → tie.After-forget
+forgotten c = c .before .before .before .before .before
+
+abbrev linked : tie.After-list-operands → tie.After-link
+linked c = c .before .before .before .before .before .before
+
+abbrev listed : tie.After-link2 → tie.After-list-operands
+listed c = c .before .before .before .before .before .before .before
+
+abbrev read-linked : tie.After-start-arg4 → tie.After-link2
+read-linked c = c .before .before .before .before .before .before .before .before
+
 start-requires : tie.Need-start-requires
 start-requires c κs =
-    let far = c .before .before .before .before .before .before .before .before .before .before .before in
-    let farther = far .before .before .before .before .before .before .before .before .before .before .before in
-    let farthest = farther .before .before .before .before .before .before .before .before .before .before .before in
-    let s = farthest .before .before .before in
-    let linked = far .before .before .before .before .before .before .before .before .before .link in
-    let forgot = farther .before .before .before .forget in
+    let behind = linked (listed (read-linked c)) in
+    let first = forgotten behind in
+    let s = at-start (first .before) in
     record {
       prepared = s .pre .0;
-      linked = nexts-are (s .pre .0) (linked .ensures);
-      placeRoom = rw (linked .kept .1 .1 .1 .0) (s .pre .1 .placeRoom);
+      linked = nexts-are (s .pre .0) (behind .link .ensures);
+      placeRoom = rw (behind .link .kept .1 .1 .1 .0) (s .pre .1 .placeRoom);
       readyRoom = s .pre .1 .readyRoom;
-      noNumbers = bare-all (s .args .m) (forgot .last .1 .0) (s .args .numbers .now) (forgot .ensures);
+      noNumbers = bare-all (s .args .nodes .gates) (first .forget .last .1 .0) (s .args .numbers .now) (first .forget .ensures);
       empty = s .pre .1 .empty;
     }
 
@@ -60,31 +73,29 @@ same-length-7 c = search needs
 
 returns : tie.Need-returns
 returns c =
-    let far = c .before .before .before .before .before .before .before .before .before .before .before in
-    let farther = far .before .before .before .before .before .before .before .before .before .before .before in
-    let farthest = farther .before .before .before .before .before .before .before .before .before .before .before in
-    let s = farthest .before .before .before .before .before .before .before .before in
-    let linked = farther .before .before .before .link in
-    let forgot = farther .before .before .before .before .before .before .before .before .forget in
-    let named = far .before .before .before .before .before .before .before .before .list-operands in
-    let read = far .before .before .link2 in
+    let started = c .before .before .before .before in
+    let reading = read-linked (started .before) in
+    let named = listed reading in
+    let grouped = linked named in
+    let first = forgotten grouped in
+    let s = at-start (first .before) in
     let a = s .args in
+    let operands = named .list-operands in
+    let read = reading .link2 in
     record {
       all = record {
         linked = record {
           prepared = s .pre .0;
-          nextsAre = nexts-are (s .pre .0) (linked .ensures);
-          readersAre =
-              readers-are (a .words .now) (a .n) (a .m) (a .gates) (named .last .1 .1 .1 .1 .0) (a .operands .now) (read .last .1 .1 .1 .0)
-              (read .last .1 .1 .1 .1 .0)
-              (named .ensures) (read .ensures);
+          nextsAre = nexts-are (s .pre .0) (grouped .link .ensures);
+          readersAre = readers-are (a .words .now) (a .nodes) (operands .last .1 .1 .0) (a .operands .now) (read .last .1 .1 .1 .0) (read .last .1 .1 .1 .1 .0)
+              (operands .ensures) (read .ensures);
         };
-        numberRoom = rw (forgot .kept .1 .0) (s .pre .1 .numberRoom);
-        numbersAre = rw (forgot .ensures) (numbers-none (decode (a .words .now)) (a .m) (a .numbers .now));
-        readyFew = rw (c .before .before .before .before .start .kept .1 .1 .1 .1 .1 .1 .1 .1 .0) (s .pre .1 .readyFew);
-        waiting = c .before .before .before .before .start .ensures;
+        numberRoom = rw (first .forget .kept .1 .0) (s .pre .1 .numberRoom);
+        numbersAre = rw (first .forget .ensures) (numbers-none (decode (a .words .now)) (a .nodes .gates) (a .numbers .now));
+        readyFew = rw (started .start .kept .1 .1 .1 .1 .1 .1 .0) (s .pre .1 .readyFew);
+        waiting = started .start .ensures;
       };
-      behind = kept-behind (a .m) (forgot .last .1 .0) (a .numbers .now) (forgot .ensures);
+      behind = kept-behind (a .nodes .gates) (first .forget .last .1 .0) (a .numbers .now) (first .forget .ensures);
     }
 
 pub prepare-spec : {M : Type 1} → statement M

@@ -12,10 +12,11 @@ use Rattle.groups.proofs.obstacle.is_blocked.Statement.{statement}
 use Rattle.groups.proofs.obstacle.is_blocked.Tie as tie
 
 abbrev Inv-loop : tie.InvT-loop
-Inv-loop words n m at numbers leaders leader count i₀ i = (i ≤ count) × (any (obstacle numbers leaders leader) (wordGates words n m at i) ≡ false)
+Inv-loop words nodes at numbers leaders leader count i₀ i =
+    (i ≤ count) × (any (obstacle numbers leaders leader) (wordGates words (nodes .inputs) (nodes .gates) at i) ≡ false)
 
 abbrev μ-loop : tie.MeasureT-loop
-μ-loop words n m at numbers leaders leader count i₀ i = count - i
+μ-loop words nodes at numbers leaders leader count i₀ i = count - i
 
 word-at-requires : tie.Need-word-at-requires Inv-loop μ-loop
 word-at-requires c κs = search needs
@@ -23,7 +24,7 @@ word-at-requires c κs = search needs
 loop-holds : tie.Need-loop-holds Inv-loop μ-loop
 loop-holds c =
     let a = c .before .before .before .before .args in
-    (omega arith, no-words (obstacle (a .numbers .now) (a .leaders .now) (a .leader)) (a .n) (a .m) (a .words .now) (a .at))
+    (omega arith, no-words (obstacle (a .numbers .now) (a .leaders .now) (a .leader)) (a .nodes .inputs) (a .nodes .gates) (a .words .now) (a .at))
 
 add-word-at : tie.Need-add-word-at Inv-loop μ-loop
 add-word-at c = omega arith
@@ -35,8 +36,7 @@ word-at-requires-2 : tie.Need-word-at-requires-2 Inv-loop μ-loop
 word-at-requires-2 c κs = search needs
 
 is-obstacle-requires : tie.Need-is-obstacle-requires Inv-loop μ-loop
-is-obstacle-requires c κs =
-    (c .before .before .before .before .before .before .before .pre .1, c .before .before .before .before .before .before .before .pre .2)
+is-obstacle-requires c κs = let s = c .before .before .before .before .before .before .before in (s .pre .1, s .pre .2)
 
 returns : tie.Need-returns Inv-loop μ-loop
 returns c =
@@ -45,7 +45,7 @@ returns c =
     let at-start = after-word-at .before .before .before .before in
     let a = at-start .args in
     rw (← after-word-at .word-at .ensures)
-    (sym (found-one (obstacle (a .numbers .now) (a .leaders .now) (a .leader)) (a .n) (a .m) (a .words .now) (a .at) (at-loop .loop .i)
+    (sym (found-one (obstacle (a .numbers .now) (a .leaders .now) (a .leader)) (a .nodes .inputs) (a .nodes .gates) (a .words .now) (a .at) (at-loop .loop .i)
     (after-word-at .word-at .result / 8)
     (c .before .before .before .loop-test .taken)
     (rw (← c .before .before .word-at2 .ensures) (sym (c .before .is-obstacle .ensures) ∙ c .if1 .taken))))
@@ -63,7 +63,7 @@ loop-again c =
     let a = at-start .args in
     let l = at-loop .loop in (
       omega arith,
-      none-yet (obstacle (a .numbers .now) (a .leaders .now) (a .leader)) (a .n) (a .m) (a .words .now) (a .at) (l .i) (l .inv .1)
+      none-yet (obstacle (a .numbers .now) (a .leaders .now) (a .leader)) (a .nodes .inputs) (a .nodes .gates) (a .words .now) (a .at) (l .i) (l .inv .1)
           (rw (← c .before .before .word-at2 .ensures) (sym (c .before .is-obstacle .ensures) ∙ c .if1 .left)),
     )
 

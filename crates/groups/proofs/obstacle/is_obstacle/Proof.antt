@@ -15,9 +15,9 @@ gate-named-requires c κs = search needs
 
 returns : tie.Need-returns
 returns c =
-    let a =
-    c .before .before .before .before .args in no-gate (obstacle (a .numbers .now) (a .leaders .now) (a .leader)) (a .n) (a .m) (a .w)
-    (c .before .gate-named .ensures) (c .if1 .taken)
+    let named = c .before .before in
+    let a = named .before .before .before .args in
+    no-gate (obstacle (a .numbers .now) (a .leaders .now) (a .leader)) (a .nodes .inputs) (a .nodes .gates) (a .w) (named .gate-named .ensures) (c .if1 .taken)
 
 word-at-requires : tie.Need-word-at-requires
 word-at-requires c κs = search needs
@@ -25,12 +25,12 @@ word-at-requires c κs = search needs
 returns-2 : tie.Need-returns-2
 unfolding obstacle unnumbered
 returns-2 c =
-    let named = c .before .before .before in
-    let a = c .before .before .before .before .before .before .args in
+    let named = c .before .before .before .before in
+    let a = named .before .before .before .args in
     let k = named .gate-named .result in
     let no : obstacle (a .numbers .now) (a .leaders .now) (a .leader) k ≡ false =
     rw (ne-eqb (getD (a .numbers .now) k 0) noNumber (λ e. c .if2 .taken (c .before .word-at .ensures ∙ e))) refl in
-    sym no ∙ one-gate (obstacle (a .numbers .now) (a .leaders .now) (a .leader)) (a .n) (a .m) (a .w) (named .gate-named .ensures)
+    sym no ∙ one-gate (obstacle (a .numbers .now) (a .leaders .now) (a .leader)) (a .nodes .inputs) (a .nodes .gates) (a .w) (named .gate-named .ensures)
     (c .before .before .if1 .left)
 
 word-at-requires-2 : tie.Need-word-at-requires-2
@@ -40,14 +40,15 @@ returns-3 : tie.Need-returns-3
 unfolding obstacle unnumbered
 returns-3 c =
     let none = c .before in
-    let named = none .before .before .before in
-    let a = c .before .before .before .before .before .before .before .args in
+    let named = none .before .before .before .before in
+    let a = named .before .before .before .args in
     let k = named .gate-named .result in
     let bare : eqb (getD (a .numbers .now) k 0) noNumber ≡ true =
     eq-eqb (getD (a .numbers .now) k 0) noNumber (sym (none .before .word-at .ensures) ∙ none .if2 .left) in
     rw (c .word-at2 .ensures)
     ((rw (bare) refl)
-    ∙ one-gate (obstacle (a .numbers .now) (a .leaders .now) (a .leader)) (a .n) (a .m) (a .w) (named .gate-named .ensures) (none .before .before .if1 .left))
+    ∙ one-gate (obstacle (a .numbers .now) (a .leaders .now) (a .leader)) (a .nodes .inputs) (a .nodes .gates) (a .w) (named .gate-named .ensures)
+    (none .before .before .if1 .left))
 
 pub is-obstacle-spec : {M : Type 1} → statement M
 is-obstacle-spec =

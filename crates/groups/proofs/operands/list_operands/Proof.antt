@@ -12,17 +12,17 @@ use Rattle.groups.proofs.operands.list_operands.Statement.{statement}
 use Rattle.groups.proofs.operands.list_operands.Tie as tie
 
 abbrev Inv-loop : tie.InvT-loop
-Inv-loop words n m gates operands₀ e₀ operands e =
-    (e ≤ 4 * m) × (operands ≡ placed (tab (operandAt words n m gates) e) operands₀) × (length operands ≡ length operands₀)
+Inv-loop words nodes operands₀ e₀ operands e =
+    (e ≤ 4 * nodes .gates) × (operands ≡ placed (tab (operandAt words nodes) e) operands₀) × (length operands ≡ length operands₀)
 
 abbrev μ-loop : tie.MeasureT-loop
-μ-loop words n m gates operands₀ e₀ operands e = 4 * m - e
+μ-loop words nodes operands₀ e₀ operands e = 4 * nodes .gates - e
 
 loop-holds : tie.Need-loop-holds Inv-loop μ-loop
 loop-holds c = (omega arith, refl, refl)
 
-mul-loop : tie.Need-mul-loop Inv-loop μ-loop
-mul-loop c = search needs
+mul-if1 : tie.Need-mul-if1 Inv-loop μ-loop
+mul-if1 c = search needs
 
 mul-at : tie.Need-mul-at Inv-loop μ-loop
 mul-at c = search needs
@@ -44,8 +44,9 @@ gate-named-requires c κs = search needs
 
 cast-operands : tie.Need-cast-operands Inv-loop μ-loop
 cast-operands c =
-    let s = c .before .before .before .before .before .before in
-    omega (arith, c .gate-named .ensures, named-le (s .args .n) (s .args .m) (c .before .word-at .result), s .pre .1)
+    let at-loop = c .before .before .before .before .before in
+    let s = at-loop .before .before .before in
+    omega (arith, c .gate-named .ensures, named-le (s .args .nodes .inputs) (s .args .nodes .gates) (c .before .word-at .result), s .pre .1)
 
 mul-operands : tie.Need-mul-operands Inv-loop μ-loop
 mul-operands c = search needs
@@ -62,21 +63,24 @@ loop-less c = search needs
 loop-again : tie.Need-loop-again Inv-loop μ-loop
 unfolding operandAt
 loop-again c =
-    let s = c .before .before .before .before .before .before in
-    let l = c .before .before .before .loop in (
-      omega (arith, c .before .before .loop-test .taken),
-      fill-next (operandAt (s .args .words .now) (s .args .n) (s .args .m) (s .args .gates)) (l .e) (s .args .operands .now) (l .operands)
-          (c .gate-named .result)
-          (l .inv .1) (omega (arith, c .before .before .loop-test .taken, s .pre .3))
+    let in-loop = c .before .before .before in
+    let at-loop = in-loop .before .before in
+    let l = at-loop .loop in
+    let s = at-loop .before .before .before in (
+      omega (arith, in-loop .if1 .taken),
+      fill-next (operandAt (s .args .words .now) (s .args .nodes)) (l .e) (s .args .operands .now) (l .operands) (c .gate-named .result)
+          (l .inv .1) (omega (arith, in-loop .if1 .taken, s .pre .3))
           (c .gate-named .ensures ∙ rw (c .before .word-at .ensures) refl),
       length-set (l .operands) (l .e) (c .gate-named .result) ∙ l .inv .2,
     )
 
 same-length : tie.Need-same-length Inv-loop μ-loop
-same-length c = c .before .loop .inv .2
+same-length c = c .before .before .loop .inv .2
 
 returns : tie.Need-returns Inv-loop μ-loop
-returns c = let all : c .before .loop .e ≡ 4 * c .before .before .before .before .args .m = omega arith in rw (← all) (c .before .loop .inv .1)
+returns c =
+    let at-loop = c .before .before in
+    let all : at-loop .loop .e ≡ 4 * at-loop .before .before .before .args .nodes .gates = omega arith in rw (← all) (at-loop .loop .inv .1)
 
 pub list-operands-spec : {M : Type 1} → statement M
 list-operands-spec =
@@ -85,7 +89,7 @@ list-operands-spec =
     Inv-loop
     μ-loop
     loop-holds
-    mul-loop
+    mul-if1
     mul-at
     add-at
     add-at-2

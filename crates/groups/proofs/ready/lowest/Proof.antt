@@ -4,7 +4,7 @@ use native.Mathlib.Omega.{arith}
 use Prim.Native.Nat.{_-_, _≤_}
 use lib.ListN.{length, getD}
 use Rattle.laws.proofs.Least.{least-le}
-use Rattle.judge.specs.Lanes.{hasLane}
+use Rattle.lanes.specs.Words.{hasLane}
 use Rattle.groups.proofs.Sets.{NoneBelow, empty-word, word-lowest, none-lowest}
 use Rattle.groups.proofs.ready.lowest.Statement.{statement}
 use Rattle.groups.proofs.ready.lowest.Tie as tie

@@ -6,6 +6,10 @@ use borrow.Author.Needs.{needs}
 use Rattle.groups.proofs.waiting.look.Statement.{statement}
 use Rattle.groups.proofs.waiting.look.Tie as tie
 
+-- the function's entry
+abbrev at-start : tie.After-seek → tie.Start
+at-start c = c .before .before .before .before .before .before .before
+
 seek-requires : tie.Need-seek-requires
 seek-requires c κs = search needs
 
@@ -13,16 +17,13 @@ cast-places : tie.Need-cast-places
 cast-places c = search needs
 
 mul-places : tie.Need-mul-places
-mul-places c =
-    let s = c .before .before .before .before .before .before .before in omega
-    (arith, seek-leader (s .pre .seeking), s .pre .seeking .prepared .whole .fewGates)
+mul-places c = let s = at-start c in omega (arith, seek-leader (s .pre .seeking), s .pre .seeking .prepared .whole .fewGates)
 
 slice-write-places : tie.Need-slice-write-places
-slice-write-places c = let s = c .before .before .before .before .before .before .before in omega (arith, seek-leader (s .pre .seeking), s .pre .placeRoom)
+slice-write-places c = let s = at-start c in omega (arith, seek-leader (s .pre .seeking), s .pre .placeRoom)
 
 add-requires : tie.Need-add-requires
-add-requires c κs =
-    let s = c .before .before .before .before .before .before .before .before .before in omega (arith, seek-leader (s .pre .seeking), s .pre .readyRoom)
+add-requires c κs = let s = at-start (c .before .before .before) in omega (arith, seek-leader (s .pre .seeking), s .pre .readyRoom)
 
 same-length : tie.Need-same-length
 same-length c = search needs
@@ -32,19 +33,19 @@ same-length-2 c = search needs
 
 returns : tie.Need-returns
 returns c =
-    let far = c .before .before .before .before .before .before .before .before .before .before .before in
-    let s = far .before in
-    look-free (c .before .before .before .before .before .seek .ensures) (s .args .places .now) (s .args .ready .now)
-    (c .before .before .before .before .if1 .taken) (c .before .before .add .last .1 .0) (c .before .before .add .ensures)
+    let added = c .before .before in
+    let sought = added .before .before .before .before in
+    let a = at-start sought .args in
+    look-free (sought .seek .ensures) (a .places .now) (a .ready .now) (added .before .before .if1 .taken) (added .add .last .1 .0) (added .add .ensures)
 
 same-length-3 : tie.Need-same-length-3
 same-length-3 c = search needs
 
 returns-2 : tie.Need-returns-2
 returns-2 c =
-    let s =
-    c .before .before .before .before .before .before .before .before in look-stuck (c .before .seek .ensures) (s .args .places .now) (s .args .ready .now)
-    (c .if1 .left)
+    let sought = c .before .before in
+    let a = at-start sought .args in
+    look-stuck (sought .seek .ensures) (a .places .now) (a .ready .now) (c .if1 .left)
 
 pub look-spec : {M : Type 1} → statement M
 look-spec =

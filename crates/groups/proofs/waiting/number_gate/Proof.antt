@@ -4,6 +4,10 @@ use borrow.Author.Needs.{needs}
 use Rattle.groups.proofs.waiting.number_gate.Statement.{statement}
 use Rattle.groups.proofs.waiting.number_gate.Tie as tie
 
+-- the function's entry
+abbrev at-start : tie.After-slice-known3 → tie.Start
+at-start c = c .before .before .before .before .before .before .before .before
+
 cast-numbers : tie.Need-cast-numbers
 cast-numbers c = search needs
 
@@ -15,8 +19,7 @@ slice-write-numbers c = search needs
 
 wake-requires : tie.Need-wake-requires
 wake-requires c κs =
-    let far = c .before .before .before .before .before .before .before .before .before .before .before in
-    let s = far in (s .pre .below, s .pre .linked, number-one (s .pre))
+    let s = at-start (c .before .before .before) in (s .pre .below, s .pre .linked, number-one (s .pre))
 
 same-length : tie.Need-same-length
 same-length c = search needs

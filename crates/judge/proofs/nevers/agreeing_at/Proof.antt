@@ -1,7 +1,6 @@
 -- `judge::nevers::agreeing_at` meets its contract: an input that is not fixed, fixed at 1, fixed at 0. Assumes nothing.
 use borrow.Author.Needs.{needs}
-use mathlib.Core.Path.{_≡_}
-use Rattle.netlist.specs.Assignments.{bit, Assignment}
+use Rattle.netlist.specs.Assignments.{bit}
 use Rattle.judge.proofs.NeverLaws.{free-tells, one-tells, zero-tells}
 use Rattle.judge.proofs.nevers.agreeing_at.Statement.{statement}
 use Rattle.judge.proofs.nevers.agreeing_at.Tie as tie

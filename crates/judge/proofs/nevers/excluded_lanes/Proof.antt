@@ -7,7 +7,7 @@ use lib.ListN.{getD}
 use borrow.Author.Needs.{needs}
 use Rattle.netlist.specs.StoredBlock.{neversAt}
 use Rattle.lanes.specs.Batches.{lanesOf}
-use Rattle.judge.specs.Lanes.{Tells}
+use Rattle.lanes.specs.Words.{Tells}
 use Rattle.judge.proofs.NeverLaws.{lineAt, excludedBy, lines-none, lines-more, lines-all}
 use Rattle.judge.proofs.nevers.excluded_lanes.Statement.{statement}
 use Rattle.judge.proofs.nevers.excluded_lanes.Tie as tie

@@ -5,11 +5,11 @@ use Rattle.lanes.proofs.NodeLaws.{one-folded}
 use Rattle.lanes.proofs.gate.pair_of_one.Statement.{statement}
 use Rattle.lanes.proofs.gate.pair_of_one.Tie as tie
 
-add-word-at : tie.Need-add-word-at
-add-word-at c = search needs
+add-word-in : tie.Need-add-word-in
+add-word-in c = search needs
 
-word-at-requires : tie.Need-word-at-requires
-word-at-requires c κs = search needs
+word-in-requires : tie.Need-word-in-requires
+word-in-requires c κs = search needs
 
 operand-pair-requires : tie.Need-operand-pair-requires
 operand-pair-requires c κs = search needs
@@ -28,14 +28,14 @@ returns c =
     let d = c .before in
     let f = d .before in
     let p = f .before in
-    one-folded _ _ _ _ _ _ (p .operand-pair .ensures ∙ rw (p .before .word-at .ensures)) (f .first-pair .ensures) (d .combine .ensures) (c .finish .ensures)
+    one-folded _ _ _ _ _ _ (p .operand-pair .ensures ∙ rw (p .before .word-in .ensures)) (f .first-pair .ensures) (d .combine .ensures) (c .finish .ensures)
 
 pub pair-of-one-spec : {M : Type 1} → statement M
 pair-of-one-spec =
     tie.close
     (tie.spec
-    add-word-at
-    word-at-requires
+    add-word-in
+    word-in-requires
     operand-pair-requires
     first-pair-requires
     combine-requires

@@ -1,6 +1,5 @@
 -- `lanes::inputs::used_lanes` meets its contract. Assumes nothing.
 use borrow.Author.Needs.{needs}
-use mathlib.Core.Path.{sym}
 use Rattle.lanes.proofs.InputLaws.{all-lanes, shifted-lanes, shifted-full}
 use Rattle.lanes.specs.Batches.{lanesOf}
 use Rattle.lanes.proofs.inputs.used_lanes.Statement.{statement}

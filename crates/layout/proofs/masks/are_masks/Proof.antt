@@ -1,6 +1,5 @@
 -- `layout::masks::are_masks` meets its contract: the three tests in their order. Assumes nothing.
-use mathlib.Core.Path.{_≡_, sym, _∙_}
-use Prim.Native.Nat.{_≤_, _<_, _^_}
+use mathlib.Core.Path.{sym, _∙_}
 use native.Mathlib.Omega.{arith}
 use borrow.Author.Needs.{needs}
 use Rattle.layout.proofs.MaskLaws.{shifted, masks-fixed, masks-ones, masks-within}

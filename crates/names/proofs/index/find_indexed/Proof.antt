@@ -13,7 +13,8 @@ walk-requires c κs = search needs
 mul-found : tie.Need-mul-found
 mul-found c =
     let s = c .before .before .before in
-    let h = ends-near (s .args .names .now) (s .args .index .now) (s .args .name) (length (s .args .names .now)) (c .walk .result) (s .pre) (c .walk .ensures) in
+    let a = s .args in
+    let h = ends-near (a .names .now) (a .index .now) (a .name) (length (a .names .now)) (c .walk .result) (s .pre) (c .walk .ensures) in
     omega arith
 
 shared-slice-read-found : tie.Need-shared-slice-read-found

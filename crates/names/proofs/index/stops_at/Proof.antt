@@ -1,7 +1,7 @@
 -- `names::index::stops_at` meets its contract. Assumes nothing.
 use borrow.Author.Needs.{needs}
 use Rattle.names.specs.Index.{stopsAt}
-use Rattle.names.proofs.Indexing.{stops-none, stops-entry}
+use Rattle.names.proofs.Indexing.{stops-entry}
 use Rattle.names.proofs.index.stops_at.Statement.{statement}
 use Rattle.names.proofs.index.stops_at.Tie as tie
 

@@ -19,19 +19,23 @@ part-scan-line-end : tie.Need-part-scan-line-end
 part-scan-line-end c = search needs
 
 scan-line-requires : tie.Need-scan-line-requires
-scan-line-requires c κs = search needs
+scan-line-requires c κs =
+    let a = c .before .before .args in
+    rw (rest-is-drop (a .text .now) (a .at)) (omega (arith, length-drop (a .at) (a .text .now)))
 
 add-t5 : tie.Need-add-t5
 add-t5 c =
     let a = c .before .before .before .before .args in
-    let e : c .before .scan-line .result .end ≡ lengthWithLf (drop (a .at) (a .text .now)) = rw (rest-is-drop (a .text .now) (a .at)) at (c .before .scan-line .ensures .0) in
+    let line = c .before .scan-line in
+    let e : line .result .end ≡ lengthWithLf (drop (a .at) (a .text .now)) = rw (rest-is-drop (a .text .now) (a .at)) at (line .ensures .0) in
     omega (arith, lineLength-le (drop (a .at) (a .text .now)), length-drop (a .at) (a .text .now))
 
 returns : tie.Need-returns
 returns c =
     let a = c .before .before .before .before .args in
-    let e : c .before .scan-line .result .end ≡ lengthWithLf (drop (a .at) (a .text .now)) = rw (rest-is-drop (a .text .now) (a .at)) at (c .before .scan-line .ensures .0) in
-    (rw e, rw (rest-is-drop (a .text .now) (a .at)) at (c .before .scan-line .ensures .1))
+    let line = c .before .scan-line in
+    let e : line .result .end ≡ lengthWithLf (drop (a .at) (a .text .now)) = rw (rest-is-drop (a .text .now) (a .at)) at (line .ensures .0) in
+    (rw e, rw (rest-is-drop (a .text .now) (a .at)) at (line .ensures .1))
 
 pub line-at-spec : {M : Type 1} → statement M
 line-at-spec =

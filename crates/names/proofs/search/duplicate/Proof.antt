@@ -24,7 +24,8 @@ slice-aggregate-enter-all c =
 
 enter-all-requires : tie.Need-enter-all-requires
 enter-all-requires c κs =
-    let s = c .before .before .before .before .before .before in nodes-none (s .args .c) (s .args .names .now) (s .args .places .now) (s .args .index .now) (s .pre)
+    let s = c .before .before .before .before .before .before in
+    nodes-none (s .args .c) (s .args .names .now) (s .args .places .now) (s .args .index .now) (s .pre)
 
 mul-place : tie.Need-mul-place
 mul-place c = search needs

@@ -1,7 +1,7 @@
 -- `names::search::repeat_of_many` meets its contract: a new array is an empty index. Assumes nothing.
 use Prim.Native.Nat.{_+_}
 use native.Mathlib.Omega.{arith}
-use Rattle.names.specs.Index.{hashes, many}
+use Rattle.names.specs.Index.{hashes, maxPairs}
 use Rattle.names.proofs.Indexing.{index-new}
 use borrow.Author.Needs.{needs}
 use Rattle.names.proofs.search.repeat_of_many.Statement.{statement}
@@ -12,7 +12,7 @@ slice-aggregate-enter-all c = search needs
 
 enter-all-requires : tie.Need-enter-all-requires
 enter-all-requires c κs =
-    let s = c .before .before in index-new (s .args .names .now) (hashes + many + 1) (omega arith) (omega arith)
+    let s = c .before .before in index-new (s .args .names .now) (hashes + maxPairs + 1) (omega arith) (omega arith)
 
 returns : tie.Need-returns
 returns c = search needs

@@ -23,7 +23,11 @@ unfolding lineOffset gatesTo
 loop-holds c = (omega arith, refl, refl, record { placesAre = refl; wordsAre = refl }, refl, refl)
 
 line-at-requires : tie.Need-line-at-requires Inv-loop μ-loop
-line-at-requires c κs = let l = c .before .loop in omega (arith, start-le (c .before .before .before .before .before .args .text .now) (l .i))
+line-at-requires c κs =
+    let start = c .before .before .before .before .before in
+    let l = c .before .loop in
+    let h : l .at ≤ length (start .args .text .now) = omega (arith, start-le (start .args .text .now) (l .i)) in
+    (h, start .pre .short)
 
 add-gates : tie.Need-add-gates Inv-loop μ-loop
 add-gates c =
@@ -34,7 +38,10 @@ add-gates c =
     omega arith
 
 declared-at-requires : tie.Need-declared-at-requires Inv-loop μ-loop
-declared-at-requires c κs = let l = c .before .before .before .loop in omega (arith, start-le (c .before .before .before .before .before .before .before .args .text .now) (l .i))
+declared-at-requires c κs =
+    let at-loop = c .before .before .before in
+    let a = at-loop .before .before .before .before .args in
+    omega (arith, start-le (a .text .now) (at-loop .loop .i))
 
 mul-places : tie.Need-mul-places Inv-loop μ-loop
 mul-places c = omega arith
@@ -44,17 +51,20 @@ slice-write-places c = omega arith
 
 line-word-requires : tie.Need-line-word-requires Inv-loop μ-loop
 line-word-requires c κs =
-    let a = c .before .before .before .before .before .before .before .before .args in
-    let l = c .before .before .before .before .loop in
+    let at-loop = c .before .before .before .before in
+    let start = at-loop .before .before .before .before in
+    let a = start .args in
+    let l = at-loop .loop in
     let r = c .before .before .line-at in
     let g = gates-within (a .text .now) (l .i) (l .at) (l .inv .1) (l .gates) (r .result .gates) (l .inv .2) (r .ensures .1) in
-    (c .before .before .before .before .before .before .before .before .pre .few, omega (arith, c .before .before .before .before .before .before .before .before .pre .short))
+    (start .pre .few, omega (arith, start .pre .short))
 
 cast-words : tie.Need-cast-words Inv-loop μ-loop
 cast-words c =
-    let s = c .before .before .before .before .before .before .before .before .before in
+    let at-loop = c .before .before .before .before .before in
+    let s = at-loop .before .before .before .before in
     let a = s .args in
-    let l = c .before .before .before .before .before .loop in
+    let l = at-loop .loop in
     let r = c .before .before .before .line-at in
     let g = gates-within (a .text .now) (l .i) (l .at) (l .inv .1) (l .gates) (r .result .gates) (l .inv .2) (r .ensures .1) in
     omega (arith, c .line-word .ensures, lineWord-le (a .n) (l .i) (l .gates + r .result .gates), s .pre .short, s .pre .few)
@@ -74,9 +84,10 @@ loop-less c = omega arith
 loop-again : tie.Need-loop-again Inv-loop μ-loop
 unfolding placeAt wordAt
 loop-again c =
-    let a = c .before .before .before .before .before .before .before .before .before .args in
+    let at-loop = c .before .before .before .before .before in
+    let a = at-loop .before .before .before .before .args in
     let text = a .text .now in
-    let l = c .before .before .before .before .before .loop in
+    let l = at-loop .loop in
     let r = c .before .before .before .line-at in
     let g : l .gates + r .result .gates ≡ gatesTo text (l .i + 1) = rw (r .ensures .1) (gates-more text (l .i) (l .at) (l .inv .1) (l .gates) (l .inv .2)) in (
       omega arith,

@@ -7,19 +7,25 @@ use Rattle.nevers.proofs.NeverText.{pairs-here, line-inside, pair-room}
 use Rattle.nevers.proofs.tests.line_outside.Statement.{statement}
 use Rattle.nevers.proofs.tests.line_outside.Tie as tie
 
--- the function's entry, from where the tables are filled
+-- the function's entry, from where the tables are lent and from where they are filled; and where they are filled, from where they are tested
+abbrev lent : tie.After-fill-pairs-arg3 → tie.Start
+lent c = c .before .before .before .before .before .before .before .before
+
 abbrev start : tie.After-fill-pairs → tie.Start
-start c = c .before .before .before .before .before .before .before .before .before
+start c = lent (c .before)
+
+abbrev tables-filled : tie.After-test-outside-arg2 → tie.After-fill-pairs
+tables-filled c = c .before .before .before .before .before .before .before .before
 
 add-fill-pairs : tie.Need-add-fill-pairs
 add-fill-pairs c = omega (arith, line-inside (c .before .before .before .before .before .pre .0 .is))
 
 fill-pairs-requires : tie.Need-fill-pairs-requires
-fill-pairs-requires c κs = pair-room (c .before .before .before .before .before .before .before .before .pre .0)
+fill-pairs-requires c κs = pair-room (lent c .pre .0)
 
 test-outside-requires : tie.Need-test-outside-requires
 test-outside-requires c κs =
-    let filled = c .before .before .before .before .before .before .before .before in
+    let filled = tables-filled c in
     let r = start filled .pre .0 in
     let t = filled .fill-pairs .ensures (r .pairs) (pairs-here (r .is)) in
     (names-room t, places-room t, inputs-room (start filled .pre .1 .are))
@@ -37,7 +43,7 @@ returns : tie.Need-returns
 unfolding neverMentions
 returns c =
     λ ps known is are.
-    let t = c .before .before .before .before .before .before .before .before .before .fill-pairs .ensures ps (pairs-here is) in
+    let t = tables-filled (c .before) .fill-pairs .ensures ps (pairs-here is) in
     c .test-outside .ensures ps _ known (pairs-here is .legal) (t .counted) (t .namesAre) (t .placesAre) are
 
 pub line-outside-spec : {M : Type 1} → statement M

@@ -26,20 +26,24 @@ slice-aggregate-masks-from-4 c = search needs
 
 masks-from-requires : tie.Need-masks-from-requires
 masks-from-requires c κs =
-    let s = c .before .before .before .before .before .before .before .before .before in
-    (lines-ready (s .pre .0) (search needs) (search needs) (search needs), (s .pre .1 .0, record { few = s .pre .1 .1; room = s .pre .1 .1 }, s .pre .1 .2))
+    let past-if1 = c .before .before .before .before .before in
+    let start = past-if1 .before .before .before .before in
+    let p = start .pre in
+    (lines-ready (p .0) (search needs) (search needs) (search needs), (p .1 .0, record { few = p .1 .1; room = p .1 .1 }, p .1 .2))
 
 same-length : tie.Need-same-length
 same-length c = search needs
 
 returns-2 : tie.Need-returns-2
 returns-2 c =
+    let at-masks-from = c .before .before .before .before .before .before in
+    let past-if1 = at-masks-from .before .before .before .before .before .before in
+    let start = past-if1 .before .before .before .before in
     λ t is e are.
-    let s = c .before .before .before .before .before .before .before .before .before .before .before .before .before .before .before .before in
     let stand = nevers-stand is e in
-    let room : 2 * length (t .nevers) ≤ length (s .args .out .now) = omega (arith, stand .counted, s .pre .1 .2) in
-    c .before .before .before .before .before .before .masks-from .ensures (t .nevers) (t .inputs) stand are
-    ∙ words-placed (t .inputs) (t .nevers) (s .args .out .now) room
+    let room : 2 * length (t .nevers) ≤ length (start .args .out .now) = omega (arith, stand .counted, start .pre .1 .2) in
+    at-masks-from .masks-from .ensures (t .nevers) (t .inputs) stand are
+    ∙ words-placed (t .inputs) (t .nevers) (start .args .out .now) room
 
 pub fill-masks-spec : {M : Type 1} → statement M
 fill-masks-spec =

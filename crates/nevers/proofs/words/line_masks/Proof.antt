@@ -8,22 +8,28 @@ use Rattle.nevers.proofs.NeverText.{pairs-here, line-inside, pair-room,
 use Rattle.nevers.proofs.words.line_masks.Statement.{statement}
 use Rattle.nevers.proofs.words.line_masks.Tie as tie
 
--- the function's entry, from where the tables are filled, and from where the values are
+-- the function's entry, from where the tables are lent and from where they are filled; and where they are filled, from where the values are lent
+abbrev lent : tie.After-fill-pairs-arg3 → tie.Start
+lent c = c .before .before .before .before .before .before .before .before .before
+
 abbrev start : tie.After-fill-pairs → tie.Start
-start c = c .before .before .before .before .before .before .before .before .before .before
+start c = lent (c .before)
+
+abbrev values-lent : tie.After-fill-setting-arg3 → tie.After-fill-pairs
+values-lent c = c .before .before .before .before .before .before .before .before .before
 
 abbrev tables-filled : tie.After-fill-setting → tie.After-fill-pairs
-tables-filled c = c .before .before .before .before .before .before .before .before .before .before
+tables-filled c = values-lent (c .before)
 
 add-fill-pairs : tie.Need-add-fill-pairs
 add-fill-pairs c = omega (arith, line-inside (c .before .before .before .before .before .before .pre .0 .is))
 
 fill-pairs-requires : tie.Need-fill-pairs-requires
-fill-pairs-requires c κs = pair-room (c .before .before .before .before .before .before .before .before .before .pre .0)
+fill-pairs-requires c κs = pair-room (lent c .pre .0)
 
 fill-setting-requires : tie.Need-fill-setting-requires
 fill-setting-requires c κs =
-    let filled = c .before .before .before .before .before .before .before .before .before in
+    let filled = values-lent c in
     let p = start filled .pre in
     let t = filled .fill-pairs .ensures (p .0 .pairs) (pairs-here (p .0 .is)) in
     (names-room t, codes-room t, inputs-room (p .1 .0 .are), p .1 .1 .room)

@@ -40,8 +40,10 @@ loop-less c = omega arith
 loop-again : tie.Need-loop-again Inv-loop μ-loop
 unfolding inputCode
 loop-again c =
-    let a = c .before .before .before .before .before .before .before .before .args in
-    let l = c .before .before .before .loop in
+    let at-loop = c .before .before .before in
+    let start = at-loop .before .before .before .before .before in
+    let a = start .args in
+    let l = at-loop .loop in
     let f = inputCode (a .names .now) (a .codes .now) (a .count) (a .inputs .now) in (
       omega arith,
       fill-next f (l .j) (a .setting .now) (l .setting) (c .given-code .result) (l .inv .1) (omega arith) (c .given-code .ensures),

@@ -13,12 +13,15 @@ use Rattle.passes.proofs.CountLaws.{group-bounds, group-part, group-bat
 use Rattle.passes.proofs.batches.count_at.Statement.{statement}
 use Rattle.passes.proofs.batches.count_at.Tie as tie
 
--- the function's entry, and the place where the group's ends are known
+-- the function's entry, the place where the group's ends are known, and the group's count
 abbrev start : tie.After-word-at2 → tie.Start
 start w = w .before .before .before .before .before .before .before .before .before .before
 
 abbrev ends : tie.After-count-group → tie.After-word-at2
 ends c = c .before .before .before .before .before .before .before
+
+abbrev made : tie.After-struct-known → tie.After-count-group
+made c = c .before .before .before .before .before .before .before .before .before
 
 -- the group is a part of the gates listed
 bounds : (w : tie.After-word-at2) → (w .before .word-at .result ≤ w .word-at2 .result) × (w .word-at2 .result ≤ length (start w .args .members .now))
@@ -36,7 +39,7 @@ part w =
     (w .word-at2 .ensures)
 
 counted : (c : tie.After-count-group) → let s = start (ends c) in
-    GroupCounted (decode (s .args .words .now)) (s .args .n) (s .args .base) (groupAt (decode (s .args .words .now)) (s .args .g))
+    GroupCounted (decode (s .args .words .now)) (s .args .nodes .inputs) (s .args .base) (groupAt (decode (s .args .words .now)) (s .args .g))
     (getD (s .args .passes .now) (s .args .g) 0) (s .args .total) (c .count-group .result)
 counted c = rw (part (ends c)) at (c .count-group .ensures .0)
 
@@ -78,18 +81,18 @@ count-group-requires c κs =
 
 cast-passes : tie.Need-cast-passes
 cast-passes c =
-    let d = c .before .before .before .before .before .before .before .before .before in
+    let d = made c in
     let s = start (ends d) in
     omega (arith, sofar-small (group-batch (s .pre .0 .0) (s .pre .1 .0) (s .args .g) (s .pre .0 .2) .sizeSome) (counted d .soFar))
 
 mul-passes : tie.Need-mul-passes
 mul-passes c =
-    let s = start (ends (c .before .before .before .before .before .before .before .before .before)) in
+    let s = start (ends (made c)) in
     omega (arith, s .pre .0 .2, s .pre .1 .0 .passesRoom)
 
 slice-write-passes : tie.Need-slice-write-passes
 slice-write-passes c =
-    let s = start (ends (c .before .before .before .before .before .before .before .before .before)) in
+    let s = start (ends (made c)) in
     omega (arith, s .pre .0 .2, s .pre .1 .0 .passesRoom)
 
 same-length : tie.Need-same-length
@@ -109,7 +112,7 @@ same-length-5 c = search needs
 
 returns : tie.Need-returns
 returns c =
-    let d = c .before .before .before .before .before .before .before .before .before in
+    let d = made c in
     let s = start (ends d) in
     let b = decode (s .args .words .now) in (
       (

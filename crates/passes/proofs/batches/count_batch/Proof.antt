@@ -5,16 +5,19 @@ use Rattle.passes.proofs.CountLaws.{rooms-kept}
 use Rattle.passes.proofs.batches.count_batch.Statement.{statement}
 use Rattle.passes.proofs.batches.count_batch.Tie as tie
 
--- the function's entry
+-- the function's entry, and the batch decided
 abbrev start : tie.After-decide-batch → tie.Start
 start d = d .before .before .before .before .before .before .before .before .before .before .before .before
+
+abbrev decided : tie.After-count-groups-arg5 → tie.After-decide-batch
+decided c = c .before .before .before .before .before .before .before .before .before
 
 decide-batch-requires : tie.Need-decide-batch-requires
 decide-batch-requires c κs = search needs
 
 count-groups-requires : tie.Need-count-groups-requires
 count-groups-requires c κs =
-    let d = c .before .before .before .before .before .before .before .before .before in
+    let d = decided c in
     let s = start d in
     let v = s .pre .0 .0 in
     let e = d .decide-batch .ensures in (

@@ -13,24 +13,31 @@ use Rattle.passes.proofs.batches.count_groups.Statement.{statement}
 use Rattle.passes.proofs.batches.count_groups.Tie as tie
 
 abbrev Inv-loop : tie.InvT-loop
-Inv-loop words n gates base count members starts passes₀ total zeros₀ ones₀ kept-zeros₀ kept-ones₀ sum₀ g₀ passes zeros ones kept-zeros kept-ones sum g =
-    (g ≤ count) × Counting (decode words) count base g (base + lanesOf n) passes sum × SameRest count passes₀ passes × (zeros ≡ zeros₀) × (ones ≡ ones₀)
+Inv-loop words nodes base count members starts passes₀ total zeros₀ ones₀ kept-zeros₀ kept-ones₀ sum₀ g₀ passes zeros ones kept-zeros kept-ones sum g =
+    (g ≤ count) × Counting (decode words) count base g (base + lanesOf (nodes .inputs)) passes sum × SameRest count passes₀ passes × (zeros ≡ zeros₀)
+    × (ones ≡ ones₀)
     × (length kept-zeros ≡ length kept-zeros₀) × (length kept-ones ≡ length kept-ones₀)
 
 abbrev μ-loop : tie.MeasureT-loop
-μ-loop words n gates base count members starts passes₀ total zeros₀ ones₀ kept-zeros₀ kept-ones₀ sum₀ g₀ passes zeros ones kept-zeros kept-ones sum g =
+μ-loop words nodes base count members starts passes₀ total zeros₀ ones₀ kept-zeros₀ kept-ones₀ sum₀ g₀ passes zeros ones kept-zeros kept-ones sum g =
     count - g
 
--- the function's entry, from the loop's head; and the loop's head, from a group's count
+-- the function's entry, from the loop's head; the loop's head, from a group's count; and that count
+abbrev entry : tie.After-slice-known5 Inv-loop μ-loop → tie.Start Inv-loop μ-loop
+entry c = c .before .before .before .before .before .before .before .before
+
 abbrev start : tie.At-loop Inv-loop μ-loop → tie.Start Inv-loop μ-loop
-start l = l .before .before .before .before .before .before .before .before .before
+start l = entry (l .before)
 
 abbrev head : tie.After-count-needed Inv-loop μ-loop → tie.At-loop Inv-loop μ-loop
 head d = d .before .before .before .before .before .before .before .before
 
+abbrev counted : tie.After-slice-known10 Inv-loop μ-loop → tie.After-count-needed Inv-loop μ-loop
+counted c = c .before .before .before .before .before .before .before .before .before .before
+
 loop-holds : tie.Need-loop-holds Inv-loop μ-loop
 loop-holds c =
-    let s = c .before .before .before .before .before .before .before .before in
+    let s = entry c in
     (omega arith, counting-start (s .pre .1 .1), rest-none _ _, refl, refl, refl, refl)
 
 count-needed-requires : tie.Need-count-needed-requires Inv-loop μ-loop
@@ -55,20 +62,20 @@ loop-less c = omega arith
 
 loop-again : tie.Need-loop-again Inv-loop μ-loop
 loop-again c =
-    let d = c .before .before .before .before .before .before .before .before .before .before in
+    let d = counted c in
     let l = head d in
     let s = start l in
     let i = l .loop .inv in
     let is = sym (s .pre .1 .0 .listing .countIs) in
     let e = rw is at (d .count-needed .ensures .0) in
-    let k = d .count-needed .kept in (
+    let k = d .count-needed .kept .1 .1 .1 .1 .1 .1 .1 .1 .1 .1 in (
       omega (arith, d .before .before .before .before .before .before .before .loop-test .taken),
       e .0,
       rest-then (i .2) (e .1),
       d .count-needed .ensures .1 .0 ∙ i .3,
       d .count-needed .ensures .1 .1 ∙ i .4,
-      k .1 .1 .1 .1 .1 .1 .1 .1 .1 .1 .1 .0 ∙ i .5,
-      k .1 .1 .1 .1 .1 .1 .1 .1 .1 .1 .1 .1 .0 ∙ i .6,
+      k .0 ∙ i .5,
+      k .1 .0 ∙ i .6,
     )
 
 same-length : tie.Need-same-length Inv-loop μ-loop

@@ -1,5 +1,5 @@
 -- `passes::batches::count_needed` meets its contract: as many passes as gates are enough. Assumes nothing.
-use mathlib.Core.Path.{_≡_, refl}
+use mathlib.Core.Path.{refl}
 use Prim.Native.Nat.{_+_, _≤_}
 use native.Mathlib.Omega.{arith}
 use borrow.Author.Needs.{needs}
@@ -9,7 +9,7 @@ use Rattle.netlist.specs.StoredBlock.{decode}
 use Rattle.netlist.specs.Groups.{groups}
 use Rattle.agreement.specs.Copies.{groupAt}
 use Rattle.passes.proofs.PassLaws.{sofar-small}
-use Rattle.passes.proofs.CountLaws.{group-size, group-batch, group-ready, counting-known, rest-none}
+use Rattle.passes.proofs.CountLaws.{group-size, group-ready, counting-known, rest-none}
 use Rattle.passes.proofs.batches.count_needed.Statement.{statement}
 use Rattle.passes.proofs.batches.count_needed.Tie as tie
 
@@ -43,8 +43,15 @@ add-if1 : tie.Need-add-if1
 add-if1 c =
     let s = start c in
     let r = s .pre .1 .0 .listing in
-    omega
-    (arith, small c, c .word-at3 .ensures, c .before .before .word-at2 .ensures, r .ordered (s .args .g) (s .pre .0 .2), r .within (s .args .g) (s .pre .0 .2), r .few)
+    omega (
+      arith,
+      small c,
+      c .word-at3 .ensures,
+      c .before .before .word-at2 .ensures,
+      r .ordered (s .args .g) (s .pre .0 .2),
+      r .within (s .args .g) (s .pre .0 .2),
+      r .few,
+    )
 
 same-length : tie.Need-same-length
 same-length c = search needs

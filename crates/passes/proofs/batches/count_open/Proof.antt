@@ -20,8 +20,10 @@ returns : tie.Need-returns
 returns c =
     let d = c .before in
     let s = start d in
-    let a = s .args in
-    (counting-full (a .base + lanesOf (a .n)) (s .pre .1 .0 .listing) (s .pre .1 .1) (d .are-full .ensures (c .if1 .taken)), rest-none (a .count) (a .passes .now))
+    let a = s .args in (
+      counting-full (a .base + lanesOf (a .nodes .inputs)) (s .pre .1 .0 .listing) (s .pre .1 .1) (d .are-full .ensures (c .if1 .taken)),
+      rest-none (a .count) (a .passes .now),
+    )
 
 count-batch-requires : tie.Need-count-batch-requires
 count-batch-requires c κs = search needs

@@ -16,17 +16,20 @@ use Rattle.passes.proofs.batches.count_passes.Statement.{statement}
 use Rattle.passes.proofs.batches.count_passes.Tie as tie
 
 abbrev Inv-loop : tie.InvT-loop
-Inv-loop words n gates order count members starts passes₀ zeros₀ ones₀ kept₀ kept′₀ settings lanes total₀ base₀ passes zeros ones kept kept′ total base =
-    Place n base × Counting (decode words) count base 0 base passes total × SameRest count passes₀ passes × (length zeros ≡ length zeros₀)
+Inv-loop words nodes order count members starts passes₀ zeros₀ ones₀ kept₀ kept′₀ settings lanes total₀ base₀ passes zeros ones kept kept′ total base =
+    Place (nodes .inputs) base × Counting (decode words) count base 0 base passes total × SameRest count passes₀ passes × (length zeros ≡ length zeros₀)
     × (length ones ≡ length ones₀) × (length kept ≡ length kept₀) × (length kept′ ≡ length kept′₀)
 
 abbrev μ-loop : tie.MeasureT-loop
-μ-loop words n gates order count members starts passes₀ zeros₀ ones₀ kept₀ kept′₀ settings lanes total₀ base₀ passes zeros ones kept kept′ total base =
+μ-loop words nodes order count members starts passes₀ zeros₀ ones₀ kept₀ kept′₀ settings lanes total₀ base₀ passes zeros ones kept kept′ total base =
     settings - base
 
--- the function's entry, from the words filled and from the loop's head; and the loop's head, from a batch's count
+-- the function's entry, from the words to be filled, from those filled and from the loop's head; the loop's head, from a batch's count; and that count
+abbrev lent : tie.After-fill-words-arg Inv-loop μ-loop → tie.Start Inv-loop μ-loop
+lent c = c .before .before .before .before .before .before .before .before .before .before
+
 abbrev entry : tie.After-fill-words Inv-loop μ-loop → tie.Start Inv-loop μ-loop
-entry f = f .before .before .before .before .before .before .before .before .before .before .before
+entry f = lent (f .before)
 
 abbrev filled : tie.At-loop Inv-loop μ-loop → tie.After-fill-words Inv-loop μ-loop
 filled l = l .before .before .before .before .before
@@ -37,31 +40,34 @@ start l = entry (filled l)
 abbrev head : tie.After-count-open Inv-loop μ-loop → tie.At-loop Inv-loop μ-loop
 head d = d .before .before .before .before .before .before .before .before
 
+abbrev opened : tie.After-slice-known11 Inv-loop μ-loop → tie.After-count-open Inv-loop μ-loop
+opened c = c .before .before .before .before .before .before .before .before .before .before
+
 -- as many settings as the block has
 settings-are : (l : tie.At-loop Inv-loop μ-loop) → l .before .before .setting-count .result ≡ settingCount (decode (start l .args .words .now))
 settings-are l =
     let s = start l in
-    setting-count (decode (s .args .words .now)) (s .args .n) (l .before .before .setting-count .result) (s .pre .0 .legible .inputs)
+    setting-count (decode (s .args .words .now)) (s .args .nodes .inputs) (l .before .before .setting-count .result) (s .pre .0 .legible .inputs)
     (l .before .before .setting-count .ensures)
 
 -- the words behind those of the groups are as at entry
 since-entry : (l : tie.At-loop Inv-loop μ-loop) → SameRest (start l .args .count) (start l .args .passes .now) (l .loop .passes)
 since-entry l =
     let s = start l in
-    rest-then (rest-first (s .pre .1 .listing) (s .args .passes .now) (s .pre .1 .passesRoom) (filled l .fill-words .ensures)) (l .loop .inv .2)
+    rest-then (rest-first (s .pre .1 .listing) (s .args .passes .now) (s .pre .1 .passesRoom) _ (filled l .fill-words .ensures)) (l .loop .inv .2)
 
 -- a batch that is there, and the next
-inside : (t : tie.In-loop Inv-loop μ-loop) → let l = t .before in l .loop .base < 2 ^ start l .args .n
+inside : (t : tie.In-loop Inv-loop μ-loop) → let l = t .before in l .loop .base < 2 ^ start l .args .nodes .inputs
 inside t = omega (arith, t .before .before .before .setting-count .ensures, t .loop-test .taken)
 
-next : (d : tie.After-count-open Inv-loop μ-loop) → let l = head d in Place (start l .args .n) (l .loop .base + l .before .lane-count .result)
+next : (d : tie.After-count-open Inv-loop μ-loop) → let l = head d in Place (start l .args .nodes .inputs) (l .loop .base + l .before .lane-count .result)
 next d =
     let l = head d in
     place-next (l .before .lane-count .ensures) (l .before .before .setting-count .ensures) (l .loop .inv .0)
     (d .before .before .before .before .before .before .before .loop-test .taken)
 
 fill-words-requires : tie.Need-fill-words-requires Inv-loop μ-loop
-fill-words-requires c κs = c .before .before .before .before .before .before .before .before .before .before .pre .1 .passesRoom
+fill-words-requires c κs = lent c .pre .1 .passesRoom
 
 setting-count-requires : tie.Need-setting-count-requires Inv-loop μ-loop
 setting-count-requires c κs = entry (c .before .before) .pre .0 .fewInputs
@@ -75,8 +81,8 @@ loop-holds c =
     let s = entry f in
     let r = s .pre .1 in
     let first = r .listing in (
-      place-first (s .args .n),
-      counting-first first (s .args .passes .now) (r .passesRoom) (f .fill-words .ensures),
+      place-first (s .args .nodes .inputs),
+      counting-first first (s .args .passes .now) (r .passesRoom) _ (f .fill-words .ensures) (omega arith),
       rest-none _ _,
       refl,
       refl,
@@ -100,36 +106,36 @@ count-open-requires c κs =
 
 add-base : tie.Need-add-base Inv-loop μ-loop
 add-base c =
-    let d = c .before .before .before .before .before .before .before .before .before .before in
+    let d = opened c in
     let s = start (head d) in
-    omega (arith, next d .within, few-settings (s .args .n) (s .pre .0 .fewInputs))
+    omega (arith, next d .within, few-settings (s .args .nodes .inputs) (s .pre .0 .fewInputs))
 
 loop-less : tie.Need-loop-less Inv-loop μ-loop
 loop-less c =
-    let d = c .before .before .before .before .before .before .before .before .before .before in
+    let d = opened c in
     let l = head d in
     omega (
       arith,
       l .before .lane-count .ensures,
-      lanesOf-some (start l .args .n),
+      lanesOf-some (start l .args .nodes .inputs),
       d .before .before .before .before .before .before .before .loop-test .taken,
     )
 
 loop-again : tie.Need-loop-again Inv-loop μ-loop
 loop-again c =
-    let d = c .before .before .before .before .before .before .before .before .before .before in
+    let d = opened c in
     let l = head d in
     let i = l .loop .inv in
-    let k = d .count-open .kept in
+    let k = d .count-open .kept .1 .1 .1 .1 .1 .1 .1 .1 .1 in
     let is = sym (l .before .lane-count .ensures) in
     let e = rw is at (d .count-open .ensures) in (
       next d,
       e .0,
       rest-then (i .2) (e .1),
-      k .1 .1 .1 .1 .1 .1 .1 .1 .1 .1 .0 ∙ i .3,
-      k .1 .1 .1 .1 .1 .1 .1 .1 .1 .1 .1 .0 ∙ i .4,
-      k .1 .1 .1 .1 .1 .1 .1 .1 .1 .1 .1 .1 .0 ∙ i .5,
-      k .1 .1 .1 .1 .1 .1 .1 .1 .1 .1 .1 .1 .1 .0 ∙ i .6,
+      k .0 ∙ i .3,
+      k .1 .0 ∙ i .4,
+      k .1 .1 .0 ∙ i .5,
+      k .1 .1 .1 .0 ∙ i .6,
     )
 
 same-length : tie.Need-same-length Inv-loop μ-loop

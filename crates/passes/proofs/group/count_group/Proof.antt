@@ -9,24 +9,36 @@ use Rattle.passes.proofs.group.count_group.Statement.{statement}
 use Rattle.passes.proofs.group.count_group.Tie as tie
 
 -- the function's entry, and the stages: put aside, cleared, passes made, counted
+abbrev lent : tie.After-put-pairs-arg4 → tie.Start
+lent c = c .before .before .before .before .before .before .before .before .before .before
+
 abbrev start : tie.After-put-pairs → tie.Start
-start c = c .before .before .before .before .before .before .before .before .before .before .before
+start c = lent (c .before)
+
+abbrev aside : tie.After-put-pairs-arg8 → tie.After-put-pairs
+aside c = c .before .before .before .before .before .before .before .before
 
 abbrev saved : tie.After-put-pairs2 → tie.After-put-pairs
-saved c = c .before .before .before .before .before .before .before .before .before
+saved c = aside (c .before)
 
 abbrev cleared : tie.After-run-passes → tie.After-put-pairs2
 cleared c = c .before .before .before .before .before .before .before .before
 
+abbrev made : tie.After-more-passes-arg4 → tie.After-run-passes
+made c = c .before .before .before .before .before .before .before .before
+
 abbrev ran : tie.After-more-passes → tie.After-run-passes
-ran c = c .before .before .before .before .before .before .before .before .before
+ran c = made (c .before)
+
+abbrev found : tie.After-put-pairs-arg12 → tie.After-more-passes
+found c = c .before .before .before .before .before .before .before .before
 
 abbrev counted : tie.After-put-pairs3 → tie.After-more-passes
-counted c = c .before .before .before .before .before .before .before .before .before
+counted c = found (c .before)
 
 put-pairs-requires : tie.Need-put-pairs-requires
 put-pairs-requires c κs =
-    let s = c .before .before .before .before .before .before .before .before .before .before in
+    let s = lent c in
     let r = s .pre in
     let long = r .settled .zerosLong ∙ sym (r .settled .onesLong) in (
       (long, r .batch .evaluable .fewInputs),
@@ -50,7 +62,7 @@ slice-aggregate-put-pairs-2 c = search needs
 
 put-pairs-requires-2 : tie.Need-put-pairs-requires-2
 put-pairs-requires-2 c κs =
-    let s = start (c .before .before .before .before .before .before .before .before) in
+    let s = start (aside c) in
     let r = s .pre in (
       (refl, r .batch .evaluable .fewInputs),
       (
@@ -71,7 +83,7 @@ run-passes-requires c κs =
 
 more-passes-requires : tie.Need-more-passes-requires
 more-passes-requires c κs =
-    let e = c .before .before .before .before .before .before .before .before in
+    let e = made c in
     let d = cleared e in
     let p = saved d in
     let s = start p in
@@ -88,7 +100,7 @@ more-passes-requires c κs =
 
 put-pairs-requires-3 : tie.Need-put-pairs-requires-3
 put-pairs-requires-3 c κs =
-    let m = c .before .before .before .before .before .before .before .before in
+    let m = found c in
     let e = ran m in
     let p = saved (cleared e) in
     let s = start p in

@@ -12,11 +12,11 @@ use Rattle.passes.proofs.group.more_passes.Statement.{statement}
 use Rattle.passes.proofs.group.more_passes.Tie as tie
 
 abbrev Inv-loop : tie.InvT-loop
-Inv-loop words n gates base group passes total zeros₀ ones₀ settled-zeros settled-ones used size needed₀ sum₀ zeros ones needed sum =
-    Passing (decode words) n base group passes total zeros₀ ones₀ zeros ones needed sum
+Inv-loop words nodes base group passes total zeros₀ ones₀ settled-zeros settled-ones used size needed₀ sum₀ zeros ones needed sum =
+    Passing (decode words) (nodes .inputs) base group passes total zeros₀ ones₀ zeros ones needed sum
 
 abbrev μ-loop : tie.MeasureT-loop
-μ-loop words n gates base group passes total zeros₀ ones₀ settled-zeros settled-ones used size needed₀ sum₀ zeros ones needed sum = maxCopies + 1 - sum
+μ-loop words nodes base group passes total zeros₀ ones₀ settled-zeros settled-ones used size needed₀ sum₀ zeros ones needed sum = maxCopies + 1 - sum
 
 -- the function's entry, from the loop's head; and the loop's head, from a comparison
 abbrev start : tie.At-loop Inv-loop μ-loop → tie.Start Inv-loop μ-loop
@@ -53,21 +53,25 @@ pass-requires c κs =
     let l = head (c .before .before .before) in
     (start l .pre .batch .evaluable, l .before .used-lanes .ensures, l .loop .inv .passed .held)
 
+-- the turn's test, from its pass
+abbrev looked : tie.After-slice-known4 Inv-loop μ-loop → tie.After-lacks Inv-loop μ-loop
+looked c = c .before .before .before .before .before .before .before .before
+
 -- the passes and the copies fit
 small : (c : tie.After-lacks Inv-loop μ-loop) → head c .loop .needed ≤ maxCopies + maxCopies
 small c = let l = head c in sofar-small (start l .pre .batch .sizeSome) (l .loop .inv .soFar)
 
 add-needed : tie.Need-add-needed Inv-loop μ-loop
-add-needed c = omega (arith, small (c .before .before .before .before .before .before .before .before))
+add-needed c = omega (arith, small (looked c))
 
 add-sum : tie.Need-add-sum Inv-loop μ-loop
 add-sum c =
-    let l = head (c .before .before .before .before .before .before .before .before) in
+    let l = head (looked c) in
     omega (arith, l .loop .inv .soFar .most, start l .pre .batch .sizeFew)
 
 loop-less : tie.Need-loop-less Inv-loop μ-loop
 loop-less c =
-    let d = c .before .before .before .before .before .before .before .before in
+    let d = looked c in
     let l = head d in
     omega (arith, d .before .before .before .loop-test .taken, start l .pre .batch .sizeSome)
 

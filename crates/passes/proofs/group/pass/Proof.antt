@@ -1,9 +1,6 @@
 -- `passes::group::pass` meets its contract: a sweep over the group's gates alone. Assumes nothing.
-use mathlib.Core.Path.{sym, _∙_}
 use lib.ListN.{getD}
-use Rattle.netlist.specs.StoredBlock.{decode}
 use Rattle.batch.proofs.BatchLaws.{along-there, walked-zeros, walked-ones}
-use Rattle.passes.specs.Counting.{Stepped}
 use Rattle.passes.proofs.PairLaws.{member-place}
 use Rattle.passes.proofs.GroupLaws.{held-long, walked-stepped}
 use Rattle.passes.proofs.group.pass.Statement.{statement}

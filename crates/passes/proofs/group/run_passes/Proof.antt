@@ -11,10 +11,11 @@ use Rattle.passes.proofs.group.run_passes.Statement.{statement}
 use Rattle.passes.proofs.group.run_passes.Tie as tie
 
 abbrev Inv-loop : tie.InvT-loop
-Inv-loop words n gates used group passes zeros₀ ones₀ p₀ zeros ones p = (p ≤ passes) × Stepped (decode words) n (repeated p group) zeros₀ ones₀ zeros ones
+Inv-loop words nodes used group passes zeros₀ ones₀ p₀ zeros ones p = (p ≤ passes)
+    × Stepped (decode words) (nodes .inputs) (repeated p group) zeros₀ ones₀ zeros ones
 
 abbrev μ-loop : tie.MeasureT-loop
-μ-loop words n gates used group passes zeros₀ ones₀ p₀ zeros ones p = passes - p
+μ-loop words nodes used group passes zeros₀ ones₀ p₀ zeros ones p = passes - p
 
 -- the function's entry, from the loop's head
 abbrev start : tie.At-loop Inv-loop μ-loop → tie.Start Inv-loop μ-loop

@@ -3,7 +3,7 @@ use Prim.Native.Nat.{_-_, _≤_}
 use native.Mathlib.Omega.{arith}
 use lib.ListN.{length, take}
 use Rattle.lanes.specs.Batches.{lanesOf}
-use Rattle.judge.specs.Lanes.{Tells}
+use Rattle.lanes.specs.Words.{Tells}
 use Rattle.passes.specs.Pairs.{differAt}
 use Rattle.passes.proofs.PairLaws.{differs-none, differs-next, first-all}
 use Rattle.passes.proofs.pairs.differing_lanes.Statement.{statement}

@@ -8,7 +8,10 @@ abbrev entry : tie.After-tables → tie.Start
 entry c = c .before .before .before .before .before .before .before .before .before .before .before .before .before .before .before
 
 tables-requires : tie.Need-tables-requires
-tables-requires c κs = tables-ready (c .before .before .before .before .before .before .before .before .before .before .before .before .before .before .pre)
+tables-requires c κs =
+    let at-slice-known5 = c .before .before .before .before .before .before .before in
+    let start = at-slice-known5 .before .before .before .before .before .before .before in
+    tables-ready (start .pre)
 
 enum-told : tie.Need-enum-told
 enum-told c = search needs
@@ -33,15 +36,17 @@ same-length-4 c = search needs
 
 returns : tie.Need-returns
 returns c =
-    let t = c .before .before .before .before .before .before .before .before .before .before .before in
-    let s = entry t in
-    twice (s .pre) _ _ _ _ (t .tables .ensures) (s .args .block .now) (c .before .before .match .keys2) (c .refusal .ensures)
+    let at-nodes = c .before .before .before .before .before .before in
+    let at-tables = at-nodes .before .before .before .before .before in
+    let s = entry at-tables in
+    twice (s .pre) _ _ _ _ (at-tables .tables .ensures) (s .args .block .now) (c .before .before .match .keys2) (c .refusal .ensures)
 
 read-terms-requires : tie.Need-read-terms-requires
 read-terms-requires c κs =
-    let passed = c .before .before .before .before .before .before .before in
-    let t = passed .before .before .before .before .before .before .before .before .before .before in
-    terms-ready (entry t .pre) _ _ _ _ (t .tables .ensures) (passed .enum-told .given .1)
+    let at-enum-told = c .before .before .before .before .before .before .before in
+    let at-places = at-enum-told .before .before .before .before .before .before .before in
+    let at-tables = at-places .before .before .before in
+    terms-ready (entry at-tables .pre) _ _ _ _ (at-tables .tables .ensures) (at-enum-told .enum-told .given .1)
 
 same-length-5 : tie.Need-same-length-5
 same-length-5 c = search needs

@@ -9,23 +9,28 @@ abbrev entry : tie.After-declare → tie.Start
 entry c = c .before .before .before .before .before .before .before .before .before .before
 
 declare-requires : tie.Need-declare-requires
-declare-requires c κs = room-for (c .before .before .before .before .before .before .before .before .before .pre)
+declare-requires c κs =
+    let at-shared-slice-known2 = c .before .before .before .before .before .before .before in
+    let start = at-shared-slice-known2 .before .before in
+    room-for (start .pre)
 
 test-repeats-requires : tie.Need-test-repeats-requires
 test-repeats-requires c κs = search needs
 
 duplicate-requires : tie.Need-duplicate-requires
 duplicate-requires c κs =
-    let declared = c .before .before .before .before .before .before .before .before .before .before in
-    index-ready (entry declared .pre) _ _ (declared .declare .kept .1 .1 .0) (declared .declare .kept .1 .1 .1 .0)
+    let at-places = c .before .before .before .before .before .before .before in
+    let at-declare = at-places .before .before .before in
+    index-ready (entry at-declare .pre) _ _ (at-declare .declare .kept .1 .1 .0) (at-declare .declare .kept .1 .1 .1 .0)
 
 moved-repeat-requires : tie.Need-moved-repeat-requires
 moved-repeat-requires c κs =
-    let declared = c .before .before .before .before .before .before .before .before .before .before .before .before .before in
-    let start = entry declared in
+    let at-test-repeats = c .before .before .before .before .before .before in
+    let at-declare = at-test-repeats .before .before .before .before .before .before .before in
+    let start = entry at-declare in
     let a = start .args in
     let l = start .pre .limited in
-    let answer = outside-repeat (a .text .now) (a .lines) (a .rest .now) (a .c) _ _ _ _ _ (declared .declare .ensures) (c .before .before .duplicate .ensures)
+    let answer = outside-repeat (a .text .now) (a .lines) (a .rest .now) (a .c) _ _ _ _ _ (at-declare .declare .ensures) (c .before .before .duplicate .ensures)
     (start .pre .tree) l (start .pre .counted) in
     let part = part-near (l .split) in (repeat-near (l .split) answer, omega (arith, part .0), omega (arith, part .0, part .1))
 

@@ -24,14 +24,20 @@ returns c =
     λ t l h. unknown-inside _ (tested .test-outsiders .ensures) t l h (c .before .match .keys2) _ _
 
 resolve-requires : tie.Need-resolve-requires
-resolve-requires c κs = let start = c .before .before .before .before .before .before .before .before .before .before .before .before in (resolve-ready (start .pre), start .pre .indexed)
+resolve-requires c κs =
+    let at-test-outsiders = c .before .before .before .before in
+    let at-shared-slice-known = at-test-outsiders .before .before .before .before .before .before .before in
+    let start = at-shared-slice-known .before in
+    (resolve-ready (start .pre), start .pre .indexed)
 
 moved-unknown-requires : tie.Need-moved-unknown-requires
 moved-unknown-requires c κs =
-    let resolved = c .before .before .before .before in
-    let start = resolved .before .before .before .before .before .before .before .before .before .before .before .before .before in
+    let at-resolve = c .before .before .before .before in
+    let at-test-outsiders = at-resolve .before .before .before .before .before in
+    let at-shared-slice-known = at-test-outsiders .before .before .before .before .before .before .before in
+    let start = at-shared-slice-known .before in
     let s = start .pre .limited .split in
-    let answer = resolved .resolve .ensures .done (plain (start .pre .tree)) (start .pre .here) .answer in
+    let answer = at-resolve .resolve .ensures .done (plain (start .pre .tree)) (start .pre .here) .answer in
     let part = part-near s in (unknown-near s answer, omega (arith, part .0), omega (arith, part .1))
 
 same-length : tie.Need-same-length

@@ -1,31 +1,44 @@
--- `render::steps::count_along` meets its contract: parts of m and n + m elements are what the count asks. Assumes nothing.
-use mathlib.Core.Path.{sym, _∙_}
-use Prim.Native.Nat.{_+_, _≤_}
+-- `render::steps::count_along` meets its contract: parts as long as the gates and the nodes are what the count asks. Assumes nothing.
+use mathlib.Core.Path.{_≡_, sym, ap, _∙_}
+use Prim.Native.Nat.{ℕ, _+_, _≤_}
 use native.Mathlib.Omega.{arith}
-use lib.ListN.{length}
+use lib.ListN.{length, getD}
 use lib.Seq.{length-take-le}
+use Rattle.layout.specs.declared.nodes.Nodes.{Nodes}
+use Rattle.layout.specs.Nodes.{nodesOf}
 use Rattle.encoding.proofs.Readers.{whole-parts}
 use Rattle.verdict.proofs.Batching.{whole-decidable}
 use borrow.Author.Needs.{needs}
 use Rattle.render.proofs.steps.count_along.Statement.{statement}
 use Rattle.render.proofs.steps.count_along.Tie as tie
 
--- the function's entry, and parts that are there
-abbrev start : tie.After-gates-of → tie.Start
-start c = let k = c .before .before .before .before .before .before in k .before .before .before .before .before
+-- the function's entry, the counts as they stand in the words, and parts that are there
+abbrev start : tie.After-nodes-of → tie.Start
+start c = let k = c .before .before .before .before .before in k .before .before .before .before .before
+
+inputs-are : (c : tie.After-nodes-of) → c .nodes-of .result .inputs ≡ getD (start c .args .words .now) 0 0
+unfolding nodesOf
+inputs-are c = ap (λ (k : Nodes). k .inputs) (c .nodes-of .ensures)
+
+gates-are : (c : tie.After-nodes-of) → c .nodes-of .result .gates ≡ getD (start c .args .words .now) 1 0
+unfolding nodesOf
+gates-are c = ap (λ (k : Nodes). k .gates) (c .nodes-of .ensures)
+
+abbrev nodeCount : tie.After-nodes-of → ℕ
+nodeCount c = c .nodes-of .result .inputs + c .nodes-of .result .gates
 
 -- a word for each node in the four slices
-record NodeRoom (c : tie.After-gates-of) : Type 0 where
-  zeroRoom : c .before .inputs-of .result + c .gates-of .result ≤ length (start c .args .zeros .now)
-  oneRoom : c .before .inputs-of .result + c .gates-of .result ≤ length (start c .args .ones .now)
-  settledZeroRoom : c .before .inputs-of .result + c .gates-of .result ≤ length (start c .args .settled-zeros .now)
-  settledOneRoom : c .before .inputs-of .result + c .gates-of .result ≤ length (start c .args .settled-ones .now)
+record NodeRoom (c : tie.After-nodes-of) : Type 0 where
+  zeroRoom : nodeCount c ≤ length (start c .args .zeros .now)
+  oneRoom : nodeCount c ≤ length (start c .args .ones .now)
+  settledZeroRoom : nodeCount c ≤ length (start c .args .settled-zeros .now)
+  settledOneRoom : nodeCount c ≤ length (start c .args .settled-ones .now)
 
-node-room : (c : tie.After-gates-of) → NodeRoom c
+node-room : (c : tie.After-nodes-of) → NodeRoom c
 node-room c =
     let s = start c in
-    let n = c .before .inputs-of .ensures in
-    let m = c .gates-of .ensures in
+    let n = inputs-are c in
+    let m = gates-are c in
     record {
       zeroRoom = omega (arith, n, m, s .pre .zeroRoom);
       oneRoom = omega (arith, n, m, s .pre .oneRoom);
@@ -33,30 +46,24 @@ node-room c =
       settledOneRoom = omega (arith, n, m, s .pre .settledOneRoom);
     }
 
-inputs-of-requires : tie.Need-inputs-of-requires
-inputs-of-requires c κs = search needs
+nodes-of-requires : tie.Need-nodes-of-requires
+nodes-of-requires c κs = search needs
 
-gates-of-requires : tie.Need-gates-of-requires
-gates-of-requires c κs = search needs
-
-gates-at-requires : tie.Need-gates-at-requires
-gates-at-requires c κs = search needs
-
-add-nodes : tie.Need-add-nodes
-add-nodes c =
-    let g = c .before in
-    let w = whole-parts (start g .args .words .now) (start g .pre .whole) in
-    omega (arith, g .before .inputs-of .ensures, g .gates-of .ensures, w .fewInputs, w .fewGates)
+add-size : tie.Need-add-size
+add-size c =
+    let n = c .before in
+    let w = whole-parts (start n .args .words .now) (start n .pre .whole) in
+    omega (arith, inputs-are n, gates-are n, w .fewInputs, w .fewGates)
 
 slice-aggregate-count-passes : tie.Need-slice-aggregate-count-passes
 slice-aggregate-count-passes c =
     let g = c .before .before in
-    sym (length-take-le _ _ (rw (g .gates-of .ensures) (start g .pre .orderRoom)))
+    sym (length-take-le _ _ (rw (gates-are g) (start g .pre .orderRoom)))
 
 slice-aggregate-count-passes-2 : tie.Need-slice-aggregate-count-passes-2
 slice-aggregate-count-passes-2 c =
     let g = c .before .before .before in
-    sym (length-take-le _ _ (rw (g .gates-of .ensures) (start g .pre .memberRoom)))
+    sym (length-take-le _ _ (rw (gates-are g) (start g .pre .memberRoom)))
 
 slice-relend-prefix-count-passes : tie.Need-slice-relend-prefix-count-passes
 slice-relend-prefix-count-passes c = node-room (c .before .before .before .before) .zeroRoom
@@ -93,14 +100,11 @@ count-passes-requires c κs =
     let a = c .before .before .before .before .before .before in
     let g = a .before .before in
     let s = start g in
-    let n = g .before .inputs-of in
-    let m = g .gates-of in
-    let at = a .before .gates-at in
     let r = node-room g in (
-      whole-decidable (s .args .words .now) (n .result) (m .result) (at .result) _ _ _ (s .pre .whole) (n .ensures) (m .ensures) (at .ensures)
-          (rw (m .ensures) (s .pre .visits)) (length-take-le _ _ (r .zeroRoom)) (length-take-le _ _ (r .oneRoom)),
+      whole-decidable (s .args .words .now) (g .nodes-of .result) _ _ _ (s .pre .whole) (g .nodes-of .ensures) (rw (gates-are g) (s .pre .visits))
+          (length-take-le _ _ (r .zeroRoom)) (length-take-le _ _ (r .oneRoom)),
       record {
-        listing = rw (m .ensures) (s .pre .listing);
+        listing = rw (gates-are g) (s .pre .listing);
         passesRoom = s .pre .passRoom;
         zerosRoom = length-take-le _ _ (r .settledZeroRoom) ∙ sym (length-take-le _ _ (r .zeroRoom));
         onesRoom = length-take-le _ _ (r .settledOneRoom) ∙ sym (length-take-le _ _ (r .oneRoom));
@@ -129,10 +133,8 @@ pub count-along-spec : {M : Type 1} → statement M
 count-along-spec =
     tie.close
     (tie.spec
-    inputs-of-requires
-    gates-of-requires
-    gates-at-requires
-    add-nodes
+    nodes-of-requires
+    add-size
     slice-aggregate-count-passes
     slice-aggregate-count-passes-2
     slice-relend-prefix-count-passes

@@ -138,16 +138,13 @@ write-rendering-requires c κs =
     let written = rw (o .before .gates-of .ensures) at (f .fill-schedule .ensures) in
     record {
       whole = s .pre .whole;
-      inputsAre = o .before .before .inputs-of .ensures;
-      gatesAre = o .before .gates-of .ensures;
-      outputsAre = o .outputs-of .ensures;
-      totalIs = sym (schedule-length (now (s .args .words)) (s .args .total) (s .pre .totalIs));
+      totalIs = omega (arith, schedule-length (now (s .args .words)) (s .args .total) (s .pre .totalIs));
       fewCopies = s .pre .fits;
       scheduled =
           scheduled (now (s .args .words)) (now (s .args .numbers)) (now (s .args .passes)) (s .args .count) (s .args .total) (now (s .args .order))
           (f .fill-schedule .last .1 .1 .1 .1 .0) (f .fill-schedule .result) (s .pre .numbersAre) (s .pre .passesAre) (s .pre .totalIs) (s .pre .fits)
           (s .pre .orderRoom) written;
-      table = rw (o .before .gates-of .ensures) (s .pre .tableRoom);
+      table = s .pre .tableRoom;
       room = ltb-false _ _ (passed-false _ NoRoom (room-told t) (p .enum-told .given .1));
     }
 

@@ -23,14 +23,17 @@ same-length-2 c = search needs
 returns : tie.Need-returns
 returns c =
     let marked = c .before .before .before .before in
-    let named = marked .before .before .before in
-    let a = start (named .before) .args in
-    rw (named-gate (a .n) (a .m) (a .w) (named .before .gate-named .ensures) (named .if1 .taken)) (marked .mark .ensures)
+    let then = marked .before .before .before in
+    let named = then .before .before in
+    let a = start named .args in
+    rw (named-gate (a .nodes .inputs) (a .nodes .gates) (a .w) (named .gate-named .ensures) (then .if1 .taken)) (marked .mark .ensures)
 
 returns-2 : tie.Need-returns-2
 returns-2 c =
-    let a = start (c .before) .args in
-    rw (named-none (a .n) (a .m) (a .w) (c .before .gate-named .ensures) (c .if1 .left)) (extended-none (a .flags .now) (a .queue .now) (a .tail))
+    let named = c .before .before in
+    let a = start named .args in
+    rw (named-none (a .nodes .inputs) (a .nodes .gates) (a .w) (named .gate-named .ensures) (c .if1 .left))
+    (extended-none (a .flags .now) (a .queue .now) (a .tail))
 
 pub mark-word-spec : {M : Type 1} → statement M
 mark-word-spec = tie.close (tie.spec gate-named-requires mark-requires same-length same-length-2 returns returns-2)

@@ -2,16 +2,17 @@ use mathlib.Core.Path.{_≡_}
 use Prim.Native.Nat.{_-_, _/_, _≤_}
 use borrow.Author.Needs.{needs}
 use native.Mathlib.Omega.{arith}
-use Rattle.search.specs.Search.{wordGate, wordGates, Extended}
+use Rattle.search.specs.Search.{wordGates, Extended}
 use Rattle.search.proofs.Marking.{extended-none, room-kept, words-inside, words-none, word-turn, flags-length, queue-length}
 use Rattle.search.proofs.walk.visit.Statement.{statement}
 use Rattle.search.proofs.walk.visit.Tie as tie
 
 abbrev Inv-loop : tie.InvT-loop
-Inv-loop words n m at flags₀ queue₀ tail count end₀ i₀ flags queue end i = (i ≤ count) × Extended (wordGates words n m at i) flags₀ queue₀ tail flags queue end
+Inv-loop words nodes at flags₀ queue₀ tail count end₀ i₀ flags queue end i =
+    (i ≤ count) × Extended (wordGates words (nodes .inputs) (nodes .gates) at i) flags₀ queue₀ tail flags queue end
 
 abbrev μ-loop : tie.MeasureT-loop
-μ-loop words n m at flags₀ queue₀ tail count end₀ i₀ flags queue end i = count - i
+μ-loop words nodes at flags₀ queue₀ tail count end₀ i₀ flags queue end i = count - i
 
 word-at-requires : tie.Need-word-at-requires Inv-loop μ-loop
 word-at-requires c κs = search needs
@@ -19,7 +20,7 @@ word-at-requires c κs = search needs
 loop-holds : tie.Need-loop-holds Inv-loop μ-loop
 loop-holds c =
     let a = c .before .before .before .before .args in
-    (search needs, rw (words-none (a .words .now) (a .n) (a .m) (a .at)) (extended-none (a .flags .now) (a .queue .now) (a .tail)))
+    (search needs, rw (words-none (a .words .now) (a .nodes .inputs) (a .nodes .gates) (a .at)) (extended-none (a .flags .now) (a .queue .now) (a .tail)))
 
 add-word-at : tie.Need-add-word-at Inv-loop μ-loop
 add-word-at c = omega arith
@@ -35,7 +36,7 @@ mark-word-requires c κs =
     let at-loop = c .before .before .before .before in
     let s = at-loop .before .before .before .before .before in
     let l = at-loop .loop in
-    (s .pre .1, room-kept (s .pre .2) (words-inside (s .args .words .now) (s .args .n) (s .args .m) (s .args .at) (l .i)) (l .inv .1))
+    (s .pre .1, room-kept (s .pre .2) (words-inside (s .args .words .now) (s .args .nodes .inputs) (s .args .nodes .gates) (s .args .at) (l .i)) (l .inv .1))
 
 add-i : tie.Need-add-i Inv-loop μ-loop
 add-i c = omega arith
@@ -52,8 +53,8 @@ loop-again c =
     let a = at-start .args in
     let l = at-loop .loop in (
       omega arith,
-      word-turn (a .words .now) (a .n) (a .m) (a .at) (l .i) (after-word-at2 .word-at2 .result) (after-word-at2 .word-at2 .ensures) (l .inv .1)
-          (after-mark-word .mark-word .ensures),
+      word-turn (a .words .now) (a .nodes .inputs) (a .nodes .gates) (a .at) (l .i) (after-word-at2 .word-at2 .result) (after-word-at2 .word-at2 .ensures)
+          (l .inv .1) (after-mark-word .mark-word .ensures),
     )
 
 same-length : tie.Need-same-length Inv-loop μ-loop

@@ -31,10 +31,12 @@ same-length-2 c = search needs
 
 returns : tie.Need-returns
 returns c =
-    let s = c .before .before .before .before .before .before .before .before .before .before .before .before .before .before .before in
-    let found = c .before .before .before .before .before .why .given in
-    end-refused (take (s .args .held) (s .args .text .now)) (s .args .words .now) _ (s .pre .1) _
-    (c .before .before .before .before .before .before .before .before .before .read .ensures) (found .0 .0) (found .1)
+    let at-why = c .before .before .before .before .before in
+    let at-read = at-why .before .before .before .before in
+    let start = at-read .before .before .before .before .before .before in
+    let found = at-why .why .given in
+    end-refused (take (start .args .held) (start .args .text .now)) (start .args .words .now) _ (start .pre .1) _
+    (at-read .read .ensures) (found .0 .0) (found .1)
     _ _ _ (c .before .before .tell .ensures)
 
 same-length-3 : tie.Need-same-length-3
@@ -42,9 +44,10 @@ same-length-3 c = search needs
 
 returns-2 : tie.Need-returns-2
 returns-2 c =
-    let s = c .before .before .before .before .before .before .before .before .before .before in
+    let at-read = c .before .before .before .before in
+    let start = at-read .before .before .before .before .before .before in
     let found = c .enum-told .given in
-    end-done (take (s .args .held) (s .args .text .now)) (s .args .words .now) _ (s .pre .1) _ (c .before .before .before .before .read .ensures)
+    end-done (take (start .args .held) (start .args .text .now)) (start .args .words .now) _ (start .pre .1) _ (at-read .read .ensures)
     (found .0 .0) (found .0 .1 .0) (found .1) _
 
 pub end-netlist-spec : {M : Type 1} → statement M

@@ -23,10 +23,14 @@ same-length-3 c = search needs
 
 returns : tie.Need-returns
 returns c =
-    let x = c .before .before .before .before .before .before .before .before .before .before .before .before .before .args in
+    let at-open = c .before .before .before .before in
+    let in-if2 = at-open .before .before .before .before in
+    let in-if1 = in-if2 .before in
+    let start = in-if1 .before .before .before .before in
+    let x = start .args in
     λ line. turn-opens (x .held) (x .fresh) (x .byte) (x .text .now) (x .words .now) line (x .out .now)
-    (and-intro (x .fresh) (eqb (x .byte) lf) (c .before .before .before .before .before .before .before .before .before .if1 .taken)
-    (c .before .before .before .before .before .before .before .before .if2 .taken)) (c .before .before .before .before .«open» .ensures line)
+    (and-intro (x .fresh) (eqb (x .byte) lf) (in-if1 .if1 .taken)
+    (in-if2 .if2 .taken)) (at-open .«open» .ensures line)
 
 slice-write-text : tie.Need-slice-write-text
 slice-write-text c = search needs
@@ -52,11 +56,13 @@ same-length-5 c = search needs
 
 returns-3 : tie.Need-returns-3
 returns-3 c =
-    let s = c .before .before .before .before .before .before .before .before .before in
-    let x = s .args in
+    let past-if3 = c .before .before .before .before in
+    let joined1 = past-if3 .before in
+    let start = joined1 .before .before .before .before in
+    let x = start .args in
     λ line. turn-too-long (x .held) (x .fresh) (x .byte) (x .text .now) _ line _
-    (not-both (x .fresh) (eqb (x .byte) lf) (⊎-elim (λ p. inl (p .1 .left)) (λ q. inr (q .left)) (c .before .before .before .before .before .if1 .came)))
-    (c .before .before .before .before .if3 .left) (omega arith)
+    (not-both (x .fresh) (eqb (x .byte) lf) (⊎-elim (λ p. inl (p .1 .left)) (λ q. inr (q .left)) (joined1 .if1 .came)))
+    (past-if3 .if3 .left) (omega arith)
     (c .before .before .tell .ensures)
 
 pub netlist-byte-spec : {M : Type 1} → statement M

@@ -21,11 +21,13 @@ same-length c = search needs
 
 returns : tie.Need-returns
 returns c =
-    let s = c .before .before .before .before .before .before .before .before .before .before .before .before .before .before in
-    let x = s .args in
-    let found = c .before .before .before .before .before .why .given in
-    line-refused (x .words .now) (x .line .now) (s .pre .0) (x .out .now) _ (s .pre .1) _
-    (c .before .before .before .before .before .before .before .before .before .answer-line .ensures) (found .0 .0) _ _ (found .1)
+    let at-why = c .before .before .before .before .before in
+    let at-answer-line = at-why .before .before .before .before in
+    let start = at-answer-line .before .before .before .before .before in
+    let x = start .args in
+    let found = at-why .why .given in
+    line-refused (x .words .now) (x .line .now) (start .pre .0) (x .out .now) _ (start .pre .1) _
+    (at-answer-line .answer-line .ensures) (found .0 .0) _ _ (found .1)
     (c .before .before .tell .ensures)
 
 same-length-2 : tie.Need-same-length-2
@@ -33,10 +35,11 @@ same-length-2 c = search needs
 
 returns-2 : tie.Need-returns-2
 returns-2 c =
-    let s = c .before .before .before .before .before .before .before .before .before .before in
-    let x = s .args in
+    let at-answer-line = c .before .before .before .before .before in
+    let start = at-answer-line .before .before .before .before .before in
+    let x = start .args in
     let found = c .before .count .given in
-    line-done (x .words .now) (x .line .now) (s .pre .0) (x .out .now) _ (s .pre .1) _ (c .before .before .before .before .before .answer-line .ensures)
+    line-done (x .words .now) (x .line .now) (start .pre .0) (x .out .now) _ (start .pre .1) _ (at-answer-line .answer-line .ensures)
     (found .0 .0) (found .0 .1 .0) (found .1)
 
 pub answer-spec : {M : Type 1} → statement M

@@ -29,9 +29,10 @@ same-length c = search needs
 
 returns-2 : tie.Need-returns-2
 returns-2 c =
-    let s = c .before .before .before .before .before .before .before .before .before .before in
-    let some = nonzero (s .args .held) (c .before .before .before .before .before .before .if1 .left) in
-    let kept = length-take-le (s .args .held) (s .args .line .now) (omega (arith, s .pre .few, s .pre .lineRoom)) in
+    let past-if1 = c .before .before .before .before .before .before in
+    let start = past-if1 .before .before .before .before in
+    let some = nonzero (start .args .held) (past-if1 .if1 .left) in
+    let kept = length-take-le (start .args .held) (start .args .line .now) (omega (arith, start .pre .few, start .pre .lineRoom)) in
     last-line _ _ _ _ (omega (arith, kept, some)) (c .before .before .answer .ensures)
 
 pub end-line-spec : {M : Type 1} → statement M

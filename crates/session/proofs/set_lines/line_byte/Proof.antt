@@ -16,15 +16,18 @@ same-length c = search needs
 
 returns : tie.Need-returns
 returns c =
-    let s = c .before .before .before .before .before .before .before .before in
-    let x = s .args in
-    λ text. turn-holds (x .count) (x .held) (x .byte) (x .words .now) (x .line .now) _ _ (c .before .before .before .hold .ensures) (s .pre .wordsThere)
-    (s .pre .whole) text _
+    let at-hold = c .before .before .before in
+    let start = at-hold .before .before .before .before .before in
+    let x = start .args in
+    λ text. turn-holds (x .count) (x .held) (x .byte) (x .words .now) (x .line .now) _ _ (at-hold .hold .ensures) (start .pre .wordsThere)
+    (start .pre .whole) text _
     (ne-eqb (x .byte) lf (c .if1 .taken))
 
 slice-aggregate-answer : tie.Need-slice-aggregate-answer
 slice-aggregate-answer c =
-    sym (length-take-le _ _ (c .before .before .before .before .before .before .before .before .before .pre .wordsThere))
+    let at-hold = c .before .before .before .before in
+    let start = at-hold .before .before .before .before .before in
+    sym (length-take-le _ _ (start .pre .wordsThere))
 
 slice-reshare-prefix-answer : tie.Need-slice-reshare-prefix-answer
 slice-reshare-prefix-answer c = search needs
@@ -44,11 +47,13 @@ same-length-3 c = search needs
 
 returns-2 : tie.Need-returns-2
 returns-2 c =
-    let s = c .before .before .before .before .before .before .before .before .before .before .before .before .before .before in
-    let x = s .args in
+    let past-if1 = c .before .before .before .before .before .before in
+    let at-hold = past-if1 .before .before .before in
+    let start = at-hold .before .before .before .before .before in
+    let x = start .args in
     λ text. turn-answers (x .count) (x .held) (x .byte) (x .words .now) (x .line .now) _ _
-    (c .before .before .before .before .before .before .before .before .before .hold .ensures) (s .pre .wordsThere) (s .pre .whole) text _ _
-    (eq-eqb (x .byte) lf (c .before .before .before .before .before .before .if1 .left)) (c .before .before .answer .ensures)
+    (at-hold .hold .ensures) (start .pre .wordsThere) (start .pre .whole) text _ _
+    (eq-eqb (x .byte) lf (past-if1 .if1 .left)) (c .before .before .answer .ensures)
 
 pub line-byte-spec : {M : Type 1} → statement M
 line-byte-spec =

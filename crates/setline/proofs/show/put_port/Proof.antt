@@ -16,10 +16,10 @@ use Rattle.setline.specs.Shown.{portPiece}
 use Rattle.setline.proofs.ShowLaws.{value-shown}
 
 -- the stages: the value is found, and then the pieces are put
-abbrev start : tie.After-operand-value → tie.Start
-start c = c .before .before .before .before .before .before .before
+abbrev start : tie.After-shown-value → tie.Start
+start c = c .before .before .before .before .before .before
 
-abbrev asked : tie.After-put-all → tie.After-operand-value
+abbrev asked : tie.After-put-all → tie.After-shown-value
 asked c = c .before .before .before
 
 abbrev opened : tie.After-put-name → tie.After-put-all
@@ -36,7 +36,7 @@ byte-is : (c : tie.After-value-byte) → let a = start (asked (opened (named (sp
     ≡ valueText (wordValue (getD (a .words .now) 0 0) (a .setting .now) (a .gates .now) (getD (a .words .now) (a .from + outputSize * a .o + nameSize) 0))
 byte-is c =
     let q = asked (opened (named (spaced c))) in
-    rw (← q .before .inputs-of .ensures, ← q .before .before .word-at .ensures) (value-shown _ (q .operand-value .ensures) (c .value-byte .ensures))
+    rw (← q .before .inputs-of .ensures) (value-shown _ (q .shown-value .ensures) (c .value-byte .ensures))
 
 mul-port : tie.Need-mul-port
 mul-port c = search needs
@@ -44,24 +44,19 @@ mul-port c = search needs
 add-port : tie.Need-add-port
 add-port c = search needs
 
-add-word-at : tie.Need-add-word-at
-add-word-at c = search needs
-
-word-at-requires : tie.Need-word-at-requires
-word-at-requires c κs = search needs
-
 inputs-of-requires : tie.Need-inputs-of-requires
 inputs-of-requires c κs = search needs
 
-operand-value-requires : tie.Need-operand-value-requires
-operand-value-requires c κs = search needs
+shown-value-requires : tie.Need-shown-value-requires
+shown-value-requires c κs = search needs
 
 slice-aggregate-put-all : tie.Need-slice-aggregate-put-all
 slice-aggregate-put-all c = search needs
 
 put-all-requires : tie.Need-put-all-requires
 unfolding portPiece pairText
-put-all-requires c κs = short-first {xs = ascii " ("} _ (c .before .before .before .before .before .before .before .before .before .pre .1)
+put-all-requires c κs =
+    short-first {xs = ascii " ("} _ (start (c .before .before) .pre .1)
 
 put-name-requires : tie.Need-put-name-requires
 unfolding portPiece pairText
@@ -123,10 +118,8 @@ put-port-spec =
     (tie.spec
     mul-port
     add-port
-    add-word-at
-    word-at-requires
     inputs-of-requires
-    operand-value-requires
+    shown-value-requires
     slice-aggregate-put-all
     put-all-requires
     put-name-requires

@@ -1,52 +1,46 @@
 -- `setline::show::put_ports` meets its contract: after o turns the first o ports are appended. Assumes nothing.
+use Prim.Native.Nat.{_-_}
+use native.Mathlib.Omega.{arith}
+use Rattle.writing.proofs.Appending.{appended-length, PiecesPut, put-none, put-short, put-more, put-every}
+use Rattle.setline.specs.Shown.{portPiece}
 use Rattle.setline.proofs.show.put_ports.Statement.{statement}
 use Rattle.setline.proofs.show.put_ports.Tie as tie
-use Prim.Native.Nat.{_-_, _≤_}
-use mathlib.Core.Path.{_≡_}
-use native.Mathlib.Omega.{arith}
-use Rattle.writing.specs.Pieces.{Appended, pieces}
-use Rattle.writing.proofs.Appending.{appended-length, pieces-start, pieces-turn, short-turn}
-use Rattle.setline.specs.Shown.{portPiece}
 
 abbrev Inv-loop : tie.InvT-loop
-Inv-loop text₀ at words from k setting gates end₀ o₀ text end o = (o ≤ k) × Appended (pieces (portPiece words from setting gates) o) text₀ at text end
+Inv-loop text₀ at words from k setting gates end₀ o₀ text end o = PiecesPut (portPiece words from setting gates) k text₀ at text end o
 
 abbrev μ-loop : tie.MeasureT-loop
 μ-loop text₀ at words from k setting gates end₀ o₀ text end o = k - o
 
+-- the function's entry, from the loop's head
+abbrev start : tie.At-loop Inv-loop μ-loop → tie.Start Inv-loop μ-loop
+start l = l .before .before .before .before .before
+
 loop-holds : tie.Need-loop-holds Inv-loop μ-loop
-loop-holds c =
-    let a = c .before .before .before .before .args in
-    (omega arith, pieces-start (portPiece (a .words .now) (a .from) (a .setting .now) (a .gates .now)) (a .text .now) (a .at))
+loop-holds c = put-none
 
 put-port-requires : tie.Need-put-port-requires Inv-loop μ-loop
 put-port-requires c κs =
-    let start = c .before .before .before .before .before .before .before in
-    let a = start .args in
-    let l = c .before .before .loop in
-    let f = portPiece (a .words .now) (a .from) (a .setting .now) (a .gates .now) in
-    ((start .pre .0 .0, omega arith), short-turn f (l .o) (a .k) (c .before .loop-test .taken) (start .pre .1) (l .inv .1))
+    let l = c .before .before in
+    let more = c .before .loop-test .taken in
+    ((start l .pre .0 .0, omega (arith, start l .pre .0, more)), put-short (l .loop .inv) more (start l .pre .1))
 
 add-o : tie.Need-add-o Inv-loop μ-loop
-add-o c = omega (arith, c .before .before .before .before .before .before .before .before .before .before .pre .0)
+add-o c = omega (arith, start (c .before .before .before .before .before) .pre .0)
 
 loop-less : tie.Need-loop-less Inv-loop μ-loop
 loop-less c = omega arith
 
 loop-again : tie.Need-loop-again Inv-loop μ-loop
 loop-again c =
-    let a = c .before .before .before .before .before .before .before .before .before .before .args in
-    let l = c .before .before .before .before .before .loop in
-    let f = portPiece (a .words .now) (a .from) (a .setting .now) (a .gates .now) in
-    (omega arith, pieces-turn f (l .o) (l .inv .1) (c .before .before .put-port .ensures))
+    let t = c .before .before .before .before in
+    put-more (t .before .loop .inv) (t .loop-test .taken) (c .before .before .put-port .ensures)
 
 same-length : tie.Need-same-length Inv-loop μ-loop
-same-length c = appended-length (c .before .loop .inv .1)
+same-length c = appended-length (c .before .loop .inv .there)
 
 returns : tie.Need-returns Inv-loop μ-loop
-returns c =
-    let all : c .before .loop .o ≡ c .before .before .before .before .before .before .args .k = omega arith in
-    rw (← all) (c .before .loop .inv .1)
+returns c = put-every (c .before .loop .inv) (c .loop-test .left)
 
 pub put-ports-spec : {M : Type 1} → statement M
 put-ports-spec =

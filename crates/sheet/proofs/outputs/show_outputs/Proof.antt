@@ -1,11 +1,11 @@
 -- `sheet::outputs::show_outputs` meets its contract: the masks of the outputs passed, from the last. Assumes nothing.
-use mathlib.Core.Path.{_≡_, refl, sym, ap, _∙_}
+use mathlib.Core.Path.{_≡_, sym, _∙_}
 use mathlib.Core.Bool.{cond}
-use Prim.Native.Nat.{_-_, _≤_, _<_}
+use Prim.Native.Nat.{_-_, _<_}
 use native.Mathlib.Omega.{arith}
 use denote.Ref.{now}
 use borrow.Author.Needs.{needs}
-use lib.ListN.{length, getD}
+use lib.ListN.{getD}
 use Rattle.netlist.specs.Values.{undefined, isDefined}
 use Rattle.netlist.specs.Assignments.{isOne}
 use Rattle.layout.proofs.Gathered.{Gathered, gathered-none, gathered-next, defined-half, defined-fits, one-half, one-fits}

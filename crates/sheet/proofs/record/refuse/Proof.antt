@@ -1,10 +1,6 @@
 -- `sheet::record::refuse` meets its contract. Assumes nothing.
-use mathlib.Core.Path.{_≡_, refl, ap}
-use Prim.Native.Nat.{ℕ}
 use native.Mathlib.Omega.{arith}
 use borrow.Author.Needs.{needs}
-use Rattle.netlist.specs.declared.Record.{Record}
-use Rattle.netlist.specs.declared.Refusal.the-variants.{BadSetting}
 use Rattle.netlist.specs.Answers.{refusalNumber}
 use Rattle.netlist.specs.Sheet.{refusedRecord}
 use Rattle.sheet.proofs.record.refuse.Statement.{statement}

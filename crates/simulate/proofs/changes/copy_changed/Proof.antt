@@ -9,30 +9,30 @@ use Rattle.simulate.proofs.changes.copy_changed.Statement.{statement}
 use Rattle.simulate.proofs.changes.copy_changed.Tie as tie
 
 abbrev Inv-loop : tie.InvT-loop
-Inv-loop values queue head tail old₀ q₀ old q = Copied values queue head q old₀ old × (length old ≡ length old₀)
+Inv-loop values queue changed old₀ q₀ old q = Copied values queue (changed .head) q old₀ old × (length old ≡ length old₀)
 
 abbrev μ-loop : tie.MeasureT-loop
-μ-loop values queue head tail old₀ q₀ old q = tail - q
+μ-loop values queue changed old₀ q₀ old q = changed .tail - q
 
 loop-holds : tie.Need-loop-holds Inv-loop μ-loop
 loop-holds c = (copied-none _ _ _ _, refl)
 
 mul-k : tie.Need-mul-k Inv-loop μ-loop
-mul-k c = omega (arith, c .before .before .pre .queued)
+mul-k c = omega (arith, c .before .before .before .pre .queued)
 
 shared-slice-read-k : tie.Need-shared-slice-read-k Inv-loop μ-loop
-shared-slice-read-k c = omega (arith, c .before .before .before .pre .queued)
+shared-slice-read-k c = omega (arith, c .before .before .before .before .pre .queued)
 
 cast-k : tie.Need-cast-k Inv-loop μ-loop
-cast-k c = omega (arith, c .shared-slice-known .given (c .before .before .loop .q))
+cast-k c = omega (arith, c .shared-slice-known .given (c .before .before .before .loop .q))
 
 shared-slice-read-old : tie.Need-shared-slice-read-old Inv-loop μ-loop
 shared-slice-read-old c =
-    omega (arith, c .before .before .before .before .pre .inside (c .before .before .before .loop .q) (c .before .before .loop-test .taken) .0)
+    omega (arith, c .before .before .before .before .before .pre .inside (c .before .before .before .before .loop .q) (c .before .before .if1 .taken) .0)
 
 slice-write-old : tie.Need-slice-write-old Inv-loop μ-loop
 slice-write-old c =
-    omega (arith, c .before .before .before .before .pre .inside (c .before .before .before .loop .q) (c .before .before .loop-test .taken) .1)
+    omega (arith, c .before .before .before .before .before .pre .inside (c .before .before .before .before .loop .q) (c .before .before .if1 .taken) .1)
 
 add-q : tie.Need-add-q Inv-loop μ-loop
 add-q c = omega arith
@@ -42,15 +42,15 @@ loop-less c = omega arith
 
 loop-again : tie.Need-loop-again Inv-loop μ-loop
 loop-again c =
-    let l = c .before .before .before in
+    let l = c .before .before .before .before in
     let s = l .before in
-    (copied-next (l .loop .inv .0) (omega (arith, s .pre .inside (l .loop .q) (c .before .before .loop-test .taken) .1)), simp length-set (l .loop .inv .1))
+    (copied-next (l .loop .inv .0) (omega (arith, s .pre .inside (l .loop .q) (c .before .before .if1 .taken) .1)), simp length-set (l .loop .inv .1))
 
 same-length : tie.Need-same-length Inv-loop μ-loop
-same-length c = c .before .loop .inv .1
+same-length c = c .before .before .loop .inv .1
 
 returns : tie.Need-returns Inv-loop μ-loop
-returns c = copied-all (c .before .loop .inv .0) (c .loop-test .left)
+returns c = copied-all (c .before .before .loop .inv .0) (c .if1 .left)
 
 pub copy-changed-spec : {M : Type 1} → statement M
 copy-changed-spec =

@@ -11,12 +11,12 @@ use Rattle.simulate.proofs.changes.update_changed.Statement.{statement}
 use Rattle.simulate.proofs.changes.update_changed.Tie as tie
 
 abbrev Inv-loop : tie.InvT-loop
-Inv-loop table words n first next setting old values₀ queue₀ head tail end₀ q₀ values queue end q =
-    (q ≤ tail) × Updated words setting old values₀ queue₀ tail values queue end × Awake words setting old values queue₀ q tail
+Inv-loop table words nodes first next setting old values₀ queue₀ changed end₀ q₀ values queue end q =
+    (q ≤ changed .tail) × Updated words setting old values₀ queue₀ (changed .tail) values queue end × Awake words setting old values queue₀ q (changed .tail)
     × (length values ≡ length values₀) × (length queue ≡ length queue₀)
 
 abbrev μ-loop : tie.MeasureT-loop
-μ-loop table words n first next setting old values₀ queue₀ head tail end₀ q₀ values queue end q = tail - q
+μ-loop table words nodes first next setting old values₀ queue₀ changed end₀ q₀ values queue end q = changed .tail - q
 
 loop-holds : tie.Need-loop-holds Inv-loop μ-loop
 loop-holds c = let s = c .before .before .before .before .before .before .before in (s .pre .1 .0 .1, updated-none _ _ _, s .pre .1 .1 .1, refl, refl)
@@ -33,13 +33,13 @@ start l = l .before .before .before .before .before .before .before .before
 
 -- a further gate can be evaluated
 ready : (l : tie.At-loop Inv-loop μ-loop)
-    → UpdateReady (now (start l .args .words)) (start l .args .n) (now (start l .args .setting)) (now (start l .args .old)) (l .loop .values) (l .loop .queue)
-    (l .loop .end)
+    → UpdateReady (now (start l .args .words)) (start l .args .nodes) (now (start l .args .setting)) (now (start l .args .old)) (l .loop .values)
+    (l .loop .queue) (l .loop .end)
 ready l = updated-ready (start l .pre .1 .0 .0) (l .loop .inv .1) (l .loop .inv .3) (l .loop .inv .4)
 
 update-readers-requires : tie.Need-update-readers-requires Inv-loop μ-loop
 update-readers-requires c κs =
-    let l = c .before .before .before .before .before .before in
+    let l = c .before .before .before .before .before .before .before in
     let r = start l .pre .1 .1 .0 in
     (start l .pre .0, (ready l, (r .descends, rw (c .before .before .word-at2 .ensures) (r .starts _))))
 
@@ -53,31 +53,31 @@ loop-again : tie.Need-loop-again Inv-loop μ-loop
 loop-again c =
     let d = c .before .before .before .before in
     let w = d .before .before .before in
-    let l = w .before .before .before .before in
+    let l = w .before .before .before .before .before in
     let s = start l in
     let u = d .update-readers .ensures in
-    let k : getD (l .loop .queue) (l .loop .q) 0 ≡ getD (now (s .args .queue)) (l .loop .q) 0 =
-    l .loop .inv .1 .front (l .loop .q) (w .before .before .before .loop-test .taken) in (
+    let k : w .before .word-at .result ≡ getD (now (s .args .queue)) (l .loop .q) 0 =
+    w .before .word-at .ensures ∙ l .loop .inv .1 .front (l .loop .q) (w .before .before .before .if1 .taken) in (
       omega arith,
       updated-then (l .loop .inv .1) (u .updated),
-      awake-next (now (s .args .queue)) (s .pre .1 .1 .0) (l .loop .inv .2) (rw (w .word-at2 .ensures, w .before .word-at .ensures, k) at u),
+      awake-next (now (s .args .queue)) (s .pre .1 .1 .0) (l .loop .inv .2) (rw (w .word-at2 .ensures, k) at u),
       d .update-readers .kept .1 .1 .1 .1 .1 .1 .1 .0 ∙ l .loop .inv .3,
       d .update-readers .kept .1 .1 .1 .1 .1 .1 .1 .1 .0 ∙ l .loop .inv .4,
     )
 
 same-length : tie.Need-same-length Inv-loop μ-loop
-same-length c = c .before .loop .inv .3
+same-length c = c .before .before .loop .inv .3
 
 same-length-2 : tie.Need-same-length-2 Inv-loop μ-loop
-same-length-2 c = c .before .loop .inv .4
+same-length-2 c = c .before .before .loop .inv .4
 
 returns : tie.Need-returns Inv-loop μ-loop
 returns c =
-    let l = c .before in
+    let l = c .before .before in
     let s = start l in
     record {
       updated = l .loop .inv .1;
-      done = awake-end _ _ _ (l .loop .values) (now (s .args .queue)) (l .loop .q) (s .args .tail) (l .loop .inv .2) (c .loop-test .left);
+      done = awake-end _ _ _ (l .loop .values) (now (s .args .queue)) (l .loop .q) (s .args .changed .tail) (l .loop .inv .2) (c .if1 .left);
     }
 
 pub update-changed-spec : {M : Type 1} → statement M

@@ -12,12 +12,12 @@ use Rattle.simulate.proofs.changes.update_readers.Statement.{statement}
 use Rattle.simulate.proofs.changes.update_readers.Tie as tie
 
 abbrev Inv-loop : tie.InvT-loop
-Inv-loop table words n next from setting old values₀ queue₀ tail end₀ p₀ values queue end p =
+Inv-loop table words nodes next from setting old values₀ queue₀ tail end₀ p₀ values queue end p =
     (p ≤ from) × Updated words setting old values₀ queue₀ tail values queue end × Awaiting words setting old values next from p
     × (length values ≡ length values₀) × (length queue ≡ length queue₀)
 
 abbrev μ-loop : tie.MeasureT-loop
-μ-loop table words n next from setting old values₀ queue₀ tail end₀ p₀ values queue end p = p
+μ-loop table words nodes next from setting old values₀ queue₀ tail end₀ p₀ values queue end p = p
 
 loop-holds : tie.Need-loop-holds Inv-loop μ-loop
 loop-holds c = (omega arith, updated-none _ _ _, λ e r. inr r, refl, refl)
@@ -31,8 +31,8 @@ start l = l .before .before .before .before .before .before .before
 
 -- a further gate can be evaluated
 ready : (l : tie.At-loop Inv-loop μ-loop)
-    → UpdateReady (now (start l .args .words)) (start l .args .n) (now (start l .args .setting)) (now (start l .args .old)) (l .loop .values) (l .loop .queue)
-    (l .loop .end)
+    → UpdateReady (now (start l .args .words)) (start l .args .nodes) (now (start l .args .setting)) (now (start l .args .old)) (l .loop .values)
+    (l .loop .queue) (l .loop .end)
 ready l = updated-ready (start l .pre .1 .0) (l .loop .inv .1) (l .loop .inv .3) (l .loop .inv .4)
 
 update-requires : tie.Need-update-requires Inv-loop μ-loop

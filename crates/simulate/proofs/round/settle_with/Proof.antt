@@ -11,17 +11,18 @@ use Rattle.netlist.specs.StoredBlock.{decode}
 use Rattle.encoding.proofs.Decoded.{decode-gateCount}
 use Rattle.encoding.proofs.Readers.{whole-parts}
 use Rattle.rounds.proofs.Rounds.{rounds-le}
+use Rattle.simulate.proofs.Codes.{gates-are}
 use Rattle.simulate.proofs.Rounds.{Beyond, Rounding, rounding-none, rounding-more, rounding-end}
 use Rattle.simulate.proofs.round.settle_with.Statement.{statement}
 use Rattle.simulate.proofs.round.settle_with.Tie as tie
 
 abbrev Inv-loop : tie.InvT-loop
-Inv-loop table words n m first next setting values₀ old₀ queue₀ head₀ tail₀ count₀ values old queue head tail count =
+Inv-loop table words nodes first next setting values₀ old₀ queue₀ head₀ tail₀ count₀ values old queue head tail count =
     Rounding words setting old values queue head tail count × Beyond words values values₀ × (length values ≡ length values₀)
     × (length old ≡ length old₀) × (length queue ≡ length queue₀)
 
 abbrev μ-loop : tie.MeasureT-loop
-μ-loop table words n m first next setting values₀ old₀ queue₀ head₀ tail₀ count₀ values old queue head tail count =
+μ-loop table words nodes first next setting values₀ old₀ queue₀ head₀ tail₀ count₀ values old queue head tail count =
     getD words 1 0 - count
 
 first-round-requires : tie.Need-first-round-requires Inv-loop μ-loop
@@ -42,9 +43,9 @@ head d = d .before .before .before .before .before
 
 -- a round that changed something
 more : (d : tie.After-next-round Inv-loop μ-loop)
-    → Rounding (now (start (head d) .args .words)) (now (start (head d) .args .setting)) (d .next-round .last .1 .1 .1 .1 .1 .1 .1 .1 .0)
-    (d .next-round .last .1 .1 .1 .1 .1 .1 .1 .0)
-    (d .next-round .last .1 .1 .1 .1 .1 .1 .1 .1 .1 .0) (head d .loop .tail) (d .next-round .result) (head d .loop .count + 1)
+    → Rounding (now (start (head d) .args .words)) (now (start (head d) .args .setting)) (d .next-round .last .1 .1 .1 .1 .1 .1 .1 .0)
+    (d .next-round .last .1 .1 .1 .1 .1 .1 .0)
+    (d .next-round .last .1 .1 .1 .1 .1 .1 .1 .1 .0) (head d .loop .tail) (d .next-round .result) (head d .loop .count + 1)
 more d = rounding-more _ _ (head d .loop .inv .0) (d .before .before .before .before .loop-test .taken) (d .next-round .ensures)
 
 -- so the count before it is below the number of gates
@@ -60,7 +61,7 @@ next-round-requires c κs =
     let p = s .pre .1 .0 .0 in (
       s .pre .0,
       (
-        record { whole = p .whole; inputs = p .inputs; gates = p .gates; fits = omega (arith, l .loop .inv .0 .round .valueRoom, p .gates) },
+        record { whole = p .whole; nodesAre = p .nodesAre; fits = omega (arith, l .loop .inv .0 .round .valueRoom, gates-are _ (p .nodesAre)) },
         (s .pre .1 .1, l .loop .inv .0 .round),
       ),
     )
@@ -81,25 +82,25 @@ loop-again c =
     let t = d .next-round .ensures in (
       more d,
       λ j jl. t .beyond j jl ∙ l .loop .inv .1 j jl,
-      d .next-round .kept .1 .1 .1 .1 .1 .1 .1 .0 ∙ l .loop .inv .2,
-      d .next-round .kept .1 .1 .1 .1 .1 .1 .1 .1 .0 ∙ l .loop .inv .3,
-      d .next-round .kept .1 .1 .1 .1 .1 .1 .1 .1 .1 .0 ∙ l .loop .inv .4,
+      d .next-round .kept .1 .1 .1 .1 .1 .1 .0 ∙ l .loop .inv .2,
+      d .next-round .kept .1 .1 .1 .1 .1 .1 .1 .0 ∙ l .loop .inv .3,
+      d .next-round .kept .1 .1 .1 .1 .1 .1 .1 .1 .0 ∙ l .loop .inv .4,
     )
 
 same-length : tie.Need-same-length Inv-loop μ-loop
-same-length c = c .before .loop .inv .2 ∙ first (c .before) .first-round .kept .1 .1 .1 .1 .1 .0
+same-length c = c .before .loop .inv .2 ∙ first (c .before) .first-round .kept .1 .1 .1 .1 .0
 
 same-length-2 : tie.Need-same-length-2 Inv-loop μ-loop
-same-length-2 c = c .before .loop .inv .3 ∙ first (c .before) .first-round .kept .1 .1 .1 .1 .1 .1 .0
+same-length-2 c = c .before .loop .inv .3 ∙ first (c .before) .first-round .kept .1 .1 .1 .1 .1 .0
 
 same-length-3 : tie.Need-same-length-3 Inv-loop μ-loop
-same-length-3 c = c .before .loop .inv .4 ∙ first (c .before) .first-round .kept .1 .1 .1 .1 .1 .1 .1 .0
+same-length-3 c = c .before .loop .inv .4 ∙ first (c .before) .first-round .kept .1 .1 .1 .1 .1 .1 .0
 
 returns : tie.Need-returns Inv-loop μ-loop
 returns c =
     let l = c .before in
     rounding-end _ _ (l .loop .inv .0) (c .loop-test .left) (λ j jl. l .loop .inv .1 j jl ∙ first l .first-round .ensures .beyond j jl)
-    (l .loop .inv .2 ∙ first l .first-round .kept .1 .1 .1 .1 .1 .0)
+    (l .loop .inv .2 ∙ first l .first-round .kept .1 .1 .1 .1 .0)
 
 pub settle-with-spec : {M : Type 1} → statement M
 settle-with-spec =

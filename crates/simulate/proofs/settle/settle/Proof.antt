@@ -1,7 +1,6 @@
 -- `simulate::settle::settle` meets its contract: the tests are the definition's conditions in its order, and then the rounds settle.
 -- Assumes nothing.
 use mathlib.Core.Path.{_≡_, _∙_}
-use mathlib.Core.Bool.{false}
 use mathlib.Core.List.{map}
 use denote.Ref.{now}
 use borrow.Author.Needs.{needs}
@@ -10,7 +9,7 @@ use lib.ListN.{length, getD}
 use lib.Dec.{ltb}
 use Rattle.netlist.specs.declared.Refusal.the-variants.{MalformedBlock, BadSetting, NoRoom}
 use Rattle.netlist.specs.Values.{code, valueOf}
-use Rattle.netlist.specs.StoredBlock.{decode, isTorn}
+use Rattle.netlist.specs.StoredBlock.{decode}
 use Rattle.netlist.specs.Rounds.{rounds, settled}
 use Rattle.netlist.specs.Answers.{done, refuseIf, inRoom}
 use Rattle.netlist.specs.Operations.{isBadSetting, settleBlock, settle}

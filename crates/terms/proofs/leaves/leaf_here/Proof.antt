@@ -21,7 +21,9 @@ returns c =
     let a = start .args in leaf-0 (a .s .now) (a .names .now) (a .words .now) (a .unknown) (sym (c .before .byte-at .ensures) ∙ c .if1 .taken)
 
 sub-t10 : tie.Need-sub-t10
-sub-t10 c = byte-there (c .before .before .before .before .before .before .before .args .s .now) (c .before .before .byte-at .ensures) (c .if2 .taken) (omega arith)
+sub-t10 c =
+    let start = c .before .before .before .before .before .before .before in
+    byte-there (start .args .s .now) (c .before .before .byte-at .ensures) (c .if2 .taken) (omega arith)
 
 returns-2 : tie.Need-returns-2
 unfolding constantHere

@@ -53,16 +53,17 @@ loop-less c = omega (arith, c .before .before .before .before .before .loop-test
 
 loop-again : tie.Need-loop-again Inv-loop μ-loop
 loop-again c =
-    let stage = c .before .before .before .before .before in
-    let b = stage in
-    let a = b .before .before .before .before .before .before .before .args in
-    let l = b .before .loop in
+    let in-loop = c .before .before .before .before .before in
+    let at-loop = in-loop .before in
+    let start = at-loop .before .before .before .before .before .before in
+    let a = start .args in
+    let l = at-loop .loop in
     let g = c .before .before .gate-line in
     lines-step gateForm gate-lawful (a .lines) (a .text .now) (a .n) (a .names .now) (a .words .now) 0 (a .gates .now) (l .i) (l .left) (l .first)
-    (l .unknown) (l .gates) (l .inv) (g .last .1 .1 .1 .1 .1 .1 .1 .0) (g .result) (g .ensures)
+    (l .unknown) (l .gates) (l .inv) (g .last .1 .1 .1 .1 .1 .1 .0) (g .result) (g .ensures)
     (lines-kept gateForm gate-lawful (a .lines) (a .text .now) (a .n) (a .names .now) (a .words .now) 0 (a .gates .now) (l .i) (l .left) (l .first)
-    (l .unknown) (l .gates) (l .inv) (g .last .1 .1 .1 .1 .1 .1 .1 .0) (g .result) (g .ensures) maxGates
-    (b .before .before .before .before .before .before .before .pre .0) (b .loop-test .taken)) (b .loop-test .taken)
+    (l .unknown) (l .gates) (l .inv) (g .last .1 .1 .1 .1 .1 .1 .0) (g .result) (g .ensures) maxGates
+    (start .pre .0) (in-loop .loop-test .taken)) (in-loop .loop-test .taken)
 
 same-length : tie.Need-same-length Inv-loop μ-loop
 same-length c = c .before .loop .inv .same

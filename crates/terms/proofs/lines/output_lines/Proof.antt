@@ -58,18 +58,19 @@ loop-less c = omega (arith, c .before .before .before .before .before .loop-test
 
 loop-again : tie.Need-loop-again Inv-loop μ-loop
 loop-again c =
-    let stage = c .before .before .before .before .before in
+    let in-loop = c .before .before .before .before .before in
+    let at-loop = in-loop .before in
+    let start = at-loop .before .before .before .before .before .before in
     λ n.
-    let b = stage in
-    let a = b .before .before .before .before .before .before .before .args in
-    let l = b .before .loop in
+    let a = start .args in
+    let l = at-loop .loop in
     let g = c .before .before .output-line in
-    let m = b .before .before .before .before .before .before .before .pre .0 .0 in
+    let m = start .pre .0 .0 in
     lines-step outputForm output-lawful (a .lines) (a .text .now) n (a .names .now) (a .words .now) (a .seen) (a .outputs .now) (l .i) (l .left) (l .first)
     (l .unknown) (l .outputs) (l .inv n) (g .last .1 .1 .1 .1 .1 .1 .0) (g .result) (g .ensures n)
     (lines-kept outputForm output-lawful (a .lines) (a .text .now) m (a .names .now) (a .words .now) (a .seen) (a .outputs .now) (l .i) (l .left) (l .first)
     (l .unknown) (l .outputs) (l .inv m) (g .last .1 .1 .1 .1 .1 .1 .0) (g .result) (g .ensures m) maxOutputs
-    (b .before .before .before .before .before .before .before .pre .0 .1) (b .loop-test .taken)) (b .loop-test .taken)
+    (start .pre .0 .1) (in-loop .loop-test .taken)) (in-loop .loop-test .taken)
 
 same-length : tie.Need-same-length Inv-loop μ-loop
 same-length c = c .before .loop .inv 0 .same

@@ -67,35 +67,44 @@ operand-claims t = (
 abbrev operands-claims : ℕ → operands-lts.Claims
 operands-claims t = (byte-at-reads.Asked, byte-at-reads.Learnt, operand-below t, operand.Post, operands-below t, operands.Post)
 
+-- the entry of each function, from behind the test of the first byte
+abbrev operand-entry : (t : ℕ) → operand-lts.Else1 (operand-claims t) (operand-at t) operand.Post
+    → operand-lts.Start (operand-claims t) (operand-at t) operand.Post
+operand-entry t c = c .before .before .before .before .before .before .before
+
+abbrev operands-entry : (t : ℕ) → operands-lts.Else1 (operands-claims t) (operands-at t) operands.Post
+    → operands-lts.Start (operands-claims t) (operands-at t) operands.Post
+operands-entry t c = c .before .before .before .before .before .before .before .before
+
 -- the first byte, and which expression it opens
 operand-byte : (t : ℕ) (c : operand-lts.Else1 (operand-claims t) (operand-at t) operand.Post)
-    → getD (c .before .before .before .before .before .before .before .args .s .now) 0 0 ≡ 40
+    → getD (operand-entry t c .args .s .now) 0 0 ≡ 40
 operand-byte t c = sym (c .before .byte-at .ensures) ∙ c .if1 .left
 
 operand-there : (t : ℕ) (c : operand-lts.Else1 (operand-claims t) (operand-at t) operand.Post)
-    → 0 < length (c .before .before .before .before .before .before .before .args .s .now)
-operand-there t c = byte-there (c .before .before .before .before .before .before .before .args .s .now) refl (operand-byte t c) (omega arith)
+    → 0 < length (operand-entry t c .args .s .now)
+operand-there t c = byte-there (operand-entry t c .args .s .now) refl (operand-byte t c) (omega arith)
 
 operand-inside : (t : ℕ) (c : operand-lts.After-word-length (operand-claims t) (operand-at t) operand.Post) (o : Term) (rest : List ℕ)
-    → TermAt o (c .before .before .before .before .before .before .before .before .before .before .args .depth) rest
-    (c .before .before .before .before .before .before .before .before .before .before .args .s .now)
-    → Inside o (c .before .before .before .before .before .before .before .before .before .before .args .depth) rest
-    (c .before .before .before .before .before .before .before .before .before .before .args .s .now) (c .before .kind-here .result) (c .word-length .result)
+    → TermAt o (operand-entry t (c .before .before .before) .args .depth) rest
+    (operand-entry t (c .before .before .before) .args .s .now)
+    → Inside o (operand-entry t (c .before .before .before) .args .depth) rest
+    (operand-entry t (c .before .before .before) .args .s .now) (c .before .kind-here .result) (c .word-length .result)
 operand-inside t c o rest w =
-    let stage = c .before .before .before in
-    let start = stage .before .before .before .before .before .before .before in
+    let past-if1 = c .before .before .before in
+    let start = past-if1 .before .before .before .before .before .before .before in
     let a = start .args in
-    inside o (a .depth) rest (a .s .now) (c .before .kind-here .result) (c .word-length .result) w (operand-byte t (stage))
+    inside o (a .depth) rest (a .s .now) (c .before .kind-here .result) (c .word-length .result) w (operand-byte t past-if1)
     (c .before .kind-here .ensures) (c .word-length .ensures)
 
 operand-inside-here : (t : ℕ) (c : operand-lts.After-word-length (operand-claims t) (operand-at t) operand.Post)
-    → Inside (c .before .before .before .before .before .before .before .before .before .before .pre .1 .0 .term)
-    (c .before .before .before .before .before .before .before .before .before .before .args .depth)
-    (c .before .before .before .before .before .before .before .before .before .before .pre .1 .0 .rest)
-    (c .before .before .before .before .before .before .before .before .before .before .args .s .now) (c .before .kind-here .result) (c .word-length .result)
+    → Inside (operand-entry t (c .before .before .before) .pre .1 .0 .term)
+    (operand-entry t (c .before .before .before) .args .depth)
+    (operand-entry t (c .before .before .before) .pre .1 .0 .rest)
+    (operand-entry t (c .before .before .before) .args .s .now) (c .before .kind-here .result) (c .word-length .result)
 operand-inside-here t c =
-    let earlier = c .before .before .before .before .before .before .before in
-    let start = earlier .before .before .before in
+    let at-byte-at = c .before .before .before .before in
+    let start = at-byte-at .before .before .before .before .before .before in
     let p = start .pre .1 .0 in operand-inside t c (p .term) (p .rest) (p .here)
 
 operand-byte-at-requires : (t : ℕ) → operand-lts.Need-byte-at-requires (operand-claims t) (operand-at t) operand.Post
@@ -108,10 +117,10 @@ operand-leaf-here-requires t c κs =
 
 operand-returns : (t : ℕ) → operand-lts.Need-returns (operand-claims t) (operand-at t) operand.Post
 operand-returns t c =
-    let stage = c .before .before .before .before .before .before .before in
-    let start = stage .before in
-    let a = start .args in leaf-read (a .s .now) (a .depth) (a .n) (a .names .now) (a .words .now) (a .first) (a .gates .now) (a .unknown)
-    (c .leaf-here .result) (c .leaf-here .ensures) (λ e. c .before .if1 .taken (c .before .before .byte-at .ensures ∙ e))
+    let at-byte-at = c .before .before in
+    let start = at-byte-at .before .before .before .before .before .before in
+    let a = start .args in leaf-read (a .s .now) (a .depth) (a .n) (a .names .now) (a .words .now) (a .seen .gates) (a .gates .now) (a .seen .unknown)
+    (c .leaf-here .result) (c .leaf-here .ensures) (λ e. c .before .if1 .taken (at-byte-at .byte-at .ensures ∙ e))
 
 operand-sub-kind-here : (t : ℕ) → operand-lts.Need-sub-kind-here (operand-claims t) (operand-at t) operand.Post
 operand-sub-kind-here t c = operand-there t c
@@ -130,30 +139,31 @@ operand-word-length-requires t c κs = search needs
 
 operand-add-at : (t : ℕ) → operand-lts.Need-add-at (operand-claims t) (operand-at t) operand.Post
 operand-add-at t c =
-    let stage = c .before .before .before .before .before .before .before in
-    let earlier = stage in
-    let start = earlier .before .before .before in
+    let at-byte-at = c .before .before .before .before in
+    let start = at-byte-at .before .before .before .before .before .before in
     let a = start .args in let p = start .pre .1 .0 in omega (
       arith,
-      inner-within (a .s .now) (a .depth) (a .n) (a .names .now) (a .words .now) (a .first) (a .gates .now) (c .before .kind-here .result)
+      inner-within (a .s .now) (a .depth) (a .n) (a .names .now) (a .words .now) (a .seen .gates) (a .gates .now) (c .before .kind-here .result)
           (c .word-length .result) (p .term) (p .rest) (operand-inside-here t c),
       start .good,
     )
 
 operand-sub-operands : (t : ℕ) → operand-lts.Need-sub-operands (operand-claims t) (operand-at t) operand.Post
 operand-sub-operands t c =
-    let stage = c .before .before .before .before .before .before .before in
-    let earlier = stage in
-    let start = earlier .before .before .before in
-    let a = start .args in let p = start .pre .1 .0 in inner-within (a .s .now) (a .depth) (a .n) (a .names .now) (a .words .now) (a .first) (a .gates .now)
+    let at-byte-at = c .before .before .before .before in
+    let start = at-byte-at .before .before .before .before .before .before in
+    let a = start .args in
+    let p = start .pre .1 .0 in
+    inner-within (a .s .now) (a .depth) (a .n) (a .names .now) (a .words .now) (a .seen .gates) (a .gates .now)
     (c .before .kind-here .result) (c .word-length .result) (p .term) (p .rest) (operand-inside-here t c)
 
 operand-part-operands-start : (t : ℕ) → operand-lts.Need-part-operands-start (operand-claims t) (operand-at t) operand.Post
 operand-part-operands-start t c =
-    let stage = c .before .before .before .before .before .before .before in
-    let earlier = stage in
-    let start = earlier .before .before .before in
-    let a = start .args in let p = start .pre .1 .0 in inner-within (a .s .now) (a .depth) (a .n) (a .names .now) (a .words .now) (a .first) (a .gates .now)
+    let at-byte-at = c .before .before .before .before in
+    let start = at-byte-at .before .before .before .before .before .before in
+    let a = start .args in
+    let p = start .pre .1 .0 in
+    inner-within (a .s .now) (a .depth) (a .n) (a .names .now) (a .words .now) (a .seen .gates) (a .gates .now)
     (c .before .kind-here .result) (c .word-length .result) (p .term) (p .rest) (operand-inside-here t c)
 
 operand-part-operands-end : (t : ℕ) → operand-lts.Need-part-operands-end (operand-claims t) (operand-at t) operand.Post
@@ -166,128 +176,135 @@ operand-slice-aggregate-operands : (t : ℕ) → operand-lts.Need-slice-aggregat
 operand-slice-aggregate-operands t c = search needs
 
 operand-operands-requires : (t : ℕ) → operand-lts.Need-operands-requires (operand-claims t) (operand-at t) operand.Post
-operand-operands-requires t c κs = let b = c .before .before .before in
-    let a = b .before .before .before .before .before .before .before .before .before .before .args in
-    let p = b .before .before .before .before .before .before .before .before .before .before .pre .1 .0 in
-    let k = b .before .kind-here .result in
-    let wide = b .word-length .result in (
+operand-operands-requires t c κs =
+    let at-word-length = c .before .before .before in
+    let at-kind-here = at-word-length .before in
+    let at-byte-at = at-kind-here .before .before .before in
+    let start = at-byte-at .before .before .before .before .before .before in
+    let a = start .args in
+    let p = start .pre .1 .0 in
+    let k = at-kind-here .kind-here .result in
+    let wide = at-word-length .word-length .result in (
       omega (
         arith,
-        inner-shorter (a .s .now) (a .depth) (a .n) (a .names .now) (a .words .now) (a .first) (a .gates .now) k wide (p .term) (p .rest)
-            (operand-inside-here t b),
-        b .before .before .before .before .before .before .before .before .before .before .pre .0,
+        inner-shorter (a .s .now) (a .depth) (a .n) (a .names .now) (a .words .now) (a .seen .gates) (a .gates .now) k wide (p .term) (p .rest)
+            (operand-inside-here t at-word-length),
+        start .pre .0,
       ),
       (
-        list-here (a .s .now) (a .depth) (a .n) (a .names .now) (a .words .now) (a .first) (a .gates .now) k wide p (operand-inside-here t b),
-        b .before .before .before .before .before .before .before .before .before .before .pre .1 .1,
+        list-here (a .s .now) (a .depth) (a .n) (a .names .now) (a .words .now) (a .seen .gates) (a .gates .now) k wide p
+            (operand-inside-here t at-word-length),
+        start .pre .1 .1,
       ),
     )
 
 -- what the operand list has left bounds the gate's number and its words
 operand-bounded : (t : ℕ) (c : operand-lts.After-operands (operand-claims t) (operand-at t) operand.Post)
-    → Bounded (c .before .before .before .before .before .before .before .before .before .before .before .before .before .before .args .s .now)
-    (c .before .before .before .before .before .before .before .before .before .before .before .before .before .before .args .depth)
-    (c .before .before .before .before .before .before .before .before .before .before .before .before .before .before .args .n)
-    (c .before .before .before .before .before .before .before .before .before .before .before .before .before .before .args .names .now)
-    (c .before .before .before .before .before .before .before .before .before .before .before .before .before .before .args .words .now)
-    (c .before .before .before .before .before .before .before .before .before .before .before .before .before .before .args .first)
-    (c .before .before .before .before .before .before .before .before .before .before .before .before .before .before .args .gates .now)
+    → Bounded (operand-entry t (c .before .before .before .before .before .before .before) .args .s .now)
+    (operand-entry t (c .before .before .before .before .before .before .before) .args .depth)
+    (operand-entry t (c .before .before .before .before .before .before .before) .args .n)
+    (operand-entry t (c .before .before .before .before .before .before .before) .args .names .now)
+    (operand-entry t (c .before .before .before .before .before .before .before) .args .words .now)
+    (operand-entry t (c .before .before .before .before .before .before .before) .args .seen .gates)
+    (operand-entry t (c .before .before .before .before .before .before .before) .args .gates .now)
     (c .before .before .before .before .before .kind-here .result) (c .before .before .before .before .word-length .result)
-    (c .operands .last .1 .1 .1 .1 .1 .1 .1 .1 .1 .0) (c .operands .last .1 .1 .1 .1 .1 .1 .1 .1 .1 .1 .0) (c .operands .result)
+    (c .operands .last .1 .1 .1 .1 .1 .1 .1 .1 .0) (c .operands .last .1 .1 .1 .1 .1 .1 .1 .1 .1 .0) (c .operands .result)
 operand-bounded t c =
-    let stage = c .before .before .before .before in
-    let at-word-length = stage in
+    let at-word-length = c .before .before .before .before in
     let at-kind-here = at-word-length .before in
-    let earlier = at-kind-here .before .before .before .before .before .before .before in
-    let start = earlier .before .before in
+    let at-byte-at = at-kind-here .before .before .before in
+    let start = at-byte-at .before .before .before .before .before .before in
     let a = start .args in
-    bounded (a .s .now) (a .depth) (a .n) (a .names .now) (a .words .now) (a .first) (a .gates .now) (at-kind-here .kind-here .result)
-    (at-word-length .word-length .result) (a .unknown) (c .operands .last .1 .1 .1 .1 .1 .1 .1 .1 .1 .0) (c .operands .last .1 .1 .1 .1 .1 .1 .1 .1 .1 .1 .0)
+    bounded (a .s .now) (a .depth) (a .n) (a .names .now) (a .words .now) (a .seen .gates) (a .gates .now) (at-kind-here .kind-here .result)
+    (at-word-length .word-length .result) (a .seen .unknown) (c .operands .last .1 .1 .1 .1 .1 .1 .1 .1 .0) (c .operands .last .1 .1 .1 .1 .1 .1 .1 .1 .1 .0)
     (c .operands .result) (start .pre .1 .0)
-    (operand-inside-here t (at-word-length)) (c .operands .ensures)
+    (operand-inside-here t at-word-length) (c .operands .ensures)
 
 operand-slice-aggregate-put-gate : (t : ℕ) → operand-lts.Need-slice-aggregate-put-gate (operand-claims t) (operand-at t) operand.Post
-operand-slice-aggregate-put-gate t c = sym (c .before .before .before .before .before .operands .kept .1 .1 .1 .1 .1 .1 .1 .1 .1 .1 .0)
+operand-slice-aggregate-put-gate t c = sym (c .before .before .before .before .before .operands .kept .1 .1 .1 .1 .1 .1 .1 .1 .1 .0)
 
 operand-put-gate-requires : (t : ℕ) → operand-lts.Need-put-gate-requires (operand-claims t) (operand-at t) operand.Post
 operand-put-gate-requires t c κs =
-    let stage = c .before .before .before .before .before in
-    let at-operands = stage in
-    let b = operand-bounded t (at-operands)
-    in (omega (arith, b .number, b .behind, b .room), ((b .kind, b .count), at-operands .operands .kept .1 .1 .1 .1 .1 .1 .1 .1 .1 .1 .0))
+    let at-operands = c .before .before .before .before .before in
+    let b = operand-bounded t at-operands
+    in (omega (arith, b .number, b .behind, b .room), ((b .kind, b .count), at-operands .operands .kept .1 .1 .1 .1 .1 .1 .1 .1 .1 .0))
 
-operand-add-t18 : (t : ℕ) → operand-lts.Need-add-t18 (operand-claims t) (operand-at t) operand.Post
-operand-add-t18 t c =
-    let earlier = c .before .before .before .before .before .before .before in
-    let stage = earlier .before .before in
-    let b = operand-bounded t (stage) in omega (arith, b .number, b .inputs)
+operand-add-t17 : (t : ℕ) → operand-lts.Need-add-t17 (operand-claims t) (operand-at t) operand.Post
+operand-add-t17 t c =
+    let at-slots2 = c .before .before .before .before .before .before in
+    let at-operands = at-slots2 .before .before .before in
+    let b = operand-bounded t at-operands in omega (arith, b .number, b .inputs)
 
-operand-cast-t34 : (t : ℕ) → operand-lts.Need-cast-t34 (operand-claims t) (operand-at t) operand.Post
-operand-cast-t34 t c =
-    let earlier = c .before .before .before .before .before .before .before in
-    let stage = earlier .before .before in
-    let b = operand-bounded t (stage) in omega (arith, b .number, b .inputs)
+operand-cast-t33 : (t : ℕ) → operand-lts.Need-cast-t33 (operand-claims t) (operand-at t) operand.Post
+operand-cast-t33 t c =
+    let at-slots2 = c .before .before .before .before .before .before in
+    let at-operands = at-slots2 .before .before .before in
+    let b = operand-bounded t at-operands in omega (arith, b .number, b .inputs)
 
-operand-add-t24 : (t : ℕ) → operand-lts.Need-add-t24 (operand-claims t) (operand-at t) operand.Post
-operand-add-t24 t c =
-    let earlier = c .before .before .before .before .before .before .before in
-    let stage = earlier .before .before .before in
-    let b = operand-bounded t (stage) in omega (arith, b .number, b .inputs)
+operand-add-t23 : (t : ℕ) → operand-lts.Need-add-t23 (operand-claims t) (operand-at t) operand.Post
+operand-add-t23 t c =
+    let at-slots2 = c .before .before .before .before .before .before .before in
+    let at-operands = at-slots2 .before .before .before in
+    let b = operand-bounded t at-operands in omega (arith, b .number, b .inputs)
 
 operand-same-length : (t : ℕ) → operand-lts.Need-same-length (operand-claims t) (operand-at t) operand.Post
 operand-same-length t c =
     let at-put-gate = c .before .before .before .before in
     let at-operands = at-put-gate .before .before .before .before .before .before in
-    at-put-gate .put-gate .kept .0 ∙ at-operands .operands .kept .1 .1 .1 .1 .1 .1 .1 .1 .1 .0
+    at-put-gate .put-gate .kept .0 ∙ at-operands .operands .kept .1 .1 .1 .1 .1 .1 .1 .1 .0
 
 operand-returns-2 : (t : ℕ) → operand-lts.Need-returns-2 (operand-claims t) (operand-at t) operand.Post
 operand-returns-2 t c =
-    let stage-2 = c .before .before .before .before in
-    let at-put-gate = stage-2 in
-    let stage = at-put-gate .before .before .before .before .before .before in
-    let b = stage in
-    let a = b .before .before .before .before .before .before .before .before .before .before .before .before .before .before .args in
-    expression-read (a .s .now) (a .depth) (a .n) (a .names .now) (a .words .now) (a .first) (a .gates .now)
-    (b .before .before .before .before .before .kind-here .result) (b .before .before .before .before .word-length .result) (a .unknown)
-    (b .operands .last .1 .1 .1 .1 .1 .1 .1 .1 .1 .0) (at-put-gate .put-gate .last .0) (b .operands .last .1 .1 .1 .1 .1 .1 .1 .1 .1 .1 .0)
-    (b .operands .result) (operand-inside t (b .before .before .before .before)) (b .operands .ensures) (at-put-gate .put-gate .ensures)
+    let at-put-gate = c .before .before .before .before in
+    let at-operands = at-put-gate .before .before .before .before .before .before in
+    let at-word-length = at-operands .before .before .before .before in
+    let at-kind-here = at-word-length .before in
+    let at-byte-at = at-kind-here .before .before .before in
+    let start = at-byte-at .before .before .before .before .before .before in
+    let a = start .args in
+    expression-read (a .s .now) (a .depth) (a .n) (a .names .now) (a .words .now) (a .seen .gates) (a .gates .now)
+    (at-kind-here .kind-here .result) (at-word-length .word-length .result) (a .seen .unknown)
+    (at-operands .operands .last .1 .1 .1 .1 .1 .1 .1 .1 .0) (at-put-gate .put-gate .last .0) (at-operands .operands .last .1 .1 .1 .1 .1 .1 .1 .1 .1 .0)
+    (at-operands .operands .result) (operand-inside t at-word-length) (at-operands .operands .ensures) (at-put-gate .put-gate .ensures)
 
 -- another operand stands here
 another : (t : ℕ) (c : operands-lts.Else1 (operands-claims t) (operands-at t) operands.Post)
-    → getD (c .before .before .before .before .before .before .before .before .args .s .now) 0 0 ≡ 41 → ⊥
+    → getD (operands-entry t c .args .s .now) 0 0 ≡ 41 → ⊥
 another t c e = c .if1 .left (c .before .byte-at .ensures ∙ e)
 
 another-there : (t : ℕ) (c : operands-lts.Else1 (operands-claims t) (operands-at t) operands.Post)
-    → 0 < length (c .before .before .before .before .before .before .before .before .args .s .now)
+    → 0 < length (operands-entry t c .args .s .now)
 another-there t c =
-    let stage = c .before .before .before .before .before .before .before in
-    let start = stage .before in
-    let a = start .args in more-there (a .s .now) (a .depth) (a .n) (a .names .now) (a .words .now) (a .first) (a .i) (a .gates .now) (a .slots .now)
+    let at-byte-at = c .before in
+    let start = at-byte-at .before .before .before .before .before .before .before in
+    let a = start .args in more-there (a .s .now) (a .depth) (a .n) (a .names .now) (a .words .now) (a .seen .gates) (a .i) (a .gates .now) (a .slots .now)
     (start .pre .1 .0) (another t c)
 
 another-left : (t : ℕ) (c : operands-lts.After-operand (operands-claims t) (operands-at t) operands.Post)
-    → c .operand .result .left < length (c .before .before .before .before .before .before .before .before .before .before .before .args .s .now)
+    → c .operand .result .left < length (operands-entry t (c .before .before .before) .args .s .now)
 another-left t c =
-    let stage = c .before .before .before in
-    let start = stage .before .before .before .before .before .before .before .before in
+    let past-if1 = c .before .before .before in
+    let at-byte-at = past-if1 .before in
+    let start = at-byte-at .before .before .before .before .before .before .before in
     let a = start .args in
-    left-shorter (a .s .now) (a .depth) (a .n) (a .names .now) (a .words .now) (a .first) (a .i) (a .gates .now) (a .slots .now) (start .pre .1 .0)
-    (another t (stage)) (a .unknown) (c .operand .last .1 .1 .1 .1 .1 .1 .1 .1 .0) (c .operand .result) (c .operand .ensures)
+    left-shorter (a .s .now) (a .depth) (a .n) (a .names .now) (a .words .now) (a .seen .gates) (a .i) (a .gates .now) (a .slots .now) (start .pre .1 .0)
+    (another t past-if1) (a .seen .unknown) (c .operand .last .1 .1 .1 .1 .1 .1 .1 .0) (c .operand .result) (c .operand .ensures)
 
 operands-byte-at-requires : (t : ℕ) → operands-lts.Need-byte-at-requires (operands-claims t) (operands-at t) operands.Post
 operands-byte-at-requires t c κs = search needs
 
-operands-sub-t17 : (t : ℕ) → operands-lts.Need-sub-t17 (operands-claims t) (operands-at t) operands.Post
-operands-sub-t17 t c =
-    let start = c .before .before .before .before .before .before .before .before in
-    byte-there (start .args .s .now) (c .before .byte-at .ensures) (c .if1 .taken) (omega arith)
+operands-sub-t16 : (t : ℕ) → operands-lts.Need-sub-t16 (operands-claims t) (operands-at t) operands.Post
+operands-sub-t16 t c =
+    let at-byte-at = c .before in
+    let start = at-byte-at .before .before .before .before .before .before .before in
+    byte-there (start .args .s .now) (at-byte-at .byte-at .ensures) (c .if1 .taken) (omega arith)
 
 operands-returns : (t : ℕ) → operands-lts.Need-returns (operands-claims t) (operands-at t) operands.Post
 operands-returns t c =
-    let stage = c .before .before .before .before .before .before .before in
-    let start = stage .before in
-    let a = start .args in nil-read (a .s .now) (a .depth) (a .n) (a .names .now) (a .words .now) (a .first) (a .i) (a .gates .now) (a .slots .now)
-    (a .unknown) (sym (c .before .byte-at .ensures) ∙ c .if1 .taken)
+    let at-byte-at = c .before in
+    let start = at-byte-at .before .before .before .before .before .before .before in
+    let a = start .args in nil-read (a .s .now) (a .depth) (a .n) (a .names .now) (a .words .now) (a .seen .gates) (a .i) (a .gates .now) (a .slots .now)
+    (a .seen .unknown) (sym (at-byte-at .byte-at .ensures) ∙ c .if1 .taken)
 
 operands-sub-operand : (t : ℕ) → operands-lts.Need-sub-operand (operands-claims t) (operands-at t) operands.Post
 operands-sub-operand t c = another-there t c
@@ -299,35 +316,39 @@ operands-part-operand-end : (t : ℕ) → operands-lts.Need-part-operand-end (op
 operands-part-operand-end t c = search needs
 
 operands-operand-requires : (t : ℕ) → operands-lts.Need-operand-requires (operands-claims t) (operands-at t) operands.Post
-operands-operand-requires t c κs = let b = c .before .before in
-    let a = b .before .before .before .before .before .before .before .before .args in (
-      omega (arith, rest-length (a .s .now) 1, another-there t b, b .before .before .before .before .before .before .before .before .pre .0),
+operands-operand-requires t c κs =
+    let at-byte-at = c .before .before .before in
+    let start = at-byte-at .before .before .before .before .before .before .before in
+    let a = start .args in (
+      omega (arith, rest-length (a .s .now) 1, another-there t (c .before .before), start .pre .0),
       (
-        operand-here (a .s .now) (a .depth) (a .n) (a .names .now) (a .words .now) (a .first) (a .i) (a .gates .now) (a .slots .now)
-            (b .before .before .before .before .before .before .before .before .pre .1 .0) (another t b),
-        b .before .before .before .before .before .before .before .before .pre .1 .1,
+        operand-here (a .s .now) (a .depth) (a .n) (a .names .now) (a .words .now) (a .seen .gates) (a .i) (a .gates .now) (a .slots .now)
+            (start .pre .1 .0) (another t (c .before .before)),
+        start .pre .1 .1,
       ),
     )
 
 operands-mul-slots : (t : ℕ) → operands-lts.Need-mul-slots (operands-claims t) (operands-at t) operands.Post
 operands-mul-slots t c =
-    let stage-2 = c .before .before .before .before .before in
-    let stage = stage-2 in
-    let b = stage in let a = b .before .before .before .before .before .before .before .before .args in
+    let past-if1 = c .before .before .before .before .before in
+    let at-byte-at = past-if1 .before in
+    let start = at-byte-at .before .before .before .before .before .before .before in
+    let a = start .args in
     omega (
       arith,
-      slot-there (a .s .now) (a .depth) (a .n) (a .names .now) (a .words .now) (a .first) (a .i) (a .gates .now) (a .slots .now)
-          (b .before .before .before .before .before .before .before .before .pre .1 .0) (another t b),
-      b .before .before .before .before .before .before .before .before .good,
+      slot-there (a .s .now) (a .depth) (a .n) (a .names .now) (a .words .now) (a .seen .gates) (a .i) (a .gates .now) (a .slots .now)
+          (start .pre .1 .0) (another t past-if1),
+      start .good,
     )
 
 operands-slice-write-slots : (t : ℕ) → operands-lts.Need-slice-write-slots (operands-claims t) (operands-at t) operands.Post
 operands-slice-write-slots t c =
-    let stage-2 = c .before .before .before .before .before in
-    let stage = stage-2 in
-    let b = stage in let a = b .before .before .before .before .before .before .before .before .args in
-    slot-there (a .s .now) (a .depth) (a .n) (a .names .now) (a .words .now) (a .first) (a .i) (a .gates .now) (a .slots .now)
-    (b .before .before .before .before .before .before .before .before .pre .1 .0) (another t b)
+    let past-if1 = c .before .before .before .before .before in
+    let at-byte-at = past-if1 .before in
+    let start = at-byte-at .before .before .before .before .before .before .before in
+    let a = start .args in
+    slot-there (a .s .now) (a .depth) (a .n) (a .names .now) (a .words .now) (a .seen .gates) (a .i) (a .gates .now) (a .slots .now)
+    (start .pre .1 .0) (another t past-if1)
 
 operands-sub-at : (t : ℕ) → operands-lts.Need-sub-at (operands-claims t) (operands-at t) operands.Post
 operands-sub-at t c = omega (arith, another-left t (c .before .before .before))
@@ -343,34 +364,36 @@ operands-part-operands-end t c = search needs
 
 operands-add-operands : (t : ℕ) → operands-lts.Need-add-operands (operands-claims t) (operands-at t) operands.Post
 operands-add-operands t c =
-    let stage-2 = c .before .before .before .before .before .before .before in
-    let stage = stage-2 in
-    let b = stage in let a = b .before .before .before .before .before .before .before .before .args in
+    let past-if1 = c .before .before .before .before .before .before .before in
+    let at-byte-at = past-if1 .before in
+    let start = at-byte-at .before .before .before .before .before .before .before in
+    let a = start .args in
     omega (
       arith,
-      slot-there (a .s .now) (a .depth) (a .n) (a .names .now) (a .words .now) (a .first) (a .i) (a .gates .now) (a .slots .now)
-          (b .before .before .before .before .before .before .before .before .pre .1 .0) (another t b),
-      b .before .before .before .before .before .before .before .before .good,
+      slot-there (a .s .now) (a .depth) (a .n) (a .names .now) (a .words .now) (a .seen .gates) (a .i) (a .gates .now) (a .slots .now)
+          (start .pre .1 .0) (another t past-if1),
+      start .good,
     )
 
 operands-operands-requires : (t : ℕ) → operands-lts.Need-operands-requires (operands-claims t) (operands-at t) operands.Post
 operands-operands-requires t c κs =
-    let stage-2 = c .before .before .before .before .before .before in
-    let stage = stage-2 in
-    let b = stage in
-    let a = b .before .before .before .before .before .before .before .before .before .before .before .args in
-    let n = b .operand .result .left in (
+    let at-operand = c .before .before .before .before .before .before in
+    let past-if1 = at-operand .before .before .before in
+    let at-byte-at = past-if1 .before in
+    let start = at-byte-at .before .before .before .before .before .before .before in
+    let a = start .args in
+    let n = at-operand .operand .result .left in (
       omega (
         arith,
         rest-length (a .s .now) (length (a .s .now) - n),
-        another-left t b,
-        b .before .before .before .before .before .before .before .before .before .before .before .pre .0,
+        another-left t at-operand,
+        start .pre .0,
       ),
       (
-        others-here (a .s .now) (a .depth) (a .n) (a .names .now) (a .words .now) (a .first) (a .i) (a .gates .now) (a .slots .now)
-            (b .before .before .before .before .before .before .before .before .before .before .before .pre .1 .0) (another t (b .before .before .before)) (a .unknown)
-            (b .operand .last .1 .1 .1 .1 .1 .1 .1 .1 .0) (b .operand .result) (b .operand .ensures),
-        b .before .before .before .before .before .before .before .before .before .before .before .pre .1 .1,
+        others-here (a .s .now) (a .depth) (a .n) (a .names .now) (a .words .now) (a .seen .gates) (a .i) (a .gates .now) (a .slots .now)
+            (start .pre .1 .0) (another t past-if1) (a .seen .unknown)
+            (at-operand .operand .last .1 .1 .1 .1 .1 .1 .1 .0) (at-operand .operand .result) (at-operand .operand .ensures),
+        start .pre .1 .1,
       ),
     )
 
@@ -378,27 +401,28 @@ operands-same-length : (t : ℕ) → operands-lts.Need-same-length (operands-cla
 operands-same-length t c =
     let at-operands = c .before .before .before .before in
     let at-operand = at-operands .before .before .before .before .before .before .before in
-    at-operands .operands .kept .1 .1 .1 .1 .1 .1 .1 .1 .1 .0 ∙ at-operand .operand .kept .1 .1 .1 .1 .1 .1 .1 .1 .0
+    at-operands .operands .kept .1 .1 .1 .1 .1 .1 .1 .1 .0 ∙ at-operand .operand .kept .1 .1 .1 .1 .1 .1 .1 .0
 
 operands-same-length-2 : (t : ℕ) → operands-lts.Need-same-length-2 (operands-claims t) (operands-at t) operands.Post
 operands-same-length-2 t c =
     let at-operands = c .before .before .before .before in
     let at-operand = at-operands .before .before .before .before .before .before .before in
-    let earlier = at-operand .before .before .before .before .before .before .before in
-    let start = earlier .before .before .before .before in
-    let a = start .args in at-operands .operands .kept .1 .1 .1 .1 .1 .1 .1 .1 .1 .1 .0 ∙ length-set (a .slots .now) (a .i) (at-operand .operand .result .word)
+    let at-byte-at = at-operand .before .before .before .before in
+    let start = at-byte-at .before .before .before .before .before .before .before in
+    let a = start .args in at-operands .operands .kept .1 .1 .1 .1 .1 .1 .1 .1 .1 .0 ∙ length-set (a .slots .now) (a .i) (at-operand .operand .result .word)
 
 operands-returns-2 : (t : ℕ) → operands-lts.Need-returns-2 (operands-claims t) (operands-at t) operands.Post
 operands-returns-2 t c =
-    let stage-2 = c .before .before .before .before in
-    let at-operands = stage-2 in
-    let stage = at-operands .before .before .before .before .before .before .before in
-    let b = stage in
-    let a = b .before .before .before .before .before .before .before .before .before .before .before .args in
-    list-read (a .s .now) (a .depth) (a .n) (a .names .now) (a .words .now) (a .first) (a .i) (a .gates .now) (a .slots .now) (a .unknown)
-    (b .operand .last .1 .1 .1 .1 .1 .1 .1 .1 .0) (at-operands .operands .last .1 .1 .1 .1 .1 .1 .1 .1 .1 .0)
-    (at-operands .operands .last .1 .1 .1 .1 .1 .1 .1 .1 .1 .1 .0) (b .operand .result) (at-operands .operands .result)
-    (another t (b .before .before .before)) (b .operand .ensures) (at-operands .operands .ensures)
+    let at-operands = c .before .before .before .before in
+    let at-operand = at-operands .before .before .before .before .before .before .before in
+    let past-if1 = at-operand .before .before .before in
+    let at-byte-at = past-if1 .before in
+    let start = at-byte-at .before .before .before .before .before .before .before in
+    let a = start .args in
+    list-read (a .s .now) (a .depth) (a .n) (a .names .now) (a .words .now) (a .seen .gates) (a .i) (a .gates .now) (a .slots .now) (a .seen .unknown)
+    (at-operand .operand .last .1 .1 .1 .1 .1 .1 .1 .0) (at-operands .operands .last .1 .1 .1 .1 .1 .1 .1 .1 .0)
+    (at-operands .operands .last .1 .1 .1 .1 .1 .1 .1 .1 .1 .0) (at-operand .operand .result) (at-operands .operands .result)
+    (another t past-if1) (at-operand .operand .ensures) (at-operands .operands .ensures)
 
 pub +operand+operands-spec : {M : Type 1} → statement M
 +operand+operands-spec = close μ-operand μ-operands (λ t. operand-lts.spec (operand-claims t)
@@ -421,16 +445,16 @@ pub +operand+operands-spec : {M : Type 1} → statement M
     (operand-operands-requires t)
     (operand-slice-aggregate-put-gate t)
     (operand-put-gate-requires t)
-    (operand-add-t18 t)
-    (operand-cast-t34 t)
-    (operand-add-t24 t)
+    (operand-add-t17 t)
+    (operand-cast-t33 t)
+    (operand-add-t23 t)
     (operand-same-length t)
     (operand-returns-2 t))
     λ t. operands-lts.spec (operands-claims t)
     (operands-at t)
     operands.Post
     (operands-byte-at-requires t)
-    (operands-sub-t17 t)
+    (operands-sub-t16 t)
     (operands-returns t)
     (operands-sub-operand t)
     (operands-part-operand-start t)

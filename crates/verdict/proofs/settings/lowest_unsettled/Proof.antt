@@ -1,43 +1,22 @@
--- `verdict::settings::lowest_unsettled` meets its contract: in the first batch that has such a setting, the lowest lane. Assumes nothing.
-use mathlib.Core.Path.{_≡_, refl, sym, ap, _∙_}
-use Prim.Native.Nat.{_+_, _^_, _<_}
-use native.Mathlib.Omega.{arith}
-use Rattle.laws.proofs.Least.{least-le}
-use Rattle.judge.specs.Lanes.{hasLane}
-use Rattle.verdict.proofs.Counting.{few-settings}
-use Rattle.verdict.proofs.Batching.{judged, lowest-in-batch, lowest-nowhere}
+-- `verdict::settings::lowest_unsettled` meets its contract. Assumes nothing.
+use mathlib.Core.Path.{_∙_}
 use borrow.Author.Needs.{needs}
+use Rattle.encoding.proofs.Decoded.{decode-inputCount}
 use Rattle.verdict.proofs.settings.lowest_unsettled.Statement.{statement}
 use Rattle.verdict.proofs.settings.lowest_unsettled.Tie as tie
+
+-- the function's entry, from the first batch found
+abbrev start : tie.After-unsettled-batch → tie.Start
+start u = u .before .before .before .before .before .before .before
 
 unsettled-batch-requires : tie.Need-unsettled-batch-requires
 unsettled-batch-requires c κs = search needs
 
-setting-count-requires : tie.Need-setting-count-requires
-setting-count-requires c κs = search needs
-
-unsound-lanes-requires : tie.Need-unsound-lanes-requires
-unsound-lanes-requires c κs =
-    let u = c .before .before .before .before .before .before .before .before in
-    let s = c .before .before .before .before .before .before .before .before .before .before .before .before .before .before .before in
-    let f = u .unsettled-batch .ensures in
-    let inside : u .unsettled-batch .result < 2 ^ s .args .n = omega (arith, c .before .before .before .setting-count .ensures, c .before .before .if1 .taken) in
-    judged (s .pre) (f .aligned inside) (f .settled inside)
-
-lowest-lane-requires : tie.Need-lowest-lane-requires
-lowest-lane-requires c κs = search needs
-
-add-result : tie.Need-add-result
-add-result c =
-    let u = c .before .before .before .before .before .before .before .before .before .before in
-    let s = c .before .before .before .before .before .before .before .before .before .before .before .before .before .before .before .before .before in
-    omega (
-      arith,
-      c .lowest-lane .ensures,
-      least-le (hasLane (c .before .unsound-lanes .result)) 64,
-      u .unsettled-batch .ensures .within,
-      few-settings (s .args .n) (s .pre .fewInputs),
-    )
+lowest-in-requires : tie.Need-lowest-in-requires
+lowest-in-requires c κs =
+    let u = c .before .before .before .before .before .before in
+    let p = start u .pre in
+    (p .legible .inputs ∙ decode-inputCount _, p .fewInputs, u .unsettled-batch .ensures)
 
 same-length : tie.Need-same-length
 same-length c = search needs
@@ -46,37 +25,9 @@ same-length-2 : tie.Need-same-length-2
 same-length-2 c = search needs
 
 returns : tie.Need-returns
-returns c =
-    let u = c .before .before .before .before .before .before .before .before .before .before in
-    let s = c .before .before .before .before .before .before .before .before .before .before .before .before .before .before .before .before .before in
-    let inside : u .unsettled-batch .result < 2 ^ s .args .n = omega (arith, c .before .before .before .before .before .setting-count .ensures, c .before .before .before .before .if1 .taken) in
-    ap (λ k. u .unsettled-batch .result + k) (c .lowest-lane .ensures)
-    ∙ lowest-in-batch (s .pre .legible .inputs) (u .unsettled-batch .ensures) inside (c .before .unsound-lanes .ensures)
-
-same-length-3 : tie.Need-same-length-3
-same-length-3 c = search needs
-
-same-length-4 : tie.Need-same-length-4
-same-length-4 c = search needs
-
-returns-2 : tie.Need-returns-2
-returns-2 c =
-    let u = c .before .before .before .before .before .before in
-    let s = c .before .before .before .before .before .before .before .before .before .before .before .before .before in
-    lowest-nowhere (s .pre .legible .inputs) (u .unsettled-batch .ensures) (omega (arith, c .before .setting-count .ensures, c .if1 .left))
+returns c = search needs
 
 pub lowest-unsettled-spec : {M : Type 1} → statement M
 lowest-unsettled-spec =
     tie.close
-    (tie.spec
-    unsettled-batch-requires
-    setting-count-requires
-    unsound-lanes-requires
-    lowest-lane-requires
-    add-result
-    same-length
-    same-length-2
-    returns
-    same-length-3
-    same-length-4
-    returns-2)
+    (tie.spec unsettled-batch-requires lowest-in-requires same-length same-length-2 returns)

@@ -1,7 +1,7 @@
--- `verdict::settings::unsettled_batch` meets its contract: every batch passed is settled where it may come, and the one at which the loops are left is not. Assumes nothing.
-use mathlib.Core.Path.{_≡_, refl, sym, ap, _∙_}
+-- `verdict::settings::unsettled_batch` meets its contract: every batch passed is settled where it may come, and the one at which the loops are left is not.
+-- Assumes nothing.
+use mathlib.Core.Path.{_≡_, refl, sym, _∙_}
 use mathlib.Core.Bool.{true}
-use mathlib.Core.List.{List}
 use Prim.Native.Nat.{ℕ, _-_, _+_, _^_, _≤_, _<_}
 use native.Mathlib.Omega.{arith}
 use borrow.Author.Needs.{needs}
@@ -12,29 +12,32 @@ use Rattle.netlist.specs.StoredBlock.{neversAt, gatesAt, outputsAt, decode}
 use Rattle.netlist.specs.Rounds.{isSoundAt}
 use Rattle.lanes.specs.Batches.{lanesOf}
 use Rattle.judge.specs.Lanes.{Judged, undefinedWord}
-use Rattle.encoding.proofs.Decoded.{decode-inputCount}
 use Rattle.verdict.proofs.Counting.{few-settings}
 use Rattle.verdict.proofs.Batching.{Place, place-first, place-next, lanesOf-some, judged, decidable-kept, passed-sound, found-unsound, batch-more}
 use Rattle.verdict.proofs.settings.unsettled_batch.Statement.{statement}
 use Rattle.verdict.proofs.settings.unsettled_batch.Tie as tie
 
 abbrev Inv-loop : tie.InvT-loop
-Inv-loop words n gates order zeros ones count lanes used at outputs base coming o₀ o =
+Inv-loop words nodes order zeros ones count lanes used at outputs base coming o₀ o =
     (o ≤ outputs) × ((k : ℕ) → k < o → bitAnd coming (undefinedWord words at used zeros ones k) ≡ 0)
 
 abbrev μ-loop : tie.MeasureT-loop
-μ-loop words n gates order zeros ones count lanes used at outputs base coming o₀ o = outputs - o
+μ-loop words nodes order zeros ones count lanes used at outputs base coming o₀ o = outputs - o
 
 abbrev Inv-batches : tie.InvT-batches
-Inv-batches words n gates order zeros₀ ones₀ count lanes used at outputs base₀ zeros ones base =
-    Place n base × ((i : ℕ) → i < base → isSoundAt (decode words) i ≡ true) × (length zeros ≡ length zeros₀) × (length ones ≡ length ones₀)
+Inv-batches words nodes order zeros₀ ones₀ count lanes used at outputs base₀ zeros ones base =
+    Place (nodes .inputs) base × ((i : ℕ) → i < base → isSoundAt (decode words) i ≡ true) × (length zeros ≡ length zeros₀) × (length ones ≡ length ones₀)
 
 abbrev μ-batches : tie.MeasureT-batches
-μ-batches words n gates order zeros₀ ones₀ count lanes used at outputs base₀ zeros ones base = count - base
+μ-batches words nodes order zeros₀ ones₀ count lanes used at outputs base₀ zeros ones base = count - base
 
--- the function's entry from the outer loop's head, that head from a decided batch, the batch from the inner loop's head, and that from an output
+-- the function's entry and the stage behind it, from the outer loop's head; that head from a decided batch, the batch from the inner loop's head, and
+-- that from an output
+abbrev first : tie.After-outputs-of Inv-loop μ-loop Inv-batches μ-batches → tie.After-shared-slice-known Inv-loop μ-loop Inv-batches μ-batches
+first c = c .before .before .before .before .before .before .before .before
+
 abbrev start : tie.At-batches Inv-loop μ-loop Inv-batches μ-batches → tie.Start Inv-loop μ-loop Inv-batches μ-batches
-start l = l .before .before .before .before .before .before .before .before .before .before
+start l = first (l .before) .before
 
 abbrev head : tie.After-decide-batch Inv-loop μ-loop Inv-batches μ-batches → tie.At-batches Inv-loop μ-loop Inv-batches μ-batches
 head d = d .before .before .before .before
@@ -46,15 +49,16 @@ abbrev looked : tie.After-undefined-lanes Inv-loop μ-loop Inv-batches μ-batche
 looked u = u .before .before .before .before
 
 -- this batch is one of the block's
-inside : (d : tie.After-decide-batch Inv-loop μ-loop Inv-batches μ-batches) → head d .batches .base < 2 ^ start (head d) .args .n
+inside : (d : tie.After-decide-batch Inv-loop μ-loop Inv-batches μ-batches) → head d .batches .base < 2 ^ start (head d) .args .nodes .inputs
 inside d = omega (arith, head d .before .before .before .before .before .setting-count .ensures, d .before .before .before .batches-test .taken)
 
 -- its values
 values : (d : tie.After-decide-batch Inv-loop μ-loop Inv-batches μ-batches) → let a = start (head d) .args in
-    Judged (a .words .now) (a .n) (head d .batches .base) (d .decide-batch .last .1 .1 .1 .1 .1 .0) (d .decide-batch .last .1 .1 .1 .1 .1 .1 .0)
+    Judged (a .words .now) (a .nodes .inputs) (head d .batches .base) (d .decide-batch .last .1 .1 .1 .1 .0) (d .decide-batch .last .1 .1 .1 .1 .1 .0)
 values d = judged (start (head d) .pre) (head d .batches .inv .0 .aligned (inside d)) (d .decide-batch .ensures)
 
-next : (d : tie.After-decide-batch Inv-loop μ-loop Inv-batches μ-batches) → Place (start (head d) .args .n) (head d .batches .base + head d .before .before .before .before .lane-count .result)
+next : (d : tie.After-decide-batch Inv-loop μ-loop Inv-batches μ-batches)
+    → Place (start (head d) .args .nodes .inputs) (head d .batches .base + head d .before .before .before .before .lane-count .result)
 next d =
     let lanes = head d .before .before .before .before in
     place-next (lanes .lane-count .ensures) (lanes .before .setting-count .ensures) (head d .batches .inv .0) (d .before .before .before .batches-test .taken)
@@ -76,12 +80,13 @@ outputs-of-requires c κs = search needs
 
 batches-holds : tie.Need-batches-holds Inv-loop μ-loop Inv-batches μ-batches
 batches-holds c =
-    (place-first (c .before .before .before .before .before .before .before .before .before .args .n), λ k l. absurd (omega arith), refl, refl)
+    (place-first (first c .before .args .nodes .inputs), λ k l. absurd (omega arith), refl, refl)
 
 decide-batch-requires : tie.Need-decide-batch-requires Inv-loop μ-loop Inv-batches μ-batches
 decide-batch-requires c κs =
     let l = c .before .before .before in
-    let h : l .batches .base < 2 ^ start l .args .n = omega (arith, l .before .before .before .before .before .setting-count .ensures, c .before .before .batches-test .taken) in
+    let h : l .batches .base < 2 ^ start l .args .nodes .inputs =
+    omega (arith, l .before .before .before .before .before .setting-count .ensures, c .before .before .batches-test .taken) in
     (decidable-kept (start l .pre) (l .batches .inv .2) (l .batches .inv .3), l .batches .inv .0 .aligned h)
 
 coming-lanes-requires : tie.Need-coming-lanes-requires Inv-loop μ-loop Inv-batches μ-batches
@@ -98,7 +103,7 @@ unfolding outputsAt gatesAt neversAt
 undefined-lanes-requires c κs =
     let l = c .before .before .before in
     let h = head (found l) in
-    let known = h .before .before .before .before .before .before .before .before .before .shared-slice-known in
+    let known = first (h .before) .shared-slice-known in
     let s = found l .decide-batch .ensures in (
       omega (arith, h .before .before .outputs-at .ensures, known .given 0, known .given 1, known .given 3, start h .pre .legible .near),
       omega (arith, h .before .outputs-of .ensures, known .given 2, l .loop .inv .0),
@@ -119,8 +124,9 @@ loop-again c =
       omega arith,
       below-more
           (λ k. bitAnd (l .before .coming-lanes .result)
-          (undefinedWord (a .words .now) (h .before .before .outputs-at .result) (h .before .before .before .used-lanes .result) (found l .decide-batch .last .1 .1 .1 .1 .1 .0)
-          (found l .decide-batch .last .1 .1 .1 .1 .1 .1 .0) k) ≡ 0)
+          (undefinedWord (a .words .now) (h .before .before .outputs-at .result) (h .before .before .before .used-lanes .result)
+          (found l .decide-batch .last .1 .1 .1 .1 .0)
+          (found l .decide-batch .last .1 .1 .1 .1 .1 .0) k) ≡ 0)
           (l .loop .o) (l .loop .inv .1) (rw (← c .before .undefined-lanes .ensures) (c .if1 .left)),
     )
 
@@ -128,12 +134,17 @@ add-base : tie.Need-add-base Inv-loop μ-loop Inv-batches μ-batches
 add-base c =
     let d = found (c .before) in
     let s = start (head d) in
-    omega (arith, next d .within, few-settings (s .args .n) (s .pre .fewInputs))
+    omega (arith, next d .within, few-settings (s .args .nodes .inputs) (s .pre .fewInputs))
 
 batches-less : tie.Need-batches-less Inv-loop μ-loop Inv-batches μ-batches
 batches-less c =
     let d = found (c .before) in
-    omega (arith, head d .before .before .before .before .lane-count .ensures, lanesOf-some (start (head d) .args .n), d .before .before .before .batches-test .taken)
+    omega (
+      arith,
+      head d .before .before .before .before .lane-count .ensures,
+      lanesOf-some (start (head d) .args .nodes .inputs),
+      d .before .before .before .batches-test .taken,
+    )
 
 batches-again : tie.Need-batches-again Inv-loop μ-loop Inv-batches μ-batches
 batches-again c =
@@ -141,13 +152,13 @@ batches-again c =
     let h = head d in
     let e = d .decide-batch in
     let block = decode (start h .args .words .now) in
-    let all : (s : ℕ) → s < lanesOf (start h .args .n) → isSoundAt block (h .batches .base + s) ≡ true =
+    let all : (s : ℕ) → s < lanesOf (start h .args .nodes .inputs) → isSoundAt block (h .batches .base + s) ≡ true =
     passed-sound (values d) (h .before .before .outputs-at .ensures) (h .before .before .before .used-lanes .ensures) (c .before .before .coming-lanes .ensures)
     (λ o l. c .before .loop .inv .1 o (omega (arith, h .before .outputs-of .ensures))) in (
       next d,
       batch-more (λ i. isSoundAt block i ≡ true) (h .before .before .before .before .lane-count .ensures) (h .batches .inv .1) all,
-      e .kept .1 .1 .1 .1 .1 .0 ∙ h .batches .inv .2,
-      e .kept .1 .1 .1 .1 .1 .1 .0 ∙ h .batches .inv .3,
+      e .kept .1 .1 .1 .1 .0 ∙ h .batches .inv .2,
+      e .kept .1 .1 .1 .1 .1 .0 ∙ h .batches .inv .3,
     )
 
 same-length : tie.Need-same-length Inv-loop μ-loop Inv-batches μ-batches
@@ -159,7 +170,8 @@ same-length-2 c = c .before .batches .inv .3
 returns : tie.Need-returns Inv-loop μ-loop Inv-batches μ-batches
 returns c =
     let l = c .before in
-    let past : (l .batches .base < 2 ^ start l .args .n) → ⊥ = λ h. omega (arith, l .before .before .before .before .before .setting-count .ensures) in
+    let past : (l .batches .base < 2 ^ start l .args .nodes .inputs) → ⊥ =
+    λ h. omega (arith, l .before .before .before .before .before .setting-count .ensures) in
     record {
       within = l .batches .inv .0 .within;
       before = l .batches .inv .1;
@@ -170,10 +182,10 @@ returns c =
     }
 
 same-length-3 : tie.Need-same-length-3 Inv-loop μ-loop Inv-batches μ-batches
-same-length-3 c = let d = found (looked (c .before)) in d .decide-batch .kept .1 .1 .1 .1 .1 .0 ∙ head d .batches .inv .2
+same-length-3 c = let d = found (looked (c .before)) in d .decide-batch .kept .1 .1 .1 .1 .0 ∙ head d .batches .inv .2
 
 same-length-4 : tie.Need-same-length-4 Inv-loop μ-loop Inv-batches μ-batches
-same-length-4 c = let d = found (looked (c .before)) in d .decide-batch .kept .1 .1 .1 .1 .1 .1 .0 ∙ head d .batches .inv .3
+same-length-4 c = let d = found (looked (c .before)) in d .decide-batch .kept .1 .1 .1 .1 .1 .0 ∙ head d .batches .inv .3
 
 returns-2 : tie.Need-returns-2 Inv-loop μ-loop Inv-batches μ-batches
 returns-2 c =
@@ -188,8 +200,10 @@ returns-2 c =
       whole = h .batches .inv .0 .whole;
       settled = λ i. d .decide-batch .ensures;
       some = λ i.
-          found-unsound (values d) (h .before .before .outputs-at .ensures) (h .before .before .before .used-lanes .ensures) (l .before .coming-lanes .ensures) (l .loop .o)
-          (omega (arith, h .before .outputs-of .ensures, u .before .before .before .loop-test .taken)) (λ z. c .if1 .taken (rw (u .undefined-lanes .ensures) z));
+          found-unsound (values d) (h .before .before .outputs-at .ensures) (h .before .before .before .used-lanes .ensures)
+          (l .before .coming-lanes .ensures) (l .loop .o)
+          (omega (arith, h .before .outputs-of .ensures, u .before .before .before .loop-test .taken))
+          (λ z. c .if1 .taken (rw (u .undefined-lanes .ensures) z));
     }
 
 pub unsettled-batch-spec : {M : Type 1} → statement M

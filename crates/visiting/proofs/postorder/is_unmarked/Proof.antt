@@ -19,7 +19,7 @@ shared-slice-read-result : tie.Need-shared-slice-read-result
 shared-slice-read-result c = search needs
 
 returns-3 : tie.Need-returns-3
-returns-3 c = λ e. record { gate = c .before .before .if1 .left; below = c .before .if2 .left; free = eqb-true _ 0 e }
+returns-3 c = λ e. record { gate = c .before .before .before .before .if1 .left; below = c .before .before .if2 .left; free = eqb-true _ 0 e }
 
 pub is-unmarked-spec : {M : Type 1} → statement M
 is-unmarked-spec =

@@ -6,10 +6,10 @@ use Rattle.visiting.proofs.postorder.unmarked_operand.Statement.{statem
 use Rattle.visiting.proofs.postorder.unmarked_operand.Tie as tie
 
 abbrev Inv-loop : tie.InvT-loop
-Inv-loop words n m at flags count i₀ i = i ≤ count
+Inv-loop words nodes at flags count i₀ i = i ≤ count
 
 abbrev μ-loop : tie.MeasureT-loop
-μ-loop words n m at flags count i₀ i = count - i
+μ-loop words nodes at flags count i₀ i = count - i
 
 word-at-requires : tie.Need-word-at-requires Inv-loop μ-loop
 word-at-requires c κs = search needs
@@ -30,10 +30,10 @@ is-unmarked-requires : tie.Need-is-unmarked-requires Inv-loop μ-loop
 is-unmarked-requires c κs = let s = c .before .before .before .before .before .before in (s .pre .1, s .pre .2, s .pre .3)
 
 sub-result : tie.Need-sub-result Inv-loop μ-loop
-sub-result c = c .before .is-unmarked .ensures (c .if1 .taken) .gate
+sub-result c = c .before .before .is-unmarked .ensures (c .before .if1 .taken) .gate
 
 returns : tie.Need-returns Inv-loop μ-loop
-returns c = λ _. c .before .is-unmarked .ensures (c .if1 .taken) .free
+returns c = λ _. c .before .before .is-unmarked .ensures (c .before .if1 .taken) .free
 
 add-i : tie.Need-add-i Inv-loop μ-loop
 add-i c = omega arith

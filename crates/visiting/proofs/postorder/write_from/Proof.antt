@@ -11,19 +11,19 @@ use Rattle.visiting.proofs.postorder.write_from.Statement.{statement}
 use Rattle.visiting.proofs.postorder.write_from.Tie as tie
 
 abbrev Inv-loop : tie.InvT-loop
-Inv-loop words n m gates root flags₀ stack₀ order₀ tail depth₀ end₀ flags stack order depth end =
-    Walking m flags stack order depth end × Kept m flags₀ flags × Room n m gates flags stack order × (length flags ≡ length flags₀)
+Inv-loop words nodes root flags₀ stack₀ order₀ tail depth₀ end₀ flags stack order depth end =
+    Walking (nodes .gates) flags stack order depth end × Kept (nodes .gates) flags₀ flags × Room nodes flags stack order × (length flags ≡ length flags₀)
     × (length stack ≡ length stack₀) × (length order ≡ length order₀)
 
 abbrev μ-loop : tie.MeasureT-loop
-μ-loop words n m gates root flags₀ stack₀ order₀ tail depth₀ end₀ flags stack order depth end = 2 * (m - setFlags flags m) + depth
+μ-loop words nodes root flags₀ stack₀ order₀ tail depth₀ end₀ flags stack order depth end = 2 * (nodes .gates - setFlags flags (nodes .gates)) + depth
 
 -- the function's entry, from the loop's head
 abbrev start : tie.At-loop Inv-loop μ-loop → tie.Start Inv-loop μ-loop
 start l = l .before .before .before .before .before
 
 -- the gate on top of the stack is a gate
-top : (c : tie.After-word-at Inv-loop μ-loop) → c .word-at .result < start (c .before .before .before) .args .m
+top : (c : tie.After-word-at Inv-loop μ-loop) → c .word-at .result < start (c .before .before .before) .args .nodes .gates
 top c = top-below (c .word-at .result) (c .before .before .before .loop .inv .0) (c .before .before .loop-test .taken) (c .word-at .ensures)
 
 slice-write-flags : tie.Need-slice-write-flags Inv-loop μ-loop
@@ -58,54 +58,54 @@ mul-unmarked-operand : tie.Need-mul-unmarked-operand Inv-loop μ-loop
 mul-unmarked-operand c = omega (arith, top c, start (c .before .before .before) .pre .0 .fewGates)
 
 add-unmarked-operand : tie.Need-add-unmarked-operand Inv-loop μ-loop
-add-unmarked-operand c = let r = start (c .before .before .before) .pre .0 in omega (arith, top c, r .fewGates, r .near)
+add-unmarked-operand c = let r = start (c .before .before .before .before) .pre .0 in omega (arith, top (c .before), r .fewGates, r .near)
 
 unmarked-operand-requires : tie.Need-unmarked-operand-requires Inv-loop μ-loop
 unmarked-operand-requires c κs =
-    let r = c .before .before .before .before .loop .inv .2 in
-    (omega (arith, top (c .before), r .fewGates, r .near), r .fewInputs, r .fewGates, r .flagRoom)
+    let r = c .before .before .before .before .before .loop .inv .2 in
+    (omega (arith, top (c .before .before), r .fewGates, r .near), r .fewInputs, r .fewGates, r .flagRoom)
 
 slice-write-flags-2 : tie.Need-slice-write-flags-2 Inv-loop μ-loop
-slice-write-flags-2 c = omega (arith, c .if1 .taken, c .before .before .before .before .before .before .loop .inv .2 .flagRoom)
+slice-write-flags-2 c = omega (arith, c .if1 .taken, c .before .before .before .before .before .before .before .before .loop .inv .2 .flagRoom)
 
 cast-stack-2 : tie.Need-cast-stack-2 Inv-loop μ-loop
-cast-stack-2 c = omega (arith, c .if1 .taken, c .before .before .before .before .before .before .loop .inv .2 .fewGates)
+cast-stack-2 c = omega (arith, c .if1 .taken, c .before .before .before .before .before .before .before .before .loop .inv .2 .fewGates)
 
 mul-stack : tie.Need-mul-stack Inv-loop μ-loop
 mul-stack c =
-    let w = c .before .before .before .before .before .before .loop .inv in
-    let free = c .before .unmarked-operand .ensures (c .if1 .taken) in
-    omega (arith, push-room (w .0) (w .2 .flagRoom) (c .before .unmarked-operand .result) (c .if1 .taken) free, w .2 .fewGates)
+    let w = c .before .before .before .before .before .before .before .before .loop .inv in
+    let free = c .before .before .unmarked-operand .ensures (c .if1 .taken) in
+    omega (arith, push-room (w .0) (w .2 .flagRoom) (c .before .before .unmarked-operand .result) (c .if1 .taken) free, w .2 .fewGates)
 
 slice-write-stack-2 : tie.Need-slice-write-stack-2 Inv-loop μ-loop
 slice-write-stack-2 c =
-    let w = c .before .before .before .before .before .before .loop .inv in
-    let free = c .before .unmarked-operand .ensures (c .if1 .taken) in
-    omega (arith, push-room (w .0) (w .2 .flagRoom) (c .before .unmarked-operand .result) (c .if1 .taken) free, w .2 .stackRoom)
+    let w = c .before .before .before .before .before .before .before .before .loop .inv in
+    let free = c .before .before .unmarked-operand .ensures (c .if1 .taken) in
+    omega (arith, push-room (w .0) (w .2 .flagRoom) (c .before .before .unmarked-operand .result) (c .if1 .taken) free, w .2 .stackRoom)
 
 add-depth : tie.Need-add-depth Inv-loop μ-loop
 add-depth c =
-    let w = c .before .before .before .before .before .before .loop .inv in
-    let free = c .before .unmarked-operand .ensures (c .if1 .taken) in
-    omega (arith, push-room (w .0) (w .2 .flagRoom) (c .before .unmarked-operand .result) (c .if1 .taken) free, w .2 .fewGates)
+    let w = c .before .before .before .before .before .before .before .before .loop .inv in
+    let free = c .before .before .unmarked-operand .ensures (c .if1 .taken) in
+    omega (arith, push-room (w .0) (w .2 .flagRoom) (c .before .before .unmarked-operand .result) (c .if1 .taken) free, w .2 .fewGates)
 
 loop-less : tie.Need-loop-less Inv-loop μ-loop
 loop-less c =
-    let w = c .before .before .before .before .before .before .loop .inv in
-    let free = c .before .unmarked-operand .ensures (c .if1 .taken) in
-    push-less (w .0) (w .2 .flagRoom) (c .before .unmarked-operand .result) (c .if1 .taken) free
+    let w = c .before .before .before .before .before .before .before .before .loop .inv in
+    let free = c .before .before .unmarked-operand .ensures (c .if1 .taken) in
+    push-less (w .0) (w .2 .flagRoom) (c .before .before .unmarked-operand .result) (c .if1 .taken) free
 
 loop-again : tie.Need-loop-again Inv-loop μ-loop
 loop-again c =
-    let w = c .before .before .before .before .before .before .loop .inv in
-    let free = c .before .unmarked-operand .ensures (c .if1 .taken) in
-    let s = start (c .before .before .before .before .before .before) in
-    let l = c .before .before .before .before .before .before .loop in
-    let k = c .before .unmarked-operand .result in
+    let w = c .before .before .before .before .before .before .before .before .loop .inv in
+    let free = c .before .before .unmarked-operand .ensures (c .if1 .taken) in
+    let s = start (c .before .before .before .before .before .before .before .before) in
+    let l = c .before .before .before .before .before .before .before .before .loop in
+    let k = c .before .before .unmarked-operand .result in
     let fl = length-set (l .flags) k 1 in
     let sl = length-set (l .stack) (l .depth) k in (
       push (w .0) (w .2 .flagRoom) k (c .if1 .taken) free (w .2 .stackRoom),
-      kept-set (s .args .m) (set (s .args .flags .now) (s .args .root) 1) (l .flags) k
+      kept-set (s .args .nodes .gates) (set (s .args .flags .now) (s .args .root) 1) (l .flags) k
           (omega (arith, c .if1 .taken, w .2 .flagRoom)) (w .1),
       room-kept (w .2) fl sl refl,
       fl ∙ w .3,
@@ -113,20 +113,24 @@ loop-again c =
       w .5,
     )
 
+-- the loop's head, from the second way
+abbrev else-head : tie.Else1 Inv-loop μ-loop → tie.At-loop Inv-loop μ-loop
+else-head c = c .before .before .before .before .before .before .before .before
+
 cast-order : tie.Need-cast-order Inv-loop μ-loop
-cast-order c = omega (arith, top (c .before .before .before), c .before .before .before .before .before .before .loop .inv .2 .fewGates)
+cast-order c = omega (arith, top (c .before .before .before .before .before), else-head c .loop .inv .2 .fewGates)
 
 mul-order : tie.Need-mul-order Inv-loop μ-loop
-mul-order c = let w = c .before .before .before .before .before .before .loop .inv in
-    omega (arith, write-room (w .0) (w .2 .flagRoom) (c .before .before .before .before .before .loop-test .taken), w .2 .fewGates)
+mul-order c = let w = c .before .before .before .before .before .before .before .before .loop .inv in
+    omega (arith, write-room (w .0) (w .2 .flagRoom) (c .before .before .before .before .before .before .before .loop-test .taken), w .2 .fewGates)
 
 slice-write-order : tie.Need-slice-write-order Inv-loop μ-loop
-slice-write-order c = let w = c .before .before .before .before .before .before .loop .inv in
-    omega (arith, write-room (w .0) (w .2 .flagRoom) (c .before .before .before .before .before .loop-test .taken), w .2 .orderRoom)
+slice-write-order c = let w = c .before .before .before .before .before .before .before .before .loop .inv in
+    omega (arith, write-room (w .0) (w .2 .flagRoom) (c .before .before .before .before .before .before .before .loop-test .taken), w .2 .orderRoom)
 
 add-end : tie.Need-add-end Inv-loop μ-loop
-add-end c = let w = c .before .before .before .before .before .before .loop .inv in
-    omega (arith, write-room (w .0) (w .2 .flagRoom) (c .before .before .before .before .before .loop-test .taken), w .2 .fewGates)
+add-end c = let w = c .before .before .before .before .before .before .before .before .loop .inv in
+    omega (arith, write-room (w .0) (w .2 .flagRoom) (c .before .before .before .before .before .before .before .loop-test .taken), w .2 .fewGates)
 
 sub-depth : tie.Need-sub-depth Inv-loop μ-loop
 sub-depth c = omega arith
@@ -136,11 +140,11 @@ loop-less-2 c = omega arith
 
 loop-again-2 : tie.Need-loop-again-2 Inv-loop μ-loop
 loop-again-2 c =
-    let l = c .before .before .before .before .before .before .loop in
+    let l = c .before .before .before .before .before .before .before .before .loop in
     let w = l .inv in
-    let ol = length-set (l .order) (l .end) (c .before .before .before .word-at .result) in (
-      write (w .0) (w .2 .flagRoom) (c .before .before .before .word-at .result) (c .before .before .before .word-at .ensures)
-          (c .before .before .before .before .before .loop-test .taken) (w .2 .orderRoom),
+    let ol = length-set (l .order) (l .end) (c .before .before .before .before .before .word-at .result) in (
+      write (w .0) (w .2 .flagRoom) (c .before .before .before .before .before .word-at .result) (c .before .before .before .before .before .word-at .ensures)
+          (c .before .before .before .before .before .before .before .loop-test .taken) (w .2 .orderRoom),
       w .1,
       room-kept (w .2) refl refl ol,
       w .3,
@@ -159,7 +163,8 @@ same-length-3 c = c .before .loop .inv .5
 
 returns : tie.Need-returns Inv-loop μ-loop
 returns c = let s = c .before .before .before .before .before .before in
-    grown (s .args .m) (s .args .root) (s .pre .2) (s .pre .0 .flagRoom) (walk-end (c .before .loop .inv .0) (c .loop-test .left)) (c .before .loop .inv .1)
+    grown (s .args .nodes .gates) (s .args .root) (s .pre .2) (s .pre .0 .flagRoom) (walk-end (c .before .loop .inv .0) (c .loop-test .left))
+    (c .before .loop .inv .1)
 
 pub write-from-spec : {M : Type 1} → statement M
 write-from-spec =

@@ -9,12 +9,13 @@ use Rattle.visiting.proofs.postorder.write_postorder.Statement.{stateme
 use Rattle.visiting.proofs.postorder.write_postorder.Tie as tie
 
 abbrev Inv-loop : tie.InvT-loop
-Inv-loop words n m gates flags₀ stack₀ order₀ tail₀ left₀ flags stack order tail left =
-    Written m flags order tail × Room n m gates flags stack order × ((k : ℕ) → left ≤ k → k < m → getD flags k 0 ≡ 0 → ⊥) × (left ≤ m)
+Inv-loop words nodes flags₀ stack₀ order₀ tail₀ left₀ flags stack order tail left =
+    Written (nodes .gates) flags order tail × Room nodes flags stack order × ((k : ℕ) → left ≤ k → k < nodes .gates → getD flags k 0 ≡ 0 → ⊥)
+    × (left ≤ nodes .gates)
     × (length flags ≡ length flags₀) × (length stack ≡ length stack₀) × (length order ≡ length order₀)
 
 abbrev μ-loop : tie.MeasureT-loop
-μ-loop words n m gates flags₀ stack₀ order₀ tail₀ left₀ flags stack order tail left = left
+μ-loop words nodes flags₀ stack₀ order₀ tail₀ left₀ flags stack order tail left = left
 
 -- the function's entry from the loop's head, the loop's head from the first search of a turn, and that search from the second
 abbrev start : tie.At-loop Inv-loop μ-loop → tie.Start Inv-loop μ-loop
@@ -28,7 +29,7 @@ first f = f .before .before .before .before .before .before .before .before .bef
 
 loop-holds : tie.Need-loop-holds Inv-loop μ-loop
 loop-holds c = let s = c .before .before .before .before in (
-  none-written (s .args .m) (s .args .flags .now) (s .args .order .now) (s .pre .1),
+  none-written (s .args .nodes .gates) (s .args .flags .now) (s .args .order .now) (s .pre .1),
   s .pre .0,
   λ k lo hi z. absurd (omega arith),
   omega arith,
@@ -53,11 +54,11 @@ write-new-requires c κs =
 
 -- the room after the first search
 room : (f : tie.After-write-new Inv-loop μ-loop) → let s = start (head f) in
-    Room (s .args .n) (s .args .m) (s .args .gates) (f .write-new .last .1 .1 .1 .1 .1 .0) (f .write-new .last .1 .1 .1 .1 .1 .1 .0)
-    (f .write-new .last .1 .1 .1 .1 .1 .1 .1 .0)
+    Room (s .args .nodes) (f .write-new .last .1 .1 .1 .0) (f .write-new .last .1 .1 .1 .1 .0)
+    (f .write-new .last .1 .1 .1 .1 .1 .0)
 room f =
     let k = f .write-new .kept in
-    room-kept (head f .loop .inv .1) (k .1 .1 .1 .1 .1 .0) (k .1 .1 .1 .1 .1 .1 .0) (k .1 .1 .1 .1 .1 .1 .1 .0)
+    room-kept (head f .loop .inv .1) (k .1 .1 .1 .0) (k .1 .1 .1 .1 .0) (k .1 .1 .1 .1 .1 .0)
 
 write-new-requires-2 : tie.Need-write-new-requires-2 Inv-loop μ-loop
 write-new-requires-2 c κs =
@@ -82,13 +83,13 @@ loop-again c =
     let g = made .write-new2 .ensures in
     let some = before .before .before .before .before .before .loop-test .taken in (
       g .written,
-      room-kept (room before) (k .1 .1 .1 .1 .1 .0) (k .1 .1 .1 .1 .1 .1 .0) (k .1 .1 .1 .1 .1 .1 .1 .0),
-      done-next (s .args .m) (l .left) (made .write-new2 .last .1 .1 .1 .1 .1 .0) (omega (arith, some))
+      room-kept (room before) (k .1 .1 .1 .0) (k .1 .1 .1 .1 .0) (k .1 .1 .1 .1 .1 .0),
+      done-next (s .args .nodes .gates) (l .left) (made .write-new2 .last .1 .1 .1 .0) (omega (arith, some))
           (λ i lo hi z. w .2 i lo hi (before .write-new .ensures .kept i hi (g .kept i hi z))) (g .started),
       omega (arith, w .3),
-      k .1 .1 .1 .1 .1 .0 ∙ j .1 .1 .1 .1 .1 .0 ∙ w .4,
-      k .1 .1 .1 .1 .1 .1 .0 ∙ j .1 .1 .1 .1 .1 .1 .0 ∙ w .5,
-      k .1 .1 .1 .1 .1 .1 .1 .0 ∙ j .1 .1 .1 .1 .1 .1 .1 .0 ∙ w .6,
+      k .1 .1 .1 .0 ∙ j .1 .1 .1 .0 ∙ w .4,
+      k .1 .1 .1 .1 .0 ∙ j .1 .1 .1 .1 .0 ∙ w .5,
+      k .1 .1 .1 .1 .1 .0 ∙ j .1 .1 .1 .1 .1 .0 ∙ w .6,
     )
 
 same-length : tie.Need-same-length Inv-loop μ-loop
@@ -104,7 +105,7 @@ returns : tie.Need-returns Inv-loop μ-loop
 returns c =
     let l = c .before .loop in
     let w = l .inv in
-    all-written (c .before .before .before .before .before .before .args .m) (l .flags) (l .order) (l .tail) (w .1 .orderRoom) (w .0)
+    all-written (c .before .before .before .before .before .before .args .nodes .gates) (l .flags) (l .order) (l .tail) (w .1 .orderRoom) (w .0)
     (λ k hi z. w .2 k (omega (arith, c .loop-test .left)) hi z)
 
 pub write-postorder-spec : {M : Type 1} → statement M
