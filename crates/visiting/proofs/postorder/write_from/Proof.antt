@@ -65,42 +65,46 @@ unmarked-operand-requires c κs =
     let r = c .before .before .before .before .before .loop .inv .2 in
     (omega (arith, top (c .before .before), r .fewGates, r .near), r .fewInputs, r .fewGates, r .flagRoom)
 
+-- the loop's head, from the first way
+abbrev then-head : tie.Then1 Inv-loop μ-loop → tie.At-loop Inv-loop μ-loop
+then-head c = c .before .before .before .before .before .before .before .before
+
 slice-write-flags-2 : tie.Need-slice-write-flags-2 Inv-loop μ-loop
-slice-write-flags-2 c = omega (arith, c .if1 .taken, c .before .before .before .before .before .before .before .before .loop .inv .2 .flagRoom)
+slice-write-flags-2 c = omega (arith, c .if1 .taken, then-head c .loop .inv .2 .flagRoom)
 
 cast-stack-2 : tie.Need-cast-stack-2 Inv-loop μ-loop
-cast-stack-2 c = omega (arith, c .if1 .taken, c .before .before .before .before .before .before .before .before .loop .inv .2 .fewGates)
+cast-stack-2 c = omega (arith, c .if1 .taken, then-head c .loop .inv .2 .fewGates)
 
 mul-stack : tie.Need-mul-stack Inv-loop μ-loop
 mul-stack c =
-    let w = c .before .before .before .before .before .before .before .before .loop .inv in
+    let w = then-head c .loop .inv in
     let free = c .before .before .unmarked-operand .ensures (c .if1 .taken) in
     omega (arith, push-room (w .0) (w .2 .flagRoom) (c .before .before .unmarked-operand .result) (c .if1 .taken) free, w .2 .fewGates)
 
 slice-write-stack-2 : tie.Need-slice-write-stack-2 Inv-loop μ-loop
 slice-write-stack-2 c =
-    let w = c .before .before .before .before .before .before .before .before .loop .inv in
+    let w = then-head c .loop .inv in
     let free = c .before .before .unmarked-operand .ensures (c .if1 .taken) in
     omega (arith, push-room (w .0) (w .2 .flagRoom) (c .before .before .unmarked-operand .result) (c .if1 .taken) free, w .2 .stackRoom)
 
 add-depth : tie.Need-add-depth Inv-loop μ-loop
 add-depth c =
-    let w = c .before .before .before .before .before .before .before .before .loop .inv in
+    let w = then-head c .loop .inv in
     let free = c .before .before .unmarked-operand .ensures (c .if1 .taken) in
     omega (arith, push-room (w .0) (w .2 .flagRoom) (c .before .before .unmarked-operand .result) (c .if1 .taken) free, w .2 .fewGates)
 
 loop-less : tie.Need-loop-less Inv-loop μ-loop
 loop-less c =
-    let w = c .before .before .before .before .before .before .before .before .loop .inv in
+    let w = then-head c .loop .inv in
     let free = c .before .before .unmarked-operand .ensures (c .if1 .taken) in
     push-less (w .0) (w .2 .flagRoom) (c .before .before .unmarked-operand .result) (c .if1 .taken) free
 
 loop-again : tie.Need-loop-again Inv-loop μ-loop
 loop-again c =
-    let w = c .before .before .before .before .before .before .before .before .loop .inv in
+    let w = then-head c .loop .inv in
     let free = c .before .before .unmarked-operand .ensures (c .if1 .taken) in
-    let s = start (c .before .before .before .before .before .before .before .before) in
-    let l = c .before .before .before .before .before .before .before .before .loop in
+    let s = start (then-head c) in
+    let l = then-head c .loop in
     let k = c .before .before .unmarked-operand .result in
     let fl = length-set (l .flags) k 1 in
     let sl = length-set (l .stack) (l .depth) k in (
@@ -117,20 +121,24 @@ loop-again c =
 abbrev else-head : tie.Else1 Inv-loop μ-loop → tie.At-loop Inv-loop μ-loop
 else-head c = c .before .before .before .before .before .before .before .before
 
+-- the turn of the loop, from there
+abbrev else-turn : tie.Else1 Inv-loop μ-loop → tie.In-loop Inv-loop μ-loop
+else-turn c = c .before .before .before .before .before .before .before
+
 cast-order : tie.Need-cast-order Inv-loop μ-loop
 cast-order c = omega (arith, top (c .before .before .before .before .before), else-head c .loop .inv .2 .fewGates)
 
 mul-order : tie.Need-mul-order Inv-loop μ-loop
-mul-order c = let w = c .before .before .before .before .before .before .before .before .loop .inv in
-    omega (arith, write-room (w .0) (w .2 .flagRoom) (c .before .before .before .before .before .before .before .loop-test .taken), w .2 .fewGates)
+mul-order c = let w = else-head c .loop .inv in
+    omega (arith, write-room (w .0) (w .2 .flagRoom) (else-turn c .loop-test .taken), w .2 .fewGates)
 
 slice-write-order : tie.Need-slice-write-order Inv-loop μ-loop
-slice-write-order c = let w = c .before .before .before .before .before .before .before .before .loop .inv in
-    omega (arith, write-room (w .0) (w .2 .flagRoom) (c .before .before .before .before .before .before .before .loop-test .taken), w .2 .orderRoom)
+slice-write-order c = let w = else-head c .loop .inv in
+    omega (arith, write-room (w .0) (w .2 .flagRoom) (else-turn c .loop-test .taken), w .2 .orderRoom)
 
 add-end : tie.Need-add-end Inv-loop μ-loop
-add-end c = let w = c .before .before .before .before .before .before .before .before .loop .inv in
-    omega (arith, write-room (w .0) (w .2 .flagRoom) (c .before .before .before .before .before .before .before .loop-test .taken), w .2 .fewGates)
+add-end c = let w = else-head c .loop .inv in
+    omega (arith, write-room (w .0) (w .2 .flagRoom) (else-turn c .loop-test .taken), w .2 .fewGates)
 
 sub-depth : tie.Need-sub-depth Inv-loop μ-loop
 sub-depth c = omega arith
@@ -140,11 +148,11 @@ loop-less-2 c = omega arith
 
 loop-again-2 : tie.Need-loop-again-2 Inv-loop μ-loop
 loop-again-2 c =
-    let l = c .before .before .before .before .before .before .before .before .loop in
+    let l = else-head c .loop in
     let w = l .inv in
     let ol = length-set (l .order) (l .end) (c .before .before .before .before .before .word-at .result) in (
       write (w .0) (w .2 .flagRoom) (c .before .before .before .before .before .word-at .result) (c .before .before .before .before .before .word-at .ensures)
-          (c .before .before .before .before .before .before .before .loop-test .taken) (w .2 .orderRoom),
+          (else-turn c .loop-test .taken) (w .2 .orderRoom),
       w .1,
       room-kept (w .2) refl refl ol,
       w .3,
