@@ -9,6 +9,12 @@ ghost use Rattle.assignments.specs.Entries.{RowListed, EntriesWritten};
 ghost use Rattle.assignments.specs.Over.{assignmentWords};
 ghost use Rattle.assignments.specs.Tables.{weightOf, Weighed};
 
+// A first mask, and the number of the assignment with it and no input at 1.
+struct FirstMask {
+    fixed: usize,
+    base: usize,
+}
+
 // The number of the assignment with this first mask and no input at 1.
 fn row_base(weights: &[u32], n: usize, size: usize, fixed: usize) -> usize
     requires { ⌜ Weighed (now weights) n × (size ≡ 3 ^ n) × (fixed < 2 ^ n) ⌝ }
@@ -18,11 +24,11 @@ fn row_base(weights: &[u32], n: usize, size: usize, fixed: usize) -> usize
 }
 
 // Whether an assignment with this first mask is left: an input at 1 in place of 0 makes the number greater by its weight.
-fn is_left(marks: &[u8], weights: &[u32], n: usize, base: usize, fixed: usize, ones: usize) -> bool
-    requires { ⌜ Row (now marks) (now weights) n base fixed × (ones < 2 ^ n) × PairBelow n (fixed * 2 ^ n + ones) ⌝ }
-    ensures { λ r. ⌜ r ≡ entryBy (now (marks .entry)) n (fixed * 2 ^ n + ones) ⌝ }
+fn is_left(marks: &[u8], weights: &[u32], n: usize, first: FirstMask, ones: usize) -> bool
+    requires { ⌜ Row (now marks) (now weights) n (first .base) (first .fixed) × (ones < 2 ^ n) × PairBelow n (first .fixed * 2 ^ n + ones) ⌝ }
+    ensures { λ r. ⌜ r ≡ entryBy (now (marks .entry)) n (first .fixed * 2 ^ n + ones) ⌝ }
 {
-    marks[base + weights[ones] as usize] == 1
+    marks[first.base + weights[ones] as usize] == 1
 }
 
 // The words of the entries with this first mask, behind those of the entries before it; how many entries these are together.
@@ -30,20 +36,20 @@ fn list_row(
     marks: &[u8],
     weights: &[u32],
     n: usize,
-    base: usize,
-    fixed: usize,
+    first: FirstMask,
     before: usize,
     out: &mut [u16],
 ) -> usize
-    requires { ⌜ Row (now marks) (now weights) n base fixed × Reached (now marks) n (fixed * 2 ^ n) before ⌝ }
+    requires { ⌜ Row (now marks) (now weights) n (first .base) (first .fixed) × Reached (now marks) n (first .fixed * 2 ^ n) before ⌝ }
     requires { ⌜ 2 * length (entriesBy (now marks) n) ≤ length (now out) ⌝ }
-    ensures { λ r. ⌜ RowListed (now (marks .entry)) (now (out .entry)) (now (out .exit)) n fixed r ⌝ }
+    ensures { λ r. ⌜ RowListed (now (marks .entry)) (now (out .entry)) (now (out .exit)) n (first .fixed) r ⌝ }
 {
+    let fixed = first.fixed;
     let end = 1usize << n;
     let mut count = before;
     let mut ones = 0;
     while ones < end {
-        if is_left(marks, weights, n, base, fixed, ones) {
+        if is_left(marks, weights, n, first, ones) {
             out[2 * count] = fixed as u16;
             out[2 * count + 1] = ones as u16;
             count += 1;
@@ -63,7 +69,8 @@ fn list_entries(marks: &[u8], weights: &[u32], n: usize, size: usize, total: usi
     let mut fixed = 0;
     while count < total {
         let base = row_base(weights, n, size, fixed);
-        count = list_row(marks, weights, n, base, fixed, count, out);
+        let first = FirstMask { fixed, base };
+        count = list_row(marks, weights, n, first, count, out);
         fixed += 1;
     }
 }

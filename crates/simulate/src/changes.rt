@@ -16,7 +16,7 @@ ghost use Rattle.simulate.specs.Rounded.{ForRounds};
 ghost use Rattle.simulate.specs.Changes.{Awake, UpdateReady, UpdatedOne, UpdatedList, UpdatedAll, Copied, CopyReady, Round, Started, Turned};
 
 // Where the gates that one round changed stand in the queue: from `head` on, before `tail`.
-pub struct Span {
+pub struct Stretch {
     pub head: usize,
     pub tail: usize,
 }
@@ -130,7 +130,7 @@ fn update_changed(
     old: &[u8],
     values: &mut [u8],
     queue: &mut [u16],
-    changed: Span,
+    changed: Stretch,
 ) -> usize
     requires { ⌜ now table ≡ gateTable ⌝ }
     requires { ⌜ UpdateReady (now words) nodes (now setting) (now old) (now values) (now queue) (changed .tail) × (changed .head ≤ changed .tail) ⌝ }
@@ -163,7 +163,7 @@ fn update_changed(
 }
 
 // Copies the values of the gates that the round before changed.
-fn copy_changed(values: &[u8], queue: &[u16], changed: Span, old: &mut [u8])
+fn copy_changed(values: &[u8], queue: &[u16], changed: Stretch, old: &mut [u8])
     requires { ⌜ CopyReady (now values) (now queue) (changed .head) (changed .tail) (now old) ⌝ }
     ensures { λ r. ⌜ Copied (now (values .entry)) (now (queue .entry)) (changed .head) (changed .tail) (now (old .entry)) (now (old .exit)) ⌝ }
 {
@@ -215,7 +215,7 @@ pub fn next_round(
     values: &mut [u8],
     old: &mut [u8],
     queue: &mut [u16],
-    changed: Span,
+    changed: Stretch,
 ) -> usize
     requires { ⌜ now table ≡ gateTable ⌝ }
     requires { ⌜ ForRounds (now words) nodes (length (now values)) ⌝ }

@@ -1,5 +1,5 @@
 // Rounds of a block that is not torn: in the first all gates are evaluated, in a later one those that read a gate that the one before changed.
-use crate::changes::Span;
+use crate::changes::Stretch;
 use crate::changes::first_round;
 use crate::changes::next_round;
 use layout::limits::MAX_GATES;
@@ -77,7 +77,7 @@ fn settle_with(
             values,
             old,
             queue,
-            Span { head, tail },
+            Stretch { head, tail },
         );
         head = tail;
         tail = end;

@@ -36,22 +36,29 @@ pub fn operand_value(word: usize, n: usize, inputs: &[u8], gates: &[u8]) -> u8
     }
 }
 
-// The code of operand `place` of the gate whose `count` operand words start at `from`.
+// Where a gate's operand words start, and how many they are.
+struct Operands {
+    from: usize,
+    count: usize,
+}
+
+// The code of operand `place` of a gate.
 fn operand_code(
     words: &[u16],
     n: usize,
-    from: usize,
-    count: usize,
+    operands: Operands,
     place: usize,
     inputs: &[u8],
     gates: &[u8],
 ) -> usize
-    requires { ⌜ from < 2 ^ 63 ⌝ }
+    requires { ⌜ operands .from < 2 ^ 63 ⌝ }
     requires { ⌜ place < 4 ⌝ }
-    ensures { λ r. ⌜ r ≡ operandCode (tab (valueFrom (now (words .entry)) n from (now (inputs .entry)) (now (gates .entry))) count) place ⌝ }
+    ensures { λ r. ⌜
+        r ≡ operandCode (tab (valueFrom (now (words .entry)) n (operands .from) (now (inputs .entry)) (now (gates .entry))) (operands .count)) place
+        ⌝ }
 {
-    if place < count {
-        operand_value(word_at(words, from + place), n, inputs, gates) as usize
+    if place < operands.count {
+        operand_value(word_at(words, operands.from + place), n, inputs, gates) as usize
     } else {
         ABSENT
     }
@@ -71,11 +78,14 @@ pub fn gate_value(
     ensures { λ r. ⌜ r ≡ code (evaluated (map valueOf (now (inputs .entry))) (map valueOf (now (gates .entry))) (gateAt n (now (words .entry)) at)) ⌝ }
 {
     let head = word_at(words, at);
-    let count = head / 8;
     let from = at + 1;
-    let a = operand_code(words, n, from, count, 0, inputs, gates);
-    let b = operand_code(words, n, from, count, 1, inputs, gates);
-    let c = operand_code(words, n, from, count, 2, inputs, gates);
-    let d = operand_code(words, n, from, count, 3, inputs, gates);
+    let operands = Operands {
+        from,
+        count: head / 8,
+    };
+    let a = operand_code(words, n, operands, 0, inputs, gates);
+    let b = operand_code(words, n, operands, 1, inputs, gates);
+    let c = operand_code(words, n, operands, 2, inputs, gates);
+    let d = operand_code(words, n, operands, 3, inputs, gates);
     table[256 * (head % 8) + a + 4 * b + 16 * c + 64 * d]
 }

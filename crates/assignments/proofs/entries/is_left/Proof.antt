@@ -9,7 +9,7 @@ use Rattle.assignments.proofs.entries.is_left.Statement.{statement}
 use Rattle.assignments.proofs.entries.is_left.Tie as tie
 
 small : (c : tie.Start)
-    → (c .args .base + getD (c .args .weights .now) (c .args .ones) 0 < 3 ^ (c .args .n)) × (3 ^ (c .args .n) ≤ 3 ^ maxInputs)
+    → (c .args .first .base + getD (c .args .weights .now) (c .args .ones) 0 < 3 ^ (c .args .n)) × (3 ^ (c .args .n) ≤ 3 ^ maxInputs)
 small c = number-below (c .pre .0) (c .pre .1) (c .pre .2)
 
 mul-result : tie.Need-mul-result
@@ -22,13 +22,13 @@ cast-result : tie.Need-cast-result
 cast-result c = omega (arith, small (c .before))
 
 add-result : tie.Need-add-result
-add-result c = omega (arith, small (c .before))
+add-result c = omega (arith, small (c .before .before))
 
 shared-slice-read-result-2 : tie.Need-shared-slice-read-result-2
-shared-slice-read-result-2 c = omega (arith, small (c .before .before), c .before .before .pre .0 .room)
+shared-slice-read-result-2 c = let s = c .before .before .before in omega (arith, small s, s .pre .0 .room)
 
 returns : tie.Need-returns
-returns c = left-is (c .before .before .pre .0) (c .before .before .pre .1) (c .before .before .pre .2)
+returns c = let s = c .before .before .before in left-is (s .pre .0) (s .pre .1) (s .pre .2)
 
 pub is-left-spec : {M : Type 1} → statement M
 is-left-spec =

@@ -18,11 +18,11 @@ use Rattle.assignments.proofs.entries.list_row.Statement.{statement}
 use Rattle.assignments.proofs.entries.list_row.Tie as tie
 
 abbrev Inv-loop : tie.InvT-loop
-Inv-loop marks weights n base fixed before out₀ end count₀ ones₀ out count ones = (ones ≤ 2 ^ n) × (end ≡ 2 ^ n) × Reached marks n (fixed * 2 ^ n + ones) count
-    × (length out ≡ length out₀) × ((first : List ℕ) → Words marks first out₀ n (fixed * 2 ^ n) → Words marks first out n (fixed * 2 ^ n + ones))
+Inv-loop marks weights n first before out₀ fixed end count₀ ones₀ out count ones = (ones ≤ 2 ^ n) × (end ≡ 2 ^ n) × Reached marks n (first .fixed * 2 ^ n + ones) count
+    × (length out ≡ length out₀) × ((front : List ℕ) → Words marks front out₀ n (first .fixed * 2 ^ n) → Words marks front out n (first .fixed * 2 ^ n + ones))
 
 abbrev μ-loop : tie.MeasureT-loop
-μ-loop marks weights n base fixed before out₀ end count₀ ones₀ out count ones = 2 ^ n - ones
+μ-loop marks weights n first before out₀ fixed end count₀ ones₀ out count ones = 2 ^ n - ones
 
 -- at an entry there is room for its two words, and each fits one
 abbrev start : tie.Then1 Inv-loop μ-loop → tie.Start Inv-loop μ-loop
@@ -46,7 +46,7 @@ shl-end c = search needs
 loop-holds : tie.Need-loop-holds Inv-loop μ-loop
 loop-holds c =
     let start = c .before .before .before in
-    let z = add-zero (start .args .fixed * 2 ^ (start .args .n)) in
+    let z = add-zero (start .args .first .fixed * 2 ^ (start .args .n)) in
     (omega arith, shifted (start .pre .0 .0 .weighed .few), rw z (start .pre .0 .1), refl, λ first v. rw z v)
 
 is-left-requires : tie.Need-is-left-requires Inv-loop μ-loop
@@ -114,7 +114,7 @@ loop-again c =
       reached-add (loop .inv .2) x e,
       simp length-set (loop .inv .3),
       λ first v.
-          words-add (loop .inv .2) x e (sym (digits-div (start .args .fixed) l)) (sym (digits-mod (start .args .fixed) l))
+          words-add (loop .inv .2) x e (sym (digits-div (start .args .first .fixed) l)) (sym (digits-mod (start .args .first .fixed) l))
           (omega (arith, loop .inv .3, start .pre .1)) (loop .inv .4 first v),
     ))
     (λ t.
@@ -135,7 +135,7 @@ returns : tie.Need-returns Inv-loop μ-loop
 returns c =
     let args = c .before .before .before .before .before .args in
     let e : c .before .loop .ones ≡ 2 ^ (args .n) = omega (arith, c .before .loop .inv .1) in
-    let f = row-end (args .n) (args .fixed) in
+    let f = row-end (args .n) (args .first .fixed) in
     record { reached = rw (e, f) at (c .before .loop .inv .2); row = λ first v. rw (e, f) at (c .before .loop .inv .4 first v) }
 
 pub list-row-spec : {M : Type 1} → statement M

@@ -23,15 +23,15 @@ cast-result c = search needs
 returns : tie.Need-returns
 unfolding valueFrom
 returns c =
-    let a = c .before .before .before .before .before .before .args in
-    let v = valueFrom (now (a .words)) (a .n) (a .from) (now (a .inputs)) (now (a .gates)) in
-    c .operand-value .ensures ∙ rw (c .before .word-at .ensures) (sym (operand-code-at v (a .count) (a .place) (omega arith)))
+    let a = c .before .before .before .before .before .before .before .before .args in
+    let v = valueFrom (now (a .words)) (a .n) (a .operands .from) (now (a .inputs)) (now (a .gates)) in
+    c .operand-value .ensures ∙ rw (c .before .word-at .ensures) (sym (operand-code-at v (a .operands .count) (a .place) (omega arith)))
 
 returns-2 : tie.Need-returns-2
 returns-2 c =
-    let a = c .before .before .before .before .args in
-    let v = valueFrom (now (a .words)) (a .n) (a .from) (now (a .inputs)) (now (a .gates)) in
-    sym (operand-code-past v (a .count) (a .place) (omega arith))
+    let a = c .before .before .before .before .before .args in
+    let v = valueFrom (now (a .words)) (a .n) (a .operands .from) (now (a .inputs)) (now (a .gates)) in
+    sym (operand-code-past v (a .operands .count) (a .place) (omega arith))
 
 pub operand-code-spec : {M : Type 1} → statement M
 operand-code-spec = tie.close (tie.spec add-word-at word-at-requires operand-value-requires cast-result returns returns-2)
