@@ -17,7 +17,7 @@ use Rattle.netlist.specs.Answers.{Outcome, refused, refuseIf, refuseAt}
 use Rattle.netlist.specs.Operations.{counted, readTree, readParsed, readText}
 use Rattle.names.specs.Plain.{plain}
 use Rattle.names.specs.Results.{treeCounts}
-use Rattle.names.proofs.TreeCounts.{limits-within}
+use Rattle.grammar.proofs.Limits.{limits-within}
 use Rattle.reading.specs.Words.{wordCount}
 use Rattle.reading.proofs.BlockWords.{block-length}
 use Rattle.telling.proofs.Told.{Fits}
