@@ -19,12 +19,6 @@ pub struct Leaf {
     pub unknown: usize,
 }
 
-// What stands before an operand: the gates that have closed, and `unknown` as in `Found`.
-pub struct Seen {
-    pub gates: usize,
-    pub unknown: usize,
-}
-
 // An operand: the bytes left behind it, its node's word, the gates that have closed, and one more than the bytes left from the first
 // undeclared name on, or 0.
 pub struct Found {
