@@ -19,18 +19,12 @@ pub struct Leaf {
     pub unknown: usize,
 }
 
-// What stands before an operand: the gates that have closed, and `unknown` as in `Found`.
-pub struct Seen {
-    pub gates: usize,
-    pub unknown: usize,
-}
-
 // An operand: the bytes left behind it, its node's word, the gates that have closed, and one more than the bytes left from the first
-// undeclared name on, or 0.
+// undeclared name on, or 0. The word stands between the last two: side by side, they are read back in one piece, which waits for both stores.
 pub struct Found {
     pub left: usize,
-    pub word: u16,
     pub gates: usize,
+    pub word: u16,
     pub unknown: usize,
 }
 

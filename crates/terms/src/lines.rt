@@ -1,5 +1,4 @@
 // The walk over lines. Each line's reader gets the rest of the text.
-use crate::Seen;
 use crate::Walked;
 use crate::leaves::name_here;
 use crate::walk::operand;
@@ -32,16 +31,26 @@ fn gate_line(
     names: &[u64],
     words: &[u16],
     index: &[u16],
-    seen: Seen,
+    first: usize,
+    unknown: usize,
     gates: &mut [u16],
 ) -> Walked
-    requires { ⌜ LineHere gateForm maxGates (now s) n (now names) (now words) (seen .gates) (now gates) ⌝ }
+    requires { ⌜ LineHere gateForm maxGates (now s) n (now names) (now words) first (now gates) ⌝ }
     requires { ⌜ Indexed (now names) (length (now names)) (now index) ⌝ }
-    ensures { λ r. ⌜ LineRead gateForm (now (s .entry)) n (now (names .entry)) (now (words .entry)) (seen .gates) (seen .unknown) (now (gates .entry))
-        (now (gates .exit)) r ⌝ }
+    ensures { λ r. ⌜ LineRead gateForm (now (s .entry)) n (now (names .entry)) (now (words .entry)) first unknown (now (gates .entry)) (now (gates .exit)) r ⌝ }
 {
     let at = 7 + name_length(&s[6..]);
-    let one = operand(&s[at..], MAX_DEPTH, n, names, words, index, seen, gates);
+    let one = operand(
+        &s[at..],
+        MAX_DEPTH,
+        n,
+        names,
+        words,
+        index,
+        first,
+        unknown,
+        gates,
+    );
     Walked {
         left: one.left - 2,
         number: one.gates,
@@ -126,10 +135,8 @@ pub fn gate_lines(
             names,
             words,
             index,
-            Seen {
-                gates: first,
-                unknown,
-            },
+            first,
+            unknown,
             gates,
         );
         left = one.left;

@@ -1,7 +1,6 @@
 // The walk over expressions. The readers of an operand and of an operand list call each other; depth left and bytes left fall.
 use crate::Found;
 use crate::Listed;
-use crate::Seen;
 use crate::leaves::kind_here;
 use crate::leaves::leaf_here;
 use crate::leaves::word_length;
@@ -31,7 +30,7 @@ fn put_gate(gates: &mut [u16], number: usize, kind: usize, count: usize, slots: 
     gates[at + 4] = slots[3];
 }
 
-// An operand, with `depth` levels of expressions left, behind what is seen.
+// An operand, with `depth` levels of expressions left, when `first` gates have closed.
 pub fn operand(
     s: &[u8],
     depth: usize,
@@ -39,20 +38,20 @@ pub fn operand(
     names: &[u64],
     words: &[u16],
     index: &[u16],
-    seen: Seen,
+    first: usize,
+    unknown: usize,
     gates: &mut [u16],
 ) -> Found
-    requires { ⌜ TermHere (now s) depth n (now names) (now words) (seen .gates) (now gates) ⌝ }
+    requires { ⌜ TermHere (now s) depth n (now names) (now words) first (now gates) ⌝ }
     requires { ⌜ Indexed (now names) (length (now names)) (now index) ⌝ }
-    ensures { λ r. ⌜ TermRead (now (s .entry)) depth n (now (names .entry)) (now (words .entry)) (seen .gates) (seen .unknown) (now (gates .entry))
-        (now (gates .exit)) r ⌝ }
+    ensures { λ r. ⌜ TermRead (now (s .entry)) depth n (now (names .entry)) (now (words .entry)) first unknown (now (gates .entry)) (now (gates .exit)) r ⌝ }
 {
     if byte_at(s, 0) != b'(' {
-        let leaf = leaf_here(s, names, words, index, seen.unknown);
+        let leaf = leaf_here(s, names, words, index, unknown);
         return Found {
             left: leaf.left,
             word: leaf.word,
-            gates: seen.gates,
+            gates: first,
             unknown: leaf.unknown,
         };
     }
@@ -66,7 +65,8 @@ pub fn operand(
         names,
         words,
         index,
-        seen,
+        first,
+        unknown,
         0,
         gates,
         &mut slots,
@@ -88,14 +88,15 @@ fn operands(
     names: &[u64],
     words: &[u16],
     index: &[u16],
-    seen: Seen,
+    first: usize,
+    unknown: usize,
     i: usize,
     gates: &mut [u16],
     slots: &mut [u16],
 ) -> Listed
-    requires { ⌜ TermsHere (now s) depth n (now names) (now words) (seen .gates) i (now gates) (now slots) ⌝ }
+    requires { ⌜ TermsHere (now s) depth n (now names) (now words) first i (now gates) (now slots) ⌝ }
     requires { ⌜ Indexed (now names) (length (now names)) (now index) ⌝ }
-    ensures { λ r. ⌜ TermsRead (now (s .entry)) depth n (now (names .entry)) (now (words .entry)) (seen .gates) (seen .unknown) i (now (gates .entry))
+    ensures { λ r. ⌜ TermsRead (now (s .entry)) depth n (now (names .entry)) (now (words .entry)) first unknown i (now (gates .entry))
         (now (gates .exit)) (now (slots .entry)) (now (slots .exit)) r ⌝ }
 {
     let length = s.len();
@@ -103,11 +104,21 @@ fn operands(
         return Listed {
             left: length - 1,
             count: i,
-            gates: seen.gates,
-            unknown: seen.unknown,
+            gates: first,
+            unknown,
         };
     }
-    let one = operand(&s[1..], depth, n, names, words, index, seen, gates);
+    let one = operand(
+        &s[1..],
+        depth,
+        n,
+        names,
+        words,
+        index,
+        first,
+        unknown,
+        gates,
+    );
     slots[i] = one.word;
     let at = length - one.left;
     operands(
@@ -117,10 +128,8 @@ fn operands(
         names,
         words,
         index,
-        Seen {
-            gates: one.gates,
-            unknown: one.unknown,
-        },
+        one.gates,
+        one.unknown,
         i + 1,
         gates,
         slots,

@@ -48,18 +48,18 @@ part-operand-end c = search needs
 operand-requires : tie.Need-operand-requires
 operand-requires c κs =
     let b = c .before .before in let a = b .before .before .before .before .before .before .before .args in (
-      gate-here (a .s .now) (b .name-length .result) (b .name-length .ensures) (a .n) (a .names .now) (a .words .now) (a .seen .gates) (a .gates .now)
+      gate-here (a .s .now) (b .name-length .result) (b .name-length .ensures) (a .n) (a .names .now) (a .words .now) (a .first) (a .gates .now)
           (b .before .before .before .before .before .before .before .pre .0),
       b .before .before .before .before .before .before .before .pre .1,
     )
 
-sub-t12 : tie.Need-sub-t12
-sub-t12 c =
+sub-t13 : tie.Need-sub-t13
+sub-t13 c =
     let at-operand = c .before .before .before in
     let stage = at-operand .before .before .before in
     let b = stage in let a = b .before .before .before .before .before .before .before .args in
-    gate-left (a .s .now) (b .name-length .result) (b .name-length .ensures) (a .n) (a .names .now) (a .words .now) (a .seen .gates) (a .gates .now)
-    (a .seen .unknown) (at-operand .operand .last .1 .1 .1 .1 .1 .1 .1 .0) (at-operand .operand .result) (at-operand .operand .ensures)
+    gate-left (a .s .now) (b .name-length .result) (b .name-length .ensures) (a .n) (a .names .now) (a .words .now) (a .first) (a .gates .now)
+    (a .unknown) (at-operand .operand .last .1 .1 .1 .1 .1 .1 .1 .1 .0) (at-operand .operand .result) (at-operand .operand .ensures)
     (b .before .before .before .before .before .before .before .pre .0)
 
 same-length : tie.Need-same-length
@@ -70,8 +70,8 @@ returns c =
     let at-operand = c .before .before .before in
     let stage = at-operand .before .before .before in
     let b = stage in let a = b .before .before .before .before .before .before .before .args in
-    gate-read (a .s .now) (b .name-length .result) (b .name-length .ensures) (a .n) (a .names .now) (a .words .now) (a .seen .gates) (a .gates .now)
-    (a .seen .unknown) (at-operand .operand .last .1 .1 .1 .1 .1 .1 .1 .0) (at-operand .operand .result) (at-operand .operand .ensures)
+    gate-read (a .s .now) (b .name-length .result) (b .name-length .ensures) (a .n) (a .names .now) (a .words .now) (a .first) (a .gates .now)
+    (a .unknown) (at-operand .operand .last .1 .1 .1 .1 .1 .1 .1 .1 .0) (at-operand .operand .result) (at-operand .operand .ensures)
 
 pub gate-line-spec : {M : Type 1} → statement M
 gate-line-spec =
@@ -86,6 +86,6 @@ gate-line-spec =
     part-operand-start
     part-operand-end
     operand-requires
-    sub-t12
+    sub-t13
     same-length
     returns)

@@ -60,9 +60,9 @@ loop-again c =
     let l = at-loop .loop in
     let g = c .before .before .gate-line in
     lines-step gateForm gate-lawful (a .lines) (a .text .now) (a .n) (a .names .now) (a .words .now) 0 (a .gates .now) (l .i) (l .left) (l .first)
-    (l .unknown) (l .gates) (l .inv) (g .last .1 .1 .1 .1 .1 .1 .0) (g .result) (g .ensures)
+    (l .unknown) (l .gates) (l .inv) (g .last .1 .1 .1 .1 .1 .1 .1 .0) (g .result) (g .ensures)
     (lines-kept gateForm gate-lawful (a .lines) (a .text .now) (a .n) (a .names .now) (a .words .now) 0 (a .gates .now) (l .i) (l .left) (l .first)
-    (l .unknown) (l .gates) (l .inv) (g .last .1 .1 .1 .1 .1 .1 .0) (g .result) (g .ensures) maxGates
+    (l .unknown) (l .gates) (l .inv) (g .last .1 .1 .1 .1 .1 .1 .1 .0) (g .result) (g .ensures) maxGates
     (start .pre .0) (in-loop .loop-test .taken)) (in-loop .loop-test .taken)
 
 same-length : tie.Need-same-length Inv-loop μ-loop
