@@ -116,7 +116,7 @@ fn turn(
     notes: &mut [u16],
     stack: &mut [u16],
 ) -> Standing
-    requires { ⌜ (nodes .inputs ≤ 65535) × (nodes .gates ≤ maxGates) × (nodes .start ≤ 1024) ⌝ }
+    requires { ⌜ (nodes .inputs ≤ 65535) × (nodes .gates ≤ maxGates) × (nodes .start ≤ maxGates) ⌝ }
     requires { ⌜ (standing .time < clockEnd) × (standing .cursor < 8 * nodes .gates) × (standing .top ≤ clockEnd) ⌝ }
     ensures { λ r. ⌜ (r .time ≡ standing .time + 1) × (r .top ≤ standing .top + 1) ⌝ }
 {
@@ -164,7 +164,7 @@ fn explore(
     notes: &mut [u16],
     stack: &mut [u16],
 ) -> usize
-    requires { ⌜ (root < nodes .gates) × (time < clockEnd) × (nodes .inputs ≤ 65535) × (nodes .gates ≤ maxGates) × (nodes .start ≤ 1024) ⌝ }
+    requires { ⌜ (root < nodes .gates) × (time < clockEnd) × (nodes .inputs ≤ 65535) × (nodes .gates ≤ maxGates) × (nodes .start ≤ maxGates) ⌝ }
     ensures { λ r. ⌜ r ≤ clockEnd ⌝ }
 {
     if !is_new(root, nodes.gates, notes) {
@@ -191,7 +191,7 @@ pub fn find_groups(
     notes: &mut [u16],
     stack: &mut [u16],
 )
-    requires { ⌜ (nodes .inputs ≤ 65535) × (nodes .gates ≤ maxGates) × (nodes .start ≤ 1024) ⌝ }
+    requires { ⌜ (nodes .inputs ≤ 65535) × (nodes .gates ≤ maxGates) × (nodes .start ≤ maxGates) ⌝ }
 {
     let mut time = 0;
     let mut root = 0;

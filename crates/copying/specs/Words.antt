@@ -10,7 +10,7 @@ use Rattle.laws.specs.Lists.{tab}
 use Rattle.layout.specs.declared.nodes.Nodes.{Nodes}
 use Rattle.layout.specs.Nodes.{gateNamed}
 use Rattle.netlist.specs.Limits.{maxCopies}
-use Rattle.netlist.specs.StoredBlock.{decode, encode, isTorn}
+use Rattle.netlist.specs.StoredBlock.{outputSize, gateSize, decode, encode, isTorn}
 use Rattle.netlist.specs.Rendering.{schedule, rendering}
 use Rattle.copying.specs.declared.entry.Entry.{Entry}
 
@@ -45,7 +45,7 @@ tableAfter n order newest (suc t) = set (tableAfter n order newest t) (getD orde
 
 -- the words of a copy of gate j
 unfoldable pub copyWords : List ℕ → Nodes → ℕ → List ℕ → List ℕ
-copyWords ws nodes j newest = entryWords ws nodes (gateEntry ws (nodes .start + 5 * j)) newest
+copyWords ws nodes j newest = entryWords ws nodes (gateEntry ws (nodes .start + gateSize * j)) newest
 
 -- the words of copy t
 unfoldable pub copyAt : List ℕ → Nodes → List ℕ → List ℕ → ℕ → List ℕ
@@ -53,22 +53,22 @@ copyAt ws nodes order newest t = copyWords ws nodes (getD order t 0) (tableAfter
 
 -- the words of output o
 unfoldable pub shownAt : List ℕ → Nodes → List ℕ → ℕ → List ℕ
-shownAt ws nodes newest o = entryWords ws nodes (outputEntry (nodes .start + 5 * nodes .gates + 5 * o)) newest
+shownAt ws nodes newest o = entryWords ws nodes (outputEntry (nodes .start + gateSize * nodes .gates + outputSize * o)) newest
 
 -- what copying `count` times five words asks of the slices
 pub record EntryRoom (ws : List ℕ) (nodes : Nodes) (from : ℕ) (newest out : List ℕ) (to count : ℕ) : Type 0 where
   pub few : nodes .inputs + nodes .gates ≤ 65534
-  pub words : from + 5 * count ≤ length ws
+  pub words : from + outputSize * count ≤ length ws
   pub table : nodes .gates ≤ length newest
-  pub room : to + 5 * count ≤ length out
+  pub room : to + outputSize * count ≤ length out
 
 -- what copying `total` gates asks
 pub record GateRoom (ws : List ℕ) (nodes : Nodes) (total : ℕ) (newest out : List ℕ) : Type 0 where
   pub few : nodes .inputs + nodes .gates ≤ 65534
   pub copies : nodes .inputs + total ≤ 65535
-  pub words : nodes .start + 5 * nodes .gates ≤ length ws
+  pub words : nodes .start + gateSize * nodes .gates ≤ length ws
   pub table : nodes .gates ≤ length newest
-  pub room : nodes .start + 5 * total ≤ length out
+  pub room : nodes .start + gateSize * total ≤ length out
 
 -- the gates to copy are there
 pub record Order (m total : ℕ) (order : List ℕ) : Type 0 where

@@ -6,6 +6,7 @@ ghost use mathlib.Core.Path.{_≡_};
 ghost use Prim.Native.Nat.{_+_, _*_, _≤_, _<_};
 ghost use lib.ListN.{length};
 ghost use lib.Seq.{sets};
+ghost use Rattle.netlist.specs.StoredBlock.{gateSize};
 ghost use Rattle.laws.specs.Lists.{tab};
 ghost use Rattle.copying.specs.Words.{mappedWord, entryWord, entryWords, copyWords, wordFrom, EntryRoom, GateRoom};
 
@@ -65,7 +66,7 @@ pub fn copy_entry(
 // Writes gate `j` at place `t`, its operands mapped.
 pub fn write_gate(words: &[u16], nodes: Nodes, j: usize, t: usize, newest: &[u16], out: &mut [u16])
     requires { ⌜ (j < nodes .gates) × GateRoom (now words) nodes (t + 1) (now newest) (now out) ⌝ }
-    ensures { λ r. ⌜ now (out .exit) ≡ sets (now (out .entry)) (nodes .start + 5 * t) (copyWords (now (words .entry)) nodes j (now (newest .entry))) ⌝ }
+    ensures { λ r. ⌜ now (out .exit) ≡ sets (now (out .entry)) (nodes .start + gateSize * t) (copyWords (now (words .entry)) nodes j (now (newest .entry))) ⌝ }
 {
     let from = nodes.start + GATE_SIZE * j;
     let count = words[from] as usize / 8;

@@ -20,7 +20,7 @@ ghost use lib.ListN.{length, set};
 ghost use lib.Seq.{sets};
 ghost use Rattle.laws.specs.Lists.{tab, joined, placed};
 ghost use Rattle.netlist.specs.Limits.{maxInputs, maxNevers, maxGates, maxOutputs};
-ghost use Rattle.netlist.specs.StoredBlock.{decode, encode};
+ghost use Rattle.netlist.specs.StoredBlock.{gateSize, decode, encode};
 ghost use Rattle.netlist.specs.Rendering.{rendering};
 ghost use Rattle.copying.specs.Words.{tableAfter, copyWords, copyAt, shownAt, EntryRoom, GateRoom, Order, CopyReady};
 
@@ -38,7 +38,7 @@ fn write_header(n: usize, total: usize, k: usize, l: usize, out: &mut [u16])
 // Writes copy `t`, which is of gate `j`, and makes it the newest of its gate.
 fn copy_gate(words: &[u16], nodes: Nodes, j: usize, t: usize, newest: &mut [u16], out: &mut [u16])
     requires { ⌜ (j < nodes .gates) × GateRoom (now words) nodes (t + 1) (now newest) (now out) ⌝ }
-    ensures { λ r. ⌜ now (out .exit) ≡ sets (now (out .entry)) (nodes .start + 5 * t) (copyWords (now (words .entry)) nodes j (now (newest .entry))) ⌝ }
+    ensures { λ r. ⌜ now (out .exit) ≡ sets (now (out .entry)) (nodes .start + gateSize * t) (copyWords (now (words .entry)) nodes j (now (newest .entry))) ⌝ }
     ensures { λ r. ⌜ now (newest .exit) ≡ set (now (newest .entry)) j (nodes .inputs + t) ⌝ }
 {
     write_gate(words, nodes, j, t, newest, out);
@@ -77,7 +77,7 @@ pub fn copy_outputs(
     out: &mut [u16],
     to: usize,
 )
-    requires { ⌜ EntryRoom (now words) nodes (nodes .start + 5 * nodes .gates) (now newest) (now out) to k ⌝ }
+    requires { ⌜ EntryRoom (now words) nodes (nodes .start + gateSize * nodes .gates) (now newest) (now out) to k ⌝ }
     ensures { λ r. ⌜ now (out .exit) ≡ sets (now (out .entry)) to (joined (tab (shownAt (now (words .entry)) nodes (now (newest .entry))) k)) ⌝ }
 {
     let from = nodes.start + GATE_SIZE * nodes.gates;

@@ -7,7 +7,7 @@ use lib.ListN.{length, getD}
 use lib.Dec.{eqb, ltb}
 use Rattle.laws.specs.Lists.{keep, placed, upTo}
 use Rattle.netlist.specs.Netlist.{Block, gateCount}
-use Rattle.netlist.specs.StoredBlock.{decode, isTorn}
+use Rattle.netlist.specs.StoredBlock.{gateSize, decode, isTorn}
 use Rattle.netlist.specs.Groups.{mayBeNext, groups, groupNumber, groupNumbers}
 use Rattle.reach.specs.Inside.{Inside}
 use Rattle.layout.specs.declared.nodes.Nodes.{Nodes}
@@ -47,7 +47,7 @@ pub record NumberReady (ws : List ℕ) (nodes : Nodes) (leaders : List ℕ) : Ty
   pub whole : GatesReady ws nodes
   pub gatesAre : nodes .gates ≡ gateCount (decode ws)
   pub inside : Inside (decode ws)
-  pub fewOperands : (i : ℕ) → i < nodes .gates → getD ws (nodes .start + 5 * i) 0 / 8 ≤ 4
+  pub fewOperands : (i : ℕ) → i < nodes .gates → getD ws (nodes .start + gateSize * i) 0 / 8 ≤ 4
   pub leads : (j : ℕ) → j < nodes .gates → getD leaders j 0 ≡ leaderOf (decode ws) j
 
 -- `leader` leads no lower gate

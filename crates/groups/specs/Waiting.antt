@@ -12,7 +12,7 @@ use mathlib.Core.List.{List}
 use lib.ListN.{length, getD, set, drop}
 use Rattle.laws.specs.Lists.{any, tab, placed}
 use Rattle.netlist.specs.Limits.{maxGates}
-use Rattle.netlist.specs.StoredBlock.{decode}
+use Rattle.netlist.specs.StoredBlock.{gateSize, decode}
 use Rattle.layout.specs.declared.nodes.Nodes.{Nodes}
 use Rattle.layout.specs.Nodes.{gateNamed}
 use Rattle.links.specs.Links.{FirstFrom, Linked}
@@ -111,7 +111,7 @@ pub record FirstReady (ws : List ℕ) (nodes : Nodes) (leaders nexts numbers : L
 
 -- the gate that operand e names, of four to each gate, or the number of gates
 unfoldable pub operandAt : List ℕ → Nodes → ℕ → ℕ
-operandAt ws nodes e = gateNamed (nodes .inputs) (nodes .gates) (getD ws (nodes .start + 5 * (e / 4) + 1 + e % 4) 0)
+operandAt ws nodes e = gateNamed (nodes .inputs) (nodes .gates) (getD ws (nodes .start + gateSize * (e / 4) + 1 + e % 4) 0)
 
 -- all of them
 unfoldable pub operandsOf : List ℕ → Nodes → List ℕ

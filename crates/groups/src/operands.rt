@@ -14,7 +14,7 @@ ghost use Rattle.groups.specs.Waiting.{operandAt};
 // Writes for each gate's operand words the gates that they name, or the number of gates. A word that the gate does not use is read as well:
 // that it names a gate has the reader looked at once in vain.
 pub fn list_operands(words: &[u16], nodes: Nodes, operands: &mut [u16])
-    requires { ⌜ (nodes .inputs ≤ 65535) × (nodes .gates ≤ maxGates) × (nodes .start ≤ 1024) × (4 * nodes .gates ≤ length (now operands)) ⌝ }
+    requires { ⌜ (nodes .inputs ≤ 65535) × (nodes .gates ≤ maxGates) × (nodes .start ≤ maxGates) × (4 * nodes .gates ≤ length (now operands)) ⌝ }
     ensures { λ r. ⌜ now (operands .exit) ≡ placed (tab (operandAt (now (words .entry)) nodes) (4 * nodes .gates)) (now (operands .entry)) ⌝ }
 {
     let mut e = 0;

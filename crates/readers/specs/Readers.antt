@@ -14,7 +14,7 @@ use Rattle.layout.specs.Nodes.{gateNamed, nodesOf}
 use Rattle.netlist.specs.Limits.{maxGates}
 use Rattle.netlist.specs.Netlist.{Block}
 use Rattle.netlist.specs.Groups.{reads}
-use Rattle.netlist.specs.StoredBlock.{isTorn}
+use Rattle.netlist.specs.StoredBlock.{gateSize, isTorn}
 
 -- p is in the list that starts at an index
 pub data Chain (next : List ℕ) (p : ℕ) : ℕ → Type 0 where
@@ -60,11 +60,11 @@ pub record Linked (m k e : ℕ) (first next first′ next′ : List ℕ) : Type 
 
 -- the gate that operand word i of gate j names
 abbrev pub named : List ℕ → Nodes → ℕ → ℕ → ℕ
-named ws nodes j i = gateNamed (nodes .inputs) (nodes .gates) (getD ws (nodes .start + 5 * j + 1 + i) 0)
+named ws nodes j i = gateNamed (nodes .inputs) (nodes .gates) (getD ws (nodes .start + gateSize * j + 1 + i) 0)
 
 -- the words with numbers below e are in their lists
 pub record Linking (ws : List ℕ) (nodes : Nodes) (first next : List ℕ) (e : ℕ) : Type 0 where
   pub descends : Descends next
   pub starts : (k : ℕ) → getD first k 0 ≤ e
-  pub found : (j i k : ℕ) → i < 4 → 4 * j + i < e → i < getD ws (nodes .start + 5 * j) 0 / 8 → k < nodes .gates → named ws nodes j i ≡ k
+  pub found : (j i k : ℕ) → i < 4 → 4 * j + i < e → i < getD ws (nodes .start + gateSize * j) 0 / 8 → k < nodes .gates → named ws nodes j i ≡ k
       → Chain next (suc (4 * j + i)) (getD first k 0)

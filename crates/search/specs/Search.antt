@@ -10,9 +10,10 @@ use lib.Dec.{eqb, ltb}
 use Rattle.laws.specs.Lists.{tab, joined, countBelow}
 use Rattle.layout.specs.declared.nodes.Nodes.{Nodes}
 use Rattle.layout.specs.Nodes.{gateNamed}
+use Rattle.netlist.specs.Limits.{maxGates}
 use Rattle.netlist.specs.Netlist.{Block}
 use Rattle.netlist.specs.Groups.{OperandPath, reads, readBy}
-use Rattle.netlist.specs.StoredBlock.{decode}
+use Rattle.netlist.specs.StoredBlock.{gateSize, decode}
 
 -- the gate that an operand word of a block of n inputs and m gates names, if it names one
 unfoldable pub wordGate : ℕ → ℕ → ℕ → List ℕ
@@ -34,7 +35,7 @@ fresh flags (k ∷ ks) = cond (eqb (getD flags k 0) 0) (k ∷ fresh (set flags k
 
 -- the gates that gate i reads, by its words
 unfoldable pub gateReads : List ℕ → Nodes → ℕ → List ℕ
-gateReads ws nodes i = wordGates ws (nodes .inputs) (nodes .gates) (nodes .start + 5 * i) (getD ws (nodes .start + 5 * i) 0 / 8)
+gateReads ws nodes i = wordGates ws (nodes .inputs) (nodes .gates) (nodes .start + gateSize * i) (getD ws (nodes .start + gateSize * i) 0 / 8)
 
 -- how many of the first m flags are set
 unfoldable pub setFlags : List ℕ → ℕ → ℕ
@@ -71,8 +72,8 @@ pub record Searching (b : Block) (m start : ℕ) (barred flags queue : List ℕ)
 -- the words are read as the block's gates
 pub record GatesReady (ws : List ℕ) (nodes : Nodes) : Type 0 where
   pub fewInputs : nodes .inputs ≤ 65535
-  pub fewGates : nodes .gates ≤ 1024
-  pub near : nodes .start ≤ 1024
+  pub fewGates : nodes .gates ≤ maxGates
+  pub near : nodes .start ≤ maxGates
   pub operands : (i : ℕ) → i < nodes .gates → gateReads ws nodes i ≡ readBy (decode ws) i
   pub inside : (i k : ℕ) → i < nodes .gates → reads (decode ws) i k ≡ true → k < nodes .gates
 

@@ -9,13 +9,17 @@ use lib.Seq.{sets}
 use Rattle.laws.specs.Lists.{all, sum}
 use Rattle.netlist.specs.Limits.{maxInputs}
 use Rattle.netlist.specs.Netlist.{Name, Output}
-use Rattle.netlist.specs.StoredBlock.{isPlainName, outputWords}
+use Rattle.netlist.specs.StoredBlock.{gateSize, isPlainName, outputWords}
 use Rattle.netlist.specs.Syntax.{apply, GateLine, OutputLine, printInput, printGate, printOutput, printLines, isLegalGate, isLegalOutput}
 use Rattle.netlist.specs.Reading.{Mention, Binding, lineGates, mentions, operandMentions, shownMention, lookup, termGates}
 use Rattle.terms.specs.declared.Walked.{Walked}
 use Rattle.terms.specs.Walk.{Table, unknownAfter, gatesWords}
 
--- a form of line: how it is printed, which are legal, how many entries of five words it makes, these words when `first` entries stand
+-- the words of an entry: a gate and an output have equally many
+abbrev pub entrySize : ℕ
+entrySize = gateSize
+
+-- a form of line: how it is printed, which are legal, how many entries it makes, these words when `first` entries stand
 -- before, and the names that it uses
 pub record LineForm (A : Type 0) : Type 0 where
   pub printed : A → List ℕ → List ℕ
@@ -68,14 +72,14 @@ module _ {A : Type 0} (F : LineForm A) where
     pub here : LineAt line rest s
     pub few : first + F .cost line ≤ most
     pub inputs : n ≤ maxInputs
-    pub room : 5 * most ≤ length array
+    pub room : entrySize * most ≤ length array
 
   pub record LineDone (n : ℕ) (bs : List Binding) (x : A) (at : ℕ) (s rest : List ℕ) (first seen : ℕ) (before after : List ℕ) (r : Walked)
       : Type 0 where
     pub left : r .left ≡ length rest
     pub number : r .number ≡ first + F .cost x
     pub unknown : r .unknown ≡ unknownAfter seen bs (F .uses x at) (at + length s)
-    pub words : after ≡ sets before (5 * first) (F .words n bs x first)
+    pub words : after ≡ sets before (entrySize * first) (F .words n bs x first)
 
   pub record LineRead (s : List ℕ) (n : ℕ) (names words : List ℕ) (first seen : ℕ) (before after : List ℕ) (r : Walked) : Type 0 where
     pub done : (bs : List Binding) (x : A) (rest : List ℕ) (at : ℕ) → Table n bs names words → LineAt x rest s
@@ -103,14 +107,14 @@ module _ {A : Type 0} (F : LineForm A) where
     pub counted : length lines ≡ count
     pub few : linesCost lines ≤ most
     pub inputs : n ≤ maxInputs
-    pub room : 5 * most ≤ length array
+    pub room : entrySize * most ≤ length array
 
   pub record LinesDone (n : ℕ) (bs : List Binding) (xs : List A) (at : ℕ) (s rest : List ℕ) (first seen : ℕ) (before after : List ℕ) (r : Walked)
       : Type 0 where
     pub left : r .left ≡ length rest
     pub number : r .number ≡ first + linesCost xs
     pub unknown : r .unknown ≡ unknownAfter seen bs (mentions (F .printed) (F .uses) xs at) (at + length s)
-    pub words : after ≡ sets before (5 * first) (linesWords n bs xs first)
+    pub words : after ≡ sets before (entrySize * first) (linesWords n bs xs first)
 
   pub record LinesRead (count : ℕ) (s : List ℕ) (n : ℕ) (names words : List ℕ) (seen : ℕ) (before after : List ℕ) (r : Walked) : Type 0 where
     pub done : (bs : List Binding) (xs : List A) (rest : List ℕ) (at : ℕ) → Table n bs names words → LinesAt xs rest s → length xs ≡ count

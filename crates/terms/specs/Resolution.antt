@@ -10,7 +10,7 @@ use Rattle.netlist.specs.declared.Refusal.the-variants.{UndeclaredName}
 use Rattle.netlist.specs.declared.Test.{Test}
 use Rattle.netlist.specs.Answers.{testAt}
 use Rattle.netlist.specs.Limits.{maxGates, maxOutputs}
-use Rattle.netlist.specs.StoredBlock.{gateWords, outputWords}
+use Rattle.netlist.specs.StoredBlock.{outputSize, gateSize, gateWords, outputWords}
 use Rattle.netlist.specs.Syntax.{Tree}
 use Rattle.netlist.specs.Reading.{isOverLimit, bindings, firstUndeclared, blockOf}
 use Rattle.names.specs.declared.Counts.{Counts}
@@ -27,8 +27,8 @@ pub record TreeAt (t : Tree) (text : List ℕ) (c : Counts) (names words : List 
 pub record ResolveReady (text : List ℕ) (c : Counts) (names words gates outputs : List ℕ) : Type 0 where
   pub tree : Tree
   pub here : TreeAt tree text c names words
-  pub gateRoom : 5 * maxGates ≤ length gates
-  pub outputRoom : 5 * maxOutputs ≤ length outputs
+  pub gateRoom : gateSize * maxGates ≤ length gates
+  pub outputRoom : outputSize * maxOutputs ≤ length outputs
 
 pub record TreeDone (t : Tree) (gates gates′ outputs outputs′ : List ℕ) (r : Test) : Type 0 where
   pub answer : r ≡ testAt (firstUndeclared t) UndeclaredName

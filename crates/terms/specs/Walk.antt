@@ -10,7 +10,7 @@ use lib.Seq.{sets}
 use Rattle.laws.specs.Lists.{ascii, all, joined}
 use Rattle.netlist.specs.Limits.{maxInputs, maxGates}
 use Rattle.netlist.specs.Netlist.{Name, Gate}
-use Rattle.netlist.specs.StoredBlock.{isNameByte, isNodeName, nodeWord, gateWords}
+use Rattle.netlist.specs.StoredBlock.{gateSize, isNameByte, isNodeName, nodeWord, gateWords}
 use Rattle.netlist.specs.Syntax.{Term, Terms, printTerm, printTerms, termCount, isLegalTerm, isLegalTerms}
 use Rattle.netlist.specs.Reading.{Mention, Binding, gatesIn, gatesInside, termMentions, termsMentions, firstOutside, termNode, termsNodes, termGates}
 use Rattle.netlist.specs.Reading.{termsGates}
@@ -63,7 +63,7 @@ pub record TermHere (s : List ℕ) (depth n : ℕ) (names words : List ℕ) (fir
   pub here : TermAt term depth rest s
   pub few : first + gatesIn term ≤ maxGates
   pub inputs : n ≤ maxInputs
-  pub room : 5 * maxGates ≤ length gates
+  pub room : gateSize * maxGates ≤ length gates
 
 pub record TermDone (n : ℕ) (bs : List Binding) (o : Term) (at : ℕ) (s rest : List ℕ) (first seen : ℕ) (before after : List ℕ) (r : Found)
     : Type 0 where
@@ -71,7 +71,7 @@ pub record TermDone (n : ℕ) (bs : List Binding) (o : Term) (at : ℕ) (s rest 
   pub word : r .word ≡ nodeWord n (termNode o bs first)
   pub gates : r .gates ≡ first + gatesIn o
   pub unknown : r .unknown ≡ unknownAfter seen bs (termMentions o at) (at + length s)
-  pub words : after ≡ sets before (5 * first) (gatesWords n (termGates o bs first))
+  pub words : after ≡ sets before (gateSize * first) (gatesWords n (termGates o bs first))
 
 -- of whatever term and bindings it is
 pub record TermRead (s : List ℕ) (depth n : ℕ) (names words : List ℕ) (first unknown : ℕ) (before after : List ℕ) (r : Found) : Type 0 where
@@ -93,7 +93,7 @@ pub record TermsHere (s : List ℕ) (depth n : ℕ) (names words : List ℕ) (fi
   pub few : first + gatesInside terms ≤ maxGates
   pub count : i + termCount terms ≤ length slots
   pub inputs : n ≤ maxInputs
-  pub room : 5 * maxGates ≤ length gates
+  pub room : gateSize * maxGates ≤ length gates
 
 pub record TermsDone (n : ℕ) (bs : List Binding) (os : Terms) (at : ℕ) (s rest : List ℕ) (first seen i : ℕ) (before after : List ℕ)
     (slots filled : List ℕ) (r : Listed) : Type 0 where
@@ -101,7 +101,7 @@ pub record TermsDone (n : ℕ) (bs : List Binding) (os : Terms) (at : ℕ) (s re
   pub count : r .count ≡ i + termCount os
   pub gates : r .gates ≡ first + gatesInside os
   pub unknown : r .unknown ≡ unknownAfter seen bs (termsMentions os at) (at + length s)
-  pub words : after ≡ sets before (5 * first) (gatesWords n (termsGates os bs first))
+  pub words : after ≡ sets before (gateSize * first) (gatesWords n (termsGates os bs first))
   pub operands : filled ≡ sets slots i (map (nodeWord n) (termsNodes os bs first))
 
 pub record TermsRead (s : List ℕ) (depth n : ℕ) (names words : List ℕ) (first unknown i : ℕ) (before after slots filled : List ℕ)

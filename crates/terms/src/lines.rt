@@ -11,6 +11,7 @@ ghost use mathlib.Core.List.{[], _∷_, _++_};
 ghost use Prim.Native.Nat.{ℕ, _+_, _*_, _≤_};
 ghost use lib.ListN.{length};
 ghost use lib.Seq.{sets};
+ghost use Rattle.netlist.specs.StoredBlock.{outputSize};
 ghost use Rattle.netlist.specs.Limits.{maxGates, maxOutputs};
 ghost use Rattle.names.specs.Index.{Indexed};
 ghost use Rattle.terms.specs.Lines.{inputForm, gateForm, outputForm, LineHere, LineRead, LinesHere, LinesRead};
@@ -60,8 +61,8 @@ fn gate_line(
 
 // Writes an output's five words: the port's name and the node.
 fn put_output(outputs: &mut [u16], number: usize, port: u64, word: u16)
-    requires { ⌜ 5 * number + 5 ≤ length (now outputs) ⌝ }
-    ensures { λ _. ⌜ now (outputs .exit) ≡ sets (now (outputs .entry)) (5 * number) (portWords port ++ (word ∷ [])) ⌝ }
+    requires { ⌜ outputSize * number + outputSize ≤ length (now outputs) ⌝ }
+    ensures { λ _. ⌜ now (outputs .exit) ≡ sets (now (outputs .entry)) (outputSize * number) (portWords port ++ (word ∷ [])) ⌝ }
 {
     let at = OUTPUT_SIZE * number;
     outputs[at] = (port % 65536) as u16;

@@ -12,15 +12,16 @@ ghost use mathlib.Core.List.{_∷_};
 ghost use Prim.Native.Nat.{_+_, _*_, _≤_};
 ghost use lib.ListN.{length};
 ghost use lib.Seq.{sets};
+ghost use Rattle.netlist.specs.StoredBlock.{gateSize};
 ghost use Rattle.names.specs.Index.{Indexed};
 ghost use Rattle.terms.specs.Walk.{TermHere, TermRead, TermsHere, TermsRead};
 
 // Writes a gate's five words.
 fn put_gate(gates: &mut [u16], number: usize, kind: usize, count: usize, slots: &[u16])
-    requires { ⌜ 5 * number + 5 ≤ length (now gates) ⌝ }
+    requires { ⌜ gateSize * number + gateSize ≤ length (now gates) ⌝ }
     requires { ⌜ (kind ≤ 6) × (count ≤ 4) ⌝ }
     requires { ⌜ length (now slots) ≡ 4 ⌝ }
-    ensures { λ _. ⌜ now (gates .exit) ≡ sets (now (gates .entry)) (5 * number) ((kind + 8 * count) ∷ now (slots .entry)) ⌝ }
+    ensures { λ _. ⌜ now (gates .exit) ≡ sets (now (gates .entry)) (gateSize * number) ((kind + 8 * count) ∷ now (slots .entry)) ⌝ }
 {
     let at = GATE_SIZE * number;
     gates[at] = (kind + 8 * count) as u16;

@@ -18,8 +18,9 @@ use Rattle.assignments.proofs.entries.list_row.Statement.{statement}
 use Rattle.assignments.proofs.entries.list_row.Tie as tie
 
 abbrev Inv-loop : tie.InvT-loop
-Inv-loop marks weights n first before out₀ fixed end count₀ ones₀ out count ones = (ones ≤ 2 ^ n) × (end ≡ 2 ^ n) × Reached marks n (first .fixed * 2 ^ n + ones) count
-    × (length out ≡ length out₀) × ((front : List ℕ) → Words marks front out₀ n (first .fixed * 2 ^ n) → Words marks front out n (first .fixed * 2 ^ n + ones))
+Inv-loop marks weights n first before out₀ fixed end count₀ ones₀ out count ones =
+    (ones ≤ 2 ^ n) × (end ≡ 2 ^ n) × Reached marks n (first .fixed * 2 ^ n + ones) count × (length out ≡ length out₀)
+    × ((front : List ℕ) → Words marks front out₀ n (first .fixed * 2 ^ n) → Words marks front out n (first .fixed * 2 ^ n + ones))
 
 abbrev μ-loop : tie.MeasureT-loop
 μ-loop marks weights n first before out₀ fixed end count₀ ones₀ out count ones = 2 ^ n - ones
