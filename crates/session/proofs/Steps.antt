@@ -17,7 +17,7 @@ use Rattle.netlist.specs.declared.Answer.the-variants.{Done, Refused}
 use Rattle.netlist.specs.Limits.{maxText, maxBlock}
 use Rattle.netlist.specs.StoredBlock.{isTorn, decode}
 use Rattle.netlist.specs.Line.{lf}
-use Rattle.netlist.specs.Answers.{refused, Promise}
+use Rattle.netlist.specs.Answers.{Outcome, done, refused, Promise}
 use Rattle.netlist.specs.Operations.{readText, read}
 use Rattle.netlist.specs.Program.{shown}
 use Rattle.netlist.specs.Bench.{lineAnswer, lineAnswers, lastLine, benchAfter}
@@ -60,14 +60,11 @@ module _ (t entry exit : List ℕ) (room : maxBlock ≤ length entry) (a : Answe
         output = nothing-written out;
       })
 
-  pub end-refused : (why : Refusal) → a ≡ Refused why → (out final : List ℕ) (n : ℕ) → Shown (refused why) out final n
-      → AnswerWritten (benchAfter (readText t) []) final n
-  unfolding benchAfter shown
-  end-refused why e out final n s = rw (is-refused why e) (shown-written s)
-
-  pub end-done : (count detail : ℕ) → a ≡ Done count detail → (out : List ℕ) → AnswerWritten (benchAfter (readText t) []) out 0
-  unfolding benchAfter lineAnswers
-  end-done count detail e out = rw (is-done count detail e .is) (nothing-written out)
+-- what a netlist opens with is what it gives where the input ends behind it
+pub opened-ends : (x : Outcome) → opened x .output ≡ benchAfter x []
+unfolding opened benchAfter lineAnswers
+opened-ends (done ws count detail) = refl
+opened-ends (refused r) = refl
 
 -- ---- a byte of the netlist
 

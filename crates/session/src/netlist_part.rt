@@ -79,11 +79,6 @@ pub fn end_netlist(held: usize, text: &[u8], words: &mut [u16], out: &mut [u8]) 
     requires { ⌜ (held ≤ length (now text)) × (maxBlock ≤ length (now words)) × (maxAnswer ≤ length (now out)) ⌝ }
     ensures { λ r. ⌜ AnswerWritten (benchAfter (readText (take held (now (text .entry)))) []) (now (out .exit)) r ⌝ }
 {
-    match read(&text[..held], words) {
-        Answer::Refused(why) => tell(why, out),
-        Answer::Done {
-            count: _,
-            detail: _,
-        } => 0,
-    }
+    let fed = open(held, text, words, out);
+    fed.written
 }
