@@ -6,7 +6,7 @@
 --   advanced-swept, -still, -decided, -then, settled-batch   what sweeps leave on the way, and the last one
 --   inside-take, inside-drop           parts of the order
 --   along-there, along-inside, along-visits             the order, there and back
--- Assumes noLanes.
+-- Assumes nothing.
 use mathlib.Core.Path.{_≡_, refl, sym, ap, ap₂, _∙_}
 use mathlib.Core.Bool.{Bool, true, false, not, _||_, true≢false, false≢true}
 use mathlib.Core.List.{List, [], _∷_, _++_, map}
@@ -354,12 +354,12 @@ settled-batch {b} {n} {base} many aligned x u values =
           values i l ∙ ap (settled b) (ap (map (lane i)) x ∙ inputPairs-lane n base aligned i l ∙ ap (λ (k : ℕ). settingOf k (base + i)) many);
     }
 
--- gates were evaluated, and noLanes is told
+-- gates were evaluated, and nothing is told
 pub advanced-swept : {b : Block} {n : ℕ} {js zeros ones zeros′ ones′ : List ℕ} {changed : Bool} → BatchUnderway b n zeros ones
     → BatchSwept b n js zeros ones zeros′ ones′ changed → BatchAdvanced b n zeros ones zeros′ ones′ false
 advanced-swept u s = record { underway = batch-underway u s; inputsKept = s .inputsKept; settledLanes = λ e. absurd (false≢true e) }
 
--- a sweep over all gates that changes noLanes
+-- a sweep over all gates that changes nothing
 pub advanced-still : {b : Block} {n : ℕ} {order zeros ones zeros′ ones′ : List ℕ} {changed : Bool} → Visits (gateCount b) order → BatchUnderway b n zeros ones
     → BatchSwept b n order zeros ones zeros′ ones′ changed → changed ≡ false → BatchAdvanced b n zeros ones zeros′ ones′ true
 advanced-still v u s none =

@@ -1,9 +1,9 @@
--- Sweeps over pairs of words: one gate, a gate more, and what a sweep that changes noLanes shows, lane by lane.
+-- Sweeps over pairs of words: one gate, a gate more, and what a sweep that changes nothing shows, lane by lane.
 --   swept-none, swept-one, swept-then   no gate, one gate, a gate more
 --   swept-underway                      a sweep stays on the way
---   swept-settled                       a sweep over all gates that changes noLanes leaves the settled values at every lane
+--   swept-settled                       a sweep over all gates that changes nothing leaves the settled values at every lane
 --   defined-settled                     so do pairs of which no lane is undefined
--- Assumes noLanes.
+-- Assumes nothing.
 use mathlib.Core.Path.{_≡_, refl, sym, ap, _∙_}
 use mathlib.Core.Logic.{⊎-elim}
 use mathlib.Core.Bool.{Bool, true, false, _||_, false≢true}
@@ -154,7 +154,7 @@ module _ {b : Block} {lanes : ℕ} {x : List Pair} where
         most = omega (arith, g .most, f .most);
       }
 
-  -- A sweep over all gates that changes noLanes leaves the settled values at every lane.
+  -- A sweep over all gates that changes nothing leaves the settled values at every lane.
   pub swept-settled : {order : List ℕ} {state after : List Pair} {changed : Bool} → Visits (gateCount b) order → Underway b lanes x state
       → Swept b lanes x order state after changed → changed ≡ false → (i : ℕ) → i < lanes → map (lane i) after ≡ settled b (map (lane i) x)
   swept-settled {order} {state} {after} v u s none i l =

@@ -4,9 +4,9 @@
 --   gatePair, Evaluated, Walked   a gate's pair from its words, and what a single step and several leave
 --   BatchUnderway, BatchSwept, BatchSettled   the same in the two slices of words
 --   Sweepable, BatchAdvanced, roomIn   what a sweep asks and leaves, and how much can still change
---   Decided                  noLanes can change any more
+--   Decided                  nothing can change any more
 --   startPair, along         the first pair of each node; the order, there or back
--- Assumes noLanes.
+-- Assumes nothing.
 use mathlib.Core.Path.{_≡_}
 use mathlib.Core.Bool.{Bool, true, false, cond, not, _||_}
 use mathlib.Core.List.{List, [], _∷_, _++_, map}

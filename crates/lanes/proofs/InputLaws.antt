@@ -5,7 +5,7 @@
 --   inputPairs-lane, -proper        all of them: the setting
 --   all-lanes, shifted-*, *-pattern the words as the code finds them
 --   batch-rounds                    rounds on pairs from there are rounds under each setting
--- Assumes noLanes.
+-- Assumes nothing.
 use mathlib.Core.Path.{_≡_, refl, sym, ap, _∙_}
 use mathlib.Core.Logic.{⊎-elim}
 use mathlib.Core.Bool.{Bool, true, false, cond}

@@ -3,7 +3,7 @@
 --   combined-lane, swapped-lane     an operand more; exchanged words
 --   *-proper                        proper pairs give proper pairs
 --   pairOf-lane, pairOf-proper      one gate
--- Assumes noLanes.
+-- Assumes nothing.
 use mathlib.Core.Path.{_≡_, refl, sym, _∙_}
 use mathlib.Core.Bool.{Bool, true, false, cond}
 use mathlib.Core.List.{List, [], _∷_, map}

@@ -3,7 +3,7 @@
 --   wordPair-operand          an operand word's pair is the operand's
 --   gatePairAt-evaluated      so a gate's words give the gate's pair
 --   set-gates, set-inputs     a gate's pair stored
--- Assumes noLanes.
+-- Assumes nothing.
 use mathlib.Core.Path.{_≡_, refl, sym, ap, _∙_}
 use mathlib.Core.Logic.{⊎-elim}
 use mathlib.Core.Bool.{Bool, true, false, cond}

@@ -3,7 +3,7 @@
 --   evaluatedPair-lane, -proper    a gate
 --   pairRound-lane, -proper        a round
 --   afterPairRounds-lane, -proper  so many rounds
--- Assumes noLanes.
+-- Assumes nothing.
 use mathlib.Core.Path.{_≡_, refl, sym, ap, _∙_}
 use mathlib.Core.List.{List, [], _∷_, map}
 use Prim.Native.Nat.{ℕ, zero, suc, _≤_, _<_, zero-le, suc-le-suc}

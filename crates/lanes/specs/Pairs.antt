@@ -4,7 +4,7 @@
 --   full               the word with a bit at each lane in use
 --   noLanes, always    undefined at every lane; a constant at every lane in use
 --   combined, swapped, pairOf   a kind's pair from its operands' pairs
--- Assumes noLanes.
+-- Assumes nothing.
 use Prim.Native.Nat.{ℕ, _+_, _-_, _^_, _≤_, _<_}
 use mathlib.Core.Bool.{Bool, true, false, cond, _||_}
 use mathlib.Core.List.{List, [], _∷_}

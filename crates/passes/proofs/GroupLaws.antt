@@ -4,7 +4,7 @@
 --   cleared-passed, passed-run, -more    no pass yet, so many, one more
 --   agree-settled                        the pairs agree at a lane exactly where the group is settled
 --   restored                             the settled pairs put back
--- Assumes noLanes.
+-- Assumes nothing.
 use mathlib.Core.Path.{_≡_, refl, sym, ap, _∙_}
 use mathlib.Core.Logic.{_⊎_, inl, inr, ⊎-elim}
 use mathlib.Core.Bool.{Bool, true, false, cond}

@@ -19,7 +19,7 @@ use Rattle.netlist.specs.Bench.{lineAnswer, lineAnswers, lastLine, benchAfter}
 abbrev pub maxSetLine : ℕ
 maxSetLine = 4 + (maxName + 5) * maxInputs + 2
 
--- of a longer line no more is heldFront than shows that it is longer
+-- of a longer line no more is held than shows that it is longer
 abbrev pub heldBytes : ℕ
 heldBytes = suc maxSetLine
 
@@ -43,7 +43,7 @@ silent r = record { next = r; output = [] }
 abbrev pub ended : Refusal → Turn
 ended r = record { next = over; output = refusalLine r }
 
--- the line so far with a byte more, as far as it is heldFront
+-- the line so far with a byte more, as far as it is held
 abbrev pub heldFront : List ℕ → ℕ → List ℕ
 heldFront line c = take heldBytes (line ++ (c ∷ []))
 

@@ -21,7 +21,7 @@ runOf (Netlist kept fresh) text words line = inNetlist fresh (take kept text)
 runOf (Lines count kept) text words line = inLines (take count words) (take kept line)
 runOf Ended text words line = over
 
--- what is heldFront is there, and the block is not torn
+-- what is held is there, and the block is not torn
 unfoldable pub Sound : State → List ℕ → Type 0
 Sound (Netlist kept fresh) words = kept ≤ maxText
 Sound (Lines count kept) words = (kept ≤ heldBytes) × (count ≤ length words) × (isTorn (take count words) ≡ false)
@@ -68,13 +68,13 @@ pub record Advanced (r : Run) (piece : List ℕ) (state : State) (text words lin
   pub progress : Progressed r piece state text words line out taken written
   pub moves : 0 < length piece → 0 < taken
 
--- a line that holds these bytes, and a byte more as far as it is heldFront
+-- a line that holds these bytes, and a byte more as far as it is held
 pub record TextHeld (before : List ℕ) (c : ℕ) (line : List ℕ) (r : ℕ) : Type 0 where
   pub bytesAre : take r line ≡ heldFront before c
   pub few : r ≤ heldBytes
   pub within : r ≤ length line
 
--- a block and a line that are heldFront, and room for an answer
+-- a block and a line that are held, and room for an answer
 pub record LineRoom (count kept : ℕ) (words line out : List ℕ) : Type 0 where
   pub wordsThere : count ≤ length words
   pub whole : isTorn (take count words) ≡ false
