@@ -45,7 +45,8 @@ tell_progress() {
 }
 
 # Runs `rt WORD NAMES` in the root, with no input and all output in a log, and ends with its status: LOG rt WORD NAMES.
-# rt stands in the foreground, so that an interrupt ends it too; what tells of it beside ends with the pipe that is held open meanwhile.
+# rt proves crates in batches and waits for each: with four at a time two processors are rarely idle. It stands in the foreground, so that
+# an interrupt ends it too; what tells of it beside ends with the pipe that is held open meanwhile.
 run_rt() {
   local log=$1 crates total status=0 quarter=0 began=$SECONDS held teller
   shift
@@ -58,7 +59,7 @@ run_rt() {
     while read -r -t 1; (($? > 128)); do tell_progress; done
   )
   teller=$!
-  (cd "$root" && "$@") </dev/null >"$log" 2>&1 9>&- {held}>&- || status=$?
+  (cd "$root" && RT_JOBS=${RT_JOBS:-4} "$@") </dev/null >"$log" 2>&1 9>&- {held}>&- || status=$?
   exec {held}>&-
   wait "$teller" || true
   if [[ -t 2 ]]; then printf '\r%-78s\r' '' >&2; fi

@@ -11,7 +11,7 @@ use Rattle.netlist.specs.Netlist.{Block, inputCount}
 use Rattle.netlist.specs.Rounds.{isSettled, isExcluded, isSoundAt, settingCount, lowestUnsettled}
 use Rattle.netlist.specs.Assignments.{Assignment, fixes, agrees}
 use Rattle.netlist.specs.Cover.{without, assignments, isSoundUnder, isSound, isMinimal, cover, coverEntries}
-use Rattle.assignments.specs.Over.{soundOver, minimalOver, coverOver, assignmentWords, nothing, Listed, Before}
+use Rattle.assignments.specs.Over.{soundOver, minimalOver, coverOver, assignmentWords, nothing, EntriesListed, Before}
 use Rattle.assignments.specs.Tables.{settledBy}
 use Rattle.assignments.proofs.ListFacts.{keep-ext}
 use Rattle.assignments.proofs.Cover.{entries-listed, listed-entries, entries-ascend}
@@ -95,10 +95,10 @@ module _ (b : Block) where
   lowest-sound e = sound-over ∙ least-nothing-sound (isSoundAt b) (inputCount b) e
 
   -- the entries are exactly the sound and minimal assignments, and they ascend
-  pub cover-listed : (i : ℕ) (d : Assignment) → i < length (cover b) → Listed (isSoundAt b) (inputCount b) (getD (cover b) i d)
+  pub cover-listed : (i : ℕ) (d : Assignment) → i < length (cover b) → EntriesListed (isSoundAt b) (inputCount b) (getD (cover b) i d)
   cover-listed = rw cover-over (entries-listed (isSoundAt b) (inputCount b))
 
-  pub listed-cover : (a d : Assignment) → Listed (isSoundAt b) (inputCount b) a → (i : ℕ) × (i < length (cover b)) × (getD (cover b) i d ≡ a)
+  pub listed-cover : (a d : Assignment) → EntriesListed (isSoundAt b) (inputCount b) a → (i : ℕ) × (i < length (cover b)) × (getD (cover b) i d ≡ a)
   listed-cover = rw cover-over (listed-entries (isSoundAt b) (inputCount b))
 
   pub cover-ascends : (i j : ℕ) (d : Assignment) → i < j → j < length (cover b) → Before (getD (cover b) i d) (getD (cover b) j d)

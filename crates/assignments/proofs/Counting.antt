@@ -21,7 +21,7 @@ use Rattle.netlist.specs.Assignments.{bit, Assignment}
 use Rattle.assignments.specs.Digits.{ternaryDigit, numeral}
 use Rattle.assignments.specs.Over.{masks}
 use Rattle.assignments.specs.Tables.{digitOf, ternaryNumber}
-use Rattle.assignments.specs.Entries.{pairAt, withinAt, soundAt, entryBy, entriesBelow, entriesBy}
+use Rattle.assignments.specs.Entries.{maskPairAt, withinAt, soundAt, entryBy, entriesBelow, entriesBy}
 use Rattle.assignments.proofs.ListFacts.{keep-below, keep-upTo-suc}
 use Rattle.assignments.proofs.Digits.{digit-lt, digit-numeral, numeral-lt, numeral-ext, numeral-digit}
 use Rattle.assignments.proofs.Agree.{bit-lt, bits-eq, within-at, within-from}
@@ -123,10 +123,10 @@ module _ (n : ℕ) (a b : Assignment) (inside-a : (i : ℕ) → i < n → bit (a
       (eq-or-ne (bit (a .fixed) i) 1)
 
 number-injects : (n q r : ℕ) → q < 2 ^ n * 2 ^ n → r < 2 ^ n * 2 ^ n → withinAt n q ≡ true → withinAt n r ≡ true
-    → ternaryNumber n (pairAt n q) ≡ ternaryNumber n (pairAt n r) → q ≡ r
-unfolding withinAt pairAt
+    → ternaryNumber n (maskPairAt n q) ≡ ternaryNumber n (maskPairAt n r) → q ≡ r
+unfolding withinAt maskPairAt
 number-injects n q r l m h k e =
-    let s = same-bits n (pairAt n q) (pairAt n r) (within-at n (q / 2 ^ n) (q % 2 ^ n) h) (within-at n (r / 2 ^ n) (r % 2 ^ n) k) e in
+    let s = same-bits n (maskPairAt n q) (maskPairAt n r) (within-at n (q / 2 ^ n) (q % 2 ^ n) h) (within-at n (r / 2 ^ n) (r % 2 ^ n) k) e in
     let f : q / 2 ^ n ≡ r / 2 ^ n =
     bits-eq n (q / 2 ^ n) (r / 2 ^ n) (div-lt-iff-lt-mul (pow-pos n) .1 l) (div-lt-iff-lt-mul (pow-pos n) .1 m) (λ i b. s i b .0) in
     let o : q % 2 ^ n ≡ r % 2 ^ n = bits-eq n (q % 2 ^ n) (r % 2 ^ n) (mod-lt q (pow-pos n)) (mod-lt r (pow-pos n)) (λ i b. s i b .1) in
@@ -211,15 +211,15 @@ module _ (n k : ℕ) where
   unfolding pairOf
   pair-lt = digits-lt (masks-lt .0) (masks-lt .1)
 
-  pair-is : pairAt n pairOf ≡ masks fixedOf onesOf
-  unfolding pairAt pairOf
+  pair-is : maskPairAt n pairOf ≡ masks fixedOf onesOf
+  unfolding maskPairAt pairOf
   pair-is = rw (digits-div fixedOf (masks-lt .1), digits-mod fixedOf (masks-lt .1))
 
   pair-within : withinAt n pairOf ≡ true
   unfolding withinAt
   pair-within = rw pair-is (within-from n fixedOf onesOf inside)
 
-  pair-number : k < 3 ^ n → ternaryNumber n (pairAt n pairOf) ≡ k
+  pair-number : k < 3 ^ n → ternaryNumber n (maskPairAt n pairOf) ≡ k
   unfolding ternaryNumber
   pair-number l =
       rw pair-is
@@ -229,22 +229,22 @@ module _ (n k : ℕ) where
 pub entries-left : (marks : List ℕ) (n : ℕ) → length (entriesBy marks n) ≡ length (keep (soundAt marks) (upTo (3 ^ n)))
 unfolding entriesBy entriesBelow entryBy
 entries-left marks n =
-    length-map (keep (entryBy marks n) (upTo (2 ^ n * 2 ^ n))) (pairAt n) ∙ le-antisymm there back
+    length-map (keep (entryBy marks n) (upTo (2 ^ n * 2 ^ n))) (maskPairAt n) ∙ le-antisymm there back
   where
     there : length (keep (entryBy marks n) (upTo (2 ^ n * 2 ^ n))) ≤ length (keep (soundAt marks) (upTo (3 ^ n)))
     there =
-        keep-injects (2 ^ n * 2 ^ n) (3 ^ n) (entryBy marks n) (soundAt marks) (λ q. ternaryNumber n (pairAt n q))
-        (λ q l e. (number-lt n (pairAt n q), and-right (withinAt n q) (soundAt marks (ternaryNumber n (pairAt n q))) e))
+        keep-injects (2 ^ n * 2 ^ n) (3 ^ n) (entryBy marks n) (soundAt marks) (λ q. ternaryNumber n (maskPairAt n q))
+        (λ q l e. (number-lt n (maskPairAt n q), and-right (withinAt n q) (soundAt marks (ternaryNumber n (maskPairAt n q))) e))
         (λ q r l m e f s.
-        number-injects n q r l m (and-left (withinAt n q) (soundAt marks (ternaryNumber n (pairAt n q))) e)
-        (and-left (withinAt n r) (soundAt marks (ternaryNumber n (pairAt n r))) f) s)
+        number-injects n q r l m (and-left (withinAt n q) (soundAt marks (ternaryNumber n (maskPairAt n q))) e)
+        (and-left (withinAt n r) (soundAt marks (ternaryNumber n (maskPairAt n r))) f) s)
 
     back : length (keep (soundAt marks) (upTo (3 ^ n))) ≤ length (keep (entryBy marks n) (upTo (2 ^ n * 2 ^ n)))
     back =
         keep-injects (3 ^ n) (2 ^ n * 2 ^ n) (soundAt marks) (entryBy marks n) (pairOf n)
         (λ k l e. (
           pair-lt n k,
-          and-intro (withinAt n (pairOf n k)) (soundAt marks (ternaryNumber n (pairAt n (pairOf n k)))) (pair-within n k)
+          and-intro (withinAt n (pairOf n k)) (soundAt marks (ternaryNumber n (maskPairAt n (pairOf n k)))) (pair-within n k)
               (rw (pair-number n k l) e),
         ))
-        (λ k j l m e f s. sym (pair-number n k l) ∙ ap (λ (q : ℕ). ternaryNumber n (pairAt n q)) s ∙ pair-number n j m)
+        (λ k j l m e f s. sym (pair-number n k l) ∙ ap (λ (q : ℕ). ternaryNumber n (maskPairAt n q)) s ∙ pair-number n j m)

@@ -19,8 +19,8 @@ use Rattle.laws.proofs.Least.{least-at, least-below}
 use Rattle.netlist.specs.Assignments.{bit}
 use Rattle.netlist.specs.Assignments.{Assignment, fixes, agrees, isWithin}
 use Rattle.netlist.specs.Cover.{without}
-use Rattle.assignments.specs.Over.{soundOver, minimalOver, coverOver, Consistent, Listed, Before}
-use Rattle.assignments.specs.Entries.{pairAt, isEntry, entryAt}
+use Rattle.assignments.specs.Over.{soundOver, minimalOver, coverOver, Consistent, EntriesListed, Before}
+use Rattle.assignments.specs.Entries.{maskPairAt, isEntry, entryAt}
 use Rattle.assignments.proofs.ListFacts.{implies-use, kept-passes, kept-ascend, kept-has}
 use Rattle.assignments.proofs.Agree.{without-legal, without-less, without-agrees}
 use Rattle.assignments.proofs.Flat.{cover-flat}
@@ -54,7 +54,7 @@ module _ (p : ℕ → Bool) (n : ℕ) where
 
   -- below every sound assignment there is a sound and minimal one
   abbrev pub Below : ℕ → Type 0
-  Below s = (a : Assignment) × Listed p n a × (agrees n a s ≡ true)
+  Below s = (a : Assignment) × EntriesListed p n a × (agrees n a s ≡ true)
 
   pub descend : (bound s : ℕ) (a : Assignment) → a .fixed < bound → Consistent n a → soundOver p n a ≡ true → agrees n a s ≡ true → Below s
   descend zero s a l ok h g = absurd (not-suc-le-zero l)
@@ -71,31 +71,31 @@ module _ (p : ℕ → Bool) (n : ℕ) where
 
   length-cover : length (coverOver p n) ≡ length listed
   unfolding listed
-  length-cover = rw (cover-flat p n, length-map listed (pairAt n))
+  length-cover = rw (cover-flat p n, length-map listed (maskPairAt n))
 
-  cover-getD : (i : ℕ) (d : Assignment) → i < length listed → getD (coverOver p n) i d ≡ pairAt n (getD listed i 0)
+  cover-getD : (i : ℕ) (d : Assignment) → i < length listed → getD (coverOver p n) i d ≡ maskPairAt n (getD listed i 0)
   unfolding listed
   cover-getD i d l =
-      let m : i < length (map (pairAt n) listed) = rw (length-map listed (pairAt n)) l in
-      rw (cover-flat p n) (getD-defaults (map (pairAt n) listed) i d (pairAt n 0) m ∙ List·getD-map (pairAt n) listed i 0)
+      let m : i < length (map (maskPairAt n) listed) = rw (length-map listed (maskPairAt n)) l in
+      rw (cover-flat p n) (getD-defaults (map (maskPairAt n) listed) i d (maskPairAt n 0) m ∙ List·getD-map (maskPairAt n) listed i 0)
 
-  entry-listed : (q : ℕ) → q < 2 ^ n * 2 ^ n → entryAt p n q ≡ true → Listed p n (pairAt n q)
-  unfolding entryAt isEntry pairAt
+  entry-listed : (q : ℕ) → q < 2 ^ n * 2 ^ n → entryAt p n q ≡ true → EntriesListed p n (maskPairAt n q)
+  unfolding entryAt isEntry maskPairAt
   entry-listed q l h =
-      let s : soundOver p n (pairAt n q) && minimalOver p n (pairAt n q) ≡ true =
-      and-right (isWithin n (q / 2 ^ n) (q % 2 ^ n)) (soundOver p n (pairAt n q) && minimalOver p n (pairAt n q)) h in
+      let s : soundOver p n (maskPairAt n q) && minimalOver p n (maskPairAt n q) ≡ true =
+      and-right (isWithin n (q / 2 ^ n) (q % 2 ^ n)) (soundOver p n (maskPairAt n q) && minimalOver p n (maskPairAt n q)) h in
       record {
         legal = record {
           fixed-lt = div-lt-iff-lt-mul (pow-pos n) .1 l;
           ones-lt = mod-lt q (pow-pos n);
-          inside = and-left (isWithin n (q / 2 ^ n) (q % 2 ^ n)) (soundOver p n (pairAt n q) && minimalOver p n (pairAt n q)) h;
+          inside = and-left (isWithin n (q / 2 ^ n) (q % 2 ^ n)) (soundOver p n (maskPairAt n q) && minimalOver p n (maskPairAt n q)) h;
         };
-        sound = and-left (soundOver p n (pairAt n q)) (minimalOver p n (pairAt n q)) s;
-        minimal = and-right (soundOver p n (pairAt n q)) (minimalOver p n (pairAt n q)) s;
+        sound = and-left (soundOver p n (maskPairAt n q)) (minimalOver p n (maskPairAt n q)) s;
+        minimal = and-right (soundOver p n (maskPairAt n q)) (minimalOver p n (maskPairAt n q)) s;
       }
 
   -- each entry is a sound and minimal assignment of n inputs
-  pub entries-listed : (i : ℕ) (d : Assignment) → i < length (coverOver p n) → Listed p n (getD (coverOver p n) i d)
+  pub entries-listed : (i : ℕ) (d : Assignment) → i < length (coverOver p n) → EntriesListed p n (getD (coverOver p n) i d)
   unfolding listed
   entries-listed i d l =
       let m : i < length listed = rw length-cover at l in
@@ -106,11 +106,11 @@ module _ (p : ℕ → Bool) (n : ℕ) where
   pairOf : Assignment → ℕ
   pairOf a = a .fixed * 2 ^ n + a .ones
 
-  pair-is : (a : Assignment) → Consistent n a → pairAt n (pairOf a) ≡ a
-  unfolding pairAt pairOf
+  pair-is : (a : Assignment) → Consistent n a → maskPairAt n (pairOf a) ≡ a
+  unfolding maskPairAt pairOf
   pair-is a ok = rw (digits-div (a .fixed) (ok .ones-lt), digits-mod (a .fixed) (ok .ones-lt))
 
-  listed-entry : (a : Assignment) → Listed p n a → entryAt p n (pairOf a) ≡ true
+  listed-entry : (a : Assignment) → EntriesListed p n a → entryAt p n (pairOf a) ≡ true
   unfolding entryAt isEntry
   listed-entry a h =
       rw (pair-is a (h .legal))
@@ -118,15 +118,15 @@ module _ (p : ℕ → Bool) (n : ℕ) where
       (and-intro (soundOver p n a) (minimalOver p n a) (h .sound) (h .minimal)))
 
   -- every sound and minimal assignment is an entry
-  pub listed-entries : (a d : Assignment) → Listed p n a → (i : ℕ) × (i < length (coverOver p n)) × (getD (coverOver p n) i d ≡ a)
+  pub listed-entries : (a d : Assignment) → EntriesListed p n a → (i : ℕ) × (i < length (coverOver p n)) × (getD (coverOver p n) i d ≡ a)
   unfolding listed pairOf
   listed-entries a d h =
       let r : (i : ℕ) × (i < length listed) × (getD listed i 0 ≡ pairOf a) =
       kept-has (entryAt p n) (2 ^ n * 2 ^ n) (pairOf a) (digits-lt (h .legal .fixed-lt) (h .legal .ones-lt)) (listed-entry a h) in
-      (r .0, rw length-cover (r .1), cover-getD (r .0) d (r .1) ∙ ap (pairAt n) (r .2) ∙ pair-is a (h .legal))
+      (r .0, rw length-cover (r .1), cover-getD (r .0) d (r .1) ∙ ap (maskPairAt n) (r .2) ∙ pair-is a (h .legal))
 
-  pairs-ascend : (q r : ℕ) → q < r → Before (pairAt n q) (pairAt n r)
-  unfolding pairAt
+  pairs-ascend : (q r : ℕ) → q < r → Before (maskPairAt n q) (maskPairAt n r)
+  unfolding maskPairAt
   pairs-ascend q r h =
       ⊎-elim inl (λ ge. inr (⊎-elim (λ l. absurd (above l)) (λ le. same (le-antisymm le ge)) (lt-or-le (r / 2 ^ n) (q / 2 ^ n))))
       (lt-or-le (q / 2 ^ n) (r / 2 ^ n))

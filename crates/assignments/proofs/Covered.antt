@@ -19,7 +19,7 @@ use Rattle.netlist.specs.Assignments.{bit}
 use Rattle.netlist.specs.Assignments.{Assignment, agrees}
 use Rattle.netlist.specs.Cover.{without}
 use Rattle.assignments.specs.Digits.{ternaryDigit, numeral}
-use Rattle.assignments.specs.Over.{soundOver, coverOver, nothing, Consistent, Listed, Before}
+use Rattle.assignments.specs.Over.{soundOver, coverOver, nothing, Consistent, EntriesListed, Before}
 use Rattle.assignments.proofs.Digits.{numeral-lt, digit-numeral}
 use Rattle.assignments.proofs.Agree.{bit-lt, bits-eq, sound-at, sound-from, agrees-at, agrees-from, within-at, within-from}
 use Rattle.assignments.proofs.Cover.{minimal-at, Below, descend, entries-listed, listed-entries, entries-ascend}
@@ -99,7 +99,7 @@ module _ (p : ℕ → Bool) (n : ℕ) where
 
   -- where every setting passes, only the assignment that fixes nothing is minimal
   module _ (h : soundOver p n nothing ≡ true) where
-    free : (a : Assignment) → Listed p n a → (i : ℕ) → i < n → bit (a .fixed) i ≡ 0
+    free : (a : Assignment) → EntriesListed p n a → (i : ℕ) → i < n → bit (a .fixed) i ≡ 0
     free a r i l =
         let b : bit (a .fixed) i < 2 = bit-lt (a .fixed) i in
         ⊎-elim
@@ -107,7 +107,7 @@ module _ (p : ℕ → Bool) (n : ℕ) where
         not-both (sound-from p n (without a i) (λ s m g. nothing-sound-at h s m)) (minimal-at p n a (r .minimal) i l e))
         (λ (ne : bit (a .fixed) i ≡ 1 → ⊥). omega arith) (eq-or-ne (bit (a .fixed) i) 1)
 
-    only-nothing : (a : Assignment) → Listed p n a → a ≡ nothing
+    only-nothing : (a : Assignment) → EntriesListed p n a → a ≡ nothing
     only-nothing a r =
         let f : a .fixed ≡ 0 = bits-eq n (a .fixed) 0 (r .legal .fixed-lt) (pow-pos n) (λ i l. free a r i l ∙ sym (bit-zero i)) in
         let o : a .ones ≡ 0 = bits-eq n (a .ones) 0 (r .legal .ones-lt) (pow-pos n) (λ i l.

@@ -12,40 +12,40 @@ use Rattle.laws.proofs.Lists.{joined-append, keep-append}
 use Rattle.netlist.specs.Assignments.{Assignment, isWithin}
 use Rattle.netlist.specs.Cover.{assignments, assignmentsAt}
 use Rattle.assignments.specs.Over.{soundOver, minimalOver, coverOver, masks}
-use Rattle.assignments.specs.Entries.{pairAt, isEntry, entryAt}
+use Rattle.assignments.specs.Entries.{maskPairAt, isEntry, entryAt}
 use Rattle.assignments.proofs.ListFacts.{keep-keep, keep-map}
 
 inside : ℕ → Assignment → Bool
 inside n a = isWithin n (a .fixed) (a .ones)
 
 -- one first mask's assignments are a run of the pairs
-run : (n f : ℕ) → assignmentsAt n f ≡ keep (inside n) (tab (λ j. pairAt n (f * 2 ^ n + j)) (2 ^ n))
-unfolding assignmentsAt pairAt inside
+run : (n f : ℕ) → assignmentsAt n f ≡ keep (inside n) (tab (λ j. maskPairAt n (f * 2 ^ n + j)) (2 ^ n))
+unfolding assignmentsAt maskPairAt inside
 run n f =
     sym (keep-map (inside n) (masks f) (upTo (2 ^ n)))
     ∙ ap (keep (inside n))
-    (map-tab (masks f) (λ k. k) (2 ^ n) ∙ tab-ext (masks f) (λ j. pairAt n (f * 2 ^ n + j)) (2 ^ n) same-pair)
+    (map-tab (masks f) (λ k. k) (2 ^ n) ∙ tab-ext (masks f) (λ j. maskPairAt n (f * 2 ^ n + j)) (2 ^ n) same-pair)
   where
-    same-pair : (j : ℕ) → j < 2 ^ n → masks f j ≡ pairAt n (f * 2 ^ n + j)
+    same-pair : (j : ℕ) → j < 2 ^ n → masks f j ≡ maskPairAt n (f * 2 ^ n + j)
     same-pair j l = rw (digits-div f l, digits-mod f l)
 
-rows : (n m : ℕ) → joined (map (assignmentsAt n) (upTo m)) ≡ keep (inside n) (tab (pairAt n) (m * 2 ^ n))
+rows : (n m : ℕ) → joined (map (assignmentsAt n) (upTo m)) ≡ keep (inside n) (tab (maskPairAt n) (m * 2 ^ n))
 rows n zero = rw zero-mul
 rows n (suc m) =
     ap joined (map-append (assignmentsAt n) (upTo m) (m ∷ []))
     ∙ joined-append (map (assignmentsAt n) (upTo m)) (assignmentsAt n m ∷ [])
-    ∙ rw (append-nil (assignmentsAt n m), rows n m, run n m, suc-mul m (2 ^ n), tab-add (pairAt n) (m * 2 ^ n) (2 ^ n))
-    (sym (keep-append (inside n) (tab (pairAt n) (m * 2 ^ n)) (tab (λ j. pairAt n (m * 2 ^ n + j)) (2 ^ n))))
+    ∙ rw (append-nil (assignmentsAt n m), rows n m, run n m, suc-mul m (2 ^ n), tab-add (maskPairAt n) (m * 2 ^ n) (2 ^ n))
+    (sym (keep-append (inside n) (tab (maskPairAt n) (m * 2 ^ n)) (tab (λ j. maskPairAt n (m * 2 ^ n + j)) (2 ^ n))))
 
-flat : (n : ℕ) → assignments n ≡ keep (inside n) (tab (pairAt n) (2 ^ n * 2 ^ n))
+flat : (n : ℕ) → assignments n ≡ keep (inside n) (tab (maskPairAt n) (2 ^ n * 2 ^ n))
 unfolding assignments
 flat n = rows n (2 ^ n)
 
 -- the cover is the pairs of masks that pass, in order
-pub cover-flat : (p : ℕ → Bool) (n : ℕ) → coverOver p n ≡ map (pairAt n) (keep (entryAt p n) (upTo (2 ^ n * 2 ^ n)))
+pub cover-flat : (p : ℕ → Bool) (n : ℕ) → coverOver p n ≡ map (maskPairAt n) (keep (entryAt p n) (upTo (2 ^ n * 2 ^ n)))
 unfolding coverOver entryAt isEntry inside
 cover-flat p n =
     ap (keep (λ a. soundOver p n a && minimalOver p n a)) (flat n)
-    ∙ keep-keep (λ a. soundOver p n a && minimalOver p n a) (inside n) (tab (pairAt n) (2 ^ n * 2 ^ n))
-    ∙ ap (keep (isEntry p n)) (sym (map-tab (pairAt n) (λ k. k) (2 ^ n * 2 ^ n)))
-    ∙ keep-map (isEntry p n) (pairAt n) (upTo (2 ^ n * 2 ^ n))
+    ∙ keep-keep (λ a. soundOver p n a && minimalOver p n a) (inside n) (tab (maskPairAt n) (2 ^ n * 2 ^ n))
+    ∙ ap (keep (isEntry p n)) (sym (map-tab (maskPairAt n) (λ k. k) (2 ^ n * 2 ^ n)))
+    ∙ keep-map (isEntry p n) (maskPairAt n) (upTo (2 ^ n * 2 ^ n))

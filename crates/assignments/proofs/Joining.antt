@@ -19,7 +19,7 @@ use Rattle.laws.proofs.Tests.{eq-or-ne, lt-or-le}
 use Rattle.netlist.specs.Limits.{maxInputs}
 use Rattle.netlist.specs.Assignments.{bit}
 use Rattle.assignments.specs.Digits.{ternaryDigit, numeral}
-use Rattle.assignments.specs.Tables.{settledBy, soundByte, byteOf, weightOf, Filled, Joined}
+use Rattle.assignments.specs.Tables.{settledBy, soundByte, byteOf, weightOf, Filled, HalvesJoined}
 use Rattle.assignments.proofs.Agree.{bit-lt}
 use Rattle.assignments.proofs.Bounds.{power-next}
 use Rattle.assignments.proofs.Digits.{numeral-ext, numeral-digit, digit-numeral}
@@ -27,12 +27,12 @@ use Rattle.assignments.proofs.Numbers.{weight-lt}
 use Rattle.assignments.proofs.SoundTable.{byte-full, byte-free}
 use Rattle.assignments.proofs.Weights.{weight-half, weight-shift, weight-next, weight-top, weight-none, weight-power}
 
-pub joined-none : (entry : List ℕ) (k power : ℕ) → Joined entry entry k power 0
+pub joined-none : (entry : List ℕ) (k power : ℕ) → HalvesJoined entry entry k power 0
 joined-none entry k power = record { same-length = refl; kept = λ j l. refl; both = λ j l. absurd (not-suc-le-zero l) }
 
 -- one byte more: both bytes that it is made of stand below k
-pub joined-next : {entry exit : List ℕ} {k power m : ℕ} → Joined entry exit k power m → 2 * power ≤ k → k + power ≤ length exit → m < power
-    → Joined entry (set exit (k + m) (bitAnd (getD exit (k - power + m) 0) (getD exit (k - 2 * power + m) 0))) k power (m + 1)
+pub joined-next : {entry exit : List ℕ} {k power m : ℕ} → HalvesJoined entry exit k power m → 2 * power ≤ k → k + power ≤ length exit → m < power
+    → HalvesJoined entry (set exit (k + m) (bitAnd (getD exit (k - power + m) 0) (getD exit (k - 2 * power + m) 0))) k power (m + 1)
 joined-next {entry} {exit} {k} {power} {m} w l r h = record {
   same-length = simp length-set (w .same-length);
   kept = λ j b. getD-set-other exit (k + m) j _ 0 (λ e. omega arith) ∙ w .kept j b;
@@ -169,7 +169,7 @@ module _ {settled sound : List ℕ} {n s end power i : ℕ} (w : Joining settled
         let d : j / 3 ^ i ≡ above * 3 + 2 = ap (λ (x : ℕ). x / 3 ^ i) e ∙ digits-div (above * 3 + 2) l' in
         omega arith
 
-    pub joining-next : {exit : List ℕ} → Joined sound exit end power power → Joining settled exit n s (end + power) (power * 3) (i + 1)
+    pub joining-next : {exit : List ℕ} → HalvesJoined sound exit end power power → Joining settled exit n s (end + power) (power * 3) (i + 1)
     unfolding above
     joining-next {exit} q = record {
       few = w .few;

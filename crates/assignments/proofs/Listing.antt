@@ -15,18 +15,18 @@ use Rattle.laws.proofs.Tab.{length-tab, tab-add}
 use Rattle.laws.proofs.Lists.{joined-append, keep-append}
 use Rattle.laws.proofs.Slices.{set-placed}
 use Rattle.netlist.specs.Assignments.{Assignment}
-use Rattle.assignments.specs.Entries.{pairAt, withinAt, NextPair, entryBy, entriesBelow, entriesBy, Reached, Words, EntriesWritten}
+use Rattle.assignments.specs.Entries.{maskPairAt, withinAt, NextPair, entryBy, entriesBelow, entriesBy, EntriesReached, Words, EntriesWritten}
 use Rattle.assignments.specs.Over.{assignmentWords, nothing}
 use Rattle.assignments.proofs.ListFacts.{keep-le, keep-upTo-suc}
 use Rattle.assignments.proofs.PairWalk.{first-pair}
 
 module _ (table : List ℕ) (n q : ℕ) where
   -- one pair more: an entry, or none
-  entries-add : entryBy table n q ≡ true → entriesBelow table n (q + 1) ≡ entriesBelow table n q ++ (pairAt n q ∷ [])
+  entries-add : entryBy table n q ≡ true → entriesBelow table n (q + 1) ≡ entriesBelow table n q ++ (maskPairAt n q ∷ [])
   unfolding entriesBelow
   entries-add e =
       rw (add-one q, keep-upTo-suc (entryBy table n) q, e)
-      (map-append (pairAt n) (keep (entryBy table n) (upTo q)) (q ∷ []))
+      (map-append (maskPairAt n) (keep (entryBy table n) (upTo q)) (q ∷ []))
 
   entries-skip : entryBy table n q ≡ false → entriesBelow table n (q + 1) ≡ entriesBelow table n q
   unfolding entriesBelow
@@ -34,17 +34,17 @@ module _ (table : List ℕ) (n q : ℕ) where
 
   -- an entry counts
   count-add : entryBy table n q ≡ true → length (entriesBelow table n (q + 1)) ≡ length (entriesBelow table n q) + 1
-  count-add e = rw (entries-add e, length-append (entriesBelow table n q) (pairAt n q ∷ []))
+  count-add e = rw (entries-add e, length-append (entriesBelow table n q) (maskPairAt n q ∷ []))
 
   -- those below q are the first of those below q + m
   abbrev later : ℕ → List Assignment
-  later m = map (pairAt n) (keep (entryBy table n) (tab (λ j. q + j) m))
+  later m = map (maskPairAt n) (keep (entryBy table n) (tab (λ j. q + j) m))
 
   entries-more : (m : ℕ) → entriesBelow table n (q + m) ≡ entriesBelow table n q ++ later m
   unfolding entriesBelow
   entries-more m =
       rw (tab-add (λ k. k) q m, keep-append (entryBy table n) (upTo q) (tab (λ j. q + j) m))
-      (map-append (pairAt n) (keep (entryBy table n) (upTo q)) (keep (entryBy table n) (tab (λ j. q + j) m)))
+      (map-append (maskPairAt n) (keep (entryBy table n) (upTo q)) (keep (entryBy table n) (tab (λ j. q + j) m)))
 
   count-le : (m : ℕ) → length (entriesBelow table n q) ≤ length (entriesBelow table n (q + m))
   count-le m = rw (entries-more m, length-append (entriesBelow table n q) (later m)) (omega arith)
@@ -83,7 +83,7 @@ pub entries-few : (table : List ℕ) (n : ℕ) → length (entriesBy table n) �
 unfolding entriesBy entriesBelow
 entries-few table n =
     let l : length (keep (entryBy table n) (upTo (2 ^ n * 2 ^ n))) ≤ length (upTo (2 ^ n * 2 ^ n)) = keep-le (entryBy table n) (upTo (2 ^ n * 2 ^ n)) in
-    rw (length-map (keep (entryBy table n) (upTo (2 ^ n * 2 ^ n))) (pairAt n)) (rw (length-tab (λ k. k) (2 ^ n * 2 ^ n)) at l)
+    rw (length-map (keep (entryBy table n) (upTo (2 ^ n * 2 ^ n))) (maskPairAt n)) (rw (length-tab (λ k. k) (2 ^ n * 2 ^ n)) at l)
 
 wordsOf-append : (xs ys : List Assignment) → assignmentWords (xs ++ ys) ≡ assignmentWords xs ++ assignmentWords ys
 unfolding assignmentWords
@@ -97,7 +97,7 @@ length-words [] = refl
 length-words (x ∷ xs) = let i : length (assignmentWords xs) ≡ 2 * length xs = length-words xs in omega arith
 
 -- before the first row
-pub reached-first : (marks : List ℕ) (n : ℕ) → Reached marks n (0 * 2 ^ n) 0
+pub reached-first : (marks : List ℕ) (n : ℕ) → EntriesReached marks n (0 * 2 ^ n) 0
 unfolding entriesBelow
 reached-first marks n = rw (zero-mul (2 ^ n)) (record { within = omega arith; legal = λ l. first-pair n; counted = refl })
 
@@ -106,7 +106,7 @@ unfolding entriesBelow assignmentWords
 words-first marks first n = rw (zero-mul (2 ^ n)) (record { same-length = refl; words = refl })
 
 -- at an entry one more is counted, of all that there are
-pub one-more : {marks : List ℕ} {n q count : ℕ} → Reached marks n q count → q < 2 ^ n * 2 ^ n → entryBy marks n q ≡ true
+pub one-more : {marks : List ℕ} {n q count : ℕ} → EntriesReached marks n q count → q < 2 ^ n * 2 ^ n → entryBy marks n q ≡ true
     → count + 1 ≤ length (entriesBy marks n)
 unfolding entriesBy
 one-more {marks} {n} {q} w l e =
@@ -117,8 +117,8 @@ one-more {marks} {n} {q} w l e =
     omega (arith, w .counted)
 
 -- from pair q to the next one
-module _ {marks : List ℕ} {n q r count : ℕ} (w : Reached marks n q count) (x : NextPair n q r) where
-  pub reached-skip : entryBy marks n q ≡ false → Reached marks n r count
+module _ {marks : List ℕ} {n q r count : ℕ} (w : EntriesReached marks n q count) (x : NextPair n q r) where
+  pub reached-skip : entryBy marks n q ≡ false → EntriesReached marks n r count
   reached-skip e = record {
     within = x .end;
     legal = x .legal;
@@ -132,7 +132,7 @@ module _ {marks : List ℕ} {n q r count : ℕ} (w : Reached marks n q count) (x
   }
 
   module _ (e : entryBy marks n q ≡ true) where
-    pub reached-add : Reached marks n r (count + 1)
+    pub reached-add : EntriesReached marks n r (count + 1)
     reached-add = record {
       within = x .end;
       legal = x .legal;
@@ -143,9 +143,9 @@ module _ {marks : List ℕ} {n q r count : ℕ} (w : Reached marks n q count) (x
     so-far = assignmentWords (entriesBelow marks n q)
 
     next-words : assignmentWords (entriesBelow marks n r) ≡ so-far ++ (q / 2 ^ n ∷ []) ++ (q % 2 ^ n ∷ [])
-    unfolding so-far assignmentWords pairAt
+    unfolding so-far assignmentWords maskPairAt
     next-words =
-        ap assignmentWords (entries-jump marks n x ∙ entries-add marks n q e) ∙ wordsOf-append (entriesBelow marks n q) (pairAt n q ∷ [])
+        ap assignmentWords (entries-jump marks n x ∙ entries-add marks n q e) ∙ wordsOf-append (entriesBelow marks n q) (maskPairAt n q ∷ [])
         ∙ sym (append-assoc so-far (q / 2 ^ n ∷ []) (q % 2 ^ n ∷ []))
 
     pub words-add : {fixed ones : ℕ} {first out : List ℕ} → fixed ≡ q / 2 ^ n → ones ≡ q % 2 ^ n → 2 * length (entriesBy marks n) ≤ length out
@@ -167,7 +167,7 @@ module _ {marks : List ℕ} {n q r count : ℕ} (w : Reached marks n q count) (x
         }
 
 -- where as many entries are counted as there are, none is left
-module _ {marks : List ℕ} {n q count : ℕ} (w : Reached marks n q count) where
+module _ {marks : List ℕ} {n q count : ℕ} (w : EntriesReached marks n q count) where
   pub all-reached : length (entriesBy marks n) ≤ count → entriesBelow marks n q ≡ entriesBy marks n
   unfolding entriesBy
   all-reached l =
@@ -185,7 +185,7 @@ module _ {marks : List ℕ} {n q count : ℕ} (w : Reached marks n q count) wher
       (lt-or-le q (2 ^ n * 2 ^ n))
 
 -- .. so there is a row left where not all are counted
-pub row-left : {marks : List ℕ} {n f count : ℕ} → Reached marks n (f * 2 ^ n) count → count < length (entriesBy marks n) → f < 2 ^ n
+pub row-left : {marks : List ℕ} {n f count : ℕ} → EntriesReached marks n (f * 2 ^ n) count → count < length (entriesBy marks n) → f < 2 ^ n
 row-left {marks} {n} {f} w l =
     ⊎-elim (λ h. h)
     (λ (h : 2 ^ n ≤ f).

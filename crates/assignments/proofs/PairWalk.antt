@@ -11,14 +11,14 @@ use lib.Bits.{bitAnd, and-zero-l, and-le-r}
 use lib.Pow.{pow-pos}
 use Rattle.laws.proofs.Tests.{not-true-false}
 use Rattle.netlist.specs.Assignments.{isWithin}
-use Rattle.assignments.specs.Entries.{pairAt, withinAt, PairBelow, NextPair}
+use Rattle.assignments.specs.Entries.{maskPairAt, withinAt, PairBelow, NextPair}
 use Rattle.assignments.proofs.Agree.{within-and, and-within}
 use Rattle.assignments.proofs.Subsets.{Subset, NextSubset, next-subset}
 
 -- the pairs with first mask f
 module _ (n f j : ℕ) (l : j < 2 ^ n) where
   row : withinAt n (f * 2 ^ n + j) ≡ isWithin n f j
-  unfolding withinAt pairAt
+  unfolding withinAt maskPairAt
   row = rw (digits-div f l, digits-mod f l)
 
   row-in : Subset f j → withinAt n (f * 2 ^ n + j) ≡ true

@@ -11,7 +11,7 @@ use lib.ListN.{getD}
 use Rattle.netlist.specs.Limits.{maxInputs}
 use Rattle.assignments.specs.Over.{masks}
 use Rattle.assignments.specs.Tables.{ternaryNumber, weightOf}
-use Rattle.assignments.specs.Entries.{pairAt, withinAt, PairBelow, soundAt, entryBy, Row, Reached}
+use Rattle.assignments.specs.Entries.{maskPairAt, withinAt, PairBelow, soundAt, entryBy, Row, EntriesReached}
 use Rattle.assignments.proofs.Agree.{within-at}
 use Rattle.assignments.proofs.Bounds.{three-fits}
 use Rattle.assignments.proofs.Covered.{bit-zero}
@@ -28,11 +28,11 @@ row-fits n fixed =
 
 -- `is_left`, at the pair `fixed`, `ones`
 module _ {marks weights : List ℕ} {n base fixed ones : ℕ} (w : Row marks weights n base fixed) (m : ones < 2 ^ n) (p : PairBelow n (fixed * 2 ^ n + ones)) where
-  pair-is : pairAt n (fixed * 2 ^ n + ones) ≡ masks fixed ones
-  unfolding pairAt
+  pair-is : maskPairAt n (fixed * 2 ^ n + ones) ≡ masks fixed ones
+  unfolding maskPairAt
   pair-is = rw (digits-div fixed m, digits-mod fixed m)
 
-  pub number-is : base + getD weights ones 0 ≡ ternaryNumber n (pairAt n (fixed * 2 ^ n + ones))
+  pub number-is : base + getD weights ones 0 ≡ ternaryNumber n (maskPairAt n (fixed * 2 ^ n + ones))
   unfolding withinAt
   number-is =
       let i = rw pair-is at (p .within) in
@@ -42,14 +42,14 @@ module _ {marks weights : List ℕ} {n base fixed ones : ℕ} (w : Row marks wei
 
   pub number-below : (base + getD weights ones 0 < 3 ^ n) × (3 ^ n ≤ 3 ^ maxInputs)
   number-below =
-      (rw number-is (number-lt n (pairAt n (fixed * 2 ^ n + ones))), three-fits {i = n} {n = n} (omega arith) (w .weighed .few))
+      (rw number-is (number-lt n (maskPairAt n (fixed * 2 ^ n + ones))), three-fits {i = n} {n = n} (omega arith) (w .weighed .few))
 
   pub left-is : eqb (getD marks (base + getD weights ones 0) 0) 1 ≡ entryBy marks n (fixed * 2 ^ n + ones)
   unfolding entryBy soundAt
   left-is = rw (p .within, number-is)
 
 -- in a row each pair reached is an assignment
-pub row-below : {marks : List ℕ} {n fixed ones count : ℕ} → Reached marks n (fixed * 2 ^ n + ones) count → fixed < 2 ^ n → ones < 2 ^ n
+pub row-below : {marks : List ℕ} {n fixed ones count : ℕ} → EntriesReached marks n (fixed * 2 ^ n + ones) count → fixed < 2 ^ n → ones < 2 ^ n
     → PairBelow n (fixed * 2 ^ n + ones)
 row-below r l m = let b : _ = digits-lt l m in record { below = b; within = r .legal b }
 

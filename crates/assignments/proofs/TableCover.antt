@@ -18,7 +18,7 @@ use Rattle.netlist.specs.Cover.{without}
 use Rattle.assignments.specs.Digits.{ternaryDigit}
 use Rattle.assignments.specs.Over.{soundOver, minimalOver, coverOver, nothing, Consistent}
 use Rattle.assignments.specs.Tables.{ternaryNumber, settledBy, soundByte, byteOf, Filled}
-use Rattle.assignments.specs.Entries.{pairAt, withinAt, isEntry, entryAt, soundAt, neededAt, minimalAt, isLeft, OnlyMinimal}
+use Rattle.assignments.specs.Entries.{maskPairAt, withinAt, isEntry, entryAt, soundAt, neededAt, minimalAt, isLeft, OnlyMinimal}
 use Rattle.assignments.specs.Entries.{entryBy, entriesBelow, entriesBy, EntriesWritten}
 use Rattle.assignments.proofs.Agree.{bit-lt}
 use Rattle.assignments.proofs.ListFacts.{keep-below}
@@ -61,21 +61,21 @@ module _ (p : ℕ → Bool) (n : ℕ) (sound : List ℕ) (right : (j : ℕ) → 
 
   module _ (marks : List ℕ) {total : ℕ} (w : OnlyMinimal sound marks n (3 ^ n) total) where
     entry-by : (q : ℕ) → q < 2 ^ n * 2 ^ n → entryBy marks n q ≡ entryAt p n q
-    unfolding entryBy withinAt entryAt isEntry pairAt isLeft
+    unfolding entryBy withinAt entryAt isEntry maskPairAt isLeft
     entry-by q l = go (withinAt n q) refl
       where
         go : (b : Bool) → withinAt n q ≡ b
             → entryBy marks n q ≡ entryAt p n q
         go false e = rw e
         go true e =
-            rw (e, w .left (ternaryNumber n (pairAt n q)) (number-lt n (pairAt n q)), sound-by (pairAt n q), minimal-by (pairAt n q) (legal e))
+            rw (e, w .left (ternaryNumber n (maskPairAt n q)) (number-lt n (maskPairAt n q)), sound-by (maskPairAt n q), minimal-by (maskPairAt n q) (legal e))
           where
-            legal : withinAt n q ≡ true → Consistent n (pairAt n q)
+            legal : withinAt n q ≡ true → Consistent n (maskPairAt n q)
             legal h = record { fixed-lt = div-lt-iff-lt-mul (pow-pos n) .1 l; ones-lt = mod-lt q (pow-pos n); inside = h }
 
     entries-cover : entriesBy marks n ≡ coverOver p n
     unfolding entriesBy entriesBelow
-    entries-cover = ap (map (pairAt n)) (keep-below (entryBy marks n) (entryAt p n) (2 ^ n * 2 ^ n) entry-by) ∙ sym (cover-flat p n)
+    entries-cover = ap (map (maskPairAt n)) (keep-below (entryBy marks n) (entryAt p n) (2 ^ n * 2 ^ n) entry-by) ∙ sym (cover-flat p n)
 
 -- what is written by the table that `fill_sound` and `keep_minimal` leave is the cover
 pub cover-written : {settled sound marks : List ℕ} {n k : ℕ} {before after : List ℕ} {count : ℕ} → Filled settled sound n (2 ^ n) k

@@ -13,12 +13,12 @@ use Rattle.assignments.specs.Digits.{ternaryDigit}
 use Rattle.assignments.specs.Tables.{ternaryNumber, weightOf, Weighed}
 
 -- pair number q of two masks of n bits
-unfoldable pub pairAt : ℕ → ℕ → Assignment
-pairAt n q = record { fixed = q / 2 ^ n; ones = q % 2 ^ n }
+unfoldable pub maskPairAt : ℕ → ℕ → Assignment
+maskPairAt n q = record { fixed = q / 2 ^ n; ones = q % 2 ^ n }
 
 -- its inputs at 1 are fixed ones
 unfoldable pub withinAt : ℕ → ℕ → Bool
-withinAt n q = isWithin n (pairAt n q .fixed) (pairAt n q .ones)
+withinAt n q = isWithin n (maskPairAt n q .fixed) (maskPairAt n q .ones)
 
 -- a pair that is an assignment
 pub record PairBelow (n q : ℕ) : Type 0 where
@@ -37,7 +37,7 @@ unfoldable pub isEntry : (ℕ → Bool) → ℕ → Assignment → Bool
 isEntry p n a = isWithin n (a .fixed) (a .ones) && (soundOver p n a && minimalOver p n a)
 
 unfoldable pub entryAt : (ℕ → Bool) → ℕ → ℕ → Bool
-entryAt p n q = isEntry p n (pairAt n q)
+entryAt p n q = isEntry p n (maskPairAt n q)
 
 -- assignment number k is sound, as a table has it
 unfoldable pub soundAt : List ℕ → ℕ → Bool
@@ -61,11 +61,11 @@ pub record OnlyMinimal (sound marks : List ℕ) (n m count : ℕ) : Type 0 where
 
 -- the pair is an assignment that is left
 unfoldable pub entryBy : List ℕ → ℕ → ℕ → Bool
-entryBy marks n q = withinAt n q && soundAt marks (ternaryNumber n (pairAt n q))
+entryBy marks n q = withinAt n q && soundAt marks (ternaryNumber n (maskPairAt n q))
 
 -- the entries among the first q pairs
 unfoldable pub entriesBelow : List ℕ → ℕ → ℕ → List Assignment
-entriesBelow marks n q = map (pairAt n) (keep (entryBy marks n) (upTo q))
+entriesBelow marks n q = map (maskPairAt n) (keep (entryBy marks n) (upTo q))
 
 unfoldable pub entriesBy : List ℕ → ℕ → List Assignment
 entriesBy marks n = entriesBelow marks n (2 ^ n * 2 ^ n)
@@ -78,7 +78,7 @@ pub record Row (marks weights : List ℕ) (n base fixed : ℕ) : Type 0 where
   pub base-is : base + 2 * weightOf n fixed + 1 ≡ 3 ^ n
 
 -- pair q is an assignment or the end, and the entries before it are counted
-pub record Reached (marks : List ℕ) (n q count : ℕ) : Type 0 where
+pub record EntriesReached (marks : List ℕ) (n q count : ℕ) : Type 0 where
   pub within : q ≤ 2 ^ n * 2 ^ n
   pub legal : q < 2 ^ n * 2 ^ n → withinAt n q ≡ true
   pub counted : count ≡ length (entriesBelow marks n q)
@@ -90,7 +90,7 @@ pub record Words (marks first out : List ℕ) (n q : ℕ) : Type 0 where
 
 -- the entries with this first mask are written behind those before it
 pub record RowListed (marks entry exit : List ℕ) (n fixed count : ℕ) : Type 0 where
-  pub reached : Reached marks n ((fixed + 1) * 2 ^ n) count
+  pub reached : EntriesReached marks n ((fixed + 1) * 2 ^ n) count
   pub row : (first : List ℕ) → Words marks first entry n (fixed * 2 ^ n) → Words marks first exit n ((fixed + 1) * 2 ^ n)
 
 -- the number of entries, and their words where there is room for them

@@ -39,7 +39,7 @@ pub record Consistent (n : ℕ) (a : Assignment) : Type 0 where
   pub inside : isWithin n (a .fixed) (a .ones) ≡ true
 
 -- what the cover lists: the sound and minimal assignments of n inputs
-pub record Listed (p : ℕ → Bool) (n : ℕ) (a : Assignment) : Type 0 where
+pub record EntriesListed (p : ℕ → Bool) (n : ℕ) (a : Assignment) : Type 0 where
   pub legal : Consistent n a
   pub sound : soundOver p n a ≡ true
   pub minimal : minimalOver p n a ≡ true

@@ -4,7 +4,7 @@ ghost use mathlib.Core.Path.{_≡_};
 ghost use Prim.Native.Nat.{_+_, _*_, _^_, _≤_, _<_};
 ghost use lib.ListN.{length};
 ghost use Rattle.laws.specs.Lists.{placed};
-ghost use Rattle.assignments.specs.Entries.{entryBy, entriesBy, PairBelow, Row, Reached};
+ghost use Rattle.assignments.specs.Entries.{entryBy, entriesBy, PairBelow, Row, EntriesReached};
 ghost use Rattle.assignments.specs.Entries.{RowListed, EntriesWritten};
 ghost use Rattle.assignments.specs.Over.{assignmentWords};
 ghost use Rattle.assignments.specs.Tables.{weightOf, Weighed};
@@ -40,7 +40,7 @@ fn list_row(
     before: usize,
     out: &mut [u16],
 ) -> usize
-    requires { ⌜ Row (now marks) (now weights) n (first .base) (first .fixed) × Reached (now marks) n (first .fixed * 2 ^ n) before ⌝ }
+    requires { ⌜ Row (now marks) (now weights) n (first .base) (first .fixed) × EntriesReached (now marks) n (first .fixed * 2 ^ n) before ⌝ }
     requires { ⌜ 2 * length (entriesBy (now marks) n) ≤ length (now out) ⌝ }
     ensures { λ r. ⌜ RowListed (now (marks .entry)) (now (out .entry)) (now (out .exit)) n (first .fixed) r ⌝ }
 {

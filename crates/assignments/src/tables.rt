@@ -2,7 +2,7 @@
 ghost use Prim.Native.Nat.{_+_, _*_, _^_, _≤_, _<_};
 ghost use lib.ListN.{length};
 ghost use Rattle.netlist.specs.Limits.{maxInputs};
-ghost use Rattle.assignments.specs.Tables.{Weighed, Filled, Joined};
+ghost use Rattle.assignments.specs.Tables.{Weighed, Filled, HalvesJoined};
 
 // The weight of each mask of n bits, its bits read as ternary digits: three times that of its half, and the lowest bit.
 pub fn fill_weights(n: usize, weights: &mut [u32])
@@ -21,7 +21,7 @@ pub fn fill_weights(n: usize, weights: &mut [u32])
 // The assignments with one more free input, behind those with this input at 0 and those with it at 1: sound where both are.
 fn join_halves(sound: &mut [u8], k: usize, power: usize)
     requires { ⌜ (2 * power ≤ k) × (k + power ≤ length (now sound)) ⌝ }
-    ensures { λ _. ⌜ Joined (now (sound .entry)) (now (sound .exit)) k power power ⌝ }
+    ensures { λ _. ⌜ HalvesJoined (now (sound .entry)) (now (sound .exit)) k power power ⌝ }
 {
     let mut j = 0;
     while j < power {

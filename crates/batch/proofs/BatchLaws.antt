@@ -33,15 +33,15 @@ use Rattle.rounds.proofs.InPlace.{start-rising}
 use Rattle.visiting.specs.Visits.{Visits}
 use Rattle.batch.specs.Legible.{Legible}
 use Rattle.lanes.specs.declared.Pair.{Pair}
-use Rattle.lanes.specs.Pairs.{lane, full, nothing}
+use Rattle.lanes.specs.Pairs.{lane, full, noLanes}
 use Rattle.lanes.specs.PairRounds.{evaluatedPair, LegalGate}
 use Rattle.lanes.specs.Batches.{lanesOf, inputPair, inputPairs}
 use Rattle.lanes.specs.Nodes.{pairAt, inputsIn, gatesIn}
 use Rattle.lanes.proofs.LaneLaws.{nothing-lane, nothing-proper}
 use Rattle.lanes.proofs.InputLaws.{inputPairs-proper, inputPairs-lane}
 use Rattle.lanes.proofs.NodeLaws.{gatePairAt-evaluated, head-legal, set-inputs, set-gates}
-use Rattle.batch.specs.Batch.{NodesLong, Inside, gatePair, Evaluated, Walked, noGate, gateMore}
-use Rattle.batch.specs.Batch.{BatchUnderway, BatchSwept, BatchSettled, Decided, Advanced}
+use Rattle.batch.specs.Batch.{NodesLong, GatesInside, gatePair, Evaluated, Walked, noGate, gateMore}
+use Rattle.batch.specs.Batch.{BatchUnderway, BatchSwept, BatchSettled, Decided, BatchAdvanced}
 use Rattle.batch.specs.Batch.{InputsPut, Started, startPair, placeOf, along}
 use Rattle.batch.proofs.Sweeping.{swept-none, swept-one, swept-then, swept-underway, swept-settled, defined-settled}
 
@@ -52,7 +52,7 @@ module _ (n base : ℕ) where
   unfolding startPair
   startPair-input k l = rw (lt-ltb k n l)
 
-  pub startPair-gate : (k : ℕ) → n ≤ k → startPair n base k ≡ nothing
+  pub startPair-gate : (k : ℕ) → n ≤ k → startPair n base k ≡ noLanes
   unfolding startPair
   startPair-gate k l = rw (le-ltb k n l)
 
@@ -67,22 +67,22 @@ module _ (n base : ℕ) where
     started-inputs l =
         tab-ext (pairAt zeros ones) (inputPair n base) n (λ i h. started-pair i (omega arith) ∙ startPair-input i h)
 
-    started-gates : (m : ℕ) → count ≡ n + m → gatesIn n m zeros ones ≡ replicate m nothing
+    started-gates : (m : ℕ) → count ≡ n + m → gatesIn n m zeros ones ≡ replicate m noLanes
     unfolding gatesIn
     started-gates m e =
-        ext-getD nothing (tab (λ j. pairAt zeros ones (n + j)) m) (replicate m nothing)
-        (length-tab (λ j. pairAt zeros ones (n + j)) m ∙ sym (length-replicate m nothing))
+        ext-getD noLanes (tab (λ j. pairAt zeros ones (n + j)) m) (replicate m noLanes)
+        (length-tab (λ j. pairAt zeros ones (n + j)) m ∙ sym (length-replicate m noLanes))
         (λ j h. let l : j < m = rw (length-tab (λ j. pairAt zeros ones (n + j)) m) at h in
-        getD-tab (λ j. pairAt zeros ones (n + j)) m j nothing l ∙ started-pair (n + j) (omega arith) ∙ startPair-gate (n + j) (omega arith)
-        ∙ sym (getD-replicate-default m j nothing))
+        getD-tab (λ j. pairAt zeros ones (n + j)) m j noLanes l ∙ started-pair (n + j) (omega arith) ∙ startPair-gate (n + j) (omega arith)
+        ∙ sym (getD-replicate-default m j noLanes))
 
     -- all gates undefined are on the way
     pub started-underway : (b : Block) → count ≡ n + gateCount b → BatchUnderway b n zeros ones
     started-underway b e =
         let x = inputPairs n base in
         let m = gateCount b in
-        let values : (i : ℕ) → map (lane i) (replicate m nothing) ≡ replicate m undefined =
-        λ i. map-replicate (lane i) m nothing ∙ rw (nothing-lane i) in
+        let values : (i : ℕ) → map (lane i) (replicate m noLanes) ≡ replicate m undefined =
+        λ i. map-replicate (lane i) m noLanes ∙ rw (nothing-lane i) in
         record {
           zerosLong = rw (s .zerosAre) (length-tab (λ k. startPair n base k .zeros) count ∙ e);
           onesLong = rw (s .onesAre) (length-tab (λ k. startPair n base k .ones) count ∙ e);
@@ -90,8 +90,8 @@ module _ (n base : ℕ) where
               rw (started-inputs (omega arith), started-gates m e)
               (record {
                 inputsProper = inputPairs-proper n base;
-                proper = record { each = λ k. rw (getD-replicate-default m k nothing) (nothing-proper (lanesOf n)) };
-                long = length-replicate m nothing;
+                proper = record { each = λ k. rw (getD-replicate-default m k noLanes) (nothing-proper (lanesOf n)) };
+                long = length-replicate m noLanes;
                 rising = λ i l. rw (values i) (start-rising b (map (lane i) x) m);
                 below = λ i l. rw (values i) (start-below-settled b (map (lane i) x));
               });
@@ -119,7 +119,7 @@ over-zeros f g n count l same none =
 
 pub inputs-started : {n base count : ℕ} {clearZeros clearOnes zeros ones : List ℕ} → n ≤ count → clearZeros ≡ replicate count 0
     → clearOnes ≡ replicate count 0 → InputsPut n base clearZeros clearOnes zeros ones → Started n base count zeros ones
-unfolding nothing
+unfolding noLanes
 inputs-started {n} {base} {count} l cz co s =
     record {
       zerosAre =
@@ -195,9 +195,9 @@ same-pair : (zeros ones : List ℕ) (k : ℕ) (p : Pair) → p .zeros ≡ getD z
 unfolding pairAt
 same-pair zeros ones k p e f = pair-eq p (pairAt zeros ones k) e f
 
-pub gatesIn-at : (n m : ℕ) (zeros ones : List ℕ) (j : ℕ) → j < m → getD (gatesIn n m zeros ones) j nothing ≡ pairAt zeros ones (n + j)
+pub gatesIn-at : (n m : ℕ) (zeros ones : List ℕ) (j : ℕ) → j < m → getD (gatesIn n m zeros ones) j noLanes ≡ pairAt zeros ones (n + j)
 unfolding gatesIn
-gatesIn-at n m zeros ones j l = getD-tab (λ j. pairAt zeros ones (n + j)) m j nothing l
+gatesIn-at n m zeros ones j l = getD-tab (λ j. pairAt zeros ones (n + j)) m j noLanes l
 
 -- one gate, from its words
 module _ {ws : List ℕ} {nodes : Nodes} (legible : Legible ws nodes) (few : nodes .inputs ≤ maxInputs) (j : ℕ) (l : j < gateCount (decode ws)) where
@@ -257,17 +257,17 @@ module _ {ws : List ℕ} {nodes : Nodes} (legible : Legible ws nodes) (few : nod
       p : Pair
       p = gatePair ws nodes j zeros ones
 
-      was : getD (gatesIn (nodes .inputs) m zeros ones) j nothing ≡ pairAt zeros ones (nodes .inputs + j)
+      was : getD (gatesIn (nodes .inputs) m zeros ones) j noLanes ≡ pairAt zeros ones (nodes .inputs + j)
       was = gatesIn-at (nodes .inputs) m zeros ones j l
 
       same : not (eqb (p .zeros) (getD zeros (nodes .inputs + j) 0)) || not (eqb (p .ones) (getD ones (nodes .inputs + j) 0)) ≡ false
-          → p ≡ getD (gatesIn (nodes .inputs) m zeros ones) j nothing
+          → p ≡ getD (gatesIn (nodes .inputs) m zeros ones) j noLanes
       same h =
           let d = differ-no (p .zeros) (getD zeros (nodes .inputs + j) 0) (p .ones) (getD ones (nodes .inputs + j) 0) h in
           rw was (same-pair zeros ones (nodes .inputs + j) p (d .0) (d .1))
 
       other : not (eqb (p .zeros) (getD zeros (nodes .inputs + j) 0)) || not (eqb (p .ones) (getD ones (nodes .inputs + j) 0)) ≡ true
-          → p .zeros ≡ getD (gatesIn (nodes .inputs) m zeros ones) j nothing .zeros → p .ones ≡ getD (gatesIn (nodes .inputs) m zeros ones) j nothing .ones → ⊥
+          → p .zeros ≡ getD (gatesIn (nodes .inputs) m zeros ones) j noLanes .zeros → p .ones ≡ getD (gatesIn (nodes .inputs) m zeros ones) j noLanes .ones → ⊥
       other h ez eo =
           differ-yes (p .zeros) (getD zeros (nodes .inputs + j) 0) (p .ones) (getD ones (nodes .inputs + j) 0) h
           (ez ∙ ap (λ (q : Pair). q .zeros) was ∙ zeros-at zeros ones (nodes .inputs + j))
@@ -312,7 +312,7 @@ pub along-there : (order : List ℕ) → along false order ≡ order
 unfolding along placeOf
 along-there order = tab-getD 0 order (length order) refl
 
-pub along-inside : {m : ℕ} (order : List ℕ) (back : Bool) → Inside m order → (i : ℕ) → i < length order → getD order (placeOf back (length order) i) 0 < m
+pub along-inside : {m : ℕ} (order : List ℕ) (back : Bool) → GatesInside m order → (i : ℕ) → i < length order → getD order (placeOf back (length order) i) 0 < m
 along-inside order back v i l = v (placeOf back (length order) i) (placeOf-inside back (length order) i l)
 
 module _ {m : ℕ} {order : List ℕ} (back : Bool) (v : Visits m order) where
@@ -356,12 +356,12 @@ settled-batch {b} {n} {base} many aligned x u values =
 
 -- gates were evaluated, and nothing is told
 pub advanced-swept : {b : Block} {n : ℕ} {js zeros ones zeros′ ones′ : List ℕ} {changed : Bool} → BatchUnderway b n zeros ones
-    → BatchSwept b n js zeros ones zeros′ ones′ changed → Advanced b n zeros ones zeros′ ones′ false
+    → BatchSwept b n js zeros ones zeros′ ones′ changed → BatchAdvanced b n zeros ones zeros′ ones′ false
 advanced-swept u s = record { underway = batch-underway u s; inputsKept = s .inputsKept; settledLanes = λ e. absurd (false≢true e) }
 
 -- a sweep over all gates that changes nothing
 pub advanced-still : {b : Block} {n : ℕ} {order zeros ones zeros′ ones′ : List ℕ} {changed : Bool} → Visits (gateCount b) order → BatchUnderway b n zeros ones
-    → BatchSwept b n order zeros ones zeros′ ones′ changed → changed ≡ false → Advanced b n zeros ones zeros′ ones′ true
+    → BatchSwept b n order zeros ones zeros′ ones′ changed → changed ≡ false → BatchAdvanced b n zeros ones zeros′ ones′ true
 advanced-still v u s none =
     record {
       underway = batch-underway u s;
@@ -370,8 +370,8 @@ advanced-still v u s none =
     }
 
 -- no lane is undefined any more, where that is told
-pub advanced-decided : {b : Block} {n used : ℕ} {zeros ones zeros′ ones′ : List ℕ} (done : Bool) → Advanced b n zeros ones zeros′ ones′ false
-    → used ≡ full (lanesOf n) → (done ≡ true → Decided used zeros′ ones′) → Advanced b n zeros ones zeros′ ones′ done
+pub advanced-decided : {b : Block} {n used : ℕ} {zeros ones zeros′ ones′ : List ℕ} (done : Bool) → BatchAdvanced b n zeros ones zeros′ ones′ false
+    → used ≡ full (lanesOf n) → (done ≡ true → Decided used zeros′ ones′) → BatchAdvanced b n zeros ones zeros′ ones′ done
 unfolding gatesIn pairAt
 advanced-decided {b} {n} {used} {zeros} {ones} {zeros′} {ones′} done a inUse d =
     record {
@@ -381,21 +381,21 @@ advanced-decided {b} {n} {used} {zeros} {ones} {zeros′} {ones′} done a inUse
     }
   where
     each : Decided used zeros′ ones′ → (j : ℕ) → j < gateCount b
-        → let p = getD (gatesIn n (gateCount b) zeros′ ones′) j nothing in bitOr (p .zeros) (p .ones) ≡ full (lanesOf n)
+        → let p = getD (gatesIn n (gateCount b) zeros′ ones′) j noLanes in bitOr (p .zeros) (p .ones) ≡ full (lanesOf n)
     each t j l =
         let there : n + j < length zeros′ = omega (arith, a .underway .zerosLong) in
-        rw (getD-tab (λ j. pairAt zeros′ ones′ (n + j)) (gateCount b) j nothing l) (t .each (n + j) there ∙ inUse)
+        rw (getD-tab (λ j. pairAt zeros′ ones′ (n + j)) (gateCount b) j noLanes l) (t .each (n + j) there ∙ inUse)
 
 -- one after the other
-pub advanced-then : {b : Block} {n : ℕ} {zeros ones zeros′ ones′ zeros″ ones″ : List ℕ} {r s : Bool} → Advanced b n zeros ones zeros′ ones′ r
-    → Advanced b n zeros′ ones′ zeros″ ones″ s → Advanced b n zeros ones zeros″ ones″ s
+pub advanced-then : {b : Block} {n : ℕ} {zeros ones zeros′ ones′ zeros″ ones″ : List ℕ} {r s : Bool} → BatchAdvanced b n zeros ones zeros′ ones′ r
+    → BatchAdvanced b n zeros′ ones′ zeros″ ones″ s → BatchAdvanced b n zeros ones zeros″ ones″ s
 advanced-then f g = record { underway = g .underway; inputsKept = g .inputsKept ∙ f .inputsKept; settledLanes = g .settledLanes }
 
 -- a part of the order names gates too
-pub inside-take : {m : ℕ} (order : List ℕ) (k : ℕ) → Inside m order → Inside m (take k order)
+pub inside-take : {m : ℕ} (order : List ℕ) (k : ℕ) → GatesInside m order → GatesInside m (take k order)
 inside-take order k v i l =
     let few = length-take k order in
     rw (getD-take k order i 0 (omega (arith, few, l))) (v i (omega (arith, few, l)))
 
-pub inside-drop : {m : ℕ} (order : List ℕ) (k : ℕ) → Inside m order → Inside m (drop k order)
+pub inside-drop : {m : ℕ} (order : List ℕ) (k : ℕ) → GatesInside m order → GatesInside m (drop k order)
 inside-drop order k v i l = let few = length-drop k order in rw (getD-drop k order i 0) (v (k + i) (omega (arith, few, l)))

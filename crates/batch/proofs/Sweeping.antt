@@ -28,7 +28,7 @@ use Rattle.rounds.proofs.InPlace.{run-rising, run-fixed}
 use Rattle.rounds.proofs.ListFacts.{AfterSet, new, old, after-set}
 use Rattle.visiting.specs.Visits.{Visits}
 use Rattle.lanes.specs.declared.Pair.{Pair}
-use Rattle.lanes.specs.Pairs.{marked, lane, Proper, full, nothing}
+use Rattle.lanes.specs.Pairs.{markedLanes, lane, Proper, full, noLanes}
 use Rattle.lanes.specs.PairRounds.{evaluatedPair, LegalGate, AllProper}
 use Rattle.lanes.proofs.BitLaws.{bit-low, bit-or, bit-full}
 use Rattle.lanes.proofs.LaneLaws.{below-words}
@@ -41,27 +41,27 @@ unfoldable rest : ℕ → Pair → ℕ
 rest lanes p = 2 * 2 ^ lanes - (p .zeros + p .ones)
 
 room-set : (lanes : ℕ) (ps : List Pair) (j : ℕ) (q : Pair) → j < length ps
-    → room lanes (set ps j q) + rest lanes (getD ps j nothing) ≡ room lanes ps + rest lanes q
+    → room lanes (set ps j q) + rest lanes (getD ps j noLanes) ≡ room lanes ps + rest lanes q
 unfolding room rest
 room-set lanes [] j q l = absurd (not-suc-le-zero l)
 room-set lanes (p ∷ ps) zero q l = omega arith
 room-set lanes (p ∷ ps) (suc j) q l = omega (arith, room-set lanes ps j q (le-of-suc-le-suc l))
 
-set-same : (ps : List Pair) (j : ℕ) → set ps j (getD ps j nothing) ≡ ps
+set-same : (ps : List Pair) (j : ℕ) → set ps j (getD ps j noLanes) ≡ ps
 set-same [] j = refl
 set-same (p ∷ ps) zero = refl
 set-same (p ∷ ps) (suc j) = rw (set-same ps j)
 
 pub set-proper : {lanes : ℕ} {ps : List Pair} {q : Pair} (j : ℕ) → AllProper lanes ps → Proper lanes q → AllProper lanes (set ps j q)
-set-proper {lanes} {ps} {q} j h k = record { each = λ i. go i (after-set ps j i q nothing) }
+set-proper {lanes} {ps} {q} j h k = record { each = λ i. go i (after-set ps j i q noLanes) }
   where
-    go : (i : ℕ) → AfterSet ps j i q nothing → Proper lanes (getD (set ps j q) i nothing)
+    go : (i : ℕ) → AfterSet ps j i q noLanes → Proper lanes (getD (set ps j q) i noLanes)
     go i (new e l f) = rw f k
     go i (old d f) = rw f (h .each i)
 
 -- the two bits of a lane, of which one is set
-bit-defined : (z o : ℕ) → z < 2 → o < 2 → max z o ≡ 1 → (c : Bool) × (marked z o ≡ val c)
-unfolding marked
+bit-defined : (z o : ℕ) → z < 2 → o < 2 → max z o ≡ 1 → (c : Bool) × (markedLanes z o ≡ val c)
+unfolding markedLanes
 bit-defined zero zero h l e = absurd (omega arith)
 bit-defined zero (suc zero) h l e = (true, refl)
 bit-defined zero (suc (suc o)) h l e = absurd (omega arith)
@@ -92,8 +92,8 @@ module _ {b : Block} {lanes : ℕ} {x : List Pair} where
   -- one gate; whether its pair changed
   pub swept-one : {state : List Pair} {p : Pair} {changed : Bool} (j : ℕ) → Underway b lanes x state → j < gateCount b → LegalGate (gateOf b j)
       → p ≡ evaluatedPair (full lanes) x state (gateOf b j)
-      → (changed ≡ false → p ≡ getD state j nothing)
-      → (changed ≡ true → p .zeros ≡ getD state j nothing .zeros → p .ones ≡ getD state j nothing .ones → ⊥)
+      → (changed ≡ false → p ≡ getD state j noLanes)
+      → (changed ≡ true → p .zeros ≡ getD state j noLanes .zeros → p .ones ≡ getD state j noLanes .ones → ⊥)
       → Swept b lanes x (j ∷ []) state (set state j p) changed
   unfolding run stepAt rest
   swept-one {state} {p} {changed} j u l legal e same other =
@@ -112,19 +112,19 @@ module _ {b : Block} {lanes : ℕ} {x : List Pair} where
       value : (s : ℕ) → s < lanes → lane s p ≡ evaluated (map (lane s) x) (map (lane s) state) (gateOf b j)
       value s h = rw e (evaluatedPair-lane (u .inputsProper) (u .proper) s h (gateOf b j) legal)
 
-      grown : (getD state j nothing .zeros ≤ p .zeros) × (getD state j nothing .ones ≤ p .ones)
+      grown : (getD state j noLanes .zeros ≤ p .zeros) × (getD state j noLanes .ones ≤ p .ones)
       grown =
           below-words (u .proper .each j) isProper
           (λ s h. rw (value s h, ← getD-lane s state j) (u .rising s h j))
 
-      sum : room lanes (set state j p) + rest lanes (getD state j nothing) ≡ room lanes state + rest lanes p
+      sum : room lanes (set state j p) + rest lanes (getD state j noLanes) ≡ room lanes state + rest lanes p
       sum = room-set lanes state j p (rw (u .long) l)
 
-      strict : changed ≡ true → getD state j nothing .zeros + getD state j nothing .ones < p .zeros + p .ones
+      strict : changed ≡ true → getD state j noLanes .zeros + getD state j noLanes .ones < p .zeros + p .ones
       strict f =
           ⊎-elim
-          (λ ez. ⊎-elim (λ eo. absurd (other f ez eo)) (λ no. omega (arith, grown, no)) (eq-or-ne (p .ones) (getD state j nothing .ones)))
-          (λ nz. omega (arith, grown, nz)) (eq-or-ne (p .zeros) (getD state j nothing .zeros))
+          (λ ez. ⊎-elim (λ eo. absurd (other f ez eo)) (λ no. omega (arith, grown, no)) (eq-or-ne (p .ones) (getD state j noLanes .ones)))
+          (λ nz. omega (arith, grown, nz)) (eq-or-ne (p .zeros) (getD state j noLanes .zeros))
 
   -- a sweep stays on the way
   pub swept-underway : {js : List ℕ} {state after : List Pair} {changed : Bool} → Underway b lanes x state → Swept b lanes x js state after changed
@@ -169,11 +169,11 @@ module _ {b : Block} {lanes : ℕ} {x : List Pair} where
 
   -- a lane that is 0 or 1 stays so: where all are, these are the settled values
   pub defined-settled : {state : List Pair} → Underway b lanes x state
-      → ((j : ℕ) → j < gateCount b → let p = getD state j nothing in bitOr (p .zeros) (p .ones) ≡ full lanes)
+      → ((j : ℕ) → j < gateCount b → let p = getD state j noLanes in bitOr (p .zeros) (p .ones) ≡ full lanes)
       → (i : ℕ) → i < lanes → map (lane i) state ≡ settled b (map (lane i) x)
   defined-settled {state} u each i l =
       let long : length (map (lane i) state) ≡ gateCount b = length-map state (lane i) ∙ u .long in
       ext-getD undefined (map (lane i) state) (settled b (map (lane i) x)) (long ∙ sym (length-settled b (map (lane i) x)))
-      (λ j h. let (c, v) = lane-defined lanes (getD state j nothing) (each j (rw (← long) h)) i l in
+      (λ j h. let (c, v) = lane-defined lanes (getD state j noLanes) (each j (rw (← long) h)) i l in
       let is : getD (map (lane i) state) j undefined ≡ val c = getD-lane i state j ∙ v in
       is ∙ sym (u .below i l j c is))

@@ -3,7 +3,7 @@
 --   Decidable, NodesLong     what deciding a batch asks
 --   gatePair, Evaluated, Walked   a gate's pair from its words, and what a single step and several leave
 --   BatchUnderway, BatchSwept, BatchSettled   the same in the two slices of words
---   Sweepable, Advanced, roomIn   what a sweep asks and leaves, and how much can still change
+--   Sweepable, BatchAdvanced, roomIn   what a sweep asks and leaves, and how much can still change
 --   Decided                  nothing can change any more
 --   startPair, along         the first pair of each node; the order, there or back
 -- Assumes nothing.
@@ -25,7 +25,7 @@ use Rattle.netlist.specs.Steps.{run}
 use Rattle.visiting.specs.Visits.{Visits}
 use Rattle.batch.specs.Legible.{Legible}
 use Rattle.lanes.specs.declared.Pair.{Pair}
-use Rattle.lanes.specs.Pairs.{lane, nothing, full}
+use Rattle.lanes.specs.Pairs.{lane, noLanes, full}
 use Rattle.lanes.specs.PairRounds.{AllProper}
 use Rattle.lanes.specs.Batches.{lanesOf, inputPair}
 use Rattle.lanes.specs.Nodes.{inputsIn, gatesIn, gatePairAt}
@@ -79,8 +79,8 @@ pub record Evaluated (ws : List ℕ) (nodes : Nodes) (j : ℕ) (zeros ones zeros
       || not (eqb (gatePair ws nodes j zeros ones .ones) (getD ones (nodes .inputs + j) 0))
 
 -- each of the gates listed is one of m
-abbrev pub Inside : ℕ → List ℕ → Type 0
-Inside m order = (i : ℕ) → i < length order → getD order i 0 < m
+abbrev pub GatesInside : ℕ → List ℕ → Type 0
+GatesInside m order = (i : ℕ) → i < length order → getD order i 0 < m
 
 -- the gates listed were evaluated one after the other, each pair stored at once, and `changed` tells whether any is another
 pub data Walked (ws : List ℕ) (nodes : Nodes) (zeros ones : List ℕ) : List ℕ → List ℕ → List ℕ → Bool → Type 0 where
@@ -108,7 +108,7 @@ pub record Sweepable (ws : List ℕ) (nodes : Nodes) (used : ℕ) (order : List 
   pub usedIs : used ≡ full (lanesOf (nodes .inputs))
 
 -- gates were evaluated, and where `done` is told, every gate has its settled value at every lane
-pub record Advanced (b : Block) (n : ℕ) (zeros ones zerosAfter onesAfter : List ℕ) (done : Bool) : Type 0 where
+pub record BatchAdvanced (b : Block) (n : ℕ) (zeros ones zerosAfter onesAfter : List ℕ) (done : Bool) : Type 0 where
   pub underway : BatchUnderway b n zerosAfter onesAfter
   pub inputsKept : inputsIn n zerosAfter onesAfter ≡ inputsIn n zeros ones
   pub settledLanes : done ≡ true → (s : ℕ) → s < lanesOf n
@@ -133,7 +133,7 @@ pub record Decided (used : ℕ) (zeros ones : List ℕ) : Type 0 where
 
 -- the pair of node k at first: an input's, or undefined at every lane
 unfoldable pub startPair : ℕ → ℕ → ℕ → Pair
-startPair n base k = cond (ltb k n) (inputPair n base k) nothing
+startPair n base k = cond (ltb k n) (inputPair n base k) noLanes
 
 -- the inputs' pairs stand in front
 pub record InputsPut (n base : ℕ) (zeros ones zerosAfter onesAfter : List ℕ) : Type 0 where

@@ -15,8 +15,8 @@ ghost use Rattle.netlist.specs.StoredBlock.{decode};
 ghost use Rattle.batch.specs.Legible.{Legible};
 ghost use Rattle.lanes.specs.Pairs.{full};
 ghost use Rattle.lanes.specs.Batches.{lanesOf};
-ghost use Rattle.batch.specs.Batch.{Decidable, NodesLong, Inside, Evaluated, Walked, BatchUnderway, BatchSettled, Decided};
-ghost use Rattle.batch.specs.Batch.{InputsPut, Started, placeOf, along, Sweepable, Advanced, roomIn};
+ghost use Rattle.batch.specs.Batch.{Decidable, NodesLong, GatesInside, Evaluated, Walked, BatchUnderway, BatchSettled, Decided};
+ghost use Rattle.batch.specs.Batch.{InputsPut, Started, placeOf, along, Sweepable, BatchAdvanced, roomIn};
 
 // Stores 0 in every word.
 fn clear(words: &mut [u64])
@@ -97,7 +97,7 @@ pub fn sweep(
     ones: &mut [u64],
 ) -> bool
     requires { ⌜
-        Legible (now words) nodes × Inside (gateCount (decode (now words))) (now order) × (nodes .inputs ≤ maxInputs)
+        Legible (now words) nodes × GatesInside (gateCount (decode (now words))) (now order) × (nodes .inputs ≤ maxInputs)
         × (used ≡ full (lanesOf (nodes .inputs)))
         ⌝ }
     requires { ⌜ NodesLong (decode (now words)) (nodes .inputs) (now zeros) (now ones) ⌝ }
@@ -144,7 +144,7 @@ fn sweep_decides(
 ) -> bool
     requires { ⌜ Sweepable (now words) nodes used (now order) × BatchUnderway (decode (now words)) (nodes .inputs) (now zeros) (now ones) ⌝ }
     ensures { λ r. ⌜
-        Advanced (decode (now (words .entry))) (nodes .inputs) (now (zeros .entry)) (now (ones .entry)) (now (zeros .exit)) (now (ones .exit)) r
+        BatchAdvanced (decode (now (words .entry))) (nodes .inputs) (now (zeros .entry)) (now (ones .entry)) (now (zeros .exit)) (now (ones .exit)) r
         ⌝ }
     ensures { λ r. ⌜
         (r ≡ false → roomIn (decode (now (words .entry))) (nodes .inputs) (now (zeros .exit)) (now (ones .exit))
@@ -169,7 +169,7 @@ fn sweep_again(
 ) -> bool
     requires { ⌜ Sweepable (now words) nodes used (now order) × BatchUnderway (decode (now words)) (nodes .inputs) (now zeros) (now ones) ⌝ }
     ensures { λ r. ⌜
-        Advanced (decode (now (words .entry))) (nodes .inputs) (now (zeros .entry)) (now (ones .entry)) (now (zeros .exit)) (now (ones .exit)) r
+        BatchAdvanced (decode (now (words .entry))) (nodes .inputs) (now (zeros .entry)) (now (ones .entry)) (now (zeros .exit)) (now (ones .exit)) r
         ⌝ }
 {
     let middle = order.len() / 2;

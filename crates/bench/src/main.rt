@@ -10,7 +10,7 @@ use session::feed;
 use session::finish;
 use session::is_over;
 use session::start;
-ghost use Rattle.session.specs.Session.{Ready, Room};
+ghost use Rattle.session.specs.Session.{SessionReady, SessionRoom};
 
 // The state behind what was read, and whether to read on.
 struct Served {
@@ -27,8 +27,8 @@ fn serve_piece(
     line: &mut [u8],
     out: &mut [u8],
 ) -> State
-    requires { ⌜ Ready state (now text) (now words) (now line) (now out) ⌝ }
-    ensures { λ r. ⌜ Ready r (now (text .exit)) (now (words .exit)) (now (line .exit)) (now (out .exit)) ⌝ }
+    requires { ⌜ SessionReady state (now text) (now words) (now line) (now out) ⌝ }
+    ensures { λ r. ⌜ SessionReady r (now (text .exit)) (now (words .exit)) (now (line .exit)) (now (out .exit)) ⌝ }
 {
     let mut state = state;
     let mut at = 0;
@@ -49,8 +49,8 @@ fn serve_some(
     line: &mut [u8],
     out: &mut [u8],
 ) -> Served
-    requires { ⌜ Ready state (now text) (now words) (now line) (now out) ⌝ }
-    ensures { λ r. ⌜ Ready (r .state) (now (text .exit)) (now (words .exit)) (now (line .exit)) (now (out .exit)) ⌝ }
+    requires { ⌜ SessionReady state (now text) (now words) (now line) (now out) ⌝ }
+    ensures { λ r. ⌜ SessionReady (r .state) (now (text .exit)) (now (words .exit)) (now (line .exit)) (now (out .exit)) ⌝ }
 {
     let mut piece = io::buffer();
     let n = io::count(libc::read(0, &mut piece), &piece);
@@ -64,7 +64,7 @@ fn serve_some(
 
 // Reads and answers until the input ends or the netlist is refused, and answers what is left then.
 fn serve(text: &mut [u8], words: &mut [u16], line: &mut [u8], out: &mut [u8])
-    requires { ⌜ Room (now text) (now words) (now line) (now out) ⌝ }
+    requires { ⌜ SessionRoom (now text) (now words) (now line) (now out) ⌝ }
 {
     let mut state = start();
     let mut more = true;

@@ -9,7 +9,7 @@ use Rattle.netlist.specs.StoredBlock.{decode, isTorn}
 use Rattle.netlist.specs.Rendering.{isStraight}
 use Rattle.netlist.specs.Answers.{refuseIf}
 use Rattle.netlist.specs.Compare.{sameInterface, compareBlocks, compare}
-use Rattle.compare.specs.Ready.{Pair}
+use Rattle.compare.specs.Ready.{BlockPair}
 use Rattle.compare.proofs.Interfaces.{interface-inputs, interface-outputs}
 
 module _ (ours theirs : List ℕ) where
@@ -23,7 +23,7 @@ module _ (ours theirs : List ℕ) where
   compare-chain = refl
 
   pub pair-passed : isTorn ours ≡ false → isTorn theirs ≡ false → not (isStraight (decode theirs)) ≡ false
-      → not (sameInterface (decode ours) (decode theirs)) ≡ false → Pair ours theirs
+      → not (sameInterface (decode ours) (decode theirs)) ≡ false → BlockPair ours theirs
   pair-passed p q r t =
       let same = not-false (sameInterface (decode ours) (decode theirs)) t in
       record {

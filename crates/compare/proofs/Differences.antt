@@ -29,7 +29,7 @@ use Rattle.netlist.specs.Answers.{answerOf}
 use Rattle.netlist.specs.Compare.{differs, disagrees, lowestDisagreement, lowestDiffering, judgedAt, compareBlocks}
 use Rattle.encoding.proofs.Decoded.{decode-outputCount}
 use Rattle.lanes.specs.declared.Pair.{Pair}
-use Rattle.lanes.specs.Pairs.{marked, lane, Proper, full}
+use Rattle.lanes.specs.Pairs.{markedLanes, lane, Proper, full}
 use Rattle.lanes.specs.Batches.{lanesOf}
 use Rattle.lanes.proofs.BitLaws.{bit-or, bit-xor}
 use Rattle.lanes.proofs.InputLaws.{lanesOf-most}
@@ -59,8 +59,8 @@ bits (suc zero) (suc o) h = absurd (omega arith)
 bits (suc (suc z)) o h = absurd (omega arith)
 
 -- a bit in one of the pairs alone: another value
-other : {z o y p : ℕ} → Bits z o → Bits y p → eqb (max (differ z y) (differ o p)) 1 ≡ not (eqb (code (marked z o)) (code (marked y p)))
-unfolding marked code
+other : {z o y p : ℕ} → Bits z o → Bits y p → eqb (max (differ z y) (differ o p)) 1 ≡ not (eqb (code (markedLanes z o)) (code (markedLanes y p)))
+unfolding markedLanes code
 other none none = refl
 other none low = refl
 other none high = refl

@@ -23,7 +23,7 @@ use Rattle.encoding.proofs.Readers.{whole-parts}
 use Rattle.visiting.specs.Visits.{Visits}
 use Rattle.batch.specs.Batch.{Decidable, BatchSettled}
 use Rattle.verdict.proofs.Batching.{judged, decidable-kept, whole-decidable}
-use Rattle.compare.specs.Ready.{Pair, CompareReady, BothJudged}
+use Rattle.compare.specs.Ready.{BlockPair, CompareReady, BothJudged}
 
 module _ {ours theirs order theirOrder zeros ones theirZeros theirOnes : List ℕ}
     (r : CompareReady ours theirs order theirOrder zeros ones theirZeros theirOnes) where
@@ -52,7 +52,7 @@ module _ {ours theirs order theirOrder zeros ones theirZeros theirOnes : List �
   compare-kept e f g h = record { pair = r .pair; ready = decidable-kept (r .ready) e f; theirReady = decidable-kept (r .theirReady) g h }
 
 -- parts of large enough slices, as long as the counts that were read
-pub compare-ready : (ours theirs order theirOrder zeros ones theirZeros theirOnes : List ℕ) {n m others : ℕ} → Pair ours theirs → n ≡ getD ours 0 0
+pub compare-ready : (ours theirs order theirOrder zeros ones theirZeros theirOnes : List ℕ) {n m others : ℕ} → BlockPair ours theirs → n ≡ getD ours 0 0
     → m ≡ getD ours 1 0 → others ≡ getD theirs 1 0 → Visits (getD ours 1 0) (take (getD ours 1 0) order)
     → Visits (getD theirs 1 0) (take (getD theirs 1 0) theirOrder) → n + m ≤ length zeros → n + m ≤ length ones → n + others ≤ length theirZeros
     → n + others ≤ length theirOnes

@@ -14,7 +14,7 @@ use Rattle.lanes.specs.Words.{Tells}
 use Rattle.judge.specs.Lanes.{Judged}
 
 -- both blocks are whole, theirs is straight, and they have as many inputs and outputs
-pub record Pair (ours theirs : List ℕ) : Type 0 where
+pub record BlockPair (ours theirs : List ℕ) : Type 0 where
   pub our-whole : isTorn ours ≡ false
   pub their-whole : isTorn theirs ≡ false
   pub straight : isStraight (decode theirs) ≡ true
@@ -23,13 +23,13 @@ pub record Pair (ours theirs : List ℕ) : Type 0 where
 
 -- both can be decided in the slices
 pub record CompareReady (ours theirs order theirOrder zeros ones theirZeros theirOnes : List ℕ) : Type 0 where
-  pub pair : Pair ours theirs
+  pub pair : BlockPair ours theirs
   pub ready : Decidable ours (nodesOf ours) order zeros ones
   pub theirReady : Decidable theirs (nodesOf theirs) theirOrder theirZeros theirOnes
 
 -- the slices hold the settled values of both in the batch at `base`
 pub record BothJudged (ours theirs : List ℕ) (base : ℕ) (zeros ones theirZeros theirOnes : List ℕ) : Type 0 where
-  pub pair : Pair ours theirs
+  pub pair : BlockPair ours theirs
   pub our-values : Judged ours (getD ours 0 0) base zeros ones
   pub their-values : Judged theirs (getD ours 0 0) base theirZeros theirOnes
 

@@ -10,7 +10,7 @@ ghost use mathlib.Core.Path.{_≡_};
 ghost use Rattle.netlist.specs.StoredBlock.{decode};
 ghost use Rattle.netlist.specs.Answers.{answerOf, Told};
 ghost use Rattle.netlist.specs.Compare.{compareBlocks, compare as compareOf};
-ghost use Rattle.compare.specs.Ready.{Pair};
+ghost use Rattle.compare.specs.Ready.{BlockPair};
 
 pub mod interface;
 pub mod outputs;
@@ -18,7 +18,7 @@ pub mod settings;
 
 // Both blocks passed the tests: room for an order and for two words an input and a gate, of each block.
 fn compare_pair(ours: &[u16], theirs: &[u16]) -> Answer
-    requires { ⌜ Pair (now ours) (now theirs) ⌝ }
+    requires { ⌜ BlockPair (now ours) (now theirs) ⌝ }
     ensures { λ r. ⌜ r ≡ answerOf (compareBlocks (decode (now (ours .entry))) (decode (now (theirs .entry)))) ⌝ }
 {
     let mut order = [0u16; MAX_GATES];

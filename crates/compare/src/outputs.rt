@@ -7,7 +7,7 @@ ghost use mathlib.Core.Path.{_≡_};
 ghost use Prim.Native.Nat.{_<_};
 ghost use lib.ListN.{length, getD};
 ghost use Rattle.laws.specs.Lists.{least};
-ghost use Rattle.compare.specs.Ready.{Pair};
+ghost use Rattle.compare.specs.Ready.{BlockPair};
 ghost use Rattle.compare.specs.Words.{differingWord, differingWords, differsAt};
 
 // Where output `o` shows another value in theirs.
@@ -21,7 +21,7 @@ fn differing_lanes(
     lows: &[u64],
     highs: &[u64],
 ) -> u64
-    requires { ⌜ Pair (now ours) (now theirs) × (o < getD (now ours) 2 0) ⌝ }
+    requires { ⌜ BlockPair (now ours) (now theirs) × (o < getD (now ours) 2 0) ⌝ }
     requires { ⌜ (length (now zeros) ≡ length (now ones)) × (length (now lows) ≡ length (now highs)) ⌝ }
     ensures { λ r. ⌜
         r ≡ differingWord (now (ours .entry)) (now (theirs .entry)) used (now (zeros .entry)) (now (ones .entry)) (now (lows .entry))
@@ -43,7 +43,7 @@ pub fn any_differing(
     lows: &[u64],
     highs: &[u64],
 ) -> u64
-    requires { ⌜ Pair (now ours) (now theirs) ⌝ }
+    requires { ⌜ BlockPair (now ours) (now theirs) ⌝ }
     requires { ⌜ (length (now zeros) ≡ length (now ones)) × (length (now lows) ≡ length (now highs)) ⌝ }
     ensures { λ r. ⌜
         r ≡ differingWords (now (ours .entry)) (now (theirs .entry)) used (now (zeros .entry)) (now (ones .entry)) (now (lows .entry))
@@ -71,7 +71,7 @@ pub fn lowest_differing(
     lows: &[u64],
     highs: &[u64],
 ) -> usize
-    requires { ⌜ Pair (now ours) (now theirs) × (lane < 64) ⌝ }
+    requires { ⌜ BlockPair (now ours) (now theirs) × (lane < 64) ⌝ }
     requires { ⌜ (length (now zeros) ≡ length (now ones)) × (length (now lows) ≡ length (now highs)) ⌝ }
     ensures { λ r. ⌜
         r ≡ least (differsAt (now (ours .entry)) (now (theirs .entry)) used (now (zeros .entry)) (now (ones .entry)) (now (lows .entry))

@@ -20,7 +20,7 @@ ghost use Rattle.netlist.specs.Limits.{maxInputs, maxGates};
 ghost use Rattle.netlist.specs.StoredBlock.{decode};
 ghost use Rattle.netlist.specs.Answers.{answerOf};
 ghost use Rattle.netlist.specs.Compare.{compareBlocks};
-ghost use Rattle.compare.specs.Ready.{Pair, CompareReady, Marked};
+ghost use Rattle.compare.specs.Ready.{BlockPair, CompareReady, Marked};
 
 // The lanes of the batch at `base` at which the blocks disagree; the slices hold both blocks' settled values.
 fn disagreeing_lanes(
@@ -97,7 +97,7 @@ pub fn compare_with(
     lows: &mut [u64],
     highs: &mut [u64],
 ) -> Answer
-    requires { ⌜ Pair (now ours) (now theirs) ⌝ }
+    requires { ⌜ BlockPair (now ours) (now theirs) ⌝ }
     requires { ⌜ (length (now order) ≡ maxGates) × (length (now path) ≡ maxGates) ⌝ }
     requires { ⌜ (length (now zeros) ≡ maxInputs + maxGates) × (length (now ones) ≡ maxInputs + maxGates) ⌝ }
     requires { ⌜ (length (now lows) ≡ maxInputs + maxGates) × (length (now highs) ≡ maxInputs + maxGates) ⌝ }

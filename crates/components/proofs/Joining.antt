@@ -16,7 +16,7 @@ use Rattle.laws.proofs.Tests.{bool-cases, not-both, and-left, eq-or-ne}
 use Rattle.laws.proofs.Counting.{countBelow-one}
 use Rattle.layout.specs.declared.nodes.Nodes.{Nodes}
 use Rattle.search.specs.Search.{wordGates, gateReads}
-use Rattle.components.specs.Leaders.{noLeader, barredBy, ledBy, joins, LedOne, Joined, none, more, unled, Quiet, Swept, QueueReady}
+use Rattle.components.specs.Leaders.{noLeader, barredBy, ledBy, joins, LedOne, Joined, none, more, unled, Quiet, LeadersSwept, QueueReady}
 
 -- the flag that `bar` stores
 pub barred-flag : (leaders : List ℕ) (k leader : ℕ) → leader ≡ getD leaders k 0 → boolByte (not (eqb leader noLeader)) ≡ barredBy leaders k
@@ -135,17 +135,17 @@ module _ (ws : List ℕ) (nodes : Nodes) (leader : ℕ) where
           }
 
     pub sweep-end : {entry leaders : List ℕ} {changed : Bool} {left : ℕ} → Sweeping entry leaders changed left → left ≤ 0
-        → Swept ws nodes leader queue count entry leaders changed
+        → LeadersSwept ws nodes leader queue count entry leaders changed
     sweep-end s z = record { steps = s .steps; quiet = λ e. (s .quiet e .0, λ q l. s .quiet e .1 q (omega arith) l); fewer = s .fewer }
 
     -- ---- sweeps, until one changes nothing
 
-    pub sweeps-less : {leaders leaders′ : List ℕ} {changed : Bool} → Swept ws nodes leader queue count leaders leaders′ changed
+    pub sweeps-less : {leaders leaders′ : List ℕ} {changed : Bool} → LeadersSwept ws nodes leader queue count leaders leaders′ changed
         → unled leaders′ (nodes .gates) + cond changed 1 0 < unled leaders (nodes .gates) + 1
     sweeps-less {changed = true} s = let f = s .fewer refl in omega arith
     sweeps-less {changed = false} s = rw (s .quiet refl .0) (omega arith)
 
-    pub sweep-quiet : {leaders leaders′ : List ℕ} {changed : Bool} → Swept ws nodes leader queue count leaders leaders′ changed → changed ≡ false
+    pub sweep-quiet : {leaders leaders′ : List ℕ} {changed : Bool} → LeadersSwept ws nodes leader queue count leaders leaders′ changed → changed ≡ false
         → Quiet ws nodes leader queue count leaders′
     sweep-quiet s e = rw (s .quiet e .0) (s .quiet e .1)
 

@@ -53,7 +53,7 @@ abbrev pub Quiet : List ℕ → Nodes → ℕ → List ℕ → ℕ → List ℕ 
 Quiet ws nodes leader queue count leaders = (q : ℕ) → q < count → joins ws nodes leader leaders (getD queue q 0) ≡ false
 
 -- what `lead_once` does
-pub record Swept (ws : List ℕ) (nodes : Nodes) (leader : ℕ) (queue : List ℕ) (count : ℕ) (leaders leaders′ : List ℕ) (changed : Bool) : Type 0 where
+pub record LeadersSwept (ws : List ℕ) (nodes : Nodes) (leader : ℕ) (queue : List ℕ) (count : ℕ) (leaders leaders′ : List ℕ) (changed : Bool) : Type 0 where
   pub steps : Joined ws nodes leader queue count leaders leaders′
   pub quiet : changed ≡ false → (leaders′ ≡ leaders) × Quiet ws nodes leader queue count leaders
   pub fewer : changed ≡ true → unled leaders′ (nodes .gates) < unled leaders (nodes .gates)

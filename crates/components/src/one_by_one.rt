@@ -14,7 +14,7 @@ ghost use Rattle.laws.specs.Lists.{any, tab, placed};
 ghost use Rattle.netlist.specs.Limits.{maxGates};
 ghost use Rattle.netlist.specs.StoredBlock.{decode};
 ghost use Rattle.search.specs.Search.{wordGate, wordGates, GatesReady};
-ghost use Rattle.components.specs.Leaders.{barredBy, ledBy, LedOne, Swept, Spread, QueueReady, TurnReady, LeadReady, GroupLed, AllLed};
+ghost use Rattle.components.specs.Leaders.{barredBy, ledBy, LedOne, LeadersSwept, Spread, QueueReady, TurnReady, LeadReady, GroupLed, AllLed};
 
 // Marks the gates that have a leader.
 fn bar(m: usize, leaders: &[u16], flags: &mut [u8])
@@ -84,7 +84,7 @@ fn lead_once(
     leaders: &mut [u16],
 ) -> bool
     requires { ⌜ QueueReady (now words) nodes leader (now queue) count (now leaders) ⌝ }
-    ensures { λ r. ⌜ Swept (now (words .entry)) nodes leader (now (queue .entry)) count (now (leaders .entry)) (now (leaders .exit)) r ⌝ }
+    ensures { λ r. ⌜ LeadersSwept (now (words .entry)) nodes leader (now (queue .entry)) count (now (leaders .entry)) (now (leaders .exit)) r ⌝ }
 {
     let mut changed = false;
     let mut left = count;

@@ -49,13 +49,13 @@ pub record Leaving (b : Block) (m : ℕ) (leaders notes : List ℕ) (k : ℕ) : 
   pub reading : reads b k to ≡ true
 
 -- gate k leads itself, or both
-abbrev pub Linked : Block → ℕ → List ℕ → List ℕ → ℕ → Type 0
-Linked b m leaders notes k = (getD leaders k 0 ≡ k) ⊎ (Entered b m leaders notes k × Leaving b m leaders notes k)
+abbrev pub LeaderLinked : Block → ℕ → List ℕ → List ℕ → ℕ → Type 0
+LeaderLinked b m leaders notes k = (getD leaders k 0 ≡ k) ⊎ (Entered b m leaders notes k × Leaving b m leaders notes k)
 
 -- gate k's part of the certificate
 pub record Certified (b : Block) (m : ℕ) (leaders notes : List ℕ) (k : ℕ) : Type 0 where
   pub below : getD leaders k 0 < m
-  pub linked : Linked b m leaders notes k
+  pub linked : LeaderLinked b m leaders notes k
   pub ordered : (j : ℕ) → reads b k j ≡ true
       → (getD leaders j 0 ≡ getD leaders k 0) ⊎ (finishedAt notes (getD leaders j 0) < finishedAt notes (getD leaders k 0))
 

@@ -18,7 +18,7 @@ ghost use Rattle.netlist.specs.Limits.{maxGates};
 ghost use Rattle.netlist.specs.StoredBlock.{decode};
 ghost use Rattle.netlist.specs.Groups.{reads};
 ghost use Rattle.search.specs.Search.{GatesReady};
-ghost use Rattle.condensation.specs.Condensed.{distanceOf, Entered, Leaving, Linked};
+ghost use Rattle.condensation.specs.Condensed.{distanceOf, Entered, Leaving, LeaderLinked};
 
 // How far gate k is from its leader: how low it gets, and then when it was left.
 fn distance(k: usize, notes: &[u16]) -> usize
@@ -79,7 +79,7 @@ fn is_leaving(words: &[u16], nodes: Nodes, k: usize, leaders: &[u16], notes: &[u
 // Gate k leads itself, or both.
 pub fn is_linked(words: &[u16], nodes: Nodes, k: usize, leaders: &[u16], notes: &[u16]) -> bool
     requires { ⌜ (k < nodes .gates) × GatesReady (now words) nodes ⌝ }
-    ensures { λ r. ⌜ (r ≡ true → Linked (decode (now (words .entry))) (nodes .gates) (now (leaders .entry)) (now (notes .entry)) k) ⌝ }
+    ensures { λ r. ⌜ (r ≡ true → LeaderLinked (decode (now (words .entry))) (nodes .gates) (now (leaders .entry)) (now (notes .entry)) k) ⌝ }
 {
     if word_at(leaders, k) == k {
         return true;

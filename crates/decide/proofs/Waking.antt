@@ -39,12 +39,12 @@ use Rattle.simulate.specs.Changes.{definedBytes, QueuedIn}
 use Rattle.simulate.proofs.Codes.{gates-are, codes-start}
 use Rattle.simulate.proofs.Updates.{defined-le, defined-more, none-defined, filled-at, value-at}
 use Rattle.simulate.proofs.Rounds.{front-placed}
-use Rattle.decide.specs.InPlace.{stateOf, Underway, Ready, AtRest, RestOrWait, rests, waits, Resting, Woken, WokenOne, WokenList, Rested}
+use Rattle.decide.specs.InPlace.{stateOf, DecideUnderway, DecideReady, AtRest, RestOrWait, rests, waits, Resting, Woken, WokenOne, WokenList, Rested}
 
 -- ---- one gate
 
 -- no gate
-pub woken-none : {ws setting : List ℕ} (values queue : List ℕ) (end : ℕ) → Underway ws setting values → Woken ws setting values queue end values queue end
+pub woken-none : {ws setting : List ℕ} (values queue : List ℕ) (end : ℕ) → DecideUnderway ws setting values → Woken ws setting values queue end values queue end
 woken-none values queue end u =
     record {
       underway = u;
@@ -55,7 +55,7 @@ woken-none values queue end u =
       counted = refl;
     }
 
-module _ {ws setting : List ℕ} {nodes : Nodes} {values queue : List ℕ} {end : ℕ} (r : Ready ws nodes setting values queue end) (j : ℕ)
+module _ {ws setting : List ℕ} {nodes : Nodes} {values queue : List ℕ} {end : ℕ} (r : DecideReady ws nodes setting values queue end) (j : ℕ)
     (jl : j < nodes .gates) where
   abbrev x : List Value
   x = map valueOf setting
@@ -110,7 +110,7 @@ module _ {ws setting : List ℕ} {nodes : Nodes} {values queue : List ℕ} {end 
       stepped =
           rw (take-set-lt (getD ws 1 0) values j a l, map-set valueOf (take (getD ws 1 0) values) j a, code-is, valueOf-code here′) refl
 
-      step-underway : Underway ws setting (set values j a)
+      step-underway : DecideUnderway ws setting (set values j a)
       unfolding stepAt
       step-underway =
           record {
@@ -180,8 +180,8 @@ module _ {ws setting values queue : List ℕ} {end : ℕ} {values′ queue′ : 
   rest-on {head} {j} h l (rests e) = widen h (u .rest j l e)
   rest-on h l (waits w) = waits (w .0, w .1, (w .2 .0, w .2 .1, omega (arith, w .2 .2, u .ordered), u .front (w .2 .0) (w .2 .2) ∙ w .2 .3))
 
-  pub woken-ready : {nodes : Nodes} → Ready ws nodes setting values queue end → length values′ ≡ length values → length queue′ ≡ length queue
-      → Ready ws nodes setting values′ queue′ end′
+  pub woken-ready : {nodes : Nodes} → DecideReady ws nodes setting values queue end → length values′ ≡ length values → length queue′ ≡ length queue
+      → DecideReady ws nodes setting values′ queue′ end′
   woken-ready r e f =
       record {
         whole = r .whole;
@@ -277,7 +277,7 @@ resting-end {ws} {setting} {values} {queue} {q} {end} h z j l = go (h j l)
     go (waits s) = absurd (omega (arith, s .2 .1, s .2 .2))
 
 -- the queue has room for every gate
-pub few-queued : {ws : List ℕ} {nodes : Nodes} {setting values queue : List ℕ} {end : ℕ} → Ready ws nodes setting values queue end → end ≤ nodes .gates
+pub few-queued : {ws : List ℕ} {nodes : Nodes} {setting values queue : List ℕ} {end : ℕ} → DecideReady ws nodes setting values queue end → end ≤ nodes .gates
 few-queued {ws} {nodes} {setting} {values} r = omega (arith, defined-le values (getD ws 1 0), r .counted, gates-are ws (r .nodesAre))
 
 -- ---- the start and the end
@@ -289,7 +289,7 @@ module _ (ws setting : List ℕ) (m : ℕ) (is : m ≡ getD ws 1 0) (values entr
 
   -- nothing has a value
   pub start-ready : {nodes : Nodes} {queue : List ℕ} → isTorn ws ≡ false → nodes ≡ nodesOf ws → m ≤ length values → m ≤ length queue
-      → Ready ws nodes setting values queue 0
+      → DecideReady ws nodes setting values queue 0
   start-ready whole are valueRoom queueRoom =
       record {
         whole = whole;

@@ -1,7 +1,7 @@
 -- Gates evaluated in place, one at a time: what the values are on the way, and when none can change. Cited by the contracts of this crate.
 -- Assumes nothing.
---   Underway, Ready              the values on the way to the settled ones, and what is asked
---   AtRest, Waiting, Resting     a gate that evaluation would not change, or that reads a queued gate; all of them
+--   DecideUnderway, DecideReady              the values on the way to the settled ones, and what is asked
+--   AtRest, QueueWaiting, Resting     a gate that evaluation would not change, or that reads a queued gate; all of them
 --   Woken, Rested                what evaluating some gates does, and the end
 use Prim.Native.Nat.{ℕ, suc, _+_, _/_, _≤_, _<_}
 use mathlib.Core.Path.{_≡_}
@@ -24,18 +24,18 @@ abbrev pub stateOf : List ℕ → List ℕ → List Value
 stateOf ws values = map valueOf (take (getD ws 1 0) values)
 
 -- the bytes are codes of a state that steps only add to, and that says no more than the settled values
-pub record Underway (ws setting values : List ℕ) : Type 0 where
+pub record DecideUnderway (ws setting values : List ℕ) : Type 0 where
   pub coded : map code (stateOf ws values) ≡ take (getD ws 1 0) values
   pub rising : Rising (decode ws) (map valueOf setting) (stateOf ws values)
   pub below : BelowAll (stateOf ws values) (settled (decode ws) (map valueOf setting))
 
 -- a block that is not torn, room for its gates, and a queue as long as the gates that are 0 or 1
-pub record Ready (ws : List ℕ) (nodes : Nodes) (setting values queue : List ℕ) (end : ℕ) : Type 0 where
+pub record DecideReady (ws : List ℕ) (nodes : Nodes) (setting values queue : List ℕ) (end : ℕ) : Type 0 where
   pub whole : isTorn ws ≡ false
   pub nodesAre : nodes ≡ nodesOf ws
   pub valueRoom : getD ws 1 0 ≤ length values
   pub queueRoom : getD ws 1 0 ≤ length queue
-  pub underway : Underway ws setting values
+  pub underway : DecideUnderway ws setting values
   pub counted : end ≡ definedBytes values (getD ws 1 0)
 
 -- evaluation does not change gate j
@@ -43,13 +43,13 @@ abbrev pub AtRest : List ℕ → List ℕ → List ℕ → ℕ → Type 0
 AtRest ws setting values j = gateCode ws setting (take (getD ws 1 0) values) j ≡ getD values j 0
 
 -- gate j reads a gate that is queued
-abbrev pub Waiting : List ℕ → List ℕ → ℕ → ℕ → ℕ → Type 0
-Waiting ws queue head tail j = (k : ℕ) × (reads (decode ws) j k ≡ true) × QueuedIn queue head tail k
+abbrev pub QueueWaiting : List ℕ → List ℕ → ℕ → ℕ → ℕ → Type 0
+QueueWaiting ws queue head tail j = (k : ℕ) × (reads (decode ws) j k ≡ true) × QueuedIn queue head tail k
 
 -- one or the other
 pub data RestOrWait (ws setting values queue : List ℕ) (head tail j : ℕ) : Type 0 where
   rests : AtRest ws setting values j → RestOrWait ws setting values queue head tail j
-  waits : Waiting ws queue head tail j → RestOrWait ws setting values queue head tail j
+  waits : QueueWaiting ws queue head tail j → RestOrWait ws setting values queue head tail j
 
 -- of every gate
 abbrev pub Resting : List ℕ → List ℕ → List ℕ → List ℕ → ℕ → ℕ → Type 0
@@ -57,7 +57,7 @@ Resting ws setting values queue head tail = (j : ℕ) → j < getD ws 1 0 → Re
 
 -- some gates were evaluated: those that changed are queued, from `end` to `end′`, and only their readers are no longer at rest
 pub record Woken (ws setting values queue : List ℕ) (end : ℕ) (values′ queue′ : List ℕ) (end′ : ℕ) : Type 0 where
-  pub underway : Underway ws setting values′
+  pub underway : DecideUnderway ws setting values′
   pub beyond : (j : ℕ) → getD ws 1 0 ≤ j → getD values′ j 0 ≡ getD values j 0
   pub rest : (j : ℕ) → j < getD ws 1 0 → AtRest ws setting values j → RestOrWait ws setting values′ queue′ end end′ j
   pub front : (q : ℕ) → q < end → getD queue′ q 0 ≡ getD queue q 0
@@ -81,6 +81,6 @@ pub record WokenAll (ws setting values queue values′ queue′ : List ℕ) (end
 
 -- every gate is at rest
 pub record Rested (ws setting values values′ : List ℕ) : Type 0 where
-  pub underway : Underway ws setting values′
+  pub underway : DecideUnderway ws setting values′
   pub beyond : (j : ℕ) → getD ws 1 0 ≤ j → getD values′ j 0 ≡ getD values j 0
   pub rest : (j : ℕ) → j < getD ws 1 0 → AtRest ws setting values′ j

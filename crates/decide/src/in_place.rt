@@ -21,7 +21,7 @@ ghost use Rattle.netlist.specs.GateTable.{gateTable};
 ghost use Rattle.netlist.specs.Rounds.{settled};
 ghost use Rattle.readers.specs.Readers.{Descends, Readers};
 ghost use Rattle.simulate.specs.Rounded.{ForRounds};
-ghost use Rattle.decide.specs.InPlace.{Ready, WokenOne, WokenList, WokenAll, Resting, Rested};
+ghost use Rattle.decide.specs.InPlace.{DecideReady, WokenOne, WokenList, WokenAll, Resting, Rested};
 
 // Evaluates gate `j`, if it has no value, and queues it if it gets one; the queue's new end.
 fn update(
@@ -35,7 +35,7 @@ fn update(
     end: usize,
 ) -> usize
     requires { ⌜ now table ≡ gateTable ⌝ }
-    requires { ⌜ Ready (now words) nodes (now setting) (now values) (now queue) end × (j < nodes .gates) ⌝ }
+    requires { ⌜ DecideReady (now words) nodes (now setting) (now values) (now queue) end × (j < nodes .gates) ⌝ }
     ensures { λ r. ⌜
         WokenOne (now (words .entry)) (now (setting .entry)) (now (values .entry)) (now (queue .entry)) end j (now (values .exit)) (now (queue .exit)) r
         ⌝ }
@@ -62,7 +62,7 @@ fn update_all(
     queue: &mut [u16],
 ) -> usize
     requires { ⌜ now table ≡ gateTable ⌝ }
-    requires { ⌜ Ready (now words) nodes (now setting) (now values) (now queue) 0 ⌝ }
+    requires { ⌜ DecideReady (now words) nodes (now setting) (now values) (now queue) 0 ⌝ }
     ensures { λ r. ⌜
         WokenAll (now (words .entry)) (now (setting .entry)) (now (values .entry)) (now (queue .entry)) (now (values .exit)) (now (queue .exit)) r
         ⌝ }
@@ -89,7 +89,7 @@ fn update_readers(
     tail: usize,
 ) -> usize
     requires { ⌜ now table ≡ gateTable ⌝ }
-    requires { ⌜ Ready (now words) nodes (now setting) (now values) (now queue) tail ⌝ }
+    requires { ⌜ DecideReady (now words) nodes (now setting) (now values) (now queue) tail ⌝ }
     requires { ⌜ Descends (now next) × (from ≤ 4 * nodes .gates) ⌝ }
     ensures { λ r. ⌜
         WokenList (now (words .entry)) (now (setting .entry)) (now (values .entry)) (now (queue .entry)) tail (now (next .entry)) from (now (values .exit))
@@ -128,7 +128,7 @@ fn update_queued(
     tail: usize,
 )
     requires { ⌜ now table ≡ gateTable ⌝ }
-    requires { ⌜ Ready (now words) nodes (now setting) (now values) (now queue) tail ⌝ }
+    requires { ⌜ DecideReady (now words) nodes (now setting) (now values) (now queue) tail ⌝ }
     requires { ⌜ Readers (decode (now words)) (getD (now words) 1 0) (now first) (now next) ⌝ }
     requires { ⌜ Resting (now words) (now setting) (now values) (now queue) 0 tail ⌝ }
     ensures { λ r. ⌜ Rested (now (words .entry)) (now (setting .entry)) (now (values .entry)) (now (values .exit)) ⌝ }

@@ -16,7 +16,7 @@ use Rattle.laws.proofs.Slices.{placed-room}
 use Rattle.netlist.specs.Gather.{numberAt, placeIn, isPermutation}
 use Rattle.permute.specs.Renumbering.{Renumbers}
 use Rattle.permute.proofs.Permutation.{permutation-each, each-permutation, place-renumbers}
-use Rattle.gather.specs.Places.{Places, Marked}
+use Rattle.gather.specs.Places.{Places, PlacesMarked}
 
 module _ (m : ℕ) (order : List ℕ) where
   -- a list that isn't each number once has no places
@@ -26,7 +26,7 @@ module _ (m : ℕ) (order : List ℕ) where
   pub places-length : (places : List ℕ) → (length order ≡ m → ⊥) → Places m order false places
   places-length places h = not-each (λ e. h (permutation-each m order e .lengthIs))
 
-  pub marked-none : (entry : List ℕ) → Marked m order 0 (placed (replicate m m) entry)
+  pub marked-none : (entry : List ℕ) → PlacesMarked m order 0 (placed (replicate m m) entry)
   marked-none entry =
       record {
         long = placed-room (replicate m m) entry (length-replicate m m);
@@ -35,7 +35,7 @@ module _ (m : ℕ) (order : List ℕ) where
         others = λ j l. inl (List·getD-append (replicate m m) _ 0 j (rw (length-replicate {A = ℕ} m m) l) ∙ getD-replicate {A = ℕ} m j m 0 l);
       }
 
-  module _ (t : ℕ) (places : List ℕ) (k : Marked m order t places) (in-list : t < m) where
+  module _ (t : ℕ) (places : List ℕ) (k : PlacesMarked m order t places) (in-list : t < m) where
     -- the next number isn't below m
     pub places-high : m ≤ getD order t 0 → Places m order false places
     unfolding numberAt
@@ -51,7 +51,7 @@ module _ (m : ℕ) (order : List ℕ) where
         (k .others (getD order t 0) l))
 
     -- it is marked now
-    pub marked-next : getD order t 0 < m → m ≤ getD places (getD order t 0) 0 → Marked m order (t + 1) (set places (getD order t 0) t)
+    pub marked-next : getD order t 0 < m → m ≤ getD places (getD order t 0) 0 → PlacesMarked m order (t + 1) (set places (getD order t 0) t)
     marked-next l new =
         record {
           long = rw (length-set places (getD order t 0) t) (k .long);
@@ -76,7 +76,7 @@ module _ (m : ℕ) (order : List ℕ) where
         other j h = ⊎-elim inl (λ (u, is). inr (omega arith, is)) (k .others j h)
 
   -- all are marked
-  pub places-all : (places : List ℕ) → length order ≡ m → Marked m order m places → Places m order true places
+  pub places-all : (places : List ℕ) → length order ≡ m → PlacesMarked m order m places → Places m order true places
   unfolding numberAt
   places-all places long k =
       let passes : isPermutation m order ≡ true =

@@ -17,7 +17,7 @@ use Rattle.netlist.specs.StoredBlock.{encode, decode, isTorn, isWellFormed}
 use Rattle.netlist.specs.Gather.{arranged, numberAt, placeIn, gatheredOrder, gathered, gatheredWords, isPermutation, inverse, scattered}
 use Rattle.encoding.proofs.Decoded.{decode-gateCount}
 use Rattle.encoding.proofs.RoundTrip.{whole-wellFormed}
-use Rattle.schedule.specs.Listing.{membersOf, Numbers, Appended}
+use Rattle.schedule.specs.Listing.{membersOf, Numbers, GatesAppended}
 use Rattle.schedule.proofs.Listing.{front}
 use Rattle.schedule.proofs.Blocks.{members-groups}
 use Rattle.copying.specs.Words.{Order}
@@ -50,7 +50,7 @@ module _ (ws : List ℕ) (whole : isTorn ws ≡ false) (m : ℕ) (gatesAre : m �
   members-room s = rw (members-are s) listed-length
 
   pub listed-by-group : {count : ℕ} {numbers entry order : List ℕ} {at : ℕ} → Numbers (decode ws) m count numbers
-      → Appended (membersOf numbers m count) entry 0 order at → m ≤ length entry → order ≡ placed (gatheredOrder (decode ws)) entry
+      → GatesAppended (membersOf numbers m count) entry 0 order at → m ≤ length entry → order ≡ placed (gatheredOrder (decode ws)) entry
   listed-by-group s a room = rw (← members-are s) (front a (rw (members-room s) room))
 
   by-group : Renumbers m (gatheredOrder (decode ws)) (placeIn (gatheredOrder (decode ws)))

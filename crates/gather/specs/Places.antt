@@ -14,7 +14,7 @@ pub record Places (m : ℕ) (order : List ℕ) (r : Bool) (places : List ℕ) : 
   pub stand : isPermutation m order ≡ true → (j : ℕ) → j < m → getD places j 0 ≡ placeIn order j
 
 -- The first t numbers are marked: each is below m, and has its place; any other number below m has m, which is no place.
-pub record Marked (m : ℕ) (order : List ℕ) (t : ℕ) (places : List ℕ) : Type 0 where
+pub record PlacesMarked (m : ℕ) (order : List ℕ) (t : ℕ) (places : List ℕ) : Type 0 where
   pub long : m ≤ length places
   pub listed : (u : ℕ) → u < t → getD order u 0 < m
   pub marks : (u : ℕ) → u < t → getD places (getD order u 0) 0 ≡ u
@@ -23,4 +23,4 @@ pub record Marked (m : ℕ) (order : List ℕ) (t : ℕ) (places : List ℕ) : T
 pub record MarkReady (m : ℕ) (order places : List ℕ) : Type 0 where
   pub few : m ≤ maxGates
   pub lengthIs : length order ≡ m
-  pub none : Marked m order 0 places
+  pub none : PlacesMarked m order 0 places

@@ -13,9 +13,9 @@ use Rattle.laws.proofs.Tab.{placed-tab}
 use Rattle.layout.specs.declared.nodes.Nodes.{Nodes}
 use Rattle.links.specs.Links.{FirstFrom}
 use Rattle.links.proofs.Linking.{next-above}
-use Rattle.groups.specs.Numbering.{noNumber, unnumbered, renumbered}
+use Rattle.groups.specs.Numbering.{noNumber, unnumbered, groupRenumbered}
 use Rattle.groups.specs.Ready.{Removed}
-use Rattle.groups.specs.Waiting.{nobody, Waiting, AllWaiting, GateReady, GateNumbered, GroupReady, GroupNumbered}
+use Rattle.groups.specs.Waiting.{nobody, Waiting, AllWaiting, GateReady, GateNumbered, NumberGroupReady, GroupNumbered}
 use Rattle.groups.proofs.Leading.{lead-le, lowest}
 use Rattle.groups.proofs.Standing.{taken-out, taken-still, ended-still}
 use Rattle.groups.proofs.Filling.{renumber, kept-between}
@@ -23,13 +23,13 @@ use Rattle.groups.proofs.Filling.{renumber, kept-between}
 -- the gates of the group below k have the number, and k is the next of them; the leader is about to get it, or has it
 pub record Under (ws : List ℕ) (nodes : Nodes) (leaders : List ℕ) (leader g : ℕ) (numbers₀ numbers places ready : List ℕ) (k : ℕ) : Type 0 where
   pub led : k < nodes .gates → getD leaders k 0 ≡ leader
-  pub part : k < nodes .gates → numbers ≡ placed (tab (renumbered leaders leader g numbers₀) k) numbers₀
-  pub whole : nodes .gates ≤ k → numbers ≡ placed (tab (renumbered leaders leader g numbers₀) (nodes .gates)) numbers₀
+  pub part : k < nodes .gates → numbers ≡ placed (tab (groupRenumbered leaders leader g numbers₀) k) numbers₀
+  pub whole : nodes .gates ≤ k → numbers ≡ placed (tab (groupRenumbered leaders leader g numbers₀) (nodes .gates)) numbers₀
   pub stands : ((k ≡ leader) × (nodes .gates ≤ getD places leader 0) × Waiting ws nodes leaders numbers (nodes .gates) leader nobody places ready)
       ⊎ ((unnumbered numbers leader ≡ false) × AllWaiting ws nodes leaders numbers nobody places ready)
 
 module _ {ws : List ℕ} {nodes : Nodes} {leaders nexts readers links : List ℕ} {leader g : ℕ} {numbers₀ places₀ ready₀ : List ℕ}
-    (s : GroupReady ws nodes leaders nexts readers links leader g numbers₀ places₀ ready₀) where
+    (s : NumberGroupReady ws nodes leaders nexts readers links leader g numbers₀ places₀ ready₀) where
   leads : getD leaders leader 0 ≡ leader
   leads = s .waiting .sound leader (s .chosen) .leads
 
@@ -71,17 +71,21 @@ module _ {ws : List ℕ} {nodes : Nodes} {leaders nexts readers links : List ℕ
       pub group-above : k < k′
       group-above = next-above next l
 
-      numbered : numbers′ ≡ placed (tab (renumbered leaders leader g numbers₀) (k + 1)) numbers₀
+      numbered : numbers′ ≡ placed (tab (groupRenumbered leaders leader g numbers₀) (k + 1)) numbers₀
       numbered = d .numbersAre ∙ renumber leaders leader g numbers₀ numbers k (u .part l) (omega (arith, s .numberRoom)) (u .led l)
 
       leader-has : unnumbered numbers′ leader ≡ false
-      unfolding unnumbered renumbered
+      unfolding unnumbered groupRenumbered
       leader-has =
           let low : leader ≤ k = omega (arith, lead-le (s .linked .prepared) k l, u .led l) in
-          rw (numbered, placed-tab (renumbered leaders leader g numbers₀) (k + 1) numbers₀ leader 0 (omega arith), eq-eqb (getD leaders leader 0) leader leads)
+          rw (
+            numbered,
+            placed-tab (groupRenumbered leaders leader g numbers₀) (k + 1) numbers₀ leader 0 (omega arith),
+            eq-eqb (getD leaders leader 0) leader leads,
+          )
           (ne-eqb g noNumber (λ e. absurd (omega (arith, s .numberFits))))
 
-      up-to : (i : ℕ) → k < i → i ≤ nodes .gates → i ≤ k′ → numbers′ ≡ placed (tab (renumbered leaders leader g numbers₀) i) numbers₀
+      up-to : (i : ℕ) → k < i → i ≤ nodes .gates → i ≤ k′ → numbers′ ≡ placed (tab (groupRenumbered leaders leader g numbers₀) i) numbers₀
       up-to i a b c =
           let e : k + 1 + (i - (k + 1)) ≡ i = omega arith in
           rw e at

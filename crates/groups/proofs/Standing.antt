@@ -29,7 +29,7 @@ use Rattle.search.specs.Search.{gateReads}
 use Rattle.groups.specs.Numbering.{noNumber, unnumbered, obstacle, numberedGates, leadsNext, NumberReady}
 use Rattle.groups.specs.Ready.{inSet, Added, Removed}
 use Rattle.groups.specs.Waiting.{blocked, Sought, Stand, nobody, IsReady, Waiting, AllWaiting}
-use Rattle.groups.specs.Waiting.{Looked, StartReady, operandsOf, Pending, WakeReady, AllLinked, GateReady}
+use Rattle.groups.specs.Waiting.{Looked, StartWaitingReady, operandsOf, Pending, WakeReady, AllLinked, GateReady}
 use Rattle.groups.proofs.Leading.{done-member, lead-le, lead-self, lowest, waits, free}
 use Rattle.groups.proofs.Obstacles.{operand-of}
 
@@ -89,7 +89,7 @@ module _ {ws : List ℕ} {nodes : Nodes} {leaders numbers : List ℕ} where
   -- ---- the first looks
 
   module _ {nexts : List ℕ} where
-    pub start-none : {places ready : List ℕ} → StartReady ws nodes leaders nexts numbers places ready
+    pub start-none : {places ready : List ℕ} → StartWaitingReady ws nodes leaders nexts numbers places ready
         → Waiting ws nodes leaders numbers 0 (nodes .gates) nobody places ready
     start-none s =
         record {

@@ -28,7 +28,7 @@ use Rattle.reach.proofs.Next.{mayBeNext-left}
 use Rattle.reach.proofs.Order.{length-groups, groups-all, nextGate-passes}
 use Rattle.reach.proofs.GroupNumber.{groupNumber-is, groupNumber-below, groupNumber-member}
 use Rattle.reach.proofs.Build.{groups-at}
-use Rattle.groups.specs.Numbering.{noNumber, unnumbered, leadsNext, renumbered, numberUpTo, NumberReady, GroupsNumbered}
+use Rattle.groups.specs.Numbering.{noNumber, unnumbered, leadsNext, groupRenumbered, numberUpTo, NumberReady, GroupsNumbered}
 use Rattle.groups.specs.Waiting.{NextsAre, operandAt, operandsOf}
 use Rattle.groups.proofs.Leading.{in-block, lead-le, lead-same}
 use Rattle.groups.proofs.Order.{State, next-leads, next-found}
@@ -145,15 +145,16 @@ module _ {ws : List ℕ} {nodes : Nodes} {leaders : List ℕ} (r : NumberReady w
     turn-within = rw add-one (next-within (decode ws) (r .inside) g (rw (← next) (in-block r l)))
 
     -- the gates that j leads are those of the next group
-    pub turn-numbers : (numbers′ : List ℕ) → numbers′ ≡ placed (tab (renumbered leaders j g numbers) (nodes .gates)) numbers
+    pub turn-numbers : (numbers′ : List ℕ) → numbers′ ≡ placed (tab (groupRenumbered leaders j g numbers) (nodes .gates)) numbers
         → numbers′ ≡ placed (tab (numberUpTo (decode ws) (g + 1)) (nodes .gates)) numbers₀
-    unfolding renumbered
+    unfolding groupRenumbered
     turn-numbers numbers′ e =
         let behind : drop (nodes .gates) numbers ≡ drop (nodes .gates) numbers₀ = rw is
         (drop-placed (tab (numberUpTo (decode ws) g) (nodes .gates)) numbers₀ (nodes .gates) (length-tab (numberUpTo (decode ws) g) (nodes .gates))) in
         e
-        ∙ rw (length-tab (renumbered leaders j g numbers) (nodes .gates), length-tab (numberUpTo (decode ws) (g + 1)) (nodes .gates), behind)
-        (ap (λ (l : List ℕ). l ++ drop (nodes .gates) numbers₀) (tab-ext (renumbered leaders j g numbers) (numberUpTo (decode ws) (g + 1)) (nodes .gates) each))
+        ∙ rw (length-tab (groupRenumbered leaders j g numbers) (nodes .gates), length-tab (numberUpTo (decode ws) (g + 1)) (nodes .gates), behind)
+        (ap (λ (l : List ℕ). l ++ drop (nodes .gates) numbers₀)
+        (tab-ext (groupRenumbered leaders j g numbers) (numberUpTo (decode ws) (g + 1)) (nodes .gates) each))
       where
         each : (i : ℕ) → i < nodes .gates → cond (eqb (getD leaders i 0) j) g (getD numbers i 0) ≡ numberUpTo (decode ws) (g + 1) i
         each i il =

@@ -35,8 +35,8 @@ unfoldable pub leadsNext : Block → ℕ → List ℕ → List ℕ → ℕ → B
 leadsNext b m numbers leaders j = eqb (getD leaders j 0) j && mayBeNext b (numberedGates m numbers) j
 
 -- every gate of the group that `leader` leads has number g
-unfoldable pub renumbered : List ℕ → ℕ → ℕ → List ℕ → ℕ → ℕ
-renumbered leaders leader g numbers i = cond (eqb (getD leaders i 0) leader) g (getD numbers i 0)
+unfoldable pub groupRenumbered : List ℕ → ℕ → ℕ → List ℕ → ℕ → ℕ
+groupRenumbered leaders leader g numbers i = cond (eqb (getD leaders i 0) leader) g (getD numbers i 0)
 
 -- the numbers when the first g groups have theirs
 unfoldable pub numberUpTo : Block → ℕ → ℕ → ℕ

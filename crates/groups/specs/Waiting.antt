@@ -17,7 +17,7 @@ use Rattle.layout.specs.declared.nodes.Nodes.{Nodes}
 use Rattle.layout.specs.Nodes.{gateNamed}
 use Rattle.links.specs.Links.{FirstFrom, Linked}
 use Rattle.search.specs.Search.{gateReads}
-use Rattle.groups.specs.Numbering.{unnumbered, obstacle, renumbered, numberUpTo, NumberReady}
+use Rattle.groups.specs.Numbering.{unnumbered, obstacle, groupRenumbered, numberUpTo, NumberReady}
 use Rattle.groups.specs.Ready.{inSet}
 
 -- gate i, of the group that `leader` leads, reads a gate without a number outside the group
@@ -91,7 +91,7 @@ pub record Looked (ws : List ℕ) (nodes : Nodes) (leaders numbers : List ℕ) (
   pub stuck : place < nodes .gates → inSet ready′ leader ≡ inSet ready leader
 
 -- no gate has a number, and the set is empty
-pub record StartReady (ws : List ℕ) (nodes : Nodes) (leaders nexts numbers places ready : List ℕ) : Type 0 where
+pub record StartWaitingReady (ws : List ℕ) (nodes : Nodes) (leaders nexts numbers places ready : List ℕ) : Type 0 where
   pub prepared : NumberReady ws nodes leaders
   pub linked : NextsAre leaders (nodes .gates) nexts
   pub placeRoom : nodes .gates ≤ length places
@@ -149,7 +149,7 @@ pub record GateNumbered (ws : List ℕ) (nodes : Nodes) (leaders : List ℕ) (k 
 
 -- ---- groups
 
-pub record GroupReady (ws : List ℕ) (nodes : Nodes) (leaders nexts readers links : List ℕ) (leader g : ℕ) (numbers places ready : List ℕ) : Type 0 where
+pub record NumberGroupReady (ws : List ℕ) (nodes : Nodes) (leaders nexts readers links : List ℕ) (leader g : ℕ) (numbers places ready : List ℕ) : Type 0 where
   pub linked : AllLinked ws nodes leaders nexts readers links
   pub below : leader < nodes .gates
   pub numberFits : g < maxGates
@@ -158,7 +158,7 @@ pub record GroupReady (ws : List ℕ) (nodes : Nodes) (leaders nexts readers lin
   pub waiting : AllWaiting ws nodes leaders numbers nobody places ready
 
 pub record GroupNumbered (ws : List ℕ) (nodes : Nodes) (leaders : List ℕ) (leader g : ℕ) (numbers numbers′ places′ ready′ : List ℕ) : Type 0 where
-  pub numbersAre : numbers′ ≡ placed (tab (renumbered leaders leader g numbers) (nodes .gates)) numbers
+  pub numbersAre : numbers′ ≡ placed (tab (groupRenumbered leaders leader g numbers) (nodes .gates)) numbers
   pub waiting : AllWaiting ws nodes leaders numbers′ nobody places′ ready′
 
 -- no group has its number
@@ -170,7 +170,7 @@ pub record AllReady (ws : List ℕ) (nodes : Nodes) (leaders nexts readers links
   pub waiting : AllWaiting ws nodes leaders numbers nobody places ready
 
 -- room for each array, and an empty set
-pub record Rooms (m : ℕ) (numbers nexts readers links operands places ready : List ℕ) : Type 0 where
+pub record NumberRooms (m : ℕ) (numbers nexts readers links operands places ready : List ℕ) : Type 0 where
   pub numberRoom : m ≤ length numbers
   pub nextRoom : m ≤ length nexts
   pub readerRoom : m ≤ length readers

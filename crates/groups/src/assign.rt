@@ -12,7 +12,7 @@ ghost use Prim.Native.Nat.{_≤_};
 ghost use lib.ListN.{length, getD};
 ghost use Rattle.netlist.specs.StoredBlock.{decode, isTorn};
 ghost use Rattle.groups.specs.Numbering.{GroupsNumbered, AssignReady};
-ghost use Rattle.groups.specs.Waiting.{Rooms};
+ghost use Rattle.groups.specs.Waiting.{NumberRooms};
 
 // With arrays for the leaders and the search, each with room for every gate. The queue is used again for where each group waits.
 fn assign_with(
@@ -30,7 +30,7 @@ fn assign_with(
 ) -> usize
     requires { ⌜
         AssignReady (now words) nodes (now leaders) (now queue) (now flags)
-        × Rooms (nodes .gates) (now numbers) (now nexts) (now readers) (now links) (now operands) (now queue) (now ready)
+        × NumberRooms (nodes .gates) (now numbers) (now nexts) (now readers) (now links) (now operands) (now queue) (now ready)
         ⌝ }
     ensures { λ r. ⌜ GroupsNumbered (decode (now (words .entry))) (now (numbers .entry)) (now (numbers .exit)) r ⌝ }
 {

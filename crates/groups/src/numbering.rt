@@ -11,7 +11,7 @@ use layout::read::word_at;
 use links::link;
 ghost use Rattle.netlist.specs.StoredBlock.{decode};
 ghost use Rattle.groups.specs.Numbering.{NumberReady, GroupsNumbered};
-ghost use Rattle.groups.specs.Waiting.{GroupReady, GroupNumbered, AllReady, Rooms, Prepared};
+ghost use Rattle.groups.specs.Waiting.{NumberGroupReady, GroupNumbered, AllReady, NumberRooms, Prepared};
 
 // Gives number g to every gate that `leader` leads; the group is ready.
 fn number_group(
@@ -27,7 +27,7 @@ fn number_group(
     places: &mut [u16],
     ready: &mut [u64],
 )
-    requires { ⌜ GroupReady (now words) nodes (now leaders) (now nexts) (now readers) (now links) leader g (now numbers) (now places) (now ready) ⌝ }
+    requires { ⌜ NumberGroupReady (now words) nodes (now leaders) (now nexts) (now readers) (now links) leader g (now numbers) (now places) (now ready) ⌝ }
     ensures { λ r. ⌜
         GroupNumbered (now (words .entry)) nodes (now (leaders .entry)) leader g (now (numbers .entry)) (now (numbers .exit)) (now (places .exit))
         (now (ready .exit))
@@ -107,7 +107,7 @@ fn prepare(
 )
     requires { ⌜
         NumberReady (now words) nodes (now leaders)
-        × Rooms (nodes .gates) (now numbers) (now nexts) (now readers) (now links) (now operands) (now places) (now ready)
+        × NumberRooms (nodes .gates) (now numbers) (now nexts) (now readers) (now links) (now operands) (now places) (now ready)
         ⌝ }
     ensures { λ r. ⌜
         Prepared (now (words .entry)) nodes (now (leaders .entry)) (now (numbers .entry)) (now (nexts .exit)) (now (readers .exit))
@@ -142,7 +142,7 @@ pub fn number_groups(
 ) -> usize
     requires { ⌜
         NumberReady (now words) nodes (now leaders)
-        × Rooms (nodes .gates) (now numbers) (now nexts) (now readers) (now links) (now operands) (now places) (now ready)
+        × NumberRooms (nodes .gates) (now numbers) (now nexts) (now readers) (now links) (now operands) (now places) (now ready)
         ⌝ }
     ensures { λ r. ⌜ GroupsNumbered (decode (now (words .entry))) (now (numbers .entry)) (now (numbers .exit)) r ⌝ }
 {

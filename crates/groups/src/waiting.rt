@@ -7,7 +7,7 @@ use layout::offsets::OPERAND_WORDS;
 use layout::read::word_at;
 ghost use Prim.Native.Nat.{_+_, _<_};
 ghost use lib.ListN.{getD};
-ghost use Rattle.groups.specs.Waiting.{LookReady, Looked, Waiting, nobody, StartReady, FirstReady, operandsOf, Pending, WakeReady};
+ghost use Rattle.groups.specs.Waiting.{LookReady, Looked, Waiting, nobody, StartWaitingReady, FirstReady, operandsOf, Pending, WakeReady};
 ghost use Rattle.groups.specs.Waiting.{AllWaiting, AllLinked, GateReady, GateNumbered};
 
 // The group that `leader` leads looks for an obstacle from gate `from` on: it waits where it finds one, or it is ready.
@@ -66,7 +66,7 @@ pub fn start(
     places: &mut [u16],
     ready: &mut [u64],
 )
-    requires { ⌜ StartReady (now words) nodes (now leaders) (now nexts) (now numbers) (now places) (now ready) ⌝ }
+    requires { ⌜ StartWaitingReady (now words) nodes (now leaders) (now nexts) (now numbers) (now places) (now ready) ⌝ }
     ensures { λ r. ⌜
         AllWaiting (now (words .entry)) nodes (now (leaders .entry)) (now (numbers .entry)) nobody (now (places .exit)) (now (ready .exit))
         ⌝ }

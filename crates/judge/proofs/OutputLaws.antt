@@ -26,7 +26,7 @@ use Rattle.netlist.specs.StoredBlock.{nameSize, outputSize, outputsAt, operandO
 use Rattle.netlist.specs.Rounds.{settingOf, settledUnder, operandValue, outputValue, outputsUnder, isSettled}
 use Rattle.encoding.proofs.Decoded.{decode-inputCount, decode-outputCount, decode-output}
 use Rattle.lanes.specs.declared.Pair.{Pair}
-use Rattle.lanes.specs.Pairs.{marked, lane, Proper, full}
+use Rattle.lanes.specs.Pairs.{markedLanes, lane, Proper, full}
 use Rattle.lanes.specs.Batches.{lanesOf}
 use Rattle.lanes.specs.PairRounds.{operandPair}
 use Rattle.lanes.specs.Nodes.{inputsIn, gatesIn}
@@ -38,8 +38,8 @@ use Rattle.judge.specs.Lanes.{Judged, isUndefinedAt, isUnsettled, output
 use Rattle.lanes.proofs.WordLaws.{tells-as, tells-none, tells-or}
 
 -- the two bits of a lane in use, at which neither is set exactly where the value is undefined
-neither : (z o : ℕ) → z < 2 → o < 2 → eqb (differ 1 (max z o)) 1 ≡ not (isDefined (marked z o))
-unfolding marked isDefined
+neither : (z o : ℕ) → z < 2 → o < 2 → eqb (differ 1 (max z o)) 1 ≡ not (isDefined (markedLanes z o))
+unfolding markedLanes isDefined
 neither zero zero h l = refl
 neither zero (suc zero) h l = refl
 neither zero (suc (suc o)) h l = absurd (omega arith)

@@ -26,7 +26,7 @@ use Rattle.netlist.specs.Values.{Value, val}
 use Rattle.netlist.specs.Netlist.{Block}
 use Rattle.netlist.specs.Assignments.{bit}
 use Rattle.netlist.specs.Rounds.{settingOf, afterRounds}
-use Rattle.lanes.specs.Pairs.{marked, lane, Proper, full, nothing}
+use Rattle.lanes.specs.Pairs.{markedLanes, lane, Proper, full, noLanes}
 use Rattle.lanes.specs.PairRounds.{afterPairRounds, AllProper}
 use Rattle.lanes.specs.Batches.{lanesOf, patterns, pattern, inputPair, inputPairs}
 use Rattle.lanes.proofs.BitLaws.{bit-low, bit-zero, bit-and, bit-xor, bit-full, bit-base-low, bit-base-high}
@@ -67,8 +67,8 @@ pattern-bit base s i e l = ⊎-elim low high (lt-or-le i 6)
     high h = rw (le-ltb i 6 h) (one (eqb (bit base i) 1) refl ∙ sym (bit-base-high base s i e l h))
 
 -- the two bits of a lane in use, of an input that is b there
-cut-in : (b : ℕ) → b < 2 → marked (differ 1 (min b 1)) (min b 1) ≡ val (eqb b 1)
-unfolding marked
+cut-in : (b : ℕ) → b < 2 → markedLanes (differ 1 (min b 1)) (min b 1) ≡ val (eqb b 1)
+unfolding markedLanes
 cut-in zero h = refl
 cut-in (suc zero) h = refl
 cut-in (suc (suc b)) h = absurd (omega arith)
@@ -100,13 +100,13 @@ module _ (n base : ℕ) where
   unfolding inputPairs
   inputPairs-proper = record { each = λ i. ⊎-elim (inside i) (past i) (lt-or-le i n) }
     where
-      inside : (i : ℕ) → i < n → Proper (lanesOf n) (getD (tab (inputPair n base) n) i nothing)
-      inside i l = rw (getD-tab (inputPair n base) n i nothing l) (inputPair-proper i)
+      inside : (i : ℕ) → i < n → Proper (lanesOf n) (getD (tab (inputPair n base) n) i noLanes)
+      inside i l = rw (getD-tab (inputPair n base) n i noLanes l) (inputPair-proper i)
 
-      past : (i : ℕ) → n ≤ i → Proper (lanesOf n) (getD (tab (inputPair n base) n) i nothing)
+      past : (i : ℕ) → n ≤ i → Proper (lanesOf n) (getD (tab (inputPair n base) n) i noLanes)
       past i l =
-          let e : getD (tab (inputPair n base) n) i nothing ≡ nothing =
-          List·getD-eq-default (tab (inputPair n base) n) nothing (rw (length-tab (inputPair n base) n) l) in
+          let e : getD (tab (inputPair n base) n) i noLanes ≡ noLanes =
+          List·getD-eq-default (tab (inputPair n base) n) noLanes (rw (length-tab (inputPair n base) n) l) in
           rw e (nothing-proper (lanesOf n))
 
   module _ (aligned : base % 64 ≡ 0) (s : ℕ) (l : s < lanesOf n) where

@@ -20,7 +20,7 @@ use Rattle.netlist.specs.Values.{Value, undefined, val, invert}
 use Rattle.netlist.specs.Kinds.{gateValue}
 use Rattle.netlist.specs.Assignments.{bit}
 use Rattle.lanes.specs.declared.Pair.{Pair}
-use Rattle.lanes.specs.Pairs.{marked, lane, Proper, full, nothing, always, isConjunction, isParity, inverts, bothPair, eitherPair, parityPair}
+use Rattle.lanes.specs.Pairs.{markedLanes, lane, Proper, full, noLanes, always, isConjunction, isParity, inverts, bothPair, eitherPair, parityPair}
 use Rattle.lanes.specs.Pairs.{combined, neutral, folded, swapped, finished, pairOf}
 use Rattle.lanes.specs.PairRounds.{AllProper}
 use Rattle.lanes.proofs.BitLaws.{bit-low, bit-zero, bit-high, bit-and, bit-or, bit-full, le-by-bits}
@@ -32,8 +32,8 @@ data Marks : ℕ → ℕ → Value → Type 0 where
   zeroSet : Marks 1 0 (val false)
   oneSet : Marks 0 1 (val true)
 
-marks : (z o : ℕ) → z + o ≤ 1 → Marks z o (marked z o)
-unfolding marked
+marks : (z o : ℕ) → z + o ≤ 1 → Marks z o (markedLanes z o)
+unfolding markedLanes
 marks zero zero h = unset
 marks zero (suc zero) h = oneSet
 marks zero (suc (suc o)) h = absurd (omega arith)
@@ -46,8 +46,8 @@ marks-apart unset = omega arith
 marks-apart zeroSet = omega arith
 marks-apart oneSet = omega arith
 
-marks-value : {z o : ℕ} {v : Value} → Marks z o v → marked z o ≡ v
-unfolding marked
+marks-value : {z o : ℕ} {v : Value} → Marks z o v → markedLanes z o ≡ v
+unfolding markedLanes
 marks-value unset = refl
 marks-value zeroSet = refl
 marks-value oneSet = refl
@@ -127,8 +127,8 @@ finished-holds k s p {v} h = go (inverts k)
     go true = swapped-holds s p h
     go false = h
 
-nothing-holds : (s : ℕ) → Holds s nothing undefined
-unfolding nothing
+nothing-holds : (s : ℕ) → Holds s noLanes undefined
+unfolding noLanes
 nothing-holds s = rw (bit-zero s) unset
 
 always-holds : (lanes s : ℕ) (b : Bool) → s < lanes → Holds s (always (full lanes) b) (val b)
@@ -141,8 +141,8 @@ always-holds lanes s true l = rw (bit-full lanes s l, bit-zero s) oneSet
 pub rest-proper : {lanes : ℕ} {p : Pair} {ps : List Pair} → AllProper lanes (p ∷ ps) → AllProper lanes ps
 rest-proper h = record { each = λ k. h .each (suc k) }
 
-pub nothing-proper : (lanes : ℕ) → Proper lanes nothing
-unfolding nothing
+pub nothing-proper : (lanes : ℕ) → Proper lanes noLanes
+unfolding noLanes
 nothing-proper lanes =
     record {
       apart = λ s. marks-apart (nothing-holds s);
@@ -229,7 +229,7 @@ module _ {lanes : ℕ} where
 
 -- ---- constants
 
-pub nothing-lane : (s : ℕ) → lane s nothing ≡ undefined
+pub nothing-lane : (s : ℕ) → lane s noLanes ≡ undefined
 unfolding lane
 nothing-lane s = marks-value (nothing-holds s)
 

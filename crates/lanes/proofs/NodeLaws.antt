@@ -21,7 +21,7 @@ use Rattle.netlist.specs.Netlist.{gate, constant}
 use Rattle.netlist.specs.StoredBlock.{operandOf, gateAt}
 use Rattle.ternary.specs.Legal.{LegalHead}
 use Rattle.lanes.specs.declared.Pair.{Pair}
-use Rattle.lanes.specs.Pairs.{nothing, always, neutral, combined, folded, finished, pairOf}
+use Rattle.lanes.specs.Pairs.{noLanes, always, neutral, combined, folded, finished, pairOf}
 use Rattle.lanes.specs.PairRounds.{operandPair, evaluatedPair, LegalGate}
 use Rattle.lanes.specs.Nodes.{pairAt, inputsIn, gatesIn, wordPair, operandsFrom, operandsAt, gatePairAt}
 
@@ -38,7 +38,7 @@ module _ (used : ℕ) (zeros ones words : List ℕ) (at : ℕ) where
       let k′ : i - 1 < length ops = rw (length-tab f (getD words at 0 / 8)) k in
       let s : suc (i - 1) ≡ i = omega arith in
       let p : at + 1 + (i - 1) ≡ at + i = omega arith in
-      drop-cons ops (i - 1) nothing k′ ∙ rw (getD-tab f (getD words at 0 / 8) (i - 1) nothing k, s, p)
+      drop-cons ops (i - 1) noLanes k′ ∙ rw (getD-tab f (getD words at 0 / 8) (i - 1) noLanes k, s, p)
 
   -- the pair of the operands from number i - 1 on
   pub folded-next : (k i : ℕ) {p q : Pair} → 0 < i → i ≤ getD words at 0 / 8 → p ≡ wordPair used zeros ones (getD words (at + i) 0)
@@ -90,26 +90,26 @@ module _ (used : ℕ) (zeros ones words : List ℕ) (at : ℕ) where
 
 module _ (used n m : ℕ) (zeros ones : List ℕ) (few : n ≤ 65534) (zerosLong : length zeros ≡ n + m) (onesLong : length ones ≡ n + m) where
   -- past the last gate
-  pairAt-past : (k : ℕ) → n + m ≤ k → pairAt zeros ones k ≡ nothing
-  unfolding pairAt nothing
+  pairAt-past : (k : ℕ) → n + m ≤ k → pairAt zeros ones k ≡ noLanes
+  unfolding pairAt noLanes
   pairAt-past k l =
       let z : getD zeros k 0 ≡ 0 = List·getD-eq-default zeros 0 (omega arith) in
       let o : getD ones k 0 ≡ 0 = List·getD-eq-default ones 0 (omega arith) in
       rw (z, o)
 
-  gate-there : (word : ℕ) → n ≤ word → pairAt zeros ones word ≡ getD (gatesIn n m zeros ones) (word - n) nothing
+  gate-there : (word : ℕ) → n ≤ word → pairAt zeros ones word ≡ getD (gatesIn n m zeros ones) (word - n) noLanes
   unfolding gatesIn
   gate-there word h = ⊎-elim inside past (lt-or-le (word - n) m)
     where
       f : ℕ → Pair
       f = λ j. pairAt zeros ones (n + j)
 
-      inside : word - n < m → pairAt zeros ones word ≡ getD (tab f m) (word - n) nothing
-      inside l = let e : n + (word - n) ≡ word = omega arith in rw (getD-tab f m (word - n) nothing l, e)
+      inside : word - n < m → pairAt zeros ones word ≡ getD (tab f m) (word - n) noLanes
+      inside l = let e : n + (word - n) ≡ word = omega arith in rw (getD-tab f m (word - n) noLanes l, e)
 
-      past : m ≤ word - n → pairAt zeros ones word ≡ getD (tab f m) (word - n) nothing
+      past : m ≤ word - n → pairAt zeros ones word ≡ getD (tab f m) (word - n) noLanes
       past l =
-          let e : getD (tab f m) (word - n) nothing ≡ nothing = List·getD-eq-default (tab f m) nothing (rw (length-tab f m) l) in
+          let e : getD (tab f m) (word - n) noLanes ≡ noLanes = List·getD-eq-default (tab f m) noLanes (rw (length-tab f m) l) in
           pairAt-past word (omega arith) ∙ sym e
 
   pub wordPair-operand : (word : ℕ) → wordPair used zeros ones word ≡ operandPair used (inputsIn n zeros ones) (gatesIn n m zeros ones) (operandOf n word)
@@ -119,7 +119,7 @@ module _ (used n m : ℕ) (zeros ones : List ℕ) (few : n ≤ 65534) (zerosLong
       is-input : word < n
           → wordPair used zeros ones word ≡ operandPair used (tab (pairAt zeros ones) n) (gatesIn n m zeros ones) (operandOf n word)
       is-input l =
-          rw (lt-ltb word n l, ne-eqb word 65534 (omega arith), ne-eqb word 65535 (omega arith), getD-tab (pairAt zeros ones) n word nothing l)
+          rw (lt-ltb word n l, ne-eqb word 65534 (omega arith), ne-eqb word 65535 (omega arith), getD-tab (pairAt zeros ones) n word noLanes l)
 
       constant-or-gate : (t u : Bool) → eqb word 65534 ≡ t → eqb word 65535 ≡ u → n ≤ word
           → cond t (always used false) (cond u (always used true) (pairAt zeros ones word))
@@ -157,10 +157,10 @@ module _ (n m : ℕ) (zeros ones : List ℕ) (j : ℕ) (p : Pair) where
       → gatesIn n m (set zeros (n + j) (p .zeros)) (set ones (n + j) (p .ones)) ≡ set (gatesIn n m zeros ones) j p
   unfolding gatesIn pairAt
   set-gates l zerosLong onesLong =
-      ext-getD nothing (tab new m) (set (tab old m) j p)
+      ext-getD noLanes (tab new m) (set (tab old m) j p)
       (length-tab new m ∙ sym (length-set (tab old m) j p ∙ length-tab old m))
       (λ i h. let h′ : i < m = rw (length-tab new m) at h in
-      getD-tab new m i nothing h′ ∙ ⊎-elim (same i) (other i h′) (eq-or-ne i j))
+      getD-tab new m i noLanes h′ ∙ ⊎-elim (same i) (other i h′) (eq-or-ne i j))
     where
       old : ℕ → Pair
       old = λ i. pairAt zeros ones (n + i)
@@ -168,15 +168,15 @@ module _ (n m : ℕ) (zeros ones : List ℕ) (j : ℕ) (p : Pair) where
       new : ℕ → Pair
       new = λ i. pairAt (set zeros (n + j) (p .zeros)) (set ones (n + j) (p .ones)) (n + i)
 
-      same : (i : ℕ) → i ≡ j → new i ≡ getD (set (tab old m) j p) i nothing
+      same : (i : ℕ) → i ≡ j → new i ≡ getD (set (tab old m) j p) i noLanes
       same i e =
           rw (e, getD-set-same zeros (n + j) (p .zeros) 0 (omega arith), getD-set-same ones (n + j) (p .ones) 0 (omega arith))
-          (sym (getD-set-same (tab old m) j p nothing (rw (length-tab old m) l)))
+          (sym (getD-set-same (tab old m) j p noLanes (rw (length-tab old m) l)))
 
-      other : (i : ℕ) → i < m → (i ≡ j → ⊥) → new i ≡ getD (set (tab old m) j p) i nothing
+      other : (i : ℕ) → i < m → (i ≡ j → ⊥) → new i ≡ getD (set (tab old m) j p) i noLanes
       other i h d =
           rw (getD-set-other zeros (n + j) (n + i) (p .zeros) 0 (omega arith), getD-set-other ones (n + j) (n + i) (p .ones) 0 (omega arith))
-          (sym (getD-set-other (tab old m) j i p nothing d ∙ getD-tab old m i nothing h))
+          (sym (getD-set-other (tab old m) j i p noLanes d ∙ getD-tab old m i noLanes h))
 
 -- ---- a legal head word is that of a legal gate
 

@@ -20,19 +20,19 @@ use Rattle.netlist.specs.Rounds.{operandValue, evaluated, round, afterRounds}
 use Rattle.layout.proofs.KindLaws.{not-counts, kind-last}
 use Rattle.rounds.proofs.ListFacts.{getD-replicate-default}
 use Rattle.lanes.specs.declared.Pair.{Pair}
-use Rattle.lanes.specs.Pairs.{lane, Proper, full, nothing}
+use Rattle.lanes.specs.Pairs.{lane, Proper, full, noLanes}
 use Rattle.lanes.specs.PairRounds.{operandPair, evaluatedPair, pairRound, afterPairRounds, LegalGate, AllProper}
 use Rattle.lanes.proofs.LaneLaws.{nothing-lane, always-lane, nothing-proper, always-proper, pairOf-lane, pairOf-proper}
 
 -- the value at a lane of a pair of a list
-pub getD-lane : (s : ℕ) (ps : List Pair) (i : ℕ) → getD (map (lane s) ps) i undefined ≡ lane s (getD ps i nothing)
-getD-lane s ps i = rw (nothing-lane s) at (List·getD-map (lane s) ps i nothing)
+pub getD-lane : (s : ℕ) (ps : List Pair) (i : ℕ) → getD (map (lane s) ps) i undefined ≡ lane s (getD ps i noLanes)
+getD-lane s ps i = rw (nothing-lane s) at (List·getD-map (lane s) ps i noLanes)
 
 -- a list of the values of a function at members of a list
 proper-map : {A : Type 0} {lanes : ℕ} (f : A → Pair) → ((a : A) → Proper lanes (f a)) → (xs : List A) → AllProper lanes (map f xs)
 proper-map {A} {lanes} f h xs = record { each = go xs }
   where
-    go : (xs : List A) (i : ℕ) → Proper lanes (getD (map f xs) i nothing)
+    go : (xs : List A) (i : ℕ) → Proper lanes (getD (map f xs) i noLanes)
     go [] i = nothing-proper lanes
     go (x ∷ xs) zero = h x
     go (x ∷ xs) (suc i) = go xs i
@@ -92,7 +92,7 @@ module _ (b : Block) {lanes : ℕ} {x : List Pair} (inputsProper : AllProper lan
 
   pub afterPairRounds-proper : (r : ℕ) → AllProper lanes (afterPairRounds b (full lanes) x r)
   unfolding afterPairRounds
-  afterPairRounds-proper zero = record { each = λ k. rw (getD-replicate-default (gateCount b) k nothing) (nothing-proper lanes) }
+  afterPairRounds-proper zero = record { each = λ k. rw (getD-replicate-default (gateCount b) k noLanes) (nothing-proper lanes) }
   afterPairRounds-proper (suc r) = pairRound-proper (afterPairRounds-proper r)
 
   module _ (legal : LegalGates b) (s : ℕ) (l : s < lanes) where
@@ -109,6 +109,6 @@ module _ (b : Block) {lanes : ℕ} {x : List Pair} (inputsProper : AllProper lan
     -- Paper 10: after every number of rounds the gates' pairs hold, at every lane, the values that the rounds on values give.
     pub afterPairRounds-lane : (r : ℕ) → map (lane s) (afterPairRounds b (full lanes) x r) ≡ afterRounds b (map (lane s) x) r
     unfolding afterPairRounds afterRounds
-    afterPairRounds-lane zero = map-replicate (lane s) (gateCount b) nothing ∙ rw (nothing-lane s)
+    afterPairRounds-lane zero = map-replicate (lane s) (gateCount b) noLanes ∙ rw (nothing-lane s)
     afterPairRounds-lane (suc r) =
         pairRound-lane (afterPairRounds-proper r) ∙ ap (round b (map (lane s) x)) (afterPairRounds-lane r)

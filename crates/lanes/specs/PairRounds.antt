@@ -8,12 +8,12 @@ use lib.ListN.{length, getD, replicate}
 use Rattle.netlist.specs.Kinds.{isKind, arityFits}
 use Rattle.netlist.specs.Netlist.{Operand, input, gate, constant, Gate, Block, gateCount}
 use Rattle.lanes.specs.declared.Pair.{Pair}
-use Rattle.lanes.specs.Pairs.{Proper, nothing, always, pairOf}
+use Rattle.lanes.specs.Pairs.{Proper, noLanes, always, pairOf}
 
 -- `used` has a bit at each lane in use
 unfoldable pub operandPair : ℕ → List Pair → List Pair → Operand → Pair
-operandPair used x state (input i) = getD x i nothing
-operandPair used x state (gate j) = getD state j nothing
+operandPair used x state (input i) = getD x i noLanes
+operandPair used x state (gate j) = getD state j noLanes
 operandPair used x state (constant b) = always used b
 
 unfoldable pub evaluatedPair : ℕ → List Pair → List Pair → Gate → Pair
@@ -23,7 +23,7 @@ unfoldable pub pairRound : Block → ℕ → List Pair → List Pair → List Pa
 pairRound b used x state = map (evaluatedPair used x state) (b .gates)
 
 unfoldable pub afterPairRounds : Block → ℕ → List Pair → ℕ → List Pair
-afterPairRounds b used x zero = replicate (gateCount b) nothing
+afterPairRounds b used x zero = replicate (gateCount b) noLanes
 afterPairRounds b used x (suc r) = pairRound b used x (afterPairRounds b used x r)
 
 -- the gate is of a kind, with as many operands as the kind allows
@@ -33,4 +33,4 @@ pub record LegalGate (g : Gate) : Type 0 where
 
 -- every pair of a list is proper
 pub record AllProper (lanes : ℕ) (ps : List Pair) : Type 0 where
-  pub each : (k : ℕ) → Proper lanes (getD ps k nothing)
+  pub each : (k : ℕ) → Proper lanes (getD ps k noLanes)

@@ -1,8 +1,8 @@
 -- A pair of words holds a value for each setting of a batch, a lane to a setting. Cited by this crate's contracts and by `batch`.
---   lane, marked       the value at a lane
+--   lane, markedLanes       the value at a lane
 --   Proper             no bit in both words, and none at a lane that is not in use
 --   full               the word with a bit at each lane in use
---   nothing, always    undefined at every lane; a constant at every lane in use
+--   noLanes, always    undefined at every lane; a constant at every lane in use
 --   combined, swapped, pairOf   a kind's pair from its operands' pairs
 -- Assumes nothing.
 use Prim.Native.Nat.{ℕ, _+_, _-_, _^_, _≤_, _<_}
@@ -15,11 +15,11 @@ use Rattle.netlist.specs.Assignments.{bit}
 use Rattle.lanes.specs.declared.Pair.{Pair}
 
 -- the value that the two bits of a lane mark
-unfoldable pub marked : ℕ → ℕ → Value
-marked z o = cond (eqb z 1) (val false) (cond (eqb o 1) (val true) undefined)
+unfoldable pub markedLanes : ℕ → ℕ → Value
+markedLanes z o = cond (eqb z 1) (val false) (cond (eqb o 1) (val true) undefined)
 
 unfoldable pub lane : ℕ → Pair → Value
-lane s p = marked (bit (p .zeros) s) (bit (p .ones) s)
+lane s p = markedLanes (bit (p .zeros) s) (bit (p .ones) s)
 
 -- of a batch of so many lanes: no bit in both words, and both are 0 from the last lane in use on
 pub record Proper (lanes : ℕ) (p : Pair) : Type 0 where
@@ -32,8 +32,8 @@ unfoldable pub full : ℕ → ℕ
 full lanes = 2 ^ lanes - 1
 
 -- undefined at every lane
-unfoldable pub nothing : Pair
-nothing = record { zeros = 0; ones = 0 }
+unfoldable pub noLanes : Pair
+noLanes = record { zeros = 0; ones = 0 }
 
 -- a constant, where `used` has a bit at each lane in use
 unfoldable pub always : ℕ → Bool → Pair

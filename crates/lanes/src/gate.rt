@@ -3,9 +3,10 @@
 use super::Pair;
 use layout::nodes::CONSTANT_0;
 use layout::nodes::CONSTANT_1;
+use layout::read::word_in;
 ghost use mathlib.Core.Path.{_≡_};
 ghost use Prim.Native.Nat.{_+_, _<_};
-ghost use lib.ListN.{length, getD};
+ghost use lib.ListN.{length};
 ghost use Rattle.ternary.specs.Legal.{LegalHead};
 ghost use Rattle.lanes.specs.Pairs.{neutral, combined, finished, pairOf};
 ghost use Rattle.lanes.specs.Nodes.{pairAt, wordPair, operandsFrom, gatePairAt};
@@ -24,14 +25,6 @@ const NOR: usize = 20;
 const XOR: usize = 21;
 
 const XNOR: usize = 22;
-
-// The word at `i`, which is one of the slice's.
-fn word_in(words: &[u16], i: usize) -> usize
-    requires { ⌜ i < length (now words) ⌝ }
-    ensures { λ r. ⌜ r ≡ getD (now (words .entry)) i 0 ⌝ }
-{
-    words[i] as usize
-}
 
 // The pair at `k`; undefined past the end.
 pub fn pair_at(zeros: &[u64], ones: &[u64], k: usize) -> Pair

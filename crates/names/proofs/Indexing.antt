@@ -23,7 +23,7 @@ use Rattle.laws.proofs.Least.{least-is}
 use Rattle.names.specs.Search.{isAt, indexOf, repeatsAt}
 use Rattle.names.specs.declared.Counts.{Counts}
 use Rattle.names.specs.Results.{IndexReady}
-use Rattle.names.specs.Index.{hashes, hashOf, stopsAt, Ends, Stored, Indexed}
+use Rattle.names.specs.Index.{hashes, hashOf, stopsAt, WalkEnds, Stored, Indexed}
 
 hash-below : (name : ℕ) → hashOf name < hashes
 unfolding hashOf
@@ -55,35 +55,35 @@ passed-one names index name at f e j a b = ⊎-elim (λ (q : j ≡ at). rw q e) 
 
 -- a walk that leaves the index ends there
 pub ends-behind : (names index : List ℕ) (name at : ℕ) → hashOf name ≤ at
-    → ((j : ℕ) → hashOf name ≤ j → j < at → stopsAt names name (getD index j 0) ≡ false) → length index ≤ at → Ends names index name at
+    → ((j : ℕ) → hashOf name ≤ j → j < at → stopsAt names name (getD index j 0) ≡ false) → length index ≤ at → WalkEnds names index name at
 ends-behind names index name at from passed l =
     record { from = from; passed = passed; stops = stops-none names name (getD index at 0) (List·getD-eq-default index 0 l) }
 
 module _ (names index : List ℕ) (name : ℕ) where
-  pub ends-one : (a b : ℕ) → Ends names index name a → Ends names index name b → a ≡ b
+  pub ends-one : (a b : ℕ) → WalkEnds names index name a → WalkEnds names index name b → a ≡ b
   ends-one a b f g =
       ⊎-elim (λ l. not-both (f .stops) (g .passed a (f .from) l))
       (λ ge. ⊎-elim (λ l. not-both (g .stops) (f .passed b (g .from) l)) (λ le. le-antisymm le ge) (lt-or-le b a)) (lt-or-le a b)
 
-  pub ends-near : (count at : ℕ) → Indexed names count index → Ends names index name at → at ≤ hashes + count
+  pub ends-near : (count at : ℕ) → Indexed names count index → WalkEnds names index name at → at ≤ hashes + count
   ends-near count at h f =
       ⊎-elim
       (λ l. not-both (stops-none names name (getD index (hashes + count) 0) (h .beyond (hashes + count) (omega arith)))
       (f .passed (hashes + count) (let b = hash-below name in omega arith) l))
       (λ le. le) (lt-or-le (hashes + count) at)
 
-  pub ends-inside : (count at : ℕ) → Indexed names count index → Ends names index name at → at < length index
+  pub ends-inside : (count at : ℕ) → Indexed names count index → WalkEnds names index name at → at < length index
   ends-inside count at h f =
       let n = ends-near count at h f in let r = h .room in let s = h .few in let w = h .within in omega arith
 
-module _ (names index : List ℕ) (count name at : ℕ) (h : Indexed names count index) (f : Ends names index name at) where
+module _ (names index : List ℕ) (count name at : ℕ) (h : Indexed names count index) (f : WalkEnds names index name at) where
   -- where a name of the table is this one, its entry stands at the walk's end
   there : (j : ℕ) → j < count → isAt names name j ≡ true → getD index at 0 ≡ suc j
   unfolding isAt
   there j l e =
       let s = h .stored j l in
       let n : getD names j 0 ≡ name = eqb-true (getD names j 0) name e in
-      let g : Ends names index name (s .at) = rw n at (s .ends) in
+      let g : WalkEnds names index name (s .at) = rw n at (s .ends) in
       rw (ends-one names index name at (s .at) f g) (s .entry)
 
   pub index-hit : (i : ℕ) → getD index at 0 ≡ suc i → i ≡ indexOf names count name
@@ -104,7 +104,7 @@ module _ (names index : List ℕ) (count name at : ℕ) (h : Indexed names count
 
 -- ---- the next name
 
-module _ (names index : List ℕ) (i at : ℕ) (h : Indexed names i index) (f : Ends names index (getD names i 0) at) where
+module _ (names index : List ℕ) (i at : ℕ) (h : Indexed names i index) (f : WalkEnds names index (getD names i 0) at) where
   pub repeats-hit : (getD index at 0 ≡ 0 → ⊥) → true ≡ repeatsAt names i
   unfolding repeatsAt
   repeats-hit ne = go (getD index at 0) refl

@@ -15,7 +15,7 @@ use Rattle.netlist.specs.Syntax.{GateLine, Tree, isLegalGate, isLegalOutput}
 use Rattle.netlist.specs.Reading.{lineGates, isOverLimit}
 use Rattle.grammar.proofs.Limits.{limits-within}
 use Rattle.names.specs.Lines.{times}
-use Rattle.names.specs.Trees.{inputText, gateText, outputText, treeLines}
+use Rattle.names.specs.Trees.{inputLineText, gateLineText, outputLineText, treeLines}
 use Rattle.names.specs.Results.{Prints, countsOf, treeCounts, isOver, TableRoom}
 use Rattle.names.specs.declared.Counts.{Counts}
 use Rattle.names.proofs.JoinedLines.{line-count, times-joined}
@@ -61,16 +61,16 @@ module _ {t : Tree} {text : List ℕ} (p : Prints t text) where
   unfolding treeLines
   all-opens =
       let q = legal-parts t (p .legal) in
-      let a = opens-are isPlainName inputText (λ x. 0) input-line (t .inputs) (q .inputs) in
-      let b = opens-are isLegalGate gateText lineGates gate-line (t .gates) (q .gates) in
-      let c = opens-are isLegalOutput outputText (λ x. 0) output-line (t .outputs) (q .outputs) in
+      let a = opens-are isPlainName inputLineText (λ x. 0) input-line (t .inputs) (q .inputs) in
+      let b = opens-are isLegalGate gateLineText lineGates gate-line (t .gates) (q .gates) in
+      let c = opens-are isLegalOutput outputLineText (λ x. 0) output-line (t .outputs) (q .outputs) in
       let d = sum-none (t .inputs) in
       let e = sum-none (t .outputs) in
       rw (
         text-is p,
         times-joined 40 (treeLines t),
-        map-append (times 40) (map inputText (t .inputs)),
-        map-append (times 40) (map gateText (t .gates)),
+        map-append (times 40) (map inputLineText (t .inputs)),
+        map-append (times 40) (map gateLineText (t .gates)),
         sum-append,
         sum-append,
       ) (omega arith)

@@ -23,7 +23,7 @@ use Rattle.encoding.proofs.Gates.{by-kind}
 use Rattle.grammar.proofs.Shorter.{printTerm-append}
 use Rattle.grammar.proofs.Places.{printInput-split, printGate-split, printOutput-split}
 use Rattle.names.specs.Lines.{times}
-use Rattle.names.specs.Trees.{inputText, gateText, outputText, treeLines, isLine}
+use Rattle.names.specs.Trees.{inputLineText, gateLineText, outputLineText, treeLines, isLine}
 use Rattle.names.proofs.Starts.{times-append}
 use Rattle.names.proofs.JoinedLines.{line-append}
 use Rattle.names.proofs.Packing.{name-byte-range}
@@ -103,16 +103,16 @@ pub record TreeLine (l : List ℕ) (gates : ℕ) : Type 0 where
 times-literal : (b : ℕ) (xs ys : List ℕ) → times b xs ≡ 0 → times b (xs ++ ys) ≡ times b ys
 times-literal b xs ys h = rw (times-append b xs ys, h) (omega arith)
 
-pub input-line : (s : Name) → isPlainName s ≡ true → TreeLine (inputText s) 0
-unfolding inputText printInput isPlainName
+pub input-line : (s : Name) → isPlainName s ≡ true → TreeLine (inputLineText s) 0
+unfolding inputLineText printInput isPlainName
 input-line s h =
     record {
       line = line-append s (ascii ")\n") (times-name 10 (omega arith) _ s h);
       opens = rw (times-literal 40 s (ascii ")\n") (times-name 40 (omega arith) _ s h));
     }
 
-pub output-line : (o : OutputLine) → isLegalOutput o ≡ true → TreeLine (outputText o) 0
-unfolding outputText printOutput isLegalOutput isPlainName isNodeName
+pub output-line : (o : OutputLine) → isLegalOutput o ≡ true → TreeLine (outputLineText o) 0
+unfolding outputLineText printOutput isLegalOutput isPlainName isNodeName
 output-line o h =
     let p = and-left (isPlainName (o .port)) (isNodeName (o .shown)) h in
     let q = and-right (isPlainName (o .port)) (isNodeName (o .shown)) h in
@@ -127,8 +127,8 @@ output-line o h =
           );
     }
 
-pub gate-line : (g : GateLine) → isLegalGate g ≡ true → TreeLine (gateText g) (lineGates g)
-unfolding gateText printGate isLegalGate isNodeName lineGates gatesIn
+pub gate-line : (g : GateLine) → isLegalGate g ≡ true → TreeLine (gateLineText g) (lineGates g)
+unfolding gateLineText printGate isLegalGate isNodeName lineGates gatesIn
 gate-line g h =
     let p = and-left (isNodeName (g .name)) (isLegalTerm (apply (g .kind) (g .terms)) 8) h in
     let q = and-right (isNodeName (g .name)) (isLegalTerm (apply (g .kind) (g .terms)) 8) h in
@@ -157,14 +157,14 @@ printed-lines line h (x ∷ xs) rest = h x (printLines line xs rest) ∙ rw (pri
 
 -- the text of a tree without never lines is its lines one after the other
 pub print-lines : (t : Tree) → t .nevers ≡ [] → print t ≡ joined (treeLines t)
-unfolding print printLines treeLines inputText gateText outputText
+unfolding print printLines treeLines inputLineText gateLineText outputLineText
 print-lines t bare =
     rw bare
     (printed-lines printInput printInput-split (t .inputs) _
     ∙ rw (printed-lines printGate printGate-split (t .gates) _, printed-lines printOutput printOutput-split (t .outputs) [], append-nil)
     (sym
-    (joined-append (map inputText (t .inputs)) (map gateText (t .gates) ++ map outputText (t .outputs))
-    ∙ ap (λ r. joined (map inputText (t .inputs)) ++ r) (joined-append (map gateText (t .gates)) (map outputText (t .outputs))))))
+    (joined-append (map inputLineText (t .inputs)) (map gateLineText (t .gates) ++ map outputLineText (t .outputs))
+    ∙ ap (λ r. joined (map inputLineText (t .inputs)) ++ r) (joined-append (map gateLineText (t .gates)) (map outputLineText (t .outputs))))))
 
 pub all-lines : {A : Type 0} (legal : A → Bool) (line : A → List ℕ) → ((x : A) → legal x ≡ true → isLine (line x) ≡ true) → (xs : List A) → all legal xs ≡ true
     → all isLine (map line xs) ≡ true
@@ -198,10 +198,10 @@ pub tree-lines : (t : Tree) → isLegalTree t ≡ true → all isLine (treeLines
 unfolding treeLines
 tree-lines t h =
     let p = legal-parts t h in
-    all-append isLine (map inputText (t .inputs)) (map gateText (t .gates) ++ map outputText (t .outputs))
-    ∙ and-intro (all isLine (map inputText (t .inputs))) (all isLine (map gateText (t .gates) ++ map outputText (t .outputs)))
-    (all-lines isPlainName inputText (λ x l. input-line x l .line) (t .inputs) (p .inputs))
-    (all-append isLine (map gateText (t .gates)) (map outputText (t .outputs))
-    ∙ and-intro (all isLine (map gateText (t .gates))) (all isLine (map outputText (t .outputs)))
-    (all-lines isLegalGate gateText (λ x l. gate-line x l .line) (t .gates) (p .gates))
-    (all-lines isLegalOutput outputText (λ x l. output-line x l .line) (t .outputs) (p .outputs)))
+    all-append isLine (map inputLineText (t .inputs)) (map gateLineText (t .gates) ++ map outputLineText (t .outputs))
+    ∙ and-intro (all isLine (map inputLineText (t .inputs))) (all isLine (map gateLineText (t .gates) ++ map outputLineText (t .outputs)))
+    (all-lines isPlainName inputLineText (λ x l. input-line x l .line) (t .inputs) (p .inputs))
+    (all-append isLine (map gateLineText (t .gates)) (map outputLineText (t .outputs))
+    ∙ and-intro (all isLine (map gateLineText (t .gates))) (all isLine (map outputLineText (t .outputs)))
+    (all-lines isLegalGate gateLineText (λ x l. gate-line x l .line) (t .gates) (p .gates))
+    (all-lines isLegalOutput outputLineText (λ x l. output-line x l .line) (t .outputs) (p .outputs)))

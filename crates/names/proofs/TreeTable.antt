@@ -18,8 +18,8 @@ use Rattle.netlist.specs.StoredBlock.{isPlainName, nodeWord}
 use Rattle.netlist.specs.Syntax.{GateLine, Tree, isLegalGate}
 use Rattle.netlist.specs.Reading.{Mention, Binding, lineGates, inputBindings, gateBindings, bindings}
 use Rattle.names.specs.Lines.{times, lineOffset, gatesTo, declaredPlace, placeAt, lineWord, wordAt, FilledTo}
-use Rattle.names.specs.Packed.{packed, nameHere, packedAt, packedThrough}
-use Rattle.names.specs.Trees.{inputText, gateText, outputText, treeLines}
+use Rattle.names.specs.Packed.{packed, nameAtFront, packedAt, packedThrough}
+use Rattle.names.specs.Trees.{inputLineText, gateLineText, outputLineText, treeLines}
 use Rattle.names.specs.Results.{Prints, treeCounts, declared, packedNames, namePlaces, nodeWords, Declared}
 use Rattle.names.specs.declared.Counts.{Counts}
 use Rattle.names.proofs.ListFacts.{tab-front}
@@ -37,8 +37,8 @@ module _ (text : List ℕ) (i : ℕ) where
   unfolding placeAt declaredPlace mentionAt
   place-in = rw (getD-drop (lineOffset text i) text 1 0)
 
-  name-in : nameHere text (placeAt text i) ≡ mentionIn text i .name
-  unfolding nameHere placeAt declaredPlace mentionAt
+  name-in : nameAtFront text (placeAt text i) ≡ mentionIn text i .name
+  unfolding nameAtFront placeAt declaredPlace mentionAt
   name-in = rw (getD-drop (lineOffset text i) text 1 0, drop-drop)
 
 module _ {t : Tree} {text : List ℕ} (p : Prints t text) where
@@ -104,18 +104,19 @@ module _ {t : Tree} {text : List ℕ} (p : Prints t text) where
   gates-to j l =
       let q = legal-parts t (p .legal) in
       let few : suc (n + j) ≤ length (treeLines t) = omega (arith, line-total t) in
-      let one : suc (n + j) ≡ length (map inputText (t .inputs)) + suc j = omega (arith, length-map (t .inputs) inputText) in
-      let some : suc j ≤ length (map gateText (t .gates)) = omega (arith, length-map (t .gates) gateText) in
-      let front : take (suc (n + j)) (treeLines t) ≡ map inputText (t .inputs) ++ take (suc j) (map gateText (t .gates)) =
+      let one : suc (n + j) ≡ length (map inputLineText (t .inputs)) + suc j = omega (arith, length-map (t .inputs) inputLineText) in
+      let some : suc j ≤ length (map gateLineText (t .gates)) = omega (arith, length-map (t .gates) gateLineText) in
+      let front : take (suc (n + j)) (treeLines t) ≡ map inputLineText (t .inputs) ++ take (suc j) (map gateLineText (t .gates)) =
       ap (λ k. take k (treeLines t)) one
-      ∙ take-append-add (map inputText (t .inputs)) (map gateText (t .gates) ++ map outputText (t .outputs)) (suc j)
-      ∙ ap (λ (r : List (List ℕ)). map inputText (t .inputs) ++ r) (take-append-le (suc j) (map gateText (t .gates)) (map outputText (t .outputs)) some) in
-      let a = rw take-length at (inner-of isPlainName inputText (λ x. 0) input-line (t .inputs) (q .inputs) (length (map inputText (t .inputs)))) in
-      let z = sum-none (take (length (map inputText (t .inputs))) (t .inputs)) in
-      let b = inner-of isLegalGate gateText lineGates gate-line (t .gates) (q .gates) (suc j) in
+      ∙ take-append-add (map inputLineText (t .inputs)) (map gateLineText (t .gates) ++ map outputLineText (t .outputs)) (suc j)
+      ∙ ap (λ (r : List (List ℕ)). map inputLineText (t .inputs) ++ r)
+      (take-append-le (suc j) (map gateLineText (t .gates)) (map outputLineText (t .outputs)) some) in
+      let a = rw take-length at (inner-of isPlainName inputLineText (λ x. 0) input-line (t .inputs) (q .inputs) (length (map inputLineText (t .inputs)))) in
+      let z = sum-none (take (length (map inputLineText (t .inputs))) (t .inputs)) in
+      let b = inner-of isLegalGate gateLineText lineGates gate-line (t .gates) (q .gates) (suc j) in
       let whole = gates-are (treeLines t) (tree-lines t (p .legal)) (suc (n + j)) few in
       rw (text-is p)
-      (whole ∙ rw (front, map-append innerOpens (map inputText (t .inputs)) (take (suc j) (map gateText (t .gates))), sum-append) (omega arith))
+      (whole ∙ rw (front, map-append innerOpens (map inputLineText (t .inputs)) (take (suc j) (map gateLineText (t .gates))), sum-append) (omega arith))
 
   gate-word : (j : ℕ) → j < length (t .gates) → wordAt text n (n + j) ≡ n + (0 + sum (map lineGates (take (suc j) (t .gates))) - 1)
   unfolding wordAt lineWord

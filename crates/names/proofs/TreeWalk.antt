@@ -18,8 +18,8 @@ use Rattle.netlist.specs.Reading.{Mention, mentions, linesLength, neverLinesAt,
 use Rattle.netlist.specs.Reading.{declaredNodes}
 use Rattle.netlist.specs.Reading.{declaredPorts}
 use Rattle.names.specs.Lines.{lineOffset, nameOffset}
-use Rattle.names.specs.Packed.{packed, nameFront, nameHere, packedAt}
-use Rattle.names.specs.Trees.{inputText, gateText, outputText, treeLines}
+use Rattle.names.specs.Packed.{packed, nameFront, nameAtFront, packedAt}
+use Rattle.names.specs.Trees.{inputLineText, gateLineText, outputLineText, treeLines}
 use Rattle.names.specs.Results.{declared}
 use Rattle.names.proofs.JoinedLines.{eachLine, tab-lines}
 use Rattle.names.proofs.TreeLines.{legal-parts, tree-lines, name-bytes}
@@ -47,24 +47,26 @@ module _ {A B : Type 0} (line : A → List ℕ) (legal : A → Bool) (f : ℕ �
 
 -- the three forms of a tree, one after the other
 module _ {B : Type 0} (f : ℕ → List ℕ → B) (onInput : Name → ℕ → B) (onGate : GateLine → ℕ → B) (onOutput : OutputLine → ℕ → B)
-    (input-agrees : (x : Name) (at : ℕ) (rest : List ℕ) → isPlainName x ≡ true → f at (inputText x ++ rest) ≡ onInput x at)
-    (gate-agrees : (x : GateLine) (at : ℕ) (rest : List ℕ) → isLegalGate x ≡ true → f at (gateText x ++ rest) ≡ onGate x at)
-    (output-agrees : (x : OutputLine) (at : ℕ) (rest : List ℕ) → isLegalOutput x ≡ true → f at (outputText x ++ rest) ≡ onOutput x at) where
+    (input-agrees : (x : Name) (at : ℕ) (rest : List ℕ) → isPlainName x ≡ true → f at (inputLineText x ++ rest) ≡ onInput x at)
+    (gate-agrees : (x : GateLine) (at : ℕ) (rest : List ℕ) → isLegalGate x ≡ true → f at (gateLineText x ++ rest) ≡ onGate x at)
+    (output-agrees : (x : OutputLine) (at : ℕ) (rest : List ℕ) → isLegalOutput x ≡ true → f at (outputLineText x ++ rest) ≡ onOutput x at) where
   tree-walk : (t : Tree) → isLegalTree t ≡ true
       → tab (λ i. f (lineOffset (joined (treeLines t)) i) (drop (lineOffset (joined (treeLines t)) i) (joined (treeLines t)))) (length (treeLines t))
-      ≡ walk inputText onInput (t .inputs) 0
-      ++ (walk gateText onGate (t .gates) (size inputText (t .inputs)) ++ walk outputText onOutput (t .outputs)
-      (size inputText (t .inputs) + size gateText (t .gates)))
+      ≡ walk inputLineText onInput (t .inputs) 0
+      ++ (walk gateLineText onGate (t .gates) (size inputLineText (t .inputs)) ++ walk outputLineText onOutput (t .outputs)
+      (size inputLineText (t .inputs) + size gateLineText (t .gates)))
   unfolding treeLines
   tree-walk t h =
       let p = legal-parts t h in
-      let i = size inputText (t .inputs) in
-      let a = each-walk inputText isPlainName f onInput input-agrees (t .inputs) (map gateText (t .gates) ++ map outputText (t .outputs)) 0 (p .inputs) in
-      let b = each-walk gateText isLegalGate f onGate gate-agrees (t .gates) (map outputText (t .outputs)) i (p .gates) in
-      let c = each-walk outputText isLegalOutput f onOutput output-agrees (t .outputs) [] (i + size gateText (t .gates)) (p .outputs) in
+      let i = size inputLineText (t .inputs) in
+      let a = each-walk inputLineText isPlainName f onInput input-agrees (t .inputs)
+      (map gateLineText (t .gates) ++ map outputLineText (t .outputs)) 0 (p .inputs) in
+      let b = each-walk gateLineText isLegalGate f onGate gate-agrees (t .gates) (map outputLineText (t .outputs)) i (p .gates) in
+      let c = each-walk outputLineText isLegalOutput f onOutput output-agrees (t .outputs) [] (i + size gateLineText (t .gates)) (p .outputs) in
       let c′ = rw (append-nil, append-nil) at c in
       tab-lines f (treeLines t) (tree-lines t h) ∙ a
-      ∙ ap (λ (r : List B). walk inputText onInput (t .inputs) 0 ++ r) (rw zero-add (b ∙ ap (λ (r : List B). walk gateText onGate (t .gates) i ++ r) c′))
+      ∙ ap (λ (r : List B). walk inputLineText onInput (t .inputs) 0 ++ r)
+      (rw zero-add (b ∙ ap (λ (r : List B). walk gateLineText onGate (t .gates) i ++ r) c′))
 
 -- ---- the declared names
 
@@ -91,7 +93,7 @@ front-legal start s c rest h n = front-name 8 s c rest (name-bytes start s h) (n
 -- the number of the name at a place of a text
 pub packed-at : (start : ℕ → Bool) (text : List ℕ) (at : ℕ) (s : Name) (c : ℕ) (rest : List ℕ) → drop at text ≡ s ++ c ∷ rest → isLegalName start s ≡ true
     → isNameByte c ≡ false → packedAt text at ≡ packed s
-unfolding nameHere packedAt
+unfolding nameAtFront packedAt
 packed-at start text at s c rest e h n = rw (e, front-legal start s c rest h n)
 
 -- the name that the line at `at` declares, of which `rest` is the beginning
@@ -102,19 +104,19 @@ declares : (s : Name) (place : ℕ) (x : Name) → x ≡ s → _≡_ {A = Mentio
 declares s place x e = rw e
 
 module _ (at : ℕ) (rest : List ℕ) where
-  input-mention : (s : Name) → isPlainName s ≡ true → mentionAt at (inputText s ++ rest) ≡ record { name = s; place = at + length (ascii "(in ") }
-  unfolding mentionAt inputText printInput nameOffset isPlainName isNameByte isLetter isDigit isUnderscore
+  input-mention : (s : Name) → isPlainName s ≡ true → mentionAt at (inputLineText s ++ rest) ≡ record { name = s; place = at + length (ascii "(in ") }
+  unfolding mentionAt inputLineText printInput nameOffset isPlainName isNameByte isLetter isDigit isUnderscore
   input-mention s h = declares s _ _ (rw append-assoc (front-legal _ s 41 (10 ∷ rest) h refl))
 
-  gate-mention : (g : GateLine) → isLegalGate g ≡ true → mentionAt at (gateText g ++ rest) ≡ record { name = g .name; place = at + length (ascii "(gate ") }
-  unfolding mentionAt gateText printGate nameOffset isLegalGate isNodeName isNameByte isLetter isDigit isUnderscore
+  gate-mention : (g : GateLine) → isLegalGate g ≡ true → mentionAt at (gateLineText g ++ rest) ≡ record { name = g .name; place = at + length (ascii "(gate ") }
+  unfolding mentionAt gateLineText printGate nameOffset isLegalGate isNodeName isNameByte isLetter isDigit isUnderscore
   gate-mention g h =
       declares (g .name) _ _
       (rw append-assoc (front-legal _ (g .name) 32 _ (and-left (isNodeName (g .name)) (isLegalTerm (apply (g .kind) (g .terms)) 8) h) refl))
 
   port-mention : (o : OutputLine) → isLegalOutput o ≡ true
-      → mentionAt at (outputText o ++ rest) ≡ record { name = o .port; place = at + length (ascii "(out ") }
-  unfolding mentionAt outputText printOutput nameOffset isLegalOutput isPlainName isNameByte isLetter isDigit isUnderscore
+      → mentionAt at (outputLineText o ++ rest) ≡ record { name = o .port; place = at + length (ascii "(out ") }
+  unfolding mentionAt outputLineText printOutput nameOffset isLegalOutput isPlainName isNameByte isLetter isDigit isUnderscore
   port-mention o h =
       declares (o .port) _ _ (rw append-assoc (front-legal _ (o .port) 32 _ (and-left (isPlainName (o .port)) (isNodeName (o .shown)) h) refl))
 
@@ -126,21 +128,21 @@ mentions-walk printed inLine m e [] at = refl
 mentions-walk printed inLine m e (x ∷ xs) at = rw (e x at, mentions-walk printed inLine m e xs (at + length (printed x [])))
 
 -- without never lines the gates' lines stand behind the inputs'
-bare-gates : (t : Tree) → t .nevers ≡ [] → gateLinesAt t ≡ size inputText (t .inputs)
-unfolding gateLinesAt neverLinesAt linesLength inputText
+bare-gates : (t : Tree) → t .nevers ≡ [] → gateLinesAt t ≡ size inputLineText (t .inputs)
+unfolding gateLinesAt neverLinesAt linesLength inputLineText
 bare-gates t bare = rw bare (add-zero _)
 
 -- line by line the text has the tree's declarations
 pub declared-walk : (t : Tree) → isLegalTree t ≡ true → t .nevers ≡ []
     → tab (λ i. mentionAt (lineOffset (joined (treeLines t)) i) (drop (lineOffset (joined (treeLines t)) i) (joined (treeLines t)))) (length (treeLines t))
     ≡ declared t
-unfolding declared declaredNodes declaredPorts outputLinesAt linesLength inputText gateText outputText inputMention gateMention portMention
+unfolding declared declaredNodes declaredPorts outputLinesAt linesLength inputLineText gateLineText outputLineText inputMention gateMention portMention
 declared-walk t h bare =
-    let i = walk {B = Mention} inputText (λ s at. record { name = s; place = at + length (ascii "(in ") }) (t .inputs) 0 in
-    let a = size inputText (t .inputs) in
-    let b = a + size gateText (t .gates) in
-    let g = walk {B = Mention} gateText (λ x at. record { name = x .name; place = at + length (ascii "(gate ") }) (t .gates) a in
-    let o = walk {B = Mention} outputText (λ x at. record { name = x .port; place = at + length (ascii "(out ") }) (t .outputs) b in
+    let i = walk {B = Mention} inputLineText (λ s at. record { name = s; place = at + length (ascii "(in ") }) (t .inputs) 0 in
+    let a = size inputLineText (t .inputs) in
+    let b = a + size gateLineText (t .gates) in
+    let g = walk {B = Mention} gateLineText (λ x at. record { name = x .name; place = at + length (ascii "(gate ") }) (t .gates) a in
+    let o = walk {B = Mention} outputLineText (λ x at. record { name = x .port; place = at + length (ascii "(out ") }) (t .outputs) b in
     tree-walk mentionAt _ _ _ (λ x at rest l. input-mention at rest x l) (λ x at rest l. gate-mention at rest x l) (λ x at rest l. port-mention at rest x l) t h
     ∙ sym
     (rw (

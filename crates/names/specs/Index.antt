@@ -25,7 +25,7 @@ stopsAt names name zero = true
 stopsAt names name (suc i) = isAt names name i
 
 -- a name's walk ends at this place
-pub record Ends (names index : List ℕ) (name at : ℕ) : Type 0 where
+pub record WalkEnds (names index : List ℕ) (name at : ℕ) : Type 0 where
   pub from : hashOf name ≤ at
   pub passed : (j : ℕ) → hashOf name ≤ j → j < at → stopsAt names name (getD index j 0) ≡ false
   pub stops : stopsAt names name (getD index at 0) ≡ true
@@ -33,7 +33,7 @@ pub record Ends (names index : List ℕ) (name at : ℕ) : Type 0 where
 -- the walk of name i ends at its own entry
 pub record Stored (names index : List ℕ) (i : ℕ) : Type 0 where
   pub at : ℕ
-  pub ends : Ends names index (getD names i 0) at
+  pub ends : WalkEnds names index (getD names i 0) at
   pub entry : getD index at 0 ≡ suc i
 
 -- the index holds the first `count` names, of which none repeats another. No entry stands further behind the last hash than there are names
@@ -46,7 +46,7 @@ pub record Indexed (names : List ℕ) (count : ℕ) (index : List ℕ) : Type 0 
   pub stored : (i : ℕ) → i < count → Stored names index i
 
 -- name i is told to repeat one before it, or is in the index
-pub record Entered (names : List ℕ) (i : ℕ) (after : List ℕ) (r : Bool) : Type 0 where
+pub record NameEntered (names : List ℕ) (i : ℕ) (after : List ℕ) (r : Bool) : Type 0 where
   pub answer : r ≡ repeatsAt names i
   pub stored : r ≡ false → Indexed names (i + 1) after
 

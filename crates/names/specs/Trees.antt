@@ -6,17 +6,17 @@ use lib.Dec.{eqb}
 use Rattle.netlist.specs.Netlist.{Name}
 use Rattle.netlist.specs.Syntax.{GateLine, OutputLine, Tree, printInput, printGate, printOutput}
 
-unfoldable pub inputText : Name → List ℕ
-inputText s = printInput s []
+unfoldable pub inputLineText : Name → List ℕ
+inputLineText s = printInput s []
 
-unfoldable pub gateText : GateLine → List ℕ
-gateText g = printGate g []
+unfoldable pub gateLineText : GateLine → List ℕ
+gateLineText g = printGate g []
 
-unfoldable pub outputText : OutputLine → List ℕ
-outputText o = printOutput o []
+unfoldable pub outputLineText : OutputLine → List ℕ
+outputLineText o = printOutput o []
 
 unfoldable pub treeLines : Tree → List (List ℕ)
-treeLines t = map inputText (t .inputs) ++ (map gateText (t .gates) ++ map outputText (t .outputs))
+treeLines t = map inputLineText (t .inputs) ++ (map gateLineText (t .gates) ++ map outputLineText (t .outputs))
 
 -- an LF stands at the end, and nowhere before
 abbrev pub isEmpty : List ℕ → Bool

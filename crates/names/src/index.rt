@@ -5,7 +5,7 @@ ghost use mathlib.Core.Path.{_≡_};
 ghost use Prim.Native.Nat.{ℕ, _≤_, _<_};
 ghost use lib.ListN.{length, getD};
 ghost use Rattle.names.specs.Search.{indexOf};
-ghost use Rattle.names.specs.Index.{hashOf, stopsAt, Ends, Indexed, Entered, AllEntered};
+ghost use Rattle.names.specs.Index.{hashOf, stopsAt, WalkEnds, Indexed, NameEntered, AllEntered};
 
 // A prime, above the number of different names that one never line has room for.
 const HASHES: u64 = 8101;
@@ -37,7 +37,7 @@ fn stops_at(names: &[u64], entry: usize, name: u64) -> bool
 // Where the walk of this name ends.
 fn walk(names: &[u64], index: &[u16], name: u64) -> usize
     requires { ⌜ ((j : ℕ) → getD (now index) j 0 ≤ length (now names)) ⌝ }
-    ensures { λ r. ⌜ Ends (now (names .entry)) (now (index .entry)) name r ⌝ }
+    ensures { λ r. ⌜ WalkEnds (now (names .entry)) (now (index .entry)) name r ⌝ }
 {
     let mut at = hash(name);
     while at < index.len() {
@@ -65,7 +65,7 @@ pub fn find_indexed(names: &[u64], index: &[u16], name: u64) -> usize
 // Enters name i behind those before it, or tells that it is one of them.
 fn enter(names: &[u64], i: usize, index: &mut [u16]) -> bool
     requires { ⌜ Indexed (now names) i (now index) × (i < length (now names)) ⌝ }
-    ensures { λ r. ⌜ Entered (now (names .entry)) i (now (index .exit)) r ⌝ }
+    ensures { λ r. ⌜ NameEntered (now (names .entry)) i (now (index .exit)) r ⌝ }
 {
     let at = walk(names, index, names[i]);
     if index[at] != 0 {

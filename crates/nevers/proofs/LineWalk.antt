@@ -30,7 +30,7 @@ use Rattle.names.specs.Lines.{lengthWithLf}
 use Rattle.layout.specs.Masks.{masksOf}
 use Rattle.layout.specs.declared.gather.Masks.{Masks}
 use Rattle.nevers.specs.Places.{NeverAt, NeversAt, linesMentions, linesWords}
-use Rattle.nevers.specs.Ready.{Room, LineReady}
+use Rattle.nevers.specs.Ready.{NeversRoom, LineReady}
 use Rattle.nevers.proofs.NeverText.{line-size}
 
 -- ---- the lines that are left
@@ -82,7 +82,7 @@ module _ {text : List ℕ} {at left : ℕ} {S : List (List Pair) → Type 0} (l 
       go (ps ∷ more) a h = absurd (omega (arith, a .counted))
 
   -- tables of the same lengths have the same room
-  pub ready-line : 0 < left → {names₀ places₀ codes₀ names places codes : List ℕ} → Room text names₀ places₀ codes₀
+  pub ready-line : 0 < left → {names₀ places₀ codes₀ names places codes : List ℕ} → NeversRoom text names₀ places₀ codes₀
       → length names ≡ length names₀ → length places ≡ length places₀ → length codes ≡ length codes₀
       → LineReady at text names places codes
   ready-line pos r e f g =

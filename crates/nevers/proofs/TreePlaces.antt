@@ -18,13 +18,13 @@ use Rattle.netlist.specs.Reading.{linesLength, neverLinesAt, gateLinesAt}
 use Rattle.grammar.proofs.Places.{printInput-split, printNever-split, nevers-at}
 use Rattle.names.specs.Index.{maxPairs}
 use Rattle.names.specs.Packed.{packed}
-use Rattle.names.specs.Trees.{inputText}
+use Rattle.names.specs.Trees.{inputLineText}
 use Rattle.names.proofs.TreeLines.{printed-lines, all-lines, legal-parts, input-line}
 use Rattle.pairs.specs.Tables.{InputsAre}
 use Rattle.pairs.proofs.TableLaws.{plain-bytes}
 use Rattle.nevers.specs.declared.NeverLines.{NeverLines}
 use Rattle.nevers.specs.Places.{TextOf, neverLines, NeversAt}
-use Rattle.nevers.specs.Ready.{InForm, LinesReady}
+use Rattle.nevers.specs.Ready.{NeversInForm, LinesReady}
 use Rattle.nevers.specs.Runs.{lettered, RunAt, Ran}
 use Rattle.nevers.proofs.NeverText.{never-line}
 
@@ -60,11 +60,11 @@ module _ {t : Tree} {text : List ℕ} (is : TextOf t text) where
   gates-other letter g o =
       other-lines printGate letter (λ x rest. g) (t .gates) _ (other-lines printOutput letter (λ x rest. o) (t .outputs) [] refl)
 
-  pub input-run : RunAt 105 0 (map inputText (t .inputs)) text
-  unfolding print inputText printInput printNever gates
+  pub input-run : RunAt 105 0 (map inputLineText (t .inputs)) text
+  unfolding print inputLineText printInput printNever gates
   input-run = record {
-    lines = all-lines isPlainName inputText (λ x l. input-line x l .line) (t .inputs) (legal-parts t (is .legal) .inputs);
-    letters = all-lettered inputText 105 (λ x. refl) (t .inputs);
+    lines = all-lines isPlainName inputLineText (λ x l. input-line x l .line) (t .inputs) (legal-parts t (is .legal) .inputs);
+    letters = all-lettered inputLineText 105 (λ x. refl) (t .inputs);
     rest = printLines printNever (t .nevers) gates;
     stand = sym (is .printed) ∙ printed-lines printInput printInput-split (t .inputs) (printLines printNever (t .nevers) gates);
     ended = other-lines printNever 105 (λ x rest. refl) (t .nevers) gates (gates-other 105 refl refl);
@@ -86,10 +86,10 @@ module _ {t : Tree} {text : List ℕ} (is : TextOf t text) where
 
   -- the two runs that the code finds
   pub runs-are : {at end inputs count : ℕ} → Ran 105 0 text at inputs → Ran 110 at text end count → record { at = at; end = end; count = count } ≡ neverLines t
-  unfolding neverLines neverLinesAt gateLinesAt linesLength inputText
+  unfolding neverLines neverLinesAt gateLinesAt linesLength inputLineText
   runs-are {at} {end} {inputs} {count} r s =
-      let j = joined-length inputText (t .inputs) in
-      let i = r .ends (map inputText (t .inputs)) input-run in
+      let j = joined-length inputLineText (t .inputs) in
+      let i = r .ends (map inputLineText (t .inputs)) input-run in
       let a : at ≡ sum (map (λ x. length (printInput x [])) (t .inputs)) = omega (arith, i, j) in
       let n : RunAt 110 at (map neverText (t .nevers)) text = rw a never-run in
       let e : end ≡ at + length (joined (map neverText (t .nevers))) = s .ends _ n in
@@ -106,7 +106,7 @@ module _ {t : Tree} {text : List ℕ} (is : TextOf t text) where
 
 -- ---- the lines of a text in form can be read
 
-pub lines-ready : {text names places codes : List ℕ} {lines : NeverLines} → InForm text lines → maxPairs ≤ length names → maxPairs ≤ length places
+pub lines-ready : {text names places codes : List ℕ} {lines : NeverLines} → NeversInForm text lines → maxPairs ≤ length names → maxPairs ≤ length places
     → maxPairs ≤ length codes → LinesReady (lines .at) (lines .count) text names places codes
 lines-ready f n p c = record {
   lines = f .tree .nevers;

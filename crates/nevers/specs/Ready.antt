@@ -11,13 +11,13 @@ use Rattle.pairs.specs.Tables.{InputsAre}
 use Rattle.nevers.specs.declared.NeverLines.{NeverLines}
 use Rattle.nevers.specs.Places.{TextOf, neverLines, NeverAt, NeversAt}
 
-pub record InForm (text : List ℕ) (lines : NeverLines) : Type 0 where
+pub record NeversInForm (text : List ℕ) (lines : NeverLines) : Type 0 where
   pub short : length text ≤ maxText
   pub tree : Tree
   pub is : TextOf tree text
   pub stand : lines ≡ neverLines tree
 
-pub record Room (text names places codes : List ℕ) : Type 0 where
+pub record NeversRoom (text names places codes : List ℕ) : Type 0 where
   pub short : length text ≤ maxText
   pub nameRoom : maxPairs ≤ length names
   pub placeRoom : maxPairs ≤ length places
@@ -26,12 +26,12 @@ pub record Room (text names places codes : List ℕ) : Type 0 where
 pub record LineReady (at : ℕ) (text names places codes : List ℕ) : Type 0 where
   pub pairs : List Pair
   pub is : NeverAt at pairs text
-  pub room : Room text names places codes
+  pub room : NeversRoom text names places codes
 
 pub record LinesReady (at count : ℕ) (text names places codes : List ℕ) : Type 0 where
   pub lines : List (List Pair)
   pub is : NeversAt at count lines text
-  pub room : Room text names places codes
+  pub room : NeversRoom text names places codes
 
 -- a table that begins with the numbers of inputs' names
 pub record InputsReady (n : ℕ) (inputs : List ℕ) : Type 0 where

@@ -16,7 +16,7 @@ ghost use Rattle.netlist.specs.Syntax.{Pair, Tree};
 ghost use Rattle.netlist.specs.Reading.{neverMentions, neverLinesAt, excludedNames, firstRepeat, firstRepeatIn, firstOutside};
 ghost use Rattle.pairs.specs.Tables.{InputsAre};
 ghost use Rattle.nevers.specs.Places.{TextOf, neverLines, NeverAt, NeversAt, linesMentions};
-ghost use Rattle.nevers.specs.Ready.{InForm, LineReady, LinesReady, InputsReady};
+ghost use Rattle.nevers.specs.Ready.{NeversInForm, LineReady, LinesReady, InputsReady};
 
 // 4 in one line.
 fn line_repeat(
@@ -60,7 +60,7 @@ fn repeat_from(
 
 // 4: the place of the first name that stands before it in its line.
 pub fn test_repeats(text: &[u8], lines: NeverLines) -> Test
-    requires { ⌜ InForm (now text) lines ⌝ }
+    requires { ⌜ NeversInForm (now text) lines ⌝ }
     ensures { λ r. ⌜ ((t : Tree) → TextOf t (now (text .entry)) → lines ≡ neverLines t
         → r ≡ testAt (firstRepeatIn (t .nevers) (neverLinesAt t)) DuplicateDeclaration) ⌝ }
 {
@@ -125,7 +125,7 @@ fn outside_from(
 
 // 5: the place of the first name that is none of the n inputs.
 pub fn test_outsiders(text: &[u8], lines: NeverLines, inputs: &[u64], n: usize) -> Test
-    requires { ⌜ InForm (now text) lines ⌝ }
+    requires { ⌜ NeversInForm (now text) lines ⌝ }
     requires { ⌜ InputsReady n (now inputs) ⌝ }
     ensures { λ r. ⌜ ((t : Tree) → TextOf t (now (text .entry)) → lines ≡ neverLines t → InputsAre (t .inputs) n (now (inputs .entry))
         → r ≡ testAt (firstOutside (t .inputs) (excludedNames t)) UndeclaredName) ⌝ }

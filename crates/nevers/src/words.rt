@@ -21,7 +21,7 @@ ghost use Rattle.netlist.specs.Reading.{givenValue};
 ghost use Rattle.layout.specs.Masks.{masksOf};
 ghost use Rattle.pairs.specs.Tables.{InputsAre};
 ghost use Rattle.nevers.specs.Places.{TextOf, neverLines, NeverAt, NeversAt, linesWords};
-ghost use Rattle.nevers.specs.Ready.{InForm, LineReady, LinesReady, InputsReady, ValueRoom};
+ghost use Rattle.nevers.specs.Ready.{NeversInForm, LineReady, LinesReady, InputsReady, ValueRoom};
 
 // The masks of what one line gives the inputs.
 fn line_masks(
@@ -75,7 +75,7 @@ fn masks_from(
 
 // The words of all lines into the beginning of `out`.
 pub fn fill_masks(text: &[u8], lines: NeverLines, inputs: &[u64], n: usize, out: &mut [u16])
-    requires { ⌜ InForm (now text) lines ⌝ }
+    requires { ⌜ NeversInForm (now text) lines ⌝ }
     requires { ⌜ InputsReady n (now inputs) × (n ≤ maxInputs) × (2 * lines .count ≤ length (now out)) ⌝ }
     ensures { λ r. ⌜ ((t : Tree) → TextOf t (now (text .entry)) → lines ≡ neverLines t → InputsAre (t .inputs) n (now (inputs .entry))
         → now (out .exit) ≡ placed (linesWords (t .inputs) (t .nevers)) (now (out .entry))) ⌝ }

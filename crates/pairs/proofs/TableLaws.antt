@@ -25,7 +25,7 @@ use Rattle.names.specs.Lines.{lineOpens}
 use Rattle.names.specs.Packed.{packed, packedAt, packedThrough}
 use Rattle.names.proofs.TreeLines.{name-bytes}
 use Rattle.pairs.specs.PairBytes.{pairPlace, codeAt, codeThrough, inputCode}
-use Rattle.pairs.specs.Tables.{PairsAt, Tabled, InputsAre}
+use Rattle.pairs.specs.Tables.{PairsAt, PairsTabled, InputsAre}
 use Rattle.pairs.proofs.GivenValues.{values-given}
 use Rattle.pairs.proofs.PairPlaces.{noPair, places-length, count-is, places-are, each-legal, stands-at, number-stands, code-stands}
 
@@ -60,7 +60,7 @@ module _ {at : ℕ} {ps : List Pair} {text : List ℕ} (is : PairsAt at ps text)
       ap (codeAt text) (place-at i l) ∙ code-stands text (pairPlace text at i) (getD ps i noPair) (each-legal is i l) (stands-at is i l)
       ∙ sym (getD-map (λ (p : Pair). code (val (p .value))) ps i noPair 0 l))
 
-  printed-tables : Tabled ps at (length ps) (placed (tab (packedThrough text places) (length ps)) names₀) places
+  printed-tables : PairsTabled ps at (length ps) (placed (tab (packedThrough text places) (length ps)) names₀) places
       (placed (tab (codeThrough text places) (length ps)) codes₀)
   printed-tables = record {
     counted = refl;
@@ -75,7 +75,7 @@ module _ {at : ℕ} {ps : List Pair} {text : List ℕ} (is : PairsAt at ps text)
       → places ≡ placed (tab (pairPlace text at) count) places₀
       → names ≡ placed (tab (packedThrough text places) count) names₀
       → codes ≡ placed (tab (codeThrough text places) count) codes₀
-      → Tabled ps at count names places codes
+      → PairsTabled ps at count names places codes
   tables-filled c p m d = rw (d, m, p, c ∙ count-is is) printed-tables
 
 -- ---- room
@@ -93,7 +93,7 @@ take-room k xs ys e n = go (lt-or-le (length xs) k)
 pub filled-room : {A : Type 0} (f : ℕ → A) (n : ℕ) (entry : List A) {filled : List A} → filled ≡ placed (tab f n) entry → n ≤ length filled
 filled-room f n entry e = rw (e, length-append (tab f n) (drop (length (tab f n)) entry)) (omega (arith, length-tab f n))
 
-module _ {ps : List Pair} {at count : ℕ} {names places codes : List ℕ} (t : Tabled ps at count names places codes) where
+module _ {ps : List Pair} {at count : ℕ} {names places codes : List ℕ} (t : PairsTabled ps at count names places codes) where
   pub names-room : count ≤ length names
   names-room = rw (t .counted) (take-room (length ps) names _ (t .namesAre .numbers) (length-map ps (λ (p : Pair). packed (p .name))))
 
@@ -108,7 +108,7 @@ inputs-room {known} {n} {inputs} i = take-room n inputs _ (i .numbers) (length-m
 
 -- ---- what the inputs are given
 
-pub setting-given : {ps : List Pair} → all isLegalPair ps ≡ true → {at count : ℕ} {names places codes : List ℕ} → Tabled ps at count names places codes
+pub setting-given : {ps : List Pair} → all isLegalPair ps ≡ true → {at count : ℕ} {names places codes : List ℕ} → PairsTabled ps at count names places codes
     → {known : List Name} {n : ℕ} {inputs : List ℕ} → InputsAre known n inputs
     → (setting₀ : List ℕ) {setting : List ℕ} → setting ≡ placed (tab (inputCode names codes count inputs) n) setting₀
     → map valueOf (take n setting) ≡ map (givenValue ps) known

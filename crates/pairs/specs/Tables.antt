@@ -46,7 +46,7 @@ pub record PlacesAre (ps : List Pair) (at : ℕ) (places : List ℕ) : Type 0 wh
 pub record CodesAre (ps : List Pair) (codes : List ℕ) : Type 0 where
   pub values : take (length ps) codes ≡ map (λ (p : Pair). code (val (p .value))) ps
 
-pub record Tabled (ps : List Pair) (at count : ℕ) (names places codes : List ℕ) : Type 0 where
+pub record PairsTabled (ps : List Pair) (at count : ℕ) (names places codes : List ℕ) : Type 0 where
   pub counted : count ≡ length ps
   pub namesAre : NamesAre ps names
   pub placesAre : PlacesAre ps at places

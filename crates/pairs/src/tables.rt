@@ -11,9 +11,9 @@ ghost use Rattle.laws.specs.Lists.{tab, placed};
 ghost use Rattle.netlist.specs.Limits.{maxText};
 ghost use Rattle.netlist.specs.Syntax.{Pair};
 ghost use Rattle.names.specs.Lines.{lineOpens};
-ghost use Rattle.names.specs.Packed.{nameHere};
+ghost use Rattle.names.specs.Packed.{nameAtFront};
 ghost use Rattle.pairs.specs.PairBytes.{pairPlace, codeFront, codeAt, codeThrough};
-ghost use Rattle.pairs.specs.Tables.{PairsAt, PairRoom, Tabled};
+ghost use Rattle.pairs.specs.Tables.{PairsAt, PairRoom, PairsTabled};
 
 // Each pair has one opening bracket, up to the line's end.
 fn pair_count(text: &[u8], at: usize) -> usize
@@ -25,7 +25,7 @@ fn pair_count(text: &[u8], at: usize) -> usize
 
 // The length of the name at a place.
 fn name_size(text: &[u8], at: usize) -> usize
-    ensures { λ r. ⌜ r ≡ length (nameHere (now (text .entry)) at) ⌝ }
+    ensures { λ r. ⌜ r ≡ length (nameAtFront (now (text .entry)) at) ⌝ }
 {
     if at < text.len() {
         name_length(&text[at..])
@@ -91,7 +91,9 @@ pub fn fill_pairs(
     codes: &mut [u8],
 ) -> usize
     requires { ⌜ PairRoom (now text) at (now names) (now places) (now codes) ⌝ }
-    ensures { λ r. ⌜ ((ps : List Pair) → PairsAt at ps (now (text .entry)) → Tabled ps at r (now (names .exit)) (now (places .exit)) (now (codes .exit))) ⌝ }
+    ensures { λ r. ⌜
+        ((ps : List Pair) → PairsAt at ps (now (text .entry)) → PairsTabled ps at r (now (names .exit)) (now (places .exit)) (now (codes .exit)))
+        ⌝ }
 {
     let count = pair_count(text, at);
     fill_places(text, at, count, places);

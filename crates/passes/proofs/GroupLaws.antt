@@ -31,7 +31,7 @@ use Rattle.rounds.proofs.AnyOrder.{run-append}
 use Rattle.agreement.proofs.PassCount.{length-before, before-at, after-next}
 use Rattle.batch.specs.Legible.{Legible}
 use Rattle.lanes.specs.declared.Pair.{Pair}
-use Rattle.lanes.specs.Pairs.{lane, Proper, full, nothing}
+use Rattle.lanes.specs.Pairs.{lane, Proper, full, noLanes}
 use Rattle.lanes.specs.PairRounds.{evaluatedPair, AllProper}
 use Rattle.lanes.specs.Batches.{lanesOf}
 use Rattle.lanes.specs.Nodes.{pairAt, inputsIn, gatesIn}
@@ -153,8 +153,8 @@ pair-same : (zeros ones zeros′ ones′ : List ℕ) (k : ℕ) → getD zeros′
 unfolding pairAt
 pair-same zeros ones zeros′ ones′ k e f = rw (e, f)
 
-pair-none : (k : ℕ) → pairAt [] [] k ≡ nothing
-unfolding pairAt nothing
+pair-none : (k : ℕ) → pairAt [] [] k ≡ noLanes
+unfolding pairAt noLanes
 pair-none k = refl
 
 module _ {b : Block} {n base : ℕ} {zeros ones : List ℕ} (settled : BatchSettled b n base zeros ones) where
@@ -185,10 +185,10 @@ module _ {b : Block} {n base : ℕ} {zeros ones : List ℕ} (settled : BatchSett
         tab-ext (pairAt zeros′ ones′) (pairAt zeros ones) n
         (λ k l. pair-same zeros ones zeros′ ones′ k (pz .outside k (apart-input n group k l)) (po .outside k (apart-input n group k l)))
 
-    cleared-pair : (j : ℕ) → pairAt zeros′ ones′ (n + j) ≡ cond (member j group) nothing (pairAt zeros ones (n + j))
+    cleared-pair : (j : ℕ) → pairAt zeros′ ones′ (n + j) ≡ cond (member j group) noLanes (pairAt zeros ones (n + j))
     cleared-pair j = go (bool-cases (member j group))
       where
-        go : (member j group ≡ true) ⊎ (member j group ≡ false) → pairAt zeros′ ones′ (n + j) ≡ cond (member j group) nothing (pairAt zeros ones (n + j))
+        go : (member j group ≡ true) ⊎ (member j group ≡ false) → pairAt zeros′ ones′ (n + j) ≡ cond (member j group) noLanes (pairAt zeros ones (n + j))
         go (inl m) = rw m (pair-same [] [] zeros′ ones′ (n + j) (pz .inside j m) (po .inside j m) ∙ pair-none (n + j))
         go (inr m) =
             rw m
@@ -198,17 +198,17 @@ module _ {b : Block} {n base : ℕ} {zeros ones : List ℕ} (settled : BatchSett
     unfolding gatesIn
     cleared-proper = record { each = λ j. ⊎-elim (inside j) (past j) (lt-or-le j (gateCount b)) }
       where
-        either : (j : ℕ) → j < gateCount b → (m : Bool) → Proper (lanesOf n) (cond m nothing (pairAt zeros ones (n + j)))
+        either : (j : ℕ) → j < gateCount b → (m : Bool) → Proper (lanesOf n) (cond m noLanes (pairAt zeros ones (n + j)))
         either j h true = nothing-proper (lanesOf n)
         either j h false = settled-proper j h
 
-        inside : (j : ℕ) → j < gateCount b → Proper (lanesOf n) (getD (gatesIn n (gateCount b) zeros′ ones′) j nothing)
+        inside : (j : ℕ) → j < gateCount b → Proper (lanesOf n) (getD (gatesIn n (gateCount b) zeros′ ones′) j noLanes)
         inside j h = rw (gatesIn-at n (gateCount b) zeros′ ones′ j h, cleared-pair j) (either j h (member j group))
 
-        past : (j : ℕ) → gateCount b ≤ j → Proper (lanesOf n) (getD (gatesIn n (gateCount b) zeros′ ones′) j nothing)
+        past : (j : ℕ) → gateCount b ≤ j → Proper (lanesOf n) (getD (gatesIn n (gateCount b) zeros′ ones′) j noLanes)
         past j h =
-            let e : getD (gatesIn n (gateCount b) zeros′ ones′) j nothing ≡ nothing =
-            List·getD-eq-default (gatesIn n (gateCount b) zeros′ ones′) nothing {n = j}
+            let e : getD (gatesIn n (gateCount b) zeros′ ones′) j noLanes ≡ noLanes =
+            List·getD-eq-default (gatesIn n (gateCount b) zeros′ ones′) noLanes {n = j}
             (rw (length-tab (λ i. pairAt zeros′ ones′ (n + i)) (gateCount b)) h) in
             rw e (nothing-proper (lanesOf n))
 
@@ -227,7 +227,7 @@ module _ {b : Block} {n base : ℕ} {zeros ones : List ℕ} (settled : BatchSett
         long = length-map gs (lane s) ∙ length-tab (λ i. pairAt zeros′ ones′ (n + i)) (gateCount b)
 
         either : (j : ℕ) → j < gateCount b → (m : Bool)
-            → lane s (cond m nothing (pairAt zeros ones (n + j))) ≡ cond m undefined (getD (settledUnder b (base + s)) j undefined)
+            → lane s (cond m noLanes (pairAt zeros ones (n + j))) ≡ cond m undefined (getD (settledUnder b (base + s)) j undefined)
         either j h true = nothing-lane s
         either j h false = settled-lane s l j h
 

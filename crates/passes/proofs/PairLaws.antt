@@ -26,7 +26,7 @@ use Rattle.netlist.specs.Netlist.{Block}
 use Rattle.netlist.specs.Assignments.{bit}
 use Rattle.netlist.specs.Rounds.{isExcluded}
 use Rattle.lanes.specs.declared.Pair.{Pair}
-use Rattle.lanes.specs.Pairs.{marked, lane, Proper}
+use Rattle.lanes.specs.Pairs.{markedLanes, lane, Proper}
 use Rattle.lanes.specs.Batches.{lanesOf}
 use Rattle.lanes.specs.Nodes.{pairAt}
 use Rattle.lanes.proofs.BitLaws.{bit-or, bit-xor}
@@ -91,8 +91,8 @@ bits (suc zero) zero h = zeroSet
 bits (suc zero) (suc o) h = absurd (omega arith)
 bits (suc (suc z)) o h = absurd (omega arith)
 
-lane-differs : {z o z′ o′ : ℕ} → Bits z o → Bits z′ o′ → eqb (max (differ z z′) (differ o o′)) 1 ≡ not (eqb (code (marked z o)) (code (marked z′ o′)))
-unfolding marked code
+lane-differs : {z o z′ o′ : ℕ} → Bits z o → Bits z′ o′ → eqb (max (differ z z′) (differ o o′)) 1 ≡ not (eqb (code (markedLanes z o)) (code (markedLanes z′ o′)))
+unfolding markedLanes code
 lane-differs unset unset = refl
 lane-differs unset zeroSet = refl
 lane-differs unset oneSet = refl

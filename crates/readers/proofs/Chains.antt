@@ -24,7 +24,7 @@ use Rattle.netlist.specs.StoredBlock.{neversAt, gatesAt, nodeWord, operandOf, d
 use Rattle.encoding.proofs.Nodes.{nodeWord-operandOf}
 use Rattle.encoding.proofs.Readers.{whole-parts, whole-gate, whole-reads}
 use Rattle.encoding.proofs.Decoded.{decode-gateCount, decode-count, decode-operand}
-use Rattle.readers.specs.Readers.{Chain, at, behind, Descends, Readers, Empty, ReaderRoom, LinkReady, Linked, Linking, named}
+use Rattle.readers.specs.Readers.{Chain, at, behind, Descends, Readers, Empty, ReaderRoom, ReaderLinkReady, ReadersLinked, Linking, named}
 
 -- a list that is not at its end: the word in front, or one behind it
 pub chain-step : {next : List ℕ} {p q : ℕ} → Chain next p q → (p ≡ q) ⊎ Chain next p (getD next (q - 1) 0)
@@ -49,7 +49,7 @@ chain-kept {next} {p} e a d (behind {q = q} c) l =
     behind {q = q} (rw same (chain-kept e a d c (omega (arith, d q))))
 
 -- a word that names no gate is put nowhere
-pub linked-none : {m k e : ℕ} {first next : List ℕ} → m ≤ k → Linked m k e first next first next
+pub linked-none : {m k e : ℕ} {first next : List ℕ} → m ≤ k → ReadersLinked m k e first next first next
 linked-none {m} {k} l = record { firstIs = rw (le-ltb k m l) refl; nextIs = rw (le-ltb k m l) refl }
 
 -- zeros
@@ -143,7 +143,7 @@ module _ {ws : List ℕ} {nodes : Nodes} {first next : List ℕ} (j i : ℕ) (h 
 -- either way
 pub linking-next : {ws : List ℕ} {nodes : Nodes} {first next first′ next′ : List ℕ} (j i : ℕ) → Linking ws nodes first next (4 * j + i) → i < 4
     → ReaderRoom (nodes .gates) first next → 4 * j + i < 4 * nodes .gates
-    → Linked (nodes .gates) (named ws nodes j i) (4 * j + i) first next first′ next′ → Linking ws nodes first′ next′ (4 * j + (i + 1))
+    → ReadersLinked (nodes .gates) (named ws nodes j i) (4 * j + i) first next first′ next′ → Linking ws nodes first′ next′ (4 * j + (i + 1))
 linking-next {ws} {nodes} {first} {next} {first′} {next′} j i h four room below d =
     ⊎-elim
     (λ l. rw (d .firstIs, d .nextIs, lt-ltb (named ws nodes j i) (nodes .gates) l) (linking-more j i h four room l below))
@@ -170,7 +170,7 @@ pub record Few (nodes : Nodes) : Type 0 where
   pub gatesMost : nodes .gates ≤ maxGates
   pub near : nodes .start ≤ maxGates
 
-pub ready-few : {ws : List ℕ} {nodes : Nodes} {first next : List ℕ} → LinkReady ws nodes first next → Few nodes
+pub ready-few : {ws : List ℕ} {nodes : Nodes} {first next : List ℕ} → ReaderLinkReady ws nodes first next → Few nodes
 unfolding gatesAt neversAt nodesOf
 ready-few {ws} r =
     let w = whole-parts ws (r .whole) in
@@ -181,7 +181,7 @@ ready-few {ws} r =
     })
 
 -- and so is a gate's count
-pub ready-count : {ws : List ℕ} {nodes : Nodes} {first next : List ℕ} → LinkReady ws nodes first next → (j : ℕ) → j < nodes .gates
+pub ready-count : {ws : List ℕ} {nodes : Nodes} {first next : List ℕ} → ReaderLinkReady ws nodes first next → (j : ℕ) → j < nodes .gates
     → getD ws (nodes .start + 5 * j) 0 / 8 ≤ 4
 unfolding nodesOf
 ready-count {ws} r j l = rw (r .nodesAre) (whole-gate ws (r .whole) j (rw (r .nodesAre) at l) .count)

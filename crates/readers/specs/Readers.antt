@@ -48,13 +48,13 @@ pub record LinkRoom (nodes : Nodes) (e : ℕ) (first next : List ℕ) : Type 0 w
   pub room : ReaderRoom (nodes .gates) first next
 
 -- the words hold a whole block with these nodes
-pub record LinkReady (ws : List ℕ) (nodes : Nodes) (first next : List ℕ) : Type 0 where
+pub record ReaderLinkReady (ws : List ℕ) (nodes : Nodes) (first next : List ℕ) : Type 0 where
   pub whole : isTorn ws ≡ false
   pub nodesAre : nodes ≡ nodesOf ws
   pub room : ReaderRoom (nodes .gates) first next
 
 -- word number e, which names gate k, is put in front; m is no gate
-pub record Linked (m k e : ℕ) (first next first′ next′ : List ℕ) : Type 0 where
+pub record ReadersLinked (m k e : ℕ) (first next first′ next′ : List ℕ) : Type 0 where
   pub firstIs : first′ ≡ cond (ltb k m) (set first k (suc e)) first
   pub nextIs : next′ ≡ cond (ltb k m) (set next e (getD first k 0)) next
 

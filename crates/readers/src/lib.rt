@@ -12,12 +12,12 @@ ghost use Prim.Native.Nat.{_+_, _*_, _<_};
 ghost use lib.ListN.{getD};
 ghost use Rattle.layout.specs.Nodes.{gateNamed};
 ghost use Rattle.netlist.specs.StoredBlock.{decode, isTorn};
-ghost use Rattle.readers.specs.Readers.{LinkRoom, LinkReady, Linked, Linking, Empty, ReaderRoom, Readers};
+ghost use Rattle.readers.specs.Readers.{LinkRoom, ReaderLinkReady, ReadersLinked, Linking, Empty, ReaderRoom, Readers};
 
 // Puts word number `e` in front of the list of the gate that `word` names, if it names one.
 fn link(word: usize, nodes: Nodes, e: usize, first: &mut [u16], next: &mut [u16])
     requires { ⌜ LinkRoom nodes e (now first) (now next) ⌝ }
-    ensures { λ r. ⌜ Linked (nodes .gates) (gateNamed (nodes .inputs) (nodes .gates) word) e (now (first .entry)) (now (next .entry))
+    ensures { λ r. ⌜ ReadersLinked (nodes .gates) (gateNamed (nodes .inputs) (nodes .gates) word) e (now (first .entry)) (now (next .entry))
         (now (first .exit)) (now (next .exit)) ⌝ }
 {
     let k = gate_named(word, nodes.inputs, nodes.gates);
@@ -29,7 +29,7 @@ fn link(word: usize, nodes: Nodes, e: usize, first: &mut [u16], next: &mut [u16]
 
 // Puts the operand words of gate `j` in their lists.
 fn link_gate(words: &[u16], nodes: Nodes, j: usize, first: &mut [u16], next: &mut [u16])
-    requires { ⌜ LinkReady (now words) nodes (now first) (now next) × (j < nodes .gates) ⌝ }
+    requires { ⌜ ReaderLinkReady (now words) nodes (now first) (now next) × (j < nodes .gates) ⌝ }
     requires { ⌜ Linking (now words) nodes (now first) (now next) (4 * j) ⌝ }
     ensures { λ r. ⌜ Linking (now (words .entry)) nodes (now (first .exit)) (now (next .exit)) (4 * j + 4) ⌝ }
 {

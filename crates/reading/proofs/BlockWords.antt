@@ -29,7 +29,7 @@ use Rattle.names.proofs.PlainTree.{plain-legal}
 use Rattle.terms.specs.Ports.{portWords}
 use Rattle.terms.proofs.PortNames.{port-words}
 use Rattle.terms.proofs.Closings.{gates-count}
-use Rattle.reading.specs.Words.{nameOf, wordOf, blockWords, wordCount}
+use Rattle.reading.specs.Words.{nameOf, wordOf, treeBlockWords, wordCount}
 use Rattle.reading.specs.Steps.{WriteReady}
 use Rattle.reading.proofs.ListFacts.{placed-front}
 
@@ -148,8 +148,8 @@ module _ {text : List ℕ} {lines : ℕ} {c : Counts} {names masks gates outputs
   input-names = input-words (plain t) (plain-legal t (w .is .legal)) names (w .numbersAre)
 
   -- the words are the block's
-  pub words-are : blockWords c lines names masks gates outputs ≡ encode (blockOf t)
-  unfolding blockWords encode wordOf blockOf
+  pub words-are : treeBlockWords c lines names masks gates outputs ≡ encode (blockOf t)
+  unfolding treeBlockWords encode wordOf blockOf
   words-are =
       five-parts inputs-are gates-are outputs-are nevers-are
       (ap (λ (k : ℕ). joined (tab (nameOf names) k)) inputs-are ∙ ap joined input-names)
@@ -170,8 +170,8 @@ pub block-written : (c : Counts) (lines : ℕ) (names masks gates outputs block 
     → d ≡ sets b (neversAt (c .inputs)) (tab (wordOf masks) (2 * lines))
     → e ≡ sets d (gatesAt (c .inputs) lines) (tab (wordOf gates) (5 * c .gates))
     → f ≡ sets e (outputsAt (c .inputs) lines (c .gates)) (tab (wordOf outputs) (5 * c .outputs))
-    → f ≡ sets block 0 (blockWords c lines names masks gates outputs)
-unfolding blockWords neversAt gatesAt outputsAt
+    → f ≡ sets block 0 (treeBlockWords c lines names masks gates outputs)
+unfolding treeBlockWords neversAt gatesAt outputsAt
 block-written c lines names masks gates outputs block a b d e f p q m r s =
     let head = c .inputs ∷ c .gates ∷ c .outputs ∷ lines ∷ [] in
     let ns = joined (tab (nameOf names) (c .inputs)) in

@@ -25,7 +25,7 @@ use Rattle.names.specs.Results.{Prints}
 use Rattle.names.proofs.PlainTree.{plain-prints, nevers-many, nevers-few}
 use Rattle.nevers.specs.declared.NeverLines.{NeverLines}
 use Rattle.nevers.specs.Places.{TextOf, neverLines}
-use Rattle.nevers.specs.Ready.{InForm}
+use Rattle.nevers.specs.Ready.{NeversInForm}
 use Rattle.refusals.proofs.Promised.{IsFailed, passed-false, failed-true}
 use Rattle.reading.specs.Steps.{TreeText, Split, SplitText}
 
@@ -68,7 +68,7 @@ module _ {t : Tree} {text : List ℕ} {lines : NeverLines} {rest : List ℕ} (s 
       (arith, length-append (take (lines .at) text) (drop (lines .end) text), length-take-le (lines .at) text l, length-drop (lines .end) text) in
       omega (arith, s .short)
 
-  pub nevers-form : InForm text lines
+  pub nevers-form : NeversInForm text lines
   nevers-form = record { short = s .short; tree = t; is = s .is; stand = s .stand }
 
 module _ {text : List ℕ} (a : TreeText text) (lines : NeverLines) (stand : (t : Tree) → TextOf t text → lines ≡ neverLines t) where

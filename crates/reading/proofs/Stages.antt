@@ -40,7 +40,7 @@ use Rattle.nevers.specs.Ready.{InputsReady}
 use Rattle.terms.specs.Resolution.{TreeAt, ResolveReady, Resolved}
 use Rattle.refusals.proofs.Promised.{IsFailed, passed-none, passed-false, failed, failed-at, passed, keeps-room, bare, keeps-bare, finished}
 use Rattle.reading.specs.Places.{Near}
-use Rattle.reading.specs.Words.{blockWords, wordCount, PutReady}
+use Rattle.reading.specs.Words.{treeBlockWords, wordCount, PutReady}
 use Rattle.reading.specs.Steps.{Split, Limited, ReadReady, TablesReady, Tabled, Resolving, TermsReady, Known, WriteReady}
 use Rattle.reading.proofs.TestPlaces.{repeat-tells, unknown-tells, near}
 use Rattle.reading.proofs.PlacesInside.{duplicate-inside, undeclared-inside}
@@ -344,7 +344,7 @@ module _ {text : List ℕ} {lines : ℕ} {c : Counts} {names masks gates outputs
     pub fits : r ≡ Passed → wordCount c lines ≤ length entry
     fits e = rw (← all′) (ltb-false _ _ (passed-false _ NoRoom tested e))
 
-    pub all-written : r ≡ Passed → (exit : List ℕ) → exit ≡ sets entry 0 (blockWords c lines names masks gates outputs)
+    pub all-written : r ≡ Passed → (exit : List ℕ) → exit ≡ sets entry 0 (treeBlockWords c lines names masks gates outputs)
         → Promise (read text (length entry)) entry (Done count 0) exit
     all-written e exit x =
         finished (passed bare keeps-bare _ _ NoRoom chain tested e) refl

@@ -15,8 +15,8 @@ nameOf names i = portWords (getD names i 0)
 unfoldable pub wordOf : List ℕ → ℕ → ℕ
 wordOf words i = getD words i 0
 
-unfoldable pub blockWords : Counts → ℕ → List ℕ → List ℕ → List ℕ → List ℕ → List ℕ
-blockWords c lines names masks gates outputs =
+unfoldable pub treeBlockWords : Counts → ℕ → List ℕ → List ℕ → List ℕ → List ℕ → List ℕ
+treeBlockWords c lines names masks gates outputs =
     (c .inputs ∷ c .gates ∷ c .outputs ∷ lines ∷ [])
     ++ joined (tab (nameOf names) (c .inputs))
     ++ tab (wordOf masks) (neverSize * lines)

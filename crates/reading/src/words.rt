@@ -17,7 +17,7 @@ ghost use Rattle.laws.specs.Lists.{tab, joined};
 ghost use Rattle.netlist.specs.Limits.{maxInputs, maxNevers, maxGates, maxOutputs};
 ghost use Rattle.netlist.specs.StoredBlock.{nameSize, inputsAt};
 ghost use Rattle.terms.specs.Ports.{portWords};
-ghost use Rattle.reading.specs.Words.{nameOf, wordOf, blockWords, PutReady};
+ghost use Rattle.reading.specs.Words.{nameOf, wordOf, treeBlockWords, PutReady};
 
 // Writes the four counts.
 fn put_counts(c: Counts, lines: usize, block: &mut [u16])
@@ -77,7 +77,7 @@ pub fn put_block(
 )
     requires { ⌜ PutReady c lines (now names) (now masks) (now gates) (now outputs) (now block) ⌝ }
     ensures { λ r. ⌜ now (block .exit) ≡ sets (now (block .entry)) 0
-        (blockWords c lines (now (names .entry)) (now (masks .entry)) (now (gates .entry)) (now (outputs .entry))) ⌝ }
+        (treeBlockWords c lines (now (names .entry)) (now (masks .entry)) (now (gates .entry)) (now (outputs .entry))) ⌝ }
 {
     let n = c.inputs;
     let m = c.gates;

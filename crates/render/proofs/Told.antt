@@ -33,7 +33,7 @@ use Rattle.agreement.proofs.Block.{rendering-count, rendering-inputs, rendering
 use Rattle.assignments.proofs.Blocks.{sound-lowest, lowest-sound}
 use Rattle.reach.proofs.Order.{length-groups}
 use Rattle.passes.specs.Counting.{Listing}
-use Rattle.schedule.specs.Listing.{Numbers, PassesAre, Appended, membersOf, planOf, ListReady, GroupsListed}
+use Rattle.schedule.specs.Listing.{Numbers, PassesAre, GatesAppended, membersOf, planOf, ListReady, GroupsListed}
 use Rattle.schedule.proofs.Listing.{front}
 use Rattle.schedule.proofs.Blocks.{count-few, plan-schedule, members-groups, members-long, members-front, starts-next, starts-within, starts-part}
 
@@ -89,7 +89,7 @@ schedule-length ws total et = length-schedule-is (decode ws) ∙ rendering-count
 
 pub scheduled : (ws numbers passes : List ℕ) (count total : ℕ) (entry order : List ℕ) (at : ℕ)
     → Numbers (decode ws) (getD ws 1 0) count numbers → PassesAre (decode ws) count passes → total ≡ copyCount (decode ws) → total ≤ maxCopies
-    → maxGates ≤ length entry → Appended (planOf numbers passes (getD ws 1 0) count) entry 0 order at → take total order ≡ schedule (decode ws)
+    → maxGates ≤ length entry → GatesAppended (planOf numbers passes (getD ws 1 0) count) entry 0 order at → take total order ≡ schedule (decode ws)
 scheduled ws numbers passes count total entry order at a p et few room e =
     let len : length (schedule (decode ws)) ≡ total = schedule-length ws total et in
     let fits : length (planOf numbers passes (getD ws 1 0) count) ≤ length entry = rw (plan-schedule a passes p, len) (omega arith) in

@@ -21,7 +21,7 @@ pub record LowestReady (ws order zeros ones : List ℕ) : Type 0 where
   pub oneRoom : getD ws 0 0 + getD ws 1 0 ≤ length ones
 
 -- what the search for an unsettled setting asks
-pub record SearchReady (ws order zeros ones : List ℕ) : Type 0 where
+pub record SettingsReady (ws order zeros ones : List ℕ) : Type 0 where
   pub whole : isTorn ws ≡ false
   pub orderRoom : getD ws 1 0 ≤ length order
   pub zeroRoom : getD ws 0 0 + getD ws 1 0 ≤ length zeros
@@ -54,7 +54,7 @@ pub record CopiesReady (ws numbers : List ℕ) (count : ℕ) (order members star
   pub settledOneRoom : getD ws 0 0 + getD ws 1 0 ≤ length settledOnes
 
 -- nothing can refuse any more but the room
-pub record WriteReady (ws numbers : List ℕ) (count : ℕ) (passes : List ℕ) (total : ℕ) (order newest : List ℕ) : Type 0 where
+pub record RenderingReady (ws numbers : List ℕ) (count : ℕ) (passes : List ℕ) (total : ℕ) (order newest : List ℕ) : Type 0 where
   pub whole : isTorn ws ≡ false
   pub numbersAre : Numbers (decode ws) (getD ws 1 0) count numbers
   pub passesAre : PassesAre (decode ws) count passes

@@ -31,7 +31,7 @@ ghost use Rattle.netlist.specs.Cover.{isSound};
 ghost use Rattle.netlist.specs.Answers.{testOf, Promise};
 ghost use Rattle.netlist.specs.Operations.{render};
 ghost use Rattle.passes.specs.Counting.{AllCounted};
-ghost use Rattle.render.specs.Tests.{LowestReady, SearchReady, AlongReady, CopiesReady, WriteReady, ArrayRoom};
+ghost use Rattle.render.specs.Tests.{LowestReady, SettingsReady, AlongReady, CopiesReady, RenderingReady, ArrayRoom};
 
 // The lowest setting that may come and is not settled, or 2^n; the gates are evaluated along `order`.
 fn lowest_along(words: &[u16], order: &[u16], zeros: &mut [u64], ones: &mut [u64]) -> usize
@@ -51,7 +51,7 @@ fn lowest_along(words: &[u16], order: &[u16], zeros: &mut [u64], ones: &mut [u64
 
 // 9: is some setting that may come not settled? Tells the lowest.
 fn find_unsettled(words: &[u16], order: &mut [u16], zeros: &mut [u64], ones: &mut [u64]) -> Test
-    requires { ⌜ SearchReady (now words) (now order) (now zeros) (now ones) ⌝ }
+    requires { ⌜ SettingsReady (now words) (now order) (now zeros) (now ones) ⌝ }
     ensures { λ r. ⌜ r ≡ testOf (not (isSound (decode (now (words .entry))))) (NotSettled (lowestUnsettled (decode (now (words .entry))))) ⌝ }
 {
     order_gates(words, order);
@@ -71,7 +71,7 @@ fn finish(
     newest: &mut [u16],
     rendered: &mut [u16],
 ) -> Answer
-    requires { ⌜ WriteReady (now words) (now numbers) count (now passes) total (now order) (now newest) ⌝ }
+    requires { ⌜ RenderingReady (now words) (now numbers) count (now passes) total (now order) (now newest) ⌝ }
     ensures { λ r. ⌜ Promise (render (now (words .entry)) (length (now (rendered .entry)))) (now (rendered .entry)) r (now (rendered .exit)) ⌝ }
 {
     let n = inputs_of(words);

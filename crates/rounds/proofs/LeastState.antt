@@ -13,14 +13,14 @@ use Rattle.laws.proofs.Tests.{lt-or-le}
 use Rattle.netlist.specs.Values.{Value, undefined}
 use Rattle.netlist.specs.Netlist.{Block, gateCount, gateOf}
 use Rattle.netlist.specs.Rounds.{evaluated, afterRounds, rounds, settled}
-use Rattle.rounds.specs.Order.{Below, BelowOn, BelowAll, Closed}
+use Rattle.rounds.specs.Order.{Below, BelowOn, BelowAll, ClosedOrder}
 use Rattle.rounds.proofs.Values.{below-of-eq, below-of-undefined, below-trans, below-antisym}
 use Rattle.rounds.proofs.Evaluation.{evaluated-mono}
 use Rattle.rounds.proofs.States.{start-below}
 use Rattle.rounds.proofs.Rounds.{getD-round, evaluated-outside, evaluated-settled}
 
 module _ (b : Block) (x : List Value) where
-  module _ (S : ℕ → Type 0) (w : List Value) (closed : Closed b S)
+  module _ (S : ℕ → Type 0) (w : List Value) (closed : ClosedOrder b S)
       (above : (j : ℕ) → S j → j < gateCount b → Below (evaluated x w (gateOf b j)) (getD w j undefined)) where
     -- A state above its own round on a closed set is there above every round's state.
     pub afterRounds-below : (r : ℕ) → BelowOn S (afterRounds b x r) w
@@ -39,7 +39,7 @@ module _ (b : Block) (x : List Value) where
     settled-below = afterRounds-below (rounds b x)
 
   -- A state fixed on a closed set is there above the settled values.
-  pub settled-below-fixed : (S : ℕ → Type 0) (w : List Value) → Closed b S
+  pub settled-below-fixed : (S : ℕ → Type 0) (w : List Value) → ClosedOrder b S
       → ((j : ℕ) → S j → j < gateCount b → evaluated x w (gateOf b j) ≡ getD w j undefined) → BelowOn S (settled b x) w
   settled-below-fixed S w closed fixed = settled-below S w closed (λ j s l. below-of-eq (fixed j s l))
 
@@ -54,7 +54,7 @@ module _ (b : Block) (x : List Value) where
       afterRounds-below (λ _. Unit) (settled b x) (λ i k s l q. tt) (λ i s l. below-of-eq (evaluated-settled b x i)) r j tt
 
   -- A state below the settled values and fixed on a closed set is settled there.
-  pub fixed-settled-on : (S : ℕ → Type 0) (v : List Value) → Closed b S → BelowOn S v (settled b x)
+  pub fixed-settled-on : (S : ℕ → Type 0) (v : List Value) → ClosedOrder b S → BelowOn S v (settled b x)
       → ((j : ℕ) → S j → j < gateCount b → evaluated x v (gateOf b j) ≡ getD v j undefined)
       → (j : ℕ) → S j → getD v j undefined ≡ getD (settled b x) j undefined
   fixed-settled-on S v closed below fixed j s =

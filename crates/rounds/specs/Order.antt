@@ -30,8 +30,8 @@ abbrev pub BelowAll : List Value → List Value → Type 0
 BelowAll v w = (j : ℕ) → Below (getD v j undefined) (getD w j undefined)
 
 -- the set's gates read only inputs, constants and gates of the set
-abbrev pub Closed : Block → (ℕ → Type 0) → Type 0
-Closed b S = (j k : ℕ) → S j → j < gateCount b → reads b j k ≡ true → S k
+abbrev pub ClosedOrder : Block → (ℕ → Type 0) → Type 0
+ClosedOrder b S = (j k : ℕ) → S j → j < gateCount b → reads b j k ≡ true → S k
 
 -- the gates listed, as a set
 abbrev pub Listed : List ℕ → ℕ → Type 0

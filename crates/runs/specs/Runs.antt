@@ -44,8 +44,8 @@ abbrev pub ended : Refusal → Turn
 ended r = record { next = over; output = refusalLine r }
 
 -- the line so far with a byte more, as far as it is held
-abbrev pub held : List ℕ → ℕ → List ℕ
-held line c = take heldBytes (line ++ (c ∷ []))
+abbrev pub heldFront : List ℕ → ℕ → List ℕ
+heldFront line c = take heldBytes (line ++ (c ∷ []))
 
 -- what Read makes of the netlist
 unfoldable pub opened : Outcome → Turn
@@ -58,7 +58,7 @@ turn (inNetlist fresh text) c =
     cond (fresh && eqb c lf) (opened (readText text))
     (cond (ltb (length text) maxText) (silent (inNetlist (eqb c lf) (text ++ (c ∷ [])))) (ended TextTooLong))
 turn (inLines ws line) c =
-    cond (eqb c lf) (record { next = inLines ws []; output = lineAnswer (decode ws) (held line c) }) (silent (inLines ws (held line c)))
+    cond (eqb c lf) (record { next = inLines ws []; output = lineAnswer (decode ws) (heldFront line c) }) (silent (inLines ws (heldFront line c)))
 turn over c = silent over
 
 -- what a piece of input makes of it

@@ -27,7 +27,7 @@ use Rattle.grammar.proofs.WritingLength.{name-short}
 use Rattle.telling.specs.Shown.{Shown}
 use Rattle.telling.proofs.Told.{Fits, told-refused, kept-refused, told-done, shown-refused, shown-gave}
 use Rattle.telling.proofs.Sizes.{counted-fits, refused-fits, at-fits}
-use Rattle.session.specs.Session.{maxAnswer, Written}
+use Rattle.session.specs.Session.{maxAnswer, AnswerWritten}
 
 -- ---- the length of a show line
 
@@ -80,7 +80,7 @@ module _ (ws line : List ℕ) (whole : isTorn ws ≡ false) (room : ℕ) (enough
 
 -- ---- what is shown is written
 
-pub shown-written : {o : Outcome} {entry exit : List ℕ} {r : ℕ} → Shown o entry exit r → Written (shown o) exit r
+pub shown-written : {o : Outcome} {entry exit : List ℕ} {r : ℕ} → Shown o entry exit r → AnswerWritten (shown o) exit r
 shown-written {o} {entry} {exit} s =
     record {
       countIs = s .countIs;
@@ -88,7 +88,7 @@ shown-written {o} {entry} {exit} s =
       bytesAre = rw (s .textIs) (take-placed (shown o) entry _ (sym (s .countIs)));
     }
 
-pub nothing-written : (out : List ℕ) → Written [] out 0
+pub nothing-written : (out : List ℕ) → AnswerWritten [] out 0
 nothing-written out = record { countIs = refl; within = omega arith; bytesAre = refl }
 
 module _ (ws line : List ℕ) (whole : isTorn ws ≡ false) (entry exit : List ℕ) (enough : maxAnswer ≤ length entry) (a : Answer)
@@ -105,12 +105,12 @@ module _ (ws line : List ℕ) (whole : isTorn ws ≡ false) (entry exit : List �
   told = rw (answer-is ws line whole (length entry) enough) at p
 
   pub line-refused : (why : Refusal) (final : List ℕ) (n : ℕ) → a ≡ Refused why → Shown (refused why) exit final n
-      → Written (lineAnswer (decode ws) line) final n
+      → AnswerWritten (lineAnswer (decode ws) line) final n
   unfolding o lineAnswer
   line-refused why final n e s =
       shown-written (shown-refused o why entry exit final n (told-refused o a entry exit fits told why e)
       (kept-refused o a entry exit fits told why e) s)
 
-  pub line-done : (count detail : ℕ) → a ≡ Done count detail → Written (lineAnswer (decode ws) line) exit count
+  pub line-done : (count detail : ℕ) → a ≡ Done count detail → AnswerWritten (lineAnswer (decode ws) line) exit count
   unfolding o lineAnswer
   line-done count detail e = shown-written (shown-gave (told-done o a entry exit fits told count detail e))

@@ -11,7 +11,7 @@ use Rattle.laws.proofs.Tests.{lt-or-le}
 use Rattle.runs.specs.Runs.{Run, turn, after, outputs}
 use Rattle.runs.proofs.Pieces.{after-append, outputs-append}
 use Rattle.session.specs.declared.State.{State}
-use Rattle.session.specs.Session.{runOf, Room, Ready, Stepped, Progressed, Advanced}
+use Rattle.session.specs.Session.{runOf, SessionRoom, SessionReady, SessionStepped, Progressed, Advanced}
 use Rattle.session.proofs.Answers.{nothing-written}
 
 module _ (r : Run) (piece : List ℕ) (n : ℕ) (l : n < length piece) where
@@ -30,7 +30,7 @@ module _ (r : Run) (piece : List ℕ) (n : ℕ) (l : n < length piece) where
 
 -- ---- a piece, byte after byte
 
-pub at-start : {state : State} {text words line out : List ℕ} (piece : List ℕ) → Ready state text words line out
+pub at-start : {state : State} {text words line out : List ℕ} (piece : List ℕ) → SessionReady state text words line out
     → Progressed (runOf state text words line) piece state text words line out 0 0
 unfolding after outputs
 at-start {out = out} piece h = record { ready = h; within = omega arith; next = refl; output = nothing-written out }
@@ -42,7 +42,7 @@ no-bytes (x ∷ l) e = absurd (omega arith)
 module _ {r : Run} {piece : List ℕ} {state : State} {text words line out : List ℕ} {taken written : ℕ}
     (p : Progressed r piece state text words line out taken written) where
   pub one-byte : {s : State} {t w l o : List ℕ} {n : ℕ} → taken < length piece → written ≡ 0
-      → Stepped (turn (runOf state text words line) (getD piece taken 0)) s t w l o n → Room t w l o
+      → SessionStepped (turn (runOf state text words line) (getD piece taken 0)) s t w l o n → SessionRoom t w l o
       → Progressed r piece s t w l o (taken + 1) n
   one-byte {n = n} more none h room =
       let c = getD piece taken 0 in

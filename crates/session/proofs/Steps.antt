@@ -17,7 +17,7 @@ use Rattle.netlist.specs.declared.Answer.the-variants.{Done, Refused}
 use Rattle.netlist.specs.Limits.{maxText, maxBlock}
 use Rattle.netlist.specs.StoredBlock.{isTorn, decode}
 use Rattle.netlist.specs.Line.{lf}
-use Rattle.netlist.specs.Answers.{refused, Promise}
+use Rattle.netlist.specs.Answers.{Outcome, done, refused, Promise}
 use Rattle.netlist.specs.Operations.{readText, read}
 use Rattle.netlist.specs.Program.{shown}
 use Rattle.netlist.specs.Bench.{lineAnswer, lineAnswers, lastLine, benchAfter}
@@ -28,7 +28,7 @@ use Rattle.telling.proofs.Told.{Gave, told-refused, told-done, gave-within}
 use Rattle.telling.proofs.Sizes.{read-fits}
 use Rattle.session.specs.declared.State.{State}
 use Rattle.session.specs.declared.State.the-variants.{Netlist, Lines, Ended}
-use Rattle.session.specs.Session.{runOf, Sound, Ready, Held, LineRoom, Written, Stepped}
+use Rattle.session.specs.Session.{runOf, Sound, SessionReady, TextHeld, LineRoom, AnswerWritten, SessionStepped}
 use Rattle.session.proofs.Answers.{shown-written, nothing-written}
 
 -- ---- the end of the netlist
@@ -43,13 +43,13 @@ module _ (t entry exit : List ℕ) (room : maxBlock ≤ length entry) (a : Answe
   is-done count detail e = told-done (readText t) a entry exit (read-fits (length entry) room t) p count detail e
 
   pub read-refused : (why : Refusal) → a ≡ Refused why → (text line out final : List ℕ) (n : ℕ) → Shown (refused why) out final n
-      → Stepped (opened (readText t)) Ended text exit line final n
+      → SessionStepped (opened (readText t)) Ended text exit line final n
   unfolding opened runOf Sound shown
   read-refused why e text line out final n s =
       rw (is-refused why e) (record { sound = tt; next = refl; output = shown-written s })
 
   pub read-done : (count detail : ℕ) → a ≡ Done count detail → (text line out : List ℕ)
-      → Stepped (opened (readText t)) (Lines count 0) text exit line out 0
+      → SessionStepped (opened (readText t)) (Lines count 0) text exit line out 0
   unfolding opened runOf Sound
   read-done count detail e text line out =
       let g = is-done count detail e in
@@ -60,26 +60,23 @@ module _ (t entry exit : List ℕ) (room : maxBlock ≤ length entry) (a : Answe
         output = nothing-written out;
       })
 
-  pub end-refused : (why : Refusal) → a ≡ Refused why → (out final : List ℕ) (n : ℕ) → Shown (refused why) out final n
-      → Written (benchAfter (readText t) []) final n
-  unfolding benchAfter shown
-  end-refused why e out final n s = rw (is-refused why e) (shown-written s)
-
-  pub end-done : (count detail : ℕ) → a ≡ Done count detail → (out : List ℕ) → Written (benchAfter (readText t) []) out 0
-  unfolding benchAfter lineAnswers
-  end-done count detail e out = rw (is-done count detail e .is) (nothing-written out)
+-- what a netlist opens with is what it gives where the input ends behind it
+pub opened-ends : (x : Outcome) → opened x .output ≡ benchAfter x []
+unfolding opened benchAfter lineAnswers
+opened-ends (done ws count detail) = refl
+opened-ends (refused r) = refl
 
 -- ---- a byte of the netlist
 
 module _ (kept : ℕ) (fresh : Bool) (c : ℕ) (text words line out : List ℕ) where
   pub turn-opens : {state : State} {text′ words′ line′ out′ : List ℕ} {n : ℕ} → fresh && eqb c lf ≡ true
-      → Stepped (opened (readText (take kept text))) state text′ words′ line′ out′ n
-      → Stepped (turn (inNetlist fresh (take kept text)) c) state text′ words′ line′ out′ n
+      → SessionStepped (opened (readText (take kept text))) state text′ words′ line′ out′ n
+      → SessionStepped (turn (inNetlist fresh (take kept text)) c) state text′ words′ line′ out′ n
   unfolding turn
   turn-opens e s = rw e s
 
   pub turn-keeps : fresh && eqb c lf ≡ false → kept < maxText → maxText ≤ length text
-      → Stepped (turn (inNetlist fresh (take kept text)) c) (Netlist (kept + 1) (eqb c lf)) (set text kept c) words line out 0
+      → SessionStepped (turn (inNetlist fresh (take kept text)) c) (Netlist (kept + 1) (eqb c lf)) (set text kept c) words line out 0
   unfolding turn runOf Sound
   turn-keeps e l room =
       let m : length (take kept text) ≡ kept = length-take-le kept text (omega arith) in
@@ -88,7 +85,7 @@ module _ (kept : ℕ) (fresh : Bool) (c : ℕ) (text words line out : List ℕ) 
       (record { sound = omega arith; next = ap (inNetlist (eqb c lf)) f; output = nothing-written out })
 
   pub turn-too-long : {final : List ℕ} {n : ℕ} → fresh && eqb c lf ≡ false → maxText ≤ kept → kept ≤ length text → Shown (refused TextTooLong) out final n
-      → Stepped (turn (inNetlist fresh (take kept text)) c) Ended text words line final n
+      → SessionStepped (turn (inNetlist fresh (take kept text)) c) Ended text words line final n
   unfolding turn runOf Sound shown
   turn-too-long e l room s =
       let m : length (take kept text) ≡ kept = length-take-le kept text room in
@@ -100,7 +97,7 @@ module _ (kept c : ℕ) (line : List ℕ) (few : kept ≤ heldBytes) (room : hel
   before-length : length (take kept line) ≡ kept
   before-length = length-take-le kept line (omega arith)
 
-  pub held-stored : kept < heldBytes → Held (take kept line) c (set line kept c) (kept + 1)
+  pub held-stored : kept < heldBytes → TextHeld (take kept line) c (set line kept c) (kept + 1)
   held-stored l =
       let f : take (kept + 1) (set line kept c) ≡ take kept line ++ (c ∷ []) = rw add-one (take-suc-set line kept c (omega arith)) in
       let m : length (take kept line ++ (c ∷ [])) ≤ heldBytes = omega (arith, length-append (take kept line) (c ∷ []), before-length) in
@@ -110,7 +107,7 @@ module _ (kept c : ℕ) (line : List ℕ) (few : kept ≤ heldBytes) (room : hel
         within = simp length-set (omega arith);
       }
 
-  pub held-full : heldBytes ≤ kept → Held (take kept line) c line kept
+  pub held-full : heldBytes ≤ kept → TextHeld (take kept line) c line kept
   held-full l =
       let e : kept ≡ heldBytes = omega arith in
       record {
@@ -121,10 +118,10 @@ module _ (kept c : ℕ) (line : List ℕ) (few : kept ≤ heldBytes) (room : hel
         within = omega arith;
       }
 
-module _ (count kept c : ℕ) (words line line′ : List ℕ) (r : ℕ) (h : Held (take kept line) c line′ r)
+module _ (count kept c : ℕ) (words line line′ : List ℕ) (r : ℕ) (h : TextHeld (take kept line) c line′ r)
     (there : count ≤ length words) (whole : isTorn (take count words) ≡ false) where
   pub turn-holds : (text out : List ℕ) → eqb c lf ≡ false
-      → Stepped (turn (inLines (take count words) (take kept line)) c) (Lines count r) text words line′ out 0
+      → SessionStepped (turn (inLines (take count words) (take kept line)) c) (Lines count r) text words line′ out 0
   unfolding turn runOf Sound
   turn-holds text out e =
       rw e (record {
@@ -133,8 +130,8 @@ module _ (count kept c : ℕ) (words line line′ : List ℕ) (r : ℕ) (h : Hel
         output = nothing-written out;
       })
 
-  pub turn-answers : (text out : List ℕ) (n : ℕ) → eqb c lf ≡ true → Written (lineAnswer (decode (take count words)) (take r line′)) out n
-      → Stepped (turn (inLines (take count words) (take kept line)) c) (Lines count 0) text words line′ out n
+  pub turn-answers : (text out : List ℕ) (n : ℕ) → eqb c lf ≡ true → AnswerWritten (lineAnswer (decode (take count words)) (take r line′)) out n
+      → SessionStepped (turn (inLines (take count words) (take kept line)) c) (Lines count 0) text words line′ out n
   unfolding turn runOf Sound
   turn-answers text out n e w =
       rw e (record {
@@ -145,12 +142,12 @@ module _ (count kept c : ℕ) (words line line′ : List ℕ) (r : ℕ) (h : Hel
 
 -- ---- the end of a line
 
-pub no-last-line : (ws line out : List ℕ) → Written (lineAnswers (decode ws) (lastLine (take 0 line))) out 0
+pub no-last-line : (ws line out : List ℕ) → AnswerWritten (lineAnswers (decode ws) (lastLine (take 0 line))) out 0
 unfolding lineAnswers lastLine
 no-last-line ws line out = nothing-written out
 
-pub last-line : (ws line out : List ℕ) (n : ℕ) → 0 < length line → Written (lineAnswer (decode ws) line) out n
-    → Written (lineAnswers (decode ws) (lastLine line)) out n
+pub last-line : (ws line out : List ℕ) (n : ℕ) → 0 < length line → AnswerWritten (lineAnswer (decode ws) line) out n
+    → AnswerWritten (lineAnswers (decode ws) (lastLine line)) out n
 unfolding lineAnswers lastLine
 last-line ws [] out n l w = absurd (omega arith)
 last-line ws (c ∷ line) out n l w = rw (append-nil (lineAnswer (decode ws) (c ∷ line))) w
@@ -159,34 +156,34 @@ last-line ws (c ∷ line) out n l w = rw (append-nil (lineAnswer (decode ws) (c 
 
 module _ {state : State} (text words line : List ℕ) where
   pub netlist-step : (c : ℕ) {kept : ℕ} {fresh : Bool} {s : State} {t w l o : List ℕ} {n : ℕ} → state ≡ Netlist kept fresh
-      → Stepped (turn (inNetlist fresh (take kept text)) c) s t w l o n → Stepped (turn (runOf state text words line) c) s t w l o n
+      → SessionStepped (turn (inNetlist fresh (take kept text)) c) s t w l o n → SessionStepped (turn (runOf state text words line) c) s t w l o n
   unfolding runOf
   netlist-step c e h = rw e h
 
   pub line-step : (c : ℕ) {count kept : ℕ} {s : State} {t w l o : List ℕ} {n : ℕ} → state ≡ Lines count kept
-      → Stepped (turn (inLines (take count words) (take kept line)) c) s t w l o n → Stepped (turn (runOf state text words line) c) s t w l o n
+      → SessionStepped (turn (inLines (take count words) (take kept line)) c) s t w l o n → SessionStepped (turn (runOf state text words line) c) s t w l o n
   unfolding runOf
   line-step c e h = rw e h
 
-  pub over-step : (c : ℕ) (out : List ℕ) → state ≡ Ended → Stepped (turn (runOf state text words line) c) Ended text words line out 0
+  pub over-step : (c : ℕ) (out : List ℕ) → state ≡ Ended → SessionStepped (turn (runOf state text words line) c) Ended text words line out 0
   unfolding runOf turn Sound
   over-step c out e = rw e (record { sound = tt; next = refl; output = nothing-written out })
 
   pub netlist-ending : {kept : ℕ} {fresh : Bool} {out : List ℕ} {n : ℕ} → state ≡ Netlist kept fresh
-      → Written (benchAfter (readText (take kept text)) []) out n → Written (ending (runOf state text words line)) out n
+      → AnswerWritten (benchAfter (readText (take kept text)) []) out n → AnswerWritten (ending (runOf state text words line)) out n
   unfolding runOf ending
   netlist-ending e h = rw e h
 
   pub line-ending : {count kept : ℕ} {out : List ℕ} {n : ℕ} → state ≡ Lines count kept
-      → Written (lineAnswers (decode (take count words)) (lastLine (take kept line))) out n → Written (ending (runOf state text words line)) out n
+      → AnswerWritten (lineAnswers (decode (take count words)) (lastLine (take kept line))) out n → AnswerWritten (ending (runOf state text words line)) out n
   unfolding runOf ending
   line-ending e h = rw e h
 
-  pub over-ending : (out : List ℕ) → state ≡ Ended → Written (ending (runOf state text words line)) out 0
+  pub over-ending : (out : List ℕ) → state ≡ Ended → AnswerWritten (ending (runOf state text words line)) out 0
   unfolding runOf ending
   over-ending out e = rw e (nothing-written out)
 
-module _ {state : State} {text words line out : List ℕ} (h : Ready state text words line out) where
+module _ {state : State} {text words line out : List ℕ} (h : SessionReady state text words line out) where
   pub netlist-ready : {kept : ℕ} {fresh : Bool} → state ≡ Netlist kept fresh → kept ≤ maxText
   unfolding Sound
   netlist-ready e = rw e at (h .sound)

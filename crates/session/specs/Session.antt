@@ -7,7 +7,7 @@ use mathlib.Core.List.{List}
 use lib.ListN.{length, take}
 use Rattle.netlist.specs.Limits.{maxText, maxOutputs, maxName, maxBlock}
 use Rattle.netlist.specs.StoredBlock.{isTorn}
-use Rattle.runs.specs.Runs.{heldBytes, Run, inNetlist, inLines, over, Turn, start, held, after, outputs}
+use Rattle.runs.specs.Runs.{heldBytes, Run, inNetlist, inLines, over, Turn, start, heldFront, after, outputs}
 use Rattle.session.specs.declared.State.{State}
 use Rattle.session.specs.declared.State.the-variants.{Netlist, Lines, Ended}
 
@@ -28,15 +28,15 @@ Sound (Lines count kept) words = (kept ≤ heldBytes) × (count ≤ length words
 Sound Ended words = Unit {0}
 
 -- the buffers are long enough
-pub record Room (text words line out : List ℕ) : Type 0 where
+pub record SessionRoom (text words line out : List ℕ) : Type 0 where
   pub textRoom : maxText ≤ length text
   pub wordRoom : maxBlock ≤ length words
   pub lineRoom : heldBytes ≤ length line
   pub outRoom : maxAnswer ≤ length out
 
 -- What every step keeps.
-pub record Ready (state : State) (text words line out : List ℕ) : Type 0 where
-  pub room : Room text words line out
+pub record SessionReady (state : State) (text words line out : List ℕ) : Type 0 where
+  pub room : SessionRoom text words line out
   pub sound : Sound state words
 
 -- the first state: ready in all buffers that are long enough, and at the start of the run
@@ -45,23 +45,23 @@ pub record Fresh (state : State) : Type 0 where
   pub isStart : (text words line : List ℕ) → runOf state text words line ≡ start
 
 -- `written` bytes in front of `out` are this output
-pub record Written (output out : List ℕ) (written : ℕ) : Type 0 where
+pub record AnswerWritten (output out : List ℕ) (written : ℕ) : Type 0 where
   pub countIs : written ≡ length output
   pub within : written ≤ length out
   pub bytesAre : take written out ≡ output
 
 -- one byte: the next state stands for the turn's next run, and its output is written
-pub record Stepped (t : Turn) (state : State) (text words line out : List ℕ) (written : ℕ) : Type 0 where
+pub record SessionStepped (t : Turn) (state : State) (text words line out : List ℕ) (written : ℕ) : Type 0 where
   pub sound : Sound state words
   pub next : runOf state text words line ≡ t .next
-  pub output : Written (t .output) out written
+  pub output : AnswerWritten (t .output) out written
 
 -- What was taken of a piece led the run from `r` to where the state stands, and the answers to it are written.
 pub record Progressed (r : Run) (piece : List ℕ) (state : State) (text words line out : List ℕ) (taken written : ℕ) : Type 0 where
-  pub ready : Ready state text words line out
+  pub ready : SessionReady state text words line out
   pub within : taken ≤ length piece
   pub next : runOf state text words line ≡ after r (take taken piece)
-  pub output : Written (outputs r (take taken piece)) out written
+  pub output : AnswerWritten (outputs r (take taken piece)) out written
 
 -- The same, and something is taken of a piece that isn't empty.
 pub record Advanced (r : Run) (piece : List ℕ) (state : State) (text words line out : List ℕ) (taken written : ℕ) : Type 0 where
@@ -69,8 +69,8 @@ pub record Advanced (r : Run) (piece : List ℕ) (state : State) (text words lin
   pub moves : 0 < length piece → 0 < taken
 
 -- a line that holds these bytes, and a byte more as far as it is held
-pub record Held (before : List ℕ) (c : ℕ) (line : List ℕ) (r : ℕ) : Type 0 where
-  pub bytesAre : take r line ≡ held before c
+pub record TextHeld (before : List ℕ) (c : ℕ) (line : List ℕ) (r : ℕ) : Type 0 where
+  pub bytesAre : take r line ≡ heldFront before c
   pub few : r ≤ heldBytes
   pub within : r ≤ length line
 

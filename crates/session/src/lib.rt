@@ -10,7 +10,7 @@ use set_lines::end_line;
 use set_lines::line_byte;
 ghost use lib.ListN.{length};
 ghost use Rattle.runs.specs.Runs.{turn, ending};
-ghost use Rattle.session.specs.Session.{runOf, Ready, Fresh, Written, Stepped, Advanced};
+ghost use Rattle.session.specs.Session.{runOf, SessionReady, Fresh, AnswerWritten, SessionStepped, Advanced};
 
 mod netlist_part;
 mod set_lines;
@@ -73,8 +73,8 @@ fn feed_byte(
     line: &mut [u8],
     out: &mut [u8],
 ) -> Fed
-    requires { ⌜ Ready state (now text) (now words) (now line) (now out) ⌝ }
-    ensures { λ r. ⌜ Stepped (turn (runOf state (now (text .entry)) (now (words .entry)) (now (line .entry))) byte) (r .state) (now (text .exit))
+    requires { ⌜ SessionReady state (now text) (now words) (now line) (now out) ⌝ }
+    ensures { λ r. ⌜ SessionStepped (turn (runOf state (now (text .entry)) (now (words .entry)) (now (line .entry))) byte) (r .state) (now (text .exit))
         (now (words .exit)) (now (line .exit)) (now (out .exit)) (r .written) ⌝ }
 {
     match state {
@@ -99,7 +99,7 @@ pub fn feed(
     line: &mut [u8],
     out: &mut [u8],
 ) -> Progress
-    requires { ⌜ Ready state (now text) (now words) (now line) (now out) ⌝ }
+    requires { ⌜ SessionReady state (now text) (now words) (now line) (now out) ⌝ }
     ensures { λ r. ⌜ Advanced (runOf state (now (text .entry)) (now (words .entry)) (now (line .entry))) (now (piece .entry)) (r .state)
         (now (text .exit)) (now (words .exit)) (now (line .exit)) (now (out .exit)) (r .taken) (r .written) ⌝ }
 {
@@ -121,8 +121,8 @@ pub fn feed(
 
 // The end of the input: the answer's bytes at the start of `out`, and how many they are.
 pub fn finish(state: State, text: &[u8], words: &mut [u16], line: &[u8], out: &mut [u8]) -> usize
-    requires { ⌜ Ready state (now text) (now words) (now line) (now out) ⌝ }
-    ensures { λ r. ⌜ Written (ending (runOf state (now (text .entry)) (now (words .entry)) (now (line .entry)))) (now (out .exit)) r ⌝ }
+    requires { ⌜ SessionReady state (now text) (now words) (now line) (now out) ⌝ }
+    ensures { λ r. ⌜ AnswerWritten (ending (runOf state (now (text .entry)) (now (words .entry)) (now (line .entry)))) (now (out .exit)) r ⌝ }
 {
     match state {
         State::Netlist { length, fresh: _ } => end_netlist(length, text, words, out),

@@ -13,13 +13,13 @@ ghost use Rattle.netlist.specs.Limits.{maxText, maxBlock};
 ghost use Rattle.netlist.specs.Operations.{readText};
 ghost use Rattle.netlist.specs.Bench.{benchAfter};
 ghost use Rattle.runs.specs.Runs.{inNetlist, opened, turn};
-ghost use Rattle.session.specs.Session.{maxAnswer, Stepped, Written};
+ghost use Rattle.session.specs.Session.{maxAnswer, SessionStepped, AnswerWritten};
 
 // Reads the block; a refusal ends the run.
 fn open(held: usize, text: &[u8], words: &mut [u16], out: &mut [u8]) -> Fed
     requires { ⌜ (held ≤ length (now text)) × (maxBlock ≤ length (now words)) × (maxAnswer ≤ length (now out)) ⌝ }
     ensures { λ r. ⌜ ((line : List ℕ)
-        → Stepped (opened (readText (take held (now (text .entry))))) (r .state) (now (text .entry))
+        → SessionStepped (opened (readText (take held (now (text .entry))))) (r .state) (now (text .entry))
         (now (words .exit)) line (now (out .exit)) (r .written)) ⌝ }
 {
     match read(&text[..held], words) {
@@ -51,7 +51,7 @@ pub fn netlist_byte(
 ) -> Fed
     requires { ⌜ (held ≤ maxText) × (maxText ≤ length (now text)) × (maxBlock ≤ length (now words)) × (maxAnswer ≤ length (now out)) ⌝ }
     ensures { λ r. ⌜ ((line : List ℕ)
-        → Stepped (turn (inNetlist fresh (take held (now (text .entry)))) byte) (r .state) (now (text .exit))
+        → SessionStepped (turn (inNetlist fresh (take held (now (text .entry)))) byte) (r .state) (now (text .exit))
         (now (words .exit)) line (now (out .exit)) (r .written)) ⌝ }
 {
     if fresh && byte == b'\n' {
@@ -77,13 +77,8 @@ pub fn netlist_byte(
 // The input ends in the netlist: a refusal is told, and a good netlist gives nothing.
 pub fn end_netlist(held: usize, text: &[u8], words: &mut [u16], out: &mut [u8]) -> usize
     requires { ⌜ (held ≤ length (now text)) × (maxBlock ≤ length (now words)) × (maxAnswer ≤ length (now out)) ⌝ }
-    ensures { λ r. ⌜ Written (benchAfter (readText (take held (now (text .entry)))) []) (now (out .exit)) r ⌝ }
+    ensures { λ r. ⌜ AnswerWritten (benchAfter (readText (take held (now (text .entry)))) []) (now (out .exit)) r ⌝ }
 {
-    match read(&text[..held], words) {
-        Answer::Refused(why) => tell(why, out),
-        Answer::Done {
-            count: _,
-            detail: _,
-        } => 0,
-    }
+    let fed = open(held, text, words, out);
+    fed.written
 }

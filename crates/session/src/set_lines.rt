@@ -14,12 +14,12 @@ ghost use lib.ListN.{length, take};
 ghost use Rattle.netlist.specs.StoredBlock.{isTorn, decode};
 ghost use Rattle.netlist.specs.Bench.{lineAnswer, lineAnswers, lastLine};
 ghost use Rattle.runs.specs.Runs.{heldBytes, inLines, turn};
-ghost use Rattle.session.specs.Session.{maxAnswer, Held, LineRoom, Stepped, Written};
+ghost use Rattle.session.specs.Session.{maxAnswer, TextHeld, LineRoom, SessionStepped, AnswerWritten};
 
 // The answer to a line.
 fn answer(words: &[u16], line: &[u8], out: &mut [u8]) -> usize
     requires { ⌜ (isTorn (now words) ≡ false) × (maxAnswer ≤ length (now out)) ⌝ }
-    ensures { λ r. ⌜ Written (lineAnswer (decode (now (words .entry))) (now (line .entry))) (now (out .exit)) r ⌝ }
+    ensures { λ r. ⌜ AnswerWritten (lineAnswer (decode (now (words .entry))) (now (line .entry))) (now (out .exit)) r ⌝ }
 {
     match answer_line(words, line, out) {
         Answer::Refused(why) => tell(why, out),
@@ -30,7 +30,7 @@ fn answer(words: &[u16], line: &[u8], out: &mut [u8]) -> usize
 // Holds a byte more where there is room for it; how many are held then.
 fn hold(line: &mut [u8], held: usize, byte: u8) -> usize
     requires { ⌜ (held ≤ heldBytes) × (heldBytes ≤ length (now line)) ⌝ }
-    ensures { λ r. ⌜ Held (take held (now (line .entry))) byte (now (line .exit)) r ⌝ }
+    ensures { λ r. ⌜ TextHeld (take held (now (line .entry))) byte (now (line .exit)) r ⌝ }
 {
     if held < LINE_BYTES {
         line[held] = byte;
@@ -50,7 +50,7 @@ pub fn line_byte(
 ) -> Fed
     requires { ⌜ LineRoom count held (now words) (now line) (now out) ⌝ }
     ensures { λ r. ⌜ ((text : List ℕ)
-        → Stepped (turn (inLines (take count (now (words .entry))) (take held (now (line .entry)))) byte) (r .state) text
+        → SessionStepped (turn (inLines (take count (now (words .entry))) (take held (now (line .entry)))) byte) (r .state) text
         (now (words .entry)) (now (line .exit)) (now (out .exit)) (r .written)) ⌝ }
 {
     let kept = hold(line, held, byte);
@@ -76,7 +76,7 @@ pub fn line_byte(
 // The input ends in a line: it is answered unless it is empty.
 pub fn end_line(count: usize, held: usize, words: &[u16], line: &[u8], out: &mut [u8]) -> usize
     requires { ⌜ LineRoom count held (now words) (now line) (now out) ⌝ }
-    ensures { λ r. ⌜ Written (lineAnswers (decode (take count (now (words .entry)))) (lastLine (take held (now (line .entry))))) (now (out .exit)) r ⌝ }
+    ensures { λ r. ⌜ AnswerWritten (lineAnswers (decode (take count (now (words .entry)))) (lastLine (take held (now (line .entry))))) (now (out .exit)) r ⌝ }
 {
     if held == 0 {
         return 0;

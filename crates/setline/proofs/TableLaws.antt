@@ -24,10 +24,10 @@ use Rattle.netlist.specs.SetLine.{printSetLine, isLegalSetLine}
 use Rattle.netlist.specs.Bench.{givenValues}
 use Rattle.names.specs.Packed.{packed, nameFront}
 use Rattle.pairs.specs.PairBytes.{inputCode}
-use Rattle.pairs.specs.Tables.{PairsAt, PairRoom, Tabled, InputsAre}
+use Rattle.pairs.specs.Tables.{PairsAt, PairRoom, PairsTabled, InputsAre}
 use Rattle.pairs.proofs.PairPlaces.{count-is}
 use Rattle.pairs.proofs.TableLaws.{taken, setting-given, plain-bytes}
-use Rattle.setline.specs.Tables.{pairsAt, SetLineOf, inputKey, LineFor, InForm, TableRoom, TablesFor}
+use Rattle.setline.specs.Tables.{pairsAt, SetLineOf, inputKey, LineFor, InForm, SetTableRoom, TablesFor}
 
 module _ {n : ℕ} {ps : List Pair} {line : List ℕ} (is : SetLineOf n ps line) where
   pub pairs-legal : all isLegalPair ps ≡ true
@@ -118,7 +118,7 @@ line-setting t setting₀ e f = setting-given (t .legal) (t .tabled) (inputs-cou
 -- the tables that `answer_with` fills
 pub tables-for : {ws : List ℕ} {ps : List Pair} {line : List ℕ} → LineFor ws ps line
     → {names places codes : List ℕ} {count n : ℕ} (inputs₀ : List ℕ) {inputs : List ℕ}
-    → Tabled ps pairsAt count names places codes → n ≡ getD ws 0 0 → inputs ≡ placed (tab (inputKey ws) n) inputs₀
+    → PairsTabled ps pairsAt count names places codes → n ≡ getD ws 0 0 → inputs ≡ placed (tab (inputKey ws) n) inputs₀
     → TablesFor ws ps names places codes count inputs
 tables-for {ws} {ps} {line} f {names} {places} {codes} {count} {n} inputs₀ {inputs} t e g = record {
   whole = f .whole;
@@ -128,7 +128,7 @@ tables-for {ws} {ps} {line} f {names} {places} {codes} {count} {n} inputs₀ {in
   inputsAre = inputs-filled ws (f .whole) inputs₀ (rw e at g);
 }
 
-pub pair-room : {ws line names places codes inputs setting : List ℕ} → InForm ws line → TableRoom names places codes inputs setting
+pub pair-room : {ws line names places codes inputs setting : List ℕ} → InForm ws line → SetTableRoom names places codes inputs setting
     → PairRoom line pairsAt names places codes
 pair-room {ws} {line} f r =
     let n = inputs-few ws (f .for .whole) in

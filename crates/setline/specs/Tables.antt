@@ -10,7 +10,7 @@ use Rattle.netlist.specs.StoredBlock.{nameSize, inputsAt, bytesAt, decode, isTo
 use Rattle.netlist.specs.Syntax.{Pair, isLegalPair}
 use Rattle.netlist.specs.SetLine.{printSetLine, isLegalSetLine}
 use Rattle.names.specs.Packed.{packed, nameFront}
-use Rattle.pairs.specs.Tables.{Tabled, InputsAre}
+use Rattle.pairs.specs.Tables.{PairsTabled, InputsAre}
 
 -- the place of the first pair's space, behind the word
 abbrev pub pairsAt : ℕ
@@ -38,7 +38,7 @@ pub record InForm (ws line : List ℕ) : Type 0 where
   pub pairs : List Pair
   pub for : LineFor ws pairs line
 
-pub record TableRoom (names places codes inputs setting : List ℕ) : Type 0 where
+pub record SetTableRoom (names places codes inputs setting : List ℕ) : Type 0 where
   pub nameRoom : maxInputs ≤ length names
   pub placeRoom : maxInputs ≤ length places
   pub codeRoom : maxInputs ≤ length codes
@@ -50,10 +50,10 @@ pub record TablesFor (ws : List ℕ) (ps : List Pair) (names places codes : List
   pub whole : isTorn ws ≡ false
   pub few : count ≤ maxInputs
   pub legal : all isLegalPair ps ≡ true
-  pub tabled : Tabled ps pairsAt count names places codes
+  pub tabled : PairsTabled ps pairsAt count names places codes
   pub inputsAre : InputsAre (decode ws .inputs) (getD ws 0 0) inputs
 
-pub record TablesReady (ws names places codes : List ℕ) (count : ℕ) (inputs setting : List ℕ) : Type 0 where
+pub record SetTablesReady (ws names places codes : List ℕ) (count : ℕ) (inputs setting : List ℕ) : Type 0 where
   pub pairs : List Pair
   pub for : TablesFor ws pairs names places codes count inputs
   pub settingRoom : maxInputs ≤ length setting

@@ -18,7 +18,7 @@ ghost use Rattle.netlist.specs.StoredBlock.{decode};
 ghost use Rattle.netlist.specs.Answers.{inRoom, Promise};
 ghost use Rattle.netlist.specs.Syntax.{Pair};
 ghost use Rattle.netlist.specs.Bench.{pairsOutcome, answerLine};
-ghost use Rattle.setline.specs.Tables.{LineFor, InForm, TableRoom, TablesFor, TablesReady};
+ghost use Rattle.setline.specs.Tables.{LineFor, InForm, SetTableRoom, TablesFor, SetTablesReady};
 
 mod inputs;
 mod show;
@@ -37,7 +37,7 @@ fn answer_tables(
     setting: &mut [u8],
     out: &mut [u8],
 ) -> Answer
-    requires { ⌜ TablesReady (now words) (now names) (now places) (now codes) count (now inputs) (now setting) ⌝ }
+    requires { ⌜ SetTablesReady (now words) (now names) (now places) (now codes) count (now inputs) (now setting) ⌝ }
     ensures { λ r. ⌜ ((ps : List Pair)
         → TablesFor (now (words .entry)) ps (now (names .entry)) (now (places .entry)) (now (codes .entry)) count (now (inputs .entry))
         → Promise (inRoom (length (now (out .entry))) (pairsOutcome (decode (now (words .entry))) ps)) (now (out .entry)) r (now (out .exit))) ⌝ }
@@ -67,7 +67,7 @@ fn answer_with(
     out: &mut [u8],
 ) -> Answer
     requires { ⌜ InForm (now words) (now line) ⌝ }
-    requires { ⌜ TableRoom (now names) (now places) (now codes) (now inputs) (now setting) ⌝ }
+    requires { ⌜ SetTableRoom (now names) (now places) (now codes) (now inputs) (now setting) ⌝ }
     ensures { λ r. ⌜ ((ps : List Pair) → LineFor (now (words .entry)) ps (now (line .entry))
         → Promise (inRoom (length (now (out .entry))) (pairsOutcome (decode (now (words .entry))) ps)) (now (out .entry)) r (now (out .exit))) ⌝ }
 {

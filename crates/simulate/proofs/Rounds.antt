@@ -19,7 +19,7 @@ use Rattle.netlist.specs.Rounds.{afterRounds, isStable, rounds, settled}
 use Rattle.encoding.proofs.Decoded.{decode-gateCount}
 use Rattle.rounds.proofs.Rounds.{length-afterRounds, rounds-more, rounds-end, afterRounds-settled}
 use Rattle.simulate.specs.Rounded.{Settled}
-use Rattle.simulate.specs.Changes.{definedBytes, Round, Started, Turned}
+use Rattle.simulate.specs.Changes.{definedBytes, Round, RoundStarted, Turned}
 use Rattle.simulate.proofs.Codes.{roundCodes-of, codes-start}
 use Rattle.simulate.proofs.Updates.{defined-same, same-front}
 
@@ -52,7 +52,7 @@ module _ (ws setting : List ℕ) where
     pub round : Round ws setting old values queue head tail
     pub last : take (getD ws 1 0) old ≡ codesAfter count
 
-  pub rounding-none : {entry old values queue : List ℕ} {tail : ℕ} → Started ws setting entry old values queue tail → Rounding old values queue 0 tail 0
+  pub rounding-none : {entry old values queue : List ℕ} {tail : ℕ} → RoundStarted ws setting entry old values queue tail → Rounding old values queue 0 tail 0
   unfolding afterRounds
   rounding-none s = record { reached = omega arith; round = s .round; last = s .last ∙ rw (decode-gateCount ws) (sym (codes-start (getD ws 1 0))) }
 

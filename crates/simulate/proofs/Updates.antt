@@ -39,7 +39,7 @@ use Rattle.readers.specs.Readers.{Chain, Descends, Readers}
 use Rattle.readers.proofs.Chains.{chain-le, chain-step, chain-end}
 use Rattle.simulate.specs.Rounded.{gateCode, roundCodes}
 use Rattle.simulate.specs.Changes.{definedBytes, QueuedIn, Done, Steady, UpdateReady, Updated, UpdatedOne, UpdatedList, UpdatedAll, Awake}
-use Rattle.simulate.specs.Changes.{CopyReady, Copied, Round, Started, Turned}
+use Rattle.simulate.specs.Changes.{CopyChangedReady, Copied, Round, RoundStarted, Turned}
 use Rattle.simulate.proofs.Codes.{gates-are, roundCodes-tab, length-roundCodes, codes-start}
 
 -- ---- how many gates are 0 or 1
@@ -365,7 +365,7 @@ module _ (ws setting : List ℕ) where
 
     -- and then a round is made
     pub round-first : {queue values′ queue′ : List ℕ} {end : ℕ} → m ≤ length old → m ≤ length values′ → m ≤ length queue′
-        → UpdatedAll ws setting (take m old) values queue 0 values′ queue′ end → Started ws setting values₀ old values′ queue′ end
+        → UpdatedAll ws setting (take m old) values queue 0 values′ queue′ end → RoundStarted ws setting values₀ old values′ queue′ end
     round-first {queue} {values′} {queue′} {end} oldRoom valueRoom queueRoom u =
         record {
           round =
@@ -387,7 +387,7 @@ module _ (ws setting : List ℕ) where
 
   module _ (old values queue : List ℕ) (head tail : ℕ) (r : Round ws setting old values queue head tail) where
     -- the queued gates are there
-    pub copy-ready : getD ws 1 0 ≤ length values → CopyReady values queue head tail old
+    pub copy-ready : getD ws 1 0 ≤ length values → CopyChangedReady values queue head tail old
     copy-ready fits =
         record {
           queued = omega (arith, r .counted, defined-le values (getD ws 1 0), r .queueRoom);

@@ -2,7 +2,7 @@
 -- `values` those of this one, and the queue the gates that changed, in the order in which they did. Cited by the contracts of this crate. Assumes nothing.
 --   Done, Steady, UpdateReady   what is asked of the values
 --   Updated                     what evaluating some gates does
---   Round, Started, Turned      between two rounds, from none to the first, and from one to the next
+--   Round, RoundStarted, Turned      between two rounds, from none to the first, and from one to the next
 use Prim.Native.Nat.{ℕ, suc, _+_, _/_, _≤_, _<_}
 use mathlib.Core.Path.{_≡_}
 use mathlib.Core.Logic.{_⊎_}
@@ -76,7 +76,7 @@ Awake ws setting old values queue head tail =
     (j : ℕ) → j < getD ws 1 0 → Done ws setting old values j ⊎ ((k : ℕ) × (reads (decode ws) j k ≡ true) × QueuedIn queue head tail k)
 
 -- the queued gates are there
-pub record CopyReady (values queue : List ℕ) (head tail : ℕ) (old : List ℕ) : Type 0 where
+pub record CopyChangedReady (values queue : List ℕ) (head tail : ℕ) (old : List ℕ) : Type 0 where
   pub queued : tail ≤ length queue
   pub inside : (q : ℕ) → q < tail → (getD queue q 0 < length values) × (getD queue q 0 < length old)
 
@@ -98,7 +98,7 @@ pub record Round (ws setting old values queue : List ℕ) (head tail : ℕ) : Ty
   pub counted : tail ≡ definedBytes values (getD ws 1 0)
 
 -- the first round, from all gates undefined
-pub record Started (ws setting values old′ values′ queue′ : List ℕ) (tail : ℕ) : Type 0 where
+pub record RoundStarted (ws setting values old′ values′ queue′ : List ℕ) (tail : ℕ) : Type 0 where
   pub round : Round ws setting old′ values′ queue′ 0 tail
   pub last : take (getD ws 1 0) old′ ≡ replicate (getD ws 1 0) 2
   pub beyond : (j : ℕ) → getD ws 1 0 ≤ j → getD values′ j 0 ≡ getD values j 0

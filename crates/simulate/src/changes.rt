@@ -13,7 +13,7 @@ ghost use Rattle.netlist.specs.StoredBlock.{decode};
 ghost use Rattle.netlist.specs.GateTable.{gateTable};
 ghost use Rattle.readers.specs.Readers.{Descends, Readers};
 ghost use Rattle.simulate.specs.Rounded.{ForRounds};
-ghost use Rattle.simulate.specs.Changes.{Awake, UpdateReady, UpdatedOne, UpdatedList, UpdatedAll, Copied, CopyReady, Round, Started, Turned};
+ghost use Rattle.simulate.specs.Changes.{Awake, UpdateReady, UpdatedOne, UpdatedList, UpdatedAll, Copied, CopyChangedReady, Round, RoundStarted, Turned};
 
 // Where the gates that one round changed stand in the queue: from `head` on, before `tail`.
 pub struct Stretch {
@@ -164,7 +164,7 @@ fn update_changed(
 
 // Copies the values of the gates that the round before changed.
 fn copy_changed(values: &[u8], queue: &[u16], changed: Stretch, old: &mut [u8])
-    requires { ⌜ CopyReady (now values) (now queue) (changed .head) (changed .tail) (now old) ⌝ }
+    requires { ⌜ CopyChangedReady (now values) (now queue) (changed .head) (changed .tail) (now old) ⌝ }
     ensures { λ r. ⌜ Copied (now (values .entry)) (now (queue .entry)) (changed .head) (changed .tail) (now (old .entry)) (now (old .exit)) ⌝ }
 {
     let mut q = changed.head;
@@ -188,7 +188,7 @@ pub fn first_round(
     requires { ⌜ now table ≡ gateTable ⌝ }
     requires { ⌜ ForRounds (now words) nodes (length (now values)) × (nodes .gates ≤ length (now old)) × (nodes .gates ≤ length (now queue)) ⌝ }
     ensures { λ r. ⌜
-        Started (now (words .entry)) (now (setting .entry)) (now (values .entry)) (now (old .exit)) (now (values .exit)) (now (queue .exit)) r
+        RoundStarted (now (words .entry)) (now (setting .entry)) (now (values .entry)) (now (old .exit)) (now (values .exit)) (now (queue .exit)) r
         ⌝ }
 {
     fill_bytes(old, nodes.gates, UNDEFINED);

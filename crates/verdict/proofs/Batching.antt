@@ -41,7 +41,7 @@ use Rattle.judge.specs.Lanes.{Judged, mayCome, isUndefinedAt, isUnsettled, isUn
 use Rattle.lanes.proofs.WordLaws.{tells-and, tells-no-lane, tells-some, tells-lowest, lane-bit}
 use Rattle.judge.proofs.OutputLaws.{undefined-tells, undefined-some, undefined-unsettled}
 use Rattle.verdict.specs.Flags.{soundFlag}
-use Rattle.verdict.specs.Batches.{FirstBatch, Reached, countedFrom, flagged}
+use Rattle.verdict.specs.Batches.{FirstBatch, FirstReached, countedFrom, flagged}
 use Rattle.verdict.proofs.Counting.{lowest-found, sound-counted}
 
 -- ---- where a batch starts
@@ -223,7 +223,7 @@ count-coming b base lanes before h =
 
 -- the batch at `base`, when the slices have not been changed up to the first batch with another
 pub reached : {b : Block} {n first base : ℕ} {zeros ones zeros′ ones′ : List ℕ} → FirstBatch b n first zeros ones → base < 2 ^ n
-    → (base ≤ first → (zeros′ ≡ zeros) × (ones′ ≡ ones)) → Reached b n first base zeros′ ones′
+    → (base ≤ first → (zeros′ ≡ zeros) × (ones′ ≡ ones)) → FirstReached b n first base zeros′ ones′
 reached f l kept =
     record {
       before = f .before;

@@ -21,7 +21,7 @@ pub record FirstBatch (b : Block) (n r : ℕ) (zeros ones : List ℕ) : Type 0 w
   pub some : r < 2 ^ n → (s : ℕ) × (s < lanesOf n) × (isSoundAt b (r + s) ≡ false)
 
 -- no setting below `first` may come and is not settled, and where the batch at `base` is the one at `first`, the slices hold its settled values
-pub record Reached (b : Block) (n first base : ℕ) (zeros ones : List ℕ) : Type 0 where
+pub record FirstReached (b : Block) (n first base : ℕ) (zeros ones : List ℕ) : Type 0 where
   pub before : (i : ℕ) → i < first → isSoundAt b i ≡ true
   pub held : base ≡ first → BatchSettled b n base zeros ones
 

@@ -26,7 +26,7 @@ ghost use Rattle.lanes.specs.Batches.{lanesOf};
 ghost use Rattle.batch.specs.Batch.{Decidable};
 ghost use Rattle.judge.specs.Lanes.{Judged};
 ghost use Rattle.verdict.specs.Flags.{soundFlag};
-ghost use Rattle.verdict.specs.Batches.{FirstBatch, Reached, countedFrom, flagged};
+ghost use Rattle.verdict.specs.Batches.{FirstBatch, FirstReached, countedFrom, flagged};
 
 // How many settings n inputs have.
 pub fn setting_count(n: usize) -> usize
@@ -115,7 +115,7 @@ fn count_batch(
     ones: &mut [u64],
 ) -> usize
     requires { ⌜ Decidable (now words) nodes (now order) (now zeros) (now ones) × (base % 64 ≡ 0) × (base < 2 ^ 32) ⌝ }
-    requires { ⌜ Reached (decode (now words)) (nodes .inputs) first base (now zeros) (now ones) ⌝ }
+    requires { ⌜ FirstReached (decode (now words)) (nodes .inputs) first base (now zeros) (now ones) ⌝ }
     ensures counted { λ r. ⌜ r ≡ countBelow (countedFrom (decode (now (words .entry))) base) (lanesOf (nodes .inputs)) ⌝ }
     ensures kept { λ r. ⌜
         (base + lanesOf (nodes .inputs) ≤ first → (now (zeros .exit) ≡ now (zeros .entry)) × (now (ones .exit) ≡ now (ones .entry)))

@@ -21,7 +21,7 @@ use Rattle.encoding.proofs.Readers.{whole-parts}
 use Rattle.search.specs.Search.{Queued, setFlags}
 use Rattle.search.proofs.Marking.{set-new}
 use Rattle.visiting.specs.Visits.{Visits}
-use Rattle.visiting.specs.Postorder.{Room, Walking, Written, Kept, Blank, Grown}
+use Rattle.visiting.specs.Postorder.{PostorderRoom, Walking, PostorderWritten, MarksKept, Blank, Grown}
 
 set-most : (flags : List ℕ) (m : ℕ) → setFlags flags m ≤ m
 unfolding setFlags
@@ -91,7 +91,7 @@ module _ {m : ℕ} {flags stack order : List ℕ} {depth tail : ℕ} (w : Walkin
       omega (arith, set-most (set flags k 1) m)
 
 -- nothing is on the stack
-pub walk-start : {m : ℕ} {flags order : List ℕ} {tail : ℕ} (stack : List ℕ) → Written m flags order tail → Walking m flags stack order 0 tail
+pub walk-start : {m : ℕ} {flags order : List ℕ} {tail : ℕ} (stack : List ℕ) → PostorderWritten m flags order tail → Walking m flags stack order 0 tail
 walk-start stack w = record {
   pushed = λ d l. absurd (omega arith);
   inside = w .inside;
@@ -100,7 +100,7 @@ walk-start stack w = record {
       omega (arith, w .counted);
 }
 
-pub walk-end : {m : ℕ} {flags stack order : List ℕ} {depth tail : ℕ} → Walking m flags stack order depth tail → depth ≤ 0 → Written m flags order tail
+pub walk-end : {m : ℕ} {flags stack order : List ℕ} {depth tail : ℕ} → Walking m flags stack order depth tail → depth ≤ 0 → PostorderWritten m flags order tail
 walk-end w z =
     record {
       inside = w .inside;
@@ -110,7 +110,7 @@ walk-end w z =
 
 -- ---- marked gates stay marked
 
-pub kept-set : (m : ℕ) (entry flags : List ℕ) (k : ℕ) → k < length flags → Kept m entry flags → Kept m entry (set flags k 1)
+pub kept-set : (m : ℕ) (entry flags : List ℕ) (k : ℕ) → k < length flags → MarksKept m entry flags → MarksKept m entry (set flags k 1)
 kept-set m entry flags k l h j jl z =
     ⊎-elim
     (λ e. let c : _≡_ {A = ℕ} 1 0 = sym (getD-set-same flags k 1 0 l) ∙ rw e at z in absurd (omega arith))
@@ -118,7 +118,8 @@ kept-set m entry flags k l h j jl z =
     (eq-or-ne j k)
 
 -- what a search from `root` leaves
-pub grown : (m root : ℕ) {entry flags order : List ℕ} {tail : ℕ} → root < m → m ≤ length entry → Written m flags order tail → Kept m (set entry root 1) flags
+pub grown : (m root : ℕ) {entry flags order : List ℕ} {tail : ℕ} → root < m → m ≤ length entry → PostorderWritten m flags order tail
+    → MarksKept m (set entry root 1) flags
     → Grown m root entry flags order tail
 grown m root {entry} {flags} l room w h =
     record {
@@ -134,7 +135,7 @@ none-below : (p : ℕ → Bool) (n : ℕ) → ((k : ℕ) → k < n → p k ≡ f
 none-below p zero h = refl
 none-below p (suc n) h = rw (none-below p n (λ k l. h k (omega arith)), h n (omega arith)) refl
 
-pub none-written : (m : ℕ) (flags order : List ℕ) → Blank m flags → Written m flags order 0
+pub none-written : (m : ℕ) (flags order : List ℕ) → Blank m flags → PostorderWritten m flags order 0
 unfolding setFlags
 none-written m flags order blank =
     record {
@@ -149,7 +150,8 @@ pub done-next : (m left : ℕ) (flags : List ℕ) → 0 < left → ((k : ℕ) �
 done-next m left flags some done now k lo hi z = ⊎-elim (λ e. now (rw e at z)) (λ ne. done k (omega arith) hi z) (eq-or-ne k (left - 1))
 
 -- all were
-pub all-written : (m : ℕ) (flags order : List ℕ) (tail : ℕ) → m ≤ length order → Written m flags order tail → ((k : ℕ) → k < m → getD flags k 0 ≡ 0 → ⊥)
+pub all-written : (m : ℕ) (flags order : List ℕ) (tail : ℕ) → m ≤ length order → PostorderWritten m flags order tail
+    → ((k : ℕ) → k < m → getD flags k 0 ≡ 0 → ⊥)
     → Visits m (take m order)
 unfolding setFlags
 all-written m flags order tail room w marked =
@@ -173,8 +175,8 @@ pub top-below : {m : ℕ} {flags stack order : List ℕ} {depth tail : ℕ} (k :
     → k ≡ getD stack (depth - 1) 0 → k < m
 top-below k w some is = rw is (w .pushed _ (omega arith))
 
-pub room-kept : {nodes : Nodes} {flags stack order flags′ stack′ order′ : List ℕ} → Room nodes flags stack order → length flags′ ≡ length flags
-    → length stack′ ≡ length stack → length order′ ≡ length order → Room nodes flags′ stack′ order′
+pub room-kept : {nodes : Nodes} {flags stack order flags′ stack′ order′ : List ℕ} → PostorderRoom nodes flags stack order → length flags′ ≡ length flags
+    → length stack′ ≡ length stack → length order′ ≡ length order → PostorderRoom nodes flags′ stack′ order′
 room-kept r e f g = record {
   fewInputs = r .fewInputs;
   fewGates = r .fewGates;
@@ -191,7 +193,7 @@ blank m n most k l = getD-replicate n k 0 0 (omega arith)
 
 -- arrays of that many elements have room for a whole block's gates
 pub whole-room : (ws : List ℕ) {nodes : Nodes} {flags stack order : List ℕ} → isTorn ws ≡ false → nodes ≡ nodesOf ws → maxGates ≤ length flags
-    → maxGates ≤ length stack → getD ws 1 0 ≤ length order → Room nodes flags stack order
+    → maxGates ≤ length stack → getD ws 1 0 ≤ length order → PostorderRoom nodes flags stack order
 unfolding nodesOf gatesAt neversAt
 whole-room ws whole are f s o =
     let parts = whole-parts ws whole in

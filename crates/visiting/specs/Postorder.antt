@@ -16,7 +16,7 @@ pub record Unmarked (nodes : Nodes) (flags : List ℕ) (w : ℕ) : Type 0 where
   pub free : getD flags (w - nodes .inputs) 0 ≡ 0
 
 -- room for every gate in each array
-pub record Room (nodes : Nodes) (flags stack order : List ℕ) : Type 0 where
+pub record PostorderRoom (nodes : Nodes) (flags stack order : List ℕ) : Type 0 where
   pub fewInputs : nodes .inputs ≤ 65535
   pub fewGates : nodes .gates ≤ maxGates
   pub near : nodes .start ≤ maxGates
@@ -36,17 +36,17 @@ pub record Walking (m : ℕ) (flags stack order : List ℕ) (depth tail : ℕ) :
   pub counted : depth + tail ≡ setFlags flags m
 
 -- between two searches: a marked gate is written, and as many are as are marked
-pub record Written (m : ℕ) (flags order : List ℕ) (tail : ℕ) : Type 0 where
+pub record PostorderWritten (m : ℕ) (flags order : List ℕ) (tail : ℕ) : Type 0 where
   pub inside : (q : ℕ) → q < tail → getD order q 0 < m
   pub seen : (k : ℕ) → k < m → (getD flags k 0 ≡ 0) ⊎ Queued order tail k
   pub counted : tail ≡ setFlags flags m
 
 -- marked gates stay marked
-abbrev pub Kept : ℕ → List ℕ → List ℕ → Type 0
-Kept m entry flags = (k : ℕ) → k < m → getD flags k 0 ≡ 0 → getD entry k 0 ≡ 0
+abbrev pub MarksKept : ℕ → List ℕ → List ℕ → Type 0
+MarksKept m entry flags = (k : ℕ) → k < m → getD flags k 0 ≡ 0 → getD entry k 0 ≡ 0
 
 -- what a search from `root` leaves
 pub record Grown (m root : ℕ) (entry flags order : List ℕ) (tail : ℕ) : Type 0 where
-  pub written : Written m flags order tail
-  pub kept : Kept m entry flags
+  pub written : PostorderWritten m flags order tail
+  pub kept : MarksKept m entry flags
   pub started : getD flags root 0 ≡ 0 → ⊥

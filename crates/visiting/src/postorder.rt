@@ -9,7 +9,7 @@ ghost use Prim.Native.Nat.{_≤_, _<_};
 ghost use lib.ListN.{length, getD, take};
 ghost use Rattle.netlist.specs.Limits.{maxGates};
 ghost use Rattle.visiting.specs.Visits.{Visits};
-ghost use Rattle.visiting.specs.Postorder.{Unmarked, Room, Written, Grown, Blank};
+ghost use Rattle.visiting.specs.Postorder.{Unmarked, PostorderRoom, PostorderWritten, Grown, Blank};
 
 // The operand word names a gate that is not marked.
 fn is_unmarked(w: usize, nodes: Nodes, flags: &[u8]) -> bool
@@ -52,7 +52,7 @@ fn write_from(
     order: &mut [u16],
     tail: usize,
 ) -> usize
-    requires { ⌜ Room nodes (now flags) (now stack) (now order) × Written (nodes .gates) (now flags) (now order) tail × (root < nodes .gates)
+    requires { ⌜ PostorderRoom nodes (now flags) (now stack) (now order) × PostorderWritten (nodes .gates) (now flags) (now order) tail × (root < nodes .gates)
         × (getD (now flags) root 0 ≡ 0) ⌝ }
     ensures { λ r. ⌜ Grown (nodes .gates) root (now (flags .entry)) (now (flags .exit)) (now (order .exit)) r ⌝ }
 {
@@ -86,7 +86,9 @@ fn write_new(
     order: &mut [u16],
     tail: usize,
 ) -> usize
-    requires { ⌜ Room nodes (now flags) (now stack) (now order) × Written (nodes .gates) (now flags) (now order) tail × (root < nodes .gates) ⌝ }
+    requires { ⌜
+        PostorderRoom nodes (now flags) (now stack) (now order) × PostorderWritten (nodes .gates) (now flags) (now order) tail × (root < nodes .gates)
+        ⌝ }
     ensures { λ r. ⌜ Grown (nodes .gates) root (now (flags .entry)) (now (flags .exit)) (now (order .exit)) r ⌝ }
 {
     if flags[root] != 0 {
@@ -124,7 +126,7 @@ pub fn write_postorder(
     stack: &mut [u16],
     order: &mut [u16],
 )
-    requires { ⌜ Room nodes (now flags) (now stack) (now order) × Blank (nodes .gates) (now flags) ⌝ }
+    requires { ⌜ PostorderRoom nodes (now flags) (now stack) (now order) × Blank (nodes .gates) (now flags) ⌝ }
     ensures { λ r. ⌜ Visits (nodes .gates) (take (nodes .gates) (now (order .exit))) ⌝ }
 {
     let mut tail = 0;

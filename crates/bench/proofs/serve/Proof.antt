@@ -7,11 +7,11 @@ use native.Mathlib.Omega.{arith}
 use borrow.Author.Needs.{needs}
 use lib.ListN.{length}
 use lib.Seq.{length-take-le}
-use Rattle.session.specs.Session.{Ready}
+use Rattle.session.specs.Session.{SessionReady}
 
 abbrev Inv-loop : tie.InvT-loop
 Inv-loop text₀ words₀ line₀ out₀ state₀ more₀ turns₀ text words line out state more turns =
-    Ready state text words line out
+    SessionReady state text words line out
     × (length text ≡ length text₀) × (length words ≡ length words₀) × (length line ≡ length line₀) × (length out ≡ length out₀)
 
 abbrev μ-loop : tie.MeasureT-loop

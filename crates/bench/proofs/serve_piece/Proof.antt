@@ -9,11 +9,11 @@ use borrow.Author.Needs.{needs}
 use lib.ListN.{length, take, drop, length-drop}
 use lib.Seq.{length-take-le}
 use Rattle.laws.proofs.Elements.{rest-is-drop}
-use Rattle.session.specs.Session.{Ready}
+use Rattle.session.specs.Session.{SessionReady}
 
 abbrev Inv-loop : tie.InvT-loop
 Inv-loop piece text₀ words₀ line₀ out₀ state₀ at₀ text words line out state at =
-    (at ≤ length piece) × Ready state text words line out
+    (at ≤ length piece) × SessionReady state text words line out
     × (length text ≡ length text₀) × (length words ≡ length words₀) × (length line ≡ length line₀) × (length out ≡ length out₀)
 
 abbrev μ-loop : tie.MeasureT-loop

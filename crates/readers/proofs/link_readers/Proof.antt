@@ -6,7 +6,7 @@ use denote.Ref.{now}
 use borrow.Author.Needs.{needs}
 use lib.ListN.{length}
 use Rattle.layout.specs.Nodes.{nodesOf}
-use Rattle.readers.specs.Readers.{LinkReady, Linking}
+use Rattle.readers.specs.Readers.{ReaderLinkReady, Linking}
 use Rattle.readers.proofs.Chains.{linking-none, linked-readers}
 use Rattle.readers.proofs.link_readers.Statement.{statement}
 use Rattle.readers.proofs.link_readers.Tie as tie
@@ -29,7 +29,7 @@ abbrev start : tie.At-loop Inv-loop μ-loop → tie.Start Inv-loop μ-loop
 start l = l .before .before .before .before .before
 
 -- the words and the slices are ready for a further gate
-ready : (l : tie.At-loop Inv-loop μ-loop) → LinkReady (now (start l .args .words)) (l .before .nodes-of .result) (l .loop .first) (l .loop .next)
+ready : (l : tie.At-loop Inv-loop μ-loop) → ReaderLinkReady (now (start l .args .words)) (l .before .nodes-of .result) (l .loop .first) (l .loop .next)
 unfolding nodesOf
 ready l =
     let s = start l in

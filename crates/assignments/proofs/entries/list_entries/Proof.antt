@@ -6,7 +6,7 @@ use mathlib.Core.List.{List}
 use Rattle.laws.specs.Lists.{placed}
 use Rattle.netlist.specs.Assignments.{Assignment}
 use Rattle.assignments.specs.Over.{assignmentWords}
-use Rattle.assignments.specs.Entries.{Reached, Words}
+use Rattle.assignments.specs.Entries.{EntriesReached, Words}
 use Rattle.assignments.proofs.Bounds.{two-fits}
 use Rattle.assignments.proofs.Listing.{reached-first, words-first, all-reached, row-left}
 use Rattle.assignments.proofs.entries.list_entries.Statement.{statement}
@@ -14,7 +14,7 @@ use Rattle.assignments.proofs.entries.list_entries.Tie as tie
 
 abbrev Inv-loop : tie.InvT-loop
 Inv-loop marks weights n size total out₀ count₀ fixed₀ out count fixed =
-    (fixed ≤ 2 ^ n) × Reached marks n (fixed * 2 ^ n) count × Words marks out₀ out n (fixed * 2 ^ n)
+    (fixed ≤ 2 ^ n) × EntriesReached marks n (fixed * 2 ^ n) count × Words marks out₀ out n (fixed * 2 ^ n)
 
 abbrev μ-loop : tie.MeasureT-loop
 μ-loop marks weights n size total out₀ count₀ fixed₀ out count fixed = 2 ^ n - fixed

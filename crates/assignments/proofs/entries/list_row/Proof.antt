@@ -9,7 +9,7 @@ use native.Mathlib.Omega.{arith}
 use lib.Arith.{digits-div, digits-mod}
 use lib.ListN.{length, length-set}
 use Rattle.netlist.specs.Limits.{maxInputs}
-use Rattle.assignments.specs.Entries.{Reached, Words}
+use Rattle.assignments.specs.Entries.{EntriesReached, Words}
 use Rattle.assignments.proofs.Bounds.{two-fits, shifted}
 use Rattle.assignments.proofs.Rows.{row-below, row-end}
 use Rattle.assignments.proofs.Listing.{reached-skip, reached-add, one-more, words-skip, words-add}
@@ -19,7 +19,7 @@ use Rattle.assignments.proofs.entries.list_row.Tie as tie
 
 abbrev Inv-loop : tie.InvT-loop
 Inv-loop marks weights n first before out₀ fixed end count₀ ones₀ out count ones =
-    (ones ≤ 2 ^ n) × (end ≡ 2 ^ n) × Reached marks n (first .fixed * 2 ^ n + ones) count × (length out ≡ length out₀)
+    (ones ≤ 2 ^ n) × (end ≡ 2 ^ n) × EntriesReached marks n (first .fixed * 2 ^ n + ones) count × (length out ≡ length out₀)
     × ((front : List ℕ) → Words marks front out₀ n (first .fixed * 2 ^ n) → Words marks front out n (first .fixed * 2 ^ n + ones))
 
 abbrev μ-loop : tie.MeasureT-loop

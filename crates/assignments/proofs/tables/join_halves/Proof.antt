@@ -3,13 +3,13 @@ use Prim.Native.Nat.{_-_, _≤_}
 use mathlib.Core.Path.{_≡_}
 use native.Mathlib.Omega.{arith}
 use borrow.Author.Needs.{needs}
-use Rattle.assignments.specs.Tables.{Joined}
+use Rattle.assignments.specs.Tables.{HalvesJoined}
 use Rattle.assignments.proofs.Joining.{joined-none, joined-next}
 use Rattle.assignments.proofs.tables.join_halves.Statement.{statement}
 use Rattle.assignments.proofs.tables.join_halves.Tie as tie
 
 abbrev Inv-loop : tie.InvT-loop
-Inv-loop sound₀ k power j₀ sound j = (j ≤ power) × Joined sound₀ sound k power j
+Inv-loop sound₀ k power j₀ sound j = (j ≤ power) × HalvesJoined sound₀ sound k power j
 
 abbrev μ-loop : tie.MeasureT-loop
 μ-loop sound₀ k power j₀ sound j = power - j

@@ -7,7 +7,7 @@ use lib.ListN.{length, drop, length-take}
 use native.Mathlib.Omega.{arith}
 use borrow.Author.Needs.{needs}
 use Rattle.netlist.specs.StoredBlock.{decode}
-use Rattle.batch.specs.Batch.{Advanced}
+use Rattle.batch.specs.Batch.{BatchAdvanced}
 use Rattle.batch.proofs.BatchLaws.{underway-long, walked-swept, advanced-swept, advanced-decided, advanced-then, inside-take, inside-drop}
 use Rattle.batch.proofs.in_place.sweep_again.Statement.{statement}
 use Rattle.batch.proofs.in_place.sweep_again.Tie as tie
@@ -26,12 +26,12 @@ abbrev second : tie.After-slice-known6 → tie.After-sweep2
 second c = c .before .before .before .before
 
 one : (d : tie.After-sweep) → let a = start d .args in
-    Advanced (decode (a .words .now)) (a .nodes .inputs) (a .zeros .now) (a .ones .now) (d .sweep .last .1 .1 .1 .1 .1 .0)
+    BatchAdvanced (decode (a .words .now)) (a .nodes .inputs) (a .zeros .now) (a .ones .now) (d .sweep .last .1 .1 .1 .1 .1 .0)
     (d .sweep .last .1 .1 .1 .1 .1 .1 .0) false
 one d = let p = start d .pre in advanced-swept (p .1) (walked-swept (p .0 .legible) (p .0 .fewInputs) (p .1) (d .sweep .ensures))
 
 both : (d : tie.After-sweep2) → let a = start (earlier d) .args in
-    Advanced (decode (a .words .now)) (a .nodes .inputs) (a .zeros .now) (a .ones .now) (d .sweep2 .last .1 .1 .1 .1 .1 .0)
+    BatchAdvanced (decode (a .words .now)) (a .nodes .inputs) (a .zeros .now) (a .ones .now) (d .sweep2 .last .1 .1 .1 .1 .1 .0)
     (d .sweep2 .last .1 .1 .1 .1 .1 .1 .0)
     false
 both d =

@@ -3,7 +3,7 @@ use mathlib.Core.Path.{_∙_}
 use native.Mathlib.Omega.{arith}
 use denote.Ref.{now}
 use Rattle.simulate.proofs.Codes.{gates-are}
-use Rattle.decide.specs.InPlace.{Ready}
+use Rattle.decide.specs.InPlace.{DecideReady}
 use Rattle.decide.proofs.Waking.{woken-ready, start-ready, rested-settled}
 use borrow.Author.Needs.{needs}
 use Rattle.decide.proofs.in_place.settle_with.Statement.{statement}
@@ -18,7 +18,7 @@ start f = f .before .before .before .before .before .before .before .before
 
 -- nothing has a value
 filled : (f : tie.After-fill-bytes)
-    → Ready (now (start f .args .words)) (start f .args .nodes) (now (start f .args .setting)) (f .fill-bytes .last .0)
+    → DecideReady (now (start f .args .words)) (start f .args .nodes) (now (start f .args .setting)) (f .fill-bytes .last .0)
     (now (start f .args .queue)) 0
 filled f =
     let s = start f in

@@ -5,7 +5,7 @@ use native.Mathlib.Omega.{arith}
 use denote.Ref.{now}
 use lib.ListN.{length}
 use Rattle.simulate.proofs.Codes.{gates-are}
-use Rattle.decide.specs.InPlace.{Ready, Woken}
+use Rattle.decide.specs.InPlace.{DecideReady, Woken}
 use Rattle.decide.proofs.Waking.{RestBelow, woken-none, woken-then, woken-ready, below-next}
 use Rattle.decide.proofs.in_place.update_all.Statement.{statement}
 use Rattle.decide.proofs.in_place.update_all.Tie as tie
@@ -27,7 +27,7 @@ start l = l .before .before .before .before .before
 
 -- a further gate can be evaluated
 ready : (l : tie.At-loop Inv-loop μ-loop)
-    → Ready (now (start l .args .words)) (start l .args .nodes) (now (start l .args .setting)) (l .loop .values) (l .loop .queue) (l .loop .end)
+    → DecideReady (now (start l .args .words)) (start l .args .nodes) (now (start l .args .setting)) (l .loop .values) (l .loop .queue) (l .loop .end)
 ready l = woken-ready (l .loop .inv .1) (start l .pre .1) (l .loop .inv .3) (l .loop .inv .4)
 
 update-requires : tie.Need-update-requires Inv-loop μ-loop

@@ -7,7 +7,7 @@ use denote.Ref.{now}
 use borrow.Author.Needs.{needs}
 use lib.ListN.{length}
 use Rattle.simulate.proofs.Codes.{gates-are}
-use Rattle.decide.specs.InPlace.{Ready, Woken, Resting}
+use Rattle.decide.specs.InPlace.{DecideReady, Woken, Resting}
 use Rattle.decide.proofs.Waking.{woken-none, woken-then, woken-ready, few-queued, resting-next, resting-end}
 use Rattle.decide.proofs.in_place.update_queued.Statement.{statement}
 use Rattle.decide.proofs.in_place.update_queued.Tie as tie
@@ -37,7 +37,7 @@ start l = l .before .before .before .before .before .before .before
 
 -- a further gate can be evaluated
 ready : (l : tie.At-loop Inv-loop μ-loop)
-    → Ready (now (start l .args .words)) (start l .args .nodes) (now (start l .args .setting)) (l .loop .values) (l .loop .queue) (l .loop .end)
+    → DecideReady (now (start l .args .words)) (start l .args .nodes) (now (start l .args .setting)) (l .loop .values) (l .loop .queue) (l .loop .end)
 ready l = woken-ready (l .loop .inv .1) (start l .pre .1 .0) (l .loop .inv .3) (l .loop .inv .4)
 
 update-readers-requires : tie.Need-update-readers-requires Inv-loop μ-loop

@@ -7,7 +7,7 @@ use denote.Ref.{now}
 use borrow.Author.Needs.{needs}
 use lib.ListN.{length, getD}
 use Rattle.simulate.proofs.Codes.{gates-are}
-use Rattle.decide.specs.InPlace.{Ready, Woken}
+use Rattle.decide.specs.InPlace.{DecideReady, Woken}
 use Rattle.decide.proofs.Waking.{Awaiting, woken-none, woken-then, woken-ready, awaiting-next, awaiting-end}
 use Rattle.decide.proofs.in_place.update_readers.Statement.{statement}
 use Rattle.decide.proofs.in_place.update_readers.Tie as tie
@@ -32,7 +32,7 @@ start l = l .before .before .before .before .before .before
 
 -- a further gate can be evaluated
 ready : (l : tie.At-loop Inv-loop μ-loop)
-    → Ready (now (start l .args .words)) (start l .args .nodes) (now (start l .args .setting)) (l .loop .values) (l .loop .queue) (l .loop .end)
+    → DecideReady (now (start l .args .words)) (start l .args .nodes) (now (start l .args .setting)) (l .loop .values) (l .loop .queue) (l .loop .end)
 ready l = woken-ready (l .loop .inv .1) (start l .pre .1 .0) (l .loop .inv .3) (l .loop .inv .4)
 
 -- so many gates there are

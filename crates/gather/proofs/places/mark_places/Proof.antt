@@ -4,13 +4,13 @@ use Prim.Native.Nat.{_-_, _≤_}
 use mathlib.Core.Path.{_≡_, refl, _∙_}
 use native.Mathlib.Omega.{arith}
 use lib.ListN.{length, getD, length-set}
-use Rattle.gather.specs.Places.{Marked}
+use Rattle.gather.specs.Places.{PlacesMarked}
 use Rattle.gather.proofs.Marks.{places-high, places-again, places-all, marked-next}
 use Rattle.gather.proofs.places.mark_places.Statement.{statement}
 use Rattle.gather.proofs.places.mark_places.Tie as tie
 
 abbrev Inv-loop : tie.InvT-loop
-Inv-loop order m places₀ t₀ places t = (t ≤ m) × Marked m order t places × (length places ≡ length places₀)
+Inv-loop order m places₀ t₀ places t = (t ≤ m) × PlacesMarked m order t places × (length places ≡ length places₀)
 
 abbrev μ-loop : tie.MeasureT-loop
 μ-loop order m places₀ t₀ places t = m - t

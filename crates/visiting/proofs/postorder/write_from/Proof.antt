@@ -5,15 +5,15 @@ use native.Mathlib.Omega.{arith}
 use borrow.Author.Needs.{needs}
 use lib.ListN.{length, set, length-set}
 use Rattle.search.specs.Search.{setFlags}
-use Rattle.visiting.specs.Postorder.{Room, Walking, Kept}
+use Rattle.visiting.specs.Postorder.{PostorderRoom, Walking, MarksKept}
 use Rattle.visiting.proofs.Walked.{top-below, room-kept, walk-start, push, write, push-room, write-room, push-less, kept-set, walk-end, grown}
 use Rattle.visiting.proofs.postorder.write_from.Statement.{statement}
 use Rattle.visiting.proofs.postorder.write_from.Tie as tie
 
 abbrev Inv-loop : tie.InvT-loop
 Inv-loop words nodes root flags₀ stack₀ order₀ tail depth₀ end₀ flags stack order depth end =
-    Walking (nodes .gates) flags stack order depth end × Kept (nodes .gates) flags₀ flags × Room nodes flags stack order × (length flags ≡ length flags₀)
-    × (length stack ≡ length stack₀) × (length order ≡ length order₀)
+    Walking (nodes .gates) flags stack order depth end × MarksKept (nodes .gates) flags₀ flags × PostorderRoom nodes flags stack order
+    × (length flags ≡ length flags₀) × (length stack ≡ length stack₀) × (length order ≡ length order₀)
 
 abbrev μ-loop : tie.MeasureT-loop
 μ-loop words nodes root flags₀ stack₀ order₀ tail depth₀ end₀ flags stack order depth end = 2 * (nodes .gates - setFlags flags (nodes .gates)) + depth

@@ -3,14 +3,14 @@ use Prim.Native.Nat.{ℕ, _≤_, _<_}
 use mathlib.Core.Path.{_≡_, refl, _∙_}
 use native.Mathlib.Omega.{arith}
 use lib.ListN.{length, getD}
-use Rattle.visiting.specs.Postorder.{Room, Written}
+use Rattle.visiting.specs.Postorder.{PostorderRoom, PostorderWritten}
 use Rattle.visiting.proofs.Walked.{none-written, room-kept, done-next, all-written}
 use Rattle.visiting.proofs.postorder.write_postorder.Statement.{statement}
 use Rattle.visiting.proofs.postorder.write_postorder.Tie as tie
 
 abbrev Inv-loop : tie.InvT-loop
 Inv-loop words nodes flags₀ stack₀ order₀ tail₀ left₀ flags stack order tail left =
-    Written (nodes .gates) flags order tail × Room nodes flags stack order × ((k : ℕ) → left ≤ k → k < nodes .gates → getD flags k 0 ≡ 0 → ⊥)
+    PostorderWritten (nodes .gates) flags order tail × PostorderRoom nodes flags stack order × ((k : ℕ) → left ≤ k → k < nodes .gates → getD flags k 0 ≡ 0 → ⊥)
     × (left ≤ nodes .gates)
     × (length flags ≡ length flags₀) × (length stack ≡ length stack₀) × (length order ≡ length order₀)
 
@@ -54,7 +54,7 @@ write-new-requires c κs =
 
 -- the room after the first search
 room : (f : tie.After-write-new Inv-loop μ-loop) → let s = start (head f) in
-    Room (s .args .nodes) (f .write-new .last .1 .1 .1 .0) (f .write-new .last .1 .1 .1 .1 .0)
+    PostorderRoom (s .args .nodes) (f .write-new .last .1 .1 .1 .0) (f .write-new .last .1 .1 .1 .1 .0)
     (f .write-new .last .1 .1 .1 .1 .1 .0)
 room f =
     let k = f .write-new .kept in

@@ -1,8 +1,8 @@
--- `lanes::gate::word_in` meets its contract: a word fits a usize. Assumes nothing.
+-- `layout::read::word_in` meets its contract: a word fits a usize. Assumes nothing.
 use borrow.Author.Needs.{needs}
 use native.Mathlib.Omega.{arith}
-use Rattle.lanes.proofs.gate.word_in.Statement.{statement}
-use Rattle.lanes.proofs.gate.word_in.Tie as tie
+use Rattle.layout.proofs.read.word_in.Statement.{statement}
+use Rattle.layout.proofs.read.word_in.Tie as tie
 
 mul-result : tie.Need-mul-result
 mul-result c = search needs
