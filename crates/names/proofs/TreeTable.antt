@@ -18,7 +18,7 @@ use Rattle.netlist.specs.StoredBlock.{isPlainName, nodeWord}
 use Rattle.netlist.specs.Syntax.{GateLine, Tree, isLegalGate}
 use Rattle.netlist.specs.Reading.{Mention, Binding, lineGates, inputBindings, gateBindings, bindings}
 use Rattle.names.specs.Lines.{times, lineOffset, gatesTo, declaredPlace, placeAt, lineWord, wordAt, FilledTo}
-use Rattle.names.specs.Packed.{packed, nameAtFront, packedAt, packedThrough}
+use Rattle.names.specs.Packed.{packed, nameFrom, packedAt, packedThrough}
 use Rattle.names.specs.Trees.{inputLineText, gateLineText, outputLineText, treeLines}
 use Rattle.names.specs.Results.{Prints, treeCounts, declared, packedNames, namePlaces, nodeWords, Declared}
 use Rattle.names.specs.declared.Counts.{Counts}
@@ -37,8 +37,8 @@ module _ (text : List ℕ) (i : ℕ) where
   unfolding placeAt declaredPlace mentionAt
   place-in = rw (getD-drop (lineOffset text i) text 1 0)
 
-  name-in : nameAtFront text (placeAt text i) ≡ mentionIn text i .name
-  unfolding nameAtFront placeAt declaredPlace mentionAt
+  name-in : nameFrom text (placeAt text i) ≡ mentionIn text i .name
+  unfolding nameFrom placeAt declaredPlace mentionAt
   name-in = rw (getD-drop (lineOffset text i) text 1 0, drop-drop)
 
 module _ {t : Tree} {text : List ℕ} (p : Prints t text) where

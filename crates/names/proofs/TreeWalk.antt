@@ -18,7 +18,7 @@ use Rattle.netlist.specs.Reading.{Mention, mentions, linesLength, neverLinesAt,
 use Rattle.netlist.specs.Reading.{declaredNodes}
 use Rattle.netlist.specs.Reading.{declaredPorts}
 use Rattle.names.specs.Lines.{lineOffset, nameOffset}
-use Rattle.names.specs.Packed.{packed, nameFront, nameAtFront, packedAt}
+use Rattle.names.specs.Packed.{packed, nameFront, nameFrom, packedAt}
 use Rattle.names.specs.Trees.{inputLineText, gateLineText, outputLineText, treeLines}
 use Rattle.names.specs.Results.{declared}
 use Rattle.names.proofs.JoinedLines.{eachLine, tab-lines}
@@ -93,7 +93,7 @@ front-legal start s c rest h n = front-name 8 s c rest (name-bytes start s h) (n
 -- the number of the name at a place of a text
 pub packed-at : (start : ℕ → Bool) (text : List ℕ) (at : ℕ) (s : Name) (c : ℕ) (rest : List ℕ) → drop at text ≡ s ++ c ∷ rest → isLegalName start s ≡ true
     → isNameByte c ≡ false → packedAt text at ≡ packed s
-unfolding nameAtFront packedAt
+unfolding nameFrom packedAt
 packed-at start text at s c rest e h n = rw (e, front-legal start s c rest h n)
 
 -- the name that the line at `at` declares, of which `rest` is the beginning

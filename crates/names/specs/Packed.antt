@@ -17,11 +17,11 @@ nameFront (suc most) [] = []
 nameFront (suc most) (x ∷ xs) = cond (isNameByte x) (x ∷ nameFront most xs) []
 
 -- the name that stands at a place of a text, and its number
-unfoldable pub nameAtFront : List ℕ → ℕ → List ℕ
-nameAtFront text at = nameFront maxName (drop at text)
+unfoldable pub nameFrom : List ℕ → ℕ → List ℕ
+nameFrom text at = nameFront maxName (drop at text)
 
 unfoldable pub packedAt : List ℕ → ℕ → ℕ
-packedAt text at = packed (nameAtFront text at)
+packedAt text at = packed (nameFrom text at)
 
 -- the number of the name at place i of these places
 unfoldable pub packedThrough : List ℕ → List ℕ → ℕ → ℕ

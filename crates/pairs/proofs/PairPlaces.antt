@@ -24,7 +24,7 @@ use Rattle.netlist.specs.Syntax.{Pair, valueText, pairText, printPair, isLegalP
 use Rattle.netlist.specs.Reading.{Mention, mentions, pairMention}
 use Rattle.grammar.proofs.Places.{printPair-split}
 use Rattle.names.specs.Lines.{times, lineOpens}
-use Rattle.names.specs.Packed.{packed, nameFront, nameAtFront, packedAt}
+use Rattle.names.specs.Packed.{packed, nameFront, nameFrom, packedAt}
 use Rattle.names.proofs.Packing.{front-length}
 use Rattle.names.proofs.TreeLines.{name-bytes, times-name-bytes}
 use Rattle.names.proofs.TreeWalk.{front-legal}
@@ -115,8 +115,8 @@ module _ (text : List ℕ) (place : ℕ) (p : Pair) (legal : isLegalPair p ≡ t
   unfolding isLegalPair isNodeName isNameByte isLetter isDigit isUnderscore
   front-is = rw (s .at-place) (front-legal isNameStart (p .name) 32 (valueText (val (p .value)) ++ (ascii ")" ++ s .more)) legal refl)
 
-  pub name-stands : nameAtFront text place ≡ p .name
-  unfolding nameAtFront
+  pub name-stands : nameFrom text place ≡ p .name
+  unfolding nameFrom
   name-stands = front-is
 
   pub number-stands : packedAt text place ≡ packed (p .name)
@@ -142,7 +142,7 @@ module _ {at : ℕ} {ps : List Pair} {text : List ℕ} (is : PairsAt at ps text)
   place-is (suc i) l =
       let k : i < length ps = omega arith in
       let e = place-is i k in
-      let n : nameAtFront text (getD (placesFrom ps at) i 0) ≡ getD ps i noPair .name =
+      let n : nameFrom text (getD (placesFrom ps at) i 0) ≡ getD ps i noPair .name =
       name-stands text _ (getD ps i noPair) (each-legal i k) (stands-here i k) in
       rw (e, n) (sym (places-next ps at i l))
 
@@ -154,15 +154,15 @@ module _ {at : ℕ} {ps : List Pair} {text : List ℕ} (is : PairsAt at ps text)
 
 -- ---- the turns of the loops
 
-pub here-short : (text : List ℕ) (at : ℕ) → length (nameAtFront text at) ≤ 8
-unfolding nameAtFront
+pub here-short : (text : List ℕ) (at : ℕ) → length (nameFrom text at) ≤ 8
+unfolding nameFrom
 here-short text at = front-length 8 (drop at text)
 
-pub place-next : (text : List ℕ) (at i : ℕ) {place size : ℕ} → place ≡ pairPlace text at i → size ≡ length (nameAtFront text place)
+pub place-next : (text : List ℕ) (at i : ℕ) {place size : ℕ} → place ≡ pairPlace text at i → size ≡ length (nameFrom text place)
     → place + (size + 5) ≡ pairPlace text at (i + 1)
 unfolding pairPlace
 place-next text at i {place} {size} e f =
-    let n : size ≡ length (nameAtFront text (pairPlace text at i)) = rw e at f in
+    let n : size ≡ length (nameFrom text (pairPlace text at i)) = rw e at f in
     rw (add-one, e, n) (omega arith)
 
 pub code-none : 0 ≡ codeFront []

@@ -6,13 +6,13 @@ use mathlib.Core.List.{List}
 use lib.ListN.{length, getD, drop}
 use lib.Dec.{eqb, ltb}
 use Rattle.netlist.specs.Limits.{maxName}
-use Rattle.names.specs.Packed.{nameFront, nameAtFront}
+use Rattle.names.specs.Packed.{nameFront, nameFrom}
 use Rattle.names.specs.Search.{indexOf}
 
 -- the first name stands behind " (", and between two stand a space, a value and ") ("
 unfoldable pub pairPlace : List ℕ → ℕ → ℕ → ℕ
 pairPlace text at zero = at + 2
-pairPlace text at (suc i) = pairPlace text at i + length (nameAtFront text (pairPlace text at i)) + 5
+pairPlace text at (suc i) = pairPlace text at i + length (nameFrom text (pairPlace text at i)) + 5
 
 -- the code of the value behind the name at the front of a text, of the name at a place, and of that at place i of these places
 unfoldable pub codeFront : List ℕ → ℕ

@@ -11,7 +11,7 @@ ghost use Rattle.laws.specs.Lists.{tab, placed};
 ghost use Rattle.netlist.specs.Limits.{maxText};
 ghost use Rattle.netlist.specs.Syntax.{Pair};
 ghost use Rattle.names.specs.Lines.{lineOpens};
-ghost use Rattle.names.specs.Packed.{nameAtFront};
+ghost use Rattle.names.specs.Packed.{nameFrom};
 ghost use Rattle.pairs.specs.PairBytes.{pairPlace, codeFront, codeAt, codeThrough};
 ghost use Rattle.pairs.specs.Tables.{PairsAt, PairRoom, PairsTabled};
 
@@ -25,7 +25,7 @@ fn pair_count(text: &[u8], at: usize) -> usize
 
 // The length of the name at a place.
 fn name_size(text: &[u8], at: usize) -> usize
-    ensures { λ r. ⌜ r ≡ length (nameAtFront (now (text .entry)) at) ⌝ }
+    ensures { λ r. ⌜ r ≡ length (nameFrom (now (text .entry)) at) ⌝ }
 {
     if at < text.len() {
         name_length(&text[at..])

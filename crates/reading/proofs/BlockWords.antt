@@ -107,7 +107,8 @@ module _ (t : Tree) (legal : isLegalTree t ≡ true) (names : List ℕ) (is : ta
       ∙ map-map portWords packed (t .inputs)
       ∙ names-words (t .inputs) (legal-parts t legal .inputs)
 
-five-parts : {i g o l i′ g′ o′ l′ : ℕ} {N M G O N′ M′ G′ O′ : List ℕ} → i ≡ i′ → g ≡ g′ → o ≡ o′ → l ≡ l′ → N ≡ N′ → M ≡ M′ → G ≡ G′ → O ≡ O′
+five-parts : {i g o l i′ g′ o′ l′ : ℕ} {N M G O N′ M′ G′ O′ : List ℕ} → i ≡ i′ → g ≡ g′ → o ≡ o′ → l ≡ l′
+    → N ≡ N′ → M ≡ M′ → G ≡ G′ → O ≡ O′
     → _≡_ {A = List ℕ} ((i ∷ g ∷ o ∷ l ∷ []) ++ N ++ M ++ G ++ O) ((i′ ∷ g′ ∷ o′ ∷ l′ ∷ []) ++ N′ ++ M′ ++ G′ ++ O′)
 five-parts p q r k x m y z = rw (p, q, r, k, x, m, y, z)
 

@@ -421,7 +421,8 @@ module _ {M : Type 1} (𝓤 : URA M) (H : Heap 𝓤) (A : Atoms 𝓤) (W : Given
 
       -- the locals, where the parameters are stored and _6 and _3 may be
       abbrev Stored : Item 𝓤 → Item 𝓤 → List (Item 𝓤) → List (Item 𝓤)
-      Stored c₆ c₃ Γ = ‵ (froom tyPtr l₁₆ 0) ∷ ‵ (fdies tyPtr l₁₆) ∷ ‵ (froom word l₁₅ 0) ∷ ‵ (fdies word l₁₅) ∷ ‵ (froom half l₁₄ 0) ∷ ‵ (fdies half l₁₄)
+      Stored c₆ c₃ Γ =
+          ‵ (froom tyPtr l₁₆ 0) ∷ ‵ (fdies tyPtr l₁₆) ∷ ‵ (froom word l₁₅ 0) ∷ ‵ (fdies word l₁₅) ∷ ‵ (froom half l₁₄ 0) ∷ ‵ (fdies half l₁₄)
           ∷ ‵ (froom tyPtr l₁₃ 0) ∷ ‵ (fdies tyPtr l₁₃) ∷ ‵ (froom word l₁₂ 0) ∷ ‵ (fdies word l₁₂) ∷ ‵ (froom half l₁₁ 0) ∷ ‵ (fdies half l₁₁)
           ∷ ‵ (froom tyPtr l₁₀ 0) ∷ ‵ (fdies tyPtr l₁₀) ∷ ‵ (froom word l₉ 0) ∷ ‵ (fdies word l₉) ∷ ‵ (froom R′.mir l₈ 0) ∷ ‵ (fdies R′.mir l₈)
           ∷ ‵ (froom tyBool l₇ 0) ∷ ‵ (fdies tyBool l₇) ∷ c₆ ∷ ‵ (fdies word l₆) ∷ ‵ (froom word l₅ 0) ∷ ‵ (fdies word l₅) ∷ ‵ (froom word l₄ 0)
@@ -442,8 +443,8 @@ module _ {M : Type 1} (𝓤 : URA M) (H : Heap 𝓤) (A : Atoms 𝓤) (W : Given
           (init ! 26 refl (tt, record { fits = LL.owed P.the-type P′.the-laws r _ is .1 .0 .1 })) $
           assigns ! (of-opd ! (lit ! tt)) (from ! (stop !)) (init ! 24 refl (tt, record { fits = lit< tt })) $
           move ! (36 ∷ 37 ∷ 38 ∷ []) $ opens-slice ! tt Row rs b o $
-          keep ! (0 ∷ 4 ∷ 5 ∷ 28 ∷ 24 ∷ 22 ∷ 20 ∷ 18 ∷ 16 ∷ 14 ∷ 12 ∷ 10 ∷ 8 ∷ 6 ∷ 36 ∷ 34 ∷ 32 ∷ 30 ∷ 26 ∷ 38 ∷ 1 ∷ 2 ∷ 3 ∷ 39 ∷ 37 ∷ 35 ∷ 33 ∷ 31 ∷ 29 ∷ 27
-          ∷ 25 ∷ 23 ∷ 21 ∷ 19 ∷ 17 ∷ 15 ∷ 13 ∷ 11 ∷ 9 ∷ 7 ∷ []) $
+          keep ! (0 ∷ 4 ∷ 5 ∷ 28 ∷ 24 ∷ 22 ∷ 20 ∷ 18 ∷ 16 ∷ 14 ∷ 12 ∷ 10 ∷ 8 ∷ 6 ∷ 36 ∷ 34 ∷ 32 ∷ 30 ∷ 26 ∷ 38 ∷ 1 ∷ 2 ∷ 3
+          ∷ 39 ∷ 37 ∷ 35 ∷ 33 ∷ 31 ∷ 29 ∷ 27 ∷ 25 ∷ 23 ∷ 21 ∷ 19 ∷ 17 ∷ 15 ∷ 13 ∷ 11 ∷ 9 ∷ 7 ∷ []) $
           by ! (loops r is e 𝓣 known′ l₀ l₁ l₂ l₃ l₄ l₅ l₆ l₇ l₈ l₉ l₁₀ l₁₁ l₁₂ l₁₃ l₁₄ l₁₅ l₁₆)
 
       starts : ent 𝓤 (⋆ 𝓤 H A (Stored (‵ (froom word l₆ 0)) (‵ (froom P′.mir l₃ 0))

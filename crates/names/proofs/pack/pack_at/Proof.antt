@@ -2,7 +2,7 @@
 use lib.ListN.{drop-of-length-le}
 use borrow.Author.Needs.{needs}
 use Rattle.laws.proofs.Elements.{rest-is-drop}
-use Rattle.names.specs.Packed.{nameFront, nameAtFront, packedAt}
+use Rattle.names.specs.Packed.{nameFront, nameFrom, packedAt}
 use Rattle.names.proofs.pack.pack_at.Statement.{statement}
 use Rattle.names.proofs.pack.pack_at.Tie as tie
 
@@ -19,11 +19,11 @@ pack-requires : tie.Need-pack-requires
 pack-requires c κs = search needs
 
 returns : tie.Need-returns
-unfolding nameFront nameAtFront packedAt
+unfolding nameFront nameFrom packedAt
 returns c = let a = c .before .before .before .before .args in rw (rest-is-drop (a .text .now) (a .at)) at (c .pack .ensures)
 
 returns-2 : tie.Need-returns-2
-unfolding nameFront nameAtFront packedAt
+unfolding nameFront nameFrom packedAt
 returns-2 c = let a = c .before .before .args in rw (drop-of-length-le (a .text .now) (c .if1 .left))
 
 pub pack-at-spec : {M : Type 1} → statement M

@@ -4,7 +4,7 @@ use Rattle.pairs.proofs.tables.name_size.Statement.{statement}
 use Rattle.pairs.proofs.tables.name_size.Tie as tie
 use lib.ListN.{drop-of-length-le}
 use Rattle.laws.proofs.Elements.{rest-is-drop}
-use Rattle.names.specs.Packed.{nameFront, nameAtFront}
+use Rattle.names.specs.Packed.{nameFront, nameFrom}
 
 sub-name-length : tie.Need-sub-name-length
 sub-name-length c = search needs
@@ -19,11 +19,11 @@ name-length-requires : tie.Need-name-length-requires
 name-length-requires c κs = search needs
 
 returns : tie.Need-returns
-unfolding nameFront nameAtFront
+unfolding nameFront nameFrom
 returns c = let a = c .before .before .before .before .args in rw (rest-is-drop (a .text .now) (a .at)) at (c .name-length .ensures)
 
 returns-2 : tie.Need-returns-2
-unfolding nameFront nameAtFront
+unfolding nameFront nameFrom
 returns-2 c = let a = c .before .before .args in rw (drop-of-length-le (a .text .now) (c .if1 .left))
 
 pub name-size-spec : {M : Type 1} → statement M
