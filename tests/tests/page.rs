@@ -447,7 +447,7 @@ fn excluded_settings() {
         "vacuous\">rendered, all 4 excluded",
         "0 of 0, 4 excluded",
         "No setting may come. ",
-        "<p class=\"warning\">Warning: all 4 settings are promised never to come (never a = 0; never a = 1), so nothing is said of any output.</p>\n",
+        "<p class=\"warning\">Warning: all 4 settings are promised never to come, so nothing is said of any output (never a = 0; never a = 1).</p>\n",
     );
     excluded_is_told(
         "(in a)\n(in b)\n(never (a 1) (b 0))\n(never (b 0))\n",

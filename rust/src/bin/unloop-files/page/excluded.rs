@@ -42,7 +42,7 @@ pub fn paragraph(block: &Block) -> String {
     match excluded(block) {
         0 => String::new(),
         none_left if none_left == all => format!(
-            "<p class=\"warning\">Warning: all {all} settings are promised never to come ({lines}), so nothing is said of any output.</p>\n"
+            "<p class=\"warning\">Warning: all {all} settings are promised never to come, so nothing is said of any output ({lines}).</p>\n"
         ),
         some => format!("<p class=\"promise\">{some} of {all} settings are promised never to come ({lines}); nothing is said of them.</p>\n"),
     }
