@@ -66,7 +66,7 @@ impl Entry {
 
     /// The state of a block that was rendered: another one where never lines exclude settings.
     fn rendered_state(&self) -> (&'static str, String) {
-        let count = |block: &Block| (excluded::excluded(block), block.settings_that_come());
+        let count = |block: &Block| (block.excluded_settings(), block.settings_that_come());
         match self.block.as_ref().map_or((0, 0), count) {
             (0, _) => ("rendered", "rendered".to_string()),
             (all, 0) => ("vacuous", format!("rendered, all {all} excluded")),
@@ -84,20 +84,9 @@ impl Entry {
                 counted(block.loops().len(), "loop"),
                 counted(rendering.gates(), "gate line")
             )],
-            (_, Err(refusal)) => self.report(*refusal),
+            (_, Err(refusal)) => report::report(*refusal, &self.name, &self.text),
             (Err(_), Ok(_)) => Vec::new(),
         }
-    }
-
-    /// The report of a refusal. What is not settled is told as for 9, also where another number comes first.
-    fn report(&self, refusal: Refusal) -> Vec<String> {
-        let report = |refusal| report::report(refusal, &self.name, &self.text);
-        let mut lines = report(refusal);
-        if let Some(setting) = self.unsettled {
-            lines.truncate(1);
-            lines.extend(report(Refusal::NotSettled { setting }).drain(1..));
-        }
-        lines
     }
 }
 
@@ -203,7 +192,7 @@ fn cover(block: &Block) -> String {
                 .to_string()
         }
         [Assignment { fixed: 0, .. }] => {
-            let but = match excluded::excluded(block) {
+            let but = match block.excluded_settings() {
                 0 => "",
                 _ => " Of the settings that never come nothing is said.",
             };

@@ -1,25 +1,12 @@
 //! What a block's never lines exclude, told wherever the page says how many settings are settled.
 
 use super::html::escaped;
+use crate::report::warning;
 use unloop::Block;
-
-/// How many of the 2^n settings are promised never to come.
-pub fn excluded(block: &Block) -> usize {
-    (1 << block.inputs()) - block.settings_that_come()
-}
-
-/// As `8 of 8`, or `8 of 8, 8 excluded`.
-pub fn settled(block: &Block) -> String {
-    let (settled, come) = (block.verdict().settled, block.settings_that_come());
-    match excluded(block) {
-        0 => format!("{settled} of {come}"),
-        excluded => format!("{settled} of {come}, {excluded} excluded"),
-    }
-}
 
 /// Of a block that settles wherever it must: under how many settings that is.
 pub fn told(block: &Block) -> String {
-    let may_come = if excluded(block) == 0 {
+    let may_come = if block.excluded_settings() == 0 {
         ""
     } else {
         " that may come"
@@ -36,14 +23,12 @@ pub fn paragraph(block: &Block) -> String {
     let (all, names) = (1 << block.inputs(), block.input_names());
     let lines = block.never_lines().into_iter();
     let lines: Vec<String> = lines
-        .map(|line| format!("never {}", escaped(&line.pins(&names))))
+        .map(|line| escaped(&line.never_line(&names)))
         .collect();
     let lines = lines.join("; ");
-    match excluded(block) {
-        0 => String::new(),
-        none_left if none_left == all => format!(
-            "<p class=\"warning\">Warning: all {all} settings are promised never to come, so nothing is said of any output ({lines}).</p>\n"
-        ),
-        some => format!("<p class=\"promise\">{some} of {all} settings are promised never to come ({lines}); nothing is said of them.</p>\n"),
+    match (block.excluded_settings(), warning(block)) {
+        (0, _) => String::new(),
+        (_, Some(why)) => format!("<p class=\"warning\">Warning: {why} ({lines}).</p>\n"),
+        (some, None) => format!("<p class=\"promise\">{some} of {all} settings are promised never to come ({lines}); nothing is said of them.</p>\n"),
     }
 }

@@ -1,8 +1,8 @@
 //! index.html: a row for each netlist, which page.js sorts and searches.
 
 use super::entry::Entry;
-use super::excluded::{excluded, settled};
 use super::html::{counted, escaped, framed};
+use unloop::Block;
 
 /// As `24 netlists: 14 rendered (2 with settings excluded), 9 refused, 1 error`.
 pub fn summary(entries: &[&Entry], errors: usize) -> String {
@@ -10,7 +10,7 @@ pub fn summary(entries: &[&Entry], errors: usize) -> String {
     let blocks = rendered.flat_map(|entry| &entry.block);
     let (rendered, limited) = (
         blocks.clone().count(),
-        blocks.filter(|block| excluded(block) > 0).count(),
+        blocks.filter(|block| block.excluded_settings() > 0).count(),
     );
     let limited = match limited {
         0 => String::new(),
@@ -82,6 +82,6 @@ fn row(entry: &Entry) -> String {
         number("Gates", block.map(|block| block.gates())),
         number("Loops", block.map(|block| block.loops().len())),
         number("Rendering", entry.rendering.as_ref().ok().map(|block| block.gates())),
-        cell("Settled", share, block.map_or("–".to_string(), settled)),
+        cell("Settled", share, block.map_or("–".to_string(), Block::settled_in_words)),
     )
 }
