@@ -61,7 +61,5 @@ pub fn module_name(stem: &str) -> String {
 pub(crate) fn never_comments(block: &Block) -> Vec<String> {
     let pins = block.input_names();
     let lines = block.never_lines().into_iter();
-    lines
-        .map(|line| format!("never {}", line.pins(&pins)))
-        .collect()
+    lines.map(|line| line.never_line(&pins)).collect()
 }

@@ -20,6 +20,11 @@ impl Assignment {
         shown.collect::<Vec<String>>().join(", ")
     }
 
+    /// The line `never a = 1, b = 1` that says of a setting which agrees with it that it never comes.
+    pub fn never_line(self, names: &[String]) -> String {
+        format!("never {}", self.pins(names))
+    }
+
     /// The assignment of a line such as `a = 1, b = 0`, or what is wrong with it; an empty line fixes nothing.
     ///
     /// ```

@@ -1,6 +1,6 @@
 //! What the operations on a block tell.
 
-use crate::Value;
+use crate::{Block, Value};
 
 /// How many settings of the inputs are settled, of those of the 2^n that may come: under those every output shows 0 or 1.
 #[derive(Debug, Clone, Copy, PartialEq, Eq)]
@@ -71,5 +71,34 @@ impl Settled {
     /// Whether no gate's value is undefined.
     pub fn is_defined(&self) -> bool {
         !self.values.contains(&Value::Undefined)
+    }
+}
+
+impl Block {
+    /// How many of the 2^n settings its never lines exclude.
+    ///
+    /// ```
+    /// # use unloop::{Block, Refusal};
+    /// let block = Block::read("(in a)\n(in b)\n(never (a 1))\n(out y b)\n")?;
+    /// assert_eq!(block.excluded_settings(), 2);
+    /// assert_eq!(block.settled_in_words(), "2 of 2, 2 excluded");
+    /// # Ok::<(), Refusal>(())
+    /// ```
+    pub fn excluded_settings(&self) -> usize {
+        (1 << self.inputs()) - self.settings_that_come()
+    }
+
+    /// How many settings are settled of those that may come, as `14 of 16`; and how many are excluded where some are, as
+    /// `8 of 8, 8 excluded`.
+    pub fn settled_in_words(&self) -> String {
+        let told = format!(
+            "{} of {}",
+            self.verdict().settled,
+            self.settings_that_come()
+        );
+        match self.excluded_settings() {
+            0 => told,
+            excluded => format!("{told}, {excluded} excluded"),
+        }
     }
 }
