@@ -146,7 +146,7 @@ pub fn stored_cover(text: &[u8], names: &[String]) -> Result<Vec<Assignment>, (u
     let entry = |(line, number): (&str, usize)| match line.trim() {
         "always" => Ok(Assignment { fixed: 0, ones: 0 }),
         "" => Err((number, "the line is empty".to_string())),
-        line => Assignment::from_pins(line, names).map_err(|why| (number, why)),
+        line => Assignment::from_pins(line, names).map_err(|why| (number, why.to_string())),
     };
     text.lines().zip(1..).map(entry).collect()
 }
