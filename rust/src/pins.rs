@@ -32,7 +32,7 @@ impl fmt::Display for PinsError {
 impl std::error::Error for PinsError {}
 
 impl Assignment {
-    /// The pins that it fixes, as `a = 1, b = 0`.
+    /// The pins that it fixes, as `a = 1, b = 0`, by the names of a block's inputs; one that has no name there is left out.
     pub fn pins(self, names: &[String]) -> String {
         let shown = names.iter().enumerate().filter_map(|(input, name)| {
             let value = self.value(input)?;

@@ -35,11 +35,8 @@ pub fn verilog(block: &Block, module: &ModuleName) -> String {
     let nets = Nets::of(block);
     let net = |operand| escaped(&nets.net(operand, ["1'b0", "1'b1"]));
     let listed = |names: &[String]| {
-        names
-            .iter()
-            .map(|name| escaped(name))
-            .collect::<Vec<_>>()
-            .join(", ")
+        let names: Vec<String> = names.iter().map(|name| escaped(name)).collect();
+        names.join(", ")
     };
     let ports = [&nets.inputs[..], &nets.ports].concat();
     let wires: Vec<String> = (0..block.gates()).map(|gate| format!("_{gate}")).collect();

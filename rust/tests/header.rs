@@ -1,9 +1,10 @@
-//! The package has the header's numbers, names, rooms, functions and version.
+//! The package has the header's numbers, names, rooms, layout, functions and version, and README's version of Rust.
 
-use unloop::{limits, Refusal};
+use unloop::{limits, Kind, Refusal};
 
 const HEADER: &str = include_str!("../../include/unloop.h");
 const RAW: &str = include_str!("../src/raw.rs");
+const README: &str = include_str!("../../README.md");
 
 /// The constants of one of the header's enums, in order, without their prefix.
 fn constants(name: &str) -> Vec<(String, usize)> {
@@ -90,4 +91,29 @@ fn version() {
         let macro_ = format!("\n#define UNLOOP_VERSION_{part} {number}\n");
         assert!(HEADER.contains(&macro_), "{macro_}");
     }
+}
+
+#[test]
+fn layout() {
+    let words = format!(
+        "{} + {} n + {} l + {} m + {} k words",
+        limits::HEAD_WORDS,
+        limits::NAME_WORDS,
+        limits::NEVER_WORDS,
+        limits::GATE_WORDS,
+        limits::OUTPUT_WORDS
+    );
+    assert!(HEADER.contains(&words), "{words}");
+    let kinds = Kind::ALL.iter().enumerate();
+    let kinds: Vec<String> = kinds
+        .map(|(number, kind)| format!("{number} {}", kind.word()))
+        .collect();
+    let kinds = format!("kinds: {};", kinds.join(", "));
+    assert!(HEADER.contains(&kinds), "{kinds}");
+}
+
+#[test]
+fn version_of_rust() {
+    let told = format!("From Rust ({} or newer)", env!("CARGO_PKG_RUST_VERSION"));
+    assert!(README.contains(&told), "{told}");
 }

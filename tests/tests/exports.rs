@@ -70,12 +70,12 @@ impl Module<'_> {
         loop {
             let mut changed = false;
             for (net, word, operands) in &self.drivers {
-                let read = operands
+                let mut read = operands
                     .iter()
                     .map(|net| values.get(net).copied().unwrap_or(UNDEFINED));
                 let value = match Kind::ALL.into_iter().find(|kind| kind.keyword() == *word) {
                     Some(kind) => gate_value(kind, read),
-                    None => read.last().expect("a node"),
+                    None => read.next_back().expect("a node"),
                 };
                 changed |= values.insert(net, value) != Some(value) && value != UNDEFINED;
             }

@@ -2,7 +2,7 @@
 
 use simulator::executed::root;
 use simulator::generate::{for_blocks, for_texts, for_typical_blocks, Size};
-use simulator::limits::{BLOCK_WORDS, CELL_WORDS, COVER_WORDS, GATES, INPUTS, WRITTEN_BYTES};
+use simulator::limits::{BLOCK_WORDS, CELL_WORDS, COVER_WORDS, GATES, WRITTEN_BYTES};
 use std::process::Command;
 use std::thread;
 use unloop::raw::{self, Record, Reply};
@@ -18,49 +18,56 @@ fn lent<T: Copy + Default + Into<u16>>(room: usize, run: impl FnOnce(&mut [T]) -
     (reply, result.into_iter().map(T::into).collect())
 }
 
-/// Every operation's answers on these words, a block's or not.
+/// A setting of ones for words that may be a block's.
+fn ones(words: &[u16]) -> Vec<u8> {
+    vec![1; words.first().map_or(0, |&inputs| inputs.into())]
+}
+
+/// The operations that need nothing but the words, which are a block's or not.
 fn of_words(words: &[u16]) -> Vec<Told> {
-    let setting = vec![1; words.first().map_or(0, |&n| n.into())];
+    let setting = ones(words);
     let masks = |fixed| Record {
         fixed,
         ..Record::default()
     };
     let mut records = [0, 1, 2, 3].map(masks);
     let sheet = raw::sheet(words, &mut records);
-    let mut order = vec![0; GATES];
-    let gathered = lent(BLOCK_WORDS, |room| raw::gather(words, room, &mut order));
-    let rendered = lent(BLOCK_WORDS, |room| raw::render(words, room));
-    let theirs = &rendered.1[..rendered.0.count];
-    let cells = lent(CELL_WORDS * GATES, |room| raw::cells(theirs, room));
-    let made = &cells.1[..cells.0.count];
-    let gates = order.len().min(words.get(1).map_or(0, |&m| m.into()));
+    let filled = |record: &Record| [record.number, record.defined, record.values];
     vec![
         lent(WRITTEN_BYTES, |room: &mut [u8]| raw::write(words, room)),
         lent(GATES, |room: &mut [u8]| raw::settle(words, &setting, room)),
         lent(GATES, |room: &mut [u8]| raw::pass(words, &setting, room)),
-        (
-            sheet,
-            records
-                .iter()
-                .flat_map(|record| [record.number, record.defined, record.values])
-                .collect(),
-        ),
+        (sheet, records.iter().flat_map(filled).collect()),
         (raw::verdict(words), Vec::new()),
         lent(COVER_WORDS, |room| raw::cover(words, room)),
         lent(GATES, |room| raw::groups(words, room)),
-        (raw::compare(words, theirs), Vec::new()),
         lent(BLOCK_WORDS, |room| raw::bring(words, room)),
-        lent(GATES, |room: &mut [u8]| {
-            raw::run(setting.len().min(INPUTS), made, &setting, room)
-        }),
-        lent(BLOCK_WORDS, |room| {
-            raw::scatter(&gathered.1[..gathered.0.count], &order[..gates], room)
-        }),
-        gathered.clone(),
-        rendered.clone(),
-        cells.clone(),
-        (sheet, order),
     ]
+}
+
+/// Render, and Compare, Cells and Run on what it made.
+fn of_rendering(words: &[u16]) -> Vec<Told> {
+    let setting = ones(words);
+    let rendered = lent(BLOCK_WORDS, |room| raw::render(words, room));
+    let theirs = &rendered.1[..rendered.0.count];
+    let compared = (raw::compare(words, theirs), Vec::new());
+    let cells = lent(CELL_WORDS * GATES, |room| raw::cells(theirs, room));
+    let made = &cells.1[..cells.0.count];
+    let run = |room: &mut [u8]| raw::run(setting.len(), made, &setting, room);
+    let run = lent(GATES, run);
+    vec![rendered, compared, cells, run]
+}
+
+/// Gather, and Scatter on what it made.
+fn of_order(words: &[u16]) -> Vec<Told> {
+    let mut order = vec![0; GATES];
+    let gathered = lent(BLOCK_WORDS, |room| raw::gather(words, room, &mut order));
+    let (reply, block) = (gathered.0, &gathered.1[..gathered.0.count]);
+    let gates = block.get(1).map_or(0, |&gates| gates.into());
+    let scattered = lent(BLOCK_WORDS, |room| {
+        raw::scatter(block, &order[..gates], room)
+    });
+    vec![gathered, (reply, order), scattered]
 }
 
 /// The answers of Read, and the line in the middle.
@@ -96,7 +103,9 @@ fn blocks() {
         inputs.push(block.to_old_words());
     });
     for_typical_blocks(0..10, |_, _, words| inputs.push(words.to_vec()));
-    same_on_many_threads(&inputs, |words| of_words(words));
+    same_on_many_threads(&inputs, |words| {
+        [of_words(words), of_rendering(words), of_order(words)]
+    });
 }
 
 #[test]
