@@ -18,8 +18,8 @@ impl Verdict {
     }
 }
 
-/// A partial assignment of the inputs: bit i is for input i.
-#[derive(Debug, Clone, Copy, PartialEq, Eq, Hash)]
+/// A partial assignment of the inputs: bit i is for input i. The default one fixes none.
+#[derive(Debug, Clone, Copy, Default, PartialEq, Eq, Hash)]
 pub struct Assignment {
     /// The inputs that it fixes.
     pub fixed: u16,
@@ -28,10 +28,17 @@ pub struct Assignment {
 }
 
 impl Assignment {
-    /// What it fixes an input at.
+    /// What it fixes an input at. An input that the masks have no bit for is not fixed.
+    ///
+    /// ```
+    /// # use unloop::Assignment;
+    /// let assignment = Assignment { fixed: 3, ones: 2 };
+    /// assert_eq!([0, 1, 2].map(|input| assignment.value(input)), [Some(false), Some(true), None]);
+    /// assert_eq!([16, 64, usize::MAX].map(|input| assignment.value(input)), [None; 3]);
+    /// ```
     pub fn value(self, input: usize) -> Option<bool> {
-        let bit = |mask: u16| usize::from(mask) >> input & 1 == 1;
-        bit(self.fixed).then(|| bit(self.ones))
+        let bit = 1_u16.checked_shl(input.try_into().ok()?)?;
+        (self.fixed & bit != 0).then_some(self.ones & bit != 0)
     }
 
     /// Whether a setting has its values at the inputs that it fixes; input i has weight 2^i.

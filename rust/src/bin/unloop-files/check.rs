@@ -7,7 +7,7 @@ use crate::source::{reason, Source};
 use crate::{tally, written};
 use std::process::ExitCode;
 use unloop::json::Json;
-use unloop::{Assignment, Block, Disagreement, Refusal, Value};
+use unloop::{Block, Disagreement, Refusal, Value};
 
 /// What the check of two netlists comes to.
 struct Finding {
@@ -135,7 +135,8 @@ impl<'a> Differs<'a> {
     }
 
     fn value(&self, block: &Block) -> &'static str {
-        let shown = block.shown(&block.setting(self.found.setting));
+        let setting = block.setting(self.found.setting);
+        let shown = setting.and_then(|setting| block.shown(&setting));
         match shown.map(|shown| shown[self.found.output]) {
             Ok(Value::Zero) => "0",
             Ok(Value::One) => "1",
@@ -149,7 +150,7 @@ impl<'a> Differs<'a> {
             (
                 "setting",
                 pins(
-                    Assignment::of_setting(self.found.setting),
+                    self.ours.assignment(self.found.setting).unwrap_or_default(),
                     &self.ours.input_names(),
                 ),
             ),

@@ -65,7 +65,10 @@ fn refused(refusal: Refusal, text: &[u8]) -> Vec<(String, Json)> {
         fields.extend(object([
             (
                 "setting",
-                pins(Assignment::of_setting(setting), &block.input_names()),
+                pins(
+                    block.assignment(setting).unwrap_or_default(),
+                    &block.input_names(),
+                ),
             ),
             ("undefined", Json::texts(undefined(&block, setting))),
         ]));

@@ -7,7 +7,7 @@ use crate::source::{reason, Source};
 use crate::{put, tally, Stopped};
 use std::collections::HashSet;
 use std::process::ExitCode;
-use unloop::{blif, cell_table, module_name, verilog, Block, Refusal};
+use unloop::{blif, cell_table, module_name, verilog, Block, ModuleName, Refusal};
 
 /// Why a file is not written.
 enum Failure {
@@ -63,7 +63,7 @@ fn exported(
 }
 
 /// The rendering of a text, or what it says itself, in a form.
-fn written(form: Form, original: bool, text: &[u8], name: &str) -> Result<String, Refusal> {
+fn written(form: Form, original: bool, text: &[u8], name: &ModuleName) -> Result<String, Refusal> {
     let read = Block::read(text)?;
     let block = if original { read } else { read.render()? };
     match form {

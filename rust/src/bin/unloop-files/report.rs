@@ -119,8 +119,13 @@ fn may_come(block: &Block, assignment: Assignment) -> bool {
 
 /// The outputs that show no value under a setting.
 pub fn undefined(block: &Block, setting: usize) -> Vec<String> {
-    let shown = block.shown(&block.setting(setting)).unwrap_or_default();
-    let ports = block.output_names().into_iter().zip(shown);
+    let shown = block
+        .setting(setting)
+        .and_then(|setting| block.shown(&setting));
+    let ports = block
+        .output_names()
+        .into_iter()
+        .zip(shown.unwrap_or_default());
     ports
         .filter(|(_, value)| *value == Value::Undefined)
         .map(|(port, _)| port)
@@ -129,5 +134,6 @@ pub fn undefined(block: &Block, setting: usize) -> Vec<String> {
 
 /// The pins of a setting, as `a = 1, b = 0`.
 pub fn pins_of(block: &Block, setting: usize) -> String {
-    Assignment::of_setting(setting).pins(&block.input_names())
+    let pins = block.assignment(setting).unwrap_or_default();
+    pins.pins(&block.input_names())
 }

@@ -6,7 +6,7 @@ use crate::described::{object, pins};
 use crate::report::{pins_of, undefined};
 use unloop::audit::{Cover, Never, Rendering};
 use unloop::json::Json;
-use unloop::{Assignment, Block, Location, Refusal};
+use unloop::{Block, Location, Refusal};
 
 pub struct Fact {
     state: &'static str,
@@ -165,7 +165,10 @@ fn with(block: &Block, setting: usize) -> String {
 }
 
 fn of_setting(block: &Block, setting: usize) -> Json {
-    pins(Assignment::of_setting(setting), &block.input_names())
+    pins(
+        block.assignment(setting).unwrap_or_default(),
+        &block.input_names(),
+    )
 }
 
 fn original(refusal: Refusal, entry: &Entry) -> String {
