@@ -256,9 +256,9 @@ fn bad_usage() {
         (&["a", "-x"], "unknown option -x"),
         (&["-\x1b\n"], "unknown option -??"),
         (&["a", "--into"], "--into needs DIR"),
-        (&["a", "-o"], "--output needs OUT"),
+        (&["a", "-o"], "-o needs OUT"),
         (&["--json=x", "a"], "--json takes no value"),
-        (&["-Vx"], "--version takes no value"),
+        (&["-Vx"], "-V takes no value"),
         (&["-", "-"], "standard input (-) can't be read twice"),
         (
             &["--sheet", "-", "-"],

@@ -212,19 +212,19 @@ fn given(mut words: impl Iterator<Item = OsString>) -> Result<Given, String> {
             given.files.extend(words.map(PathBuf::from));
             break;
         }
-        let Some((name, value)) = parts(&word) else {
+        let Some((given_as, value)) = parts(&word) else {
             given.files.push(word.into());
             continue;
         };
         let unknown = || format!("unknown option {}", shown(word.as_ref()));
-        let Listed { name, needs } = name.to_str().and_then(listed).ok_or_else(unknown)?;
+        let Listed { name, needs } = given_as.to_str().and_then(listed).ok_or_else(unknown)?;
         let operand = match (needs, value) {
-            (None, Some(_)) => return Err(format!("{name} takes no value")),
+            (None, Some(_)) => return Err(format!("{} takes no value", shown(given_as.as_ref()))),
             (None, None) => PathBuf::new(),
             (Some(_), Some(value)) => value.into(),
             (Some(needs), None) => {
                 let next = words.next().map(PathBuf::from);
-                next.ok_or_else(|| format!("{name} needs {needs}"))?
+                next.ok_or_else(|| format!("{} needs {needs}", shown(given_as.as_ref())))?
             }
         };
         given.take(name, operand).ok_or_else(unknown)?;
