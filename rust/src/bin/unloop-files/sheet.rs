@@ -1,7 +1,6 @@
 //! `--sheet`: a table of a netlist's outputs, a row for each setting of a list.
 
 use crate::source::{reason, Source};
-use std::io::ErrorKind;
 use std::path::{Path, PathBuf};
 use unloop::{Assignment, Block, Refusal, Value};
 
@@ -42,10 +41,10 @@ impl Sheet {
 pub fn settings(path: &Path, pins: &[String]) -> Result<Vec<Assignment>, String> {
     let source = Source::of(path.to_path_buf());
     let name = source.name();
-    let text = source
+    let bytes = source
         .whole_text()
-        .and_then(|bytes| String::from_utf8(bytes).map_err(|_| ErrorKind::InvalidData.into()))
         .map_err(|error| format!("{name}: {}", reason(&error)))?;
+    let text = String::from_utf8(bytes).map_err(|_| format!("{name}: the list is no text"))?;
     let numbered = text.lines().zip(1..);
     let setting = |(line, row)| {
         Assignment::from_pins(line, pins).map_err(|why| format!("{name}:{row}: {why}"))
