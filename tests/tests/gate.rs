@@ -6,7 +6,8 @@ use simulator::executed::{ended, Scratch};
 use stand_in::repository;
 use std::process::{Command, Output};
 
-/// Notes its calls, and as `ci` says what rt says, at the pace of the file `pace`: seconds for proofs and for edits. A line of the file `fails` makes the call of that name fail.
+/// Notes its calls, and as `ci` says what rt says, at the pace of the file `pace`: seconds for proofs and for edits. A line of the file
+/// `fails` makes the call of that name fail.
 const RT: &str = r#"#!/usr/bin/env bash
 echo "rt $*" >> calls
 if grep -qx "rt $1" fails; then echo "1 passed, 1 failed"; exit 1; fi
