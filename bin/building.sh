@@ -1,19 +1,25 @@
-# Sourced by the commands of this folder: builds what is missing or older than its sources. The command sets `command`, its own name, and
-# `root`, the repository, and before each `bring` the list `sources`.
+# Sourced by the commands of this folder: builds what is missing, older than its sources or made by another kit. The command sets `command`,
+# its own name, and `root`, the repository.
 built=$root/target/built # stamps and logs of what is built here
+program=$root/target/bin/unloop
+library=$root/target/staticlib/libexports.a
+driver=$root/target/driver/release/unloop-files
+kit=$(rt version 2>/dev/null || true)
 source "$root/bin/progress.sh"
 
 fail() {
-  printf '%s: %s\n' "$command" "$1" >&2
+  printf '%s: %s\n' "$command" "${1//[[:cntrl:]]/?}" >&2
   exit 2
 }
 
-# Whether a result is missing or older than one of the sources. A build that finds nothing to do leaves its result old, so
-# the stamp of the last build counts as well.
+# Whether a result is missing, older than one of its sources, or made by another kit than the one that is here. A build that finds nothing to
+# do leaves its result old, so the stamp of the last build counts as well; it names the kit, unless rt was run by hand.
 is_stale() {
-  local result=$1 seen=$1 stamp=$built/${1##*/}
+  local result=$1 seen=$1 stamp=$built/${1##*/} sources=("$root/crates" "$root/crates.txt")
   [[ -e $result ]] || return 0
+  if [[ -n $kit && -s $stamp && $(<"$stamp") != "$kit" ]]; then return 0; fi
   if [[ $stamp -nt $result ]]; then seen=$stamp; fi
+  if [[ $result == "$driver" ]]; then sources=("$root/rust/src" "$root/rust/build.rs" "$root/rust/Cargo.toml" "$library"); fi
   [[ -n $(find "${sources[@]}" -newer "$seen" -print -quit) ]]
 }
 
@@ -24,7 +30,7 @@ make() {
   command -v "$1" >/dev/null || fail "'$1', which builds ${result#"$root/"}, is not on the PATH"
   if [[ $1 == rt ]]; then say_why; fi
   printf '%s: building %s\n' "$command" "${result#"$root/"}" >&2
-  touch "$stamp.begun"
+  printf %s "$kit" >"$stamp.begun"
   if [[ $1 == rt ]]; then
     run_rt "$log" "$@" || status=$?
   else
@@ -61,20 +67,20 @@ bring() {
   exec 9>&-
 }
 
-# A program of the crate of this name. Further crates are proved with it, side by side where they can be: NAME CRATES.
+# The program of the crate of this name.
 bring_program() {
-  sources=("$root/crates" "$root/crates.txt")
   [[ -e $root/target/bin/$1 ]] || rm -f "$root/target/stamp/$1" # rt goes by this alone, and wouldn't link the program again
-  bring "$root/target/bin/$1" rt check "$@"
+  bring "$root/target/bin/$1" rt check "$1"
 }
 
 # All that the command `unloop` needs: the proved program, the proved library, and the driver over them.
 bring_command() {
-  program=$root/target/bin/unloop
-  library=$root/target/staticlib/libexports.a
-  driver=$root/target/driver/release/unloop-files
-  bring_program unloop exports
+  bring_program unloop
   bring "$library" rt staticlib exports
-  sources=("$root/rust/src" "$root/rust/build.rs" "$root/rust/Cargo.toml" "$library")
   bring "$driver" cargo build --release --offline --quiet --manifest-path "$root/rust/Cargo.toml" --target-dir "$root/target/driver"
+}
+
+# Whether it has all that already.
+has_command() {
+  ! is_stale "$program" && ! is_stale "$library" && ! is_stale "$driver"
 }

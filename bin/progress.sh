@@ -1,5 +1,6 @@
 # Sourced by building.sh: runs rt and tells on standard error how far it is, on a terminal by one line that is rewritten each second,
 # elsewhere by a line for each quarter of the crates. Goes by the lines `rt: NAME proved ..` that rt writes; all it writes is kept in a log.
+source "$root/bin/machine.sh"
 
 # The crates that rt proves for these names, in its order: level by level, a crate above all that it is built on (crates.txt).
 planned() {
@@ -25,11 +26,6 @@ planned() {
     }' "$root/crates.txt"
 }
 
-# Seconds as a reader wants them: 75 is 1 min 15 s.
-as_time() {
-  if (($1 < 60)); then printf '%d s' "$1"; else printf '%d min %d s' $(($1 / 60)) $(($1 % 60)); fi
-}
-
 # How far it is, of run_rt's variables: the crate at work, or each quarter once.
 tell_progress() {
   local told time at
@@ -44,9 +40,23 @@ tell_progress() {
   fi
 }
 
-# Runs `rt WORD NAMES` in the root, with no input and all output in a log, and ends with its status: LOG rt WORD NAMES.
-# rt proves crates in batches and waits for each: with four at a time two processors are rarely idle. It stands in the foreground, so that
-# an interrupt ends it too; what tells of it beside ends with the pipe that is held open meanwhile.
+# What a crate is built on, by crates.txt.
+needs_of() {
+  sed -n "s/#.*//; s/^$1://p" "$root/crates.txt"
+}
+
+# Runs `rt check NAMES`, or `rt staticlib NAME`. The latter proves what NAME is built on one at a time, so that is proved before it, side by
+# side; NAME itself is proved by it alone.
+call_rt() {
+  if [[ $2 == staticlib ]]; then
+    # shellcheck disable=SC2046 # one word for each crate
+    rt check $(needs_of "$3") || return
+  fi
+  "$@"
+}
+
+# Runs `rt WORD NAME` in the root, with no input and all output in a log, and ends with its status: LOG rt WORD NAME. It stands in the
+# foreground, so that an interrupt ends it too; what tells of it beside ends with the pipe that is held open meanwhile.
 run_rt() {
   local log=$1 crates total status=0 quarter=0 began=$SECONDS held teller
   shift
@@ -59,7 +69,9 @@ run_rt() {
     while read -r -t 1; (($? > 128)); do tell_progress; done
   )
   teller=$!
-  (cd "$root" && RT_JOBS=${RT_JOBS:-4} "$@") </dev/null >"$log" 2>&1 9>&- {held}>&- || status=$?
+  fit_to_machine
+  (cd "$root" && call_rt "$@") </dev/null >"$log" 2>&1 9>&- {held}>&- || status=$?
+  leave_memory
   exec {held}>&-
   wait "$teller" || true
   if [[ -t 2 ]]; then printf '\r%-78s\r' '' >&2; fi

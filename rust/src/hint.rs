@@ -1,8 +1,10 @@
-//! What helps behind a refusal's word: what may stand at the place, where a name was declared first, the nearest name, the limit passed.
+//! What helps behind a refusal's word: the mistake, or what may stand at the place; where a name was declared first; the nearest name; the limit
+//! passed.
 //! Tested, not proved; it replaces neither the word nor the place.
 
 mod expected;
 mod limits;
+mod mistakes;
 mod names;
 
 use crate::{Block, Refusal};
@@ -16,7 +18,10 @@ use crate::{Block, Refusal};
 /// ```
 pub fn hint(refusal: Refusal, text: &[u8]) -> Option<String> {
     match refusal {
-        Refusal::SyntaxError { place } => expected::expected(text, place),
+        Refusal::TextTooLong => limits::long(text),
+        Refusal::SyntaxError { place } => {
+            mistakes::mistake(text, place).or_else(|| expected::expected(text, place))
+        }
         Refusal::OverALimit => limits::passed(text),
         Refusal::DuplicateDeclaration { place } => names::first(text, place),
         Refusal::UndeclaredName { place } => names::nearest(text, place),

@@ -45,6 +45,7 @@ mod results;
 mod sheet;
 mod value;
 mod verilog;
+mod visible;
 
 pub use blif::blif;
 pub use block::Block;
@@ -62,3 +63,4 @@ pub use refusal::Refusal;
 pub use results::{Assignment, Disagreement, Groups, Settled, Verdict};
 pub use value::Value;
 pub use verilog::verilog;
+pub use visible::visible;

@@ -2,6 +2,10 @@
 
 /// The longest text, in bytes.
 pub const TEXT_BYTES: usize = 61_440;
+/// Of a text that is longer than this, [`hint`](crate::hint) says no more than that it is: nobody needs to read all of a huge file.
+pub const COUNTED_BYTES: usize = 1 << 20;
+/// How deep expressions may stand in each other.
+pub const DEPTH: usize = 8;
 /// The most inputs of a block.
 pub const INPUTS: usize = 12;
 /// The most never lines of a block.
@@ -34,7 +38,7 @@ pub const BLOCK_WORDS: usize = HEAD_WORDS
 /// The bytes of the gates' names in a written text, `_0` to `_1023`.
 const GATE_NAMES: usize = 4_010;
 /// The longest name, in bytes.
-const NAME_BYTES: usize = 2 * NAME_WORDS;
+pub const NAME_BYTES: usize = 2 * NAME_WORDS;
 /// The longest never line, in bytes: `(never`, a pair for each input, `)` and LF.
 const NEVER_BYTES: usize = 8 + (5 + NAME_BYTES) * INPUTS;
 /// The longest text that is written, in bytes: `(in NAME)`, never lines, a gate with a longest word and four names, `(out PORT NAME)`.

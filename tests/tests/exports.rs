@@ -397,7 +397,7 @@ fn from_blif_as_a_command() {
     ]);
     let text = "(in s)\n(gate z (or 0 1))\n(out y s)\n(out z z)\n(out s z)\n";
     told(run(&scratch, &["--from-blif", "a.blif"]), 0, text, "");
-    let report = "b.blif as a netlist:1:5: form: expected a letter\n(in S)\n    ^\n";
+    let report = "b.blif as a netlist:1:5: form: lower case letters only\n(in S)\n    ^\n";
     told(run(&scratch, &["--from-blif", "b.blif"]), 1, "", report);
     let error =
         "unloop: c.blif:2: .latch: a mapped model has .inputs, .outputs and .gate lines only\n";

@@ -77,7 +77,7 @@ fn standard_input() {
     let given = |text: &str| ended(&mut command(&scratch), text.as_bytes());
     told(given(PROGRAM_INPUT), 0, PROGRAM_OUTPUT, "");
     told(given(""), 0, "", "");
-    let errors = "<stdin>:1:7: form: expected the line's end\n(in a)\n      ^\n";
+    let errors = "<stdin>:1:7: form: the last line lacks its LF\n(in a)\n      ^\n";
     told(given("(in a)"), 1, "(refused 2 6)\n", errors);
 }
 
@@ -287,7 +287,24 @@ fn bad_usage() {
         (&["--frobnicate", "a"][..], "unknown option --frobnicate"),
         (&["a", "-x"], "unknown option -x"),
         (&["-\x1b\n"], "unknown option -??"),
-        (&["a", "--into"], "--into needs a DIR"),
+        (&["a", "--into"], "--into needs DIR"),
+        (&["a", "-o"], "-o needs OUT"),
+        (&["--json=x", "a"], "--json takes no value"),
+        (&["-Vx"], "-V takes no value"),
+        (&["-", "-"], "standard input (-) can't be read twice"),
+        (
+            &["--sheet", "-", "-"],
+            "standard input (-) can't be read twice",
+        ),
+        (
+            &["--into=out", "-"],
+            "--into needs a FILE: standard input has no name",
+        ),
+        (&["--into", "out", "-oa", "-b"], "unknown option -b"),
+        (
+            &["-ox", "--into", "out", "a"],
+            "--into DIR without --json writes nothing to standard output, so -o has no use",
+        ),
         (
             &["--into", "out"],
             "--into needs a FILE: standard input has no name",
@@ -308,9 +325,106 @@ fn help() {
     let scratch = Scratch::new();
     let usage = root().join("rust/src/bin/unloop-files/usage.txt");
     let usage = fs::read_to_string(usage).unwrap();
-    assert!(usage.starts_with("usage: bin/unloop [FILE ...]\n"));
+    assert!(usage.starts_with("usage: unloop [-o OUT] [FILE ...]\n"));
     told(run(&scratch, &["--help"]), 0, &usage, "");
     told(run(&scratch, &["--force", "--help"]), 0, &usage, "");
+    told(run(&scratch, &["-h", "--frobnicate"]), 0, &usage, "");
+    let version = format!("unloop {}\n", package_version());
+    told(run(&scratch, &["--version"]), 0, &version, "");
+    told(run(&scratch, &["-V"]), 0, &version, "");
+}
+
+/// As rust/Cargo.toml says it.
+fn package_version() -> String {
+    let manifest = fs::read_to_string(root().join("rust/Cargo.toml")).unwrap();
+    let line = manifest
+        .lines()
+        .find_map(|line| line.strip_prefix("version = "));
+    line.unwrap().trim_matches('"').to_string()
+}
+
+/// Every option that usage.txt lists is known, by each of its names: alone it is used, or says what it needs.
+#[test]
+fn options_of_the_usage() {
+    let scratch = Scratch::new();
+    let usage = fs::read_to_string(root().join("rust/src/bin/unloop-files/usage.txt")).unwrap();
+    let lines = usage.lines().filter(|line| line.starts_with("  -"));
+    let names = lines.flat_map(|line| {
+        let words = line.split_whitespace();
+        words
+            .take_while(|word| word.starts_with('-'))
+            .map(|word| word.trim_end_matches(','))
+    });
+    let names: Vec<&str> = names.collect();
+    assert!(names.len() >= 18, "{names:?}");
+    for name in names {
+        let errors = String::from_utf8(run(&scratch, &[name]).stderr).unwrap();
+        assert!(!errors.contains("unknown option"), "{errors}");
+    }
+}
+
+/// Standard input by its name, wherever a file is read.
+#[test]
+fn a_minus_is_standard_input() {
+    let scratch = with(&[("a", PROGRAM_INPUT), ("list", "a = 1\n"), ("n", INVERTER)]);
+    let given =
+        |words: &[&str], input: &str| ended(command(&scratch).args(words), input.as_bytes());
+    told(given(&["-"], PROGRAM_INPUT), 0, PROGRAM_OUTPUT, "");
+    told(given(&["--", "-"], PROGRAM_INPUT), 0, PROGRAM_OUTPUT, "");
+    let both = format!("{PROGRAM_OUTPUT}{INVERTED}");
+    let errors = "1/2 a: rendered\n2/2 <stdin>: rendered\n2 files: 2 rendered, 0 refused\n";
+    told(given(&["a", "-"], INVERTER), 0, &both, errors);
+    let report = "<stdin>:1:7: form: the last line lacks its LF\n(in a)\n      ^\n";
+    told(given(&["-"], "(in a)"), 1, "(refused 2 6)\n", report);
+    let accepted = "<stdin>: accepted\n";
+    told(given(&["--check", "-", "n"], INVERTED), 0, accepted, "");
+    told(given(&["--check=n", "-"], INVERTED), 0, "n: accepted\n", "");
+    let table = given(&["--sheet=list", "-"], INVERTER);
+    assert!(table.status.success() && !table.stdout.is_empty());
+    told(
+        given(&["--sheet", "-", "n"], "a = 1\n"),
+        0,
+        &String::from_utf8(table.stdout).unwrap(),
+        "",
+    );
+}
+
+/// `-o OUT` is replaced by what would go to standard output; a file that is read is not.
+#[test]
+fn output_in_a_file() {
+    let scratch = with(&[
+        ("a", PROGRAM_INPUT),
+        ("b", LATCH),
+        ("out", &"old\n".repeat(999)),
+    ]);
+    symlink("a", scratch.path("linked")).unwrap();
+    for words in [
+        &["-o", "out", "a"][..],
+        &["-oout", "a"],
+        &["a", "--output=out"],
+    ] {
+        scratch.put("out", "old\n".repeat(999));
+        told(run(&scratch, words), 0, "", "");
+        assert_eq!(scratch.get("out"), PROGRAM_OUTPUT);
+    }
+    told(run(&scratch, &["-o", "-", "a"]), 0, PROGRAM_OUTPUT, "");
+    assert_eq!(run(&scratch, &["-o", "out", "b"]).status.code(), Some(1));
+    assert!(scratch.get("out").starts_with("(refused 9 "));
+    assert!(run(&scratch, &["-o", "out", "--verilog", "a"])
+        .status
+        .success());
+    assert!(scratch.get("out").starts_with("module "));
+    for (out, why) in [
+        ("a", "is one of the FILEs, and isn't overwritten"),
+        ("linked", "is one of the FILEs, and isn't overwritten"),
+        ("none/out", "No such file or directory"),
+    ] {
+        let errors = format!("unloop: {out}: {why}\n");
+        told(run(&scratch, &["-o", out, "a"]), 2, "", &errors);
+    }
+    let errors = "unloop: a: is one of the FILEs, and isn't overwritten\n";
+    told(run(&scratch, &["--check", "a", "b", "-oa"]), 2, "", errors);
+    assert_eq!(scratch.get("a"), PROGRAM_INPUT);
 }
 
 /// A reader that has gone ends the run without a word, on either of the two.

@@ -28,11 +28,11 @@ fn named(hint: &str) -> Vec<u8> {
     bytes
 }
 
-/// What the hint names is what the recogniser takes there, and it isn't what stands there.
+/// What the hint names is what the recogniser takes there, and it isn't what stands there; or it is a mistake that is there.
 #[test]
 fn expected_bytes_are_those_that_the_recogniser_takes() {
-    let mut told_of = 0;
-    for_texts(0..150, Size::SMALL, |random, text, _| {
+    let (mut told_of, mut mistakes) = (0, 0);
+    for_texts(0..600, Size::SMALL, |random, text, _| {
         let text = spoiled(random, text);
         let Err(Refusal::SyntaxError { place }) = Block::read(&text) else {
             return;
@@ -42,10 +42,165 @@ fn expected_bytes_are_those_that_the_recogniser_takes() {
         let mut expected: Vec<u8> = BYTES.iter().filter(takes).copied().collect();
         expected.sort_unstable();
         let hint = told(&text).expect("something may stand there");
-        assert_eq!(named(&hint), expected, "{hint}");
-        told_of += 1;
+        if hint.starts_with("expected ") {
+            assert_eq!(named(&hint), expected, "{hint}");
+            told_of += 1;
+        } else {
+            assert!(is_there(&hint, &text, place, &expected), "{hint}");
+            mistakes += 1;
+        }
     });
-    assert!(told_of > 50, "{told_of}");
+    assert!(told_of > 150 && mistakes > 50, "{told_of} {mistakes}");
+}
+
+/// Whether a mistake is there: `expected` are the bytes that may stand at the place.
+fn is_there(hint: &str, text: &[u8], place: usize, expected: &[u8]) -> bool {
+    let (before, rest) = text.split_at(place);
+    let line = before.rsplit(|&byte| byte == b'\n').next().unwrap();
+    let byte = rest.first().copied().unwrap_or(b'!');
+    let open = line.iter().filter(|&&byte| byte == b'(').count()
+        - line.iter().filter(|&&byte| byte == b')').count();
+    let of_name = |byte: &&u8| byte.is_ascii_alphanumeric() || **byte == b'_';
+    match hint {
+        "a carriage return; lines end with LF alone" => byte == b'\r',
+        "a tab; items are separated by one space" => byte == b'\t',
+        "two spaces; items are separated by one space" => line.ends_with(b" ") && byte == b' ',
+        "a space; a line begins with its (" => line.is_empty() && byte == b' ',
+        "a space; a line ends with its )" => line.ends_with(b")") && open == 0 && byte == b' ',
+        "a zero byte, as in UTF-16; the text is ASCII" => byte == 0,
+        "lower case letters only" => {
+            expected.contains(&byte.to_ascii_lowercase()) && byte.is_ascii_uppercase()
+        }
+        "the last line lacks its LF" => rest.is_empty() && expected == b"\n",
+        "no comments or empty lines in this format" => {
+            b"\n#;/ ".contains(&byte) && (line.is_empty() || open == 0)
+        }
+        "expressions nest at most 8 deep" => byte == b'(' && open == 9,
+        "inputs stand before gates"
+        | "inputs stand before never lines"
+        | "inputs stand before outputs" => rest.starts_with(b"in "),
+        "never lines stand before gates" | "never lines stand before outputs" => {
+            rest.starts_with(b"never")
+        }
+        "gates stand before outputs" => rest.starts_with(b"gate "),
+        "not takes one operand" => b") ".contains(&byte) && open > 1,
+        _ if hint.starts_with("not ASCII: ") => byte >= 128,
+        _ if hint.ends_with(" takes two to four operands") => b") ".contains(&byte) && open > 1,
+        _ if hint.starts_with("a name has at most 8 bytes, and ") => {
+            line.iter().rev().take_while(of_name).count() == 8 && of_name(&&byte)
+        }
+        _ if hint.starts_with("an expression such as (and a b); a plain copy is (and ") => {
+            line.starts_with(b"(gate ") && open == 1 && expected == b"("
+        }
+        _ => false,
+    }
+}
+
+/// Each row of the table, and those near it.
+#[test]
+fn everyday_mistakes() {
+    let copy = |name: &str| {
+        format!(
+            "an expression such as (and a b); a plain copy is (and {name} {name}) or (or {name} 0)"
+        )
+    };
+    let nested = |depth: usize| {
+        format!(
+            "(gate p {}a{}\n",
+            "(not ".repeat(depth),
+            ")".repeat(depth + 1)
+        )
+    };
+    assert!(Block::read(&format!("(in a)\n{}", nested(8))).is_ok());
+    for (text, expected) in [
+        (
+            &b"(in a)\r\n"[..],
+            "a carriage return; lines end with LF alone",
+        ),
+        (b"\xEF\xBB\xBF(in a)\n", "not ASCII: a byte-order mark"),
+        (b"\xFF\xFE(\0i\0n\0", "not ASCII: a byte-order mark"),
+        (b"\xFE\xFF\0(\0i\0n", "not ASCII: a byte-order mark"),
+        (b"(\0i\0n\0", "a zero byte, as in UTF-16; the text is ASCII"),
+        (b"(in a)\n(in \xC3\xA9)\n", "not ASCII: \\xC3"),
+        (b"(in A)\n", "lower case letters only"),
+        (b"(IN a)\n", "lower case letters only"),
+        (b"(gate p (AND a b))\n", "lower case letters only"),
+        (
+            b"(in abcdefghi)\n",
+            "a name has at most 8 bytes, and abcdefghi has 9",
+        ),
+        (
+            b"(gate p (not abcdefghIJ))\n",
+            "a name has at most 8 bytes, and abcdefghIJ has 10",
+        ),
+        (b"(in a)", "the last line lacks its LF"),
+        (
+            b"(in a)\n(gate p (and a a a a a))\n",
+            "and takes two to four operands",
+        ),
+        (
+            b"(in a)\n(gate p (nor a))\n",
+            "nor takes two to four operands",
+        ),
+        (
+            b"(in a)\n(gate p (or a (xnor a)))\n",
+            "xnor takes two to four operands",
+        ),
+        (b"(in a)\n(gate p (not a a))\n", "not takes one operand"),
+        (nested(9).as_bytes(), "expressions nest at most 8 deep"),
+        (
+            b"# a\n(in a)\n",
+            "no comments or empty lines in this format",
+        ),
+        (
+            b"(in a)\n; b\n",
+            "no comments or empty lines in this format",
+        ),
+        (b"(in a) # a\n", "no comments or empty lines in this format"),
+        (
+            b"(in a)\n\n(in b)\n",
+            "no comments or empty lines in this format",
+        ),
+        (b"(in a)\n  \n", "no comments or empty lines in this format"),
+        (
+            b"(in a)\n(gate p (not a))\n(in b)\n",
+            "inputs stand before gates",
+        ),
+        (
+            b"(in a)\n(never (a 1))\n(in b)\n",
+            "inputs stand before never lines",
+        ),
+        (
+            b"(in a)\n(gate p (not a))\n(never (a 1))\n",
+            "never lines stand before gates",
+        ),
+        (
+            b"(in a)\n(out y a)\n(gate p (not a))\n",
+            "gates stand before outputs",
+        ),
+        (b"(in\ta)\n", "a tab; items are separated by one space"),
+        (
+            b"(in a)\n(gate p (and a  a))\n",
+            "two spaces; items are separated by one space",
+        ),
+        (b" (in a)\n", "a space; a line begins with its ("),
+        (b"(in a) \n", "a space; a line ends with its )"),
+        (b"(in f)\n(gate w f)\n", &copy("f")),
+        (b"(in f)\n(gate w 1)\n", &copy("1")),
+        (&[b'x'; 61_500], "61500 bytes, 60 more than 61440"),
+    ] {
+        assert_eq!(
+            told(text).as_deref(),
+            Some(expected),
+            "{}",
+            text.escape_ascii()
+        );
+    }
+    // Where a lower case letter may not stand either, and where no name is meant.
+    for text in ["(in a)\nX\n", "(in a)\n(gate w F)\n"] {
+        let hint = told(text.as_bytes()).unwrap();
+        assert!(hint.starts_with("expected "), "{hint}");
+    }
 }
 
 #[test]

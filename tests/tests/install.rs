@@ -18,11 +18,14 @@ fn what_is_installed_works() {
     told(output, 0, "a b/bin/unloop is installed\n", "");
     fs::rename(scratch.path("a b"), scratch.path("moved")).unwrap();
     symlink("moved/bin/unloop", scratch.path("linked")).unwrap();
-    for path in ["moved/bin/unloop", "linked"] {
+    let installed = |path: &str, words: &[&str]| {
         let mut command = Command::new(scratch.path(path));
-        let output = ended(command.current_dir(scratch.path(".")).arg("x.net"), b"");
-        told(output, 0, PROGRAM_OUTPUT, "");
+        ended(command.current_dir(scratch.path(".")).args(words), b"")
+    };
+    for path in ["moved/bin/unloop", "linked"] {
+        told(installed(path, &["x.net"]), 0, PROGRAM_OUTPUT, "");
     }
+    speaks_for_itself(&String::from_utf8(installed("linked", &["-h"]).stdout).unwrap());
     let mut compiler = Command::new("gcc");
     compiler
         .arg("-I")
@@ -48,6 +51,23 @@ fn what_is_installed_works() {
     same("moved/share/unloop/gates.genlib", "catalogue/gates.genlib");
 }
 
+/// The installed command's help speaks of `unloop`, of no file that is not installed, and of nothing that is built.
+fn speaks_for_itself(help: &str) {
+    assert!(help.starts_with("usage: unloop "), "{help}");
+    assert!(help.contains("gates.genlib"));
+    for word in [
+        "bin/",
+        "catalogue",
+        "target",
+        " rt ",
+        "built",
+        "build",
+        "crates",
+    ] {
+        assert!(!help.contains(word), "{word}");
+    }
+}
+
 #[test]
 fn bad_usage() {
     let scratch = Scratch::new();
@@ -67,13 +87,15 @@ fn manual_page() {
         .unwrap()
         .replace('\\', "");
     let usage = fs::read_to_string(root().join("rust/src/bin/unloop-files/usage.txt")).unwrap();
-    let options = usage.lines().filter_map(|line| line.strip_prefix("  --"));
-    let options: Vec<&str> = options
-        .map(|line| line.split(' ').next().unwrap())
-        .collect();
-    assert!(options.len() >= 12, "{options:?}");
+    let lines = usage.lines().filter(|line| line.starts_with("  -"));
+    let names = lines.flat_map(|line| {
+        let words = line.split_whitespace();
+        words.take_while(|word| word.starts_with('-'))
+    });
+    let options: Vec<&str> = names.map(|name| name.trim_end_matches(',')).collect();
+    assert!(options.len() >= 18, "{options:?}");
     for option in options {
-        assert!(page.contains(&format!("--{option}")), "{option}");
+        assert!(page.contains(option), "{option}");
     }
     for refusal in [1, 2, 3, 4, 5, 8, 9, 10, 12] {
         let word = unloop::Refusal::from_parts(refusal, 0).unwrap().word();

@@ -1,17 +1,13 @@
 //! What `bin/unloop` and `bin/bench` build, and when: in a repository of its own, with stand-ins for `rt` and `cargo` that write down each call.
 
-use simulator::executed::{ended, root, Scratch};
-use std::os::unix::fs::symlink;
-use std::path::{Path, PathBuf};
-use std::process::{Command, Output};
-use std::time::{Duration, SystemTime};
-use std::{env, fs, thread};
+mod session;
+mod stand_in;
 
-/// The commands that the scripts use.
-const TOOLS: [&str; 16] = [
-    "awk", "bash", "cat", "chmod", "dirname", "env", "find", "flock", "grep", "mkdir", "mv",
-    "readlink", "rm", "sleep", "tail", "touch",
-];
+use simulator::executed::{ended, Scratch};
+use stand_in::{found, repository, set_age, sought};
+use std::path::Path;
+use std::process::{Command, Output};
+use std::{fs, thread};
 
 const RESULTS: [&str; 3] = [
     "target/bin/unloop",
@@ -19,107 +15,13 @@ const RESULTS: [&str; 3] = [
     "target/driver/release/unloop-files",
 ];
 
-/// Makes its result, a program that writes its input, unless it is up to date, which `rt check` tells by a stamp of its own. It takes a
-/// while, and would take the input too.
-const RT: &str = r#"#!/usr/bin/env bash
-echo "rt $*" >> calls
-cat > eaten
-sleep 0.1
-case $1 in
-  check) result=target/bin/$2 stamp=target/stamp/$2 ;;
-  staticlib) result=target/staticlib/libexports.a stamp=$result ;;
-esac
-[ -e "$stamp" ] && exit
-mkdir -p "${result%/*}" target/stamp
-touch "$stamp"
-printf '#!/usr/bin/env bash\ncat\n' > "$result"
-chmod +x "$result"
-"#;
+/// What the library is built on is proved side by side before it, and it itself once.
+const LIBRARY_BUILT: &str = "rt check laws netlist\nrt staticlib exports\n";
+const ALL_BUILT: &str =
+    "rt check unloop\nrt check laws netlist\nrt staticlib exports\ncargo build\n";
 
-/// Makes a driver that writes its arguments, one a line, and its input.
-const CARGO: &str = r#"#!/usr/bin/env bash
-echo "cargo $1" >> calls
-mkdir -p target/driver/release
-[ -e target/driver/release/unloop-files ] && exit
-cat > target/driver/release/unloop-files <<'DRIVER'
-#!/usr/bin/env bash
-printf '%s\n' "$@"
-cat
-exit 7
-DRIVER
-chmod +x target/driver/release/unloop-files
-"#;
-
-const ALL_BUILT: &str = "rt check unloop exports\nrt staticlib exports\ncargo build\n";
-
-/// Six crates, five of which the command needs.
-const CRATES: &str =
-    "# NAME: what it is built on\nlaws:\nunloop: laws words netlist io\nnetlist: laws\n\
-    words: laws netlist # not in rt's order\nexports: laws netlist\nbench: laws\n";
-
-/// A repository with nothing built, its sources two hours old.
-fn repository() -> Scratch {
-    let scratch = Scratch::new();
-    let usage = "rust/src/bin/unloop-files/usage.txt";
-    scratch.put("crates.txt", CRATES);
-    for source in [
-        "crates/a/src/lib.rt",
-        "rust/build.rs",
-        "rust/Cargo.toml",
-        usage,
-    ] {
-        scratch.put(source, "usage\n");
-    }
-    for source in ["crates.txt", "crates", "rust"] {
-        age_all(&scratch.path(source));
-    }
-    scratch.put("calls", "");
-    for script in [
-        "bin/unloop",
-        "bin/bench",
-        "bin/building.sh",
-        "bin/progress.sh",
-    ] {
-        let content = fs::read_to_string(root().join(script)).unwrap();
-        scratch.put_script(script, &content);
-    }
-    scratch.put_script("tools/rt", RT);
-    scratch.put_script("tools/cargo", CARGO);
-    for tool in TOOLS {
-        symlink(found(tool), scratch.path("tools").join(tool)).unwrap();
-    }
-    scratch
-}
-
-/// Makes a file, or a folder and all in it, two hours old.
-fn age_all(path: &Path) {
-    if path.is_dir() {
-        let entries = fs::read_dir(path).unwrap();
-        entries.for_each(|entry| age_all(&entry.unwrap().path()));
-    }
-    set_age(path, 7_200);
-}
-
-/// Where a command is.
-fn found(tool: &str) -> PathBuf {
-    sought(tool).expect(tool)
-}
-
-fn sought(tool: &str) -> Option<PathBuf> {
-    let path = env::var_os("PATH").expect("PATH");
-    let mut places = env::split_paths(&path).map(|folder| folder.join(tool));
-    places.find(|place| place.exists())
-}
-
-fn age(scratch: &Scratch, name: &str, seconds: u64) {
-    set_age(&scratch.path(name), seconds);
-}
-
-/// Sets the time of a file or folder to so many seconds ago.
-fn set_age(path: &Path, seconds: u64) {
-    let time = SystemTime::now() - Duration::from_secs(seconds);
-    fs::File::open(path).unwrap().set_modified(time).unwrap();
-}
+/// Words that need all.
+const ALL: &[&str] = &["--json"];
 
 fn run(scratch: &Scratch, words: &[&str]) -> Output {
     run_command(scratch, "bin/unloop", words)
@@ -129,6 +31,10 @@ fn run_command(scratch: &Scratch, name: &str, words: &[&str]) -> Output {
     let mut command = Command::new(scratch.path(name));
     let command = command.env_clear().env("PATH", scratch.path("tools"));
     ended(command.current_dir("/").args(words), b"the input\n")
+}
+
+fn age(scratch: &Scratch, name: &str, seconds: u64) {
+    set_age(&scratch.path(name), seconds);
 }
 
 /// A text with each number of seconds, as `(12 s)`, as `(N s)`.
@@ -157,9 +63,12 @@ fn told(scratch: &Scratch, ended: &Output, status: i32, errors: &str, calls: &st
 const WHY: &str = "unloop: what runs here is proved first, on this machine, from the sources in crates/\n\
     unloop: the first time this takes minutes; what is proved stays in target/, and later runs start at once\n";
 
-const PROGRAM: &str = "unloop: building target/bin/unloop\nunloop: 5 crates are proved (N s)\n";
+const PROGRAM: &str = "unloop: building target/bin/unloop\nunloop: 4 crates are proved (N s)\n";
 const LIBRARY: &str =
     "unloop: building target/staticlib/libexports.a\nunloop: 3 crates are proved (N s)\n";
+const RENDERED: &str =
+    "unloop: that is the rendering; what reports and options need is built now too, for later runs\n\
+    unloop: it may be interrupted, and then goes on with the next run\n";
 const DRIVER: &str = "unloop: building target/driver/release/unloop-files\n";
 
 /// The driver gets the program's path, the words and the whole input, and its status is the script's.
@@ -167,12 +76,13 @@ const DRIVER: &str = "unloop: building target/driver/release/unloop-files\n";
 fn builds_what_is_missing_once() {
     let scratch = repository();
     let program = scratch.path("target/bin/unloop");
-    let output = format!("{}\na b\nc\nthe input\n", program.display());
-    let ended = run(&scratch, &["a b", "c"]);
+    let words = ["--json", "--into", "a b", "-"];
+    let output = format!("{}\n{}\nthe input\n", program.display(), words.join("\n"));
+    let ended = run(&scratch, &words);
     let building = [WHY, PROGRAM, LIBRARY, DRIVER].concat();
     told(&scratch, &ended, 7, &building, ALL_BUILT);
     assert_eq!(String::from_utf8_lossy(&ended.stdout), output);
-    let ended = run(&scratch, &["a b", "c"]);
+    let ended = run(&scratch, &words);
     told(&scratch, &ended, 7, "", "");
     assert_eq!(String::from_utf8_lossy(&ended.stdout), output);
 }
@@ -180,11 +90,11 @@ fn builds_what_is_missing_once() {
 /// A repository where all is built, an hour ago, of sources of two hours ago; no stamp tells of a later build.
 fn built_an_hour_ago() -> Scratch {
     let scratch = repository();
-    run(&scratch, &[]);
+    run(&scratch, ALL);
     scratch.put("calls", "");
     RESULTS.iter().for_each(|built| age(&scratch, built, 3_600));
     fs::remove_dir_all(scratch.path("target/built")).unwrap();
-    told(&scratch, &run(&scratch, &[]), 7, "", "");
+    told(&scratch, &run(&scratch, ALL), 7, "", "");
     scratch
 }
 
@@ -195,9 +105,9 @@ fn builds_again_where_a_crate_is_newer_and_then_no_more() {
         let scratch = built_an_hour_ago();
         age(&scratch, source, 1_800);
         let building = [WHY, PROGRAM, LIBRARY].concat();
-        let calls = "rt check unloop exports\nrt staticlib exports\n";
-        told(&scratch, &run(&scratch, &[]), 7, &building, calls);
-        told(&scratch, &run(&scratch, &[]), 7, "", "");
+        let calls = ["rt check unloop\n", LIBRARY_BUILT].concat();
+        told(&scratch, &run(&scratch, ALL), 7, &building, &calls);
+        told(&scratch, &run(&scratch, ALL), 7, "", "");
     }
 }
 
@@ -208,21 +118,26 @@ fn builds_the_driver_again_where_its_sources_are_newer_and_then_no_more() {
     for source in [usage, "rust/build.rs", "rust/Cargo.toml", RESULTS[1]] {
         let scratch = built_an_hour_ago();
         age(&scratch, source, 1_800);
-        told(&scratch, &run(&scratch, &[]), 7, DRIVER, "cargo build\n");
-        told(&scratch, &run(&scratch, &[]), 7, "", "");
+        told(&scratch, &run(&scratch, ALL), 7, DRIVER, "cargo build\n");
+        told(&scratch, &run(&scratch, ALL), 7, "", "");
     }
 }
 
 #[test]
 fn builds_a_program_that_was_removed() {
     let scratch = repository();
-    run(&scratch, &[]);
+    run(&scratch, ALL);
     scratch.put("calls", "");
     fs::remove_file(scratch.path("target/bin/unloop")).unwrap();
-    let calls = "rt check unloop exports\n";
     let building = [WHY, PROGRAM].concat();
-    told(&scratch, &run(&scratch, &[]), 7, &building, calls);
-    told(&scratch, &run(&scratch, &[]), 7, "", "");
+    told(
+        &scratch,
+        &run(&scratch, ALL),
+        7,
+        &building,
+        "rt check unloop\n",
+    );
+    told(&scratch, &run(&scratch, ALL), 7, "", "");
 }
 
 #[test]
@@ -232,12 +147,12 @@ fn tools_that_are_missing() {
         (
             "cargo",
             "target/driver/release/unloop-files",
-            "rt check unloop exports\nrt staticlib exports\n",
+            "rt check unloop\nrt check laws netlist\nrt staticlib exports\n",
         ),
     ] {
         let scratch = repository();
         fs::remove_file(scratch.path("tools").join(tool)).unwrap();
-        let ended = run(&scratch, &[]);
+        let ended = run(&scratch, ALL);
         let lines = String::from_utf8_lossy(&ended.stderr);
         let line = format!("unloop: '{tool}', which builds {result}, is not on the PATH");
         assert_eq!(lines.lines().last(), Some(&line[..]));
@@ -249,7 +164,7 @@ fn tools_that_are_missing() {
 
 /// The last line that a run says, which fails.
 fn failure(scratch: &Scratch) -> String {
-    let ended = run(scratch, &[]);
+    let ended = run(scratch, ALL);
     assert_eq!(ended.status.code(), Some(2));
     assert!(ended.stdout.is_empty());
     let lines = String::from_utf8(ended.stderr).unwrap();
@@ -261,11 +176,11 @@ fn builds_that_fail() {
     let scratch = repository();
     scratch.put_script(
         "tools/rt",
-        "#!/usr/bin/env bash\necho refused\necho why >&2\nexit 1\n",
+        "#!/usr/bin/env bash\n[ $1 != version ] || exit 0\necho refused\necho why >&2\nexit 1\n",
     );
     let log = scratch.path("target/built/unloop.log");
     let line = format!(
-        "unloop: 'rt check unloop exports' failed with status 1: see {}",
+        "unloop: 'rt check unloop' failed with status 1: see {}",
         log.display()
     );
     assert_eq!(failure(&scratch), line);
@@ -282,7 +197,7 @@ fn builds_that_fail() {
     scratch.put_script("tools/rt", "#!/usr/bin/env bash\n");
     let result = scratch.path("target/bin/unloop");
     let line = format!(
-        "unloop: 'rt check unloop exports' made no {}: see {}",
+        "unloop: 'rt check unloop' made no {}: see {}",
         result.display(),
         log.display()
     );
@@ -292,7 +207,7 @@ fn builds_that_fail() {
 /// Proves one crate, takes so long that the script looks, and then ends as it is told to.
 fn slow_rt(then: &str) -> String {
     let first = "rt: laws proved (1 s)\nlogic=proved\nrt: netlist proved (unchanged since it was last proved)";
-    format!("#!/usr/bin/env bash\ncat <<'SAID'\nlogic=proved\n{first}\nSAID\nsleep 2.5\n{then}")
+    format!("#!/usr/bin/env bash\n[ $1 != version ] || exit 0\ncat <<'SAID'\nlogic=proved\n{first}\nSAID\nsleep 2.5\n{then}")
 }
 
 /// Elsewhere than on a terminal there is a line for each quarter, and none twice.
@@ -300,17 +215,17 @@ fn slow_rt(then: &str) -> String {
 fn tells_how_far_it_is() {
     let scratch = repository();
     let made = "mkdir -p target/bin; touch target/bin/unloop; sleep 1.5; exit 3\n";
-    let lines = "echo 'rt: words proved (2 s)'; echo 'rt: exports proved (2 s)'; sleep 1.5\n";
+    let lines = "echo 'rt: words proved (2 s)'; sleep 1.5\n";
     scratch.put_script("tools/rt", &slow_rt(&format!("{lines}{made}")));
-    let ended = run(&scratch, &[]);
+    let ended = run(&scratch, ALL);
     let building = "unloop: building target/bin/unloop\n";
-    let quarters = "unloop: 2 of 5 crates (N s)\nunloop: 4 of 5 crates (N s)\n";
+    let quarters = "unloop: 2 of 4 crates (N s)\nunloop: 3 of 4 crates (N s)\n";
     let begun = [WHY, building, quarters].concat();
     let said = untimed(&ended.stderr);
     let rest = said
         .strip_prefix(&begun)
         .unwrap_or_else(|| panic!("{said}"));
-    assert!(rest.starts_with("unloop: 'rt check unloop exports' failed with status 3: see "));
+    assert!(rest.starts_with("unloop: 'rt check unloop' failed with status 3: see "));
     assert_eq!(rest.lines().count(), 1, "what is proved is not told again");
     assert_eq!(ended.status.code(), Some(2));
 }
@@ -322,13 +237,13 @@ fn tells_why_it_failed() {
     let failing = "echo wrong >&2\necho 'rt: words NOT PROVED (exit 1, 2 s)'\necho logic=proved\n\
         echo 'rt: exports proved (1 s)'\necho 'rt: FAILED: words'\nexit 1\n";
     scratch.put_script("tools/rt", &slow_rt(failing));
-    let ended = run(&scratch, &[]);
+    let ended = run(&scratch, ALL);
     let log = scratch.path("target/built/unloop.log");
     let expected = [
         WHY,
-        "unloop: building target/bin/unloop\nunloop: 2 of 5 crates (N s)\n",
+        "unloop: building target/bin/unloop\nunloop: 2 of 4 crates (N s)\n",
         "wrong\nrt: words NOT PROVED (exit 1, N s)\nrt: FAILED: words\n",
-        "unloop: 'rt check unloop exports' failed with status 1: see ",
+        "unloop: 'rt check unloop' failed with status 1: see ",
         &format!("{}\n", log.display()),
     ];
     told(&scratch, &ended, 2, &expected.concat(), "");
@@ -349,7 +264,7 @@ fn tells_the_crate_at_work_on_a_terminal() {
     let command = command
         .env("PATH", scratch.path("tools"))
         .env("SHELL", found("bash"));
-    let launcher = format!("'{}'", scratch.path("bin/unloop").display());
+    let launcher = format!("'{}' --json", scratch.path("bin/unloop").display());
     let ended = ended(command.args(["-qec", &launcher, "/dev/null"]), b"");
     assert_eq!(ended.status.code(), Some(2));
     let shown = untimed(&ended.stdout);
@@ -359,8 +274,8 @@ fn tells_the_crate_at_work_on_a_terminal() {
         .map(str::trim_end)
         .collect();
     assert!(at_work.len() >= 3, "{shown}");
-    assert_eq!(at_work.last(), Some(&"unloop: crate 3 of 5, words (N s)"));
-    assert!(!shown.contains("of 5 crates"));
+    assert_eq!(at_work.last(), Some(&"unloop: crate 3 of 4, words (N s)"));
+    assert!(!shown.contains("of 4 crates"));
 }
 
 #[test]
@@ -375,20 +290,207 @@ fn target_that_cannot_be_written() {
     assert_eq!(failure(&scratch), line);
 }
 
+/// With nothing built the same is said, with the same status, as by the driver; and nothing is built.
 #[test]
-fn help_needs_nothing_built() {
+fn arguments_are_looked_at_first() {
+    let (scratch, folder) = (repository(), session::with(&[("a.net", "(in a)\n")]));
+    for words in [
+        &["-h"][..],
+        &["--help"],
+        &["--force", "--help", "--frobnicate"],
+        &["--version"],
+        &["--json", "-V"],
+        &["--frobnicate"],
+        &["a.net", "-x"],
+        &["-xa.net"],
+        &["--frobnicate=3"],
+        &["--versio"],
+        &["--json=3"],
+        &["-hx"],
+        &["--into"],
+        &["a.net", "-o"],
+        &["--sheet"],
+        &["none.net"],
+        &["--", "--help"],
+        &["."],
+        &["--verilog", "none.net"],
+        &["--sheet", "none", "a.net"],
+        &["--check=none", "a.net"],
+        &["--audit=none"],
+        &["a\n\x1b.net"],
+    ] {
+        let mut command = Command::new(scratch.path("bin/unloop"));
+        let command = command.env_clear().env("PATH", scratch.path("tools"));
+        let said = ended(command.current_dir(folder.path(".")).args(words), b"");
+        let by_the_driver = session::run(&folder, words);
+        session::told(
+            said,
+            by_the_driver.status.code().unwrap(),
+            &String::from_utf8_lossy(&by_the_driver.stdout),
+            &String::from_utf8_lossy(&by_the_driver.stderr),
+        );
+        assert_eq!(scratch.get("calls"), "", "{words:?}");
+        assert!(!scratch.path("target").exists(), "{words:?}");
+    }
+}
+
+/// Only the program is needed for a rendering, of a file or of standard input; the rest is built when it is written.
+#[test]
+fn a_first_rendering_needs_the_program_alone() {
+    for words in [&[][..], &["-"], &["a.net"], &["--", "a.net"]] {
+        let scratch = repository();
+        scratch.put("a.net", "the input\n");
+        let mut command = Command::new(scratch.path("bin/unloop"));
+        let command = command.env_clear().env("PATH", scratch.path("tools"));
+        let command = command.current_dir(scratch.path(".")).args(words);
+        scratch.put("input", "the input\n");
+        let input = fs::File::open(scratch.path("input")).unwrap();
+        let output = fs::File::create(scratch.path("out")).unwrap();
+        let ended = command.stdin(input).stdout(output).output().unwrap();
+        let building = [WHY, PROGRAM, RENDERED, LIBRARY, DRIVER].concat();
+        told(&scratch, &ended, 0, &building, ALL_BUILT);
+        assert_eq!(scratch.get("out"), "the input\n");
+        assert_eq!(scratch.get("out.then"), "the input\n", "before the library");
+        told(&scratch, &run(&scratch, ALL), 7, "", "");
+    }
+}
+
+/// What fails behind the rendering is told, and tried again with the next run; the status is the rendering's.
+#[test]
+fn a_library_that_fails_behind_a_rendering() {
     let scratch = repository();
-    let ended = run(&scratch, &["--help"]);
-    told(&scratch, &ended, 0, "", "");
-    assert_eq!(String::from_utf8_lossy(&ended.stdout), "usage\n");
-    assert!(!Path::new(&scratch.path("target")).exists());
+    fs::remove_file(scratch.path("tools/cargo")).unwrap();
+    let lacking =
+        "unloop: 'cargo', which builds target/driver/release/unloop-files, is not on the PATH\n";
+    let building = [WHY, PROGRAM, RENDERED, LIBRARY, lacking].concat();
+    let calls = ["rt check unloop\n", LIBRARY_BUILT].concat();
+    let ended = run(&scratch, &[]);
+    told(&scratch, &ended, 0, &building, &calls);
+    assert_eq!(ended.stdout, b"the input\n");
+    let ended = run(&scratch, &[]);
+    told(&scratch, &ended, 0, &[RENDERED, lacking].concat(), "");
+    assert_eq!(ended.stdout, b"the input\n");
+}
+
+/// A refusal needs its report, and so the driver; it has the whole input too.
+#[test]
+fn a_refusal_needs_all() {
+    for words in [&[][..], &["-"], &["a.net"]] {
+        let scratch = repository();
+        scratch.put("a.net", "(refused 2 0)\n");
+        let mut command = Command::new(scratch.path("bin/unloop"));
+        let command = command.env_clear().env("PATH", scratch.path("tools"));
+        let command = command.current_dir(scratch.path(".")).args(words);
+        let ended = ended(command, b"(refused 2 0)\n\0");
+        let building = [WHY, PROGRAM, LIBRARY, DRIVER].concat();
+        told(&scratch, &ended, 7, &building, ALL_BUILT);
+        let program = scratch.path("target/bin/unloop");
+        let words: String = words.iter().map(|word| format!("{word}\n")).collect();
+        let output = format!("{}\n{words}(refused 2 0)\n\0", program.display());
+        assert_eq!(String::from_utf8_lossy(&ended.stdout), output);
+    }
+}
+
+/// What another kit made is made again, once; without a kit what is there is used.
+#[test]
+fn builds_again_by_another_kit() {
+    let scratch = repository();
+    run(&scratch, ALL);
+    scratch.put("calls", "");
+    scratch.put("tools/kit", "kit 2\n");
+    let building = [WHY, PROGRAM, LIBRARY, DRIVER].concat();
+    told(&scratch, &run(&scratch, ALL), 7, &building, ALL_BUILT);
+    told(&scratch, &run(&scratch, ALL), 7, "", "");
+    fs::remove_file(scratch.path("tools/rt")).unwrap();
+    told(&scratch, &run(&scratch, ALL), 7, "", "");
+}
+
+/// The jobs and the folder of temporary files: a new one, or the caller's own; nothing of it stays.
+#[test]
+fn jobs_and_temporary_files() {
+    let scratch = repository();
+    run(&scratch, ALL);
+    let room = scratch.get("room");
+    assert_eq!(room.lines().count(), 3);
+    for line in room.lines() {
+        let (jobs, folder) = line.split_once(' ').unwrap();
+        assert!(jobs.parse::<usize>().unwrap() >= 1, "{room}");
+        assert!(
+            folder.is_empty() || folder.starts_with("/dev/shm/unloop."),
+            "{room}"
+        );
+        assert!(folder.is_empty() || !Path::new(folder).exists(), "{room}");
+    }
+    let scratch = repository();
+    let mut command = Command::new(scratch.path("bin/unloop"));
+    let command = command.env_clear().env("PATH", scratch.path("tools"));
+    let own = scratch.path("tools");
+    ended(
+        command.env("TMPDIR", &own).env("RT_JOBS", "7").args(ALL),
+        b"",
+    );
+    let line = format!("7 {}\n", own.display());
+    assert_eq!(scratch.get("room"), line.repeat(3));
+}
+
+/// What bin/machine.sh answers to a line of bash.
+fn machine(scratch: &Scratch, line: &str) -> String {
+    let script = format!(
+        "set -euo pipefail\nsource '{}'\n{line}",
+        scratch.path("bin/machine.sh").display()
+    );
+    let mut command = Command::new(scratch.path("tools/bash"));
+    let command = command.env_clear().env("PATH", scratch.path("tools"));
+    let ended = ended(
+        command.current_dir(scratch.path(".")).args(["-c", &script]),
+        b"",
+    );
+    assert!(ended.stderr.is_empty(), "{ended:?}");
+    String::from_utf8(ended.stdout).unwrap()
+}
+
+/// As many jobs as there is memory for, one at least, and four at most where there are not more processors.
+#[test]
+fn jobs_follow_the_memory() {
+    let scratch = repository();
+    scratch.put_script("tools/two", "#!/usr/bin/env bash\necho 2\n");
+    fs::rename(scratch.path("tools/two"), scratch.path("tools/nproc")).unwrap();
+    for (megabytes, jobs) in [
+        (500, 1),
+        (5_999, 1),
+        (6_000, 2),
+        (11_999, 3),
+        (12_000, 4),
+        (99_999, 4),
+    ] {
+        let line = format!("jobs_within {megabytes} 3000");
+        assert_eq!(machine(&scratch, &line), format!("{jobs}\n"), "{megabytes}");
+    }
+    let free: usize = machine(&scratch, "free_memory").trim().parse().unwrap();
+    assert!(free > 0);
+}
+
+/// A folder in memory is taken where there is room for so many jobs, and removed again.
+#[test]
+fn temporary_files_in_memory() {
+    let scratch = repository();
+    scratch.put("memory/kept", "");
+    let line = "use_memory memory 0; echo \"$TMPDIR\"; [[ -d $TMPDIR ]]; leave_memory; echo \"${TMPDIR-none}\"";
+    let said = machine(&scratch, line);
+    assert!(
+        said.starts_with("memory/unloop.") && said.ends_with("\nnone\n"),
+        "{said}"
+    );
+    let line = "use_memory memory 999999999 || echo \"no ${TMPDIR-none}\"; use_memory nowhere 0 || echo no";
+    assert_eq!(machine(&scratch, line), "no none\nno\n");
+    assert_eq!(scratch.names("memory"), ["kept"]);
 }
 
 #[test]
 fn runs_at_once_build_once() {
     let scratch = repository();
     thread::scope(|scope| {
-        let runs = [(); 3].map(|()| scope.spawn(|| run(&scratch, &[])));
+        let runs = [(); 3].map(|()| scope.spawn(|| run(&scratch, ALL)));
         for run in runs {
             assert_eq!(run.join().unwrap().status.code(), Some(7));
         }

@@ -28,7 +28,7 @@ fn form() {
     at_a_place(
         b"(in a)",
         "(refused 2 6)\n",
-        "x.net:1:7: form: expected the line's end\n(in a)\n      ^\n",
+        "x.net:1:7: form: the last line lacks its LF\n(in a)\n      ^\n",
     );
     let report = "x.net:2:6: form: expected a letter, a digit, _ or )\n(in b\n     ^\n";
     at_a_place(b"(in a)\n(in b", "(refused 2 12)\n", report);
@@ -38,12 +38,12 @@ fn form() {
     at_a_place(
         b"(in a)\n\n(in b)\n",
         "(refused 2 7)\n",
-        "x.net:2:1: form: expected (\n\n^\n",
+        "x.net:2:1: form: no comments or empty lines in this format\n\n^\n",
     );
     at_a_place(
         b"\n",
         "(refused 2 0)\n",
-        "x.net:1:1: form: expected (\n\n^\n",
+        "x.net:1:1: form: no comments or empty lines in this format\n\n^\n",
     );
     let text = b"(in a)\n(in b)\n(gate p (and a b))\nout y p)\n";
     at_a_place(
@@ -53,14 +53,18 @@ fn form() {
     );
 }
 
-/// One column for each byte, and no byte that a terminal obeys.
+/// No byte that a terminal obeys; the caret stands below what stands for the byte, and the column counts bytes.
 #[test]
 fn bytes_outside_of_text() {
     let text = b"(in a)\n(in \x1b[31m\t\xc3\xa9\x00\x7f~)\n";
-    let report = "x.net:2:5: form: expected a letter\n(in ?[31m?????~)\n    ^\n";
+    let report =
+        "x.net:2:5: form: expected a letter\n(in \\x1B[31m\\t\\xC3\\xA9\\x00\\x7F~)\n    ^\n";
     at_a_place(text, "(refused 2 11)\n", report);
-    let report = "x.net:1:7: form: expected a letter, a digit, _ or )\n(in ab?)\n      ^\n";
+    let report =
+        "x.net:1:7: form: a carriage return; lines end with LF alone\n(in ab\\r)\n      ^\n";
     at_a_place(b"(in ab\r)\n", "(refused 2 6)\n", report);
+    let report = "x.net:1:1: form: not ASCII: a byte-order mark\n\\xEF\\xBB\\xBF(in a)\\r\n^\n";
+    at_a_place(b"\xef\xbb\xbf(in a)\r\n", "(refused 2 0)\n", report);
 }
 
 #[test]
@@ -169,10 +173,17 @@ fn longest_texts() {
         gates - GATES
     );
     at_a_place(&longest, "(refused 3 0)\n", &report);
-    for length in [TEXT_BYTES + 1, TEXT_BYTES + 2, 3_000_000] {
+    for (length, why) in [
+        (61_441, "61441 bytes, 1 more than 61440"),
+        (61_442, "61442 bytes, 2 more than 61440"),
+        (1_048_576, "1048576 bytes, 987136 more than 61440"),
+        (1_048_577, "more than 1048576 bytes, and the limit is 61440"),
+        (3_000_000, "more than 1048576 bytes, and the limit is 61440"),
+    ] {
         let mut text = longest.clone();
         text.resize(length, b'x');
-        at_a_place(&text, "(refused 1 0)\n", "x.net: overlong\n");
+        let report = format!("x.net: overlong: {why}\n");
+        at_a_place(&text, "(refused 1 0)\n", &report);
     }
 }
 

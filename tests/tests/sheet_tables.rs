@@ -40,7 +40,7 @@ fn no_settings_no_inputs_no_outputs() {
 #[test]
 fn a_refused_netlist() {
     let scratch = with(&[("n", "(in a)"), ("settings", "a = 1\n")]);
-    let errors = "n:1:7: form: expected the line's end\n(in a)\n      ^\n";
+    let errors = "n:1:7: form: the last line lacks its LF\n(in a)\n      ^\n";
     told(run(&scratch, &["--sheet", "settings", "n"]), 1, "", errors);
 }
 

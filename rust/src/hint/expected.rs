@@ -21,7 +21,7 @@ pub fn expected(text: &[u8], place: usize) -> Option<String> {
 }
 
 /// The line that the text stops in and the whole line before it: no more decides what may follow.
-fn context(before: &[u8]) -> &[u8] {
+pub fn context(before: &[u8]) -> &[u8] {
     let ends = before.iter().enumerate().rev();
     let mut ends = ends
         .filter(|(_, &byte)| byte == b'\n')
@@ -31,7 +31,7 @@ fn context(before: &[u8]) -> &[u8] {
 }
 
 /// The bytes that may come next.
-fn next(before: &[u8]) -> Vec<u8> {
+pub fn next(before: &[u8]) -> Vec<u8> {
     let follows = |byte: &&u8| {
         let longer = [before, &[**byte]].concat();
         Block::read(&longer)

@@ -2,8 +2,19 @@
 
 use crate::copies::copies;
 use crate::declarations::{lines, LineKind};
-use crate::limits::{GATES, INPUTS, NEVERS, OUTPUTS};
+use crate::limits::{COUNTED_BYTES, GATES, INPUTS, NEVERS, OUTPUTS, TEXT_BYTES};
 use crate::Block;
+
+/// By how much a text is too long; of one that is much longer, that it is.
+pub fn long(text: &[u8]) -> Option<String> {
+    match text.len() {
+        ..=TEXT_BYTES => None,
+        count if count > COUNTED_BYTES => Some(format!(
+            "more than {COUNTED_BYTES} bytes, and the limit is {TEXT_BYTES}"
+        )),
+        count => Some(above(count, TEXT_BYTES, "bytes")),
+    }
+}
 
 /// The limits that a text passes.
 pub fn passed(text: &[u8]) -> Option<String> {

@@ -73,7 +73,8 @@ fn about(path: &Path, what: &str) -> String {
     format!("{}: {what}", shown(path))
 }
 
-fn identity(found: &Metadata) -> (u64, u64) {
+/// What tells a file from every other.
+pub fn identity(found: &Metadata) -> (u64, u64) {
     (found.dev(), found.ino())
 }
 

@@ -8,6 +8,7 @@ mod described;
 mod export;
 mod folder;
 mod options;
+mod output;
 mod page;
 mod parallel;
 mod program;
@@ -18,24 +19,34 @@ mod sheet;
 mod source;
 mod tally;
 
-use options::{Export, Request};
+use options::{Asked, Export, Request};
+use output::{put, Stopped};
 use program::Program;
 use run::Run;
 use screen::Screen;
 use sheet::{Failure, Sheet};
 use source::Source;
-use std::io::{self, Write};
 use std::path::PathBuf;
 use std::process::ExitCode;
 
 const USAGE: &str = include_str!("usage.txt");
+const VERSION: &str = concat!("unloop ", env!("CARGO_PKG_VERSION"), "\n");
 
 fn main() -> ExitCode {
     let mut arguments = std::env::args_os().skip(1);
     let Some(program) = arguments.next() else {
         return failed("the first argument must be the program's path");
     };
-    match options::parse(arguments) {
+    let asked = options::parse(arguments).and_then(|asked| {
+        let Asked {
+            request,
+            output,
+            reads,
+        } = asked;
+        output.map_or(Ok(()), |path| output::open(path, &reads))?;
+        Ok(request)
+    });
+    match asked {
         Ok(request) => answered(request, Program(program.into())),
         Err(reason) => failed(&reason),
     }
@@ -44,13 +55,14 @@ fn main() -> ExitCode {
 fn answered(request: Request, program: Program) -> ExitCode {
     let done = match request {
         Request::Help => return written(USAGE, 0),
+        Request::Version => return written(VERSION, 0),
         Request::Sheet { settings, file } => return shown(Sheet { settings, file }),
-        Request::RunCells { settings, cells } => cells::run(&settings, &Source::File(cells)),
+        Request::RunCells { settings, cells } => cells::run(&settings, &Source::of(cells)),
         Request::Render { files, into, json } => {
             Run::new(program, sources(files), into, json).map(Run::all)
         }
         Request::Check { theirs, ours, json } => {
-            check::run(Source::File(theirs), Source::File(ours), json)
+            check::run(Source::of(theirs), Source::of(ours), json)
         }
         Request::Audit { folder, json } => audit::run(&folder, json),
         Request::Export(Export {
@@ -58,7 +70,7 @@ fn answered(request: Request, program: Program) -> ExitCode {
             original,
             files,
         }) => Ok(export::run(form, original, &sources(files))),
-        Request::FromBlif(file) => export::from_blif(file.map_or(Source::Input, Source::File)),
+        Request::FromBlif(file) => export::from_blif(file.map_or(Source::Input, Source::of)),
         Request::Page(target, files) => page::run(&target, files),
     };
     done.unwrap_or_else(|reason| failed(&reason))
@@ -68,7 +80,7 @@ fn answered(request: Request, program: Program) -> ExitCode {
 fn sources(files: Vec<PathBuf>) -> Vec<Source> {
     match files.is_empty() {
         true => vec![Source::Input],
-        false => files.into_iter().map(Source::File).collect(),
+        false => files.into_iter().map(Source::of).collect(),
     }
 }
 
@@ -100,19 +112,4 @@ fn written(text: &str, status: u8) -> ExitCode {
 fn failed(reason: &str) -> ExitCode {
     Screen::plain().say(&[format!("unloop: {reason}")]);
     ExitCode::from(tally::ERROR)
-}
-
-/// Standard output takes no more.
-struct Stopped;
-
-/// Writes to standard output. That its reader has gone is no news to anyone; other failures are told.
-fn put(bytes: &[u8]) -> Result<(), Stopped> {
-    let mut output = io::stdout().lock();
-    let written = output.write_all(bytes).and_then(|()| output.flush());
-    written.map_err(|error| {
-        if error.kind() != io::ErrorKind::BrokenPipe {
-            failed(&format!("standard output: {}", source::reason(&error)));
-        }
-        Stopped
-    })
 }

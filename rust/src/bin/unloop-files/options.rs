@@ -1,13 +1,25 @@
-//! The words of the command line.
+//! The words of the command line. The options are those that usage.txt lists, which bin/unloop reads too, before this is built.
 
-use crate::source::shown;
-use std::ffi::OsString;
+use crate::source::{is_input, shown};
+use crate::USAGE;
+use std::ffi::{OsStr, OsString};
+use std::os::unix::ffi::OsStrExt;
 use std::path::PathBuf;
+
+/// The command line.
+#[derive(Debug)]
+pub struct Asked {
+    pub request: Request,
+    /// Where it is written instead of standard output, and what is read: never the same file.
+    pub output: Option<PathBuf>,
+    pub reads: Vec<PathBuf>,
+}
 
 /// What is asked for.
 #[derive(Debug)]
 pub enum Request {
     Help,
+    Version,
     Render {
         files: Vec<PathBuf>,
         into: Option<Target>,
@@ -96,58 +108,159 @@ impl Task {
 struct Given {
     files: Vec<PathBuf>,
     tasks: Vec<Task>,
+    output: Option<PathBuf>,
     force: bool,
     json: bool,
     original: bool,
+    /// Asked for instead of all else.
+    about: Option<Request>,
 }
 
 /// What is asked for, or what is wrong with it in one line.
-pub fn parse(words: impl Iterator<Item = OsString>) -> Result<Request, String> {
-    let request = match given(words).map_err(wrong)? {
-        Some(given) => request(given).map_err(wrong)?,
-        None => Request::Help,
+pub fn parse(words: impl Iterator<Item = OsString>) -> Result<Asked, String> {
+    asked(words).map_err(|what| format!("{what} (see --help)"))
+}
+
+fn asked(words: impl Iterator<Item = OsString>) -> Result<Asked, String> {
+    let mut given = given(words)?;
+    let output = given.output.take().filter(|path| !is_input(path));
+    let reads = reads(&given)?;
+    let request = match given.about.take() {
+        Some(request) => request,
+        None if output.is_some() => written(request(given)?)?,
+        None => request(given)?,
     };
-    Ok(request)
+    Ok(Asked {
+        request,
+        output,
+        reads,
+    })
 }
 
-fn wrong(what: String) -> String {
-    format!("{what} (see --help)")
+/// The files that are read; standard input, which is no file, at most once.
+fn reads(given: &Given) -> Result<Vec<PathBuf>, String> {
+    let lists = given.tasks.iter().filter_map(|task| match task {
+        Task::Sheet(list) | Task::RunCells(list) | Task::Check(list) => Some(list),
+        _ => None,
+    });
+    let (input, files): (Vec<_>, Vec<_>) = lists
+        .chain(&given.files)
+        .cloned()
+        .partition(|path| is_input(path));
+    match input.len() {
+        0 | 1 => Ok(files),
+        _ => Err("standard input (-) can't be read twice".to_string()),
+    }
 }
 
-/// Nothing where help is asked for.
-fn given(mut words: impl Iterator<Item = OsString>) -> Result<Option<Given>, String> {
+/// The same request, which writes to standard output.
+fn written(request: Request) -> Result<Request, String> {
+    let silent = "writes nothing to standard output, so -o has no use";
+    match request {
+        Request::Page(..) => Err(format!("--page DIR {silent}")),
+        Request::Render {
+            into: Some(_),
+            json: false,
+            ..
+        } => Err(format!("--into DIR without --json {silent}")),
+        request => Ok(request),
+    }
+}
+
+/// An option of usage.txt: its long name, and what it needs.
+struct Listed {
+    name: &'static str,
+    needs: Option<&'static str>,
+}
+
+/// The option of this name; a line such as `-o, --output FILE` lists it by both names.
+fn listed(wanted: &str) -> Option<Listed> {
+    let lines = USAGE.lines().filter(|line| line.starts_with("  -"));
+    let mut options = lines.map(|line| {
+        let mut words = line.split_whitespace().peekable();
+        let mut names = Vec::new();
+        while let Some(name) = words.next_if(|word| word.starts_with('-')) {
+            names.push(name.trim_end_matches(','));
+        }
+        let capital = |word: &&str| word.bytes().all(|byte| byte.is_ascii_uppercase());
+        (names, words.next().filter(capital))
+    });
+    let (names, needs) = options.find(|(names, _)| names.contains(&wanted))?;
+    let name = names.last()?;
+    Some(Listed { name, needs })
+}
+
+/// The name and the value of `--into=DIR` and `-oFILE`, the name alone of `--into` and `-o`; nothing of what is no option.
+fn parts(word: &OsStr) -> Option<(&OsStr, Option<&OsStr>)> {
+    let bytes = word.as_bytes();
+    let (name, value) = match bytes {
+        [b'-', b'-', ..] => match bytes.iter().position(|&byte| byte == b'=') {
+            Some(end) => (&bytes[..end], Some(&bytes[end + 1..])),
+            None => (bytes, None),
+        },
+        [b'-', _, value @ ..] => (&bytes[..2], Some(value).filter(|value| !value.is_empty())),
+        _ => return None,
+    };
+    Some((OsStr::from_bytes(name), value.map(OsStr::from_bytes)))
+}
+
+/// The words up to one that asks about the command itself.
+fn given(mut words: impl Iterator<Item = OsString>) -> Result<Given, String> {
     let mut given = Given::default();
     while let Some(word) = words.next() {
-        let mut operand = |what: &str| {
-            let next = words.next().map(PathBuf::from);
-            next.ok_or_else(|| format!("{} needs {what}", shown(word.as_ref())))
+        if word == "--" {
+            given.files.extend(words.map(PathBuf::from));
+            break;
+        }
+        let Some((given_as, value)) = parts(&word) else {
+            given.files.push(word.into());
+            continue;
         };
-        match word.to_str() {
-            Some("--help") => return Ok(None),
-            Some("--force") => given.force = true,
-            Some("--json") => given.json = true,
-            Some("--original") => given.original = true,
-            Some("--into") => given.tasks.push(Task::Into(operand("a DIR")?)),
-            Some("--sheet") => given.tasks.push(Task::Sheet(operand("SETTINGS")?)),
-            Some("--run-cells") => given.tasks.push(Task::RunCells(operand("SETTINGS")?)),
-            Some("--check") => given.tasks.push(Task::Check(operand("THEIRS")?)),
-            Some("--audit") => given.tasks.push(Task::Audit(operand("a DIR")?)),
-            Some("--page") => given.tasks.push(Task::Page(operand("a DIR")?)),
-            Some("--verilog") => given.tasks.push(Task::Export(Form::Verilog)),
-            Some("--blif") => given.tasks.push(Task::Export(Form::Blif)),
-            Some("--cells") => given.tasks.push(Task::Export(Form::Cells)),
-            Some("--from-blif") => given.tasks.push(Task::FromBlif),
-            Some("--") => {
-                given.files.extend(words.map(PathBuf::from));
-                break;
+        let unknown = || format!("unknown option {}", shown(word.as_ref()));
+        let Listed { name, needs } = given_as.to_str().and_then(listed).ok_or_else(unknown)?;
+        let operand = match (needs, value) {
+            (None, Some(_)) => return Err(format!("{} takes no value", shown(given_as.as_ref()))),
+            (None, None) => PathBuf::new(),
+            (Some(_), Some(value)) => value.into(),
+            (Some(needs), None) => {
+                let next = words.next().map(PathBuf::from);
+                next.ok_or_else(|| format!("{} needs {needs}", shown(given_as.as_ref())))?
             }
-            _ if word.as_encoded_bytes().starts_with(b"-") => {
-                return Err(format!("unknown option {}", shown(word.as_ref())));
-            }
-            _ => given.files.push(word.into()),
+        };
+        given.take(name, operand).ok_or_else(unknown)?;
+        if given.about.is_some() {
+            break;
         }
     }
-    Ok(Some(given))
+    Ok(given)
+}
+
+impl Given {
+    /// Takes an option and what it needs; nothing where this has no such option.
+    fn take(&mut self, name: &str, operand: PathBuf) -> Option<()> {
+        match name {
+            "--help" => self.about = Some(Request::Help),
+            "--version" => self.about = Some(Request::Version),
+            "--output" => self.output = Some(operand),
+            "--force" => self.force = true,
+            "--json" => self.json = true,
+            "--original" => self.original = true,
+            _ => self.tasks.push(match name {
+                "--into" => Task::Into(operand),
+                "--sheet" => Task::Sheet(operand),
+                "--run-cells" => Task::RunCells(operand),
+                "--check" => Task::Check(operand),
+                "--audit" => Task::Audit(operand),
+                "--page" => Task::Page(operand),
+                "--verilog" => Task::Export(Form::Verilog),
+                "--blif" => Task::Export(Form::Blif),
+                "--cells" => Task::Export(Form::Cells),
+                "--from-blif" => Task::FromBlif,
+                _ => return None,
+            }),
+        }
+        Some(())
+    }
 }
 
 fn request(mut given: Given) -> Result<Request, String> {
@@ -238,7 +351,7 @@ fn rendered(files: Vec<PathBuf>, into: Option<Target>, json: bool) -> Request {
 
 /// The files, of which there must be one at least.
 fn named(files: Vec<PathBuf>, option: &str) -> Result<Vec<PathBuf>, String> {
-    match files.is_empty() {
+    match files.is_empty() || files.iter().any(|file| is_input(file)) {
         true => Err(format!("{option} needs a FILE: standard input has no name")),
         false => Ok(files),
     }

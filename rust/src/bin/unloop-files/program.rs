@@ -4,6 +4,7 @@ use crate::source::reason;
 use std::io::Write;
 use std::path::PathBuf;
 use std::process::{Command, Stdio};
+use unloop::limits::TEXT_BYTES;
 
 /// The program's path.
 pub struct Program(pub PathBuf);
@@ -18,7 +19,8 @@ impl Program {
             .stderr(Stdio::null())
             .spawn()
             .map_err(|error| failed(reason(&error)))?;
-        // It reads all of the text before it writes, so neither waits for the other.
+        // It reads all of the text before it writes, so neither waits for the other; of one that is too long it reads one byte too many.
+        let text = &text[..text.len().min(TEXT_BYTES + 1)];
         let given = child.stdin.take().expect("piped").write_all(text);
         let ended = child.wait_with_output();
         let ended = ended.map_err(|error| failed(reason(&error)))?;

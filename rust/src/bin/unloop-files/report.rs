@@ -1,6 +1,6 @@
 //! How a refusal is told: as compilers do, with the line and a caret where there is a place.
 
-use unloop::{hint, Assignment, Block, Location, Refusal, Value};
+use unloop::{hint, visible, Assignment, Block, Location, Refusal, Value};
 
 /// The entries of a cover that are told.
 const ENTRIES_TOLD: usize = 8;
@@ -25,8 +25,8 @@ pub fn report(refusal: Refusal, name: &str, text: &[u8]) -> Vec<String> {
         let Location { row, column, line } = Location::of(text, place);
         return vec![
             format!("{name}:{row}:{column}: {word}"),
-            line.iter().map(visible).collect(),
-            " ".repeat(column - 1) + "^",
+            visible(line),
+            " ".repeat(visible(&line[..column - 1]).len()) + "^",
         ];
     }
     let mut lines = vec![format!("{name}: {word}")];
@@ -71,14 +71,6 @@ pub fn warning(block: &Block) -> Option<String> {
     (block.excluded_settings() == all).then(|| {
         format!("all {all} settings are promised never to come, so nothing is said of any output")
     })
-}
-
-/// One column for each byte, and nothing that a terminal would obey.
-fn visible(byte: &u8) -> char {
-    match byte {
-        b' '..=b'~' => char::from(*byte),
-        _ => '?',
-    }
 }
 
 /// The setting that isn't settled, the outputs undefined under it, and what settles, by the names of the pins.

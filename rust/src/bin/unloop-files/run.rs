@@ -50,8 +50,8 @@ impl Run {
         };
         // Renderings on the same terminal would be overwritten.
         let free = folder.is_some() && !json || !io::stdout().is_terminal();
-        let screen = match folder.is_some() || files.len() > 1 {
-            true => Screen::with_progress(files.len(), free),
+        let screen = match folder.is_some() || sources.len() > 1 {
+            true => Screen::with_progress(sources.len(), free),
             false => Screen::plain(),
         };
         let mut claim = |source: &Source| match (&mut folder, source) {

@@ -1,7 +1,6 @@
 //! `--sheet`: a table of a netlist's outputs, a row for each setting of a list.
 
-use crate::source::{reason, shown, Source};
-use std::fs;
+use crate::source::{reason, Source};
 use std::path::{Path, PathBuf};
 use unloop::{Assignment, Block, Refusal, Value};
 
@@ -25,7 +24,7 @@ pub enum Failure {
 impl Sheet {
     /// The lines of the table: the pins and the ports, and then a row for each setting.
     pub fn table(self) -> Result<String, Failure> {
-        let source = Source::File(self.file);
+        let source = Source::of(self.file);
         let named = |why: &str| Failure::Error(format!("{}: {why}", source.name()));
         let text = source.text().map_err(|error| named(&reason(&error)))?;
         let block = Block::read(&text).map_err(|refusal| Failure::Refused {
@@ -40,8 +39,12 @@ impl Sheet {
 
 /// The settings of a list, one a line.
 pub fn settings(path: &Path, pins: &[String]) -> Result<Vec<Assignment>, String> {
-    let name = shown(path);
-    let text = fs::read_to_string(path).map_err(|error| format!("{name}: {}", reason(&error)))?;
+    let source = Source::of(path.to_path_buf());
+    let name = source.name();
+    let bytes = source
+        .whole_text()
+        .map_err(|error| format!("{name}: {}", reason(&error)))?;
+    let text = String::from_utf8(bytes).map_err(|_| format!("{name}: the list is no text"))?;
     let numbered = text.lines().zip(1..);
     let setting = |(line, row)| {
         Assignment::from_pins(line, pins).map_err(|why| format!("{name}:{row}: {why}"))

@@ -3,17 +3,30 @@
 use std::fs::File;
 use std::io::{self, Read};
 use std::path::{Path, PathBuf};
-use unloop::limits::TEXT_BYTES;
+use unloop::limits::COUNTED_BYTES;
 
-/// One byte more than the longest text, so that a longer one is refused and a huge file costs no more.
-const BYTES_READ: u64 = TEXT_BYTES as u64 + 1;
+/// More than the longest text: the report of a longer one says by how much, and a huge file costs no more.
+const BYTES_READ: u64 = COUNTED_BYTES as u64 + 1;
 
 pub enum Source {
     Input,
     File(PathBuf),
 }
 
+/// Whether a path as it was given means standard input.
+pub fn is_input(path: &Path) -> bool {
+    path == Path::new("-")
+}
+
 impl Source {
+    /// The file of this path, or standard input for `-`.
+    pub fn of(path: PathBuf) -> Source {
+        match is_input(&path) {
+            true => Source::Input,
+            false => Source::File(path),
+        }
+    }
+
     /// How reports name it.
     pub fn name(&self) -> String {
         match self {

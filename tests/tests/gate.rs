@@ -1,0 +1,116 @@
+//! `.ci/run`: what it runs, what it says of its phases, and its last line; in a repository of its own, with stand-ins.
+
+mod stand_in;
+
+use simulator::executed::{ended, Scratch};
+use stand_in::repository;
+use std::process::{Command, Output};
+
+/// Notes its calls, and as `ci` says what rt says, at the pace of the file `pace`: seconds for proofs and for edits. A line of the file
+/// `fails` makes the call of that name fail.
+const RT: &str = r#"#!/usr/bin/env bash
+echo "rt $*" >> calls
+if grep -qx "rt $1" fails; then echo "1 passed, 1 failed"; exit 1; fi
+[ "$1" = ci ] || exit 0
+[ -z "$TMPDIR" ] || [ -d "$TMPDIR" ] || exit 9
+echo "$TMPDIR" > room
+echo 'rt: laws proved (1 s)'
+read -r proofs edits < pace
+sleep "$proofs"
+echo 'rt: netlist proved (2 s)'
+sleep "$edits"
+echo 'rt: must-fail laws/other: refused, as it must be (first at src/lib.rt:1:1; 2 s)'
+echo 'rt: unloop ran, and wrote what its file stdout has (0 s)'
+echo 'rt: ok, 3 crates proved, 1 must-fail edits refused'
+cat verdict
+"#;
+
+const OTHER: &str = r#"#!/usr/bin/env bash
+call="${0##*/} ${6%/Cargo.toml}"
+echo "$call" >> calls
+! grep -qx "$call" fails
+"#;
+
+fn gate() -> Scratch {
+    let scratch = repository();
+    scratch.put_script("tools/rt", RT);
+    for tool in ["tools/cargo", "tests/probes", "tests/c/run"] {
+        scratch.put_script(tool, OTHER);
+    }
+    scratch.put("fails", "");
+    scratch.put("pace", "0 0\n");
+    scratch.put("verdict", "4 passed, 0 failed\n");
+    scratch
+}
+
+fn run(scratch: &Scratch) -> Output {
+    let mut command = Command::new(scratch.path(".ci/run"));
+    let command = command.env_clear().env("PATH", scratch.path("tools"));
+    ended(command.current_dir("/"), b"")
+}
+
+/// Everything is run, and the last lines are the phases and rt's verdict.
+#[test]
+fn phases_and_the_last_line() {
+    let scratch = gate();
+    scratch.put("pace", "1.1 2.1\n");
+    let ended = run(&scratch);
+    assert!(ended.status.success(), "{ended:?}");
+    let said = String::from_utf8(ended.stdout).unwrap();
+    let mut lines = said.lines().rev();
+    assert_eq!(lines.next(), Some("4 passed, 0 failed"));
+    let phases = lines.next().unwrap().strip_prefix("gate: ").unwrap();
+    let phases: Vec<(&str, usize)> = phases
+        .split(", ")
+        .map(|phase| {
+            let (name, time) = phase.split_once(' ').unwrap();
+            (name, time.strip_suffix(" s").unwrap().parse().unwrap())
+        })
+        .collect();
+    let names: Vec<&str> = phases.iter().map(|(name, _)| *name).collect();
+    assert_eq!(
+        names,
+        ["layout", "proofs", "edits", "programs", "library", "tests"]
+    );
+    assert!(phases[1].1 >= 1 && phases[2].1 >= 2, "{phases:?}");
+    let calls = scratch.get("calls");
+    let calls: Vec<&str> = calls.lines().collect();
+    assert_eq!(
+        calls[..4],
+        ["rt fmt --check", "rt ci", "rt staticlib exports", "probes "]
+    );
+    let beside: Vec<&str> = calls[4..]
+        .iter()
+        .copied()
+        .filter(|&call| call != "cargo tests")
+        .collect();
+    assert_eq!(beside, ["cargo perf", "cargo rust", "run "]);
+    assert_eq!(calls.len(), 8);
+    let folder = scratch.get("room");
+    assert!(folder == "\n" || !std::path::Path::new(folder.trim_end()).exists());
+}
+
+/// Whatever fails, the gate fails, and its last line says so.
+#[test]
+fn failures() {
+    for fails in [
+        "rt fmt",
+        "rt ci",
+        "rt staticlib",
+        "probes ",
+        "cargo tests",
+        "cargo perf",
+        "cargo rust",
+        "run ",
+    ] {
+        let scratch = gate();
+        scratch.put("fails", format!("{fails}\n"));
+        let ended = run(&scratch);
+        assert!(!ended.status.success(), "{fails}");
+        let said = String::from_utf8(ended.stdout).unwrap();
+        assert_eq!(said.lines().last(), Some("gate: failed"), "{fails}");
+    }
+    let scratch = gate();
+    scratch.put("verdict", "4 passed, 1 failed\n");
+    assert!(!run(&scratch).status.success());
+}
