@@ -1,7 +1,7 @@
 //! A block as a BLIF model: a gate is a `.names` table of the rows where it is 1, or of those where it is 0 if they are fewer.
 
 use crate::export::{never_comments, Nets};
-use crate::{Block, Gate, Operand};
+use crate::{Block, Gate, ModuleName, Operand};
 
 /// The nets of the constants, which no gate, input or port is called.
 const CONSTANTS: [&str; 2] = ["_zero", "_one"];
@@ -9,13 +9,13 @@ const CONSTANTS: [&str; 2] = ["_zero", "_one"];
 /// The model of a block, straight or looped.
 ///
 /// ```
-/// # use unloop::{blif, Block, Refusal};
+/// # use unloop::{blif, module_name, Block, Refusal};
 /// let block = Block::read("(in a)\n(in b)\n(gate p (or a b 0))\n(out a p)\n")?;
 /// let model = ".model m\n.inputs a b\n.outputs a__output\n.names _zero\n.names a b _zero _0\n000 0\n.names _0 a__output\n1 1\n.end\n";
-/// assert_eq!(blif(&block, "m"), model);
+/// assert_eq!(blif(&block, &module_name("m")), model);
 /// # Ok::<(), Refusal>(())
 /// ```
-pub fn blif(block: &Block, model: &str) -> String {
+pub fn blif(block: &Block, model: &ModuleName) -> String {
     let (nets, gates) = (Nets::of(block), block.gate_list());
     let mut lines: Vec<String> = never_comments(block)
         .iter()

@@ -159,9 +159,36 @@ impl Block {
     }
 
     /// The values of the inputs in a setting, whose number has weight 2^i for input i.
-    pub fn setting(&self, number: usize) -> Vec<Value> {
-        let bits = (0..self.inputs()).map(|input| number >> input & 1 == 1);
-        bits.map(Value::from).collect()
+    ///
+    /// ```
+    /// # use unloop::{Block, Refusal, Value};
+    /// let block = Block::read("(in a)\n(in b)\n")?;
+    /// assert_eq!(block.setting(2)?, [Value::Zero, Value::One]);
+    /// assert_eq!(block.setting(4), Err(Refusal::BadSetting));
+    /// # Ok::<(), Refusal>(())
+    /// ```
+    pub fn setting(&self, number: usize) -> Result<Vec<Value>, Refusal> {
+        let all = self.assignment(number)?;
+        let values = (0..self.inputs()).filter_map(|input| all.value(input));
+        Ok(values.map(Value::from).collect())
+    }
+
+    /// The assignment that fixes every input as the setting of this number does.
+    ///
+    /// ```
+    /// # use unloop::{Assignment, Block, Refusal, Value};
+    /// let block = Block::read("(in a)\n(in b)\n(out y b)\n")?;
+    /// let assignment = block.assignment(2)?;
+    /// assert_eq!(assignment, Assignment { fixed: 3, ones: 2 });
+    /// assert_eq!(block.sheet(&[assignment]), [Ok(vec![Value::One])]);
+    /// assert_eq!(block.assignment(4), Err(Refusal::BadSetting));
+    /// # Ok::<(), Refusal>(())
+    /// ```
+    pub fn assignment(&self, setting: usize) -> Result<Assignment, Refusal> {
+        let fixed = (1 << self.inputs()) - 1;
+        let ones = u16::try_from(setting).ok().filter(|&ones| ones <= fixed);
+        let ones = ones.ok_or(Refusal::BadSetting)?;
+        Ok(Assignment { fixed, ones })
     }
 
     /// The block as a text; gates are named by their numbers.
@@ -248,7 +275,7 @@ impl Block {
     /// ```
     /// # use unloop::{Block, Refusal, Value};
     /// let straight = Block::read("(in a)\n(gate p (not a))\n(gate q (not p))\n")?;
-    /// assert_eq!(straight.pass(&straight.setting(1))?, [Value::Zero, Value::One]);
+    /// assert_eq!(straight.pass(&straight.setting(1)?)?, [Value::Zero, Value::One]);
     /// let looped = Block::read("(gate p (or p 1))\n")?;
     /// assert_eq!(looped.pass(&[]), Err(Refusal::NotStraight));
     /// # Ok::<(), Refusal>(())
@@ -329,7 +356,7 @@ pub(crate) fn counted<T: Clone + Default>(
 }
 
 /// A stored name; its unused bytes are zero.
-pub(crate) fn name(words: &[u16]) -> String {
+fn name(words: &[u16]) -> String {
     let bytes = words.iter().flat_map(|word| word.to_le_bytes());
     bytes.filter(|&byte| byte != 0).map(char::from).collect()
 }

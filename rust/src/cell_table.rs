@@ -3,45 +3,90 @@
 
 use crate::export::never_comments;
 use crate::limits::{CELL_WORDS, INPUTS};
-use crate::{Block, Cells, Refusal};
+use crate::{Block, Cells, ModuleName, Refusal};
+use std::fmt;
 
 const INPUTS_WORD: &str = "inputs";
 const OUTPUTS_WORD: &str = "outputs";
 const OUTPUT_WORD: &str = "output";
 
-/// A table of cells: what a written one says.
+/// A table of cells: what a written one says. Each port's node is an input or a cell.
 #[derive(Debug, Clone, PartialEq, Eq)]
 pub struct CellTable {
-    pub cells: Cells,
-    /// The inputs' names, in order.
-    pub inputs: Vec<String>,
-    /// The ports, each with its node: an input's number, or a cell's behind the inputs.
-    pub outputs: Vec<(String, usize)>,
+    cells: Cells,
+    inputs: Vec<String>,
+    outputs: Vec<(String, usize)>,
 }
 
 /// Why a text is no table.
 #[derive(Debug, Clone, PartialEq, Eq)]
+#[non_exhaustive]
 pub enum TableError {
     /// The words are no cells over the inputs.
     Refused(Refusal),
     /// What is wrong with a line, counted from 1.
-    Line { row: usize, why: String },
+    Line { row: usize, why: RowError },
     /// No line tells the number of inputs.
     NoInputs,
 }
 
+impl fmt::Display for TableError {
+    fn fmt(&self, f: &mut fmt::Formatter<'_>) -> fmt::Result {
+        match self {
+            TableError::Refused(refusal) => write!(f, "{refusal}"),
+            TableError::Line { row, why } => write!(f, "line {row}: {why}"),
+            TableError::NoInputs => write!(f, "no line '# {INPUTS_WORD} NUMBER NAME ...'"),
+        }
+    }
+}
+
+impl std::error::Error for TableError {}
+
+/// What is wrong with a line of a table.
+#[derive(Debug, Clone, PartialEq, Eq)]
+#[non_exhaustive]
+pub enum RowError {
+    /// This is no number of 16 bits.
+    NotAWord(String),
+    /// This is no number, or above the most inputs.
+    NotInputs(String),
+    /// Other names than one for each input.
+    Names { inputs: usize, names: usize },
+    /// The inputs are told again.
+    SecondTable,
+    /// Another number of outputs than there are lines of them; this is what the line says.
+    Outputs { said: String, lines: usize },
+    /// This is no input and no cell.
+    NoNode(String),
+}
+
+impl fmt::Display for RowError {
+    fn fmt(&self, f: &mut fmt::Formatter<'_>) -> fmt::Result {
+        match self {
+            RowError::NotAWord(word) => write!(f, "not a word of 16 bits: {word}"),
+            RowError::NotInputs(said) => write!(f, "not a number of inputs: {said}"),
+            RowError::Names { inputs, names } => write!(f, "{inputs} inputs with {names} names"),
+            RowError::SecondTable => write!(f, "a second table"),
+            RowError::Outputs { said, lines } => write!(f, "{said} outputs with {lines} lines"),
+            RowError::NoNode(node) => write!(f, "no node {node}"),
+        }
+    }
+}
+
+impl std::error::Error for RowError {}
+
 /// The table of a block in which no gate reads itself or a gate behind it; `name` is put at its head.
 ///
 /// ```
-/// # use unloop::{cell_table, Block, CellTable, Refusal};
+/// # use unloop::{cell_table, module_name, Block, CellTable, Refusal};
 /// let block = Block::read("(in a)\n(in b)\n(gate p (nor a b))\n(out y p)\n(out z b)\n")?;
-/// let text = cell_table(&block, "m")?;
+/// let text = cell_table(&block, &module_name("m"))?;
 /// assert_eq!(text, "# cells m 1\n# inputs 2 a b\n# _0 nor\n0 1 65534 65534 4369\n# outputs 2\n# output y 2\n# output z 1\n");
 /// let table = CellTable::read(&text).expect("a table");
 /// assert_eq!(table.shown(&[false, false])?, [true, false]);
 /// # Ok::<(), Refusal>(())
 /// ```
-pub fn cell_table(block: &Block, name: &str) -> Result<String, Refusal> {
+pub fn cell_table(block: &Block, name: &ModuleName) -> Result<String, Refusal> {
     let cells = block.cells()?;
     let inputs = [vec![cells.inputs().to_string()], block.input_names()].concat();
     let mut lines = vec![format!("# cells {name} {}", block.gates())];
@@ -80,6 +125,21 @@ impl CellTable {
         })
     }
 
+    /// The cells.
+    pub fn cells(&self) -> &Cells {
+        &self.cells
+    }
+
+    /// The inputs' names, in order.
+    pub fn inputs(&self) -> &[String] {
+        &self.inputs
+    }
+
+    /// The ports, each with its node: an input's number, or a cell's behind the inputs.
+    pub fn outputs(&self) -> &[(String, usize)] {
+        &self.outputs
+    }
+
     /// The ports' values, from one value an input, by the library's Run.
     pub fn shown(&self, setting: &[bool]) -> Result<Vec<bool>, Refusal> {
         let mut nodes = setting.to_vec();
@@ -100,15 +160,14 @@ struct Said {
 }
 
 impl Said {
-    fn line(&mut self, line: &str, row: usize) -> Result<(), String> {
+    fn line(&mut self, line: &str, row: usize) -> Result<(), RowError> {
         let (decimal, comment) = line.split_once('#').unwrap_or((line, ""));
         for word in decimal.split_whitespace() {
-            let parsed = word.parse();
-            self.words
-                .push(parsed.map_err(|_| format!("not a word of 16 bits: {word}"))?);
+            let wrong = |_| RowError::NotAWord(word.to_string());
+            self.words.push(word.parse().map_err(wrong)?);
         }
         match comment.split_whitespace().collect::<Vec<&str>>()[..] {
-            [INPUTS_WORD, ..] if self.inputs.is_some() => return Err("a second table".to_string()),
+            [INPUTS_WORD, ..] if self.inputs.is_some() => return Err(RowError::SecondTable),
             [INPUTS_WORD, count, ref names @ ..] => self.inputs = Some(named(count, names)?),
             [OUTPUTS_WORD, count] => self.count = Some((row, count.to_string())),
             [OUTPUT_WORD, port, node] => {
@@ -125,13 +184,14 @@ impl Said {
             let port = |cell: usize| (format!("_{cell}"), inputs + cell);
             return Ok((0..cells).map(port).collect());
         };
-        if count != self.outputs.len().to_string() {
-            let why = format!("{count} outputs with {} lines", self.outputs.len());
+        let lines = self.outputs.len();
+        if count != lines.to_string() {
+            let why = RowError::Outputs { said: count, lines };
             return Err(TableError::Line { row, why });
         }
         let output = |(row, port, node): (usize, String, String)| {
             let known = node.parse().ok().filter(|&node| node < inputs + cells);
-            let why = format!("no node {node}");
+            let why = RowError::NoNode(node);
             Ok((port, known.ok_or(TableError::Line { row, why })?))
         };
         self.outputs.into_iter().map(output).collect()
@@ -139,12 +199,12 @@ impl Said {
 }
 
 /// The names of so many inputs.
-fn named(count: &str, names: &[&str]) -> Result<Vec<String>, String> {
+fn named(count: &str, names: &[&str]) -> Result<Vec<String>, RowError> {
     let known = count.parse().ok().filter(|&count: &usize| count <= INPUTS);
-    let count = known.ok_or_else(|| format!("not a number of inputs: {count}"))?;
+    let inputs = known.ok_or_else(|| RowError::NotInputs(count.to_string()))?;
     match names.len() {
-        0 => Ok((0..count).map(|input| input.to_string()).collect()),
-        given if given == count => Ok(names.iter().map(|name| name.to_string()).collect()),
-        given => Err(format!("{count} inputs with {given} names")),
+        0 => Ok((0..inputs).map(|input| input.to_string()).collect()),
+        given if given == inputs => Ok(names.iter().map(|name| name.to_string()).collect()),
+        names => Err(RowError::Names { inputs, names }),
     }
 }

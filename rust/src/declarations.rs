@@ -1,9 +1,9 @@
 //! The names that a netlist text declares, with their places. Assumes that the text is in form, as Read told of it: a line's first word
-//! says what it is, and names stand where the grammar puts them.
+//! says what it is, and names stand where the grammar puts them. Of other texts something is told all the same, and nothing panics.
 
 /// The four kinds of lines.
 #[derive(Debug, Clone, Copy, PartialEq, Eq)]
-pub enum LineKind {
+pub(crate) enum LineKind {
     Input,
     Never,
     Gate,
@@ -12,7 +12,7 @@ pub enum LineKind {
 
 /// A line of a text.
 #[derive(Debug, Clone, Copy)]
-pub struct Line<'a> {
+pub(crate) struct Line<'a> {
     pub kind: LineKind,
     /// The place of its first byte.
     pub start: usize,
@@ -22,13 +22,13 @@ pub struct Line<'a> {
 
 /// A name and the place of its first byte.
 #[derive(Debug, Clone, Copy, PartialEq, Eq)]
-pub struct Name<'a> {
+pub(crate) struct Name<'a> {
     pub bytes: &'a [u8],
     pub place: usize,
 }
 
 /// The lines of a text, in order.
-pub fn lines(text: &[u8]) -> impl Iterator<Item = Line<'_>> {
+pub(crate) fn lines(text: &[u8]) -> impl Iterator<Item = Line<'_>> {
     let mut start = 0;
     let cut = text.split(|&byte| byte == b'\n').map(move |bytes| {
         let begun = start;

@@ -2,6 +2,7 @@
 
 use crate::limits::NAME_WORDS;
 use crate::{Block, Operand};
+use std::fmt;
 
 /// What is put behind a port that has an input's name. The longer name is no netlist's, whose names have at most eight bytes.
 pub const OUTPUT_SUFFIX: &str = "__output";
@@ -42,26 +43,43 @@ pub(crate) fn port_of(name: &str) -> &str {
     }
 }
 
-/// A name for a module or model, made of a file's: other bytes than letters, digits and `_` become `_`.
+/// The name of a module, a model or a table: letters, digits and `_`, no digit first. [`module_name`] makes it.
+#[derive(Debug, Clone, PartialEq, Eq, Hash)]
+pub struct ModuleName(String);
+
+impl ModuleName {
+    pub fn as_str(&self) -> &str {
+        &self.0
+    }
+}
+
+impl fmt::Display for ModuleName {
+    fn fmt(&self, f: &mut fmt::Formatter<'_>) -> fmt::Result {
+        f.write_str(&self.0)
+    }
+}
+
+/// A name for a module or model, made of a file's: other characters than letters, digits and `_` become `_`, and one is put before a digit.
 ///
 /// ```
-/// assert_eq!(unloop::module_name("rate-mended"), "rate_mended");
-/// assert_eq!(unloop::module_name("4.in"), "_4_in");
+/// # use unloop::module_name;
+/// assert_eq!(module_name("scaler_2").as_str(), "scaler_2");
+/// assert_eq!(module_name("rate-mended").as_str(), "rate_mended");
+/// assert_eq!(module_name("4.in").as_str(), "_4_in");
+/// assert_eq!(module_name("a b;").as_str(), "a_b_");
 /// ```
-pub fn module_name(stem: &str) -> String {
+pub fn module_name(stem: &str) -> ModuleName {
     let byte = |c: char| if c.is_ascii_alphanumeric() { c } else { '_' };
     let name: String = stem.chars().map(byte).collect();
-    match name.chars().next() {
+    ModuleName(match name.chars().next() {
         Some(first) if !first.is_ascii_digit() => name,
         _ => format!("_{name}"),
-    }
+    })
 }
 
 /// The pins that never lines exclude, one line each, for comments.
 pub(crate) fn never_comments(block: &Block) -> Vec<String> {
     let pins = block.input_names();
     let lines = block.never_lines().into_iter();
-    lines
-        .map(|line| format!("never {}", line.pins(&pins)))
-        .collect()
+    lines.map(|line| line.never_line(&pins)).collect()
 }

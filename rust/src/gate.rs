@@ -35,8 +35,8 @@ impl Kind {
         ["not", "and", "or", "nand", "nor", "xor", "xnor"][self as usize]
     }
 
-    /// Its value where every operand is 0 or 1.
-    pub fn of_bits(self, bits: impl Iterator<Item = bool> + Clone) -> bool {
+    /// Its value where every operand is 0 or 1, as many as the kind may have.
+    pub(crate) fn of_bits(self, bits: impl Iterator<Item = bool> + Clone) -> bool {
         let odd = |bits: &mut dyn Iterator<Item = bool>| bits.filter(|&bit| bit).count() % 2 == 1;
         match self {
             Kind::Not | Kind::Nand => !bits.clone().all(|bit| bit),

@@ -49,15 +49,16 @@ mod visible;
 
 pub use blif::blif;
 pub use block::Block;
-pub use cell_table::{cell_table, CellTable, TableError};
+pub use cell_table::{cell_table, CellTable, RowError, TableError};
 pub use cells::Cells;
 pub use copies::copies;
-pub use export::{module_name, OUTPUT_SUFFIX};
+pub use export::{module_name, ModuleName, OUTPUT_SUFFIX};
 pub use from_blif::{from_blif, BlifError};
 pub use gate::{Gate, Kind, Operand};
 pub use gather::Gathered;
 pub use hint::hint;
 pub use location::Location;
+pub use pins::PinsError;
 pub use refusal::Refusal;
 pub use results::{Assignment, Disagreement, Groups, Settled, Verdict};
 pub use value::Value;

@@ -1,17 +1,38 @@
 //! Assignments by the names of the pins, as reports and stored covers have them.
 
+use crate::limits::INPUTS;
 use crate::Assignment;
+use std::fmt;
 
-impl Assignment {
-    /// The assignment that fixes every input, as a setting does.
-    pub fn of_setting(setting: usize) -> Assignment {
-        Assignment {
-            fixed: u16::MAX,
-            ones: setting as u16,
+/// Why a line is no assignment of the pins.
+#[derive(Debug, Clone, PartialEq, Eq)]
+#[non_exhaustive]
+pub enum PinsError {
+    /// This part of the line is not `PIN = 0` or `PIN = 1`.
+    NotAPair(String),
+    /// No input has this name.
+    UnknownPin(String),
+    /// This pin stands there before.
+    Twice(String),
+    /// There are more names than a block has inputs.
+    TooManyNames(usize),
+}
+
+impl fmt::Display for PinsError {
+    fn fmt(&self, f: &mut fmt::Formatter<'_>) -> fmt::Result {
+        match self {
+            PinsError::NotAPair(part) => write!(f, "not PIN = 0 or PIN = 1: {part}"),
+            PinsError::UnknownPin(pin) => write!(f, "no input is named {pin}"),
+            PinsError::Twice(pin) => write!(f, "{pin} is given twice"),
+            PinsError::TooManyNames(count) => write!(f, "{count} names for {INPUTS} inputs"),
         }
     }
+}
 
-    /// The pins that it fixes, as `a = 1, b = 0`.
+impl std::error::Error for PinsError {}
+
+impl Assignment {
+    /// The pins that it fixes, as `a = 1, b = 0`, by the names of a block's inputs; one that has no name there is left out.
     pub fn pins(self, names: &[String]) -> String {
         let shown = names.iter().enumerate().filter_map(|(input, name)| {
             let value = self.value(input)?;
@@ -20,31 +41,42 @@ impl Assignment {
         shown.collect::<Vec<String>>().join(", ")
     }
 
+    /// The line `never a = 1, b = 1` that says of a setting which agrees with it that it never comes.
+    pub fn never_line(self, names: &[String]) -> String {
+        format!("never {}", self.pins(names))
+    }
+
     /// The assignment of a line such as `a = 1, b = 0`, or what is wrong with it; an empty line fixes nothing.
     ///
     /// ```
-    /// # use unloop::Assignment;
+    /// # use unloop::{Assignment, PinsError};
     /// let names = ["a".to_string(), "b".to_string()];
     /// assert_eq!(Assignment::from_pins("b = 1", &names), Ok(Assignment { fixed: 2, ones: 2 }));
-    /// assert_eq!(Assignment::from_pins("c = 1", &names), Err("no input is named c".to_string()));
+    /// let unknown = Assignment::from_pins("c = 1", &names).unwrap_err();
+    /// assert_eq!(unknown, PinsError::UnknownPin("c".to_string()));
+    /// assert_eq!(unknown.to_string(), "no input is named c");
     /// ```
-    pub fn from_pins(line: &str, names: &[String]) -> Result<Assignment, String> {
-        let mut found = Assignment { fixed: 0, ones: 0 };
+    pub fn from_pins(line: &str, names: &[String]) -> Result<Assignment, PinsError> {
+        let mut found = Assignment::default();
+        if names.len() > INPUTS {
+            return Err(PinsError::TooManyNames(names.len()));
+        }
         if line.trim().is_empty() {
             return Ok(found);
         }
         for part in line.split(',') {
-            let wrong = || format!("not PIN = 0 or PIN = 1: {}", part.trim());
+            let wrong = || PinsError::NotAPair(part.trim().to_string());
             let (pin, value) = part.split_once('=').ok_or_else(wrong)?;
-            let value = match value.trim() {
+            let (pin, value) = (pin.trim(), value.trim());
+            let value = match value {
                 "0" => 0,
                 "1" => 1,
                 _ => return Err(wrong()),
             };
-            let input = names.iter().position(|name| name == pin.trim());
-            let input = input.ok_or_else(|| format!("no input is named {}", pin.trim()))?;
-            if found.fixed >> input & 1 == 1 {
-                return Err(format!("{} is given twice", pin.trim()));
+            let input = names.iter().position(|name| name == pin);
+            let input = input.ok_or_else(|| PinsError::UnknownPin(pin.to_string()))?;
+            if found.value(input).is_some() {
+                return Err(PinsError::Twice(pin.to_string()));
             }
             found.fixed |= 1 << input;
             found.ones |= value << input;

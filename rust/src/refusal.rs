@@ -69,7 +69,7 @@ refusals! {
     5 "unknown" UndeclaredName { place } => "the name at byte {place} is not declared, or not an input's in a never line",
     /// The words break a rule of the stored block, or of cells.
     6 "torn" MalformedBlock => "the words are no stored block, or no cells",
-    /// Not one value for each input, or, of bytes, one above 2 (above 1 in a run of cells).
+    /// Not one value for each input, the number of a setting that the block doesn't have, or, of bytes, one above 2 (above 1 in a run of cells).
     7 "setting" BadSetting => "the setting doesn't have one value (0, 1 or undefined) for each input",
     /// The rendering would have more than [`GATES`].
     8 "swollen" TooManyCopies => "the rendering would have more than {GATES} gates",

@@ -1,6 +1,6 @@
 //! What the operations on a block tell.
 
-use crate::Value;
+use crate::{Block, Value};
 
 /// How many settings of the inputs are settled, of those of the 2^n that may come: under those every output shows 0 or 1.
 #[derive(Debug, Clone, Copy, PartialEq, Eq)]
@@ -18,8 +18,8 @@ impl Verdict {
     }
 }
 
-/// A partial assignment of the inputs: bit i is for input i.
-#[derive(Debug, Clone, Copy, PartialEq, Eq, Hash)]
+/// A partial assignment of the inputs: bit i is for input i. The default one fixes none.
+#[derive(Debug, Clone, Copy, Default, PartialEq, Eq, Hash)]
 pub struct Assignment {
     /// The inputs that it fixes.
     pub fixed: u16,
@@ -28,10 +28,17 @@ pub struct Assignment {
 }
 
 impl Assignment {
-    /// What it fixes an input at.
+    /// What it fixes an input at. An input that the masks have no bit for is not fixed.
+    ///
+    /// ```
+    /// # use unloop::Assignment;
+    /// let assignment = Assignment { fixed: 3, ones: 2 };
+    /// assert_eq!([0, 1, 2].map(|input| assignment.value(input)), [Some(false), Some(true), None]);
+    /// assert_eq!([16, 64, usize::MAX].map(|input| assignment.value(input)), [None; 3]);
+    /// ```
     pub fn value(self, input: usize) -> Option<bool> {
-        let bit = |mask: u16| usize::from(mask) >> input & 1 == 1;
-        bit(self.fixed).then(|| bit(self.ones))
+        let bit = 1_u16.checked_shl(input.try_into().ok()?)?;
+        (self.fixed & bit != 0).then_some(self.ones & bit != 0)
     }
 
     /// Whether a setting has its values at the inputs that it fixes; input i has weight 2^i.
@@ -71,5 +78,34 @@ impl Settled {
     /// Whether no gate's value is undefined.
     pub fn is_defined(&self) -> bool {
         !self.values.contains(&Value::Undefined)
+    }
+}
+
+impl Block {
+    /// How many of the 2^n settings its never lines exclude.
+    ///
+    /// ```
+    /// # use unloop::{Block, Refusal};
+    /// let block = Block::read("(in a)\n(in b)\n(never (a 1))\n(out y b)\n")?;
+    /// assert_eq!(block.excluded_settings(), 2);
+    /// assert_eq!(block.settled_in_words(), "2 of 2, 2 excluded");
+    /// # Ok::<(), Refusal>(())
+    /// ```
+    pub fn excluded_settings(&self) -> usize {
+        (1 << self.inputs()) - self.settings_that_come()
+    }
+
+    /// How many settings are settled of those that may come, as `14 of 16`; and how many are excluded where some are, as
+    /// `8 of 8, 8 excluded`.
+    pub fn settled_in_words(&self) -> String {
+        let told = format!(
+            "{} of {}",
+            self.verdict().settled,
+            self.settings_that_come()
+        );
+        match self.excluded_settings() {
+            0 => told,
+            excluded => format!("{told}, {excluded} excluded"),
+        }
     }
 }

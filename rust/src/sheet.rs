@@ -1,6 +1,6 @@
 //! Many settings of one block in one call.
 
-use crate::limits::NAME_WORDS;
+use crate::block::NEVER_REFUSED;
 use crate::{raw, Assignment, Block, Refusal, Value};
 
 /// A record of a sheet; bit i is for input or output i.
@@ -21,7 +21,7 @@ pub struct Record {
 
 impl Record {
     /// A record that asks for an assignment's outputs.
-    pub fn asking(setting: Assignment) -> Record {
+    fn asking(setting: Assignment) -> Record {
         Record {
             fixed: setting.fixed,
             ones: setting.ones,
@@ -29,9 +29,9 @@ impl Record {
         }
     }
 
-    /// The value of an output.
-    pub fn output(self, output: usize) -> Value {
-        let bit = |mask: u16| usize::from(mask) >> output & 1 == 1;
+    /// The value of an output that the block has.
+    fn output(self, output: usize) -> Value {
+        let bit = |mask: u16| mask >> output & 1 == 1;
         match bit(self.defined) {
             true => bit(self.values).into(),
             false => Value::Undefined,
@@ -40,19 +40,6 @@ impl Record {
 }
 
 impl Block {
-    /// The ports of the outputs.
-    ///
-    /// ```
-    /// # use unloop::Block;
-    /// let block = Block::read("(in a)\n(out on a)\n(out lamp a)\n").unwrap();
-    /// assert_eq!(block.ports(), ["on", "lamp"]);
-    /// ```
-    pub fn ports(&self) -> Vec<String> {
-        self.stored_outputs()
-            .map(|output| crate::block::name(&output[..NAME_WORDS]))
-            .collect()
-    }
-
     /// The values of the outputs under each setting, by Settle; an input that a setting doesn't fix is undefined.
     ///
     /// ```
@@ -70,7 +57,7 @@ impl Block {
             .map(|&setting| Record::asking(setting))
             .collect();
         let told = raw::sheet(self.words(), &mut records);
-        told.done().expect("a block is not refused");
+        told.done().expect(NEVER_REFUSED);
         let outputs = |record: Record| {
             (0..self.outputs())
                 .map(|output| record.output(output))

@@ -1,7 +1,7 @@
 //! A block as a Verilog module: a gate is one of Verilog's own gates, whose meaning with undefined values (x) is ours too.
 
 use crate::export::{never_comments, Nets};
-use crate::Block;
+use crate::{Block, ModuleName};
 
 /// The words of Verilog and SystemVerilog that a netlist's name or a module's may be, those of small letters, and Icarus's own (`bool`,
 /// `wone`, `wreal`); sorted.
@@ -24,22 +24,19 @@ const KEYWORDS: &str = "accept_on alias always always_comb always_ff always_latc
 /// The module of a block, straight or looped: ports are the inputs and then the outputs, in order.
 ///
 /// ```
-/// # use unloop::{verilog, Block, Refusal};
+/// # use unloop::{module_name, verilog, Block, Refusal};
 /// let block = Block::read("(in reg)\n(in b)\n(gate p (nand reg b 1))\n(out y p)\n(out b b)\n")?;
 /// let module = "module m (\\reg , b, y, b__output);\n  input \\reg , b;\n  output y, b__output;\n  wire _0;\n  \
 ///               nand (_0, \\reg , b, 1'b1);\n  assign y = _0;\n  assign b__output = b;\nendmodule\n";
-/// assert_eq!(verilog(&block, "m"), module);
+/// assert_eq!(verilog(&block, &module_name("m")), module);
 /// # Ok::<(), Refusal>(())
 /// ```
-pub fn verilog(block: &Block, module: &str) -> String {
+pub fn verilog(block: &Block, module: &ModuleName) -> String {
     let nets = Nets::of(block);
     let net = |operand| escaped(&nets.net(operand, ["1'b0", "1'b1"]));
     let listed = |names: &[String]| {
-        names
-            .iter()
-            .map(|name| escaped(name))
-            .collect::<Vec<_>>()
-            .join(", ")
+        let names: Vec<String> = names.iter().map(|name| escaped(name)).collect();
+        names.join(", ")
     };
     let ports = [&nets.inputs[..], &nets.ports].concat();
     let wires: Vec<String> = (0..block.gates()).map(|gate| format!("_{gate}")).collect();
@@ -47,7 +44,8 @@ pub fn verilog(block: &Block, module: &str) -> String {
         .iter()
         .map(|line| format!("// {line}"))
         .collect();
-    lines.push(format!("module {} ({});", escaped(module), listed(&ports)));
+    let module = escaped(module.as_str());
+    lines.push(format!("module {module} ({});", listed(&ports)));
     for (word, names) in [
         ("input", &nets.inputs),
         ("output", &nets.ports),

@@ -1,8 +1,10 @@
-//! The package has the header's numbers, names and rooms.
+//! The package has the header's numbers, names, rooms, layout, functions and version, and README's version of Rust.
 
-use unloop::{limits, Refusal};
+use unloop::{limits, Kind, Refusal};
 
 const HEADER: &str = include_str!("../../include/unloop.h");
+const RAW: &str = include_str!("../src/raw.rs");
+const README: &str = include_str!("../../README.md");
 
 /// The constants of one of the header's enums, in order, without their prefix.
 fn constants(name: &str) -> Vec<(String, usize)> {
@@ -51,4 +53,67 @@ fn rooms() {
     ];
     let rooms = rooms.map(|(name, room)| (name.to_string(), room));
     assert_eq!(constants("unloop_room"), rooms);
+}
+
+/// The words behind each `before` of a text, up to the bracket behind them, sorted.
+fn names<'a>(text: &'a str, before: &str) -> Vec<&'a str> {
+    let parts = text.split(before).skip(1);
+    let mut names: Vec<&str> = parts
+        .filter_map(|part| part.split_once('('))
+        .map(|(name, _)| name)
+        .collect();
+    names.sort_unstable();
+    names
+}
+
+/// What the library has for a test alone is declared in neither.
+#[test]
+fn functions() {
+    let declared = names(HEADER, "\nunloop_reply unloop_");
+    let declared = [declared, names(HEADER, "\nunloop_span unloop_")].concat();
+    let (_, ours) = RAW.split_once("extern \"C\" {").unwrap();
+    let mut expected = declared.clone();
+    expected.sort_unstable();
+    assert_eq!(names(ours, "    fn unloop_"), expected);
+    assert_eq!(names(ours, "\npub fn "), expected);
+    assert!(declared.len() == 16 && !HEADER.contains("certified"));
+}
+
+#[test]
+fn version() {
+    let version = env!("CARGO_PKG_VERSION");
+    assert!(HEADER.contains(&format!("\n#define UNLOOP_VERSION \"{version}\"\n")));
+    for (part, number) in [
+        ("MAJOR", env!("CARGO_PKG_VERSION_MAJOR")),
+        ("MINOR", env!("CARGO_PKG_VERSION_MINOR")),
+        ("PATCH", env!("CARGO_PKG_VERSION_PATCH")),
+    ] {
+        let macro_ = format!("\n#define UNLOOP_VERSION_{part} {number}\n");
+        assert!(HEADER.contains(&macro_), "{macro_}");
+    }
+}
+
+#[test]
+fn layout() {
+    let words = format!(
+        "{} + {} n + {} l + {} m + {} k words",
+        limits::HEAD_WORDS,
+        limits::NAME_WORDS,
+        limits::NEVER_WORDS,
+        limits::GATE_WORDS,
+        limits::OUTPUT_WORDS
+    );
+    assert!(HEADER.contains(&words), "{words}");
+    let kinds = Kind::ALL.iter().enumerate();
+    let kinds: Vec<String> = kinds
+        .map(|(number, kind)| format!("{number} {}", kind.word()))
+        .collect();
+    let kinds = format!("kinds: {};", kinds.join(", "));
+    assert!(HEADER.contains(&kinds), "{kinds}");
+}
+
+#[test]
+fn version_of_rust() {
+    let told = format!("From Rust ({} or newer)", env!("CARGO_PKG_RUST_VERSION"));
+    assert!(README.contains(&told), "{told}");
 }

@@ -1,26 +1,5 @@
 /* Calls every function of include/unloop.h on worked examples of docs/SPECIFICATION.md, and says where an answer is another. */
-#include "unloop.h"
-#include <stdio.h>
-#include <string.h>
-
-static int failures = 0;
-
-static void check(int ok, const char *what)
-{
-    if (!ok) {
-        failures++;
-        fprintf(stderr, "smoke: %s\n", what);
-    }
-}
-
-static void answers(unloop_reply reply, size_t number, size_t count, size_t detail, const char *what)
-{
-    check(reply.number == number && reply.count == count && reply.detail == detail, what);
-    if (reply.number != number || reply.count != count || reply.detail != detail)
-        fprintf(stderr, "  %zu %zu %zu\n", reply.number, reply.count, reply.detail);
-}
-
-#define LENGTH(a) (sizeof(a) / sizeof((a)[0]))
+#include "check.h"
 
 /* Specimen 9: its words, its text, and the text of its rendering. */
 static const uint16_t looped[] = {1, 2, 1, 0, 's', 0, 0, 0, 17, 0, 2, 0, 0, 18, 0, 1, 0, 0, 'y', 0, 0, 0, 2};
@@ -176,7 +155,5 @@ int main(void)
     gather_neighbours();
     unloop_span span = unloop_line((const uint8_t *)written, sizeof written - 1, 10);
     check(span.start == 7 && span.length == 19, "line");
-    if (failures == 0)
-        puts("smoke: ok");
-    return failures != 0;
+    return ended("smoke");
 }

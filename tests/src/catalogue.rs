@@ -1,7 +1,7 @@
 //! What stands beside a netlist of `catalogue/`: NAME.out and, where the text can be read, NAME.cover.
 
 use crate::answer::{NOT_SETTLED, TOO_MANY_COPIES};
-use crate::block::Block;
+use crate::block::{Block, Never};
 use crate::groups::ordered_groups;
 use crate::limits::GATES;
 use crate::passes::passes;
@@ -20,18 +20,36 @@ pub fn cover_of(text: &[u8]) -> Option<String> {
     (answer.number == 0).then(covered)
 }
 
+/// NAME.cover: the never lines of the text, and behind them its cover; none where the text can't be read.
+pub fn stored_cover(text: &[u8]) -> Option<String> {
+    Some(never_lines(&read(text, usize::MAX).1) + &cover_of(text)?)
+}
+
+/// The never lines of a block, each as `never a = 1, b = 1`, in order.
+pub fn never_lines(words: &[u16]) -> String {
+    let block = Block::from_words(words);
+    let line = |never: &Never| {
+        let pins = pins(&block.inputs, never.fixed, never.ones);
+        format!("never {pins}\n")
+    };
+    block.nevers.iter().map(line).collect()
+}
+
 /// Two words an entry as lines: `a = 0, b = 1`, or `always` for the entry that fixes no input.
 pub fn cover_lines(words: &[u16], entries: &[u16]) -> String {
     let names = Block::from_words(words).inputs;
-    let line = |entry: &[u16]| {
-        let fixed = (0..names.len()).filter(|i| entry[0] >> i & 1 == 1);
-        let pins = fixed.map(|i| format!("{} = {}", names[i], entry[1] >> i & 1));
-        match pins.collect::<Vec<String>>().join(", ") {
-            none if none.is_empty() => "always\n".to_string(),
-            pins => pins + "\n",
-        }
+    let line = |entry: &[u16]| match pins(&names, entry[0], entry[1]) {
+        none if none.is_empty() => "always\n".to_string(),
+        pins => pins + "\n",
     };
     entries.chunks(2).map(line).collect()
+}
+
+/// The pins that two masks fix, as `a = 0, b = 1`.
+fn pins(names: &[String], fixed: u16, ones: u16) -> String {
+    let fixed = (0..names.len()).filter(|i| fixed >> i & 1 == 1);
+    let pins = fixed.map(|i| format!("{} = {}", names[i], ones >> i & 1));
+    pins.collect::<Vec<String>>().join(", ")
 }
 
 /// A netlist's row in README.md's table: its gates, its loops as gates times passes, and the gate lines of its rendering: with as many passes

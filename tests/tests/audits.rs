@@ -1,17 +1,19 @@
-//! `bin/unloop --audit`: the rendering and the cover that stand beside an original.
+//! `bin/unloop --audit`: the rendering, the never lines and the cover that are stored beside an original.
 
 mod session;
 
 use session::{run, told, with};
-use simulator::catalogue::{cover_of, out};
+use simulator::block::Block;
+use simulator::catalogue::{out, stored_cover};
 use simulator::executed::{root, Scratch};
 use simulator::foreign::compared;
-use simulator::generate::{for_blocks, mutant, Change, Report, Size};
+use simulator::generate::{for_blocks, mutant, widest_cover, Change, Report, Size};
+use simulator::limits::TEXT_BYTES;
 use simulator::render::copied;
 use simulator::{cover, write};
 use std::fs;
-use unloop::audit::{audit, Cover, Rendering};
-use unloop::Disagreement;
+use unloop::audit::{audit, Changes, Cover, Never, Rendering};
+use unloop::{Assignment, Disagreement};
 
 fn catalogue(name: &str) -> String {
     fs::read_to_string(root().join("catalogue").join(name)).unwrap()
@@ -22,14 +24,21 @@ fn catalogue_holds() {
     let path = root().join("catalogue");
     let ended = run(&Scratch::new(), &["--audit", path.to_str().unwrap()]);
     let output = String::from_utf8(ended.stdout).unwrap();
-    let count = output.lines().count() - 1;
+    let count = output
+        .lines()
+        .filter(|line| line.contains(".net: all hold"))
+        .count();
     let summary = format!("{count} entries: {count} hold, 0 lost");
     assert_eq!(output.lines().last(), Some(&summary[..]));
     assert_eq!(
         (ended.status.code(), &ended.stderr[..]),
         (Some(0), &b""[..])
     );
-    assert!(count >= 20 && output.contains("rate.net: both hold, refused with 9 undecided\n"));
+    assert!(count >= 20 && output.contains("rate.net: all hold, refused with 9 undecided\n"));
+    let excluding = "rate-never-48.net: all hold\n  settled settings: 8 of 8, 8 excluded\n";
+    assert!(output.contains(excluding), "{output}");
+    let others = output.lines().filter(|line| line.starts_with("  "));
+    assert_eq!(others.count(), 2, "{output}");
 }
 
 /// The user's rate block: a pin was added to the filter only. With a rendering of too few passes the first fact is lost, with one of enough
@@ -52,8 +61,238 @@ fn rate_block() {
     scratch.put("d/rate.out", catalogue("rate-all-passes.net"));
     scratch.put("d/rate.cover", catalogue("rate.cover"));
     let output =
-        "d/rate.net: both hold, but it settles under some settings only\n1 entry: 1 hold, 0 lost\n";
+        "d/rate.net: all hold, but it settles under some settings only\n1 entry: 1 hold, 0 lost\n";
     told(run(&scratch, &["--audit", "d"]), 0, output, "");
+}
+
+/// The mended rate block's facts are stored, and its original is replaced by the broken one with a never line: its rendering is accepted
+/// and its cover is `always`, since nothing is asked of the settings that the line excludes. Only the line itself is another.
+#[test]
+fn promise_that_appears() {
+    let scratch = with(&[
+        ("d/rate.net", &catalogue("rate-mended.net")),
+        ("d/rate.out", &catalogue("rate-mended.out")),
+        ("d/rate.cover", &catalogue("rate-mended.cover")),
+    ]);
+    let hold = "d/rate.net: all hold\n1 entry: 1 hold, 0 lost\n";
+    told(run(&scratch, &["--audit", "d"]), 0, hold, "");
+    scratch.put("d/rate.net", catalogue("rate-never-48.net"));
+    let why = "never k48 = 1 is new: 8 of 16 settings are promised never to come";
+    let excluding = "  settled settings: 8 of 8, 8 excluded\n";
+    let output =
+        format!("d/rate.net: lost\n  never lines: {why}\n{excluding}1 entry: 0 hold, 1 lost\n");
+    told(run(&scratch, &["--audit", "d"]), 1, &output, "");
+    let object = format!(
+        "{{\"file\":\"d/rate.net\",\"holds\":false,\"rendering\":{{\"state\":\"holds\"}},\
+         \"never\":{{\"state\":\"changed\",\"gone\":[],\"new\":[{{\"k48\":1}}],\"why\":\"{why}\"}},\
+         \"cover\":{{\"state\":\"holds\"}},\"excluded\":8}}\n"
+    );
+    told(run(&scratch, &["--json", "--audit", "d"]), 1, &object, "");
+    scratch.put("d/rate.cover", catalogue("rate-never-48.cover"));
+    let hold = format!("d/rate.net: all hold\n{excluding}1 entry: 1 hold, 0 lost\n");
+    told(run(&scratch, &["--audit", "d"]), 0, &hold, "");
+}
+
+/// What is said of an original of two pins with these never lines, where others are stored.
+#[track_caller]
+fn promises(lines: &str, stored: &str, expected: &str) {
+    let netlist = |lines: &str| format!("(in a)\n(in never)\n{lines}(out y a)\n");
+    let scratch = with(&[
+        ("x.net", &netlist(lines)),
+        ("x.out", &netlist("")),
+        ("x.cover", &format!("{stored}always\n")),
+    ]);
+    let ended = run(&scratch, &["--audit", "."]);
+    let output = String::from_utf8(ended.stdout).unwrap();
+    let why = output
+        .lines()
+        .find_map(|line| line.strip_prefix("  never lines: "));
+    assert_eq!(why.unwrap_or("hold"), expected, "{output}");
+    let status = if expected == "hold" { 0 } else { 1 };
+    assert_eq!(
+        (ended.status.code(), &ended.stderr[..]),
+        (Some(status), &b""[..])
+    );
+}
+
+#[test]
+fn never_lines() {
+    let (a, b, both) = (
+        "(never (a 1))\n",
+        "(never (never 0))\n",
+        "(never (never 1) (a 1))\n",
+    );
+    // Order says nothing, neither that of lines nor that of pins.
+    promises(
+        &[a, both].concat(),
+        "never never = 1, a = 1\nnever a = 1\n",
+        "hold",
+    );
+    promises(a, "never a = 1\n", "hold");
+    promises(
+        "",
+        "never a = 1\n",
+        "never a = 1 is gone: 0 of 4 settings are promised never to come",
+    );
+    let gone = "never never = 0 is gone: 1 of 4 settings is promised never to come";
+    promises(both, "never never = 0\nnever a = 1, never = 1\n", gone);
+    let became =
+        "never a = 1, never = 1 became never a = 1: 2 of 4 settings are promised never to come";
+    promises(a, "never a = 1, never = 1\n", became);
+    let value = "never a = 0 became never a = 1: 2 of 4 settings are promised never to come";
+    promises(a, "never a = 0\n", value);
+    let two = "never a = 0 became never a = 1; never never = 0 is new: 3 of 4 settings are promised never to come";
+    promises(&[a, b].concat(), "never a = 0\n", two);
+}
+
+/// Lines that exclude nothing more are other lines all the same, and so are lines that are written more often.
+#[test]
+fn never_lines_of_the_same_settings() {
+    let (a, both) = ("(never (a 1))\n", "(never (never 1) (a 1))\n");
+    let within =
+        "never a = 1, never = 1 is new: the same 2 of 4 settings are promised never to come";
+    promises(&[a, both].concat(), "never a = 1\n", within);
+    let more =
+        "never a = 1 is written more times: the same 2 of 4 settings are promised never to come";
+    promises(&[a, a].concat(), "never a = 1\n", more);
+    promises(&[a, a].concat(), "never a = 1\nnever a = 1\n", "hold");
+    let fewer =
+        "never a = 1 is written fewer times: the same 2 of 4 settings are promised never to come";
+    promises(a, "never a = 1\nnever a = 1\n", fewer);
+}
+
+#[test]
+fn never_lines_that_cannot_be_read() {
+    let a = "(never (a 1))\n";
+    promises(a, "never\n", "line 1: it names no pin");
+    promises(
+        a,
+        "never a = 1\nnever c = 1\n",
+        "line 2: no input is named c",
+    );
+    promises(a, "never a = 1, a = 1\n", "line 1: a is given twice");
+}
+
+/// A never line behind an entry is none; `never = 0` is an entry, where an input is called so.
+#[test]
+fn never_lines_stand_first() {
+    let net = b"(in never)\n(never (never 1))\n(gate p (and never p))\n(out y p)\n";
+    let cover = |stored: &[u8]| audit(net, None, Some(stored));
+    let late = cover(b"always\nnever never = 1\n");
+    let illegible = Cover::Illegible {
+        line: 2,
+        reason: "a never line stands before all entries".to_string(),
+    };
+    assert_eq!(late.cover, illegible);
+    assert!(matches!(late.never, Never::Changed(_)));
+    let entries = cover(b"never never = 1\nnever = 0\n");
+    assert_eq!(
+        (entries.never, entries.cover),
+        (Never::Holds, Cover::Gained { setting: 1 })
+    );
+    assert_eq!(cover(b"never=0\n").never, cover(b"").never);
+}
+
+/// A rendering without never lines is as good as one with the original's; one with others promises what the original does not.
+#[test]
+fn promises_of_a_rendering() {
+    let netlist = |lines: &str| format!("(in a)\n(in b)\n{lines}(out y a)\n");
+    let (one, other) = ("(never (a 1))\n", "(never (b 1))\n");
+    let found = |ours: &str, theirs: &str, stored: &str| {
+        let scratch = with(&[
+            ("x.net", &netlist(ours)),
+            ("x.out", &netlist(theirs)),
+            ("x.cover", &format!("{stored}always\n")),
+        ]);
+        let output = String::from_utf8(run(&scratch, &["--audit", "."]).stdout).unwrap();
+        output.lines().nth(1).unwrap().to_string()
+    };
+    let excluding = "  settled settings: 2 of 2, 2 excluded";
+    assert_eq!(found(one, one, "never a = 1\n"), excluding);
+    assert_eq!(found(one, "", "never a = 1\n"), excluding);
+    let own = "  rendering: its never a = 1 is not the original's: 2 of 4 settings are promised never to come";
+    assert_eq!(found("", one, ""), own);
+    let both = "  rendering: its never b = 1 is not the original's; the original's never a = 1 is not in it: \
+                2 of 4 settings are promised never to come";
+    assert_eq!(found(one, other, "never a = 1\n"), both);
+    let fewer = "  rendering: the original's never b = 1 is not in it: 2 of 4 settings are promised never to come";
+    assert_eq!(
+        found(&[one, other].concat(), one, "never a = 1\nnever b = 1\n"),
+        fewer
+    );
+}
+
+/// Nothing can be wrong with a block all of whose settings are excluded, so that is told.
+#[test]
+fn every_setting_excluded() {
+    let net = "(in a)\n(never (a 0))\n(never (a 1))\n(gate p (not p))\n(out y p)\n";
+    let scratch = with(&[
+        ("x.net", net),
+        ("x.out", std::str::from_utf8(&out(net.as_bytes())).unwrap()),
+        ("x.cover", &stored_cover(net.as_bytes()).unwrap()),
+    ]);
+    let warning = "all 2 settings are promised never to come, so nothing is said of any output";
+    let output = format!(
+        "./x.net: all hold\n  settled settings: 0 of 0, 2 excluded\n  warning: {warning}\n1 entry: 1 hold, 0 lost\n"
+    );
+    told(run(&scratch, &["--audit", "."]), 0, &output, "");
+    let ended = run(&scratch, &["--json", "--audit", "."]);
+    let output = String::from_utf8(ended.stdout).unwrap();
+    let fields = format!(",\"excluded\":2,\"warning\":\"{warning}\"}}\n");
+    assert!(output.ends_with(&fields), "{output}");
+    assert_eq!(ended.status.code(), Some(0));
+}
+
+/// A cover may be far longer than any netlist: it is read to its end.
+#[test]
+fn widest_stored_cover() {
+    let text = write(&widest_cover().to_words(), usize::MAX).1;
+    let stored = stored_cover(&text).unwrap();
+    assert!(stored.len() > 30 * TEXT_BYTES, "{}", stored.len());
+    let scratch = with(&[("x.cover", &stored)]);
+    scratch.put("x.net", &text);
+    scratch.put("x.out", out(&text));
+    let audited = || String::from_utf8(run(&scratch, &["--audit", "."]).stdout).unwrap();
+    let output = audited();
+    assert!(output.starts_with("./x.net: all hold"), "{output}");
+    scratch.put("x.cover", stored.clone() + "none = 1\n");
+    let line = stored.lines().count() + 1;
+    let output = audited();
+    let expected = format!("  cover: line {line}: no input is named none\n");
+    assert!(output.contains(&expected), "{output}");
+}
+
+/// An entry with a file that can't be read is an error, and the others are told.
+#[test]
+fn files_that_cannot_be_read() {
+    let whole = "(in a)\n(out y a)\n";
+    let scratch = with(&[("b.net", whole), ("b.out", whole), ("b.cover", "always\n")]);
+    for folder in ["a.net", "c.cover"] {
+        fs::create_dir(scratch.path(folder)).unwrap();
+    }
+    scratch.put("c.net", whole);
+    scratch.put("d.net", whole);
+    let errors = "unloop: ./a.net: Is a directory\nunloop: ./c.cover: Is a directory\n";
+    let output =
+        "./b.net: all hold\n./d.net: lost\n  rendering: no ./d.out\n  cover: no ./d.cover\n\
+                  4 entries: 1 hold, 1 lost, 2 errors\n";
+    told(run(&scratch, &["--audit", "."]), 2, output, errors);
+    let ended = run(&scratch, &["--json", "--audit", "."]);
+    let output = String::from_utf8(ended.stdout).unwrap();
+    let lines: Vec<&str> = output.lines().collect();
+    assert_eq!(lines.len(), 4, "{output}");
+    assert_eq!(
+        lines[0],
+        "{\"file\":\"./a.net\",\"error\":\"./a.net: Is a directory\"}"
+    );
+    assert_eq!(
+        lines[2],
+        "{\"file\":\"./c.net\",\"error\":\"./c.cover: Is a directory\"}"
+    );
+    assert_eq!(
+        (ended.status.code(), &ended.stderr[..]),
+        (Some(2), errors.as_bytes())
+    );
 }
 
 #[test]
@@ -125,7 +364,8 @@ fn json_and_errors() {
         ("x.out", "(in a)\n"),
         ("x.cover", "always\n"),
     ]);
-    let object = "{\"file\":\"./x.net\",\"holds\":true,\"rendering\":{\"state\":\"holds\"},\"cover\":{\"state\":\"holds\"}}\n";
+    let object = "{\"file\":\"./x.net\",\"holds\":true,\"rendering\":{\"state\":\"holds\"},\
+                  \"never\":{\"state\":\"holds\"},\"cover\":{\"state\":\"holds\"},\"excluded\":0}\n";
     told(run(&scratch, &["--json", "--audit", "."]), 0, object, "");
     told(
         run(&scratch, &["--audit", "gone"]),
@@ -140,14 +380,28 @@ fn json_and_errors() {
     told(run(&scratch, &["--audit", ".", "x.net"]), 2, "", error);
 }
 
-/// On generated blocks: what the simulator writes holds; a changed rendering is told as its Compare tells it; a changed cover is not taken.
+/// What is told where the first never line is not stored.
+fn first_is_new(block: &Block) -> Changes {
+    let mut stored = block.clone();
+    let first = stored.nevers.remove(0);
+    Changes {
+        gone: Vec::new(),
+        new: vec![Assignment {
+            fixed: first.fixed,
+            ones: first.ones,
+        }],
+        same_settings: stored.excluded_settings() == block.excluded_settings(),
+    }
+}
+
+/// On generated blocks: what the simulator writes holds; a changed rendering is told as its Compare tells it; a changed cover is not taken, nor one without the first never line.
 #[test]
 fn generated_entries() {
-    let mut told = [0; 3];
+    let mut told = [0; 4];
     for_blocks(0..100, Size::SMALL, |random, block, words| {
         let text = write(words, usize::MAX).1;
         let _report = Report(|| String::from_utf8_lossy(&text).into_owned());
-        let (stored, entries) = (out(&text), cover_of(&text).expect("a block's"));
+        let (stored, entries) = (out(&text), stored_cover(&text).expect("a block's"));
         assert!(audit(&text, Some(&stored), Some(entries.as_bytes())).holds());
         told[0] += 1;
         let Some(other) = mutant(random, &copied(block), Change::Output) else {
@@ -161,6 +415,7 @@ fn generated_entries() {
         );
         let expected = compared(words, &other);
         match expected.count {
+            // What is changed is an output; the never lines are the original's.
             0 => assert_eq!(found.rendering, Rendering::Holds),
             count => {
                 let differs = Disagreement {
@@ -172,11 +427,13 @@ fn generated_entries() {
             }
         }
         let shorter: String = entries.split_inclusive('\n').skip(1).collect();
-        if cover(words, usize::MAX).0.count > 0 {
-            assert_ne!(
-                audit(&text, None, Some(shorter.as_bytes())).cover,
-                Cover::Holds
-            );
+        let found = audit(&text, None, Some(shorter.as_bytes()));
+        if !block.nevers.is_empty() {
+            assert_eq!(found.never, Never::Changed(first_is_new(block)));
+            assert_eq!(found.cover, Cover::Holds);
+            told[3] += 1;
+        } else if cover(words, usize::MAX).0.count > 0 {
+            assert_ne!(found.cover, Cover::Holds);
             told[2] += 1;
         }
     });

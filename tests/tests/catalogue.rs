@@ -1,7 +1,7 @@
 //! Every netlist of catalogue/ against what stands beside it, and what catalogue/README.md says of some in words.
 
 use simulator::block::{Block, Source};
-use simulator::catalogue::{cover_lines, cover_of, out, row};
+use simulator::catalogue::{cover_lines, never_lines, out, row, stored_cover};
 use simulator::compare::compare_pair;
 use simulator::executed::{root, written_by_the_program};
 use simulator::generate::Report;
@@ -99,11 +99,12 @@ fn covers_by_the_simulator_and_the_library() {
     for_each(|name, text| {
         let Some(words) = words(text) else { return };
         let expected = String::from_utf8(file(name, "cover")).unwrap();
-        assert_eq!(cover_of(text).unwrap(), expected, "the simulator");
+        assert_eq!(stored_cover(text).unwrap(), expected, "the simulator");
         let mut entries = vec![0; COVER_WORDS];
         let count = unloop::raw::cover(&words, &mut entries).count;
         entries.truncate(2 * count);
-        assert_eq!(cover_lines(&words, &entries), expected, "the library");
+        let stored = never_lines(&words) + &cover_lines(&words, &entries);
+        assert_eq!(stored, expected, "the library");
     });
 }
 

@@ -11,8 +11,11 @@ use simulator::render::copied;
 use simulator::values::{setting_bytes, Network};
 use simulator::{read, render};
 use std::fs;
+use unloop::{Refusal, RowError, TableError};
 
 const NETLIST: &str = "(in a)\n(in key)\n(never (a 1) (key 0))\n(gate p (and a q))\n(gate q (or key p))\n(out lamp q)\n(out a a)\n";
+/// What is told of it, since its never line excludes a setting.
+const EXCLUDING: &str = "settled settings: 3 of 3, 1 excluded\n";
 const TABLE: &str = "\
 # cells n 2
 # never a = 1, key = 0
@@ -79,9 +82,14 @@ fn the_catalogue_shows_what_its_netlists_show() {
             assert_eq!((ended.status.code(), ended.stdout.len()), (Some(1), 0));
             continue;
         }
-        assert_eq!((ended.status.code(), ended.stderr.len()), (Some(0), 0));
+        let block = Block::from_words(&words);
+        let excluding = !block.nevers.is_empty();
+        assert_eq!(
+            (ended.status.code(), !ended.stderr.is_empty()),
+            (Some(0), excluding)
+        );
         scratch.put("cells", &ended.stdout);
-        settings += holds(&scratch, &Block::from_words(&words));
+        settings += holds(&scratch, &block);
         tables += 1;
     }
     println!("{tables} tables under {settings} settings");
@@ -94,15 +102,15 @@ fn written_and_read_back() {
     for_blocks(0..300, Size::SMALL, |random, block, _| {
         let rendering = copied(block);
         let made = unloop::Block::from_words(rendering.to_words()).unwrap();
-        let text = unloop::cell_table(&made, "m").unwrap();
+        let text = unloop::cell_table(&made, &unloop::module_name("m")).unwrap();
         let _report = Report(|| text.clone());
         let table = unloop::CellTable::read(&text).unwrap();
         assert_eq!(
-            table.cells.words(),
+            table.cells().words(),
             cells(&rendering.to_words(), usize::MAX).1
         );
-        assert_eq!(table.inputs, block.inputs);
-        let ports: Vec<&String> = table.outputs.iter().map(|(port, _)| port).collect();
+        assert_eq!(table.inputs(), block.inputs);
+        let ports: Vec<&String> = table.outputs().iter().map(|(port, _)| port).collect();
         assert!(ports
             .into_iter()
             .eq(block.outputs.iter().map(|output| &output.port)));
@@ -139,13 +147,13 @@ fn a_table_as_it_is_written() {
         run(&scratch, &["--cells", "--original", "n.net"]),
         1,
         "",
-        "n.net: looped\n",
+        &format!("n.net: looped\n  {EXCLUDING}"),
     );
     let ended = run(&scratch, &["--cells", "n.net", "d/n"]);
     assert_eq!(ended.status.code(), Some(2));
     assert_eq!(
         String::from_utf8(ended.stderr).unwrap(),
-        "unloop: d/n: a FILE before it gives the name n too\n"
+        format!("n.net: {EXCLUDING}unloop: d/n: a FILE before it gives the name n too\n")
     );
 }
 
@@ -199,6 +207,45 @@ fn what_is_refused() {
             "",
             "torn: torn\n",
         );
+    }
+}
+
+/// What is wrong with a table, as a value and in words.
+#[test]
+fn errors_of_tables() {
+    let told = |text: &str| unloop::CellTable::read(text).unwrap_err();
+    let line = |row, why| TableError::Line { row, why };
+    for (text, error, words) in [
+        (
+            "",
+            TableError::NoInputs,
+            "no line '# inputs NUMBER NAME ...'",
+        ),
+        (
+            "# inputs 0\n7\n",
+            TableError::Refused(Refusal::MalformedBlock),
+            "the words are no stored block, or no cells",
+        ),
+        (
+            "# inputs 0\n\nx\n",
+            line(3, RowError::NotAWord("x".to_string())),
+            "line 3: not a word of 16 bits: x",
+        ),
+        (
+            "# inputs 1 a b\n",
+            line(
+                1,
+                RowError::Names {
+                    inputs: 1,
+                    names: 2,
+                },
+            ),
+            "line 1: 1 inputs with 2 names",
+        ),
+    ] {
+        assert_eq!(told(text), error);
+        let shown: Box<dyn std::error::Error> = error.into();
+        assert_eq!(shown.to_string(), words);
     }
 }
 

@@ -2,10 +2,22 @@
 //! Groups would answer the same if it said no, only slower; `compared.rs` holds its answers to the simulator's.
 
 use simulator::generate::{for_blocks, for_typical_blocks, large, Size};
-use unloop::raw::is_certified;
+// For the library, which is linked with the package.
+use unloop as _;
+
+extern "C" {
+    /// A function for this file alone, which include/unloop.h does not declare: 1 where the block's groups are found with a certificate; 0
+    /// where the block is torn, has few gates, or the slow way would be taken.
+    fn unloop_certified(block: *const u16, words: usize) -> usize;
+}
 
 /// Blocks of fewer gates are left to the slow way.
 const FEW_GATES: usize = 8;
+
+fn is_certified(words: &[u16]) -> bool {
+    // SAFETY: `words` is a slice with its length, and is only read.
+    unsafe { unloop_certified(words.as_ptr(), words.len()) == 1 }
+}
 
 /// Counts a block of enough gates, which must be certified; a smaller one never is.
 fn certify(gates: usize, words: &[u16], counted: &mut usize) {

@@ -39,6 +39,27 @@ fn not_accepted() {
     session::told(ended, 1, "theirs.net: not accepted\n  y is 0, not 1\n", "");
 }
 
+/// Nothing is compared under settings that the original's never lines exclude, so it is told how many these are.
+#[test]
+fn excluded_settings() {
+    let netlist = |lines: &str, port: &str| format!("(in a)\n(in b)\n{lines}(out y {port})\n");
+    let compared = |lines: &str, theirs: &str, status: i32, output: &str| {
+        let (ours, theirs) = (netlist(lines, "a"), netlist("", theirs));
+        let scratch = with(&[("ours.net", &ours), ("theirs.net", &theirs)]);
+        let words = ["--check", "theirs.net", "ours.net"];
+        told(run(&scratch, &words), status, output, "");
+    };
+    let excluding = "  settled settings: 3 of 3, 1 excluded\n";
+    let output = format!("theirs.net: accepted\n{excluding}");
+    compared("(never (a 1) (b 1))\n", "a", 0, &output);
+    let differs = "  y is 0, not 1 with a = 1, b = 0\n";
+    let output = format!("theirs.net: not accepted\n{differs}{excluding}");
+    compared("(never (a 1) (b 1))\n", "b", 1, &output);
+    let output = "theirs.net: accepted\n  settled settings: 0 of 0, 4 excluded\n  \
+                  warning: all 4 settings are promised never to come, so nothing is said of any output\n";
+    compared("(never (a 1))\n(never (a 0))\n", "b", 0, output);
+}
+
 #[test]
 fn refused() {
     checked(LOOPED, 1, "", "theirs.net: looped\n");

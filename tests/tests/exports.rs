@@ -70,12 +70,12 @@ impl Module<'_> {
         loop {
             let mut changed = false;
             for (net, word, operands) in &self.drivers {
-                let read = operands
+                let mut read = operands
                     .iter()
                     .map(|net| values.get(net).copied().unwrap_or(UNDEFINED));
                 let value = match Kind::ALL.into_iter().find(|kind| kind.keyword() == *word) {
                     Some(kind) => gate_value(kind, read),
-                    None => read.last().expect("a node"),
+                    None => read.next_back().expect("a node"),
                 };
                 changed |= values.insert(net, value) != Some(value) && value != UNDEFINED;
             }
@@ -130,7 +130,7 @@ fn settings(random: &mut Random, n: usize) -> Vec<Vec<u8>> {
 #[test]
 fn verilog_shows_what_the_block_shows() {
     for_blocks(0..300, Size::SMALL, |random, block, words| {
-        let text = unloop::verilog(&block_of(words), "m");
+        let text = unloop::verilog(&block_of(words), &unloop::module_name("m"));
         let _report = Report(|| text.clone());
         let (module, network) = (Module::of(&text), Network::new(block));
         for setting in settings(random, block.inputs.len()) {
@@ -147,7 +147,7 @@ fn verilog_shows_what_the_block_shows() {
 fn blif_shows_what_the_rendering_shows() {
     for_blocks(0..300, Size::SMALL, |random, block, _| {
         let rendering = copied(block);
-        let text = unloop::blif(&block_of(&rendering.to_words()), "m");
+        let text = unloop::blif(&block_of(&rendering.to_words()), &unloop::module_name("m"));
         let _report = Report(|| text.clone());
         let network = Network::new(&rendering);
         for _ in 0..4 {
@@ -250,6 +250,37 @@ fn names_that_other_tools_would_misread() {
          .names _0 b__output\n1 1\n.names b wire\n1 1\n.end\n"
     );
     told(run(&scratch, &["--blif", "4-in.net"]), 0, &model, "");
+}
+
+/// Whatever a module is to be called after, its name is one word of letters, digits and `_`, and no keyword stands bare.
+#[test]
+fn names_of_modules() {
+    let block = unloop::Block::read("(in a)\n(out y a)\n").unwrap();
+    for (given, name, in_verilog) in [
+        ("a b;", "a_b_", "a_b_"),
+        ("", "_", "_"),
+        (
+            "x (); endmodule module y",
+            "x_____endmodule_module_y",
+            "x_____endmodule_module_y",
+        ),
+        ("a\n1 2 3 4 5", "a_1_2_3_4_5", "a_1_2_3_4_5"),
+        ("Größe", "Gr__e", "Gr__e"),
+        ("begin", "begin", "\\begin "),
+        ("7", "_7", "_7"),
+    ] {
+        let module = unloop::module_name(given);
+        assert_eq!(module.as_str(), name);
+        let text = unloop::verilog(&block, &module);
+        assert_eq!(
+            text.lines().next(),
+            Some(&format!("module {in_verilog} (a, y);")[..])
+        );
+        let text = unloop::blif(&block, &module);
+        assert_eq!(text.lines().next(), Some(&format!(".model {name}")[..]));
+        let text = unloop::cell_table(&block, &module).unwrap();
+        assert_eq!(text.lines().next(), Some(&format!("# cells {name} 0")[..]));
+    }
 }
 
 #[test]

@@ -39,6 +39,38 @@ fn several_files_to_standard_output_and_a_summary() {
     told(run(&scratch, &["a", "b", "c"]), 1, &output, &errors);
 }
 
+/// Exports go on behind a file that can't be read, or whose name is taken, as renderings do.
+#[test]
+fn exports_of_bad_files() {
+    let scratch = with(&[
+        ("a.net", INVERTER),
+        ("d/a.net", LATCH),
+        ("e.net", INVERTER),
+        ("r.net", LATCH),
+    ]);
+    fs::create_dir(scratch.path("b.net")).unwrap();
+    let errors = format!(
+        "unloop: b.net: Is a directory\nunloop: gone: No such file or directory\nr.net{LATCH_REPORT}\
+         unloop: e/../a.net: a FILE before it gives the name a too\n"
+    );
+    fs::create_dir(scratch.path("e")).unwrap();
+    for form in ["--verilog", "--blif", "--cells"] {
+        let alone = |file: &str| String::from_utf8(run(&scratch, &[form, file]).stdout).unwrap();
+        let expected = alone("a.net") + &alone("e.net");
+        assert!(expected.matches("inputs").count() + expected.matches("module").count() > 1);
+        let words = [
+            form,
+            "a.net",
+            "b.net",
+            "gone",
+            "r.net",
+            "e/../a.net",
+            "e.net",
+        ];
+        told(run(&scratch, &words), 2, &expected, &errors);
+    }
+}
+
 #[test]
 fn standard_input() {
     let scratch = Scratch::new();
@@ -508,7 +540,7 @@ fn catalogue() {
     assert_eq!(scratch.names("out"), rendered);
     let (all, rendered) = (netlists.len(), rendered.len());
     let summary = format!(
-        "{all} files: {rendered} rendered, {} refused (",
+        "{all} files: {rendered} rendered (2 with settings excluded), {} refused (",
         all - rendered
     );
     let errors = String::from_utf8(ended.stderr).unwrap();

@@ -156,6 +156,8 @@ fn same_block(object: &Json, words: &[u16]) {
         .filter(|&&excluded| !excluded)
         .count();
     assert_eq!(object.number("settings"), come);
+    assert_eq!(object.number("excluded"), (1 << block.inputs.len()) - come);
+    assert_eq!(object.field("warning"), None);
     let settled = network
         .counted_settings()
         .iter()
@@ -169,7 +171,7 @@ fn same_block(object: &Json, words: &[u16]) {
     assert_eq!(object.field("cover"), Some(&Json::List(entries.collect())));
 }
 
-/// The setting and the undefined outputs of 9, by the simulator.
+/// The setting and the undefined outputs of 9, and of 8 where there are some, by the simulator.
 fn same_setting(object: &Json, words: &[u16], setting: usize) {
     let block = Block::from_words(words);
     assert_eq!(
@@ -241,6 +243,36 @@ fn catalogue() {
     }
 }
 
+/// 8 comes before 9 and does not hide it; that every setting is excluded is a warning.
+#[test]
+fn unsettled_and_excluded() {
+    let ring = simulator::specimens::reversed_ring(33, 32);
+    let swollen = format!("(in a)\n{ring}(gate p (or a p))\n(out y g0)\n(out z p)\n");
+    let sound = format!("{ring}(out y g0)\n");
+    let vacuous = "(in a)\n(never (a 0))\n(never (a 1))\n(gate p (not p))\n(out y p)\n";
+    let scratch = with(&[("8", &swollen), ("s", &sound), ("n", vacuous)]);
+    let output = String::from_utf8(run(&scratch, &["--json", "8", "s", "n"]).stdout).unwrap();
+    let objects: Vec<Json> = output.lines().map(Json::of).collect();
+    let numbers: Vec<usize> = objects
+        .iter()
+        .map(|object| object.number("number"))
+        .collect();
+    assert_eq!(numbers, [8, 8, 0]);
+    let words = read(swollen.as_bytes(), usize::MAX).1;
+    same_setting(&objects[0], &words, 0);
+    same_block(&objects[0], &words);
+    assert_eq!(
+        (objects[1].field("setting"), objects[1].field("undefined")),
+        (None, None)
+    );
+    assert_eq!(
+        (objects[2].number("settings"), objects[2].number("excluded")),
+        (0, 2)
+    );
+    let warning = "all 2 settings are promised never to come, so nothing is said of any output";
+    assert_eq!(objects[2].text("warning"), warning);
+}
+
 #[test]
 fn checks_and_errors() {
     let scratch = with(&[
@@ -250,14 +282,14 @@ fn checks_and_errors() {
         ("e", "(in a)\n"),
     ]);
     let object = "{\"file\":\"c\",\"original\":\"a\\\"b\",\"accepted\":false,\"setting\":{\"a\":1,\"b\":0},\"output\":\"y\",\
-                  \"shown\":\"0\",\"expected\":\"1\"}\n";
+                  \"shown\":\"0\",\"expected\":\"1\",\"excluded\":0}\n";
     told(
         run(&scratch, &["--check", "c", "--json", "a\"b"]),
         1,
         object,
         "",
     );
-    let object = "{\"file\":\"c\",\"original\":\"c\",\"accepted\":true}\n";
+    let object = "{\"file\":\"c\",\"original\":\"c\",\"accepted\":true,\"excluded\":0}\n";
     told(
         run(&scratch, &["--json", "--check", "c", "c"]),
         0,
@@ -274,7 +306,8 @@ fn checks_and_errors() {
         object,
         report,
     );
-    let object = "{\"file\":\"e\",\"original\":\"c\",\"number\":12,\"word\":\"strangers\"}\n";
+    let object =
+        "{\"file\":\"e\",\"original\":\"c\",\"number\":12,\"word\":\"strangers\",\"excluded\":0}\n";
     let report =
         "e: strangers\n  it has      pins a; ports none\n  but must be pins a, b; ports y\n";
     told(

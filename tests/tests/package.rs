@@ -5,7 +5,9 @@ use simulator::generate::{
     widest_cover, Random, Report, Size,
 };
 use simulator::{bring, cover, groups, pass, read, render, settle, verdict, write, Answer};
-use unloop::{Block, Refusal, Value};
+use std::error::Error;
+use unloop::declarations::gate_names;
+use unloop::{Assignment, Block, PinsError, Refusal, Value};
 
 /// As the simulator tells a count and a result, or a refusal.
 fn told<T>(outcome: Result<(usize, Vec<T>), Refusal>) -> (Answer, Vec<T>) {
@@ -77,7 +79,8 @@ fn same_words(random: &mut Random, words: &[u16]) {
     };
     same_verdict(&block);
     same_results(&block);
-    same_values(&block, &block.setting(random.below(1 << block.inputs())));
+    let number = random.below(1 << block.inputs());
+    same_values(&block, &block.setting(number).unwrap());
     same_values(&block, &vec![Value::Undefined; block.inputs()]);
     same_values(&block, &vec![Value::One; block.inputs() + 1]);
 }
@@ -98,7 +101,7 @@ fn blocks() {
     for (name, block) in large() {
         let _report = Report(|| name.to_string());
         let block = Block::from_words(block.to_words()).unwrap();
-        same_values(&block, &block.setting(0));
+        same_values(&block, &block.setting(0).unwrap());
     }
 }
 
@@ -126,5 +129,85 @@ fn malformed_words() {
             assert_eq!(Block::from_words(&words[..]), Err(Refusal::MalformedBlock));
             same_words(random, &words);
         }
+    });
+}
+
+/// The assignment of a setting's number is what Settle shows under that setting, in a sheet as well; other numbers are refused.
+#[test]
+fn settings_by_number() {
+    for_blocks(0..200, Size::SMALL, |random, _, words| {
+        let block = Block::from_words(words).unwrap();
+        let settings = 1 << block.inputs();
+        let number = random.below(settings);
+        let shown = block.shown(&block.setting(number).unwrap());
+        let assignment = block.assignment(number).unwrap();
+        assert_eq!(block.sheet(&[assignment]), [shown]);
+        assert!((0..settings).all(|other| assignment.agrees(other) == (other == number)));
+        for wrong in [settings, settings + number, 1 << 16, 1 << 32, usize::MAX] {
+            assert_eq!(block.setting(wrong), Err(Refusal::BadSetting));
+            assert_eq!(block.assignment(wrong), Err(Refusal::BadSetting));
+        }
+    });
+}
+
+/// A mask has sixteen bits; no other input is fixed, and nothing overflows in a build with checks.
+#[test]
+fn values_of_inputs() {
+    let all = Assignment {
+        fixed: u16::MAX,
+        ones: 0x8001,
+    };
+    assert_eq!(
+        [0, 1, 15].map(|input| all.value(input)),
+        [Some(true), Some(false), Some(true)]
+    );
+    assert_eq!(
+        [16, 63, 64, 1 << 32, usize::MAX].map(|input| all.value(input)),
+        [None; 5]
+    );
+}
+
+/// What is wrong with a line of pins, as a value and in words.
+#[test]
+fn lines_of_pins() {
+    let names = ["a".to_string(), "b".to_string()];
+    for (line, error, words) in [
+        (
+            "a",
+            PinsError::NotAPair("a".to_string()),
+            "not PIN = 0 or PIN = 1: a",
+        ),
+        (
+            "a = 2",
+            PinsError::NotAPair("a = 2".to_string()),
+            "not PIN = 0 or PIN = 1: a = 2",
+        ),
+        (
+            "a = 1, c = 0",
+            PinsError::UnknownPin("c".to_string()),
+            "no input is named c",
+        ),
+        (
+            "b = 1, b = 1",
+            PinsError::Twice("b".to_string()),
+            "b is given twice",
+        ),
+    ] {
+        let told: Box<dyn Error> = Assignment::from_pins(line, &names).unwrap_err().into();
+        assert_eq!(told.to_string(), words);
+        assert_eq!(told.downcast_ref(), Some(&error));
+    }
+    let many: Vec<String> = (0..20).map(|pin| format!("p{pin}")).collect();
+    let told = Assignment::from_pins("p19 = 1", &many);
+    assert_eq!(told, Err(PinsError::TooManyNames(20)));
+}
+
+/// The names of gates are asked of texts in form; of any other the answer is some list.
+#[test]
+fn names_in_any_text() {
+    for_texts(0..400, Size::SMALL, |random, text, _| {
+        let spoiled = spoiled(random, text);
+        let _report = Report(|| spoiled.escape_ascii().to_string());
+        gate_names(&spoiled);
     });
 }

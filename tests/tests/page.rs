@@ -11,10 +11,10 @@ use simulator::groups::loops;
 use simulator::values::Network;
 use simulator::{read, unloop};
 use std::fs;
-use std::path::PathBuf;
+use std::path::Path;
 use std::process::Command;
 
-fn stem(path: &PathBuf) -> String {
+fn stem(path: &Path) -> String {
     path.file_stem().unwrap().to_str().unwrap().to_string()
 }
 
@@ -35,7 +35,7 @@ fn pages(dot: bool) -> Scratch {
         errors.starts_with(&format!("out/index.html: {all} netlists: ")),
         "{errors}"
     );
-    assert_eq!((ended.status.code(), ended.stdout.len()), (Some(1), 0));
+    assert_eq!((ended.status.code(), ended.stdout.len()), (Some(0), 0));
     scratch
 }
 
@@ -52,7 +52,7 @@ fn plain(text: &str) -> String {
     text.replace("&quot;", "\"").replace("&amp;", "&")
 }
 
-/// What the overview must say of a text: its state and the four numbers.
+/// What the overview must say of a text: its state with its class, and the four numbers.
 fn expected_row(text: &[u8]) -> Vec<String> {
     let (answer, words) = read(text, usize::MAX);
     let written = String::from_utf8(unloop(text)).unwrap();
@@ -61,7 +61,10 @@ fn expected_row(text: &[u8]) -> Vec<String> {
             [[2, 4, 5].iter().position(|&n| n == answer.number).unwrap()];
         let before = String::from_utf8_lossy(&text[..answer.detail]).into_owned();
         let column = 1 + before.rsplit('\n').next().unwrap().len();
-        let state = format!("{word} {}:{column}", 1 + before.matches('\n').count());
+        let state = format!(
+            "illegible\">{word} {}:{column}",
+            1 + before.matches('\n').count()
+        );
         return vec![state, "–".into(), "–".into(), "–".into(), "–".into()];
     }
     let block = Block::from_words(&words);
@@ -71,21 +74,27 @@ fn expected_row(text: &[u8]) -> Vec<String> {
         .filter(|&&s| s)
         .count();
     let come = block.excluded_settings().iter().filter(|&&e| !e).count();
+    let excluded = (1 << block.inputs.len()) - come;
     let state = match &written {
-        refused if refused.starts_with("(refused 9 ") => "undecided",
-        refused if refused.starts_with("(refused 8 ") => "swollen",
-        _ => "rendered",
+        refused if refused.starts_with("(refused 9 ") => "undecided\">undecided".to_string(),
+        refused if refused.starts_with("(refused 8 ") => "undecided\">swollen".to_string(),
+        _ if excluded == 0 => "rendered\">rendered".to_string(),
+        _ => format!("promised\">rendered, {excluded} excluded"),
     };
-    let rendering = match state {
-        "rendered" => written.matches("(gate ").count().to_string(),
-        _ => "–".to_string(),
+    let rendering = match written.starts_with("(refused ") {
+        false => written.matches("(gate ").count().to_string(),
+        true => "–".to_string(),
+    };
+    let but = match excluded {
+        0 => String::new(),
+        excluded => format!(", {excluded} excluded"),
     };
     vec![
-        state.to_string(),
+        state,
         block.gates.len().to_string(),
         loops(&block).len().to_string(),
         rendering,
-        format!("{settled} of {come}"),
+        format!("{settled} of {come}{but}"),
     ]
 }
 
@@ -100,11 +109,10 @@ fn overview_of_the_catalogue() {
         assert!(row.starts_with(&link), "{row}");
         let cells = between(row, "<td ", "</td>").into_iter();
         let cells = cells.map(|cell| {
-            cell.trim_end_matches("</span>")
-                .rsplit('>')
-                .next()
-                .unwrap()
-                .to_string()
+            let cell = cell.trim_end_matches("</span>");
+            let state = cell.split_once("<span class=\"state ");
+            let shown = state.or(cell.split_once('>')).unwrap().1;
+            shown.to_string()
         });
         assert_eq!(
             cells.collect::<Vec<_>>(),
@@ -138,7 +146,24 @@ fn pages_stand_alone() {
     }
 }
 
-/// The value of every output under every setting, undefined pins among them, and the setting that it begins with.
+/// What is to be said of a setting with its open pins: is it settled, does it leave an output undefined, may it come?
+fn expected_state(block: &Block, setting: &[u8], shown: &[u8]) -> char {
+    let agrees = |number: usize| {
+        let mut digits = setting.iter().enumerate();
+        digits.all(|(i, &digit)| digit == 2 || usize::from(digit) == number >> i & 1)
+    };
+    let excluded = block.excluded_settings();
+    let mut stood_for = (0..excluded.len()).filter(|&number| agrees(number));
+    match (setting.contains(&2), shown.contains(&2)) {
+        _ if stood_for.all(|number| excluded[number]) => 'x',
+        (false, false) => 's',
+        (false, true) => 'n',
+        (true, false) => 'd',
+        (true, true) => 'u',
+    }
+}
+
+/// The value of every output under every setting, undefined pins among them, what is said of it, and the setting that it begins with.
 fn sheet_is_right(page: &str, block: &Block, refused_for: usize) {
     let [values] = between(page, "id=\"values\">", "</script>")[..] else {
         panic!("no values")
@@ -149,19 +174,22 @@ fn sheet_is_right(page: &str, block: &Block, refused_for: usize) {
     let (n, network) = (block.inputs.len(), Network::new(block));
     assert!(values.contains("\"base\":3,") && n <= 8);
     assert!(values.contains(&format!("\"start\":{refused_for},")));
-    let mut expected = String::new();
+    let [states] = between(values, "\"states\":\"", "\"")[..] else {
+        panic!("no states")
+    };
+    let (mut expected, mut said) = (String::new(), String::new());
     for number in 0..3usize.pow(n as u32) {
         let setting: Vec<u8> = (0..n)
             .map(|i| (number / 3usize.pow(i as u32) % 3) as u8)
             .collect();
-        expected.extend(
-            network
-                .shown(&setting)
-                .iter()
-                .map(|&value| ['0', '1', 'u'][usize::from(value)]),
-        );
+        let shown = network.shown(&setting);
+        said.push(expected_state(block, &setting, &shown));
+        let letters = shown
+            .iter()
+            .map(|&value| ['0', '1', 'u'][usize::from(value)]);
+        expected.extend(letters);
     }
-    assert!(rows == expected);
+    assert!(rows == expected && states == said);
 }
 
 /// The numbered lines of a section are a text's.
@@ -287,7 +315,7 @@ fn names_and_what_is_overwritten() {
     ]);
     let words = ["--page", "new", "a/index.net", "a/x & y.net", "b/x & y.net"];
     let report = "new/index.html: 3 netlists: 2 rendered, 1 refused\n";
-    told(run(&scratch, &words), 1, "", report);
+    told(run(&scratch, &words), 0, "", report);
     let names = [
         "index-2.html",
         "index.html",
@@ -306,7 +334,7 @@ fn names_and_what_is_overwritten() {
     told(run(&scratch, &words), 2, "", error);
     told(
         run(&scratch, &[&["--force"], &words[..]].concat()),
-        1,
+        0,
         "",
         report,
     );
@@ -349,5 +377,166 @@ fn many_inputs() {
         rows,
         shown.map(|value| value.to_string()).collect::<String>()
     );
-    assert!(page.contains("\"base\":2,"));
+    let states = format!("\"states\":\"{}\"", "s".repeat(512));
+    assert!(page.contains("\"base\":2,") && page.contains(&states));
+}
+
+/// A file that can't be read is told, on the page too, and the others are done; so is one whose page can't be written.
+#[test]
+fn bad_files_do_not_end_it() {
+    let scratch = with(&[
+        ("x.net", "(in a)\n(out y a)\n"),
+        ("folder.net/inside", ""),
+        ("out/y.html", "kept"),
+        ("y.net", "(in a)\n(out y b)\n"),
+        ("z.net", "(in a)\n"),
+    ]);
+    let report = "unloop: gone: No such file or directory\nunloop: folder.net: Is a directory\n\
+                  unloop: out/y.html: exists already (--force replaces it)\n\
+                  out/index.html: 5 netlists: 2 rendered, 0 refused, 3 errors\n";
+    let words = [
+        "--page",
+        "out",
+        "x.net",
+        "gone",
+        "folder.net",
+        "y.net",
+        "z.net",
+    ];
+    told(run(&scratch, &words), 2, "", report);
+    let names = [
+        "index.html",
+        "page.css",
+        "page.js",
+        "x.html",
+        "y.html",
+        "z.html",
+    ];
+    assert_eq!(scratch.names("out"), names);
+    assert_eq!(scratch.get("out/y.html"), "kept");
+    let index = scratch.get("out/index.html");
+    assert!(index.contains("<p class=\"warning\">Not on this page: folder.net: Is a directory</p>"));
+    assert_eq!(index.matches("<tr><th scope=\"row\">").count(), 3);
+}
+
+/// What the page of a netlist with this head says: its state with its class and its share, in the overview too, the first words, and the
+/// paragraph on what is excluded.
+#[track_caller]
+fn excluded_is_told(head: &str, state: &str, share: &str, first: &str, paragraph: &str) {
+    let text = format!("{head}(gate p (not p))\n(gate q (or b p))\n(out y q)\n");
+    let scratch = with(&[("x.net", &text)]);
+    let ended = run(&scratch, &["--page", "out", "x.net"]);
+    assert_eq!(ended.status.code(), Some(0));
+    let summary = String::from_utf8(ended.stderr).unwrap();
+    let limited = " 1 rendered (1 with settings excluded), 0 refused";
+    assert_eq!(summary.contains(limited), state.contains("excluded"));
+    let (index, page) = (scratch.get("out/index.html"), scratch.get("out/x.html"));
+    let state = format!("<span class=\"state {state}</span>");
+    assert!(index.contains(&state) && page.contains(&state), "{page}");
+    assert!(index.contains(&format!(">{share}</td></tr>")), "{index}");
+    let first = format!("<pre class=\"told\">{first}");
+    assert!(page.contains(&first), "{page}");
+    assert_eq!(between(&page, "</pre>\n", "</header>")[0], paragraph);
+}
+
+/// Where never lines exclude something the state is another; where they exclude everything that is a warning, and the status still 0.
+#[test]
+fn excluded_settings() {
+    excluded_is_told(
+        "(in a)\n(in b)\n(never (a 0))\n(never (a 1))\n",
+        "vacuous\">rendered, all 4 excluded",
+        "0 of 0, 4 excluded",
+        "No setting may come. ",
+        "<p class=\"warning\">Warning: all 4 settings are promised never to come, so nothing is said of any output (never a = 0; never a = 1).</p>\n",
+    );
+    excluded_is_told(
+        "(in a)\n(in b)\n(never (a 1) (b 0))\n(never (b 0))\n",
+        "promised\">rendered, 2 excluded",
+        "2 of 2, 2 excluded",
+        "Settled under all 2 settings that may come. ",
+        "<p class=\"promise\">2 of 4 settings are promised never to come (never a = 1, b = 0; never b = 0); nothing is said of them.</p>\n",
+    );
+    excluded_is_told(
+        "(in a)\n(in b)\n(never (a 1))\n",
+        "undecided\">undecided",
+        "1 of 2, 2 excluded",
+        "x.net: undecided",
+        "<p class=\"promise\">2 of 4 settings are promised never to come (never a = 1); nothing is said of them.</p>\n",
+    );
+}
+
+/// One setting is not "all 1 settings".
+#[test]
+fn a_single_setting() {
+    excluded_is_told(
+        "(in b)\n(never (b 0))\n",
+        "promised\">rendered, 1 excluded",
+        "1 of 1, 1 excluded",
+        "Settled under the only setting that may come. ",
+        "<p class=\"promise\">1 of 2 settings are promised never to come (never b = 0); nothing is said of them.</p>\n",
+    );
+    excluded_is_told(
+        "(gate b (or b 1))\n",
+        "rendered\">rendered",
+        "1 of 1",
+        "Settled under the only setting. ",
+        "",
+    );
+}
+
+/// A block that has too many copies and isn't settled either: its page tells of the setting, and begins with it.
+#[test]
+fn swollen_and_not_settled() {
+    let ring = fs::read_to_string(root().join("catalogue/ring-backwards.net")).unwrap();
+    let text = format!(
+        "(in a)\n{}(out z q)\n",
+        ring.replace("(out ", "(gate q (and a (not q)))\n(out ")
+    );
+    let scratch = with(&[("x.net", &text), ("ring.net", &ring)]);
+    let ended = run(&scratch, &["--page", "out", "x.net", "ring.net"]);
+    assert_eq!(ended.status.code(), Some(0));
+    let (page, ring) = (scratch.get("out/x.html"), scratch.get("out/ring.html"));
+    let state = |words: &str| format!("<span class=\"state undecided\">{words}</span>");
+    assert!(page.contains(&state("swollen, undecided")), "{page}");
+    let [lines] = between(&page, "<pre class=\"told\">", "</pre>")[..] else {
+        panic!("{page}")
+    };
+    assert!(lines.starts_with("x.net: swollen: "), "{lines}");
+    let unsettled = "\n  not settled with a = 1: z undefined\n  settles with a = 0";
+    assert_eq!(lines.matches(unsettled).count(), 1, "{lines}");
+    let block = Block::from_words(&read(text.as_bytes(), usize::MAX).1);
+    sheet_is_right(&page, &block, 1);
+    cover_is_right(&page, &block, "a = 0\n");
+    assert!(ring.contains(&state("swollen")), "{ring}");
+    assert!(
+        !ring.contains("not settled") && ring.contains("\"start\":0,"),
+        "{ring}"
+    );
+}
+
+/// The sheet's notes: an open pin is another thing than any value, and one setting is not "all".
+#[test]
+fn notes_of_the_sheet() {
+    let scratch = with(&[
+        ("x.net", "(in a)\n(out y a)\n"),
+        ("none.net", "(gate p (or p 1))\n(out y p)\n"),
+    ]);
+    let ended = run(&scratch, &["--page", "out", "x.net", "none.net"]);
+    assert_eq!(ended.status.code(), Some(0));
+    let page = scratch.get("out/x.html");
+    let [sheet] = between(&page, "<section id=\"sheet\">", "</section>")[..] else {
+        panic!("{page}")
+    };
+    for told in [
+        "undefined here (?) has no value",
+        "\"any\" in the cover says",
+        "under all 3 settings that",
+    ] {
+        assert!(sheet.contains(told), "{sheet}");
+    }
+    let page = scratch.get("out/none.html");
+    assert!(
+        page.contains("It has no pins.") && page.contains("under its only setting "),
+        "{page}"
+    );
 }

@@ -99,12 +99,37 @@ fn never_lines() {
     // The lowest setting that may come, and what settles or never comes.
     let text = b"(in a)\n(in b)\n(never (a 0) (b 0))\n(gate p (or a p))\n(out y p)\n";
     let report = "x.net: undecided\n  not settled with a = 0, b = 1: y undefined\n\
-                  \x20 settles with a = 1\n  settles with b = 0\n";
+                  \x20 settles with a = 1\n  settles with b = 0\n  settled settings: 2 of 3, 1 excluded\n";
     at_a_place(text, "(refused 9 2)\n", report);
     let report = "x.net: undecided\n  not settled with a = 0, b = 0: y undefined\n\
-                  \x20 never comes with a = 1, b = 1\n  settles under no setting\n";
+                  \x20 never comes with a = 1, b = 1\n  settles under no setting\n\
+                  \x20 settled settings: 0 of 3, 1 excluded\n";
     let text = simulator::specimens::NEVER_BOTH.as_bytes();
     at_a_place(text, "(refused 9 0)\n", report);
+}
+
+/// Of a rendering too it is told how many settings are excluded; that these are all is a warning.
+#[test]
+fn excluded_settings() {
+    let text = "(in a)\n(never (a 1))\n(gate p (or (not a) p))\n(out y p)\n";
+    let rendered = |name: &str, text: &str, errors: &str| {
+        let scratch = with(&[(name, text)]);
+        let ended = run(&scratch, &[name]);
+        assert_eq!(ended.stdout, simulator::unloop(text.as_bytes()));
+        assert_eq!(String::from_utf8_lossy(&ended.stderr), errors);
+        assert_eq!(ended.status.code(), Some(0));
+        scratch
+    };
+    let note = "x.net: settled settings: 1 of 1, 1 excluded\n";
+    let scratch = rendered("x.net", text, note);
+    let all = "(in a)\n(never (a 0))\n(never (a 1))\n(gate p (not p))\n(out y p)\n";
+    let warning = "all.net: settled settings: 0 of 0, 2 excluded\n\
+                   all.net: warning: all 2 settings are promised never to come, so nothing is said of any output\n";
+    rendered("all.net", all, warning);
+    scratch.put("none.net", "(in a)\n");
+    let words = ["--into", "out", "x.net", "none.net"];
+    let errors = format!("{note}1/2 x.net: rendered\n2/2 none.net: rendered\n2 files: 2 rendered (1 with settings excluded), 0 refused\n");
+    told(run(&scratch, &words), 0, "", &errors);
 }
 
 #[test]
@@ -120,6 +145,20 @@ fn refusals_without_a_place() {
         copies - GATES
     );
     at_a_place(ring.as_bytes(), "(refused 8 0)\n", &report);
+    // 8 comes before 9 and does not hide it.
+    let unsettled = format!("(in a)\n{ring}(out z p)\n");
+    let unsettled = unsettled.replace("(out y", "(gate p (or a p))\n(out y");
+    let report = report.replace(&copies.to_string(), &(copies + 1).to_string());
+    let report = report.replace(
+        &format!(" {} more", copies - GATES),
+        &format!(" {} more", copies + 1 - GATES),
+    );
+    let report = report + "  not settled with a = 0: z undefined\n  settles with a = 1\n";
+    at_a_place(unsettled.as_bytes(), "(refused 8 0)\n", &report);
+    let promised = unsettled.replace("(in a)\n", "(in a)\n(never (a 0))\n");
+    let (first, _) = report.split_once('\n').unwrap();
+    let report = format!("{first}\n  settled settings: 1 of 1, 1 excluded\n");
+    at_a_place(promised.as_bytes(), "(refused 8 0)\n", &report);
 }
 
 #[test]

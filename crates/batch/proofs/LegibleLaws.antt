@@ -5,13 +5,13 @@ use mathlib.Core.List.{List}
 use Prim.Native.Nat.{ℕ}
 use native.Mathlib.Omega.{arith}
 use Rattle.layout.specs.Nodes.{nodesOf}
-use Rattle.netlist.specs.StoredBlock.{neversAt, gatesAt, outputsAt, isTorn}
+use Rattle.netlist.specs.StoredBlock.{neversAt, gatesAt, outputsAt, isMalformed}
 use Rattle.encoding.proofs.Decoded.{decode-inputCount, decode-gateCount, decode-gate}
 use Rattle.encoding.proofs.Readers.{whole-parts, whole-gate}
 use Rattle.batch.specs.Legible.{Legible}
 
 -- the words of a block, read from its counts
-pub legible : (ws : List ℕ) → isTorn ws ≡ false → Legible ws (nodesOf ws)
+pub legible : (ws : List ℕ) → isMalformed ws ≡ false → Legible ws (nodesOf ws)
 unfolding nodesOf gatesAt neversAt outputsAt
 legible ws h =
     record {

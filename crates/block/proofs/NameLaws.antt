@@ -10,7 +10,8 @@ use lib.ListN.{length, getD, drop}
 use lib.Seq.{drop-cons}
 use lib.Dec.{eqb}
 use borrow.Author.Tests.{ne-eqb}
-use Rattle.netlist.specs.StoredBlock.{isNameByte, bytesAt}
+use Rattle.netlist.specs.StoredBlock.{bytesAt}
+use Rattle.netlist.specs.Names.{isNameByte}
 use Rattle.encoding.specs.Rules.{padded}
 use Rattle.block.specs.Steps.{zerosFrom}
 

@@ -15,7 +15,7 @@ use Rattle.laws.proofs.Tab.{map-tab}
 use Rattle.laws.proofs.Quantifiers.{all-below, below-all, all-ext}
 use Rattle.laws.proofs.Lists.{all-joined}
 use Rattle.netlist.specs.Netlist.{Operand}
-use Rattle.netlist.specs.StoredBlock.{gateSize, operandWords, gatesAt, operandOf, gateAt, decode, isTorn}
+use Rattle.netlist.specs.StoredBlock.{gateSize, operandWords, gatesAt, operandOf, gateAt, decode, isMalformed}
 use Rattle.netlist.specs.Groups.{gateOperand, readBy}
 use Rattle.netlist.specs.Rendering.{isStraight}
 use Rattle.encoding.specs.Rules.{nodeRule, operandRule, gateRule}
@@ -106,7 +106,7 @@ gate-operands ws nodes all-nodes at h =
     unused i l g = rw (le-ltb i count g) (eq-eqb (getD ws (at + 1 + i) 0) 0 (w .unused i g l))
 
 -- the test of the words says "straight"
-pub straight-is : (ws : List ℕ) → isTorn ws ≡ false → lowerRule ws (getD ws 0 0) (gatesAt (getD ws 0 0) (getD ws 3 0)) (getD ws 1 0) ≡ isStraight (decode ws)
+pub straight-is : (ws : List ℕ) → isMalformed ws ≡ false → lowerRule ws (getD ws 0 0) (gatesAt (getD ws 0 0) (getD ws 3 0)) (getD ws 1 0) ≡ isStraight (decode ws)
 unfolding isStraight readBy lower
 straight-is ws h =
     all-ext (lowerRuleAt ws n first) reads-lower m agree ∙ sym (ap (λ (k : ℕ). all reads-lower (upTo k)) (decode-gateCount ws))

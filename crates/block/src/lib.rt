@@ -2,16 +2,16 @@
 // Every operation that takes a block calls `check_words` first. No function reads past the end of the words.
 use layout::offsets;
 use netlist::Refusal;
-use netlist::Test;
+use refusals::Test;
 use refusals::refuse_if;
 ghost use mathlib.Core.Path.{_≡_};
 ghost use mathlib.Core.Bool.{false, not};
 ghost use Prim.Native.Nat.{_≤_};
 ghost use Rattle.encoding.specs.Rules.{intact};
 ghost use Rattle.netlist.specs.declared.Refusal.the-variants.{MalformedBlock, NotStraight};
-ghost use Rattle.netlist.specs.Answers.{testOf};
+ghost use Rattle.refusals.specs.Tests.{testOf};
 ghost use Rattle.netlist.specs.Limits.{maxInputs, maxNevers, maxGates, maxOutputs};
-ghost use Rattle.netlist.specs.StoredBlock.{isTorn, decode};
+ghost use Rattle.netlist.specs.StoredBlock.{isMalformed, decode};
 ghost use Rattle.netlist.specs.Rendering.{isStraight};
 ghost use Rattle.block.specs.Steps.{frontRule, partsRule};
 
@@ -70,14 +70,14 @@ fn is_intact(words: &[u16]) -> bool
 
 // Refusal 6: a slice of any length and content.
 pub fn check_words(words: &[u16]) -> Test
-    ensures { λ r. ⌜ r ≡ testOf (isTorn (now (words .entry))) MalformedBlock ⌝ }
+    ensures { λ r. ⌜ r ≡ testOf (isMalformed (now (words .entry))) MalformedBlock ⌝ }
 {
     refuse_if(!is_intact(words), Refusal::MalformedBlock)
 }
 
 // Refusal 10, of a block that is not torn: do all gates read only inputs, constants and lower gates?
 pub fn check_straight(words: &[u16]) -> Test
-    requires { ⌜ isTorn (now words) ≡ false ⌝ }
+    requires { ⌜ isMalformed (now words) ≡ false ⌝ }
     ensures { λ r. ⌜ r ≡ testOf (not (isStraight (decode (now (words .entry))))) NotStraight ⌝ }
 {
     let n = offsets::inputs_of(words);

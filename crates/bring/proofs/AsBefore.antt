@@ -16,22 +16,22 @@ use borrow.Author.Tests.{lt-leb}
 use Rattle.laws.specs.Lists.{all, upTo, countBelow, least}
 use Rattle.netlist.specs.Assignments.{Assignment, agrees}
 use Rattle.netlist.specs.Netlist.{Block, inputCount}
-use Rattle.netlist.specs.StoredBlock.{encode, decode, isTorn}
+use Rattle.netlist.specs.StoredBlock.{encode, decode, isMalformed}
 use Rattle.netlist.specs.Rounds.{isSettled, isExcluded, isCounted, isSoundAt, settingCount, settledSettings, lowestUnsettled}
 use Rattle.netlist.specs.Cover.{isSoundUnder}
 use Rattle.netlist.specs.Rendering.{rendering}
 use Rattle.netlist.specs.Syntax.{Tree}
-use Rattle.netlist.specs.Bring.{maxInputsBefore, encodeBefore, brought, isTornBefore}
+use Rattle.netlist.specs.Bring.{maxInputsBefore, encodeBefore, brought, isMalformedBefore}
 use Rattle.encoding.proofs.Decoded.{decode-inputCount}
 use Rattle.bring.proofs.Words.{brought-nevers, encode-brought, whole-before, whole-long, word-before, torn-brought, torn-inputs}
 
 pub record AsBefore (ws : List ℕ) : Type 0 where
-  pub whole : isTorn (brought ws) ≡ false
+  pub whole : isMalformed (brought ws) ≡ false
   pub noLines : decode (brought ws) .nevers ≡ []
   pub words : encodeBefore (decode (brought ws)) ≡ ws
 
 -- what Bring writes, whenever it answers 0
-pub brought-back : (ws : List ℕ) → isTornBefore ws ≡ false → AsBefore ws
+pub brought-back : (ws : List ℕ) → isMalformedBefore ws ≡ false → AsBefore ws
 brought-back ws h =
     let long = whole-long ws h in
     let (few, words) = whole-before ws h in
@@ -75,7 +75,7 @@ module _ (b : Block) (e : b .nevers ≡ []) where
 -- ---- more inputs than there were
 
 -- the old words of such a block are torn to the old rules
-pub torn-before : (b : Block) → maxInputsBefore < inputCount b → isTornBefore (encodeBefore b) ≡ true
+pub torn-before : (b : Block) → maxInputsBefore < inputCount b → isMalformedBefore (encodeBefore b) ≡ true
 unfolding encodeBefore
 torn-before b many = torn-inputs (encodeBefore b) (omega arith) many
 

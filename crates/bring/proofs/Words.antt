@@ -19,11 +19,11 @@ use Rattle.laws.proofs.Tests.{and-left, and-right, same-test}
 use Rattle.laws.proofs.Same.{same-eq, eq-same}
 use Rattle.netlist.specs.Limits.{maxBlock}
 use Rattle.netlist.specs.Netlist.{Block, inputCount}
-use Rattle.netlist.specs.StoredBlock.{nameWords, encode, decode, isWellFormed, isTorn}
+use Rattle.netlist.specs.StoredBlock.{nameWords, encode, decode, isWellFormed, isMalformed}
 use Rattle.netlist.specs.declared.Refusal.the-variants.{MalformedBlock, NoRoom}
 use Rattle.netlist.specs.Answers.{done, refuseIf, inRoom}
 use Rattle.netlist.specs.Operations.{counted}
-use Rattle.netlist.specs.Bring.{maxInputsBefore, encodeBefore, brought, isTornBefore, bringWords, bring}
+use Rattle.netlist.specs.Bring.{maxInputsBefore, encodeBefore, brought, isMalformedBefore, bringWords, bring}
 use Rattle.encoding.proofs.Decoded.{decode-inputCount}
 use Rattle.encoding.proofs.Sizes.{whole-longest}
 
@@ -115,24 +115,24 @@ same-brought ws l =
     (brought-same (encodeBefore (blockOf ws)) ws (long-before (blockOf ws)) l (sym (encode-brought (blockOf ws) (brought-nevers ws l)) ∙ same-eq _ _ h)))
 
 -- what is left of the old rules
-pub torn-brought : (ws : List ℕ) → 3 ≤ length ws → getD ws 0 0 ≤ maxInputsBefore → isTornBefore ws ≡ isTorn (brought ws)
-unfolding isTornBefore isTorn
+pub torn-brought : (ws : List ℕ) → 3 ≤ length ws → getD ws 0 0 ≤ maxInputsBefore → isMalformedBefore ws ≡ isMalformed (brought ws)
+unfolding isMalformedBefore isMalformed
 torn-brought ws l few =
     let n : inputCount (blockOf ws) ≡ getD ws 0 0 = decode-inputCount (brought ws) ∙ sym (word-before ws 0 l (omega arith)) in
     rw (n, le-leb (getD ws 0 0) maxInputsBefore few, same-brought ws l) refl
 
 -- ---- what they refuse at once
 
-torn-when : (ws : List ℕ) → (isTornBefore ws ≡ false → ⊥) → isTornBefore ws ≡ true
-torn-when ws = go (isTornBefore ws)
+torn-when : (ws : List ℕ) → (isMalformedBefore ws ≡ false → ⊥) → isMalformedBefore ws ≡ true
+torn-when ws = go (isMalformedBefore ws)
   where
     go : (t : Bool) → (t ≡ false → ⊥) → t ≡ true
     go true h = refl
     go false h = absurd (h refl)
 
 -- the parts of the old rules
-pub whole-before : (ws : List ℕ) → isTornBefore ws ≡ false → (inputCount (blockOf ws) ≤ maxInputsBefore) × (encodeBefore (blockOf ws) ≡ ws)
-unfolding isTornBefore
+pub whole-before : (ws : List ℕ) → isMalformedBefore ws ≡ false → (inputCount (blockOf ws) ≤ maxInputsBefore) × (encodeBefore (blockOf ws) ≡ ws)
+unfolding isMalformedBefore
 whole-before ws h =
     let all = not-false (leb (inputCount (blockOf ws)) maxInputsBefore && isWellFormed (blockOf ws) && same (encodeBefore (blockOf ws)) ws) h in (
       leb-true _ _ (and-left (leb (inputCount (blockOf ws)) maxInputsBefore) (isWellFormed (blockOf ws))
@@ -140,31 +140,31 @@ whole-before ws h =
       same-eq _ _ (and-right (leb (inputCount (blockOf ws)) maxInputsBefore && isWellFormed (blockOf ws)) (same (encodeBefore (blockOf ws)) ws) all),
     )
 
-pub torn-short : (ws : List ℕ) → length ws < 3 → isTornBefore ws ≡ true
+pub torn-short : (ws : List ℕ) → length ws < 3 → isMalformedBefore ws ≡ true
 torn-short ws l =
     torn-when ws (λ h. let long : 3 ≤ length ws = subst (λ (v : List ℕ). 3 ≤ length v) (whole-before ws h .1) (long-before (blockOf ws)) in omega arith)
 
-pub torn-inputs : (ws : List ℕ) → 3 ≤ length ws → maxInputsBefore < getD ws 0 0 → isTornBefore ws ≡ true
+pub torn-inputs : (ws : List ℕ) → 3 ≤ length ws → maxInputsBefore < getD ws 0 0 → isMalformedBefore ws ≡ true
 torn-inputs ws l many =
     torn-when ws (λ h. omega (arith, whole-before ws h .0, decode-inputCount (brought ws), word-before ws 0 l (omega arith)))
 
-pub torn-long : (ws : List ℕ) → 3 ≤ length ws → maxBlock ≤ length ws → isTornBefore ws ≡ true
+pub torn-long : (ws : List ℕ) → 3 ≤ length ws → maxBlock ≤ length ws → isMalformedBefore ws ≡ true
 torn-long ws l many =
     torn-when ws
     (λ h. let few = rw (decode-inputCount (brought ws) ∙ sym (word-before ws 0 l (omega arith))) at (whole-before ws h .0) in
     omega (arith, whole-longest (brought ws) (sym (torn-brought ws l few) ∙ h), length-brought ws l))
 
 -- words that the old rules let through are at least three
-pub whole-long : (ws : List ℕ) → isTornBefore ws ≡ false → 3 ≤ length ws
+pub whole-long : (ws : List ℕ) → isMalformedBefore ws ≡ false → 3 ≤ length ws
 whole-long ws h = subst (λ (v : List ℕ). 3 ≤ length v) (whole-before ws h .1) (long-before (blockOf ws))
 
 -- ---- the chain of conditions: from 6 on, and from 11 on
 
-pub bring-start : (ws : List ℕ) (room : ℕ) → bring ws room ≡ inRoom room (refuseIf (isTornBefore ws) MalformedBlock (counted (brought ws)))
+pub bring-start : (ws : List ℕ) (room : ℕ) → bring ws room ≡ inRoom room (refuseIf (isMalformedBefore ws) MalformedBlock (counted (brought ws)))
 unfolding bring bringWords
 bring-start ws room = refl
 
-pub bring-room : (ws : List ℕ) (room : ℕ) → isTornBefore ws ≡ false
+pub bring-room : (ws : List ℕ) (room : ℕ) → isMalformedBefore ws ≡ false
     → bring ws room ≡ refuseIf (ltb room (length (brought ws))) NoRoom (done (brought ws) (length (brought ws)) 0)
 unfolding bring bringWords counted refuseIf inRoom
 bring-room ws room whole = rw whole refl

@@ -4,7 +4,7 @@ use layout::limits::BLOCK_WORDS;
 use layout::offsets::inputs_of;
 use netlist::Answer;
 use netlist::Refusal;
-use netlist::Test;
+use refusals::Test;
 use refusals::refusal;
 use refusals::test_room;
 ghost use mathlib.Core.Path.{_≡_};
@@ -12,8 +12,9 @@ ghost use Prim.Native.Nat.{_≤_, _<_};
 ghost use lib.ListN.{length, getD};
 ghost use Rattle.laws.specs.Lists.{placed};
 ghost use Rattle.netlist.specs.declared.Refusal.the-variants.{MalformedBlock};
-ghost use Rattle.netlist.specs.Answers.{testOf, Promise};
-ghost use Rattle.netlist.specs.Bring.{maxInputsBefore, brought, isTornBefore, bring as bringOf};
+ghost use Rattle.netlist.specs.Answers.{Promise};
+ghost use Rattle.refusals.specs.Tests.{testOf};
+ghost use Rattle.netlist.specs.Bring.{maxInputsBefore, brought, isMalformedBefore, bring as bringOf};
 
 // The counts at the head of such a block, and the most inputs that it had.
 const COUNTS_BEFORE: usize = 3;
@@ -51,7 +52,7 @@ fn put_brought(old: &[u16], block: &mut [u16])
 fn check_brought(old: &[u16], words: &mut [u16]) -> Test
     requires { ⌜ (3 ≤ length (now old)) × (length (now old) < length (now words)) ⌝ }
     requires { ⌜ getD (now old) 0 0 ≤ maxInputsBefore ⌝ }
-    ensures { λ r. ⌜ r ≡ testOf (isTornBefore (now (old .entry))) MalformedBlock ⌝ }
+    ensures { λ r. ⌜ r ≡ testOf (isMalformedBefore (now (old .entry))) MalformedBlock ⌝ }
 {
     put_brought(old, words);
     check_words(&words[..old.len() + 1])
@@ -59,7 +60,7 @@ fn check_brought(old: &[u16], words: &mut [u16]) -> Test
 
 // 6, by the rules that held before.
 fn check_before(old: &[u16]) -> Test
-    ensures { λ r. ⌜ r ≡ testOf (isTornBefore (now (old .entry))) MalformedBlock ⌝ }
+    ensures { λ r. ⌜ r ≡ testOf (isMalformedBefore (now (old .entry))) MalformedBlock ⌝ }
 {
     if old.len() < COUNTS_BEFORE {
         return Test::Failed(Refusal::MalformedBlock);

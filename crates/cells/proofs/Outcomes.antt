@@ -23,7 +23,7 @@ use Rattle.netlist.specs.declared.Refusal.the-variants.{MalformedBlock, BadSett
 use Rattle.netlist.specs.Limits.{maxInputs, maxGates}
 use Rattle.netlist.specs.Values.{code, valueOf}
 use Rattle.netlist.specs.Netlist.{Block, inputCount, gateCount}
-use Rattle.netlist.specs.StoredBlock.{decode, isTorn}
+use Rattle.netlist.specs.StoredBlock.{decode, isMalformed}
 use Rattle.netlist.specs.Rendering.{isStraight, sweep}
 use Rattle.netlist.specs.Answers.{refusalNumber, numberOf, countOf, Outcome, done, refuseIf, inRoom, answerOf, leftIn, Promise}
 use Rattle.netlist.specs.Operations.{counted, isBadSetting, passBlock, pass}
@@ -54,13 +54,13 @@ module _ (ws : List ℕ) (room : ℕ) where
   wordCount = cellSize * getD ws 1 0
 
   pub make-chain : makeCells ws room
-      ≡ refuseIf (isTorn ws) MalformedBlock
+      ≡ refuseIf (isMalformed ws) MalformedBlock
       (refuseIf (not (isStraight (decode ws))) NotStraight
       (refuseIf (ltb room wordCount) NoRoom (done (cellsOf (decode ws)) wordCount 0)))
   unfolding makeCells makeWords
   make-chain =
       let long : length (cellsOf (decode ws)) ≡ wordCount = length-cellsOf (decode ws) ∙ rw (decode-gateCount ws) in
-      make-last room (cellsOf (decode ws)) (isTorn ws) (isStraight (decode ws)) ∙ rw long
+      make-last room (cellsOf (decode ws)) (isMalformed ws) (isStraight (decode ws)) ∙ rw long
 
 -- ---- running
 
@@ -120,7 +120,7 @@ module _ (setting : List ℕ) (t : isTwoValued setting ≡ true) where
       all-from (λ v. leb v 2) setting 0 (λ i l. le-leb (getD setting i 0) 2 (omega (arith, bits-of setting t i))) in
       rw low (or-false (not (eqb (length setting) (inputCount b))))
 
-pub runs-as : (ws : List ℕ) → isTorn ws ≡ false → isStraight (decode ws) ≡ true → RunsAs ws (cellsOf (decode ws))
+pub runs-as : (ws : List ℕ) → isMalformed ws ≡ false → isStraight (decode ws) ≡ true → RunsAs ws (cellsOf (decode ws))
 unfolding runCells pass passBlock refuseIf
 runs-as ws whole straight = record { agrees = agree; runs = runs }
   where
@@ -157,7 +157,7 @@ done-of false true false made cells long count detail o e d = (refl, refl, (cc))
 -- wherever making is done with the cells, a run of them answers what Pass answers
 pub done-cells : (ws cells : List ℕ) (room : ℕ) {count detail : ℕ} → makeCells ws room ≡ done cells count detail → RunsAs ws cells
 done-cells ws cells room {count} {detail} e =
-    let m = done-of (isTorn ws) (isStraight (decode ws)) (ltb room (cellSize * getD ws 1 0)) (cellsOf (decode ws)) cells (cellSize * getD ws 1 0) count detail
+    let m = done-of (isMalformed ws) (isStraight (decode ws)) (ltb room (cellSize * getD ws 1 0)) (cellsOf (decode ws)) cells (cellSize * getD ws 1 0) count detail
     (makeCells ws room) (make-chain ws room) e in
     rw (m .2) (runs-as ws (m .0) (m .1))
 
@@ -189,7 +189,7 @@ make-promise {ws} {entry} {exit} {r} p = record { promise = p; runs = runs }
 
     runs : numberOf r ≡ 0 → RunsAs ws (take (countOf r) exit)
     runs z =
-        let m : Made (isTorn ws) (isStraight b) (cellsOf b) o entry =
-        made (isTorn ws) (isStraight b) (ltb (length entry) (cellSize * getD ws 1 0)) (cellsOf b) entry (cellSize * getD ws 1 0) o
+        let m : Made (isMalformed ws) (isStraight b) (cellsOf b) o entry =
+        made (isMalformed ws) (isStraight b) (ltb (length entry) (cellSize * getD ws 1 0)) (cellsOf b) entry (cellSize * getD ws 1 0) o
         (length-cellsOf b ∙ rw (decode-gateCount ws)) (make-chain ws (length entry)) (sym (p .told .number) ∙ z) in
         rw (p .told .count, p .leaves, m .front) (runs-as ws (m .wholly) (m .straightly))

@@ -6,7 +6,7 @@ use layout::limits::MAX_INPUTS;
 use layout::offsets::OPERAND_WORDS;
 use layout::read::word_at;
 use netlist::Refusal;
-use netlist::Test;
+use refusals::Test;
 use refusals::refuse_if;
 ghost use mathlib.Core.Path.{_≡_};
 ghost use mathlib.Core.Bool.{not};
@@ -14,7 +14,7 @@ ghost use Prim.Native.Nat.{_≤_};
 ghost use Rattle.laws.specs.Lists.{all, upTo};
 ghost use Rattle.netlist.specs.Limits.{maxInputs, maxGates};
 ghost use Rattle.netlist.specs.declared.Refusal.the-variants.{MalformedBlock};
-ghost use Rattle.netlist.specs.Answers.{testOf};
+ghost use Rattle.refusals.specs.Tests.{testOf};
 ghost use Rattle.netlist.specs.Cells.{readsEarlier, areLegalCells};
 
 // Is each operand of cell j an input, a constant or an earlier cell?

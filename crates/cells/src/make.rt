@@ -10,7 +10,7 @@ use layout::offsets::gates_at;
 use layout::offsets::gates_of;
 use layout::read::word_at;
 use netlist::Answer;
-use netlist::Test;
+use refusals::Test;
 use refusals::refusal;
 use refusals::test_room;
 ghost use mathlib.Core.Path.{_≡_};
@@ -18,7 +18,7 @@ ghost use mathlib.Core.Bool.{false};
 ghost use Prim.Native.Nat.{_<_, _≤_, _+_, _*_};
 ghost use lib.ListN.{length, getD};
 ghost use Rattle.laws.specs.Lists.{placed};
-ghost use Rattle.netlist.specs.StoredBlock.{operandWords, decode, isTorn};
+ghost use Rattle.netlist.specs.StoredBlock.{operandWords, decode, isMalformed};
 ghost use Rattle.netlist.specs.Cells.{cellSize, cellsOf};
 ghost use Rattle.ternary.specs.Legal.{LegalHead};
 ghost use Rattle.cells.specs.Made.{cellWordAt};
@@ -42,7 +42,7 @@ fn cell_word(words: &[u16], at: usize, i: usize) -> u16
 
 // Word p of all cells.
 fn made_word(words: &[u16], p: usize) -> u16
-    requires { ⌜ isTorn (now words) ≡ false ⌝ }
+    requires { ⌜ isMalformed (now words) ≡ false ⌝ }
     requires { ⌜ p < cellSize * getD (now words) 1 0 ⌝ }
     ensures { λ r. ⌜ r ≡ getD (cellsOf (decode (now (words .entry)))) p 0 ⌝ }
 {
@@ -55,7 +55,7 @@ fn made_word(words: &[u16], p: usize) -> u16
 
 // All of them into the first words of `cells`.
 fn put_cells(words: &[u16], count: usize, cells: &mut [u16])
-    requires { ⌜ isTorn (now words) ≡ false ⌝ }
+    requires { ⌜ isMalformed (now words) ≡ false ⌝ }
     requires { ⌜ (count ≡ cellSize * getD (now words) 1 0) × (count ≤ length (now cells)) ⌝ }
     ensures { λ r. ⌜ now (cells .exit) ≡ placed (cellsOf (decode (now (words .entry)))) (now (cells .entry)) ⌝ }
 {

@@ -3,7 +3,7 @@ use crate::CELL_SIZE;
 use crate::legal::check_cells;
 use crate::value::cell_value;
 use netlist::Answer;
-use netlist::Test;
+use refusals::Test;
 use refusals::refusal;
 use refusals::test_room;
 use simulate::setting::test_bytes;

@@ -5,16 +5,16 @@ use components::leaders::forget;
 use condensation::condense;
 use layout::limits::MAX_GATES;
 use layout::nodes::nodes_of;
-use netlist::Test;
+use refusals::Test;
 ghost use mathlib.Core.Path.{_≡_};
 ghost use mathlib.Core.Bool.{false};
 ghost use Prim.Native.Nat.{_≤_};
 ghost use lib.ListN.{length, getD};
-ghost use Rattle.netlist.specs.StoredBlock.{isTorn};
+ghost use Rattle.netlist.specs.StoredBlock.{isMalformed};
 
 // With room for a leader and a place on the stack for each gate.
 fn condense_whole(words: &[u16], leaders: &mut [u16], stack: &mut [u16]) -> bool
-    requires { ⌜ (isTorn (now words) ≡ false) × (getD (now words) 1 0 ≤ length (now leaders)) ⌝ }
+    requires { ⌜ (isMalformed (now words) ≡ false) × (getD (now words) 1 0 ≤ length (now leaders)) ⌝ }
 {
     let nodes = nodes_of(words);
     forget(nodes.gates, leaders);

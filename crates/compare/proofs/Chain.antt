@@ -5,7 +5,7 @@ use mathlib.Core.List.{List}
 use Prim.Native.Nat.{ℕ}
 use borrow.Author.Tests.{not-false}
 use Rattle.netlist.specs.declared.Refusal.the-variants.{MalformedBlock, NotStraight, InterfaceMismatch}
-use Rattle.netlist.specs.StoredBlock.{decode, isTorn}
+use Rattle.netlist.specs.StoredBlock.{decode, isMalformed}
 use Rattle.netlist.specs.Rendering.{isStraight}
 use Rattle.netlist.specs.Answers.{refuseIf}
 use Rattle.netlist.specs.Compare.{sameInterface, compareBlocks, compare}
@@ -14,15 +14,15 @@ use Rattle.compare.proofs.Interfaces.{interface-inputs, interface-outpu
 
 module _ (ours theirs : List ℕ) where
   pub compare-chain : compare ours theirs
-      ≡ refuseIf (isTorn ours) MalformedBlock
-      (refuseIf (isTorn theirs) MalformedBlock
+      ≡ refuseIf (isMalformed ours) MalformedBlock
+      (refuseIf (isMalformed theirs) MalformedBlock
       (refuseIf (not (isStraight (decode theirs))) NotStraight
       (refuseIf (not (sameInterface (decode ours) (decode theirs))) InterfaceMismatch
       (compareBlocks (decode ours) (decode theirs)))))
   unfolding compare
   compare-chain = refl
 
-  pub pair-passed : isTorn ours ≡ false → isTorn theirs ≡ false → not (isStraight (decode theirs)) ≡ false
+  pub pair-passed : isMalformed ours ≡ false → isMalformed theirs ≡ false → not (isStraight (decode theirs)) ≡ false
       → not (sameInterface (decode ours) (decode theirs)) ≡ false → BlockPair ours theirs
   pair-passed p q r t =
       let same = not-false (sameInterface (decode ours) (decode theirs)) t in

@@ -12,7 +12,7 @@ use Rattle.netlist.specs.declared.Refusal.the-variants.{MalformedBlock, TooMany
 use Rattle.netlist.specs.Limits.{maxCopies}
 use Rattle.netlist.specs.Values.{Value, undefined}
 use Rattle.netlist.specs.Netlist.{Block, inputCount}
-use Rattle.netlist.specs.StoredBlock.{encode, decode, isWellFormed, isTorn}
+use Rattle.netlist.specs.StoredBlock.{encode, decode, isWellFormed, isMalformed}
 use Rattle.netlist.specs.Rounds.{settingOf, settingCount, settledUnder, outputsUnder, isSettled, isExcluded, isCounted, lowestUnsettled, outputValue}
 use Rattle.netlist.specs.Cover.{isSound}
 use Rattle.netlist.specs.Passes.{copyCount}
@@ -58,7 +58,7 @@ module _ (b : Block) where
       ) refl
 
 -- the words that hold a rendering within the limit are accepted for words that hold the block
-words-accepted : (ws : List ℕ) → isTorn ws ≡ false → copyCount (decode ws) ≤ maxCopies → compare ws (encode (rendering (decode ws))) ≡ done [] 0 0
+words-accepted : (ws : List ℕ) → isMalformed ws ≡ false → copyCount (decode ws) ≤ maxCopies → compare ws (encode (rendering (decode ws))) ≡ done [] 0 0
 unfolding compare refuseIf
 words-accepted ws whole few =
     let b = decode ws in
@@ -70,9 +70,9 @@ words-accepted ws whole few =
 -- What Render answers with number 0 is accepted: count and detail 0.
 pub rendered-accepted : (ws out : List ℕ) (count detail : ℕ) → renderWords ws ≡ done out count detail → compare ws out ≡ done [] 0 0
 unfolding renderWords renderBlock counted refuseIf
-rendered-accepted ws out count detail e = by-tests (isTorn ws) (ltb maxCopies (copyCount (decode ws))) (not (isSound (decode ws))) refl refl e
+rendered-accepted ws out count detail e = by-tests (isMalformed ws) (ltb maxCopies (copyCount (decode ws))) (not (isSound (decode ws))) refl refl e
   where
-    by-tests : (t m s : Bool) → isTorn ws ≡ t → ltb maxCopies (copyCount (decode ws)) ≡ m
+    by-tests : (t m s : Bool) → isMalformed ws ≡ t → ltb maxCopies (copyCount (decode ws)) ≡ m
         → refuseIf t MalformedBlock (refuseIf m TooManyCopies (refuseIf s (NotSettled (lowestUnsettled (decode ws)))
         (counted (encode (rendering (decode ws)))))) ≡ done out count detail
         → compare ws out ≡ done [] 0 0

@@ -16,7 +16,7 @@ use Rattle.laws.specs.Lists.{least}
 use Rattle.laws.proofs.Least.{least-le}
 use Rattle.layout.specs.declared.nodes.Nodes.{Nodes}
 use Rattle.layout.specs.Nodes.{nodesOf}
-use Rattle.netlist.specs.StoredBlock.{neversAt, gatesAt, outputsAt, decode, isTorn}
+use Rattle.netlist.specs.StoredBlock.{neversAt, gatesAt, outputsAt, decode, isMalformed}
 use Rattle.netlist.specs.Rounds.{settingCount}
 use Rattle.encoding.proofs.Decoded.{decode-inputCount}
 use Rattle.encoding.proofs.Readers.{whole-parts}
@@ -69,7 +69,7 @@ compare-ready ours theirs order theirOrder zeros ones theirZeros theirOnes p e f
     }
 
 -- the outputs of a whole block
-module _ (ws : List ℕ) (whole : isTorn ws ≡ false) where
+module _ (ws : List ℕ) (whole : isMalformed ws ≡ false) where
   pub ports-near : {at : ℕ} → at ≡ outputsAt (getD ws 0 0) (getD ws 3 0) (getD ws 1 0) → at < 2 ^ 32
   unfolding outputsAt gatesAt neversAt
   ports-near e = let w = whole-parts ws whole in omega (arith, e, w .fewInputs, w .fewGates, w .fewNevers)

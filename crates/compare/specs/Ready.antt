@@ -5,7 +5,7 @@ use mathlib.Core.Bool.{true, false}
 use mathlib.Core.List.{List}
 use lib.ListN.{getD}
 use Rattle.layout.specs.Nodes.{nodesOf}
-use Rattle.netlist.specs.StoredBlock.{decode, isTorn}
+use Rattle.netlist.specs.StoredBlock.{decode, isMalformed}
 use Rattle.netlist.specs.Rendering.{isStraight}
 use Rattle.netlist.specs.Compare.{disagrees}
 use Rattle.lanes.specs.Batches.{lanesOf}
@@ -15,8 +15,8 @@ use Rattle.judge.specs.Lanes.{Judged}
 
 -- both blocks are whole, theirs is straight, and they have as many inputs and outputs
 pub record BlockPair (ours theirs : List ℕ) : Type 0 where
-  pub our-whole : isTorn ours ≡ false
-  pub their-whole : isTorn theirs ≡ false
+  pub our-whole : isMalformed ours ≡ false
+  pub their-whole : isMalformed theirs ≡ false
   pub straight : isStraight (decode theirs) ≡ true
   pub inputs : getD theirs 0 0 ≡ getD ours 0 0
   pub outputs : getD theirs 2 0 ≡ getD ours 2 0

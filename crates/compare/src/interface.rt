@@ -7,7 +7,7 @@ use layout::offsets::inputs_of;
 use layout::offsets::outputs_at;
 use layout::offsets::outputs_of;
 use netlist::Refusal;
-use netlist::Test;
+use refusals::Test;
 use refusals::refuse_if;
 ghost use mathlib.Core.Path.{_≡_};
 ghost use mathlib.Core.Bool.{false, not};
@@ -15,8 +15,8 @@ ghost use Prim.Native.Nat.{_≤_};
 ghost use Rattle.laws.specs.Lists.{all, upTo};
 ghost use Rattle.netlist.specs.Limits.{maxGates};
 ghost use Rattle.netlist.specs.declared.Refusal.the-variants.{InterfaceMismatch};
-ghost use Rattle.netlist.specs.Answers.{testOf};
-ghost use Rattle.netlist.specs.StoredBlock.{isTorn, decode};
+ghost use Rattle.refusals.specs.Tests.{testOf};
+ghost use Rattle.netlist.specs.StoredBlock.{isMalformed, decode};
 ghost use Rattle.netlist.specs.Compare.{sameInterface};
 ghost use Rattle.compare.specs.Names.{sameNameAt};
 
@@ -47,8 +47,8 @@ fn are_same(
 
 // The same number of inputs and of outputs, and the same names?
 fn has_interface(ours: &[u16], theirs: &[u16]) -> bool
-    requires { ⌜ isTorn (now ours) ≡ false ⌝ }
-    requires { ⌜ isTorn (now theirs) ≡ false ⌝ }
+    requires { ⌜ isMalformed (now ours) ≡ false ⌝ }
+    requires { ⌜ isMalformed (now theirs) ≡ false ⌝ }
     ensures { λ r. ⌜ r ≡ sameInterface (decode (now (ours .entry))) (decode (now (theirs .entry))) ⌝ }
 {
     let n = inputs_of(ours);
@@ -69,8 +69,8 @@ fn has_interface(ours: &[u16], theirs: &[u16]) -> bool
 
 // Refusal 12, of two blocks that are not torn.
 pub fn check_interface(ours: &[u16], theirs: &[u16]) -> Test
-    requires { ⌜ isTorn (now ours) ≡ false ⌝ }
-    requires { ⌜ isTorn (now theirs) ≡ false ⌝ }
+    requires { ⌜ isMalformed (now ours) ≡ false ⌝ }
+    requires { ⌜ isMalformed (now theirs) ≡ false ⌝ }
     ensures { λ r. ⌜ r ≡ testOf (not (sameInterface (decode (now (ours .entry))) (decode (now (theirs .entry))))) InterfaceMismatch ⌝ }
 {
     refuse_if(!has_interface(ours, theirs), Refusal::InterfaceMismatch)

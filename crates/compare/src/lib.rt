@@ -4,7 +4,7 @@ use block::check_words;
 use layout::limits::MAX_GATES;
 use layout::limits::MAX_INPUTS;
 use netlist::Answer;
-use netlist::Test;
+use refusals::Test;
 use refusals::refusal;
 ghost use mathlib.Core.Path.{_≡_};
 ghost use Rattle.netlist.specs.StoredBlock.{decode};

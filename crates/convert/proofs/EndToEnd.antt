@@ -7,7 +7,7 @@ use lib.Dec.{ltb}
 use borrow.Author.Tests.{ltb-false}
 use Rattle.netlist.specs.declared.Refusal.the-variants.{MalformedBlock, TooManyCopies, NotSettled}
 use Rattle.netlist.specs.Limits.{maxCopies}
-use Rattle.netlist.specs.StoredBlock.{encode, decode, isTorn}
+use Rattle.netlist.specs.StoredBlock.{encode, decode, isMalformed}
 use Rattle.netlist.specs.Rounds.{lowestUnsettled}
 use Rattle.netlist.specs.Cover.{isSound}
 use Rattle.netlist.specs.Passes.{copyCount}
@@ -21,7 +21,7 @@ use Rattle.render.specs.Promise.{Renders}
 use Rattle.render.proofs.Promise.{rendered-so}
 use Rattle.convert.specs.EndToEnd.{Wrote, Faithful}
 
-written-whole : (ws : List ℕ) → isTorn ws ≡ false → writeWords ws ≡ counted (writtenText (decode ws))
+written-whole : (ws : List ℕ) → isMalformed ws ≡ false → writeWords ws ≡ counted (writtenText (decode ws))
 unfolding writeWords refuseIf
 written-whole ws h = rw h refl
 
@@ -41,7 +41,7 @@ module _ (text ws : List ℕ) (count detail : ℕ) (e : readText text ≡ done w
         renders = r;
       }
 
-  by-tests : (t m s : Bool) → isTorn ws ≡ t → ltb maxCopies (copyCount (decode ws)) ≡ m → isSound (decode ws) ≡ s
+  by-tests : (t m s : Bool) → isMalformed ws ≡ t → ltb maxCopies (copyCount (decode ws)) ≡ m → isSound (decode ws) ≡ s
       → Wrote (chained
       (refuseIf t MalformedBlock
       (refuseIf m TooManyCopies (refuseIf (not s) (NotSettled (lowestUnsettled (decode ws))) (counted (encode (rendering (decode ws))))))) writeWords)
@@ -57,5 +57,5 @@ unfolding renderWords renderBlock chained Wrote
 end-to-end text h = go (readText text) refl h
   where
     go : (o : Outcome) → readText text ≡ o → Wrote (chained (chained o renderWords) writeWords) → Faithful text
-    go (done ws count detail) e w = by-tests text ws count detail e (isTorn ws) (ltb maxCopies (copyCount (decode ws))) (isSound (decode ws)) refl refl refl w
+    go (done ws count detail) e w = by-tests text ws count detail e (isMalformed ws) (ltb maxCopies (copyCount (decode ws))) (isSound (decode ws)) refl refl refl w
     go (refused r) e w = absurd w

@@ -9,7 +9,7 @@ use lib.Dec.{ltb}
 use borrow.Author.Tests.{ltb-false}
 use Rattle.netlist.specs.Limits.{maxCopies, maxBlock, maxWritten}
 use Rattle.netlist.specs.Netlist.{inputCount, neverCount}
-use Rattle.netlist.specs.StoredBlock.{neversAt, gatesAt, outputsAt, encode, decode, isTorn}
+use Rattle.netlist.specs.StoredBlock.{neversAt, gatesAt, outputsAt, encode, decode, isMalformed}
 use Rattle.netlist.specs.Cover.{isSound}
 use Rattle.netlist.specs.Passes.{copyCount}
 use Rattle.netlist.specs.Rendering.{rendering}
@@ -27,11 +27,11 @@ module _ (room : ℕ) where
   pub write-fits : maxWritten ≤ room → (ws : List ℕ) → Fits room (writeWords ws)
   unfolding writeWords
   write-fits h ws =
-      if-fits room (isTorn ws) _ _
+      if-fits room (isMalformed ws) _ _
       (λ whole. counted-fits room (writtenText (decode ws)) (omega (arith, h, written-length (decode ws) (whole-wellFormed ws whole))))
 
   module _ (h : maxBlock ≤ room) where
-    rendered-length : (ws : List ℕ) → isTorn ws ≡ false → copyCount (decode ws) ≤ maxCopies → length (encode (rendering (decode ws))) ≤ room
+    rendered-length : (ws : List ℕ) → isMalformed ws ≡ false → copyCount (decode ws) ≤ maxCopies → length (encode (rendering (decode ws))) ≤ room
     unfolding outputsAt gatesAt neversAt
     rendered-length ws whole few =
         let b = decode ws in
@@ -43,7 +43,7 @@ module _ (room : ℕ) where
     pub render-fits : (ws : List ℕ) → Fits room (renderWords ws)
     unfolding renderWords renderBlock
     render-fits ws =
-        if-fits room (isTorn ws) _ _
+        if-fits room (isMalformed ws) _ _
         (λ whole. if-fits room (ltb maxCopies (copyCount (decode ws))) _ _
         (λ few. if-fits room (not (isSound (decode ws))) _ _
         (λ s. counted-fits room (encode (rendering (decode ws))) (rendered-length ws whole (ltb-false maxCopies (copyCount (decode ws)) few)))))

@@ -18,7 +18,7 @@ use Rattle.layout.specs.Nodes.{nodesOf}
 use Rattle.netlist.specs.Limits.{maxInputs, maxNevers, maxGates, maxOutputs}
 use Rattle.netlist.specs.Netlist.{Operand, gate, constant, Gate, Output, Block, inputCount, gateCount, outputCount, neverCount, gateOf}
 use Rattle.netlist.specs.StoredBlock.{gateSize, outputSize, neversAt, gatesAt, outputsAt, nameWords, nameAt, neverWords, neverAt, nodeWord}
-use Rattle.netlist.specs.StoredBlock.{gateWords, outputWords, outputAt, encode, decode, isTorn}
+use Rattle.netlist.specs.StoredBlock.{gateWords, outputWords, outputAt, encode, decode, isMalformed}
 use Rattle.netlist.specs.Rendering.{schedule, noCopies, copiedOperand, copied, copies, newestAfter, lastCopies, rendering}
 use Rattle.encoding.proofs.Names.{nameWords-nameAt}
 use Rattle.encoding.proofs.Decoded.{decode-inputCount, decode-gateCount, decode-outputCount, decode-neverCount, decode-gate}
@@ -52,7 +52,7 @@ front-written ws =
     lines : ℕ
     lines = getD ws 3 0
 
-module _ (ws : List ℕ) (whole : isTorn ws ≡ false) where
+module _ (ws : List ℕ) (whole : isMalformed ws ≡ false) where
   abbrev n : ℕ
   n = getD ws 0 0
 

@@ -10,7 +10,7 @@ use Rattle.laws.specs.Lists.{tab}
 use Rattle.layout.specs.declared.nodes.Nodes.{Nodes}
 use Rattle.layout.specs.Nodes.{gateNamed}
 use Rattle.netlist.specs.Limits.{maxCopies}
-use Rattle.netlist.specs.StoredBlock.{outputSize, gateSize, decode, encode, isTorn}
+use Rattle.netlist.specs.StoredBlock.{outputSize, gateSize, decode, encode, isMalformed}
 use Rattle.netlist.specs.Rendering.{schedule, rendering}
 use Rattle.copying.specs.declared.entry.Entry.{Entry}
 
@@ -77,7 +77,7 @@ pub record Order (m total : ℕ) (order : List ℕ) : Type 0 where
 
 -- what writing the rendering asks: whole words, the schedule, and room for the table and the result
 pub record CopyReady (ws order : List ℕ) (total : ℕ) (newest out : List ℕ) : Type 0 where
-  pub whole : isTorn ws ≡ false
+  pub whole : isMalformed ws ≡ false
   pub totalIs : total ≡ length (schedule (decode ws))
   pub fewCopies : total ≤ maxCopies
   pub scheduled : take total order ≡ schedule (decode ws)

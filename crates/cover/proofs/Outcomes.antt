@@ -9,14 +9,15 @@ use lib.Dec.{ltb}
 use borrow.Author.Tests.{lt-ltb, le-ltb, le-leb, lt-leb, ltb-true, ltb-false}
 use Rattle.laws.specs.Lists.{placed}
 use Rattle.netlist.specs.declared.Refusal.the-variants.{MalformedBlock, NoRoom}
-use Rattle.netlist.specs.declared.Test.{Test}
-use Rattle.netlist.specs.declared.Test.the-variants.{Passed}
+use Rattle.refusals.specs.declared.Test.{Test}
+use Rattle.refusals.specs.declared.Test.the-variants.{Passed}
 use Rattle.netlist.specs.declared.Answer.{Answer}
 use Rattle.netlist.specs.declared.Answer.the-variants.{Done}
 use Rattle.netlist.specs.Netlist.{Block, inputCount}
-use Rattle.netlist.specs.StoredBlock.{decode, isTorn}
+use Rattle.netlist.specs.StoredBlock.{decode, isMalformed}
 use Rattle.netlist.specs.Cover.{cover, coverEntries}
-use Rattle.netlist.specs.Answers.{testOf, refusalOf, done, refuseIf, inRoom, Promise}
+use Rattle.netlist.specs.Answers.{done, refuseIf, inRoom, Promise}
+use Rattle.refusals.specs.Tests.{testOf, refusalOf}
 use Rattle.netlist.specs.Operations.{coverBlock, coverOf}
 use Rattle.refusals.proofs.Promised.{IsFailed, passed, passed-false, failed, failed-true, bare, keeps-bare, finished}
 use Rattle.assignments.specs.Over.{coverOver}
@@ -40,11 +41,11 @@ half-room room count = go (ltb room (2 * count)) refl
 
 module _ (ws : List ℕ) (room : ℕ) where
   -- Cover's conditions, and the last one
-  pub cover-chain : coverOf ws room ≡ inRoom room (refuseIf (isTorn ws) MalformedBlock (coverBlock (decode ws)))
+  pub cover-chain : coverOf ws room ≡ inRoom room (refuseIf (isMalformed ws) MalformedBlock (coverBlock (decode ws)))
   unfolding coverOf
   cover-chain = refl
 
-  pub cover-room : isTorn ws ≡ false → let b = decode ws in
+  pub cover-room : isMalformed ws ≡ false → let b = decode ws in
       coverOf ws room ≡ refuseIf (ltb (room / 2) (length (cover b))) NoRoom (done (coverEntries b) (length (cover b)) 0)
   unfolding coverOf inRoom refuseIf coverBlock
   cover-room t = rw (t, words-length (decode ws), half-room room (length (cover (decode ws)))) refl
@@ -71,7 +72,7 @@ module _ {b : Block} {table entry exit : List ℕ} {n count : ℕ} (t : Tabulate
 
 -- ---- the two answers behind the table, from the test of the room
 
-module _ (ws : List ℕ) {table entry exit : List ℕ} {n count room : ℕ} {test : Test} (whole : isTorn ws ≡ false) (t : Tabulated (decode ws) table)
+module _ (ws : List ℕ) {table entry exit : List ℕ} {n count room : ℕ} {test : Test} (whole : isMalformed ws ≡ false) (t : Tabulated (decode ws) table)
     (e : n ≡ inputCount (decode ws)) (w : EntriesWritten (coverOver (settledBy table) n) entry exit count) (kept : room ≡ length entry)
     (answer : test ≡ testOf (ltb (room / 2) count) NoRoom) where
   tested : test ≡ testOf (ltb (length entry / 2) (length (cover (decode ws)))) NoRoom

@@ -6,7 +6,7 @@ use layout::limits::MAX_INPUTS;
 use layout::limits::MAX_SETTINGS;
 use layout::offsets;
 use netlist::Answer;
-use netlist::Test;
+use refusals::Test;
 use refusals::refusal;
 use refusals::test_room;
 use table::tabulate;
@@ -14,7 +14,7 @@ ghost use mathlib.Core.Path.{_≡_};
 ghost use mathlib.Core.Bool.{false};
 ghost use lib.ListN.{length};
 ghost use Rattle.netlist.specs.Answers.{Promise};
-ghost use Rattle.netlist.specs.StoredBlock.{isTorn};
+ghost use Rattle.netlist.specs.StoredBlock.{isMalformed};
 ghost use Rattle.netlist.specs.Operations.{coverOf};
 ghost use Rattle.cover.specs.Table.{CoverRoom};
 
@@ -30,7 +30,7 @@ fn whole_cover(
     settled: &mut [u8],
     entries: &mut [u16],
 ) -> Answer
-    requires { ⌜ isTorn (now words) ≡ false ⌝ }
+    requires { ⌜ isMalformed (now words) ≡ false ⌝ }
     requires { ⌜ CoverRoom (now order) (now zeros) (now ones) (now settled) ⌝ }
     ensures { λ r. ⌜ Promise (coverOf (now (words .entry)) (length (now (entries .entry)))) (now (entries .entry)) r (now (entries .exit)) ⌝ }
 {

@@ -4,7 +4,7 @@ use verdict::settings::fill_sound;
 use visiting::order_gates;
 ghost use mathlib.Core.Path.{_≡_};
 ghost use mathlib.Core.Bool.{false};
-ghost use Rattle.netlist.specs.StoredBlock.{decode, isTorn};
+ghost use Rattle.netlist.specs.StoredBlock.{decode, isMalformed};
 ghost use Rattle.cover.specs.Table.{CoverRoom, Tabulated};
 
 // For each setting of a block that is not torn: 1 where it never comes or is settled, else 0.
@@ -15,7 +15,7 @@ pub fn tabulate(
     ones: &mut [u64],
     settled: &mut [u8],
 )
-    requires { ⌜ isTorn (now words) ≡ false ⌝ }
+    requires { ⌜ isMalformed (now words) ≡ false ⌝ }
     requires { ⌜ CoverRoom (now order) (now zeros) (now ones) (now settled) ⌝ }
     ensures { λ _. ⌜ Tabulated (decode (now (words .entry))) (now (settled .exit)) ⌝ }
 {

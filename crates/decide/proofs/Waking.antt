@@ -23,7 +23,7 @@ use Rattle.layout.specs.Nodes.{nodesOf}
 use Rattle.netlist.specs.Values.{Value, undefined, val, code, valueOf}
 use Rattle.netlist.specs.Netlist.{Block, gateCount, gateOf}
 use Rattle.netlist.specs.Groups.{reads}
-use Rattle.netlist.specs.StoredBlock.{decode, isTorn}
+use Rattle.netlist.specs.StoredBlock.{decode, isMalformed}
 use Rattle.netlist.specs.Rounds.{evaluated, settled}
 use Rattle.netlist.specs.Steps.{stepAt}
 use Rattle.encoding.proofs.Decoded.{decode-gateCount}
@@ -288,7 +288,7 @@ module _ (ws setting : List ℕ) (m : ℕ) (is : m ≡ getD ws 1 0) (values entr
       rw (decode-gateCount ws, ← is, e, take-placed (replicate m 2) entry m (length-replicate m 2), ← codes-start m) (values-codes (replicate m undefined))
 
   -- nothing has a value
-  pub start-ready : {nodes : Nodes} {queue : List ℕ} → isTorn ws ≡ false → nodes ≡ nodesOf ws → m ≤ length values → m ≤ length queue
+  pub start-ready : {nodes : Nodes} {queue : List ℕ} → isMalformed ws ≡ false → nodes ≡ nodesOf ws → m ≤ length values → m ≤ length queue
       → DecideReady ws nodes setting values queue 0
   start-ready whole are valueRoom queueRoom =
       record {

@@ -12,7 +12,7 @@ use Rattle.layout.specs.declared.nodes.Nodes.{Nodes}
 use Rattle.layout.specs.Nodes.{nodesOf}
 use Rattle.netlist.specs.Values.{Value, code, valueOf}
 use Rattle.netlist.specs.Groups.{reads}
-use Rattle.netlist.specs.StoredBlock.{decode, isTorn}
+use Rattle.netlist.specs.StoredBlock.{decode, isMalformed}
 use Rattle.netlist.specs.Rounds.{settled}
 use Rattle.rounds.specs.Order.{BelowAll, Rising}
 use Rattle.readers.specs.Readers.{Chain}
@@ -31,7 +31,7 @@ pub record DecideUnderway (ws setting values : List ℕ) : Type 0 where
 
 -- a block that is not torn, room for its gates, and a queue as long as the gates that are 0 or 1
 pub record DecideReady (ws : List ℕ) (nodes : Nodes) (setting values queue : List ℕ) (end : ℕ) : Type 0 where
-  pub whole : isTorn ws ≡ false
+  pub whole : isMalformed ws ≡ false
   pub nodesAre : nodes ≡ nodesOf ws
   pub valueRoom : getD ws 1 0 ≤ length values
   pub queueRoom : getD ws 1 0 ≤ length queue

@@ -16,7 +16,7 @@ ghost use Prim.Native.Nat.{_*_, _≤_, _<_};
 ghost use lib.ListN.{length, getD};
 ghost use Rattle.laws.specs.Lists.{placed};
 ghost use Rattle.netlist.specs.Values.{code, valueOf};
-ghost use Rattle.netlist.specs.StoredBlock.{decode, isTorn};
+ghost use Rattle.netlist.specs.StoredBlock.{decode, isMalformed};
 ghost use Rattle.netlist.specs.GateTable.{gateTable};
 ghost use Rattle.netlist.specs.Rounds.{settled};
 ghost use Rattle.readers.specs.Readers.{Descends, Readers};
@@ -177,7 +177,7 @@ fn settle_with(
 
 // The settled values into the first bytes of `values`.
 pub fn settle_in_place(words: &[u16], setting: &[u8], values: &mut [u8])
-    requires { ⌜ isTorn (now words) ≡ false ⌝ }
+    requires { ⌜ isMalformed (now words) ≡ false ⌝ }
     requires { ⌜ getD (now words) 1 0 ≤ length (now values) ⌝ }
     ensures { λ r. ⌜
         now (values .exit) ≡ placed (map code (settled (decode (now (words .entry))) (map valueOf (now (setting .entry))))) (now (values .entry))

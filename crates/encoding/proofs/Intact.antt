@@ -18,9 +18,10 @@ use Rattle.laws.proofs.Quantifiers.{all-tab-at, all-tab-from, all-below, below-
 use Rattle.netlist.specs.Limits.{maxInputs, maxNevers, maxGates, maxOutputs}
 use Rattle.netlist.specs.Assignments.{Assignment}
 use Rattle.netlist.specs.Netlist.{Name, Gate, Output}
-use Rattle.netlist.specs.StoredBlock.{nameSize, neverSize, gateSize, outputSize, inputsAt, neversAt, gatesAt, outputsAt, isPlainName, nameAt, neverAt}
+use Rattle.netlist.specs.StoredBlock.{nameSize, neverSize, gateSize, outputSize, inputsAt, neversAt, gatesAt, outputsAt, nameAt, neverAt}
+use Rattle.netlist.specs.Names.{isPlainName}
 use Rattle.netlist.specs.StoredBlock.{gateAt, outputAt, isNode, neverFits}
-use Rattle.netlist.specs.StoredBlock.{gateFits, encode, decode, isWellFormed, isTorn}
+use Rattle.netlist.specs.StoredBlock.{gateFits, encode, decode, isWellFormed, isMalformed}
 use Rattle.encoding.specs.Rules.{namesRule, neverRule, nodeRule, gateRule, headerRule, intact}
 use Rattle.encoding.proofs.ListFacts.{and-parts, all-map}
 use Rattle.encoding.proofs.Names.{namesRule-names}
@@ -237,8 +238,8 @@ module _ (ws : List ℕ) where
       long = omega arith
 
 -- The rules, word by word, together are "not torn".
-pub intact-torn : (ws : List ℕ) → isTorn ws ≡ not (intact ws)
-unfolding isTorn
+pub intact-torn : (ws : List ℕ) → isMalformed ws ≡ not (intact ws)
+unfolding isMalformed
 intact-torn ws =
     ap not
     (same-test (isWellFormed (decode ws) && same (encode (decode ws)) ws) (intact ws)

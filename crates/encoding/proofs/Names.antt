@@ -21,7 +21,8 @@ use Rattle.laws.proofs.Same.{same-eq, eq-same}
 use Rattle.laws.proofs.Quantifiers.{all-at, all-below, below-all}
 use Rattle.netlist.specs.Limits.{maxName}
 use Rattle.netlist.specs.Netlist.{Name}
-use Rattle.netlist.specs.StoredBlock.{nameSize, isLetter, isDigit, isUnderscore, isNameByte, isLegalName, isPlainName, nameWords, bytesAt, nameAt}
+use Rattle.netlist.specs.StoredBlock.{nameSize, nameWords, bytesAt, nameAt}
+use Rattle.netlist.specs.Names.{isLetter, isDigit, isUnderscore, isNameByte, isLegalName, isPlainName}
 use Rattle.encoding.specs.Rules.{padded, nameRule, sameName, namesRule}
 use Rattle.encoding.proofs.ListFacts.{all-and, all-tab, joined-tab, distinct-from, distinct-at, getD-trimmed, length-trimmed}
 

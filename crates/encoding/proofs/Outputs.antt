@@ -10,7 +10,8 @@ use lib.ListN.{length, getD, List·getD-append}
 use lib.Seq.{getD-at}
 use Rattle.laws.specs.Lists.{tab}
 use Rattle.netlist.specs.Netlist.{Output, Block, inputCount, gateCount}
-use Rattle.netlist.specs.StoredBlock.{nameSize, outputSize, isPlainName, nameWords, nameAt, nodeWord, operandOf, outputWords, outputAt, isNode}
+use Rattle.netlist.specs.StoredBlock.{nameSize, outputSize, nameWords, nameAt, nodeWord, operandOf, outputWords, outputAt, isNode}
+use Rattle.netlist.specs.Names.{isPlainName}
 use Rattle.encoding.proofs.Names.{nameWords-nameAt, nameAt-nameWords, length-nameWords}
 use Rattle.encoding.proofs.Nodes.{nodeWord-operandOf, operandOf-nodeWord, isNode-isOperand}
 

@@ -20,7 +20,7 @@ use Rattle.netlist.specs.Kinds.{isKind, arityFits}
 use Rattle.netlist.specs.Netlist.{Operand, Output, Block, gateCount, outputCount, gateOf}
 use Rattle.netlist.specs.Groups.{reads}
 use Rattle.netlist.specs.StoredBlock.{nameSize, gateSize, outputSize, operandWords, gatesAt, outputsAt, isNode, isOperand, gateFits, decode, isWellFormed}
-use Rattle.netlist.specs.StoredBlock.{isTorn}
+use Rattle.netlist.specs.StoredBlock.{isMalformed}
 use Rattle.encoding.specs.Rules.{nodeRule, operandRule, gateRule, intact}
 use Rattle.encoding.proofs.Gates.{Unused, kind-small, arity-four, arity-not, arity-others, gateRule-kind, gateRule-arity, gateRule-operand}
 use Rattle.encoding.proofs.Gates.{gateRule-unused, fits-operands}
@@ -68,7 +68,7 @@ gateRule-parts ws nodes at h =
 
 -- ---- words that are not torn
 
-module _ (ws : List ℕ) (whole : isTorn ws ≡ false) where
+module _ (ws : List ℕ) (whole : isMalformed ws ≡ false) where
   pub whole-intact : intact ws ≡ true
   whole-intact = not-false (intact ws) (sym (intact-torn ws) ∙ whole)
 
@@ -104,5 +104,5 @@ module _ (b : Block) (h : isWellFormed b ≡ true) where
   wellFormed-output o d l = all-at (λ o. isNode b (o .node)) (b .outputs) o d (wellFormed-parts b h .nodesThere) l
 
 -- a gate that is read is there
-pub whole-reads : (ws : List ℕ) → isTorn ws ≡ false → (i k : ℕ) → reads (decode ws) i k ≡ true → k < gateCount (decode ws)
+pub whole-reads : (ws : List ℕ) → isMalformed ws ≡ false → (i k : ℕ) → reads (decode ws) i k ≡ true → k < gateCount (decode ws)
 whole-reads ws h = wellFormed-inside (decode ws) (whole-wellFormed ws h)

@@ -19,9 +19,10 @@ use Rattle.laws.proofs.Same.{same-eq, eq-same}
 use Rattle.laws.proofs.Quantifiers.{all-at}
 use Rattle.netlist.specs.Assignments.{Assignment}
 use Rattle.netlist.specs.Netlist.{Name, Gate, Output, Block, inputCount, gateCount, outputCount, neverCount, gateOf}
-use Rattle.netlist.specs.StoredBlock.{nameSize, neverSize, gateSize, outputSize, inputsAt, neversAt, gatesAt, outputsAt, isPlainName, nameWords}
+use Rattle.netlist.specs.StoredBlock.{nameSize, neverSize, gateSize, outputSize, inputsAt, neversAt, gatesAt, outputsAt, nameWords}
+use Rattle.netlist.specs.Names.{isPlainName}
 use Rattle.netlist.specs.StoredBlock.{nameAt, neverWords, neverAt, gateWords, gateAt}
-use Rattle.netlist.specs.StoredBlock.{outputWords, outputAt, gateFits, isNode, encode, decode, isWellFormed, isTorn}
+use Rattle.netlist.specs.StoredBlock.{outputWords, outputAt, gateFits, isNode, encode, decode, isWellFormed, isMalformed}
 use Rattle.encoding.proofs.ListFacts.{tab-is, joined-tab}
 use Rattle.encoding.proofs.Names.{nameWords-nameAt, nameAt-nameWords}
 use Rattle.encoding.proofs.Gates.{gateWords-gateAt, gateAt-gateWords, Unused}
@@ -155,19 +156,19 @@ decode-encode b h = λ i. record { inputs = inputs-are i; nevers = nevers-are i;
 -- ---- torn
 
 -- words that are not torn are the words of the block that they hold
-pub whole-encode : (ws : List ℕ) → isTorn ws ≡ false → encode (decode ws) ≡ ws
-unfolding isTorn
+pub whole-encode : (ws : List ℕ) → isMalformed ws ≡ false → encode (decode ws) ≡ ws
+unfolding isMalformed
 whole-encode ws h =
     same-eq (encode (decode ws)) ws
     (and-right (isWellFormed (decode ws)) (same (encode (decode ws)) ws) (not-false (isWellFormed (decode ws) && same (encode (decode ws)) ws) h))
 
 -- and that block is well-formed
-pub whole-wellFormed : (ws : List ℕ) → isTorn ws ≡ false → isWellFormed (decode ws) ≡ true
-unfolding isTorn
+pub whole-wellFormed : (ws : List ℕ) → isMalformed ws ≡ false → isWellFormed (decode ws) ≡ true
+unfolding isMalformed
 whole-wellFormed ws h =
     and-left (isWellFormed (decode ws)) (same (encode (decode ws)) ws) (not-false (isWellFormed (decode ws) && same (encode (decode ws)) ws) h)
 
 -- the words of a well-formed block are not torn
-pub encode-whole : (b : Block) → isWellFormed b ≡ true → isTorn (encode b) ≡ false
-unfolding isTorn
+pub encode-whole : (b : Block) → isWellFormed b ≡ true → isMalformed (encode b) ≡ false
+unfolding isMalformed
 encode-whole b h = rw (decode-encode b h, h, eq-same (encode b) (encode b) refl)

@@ -18,8 +18,9 @@ use Rattle.laws.proofs.Lists.{all-joined}
 use Rattle.netlist.specs.Limits.{maxInputs, maxBlock}
 use Rattle.netlist.specs.Assignments.{Assignment, isWithin, areMasks}
 use Rattle.netlist.specs.Netlist.{Name, constant, Gate, Output, Block, inputCount, gateCount, outputCount, neverCount}
-use Rattle.netlist.specs.StoredBlock.{operandWords, neversAt, gatesAt, outputsAt, neverWords, neverFits, isLetter, isPlainName, nameWords, nodeWord}
-use Rattle.netlist.specs.StoredBlock.{gateWords, outputWords, isNode, isOperand, gateFits, encode, decode, isWellFormed, isTorn}
+use Rattle.netlist.specs.StoredBlock.{operandWords, neversAt, gatesAt, outputsAt, neverWords, neverFits, nameWords, nodeWord}
+use Rattle.netlist.specs.Names.{isLetter, isPlainName}
+use Rattle.netlist.specs.StoredBlock.{gateWords, outputWords, isNode, isOperand, gateFits, encode, decode, isWellFormed, isMalformed}
 use Rattle.encoding.proofs.ListFacts.{and-parts, all-map, getD-map}
 use Rattle.encoding.proofs.Names.{length-nameWords, legal-words}
 use Rattle.encoding.proofs.Nodes.{nodeWord-small, isNode-isOperand}
@@ -148,8 +149,8 @@ encode-small b h p =
     (lt-or-le p (length (encode b)))
 
 -- and so of words that are not torn
-pub whole-small : (ws : List ℕ) → isTorn ws ≡ false → (p : ℕ) → getD ws p 0 < 65536
+pub whole-small : (ws : List ℕ) → isMalformed ws ≡ false → (p : ℕ) → getD ws p 0 < 65536
 whole-small ws h p = subst (λ (v : List ℕ). getD v p 0 < 65536) (whole-encode ws h) (encode-small (decode ws) (whole-wellFormed ws h) p)
 
-pub whole-longest : (ws : List ℕ) → isTorn ws ≡ false → length ws ≤ maxBlock
+pub whole-longest : (ws : List ℕ) → isMalformed ws ≡ false → length ws ≤ maxBlock
 whole-longest ws h = subst (λ (v : List ℕ). length v ≤ maxBlock) (whole-encode ws h) (encode-longest (decode ws) (whole-wellFormed ws h))

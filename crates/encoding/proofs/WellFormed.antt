@@ -16,7 +16,8 @@ use Rattle.laws.proofs.Quantifiers.{all-from}
 use Rattle.netlist.specs.Limits.{maxInputs, maxNevers, maxGates, maxOutputs}
 use Rattle.netlist.specs.Assignments.{Assignment}
 use Rattle.netlist.specs.Netlist.{Name, constant, Gate, Output, Block, inputCount, gateCount, outputCount, neverCount, gateOf}
-use Rattle.netlist.specs.StoredBlock.{isPlainName, neverFits, gateFits, isNode, isWellFormed}
+use Rattle.netlist.specs.StoredBlock.{neverFits, gateFits, isNode, isWellFormed}
+use Rattle.netlist.specs.Names.{isPlainName}
 use Rattle.encoding.proofs.ListFacts.{and-parts, all-map}
 
 -- what a list of gates, of never lines and of outputs holds past its end

@@ -9,7 +9,8 @@ use Rattle.netlist.specs.Limits.{maxInputs, maxNevers, maxGates, maxOutputs}
 use Rattle.netlist.specs.Assignments.{areMasks}
 use Rattle.netlist.specs.Kinds.{isKind, arityFits}
 use Rattle.netlist.specs.StoredBlock.{nameSize, neverSize, gateSize, outputSize, operandWords, inputsAt}
-use Rattle.netlist.specs.StoredBlock.{neversAt, gatesAt, outputsAt, isLetter, isNameByte, bytesAt}
+use Rattle.netlist.specs.StoredBlock.{neversAt, gatesAt, outputsAt, bytesAt}
+use Rattle.netlist.specs.Names.{isLetter, isNameByte}
 
 -- name bytes, and then only zeros
 unfoldable pub padded : List ℕ → Bool

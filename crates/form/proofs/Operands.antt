@@ -6,7 +6,7 @@ use Prim.Native.Nat.{ℕ, zero, suc, _-_, _<_}
 use native.Mathlib.Omega.{arith}
 use lib.ListN.{length, drop, getD, length-drop}
 use Rattle.laws.specs.Lists.{ascii}
-use Rattle.netlist.specs.StoredBlock.{isLetter, isNameStart, isUnderscore}
+use Rattle.netlist.specs.Names.{isLetter, isNameStart, isUnderscore}
 use Rattle.netlist.specs.Syntax.{Term, name, apply}
 use Rattle.netlist.specs.Parse.{Reader, pure, stop, expect, nameBytes, nameAfter, nameReader, exprReader, leafOr, termReader}
 use Rattle.form.specs.declared.Scan.the-variants.{Next, Bad}

@@ -9,14 +9,14 @@ use lib.ListN.{length, drop, getD, length-drop}
 use lib.Dec.{eqb}
 use Rattle.laws.specs.Lists.{ascii, is}
 use Rattle.laws.proofs.Elements.{byte-there}
-use Rattle.netlist.specs.StoredBlock.{isNameStart}
+use Rattle.netlist.specs.Names.{isNameStart}
 use Rattle.netlist.specs.Parse.{Parsed, Reader, got, stuck, pure, stop, onTest, ifNext, expect, nothingBehind, onParsed, bind, nameReader}
 use Rattle.netlist.specs.Syntax.{Pair}
 use Rattle.netlist.specs.Parse.{bitReader, pairReader, spacedPair, pairsReader}
 use Rattle.netlist.specs.SetLine.{setLineReader}
 use Rattle.netlist.specs.declared.Refusal.the-variants.{SyntaxError}
-use Rattle.netlist.specs.declared.Test.the-variants.{Passed, Failed}
-use Rattle.netlist.specs.Answers.{testAt}
+use Rattle.refusals.specs.declared.Test.the-variants.{Passed, Failed}
+use Rattle.refusals.specs.Tests.{testAt}
 use Rattle.form.specs.declared.Scan.{Scan}
 use Rattle.form.specs.declared.Scan.the-variants.{Next, Bad}
 use Rattle.form.specs.Scan.{scanOf, badOf, firstBadInSetLine, wordReader, firstByte, bitEnd, pairValue, pairName, pairScan, lineLast}

@@ -10,7 +10,7 @@ use Rattle.laws.proofs.Tests.{eq-or-ne}
 use Rattle.laws.specs.Lists.{ascii}
 use Rattle.netlist.specs.Limits.{maxDepth}
 use Rattle.netlist.specs.Kinds.{mostOperands, fewestOperands}
-use Rattle.netlist.specs.StoredBlock.{isLetter, isNameStart}
+use Rattle.netlist.specs.Names.{isLetter, isNameStart}
 use Rattle.netlist.specs.Syntax.{Term, Terms, Tree, apply}
 use Rattle.netlist.specs.Parse.{Parsed, got, stuck, Reader, pure, stop, ifNext, expect, onParsed, bind, nameReader, kindReader, termsReader, exprReader}
 use Rattle.netlist.specs.Parse.{termReader, neverPairs, addInput, addNever, addGate, addOutput, inputLine, neverLine, gateLine, outputLine, atEnd, line}

@@ -8,8 +8,8 @@ use Rattle.laws.proofs.Elements.{rest-is-drop}
 use Rattle.netlist.specs.Syntax.{Tree}
 use Rattle.netlist.specs.Parse.{Parsed, got, stuck, parse}
 use Rattle.netlist.specs.declared.Refusal.the-variants.{SyntaxError}
-use Rattle.netlist.specs.declared.Test.the-variants.{Passed, Failed}
-use Rattle.netlist.specs.Answers.{testAt}
+use Rattle.refusals.specs.declared.Test.the-variants.{Passed, Failed}
+use Rattle.refusals.specs.Tests.{testAt}
 use Rattle.form.specs.declared.Scan.{Scan}
 use Rattle.form.specs.declared.Scan.the-variants.{Next, Bad as Stuck}
 use Rattle.form.specs.Scan.{badOf, firstBad, scanOf, lineReader, phaseOf}

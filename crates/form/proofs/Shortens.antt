@@ -10,7 +10,7 @@ use lib.Seq.{drop-drop}
 use lib.Dec.{eqb}
 use Rattle.laws.specs.Lists.{ascii, is}
 use Rattle.netlist.specs.Limits.{maxName}
-use Rattle.netlist.specs.StoredBlock.{isNameByte, isNameStart}
+use Rattle.netlist.specs.Names.{isNameByte, isNameStart}
 use Rattle.netlist.specs.Kinds.{mostOperands, fewestOperands}
 use Rattle.netlist.specs.Syntax.{Term, Terms, name, literal, apply, nil, cons}
 use Rattle.netlist.specs.Parse.{Parsed, got, stuck, Reader, pure, stop, onTest, ifNext, expect, onParsed, bind, nameBytes, nameAfter, nameReader}

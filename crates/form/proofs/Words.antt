@@ -9,7 +9,7 @@ use lib.ListN.{length, drop, getD, length-drop, drop-of-length-le}
 use lib.Seq.{drop-cons, getD-drop, drop-drop}
 use lib.Dec.{eqb}
 use borrow.Author.Tests.{eq-eqb, ne-eqb}
-use Rattle.netlist.specs.StoredBlock.{isNameByte, isLetter, isDigit, isUnderscore}
+use Rattle.netlist.specs.Names.{isNameByte, isLetter, isDigit, isUnderscore}
 use Rattle.netlist.specs.Parse.{pure, stop, onTest, ifNext, expect, nameBytes}
 use Rattle.form.specs.declared.Scan.{Scan}
 use Rattle.form.specs.declared.Scan.the-variants.{Next, Bad}

@@ -7,7 +7,7 @@ use mathlib.Core.Option.{Option, none, some}
 use lib.ListN.{length, getD}
 use lib.Dec.{eqb, leb}
 use Rattle.laws.specs.Lists.{ascii, is}
-use Rattle.netlist.specs.StoredBlock.{isLetter, isNameStart}
+use Rattle.netlist.specs.Names.{isLetter, isNameStart}
 use Rattle.netlist.specs.Limits.{maxDepth}
 use Rattle.netlist.specs.Syntax.{apply}
 use Rattle.netlist.specs.Parse.{Parsed, got, stuck, Reader, pure, stop, ifNext, expect, nothingBehind, bind, nameReader, exprReader, termReader, bitReader}

@@ -2,10 +2,10 @@
 // The readers take the rest of the text as their slice and answer how many bytes are left. Nothing is written.
 use layout::bytes::byte_at;
 use netlist::Refusal;
-use netlist::Test;
+use refusals::Test;
 ghost use mathlib.Core.Path.{_≡_};
 ghost use Rattle.netlist.specs.declared.Refusal.the-variants.{SyntaxError};
-ghost use Rattle.netlist.specs.Answers.{testAt};
+ghost use Rattle.refusals.specs.Tests.{testAt};
 ghost use Rattle.form.specs.Scan.{firstBad};
 
 mod bytes;

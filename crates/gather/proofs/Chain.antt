@@ -9,7 +9,7 @@ use lib.ListN.{length, getD}
 use lib.Dec.{ltb}
 use Rattle.netlist.specs.declared.Refusal.the-variants.{MalformedBlock, NoRoom, NotAPermutation}
 use Rattle.netlist.specs.Netlist.{Block, gateCount}
-use Rattle.netlist.specs.StoredBlock.{encode, decode, isTorn}
+use Rattle.netlist.specs.StoredBlock.{encode, decode, isMalformed}
 use Rattle.netlist.specs.Answers.{done, refuseIf, inRoom}
 use Rattle.netlist.specs.Operations.{counted}
 use Rattle.netlist.specs.Gather.{gathered, gatheredWords, lacksRoom, gatherWith, isPermutation, scattered, scatter}
@@ -18,13 +18,13 @@ use Rattle.permute.proofs.Words.{gathered-length, gathered-listed, scattered-le
 
 module _ (ws : List ℕ) (room listRoom : ℕ) (result : Block → List ℕ) where
   pub gather-chain : gatherWith ws room listRoom result
-      ≡ refuseIf (isTorn ws) MalformedBlock
+      ≡ refuseIf (isMalformed ws) MalformedBlock
       (refuseIf (lacksRoom (decode ws) room listRoom) NoRoom (done (result (decode ws)) (length (encode (gathered (decode ws)))) 0))
   unfolding gatherWith
   gather-chain = refl
 
   -- as many words go out as came in, and the list has one for each gate
-  pub gather-room : isTorn ws ≡ false → {m : ℕ} → m ≡ getD ws 1 0
+  pub gather-room : isMalformed ws ≡ false → {m : ℕ} → m ≡ getD ws 1 0
       → gatherWith ws room listRoom result ≡ refuseIf (ltb room (length ws) || ltb listRoom m) NoRoom (done (result (decode ws)) (length ws) 0)
   unfolding gatherWith lacksRoom refuseIf gatheredWords
   gather-room whole gatesAre = rw (whole, gathered-length ws whole, gathered-listed ws whole, decode-gateCount ws, gatesAre) refl
@@ -32,12 +32,12 @@ module _ (ws : List ℕ) (room listRoom : ℕ) (result : Block → List ℕ) whe
 module _ (ws order : List ℕ) (room : ℕ) where
   pub scatter-chain : scatter ws order room
       ≡ inRoom room
-      (refuseIf (isTorn ws) MalformedBlock
+      (refuseIf (isMalformed ws) MalformedBlock
       (refuseIf (not (isPermutation (gateCount (decode ws)) order)) NotAPermutation (counted (encode (scattered order (decode ws))))))
   unfolding scatter
   scatter-chain = refl
 
-  module _ (whole : isTorn ws ≡ false) {m : ℕ} (gatesAre : m ≡ getD ws 1 0) where
+  module _ (whole : isMalformed ws ≡ false) {m : ℕ} (gatesAre : m ≡ getD ws 1 0) where
     pub scatter-order : scatter ws order room
         ≡ inRoom room (refuseIf (not (isPermutation m order)) NotAPermutation (counted (encode (scattered order (decode ws)))))
     unfolding scatter refuseIf

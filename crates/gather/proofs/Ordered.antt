@@ -13,7 +13,7 @@ use lib.Seq.{ext-getD, getD-take, length-take-le}
 use Rattle.laws.specs.Lists.{placed}
 use Rattle.laws.proofs.Slices.{take-placed, placed-room}
 use Rattle.netlist.specs.Netlist.{gateCount}
-use Rattle.netlist.specs.StoredBlock.{encode, decode, isTorn, isWellFormed}
+use Rattle.netlist.specs.StoredBlock.{encode, decode, isMalformed, isWellFormed}
 use Rattle.netlist.specs.Gather.{arranged, numberAt, placeIn, gatheredOrder, gathered, gatheredWords, isPermutation, inverse, scattered}
 use Rattle.encoding.proofs.Decoded.{decode-gateCount}
 use Rattle.encoding.proofs.RoundTrip.{whole-wellFormed}
@@ -30,7 +30,7 @@ use Rattle.gather.specs.Places.{Places}
 use Rattle.gather.proofs.Written.{ordered-as}
 use Rattle.gather.specs.Arranging.{arrangement}
 
-module _ (ws : List ℕ) (whole : isTorn ws ≡ false) (m : ℕ) (gatesAre : m ≡ getD ws 1 0) where
+module _ (ws : List ℕ) (whole : isMalformed ws ≡ false) (m : ℕ) (gatesAre : m ≡ getD ws 1 0) where
   fits : isWellFormed (decode ws) ≡ true
   fits = whole-wellFormed ws whole
 

@@ -22,7 +22,7 @@ use Rattle.layout.specs.Nodes.{nodesOf}
 use Rattle.netlist.specs.Limits.{maxInputs, maxGates, maxOutputs}
 use Rattle.netlist.specs.Netlist.{Operand, input, gate, constant, Gate, Output, Block, gateCount, gateOf}
 use Rattle.netlist.specs.StoredBlock.{neversAt, gatesAt, outputsAt, nodeWord, gateWords, outputWords}
-use Rattle.netlist.specs.StoredBlock.{encode, decode, isTorn, isNode, isOperand, gateFits, isWellFormed}
+use Rattle.netlist.specs.StoredBlock.{encode, decode, isMalformed, isNode, isOperand, gateFits, isWellFormed}
 use Rattle.netlist.specs.Rendering.{copiedOperand, copied}
 use Rattle.netlist.specs.Gather.{renumbered, renumberedGate, renumberedOutput, arranged, numberAt}
 use Rattle.encoding.proofs.Decoded.{decode-inputCount, decode-gateCount, decode-outputCount, decode-neverCount}
@@ -107,7 +107,7 @@ front-words ws =
     (tab-ext (λ i. wordFrom ws 0 (4 + i)) (wordFrom ws 4) (4 * getD ws 0 0 + 2 * getD ws 3 0)
     (λ i l. ap (λ (p : ℕ). getD ws p 0) (zero-add (4 + i)))))
 
-module _ (ws order numbers : List ℕ) (whole : isTorn ws ≡ false) (listed : Order (getD ws 1 0) (getD ws 1 0) order) (table : List ℕ)
+module _ (ws order numbers : List ℕ) (whole : isMalformed ws ≡ false) (listed : Order (getD ws 1 0) (getD ws 1 0) order) (table : List ℕ)
     (stands : Stands (nodesOf ws) table (newest numbers (getD ws 1 0))) where
   abbrev n : ℕ
   n = getD ws 0 0
@@ -163,13 +163,13 @@ pub record Sizes (ws : List ℕ) (nodes : Nodes) : Type 0 where
   pub fewOutputs : getD ws 2 0 ≤ maxOutputs
   pub words : length ws ≡ nodes .start + 5 * nodes .gates + 5 * getD ws 2 0
 
-pub sizes : (ws : List ℕ) {nodes : Nodes} → isTorn ws ≡ false → nodes ≡ nodesOf ws → Sizes ws nodes
+pub sizes : (ws : List ℕ) {nodes : Nodes} → isMalformed ws ≡ false → nodes ≡ nodesOf ws → Sizes ws nodes
 unfolding outputsAt nodesOf
 sizes ws whole are =
     let p = whole-parts ws whole in
     rw are (record { fewInputs = p .fewInputs; fewGates = p .fewGates; gatesAre = refl; fewOutputs = p .fewOutputs; words = p .sized })
 
-module _ (ws : List ℕ) (whole : isTorn ws ≡ false) (order numbers entry table out : List ℕ) (listed : Order (getD ws 1 0) (getD ws 1 0) order)
+module _ (ws : List ℕ) (whole : isMalformed ws ≡ false) (order numbers entry table out : List ℕ) (listed : Order (getD ws 1 0) (getD ws 1 0) order)
     (room : length ws ≤ length out) where
   -- the parts, stored one after the other
   stored : table ≡ placed (tab (newWord (nodesOf ws .inputs) numbers) (nodesOf ws .gates)) entry

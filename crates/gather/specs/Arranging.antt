@@ -6,7 +6,7 @@ use mathlib.Core.List.{List}
 use lib.ListN.{length, getD, take}
 use Rattle.layout.specs.declared.nodes.Nodes.{Nodes}
 use Rattle.netlist.specs.Netlist.{Block}
-use Rattle.netlist.specs.StoredBlock.{decode, isTorn}
+use Rattle.netlist.specs.StoredBlock.{decode, isMalformed}
 use Rattle.netlist.specs.Gather.{arranged, numberAt}
 use Rattle.copying.specs.Words.{copyWords, Order}
 
@@ -23,7 +23,7 @@ unfoldable pub arrangement : List ℕ → List ℕ → List ℕ → Block
 arrangement ws order numbers = arranged (take (getD ws 1 0) order) (numberAt numbers) (decode ws)
 
 pub record ArrangeReady (ws order numbers table out : List ℕ) : Type 0 where
-  pub whole : isTorn ws ≡ false
+  pub whole : isMalformed ws ≡ false
   pub gates : Order (getD ws 1 0) (getD ws 1 0) order
   pub numbered : Order (getD ws 1 0) (getD ws 1 0) numbers
   pub tableRoom : getD ws 1 0 ≤ length table

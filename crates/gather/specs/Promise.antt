@@ -5,7 +5,7 @@ use mathlib.Core.Bool.{false}
 use mathlib.Core.List.{List}
 use lib.ListN.{length, getD}
 use Rattle.netlist.specs.declared.Answer.{Answer}
-use Rattle.netlist.specs.StoredBlock.{isTorn}
+use Rattle.netlist.specs.StoredBlock.{isMalformed}
 use Rattle.netlist.specs.Answers.{leftIn, Promise}
 use Rattle.netlist.specs.Gather.{gather, gatherList}
 
@@ -16,7 +16,7 @@ pub record GatherPromise (ws entry listEntry : List ℕ) (r : Answer) (exit list
 
 -- nothing can refuse any more: as many words go out as came in, and a word for each gate
 pub record BlockRoom (ws gathered order : List ℕ) : Type 0 where
-  pub whole : isTorn ws ≡ false
+  pub whole : isMalformed ws ≡ false
   pub room : length ws ≤ length gathered
   pub listRoom : getD ws 1 0 ≤ length order
 
@@ -28,6 +28,6 @@ pub record GatherReady (ws numbers places table gathered order : List ℕ) : Typ
   pub tableRoom : getD ws 1 0 ≤ length table
 
 pub record ScatterReady (ws places table : List ℕ) : Type 0 where
-  pub whole : isTorn ws ≡ false
+  pub whole : isMalformed ws ≡ false
   pub placeRoom : getD ws 1 0 ≤ length places
   pub tableRoom : getD ws 1 0 ≤ length table

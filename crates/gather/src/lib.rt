@@ -4,13 +4,13 @@ use block::check_words;
 use layout::limits::MAX_GATES;
 use layout::offsets::gates_of;
 use netlist::Answer;
-use netlist::Test;
+use refusals::Test;
 use refusals::refusal;
 ghost use mathlib.Core.Path.{_≡_};
 ghost use mathlib.Core.Bool.{false};
 ghost use lib.ListN.{length};
 ghost use Rattle.laws.specs.Lists.{placed};
-ghost use Rattle.netlist.specs.StoredBlock.{decode, isTorn};
+ghost use Rattle.netlist.specs.StoredBlock.{decode, isMalformed};
 ghost use Rattle.netlist.specs.Answers.{Promise};
 ghost use Rattle.netlist.specs.Gather.{gatheredWords, gatheredOrder, scatter as scatterOf};
 ghost use Rattle.gather.specs.Promise.{GatherPromise, BlockRoom};
@@ -59,7 +59,7 @@ pub fn gather(words: &[u16], gathered: &mut [u16], order: &mut [u16]) -> Answer
 
 // Scatter of a block that is not torn: with arrays for any block.
 fn scatter_block(words: &[u16], order: &[u16], original: &mut [u16]) -> Answer
-    requires { ⌜ isTorn (now words) ≡ false ⌝ }
+    requires { ⌜ isMalformed (now words) ≡ false ⌝ }
     ensures { λ r. ⌜
         Promise (scatterOf (now (words .entry)) (now (order .entry)) (length (now (original .entry)))) (now (original .entry)) r (now (original .exit))
         ⌝ }

@@ -5,7 +5,7 @@ use groups::assign::assign;
 use layout::offsets::gates_of;
 use netlist::Answer;
 use netlist::Refusal;
-use netlist::Test;
+use refusals::Test;
 use refusals::refusal;
 use refusals::refuse_if;
 use refusals::test_room;
@@ -17,7 +17,8 @@ ghost use lib.Dec.{ltb};
 ghost use Rattle.laws.specs.Lists.{placed};
 ghost use Rattle.netlist.specs.declared.Refusal.the-variants.{NoRoom};
 ghost use Rattle.netlist.specs.StoredBlock.{decode};
-ghost use Rattle.netlist.specs.Answers.{testOf, Promise};
+ghost use Rattle.netlist.specs.Answers.{Promise};
+ghost use Rattle.refusals.specs.Tests.{testOf};
 ghost use Rattle.netlist.specs.Gather.{gatheredWords, gatheredOrder, scatter};
 ghost use Rattle.gather.specs.Promise.{GatherReady, ScatterReady};
 

@@ -9,7 +9,7 @@ use lib.ListN.{length}
 use lib.Dec.{eqb}
 use Rattle.laws.specs.Lists.{ascii}
 use Rattle.netlist.specs.Limits.{maxDepth}
-use Rattle.netlist.specs.StoredBlock.{isLetter, isNameByte, isNameStart}
+use Rattle.netlist.specs.Names.{isLetter, isNameByte, isNameStart}
 use Rattle.netlist.specs.Syntax.{Terms, Pair, Tree}
 use Rattle.netlist.specs.Parse.{Parsed, Reader, got, stuck, stop, onTest, ifNext, expect, onParsed, bind, nameReader, exprReader, termReader, pairReader}
 use Rattle.netlist.specs.Parse.{spacedPair, pairsReader, neverPairs, inputLine, neverLine, gateLine, outputLine, atEnd, line, outputsReader, gatesReader}

@@ -10,7 +10,7 @@ use lib.ListN.{length}
 use Rattle.laws.specs.Lists.{ascii, is, all}
 use Rattle.netlist.specs.Limits.{maxDepth}
 use Rattle.netlist.specs.Netlist.{Name}
-use Rattle.netlist.specs.StoredBlock.{isLetter, isDigit, isUnderscore, isNameByte, isNameStart, isPlainName, isNodeName}
+use Rattle.netlist.specs.Names.{isLetter, isDigit, isUnderscore, isNameByte, isNameStart, isPlainName, isNodeName}
 use Rattle.netlist.specs.Syntax.{apply, GateLine, OutputLine, Pair, Tree, printTerm, printInput, printPair, printNever, printGate, printOutput, printLines}
 use Rattle.netlist.specs.Syntax.{print, isLegalTerm, isLegalNever, isLegalGate, isLegalOutput, isLegalTree}
 use Rattle.netlist.specs.Parse.{Reader, got, pure, ifNext, nameReader, exprReader, termReader, neverPairs, addInput, addNever, addGate, addOutput}

@@ -13,7 +13,7 @@ use lib.Dec.{leb}
 use borrow.Author.Tests.{le-leb, leb-true}
 use Rattle.laws.specs.Lists.{ascii, is, all}
 use Rattle.netlist.specs.Values.{val}
-use Rattle.netlist.specs.StoredBlock.{isLetter, isDigit, isUnderscore, isNameByte, isNameStart, isNodeName}
+use Rattle.netlist.specs.Names.{isLetter, isDigit, isUnderscore, isNameByte, isNameStart, isNodeName}
 use Rattle.netlist.specs.Syntax.{Pair, valueText, pairText, printPair, printLines, isLegalPair, isLegalNever}
 use Rattle.netlist.specs.Parse.{Parsed, Reader, got, pure, stop, ifNext, onTest, expect, nameReader, bitReader, pairReader, spacedPair, pairsReader, neverPairs}
 use Rattle.grammar.proofs.Equations.{ifNext-true, ifNext-false, expect-back, bind-got}

@@ -10,7 +10,7 @@ use lib.ListN.{length}
 use Rattle.laws.specs.Lists.{ascii}
 use Rattle.netlist.specs.Limits.{maxName, maxDepth}
 use Rattle.netlist.specs.Kinds.{fewestOperands, mostOperands}
-use Rattle.netlist.specs.StoredBlock.{isLetter, isNameByte, isNameStart}
+use Rattle.netlist.specs.Names.{isLetter, isNameByte, isNameStart}
 use Rattle.netlist.specs.Syntax.{Term, Terms, name, literal, apply, nil, cons, Pair, Tree}
 use Rattle.netlist.specs.Parse.{Parsed, Reader, got, stuck, stop, onParsed, bind, nameBytes, nameAfter, nameReader, kindReader, spaced, termsReader}
 use Rattle.netlist.specs.Parse.{exprReader, leafOr, termReader, bitReader, pairReader, spacedPair, pairsReader, neverPairs, addInput, addNever, addGate}

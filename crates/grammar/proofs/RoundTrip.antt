@@ -13,7 +13,7 @@ use Rattle.laws.specs.Lists.{same}
 use Rattle.laws.proofs.Same.{same-eq}
 use Rattle.netlist.specs.Limits.{maxText}
 use Rattle.netlist.specs.Netlist.{Block}
-use Rattle.netlist.specs.StoredBlock.{encode, decode, isWellFormed, isTorn}
+use Rattle.netlist.specs.StoredBlock.{encode, decode, isWellFormed, isMalformed}
 use Rattle.netlist.specs.Parse.{got, parse}
 use Rattle.netlist.specs.Writing.{flatTree, writtenText}
 use Rattle.netlist.specs.Answers.{refuseIf, refuseAt}
@@ -43,8 +43,8 @@ reading-written b h =
     )
 
 -- Round trip on words: what Write makes of words that are not torn, Read takes back to those words.
-pub reading-written-words : (ws : List ℕ) → isTorn ws ≡ false → readText (writtenText (decode ws)) ≡ counted ws
-unfolding isTorn
+pub reading-written-words : (ws : List ℕ) → isMalformed ws ≡ false → readText (writtenText (decode ws)) ≡ counted ws
+unfolding isMalformed
 reading-written-words ws h =
     let f = and-eq-true-iff (isWellFormed (decode ws)) (same (encode (decode ws)) ws) .0 (not-false _ h) in
     reading-written (decode ws) (f .0) ∙ ap counted (same-eq (encode (decode ws)) ws (f .1))

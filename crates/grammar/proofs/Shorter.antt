@@ -10,7 +10,7 @@ use lib.Seq.{drop-at}
 use Rattle.laws.specs.Lists.{ascii}
 use Rattle.netlist.specs.Kinds.{isKind, keyword, signatureOf}
 use Rattle.netlist.specs.Netlist.{Name}
-use Rattle.netlist.specs.StoredBlock.{isNameByte, isLegalName, isNodeName}
+use Rattle.netlist.specs.Names.{isNameByte, isLegalName, isNodeName}
 use Rattle.netlist.specs.Syntax.{Term, Terms, name, literal, apply, nil, cons, printTerm, printTerms, isLegalTerm}
 use Rattle.netlist.specs.Parse.{got, nameBytes, nameReader, kindReader, termsReader, exprReader, termReader}
 use Rattle.grammar.proofs.Readings.{Gives}

@@ -9,7 +9,7 @@ use lib.ListN.{length}
 use Rattle.laws.specs.Lists.{ascii}
 use Rattle.netlist.specs.Limits.{maxDepth}
 use Rattle.netlist.specs.Netlist.{Name}
-use Rattle.netlist.specs.StoredBlock.{isLetter, isNameStart, isPlainName, isNodeName}
+use Rattle.netlist.specs.Names.{isLetter, isNameStart, isPlainName, isNodeName}
 use Rattle.netlist.specs.Syntax.{GateLine, OutputLine, Pair, Tree, printTerm, printInput, printNever, printGate, printOutput, printLines, print}
 use Rattle.netlist.specs.Syntax.{isLegalGate, isLegalOutput, isLegalTree}
 use Rattle.netlist.specs.Parse.{Reader, got, nameReader, exprReader, termReader, neverPairs, addInput, addNever, addGate, addOutput, inputLine, neverLine}

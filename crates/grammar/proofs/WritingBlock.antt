@@ -14,7 +14,8 @@ use Rattle.laws.proofs.Tab.{tab-getD, getD-tab, length-tab}
 use Rattle.netlist.specs.Limits.{maxGates}
 use Rattle.netlist.specs.Assignments.{Assignment}
 use Rattle.netlist.specs.Netlist.{Name, Operand, input, gate, constant, Output, Block, inputCount, gateCount, gateOf}
-use Rattle.netlist.specs.StoredBlock.{isPlainName, isNode, isOperand, neverFits, isWellFormed}
+use Rattle.netlist.specs.StoredBlock.{isNode, isOperand, neverFits, isWellFormed}
+use Rattle.netlist.specs.Names.{isPlainName}
 use Rattle.netlist.specs.Syntax.{OutputLine}
 use Rattle.netlist.specs.Reading.{gatesIn, gatesInside, lineGates, Binding, inputBindings, gateBindings, bindings, lookup, termNode, termsNodes, termGates}
 use Rattle.netlist.specs.Reading.{termsGates, linesGates, assignmentOf, blockOf}

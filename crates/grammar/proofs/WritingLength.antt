@@ -18,7 +18,8 @@ use Rattle.netlist.specs.Values.{val}
 use Rattle.netlist.specs.Assignments.{Assignment}
 use Rattle.netlist.specs.Kinds.{isKind, keyword, signatureOf}
 use Rattle.netlist.specs.Netlist.{Name, Operand, input, gate, constant, Output, Block, gateCount, gateOf}
-use Rattle.netlist.specs.StoredBlock.{isNameByte, isLegalName, isPlainName, isNodeName, isNode, isOperand, isWellFormed}
+use Rattle.netlist.specs.StoredBlock.{isNode, isOperand, isWellFormed}
+use Rattle.netlist.specs.Names.{isNameByte, isLegalName, isPlainName, isNodeName}
 use Rattle.netlist.specs.Syntax.{Pair, valueText, pairText, printTerm, printTerms, printInput, printPair, printNever, printGate, printOutput, printLines}
 use Rattle.netlist.specs.Syntax.{print}
 use Rattle.netlist.specs.Writing.{digits, decimal, gateName, nodeNameOf, termOf, termsOf, flatLine, pairsOf, flatTree, writtenText}

@@ -13,7 +13,7 @@ use Rattle.laws.proofs.Quantifiers.{all-below}
 use Rattle.grammar.proofs.CompleteTerms.{name-facts}
 use Rattle.netlist.specs.Limits.{maxGates}
 use Rattle.netlist.specs.Netlist.{Name}
-use Rattle.netlist.specs.StoredBlock.{isLetter, isDigit, isUnderscore, isNameByte, isNameStart, isLegalName, isPlainName, isNodeName}
+use Rattle.netlist.specs.Names.{isLetter, isDigit, isUnderscore, isNameByte, isNameStart, isLegalName, isPlainName, isNodeName}
 use Rattle.netlist.specs.Writing.{digits, decimal, gateName}
 
 -- the number that decimal digits stand for, behind a number already read

@@ -17,7 +17,8 @@ use Rattle.laws.proofs.Tab.{getD-tab, length-tab, map-tab}
 use Rattle.netlist.specs.Limits.{maxInputs, maxNevers, maxGates, maxOutputs}
 use Rattle.netlist.specs.Assignments.{Assignment}
 use Rattle.netlist.specs.Netlist.{Name, Operand, input, gate, constant, Output, Block, inputCount, gateCount, outputCount, neverCount, gateOf}
-use Rattle.netlist.specs.StoredBlock.{isPlainName, isNode, isOperand, isWellFormed}
+use Rattle.netlist.specs.StoredBlock.{isNode, isOperand, isWellFormed}
+use Rattle.netlist.specs.Names.{isPlainName}
 use Rattle.netlist.specs.Syntax.{name, GateLine, OutputLine, Pair, printInput, printPair, printNever, printGate, printOutput}
 use Rattle.netlist.specs.Reading.{lineGates, isOverLimit, Mention, mentions, inputMention, gateMention, portMention, shownMention, termMentions}
 use Rattle.netlist.specs.Reading.{termsMentions, operandMentions, declaredNodes, declaredPorts, usedNames, firstRepeat, orElse, firstDuplicate}

@@ -14,7 +14,8 @@ use Rattle.netlist.specs.Limits.{maxName, maxDepth}
 use Rattle.netlist.specs.Kinds.{isKind, arityFits}
 use Rattle.netlist.specs.Assignments.{Assignment}
 use Rattle.netlist.specs.Netlist.{Name, Operand, input, gate, constant, Output, Block, inputCount, gateCount, gateOf}
-use Rattle.netlist.specs.StoredBlock.{isLetter, isNameByte, isNameStart, isLegalName, isPlainName, isNodeName, isNode, isOperand, neverFits}
+use Rattle.netlist.specs.StoredBlock.{isNode, isOperand, neverFits}
+use Rattle.netlist.specs.Names.{isLetter, isNameByte, isNameStart, isLegalName, isPlainName, isNodeName}
 use Rattle.netlist.specs.StoredBlock.{gateFits, isWellFormed}
 use Rattle.netlist.specs.Syntax.{termCount, isLegalTerm, isLegalTerms, isLegalPair, isLegalNever, isLegalGate, isLegalOutput, isLegalTree}
 use Rattle.netlist.specs.Writing.{nodeNameOf, termOf, termsOf, flatLine, pairsOf, flatTree}

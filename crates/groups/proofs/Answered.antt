@@ -8,7 +8,7 @@ use Rattle.laws.specs.Lists.{tab, placed}
 use Rattle.laws.proofs.Tab.{length-tab, placed-tab}
 use Rattle.netlist.specs.declared.Refusal.the-variants.{MalformedBlock, NoRoom}
 use Rattle.netlist.specs.Netlist.{gateCount}
-use Rattle.netlist.specs.StoredBlock.{decode, isTorn}
+use Rattle.netlist.specs.StoredBlock.{decode, isMalformed}
 use Rattle.netlist.specs.Groups.{groups, groupNumber, groupNumbers}
 use Rattle.netlist.specs.Answers.{done, refuseIf, inRoom}
 use Rattle.netlist.specs.Operations.{groupsBlock, groupsOf}
@@ -21,7 +21,7 @@ use Rattle.groups.proofs.Whole.{search-ready, number-ready}
 
 module _ (ws : List ℕ) (room : ℕ) where
   -- the conditions, and the last one
-  pub groups-chain : groupsOf ws room ≡ inRoom room (refuseIf (isTorn ws) MalformedBlock (groupsBlock (decode ws)))
+  pub groups-chain : groupsOf ws room ≡ inRoom room (refuseIf (isMalformed ws) MalformedBlock (groupsBlock (decode ws)))
   unfolding groupsOf
   groups-chain = refl
 

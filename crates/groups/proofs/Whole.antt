@@ -9,7 +9,7 @@ use lib.ListN.{length, getD}
 use Rattle.laws.specs.Lists.{joined}
 use Rattle.laws.proofs.Tests.{lt-or-le}
 use Rattle.laws.proofs.Tab.{map-tab, tab-ext}
-use Rattle.netlist.specs.StoredBlock.{neversAt, gatesAt, gateSize, operandOf, gateAt, decode, isTorn}
+use Rattle.netlist.specs.StoredBlock.{neversAt, gatesAt, gateSize, operandOf, gateAt, decode, isMalformed}
 use Rattle.netlist.specs.Groups.{gateOperand, readBy}
 use Rattle.encoding.proofs.Nodes.{operandOf-input, operandOf-zero, operandOf-one, operandOf-gate}
 use Rattle.encoding.proofs.Readers.{OperandWord, whole-parts, whole-gate, whole-reads}
@@ -33,7 +33,7 @@ word-operand n m w few (inl l) = ⊎-elim as-input as-gate (lt-or-le w n)
 word-operand n m w few (inr (inl e)) = rw (e, word-none n m 65534 (inr few), operandOf-zero n (omega arith)) refl
 word-operand n m w few (inr (inr e)) = rw (e, word-none n m 65535 (inr (omega arith)), operandOf-one n (omega arith)) refl
 
-module _ (ws : List ℕ) (whole : isTorn ws ≡ false) where
+module _ (ws : List ℕ) (whole : isMalformed ws ≡ false) where
   few-nodes : getD ws 0 0 + getD ws 1 0 ≤ 65534
   few-nodes = omega (arith, whole-parts ws whole .fewInputs, whole-parts ws whole .fewGates)
 

@@ -7,7 +7,7 @@ use lib.ListN.{length, getD}
 use lib.Dec.{eqb, ltb}
 use Rattle.laws.specs.Lists.{keep, placed, upTo}
 use Rattle.netlist.specs.Netlist.{Block, gateCount}
-use Rattle.netlist.specs.StoredBlock.{gateSize, decode, isTorn}
+use Rattle.netlist.specs.StoredBlock.{gateSize, decode, isMalformed}
 use Rattle.netlist.specs.Groups.{mayBeNext, groups, groupNumber, groupNumbers}
 use Rattle.reach.specs.Inside.{Inside}
 use Rattle.layout.specs.declared.nodes.Nodes.{Nodes}
@@ -61,7 +61,7 @@ pub record GroupsNumbered (b : Block) (entry exit : List ℕ) (count : ℕ) : Ty
 
 -- a whole block's words and nodes, and room for every gate in each array
 pub record AssignReady (ws : List ℕ) (nodes : Nodes) (leaders queue flags : List ℕ) : Type 0 where
-  pub whole : isTorn ws ≡ false
+  pub whole : isMalformed ws ≡ false
   pub nodesAre : nodes ≡ nodesOf ws
   pub leaderRoom : nodes .gates ≤ length leaders
   pub queueRoom : nodes .gates ≤ length queue

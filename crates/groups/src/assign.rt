@@ -10,7 +10,7 @@ ghost use mathlib.Core.Path.{_≡_};
 ghost use mathlib.Core.Bool.{false};
 ghost use Prim.Native.Nat.{_≤_};
 ghost use lib.ListN.{length, getD};
-ghost use Rattle.netlist.specs.StoredBlock.{decode, isTorn};
+ghost use Rattle.netlist.specs.StoredBlock.{decode, isMalformed};
 ghost use Rattle.groups.specs.Numbering.{GroupsNumbered, AssignReady};
 ghost use Rattle.groups.specs.Waiting.{NumberRooms};
 
@@ -51,7 +51,7 @@ fn assign_with(
 
 // Writes each gate's group number; how many groups there are.
 pub fn assign(words: &[u16], numbers: &mut [u16]) -> usize
-    requires { ⌜ (isTorn (now words) ≡ false) × (getD (now words) 1 0 ≤ length (now numbers)) ⌝ }
+    requires { ⌜ (isMalformed (now words) ≡ false) × (getD (now words) 1 0 ≤ length (now numbers)) ⌝ }
     ensures { λ r. ⌜ GroupsNumbered (decode (now (words .entry))) (now (numbers .entry)) (now (numbers .exit)) r ⌝ }
 {
     let nodes = nodes_of(words);

@@ -1,7 +1,7 @@
 // Single bytes of a text, read with 0 past its end, which is no legal byte; and which bytes a name has (SPECIFICATION 1.2).
 ghost use mathlib.Core.Path.{_≡_};
 ghost use lib.ListN.{getD};
-ghost use Rattle.netlist.specs.StoredBlock.{isLetter, isDigit, isNameStart, isNameByte};
+ghost use Rattle.netlist.specs.Names.{isLetter, isDigit, isNameStart, isNameByte};
 
 // The byte at `i`, or 0.
 pub fn byte_at(s: &[u8], i: usize) -> u8

@@ -13,7 +13,7 @@ use Rattle.laws.specs.Lists.{ascii, all}
 use Rattle.laws.proofs.Tests.{and-left, and-right}
 use Rattle.netlist.specs.Kinds.{isKind, keyword, signatureOf}
 use Rattle.netlist.specs.Netlist.{Name}
-use Rattle.netlist.specs.StoredBlock.{isPlainName, isNodeName}
+use Rattle.netlist.specs.Names.{isPlainName, isNodeName}
 use Rattle.netlist.specs.Syntax.{Term, Terms, name, literal, apply, nil, cons, GateLine, OutputLine, Tree, printTerm, printTerms, printInput, printGate}
 use Rattle.netlist.specs.Syntax.{printOutput, printLines, print, isLegalTerm, isLegalTerms, isLegalGate, isLegalOutput}
 use Rattle.encoding.proofs.Gates.{by-kind}

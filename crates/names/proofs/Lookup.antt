@@ -13,7 +13,7 @@ use Rattle.laws.proofs.Tests.{and-left, and-right, same-test}
 use Rattle.laws.proofs.Same.{same-eq, eq-same}
 use Rattle.laws.proofs.Least.{least-le, least-below, least-at, least-is}
 use Rattle.netlist.specs.Netlist.{Name, Operand}
-use Rattle.netlist.specs.StoredBlock.{isNameByte}
+use Rattle.netlist.specs.Names.{isNameByte}
 use Rattle.netlist.specs.Reading.{Binding, lookup}
 use Rattle.names.specs.Packed.{packed}
 use Rattle.names.specs.Search.{isAt, indexOf}

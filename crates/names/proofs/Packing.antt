@@ -9,7 +9,7 @@ use lib.ListN.{length, getD, drop, drop-of-length-le}
 use lib.Seq.{drop-cons}
 use Rattle.laws.specs.Lists.{all}
 use Rattle.laws.proofs.Tests.{and-left, and-right, and-intro}
-use Rattle.netlist.specs.StoredBlock.{isNameByte}
+use Rattle.netlist.specs.Names.{isNameByte}
 pub use Rattle.encoding.proofs.Names.{nameByte-range as name-byte-range}
 use Rattle.names.specs.Packed.{packed, nameFront}
 

@@ -11,7 +11,7 @@ use Rattle.laws.specs.Lists.{all, same, memberList, least}
 use Rattle.laws.proofs.Quantifiers.{all-at, any-append}
 use Rattle.laws.proofs.Least.{least-le, least-below, least-at}
 use Rattle.netlist.specs.Netlist.{Name}
-use Rattle.netlist.specs.StoredBlock.{isNameByte}
+use Rattle.netlist.specs.Names.{isNameByte}
 use Rattle.netlist.specs.Reading.{Mention, firstRepeat}
 use Rattle.names.specs.Packed.{packed}
 use Rattle.names.specs.Search.{indexOf, repeatsAt}

@@ -10,7 +10,7 @@ use Rattle.laws.specs.Lists.{all, joined, sum}
 use Rattle.laws.proofs.Tests.{and-left, and-right}
 use Rattle.laws.proofs.Lists.{sum-append}
 use Rattle.netlist.specs.Limits.{maxText, maxInputs, maxGates, maxOutputs}
-use Rattle.netlist.specs.StoredBlock.{isPlainName}
+use Rattle.netlist.specs.Names.{isPlainName}
 use Rattle.netlist.specs.Syntax.{GateLine, Tree, isLegalGate, isLegalOutput}
 use Rattle.netlist.specs.Reading.{lineGates, isOverLimit}
 use Rattle.grammar.proofs.Limits.{limits-within}

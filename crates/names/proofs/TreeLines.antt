@@ -15,7 +15,7 @@ use Rattle.laws.proofs.Tests.{and-left, and-right, and-intro}
 use Rattle.laws.proofs.Lists.{joined-append}
 use Rattle.netlist.specs.Kinds.{isKind, arityFits, keyword, signatureOf}
 use Rattle.netlist.specs.Netlist.{Name}
-use Rattle.netlist.specs.StoredBlock.{isLegalName, isLetter, isDigit, isUnderscore, isNameByte, isPlainName, isNodeName}
+use Rattle.netlist.specs.Names.{isLegalName, isLetter, isDigit, isUnderscore, isNameByte, isPlainName, isNodeName}
 use Rattle.netlist.specs.Syntax.{Term, Terms, name, literal, apply, nil, cons, GateLine, OutputLine, Tree, printTerm, printTerms, printInput, printGate}
 use Rattle.netlist.specs.Syntax.{printOutput, printLines, print, termCount, isLegalTerm, isLegalTerms, isLegalNever, isLegalGate, isLegalOutput, isLegalTree}
 use Rattle.netlist.specs.Reading.{gatesIn, gatesInside, lineGates}

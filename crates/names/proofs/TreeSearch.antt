@@ -13,7 +13,8 @@ use Rattle.laws.specs.Lists.{all, memberList, least}
 use Rattle.laws.proofs.Tests.{and-left, and-right, and-intro}
 use Rattle.laws.proofs.Quantifiers.{all-append}
 use Rattle.netlist.specs.Netlist.{Name}
-use Rattle.netlist.specs.StoredBlock.{isNameByte, isPlainName, isNodeName, nodeWord}
+use Rattle.netlist.specs.StoredBlock.{nodeWord}
+use Rattle.netlist.specs.Names.{isNameByte, isPlainName, isNodeName}
 use Rattle.netlist.specs.Syntax.{GateLine, OutputLine, Tree, apply, printInput, printGate, printOutput, isLegalTerm, isLegalGate, isLegalOutput}
 use Rattle.netlist.specs.Syntax.{isLegalTree}
 use Rattle.netlist.specs.Reading.{Mention, mentions, inputMention, gateMention, portMention, neverLinesAt, gateLinesAt, outputLinesAt, declaredNodes}
@@ -24,8 +25,8 @@ use Rattle.names.specs.Search.{indexOf, repeatsAt}
 use Rattle.names.specs.Results.{treeCounts, declared, packedNames, namePlaces, nodeWords, NameTable, Declared}
 use Rattle.names.specs.declared.Counts.{Counts}
 use Rattle.netlist.specs.declared.Refusal.the-variants.{DuplicateDeclaration}
-use Rattle.netlist.specs.declared.Test.the-variants.{Passed, Failed}
-use Rattle.netlist.specs.Answers.{testAt}
+use Rattle.refusals.specs.declared.Test.the-variants.{Passed, Failed}
+use Rattle.refusals.specs.Tests.{testAt}
 use Rattle.names.proofs.TreeLines.{legal-parts, name-bytes}
 use Rattle.names.proofs.Lookup.{Bytes, index-same, index-member, index-lookup}
 use Rattle.names.proofs.Repeats.{repeat-found, repeat-none}

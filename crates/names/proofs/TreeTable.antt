@@ -14,7 +14,8 @@ use Rattle.laws.proofs.Tab.{length-tab, tab-ext, map-tab, tab-add, placed-tab}
 use Rattle.laws.proofs.Lists.{sum-append}
 use Rattle.laws.proofs.Slices.{take-placed}
 use Rattle.netlist.specs.Netlist.{Name}
-use Rattle.netlist.specs.StoredBlock.{isPlainName, nodeWord}
+use Rattle.netlist.specs.StoredBlock.{nodeWord}
+use Rattle.netlist.specs.Names.{isPlainName}
 use Rattle.netlist.specs.Syntax.{GateLine, Tree, isLegalGate}
 use Rattle.netlist.specs.Reading.{Mention, Binding, lineGates, inputBindings, gateBindings, bindings}
 use Rattle.names.specs.Lines.{times, lineOffset, gatesTo, declaredPlace, placeAt, lineWord, wordAt, FilledTo}

@@ -12,7 +12,7 @@ use borrow.Author.Tests.{leb-true}
 use Rattle.laws.specs.Lists.{ascii, all, joined, sum, tab}
 use Rattle.laws.proofs.Tests.{and-left, and-right}
 use Rattle.netlist.specs.Netlist.{Name}
-use Rattle.netlist.specs.StoredBlock.{isLegalName, isLetter, isDigit, isUnderscore, isNameByte, isPlainName, isNodeName}
+use Rattle.netlist.specs.Names.{isLegalName, isLetter, isDigit, isUnderscore, isNameByte, isPlainName, isNodeName}
 use Rattle.netlist.specs.Syntax.{GateLine, OutputLine, Tree, apply, printInput, printGate, printOutput, isLegalTerm, isLegalGate, isLegalOutput, isLegalTree}
 use Rattle.netlist.specs.Reading.{Mention, mentions, linesLength, neverLinesAt, gateLinesAt, outputLinesAt, inputMention, gateMention, portMention}
 use Rattle.netlist.specs.Reading.{declaredNodes}

@@ -7,9 +7,9 @@ use lib.ListN.{length, getD, take}
 use lib.Dec.{leb}
 use Rattle.laws.specs.Lists.{sum}
 use Rattle.netlist.specs.declared.Refusal.the-variants.{DuplicateDeclaration}
-use Rattle.netlist.specs.declared.Test.{Test}
-use Rattle.netlist.specs.declared.Test.the-variants.{Passed}
-use Rattle.netlist.specs.Answers.{testAt}
+use Rattle.refusals.specs.declared.Test.{Test}
+use Rattle.refusals.specs.declared.Test.the-variants.{Passed}
+use Rattle.refusals.specs.Tests.{testAt}
 use Rattle.netlist.specs.Limits.{maxText, maxInputs, maxGates, maxOutputs}
 use Rattle.netlist.specs.StoredBlock.{nodeWord}
 use Rattle.netlist.specs.Syntax.{Tree, isLegalTree, print}

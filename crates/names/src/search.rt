@@ -5,7 +5,7 @@ use crate::index::enter_all;
 use layout::limits::MAX_OUTPUTS;
 use layout::limits::MAX_TEXT;
 use netlist::Refusal;
-use netlist::Test;
+use refusals::Test;
 ghost use mathlib.Core.Path.{_≡_};
 ghost use Prim.Native.Nat.{_≤_, _<_};
 ghost use lib.ListN.{length};

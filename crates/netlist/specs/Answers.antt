@@ -10,8 +10,6 @@ use Rattle.laws.specs.Lists.{placed}
 use Rattle.netlist.specs.declared.Refusal.{Refusal}
 use Rattle.netlist.specs.declared.Refusal.the-variants.{TextTooLong, SyntaxError, OverLimit, DuplicateDeclaration, UndeclaredName, MalformedBlock}
 use Rattle.netlist.specs.declared.Refusal.the-variants.{BadSetting, TooManyCopies, NotSettled, NotStraight, NoRoom, InterfaceMismatch, NotAPermutation}
-use Rattle.netlist.specs.declared.Test.{Test}
-use Rattle.netlist.specs.declared.Test.the-variants.{Passed, Failed}
 use Rattle.netlist.specs.declared.Answer.{Answer}
 use Rattle.netlist.specs.declared.Answer.the-variants.{Done, Refused}
 use Rattle.netlist.specs.declared.Reply.{Reply}
@@ -67,23 +65,6 @@ pub record Shows (a : Answer) (r : Reply) : Type 0 where
   pub number : r .number ≡ numberOf a
   pub count : r .count ≡ countOf a
   pub detail : r .detail ≡ detailOf a
-
--- ---- The answer of a condition's test
-
--- a condition that holds refuses
-unfoldable pub testOf : Bool → Refusal → Test
-testOf true r = Failed r
-testOf false r = Passed
-
--- a condition that tells a place
-unfoldable pub testAt : Option ℕ → (ℕ → Refusal) → Test
-testAt (some place) r = Failed (r place)
-testAt none r = Passed
-
--- what an operation answers when a test failed
-unfoldable pub refusalOf : Test → Answer
-refusalOf (Failed r) = Refused r
-refusalOf Passed = Done 0 0
 
 -- ---- An operation's outcome: its result with count and detail, or a refusal.
 

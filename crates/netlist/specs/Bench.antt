@@ -9,7 +9,7 @@ use Rattle.laws.specs.Lists.{ascii, joined}
 use Rattle.netlist.specs.declared.Refusal.the-variants.{SyntaxError, DuplicateDeclaration, UndeclaredName, MalformedBlock}
 use Rattle.netlist.specs.Values.{Value}
 use Rattle.netlist.specs.Netlist.{Output, Block, inputCount}
-use Rattle.netlist.specs.StoredBlock.{decode, isTorn}
+use Rattle.netlist.specs.StoredBlock.{decode, isMalformed}
 use Rattle.netlist.specs.Rounds.{settled, outputValue}
 use Rattle.netlist.specs.Parse.{Parsed, got, stuck}
 use Rattle.netlist.specs.Reading.{Mention, mentions, pairMention, firstRepeat, firstOutside, givenValue}
@@ -57,7 +57,7 @@ lineOutcome b line = parsedOutcome b line (setLineReader (inputCount b) line)
 unfoldable pub answerLine : List ℕ → List ℕ → ℕ → Outcome
 answerLine ws line room =
     inRoom room
-    (refuseIf (isTorn ws) MalformedBlock
+    (refuseIf (isMalformed ws) MalformedBlock
     (lineOutcome (decode ws) line))
 
 -- what is written for a line

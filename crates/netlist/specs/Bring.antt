@@ -28,8 +28,8 @@ unfoldable pub brought : List ℕ → List ℕ
 brought ws = take 3 ws ++ (0 ∷ drop 3 ws)
 
 -- by the rules that held before: not the words, as they were, of any well-formed block of so many inputs
-unfoldable pub isTornBefore : List ℕ → Bool
-isTornBefore ws =
+unfoldable pub isMalformedBefore : List ℕ → Bool
+isMalformedBefore ws =
     not
     (leb (inputCount (decode (brought ws))) maxInputsBefore && isWellFormed (decode (brought ws))
     && same (encodeBefore (decode (brought ws))) ws)
@@ -37,7 +37,7 @@ isTornBefore ws =
 -- Bring (6, 11): count: words
 unfoldable pub bringWords : List ℕ → Outcome
 bringWords ws =
-    refuseIf (isTornBefore ws) MalformedBlock
+    refuseIf (isMalformedBefore ws) MalformedBlock
     (counted (brought ws))
 
 unfoldable pub bring : List ℕ → ℕ → Outcome

@@ -12,7 +12,7 @@ use Rattle.netlist.specs.Values.{code}
 use Rattle.netlist.specs.Assignments.{bit}
 use Rattle.netlist.specs.Kinds.{gateValue}
 use Rattle.netlist.specs.Netlist.{Operand, input, gate, constant, Gate, Block, inputCount}
-use Rattle.netlist.specs.StoredBlock.{operandWords, nodeWord, operandOf, decode, isTorn}
+use Rattle.netlist.specs.StoredBlock.{operandWords, nodeWord, operandOf, decode, isMalformed}
 use Rattle.netlist.specs.Rounds.{settingOf}
 use Rattle.netlist.specs.Rendering.{isStraight}
 use Rattle.netlist.specs.Answers.{Outcome, done, refuseIf, inRoom}
@@ -42,7 +42,7 @@ cellsOf b = joined (map (cellWords (inputCount b)) (b .gates))
 
 unfoldable pub makeWords : List ℕ → Outcome
 makeWords ws =
-    refuseIf (isTorn ws) MalformedBlock
+    refuseIf (isMalformed ws) MalformedBlock
     (refuseIf (not (isStraight (decode ws))) NotStraight
     (counted (cellsOf (decode ws))))
 

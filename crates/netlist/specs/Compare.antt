@@ -10,7 +10,7 @@ use Rattle.laws.specs.Lists.{same, any, upTo, least}
 use Rattle.netlist.specs.declared.Refusal.the-variants.{MalformedBlock, NotStraight, InterfaceMismatch}
 use Rattle.netlist.specs.Values.{undefined, code}
 use Rattle.netlist.specs.Netlist.{Name, Output, Block, outputCount}
-use Rattle.netlist.specs.StoredBlock.{decode, isTorn}
+use Rattle.netlist.specs.StoredBlock.{decode, isMalformed}
 use Rattle.netlist.specs.Rounds.{settingCount, outputsUnder, isCounted}
 use Rattle.netlist.specs.Rendering.{isStraight}
 use Rattle.netlist.specs.Answers.{Outcome, done, refuseIf}
@@ -58,8 +58,8 @@ compareBlocks ours theirs = judgedAt ours theirs (lowestDisagreement ours theirs
 -- 6 is of either block, 10 of theirs
 unfoldable pub compare : List ℕ → List ℕ → Outcome
 compare ours theirs =
-    refuseIf (isTorn ours) MalformedBlock
-    (refuseIf (isTorn theirs) MalformedBlock
+    refuseIf (isMalformed ours) MalformedBlock
+    (refuseIf (isMalformed theirs) MalformedBlock
     (refuseIf (not (isStraight (decode theirs))) NotStraight
     (refuseIf (not (sameInterface (decode ours) (decode theirs))) InterfaceMismatch
     (compareBlocks (decode ours) (decode theirs)))))

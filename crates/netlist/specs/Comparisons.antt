@@ -1,16 +1,18 @@
--- SPECIFICATION 9.11: worked examples of Compare, among them those that tell its definition from near misses, as one claim.
+-- SPECIFICATION 9.11, 9.18: worked examples of Compare and of CompareCells, among them those that tell their definitions from near misses, each as one claim.
 use mathlib.Core.Path.{_≡_, refl}
 use mathlib.Core.Bool.{Bool, true}
-use mathlib.Core.List.{List, [], _∷_}
+use mathlib.Core.List.{List, [], _∷_, _++_}
 use Prim.Native.Nat.{ℕ}
 use Prim.Native.String.{String}
 use Rattle.laws.specs.Lists.{same, all}
 use Rattle.netlist.specs.Values.{code, valueOf, invert, isDefined}
 use Rattle.netlist.specs.Kinds.{row, rows, rowOf, isNot, isXor, isXnor, isKind, signatureOf}
 use Rattle.netlist.specs.Kinds.{fewestOperands, mostOperands, arityFits, keyword, ruled, ones, parity, gateValue}
-use Rattle.netlist.specs.StoredBlock.{gatesAt, outputsAt, isLetter, isDigit, isUnderscore, isNameByte, isNameStart, isLegalName, isPlainName}
-use Rattle.netlist.specs.StoredBlock.{isNodeName, nameWords, bytesAt, nameAt, nodeWord, operandOf, gateWords, gateAt, outputWords, outputAt, encode}
-use Rattle.netlist.specs.StoredBlock.{decode, isNode, isOperand, gateFits, isWellFormed, isTorn}
+use Rattle.netlist.specs.StoredBlock.{gatesAt, outputsAt}
+use Rattle.netlist.specs.Names.{isLetter, isDigit, isUnderscore, isNameByte, isNameStart, isLegalName, isPlainName}
+use Rattle.netlist.specs.StoredBlock.{nameWords, bytesAt, nameAt, nodeWord, operandOf, gateWords, gateAt, outputWords, outputAt, encode}
+use Rattle.netlist.specs.Names.{isNodeName}
+use Rattle.netlist.specs.StoredBlock.{decode, isNode, isOperand, gateFits, isWellFormed, isMalformed}
 use Rattle.netlist.specs.Assignments.{bit}
 use Rattle.netlist.specs.Rounds.{operandValue, evaluated, round, afterRounds, isStable, rounds, settled, settingOf, settingCount, settledUnder}
 use Rattle.netlist.specs.Rounds.{outputsUnder, isSettled, outputValue}
@@ -27,6 +29,10 @@ use Rattle.netlist.specs.Answers.{refusalNumber, refusalDetail, numberOf
 use Rattle.netlist.specs.Operations.{counted, readTree, readParsed, readText}
 use Rattle.netlist.specs.Compare.{sameNames, ports, sameInterface, differs, disagrees, lowestDisagreement, lowestDiffering, judgedAt}
 use Rattle.netlist.specs.Compare.{compareBlocks, compare}
+use Rattle.netlist.specs.Cells.{cellCount, cellAt, cellsIn, isEarlier, readsEarlier, areLegalCells, operandBit, numberOfBits, cellValue, runFrom}
+use Rattle.netlist.specs.Cells.{cellValues}
+use Rattle.netlist.specs.CompareCells.{isListed, settingBits, cellShown, cellDiffers, cellsDisagree, lowestCellDisagreement, lowestCellDiffering}
+use Rattle.netlist.specs.CompareCells.{cellsJudgedAt, compareBlockCells, compareCells}
 use Rattle.netlist.specs.Specimens.{report, blockWords, with}
 use Rattle.netlist.specs.StoredBlock.{neversAt, neverWords, neverAt, neverFits}
 use Rattle.netlist.specs.Assignments.{areMasks}
@@ -87,7 +93,7 @@ comparisons =
 pub comparisons-hold : all holds comparisons ≡ true
 unfolding code valueOf invert isDefined row rows rowOf isNot isXor isXnor isKind signatureOf fewestOperands mostOperands arityFits keyword ruled ones
     parity gateValue gatesAt outputsAt isLetter isDigit isUnderscore isNameByte isNameStart isLegalName isPlainName isNodeName nameWords bytesAt
-    nameAt nodeWord operandOf gateWords gateAt outputWords outputAt encode decode isNode isOperand gateFits isWellFormed isTorn operandValue evaluated
+    nameAt nodeWord operandOf gateWords gateAt outputWords outputAt encode decode isNode isOperand gateFits isWellFormed isMalformed operandValue evaluated
     round afterRounds isStable rounds settled bit settingOf settingCount settledUnder isSettled outputValue gateOperand readBy isStraight pure stop
     onTest ifNext expect onParsed bind nameBytes nameAfter nameReader kindReader spaced termsReader exprReader leafOr termReader addInput addGate
     addOutput inputLine gateLine outputLine atEnd line outputsReader gatesReader textReader parse gatesIn lineGates isOverLimit mentions linesLength
@@ -100,3 +106,58 @@ unfolding code valueOf invert isDefined row rows rowOf isNot isXor isXnor isKind
     valueText pairText printPair bitReader pairReader spacedPair pairsReader pairMention givenValue printLines printInput printGate printOutput
     printTerm
 comparisons-hold = refl
+
+-- ---- CompareCells: the block's words, the cells' words, the list of shown nodes, and the answer
+
+pub record CellComparison : Type 0 where
+  pub block : List ℕ
+  pub cells : List ℕ
+  pub shown : List ℕ
+  pub answer : List ℕ
+
+unfoldable pub cellsHold : CellComparison → Bool
+cellsHold c = same (report (compareCells (c .block) (c .cells) (c .shown))) (c .answer)
+
+unfoldable pub ofLooped : List ℕ → List ℕ → List ℕ → CellComparison
+ofLooped cells shown answer = record { block = blockWords looped; cells = cells; shown = shown; answer = answer }
+
+-- one cell, which inverts input 1, and whose truth word asks only its first operand
+unfoldable pub inverter : List ℕ
+inverter = 1 ∷ 65534 ∷ 65534 ∷ 65534 ∷ 21845 ∷ []
+
+unfoldable pub cellComparisons : List CellComparison
+cellComparisons =
+    -- inputs may be shown, and no cell at all is enough; the setting that is not settled does not count
+    ofLooped [] (1 ∷ 0 ∷ []) accepted
+    ∷ ofLooped (inverter ++ (2 ∷ 2 ∷ 65534 ∷ 65534 ∷ 21845 ∷ [])) (3 ∷ 0 ∷ []) accepted
+    -- the lowest setting, and there the lowest output, counted from 1
+    ∷ ofLooped [] (0 ∷ 1 ∷ []) (0 ∷ 1 ∷ 2 ∷ [])
+    ∷ ofLooped [] (1 ∷ 1 ∷ []) (0 ∷ 2 ∷ 2 ∷ [])
+    ∷ ofLooped inverter (2 ∷ 0 ∷ []) (0 ∷ 1 ∷ 0 ∷ [])
+    -- 6 of the block; 6 of the cells before 12 of the list; 12 before 6 of a word, which is no node or a constant
+    ∷ record { block = []; cells = []; shown = []; answer = with 6 0 }
+    ∷ ofLooped (1 ∷ 0 ∷ 0 ∷ 0 ∷ []) [] (with 6 0)
+    ∷ ofLooped (2 ∷ 0 ∷ 0 ∷ 0 ∷ 0 ∷ []) (1 ∷ 0 ∷ []) (with 6 0)
+    ∷ ofLooped [] (2 ∷ []) (with 12 0)
+    ∷ ofLooped [] (1 ∷ 2 ∷ []) (with 6 0)
+    ∷ ofLooped inverter (2 ∷ 65534 ∷ []) (with 6 0)
+    ∷ []
+
+pub cellComparisons-hold : all cellsHold cellComparisons ≡ true
+unfolding code valueOf invert isDefined row rows rowOf isNot isXor isXnor isKind signatureOf fewestOperands mostOperands arityFits keyword ruled ones
+    parity gateValue gatesAt outputsAt isLetter isDigit isUnderscore isNameByte isNameStart isLegalName isPlainName isNodeName nameWords bytesAt
+    nameAt nodeWord operandOf gateWords gateAt outputWords outputAt encode decode isNode isOperand gateFits isWellFormed isMalformed operandValue evaluated
+    round afterRounds isStable rounds settled bit settingOf settingCount settledUnder isSettled outputValue gateOperand readBy isStraight pure stop
+    onTest ifNext expect onParsed bind nameBytes nameAfter nameReader kindReader spaced termsReader exprReader leafOr termReader addInput addGate
+    addOutput inputLine gateLine outputLine atEnd line outputsReader gatesReader textReader parse gatesIn lineGates isOverLimit mentions linesLength
+    gateLinesAt outputLinesAt inputMention gateMention portMention shownMention termMentions operandMentions declaredNodes declaredPorts usedNames
+    firstRepeat orElse firstDuplicate firstOutside firstUndeclared inputBindings gateBindings bindings lookup termNode termsNodes termGates linesGates
+    blockOf refusalNumber refusalDetail numberOf countOf detailOf refuseIf refuseAt answerOf leftIn counted readTree readParsed readText report
+    blockWords with outputsUnder
+    accepted looped neversAt neverWords neverAt neverFits areMasks isExcluded isCounted isSoundAt printNever neverPairs
+    addNever neverLine neversReader neverLinesAt neverMentions excludedNames lesser firstRepeatIn assignmentOf fixes agrees isWithin maskOf isOne
+    valueText pairText printPair bitReader pairReader spacedPair pairsReader pairMention givenValue printLines printInput printGate printOutput
+    printTerm operandBit cellCount cellAt cellsIn isEarlier readsEarlier areLegalCells numberOfBits cellValue runFrom
+    cellValues isListed settingBits cellShown cellDiffers cellsDisagree lowestCellDisagreement lowestCellDiffering cellsJudgedAt compareBlockCells
+    compareCells cellsHold ofLooped inverter cellComparisons
+cellComparisons-hold = refl

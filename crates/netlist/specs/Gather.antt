@@ -7,7 +7,7 @@ use lib.Dec.{eqb, ltb}
 use Rattle.laws.specs.Lists.{all, tab, joined, upTo, member, least}
 use Rattle.netlist.specs.declared.Refusal.the-variants.{MalformedBlock, NoRoom, NotAPermutation}
 use Rattle.netlist.specs.Netlist.{Operand, input, gate, constant, Gate, Output, Block, gateCount, gateOf}
-use Rattle.netlist.specs.StoredBlock.{encode, decode, isTorn}
+use Rattle.netlist.specs.StoredBlock.{encode, decode, isMalformed}
 use Rattle.netlist.specs.Groups.{groups}
 use Rattle.netlist.specs.Answers.{Outcome, done, refuseIf, inRoom}
 use Rattle.netlist.specs.Operations.{counted}
@@ -60,7 +60,7 @@ lacksRoom b room listRoom = ltb room (length (encode (gathered b))) || ltb listR
 -- the two results have one answer: what one slice gets, and what the other
 unfoldable pub gatherWith : List ℕ → ℕ → ℕ → (Block → List ℕ) → Outcome
 gatherWith ws room listRoom result =
-    refuseIf (isTorn ws) MalformedBlock
+    refuseIf (isMalformed ws) MalformedBlock
     (refuseIf (lacksRoom (decode ws) room listRoom) NoRoom
     (done (result (decode ws)) (length (encode (gathered (decode ws)))) 0))
 
@@ -90,6 +90,6 @@ scattered order b = arranged (inverse order) (numberAt order) b
 unfoldable pub scatter : List ℕ → List ℕ → ℕ → Outcome
 scatter ws order room =
     inRoom room
-    (refuseIf (isTorn ws) MalformedBlock
+    (refuseIf (isMalformed ws) MalformedBlock
     (refuseIf (not (isPermutation (gateCount (decode ws)) order)) NotAPermutation
     (counted (encode (scattered order (decode ws))))))

@@ -5,6 +5,7 @@ pub mod Kinds
 pub mod Assignments
 pub mod GateTable
 pub mod Netlist
+pub mod Names
 pub mod StoredBlock
 pub mod Rounds
 pub mod Steps
@@ -23,6 +24,7 @@ pub mod Bring
 pub mod Sheet
 pub mod Compare
 pub mod Cells
+pub mod CompareCells
 pub mod Gather
 pub mod Program
 pub mod SetLine

@@ -12,7 +12,7 @@ use Rattle.netlist.specs.declared.Refusal.the-variants.{BadSetting, TooM
 use Rattle.netlist.specs.Limits.{maxText, maxCopies}
 use Rattle.netlist.specs.Values.{Value, code, valueOf}
 use Rattle.netlist.specs.Netlist.{Block, inputCount, gateCount}
-use Rattle.netlist.specs.StoredBlock.{encode, decode, isTorn}
+use Rattle.netlist.specs.StoredBlock.{encode, decode, isMalformed}
 use Rattle.netlist.specs.Rounds.{rounds, settled, settledSettings, lowestUnsettled}
 use Rattle.netlist.specs.Cover.{isSound, cover, coverEntries}
 use Rattle.netlist.specs.Groups.{groups, groupNumbers}
@@ -62,7 +62,7 @@ settleBlock b x = done (map code (settled b x)) (rounds b x) 0
 unfoldable pub settle : List ℕ → List ℕ → ℕ → Outcome
 settle ws setting room =
     inRoom room
-    (refuseIf (isTorn ws) MalformedBlock
+    (refuseIf (isMalformed ws) MalformedBlock
     (refuseIf (isBadSetting (decode ws) setting) BadSetting
     (settleBlock (decode ws) (map valueOf setting))))
 
@@ -70,7 +70,7 @@ settle ws setting room =
 
 unfoldable pub verdict : List ℕ → Outcome
 verdict ws =
-    refuseIf (isTorn ws) MalformedBlock
+    refuseIf (isMalformed ws) MalformedBlock
     (done [] (settledSettings (decode ws)) (lowestUnsettled (decode ws)))
 
 -- ---- 7.7 Cover (6, 11): the cover's masks; count: entries
@@ -81,7 +81,7 @@ coverBlock b = done (coverEntries b) (length (cover b)) 0
 unfoldable pub coverOf : List ℕ → ℕ → Outcome
 coverOf ws room =
     inRoom room
-    (refuseIf (isTorn ws) MalformedBlock
+    (refuseIf (isMalformed ws) MalformedBlock
     (coverBlock (decode ws)))
 
 -- ---- 7.8 Groups (6, 11): the number of each gate's group; count: groups
@@ -92,7 +92,7 @@ groupsBlock b = done (groupNumbers b) (length (groups b)) 0
 unfoldable pub groupsOf : List ℕ → ℕ → Outcome
 groupsOf ws room =
     inRoom room
-    (refuseIf (isTorn ws) MalformedBlock
+    (refuseIf (isMalformed ws) MalformedBlock
     (groupsBlock (decode ws)))
 
 -- ---- 7.9 Render (6, 8, 9, 11): the rendered block; count: words
@@ -106,7 +106,7 @@ renderBlock b =
 
 unfoldable pub renderWords : List ℕ → Outcome
 renderWords ws =
-    refuseIf (isTorn ws) MalformedBlock
+    refuseIf (isMalformed ws) MalformedBlock
     (renderBlock (decode ws))
 
 unfoldable pub render : List ℕ → ℕ → Outcome
@@ -120,7 +120,7 @@ passBlock b x = done (map code (sweep b x)) (gateCount b) 0
 unfoldable pub pass : List ℕ → List ℕ → ℕ → Outcome
 pass ws setting room =
     inRoom room
-    (refuseIf (isTorn ws) MalformedBlock
+    (refuseIf (isMalformed ws) MalformedBlock
     (refuseIf (not (isStraight (decode ws))) NotStraight
     (refuseIf (isBadSetting (decode ws) setting) BadSetting
     (passBlock (decode ws) (map valueOf setting)))))
@@ -129,7 +129,7 @@ pass ws setting room =
 
 unfoldable pub writeWords : List ℕ → Outcome
 writeWords ws =
-    refuseIf (isTorn ws) MalformedBlock
+    refuseIf (isMalformed ws) MalformedBlock
     (counted (writtenText (decode ws)))
 
 unfoldable pub write : List ℕ → ℕ → Outcome

@@ -9,7 +9,7 @@ use Rattle.laws.specs.Lists.{ascii, is}
 use Rattle.netlist.specs.Limits.{maxName, maxDepth}
 use Rattle.netlist.specs.Kinds.{fewestOperands, mostOperands}
 use Rattle.netlist.specs.Netlist.{Name}
-use Rattle.netlist.specs.StoredBlock.{isLetter, isNameByte, isNameStart}
+use Rattle.netlist.specs.Names.{isLetter, isNameByte, isNameStart}
 use Rattle.netlist.specs.Syntax.{Term, Terms, name, literal, apply, nil, cons, GateLine, OutputLine, Pair, Tree}
 
 pub data Parsed (A : Type 0) : Type 0 where

@@ -8,7 +8,7 @@ use Rattle.netlist.specs.declared.Refusal.the-variants.{MalformedBlock, 
 use Rattle.netlist.specs.declared.Record.{Record}
 use Rattle.netlist.specs.Values.{Value, valueOf, isDefined}
 use Rattle.netlist.specs.Netlist.{Block, inputCount}
-use Rattle.netlist.specs.StoredBlock.{decode, isTorn}
+use Rattle.netlist.specs.StoredBlock.{decode, isMalformed}
 use Rattle.netlist.specs.Assignments.{bit, maskOf, isOne, areMasks}
 use Rattle.netlist.specs.Rounds.{settled, outputValue}
 use Rattle.netlist.specs.Answers.{Outcome, done, refuseIf, refusalNumber}
@@ -57,10 +57,10 @@ answeredRecord b r = recordOf b (r .fixed) (r .ones)
 
 -- The records as the call leaves them; with 6 none changes.
 unfoldable pub sheetRecords : List ℕ → List Record → List Record
-sheetRecords ws rs = cond (isTorn ws) rs (map (answeredRecord (decode ws)) rs)
+sheetRecords ws rs = cond (isMalformed ws) rs (map (answeredRecord (decode ws)) rs)
 
 -- The call's own answer (6); count: the records.
 unfoldable pub sheet : List ℕ → ℕ → Outcome
 sheet ws count =
-    refuseIf (isTorn ws) MalformedBlock
+    refuseIf (isMalformed ws) MalformedBlock
     (done [] count 0)

@@ -1,6 +1,6 @@
--- SPECIFICATION 9.1 to 9.10 and 9.13 to 9.17: the worked examples, among them those that tell the definitions from their near misses, as one claim over one
--- list, computed from the definitions; behind them worked examples of the bench.
-use Prim.Native.Nat.{ℕ, suc, _+_, _-_, _%_}
+-- SPECIFICATION 9.1 to 9.10 and 9.13 to 9.17: the worked examples as one claim over one list, computed from the definitions. The starred specimens stand at
+-- its head; behind them those that tell the definitions from their near misses, and worked examples of the bench.
+use Prim.Native.Nat.{ℕ, suc}
 use Prim.Native.String.{String}
 use mathlib.Core.Path.{_≡_, refl}
 use mathlib.Core.Bool.{Bool, true}
@@ -13,9 +13,11 @@ use Rattle.netlist.specs.Values.{undefined, code, valueOf, invert, isDef
 use Rattle.netlist.specs.Netlist.{gateCount}
 use Rattle.netlist.specs.Kinds.{row, rows, rowOf, isNot, isXor, isXnor, isKind, signatureOf, fewestOperands, mostOperands, arityFits, keyword, ruled}
 use Rattle.netlist.specs.Kinds.{ones, parity, gateValue}
-use Rattle.netlist.specs.StoredBlock.{gatesAt, outputsAt, isLetter, isDigit, isUnderscore, isNameByte, isNameStart, isLegalName, isPlainName}
-use Rattle.netlist.specs.StoredBlock.{isNodeName, nameWords, bytesAt, nameAt, nodeWord, operandOf, gateWords, gateAt, outputWords, outputAt, encode}
-use Rattle.netlist.specs.StoredBlock.{decode, isNode, isOperand, gateFits, isWellFormed, isTorn}
+use Rattle.netlist.specs.StoredBlock.{gatesAt, outputsAt}
+use Rattle.netlist.specs.Names.{isLetter, isDigit, isUnderscore, isNameByte, isNameStart, isLegalName, isPlainName}
+use Rattle.netlist.specs.StoredBlock.{nameWords, bytesAt, nameAt, nodeWord, operandOf, gateWords, gateAt, outputWords, outputAt, encode}
+use Rattle.netlist.specs.Names.{isNodeName}
+use Rattle.netlist.specs.StoredBlock.{decode, isNode, isOperand, gateFits, isWellFormed, isMalformed}
 use Rattle.netlist.specs.Assignments.{bit}
 use Rattle.netlist.specs.Rounds.{operandValue, evaluated, round, afterRounds, isStable, rounds, settled, settingOf, settingCount, settledUnder}
 use Rattle.netlist.specs.Rounds.{isSettled, settledSettings, lowestUnsettled, outputValue, outputsUnder}
@@ -57,7 +59,7 @@ use Rattle.netlist.specs.Syntax.{printNever}
 use Rattle.netlist.specs.Parse.{neverPairs, addNever, neverLine, neversReader}
 use Rattle.netlist.specs.Reading.{neverLinesAt, neverMentions, excludedNames, lesser, firstRepeatIn, assignmentOf}
 use Rattle.netlist.specs.Writing.{pairsOf}
-use Rattle.netlist.specs.Bring.{encodeBefore, brought, isTornBefore, bringWords, bring}
+use Rattle.netlist.specs.Bring.{encodeBefore, brought, isMalformedBefore, bringWords, bring}
 use Rattle.netlist.specs.Steps.{stepAt, run}
 use Rattle.netlist.specs.Cells.{truthBit, truthWord, cellWords, cellsOf, makeWords, makeCells, cellCount, cellAt, cellsIn, isEarlier, readsEarlier}
 use Rattle.netlist.specs.Cells.{areLegalCells, isBadRun, operandBit, numberOfBits, cellValue, runFrom, cellValues, runCells}
@@ -207,15 +209,9 @@ inputLines n = joined (tab (λ i. ascii "(in a" ++ (decimal i ++ ascii ")\n")) n
 unfoldable pub tooManyInputs : List ℕ
 tooManyInputs = repeated (suc maxInputs) (ascii "(in a)\n")
 
--- a ring of n inverters, each reading the one before it, and the last one shown
-unfoldable pub ring : ℕ → List ℕ
-ring n =
-    joined (tab (λ i. ascii "(gate g" ++ (decimal i ++ (ascii " (not g" ++ (decimal ((i + (n - 1)) % n) ++ ascii "))\n")))) n)
-    ++ (ascii "(out y g" ++ (decimal (n - 1) ++ ascii ")\n"))
-
 unfoldable pub specimens : List Specimen
 specimens =
-    -- 9.1
+    -- The starred specimens of the scope, in its order. 9.1
     (toRead (ascii "") 4 ⇒ 0 ∷ 4 ∷ 0 ∷ 0 ∷ 0 ∷ 0 ∷ 0 ∷ [])
     ∷ (toJudge (blockWords "") ⇒ 0 ∷ 1 ∷ 1 ∷ [])
     ∷ (toCover (blockWords "") 2 ⇒ 0 ∷ 1 ∷ 0 ∷ 0 ∷ 0 ∷ [])
@@ -233,13 +229,6 @@ specimens =
     -- 9.4: a gate that reads itself
     ∷ (toRender (blockWords "(gate p (or p (not p)))\n(out y p)\n") 99 ⇒ with 9 0)
     ∷ (toUnloop (ascii "(gate p (or p 1))\n(out y p)\n") ⇒ ascii "(gate _0 (or 0 1))\n(out y _0)\n")
-    -- 9.4: a loop that no output needs, an output that shows an input, and no output at all
-    ∷ (toJudge (blockWords spare) ⇒ 0 ∷ 2 ∷ 2 ∷ [])
-    ∷ (toCover (blockWords spare) 2 ⇒ 0 ∷ 1 ∷ 0 ∷ 0 ∷ 0 ∷ [])
-    ∷ (toUnloop (ascii spare) ⇒ ascii "(in a)\n(gate _0 (not 0))\n(gate _1 (not a))\n(out y _1)\n(out z a)\n")
-    ∷ (toJudge (blockWords "(in a)\n(gate t (nand t a))\n") ⇒ 0 ∷ 2 ∷ 2 ∷ [])
-    ∷ (toCover (blockWords "(in a)\n(gate t (nand t a))\n") 2 ⇒ 0 ∷ 1 ∷ 0 ∷ 0 ∷ 0 ∷ [])
-    ∷ (toUnloop (ascii "(in a)\n(gate t (nand t a))\n") ⇒ ascii "(in a)\n(gate _0 (nand 0 a))\n")
     -- 9.5
     ∷ (toJudge (blockWords specimen6) ⇒ 0 ∷ 32 ∷ 32 ∷ [])
     ∷ (toSettle (blockWords specimen6) (0 ∷ 1 ∷ 1 ∷ 0 ∷ 0 ∷ []) 6 ⇒ 0 ∷ 6 ∷ 0 ∷ 0 ∷ 0 ∷ 0 ∷ 0 ∷ 0 ∷ 0 ∷ [])
@@ -249,6 +238,14 @@ specimens =
     -- 9.7: the whole of a rendered text
     ∷ (toUnloop (ascii "(in s)\n(gate p (and s q))\n(gate q (or s p))\n(out y q)\n")
     ⇒ ascii "(in s)\n(gate _0 (and s 0))\n(gate _1 (or s _0))\n(gate _2 (and s _1))\n(gate _3 (or s _2))\n(out y _3)\n")
+    -- the other worked examples
+    -- 9.4: a loop that no output needs, an output that shows an input, and no output at all
+    ∷ (toJudge (blockWords spare) ⇒ 0 ∷ 2 ∷ 2 ∷ [])
+    ∷ (toCover (blockWords spare) 2 ⇒ 0 ∷ 1 ∷ 0 ∷ 0 ∷ 0 ∷ [])
+    ∷ (toUnloop (ascii spare) ⇒ ascii "(in a)\n(gate _0 (not 0))\n(gate _1 (not a))\n(out y _1)\n(out z a)\n")
+    ∷ (toJudge (blockWords "(in a)\n(gate t (nand t a))\n") ⇒ 0 ∷ 2 ∷ 2 ∷ [])
+    ∷ (toCover (blockWords "(in a)\n(gate t (nand t a))\n") 2 ⇒ 0 ∷ 1 ∷ 0 ∷ 0 ∷ 0 ∷ [])
+    ∷ (toUnloop (ascii "(in a)\n(gate t (nand t a))\n") ⇒ ascii "(in a)\n(gate _0 (nand 0 a))\n")
     -- 9.2: places of refusal 2
     ∷ (toRead (ascii "(") 99 ⇒ with 2 1)
     ∷ (toRead (ascii "(x") 99 ⇒ with 2 1)
@@ -431,7 +428,6 @@ specimens =
     ∷ (toStep (blockWords specimen4) (1 ∷ 1 ∷ []) (0 ∷ 1 ∷ 1 ∷ 0 ∷ []) ⇒ 1 ∷ 1 ∷ [])
     ∷ (toStep (blockWords specimen4) (0 ∷ 2 ∷ []) (1 ∷ 0 ∷ 1 ∷ []) ⇒ 0 ∷ 2 ∷ [])
     -- 9.17, passes over a group: at least one, also where no gate ever gets a value, and under no setting
-    ∷ (toUnloop (ring 33) ⇒ ascii "(refused 9 0)\n")
     ∷ (toCountPasses (blockWords neverAny) ⇒ 1 ∷ [])
     -- a ring that a constant opens: each gate reads the one before, or the one after, with the `and` last, and first
     ∷ (toCountPasses (blockWords "(gate p (and 0 s))\n(gate q (not p))\n(gate r (not q))\n(gate s (not r))\n") ⇒ 1 ∷ [])
@@ -480,7 +476,7 @@ specimens =
 pub specimens-hold : all right specimens ≡ true
 unfolding code valueOf invert isDefined row rows rowOf isNot isXor isXnor isKind signatureOf fewestOperands mostOperands arityFits keyword ruled ones
     parity gateValue gatesAt outputsAt isLetter isDigit isUnderscore isNameByte isNameStart isLegalName isPlainName isNodeName nameWords bytesAt
-    nameAt nodeWord operandOf gateWords gateAt outputWords outputAt encode decode isNode isOperand gateFits isWellFormed isTorn operandValue evaluated
+    nameAt nodeWord operandOf gateWords gateAt outputWords outputAt encode decode isNode isOperand gateFits isWellFormed isMalformed operandValue evaluated
     round afterRounds isStable rounds settled bit settingOf settingCount settledUnder isSettled settledSettings lowestUnsettled fixes agrees
     isSoundUnder isSound without isMinimal isWithin assignmentsAt assignments cover coverEntries gateOperand readBy reads has grown grownTimes reach
     reaches sameGroup groupOf isReady mayBeNext groupsAfter groups groupNumber groupNumbers beforePasses afterPasses areSettled areEnough passCount
@@ -496,9 +492,8 @@ unfolding code valueOf invert isDefined row rows rowOf isNot isXor isXnor isKind
     settledOutputs recordOf answeredRecord sheetRecords sheet chained refusalLine shown unloop outputValue outputsUnder valueText pairText printPair
     bitReader pairReader spacedPair pairsReader setLineReader pairMention givenNames givenValue givenValues portText showLine pairsOutcome
     parsedOutcome lineOutcome answerLine lineAnswer netlistFrom settingsFrom netlistPart settingsPart lastLine linesFrom linesOf lineAnswers
-    benchAfter bench report asks fields answered right blockWords _⇒_ with specimen4 shown4 specimen6 rendered6 spare kinds board parities parityLoop
-    ring specimens neversAt neverWords neverAt neverFits areMasks isExcluded isCounted isSoundAt printNever neverPairs addNever neverLine neversReader
-    neverLinesAt neverMentions excludedNames lesser firstRepeatIn assignmentOf pairsOf encodeBefore brought isTornBefore bringWords bring never11
+    benchAfter bench report asks fields answered right blockWords _⇒_ with specimen4 shown4 specimen6 rendered6 spare kinds board parities parityLoop specimens neversAt neverWords neverAt neverFits areMasks isExcluded isCounted isSoundAt printNever neverPairs addNever neverLine neversReader
+    neverLinesAt neverMentions excludedNames lesser firstRepeatIn assignmentOf pairsOf encodeBefore brought isMalformedBefore bringWords bring never11
     never4 neverAny inputLines tooManyInputs stepAt run truthBit truthWord cellWords cellsOf makeWords makeCells cellCount cellAt cellsIn isEarlier
     readsEarlier areLegalCells isBadRun operandBit numberOfBits cellValue runFrom cellValues runCells renumbered renumberedGate renumberedOutput
     arranged numberAt placeIn gatheredOrder gathered lacksRoom gatherWith gatheredWords gather gatherList isPermutation inverse scattered scatter

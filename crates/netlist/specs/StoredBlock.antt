@@ -1,13 +1,14 @@
--- SPECIFICATION 2: the words of a netlist, the netlist of a slice of words, and which words are malformed ("torn"). Names are also of 1.2.
+-- SPECIFICATION 2: the words of a netlist, the netlist of a slice of words, and which words are malformed ("torn").
 use Prim.Native.Nat.{ℕ, _+_, _-_, _*_, _/_, _%_}
 use mathlib.Core.Bool.{Bool, true, false, cond, not, _&&_, _||_}
 use mathlib.Core.List.{List, [], _∷_, _++_, map}
 use lib.ListN.{length, getD}
 use lib.Dec.{eqb, leb, ltb}
 use Rattle.laws.specs.Lists.{same, all, tab, joined, trimmed, distinct}
-use Rattle.netlist.specs.Limits.{maxInputs, maxNevers, maxGates, maxOutputs, maxName}
+use Rattle.netlist.specs.Limits.{maxInputs, maxNevers, maxGates, maxOutputs}
 use Rattle.netlist.specs.Assignments.{Assignment, areMasks}
 use Rattle.netlist.specs.Kinds.{isKind, arityFits}
+use Rattle.netlist.specs.Names.{isPlainName}
 use Rattle.netlist.specs.Netlist.{Name, Operand, input, gate, constant, Gate, Output, Block, inputCount, gateCount, outputCount, neverCount}
 
 -- ---- 2.1, where the parts stand: four counts, the names of inputs, the never lines, the gates, the outputs; a never line is two masks, an output
@@ -41,34 +42,7 @@ gatesAt n l = neversAt n + neverSize * l
 unfoldable pub outputsAt : ℕ → ℕ → ℕ → ℕ
 outputsAt n l m = gatesAt n l + gateSize * m
 
--- ---- 1.2, names: letters, digits and `_`, no digit in front
-
-unfoldable pub isLetter : ℕ → Bool
-isLetter c = leb 97 c && leb c 122
-
-unfoldable pub isDigit : ℕ → Bool
-isDigit c = leb 48 c && leb c 57
-
-unfoldable pub isUnderscore : ℕ → Bool
-isUnderscore c = eqb c 95
-
-unfoldable pub isNameByte : ℕ → Bool
-isNameByte c = isLetter c || isDigit c || isUnderscore c
-
-unfoldable pub isNameStart : ℕ → Bool
-isNameStart c = isLetter c || isUnderscore c
-
--- a name whose first byte passes the test `start`
-unfoldable pub isLegalName : (ℕ → Bool) → Name → Bool
-isLegalName start s = leb 1 (length s) && leb (length s) maxName && start (getD s 0 0) && all isNameByte s
-
--- the name of an input, and a port
-unfoldable pub isPlainName : Name → Bool
-isPlainName = isLegalName isLetter
-
--- the name of a gate, and any name that is used
-unfoldable pub isNodeName : Name → Bool
-isNodeName = isLegalName isNameStart
+-- ---- names
 
 -- 2.2: two bytes to a word, the first of them low; zero bytes fill the last words
 unfoldable pub nameWords : Name → List ℕ
@@ -172,5 +146,5 @@ isWellFormed b =
     && all (λ o. isNode b (o .node)) (b .outputs)
 
 -- not the encoding of any well-formed block
-unfoldable pub isTorn : List ℕ → Bool
-isTorn ws = not (isWellFormed (decode ws) && same (encode (decode ws)) ws)
+unfoldable pub isMalformed : List ℕ → Bool
+isMalformed ws = not (isWellFormed (decode ws) && same (encode (decode ws)) ws)

@@ -11,7 +11,7 @@ use Rattle.netlist.specs.Limits.{maxDepth}
 use Rattle.netlist.specs.Values.{Value, undefined, val}
 use Rattle.netlist.specs.Kinds.{isKind, arityFits, keyword}
 use Rattle.netlist.specs.Netlist.{Name}
-use Rattle.netlist.specs.StoredBlock.{isPlainName, isNodeName}
+use Rattle.netlist.specs.Names.{isPlainName, isNodeName}
 
 -- An operand: a name, a constant, or an expression, which is a kind and its operands.
 mutual

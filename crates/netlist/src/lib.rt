@@ -30,12 +30,6 @@ pub enum Refusal {
     NotAPermutation,
 }
 
-// What a condition of an operation answers: the input passes, or the operation refuses.
-pub enum Test {
-    Passed,
-    Failed(Refusal),
-}
-
 // What an operation answers.
 pub enum Answer {
     Done { count: usize, detail: usize },

@@ -17,9 +17,9 @@ use Rattle.laws.specs.Lists.{all, memberList, placed}
 use Rattle.laws.proofs.Tests.{and-left, and-right}
 use Rattle.netlist.specs.declared.Refusal.{Refusal}
 use Rattle.netlist.specs.declared.Refusal.the-variants.{DuplicateDeclaration, UndeclaredName}
-use Rattle.netlist.specs.declared.Test.{Test}
-use Rattle.netlist.specs.declared.Test.the-variants.{Passed}
-use Rattle.netlist.specs.Answers.{testAt}
+use Rattle.refusals.specs.declared.Test.{Test}
+use Rattle.refusals.specs.declared.Test.the-variants.{Passed}
+use Rattle.refusals.specs.Tests.{testAt}
 use Rattle.netlist.specs.Netlist.{Name}
 use Rattle.netlist.specs.StoredBlock.{neverWords}
 use Rattle.netlist.specs.Syntax.{Pair, isLegalNever, printLines, printNever}

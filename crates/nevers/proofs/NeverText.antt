@@ -15,7 +15,7 @@ use Rattle.laws.specs.Lists.{ascii, all}
 use Rattle.laws.proofs.Tests.{and-left, and-right}
 use Rattle.netlist.specs.Limits.{maxInputs}
 use Rattle.netlist.specs.Values.{val}
-use Rattle.netlist.specs.StoredBlock.{isNameStart, isNodeName}
+use Rattle.netlist.specs.Names.{isNameStart, isNodeName}
 use Rattle.netlist.specs.Syntax.{Pair, valueText, pairText, printPair, isLegalPair, isLegalNever, printLines, printNever}
 use Rattle.grammar.proofs.Places.{printNever-split}
 use Rattle.layout.specs.Masks.{maskBits}

@@ -12,7 +12,7 @@ use native.Mathlib.Omega.{arith}
 use lib.ListN.{length, take, drop, length-append, length-map}
 use Rattle.laws.specs.Lists.{ascii, all, joined, sum}
 use Rattle.laws.proofs.Tests.{and-intro}
-use Rattle.netlist.specs.StoredBlock.{isPlainName}
+use Rattle.netlist.specs.Names.{isPlainName}
 use Rattle.netlist.specs.Syntax.{Pair, Tree, isLegalNever, printInput, printNever, printGate, printOutput, printLines, print}
 use Rattle.netlist.specs.Reading.{linesLength, neverLinesAt, gateLinesAt}
 use Rattle.grammar.proofs.Places.{printInput-split, printNever-split, nevers-at}

@@ -15,7 +15,7 @@ use Rattle.laws.proofs.Quantifiers.{all-at}
 use Rattle.encoding.proofs.ListFacts.{tab-is, getD-map}
 use Rattle.netlist.specs.Values.{code, val, valueOf}
 use Rattle.netlist.specs.Netlist.{Name}
-use Rattle.netlist.specs.StoredBlock.{isNameByte}
+use Rattle.netlist.specs.Names.{isNameByte}
 use Rattle.netlist.specs.Syntax.{Pair, isLegalPair}
 use Rattle.netlist.specs.Reading.{givenValue}
 use Rattle.names.specs.Packed.{packed}

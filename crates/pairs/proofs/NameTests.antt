@@ -16,11 +16,11 @@ use Rattle.laws.proofs.Quantifiers.{all-at}
 use Rattle.laws.proofs.Least.{least-le, least-below, least-at}
 use Rattle.encoding.proofs.ListFacts.{getD-map}
 use Rattle.netlist.specs.declared.Refusal.the-variants.{DuplicateDeclaration, UndeclaredName}
-use Rattle.netlist.specs.declared.Test.the-variants.{Passed, Failed}
+use Rattle.refusals.specs.declared.Test.the-variants.{Passed, Failed}
 use Rattle.netlist.specs.Netlist.{Name}
-use Rattle.netlist.specs.StoredBlock.{isNameByte, isNameStart, isNodeName}
+use Rattle.netlist.specs.Names.{isNameByte, isNameStart, isNodeName}
 use Rattle.netlist.specs.Reading.{Mention, mentions, pairMention, firstRepeat, firstOutside}
-use Rattle.netlist.specs.Answers.{testAt}
+use Rattle.refusals.specs.Tests.{testAt}
 use Rattle.netlist.specs.Syntax.{Pair, printPair, isLegalPair}
 use Rattle.names.specs.Packed.{packed}
 use Rattle.names.specs.Search.{indexOf, repeatsAt}

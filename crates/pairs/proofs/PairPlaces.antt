@@ -19,7 +19,7 @@ use Rattle.laws.proofs.Tests.{and-left, and-right}
 use Rattle.laws.proofs.Quantifiers.{all-at}
 use Rattle.encoding.proofs.ListFacts.{tab-is}
 use Rattle.netlist.specs.Values.{code, val}
-use Rattle.netlist.specs.StoredBlock.{isNameByte, isLetter, isDigit, isUnderscore, isNameStart, isLegalName, isNodeName}
+use Rattle.netlist.specs.Names.{isNameByte, isLetter, isDigit, isUnderscore, isNameStart, isLegalName, isNodeName}
 use Rattle.netlist.specs.Syntax.{Pair, valueText, pairText, printPair, isLegalPair, printLines}
 use Rattle.netlist.specs.Reading.{Mention, mentions, pairMention}
 use Rattle.grammar.proofs.Places.{printPair-split}

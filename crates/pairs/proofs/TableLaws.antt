@@ -18,7 +18,7 @@ use Rattle.laws.proofs.Tab.{length-tab, placed-tab}
 use Rattle.encoding.proofs.ListFacts.{tab-is, getD-map}
 use Rattle.netlist.specs.Values.{code, val, valueOf}
 use Rattle.netlist.specs.Netlist.{Name}
-use Rattle.netlist.specs.StoredBlock.{isNameByte, isPlainName}
+use Rattle.netlist.specs.Names.{isNameByte, isPlainName}
 use Rattle.netlist.specs.Syntax.{Pair, isLegalPair}
 use Rattle.netlist.specs.Reading.{givenValue}
 use Rattle.names.specs.Lines.{lineOpens}

@@ -9,7 +9,7 @@ use Rattle.laws.specs.Lists.{ascii, all}
 use Rattle.netlist.specs.Limits.{maxText}
 use Rattle.netlist.specs.Values.{code, val}
 use Rattle.netlist.specs.Netlist.{Name}
-use Rattle.netlist.specs.StoredBlock.{isNameByte}
+use Rattle.netlist.specs.Names.{isNameByte}
 use Rattle.netlist.specs.Syntax.{Pair, isLegalPair, printPair, printLines}
 use Rattle.netlist.specs.Reading.{Mention, mentions, pairMention}
 use Rattle.names.specs.Lines.{lineOpens}

@@ -2,7 +2,7 @@
 use names::search::find;
 use names::search::first_repeat;
 use netlist::Refusal;
-use netlist::Test;
+use refusals::Test;
 ghost use mathlib.Core.Path.{_≡_};
 ghost use mathlib.Core.Bool.{true};
 ghost use mathlib.Core.List.{List, []};
@@ -10,7 +10,7 @@ ghost use Prim.Native.Nat.{ℕ, _≤_, _<_};
 ghost use lib.ListN.{length};
 ghost use Rattle.laws.specs.Lists.{all, tab, placed, least};
 ghost use Rattle.netlist.specs.declared.Refusal.the-variants.{DuplicateDeclaration, UndeclaredName};
-ghost use Rattle.netlist.specs.Answers.{testAt};
+ghost use Rattle.refusals.specs.Tests.{testAt};
 ghost use Rattle.netlist.specs.Reading.{firstRepeat, firstOutside};
 ghost use Rattle.netlist.specs.Netlist.{Name};
 ghost use Rattle.netlist.specs.Syntax.{Pair, isLegalPair};

@@ -14,7 +14,7 @@ use mathlib.Core.List.{List}
 use lib.ListN.{length}
 use borrow.Author.Tests.{le-ltb}
 use Rattle.netlist.specs.Netlist.{Block, gateCount, outputCount}
-use Rattle.netlist.specs.StoredBlock.{outputsAt, outputSize, encode, decode, isTorn, isWellFormed}
+use Rattle.netlist.specs.StoredBlock.{outputsAt, outputSize, encode, decode, isMalformed, isWellFormed}
 use Rattle.netlist.specs.Rendering.{isStraight}
 use Rattle.netlist.specs.Cover.{coverEntries}
 use Rattle.netlist.specs.Answers.{done, refuseIf, inRoom}
@@ -34,14 +34,14 @@ arranged-length order number b long =
     (ap₂ (λ (n l : ℕ). outputsAt n l (gateCount b) + outputSize * outputCount b) (ap {B = ℕ} length (arranged-inputs order number b))
     (ap {B = ℕ} length (arranged-nevers order number b)))
 
-module _ (ws : List ℕ) (whole : isTorn ws ≡ false) where
+module _ (ws : List ℕ) (whole : isMalformed ws ≡ false) where
   fits : isWellFormed (decode ws) ≡ true
   fits = whole-wellFormed ws whole
 
   -- ---- gates in any order
 
   module _ (order : List ℕ) (number : ℕ → ℕ) (r : Renumbers (gateCount (decode ws)) order number) where
-    made-whole : isTorn (encode (arranged order number (decode ws))) ≡ false
+    made-whole : isMalformed (encode (arranged order number (decode ws))) ≡ false
     made-whole = encode-whole (arranged order number (decode ws)) (arranged-wellFormed (decode ws) fits order number r)
 
     made-decode : decode (encode (arranged order number (decode ws))) ≡ arranged order number (decode ws)
@@ -71,7 +71,7 @@ module _ (ws : List ℕ) (whole : isTorn ws ≡ false) where
   grouped : Renumbers (gateCount (decode ws)) (gatheredOrder (decode ws)) (placeIn (gatheredOrder (decode ws)))
   grouped = by-group (decode ws) fits
 
-  pub gathered-whole : isTorn (gatheredWords (decode ws)) ≡ false
+  pub gathered-whole : isMalformed (gatheredWords (decode ws)) ≡ false
   unfolding gatheredWords gathered
   gathered-whole = made-whole _ _ grouped
 
@@ -120,7 +120,7 @@ module _ (ws : List ℕ) (whole : isTorn ws ≡ false) where
     listed : Renumbers (gateCount (decode ws)) (inverse order) (numberAt order)
     listed = back (decode ws) fits order h
 
-    pub scattered-whole : isTorn (encode (scattered order (decode ws))) ≡ false
+    pub scattered-whole : isMalformed (encode (scattered order (decode ws))) ≡ false
     unfolding scattered
     scattered-whole = made-whole _ _ listed
 

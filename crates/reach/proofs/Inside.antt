@@ -15,7 +15,8 @@ use Rattle.laws.proofs.Lists.{member-cases, member-one}
 use Rattle.netlist.specs.Limits.{maxInputs, maxNevers, maxGates, maxOutputs}
 use Rattle.netlist.specs.Netlist.{Operand, input, gate, constant, Gate, Output, Block, inputCount, gateCount, outputCount, neverCount}
 use Rattle.netlist.specs.Kinds.{isKind, arityFits}
-use Rattle.netlist.specs.StoredBlock.{isPlainName, isNode, isOperand, gateFits, neverFits, isWellFormed}
+use Rattle.netlist.specs.StoredBlock.{isNode, isOperand, gateFits, neverFits, isWellFormed}
+use Rattle.netlist.specs.Names.{isPlainName}
 use Rattle.netlist.specs.Groups.{gateOperand, readBy, reads}
 use Rattle.reach.specs.Inside.{Inside}
 

@@ -20,7 +20,7 @@ use Rattle.layout.specs.Nodes.{gateNamed, nodesOf}
 use Rattle.netlist.specs.Limits.{maxInputs, maxGates}
 use Rattle.netlist.specs.Netlist.{Operand, input, gate, constant, gateOf}
 use Rattle.netlist.specs.Groups.{gateOperand, readBy, reads}
-use Rattle.netlist.specs.StoredBlock.{neversAt, gatesAt, nodeWord, operandOf, decode, isTorn}
+use Rattle.netlist.specs.StoredBlock.{neversAt, gatesAt, nodeWord, operandOf, decode, isMalformed}
 use Rattle.encoding.proofs.Nodes.{nodeWord-operandOf}
 use Rattle.encoding.proofs.Readers.{whole-parts, whole-gate, whole-reads}
 use Rattle.encoding.proofs.Decoded.{decode-gateCount, decode-count, decode-operand}
@@ -199,7 +199,7 @@ named-operand (gate x ∷ os) k h =
     (λ m. let r = named-operand os k m in (suc (r .0), omega (arith, r .1), r .2))
     (member-first k x (joined (map gateOperand os)) h)
 
-module _ (ws : List ℕ) (whole : isTorn ws ≡ false) where
+module _ (ws : List ℕ) (whole : isMalformed ws ≡ false) where
   abbrev n : ℕ
   n = getD ws 0 0
 

@@ -14,7 +14,7 @@ use Rattle.layout.specs.Nodes.{gateNamed, nodesOf}
 use Rattle.netlist.specs.Limits.{maxGates}
 use Rattle.netlist.specs.Netlist.{Block}
 use Rattle.netlist.specs.Groups.{reads}
-use Rattle.netlist.specs.StoredBlock.{gateSize, isTorn}
+use Rattle.netlist.specs.StoredBlock.{gateSize, isMalformed}
 
 -- p is in the list that starts at an index
 pub data Chain (next : List ℕ) (p : ℕ) : ℕ → Type 0 where
@@ -49,7 +49,7 @@ pub record LinkRoom (nodes : Nodes) (e : ℕ) (first next : List ℕ) : Type 0 w
 
 -- the words hold a whole block with these nodes
 pub record ReaderLinkReady (ws : List ℕ) (nodes : Nodes) (first next : List ℕ) : Type 0 where
-  pub whole : isTorn ws ≡ false
+  pub whole : isMalformed ws ≡ false
   pub nodesAre : nodes ≡ nodesOf ws
   pub room : ReaderRoom (nodes .gates) first next
 

@@ -11,7 +11,7 @@ ghost use mathlib.Core.Bool.{false};
 ghost use Prim.Native.Nat.{_+_, _*_, _<_};
 ghost use lib.ListN.{getD};
 ghost use Rattle.layout.specs.Nodes.{gateNamed};
-ghost use Rattle.netlist.specs.StoredBlock.{decode, isTorn};
+ghost use Rattle.netlist.specs.StoredBlock.{decode, isMalformed};
 ghost use Rattle.readers.specs.Readers.{LinkRoom, ReaderLinkReady, ReadersLinked, Linking, Empty, ReaderRoom, Readers};
 
 // Puts word number `e` in front of the list of the gate that `word` names, if it names one.
@@ -50,7 +50,7 @@ fn link_gate(words: &[u16], nodes: Nodes, j: usize, first: &mut [u16], next: &mu
 
 // Puts the operand words of all gates of a whole block in their lists, which are empty at first.
 pub fn link_readers(words: &[u16], first: &mut [u16], next: &mut [u16])
-    requires { ⌜ isTorn (now words) ≡ false ⌝ }
+    requires { ⌜ isMalformed (now words) ≡ false ⌝ }
     requires { ⌜ ReaderRoom (getD (now words) 1 0) (now first) (now next) × Empty (now first) × Empty (now next) ⌝ }
     ensures { λ r. ⌜ Readers (decode (now (words .entry))) (getD (now (words .entry)) 1 0) (now (first .exit)) (now (next .exit)) ⌝ }
 {

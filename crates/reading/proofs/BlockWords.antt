@@ -11,7 +11,8 @@ use Rattle.laws.proofs.Tests.{and-left, and-right}
 use Rattle.laws.proofs.Tab.{length-tab, tab-ext, tab-getD, map-tab}
 use Rattle.laws.proofs.Stores.{sets-append, length-joined-tab}
 use Rattle.netlist.specs.Netlist.{Name, gateCount, outputCount, neverCount}
-use Rattle.netlist.specs.StoredBlock.{isPlainName, inputsAt, neversAt, gatesAt, outputsAt, nameWords, neverWords, gateWords, outputWords, encode}
+use Rattle.netlist.specs.StoredBlock.{inputsAt, neversAt, gatesAt, outputsAt, nameWords, neverWords, gateWords, outputWords, encode}
+use Rattle.netlist.specs.Names.{isPlainName}
 use Rattle.netlist.specs.Syntax.{name, apply, GateLine, Tree, isLegalTree, printInput, printGate}
 use Rattle.netlist.specs.Reading.{Mention, mentions, inputMention, gateMention, gateLinesAt, declaredNodes, declaredPorts, gatesIn, lineGates, Binding}
 use Rattle.netlist.specs.Reading.{bindings, termGates, linesGates, blockOf}

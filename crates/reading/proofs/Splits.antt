@@ -13,12 +13,12 @@ use lib.Seq.{length-take-le}
 use lib.Dec.{ltb}
 use borrow.Author.Tests.{ltb-true, ltb-false}
 use Rattle.netlist.specs.declared.Refusal.the-variants.{OverLimit}
-use Rattle.netlist.specs.declared.Test.{Test}
-use Rattle.netlist.specs.declared.Test.the-variants.{Passed}
+use Rattle.refusals.specs.declared.Test.{Test}
+use Rattle.refusals.specs.declared.Test.the-variants.{Passed}
 use Rattle.netlist.specs.Limits.{maxText, maxNevers}
 use Rattle.netlist.specs.Syntax.{Tree}
 use Rattle.netlist.specs.Reading.{neverLinesAt, gateLinesAt, outputLinesAt, isOverLimit}
-use Rattle.netlist.specs.Answers.{testOf}
+use Rattle.refusals.specs.Tests.{testOf}
 use Rattle.grammar.proofs.Places.{print-measure}
 use Rattle.names.specs.Plain.{plain}
 use Rattle.names.specs.Results.{Prints}

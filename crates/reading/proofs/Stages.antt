@@ -15,14 +15,15 @@ use Rattle.laws.proofs.Slices.{sets-placed, placed-room}
 use Rattle.netlist.specs.declared.Answer.{Answer}
 use Rattle.netlist.specs.declared.Answer.the-variants.{Done}
 use Rattle.netlist.specs.declared.Refusal.the-variants.{DuplicateDeclaration, UndeclaredName, NoRoom}
-use Rattle.netlist.specs.declared.Test.{Test}
-use Rattle.netlist.specs.declared.Test.the-variants.{Passed}
+use Rattle.refusals.specs.declared.Test.{Test}
+use Rattle.refusals.specs.declared.Test.the-variants.{Passed}
 use Rattle.netlist.specs.Limits.{maxText, maxInputs, maxNevers, maxGates, maxOutputs}
 use Rattle.netlist.specs.StoredBlock.{outputsAt, neverWords, gateWords, outputWords, encode}
 use Rattle.netlist.specs.Syntax.{Tree, isLegalTree}
 use Rattle.netlist.specs.Reading.{neverLinesAt, lesser, orElse, firstRepeatIn, excludedNames, firstOutside, bindings}
 use Rattle.netlist.specs.Reading.{isOverLimit, firstDuplicate, firstUndeclared, blockOf}
-use Rattle.netlist.specs.Answers.{testOf, testAt, refusalOf, done, refuseIf, inRoom, Promise}
+use Rattle.netlist.specs.Answers.{done, refuseIf, inRoom, Promise}
+use Rattle.refusals.specs.Tests.{testOf, testAt, refusalOf}
 use Rattle.netlist.specs.Operations.{read}
 use Rattle.names.specs.declared.Counts.{Counts}
 use Rattle.names.specs.Plain.{plain, moved}

@@ -14,12 +14,13 @@ use denote.Enum.Declared.{tagOf}
 use borrow.Author.Tests.{le-leb, lt-leb}
 use Rattle.netlist.specs.declared.Refusal.{Refusal}
 use Rattle.netlist.specs.declared.Refusal.the-variants.{DuplicateDeclaration, UndeclaredName}
-use Rattle.netlist.specs.declared.Test.{Test}
-use Rattle.netlist.proofs.Test.{the-type}
-use Rattle.netlist.specs.declared.Test.the-variants.{Passed, Failed}
+use Rattle.refusals.specs.declared.Test.{Test}
+use Rattle.refusals.proofs.Test.{the-type}
+use Rattle.refusals.specs.declared.Test.the-variants.{Passed, Failed}
 use Rattle.netlist.specs.Limits.{maxText}
 use Rattle.netlist.specs.Reading.{lesser}
-use Rattle.netlist.specs.Answers.{refusalDetail, testAt}
+use Rattle.netlist.specs.Answers.{refusalDetail}
+use Rattle.refusals.specs.Tests.{testAt}
 use Rattle.names.specs.Plain.{movedPlace, moved}
 use Rattle.reading.specs.Places.{Near}
 

@@ -2,8 +2,8 @@
 use Prim.Native.Nat.{_≤_}
 use mathlib.Core.Path.{_≡_}
 use Rattle.netlist.specs.declared.Refusal.{Refusal}
-use Rattle.netlist.specs.declared.Test.{Test}
-use Rattle.netlist.specs.declared.Test.the-variants.{Failed}
+use Rattle.refusals.specs.declared.Test.{Test}
+use Rattle.refusals.specs.declared.Test.the-variants.{Failed}
 use Rattle.netlist.specs.Limits.{maxText}
 use Rattle.netlist.specs.Answers.{refusalDetail}
 

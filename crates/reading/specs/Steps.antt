@@ -8,13 +8,13 @@ use mathlib.Core.Option.{none}
 use lib.ListN.{length, getD, take, drop}
 use Rattle.laws.specs.Lists.{placed, joined}
 use Rattle.netlist.specs.declared.Refusal.the-variants.{DuplicateDeclaration, UndeclaredName}
-use Rattle.netlist.specs.declared.Test.{Test}
-use Rattle.netlist.specs.declared.Test.the-variants.{Passed}
+use Rattle.refusals.specs.declared.Test.{Test}
+use Rattle.refusals.specs.declared.Test.the-variants.{Passed}
 use Rattle.netlist.specs.Limits.{maxText, maxInputs, maxNevers, maxGates, maxOutputs}
 use Rattle.netlist.specs.StoredBlock.{neverSize, gateSize, outputSize, neverWords, gateWords, outputWords}
 use Rattle.netlist.specs.Syntax.{Tree}
 use Rattle.netlist.specs.Reading.{isOverLimit, firstDuplicate, firstUndeclared, blockOf}
-use Rattle.netlist.specs.Answers.{testAt}
+use Rattle.refusals.specs.Tests.{testAt}
 use Rattle.names.specs.declared.Counts.{Counts}
 use Rattle.names.specs.Index.{hashes}
 use Rattle.names.specs.Plain.{plain}

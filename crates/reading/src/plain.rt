@@ -1,6 +1,6 @@
 // The text without its never lines, and what its tests tell of the whole text.
 use netlist::Refusal;
-use netlist::Test;
+use refusals::Test;
 use refusals::detail_of;
 ghost use mathlib.Core.Path.{_≡_};
 ghost use mathlib.Core.List.{_++_};
@@ -11,7 +11,7 @@ ghost use lib.Seq.{sets};
 ghost use Rattle.netlist.specs.declared.Refusal.the-variants.{DuplicateDeclaration, UndeclaredName};
 ghost use Rattle.netlist.specs.Limits.{maxText};
 ghost use Rattle.netlist.specs.Reading.{lesser};
-ghost use Rattle.netlist.specs.Answers.{testAt};
+ghost use Rattle.refusals.specs.Tests.{testAt};
 ghost use Rattle.names.specs.Plain.{movedPlace, moved};
 ghost use Rattle.reading.specs.Places.{Near};
 

@@ -19,12 +19,13 @@ use Rattle.laws.specs.Lists.{placed}
 use Rattle.netlist.specs.declared.Refusal.{Refusal}
 use Rattle.netlist.specs.declared.Refusal.the-variants.{TextTooLong, SyntaxError, OverLimit, DuplicateDeclaration, UndeclaredName, MalformedBlock}
 use Rattle.netlist.specs.declared.Refusal.the-variants.{BadSetting, TooManyCopies, NotSettled, NotStraight, NoRoom, InterfaceMismatch, NotAPermutation}
-use Rattle.netlist.specs.declared.Test.{Test}
-use Rattle.netlist.proofs.Test.{the-type}
-use Rattle.netlist.specs.declared.Test.the-variants.{Passed, Failed}
+use Rattle.refusals.specs.declared.Test.{Test}
+use Rattle.refusals.proofs.Test.{the-type}
+use Rattle.refusals.specs.declared.Test.the-variants.{Passed, Failed}
 use Rattle.netlist.specs.declared.Answer.{Answer}
 use Rattle.netlist.specs.declared.Answer.the-variants.{Done, Refused}
-use Rattle.netlist.specs.Answers.{refusalNumber, refusalDetail, numberOf, countOf, detailOf, testOf, testAt, refusalOf, Outcome, done, refused, refuseIf}
+use Rattle.netlist.specs.Answers.{refusalNumber, refusalDetail, numberOf, countOf, detailOf, Outcome, done, refused, refuseIf}
+use Rattle.refusals.specs.Tests.{testOf, testAt, refusalOf}
 use Rattle.netlist.specs.Answers.{refuseAt, inRoom, answerOf, leftIn, Told, Promise}
 
 -- ---- answers and promises

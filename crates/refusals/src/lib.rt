@@ -3,12 +3,18 @@
 use netlist::Answer;
 use netlist::Refusal;
 use netlist::Reply;
-use netlist::Test;
 ghost use mathlib.Core.Path.{_≡_};
 ghost use lib.Dec.{ltb};
 ghost use Rattle.netlist.specs.declared.Answer.the-variants.{Refused};
 ghost use Rattle.netlist.specs.declared.Refusal.the-variants.{NoRoom};
-ghost use Rattle.netlist.specs.Answers.{refusalNumber, refusalDetail, testOf, refusalOf, Shows};
+ghost use Rattle.netlist.specs.Answers.{refusalNumber, refusalDetail, Shows};
+ghost use Rattle.refusals.specs.Tests.{testOf, refusalOf};
+
+// What a condition of an operation answers: the input passes, or the operation refuses.
+pub enum Test {
+    Passed,
+    Failed(Refusal),
+}
 
 // A condition that holds refuses.
 pub fn refuse_if(holds: bool, why: Refusal) -> Test

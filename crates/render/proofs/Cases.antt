@@ -10,7 +10,7 @@ use borrow.Author.Tests.{le-ltb}
 use Rattle.netlist.specs.declared.Refusal.the-variants.{MalformedBlock, TooManyCopies, NotSettled, NoRoom}
 use Rattle.netlist.specs.Limits.{maxCopies}
 use Rattle.netlist.specs.Netlist.{Block}
-use Rattle.netlist.specs.StoredBlock.{encode, decode, isTorn}
+use Rattle.netlist.specs.StoredBlock.{encode, decode, isMalformed}
 use Rattle.netlist.specs.Rounds.{lowestUnsettled}
 use Rattle.netlist.specs.Cover.{isSound}
 use Rattle.netlist.specs.Passes.{copyCount}
@@ -27,10 +27,10 @@ renderBy ws false false true true = refused NoRoom
 renderBy ws false false true false = done (encode (rendering (decode ws))) (length (encode (rendering (decode ws)))) 0
 
 pub render-by : (ws : List ℕ) (room : ℕ)
-    → render ws room ≡ renderBy ws (isTorn ws) (ltb maxCopies (copyCount (decode ws))) (isSound (decode ws))
+    → render ws room ≡ renderBy ws (isMalformed ws) (ltb maxCopies (copyCount (decode ws))) (isSound (decode ws))
     (ltb room (length (encode (rendering (decode ws)))))
 unfolding render renderWords renderBlock counted inRoom refuseIf renderBy
-render-by ws room = go (isTorn ws) (ltb maxCopies (copyCount (decode ws))) (isSound (decode ws)) (ltb room (length (encode (rendering (decode ws))))) refl
+render-by ws room = go (isMalformed ws) (ltb maxCopies (copyCount (decode ws))) (isSound (decode ws)) (ltb room (length (encode (rendering (decode ws))))) refl
   where
     go : (t m s r : Bool) → ltb room (length (encode (rendering (decode ws)))) ≡ r
         → inRoom room
@@ -58,14 +58,14 @@ module _ (ws : List ℕ) (room : ℕ) where
   abbrev pub roomed : Outcome
   roomed = refuseIf (ltb room (length (encode (rendering b)))) NoRoom (done (encode (rendering b)) (length (encode (rendering b))) 0)
 
-  pub render-chain : render ws room ≡ inRoom room (refuseIf (isTorn ws) MalformedBlock (renderBlock b))
+  pub render-chain : render ws room ≡ inRoom room (refuseIf (isMalformed ws) MalformedBlock (renderBlock b))
   unfolding render renderWords
   render-chain = refl
 
-  pub render-whole : isTorn ws ≡ false → render ws room ≡ inRoom room (refuseIf (ltb maxCopies (copyCount b)) TooManyCopies copied)
+  pub render-whole : isMalformed ws ≡ false → render ws room ≡ inRoom room (refuseIf (ltb maxCopies (copyCount b)) TooManyCopies copied)
   unfolding render renderWords renderBlock refuseIf
   render-whole t = rw t refl
 
-  pub render-left : isTorn ws ≡ false → copyCount b ≤ maxCopies → isSound b ≡ true → render ws room ≡ roomed
+  pub render-left : isMalformed ws ≡ false → copyCount b ≤ maxCopies → isSound b ≡ true → render ws room ≡ roomed
   unfolding render renderWords renderBlock counted inRoom refuseIf
   render-left t m s = rw (t, le-ltb maxCopies (copyCount b) m, s) refl

@@ -17,7 +17,7 @@ use Rattle.laws.proofs.Least.{least-le, least-below, least-at}
 use Rattle.netlist.specs.declared.Answer.{Answer}
 use Rattle.netlist.specs.Limits.{maxCopies}
 use Rattle.netlist.specs.Netlist.{Block}
-use Rattle.netlist.specs.StoredBlock.{encode, decode, isTorn, isWellFormed}
+use Rattle.netlist.specs.StoredBlock.{encode, decode, isMalformed, isWellFormed}
 use Rattle.netlist.specs.Rounds.{settingCount, isSettled, isExcluded, isSoundAt, lowestUnsettled}
 use Rattle.netlist.specs.Cover.{isSound}
 use Rattle.netlist.specs.Passes.{copyCount}
@@ -33,7 +33,7 @@ use Rattle.render.specs.Promise.{portOf, Renders, LowestOf, renderNumber
 use Rattle.render.proofs.Cases.{renderBy, render-by}
 
 -- what is rendered when the block is whole, sound, and has few enough copies
-pub rendered-so : (ws : List ℕ) → isTorn ws ≡ false → copyCount (decode ws) ≤ maxCopies → isSound (decode ws) ≡ true
+pub rendered-so : (ws : List ℕ) → isMalformed ws ≡ false → copyCount (decode ws) ≤ maxCopies → isSound (decode ws) ≡ true
     → Renders ws (encode (rendering (decode ws)))
 unfolding portOf
 rendered-so ws t m s =
@@ -94,7 +94,7 @@ record Told-by (ws entry : List ℕ) (number : ℕ) (o : Outcome) : Type 0 where
   countIs : countOf (answerOf o) ≡ cond (eqb (numberOf (answerOf o)) 0) (length (encode (rendering (decode ws)))) 0
   rendersIt : numberOf (answerOf o) ≡ 0 → Renders ws (take (countOf (answerOf o)) (leftIn o entry))
 
-by-tests : (ws entry : List ℕ) (t m s r : Bool) → isTorn ws ≡ t → ltb maxCopies (copyCount (decode ws)) ≡ m → isSound (decode ws) ≡ s
+by-tests : (ws entry : List ℕ) (t m s r : Bool) → isMalformed ws ≡ t → ltb maxCopies (copyCount (decode ws)) ≡ m → isSound (decode ws) ≡ s
     → Told-by ws entry (cond t 6 (cond m 8 (cond (not s) 9 (cond r 11 0)))) (renderBy ws t m s r)
 unfolding renderBy numberOf countOf detailOf answerOf leftIn refusalNumber refusalDetail
 by-tests ws entry true m s r et em es =
@@ -121,7 +121,7 @@ unfolding renderNumber
 promise-holds ws entry =
     let short = ltb (length entry) (length (encode (rendering (decode ws)))) in
     let p : Told-by ws entry (renderNumber ws (length entry)) (render ws (length entry)) =
-    rw (render-by ws (length entry)) (by-tests ws entry (isTorn ws) (ltb maxCopies (copyCount (decode ws))) (isSound (decode ws)) short refl refl refl) in
+    rw (render-by ws (length entry)) (by-tests ws entry (isMalformed ws) (ltb maxCopies (copyCount (decode ws))) (isSound (decode ws)) short refl refl refl) in
     record {
       promise = promise refl refl;
       number = p .numberIs;

@@ -14,17 +14,17 @@ use Rattle.laws.specs.Lists.{joined, placed}
 use Rattle.laws.proofs.Lists.{length-joined}
 use Rattle.laws.proofs.Tests.{lt-or-le, not-both}
 use Rattle.laws.proofs.Least.{least-le}
-use Rattle.netlist.specs.declared.Test.{Test}
+use Rattle.refusals.specs.declared.Test.{Test}
 use Rattle.netlist.specs.declared.Refusal.the-variants.{NotSettled}
 use Rattle.netlist.specs.Limits.{maxGates, maxCopies}
 use Rattle.netlist.specs.Netlist.{Block}
-use Rattle.netlist.specs.StoredBlock.{outputsAt, encode, decode, isTorn}
+use Rattle.netlist.specs.StoredBlock.{outputsAt, encode, decode, isMalformed}
 use Rattle.netlist.specs.Rounds.{settingCount, isSoundAt, lowestUnsettled}
 use Rattle.netlist.specs.Cover.{isSound}
 use Rattle.netlist.specs.Groups.{groups}
 use Rattle.netlist.specs.Passes.{passCount, copyCount}
 use Rattle.netlist.specs.Rendering.{rendering, schedule}
-use Rattle.netlist.specs.Answers.{testOf}
+use Rattle.refusals.specs.Tests.{testOf}
 use Rattle.encoding.proofs.ListFacts.{getD-map}
 use Rattle.encoding.proofs.Readers.{whole-parts}
 use Rattle.encoding.proofs.Encoded.{length-encode}
@@ -134,5 +134,5 @@ groups-listed ws {m} {count} {r} {numbers} {entry} {members} {starts} e a room h
     }
 
 -- an array of that many elements has room for every gate
-pub few-gates : (ws : List ℕ) {n : ℕ} → isTorn ws ≡ false → maxGates ≤ n → getD ws 1 0 ≤ n
+pub few-gates : (ws : List ℕ) {n : ℕ} → isMalformed ws ≡ false → maxGates ≤ n → getD ws 1 0 ≤ n
 few-gates ws whole l = omega (arith, whole-parts ws whole .fewGates)

@@ -9,7 +9,7 @@ use lib.Dec.{eqb, ltb}
 use Rattle.netlist.specs.declared.Answer.{Answer}
 use Rattle.netlist.specs.Limits.{maxCopies}
 use Rattle.netlist.specs.Netlist.{Name, Output, Block, inputCount, gateCount}
-use Rattle.netlist.specs.StoredBlock.{encode, decode, isTorn}
+use Rattle.netlist.specs.StoredBlock.{encode, decode, isMalformed}
 use Rattle.netlist.specs.Rounds.{settingOf, settingCount, settledUnder, isSettled, isExcluded, lowestUnsettled, outputValue}
 use Rattle.netlist.specs.Cover.{isSound}
 use Rattle.netlist.specs.Passes.{copyCount}
@@ -25,7 +25,7 @@ portOf o = o .port
 -- read from one sweep, are those of the settled original, output by output.
 pub record Renders (ws out : List ℕ) : Type 0 where
   pub wordForWord : out ≡ encode (rendering (decode ws))
-  pub notTorn : isTorn out ≡ false
+  pub notTorn : isMalformed out ≡ false
   pub straightened : isStraight (decode out) ≡ true
   pub gatesAreTheSum : gateCount (decode out) ≡ copyCount (decode ws)
   pub sameInputs : decode out .inputs ≡ decode ws .inputs
@@ -37,7 +37,7 @@ pub record Renders (ws out : List ℕ) : Type 0 where
 -- the number of Render's answer: torn words, too many copies, a setting that is not settled, a slice that is too short, or a result
 unfoldable pub renderNumber : List ℕ → ℕ → ℕ
 renderNumber ws room =
-    cond (isTorn ws) 6
+    cond (isMalformed ws) 6
     (cond (ltb maxCopies (copyCount (decode ws))) 8
     (cond (not (isSound (decode ws))) 9
     (cond (ltb room (length (encode (rendering (decode ws))))) 11

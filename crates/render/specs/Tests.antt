@@ -5,7 +5,7 @@ use mathlib.Core.Bool.{true, false}
 use mathlib.Core.List.{List}
 use lib.ListN.{length, getD, take}
 use Rattle.netlist.specs.Limits.{maxGates, maxCopies}
-use Rattle.netlist.specs.StoredBlock.{decode, isTorn}
+use Rattle.netlist.specs.StoredBlock.{decode, isMalformed}
 use Rattle.netlist.specs.Cover.{isSound}
 use Rattle.netlist.specs.Passes.{copyCount}
 use Rattle.visiting.specs.Visits.{Visits}
@@ -14,7 +14,7 @@ use Rattle.passes.specs.Counting.{Listing}
 
 -- what the search for the lowest setting asks
 pub record LowestReady (ws order zeros ones : List ℕ) : Type 0 where
-  pub whole : isTorn ws ≡ false
+  pub whole : isMalformed ws ≡ false
   pub visits : Visits (getD ws 1 0) (take (getD ws 1 0) order)
   pub orderRoom : getD ws 1 0 ≤ length order
   pub zeroRoom : getD ws 0 0 + getD ws 1 0 ≤ length zeros
@@ -22,14 +22,14 @@ pub record LowestReady (ws order zeros ones : List ℕ) : Type 0 where
 
 -- what the search for an unsettled setting asks
 pub record SettingsReady (ws order zeros ones : List ℕ) : Type 0 where
-  pub whole : isTorn ws ≡ false
+  pub whole : isMalformed ws ≡ false
   pub orderRoom : getD ws 1 0 ≤ length order
   pub zeroRoom : getD ws 0 0 + getD ws 1 0 ≤ length zeros
   pub oneRoom : getD ws 0 0 + getD ws 1 0 ≤ length ones
 
 -- what the count along an order asks: the groups' gates, where each group starts, and room
 pub record AlongReady (ws order : List ℕ) (count : ℕ) (members starts passes zeros ones settledZeros settledOnes : List ℕ) : Type 0 where
-  pub whole : isTorn ws ≡ false
+  pub whole : isMalformed ws ≡ false
   pub visits : Visits (getD ws 1 0) (take (getD ws 1 0) order)
   pub listing : Listing (decode ws) count (take (getD ws 1 0) members) starts
   pub orderRoom : getD ws 1 0 ≤ length order
@@ -42,7 +42,7 @@ pub record AlongReady (ws order : List ℕ) (count : ℕ) (members starts passes
 
 -- what the count of copies asks: room for every gate and input, and for each group
 pub record CopiesReady (ws numbers : List ℕ) (count : ℕ) (order members starts passes zeros ones settledZeros settledOnes : List ℕ) : Type 0 where
-  pub whole : isTorn ws ≡ false
+  pub whole : isMalformed ws ≡ false
   pub numbersAre : Numbers (decode ws) (getD ws 1 0) count numbers
   pub orderRoom : getD ws 1 0 ≤ length order
   pub memberRoom : getD ws 1 0 ≤ length members
@@ -55,7 +55,7 @@ pub record CopiesReady (ws numbers : List ℕ) (count : ℕ) (order members star
 
 -- nothing can refuse any more but the room
 pub record RenderingReady (ws numbers : List ℕ) (count : ℕ) (passes : List ℕ) (total : ℕ) (order newest : List ℕ) : Type 0 where
-  pub whole : isTorn ws ≡ false
+  pub whole : isMalformed ws ≡ false
   pub numbersAre : Numbers (decode ws) (getD ws 1 0) count numbers
   pub passesAre : PassesAre (decode ws) count passes
   pub totalIs : total ≡ copyCount (decode ws)
@@ -66,7 +66,7 @@ pub record RenderingReady (ws numbers : List ℕ) (count : ℕ) (passes : List �
 
 -- arrays with room for every gate, input and copy, and for where each group starts
 pub record ArrayRoom (ws numbers order newest members starts passes zeros ones settledZeros settledOnes : List ℕ) : Type 0 where
-  pub whole : isTorn ws ≡ false
+  pub whole : isMalformed ws ≡ false
   pub numberRoom : getD ws 1 0 ≤ length numbers
   pub orderRoom : maxGates ≤ length order
   pub tableRoom : getD ws 1 0 ≤ length newest

@@ -3,7 +3,7 @@ use block::check_words;
 use layout::limits::MAX_GATES;
 use layout::limits::MAX_INPUTS;
 use netlist::Answer;
-use netlist::Test;
+use refusals::Test;
 use refusals::refusal;
 ghost use Rattle.render.specs.Promise.{RenderPromise};
 

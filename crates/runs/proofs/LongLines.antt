@@ -15,7 +15,7 @@ use Rattle.netlist.specs.declared.Refusal.the-variants.{SyntaxError}
 use Rattle.netlist.specs.Limits.{maxInputs, maxName}
 use Rattle.netlist.specs.Values.{val}
 use Rattle.netlist.specs.Netlist.{Block, inputCount}
-use Rattle.netlist.specs.StoredBlock.{isNodeName}
+use Rattle.netlist.specs.Names.{isNodeName}
 use Rattle.netlist.specs.Syntax.{printLines}
 use Rattle.netlist.specs.Parse.{Parsed, got, stuck}
 use Rattle.netlist.specs.Syntax.{Pair, valueText, pairText, printPair, isLegalPair}

@@ -15,7 +15,8 @@ use Rattle.laws.proofs.Same.{same-eq, same-refl}
 use Rattle.netlist.specs.Limits.{maxDepth}
 use Rattle.netlist.specs.Kinds.{isKind, arityFits}
 use Rattle.netlist.specs.Netlist.{Name, Operand, input, gate, constant, Output, Block, inputCount, gateCount}
-use Rattle.netlist.specs.StoredBlock.{isPlainName, isNodeName, isNode, isOperand, gateFits, isTorn}
+use Rattle.netlist.specs.StoredBlock.{isNode, isOperand, gateFits, isMalformed}
+use Rattle.netlist.specs.Names.{isPlainName, isNodeName}
 use Rattle.netlist.specs.Syntax.{Term, Terms, name, literal, apply, nil, cons, GateLine, OutputLine, Pair, Tree, printInput, printPair, printNever, printGate}
 use Rattle.netlist.specs.Syntax.{printOutput, termCount, isLegalNever, isLegalTerm, isLegalTerms, isLegalGate, isLegalOutput, isLegalTree}
 use Rattle.netlist.specs.Reading.{gatesIn, gatesInside, lineGates, isOverLimit, Mention, mentions, inputMention, gateMention, portMention, shownMention}
@@ -369,7 +370,7 @@ module _ (t : Tree) (legal : isLegalTree t ≡ true) (within : isOverLimit t ≡
       }
 
 -- What Read gives is not torn.
-pub read-whole : (text ws : List ℕ) (count detail : ℕ) → readText text ≡ done ws count detail → isTorn ws ≡ false
+pub read-whole : (text ws : List ℕ) (count detail : ℕ) → readText text ≡ done ws count detail → isMalformed ws ≡ false
 read-whole text ws count detail e =
     let a = read-accepted text ws count detail e in
     let legal = parse-sound text (a .tree) (a .rest) (a .parsed) .1 in

@@ -13,7 +13,8 @@ use Rattle.netlist.specs.declared.Answer.the-variants.{Done, Refused}
 use Rattle.netlist.specs.Limits.{maxName}
 use Rattle.netlist.specs.Values.{Value, undefined, val}
 use Rattle.netlist.specs.Netlist.{Output, Block, inputCount}
-use Rattle.netlist.specs.StoredBlock.{isPlainName, isTorn, decode}
+use Rattle.netlist.specs.StoredBlock.{isMalformed, decode}
+use Rattle.netlist.specs.Names.{isPlainName}
 use Rattle.netlist.specs.Rounds.{settled, outputValue}
 use Rattle.netlist.specs.Parse.{Parsed, got, stuck}
 use Rattle.netlist.specs.Syntax.{Pair, valueText, pairText}
@@ -58,7 +59,7 @@ show-length b x w =
 
 -- ---- an answer to a line has room
 
-module _ (ws line : List ℕ) (whole : isTorn ws ≡ false) (room : ℕ) (enough : maxAnswer ≤ room) where
+module _ (ws line : List ℕ) (whole : isMalformed ws ≡ false) (room : ℕ) (enough : maxAnswer ≤ room) where
   pairs-fit : (ps : List Pair) → Fits room (pairsOutcome (decode ws) ps)
   unfolding pairsOutcome
   pairs-fit ps =
@@ -91,7 +92,7 @@ shown-written {o} {entry} {exit} s =
 pub nothing-written : (out : List ℕ) → AnswerWritten [] out 0
 nothing-written out = record { countIs = refl; within = omega arith; bytesAre = refl }
 
-module _ (ws line : List ℕ) (whole : isTorn ws ≡ false) (entry exit : List ℕ) (enough : maxAnswer ≤ length entry) (a : Answer)
+module _ (ws line : List ℕ) (whole : isMalformed ws ≡ false) (entry exit : List ℕ) (enough : maxAnswer ≤ length entry) (a : Answer)
     (p : Promise (answerLine ws line (length entry)) entry a exit) where
   o : Outcome
   o = lineOutcome (decode ws) line

@@ -15,7 +15,7 @@ use Rattle.netlist.specs.declared.Refusal.the-variants.{TextTooLong}
 use Rattle.netlist.specs.declared.Answer.{Answer}
 use Rattle.netlist.specs.declared.Answer.the-variants.{Done, Refused}
 use Rattle.netlist.specs.Limits.{maxText, maxBlock}
-use Rattle.netlist.specs.StoredBlock.{isTorn, decode}
+use Rattle.netlist.specs.StoredBlock.{isMalformed, decode}
 use Rattle.netlist.specs.Line.{lf}
 use Rattle.netlist.specs.Answers.{Outcome, done, refused, Promise}
 use Rattle.netlist.specs.Operations.{readText, read}
@@ -119,7 +119,7 @@ module _ (kept c : ℕ) (line : List ℕ) (few : kept ≤ heldBytes) (room : hel
       }
 
 module _ (count kept c : ℕ) (words line line′ : List ℕ) (r : ℕ) (h : TextHeld (take kept line) c line′ r)
-    (there : count ≤ length words) (whole : isTorn (take count words) ≡ false) where
+    (there : count ≤ length words) (whole : isMalformed (take count words) ≡ false) where
   pub turn-holds : (text out : List ℕ) → eqb c lf ≡ false
       → SessionStepped (turn (inLines (take count words) (take kept line)) c) (Lines count r) text words line′ out 0
   unfolding turn runOf Sound

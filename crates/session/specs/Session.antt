@@ -6,7 +6,7 @@ use mathlib.Core.Bool.{false}
 use mathlib.Core.List.{List}
 use lib.ListN.{length, take}
 use Rattle.netlist.specs.Limits.{maxText, maxOutputs, maxName, maxBlock}
-use Rattle.netlist.specs.StoredBlock.{isTorn}
+use Rattle.netlist.specs.StoredBlock.{isMalformed}
 use Rattle.runs.specs.Runs.{heldBytes, Run, inNetlist, inLines, over, Turn, start, heldFront, after, outputs}
 use Rattle.session.specs.declared.State.{State}
 use Rattle.session.specs.declared.State.the-variants.{Netlist, Lines, Ended}
@@ -24,7 +24,7 @@ runOf Ended text words line = over
 -- what is held is there, and the block is not torn
 unfoldable pub Sound : State → List ℕ → Type 0
 Sound (Netlist kept fresh) words = kept ≤ maxText
-Sound (Lines count kept) words = (kept ≤ heldBytes) × (count ≤ length words) × (isTorn (take count words) ≡ false)
+Sound (Lines count kept) words = (kept ≤ heldBytes) × (count ≤ length words) × (isMalformed (take count words) ≡ false)
 Sound Ended words = Unit {0}
 
 -- the buffers are long enough
@@ -77,7 +77,7 @@ pub record TextHeld (before : List ℕ) (c : ℕ) (line : List ℕ) (r : ℕ) : 
 -- a block and a line that are held, and room for an answer
 pub record LineRoom (count kept : ℕ) (words line out : List ℕ) : Type 0 where
   pub wordsThere : count ≤ length words
-  pub whole : isTorn (take count words) ≡ false
+  pub whole : isMalformed (take count words) ≡ false
   pub few : kept ≤ heldBytes
   pub lineRoom : heldBytes ≤ length line
   pub outRoom : maxAnswer ≤ length out

@@ -11,14 +11,14 @@ ghost use mathlib.Core.Bool.{false};
 ghost use mathlib.Core.List.{List};
 ghost use Prim.Native.Nat.{ℕ, _≤_};
 ghost use lib.ListN.{length, take};
-ghost use Rattle.netlist.specs.StoredBlock.{isTorn, decode};
+ghost use Rattle.netlist.specs.StoredBlock.{isMalformed, decode};
 ghost use Rattle.netlist.specs.Bench.{lineAnswer, lineAnswers, lastLine};
 ghost use Rattle.runs.specs.Runs.{heldBytes, inLines, turn};
 ghost use Rattle.session.specs.Session.{maxAnswer, TextHeld, LineRoom, SessionStepped, AnswerWritten};
 
 // The answer to a line.
 fn answer(words: &[u16], line: &[u8], out: &mut [u8]) -> usize
-    requires { ⌜ (isTorn (now words) ≡ false) × (maxAnswer ≤ length (now out)) ⌝ }
+    requires { ⌜ (isMalformed (now words) ≡ false) × (maxAnswer ≤ length (now out)) ⌝ }
     ensures { λ r. ⌜ AnswerWritten (lineAnswer (decode (now (words .entry))) (now (line .entry))) (now (out .exit)) r ⌝ }
 {
     match answer_line(words, line, out) {

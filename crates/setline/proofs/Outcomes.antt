@@ -9,7 +9,7 @@ use lib.ListN.{length, getD}
 use lib.Dec.{ltb}
 use Rattle.netlist.specs.declared.Refusal.the-variants.{SyntaxError, DuplicateDeclaration, UndeclaredName, MalformedBlock, NoRoom}
 use Rattle.netlist.specs.Netlist.{Block}
-use Rattle.netlist.specs.StoredBlock.{decode, isTorn}
+use Rattle.netlist.specs.StoredBlock.{decode, isMalformed}
 use Rattle.netlist.specs.Parse.{Parsed, got, stuck}
 use Rattle.netlist.specs.Reading.{firstRepeat, firstOutside}
 use Rattle.netlist.specs.Answers.{Outcome, done, refused, refuseIf, refuseAt, inRoom}
@@ -36,10 +36,10 @@ module _ (ws line : List ℕ) (room : ℕ) where
   abbrev n : ℕ
   n = getD ws 0 0
 
-  pub line-chain : answerLine ws line room ≡ inRoom room (refuseIf (isTorn ws) MalformedBlock
+  pub line-chain : answerLine ws line room ≡ inRoom room (refuseIf (isMalformed ws) MalformedBlock
       (refuseAt (firstBadInSetLine n line) SyntaxError (behindForm (decode ws) (setLineReader n line))))
   unfolding answerLine lineOutcome firstBadInSetLine
-  line-chain = rw (decode-inputCount ws) (ap (λ o. inRoom room (refuseIf (isTorn ws) MalformedBlock o)) (parsed-chain (decode ws) line (setLineReader n line)))
+  line-chain = rw (decode-inputCount ws) (ap (λ o. inRoom room (refuseIf (isMalformed ws) MalformedBlock o)) (parsed-chain (decode ws) line (setLineReader n line)))
 
 -- a line in form has pairs, and the rest of the chain is theirs
 pub record Found (ws line : List ℕ) : Type 0 where
@@ -47,7 +47,7 @@ pub record Found (ws line : List ℕ) : Type 0 where
   pub for : LineFor ws pairs line
   pub behind : behindForm (decode ws) (setLineReader (getD ws 0 0) line) ≡ pairsOutcome (decode ws) pairs
 
-pub in-form : (ws line : List ℕ) → isTorn ws ≡ false → firstBadInSetLine (getD ws 0 0) line ≡ none → Found ws line
+pub in-form : (ws line : List ℕ) → isMalformed ws ≡ false → firstBadInSetLine (getD ws 0 0) line ≡ none → Found ws line
 unfolding firstBadInSetLine behindForm
 in-form ws line whole h = go (setLineReader (getD ws 0 0) line) refl h
   where

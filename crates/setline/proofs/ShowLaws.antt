@@ -12,7 +12,7 @@ use Rattle.encoding.proofs.ListFacts.{length-trimmed}
 use Rattle.encoding.proofs.Decoded.{decode-gateCount}
 use Rattle.encoding.proofs.Readers.{whole-parts}
 use Rattle.netlist.specs.Values.{Value, undefined, val, code, valueOf}
-use Rattle.netlist.specs.StoredBlock.{nameSize, outputSize, neversAt, gatesAt, outputsAt, bytesAt, nameAt, outputAt, decode, isTorn}
+use Rattle.netlist.specs.StoredBlock.{nameSize, outputSize, neversAt, gatesAt, outputsAt, bytesAt, nameAt, outputAt, decode, isMalformed}
 use Rattle.netlist.specs.Rounds.{settled, outputValue}
 use Rattle.netlist.specs.Syntax.{valueText, pairText}
 use Rattle.netlist.specs.Bench.{portText, showLine}
@@ -74,7 +74,7 @@ ports-length ws from setting gates (suc k) =
     let b = ports-length ws from setting gates k in
     rw (pieces-more f k, length-append (pieces f k) (f k)) (omega arith)
 
-pub show-short : (ws setting gates : List ℕ) → isTorn ws ≡ false → Short (showText ws setting gates) 0
+pub show-short : (ws setting gates : List ℕ) → isMalformed ws ≡ false → Short (showText ws setting gates) 0
 unfolding showText
 show-short ws setting gates whole =
     let from = outputsAt (getD ws 0 0) (getD ws 3 0) (getD ws 1 0) in
@@ -91,14 +91,14 @@ unfolding showText
 show-of ws setting gates ek ef = rw (ef, ek) refl
 
 -- where the outputs' words stand
-pub ports-near : (ws : List ℕ) → isTorn ws ≡ false → {k from : ℕ} → from ≡ outputsAt (getD ws 0 0) (getD ws 3 0) (getD ws 1 0) → k ≡ getD ws 2 0
+pub ports-near : (ws : List ℕ) → isMalformed ws ≡ false → {k from : ℕ} → from ≡ outputsAt (getD ws 0 0) (getD ws 3 0) (getD ws 1 0) → k ≡ getD ws 2 0
     → (from ≤ 600000) × (k ≤ 65535)
 unfolding neversAt gatesAt outputsAt
 ports-near ws whole e f =
     let w = whole-parts ws whole in
     (omega (arith, w .fewInputs, w .fewNevers, w .fewGates), omega (arith, w .fewOutputs))
 
-pub gates-few : (ws : List ℕ) → isTorn ws ≡ false → getD ws 1 0 ≤ 1024
+pub gates-few : (ws : List ℕ) → isMalformed ws ≡ false → getD ws 1 0 ≤ 1024
 gates-few ws whole = whole-parts ws whole .fewGates
 
 -- the front of the gates' slice

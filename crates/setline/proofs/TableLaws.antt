@@ -18,7 +18,8 @@ use Rattle.encoding.proofs.WellFormed.{WellFormed, wellFormed-parts}
 use Rattle.netlist.specs.Limits.{maxInputs}
 use Rattle.netlist.specs.Values.{valueOf}
 use Rattle.netlist.specs.Netlist.{Name}
-use Rattle.netlist.specs.StoredBlock.{nameSize, inputsAt, isNameByte, isLetter, isDigit, isUnderscore, bytesAt, nameAt, decode, isTorn}
+use Rattle.netlist.specs.StoredBlock.{nameSize, inputsAt, bytesAt, nameAt, decode, isMalformed}
+use Rattle.netlist.specs.Names.{isNameByte, isLetter, isDigit, isUnderscore}
 use Rattle.netlist.specs.Syntax.{Pair, printPair, isLegalPair, printLines}
 use Rattle.netlist.specs.SetLine.{printSetLine, isLegalSetLine}
 use Rattle.netlist.specs.Bench.{givenValues}
@@ -74,7 +75,7 @@ front-trimmed (suc most) (x ∷ xs) l h =
         let both = and-right (isNameByte x) (isNameByte y && all isNameByte t) h in
         rw (and-left (isNameByte x) (isNameByte y && all isNameByte t) h, f both)
 
-module _ (ws : List ℕ) (whole : isTorn ws ≡ false) where
+module _ (ws : List ℕ) (whole : isMalformed ws ≡ false) where
   well : WellFormed (decode ws)
   well = wellFormed-parts (decode ws) (intact-wellFormed ws (whole-intact ws whole))
 

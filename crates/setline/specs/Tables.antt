@@ -6,7 +6,7 @@ use mathlib.Core.List.{List}
 use lib.ListN.{length, getD}
 use Rattle.laws.specs.Lists.{ascii, all}
 use Rattle.netlist.specs.Limits.{maxName, maxInputs}
-use Rattle.netlist.specs.StoredBlock.{nameSize, inputsAt, bytesAt, decode, isTorn}
+use Rattle.netlist.specs.StoredBlock.{nameSize, inputsAt, bytesAt, decode, isMalformed}
 use Rattle.netlist.specs.Syntax.{Pair, isLegalPair}
 use Rattle.netlist.specs.SetLine.{printSetLine, isLegalSetLine}
 use Rattle.names.specs.Packed.{packed, nameFront}
@@ -31,7 +31,7 @@ inputKey ws i = packed (nameFront maxName (bytesAt ws (inputsAt + nameSize * i))
 
 -- a block that is not torn, and a line of these pairs for its inputs
 pub record LineFor (ws : List ℕ) (ps : List Pair) (line : List ℕ) : Type 0 where
-  pub whole : isTorn ws ≡ false
+  pub whole : isMalformed ws ≡ false
   pub is : SetLineOf (getD ws 0 0) ps line
 
 pub record InForm (ws line : List ℕ) : Type 0 where
@@ -47,7 +47,7 @@ pub record SetTableRoom (names places codes inputs setting : List ℕ) : Type 0 
 
 -- the tables are those of these pairs and of the block's inputs
 pub record TablesFor (ws : List ℕ) (ps : List Pair) (names places codes : List ℕ) (count : ℕ) (inputs : List ℕ) : Type 0 where
-  pub whole : isTorn ws ≡ false
+  pub whole : isMalformed ws ≡ false
   pub few : count ≤ maxInputs
   pub legal : all isLegalPair ps ≡ true
   pub tabled : PairsTabled ps pairsAt count names places codes

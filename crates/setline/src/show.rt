@@ -7,7 +7,7 @@ use layout::offsets::inputs_of;
 use layout::offsets::outputs_at;
 use layout::offsets::outputs_of;
 use netlist::Answer;
-use netlist::Test;
+use refusals::Test;
 use refusals::refusal;
 use refusals::test_room;
 use ternary::output::shown_value;
@@ -20,7 +20,7 @@ ghost use mathlib.Core.List.{[], _∷_, map};
 ghost use Prim.Native.Nat.{_≤_};
 ghost use lib.ListN.{length};
 ghost use Rattle.netlist.specs.Values.{valueOf};
-ghost use Rattle.netlist.specs.StoredBlock.{isTorn, decode};
+ghost use Rattle.netlist.specs.StoredBlock.{isMalformed, decode};
 ghost use Rattle.netlist.specs.Answers.{inRoom, Promise};
 ghost use Rattle.netlist.specs.Operations.{counted};
 ghost use Rattle.netlist.specs.Syntax.{valueText};
@@ -88,7 +88,7 @@ fn put_ports(
 
 // `(show`, the ports and LF.
 fn put_show(text: &mut [u8], words: &[u16], setting: &[u8], gates: &[u8]) -> usize
-    requires { ⌜ isTorn (now words) ≡ false ⌝ }
+    requires { ⌜ isMalformed (now words) ≡ false ⌝ }
     ensures { λ r. ⌜ Appended (showText (now (words .entry)) (now (setting .entry)) (now (gates .entry))) (now (text .entry)) 0 (now (text .exit)) r ⌝ }
 {
     let from = outputs_at(words);
@@ -100,7 +100,7 @@ fn put_show(text: &mut [u8], words: &[u16], setting: &[u8], gates: &[u8]) -> usi
 
 // 11, and the line. The first pass is over a text of one byte, and only measures.
 fn show_settled(words: &[u16], setting: &[u8], gates: &[u8], out: &mut [u8]) -> Answer
-    requires { ⌜ isTorn (now words) ≡ false ⌝ }
+    requires { ⌜ isMalformed (now words) ≡ false ⌝ }
     ensures { λ r. ⌜ Promise
         (inRoom (length (now (out .entry))) (counted (showText (now (words .entry)) (now (setting .entry)) (now (gates .entry)))))
         (now (out .entry)) r (now (out .exit)) ⌝ }
@@ -117,7 +117,7 @@ fn show_settled(words: &[u16], setting: &[u8], gates: &[u8], out: &mut [u8]) -> 
 
 // The show line of a block that is not torn, under a setting: 11, or its bytes; count: bytes.
 pub fn show(words: &[u16], setting: &[u8], out: &mut [u8]) -> Answer
-    requires { ⌜ isTorn (now words) ≡ false ⌝ }
+    requires { ⌜ isMalformed (now words) ≡ false ⌝ }
     ensures { λ r. ⌜ Promise
         (inRoom (length (now (out .entry))) (counted (showLine (decode (now (words .entry))) (map valueOf (now (setting .entry))))))
         (now (out .entry)) r (now (out .exit)) ⌝ }

@@ -11,7 +11,7 @@ use Rattle.laws.proofs.Quantifiers.{all-tab-from}
 use Rattle.netlist.specs.declared.Record.{Record}
 use Rattle.netlist.specs.Values.{code, valueOf}
 use Rattle.netlist.specs.Netlist.{Block, inputCount, gateCount}
-use Rattle.netlist.specs.StoredBlock.{decode, isTorn}
+use Rattle.netlist.specs.StoredBlock.{decode, isMalformed}
 use Rattle.netlist.specs.Assignments.{bit}
 use Rattle.netlist.specs.Rounds.{rounds, settled}
 use Rattle.netlist.specs.Answers.{Outcome, done, refused, refuseIf, refusalNumber}
@@ -48,7 +48,7 @@ byte-small fixed ones i = go (eqb (bit fixed i) 1)
     go true = le-leb (bit ones i) 2 (bit-small ones i)
     go false = refl
 
-module _ (ws : List ℕ) (whole : isTorn ws ≡ false) (room : ℕ) (enough : gateCount (decode ws) ≤ room) where
+module _ (ws : List ℕ) (whole : isMalformed ws ≡ false) (room : ℕ) (enough : gateCount (decode ws) ≤ room) where
   -- the bytes of two masks are a setting that Settle takes
   setting-legal : (fixed ones : ℕ) → isBadSetting (decode ws) (settingBytes (inputCount (decode ws)) fixed ones) ≡ false
   unfolding isBadSetting settingBytes

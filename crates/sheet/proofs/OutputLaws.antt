@@ -7,7 +7,7 @@ use native.Mathlib.Omega.{arith}
 use lib.ListN.{length, getD, drop, length-map, List·getD-map}
 use Rattle.netlist.specs.Values.{Value, undefined, code, valueOf}
 use Rattle.netlist.specs.Limits.{maxOutputs}
-use Rattle.netlist.specs.StoredBlock.{nameSize, outputSize, neversAt, gatesAt, outputsAt, outputAt, decode, isTorn}
+use Rattle.netlist.specs.StoredBlock.{nameSize, outputSize, neversAt, gatesAt, outputsAt, outputAt, decode, isMalformed}
 use Rattle.netlist.specs.Rounds.{outputValue}
 use Rattle.netlist.specs.Sheet.{outputValues, showing}
 use Rattle.laws.proofs.Elements.{getD-defaults}
@@ -29,7 +29,7 @@ module _ (ws setting gates : List ℕ) where
   unfolding outputValues
   length-shown = length-map (decode ws .outputs) (outputValue (map valueOf setting) (map valueOf gates)) ∙ decode-outputCount ws
 
-  pub few-shown : isTorn ws ≡ false → length shown ≤ maxOutputs
+  pub few-shown : isMalformed ws ≡ false → length shown ≤ maxOutputs
   few-shown t = rw length-shown (whole-parts ws t .fewOutputs)
 
   module _ (o : ℕ) (l : o < getD ws 2 0) where

@@ -8,7 +8,7 @@ use lib.ListN.{length, getD, take, length-map, length-take}
 use Rattle.netlist.specs.declared.Answer.the-variants.{Done, Refused}
 use Rattle.netlist.specs.declared.Refusal.the-variants.{MalformedBlock}
 use Rattle.netlist.specs.Values.{Value, code, valueOf}
-use Rattle.netlist.specs.StoredBlock.{decode, isTorn}
+use Rattle.netlist.specs.StoredBlock.{decode, isMalformed}
 use Rattle.netlist.specs.Assignments.{areMasks}
 use Rattle.netlist.specs.Rounds.{settled}
 use Rattle.netlist.specs.Answers.{done, refuseIf, answerOf}
@@ -24,15 +24,15 @@ use Rattle.sheet.proofs.MaskLaws.{length-settingBytes}
 -- ---- the call
 
 module _ (ws : List ℕ) (count : ℕ) where
-  pub sheet-chain : sheet ws count ≡ refuseIf (isTorn ws) MalformedBlock (done [] count 0)
+  pub sheet-chain : sheet ws count ≡ refuseIf (isMalformed ws) MalformedBlock (done [] count 0)
   unfolding sheet
   sheet-chain = refl
 
-  pub sheet-malformed : isTorn ws ≡ true → answerOf (sheet ws count) ≡ Refused MalformedBlock
+  pub sheet-malformed : isMalformed ws ≡ true → answerOf (sheet ws count) ≡ Refused MalformedBlock
   unfolding sheet refuseIf answerOf
   sheet-malformed t = rw t
 
-  pub sheet-done : isTorn ws ≡ false → answerOf (sheet ws count) ≡ Done count 0
+  pub sheet-done : isMalformed ws ≡ false → answerOf (sheet ws count) ≡ Done count 0
   unfolding sheet refuseIf answerOf
   sheet-done t = rw t
 

@@ -10,7 +10,7 @@ use lib.ListN.{length, getD, set}
 use Rattle.laws.proofs.Tests.{bool-cases}
 use Rattle.netlist.specs.declared.Record.{Record}
 use Rattle.netlist.specs.declared.Reply.{Reply}
-use Rattle.netlist.specs.StoredBlock.{decode, isTorn}
+use Rattle.netlist.specs.StoredBlock.{decode, isMalformed}
 use Rattle.netlist.specs.Answers.{countOf, answerOf, Shows}
 use Rattle.netlist.specs.Sheet.{answeredRecord, sheetRecords, sheet}
 use Rattle.sheet.proofs.RecordLaws.{sheet-malformed, sheet-done}
@@ -39,20 +39,20 @@ module _ (f : Record → Record) where
 
 module _ (ws : List ℕ) (rs : List Record) (r : Reply) (said : Shows (answerOf (sheet ws (length rs))) r) where
   -- there are no turns, or one for each record
-  none : isTorn ws ≡ true → r .count ≡ 0
+  none : isMalformed ws ≡ true → r .count ≡ 0
   unfolding countOf
   none t = said .count ∙ ap countOf (sheet-malformed ws (length rs) t)
 
-  each : isTorn ws ≡ false → r .count ≡ length rs
+  each : isMalformed ws ≡ false → r .count ≡ length rs
   unfolding countOf
   each t = said .count ∙ ap countOf (sheet-done ws (length rs) t)
 
   -- where there is a turn, the block is not torn
-  pub turn-whole : (i : ℕ) → i < r .count → isTorn ws ≡ false
-  turn-whole i l = ⊎-elim (λ t. absurd (let e = none t in omega arith)) (λ t. t) (bool-cases (isTorn ws))
+  pub turn-whole : (i : ℕ) → i < r .count → isMalformed ws ≡ false
+  turn-whole i l = ⊎-elim (λ t. absurd (let e = none t in omega arith)) (λ t. t) (bool-cases (isMalformed ws))
 
   pub turns-fit : r .count ≤ length rs
-  turns-fit = ⊎-elim (λ t. let e = none t in omega arith) (λ t. let e = each t in omega arith) (bool-cases (isTorn ws))
+  turns-fit = ⊎-elim (λ t. let e = none t in omega arith) (λ t. let e = each t in omega arith) (bool-cases (isMalformed ws))
 
   -- and after all turns the records are the sheet's
   pub turns-all : partly (answeredRecord (decode ws)) (r .count) rs ≡ sheetRecords ws rs
@@ -60,4 +60,4 @@ module _ (ws : List ℕ) (rs : List Record) (r : Reply) (said : Shows (answerOf 
   turns-all =
       ⊎-elim (λ t. rw (none t, t))
       (λ t. rw (each t, t) (partly-all (answeredRecord (decode ws)) rs))
-      (bool-cases (isTorn ws))
+      (bool-cases (isMalformed ws))

@@ -7,13 +7,13 @@ use lib.ListN.{getD}
 use Rattle.netlist.specs.declared.Record.{Record}
 use Rattle.netlist.specs.Values.{code, valueOf}
 use Rattle.netlist.specs.Netlist.{Output, constant}
-use Rattle.netlist.specs.StoredBlock.{decode, isTorn}
+use Rattle.netlist.specs.StoredBlock.{decode, isMalformed}
 use Rattle.netlist.specs.Rounds.{outputValue}
 use Rattle.netlist.specs.Sheet.{settingBytes, settledOutputs, showing}
 
 -- output o of a block that is not torn, of n inputs
 pub record OfBlock (ws : List ℕ) (n o : ℕ) : Type 0 where
-  pub whole : isTorn ws ≡ false
+  pub whole : isMalformed ws ≡ false
   pub inputs : n ≡ getD ws 0 0
   pub below : o < getD ws 2 0
 

@@ -7,7 +7,7 @@ pub mod record;
 use block::check_words;
 use netlist::Answer;
 use netlist::Reply;
-use netlist::Test;
+use refusals::Test;
 use refusals::refusal;
 use refusals::reply_of;
 ghost use Rattle.netlist.specs.Answers.{answerOf, Shows};

@@ -11,7 +11,7 @@ ghost use mathlib.Core.Path.{_≡_};
 ghost use mathlib.Core.Bool.{false};
 ghost use mathlib.Core.List.{map};
 ghost use Rattle.netlist.specs.Values.{valueOf};
-ghost use Rattle.netlist.specs.StoredBlock.{decode, isTorn};
+ghost use Rattle.netlist.specs.StoredBlock.{decode, isMalformed};
 ghost use Rattle.netlist.specs.Sheet.{outputValues, showing};
 ghost use Rattle.sheet.specs.Shown.{OfBlock, outputCode};
 
@@ -26,7 +26,7 @@ fn output_value(words: &[u16], n: usize, o: usize, setting: &[u8], gates: &[u8])
 
 // The record that shows the outputs, the last one first.
 pub fn show_outputs(words: &[u16], fixed: u16, ones: u16, setting: &[u8], gates: &[u8]) -> Record
-    requires { ⌜ isTorn (now words) ≡ false ⌝ }
+    requires { ⌜ isMalformed (now words) ≡ false ⌝ }
     ensures { λ r. ⌜
         r ≡ showing fixed ones (outputValues (decode (now (words .entry))) (map valueOf (now (setting .entry))) (map valueOf (now (gates .entry))))
         ⌝ }

@@ -16,7 +16,7 @@ ghost use mathlib.Core.List.{map};
 ghost use Prim.Native.Nat.{_≤_};
 ghost use lib.ListN.{length, getD};
 ghost use Rattle.netlist.specs.Values.{valueOf};
-ghost use Rattle.netlist.specs.StoredBlock.{decode, isTorn};
+ghost use Rattle.netlist.specs.StoredBlock.{decode, isMalformed};
 ghost use Rattle.netlist.specs.Sheet.{showing, settledOutputs, refusedRecord, recordOf};
 ghost use Rattle.sheet.specs.Shown.{settledRecord};
 
@@ -35,7 +35,7 @@ fn refuse(fixed: u16, ones: u16) -> Record
 
 // The outputs under the settled values; `values` is room for them.
 fn settle_outputs(words: &[u16], fixed: u16, ones: u16, setting: &[u8], values: &mut [u8]) -> Record
-    requires { ⌜ isTorn (now words) ≡ false ⌝ }
+    requires { ⌜ isMalformed (now words) ≡ false ⌝ }
     requires { ⌜ getD (now words) 1 0 ≤ length (now values) ⌝ }
     ensures { λ r. ⌜ r ≡ showing fixed ones (settledOutputs (decode (now (words .entry))) (map valueOf (now (setting .entry)))) ⌝ }
 {
@@ -52,7 +52,7 @@ fn settle_masks(
     setting: &mut [u8],
     values: &mut [u8],
 ) -> Record
-    requires { ⌜ isTorn (now words) ≡ false ⌝ }
+    requires { ⌜ isMalformed (now words) ≡ false ⌝ }
     requires { ⌜ getD (now words) 0 0 ≤ length (now setting) ⌝ }
     requires { ⌜ getD (now words) 1 0 ≤ length (now values) ⌝ }
     ensures { λ r. ⌜ r ≡ settledRecord (now (words .entry)) fixed ones ⌝ }
@@ -64,7 +64,7 @@ fn settle_masks(
 
 // The record of two masks of inputs.
 pub fn answer_masks(words: &[u16], fixed: u16, ones: u16) -> Record
-    requires { ⌜ isTorn (now words) ≡ false ⌝ }
+    requires { ⌜ isMalformed (now words) ≡ false ⌝ }
     ensures { λ r. ⌜ r ≡ recordOf (decode (now (words .entry))) fixed ones ⌝ }
 {
     if !are_masks(inputs_of(words), fixed as usize, ones as usize) {

@@ -10,7 +10,7 @@ use Rattle.layout.specs.declared.nodes.Nodes.{Nodes}
 use Rattle.layout.specs.Nodes.{nodesOf}
 use Rattle.netlist.specs.Values.{Value, undefined, code, valueOf}
 use Rattle.netlist.specs.Netlist.{gateOf}
-use Rattle.netlist.specs.StoredBlock.{decode, isTorn, gatesAt, gateSize}
+use Rattle.netlist.specs.StoredBlock.{decode, isMalformed, gatesAt, gateSize}
 use Rattle.netlist.specs.Rounds.{evaluated, round}
 use Rattle.encoding.proofs.Decoded.{decode-gateCount}
 use Rattle.encoding.proofs.Readers.{whole-gate}
@@ -24,7 +24,7 @@ unfolding nodesOf
 gates-are ws e = rw e refl
 
 -- the gates of a block that is not torn have legal head words
-pub legal-head : (ws : List ℕ) (j : ℕ) → isTorn ws ≡ false → j < getD ws 1 0 → LegalHead ws (gatesAt (getD ws 0 0) (getD ws 3 0) + gateSize * j)
+pub legal-head : (ws : List ℕ) (j : ℕ) → isMalformed ws ≡ false → j < getD ws 1 0 → LegalHead ws (gatesAt (getD ws 0 0) (getD ws 3 0) + gateSize * j)
 legal-head ws j h l = let head = whole-gate ws h j l in record { kind = head .known; count = head .arity }
 
 module _ (ws setting values : List ℕ) where

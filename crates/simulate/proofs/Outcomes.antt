@@ -9,7 +9,7 @@ use lib.Dec.{ltb}
 use Rattle.netlist.specs.declared.Refusal.the-variants.{MalformedBlock, BadSetting, NotStraight, NoRoom}
 use Rattle.netlist.specs.Values.{Value, code, valueOf}
 use Rattle.netlist.specs.Netlist.{Block, gateCount}
-use Rattle.netlist.specs.StoredBlock.{decode, isTorn}
+use Rattle.netlist.specs.StoredBlock.{decode, isMalformed}
 use Rattle.netlist.specs.Rounds.{rounds, settled}
 use Rattle.netlist.specs.Rendering.{isStraight, sweep}
 use Rattle.netlist.specs.declared.Answer.{Answer}
@@ -29,7 +29,7 @@ module _ (ws setting : List ℕ) (room : ℕ) where
   b = decode ws
 
   -- Settle's conditions, and the last one
-  pub settle-chain : settle ws setting room ≡ inRoom room (refuseIf (isTorn ws) MalformedBlock (refuseIf (isBadSetting b setting) BadSetting (settleBlock b x)))
+  pub settle-chain : settle ws setting room ≡ inRoom room (refuseIf (isMalformed ws) MalformedBlock (refuseIf (isBadSetting b setting) BadSetting (settleBlock b x)))
   unfolding settle
   settle-chain = refl
 
@@ -40,7 +40,7 @@ module _ (ws setting : List ℕ) (room : ℕ) where
   -- Pass's
   pub pass-chain : pass ws setting room
       ≡ inRoom room
-      (refuseIf (isTorn ws) MalformedBlock (refuseIf (not (isStraight b)) NotStraight (refuseIf (isBadSetting b setting) BadSetting (passBlock b x))))
+      (refuseIf (isMalformed ws) MalformedBlock (refuseIf (not (isStraight b)) NotStraight (refuseIf (isBadSetting b setting) BadSetting (passBlock b x))))
   unfolding pass
   pass-chain = refl
 
@@ -70,7 +70,7 @@ unfolding pass settle passBlock settleBlock refuseIf
 pass-settle ws setting room entry h =
     let b = decode ws in
     let x = map valueOf setting in
-    rw (h, sweep-settled b x h) (same-left room entry (map code (settled b x)) (isTorn ws) (isBadSetting b setting) (gateCount b) (rounds b x))
+    rw (h, sweep-settled b x h) (same-left room entry (map code (settled b x)) (isMalformed ws) (isBadSetting b setting) (gateCount b) (rounds b x))
 
 -- Pass answers 0 for straight blocks only
 straight-of : (room : ℕ) (torn straight : Bool) (next : Outcome)
@@ -86,5 +86,5 @@ unfolding pass
 pass-promise {ws} {setting} {entry} p =
     record {
       promise = p;
-      settles = λ z. p .leaves ∙ pass-settle ws setting (length entry) entry (straight-of (length entry) (isTorn ws) _ _ (sym (p .told .number) ∙ z));
+      settles = λ z. p .leaves ∙ pass-settle ws setting (length entry) entry (straight-of (length entry) (isMalformed ws) _ _ (sym (p .told .number) ∙ z));
     }

@@ -26,7 +26,7 @@ use Rattle.layout.specs.Nodes.{nodesOf}
 use Rattle.netlist.specs.Values.{Value, undefined, val, code, valueOf}
 use Rattle.netlist.specs.Netlist.{gateOf}
 use Rattle.netlist.specs.Groups.{reads}
-use Rattle.netlist.specs.StoredBlock.{decode, isTorn}
+use Rattle.netlist.specs.StoredBlock.{decode, isMalformed}
 use Rattle.netlist.specs.Rounds.{evaluated, round}
 use Rattle.encoding.proofs.Readers.{whole-reads}
 use Rattle.encoding.proofs.Decoded.{decode-gateCount}
@@ -350,7 +350,7 @@ module _ (ws setting : List ℕ) where
     undefined-at s s₀ e j l = filled-at s s₀ m e j (rw is l)
 
     -- every gate can be evaluated
-    pub first-ready : {nodes : Nodes} {queue : List ℕ} → isTorn ws ≡ false → nodes ≡ nodesOf ws → m ≤ length old → m ≤ length values → m ≤ length queue
+    pub first-ready : {nodes : Nodes} {queue : List ℕ} → isMalformed ws ≡ false → nodes ≡ nodesOf ws → m ≤ length old → m ≤ length values → m ≤ length queue
         → UpdateReady ws nodes setting (take m old) values queue 0
     first-ready whole are oldRoom valueRoom queueRoom =
         record {
@@ -421,7 +421,7 @@ module _ (ws setting : List ℕ) where
         go (val b) e = inr (value-is j l ∙ ap code e ∙ sym (ap code (up b e)))
 
     -- a gate that reads no gate that changed keeps its value
-    still-awake : isTorn ws ≡ false → Awake ws setting (take (getD ws 1 0) values) values queue head tail
+    still-awake : isMalformed ws ≡ false → Awake ws setting (take (getD ws 1 0) values) values queue head tail
     unfolding gateCode
     still-awake whole j l = ⊎-elim reading resting (bool-cases (any changes (upTo (getD ws 1 0))))
       where
@@ -474,7 +474,7 @@ module _ (ws setting : List ℕ) where
       copied-front = sym (same-front values old′ (getD ws 1 0) (r .valueRoom) (omega (arith, r .oldRoom)) copied-at)
 
       -- the readers of what changed can be evaluated
-      pub next-ready : {nodes : Nodes} → isTorn ws ≡ false → nodes ≡ nodesOf ws → UpdateReady ws nodes setting (take (nodes .gates) old′) values queue tail
+      pub next-ready : {nodes : Nodes} → isMalformed ws ≡ false → nodes ≡ nodesOf ws → UpdateReady ws nodes setting (take (nodes .gates) old′) values queue tail
       next-ready {nodes} whole are =
           record {
             whole = whole;
@@ -486,7 +486,7 @@ module _ (ws setting : List ℕ) where
             counted = r .counted;
           }
 
-      pub next-awake : isTorn ws ≡ false → Awake ws setting (take (getD ws 1 0) old′) values queue head tail
+      pub next-awake : isMalformed ws ≡ false → Awake ws setting (take (getD ws 1 0) old′) values queue head tail
       next-awake whole = rw copied-front (still-awake whole)
 
       -- and then a round more is made

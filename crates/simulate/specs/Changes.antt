@@ -15,7 +15,7 @@ use Rattle.layout.specs.declared.nodes.Nodes.{Nodes}
 use Rattle.layout.specs.Nodes.{nodesOf}
 use Rattle.netlist.specs.Values.{valueOf}
 use Rattle.netlist.specs.Groups.{reads}
-use Rattle.netlist.specs.StoredBlock.{decode, isTorn}
+use Rattle.netlist.specs.StoredBlock.{decode, isMalformed}
 use Rattle.rounds.specs.Order.{BelowAll}
 use Rattle.readers.specs.Readers.{Chain}
 use Rattle.simulate.specs.Rounded.{gateCode, roundCodes}
@@ -38,7 +38,7 @@ Steady ws setting old values = (j : ℕ) → j < getD ws 1 0 → (getD values j 
 
 -- a block that is not torn, a byte for each of its gates in `old`, room for its gates, and a queue as long as the gates that are 0 or 1
 pub record UpdateReady (ws : List ℕ) (nodes : Nodes) (setting old values queue : List ℕ) (end : ℕ) : Type 0 where
-  pub whole : isTorn ws ≡ false
+  pub whole : isMalformed ws ≡ false
   pub nodesAre : nodes ≡ nodesOf ws
   pub gates : length old ≡ getD ws 1 0
   pub valueRoom : getD ws 1 0 ≤ length values

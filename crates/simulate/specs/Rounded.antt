@@ -9,19 +9,19 @@ use Rattle.layout.specs.declared.nodes.Nodes.{Nodes}
 use Rattle.layout.specs.Nodes.{nodesOf}
 use Rattle.netlist.specs.Values.{code, valueOf}
 use Rattle.netlist.specs.Netlist.{gateOf}
-use Rattle.netlist.specs.StoredBlock.{decode, isTorn}
+use Rattle.netlist.specs.StoredBlock.{decode, isMalformed}
 use Rattle.netlist.specs.Rounds.{evaluated, round, rounds, settled}
 use Rattle.netlist.specs.Rendering.{sweep}
 
 -- gate j of a block that is not torn
 pub record InBlock (ws : List ℕ) (nodes : Nodes) (j : ℕ) : Type 0 where
-  pub whole : isTorn ws ≡ false
+  pub whole : isMalformed ws ≡ false
   pub nodesAre : nodes ≡ nodesOf ws
   pub below : j < getD ws 1 0
 
 -- a block that is not torn, whose values a slice of `room` bytes holds
 pub record ForRounds (ws : List ℕ) (nodes : Nodes) (room : ℕ) : Type 0 where
-  pub whole : isTorn ws ≡ false
+  pub whole : isMalformed ws ≡ false
   pub nodesAre : nodes ≡ nodesOf ws
   pub fits : nodes .gates ≤ room
 

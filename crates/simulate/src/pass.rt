@@ -5,7 +5,7 @@ use block::check_straight;
 use block::check_words;
 use layout::offsets::gates_of;
 use netlist::Answer;
-use netlist::Test;
+use refusals::Test;
 use refusals::refusal;
 use refusals::test_room;
 ghost use Rattle.simulate.specs.Passed.{PassPromise};

@@ -14,7 +14,7 @@ ghost use mathlib.Core.Path.{_≡_};
 ghost use mathlib.Core.Bool.{false};
 ghost use Prim.Native.Nat.{_≤_};
 ghost use lib.ListN.{length, getD};
-ghost use Rattle.netlist.specs.StoredBlock.{decode, isTorn};
+ghost use Rattle.netlist.specs.StoredBlock.{decode, isMalformed};
 ghost use Rattle.netlist.specs.GateTable.{gateTable};
 ghost use Rattle.readers.specs.Readers.{Readers};
 ghost use Rattle.simulate.specs.Rounded.{InBlock, ForRounds, gateCode, Settled};
@@ -88,7 +88,7 @@ fn settle_with(
 
 // The settled values into the first bytes of `values`; how many rounds changed something.
 pub fn settle_into(words: &[u16], setting: &[u8], values: &mut [u8]) -> usize
-    requires { ⌜ isTorn (now words) ≡ false ⌝ }
+    requires { ⌜ isMalformed (now words) ≡ false ⌝ }
     requires { ⌜ getD (now words) 1 0 ≤ length (now values) ⌝ }
     ensures { λ r. ⌜ Settled (now (words .entry)) (now (setting .entry)) (now (values .entry)) (now (values .exit)) r ⌝ }
 {

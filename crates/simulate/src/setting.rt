@@ -1,14 +1,14 @@
 // Refusal 7 (SPECIFICATION 7.5): the bytes of a setting.
 use layout::offsets::inputs_of;
 use netlist::Refusal;
-use netlist::Test;
+use refusals::Test;
 use refusals::refuse_if;
 ghost use mathlib.Core.Path.{_≡_};
 ghost use Rattle.laws.specs.Lists.{all};
 ghost use Rattle.netlist.specs.StoredBlock.{decode};
 ghost use Rattle.netlist.specs.Operations.{isBadSetting};
 ghost use Rattle.netlist.specs.declared.Refusal.the-variants.{BadSetting};
-ghost use Rattle.netlist.specs.Answers.{testOf};
+ghost use Rattle.refusals.specs.Tests.{testOf};
 ghost use Rattle.simulate.specs.Tests.{atMost, isBadBytes};
 
 // The highest byte of a setting: undefined.

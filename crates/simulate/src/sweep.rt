@@ -8,7 +8,7 @@ ghost use mathlib.Core.Bool.{false};
 ghost use Prim.Native.Nat.{_≤_};
 ghost use lib.ListN.{length, getD};
 ghost use Rattle.laws.specs.Lists.{placed};
-ghost use Rattle.netlist.specs.StoredBlock.{isTorn};
+ghost use Rattle.netlist.specs.StoredBlock.{isMalformed};
 ghost use Rattle.netlist.specs.GateTable.{gateTable};
 ghost use Rattle.simulate.specs.Rounded.{ForRounds, sweepCodes};
 
@@ -28,7 +28,7 @@ fn sweep_gates(table: &[u8; 1792], words: &[u16], nodes: Nodes, setting: &[u8], 
 
 // The values of one sweep into the first bytes of `values`; how many gates there are.
 pub fn sweep_into(words: &[u16], setting: &[u8], values: &mut [u8]) -> usize
-    requires { ⌜ isTorn (now words) ≡ false ⌝ }
+    requires { ⌜ isMalformed (now words) ≡ false ⌝ }
     requires { ⌜ getD (now words) 1 0 ≤ length (now values) ⌝ }
     ensures { λ r. ⌜ now (values .exit) ≡ placed (sweepCodes (now (words .entry)) (now (setting .entry))) (now (values .entry)) ⌝ }
     ensures { λ r. ⌜ r ≡ getD (now (words .entry)) 1 0 ⌝ }

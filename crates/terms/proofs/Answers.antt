@@ -21,7 +21,7 @@ use Rattle.names.specs.declared.Counts.{Counts}
 use Rattle.names.proofs.TreeSearch.{bound-names}
 use Rattle.terms.specs.declared.Walked.{Walked}
 use Rattle.netlist.specs.declared.Refusal.the-variants.{UndeclaredName}
-use Rattle.netlist.specs.declared.Test.the-variants.{Passed, Failed}
+use Rattle.refusals.specs.declared.Test.the-variants.{Passed, Failed}
 use Rattle.terms.specs.Leaves.{earlier}
 use Rattle.terms.specs.Walk.{leftOf, declaredNames, unknownAfter, gatesWords}
 use Rattle.terms.specs.Lines.{LineForm, gateForm, outputForm, outputOf, linesWords, linesCost, LinesDone}

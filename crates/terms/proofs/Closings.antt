@@ -11,7 +11,8 @@ use lib.Seq.{sets}
 use Rattle.laws.specs.Lists.{all, joined, tab, memberList}
 use Rattle.netlist.specs.Kinds.{keyword}
 use Rattle.netlist.specs.Netlist.{Name, Operand, Gate}
-use Rattle.netlist.specs.StoredBlock.{isLetter, isUnderscore, isNameStart, isNodeName, nodeWord, gateWords}
+use Rattle.netlist.specs.StoredBlock.{nodeWord, gateWords}
+use Rattle.netlist.specs.Names.{isLetter, isUnderscore, isNameStart, isNodeName}
 use Rattle.netlist.specs.Syntax.{Term, Terms, name, literal, apply, nil, cons, printTerm, termCount, isLegalTerm}
 use Rattle.netlist.specs.Reading.{Mention, Binding, gatesIn, gatesInside, termMentions, termsMentions, firstOutside, termNode, termsNodes, termGates}
 use Rattle.netlist.specs.Reading.{termsGates}

@@ -11,7 +11,8 @@ use Rattle.laws.proofs.Tests.{and-left, and-right}
 use Rattle.laws.proofs.Elements.{rest-is-drop}
 use Rattle.netlist.specs.Limits.{maxGates, maxDepth}
 use Rattle.netlist.specs.Netlist.{Name}
-use Rattle.netlist.specs.StoredBlock.{isLetter, isDigit, isUnderscore, isNameByte, isNameStart, isLegalName, isPlainName, isNodeName, nameWords, nodeWord}
+use Rattle.netlist.specs.StoredBlock.{nameWords, nodeWord}
+use Rattle.netlist.specs.Names.{isLetter, isDigit, isUnderscore, isNameByte, isNameStart, isLegalName, isPlainName, isNodeName}
 use Rattle.netlist.specs.StoredBlock.{outputWords}
 use Rattle.netlist.specs.Syntax.{name, apply, GateLine, OutputLine, printTerm, printInput, printGate, printOutput, isLegalTerm, isLegalGate, isLegalOutput}
 use Rattle.netlist.specs.Reading.{Binding, gatesIn, lineGates, operandMentions, shownMention, termMentions, termNode, termGates, lookup}

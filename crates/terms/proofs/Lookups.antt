@@ -9,7 +9,8 @@ use lib.Dec.{ltb}
 use Rattle.laws.specs.Lists.{all, same, memberList}
 use Rattle.laws.proofs.Tests.{and-left, and-right, and-intro, bool-cases}
 use Rattle.netlist.specs.Netlist.{Name, constant}
-use Rattle.netlist.specs.StoredBlock.{isNameByte, isNameStart, isLegalName, isNodeName, nodeWord}
+use Rattle.netlist.specs.StoredBlock.{nodeWord}
+use Rattle.netlist.specs.Names.{isNameByte, isNameStart, isLegalName, isNodeName}
 use Rattle.netlist.specs.Reading.{Binding, lookup}
 use Rattle.names.specs.Packed.{packed, nameFront}
 use Rattle.names.specs.Search.{indexOf}

@@ -14,7 +14,7 @@ use Rattle.laws.proofs.Elements.{rest-is-drop}
 use Rattle.encoding.proofs.Gates.{most-four}
 use Rattle.netlist.specs.Kinds.{isKind, arityFits, keyword}
 use Rattle.netlist.specs.Limits.{maxName}
-use Rattle.netlist.specs.StoredBlock.{isLetter, isDigit, isUnderscore, isNameByte, isNameStart, isLegalName, isNodeName}
+use Rattle.netlist.specs.Names.{isLetter, isDigit, isUnderscore, isNameByte, isNameStart, isLegalName, isNodeName}
 use Rattle.netlist.specs.Syntax.{Term, Terms, name, literal, apply, nil, cons, printTerm, printTerms, termCount, isLegalTerm, isLegalTerms}
 use Rattle.grammar.proofs.ListFacts.{and3}
 use Rattle.grammar.proofs.CompleteTerms.{arity-bounds}

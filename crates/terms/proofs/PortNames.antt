@@ -9,7 +9,8 @@ use lib.Seq.{getD-drop}
 use Rattle.laws.specs.Lists.{all}
 use Rattle.laws.proofs.Tests.{and-left, and-right}
 use Rattle.netlist.specs.Netlist.{Name}
-use Rattle.netlist.specs.StoredBlock.{isNameByte, nameWords}
+use Rattle.netlist.specs.StoredBlock.{nameWords}
+use Rattle.netlist.specs.Names.{isNameByte}
 use Rattle.names.specs.Packed.{packed}
 use Rattle.names.proofs.Packing.{name-byte-range}
 use Rattle.terms.specs.Ports.{portWords}

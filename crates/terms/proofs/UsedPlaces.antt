@@ -20,8 +20,8 @@ use Rattle.netlist.specs.Reading.{neverLinesAt, inputMention, gateMention, port
 use Rattle.grammar.proofs.Shorter.{printTerms-append}
 use Rattle.grammar.proofs.Places.{term-measure, print-measure}
 use Rattle.netlist.specs.declared.Refusal.the-variants.{UndeclaredName}
-use Rattle.netlist.specs.declared.Test.the-variants.{Passed, Failed}
-use Rattle.netlist.specs.Answers.{testAt}
+use Rattle.refusals.specs.declared.Test.the-variants.{Passed, Failed}
+use Rattle.refusals.specs.Tests.{testAt}
 use Rattle.terms.specs.Walk.{leftOf}
 
 module _ (bound : ℕ) where

@@ -14,7 +14,8 @@ use Rattle.laws.proofs.Elements.{rest-is-drop}
 use Rattle.grammar.proofs.WritingTree.{plain-node}
 use Rattle.netlist.specs.Limits.{maxInputs, maxGates, maxOutputs, maxDepth}
 use Rattle.netlist.specs.Netlist.{Name}
-use Rattle.netlist.specs.StoredBlock.{isPlainName, isNodeName, nodeWord}
+use Rattle.netlist.specs.StoredBlock.{nodeWord}
+use Rattle.netlist.specs.Names.{isPlainName, isNodeName}
 use Rattle.netlist.specs.Syntax.{GateLine, Tree, apply, printInput, printNever, printGate, printOutput, printLines, print, isLegalTerm, isLegalGate}
 use Rattle.netlist.specs.Syntax.{isLegalTree}
 use Rattle.netlist.specs.Reading.{Mention, Binding, lineGates, inputBindings, gateBindings, bindings, declaredNodes, declaredPorts, gateLinesAt, outputLinesAt}

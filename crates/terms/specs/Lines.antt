@@ -9,7 +9,8 @@ use lib.Seq.{sets}
 use Rattle.laws.specs.Lists.{all, sum}
 use Rattle.netlist.specs.Limits.{maxInputs}
 use Rattle.netlist.specs.Netlist.{Name, Output}
-use Rattle.netlist.specs.StoredBlock.{gateSize, isPlainName, outputWords}
+use Rattle.netlist.specs.StoredBlock.{gateSize, outputWords}
+use Rattle.netlist.specs.Names.{isPlainName}
 use Rattle.netlist.specs.Syntax.{apply, GateLine, OutputLine, printInput, printGate, printOutput, printLines, isLegalGate, isLegalOutput}
 use Rattle.netlist.specs.Reading.{Mention, Binding, lineGates, mentions, operandMentions, shownMention, lookup, termGates}
 use Rattle.terms.specs.declared.Walked.{Walked}

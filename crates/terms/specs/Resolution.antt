@@ -7,8 +7,8 @@ use mathlib.Core.List.{List, map}
 use lib.ListN.{length, take}
 use Rattle.laws.specs.Lists.{placed, joined}
 use Rattle.netlist.specs.declared.Refusal.the-variants.{UndeclaredName}
-use Rattle.netlist.specs.declared.Test.{Test}
-use Rattle.netlist.specs.Answers.{testAt}
+use Rattle.refusals.specs.declared.Test.{Test}
+use Rattle.refusals.specs.Tests.{testAt}
 use Rattle.netlist.specs.Limits.{maxGates, maxOutputs}
 use Rattle.netlist.specs.StoredBlock.{outputSize, gateSize, gateWords, outputWords}
 use Rattle.netlist.specs.Syntax.{Tree}

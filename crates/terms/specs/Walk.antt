@@ -10,7 +10,8 @@ use lib.Seq.{sets}
 use Rattle.laws.specs.Lists.{ascii, all, joined}
 use Rattle.netlist.specs.Limits.{maxInputs, maxGates}
 use Rattle.netlist.specs.Netlist.{Name, Gate}
-use Rattle.netlist.specs.StoredBlock.{gateSize, isNameByte, isNodeName, nodeWord, gateWords}
+use Rattle.netlist.specs.StoredBlock.{gateSize, nodeWord, gateWords}
+use Rattle.netlist.specs.Names.{isNameByte, isNodeName}
 use Rattle.netlist.specs.Syntax.{Term, Terms, printTerm, printTerms, termCount, isLegalTerm, isLegalTerms}
 use Rattle.netlist.specs.Reading.{Mention, Binding, gatesIn, gatesInside, termMentions, termsMentions, firstOutside, termNode, termsNodes, termGates}
 use Rattle.netlist.specs.Reading.{termsGates}

@@ -4,7 +4,7 @@ use lines::input_lines;
 use lines::output_lines;
 use names::Counts;
 use netlist::Refusal;
-use netlist::Test;
+use refusals::Test;
 ghost use Rattle.names.specs.Results.{NodesIndexed};
 ghost use Rattle.terms.specs.Resolution.{ResolveReady, Resolved};
 

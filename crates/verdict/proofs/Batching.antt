@@ -26,7 +26,7 @@ use Rattle.layout.specs.declared.nodes.Nodes.{Nodes}
 use Rattle.layout.specs.Nodes.{nodesOf}
 use Rattle.netlist.specs.Netlist.{Block, inputCount, gateCount}
 use Rattle.netlist.specs.Assignments.{bit}
-use Rattle.netlist.specs.StoredBlock.{outputsAt, decode, isTorn}
+use Rattle.netlist.specs.StoredBlock.{outputsAt, decode, isMalformed}
 use Rattle.netlist.specs.Rounds.{settingCount, isSettled, isExcluded, isCounted, isSoundAt, lowestUnsettled}
 use Rattle.encoding.proofs.Decoded.{decode-inputCount, decode-gateCount}
 use Rattle.encoding.proofs.Readers.{whole-parts}
@@ -111,7 +111,7 @@ module _ {ws : List ℕ} {nodes : Nodes} {order zeros ones : List ℕ} (d : Deci
       }
 
 -- whole words, an order over all gates, and a word for each node are what deciding a batch asks
-pub whole-decidable : (ws : List ℕ) (nodes : Nodes) (order zeros ones : List ℕ) → isTorn ws ≡ false → nodes ≡ nodesOf ws → Visits (nodes .gates) order
+pub whole-decidable : (ws : List ℕ) (nodes : Nodes) (order zeros ones : List ℕ) → isMalformed ws ≡ false → nodes ≡ nodesOf ws → Visits (nodes .gates) order
     → length zeros ≡ nodes .inputs + nodes .gates → length ones ≡ nodes .inputs + nodes .gates → Decidable ws nodes order zeros ones
 unfolding nodesOf
 whole-decidable ws nodes order zeros ones h are v zl ol =

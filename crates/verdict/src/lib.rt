@@ -4,7 +4,7 @@ use layout::limits::MAX_GATES;
 use layout::limits::MAX_INPUTS;
 use layout::nodes::nodes_of;
 use netlist::Answer;
-use netlist::Test;
+use refusals::Test;
 use refusals::refusal;
 use visiting::order_gates;
 ghost use mathlib.Core.Path.{_≡_};
@@ -13,14 +13,14 @@ ghost use Prim.Native.Nat.{_+_};
 ghost use lib.ListN.{length};
 ghost use Rattle.netlist.specs.Limits.{maxInputs, maxGates};
 ghost use Rattle.netlist.specs.Answers.{Told};
-ghost use Rattle.netlist.specs.StoredBlock.{isTorn};
+ghost use Rattle.netlist.specs.StoredBlock.{isMalformed};
 ghost use Rattle.netlist.specs.Operations.{verdict as verdictOf};
 
 pub mod settings;
 
 // Verdict of a block that is not torn, with room for an order, and for two words an input and a gate.
 fn whole_verdict(words: &[u16], order: &mut [u16], zeros: &mut [u64], ones: &mut [u64]) -> Answer
-    requires { ⌜ isTorn (now words) ≡ false ⌝ }
+    requires { ⌜ isMalformed (now words) ≡ false ⌝ }
     requires { ⌜ length (now order) ≡ maxGates ⌝ }
     requires { ⌜ length (now zeros) ≡ maxInputs + maxGates ⌝ }
     requires { ⌜ length (now ones) ≡ maxInputs + maxGates ⌝ }

@@ -16,7 +16,7 @@ use Rattle.laws.proofs.Counting.{countBelow-le, countBelow-all}
 use Rattle.netlist.specs.Limits.{maxGates}
 use Rattle.layout.specs.declared.nodes.Nodes.{Nodes}
 use Rattle.layout.specs.Nodes.{nodesOf}
-use Rattle.netlist.specs.StoredBlock.{isTorn, neversAt, gatesAt}
+use Rattle.netlist.specs.StoredBlock.{isMalformed, neversAt, gatesAt}
 use Rattle.encoding.proofs.Readers.{whole-parts}
 use Rattle.search.specs.Search.{Queued, setFlags}
 use Rattle.search.proofs.Marking.{set-new}
@@ -192,7 +192,7 @@ pub blank : (m n : ℕ) → m ≤ n → Blank m (replicate n 0)
 blank m n most k l = getD-replicate n k 0 0 (omega arith)
 
 -- arrays of that many elements have room for a whole block's gates
-pub whole-room : (ws : List ℕ) {nodes : Nodes} {flags stack order : List ℕ} → isTorn ws ≡ false → nodes ≡ nodesOf ws → maxGates ≤ length flags
+pub whole-room : (ws : List ℕ) {nodes : Nodes} {flags stack order : List ℕ} → isMalformed ws ≡ false → nodes ≡ nodesOf ws → maxGates ≤ length flags
     → maxGates ≤ length stack → getD ws 1 0 ≤ length order → PostorderRoom nodes flags stack order
 unfolding nodesOf gatesAt neversAt
 whole-room ws whole are f s o =

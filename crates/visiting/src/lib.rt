@@ -6,14 +6,14 @@ ghost use mathlib.Core.Path.{_≡_};
 ghost use mathlib.Core.Bool.{false};
 ghost use Prim.Native.Nat.{_≤_};
 ghost use lib.ListN.{length, getD, take};
-ghost use Rattle.netlist.specs.StoredBlock.{isTorn};
+ghost use Rattle.netlist.specs.StoredBlock.{isMalformed};
 ghost use Rattle.visiting.specs.Visits.{Visits};
 
 pub mod postorder;
 
 // Writes the gates of a whole block in that order.
 pub fn order_gates(words: &[u16], order: &mut [u16])
-    requires { ⌜ (isTorn (now words) ≡ false) × (getD (now words) 1 0 ≤ length (now order)) ⌝ }
+    requires { ⌜ (isMalformed (now words) ≡ false) × (getD (now words) 1 0 ≤ length (now order)) ⌝ }
     ensures { λ r. ⌜ Visits (getD (now (words .entry)) 1 0) (take (getD (now (words .entry)) 1 0) (now (order .exit))) ⌝ }
 {
     let nodes = nodes_of(words);

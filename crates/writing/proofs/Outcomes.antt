@@ -7,7 +7,7 @@ use native.Mathlib.Omega.{arith}
 use lib.ListN.{length, getD}
 use lib.Dec.{ltb}
 use Rattle.netlist.specs.Limits.{maxInputs}
-use Rattle.netlist.specs.StoredBlock.{neversAt, gatesAt, outputsAt, decode, isTorn}
+use Rattle.netlist.specs.StoredBlock.{neversAt, gatesAt, outputsAt, decode, isMalformed}
 use Rattle.netlist.specs.Answers.{done, refuseIf, inRoom}
 use Rattle.netlist.specs.declared.Refusal.the-variants.{MalformedBlock, NoRoom}
 use Rattle.netlist.specs.Writing.{writtenText}
@@ -39,20 +39,20 @@ outputs-part ws from k e d = rw (e, d) refl
 -- ---- the length
 
 -- a block that is not torn has few inputs, and what is written is short
-pub few-inputs : (ws : List ℕ) → isTorn ws ≡ false → getD ws 0 0 ≤ maxInputs
+pub few-inputs : (ws : List ℕ) → isMalformed ws ≡ false → getD ws 0 0 ≤ maxInputs
 few-inputs ws whole = omega (arith, wellFormed-parts (decode ws) (decoded-well ws whole) .fewInputs, decode-inputCount ws)
 
-pub block-short : (ws : List ℕ) → isTorn ws ≡ false → Short (blockText ws) 0
+pub block-short : (ws : List ℕ) → isMalformed ws ≡ false → Short (blockText ws) 0
 block-short ws whole =
     record { small = rw (← written-pieces ws whole) (omega (arith, written-length (decode ws) (decoded-well ws whole))) }
 
 -- ---- the chain of conditions: from 6 on, and from 11 on
 
-pub write-start : (ws : List ℕ) (room : ℕ) → write ws room ≡ inRoom room (refuseIf (isTorn ws) MalformedBlock (counted (writtenText (decode ws))))
+pub write-start : (ws : List ℕ) (room : ℕ) → write ws room ≡ inRoom room (refuseIf (isMalformed ws) MalformedBlock (counted (writtenText (decode ws))))
 unfolding write writeWords
 write-start ws room = refl
 
-pub write-room : (ws : List ℕ) (room : ℕ) → isTorn ws ≡ false
+pub write-room : (ws : List ℕ) (room : ℕ) → isMalformed ws ≡ false
     → write ws room ≡ refuseIf (ltb room (length (blockText ws))) NoRoom (done (blockText ws) (length (blockText ws)) 0)
 unfolding write writeWords counted refuseIf inRoom
 write-room ws room whole = rw (whole, written-pieces ws whole) refl

@@ -13,7 +13,7 @@ use Rattle.netlist.specs.Values.{val}
 use Rattle.netlist.specs.Assignments.{bit, fixes}
 use Rattle.netlist.specs.Netlist.{Operand, input, gate, constant, Block}
 use Rattle.netlist.specs.StoredBlock.{nameSize, neverSize, gateSize, outputSize, inputsAt, neversAt, gatesAt, outputsAt, nameAt, neverAt, operandOf, gateAt}
-use Rattle.netlist.specs.StoredBlock.{outputAt, isNode, decode, isWellFormed, isTorn}
+use Rattle.netlist.specs.StoredBlock.{outputAt, isNode, decode, isWellFormed, isMalformed}
 use Rattle.netlist.specs.Syntax.{apply, valueText, pairText, printTerm, printTerms, printInput, printPair, printNever, printGate, printOutput, printLines}
 use Rattle.netlist.specs.Syntax.{print, OutputLine}
 use Rattle.netlist.specs.Writing.{nodeNameOf, termOf, termsOf, flatLine, pairsOf, flatTree, writtenText}
@@ -157,7 +157,7 @@ unfolding decode
 decoded-nevers ws = refl
 
 -- The pieces are the written text.
-module _ (ws : List ℕ) (whole : isTorn ws ≡ false) where
+module _ (ws : List ℕ) (whole : isMalformed ws ≡ false) where
   pub decoded-well : isWellFormed (decode ws) ≡ true
   decoded-well = intact-wellFormed ws (whole-intact ws whole)
 

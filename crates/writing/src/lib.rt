@@ -2,7 +2,7 @@
 use block::check_words;
 use lines::put_block;
 use netlist::Answer;
-use netlist::Test;
+use refusals::Test;
 use refusals::refusal;
 use refusals::test_room;
 ghost use lib.ListN.{length};

@@ -8,8 +8,9 @@ use lib.Dec.{ltb}
 use borrow.Author.Needs.{needs}
 use borrow.Author.Tests.{ltb-false}
 use Rattle.netlist.specs.declared.Refusal.the-variants.{MalformedBlock, NoRoom}
-use Rattle.netlist.specs.Answers.{inRoom, testOf}
-use Rattle.netlist.specs.Bring.{brought, isTornBefore}
+use Rattle.netlist.specs.Answers.{inRoom}
+use Rattle.refusals.specs.Tests.{testOf}
+use Rattle.netlist.specs.Bring.{brought, isMalformedBefore}
 use Rattle.refusals.proofs.Promised.{passed, passed-false, failed, keeps-room, bare, keeps-bare, finished}
 use Rattle.bring.proofs.Words.{length-brought, whole-long, bring-start, bring-room}
 use Rattle.bring.proofs.bring.Statement.{statement}
@@ -25,7 +26,7 @@ words-test c = c .before .before
 abbrev passed-words : tie.After-test-room → tie.After-enum-told
 passed-words c = c .before
 
-whole : (c : tie.After-enum-told) → isTornBefore (start (words-test c) .args .old .now) ≡ false
+whole : (c : tie.After-enum-told) → isMalformedBefore (start (words-test c) .args .old .now) ≡ false
 whole c = passed-false _ MalformedBlock (words-test c .check-before .ensures) (c .enum-told .given .1)
 
 -- the second test is the condition on the room

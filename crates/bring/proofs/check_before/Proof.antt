@@ -2,7 +2,7 @@
 use mathlib.Core.Path.{refl}
 use native.Mathlib.Omega.{arith}
 use borrow.Author.Needs.{needs}
-use Rattle.netlist.specs.Answers.{testOf}
+use Rattle.refusals.specs.Tests.{testOf}
 use Rattle.bring.proofs.Words.{torn-short, torn-long, torn-inputs}
 use Rattle.bring.proofs.check_before.Statement.{statement}
 use Rattle.bring.proofs.check_before.Tie as tie

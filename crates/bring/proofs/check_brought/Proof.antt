@@ -8,8 +8,8 @@ use lib.Seq.{length-take-le}
 use borrow.Author.Needs.{needs}
 use Rattle.laws.proofs.Slices.{take-placed}
 use Rattle.netlist.specs.declared.Refusal.the-variants.{MalformedBlock}
-use Rattle.netlist.specs.StoredBlock.{isTorn}
-use Rattle.netlist.specs.Answers.{testOf}
+use Rattle.netlist.specs.StoredBlock.{isMalformed}
+use Rattle.refusals.specs.Tests.{testOf}
 use Rattle.netlist.specs.Bring.{brought}
 use Rattle.bring.proofs.Words.{length-brought, torn-brought}
 use Rattle.bring.proofs.check_brought.Statement.{statement}
@@ -44,7 +44,7 @@ returns c =
     let words : take (length old + 1) (put .put-brought .last .1 .0) ≡ brought old =
     ap (take (length old + 1)) (put .put-brought .ensures) ∙ take-placed (brought old) _ (length old + 1) (length-brought old (s .pre .0 .0)) in
     c .check-words .ensures
-    ∙ ap (λ (t : Bool). testOf t MalformedBlock) (ap isTorn words ∙ sym (torn-brought old (s .pre .0 .0) (s .pre .1)))
+    ∙ ap (λ (t : Bool). testOf t MalformedBlock) (ap isMalformed words ∙ sym (torn-brought old (s .pre .0 .0) (s .pre .1)))
 
 pub check-brought-spec : {M : Type 1} → statement M
 check-brought-spec =

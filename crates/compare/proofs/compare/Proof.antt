@@ -6,7 +6,7 @@ use mathlib.Core.List.{[]}
 use denote.Ref.{now}
 use borrow.Author.Needs.{needs}
 use Rattle.netlist.specs.declared.Refusal.the-variants.{MalformedBlock, NotStraight, InterfaceMismatch}
-use Rattle.netlist.specs.StoredBlock.{decode, isTorn}
+use Rattle.netlist.specs.StoredBlock.{decode, isMalformed}
 use Rattle.netlist.specs.Rendering.{isStraight}
 use Rattle.netlist.specs.Answers.{refuseIf, answerOf}
 use Rattle.netlist.specs.Compare.{sameInterface, compareBlocks, compare}
@@ -41,16 +41,16 @@ abbrev entry5 : tie.After-enum-told5 → tie.Start
 entry5 c = entry3 (straight-test c .before)
 
 -- what each test passed says
-ours-whole : (c : tie.After-enum-told) → isTorn (now (entry c .args .ours)) ≡ false
+ours-whole : (c : tie.After-enum-told) → isMalformed (now (entry c .args .ours)) ≡ false
 ours-whole c = passed-false _ MalformedBlock (ours-test c .check-words .ensures) (c .enum-told .given .1)
 
-theirs-whole : (c : tie.After-enum-told3) → isTorn (now (entry3 c .args .theirs)) ≡ false
+theirs-whole : (c : tie.After-enum-told3) → isMalformed (now (entry3 c .args .theirs)) ≡ false
 theirs-whole c = passed-false _ MalformedBlock (theirs-test c .check-words2 .ensures) (c .enum-told3 .given .1)
 
 -- what is left of the chain of conditions behind each
 behind-ours : (c : tie.After-enum-told) → let a = entry c .args in
     compare (now (a .ours)) (now (a .theirs))
-    ≡ refuseIf (isTorn (now (a .theirs))) MalformedBlock
+    ≡ refuseIf (isMalformed (now (a .theirs))) MalformedBlock
     (refuseIf (not (isStraight (decode (now (a .theirs))))) NotStraight
     (refuseIf (not (sameInterface (decode (now (a .ours))) (decode (now (a .theirs))))) InterfaceMismatch
     (compareBlocks (decode (now (a .ours))) (decode (now (a .theirs))))))

@@ -53,7 +53,7 @@ use denote.Triple.Walked.{says, Stays, stay-slice, stay-none-slice, walkOf, AllG
 use denote.Exit.{yes}
 use Rattle.netlist.specs.declared.Record.{Record}
 use Rattle.netlist.specs.declared.Reply.{Reply}
-use Rattle.netlist.specs.StoredBlock.{decode, isTorn}
+use Rattle.netlist.specs.StoredBlock.{decode, isMalformed}
 use Rattle.netlist.specs.Answers.{answerOf, Shows}
 use Rattle.netlist.specs.Sheet.{recordOf, answeredRecord, sheet}
 use Rattle.sheet.proofs.Turns.{partly, length-partly, partly-next, turn-whole, turns-fit, turns-all}
@@ -200,14 +200,14 @@ module _ {M : Type 1} (𝓤 : URA M) (H : Heap 𝓤) (A : Atoms 𝓤) (W : Given
     abbrev to-answered : Answered 𝓤 H A at-mem run .Ghost
     to-answered = (((κ, tt), (q, tt), tt, (s, (z .fixed, (z .ones, tt))), (v ∷ [], (vint w16 (z .fixed) ∷ [], (vint w16 (z .ones) ∷ [], tt)))), tt)
 
-    handed-answered : isTorn ws ≡ false → ent 𝓤 (onEntry 𝓤 H A answered.signature (κ, tt) (q, tt) (s, (z .fixed, (z .ones, tt)))
+    handed-answered : isMalformed ws ≡ false → ent 𝓤 (onEntry 𝓤 H A answered.signature (κ, tt) (q, tt) (s, (z .fixed, (z .ones, tt)))
         (v ∷ [], (vint w16 (z .fixed) ∷ [], (vint w16 (z .ones) ∷ [], tt)))) (Answered 𝓤 H A at-mem run .pre to-answered)
     handed-answered whole-block =
         qed W (Alive ∷ ‵ (owns (ShrSlice (named 0) κ u16 ∷ u16 ∷ u16 ∷ []) (s, (z .fixed, (z .ones, tt)))
         (v ∷ [], (vint w16 (z .fixed) ∷ [], (vint w16 (z .ones) ∷ [], tt)))) ∷ []) ∵
         says ! whole-block $ join ! $ done !
 
-    goes-answered : isTorn ws ≡ false → z .fixed < 2 ^ 16 → z .ones < 2 ^ 16
+    goes-answered : isMalformed ws ≡ false → z .fixed < 2 ^ 16 → z .ones < 2 ^ 16
         → ent 𝓤 (⋆ 𝓤 H A (Alive ∷ ‵ Own ∷ [])) (sep 𝓤 (Answered 𝓤 H A at-mem run .pre to-answered) (sem 𝓤 H A Own))
     goes-answered whole-block a-fits b-fits =
         qed W (Alive ∷ ‵ Own ∷ []) ∵ move ! (1 ∷ []) $ use1 W (‵ Own ⊛ ‵ Own) (shr-slice-copy 𝓤 H A W (named 0) κ u16 .twice s (v ∷ [])) $ split ! $

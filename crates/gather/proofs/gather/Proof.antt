@@ -8,7 +8,7 @@ use denote.Ref.{now}
 use borrow.Author.Tests.{ltb-false}
 use Rattle.laws.proofs.Tests.{or-neither}
 use Rattle.netlist.specs.declared.Refusal.the-variants.{MalformedBlock, NoRoom}
-use Rattle.netlist.specs.StoredBlock.{isTorn}
+use Rattle.netlist.specs.StoredBlock.{isMalformed}
 use Rattle.netlist.specs.Gather.{gatheredWords, gatheredOrder, gather, gatherList}
 use Rattle.refusals.proofs.Promised.{passed, passed-false, failed, bare, keeps-bare, finished}
 use Rattle.gather.proofs.Chain.{gather-chain, gather-room}
@@ -32,7 +32,7 @@ room-test c = c .before .before
 abbrev entry : tie.After-check-rooms → tie.Start
 entry c = start (words-test (passed-words c))
 
-whole : (c : tie.After-check-rooms) → isTorn (now (entry c .args .words)) ≡ false
+whole : (c : tie.After-check-rooms) → isMalformed (now (entry c .args .words)) ≡ false
 whole c = let e = passed-words c in passed-false _ MalformedBlock (words-test e .check-words .ensures) (e .enum-told .given .1)
 
 check-words-requires : tie.Need-check-words-requires

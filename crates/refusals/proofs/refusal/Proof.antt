@@ -1,7 +1,7 @@
 -- `refusals::refusal` meets its contract. Assumes nothing.
 use mathlib.Core.Path.{sym, ap}
 use borrow.Author.Needs.{needs}
-use Rattle.netlist.specs.Answers.{refusalOf}
+use Rattle.refusals.specs.Tests.{refusalOf}
 use Rattle.refusals.proofs.refusal.Statement.{statement}
 use Rattle.refusals.proofs.refusal.Tie as tie
 

@@ -1,5 +1,5 @@
 -- `refusals::refuse_if` meets its contract. Assumes nothing.
-use Rattle.netlist.specs.Answers.{testOf}
+use Rattle.refusals.specs.Tests.{testOf}
 use Rattle.refusals.proofs.refuse_if.Statement.{statement}
 use Rattle.refusals.proofs.refuse_if.Tie as tie
 

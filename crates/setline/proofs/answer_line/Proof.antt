@@ -6,8 +6,9 @@ use mathlib.Core.Path.{_≡_, ap, _∙_}
 use mathlib.Core.Bool.{false}
 use lib.ListN.{length, getD}
 use Rattle.netlist.specs.declared.Refusal.the-variants.{SyntaxError, MalformedBlock}
-use Rattle.netlist.specs.StoredBlock.{decode, isTorn}
-use Rattle.netlist.specs.Answers.{testAt, refuseAt, inRoom}
+use Rattle.netlist.specs.StoredBlock.{decode, isMalformed}
+use Rattle.netlist.specs.Answers.{refuseAt, inRoom}
+use Rattle.refusals.specs.Tests.{testAt}
 use Rattle.netlist.specs.SetLine.{setLineReader}
 use Rattle.netlist.specs.Bench.{answerLine}
 use Rattle.form.specs.Scan.{firstBadInSetLine}
@@ -34,7 +35,7 @@ form-told c = rw (c .before .inputs-of .ensures) at (c .test-set-line .ensures)
 found : (c : tie.After-enum-told3) → let a = start (c .before .before .before .before) .args in Found (a .words .now) (a .line .now)
 found c =
     let a = start (c .before .before .before .before) .args in
-    let whole : isTorn (a .words .now) ≡ false = passed-false _ MalformedBlock (c .before .before .before .before .before .before .check-words .ensures)
+    let whole : isMalformed (a .words .now) ≡ false = passed-false _ MalformedBlock (c .before .before .before .before .before .before .check-words .ensures)
     (c .before .before .before .before .enum-told .given .1) in
     in-form (a .words .now) (a .line .now) whole (passed-none _ SyntaxError (form-told (c .before .before)) (c .enum-told3 .given .1))
 

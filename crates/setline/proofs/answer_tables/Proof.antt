@@ -11,7 +11,8 @@ use lib.Seq.{length-take-le}
 use Rattle.netlist.specs.declared.Refusal.the-variants.{DuplicateDeclaration, UndeclaredName}
 use Rattle.netlist.specs.StoredBlock.{decode}
 use Rattle.netlist.specs.Reading.{firstRepeat, firstOutside}
-use Rattle.netlist.specs.Answers.{testAt, refuseAt, inRoom}
+use Rattle.netlist.specs.Answers.{refuseAt, inRoom}
+use Rattle.refusals.specs.Tests.{testAt}
 use Rattle.netlist.specs.Operations.{counted}
 use Rattle.netlist.specs.Syntax.{Pair}
 use Rattle.netlist.specs.Bench.{givenNames, givenValues, showLine, pairsOutcome}

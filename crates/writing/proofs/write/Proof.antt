@@ -10,8 +10,9 @@ use borrow.Author.Needs.{needs}
 use borrow.Author.Tests.{ltb-false}
 use Rattle.laws.proofs.Slices.{sets-placed}
 use Rattle.netlist.specs.declared.Refusal.the-variants.{MalformedBlock, NoRoom}
-use Rattle.netlist.specs.StoredBlock.{isTorn}
-use Rattle.netlist.specs.Answers.{testOf, inRoom}
+use Rattle.netlist.specs.StoredBlock.{isMalformed}
+use Rattle.netlist.specs.Answers.{inRoom}
+use Rattle.refusals.specs.Tests.{testOf}
 use Rattle.refusals.proofs.Promised.{passed, passed-false, failed, keeps-room, bare, keeps-bare, finished}
 use Rattle.writing.specs.Pieces.{blockText}
 use Rattle.writing.proofs.Outcomes.{few-inputs, block-short, write-start, write-room}
@@ -31,7 +32,7 @@ whole-block c = c .before .before
 abbrev measured : tie.After-test-room → tie.After-put-block
 measured c = c .before .before
 
-whole : (c : tie.After-enum-told) → isTorn (start (words-test c) .args .words .now) ≡ false
+whole : (c : tie.After-enum-told) → isMalformed (start (words-test c) .args .words .now) ≡ false
 whole c = passed-false _ MalformedBlock (words-test c .check-words .ensures) (c .enum-told .given .1)
 
 -- the first pass tells the length

@@ -1,15 +1,18 @@
-//! `--audit DIR`: do the rendering and the cover that stand beside each original still hold?
+//! `--audit DIR`: do the rendering, the never lines and the cover that are stored beside each original still hold?
 
 mod fact;
+mod promises;
 
-use crate::described::object;
+use crate::described::{excluded, object, unreadable};
 use crate::parallel::in_order;
+use crate::report::exclusions;
+use crate::screen::Screen;
 use crate::source::{reason, shown, Source};
 use crate::{put, tally, Stopped};
 use fact::Fact;
 use std::collections::BTreeSet;
 use std::fs;
-use std::io::ErrorKind;
+use std::io::{self, ErrorKind};
 use std::ops::ControlFlow;
 use std::path::{Path, PathBuf};
 use std::process::ExitCode;
@@ -41,13 +44,57 @@ impl Told {
     }
 }
 
-/// Why an audit ends before its last entry.
-enum End {
-    Error(String),
-    Stopped,
+/// What became of the entries so far.
+#[derive(Default)]
+struct Counts {
+    hold: usize,
+    lost: usize,
+    errors: usize,
 }
 
-/// Audits each entry of a folder and tells; an error is a folder or a file that can't be read.
+impl Counts {
+    /// Counts an entry and writes what is told of it; an entry with a file that can't be read is an error and no more.
+    fn tell(&mut self, base: &Path, told: Result<Told, String>, json: bool) -> Result<(), Stopped> {
+        match told {
+            Ok(told) => {
+                self.hold += usize::from(told.holds);
+                self.lost += usize::from(!told.holds);
+                put(told.written(json).as_bytes())
+            }
+            Err(reason) => {
+                self.errors += 1;
+                Screen::plain().say(&[format!("unloop: {reason}")]);
+                let object = unreadable(&original(&shown(base)), &reason);
+                let written = json.then(|| format!("{object}\n"));
+                put(written.unwrap_or_default().as_bytes())
+            }
+        }
+    }
+
+    /// As `3 entries: 1 hold, 1 lost, 1 error`.
+    fn summary(&self) -> String {
+        let Counts { hold, lost, errors } = self;
+        let entries = match hold + lost + errors {
+            1 => "1 entry".to_string(),
+            entries => format!("{entries} entries"),
+        };
+        let errors = match errors {
+            0 => String::new(),
+            _ => format!(", {}", tally::counted(*errors, "error")),
+        };
+        format!("{entries}: {hold} hold, {lost} lost{errors}\n")
+    }
+
+    fn status(&self) -> u8 {
+        match (self.errors, self.lost) {
+            (0, 0) => 0,
+            (0, _) => tally::REFUSED,
+            _ => tally::ERROR,
+        }
+    }
+}
+
+/// Audits each entry of a folder and tells; an error is a folder that can't be read, or has none.
 pub fn run(folder: &Path, json: bool) -> Result<ExitCode, String> {
     let bases = bases(folder)?;
     if bases.is_empty() {
@@ -56,43 +103,21 @@ pub fn run(folder: &Path, json: bool) -> Result<ExitCode, String> {
             "{folder}: no NAME.net, NAME.out or NAME.cover is in it"
         ));
     }
-    let (mut lost, mut ended) = (0, None);
-    let work = |base: &PathBuf| read(base).map(|entry| told(&entry));
-    let _ = in_order(
+    let mut counts = Counts::default();
+    let ended = in_order(
         &bases,
-        work,
+        |base| read(base).map(|entry| told(&entry)),
         |_| {},
-        |_, entry| {
-            let put_one = |told: Told| {
-                lost += usize::from(!told.holds);
-                put(told.written(json).as_bytes()).map_err(|Stopped| End::Stopped)
-            };
-            match entry.map_err(End::Error).and_then(put_one) {
-                Ok(()) => ControlFlow::Continue(()),
-                Err(end) => {
-                    ended = Some(end);
-                    ControlFlow::Break(())
-                }
-            }
+        |index, told| match counts.tell(&bases[index], told, json) {
+            Ok(()) => ControlFlow::Continue(()),
+            Err(Stopped) => ControlFlow::Break(()),
         },
     );
-    match ended {
-        Some(End::Error(reason)) => return Err(reason),
-        Some(End::Stopped) => return Ok(ExitCode::from(tally::ERROR)),
-        None if !json && put(summary(bases.len(), lost).as_bytes()).is_err() => {
-            return Ok(ExitCode::from(tally::ERROR));
-        }
-        None => {}
-    }
-    Ok(ExitCode::from(if lost > 0 { tally::REFUSED } else { 0 }))
-}
-
-fn summary(entries: usize, lost: usize) -> String {
-    let plural = if entries == 1 { "y" } else { "ies" };
-    format!(
-        "{entries} entr{plural}: {} hold, {lost} lost\n",
-        entries - lost
-    )
+    let stopped = ended.is_break() || !json && put(counts.summary().as_bytes()).is_err();
+    Ok(ExitCode::from(match stopped {
+        true => tally::ERROR,
+        false => counts.status(),
+    }))
 }
 
 /// The paths of a folder's entries without their ending, sorted.
@@ -110,13 +135,14 @@ fn bases(folder: &Path) -> Result<Vec<PathBuf>, String> {
 }
 
 fn read(base: &Path) -> Result<Entry, String> {
-    let file = |ending: &str| {
+    type Bytes = io::Result<Vec<u8>>;
+    let file = |ending: &str, bytes: fn(&Source) -> Bytes| {
         // A name may have dots of its own.
         let mut path = base.as_os_str().to_owned();
         path.push(".");
         path.push(ending);
         let source = Source::File(path.into());
-        match source.text() {
+        match bytes(&source) {
             Ok(text) => Ok(Some(text)),
             Err(error) if error.kind() == ErrorKind::NotFound => Ok(None),
             Err(error) => Err(format!("{}: {}", source.name(), reason(&error))),
@@ -124,14 +150,20 @@ fn read(base: &Path) -> Result<Entry, String> {
     };
     Ok(Entry {
         name: shown(base),
-        original: file("net")?,
-        out: file("out")?,
-        cover: file("cover")?,
+        original: file("net", Source::text)?,
+        out: file("out", Source::text)?,
+        // A cover may be longer than any netlist.
+        cover: file("cover", Source::whole_text)?,
     })
 }
 
+/// How the original of an entry is named.
+fn original(entry: &str) -> String {
+    format!("{entry}.net")
+}
+
 fn told(entry: &Entry) -> Told {
-    let name = format!("{}.net", entry.name);
+    let name = original(&entry.name);
     let file = ("file", Json::text(&name));
     let Some(original) = &entry.original else {
         let why = ("error", Json::text("no original"));
@@ -143,15 +175,27 @@ fn told(entry: &Entry) -> Told {
     };
     let found = audit(original, entry.out.as_deref(), entry.cover.as_deref());
     let block = Block::read(original).ok();
-    let rendering = Fact::of_rendering(&found.rendering, entry, block.as_ref());
-    let cover = Fact::of_cover(&found.cover, entry, block.as_ref());
+    let facts = [
+        (
+            "rendering",
+            Fact::of_rendering(&found.rendering, entry, block.as_ref()),
+        ),
+        ("never lines", Fact::of_never(&found.never, block.as_ref())),
+        ("cover", Fact::of_cover(&found.cover, entry, block.as_ref())),
+    ];
     let holds = found.holds();
     let mut lines = vec![format!("{name}: {}", state(holds, entry, block.as_ref()))];
-    lines.extend(rendering.line("rendering"));
-    lines.extend(cover.line("cover"));
-    let facts = [("rendering", rendering.json()), ("cover", cover.json())];
+    lines.extend(facts.iter().filter_map(|(what, fact)| fact.line(what)));
+    let exclusions = block.as_ref().map(exclusions).unwrap_or_default();
+    lines.extend(exclusions.iter().map(|line| format!("  {line}")));
+    let [rendering, never, cover] = facts.map(|(_, fact)| fact.json());
     let mut fields = object([file, ("holds", Json::Bool(holds))]);
-    fields.extend(object(facts));
+    fields.extend(object([
+        ("rendering", rendering),
+        ("never", never),
+        ("cover", cover),
+    ]));
+    fields.extend(block.as_ref().map(excluded).unwrap_or_default());
     Told {
         holds,
         lines,
@@ -167,9 +211,9 @@ fn state(holds: bool, entry: &Entry, block: Option<&Block>) -> String {
         _ if !holds => "lost".to_string(),
         Some(refusal) => {
             let (number, word) = (refusal.number(), refusal.word());
-            format!("both hold, refused with {number} {word}")
+            format!("all hold, refused with {number} {word}")
         }
-        None if sound => "both hold".to_string(),
-        None => "both hold, but it settles under some settings only".to_string(),
+        None if sound => "all hold".to_string(),
+        None => "all hold, but it settles under some settings only".to_string(),
     }
 }

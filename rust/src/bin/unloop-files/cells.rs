@@ -19,17 +19,17 @@ pub fn run(list: &Path, source: &Source) -> Result<ExitCode, String> {
         Ok(table) => table,
         Err(TableError::Refused(refusal)) => return Ok(refused(refusal, &name)),
         Err(TableError::Line { row, why }) => return Err(format!("{name}:{row}: {why}")),
-        Err(TableError::NoInputs) => {
-            return Err(format!("{name}: no line '# inputs NUMBER NAME ...'"))
-        }
+        Err(error) => return Err(format!("{name}: {error}")),
     };
-    let settings = settings(list, &table.inputs)?;
-    let ports: Vec<String> = table.outputs.iter().map(|(port, _)| port.clone()).collect();
-    let mut lines = row(&table.inputs, &table.inputs, &ports, &ports);
+    let inputs = table.inputs();
+    let settings = settings(list, inputs)?;
+    let ports = table.outputs().iter().map(|(port, _)| port.clone());
+    let ports: Vec<String> = ports.collect();
+    let mut lines = row(inputs, inputs, &ports, &ports);
     for (setting, number) in settings.into_iter().zip(1..) {
-        let given = values(setting, table.inputs.len());
+        let given = values(setting, inputs.len());
         match table.shown(&given) {
-            Ok(values) => lines += &row(&table.inputs, &digits(&given), &ports, &digits(&values)),
+            Ok(values) => lines += &row(inputs, &digits(&given), &ports, &digits(&values)),
             Err(refusal) => return Ok(refused(refusal, &format!("{}:{number}", shown(list)))),
         }
     }

@@ -1,13 +1,13 @@
 //! `--check THEIRS FILE`: is a loop-free netlist that was made elsewhere as good as FILE?
 
-use crate::described::{described, object, pins};
-use crate::report::{pins_of, report};
+use crate::described::{described, excluded, object, pins};
+use crate::report::{exclusions, pins_of, report};
 use crate::screen::Screen;
 use crate::source::{reason, Source};
 use crate::{tally, written};
 use std::process::ExitCode;
 use unloop::json::Json;
-use unloop::{Assignment, Block, Disagreement, Refusal, Value};
+use unloop::{Block, Disagreement, Refusal, Value};
 
 /// What the check of two netlists comes to.
 struct Finding {
@@ -51,14 +51,17 @@ fn check(theirs: &Source, ours: &Source) -> Result<Finding, String> {
     };
     let name = theirs.name();
     let compared = original.compare(&made);
+    let excluding = |mut lines: Vec<String>| {
+        let exclusions = exclusions(&original).into_iter();
+        lines.extend(exclusions.map(|line| format!("  {line}")));
+        lines
+    };
     let told = match compared {
-        Ok(None) => Ok(vec![format!("{name}: accepted")]),
+        Ok(None) => Ok(excluding(vec![format!("{name}: accepted")])),
         Ok(Some(found)) => {
             let differs = Differs::new(&original, &made, found);
-            Ok(vec![
-                format!("{name}: not accepted"),
-                format!("  {differs}"),
-            ])
+            let lines = [format!("{name}: not accepted"), format!("  {differs}")];
+            Ok(excluding(lines.into()))
         }
         Err(refusal) => {
             let mut lines = report(refusal, &name, b"");
@@ -74,6 +77,7 @@ fn check(theirs: &Source, ours: &Source) -> Result<Finding, String> {
         ("original", Json::text(ours.name())),
     ]);
     fields.extend(compared_fields(&original, &made, compared));
+    fields.extend(excluded(&original));
     Ok(Finding {
         told,
         json: Json::Object(fields),
@@ -131,7 +135,8 @@ impl<'a> Differs<'a> {
     }
 
     fn value(&self, block: &Block) -> &'static str {
-        let shown = block.shown(&block.setting(self.found.setting));
+        let setting = block.setting(self.found.setting);
+        let shown = setting.and_then(|setting| block.shown(&setting));
         match shown.map(|shown| shown[self.found.output]) {
             Ok(Value::Zero) => "0",
             Ok(Value::One) => "1",
@@ -145,7 +150,7 @@ impl<'a> Differs<'a> {
             (
                 "setting",
                 pins(
-                    Assignment::of_setting(self.found.setting),
+                    self.ours.assignment(self.found.setting).unwrap_or_default(),
                     &self.ours.input_names(),
                 ),
             ),

@@ -1,6 +1,6 @@
 //! What `--json` tells: one object a file, in one line. docs/KEEPER.md has its fields.
 
-use crate::report::undefined;
+use crate::report::{undefined, unsettled, warning};
 use unloop::json::Json;
 use unloop::{hint, Assignment, Block, Location, Refusal};
 
@@ -59,11 +59,16 @@ fn refused(refusal: Refusal, text: &[u8]) -> Vec<(String, Json)> {
             ("column", Json::Number(column)),
         ]));
     }
-    if let (Some(setting), Ok(block)) = (refusal.setting(), Block::read(text)) {
+    let block = Block::read(text).ok();
+    let setting = block.as_ref().and_then(|block| unsettled(refusal, block));
+    if let Some((setting, block)) = setting.zip(block) {
         fields.extend(object([
             (
                 "setting",
-                pins(Assignment::of_setting(setting), &block.input_names()),
+                pins(
+                    block.assignment(setting).unwrap_or_default(),
+                    &block.input_names(),
+                ),
             ),
             ("undefined", Json::texts(undefined(&block, setting))),
         ]));
@@ -78,7 +83,7 @@ fn read(block: &Block) -> Vec<(String, Json)> {
     let listed = |list: Vec<Assignment>| {
         Json::List(list.into_iter().map(|entry| pins(entry, &names)).collect())
     };
-    object([
+    let mut fields = object([
         ("inputs", Json::texts(&names)),
         ("outputs", Json::texts(block.output_names())),
         ("gates", Json::Number(block.gates())),
@@ -87,7 +92,16 @@ fn read(block: &Block) -> Vec<(String, Json)> {
         ("settled", Json::Number(block.verdict().settled)),
         ("never", listed(block.never_lines())),
         ("cover", listed(block.cover())),
-    ])
+    ]);
+    fields.extend(excluded(block));
+    fields
+}
+
+/// How many of the 2^n settings never lines exclude, and a warning where these are all.
+pub fn excluded(block: &Block) -> Vec<(String, Json)> {
+    let mut fields = object([("excluded", Json::Number(block.excluded_settings()))]);
+    fields.extend(warning(block).map(|why| ("warning".to_string(), Json::Text(why))));
+    fields
 }
 
 /// The pins that an assignment fixes, as `{"a":1,"b":0}`.

@@ -1,44 +1,69 @@
 //! `--verilog`, `--blif`, `--cells` and `--from-blif`: renderings for tools that nobody here wrote, and back.
 
 use crate::options::Form;
-use crate::report::report;
+use crate::report::{notes, report};
 use crate::screen::Screen;
 use crate::source::{reason, Source};
 use crate::{put, tally, Stopped};
 use std::collections::HashSet;
 use std::process::ExitCode;
-use unloop::{blif, cell_table, module_name, verilog, Block, Refusal};
+use unloop::{blif, cell_table, module_name, verilog, Block, ModuleName, Refusal};
 
-/// Writes each rendering, or each original, in a form; what is refused is reported.
-pub fn run(form: Form, original: bool, sources: &[Source]) -> Result<ExitCode, String> {
-    let mut refused = false;
+/// Why a file is not written.
+enum Failure {
+    Refused(Vec<String>),
+    Error(String),
+}
+
+/// Writes each rendering, or each original, in a form; what is refused or can't be written is reported, and the others are written.
+pub fn run(form: Form, original: bool, sources: &[Source]) -> ExitCode {
+    let mut status = 0;
     let mut taken = HashSet::new();
     for source in sources {
-        let text = text(source)?;
-        let module = module_name(&source.stem());
-        let written = match written(form, original, &text, &module) {
-            Ok(written) => written,
-            Err(refusal) => {
-                Screen::plain().say(&report(refusal, &source.name(), &text));
-                refused = true;
-                continue;
+        match exported(form, original, source, &mut taken) {
+            Ok(written) => {
+                if let Err(Stopped) = put(written.as_bytes()) {
+                    return ExitCode::from(tally::ERROR);
+                }
             }
-        };
-        if !taken.insert(module.clone()) {
-            return Err(format!(
-                "{}: a FILE before it gives the name {module} too",
-                source.name()
-            ));
-        }
-        if let Err(Stopped) = put(written.as_bytes()) {
-            return Ok(ExitCode::from(tally::ERROR));
+            Err(Failure::Refused(report)) => {
+                Screen::plain().say(&report);
+                status = status.max(tally::REFUSED);
+            }
+            Err(Failure::Error(reason)) => {
+                Screen::plain().say(&[format!("unloop: {reason}")]);
+                status = status.max(tally::ERROR);
+            }
         }
     }
-    Ok(ExitCode::from(if refused { tally::REFUSED } else { 0 }))
+    ExitCode::from(status)
+}
+
+/// What is written for a file, under a name that no file before it took.
+fn exported(
+    form: Form,
+    original: bool,
+    source: &Source,
+    taken: &mut HashSet<String>,
+) -> Result<String, Failure> {
+    let text = text(source).map_err(Failure::Error)?;
+    let module = module_name(&source.stem());
+    let written = written(form, original, &text, &module)
+        .map_err(|refusal| Failure::Refused(report(refusal, &source.name(), &text)))?;
+    if !taken.insert(module.to_string()) {
+        return Err(Failure::Error(format!(
+            "{}: a FILE before it gives the name {module} too",
+            source.name()
+        )));
+    }
+    if !original {
+        Screen::plain().say(&notes(&source.name(), &text));
+    }
+    Ok(written)
 }
 
 /// The rendering of a text, or what it says itself, in a form.
-fn written(form: Form, original: bool, text: &[u8], name: &str) -> Result<String, Refusal> {
+fn written(form: Form, original: bool, text: &[u8], name: &ModuleName) -> Result<String, Refusal> {
     let read = Block::read(text)?;
     let block = if original { read } else { read.render()? };
     match form {

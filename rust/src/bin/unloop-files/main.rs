@@ -69,7 +69,7 @@ fn answered(request: Request, program: Program) -> ExitCode {
             form,
             original,
             files,
-        }) => export::run(form, original, &sources(files)),
+        }) => Ok(export::run(form, original, &sources(files))),
         Request::FromBlif(file) => export::from_blif(file.map_or(Source::Input, Source::of)),
         Request::Page(target, files) => page::run(&target, files),
     };

@@ -1,8 +1,9 @@
 //! `--page DIR`: a page on netlists that a browser opens from disk. index.html is an overview; each file has a page of its own. All that is
-//! told comes from the library's operations; what the browser does (sorting, searching, looking values up) is in page.js.
+//! told comes from the library's operations and the never lines; what the browser does (sorting, searching, looking values up) is in page.js.
 
 mod drawn;
 mod entry;
+mod excluded;
 mod html;
 mod overview;
 mod sheet;
@@ -22,50 +23,65 @@ use std::process::ExitCode;
 const STYLE: &str = include_str!("page/page.css");
 const SCRIPT: &str = include_str!("page/page.js");
 
-/// Writes the page; an error is a file that can't be read or written.
+/// Writes the page. A file that can't be read, or whose page can't be written, is told, and the others are done; an error is a folder that
+/// takes no page at all.
 pub fn run(target: &Target, files: Vec<PathBuf>) -> Result<ExitCode, String> {
-    let sources: Vec<Source> = files.iter().cloned().map(Source::File).collect();
-    let pages = page_names(&sources);
-    let mut entries = Vec::new();
-    for (source, page) in sources.iter().zip(pages) {
-        let text = source.text();
-        let text = text.map_err(|error| format!("{}: {}", source.name(), reason(&error)))?;
-        entries.push(Entry::new(source, page, text));
+    let (entries, mut errors) = entries(&files);
+    if entries.is_empty() {
+        return Ok(ExitCode::from(tally::ERROR));
     }
     // The index is first: where a page stands already, nothing else is written.
     let folder = Folder::open(target.folder.clone(), target.force, &files)?;
     let put = |name: &str, content: &str| folder.put(Path::new(name), content.as_bytes());
-    put("index.html", &overview::page(&entries))?;
+    put("index.html", &overview::page(&entries, &errors))?;
     put("page.css", STYLE)?;
     put("page.js", SCRIPT)?;
-    let mut failed = None;
     let numbered: Vec<usize> = (0..entries.len()).collect();
+    let mut done = Vec::new();
     let _ = in_order(
         &numbered,
         |&index| put(&entries[index].page, &entry::page(&entries, index)),
         |_| {},
-        |_, written| match written {
-            Ok(()) => ControlFlow::Continue(()),
-            Err(reason) => {
-                failed = Some(reason);
-                ControlFlow::Break(())
+        |index, written| {
+            match written {
+                Ok(()) => done.push(&entries[index]),
+                Err(reason) => errors.push(told(reason)),
             }
+            ControlFlow::Continue(())
         },
     );
-    if let Some(reason) = failed {
-        return Err(reason);
-    }
     Screen::plain().say(&[format!(
         "{}: {}",
         shown(&target.folder.join("index.html")),
-        overview::summary(&entries)
+        overview::summary(&done, errors.len())
     )]);
-    let refused = entries.iter().any(|entry| entry.rendering.is_err());
-    Ok(ExitCode::from(if refused { tally::REFUSED } else { 0 }))
+    let status = if errors.is_empty() { 0 } else { tally::ERROR };
+    Ok(ExitCode::from(status))
+}
+
+/// An error that the others go on after.
+fn told(reason: String) -> String {
+    Screen::plain().say(&[format!("unloop: {reason}")]);
+    reason
+}
+
+/// The netlists that can be read, and why each of the others can't, which is told.
+fn entries(files: &[PathBuf]) -> (Vec<Entry>, Vec<String>) {
+    let (mut read, mut errors) = (Vec::new(), Vec::new());
+    for source in files.iter().cloned().map(Source::File) {
+        match source.text() {
+            Ok(text) => read.push((source, text)),
+            Err(error) => errors.push(told(format!("{}: {}", source.name(), reason(&error)))),
+        }
+    }
+    let pages = page_names(read.iter().map(|(source, _)| source));
+    let entries = read.into_iter().zip(pages);
+    let entries = entries.map(|((source, text), page)| Entry::new(&source, page, text));
+    (entries.collect(), errors)
 }
 
 /// The name of each file's page: of its stem, with a number behind it where that is taken.
-fn page_names(sources: &[Source]) -> Vec<String> {
+fn page_names<'a>(sources: impl Iterator<Item = &'a Source>) -> Vec<String> {
     let mut taken = HashSet::from(["index.html".to_string()]);
     let plain = |c: char| {
         if c.is_ascii_alphanumeric() || "-_.".contains(c) {
@@ -84,5 +100,5 @@ fn page_names(sources: &[Source]) -> Vec<String> {
             .find(|name| taken.insert(name.clone()))
             .unwrap_or_default()
     };
-    sources.iter().map(name).collect()
+    sources.map(name).collect()
 }

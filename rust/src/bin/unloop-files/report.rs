@@ -30,30 +30,64 @@ pub fn report(refusal: Refusal, name: &str, text: &[u8]) -> Vec<String> {
         ];
     }
     let mut lines = vec![format!("{name}: {word}")];
-    if let Some(setting) = refusal.setting() {
-        lines.extend(settings_told(text, setting));
+    if let Ok(block) = Block::read(text) {
+        let setting = unsettled(refusal, &block);
+        lines.extend(setting.map_or_else(Vec::new, |setting| settings_told(&block, setting)));
+        let exclusions = exclusions(&block).into_iter();
+        lines.extend(exclusions.map(|line| format!("  {line}")));
     }
     lines
 }
 
-/// The setting that isn't settled, the outputs undefined under it, and what settles, by the names of the pins.
-fn settings_told(text: &[u8], setting: usize) -> Vec<String> {
-    let Ok(block) = Block::read(text) else {
+/// The lowest setting of a refused block that isn't settled, if there is one: 8 comes before 9 and must not hide it.
+pub fn unsettled(refusal: Refusal, block: &Block) -> Option<usize> {
+    match refusal {
+        Refusal::TooManyCopies => block.verdict().lowest_unsettled,
+        _ => refusal.setting(),
+    }
+}
+
+/// What is told of a text that was rendered: the settings that its never lines exclude, if any.
+pub fn notes(name: &str, text: &[u8]) -> Vec<String> {
+    let block = Block::read(text);
+    let exclusions = block.map(|block| exclusions(&block)).unwrap_or_default();
+    let lines = exclusions.into_iter();
+    lines.map(|line| format!("{name}: {line}")).collect()
+}
+
+/// Where never lines exclude a setting: how many settle and how many are excluded, and a warning where these are all.
+pub fn exclusions(block: &Block) -> Vec<String> {
+    if block.excluded_settings() == 0 {
         return Vec::new();
-    };
+    }
+    let mut lines = vec![format!("settled settings: {}", block.settled_in_words())];
+    lines.extend(warning(block).map(|why| format!("warning: {why}")));
+    lines
+}
+
+/// That never lines exclude every setting, in words.
+pub fn warning(block: &Block) -> Option<String> {
+    let all = 1 << block.inputs();
+    (block.excluded_settings() == all).then(|| {
+        format!("all {all} settings are promised never to come, so nothing is said of any output")
+    })
+}
+
+/// The setting that isn't settled, the outputs undefined under it, and what settles, by the names of the pins.
+fn settings_told(block: &Block, setting: usize) -> Vec<String> {
     let pins = block.input_names();
     let under = match pins.is_empty() {
         true => String::new(),
-        false => format!(" with {}", pins_of(&block, setting)),
+        false => format!(" with {}", pins_of(block, setting)),
     };
     let mut lines = vec![format!(
         "  not settled{under}: {} undefined",
-        undefined(&block, setting).join(", ")
+        undefined(block, setting).join(", ")
     )];
     let cover = block.cover();
     let told = cover.iter().take(ENTRIES_TOLD);
     lines.extend(told.map(|&entry| {
-        let what = match may_come(&block, entry) {
+        let what = match may_come(block, entry) {
             true => "settles",
             false => "never comes",
         };
@@ -62,7 +96,7 @@ fn settings_told(text: &[u8], setting: usize) -> Vec<String> {
     if cover.len() > ENTRIES_TOLD {
         lines.push(format!("  and {} more", cover.len() - ENTRIES_TOLD));
     }
-    if !cover.iter().any(|&entry| may_come(&block, entry)) {
+    if !cover.iter().any(|&entry| may_come(block, entry)) {
         lines.push("  settles under no setting".to_string());
     }
     lines
@@ -77,8 +111,13 @@ fn may_come(block: &Block, assignment: Assignment) -> bool {
 
 /// The outputs that show no value under a setting.
 pub fn undefined(block: &Block, setting: usize) -> Vec<String> {
-    let shown = block.shown(&block.setting(setting)).unwrap_or_default();
-    let ports = block.output_names().into_iter().zip(shown);
+    let shown = block
+        .setting(setting)
+        .and_then(|setting| block.shown(&setting));
+    let ports = block
+        .output_names()
+        .into_iter()
+        .zip(shown.unwrap_or_default());
     ports
         .filter(|(_, value)| *value == Value::Undefined)
         .map(|(port, _)| port)
@@ -87,5 +126,6 @@ pub fn undefined(block: &Block, setting: usize) -> Vec<String> {
 
 /// The pins of a setting, as `a = 1, b = 0`.
 pub fn pins_of(block: &Block, setting: usize) -> String {
-    Assignment::of_setting(setting).pins(&block.input_names())
+    let pins = block.assignment(setting).unwrap_or_default();
+    pins.pins(&block.input_names())
 }

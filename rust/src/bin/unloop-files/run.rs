@@ -112,7 +112,10 @@ impl Run {
                     put(&output)?;
                 }
                 let Some(refusal) = refusal else {
-                    return Ok(Outcome::Rendered);
+                    let notes = report::notes(name, &text);
+                    self.screen.say(&notes);
+                    let excluding = !notes.is_empty();
+                    return Ok(Outcome::Rendered { excluding });
                 };
                 self.screen.say(&report::report(refusal, name, &text));
                 Ok(Outcome::Refused(refusal))

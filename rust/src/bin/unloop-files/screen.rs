@@ -32,8 +32,11 @@ impl Screen {
         }
     }
 
-    /// Writes lines, in the place of a progress line.
+    /// Writes lines, if there are any, in the place of a progress line.
     pub fn say(&self, lines: &[String]) {
+        if lines.is_empty() {
+            return;
+        }
         let clear = if self.in_place { CLEAR } else { "" };
         tell(&format!("{clear}{}\n", lines.join("\n")));
     }

@@ -54,7 +54,7 @@ pub fn settings(path: &Path, pins: &[String]) -> Result<Vec<Assignment>, String>
 
 /// A free input is `-` and an undefined output `?`, each below its name.
 fn table(block: &Block, settings: &[Assignment]) -> String {
-    let (pins, ports) = (block.input_names(), block.ports());
+    let (pins, ports) = (block.input_names(), block.output_names());
     let mut lines = row(&pins, &pins, &ports, &ports);
     for (&setting, outputs) in settings.iter().zip(block.sheet(settings)) {
         let given = (0..pins.len()).map(|input| match setting.value(input) {

@@ -11,7 +11,10 @@ pub const ERROR: u8 = 2;
 
 #[derive(Debug, Clone, Copy)]
 pub enum Outcome {
-    Rendered,
+    /// And whether never lines exclude settings.
+    Rendered {
+        excluding: bool,
+    },
     Refused(Refusal),
     Error,
 }
@@ -19,7 +22,7 @@ pub enum Outcome {
 impl fmt::Display for Outcome {
     fn fmt(&self, f: &mut fmt::Formatter) -> fmt::Result {
         match self {
-            Outcome::Rendered => write!(f, "rendered"),
+            Outcome::Rendered { .. } => write!(f, "rendered"),
             Outcome::Refused(refusal) => {
                 write!(f, "refused {} {}", refusal.number(), refusal.word())
             }
@@ -31,6 +34,8 @@ impl fmt::Display for Outcome {
 #[derive(Default)]
 pub struct Tally {
     rendered: usize,
+    /// Those of the rendered ones whose never lines exclude settings.
+    excluding: usize,
     /// By number, with its word.
     refused: BTreeMap<usize, (&'static str, usize)>,
     errors: usize,
@@ -39,7 +44,10 @@ pub struct Tally {
 impl Tally {
     pub fn count(&mut self, outcome: Outcome) {
         match outcome {
-            Outcome::Rendered => self.rendered += 1,
+            Outcome::Rendered { excluding } => {
+                self.rendered += 1;
+                self.excluding += usize::from(excluding);
+            }
             Outcome::Refused(refusal) => {
                 let counted = self.refused.entry(refusal.number());
                 counted.or_insert((refusal.word(), 0)).1 += 1;
@@ -56,10 +64,14 @@ impl Tally {
         self.refused.values().map(|(_, count)| count).sum()
     }
 
-    /// As `3 files: 1 rendered, 1 refused (1 with 9 undecided), 1 error`.
+    /// As `4 files: 2 rendered (1 with settings excluded), 1 refused (1 with 9 undecided), 1 error`.
     pub fn summary(&self) -> String {
         let mut line = counted(self.files(), "file") + ": ";
-        line += &format!("{} rendered, {} refused", self.rendered, self.refusals());
+        line += &format!("{} rendered", self.rendered);
+        if self.excluding > 0 {
+            line += &format!(" ({} with settings excluded)", self.excluding);
+        }
+        line += &format!(", {} refused", self.refusals());
         let refused = self.refused.iter();
         let refused =
             refused.map(|(number, (word, count))| format!("{count} with {number} {word}"));
@@ -82,7 +94,8 @@ impl Tally {
     }
 }
 
-fn counted(count: usize, what: &str) -> String {
+/// As `1 error` and `2 errors`.
+pub fn counted(count: usize, what: &str) -> String {
     let plural = if count == 1 { "" } else { "s" };
     format!("{count} {what}{plural}")
 }

@@ -10,9 +10,10 @@ use borrow.Author.Tests.{ltb-false}
 use lib.ListN.{length, getD}
 use lib.Dec.{ltb}
 use Rattle.netlist.specs.declared.Refusal.the-variants.{MalformedBlock, NotStraight, NoRoom}
-use Rattle.netlist.specs.StoredBlock.{decode, isTorn}
+use Rattle.netlist.specs.StoredBlock.{decode, isMalformed}
 use Rattle.netlist.specs.Rendering.{isStraight}
-use Rattle.netlist.specs.Answers.{done, refuseIf, testOf}
+use Rattle.netlist.specs.Answers.{done, refuseIf}
+use Rattle.refusals.specs.Tests.{testOf}
 use Rattle.netlist.specs.Cells.{cellSize, cellsOf, makeCells}
 use Rattle.encoding.proofs.Readers.{whole-parts}
 use Rattle.refusals.proofs.Promised.{passed, passed-false, failed, bare, keeps-bare, finished}
@@ -34,7 +35,7 @@ abbrev room-test : tie.After-enum-told5 → tie.After-test-room
 room-test c = c .before .before
 
 -- no word of the block breaks a rule
-whole : (c : tie.After-enum-told) → isTorn (now (start (words-test c) .args .words)) ≡ false
+whole : (c : tie.After-enum-told) → isMalformed (now (start (words-test c) .args .words)) ≡ false
 whole c = passed-false _ MalformedBlock (words-test c .check-words .ensures) (c .enum-told .given .1)
 
 -- what is left of the chain of conditions behind each

@@ -11,7 +11,7 @@ use native.Mathlib.Numerals.{add-one}
 use native.Mathlib.Nat.{sub-zero}
 use native.Mathlib.Omega.{arith}
 use lib.ListN.{length, getD}
-use Rattle.netlist.specs.StoredBlock.{isNameByte}
+use Rattle.netlist.specs.Names.{isNameByte}
 use Rattle.form.specs.Scan.{scanOf}
 use Rattle.netlist.specs.Parse.{nameBytes}
 use Rattle.form.proofs.Words.{nameFrom, name-byte-there, name-more, name-over, name-other}

@@ -30,7 +30,7 @@ use Prim.Native.Nat.{suc, _-_, _*_, _≤_}
 use native.Mathlib.Omega.{arith}
 use lib.ListN.{length, getD}
 use Rattle.laws.proofs.Elements.{rest-is-drop, byte-there}
-use Rattle.netlist.specs.StoredBlock.{isNameStart}
+use Rattle.netlist.specs.Names.{isNameStart}
 use Rattle.netlist.specs.Kinds.{mostOperands, fewestOperands}
 use Rattle.netlist.specs.Syntax.{Term, apply}
 use Rattle.netlist.specs.Parse.{nameBytes, termReader, termsReader, exprReader}

@@ -1,7 +1,7 @@
 -- `gather::steps::check_rooms` meets its contract: the first slice, and then the second. Assumes nothing.
 use mathlib.Core.Path.{refl}
 use borrow.Author.Tests.{lt-ltb, le-ltb}
-use Rattle.netlist.specs.Answers.{testOf}
+use Rattle.refusals.specs.Tests.{testOf}
 use borrow.Author.Needs.{needs}
 use Rattle.gather.proofs.steps.check_rooms.Statement.{statement}
 use Rattle.gather.proofs.steps.check_rooms.Tie as tie

@@ -5,7 +5,8 @@ use native.Mathlib.Omega.{arith}
 use denote.Ref.{now}
 use borrow.Author.Tests.{not-false, ltb-false}
 use Rattle.netlist.specs.declared.Refusal.the-variants.{NoRoom, NotAPermutation}
-use Rattle.netlist.specs.Answers.{inRoom, testOf}
+use Rattle.netlist.specs.Answers.{inRoom}
+use Rattle.refusals.specs.Tests.{testOf}
 use Rattle.netlist.specs.Gather.{isPermutation}
 use Rattle.encoding.proofs.Readers.{whole-parts}
 use Rattle.refusals.proofs.Promised.{passed, passed-false, failed, keeps-room, bare, keeps-bare, finished}

@@ -3,7 +3,7 @@
 use Rattle.layout.proofs.bytes.is_digit.Statement.{statement}
 use Rattle.layout.proofs.bytes.is_digit.Tie as tie
 use borrow.Author.Tests.{le-leb, lt-leb}
-use Rattle.netlist.specs.StoredBlock.{isDigit}
+use Rattle.netlist.specs.Names.{isDigit}
 
 returns : tie.Need-returns
 unfolding isDigit

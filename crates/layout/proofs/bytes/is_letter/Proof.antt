@@ -3,7 +3,7 @@
 use Rattle.layout.proofs.bytes.is_letter.Statement.{statement}
 use Rattle.layout.proofs.bytes.is_letter.Tie as tie
 use borrow.Author.Tests.{le-leb, lt-leb}
-use Rattle.netlist.specs.StoredBlock.{isLetter}
+use Rattle.netlist.specs.Names.{isLetter}
 
 returns : tie.Need-returns
 unfolding isLetter

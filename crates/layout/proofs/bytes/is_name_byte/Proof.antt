@@ -5,7 +5,7 @@ use Rattle.layout.proofs.bytes.is_name_byte.Statement.{statement}
 use Rattle.layout.proofs.bytes.is_name_byte.Tie as tie
 use mathlib.Core.Path.{_≡_, refl, sym, _∙_}
 use mathlib.Core.Bool.{Bool, true, false, _||_}
-use Rattle.netlist.specs.StoredBlock.{isNameByte, isNameStart, isLetter, isDigit, isUnderscore}
+use Rattle.netlist.specs.Names.{isNameByte, isNameStart, isLetter, isDigit, isUnderscore}
 
 -- the middle one of three alternatives holds, or does not
 or-middle : (a b c : Bool) → b ≡ true → a || b || c ≡ true

@@ -4,7 +4,7 @@ use borrow.Author.Needs.{needs}
 use Rattle.layout.proofs.bytes.is_name_start.Statement.{statement}
 use Rattle.layout.proofs.bytes.is_name_start.Tie as tie
 use mathlib.Core.Path.{sym, _∙_}
-use Rattle.netlist.specs.StoredBlock.{isNameStart, isUnderscore}
+use Rattle.netlist.specs.Names.{isNameStart, isUnderscore}
 
 is-letter-requires : tie.Need-is-letter-requires
 is-letter-requires c κs = search needs

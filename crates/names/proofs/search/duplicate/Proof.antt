@@ -5,7 +5,7 @@ use native.Mathlib.Omega.{arith}
 use lib.Seq.{length-take-le}
 use borrow.Author.Needs.{needs}
 use Rattle.netlist.specs.declared.Refusal.{Refusal}
-use Rattle.netlist.specs.declared.Test.the-variants.{Failed, Passed}
+use Rattle.refusals.specs.declared.Test.the-variants.{Failed, Passed}
 use Rattle.names.proofs.Indexing.{nodes-none}
 use Rattle.names.proofs.TreeSearch.{node-repeats, port-repeats, none-repeats}
 use Rattle.names.proofs.search.duplicate.Statement.{statement}

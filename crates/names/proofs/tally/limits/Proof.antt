@@ -1,7 +1,7 @@
 -- `names::tally::limits` meets its contract, by the law on the counts. Assumes nothing.
 use mathlib.Core.Path.{ap, _∙_}
 use Rattle.netlist.specs.declared.Refusal.the-variants.{OverLimit}
-use Rattle.netlist.specs.Answers.{testOf}
+use Rattle.refusals.specs.Tests.{testOf}
 use Rattle.names.proofs.TreeCounts.{limits-are}
 use borrow.Author.Needs.{needs}
 use Rattle.names.proofs.tally.limits.Statement.{statement}

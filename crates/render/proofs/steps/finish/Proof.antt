@@ -10,7 +10,7 @@ use borrow.Author.Tests.{ltb-false}
 use Rattle.netlist.specs.declared.Refusal.the-variants.{NoRoom}
 use Rattle.netlist.specs.StoredBlock.{neversAt, gatesAt, outputsAt, encode, decode}
 use Rattle.netlist.specs.Rendering.{rendering}
-use Rattle.netlist.specs.Answers.{testOf}
+use Rattle.refusals.specs.Tests.{testOf}
 use Rattle.netlist.specs.Operations.{render}
 use Rattle.encoding.proofs.Readers.{whole-parts}
 use Rattle.refusals.proofs.Promised.{passed, passed-false, failed, bare, keeps-bare, finished}

@@ -11,7 +11,8 @@ use Rattle.netlist.specs.declared.Refusal.the-variants.{TooManyCopies, NotSettl
 use Rattle.netlist.specs.Limits.{maxCopies}
 use Rattle.netlist.specs.StoredBlock.{decode}
 use Rattle.netlist.specs.Passes.{copyCount}
-use Rattle.netlist.specs.Answers.{inRoom, testOf}
+use Rattle.netlist.specs.Answers.{inRoom}
+use Rattle.refusals.specs.Tests.{testOf}
 use Rattle.netlist.specs.Operations.{render}
 use Rattle.refusals.proofs.Promised.{passed, passed-false, failed, keeps-room}
 use Rattle.schedule.proofs.Blocks.{assigned-numbers}

@@ -10,7 +10,7 @@ use lib.ListN.{length, getD}
 use lib.Dec.{ltb}
 use Rattle.netlist.specs.declared.Refusal.the-variants.{MalformedBlock, BadSetting, NotStraight, NoRoom}
 use Rattle.netlist.specs.Values.{valueOf}
-use Rattle.netlist.specs.StoredBlock.{decode, isTorn}
+use Rattle.netlist.specs.StoredBlock.{decode, isMalformed}
 use Rattle.netlist.specs.Rendering.{isStraight}
 use Rattle.netlist.specs.Answers.{done, refuseIf, inRoom}
 use Rattle.netlist.specs.Operations.{isBadSetting, passBlock, pass}
@@ -37,7 +37,7 @@ abbrev room-test : tie.After-enum-told7 → tie.After-test-room
 room-test c = c .before .before
 
 -- no word of the block breaks a rule
-whole : (c : tie.After-enum-told) → isTorn (now (start (words-test c) .args .words)) ≡ false
+whole : (c : tie.After-enum-told) → isMalformed (now (start (words-test c) .args .words)) ≡ false
 whole c = passed-false _ MalformedBlock (words-test c .check-words .ensures) (c .enum-told .given .1)
 
 -- what is left of the chain of conditions behind each

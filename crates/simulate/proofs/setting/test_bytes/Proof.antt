@@ -3,7 +3,7 @@ use mathlib.Core.Path.{_≡_}
 use mathlib.Core.Bool.{not}
 use denote.Ref.{now}
 use borrow.Author.Needs.{needs}
-use Rattle.netlist.specs.Answers.{testOf}
+use Rattle.refusals.specs.Tests.{testOf}
 use Rattle.simulate.specs.Tests.{isBadBytes}
 use Rattle.simulate.proofs.Settings.{bad-length, bad-bytes}
 use Rattle.simulate.proofs.setting.test_bytes.Statement.{statement}

@@ -1,12 +1,12 @@
-//! What became of one of the two facts of an entry, in words and as JSON.
+//! What became of one of the three facts of an entry, in words and as JSON.
 
-use super::Entry;
+use super::{promises, Entry};
 use crate::check::{interface, Differs};
 use crate::described::{object, pins};
 use crate::report::{pins_of, undefined};
-use unloop::audit::{Cover, Rendering};
+use unloop::audit::{Cover, Never, Rendering};
 use unloop::json::Json;
-use unloop::{Assignment, Block, Location, Refusal};
+use unloop::{Block, Location, Refusal};
 
 pub struct Fact {
     state: &'static str,
@@ -29,6 +29,14 @@ impl Fact {
             state,
             why: Some(why),
             fields,
+        }
+    }
+
+    /// One that is lost with the cover, whose line tells why.
+    fn lost_with_the_cover(state: &'static str) -> Fact {
+        Fact {
+            state,
+            ..Fact::holds()
         }
     }
 
@@ -59,17 +67,15 @@ impl Fact {
             Rendering::Original(refusal) => plain("original", original(*refusal, entry)),
             Rendering::Answer { stored, today } => plain("answer", answers(*stored, *today)),
             Rendering::Incomparable(refusal) => {
-                let pins = block
-                    .zip(theirs.as_ref())
-                    .filter(|_| *refusal == Refusal::InterfaceMismatch);
-                let told = pins.map(|(ours, theirs)| {
-                    format!(
-                        "it has {}, but must be {}",
-                        interface(theirs),
-                        interface(ours)
-                    )
-                });
-                plain(refusal.word(), told.unwrap_or_else(|| refusal.to_string()))
+                let why = incomparable(*refusal, block.zip(theirs.as_ref()));
+                plain(refusal.word(), why)
+            }
+            Rendering::Never(changes) => {
+                let blocks = block.zip(theirs.as_ref());
+                let told =
+                    blocks.map(|(ours, theirs)| promises::in_rendering(changes, ours, theirs));
+                let (why, fields) = told.unwrap_or_default();
+                Fact::lost("never", why, fields)
             }
             Rendering::Differs(found) => {
                 let blocks = block.zip(theirs.as_ref());
@@ -77,6 +83,22 @@ impl Fact {
                 let told = differs.map(|differs| (differs.to_string(), differs.fields()));
                 let (why, fields) = told.unwrap_or_default();
                 Fact::lost("differs", why, fields)
+            }
+        }
+    }
+
+    pub fn of_never(found: &Never, block: Option<&Block>) -> Fact {
+        match found {
+            Never::Holds => Fact::holds(),
+            Never::Missing => Fact::lost_with_the_cover("missing"),
+            Never::Original(_) => Fact::lost_with_the_cover("original"),
+            Never::Illegible { line, reason } => {
+                Fact::lost("illegible", format!("line {line}: {reason}"), Vec::new())
+            }
+            Never::Changed(changes) => {
+                let told = block.map(|block| promises::in_original(changes, block));
+                let (why, fields) = told.unwrap_or_default();
+                Fact::lost("changed", why, fields)
             }
         }
     }
@@ -119,6 +141,16 @@ impl Fact {
     }
 }
 
+fn incomparable(refusal: Refusal, blocks: Option<(&Block, &Block)>) -> String {
+    match (refusal, blocks) {
+        (Refusal::InterfaceMismatch, Some((ours, theirs))) => {
+            let (has, must_be) = (interface(theirs), interface(ours));
+            format!("it has {has}, but must be {must_be}")
+        }
+        _ => refusal.to_string(),
+    }
+}
+
 fn answers(stored: Refusal, today: Option<Refusal>) -> String {
     let told = |refusal: Refusal| format!("refused with {} {}", refusal.number(), refusal.word());
     let today = today.map_or("rendered".to_string(), told);
@@ -133,7 +165,10 @@ fn with(block: &Block, setting: usize) -> String {
 }
 
 fn of_setting(block: &Block, setting: usize) -> Json {
-    pins(Assignment::of_setting(setting), &block.input_names())
+    pins(
+        block.assignment(setting).unwrap_or_default(),
+        &block.input_names(),
+    )
 }
 
 fn original(refusal: Refusal, entry: &Entry) -> String {

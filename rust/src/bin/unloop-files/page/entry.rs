@@ -1,7 +1,7 @@
 //! A netlist's own page: its state, text, drawing, cover, sheet, and its rendering beside it.
 
 use super::html::{counted, escaped, framed};
-use super::{drawn, sheet};
+use super::{drawn, excluded, sheet};
 use crate::report;
 use crate::source::Source;
 use unloop::declarations::name_at;
@@ -20,17 +20,21 @@ pub struct Entry {
     pub text: Vec<u8>,
     pub block: Result<Block, Refusal>,
     pub rendering: Result<Block, Refusal>,
+    /// The lowest setting that may come and isn't settled, whatever the block is refused for.
+    unsettled: Option<usize>,
 }
 
 impl Entry {
     pub fn new(source: &Source, page: String, text: Vec<u8>) -> Entry {
         let block = Block::read(&text);
         let rendering = block.clone().and_then(|block| block.render());
+        let verdict = block.as_ref().map(Block::verdict);
         Entry {
             name: source.last_part(),
             title: source.stem(),
             page,
             text,
+            unsettled: verdict.ok().and_then(|verdict| verdict.lowest_unsettled),
             block,
             rendering,
         }
@@ -39,7 +43,7 @@ impl Entry {
     /// Its state as a class and in words; a refusal at a place has its line and column.
     pub fn state(&self) -> (&'static str, String) {
         let refusal = match self.rendering {
-            Ok(_) => return ("rendered", "rendered".to_string()),
+            Ok(_) => return self.rendered_state(),
             Err(refusal) => refusal,
         };
         match (refusal, refusal.place()) {
@@ -47,10 +51,26 @@ impl Entry {
                 let Location { row, column, .. } = Location::of(&self.text, place);
                 ("illegible", format!("{} {row}:{column}", refusal.word()))
             }
-            (Refusal::NotSettled { .. } | Refusal::TooManyCopies, _) => {
-                ("undecided", refusal.word().to_string())
+            (Refusal::TooManyCopies, _) => {
+                let hidden = self
+                    .unsettled
+                    .map(|setting| Refusal::NotSettled { setting });
+                let words = [Some(refusal), hidden].into_iter().flatten();
+                let words: Vec<&str> = words.map(Refusal::word).collect();
+                ("undecided", words.join(", "))
             }
+            (Refusal::NotSettled { .. }, _) => ("undecided", refusal.word().to_string()),
             _ => ("illegible", refusal.word().to_string()),
+        }
+    }
+
+    /// The state of a block that was rendered: another one where never lines exclude settings.
+    fn rendered_state(&self) -> (&'static str, String) {
+        let count = |block: &Block| (block.excluded_settings(), block.settings_that_come());
+        match self.block.as_ref().map_or((0, 0), count) {
+            (0, _) => ("rendered", "rendered".to_string()),
+            (all, 0) => ("vacuous", format!("rendered, all {all} excluded")),
+            (some, _) => ("promised", format!("rendered, {some} excluded")),
         }
     }
 
@@ -58,8 +78,8 @@ impl Entry {
     fn told(&self) -> Vec<String> {
         match (&self.block, &self.rendering) {
             (Ok(block), Ok(rendering)) => vec![format!(
-                "Settled under all {}. {}, {}; the loop-free rendering has {}.",
-                counted(block.settings_that_come(), "setting"),
+                "{} {}, {}; the loop-free rendering has {}.",
+                excluded::told(block),
                 counted(block.gates(), "gate"),
                 counted(block.loops().len(), "loop"),
                 counted(rendering.gates(), "gate line")
@@ -94,15 +114,13 @@ pub fn page(entries: &[Entry], index: usize) -> String {
         .collect::<Vec<_>>()
         .join("\n");
     let mut body = format!(
-        "<header>\n{nav}\n<h1>{}</h1>\n<p><span class=\"state {class}\">{}</span></p>\n<pre class=\"told\">{told}</pre>\n</header>\n<main>\n",
+        "<header>\n{nav}\n<h1>{}</h1>\n<p><span class=\"state {class}\">{}</span></p>\n<pre class=\"told\">{told}</pre>\n{}</header>\n<main>\n",
         escaped(&entry.title),
-        escaped(&state)
+        escaped(&state),
+        entry.block.as_ref().map_or(String::new(), excluded::paragraph)
     );
     if let Ok(block) = &entry.block {
-        body += &section(
-            "Sheet",
-            &sheet::sheet(block, entry.rendering.as_ref().err().copied()),
-        );
+        body += &section("Sheet", &sheet::sheet(block, entry.unsettled));
         body += &section("Drawing", &drawn::drawing(block, &entry.text));
         body += &section("Cover", &cover(block));
     }
@@ -174,7 +192,11 @@ fn cover(block: &Block) -> String {
                 .to_string()
         }
         [Assignment { fixed: 0, .. }] => {
-            return "<p>Always: no pin needs to be set.</p>\n".to_string()
+            let but = match block.excluded_settings() {
+                0 => "",
+                _ => " Of the settings that never come nothing is said.",
+            };
+            return format!("<p>Always: no pin needs to be set.{but}</p>\n");
         }
         _ => {}
     }

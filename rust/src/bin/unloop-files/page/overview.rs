@@ -2,35 +2,53 @@
 
 use super::entry::Entry;
 use super::html::{counted, escaped, framed};
+use unloop::Block;
 
-/// As `23 netlists: 14 rendered, 9 refused`.
-pub fn summary(entries: &[Entry]) -> String {
-    let rendered = entries
-        .iter()
-        .filter(|entry| entry.rendering.is_ok())
-        .count();
+/// As `24 netlists: 14 rendered (2 with settings excluded), 9 refused, 1 error`.
+pub fn summary(entries: &[&Entry], errors: usize) -> String {
+    let rendered = entries.iter().filter(|entry| entry.rendering.is_ok());
+    let blocks = rendered.flat_map(|entry| &entry.block);
+    let (rendered, limited) = (
+        blocks.clone().count(),
+        blocks.filter(|block| block.excluded_settings() > 0).count(),
+    );
+    let limited = match limited {
+        0 => String::new(),
+        limited => format!(" ({limited} with settings excluded)"),
+    };
+    let errors_told = match errors {
+        0 => String::new(),
+        errors => format!(", {}", counted(errors, "error")),
+    };
     format!(
-        "{}: {rendered} rendered, {} refused",
-        counted(entries.len(), "netlist"),
+        "{}: {rendered} rendered{limited}, {} refused{errors_told}",
+        counted(entries.len() + errors, "netlist"),
         entries.len() - rendered
     )
 }
 
-pub fn page(entries: &[Entry]) -> String {
+/// The overview; errors are the reasons why files could not be read.
+pub fn page(entries: &[Entry], errors: &[String]) -> String {
     let headers = ["Netlist", "State", "Gates", "Loops", "Rendering", "Settled"];
     let headers: String = headers
         .iter()
         .map(|name| format!("<th scope=\"col\"><button type=\"button\">{name}</button></th>"))
         .collect();
     let rows: String = entries.iter().map(row).collect();
+    let unread = errors.iter().map(|reason| {
+        let reason = escaped(reason);
+        format!("<p class=\"warning\">Not on this page: {reason}</p>\n")
+    });
     let body = format!(
-        "<header>\n<h1>Netlists</h1>\n<p>{}.</p>\n</header>\n<main>\n\
+        "<header>\n<h1>Netlists</h1>\n<p>{}.</p>\n{}</header>\n<main>\n\
          <p class=\"search\"><label for=\"search\">Search</label> <input id=\"search\" type=\"search\" placeholder=\"a name, or a state such as undecided\"> \
          <span id=\"found\" role=\"status\"></span></p>\n\
          <table id=\"overview\">\n<thead>\n<tr>{headers}</tr>\n</thead>\n<tbody>\n{rows}</tbody>\n</table>\n\
          <p class=\"note\">Gates: of the original, inner ones counted. Loops: its strongly connected groups that are one. Rendering: the gate lines of the \
-         loop-free netlist. Settled: the settings of the pins under which every output is 0 or 1, of those that may come.</p>\n</main>\n",
-        escaped(&summary(entries))
+         loop-free netlist. Settled: the settings of the pins under which every output is 0 or 1, of those that may come; \
+         excluded are those that a never line promises never to come.</p>\n</main>\n",
+        escaped(&summary(&entries.iter().collect::<Vec<_>>(), errors.len())),
+        unread.collect::<String>()
     );
     framed("Netlists", &body)
 }
@@ -49,11 +67,9 @@ fn row(entry: &Entry) -> String {
         )
     };
     let block = entry.block.as_ref().ok();
-    let settled = block.map(|block| (block.verdict().settled, block.settings_that_come()));
-    let share =
-        settled.map(|(settled, of)| (settled * 1_000_000).checked_div(of).unwrap_or(1_000_000));
-    let told = settled.map_or("–".to_string(), |(settled, of)| {
-        format!("{settled} of {of}")
+    let share = block.map(|block| {
+        let settled = block.verdict().settled * 1_000_000;
+        settled.checked_div(block.settings_that_come()).unwrap_or(0)
     });
     let (class, state) = entry.state();
     format!(
@@ -66,6 +82,6 @@ fn row(entry: &Entry) -> String {
         number("Gates", block.map(|block| block.gates())),
         number("Loops", block.map(|block| block.loops().len())),
         number("Rendering", entry.rendering.as_ref().ok().map(|block| block.gates())),
-        cell("Settled", share, told),
+        cell("Settled", share, block.map_or("–".to_string(), Block::settled_in_words)),
     )
 }

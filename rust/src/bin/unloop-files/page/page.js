@@ -1,5 +1,5 @@
 "use strict";
-// Sorts and searches the overview, and looks the sheet's values up. No value is computed here.
+// Sorts and searches the overview, and looks up what the sheet shows and says of a setting. Neither is computed here.
 
 function overview() {
   const table = document.getElementById("overview");
@@ -23,7 +23,7 @@ function overview() {
   });
   const search = document.getElementById("search");
   const found = document.getElementById("found");
-  search.addEventListener("input", () => {
+  const filter = () => {
     const words = search.value.toLowerCase().split(/\s+/).filter(Boolean);
     let count = 0;
     for (const row of rows) {
@@ -32,7 +32,23 @@ function overview() {
       if (!row.hidden) count += 1;
     }
     found.textContent = words.length ? `${count} of ${rows.length}` : "";
-  });
+  };
+  search.addEventListener("input", filter);
+  // On the way back here a browser fills the box again, after this has run and without an input event.
+  addEventListener("pageshow", filter);
+}
+
+// What is said of a setting by its stored state; with open pins it is not complete, and then neither settled nor not.
+function said(state, open, undefinedPorts) {
+  const pins = open.join(", ");
+  const ports = undefinedPorts.join(", ");
+  switch (state) {
+    case "s": return "Settled: every output is 0 or 1.";
+    case "n": return `Not settled: ${ports} undefined.`;
+    case "d": return `With ${pins} open: every output is 0 or 1 all the same.`;
+    case "u": return `With ${pins} open: ${ports} undefined.`;
+    default: return open.length ? `With ${pins} open: every such setting never comes, by the never lines.` : "This setting never comes, by a never line.";
+  }
 }
 
 function sheet() {
@@ -41,6 +57,7 @@ function sheet() {
   const values = JSON.parse(stored.textContent);
   const pins = [...document.querySelectorAll(".pin")];
   const ports = [...document.querySelectorAll(".port")];
+  const notice = document.getElementById("asked");
   const setting = pins.map((_, input) => (values.start >> input) & 1);
   const show = (element, letter, name) => {
     element.textContent = letter === "u" ? "?" : letter;
@@ -52,25 +69,34 @@ function sheet() {
     const row = setting.reduceRight((number, digit) => number * values.base + digit, 0);
     const shown = values.rows.slice(row * ports.length, (row + 1) * ports.length);
     ports.forEach((port, output) => show(port, shown[output]));
-    const bit = (mask, input) => (mask >> input) & 1;
-    const never = values.nevers.some(([fixed, ones]) => setting.every((digit, input) => !bit(fixed, input) || digit === bit(ones, input)));
-    const open = [...shown].some((letter) => letter === "u");
-    const words = open ? "Not settled: some output is undefined." : "Settled: every output is 0 or 1.";
-    document.getElementById("verdict").textContent = never ? "This setting never comes, by a never line." : words;
+    const open = values.inputs.filter((_, input) => setting[input] === 2);
+    const undefinedPorts = values.outputs.filter((_, output) => shown[output] === "u");
+    document.getElementById("verdict").textContent = said(values.states[row], open, undefinedPorts);
   };
   pins.forEach((pin, input) => {
     const set = (digit) => {
       if (digit < 0 || digit >= values.base) return;
       setting[input] = digit;
+      history.replaceState(null, "", "#sheet=" + setting.map((digit) => "01u"[digit]).join(""));
+      notice.hidden = true;
       update();
     };
     pin.addEventListener("click", () => set((setting[input] + 1) % values.base));
     pin.addEventListener("keydown", (event) => set("01u".indexOf(event.key)));
   });
-  // A link such as rate.html#sheet=0001 opens with the pins so; u is undefined.
-  const asked = /^#sheet=([01u]+)$/.exec(location.hash);
-  if (asked) [...asked[1]].slice(0, pins.length).forEach((letter, input) => { setting[input] = Math.min("01u".indexOf(letter), values.base - 1); });
-  update();
+  // A link such as rate.html#sheet=0001 opens with the pins so; u is undefined. One that names no setting of this sheet is told, and not taken.
+  const address = () => {
+    const asked = /^#sheet=(.*)$/.exec(location.hash);
+    const digits = asked ? [...asked[1]].map((letter) => "01u".indexOf(letter)) : [];
+    const taken = digits.length === pins.length && digits.every((digit) => digit >= 0 && digit < values.base);
+    notice.hidden = !asked || taken;
+    const letters = values.base === 3 ? "0, 1 or u" : "0 or 1 (no u with more than eight inputs)";
+    if (!notice.hidden) notice.textContent = `The address asks for ${asked[1]}, which is no setting here: it needs ${letters} for each pin, ${pins.length} in all.`;
+    if (taken) digits.forEach((digit, input) => { setting[input] = digit; });
+    update();
+  };
+  addEventListener("hashchange", address);
+  address();
 }
 
 function zoom() {

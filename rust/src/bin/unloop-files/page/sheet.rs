@@ -1,15 +1,16 @@
-//! The sheet: pins that are clicked to 0, 1 or undefined, and the outputs then. Their values are stored in the page, as Sheet gave them.
+//! The sheet: pins that are clicked to 0, 1 or undefined, and the outputs then. Their values are stored in the page, as Sheet gave them, and
+//! with them what is said of each setting.
 
 use super::html::escaped;
 use crate::described::object;
 use unloop::json::Json;
-use unloop::{Assignment, Block, Refusal, Value};
+use unloop::{Assignment, Block, Value};
 
 /// With more inputs than these no pin may be left undefined, so that the page stays small.
 const UNDEFINED_PINS: usize = 8;
 
 /// The sheet of a block; one that isn't settled begins with the lowest setting that shows it.
-pub fn sheet(block: &Block, refusal: Option<Refusal>) -> String {
+pub fn sheet(block: &Block, unsettled: Option<usize>) -> String {
     let (pins, ports) = (block.input_names(), block.output_names());
     if ports.is_empty() {
         return "<p>It has no outputs.</p>\n".to_string();
@@ -27,23 +28,38 @@ pub fn sheet(block: &Block, refusal: Option<Refusal>) -> String {
             escaped(name)
         )
     };
-    let start = refusal.and_then(Refusal::setting).unwrap_or(0);
-    let (values, count) = stored(block, base, start);
-    let open = match base {
-        3 => "Click a pin to change it (0, 1, undefined), or press 0, 1 or u on it.",
-        _ => "Click a pin to change it, or press 0 or 1 on it; with more than eight inputs none may be undefined here.",
-    };
+    let (values, count) = stored(block, base, unsettled.unwrap_or(0));
     format!(
         "<div class=\"bench\">\n<ul class=\"pinlist\" aria-label=\"Pins\">\n{}</ul>\n<ul class=\"portlist\" aria-label=\"Outputs\">\n{}</ul>\n</div>\n\
+         <p id=\"asked\" class=\"warning\" role=\"status\" hidden></p>\n\
          <p id=\"verdict\" role=\"status\"></p>\n<noscript><p>The sheet needs scripts.</p></noscript>\n\
-         <p class=\"note\">{open} The values of the outputs under all {count} settings are stored in this page; they come from the proved operation Sheet, \
-         and the page only looks them up.</p>\n<script type=\"application/json\" id=\"values\">{values}</script>\n",
+         {}<script type=\"application/json\" id=\"values\">{values}</script>\n",
         pins.iter().enumerate().map(pin).collect::<String>(),
         ports.iter().enumerate().map(port).collect::<String>(),
+        notes(pins.len(), base, count)
     )
 }
 
-/// The values as JSON, and how many settings they are of: a setting's number has weight base^i for input i, and digit 2 is undefined.
+/// How pins are changed, what an open one means, and where the values come from.
+fn notes(pins: usize, base: usize, count: usize) -> String {
+    let changed = match (pins, base) {
+        (0, _) => "It has no pins.",
+        (_, 3) => "Click a pin to change it (0, 1, undefined), or press 0, 1 or u on it. A pin that is undefined here (?) has no value, and an output shows 0 or 1 \
+                   only if that follows without it; \"any\" in the cover says that the pin has a value, 0 or 1, and that either will do.",
+        _ => "Click a pin to change it, or press 0 or 1 on it; with more than eight inputs none may be undefined here.",
+    };
+    let settings = match count {
+        1 => "its only setting".to_string(),
+        count => format!("all {count} settings that can be made here"),
+    };
+    format!(
+        "<p class=\"note\">{changed}</p>\n<p class=\"note\">What is shown under {settings} is stored in this page, which only looks it up: the outputs' values are \
+         those that the proved operation Sheet gave; whether they settle, and whether the setting never comes, was told from these values and the never lines \
+         when the page was written.</p>\n"
+    )
+}
+
+/// The values and states as JSON, and how many settings they are of: a setting's number has weight base^i for input i, and digit 2 is undefined.
 fn stored(block: &Block, base: usize, start: usize) -> (Json, usize) {
     let count = base.pow(block.inputs() as u32);
     let asked: Vec<Assignment> = (0..count)
@@ -54,22 +70,43 @@ fn stored(block: &Block, base: usize, start: usize) -> (Json, usize) {
         Value::One => '1',
         Value::Undefined => 'u',
     };
-    let rows = block
-        .sheet(&asked)
-        .into_iter()
-        .flat_map(Result::unwrap_or_default);
-    let number = |mask: u16| Json::Number(mask.into());
-    let nevers = block.never_lines().into_iter();
-    let nevers = nevers.map(|line| Json::List(vec![number(line.fixed), number(line.ones)]));
+    let shown = block.sheet(&asked).into_iter();
+    let shown: Vec<Vec<Value>> = shown.map(Result::unwrap_or_default).collect();
+    let nevers = block.never_lines();
+    let comes = |setting| !nevers.iter().any(|line| line.agrees(setting));
+    let comes: Vec<bool> = (0..1 << block.inputs()).map(comes).collect();
+    let settings = asked.iter().zip(&shown);
+    let states = settings.map(|(&asked, shown)| state(asked, shown, &comes));
     let fields = object([
         ("base", Json::Number(base)),
         ("inputs", Json::texts(block.input_names())),
         ("outputs", Json::texts(block.output_names())),
-        ("nevers", Json::List(nevers.collect())),
         ("start", Json::Number(start)),
-        ("rows", Json::Text(rows.map(letter).collect())),
+        ("states", Json::Text(states.collect())),
+        (
+            "rows",
+            Json::Text(shown.iter().flatten().copied().map(letter).collect()),
+        ),
     ]);
     (Json::Object(fields), count)
+}
+
+/// What is said of a setting: `s` it is settled, `n` it is not; where pins are open, which is no setting that could be settled, `d` every
+/// output is defined all the same, `u` some is not; `x` none of the settings that it stands for may come. `comes` has the 2^n complete ones.
+fn state(asked: Assignment, shown: &[Value], comes: &[bool]) -> char {
+    let may_come = comes
+        .iter()
+        .enumerate()
+        .any(|(setting, &comes)| comes && asked.agrees(setting));
+    let complete = usize::from(asked.fixed) == comes.len() - 1;
+    let defined = !shown.contains(&Value::Undefined);
+    match (may_come, complete, defined) {
+        (false, ..) => 'x',
+        (_, true, true) => 's',
+        (_, true, false) => 'n',
+        (_, false, true) => 'd',
+        (_, false, false) => 'u',
+    }
 }
 
 /// The assignment of a setting's number.
