@@ -372,21 +372,28 @@ fn a_library_that_fails_behind_a_rendering() {
     assert_eq!(ended.stdout, b"the input\n");
 }
 
-/// A refusal needs its report, and so the driver; it has the whole input too.
+/// What is told of a refusal, or of a rendering with never lines, needs the driver; it has the whole input too.
 #[test]
-fn a_refusal_needs_all() {
-    for words in [&[][..], &["-"], &["a.net"]] {
+fn a_report_needs_all() {
+    let (refused, never) = ("(refused 2 0)\n", "(in a)\n(never (a 1))\n");
+    for (words, text) in [
+        (&[][..], refused),
+        (&["-"], refused),
+        (&["a.net"], refused),
+        (&["a.net"], never),
+    ] {
         let scratch = repository();
-        scratch.put("a.net", "(refused 2 0)\n");
+        scratch.put("a.net", text);
         let mut command = Command::new(scratch.path("bin/unloop"));
         let command = command.env_clear().env("PATH", scratch.path("tools"));
         let command = command.current_dir(scratch.path(".")).args(words);
-        let ended = ended(command, b"(refused 2 0)\n\0");
+        let input = format!("{refused}\0");
+        let ended = ended(command, input.as_bytes());
         let building = [WHY, PROGRAM, LIBRARY, DRIVER].concat();
         told(&scratch, &ended, 7, &building, ALL_BUILT);
         let program = scratch.path("target/bin/unloop");
         let words: String = words.iter().map(|word| format!("{word}\n")).collect();
-        let output = format!("{}\n{words}(refused 2 0)\n\0", program.display());
+        let output = format!("{}\n{words}{input}", program.display());
         assert_eq!(String::from_utf8_lossy(&ended.stdout), output);
     }
 }
