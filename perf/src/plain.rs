@@ -9,6 +9,7 @@ mod bring;
 mod cells;
 mod compare;
 mod cover;
+mod decided;
 mod gate;
 mod gather;
 mod groups;

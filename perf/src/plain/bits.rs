@@ -1,4 +1,4 @@
-//! Numbers below 1,024, of which the lowest is wanted next.
+//! Numbers below 1,024, of which the lowest or the highest is wanted next.
 
 #[derive(Default)]
 pub struct Bits {
@@ -15,12 +15,21 @@ impl Bits {
 
     pub fn take_lowest(&mut self) -> Option<usize> {
         let place = self.some.trailing_zeros() as usize;
-        let word = self.words.get_mut(place)?;
-        let bit = word.trailing_zeros() as usize;
-        *word &= *word - 1;
-        if *word == 0 {
-            self.some &= self.some - 1;
+        let bit = self.words.get(place)?.trailing_zeros() as usize;
+        Some(self.take(place, bit))
+    }
+
+    pub fn take_highest(&mut self) -> Option<usize> {
+        let place = self.some.checked_ilog2()? as usize;
+        let bit = self.words[place].ilog2() as usize;
+        Some(self.take(place, bit))
+    }
+
+    fn take(&mut self, place: usize, bit: usize) -> usize {
+        self.words[place] ^= 1 << bit;
+        if self.words[place] == 0 {
+            self.some ^= 1 << place;
         }
-        Some(64 * place + bit)
+        64 * place + bit
     }
 }

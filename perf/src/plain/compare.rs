@@ -1,9 +1,10 @@
 //! Compare: the outputs of both blocks under every settled setting of ours, until two differ.
 
 use super::block::{name, Block};
+use super::decided::{by_width, lowest};
 use super::gate::Gate;
 use super::groups::Groups;
-use super::lanes::{by_width, lowest, to_its_end, Lanes};
+use super::lanes::{to_its_end, Lanes, Order};
 use super::{done, refused};
 use unloop::raw::Reply;
 
@@ -33,8 +34,9 @@ fn first_difference<const W: usize>(ours: &Block, theirs: &Block) -> Option<(usi
     let (our_gates, their_gates) = (Gate::all(ours), Gate::all(theirs));
     let groups = Groups::of(ours, &our_gates);
     let straight = Groups::straight(theirs.m);
-    let mut our_lanes = Lanes::<W>::new(ours, &our_gates, &groups);
-    let mut their_lanes = Lanes::<W>::new(theirs, &their_gates, &straight);
+    let order = Order::ThereAndBack;
+    let mut our_lanes = Lanes::<W>::new(ours, &our_gates, &groups, order);
+    let mut their_lanes = Lanes::<W>::new(theirs, &their_gates, &straight, order);
     for base in (0..1 << ours.n).step_by(64 * W) {
         let coming = our_lanes.start(base);
         their_lanes.start(base);

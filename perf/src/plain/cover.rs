@@ -2,7 +2,7 @@
 //! dropped. The settings of the first six inputs are the bits of a word.
 
 use super::block::Block;
-use super::lanes::Decided;
+use super::decided::Decided;
 use super::{handed_over, refused};
 use unloop::raw::Reply;
 

@@ -20,18 +20,33 @@ const PATTERNS: [u64; 6] = [
     0xffff_ffff_0000_0000,
 ];
 
+/// How the passes over a loop go: each in the order of its gates, as Render copies them, or every other one back, which takes fewer.
+#[derive(Clone, Copy, PartialEq)]
+pub enum Order {
+    OneWay,
+    ThereAndBack,
+}
+
 /// A block's gates in the order of their groups, and the values of its nodes.
 pub struct Lanes<'a, const W: usize> {
     block: &'a Block<'a>,
     steps: Vec<Gate>,
     groups: &'a Groups,
+    order: Order,
     /// Which steps of its loop read a step.
     readers: Readers,
     pub pairs: Vec<Pair<W>>,
+    /// Which steps of a loop are defined under all settings.
+    defined: Vec<bool>,
 }
 
 impl<'a, const W: usize> Lanes<'a, W> {
-    pub fn new(block: &'a Block<'a>, gates: &[Gate], groups: &'a Groups) -> Lanes<'a, W> {
+    pub fn new(
+        block: &'a Block<'a>,
+        gates: &[Gate],
+        groups: &'a Groups,
+        order: Order,
+    ) -> Lanes<'a, W> {
         let members = groups.members.iter();
         let mut pairs = vec![[[0; W]; 2]; block.n + block.m];
         pairs.extend([0, u64::MAX].map(|ones| defined([ones; W])));
@@ -39,8 +54,10 @@ impl<'a, const W: usize> Lanes<'a, W> {
             block,
             steps: members.map(|&gate| gates[usize::from(gate)]).collect(),
             groups,
+            order,
             readers: groups.readers_in_loops(block, gates),
             pairs,
+            defined: vec![false; block.m],
         }
     }
 
@@ -91,22 +108,30 @@ impl<'a, const W: usize> Lanes<'a, W> {
     }
 
     /// Passes over the steps of a loop until none changes under these settings. In each, a step is evaluated only where something that it
-    /// reads has changed. How many passes changed something.
+    /// reads has changed and it is still undefined somewhere. How many passes changed something.
     fn settle_loop(&mut self, steps: Range<usize>, coming: &Set<W>) -> usize {
         // The steps to be evaluated in this pass, and in the next one.
         let mut waiting = [Bits::default(), Bits::default()];
-        for step in steps.clone() {
+        for step in steps {
             self.pairs[usize::from(self.steps[step].place)] = [[0; W]; 2];
+            self.defined[step] = false;
             waiting[0].insert(step);
         }
         for pass in 0.. {
+            let back = self.order == Order::ThereAndBack && pass % 2 == 1;
             let mut changed = false;
-            while let Some(step) = waiting[pass % 2].take_lowest() {
+            while let Some(step) = match back {
+                true => waiting[pass % 2].take_highest(),
+                false => waiting[pass % 2].take_lowest(),
+            } {
                 if self.changes(step, coming) {
                     changed = true;
                     for &reader in self.readers.of(step) {
-                        let later = usize::from(usize::from(reader) < step);
-                        waiting[(pass + later) % 2].insert(reader.into());
+                        let reader = usize::from(reader);
+                        if !self.defined[reader] {
+                            let passed = (reader < step) != back;
+                            waiting[(pass + usize::from(passed)) % 2].insert(reader);
+                        }
                     }
                 }
             }
@@ -122,12 +147,14 @@ impl<'a, const W: usize> Lanes<'a, W> {
         let gate = &self.steps[step];
         let pair = value(gate, &self.pairs);
         let kept = &mut self.pairs[usize::from(gate.place)];
-        let mut changed = 0;
+        let (mut changed, mut left) = (0, 0);
         for i in 0..W {
             let [before, after] = [&*kept, &pair].map(|pair| pair[0][i] | pair[1][i]);
             changed |= coming[i] & (before ^ after);
+            left |= coming[i] & !after;
         }
         *kept = pair;
+        self.defined[step] = left == 0;
         changed != 0
     }
 
@@ -142,75 +169,7 @@ impl<'a, const W: usize> Lanes<'a, W> {
     }
 }
 
-/// What is known of all settings.
-#[derive(Default)]
-pub struct Decided {
-    /// The settings that come, and those of them under which some output is undefined.
-    pub coming: Vec<u64>,
-    pub undecided: Vec<u64>,
-}
-
-/// Calls a function with as many words a gate as the settings fill, at most eight.
-macro_rules! by_width {
-    ($n:expr, $run:ident($($argument:expr),*)) => {
-        match $n {
-            0..=6 => $run::<1>($($argument),*),
-            7 => $run::<2>($($argument),*),
-            8 => $run::<4>($($argument),*),
-            _ => $run::<8>($($argument),*),
-        }
-    };
-}
-pub(super) use by_width;
-
-impl Decided {
-    pub fn of(block: &Block) -> Decided {
-        let gates = Gate::all(block);
-        let groups = Groups::of(block, &gates);
-        let decided = Decided::by_groups(block, &gates, &groups, &mut to_its_end);
-        decided.expect("every loop goes to its end")
-    }
-
-    /// With these groups; nothing where a loop ended all.
-    pub fn by_groups(
-        block: &Block,
-        gates: &[Gate],
-        groups: &Groups,
-        on_loop: &mut impl FnMut(usize, usize) -> Option<()>,
-    ) -> Option<Decided> {
-        by_width!(block.n, all_settings(block, gates, groups, on_loop))
-    }
-
-    /// The lowest setting that comes and isn't settled.
-    pub fn lowest_undecided(&self) -> Option<usize> {
-        lowest(&self.undecided)
-    }
-}
-
 /// Whatever passes a loop needs.
 pub fn to_its_end(_group: usize, _passes: usize) -> Option<()> {
     Some(())
-}
-
-fn all_settings<const W: usize>(
-    block: &Block,
-    gates: &[Gate],
-    groups: &Groups,
-    on_loop: &mut impl FnMut(usize, usize) -> Option<()>,
-) -> Option<Decided> {
-    let mut lanes = Lanes::<W>::new(block, gates, groups);
-    let mut decided = Decided::default();
-    for base in (0..1 << block.n).step_by(64 * W) {
-        let coming = lanes.start(base);
-        lanes.settle(&coming, on_loop)?;
-        decided.coming.extend(coming);
-        decided.undecided.extend(lanes.undecided(&coming));
-    }
-    Some(decided)
-}
-
-/// The lowest setting of a set.
-pub fn lowest(set: &[u64]) -> Option<usize> {
-    let word = set.iter().position(|&word| word != 0)?;
-    Some(64 * word + set[word].trailing_zeros() as usize)
 }

@@ -1,9 +1,10 @@
 //! Render: the passes counted while the loops settle, then the copies in order, with a table of each gate's newest copy.
 
 use super::block::{Block, ZERO};
+use super::decided::Decided;
 use super::gate::Gate;
 use super::groups::Groups;
-use super::lanes::Decided;
+use super::lanes::Order;
 use super::{handed_over, refused};
 use unloop::raw::Reply;
 
@@ -22,7 +23,8 @@ pub fn render(words: &[u16], rendered: &mut [u16]) -> Reply {
     };
     let sizes: Vec<usize> = groups.iter().map(<[u16]>::len).collect();
     let mut on_loop = |group: usize, needed| passes.raise(group, needed, sizes[group]);
-    let Some(decided) = Decided::by_groups(&block, &gates, &groups, &mut on_loop) else {
+    let Some(decided) = Decided::by_groups(&block, &gates, &groups, Order::OneWay, &mut on_loop)
+    else {
         return refused(8, 0);
     };
     if let Some(setting) = decided.lowest_undecided() {

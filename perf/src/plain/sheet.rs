@@ -3,7 +3,7 @@
 use super::block::Block;
 use super::gate::Gate;
 use super::groups::Groups;
-use super::lanes::{to_its_end, Lanes};
+use super::lanes::{to_its_end, Lanes, Order};
 use super::{done, refused};
 use unloop::raw::{Record, Reply};
 
@@ -14,7 +14,7 @@ pub fn sheet(words: &[u16], records: &mut [Record]) -> Reply {
     };
     let gates = Gate::all(&block);
     let groups = Groups::of(&block, &gates);
-    let mut lanes = Lanes::<1>::new(&block, &gates, &groups);
+    let mut lanes = Lanes::<1>::new(&block, &gates, &groups, Order::ThereAndBack);
     for part in records.chunks_mut(64) {
         fill(&block, &mut lanes, part);
     }

@@ -1,7 +1,7 @@
 //! Verdict: the settled settings counted.
 
 use super::block::Block;
-use super::lanes::Decided;
+use super::decided::Decided;
 use super::{done, refused};
 use unloop::raw::Reply;
 
