@@ -23,6 +23,23 @@ pub const KINDS: [Kind; 7] = [
     Kind::Xnor,
 ];
 
+impl Kind {
+    /// The controlling value and the value that it forces; with all operands at the other value the gate has the other one too.
+    /// `not` is such a kind of one operand.
+    pub fn row(self) -> Option<(usize, usize)> {
+        const ROWS: [Option<(usize, usize)>; 7] = [
+            Some((0, 1)),
+            Some((0, 0)),
+            Some((1, 1)),
+            Some((0, 1)),
+            Some((1, 0)),
+            None,
+            None,
+        ];
+        ROWS[self as usize]
+    }
+}
+
 /// A gate and its place in the list of values: inputs, gates, constant 0, constant 1, absent. Its operands are such places too.
 #[derive(Clone, Copy)]
 pub struct Gate {

@@ -31,20 +31,26 @@ pub fn value<const W: usize>(gate: &Gate, pairs: &[Pair<W>]) -> Pair<W> {
     }
 }
 
+/// But for parity the kind decides only which words are read and where the result goes: no jump depends on it.
 fn combined<const W: usize, const N: usize>(kind: Kind, operands: [&Pair<W>; N]) -> Pair<W> {
-    let some = |v: usize| from_fn(|i| operands.iter().fold(0, |some, o| some | o[v][i]));
-    let all = |v: usize| from_fn(|i| operands.iter().fold(u64::MAX, |all, o| all & o[v][i]));
-    match kind {
-        Kind::And => [some(0), all(1)],
-        Kind::Or => [all(0), some(1)],
-        Kind::Not | Kind::Nand => [all(1), some(0)],
-        Kind::Nor => [some(1), all(0)],
-        Kind::Xor => parity(operands),
-        Kind::Xnor => {
-            let [even, odd] = parity(operands);
-            [odd, even]
+    let Some((controlling, forced)) = kind.row() else {
+        let mut pair = parity(operands);
+        if kind == Kind::Xnor {
+            pair.swap(0, 1);
         }
-    }
+        return pair;
+    };
+    let all = |i: usize| {
+        let words = operands.iter().map(|operand| operand[1 - controlling][i]);
+        words.fold(u64::MAX, |all, word| all & word)
+    };
+    let some = |i: usize| {
+        let words = operands.iter().map(|operand| operand[controlling][i]);
+        words.fold(0, |some, word| some | word)
+    };
+    let mut pair = [from_fn(all); 2];
+    pair[forced] = from_fn(some);
+    pair
 }
 
 fn parity<const W: usize, const N: usize>(operands: [&Pair<W>; N]) -> Pair<W> {
