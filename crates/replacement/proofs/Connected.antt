@@ -22,6 +22,7 @@ use Rattle.reach.proofs.SameGroup.{groupOf-member, groupOf-same, groupOf-below}
 use Rattle.replacement.specs.Placing.{isComplete, DependsOnNone}
 use Rattle.replacement.specs.Group.{isOutsideNet, operandsOf, boundary}
 use Rattle.replacement.proofs.Rewired.{Among, among-reads}
+use Rattle.replacement.proofs.Numbers.{not-true}
 use Rattle.replacement.proofs.Own.{all-keep, all-first, boundary-there}
 
 -- what is kept passes
@@ -32,10 +33,6 @@ keep-passes test (o ∷ os) = go (test o) refl (keep-passes test os)
     go : (u : Bool) → test o ≡ u → all test (keep test os) ≡ true → all test (cond u (o ∷ keep test os) (keep test os)) ≡ true
     go true e r = and-intro (test o) _ e r
     go false e r = r
-
-not-member : (t : Bool) → not t ≡ true → t ≡ false
-not-member true e = sym e
-not-member false e = refl
 
 module _ (b : Block) (group : List ℕ) where
   -- the gate among the operands, if it is one, is read by a gate of the group
@@ -61,16 +58,16 @@ module _ (b : Block) (group : List ℕ) where
       each (constant c) a = refl
 
   -- a gate of the boundary is outside the group,
-  boundary-apart : (i k : ℕ) → i < length (boundary b group) → getD (boundary b group) i (constant false) ≡ gate k → member k group ≡ false
+  pub boundary-apart : (i k : ℕ) → i < length (boundary b group) → getD (boundary b group) i (constant false) ≡ gate k → member k group ≡ false
   unfolding boundary isOutsideNet
   boundary-apart i k l e =
-      not-member (member k group)
+      not-true (member k group)
       (rw e at
       (all-at (isOutsideNet group) (boundary b group) i (constant false)
       (all-first (isOutsideNet group) _ (keep-passes (isOutsideNet group) (operandsOf b group))) l))
 
   -- and a gate of the group reads it
-  boundary-read : (i k : ℕ) → i < length (boundary b group) → getD (boundary b group) i (constant false) ≡ gate k
+  pub boundary-read : (i k : ℕ) → i < length (boundary b group) → getD (boundary b group) i (constant false) ≡ gate k
       → (g : ℕ) × (member g group ≡ true) × (reads b g k ≡ true)
   unfolding boundary readInside
   boundary-read i k l e =
@@ -81,7 +78,7 @@ module _ (b : Block) (group : List ℕ) where
       let (t, m, r) = any-at (λ g. reads b g k) group 0 h in
       (getD group t 0, member-from _ group t m refl, r)
 
-  boundary-gate : isComplete b ≡ true → (i k : ℕ) → i < length (boundary b group) → getD (boundary b group) i (constant false) ≡ gate k → k < gateCount b
+  pub boundary-gate : isComplete b ≡ true → (i k : ℕ) → i < length (boundary b group) → getD (boundary b group) i (constant false) ≡ gate k → k < gateCount b
   unfolding isOperand isNode
   boundary-gate whole i k l e =
       let h : isOperand b (gate k) ≡ true = rw e at (all-at (isOperand b) (boundary b group) i (constant false) (boundary-there b group whole) l) in

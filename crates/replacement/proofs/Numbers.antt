@@ -19,9 +19,9 @@ use Rattle.laws.proofs.Least.{least-at}
 use Rattle.laws.proofs.Quantifiers.{member-at}
 use Rattle.reach.proofs.ListFacts.{member-upTo, upTo-below, member-keep, least-at-most}
 use Rattle.encoding.proofs.ListFacts.{getD-map}
-use Rattle.netlist.specs.Netlist.{Operand, input, gate, constant, Gate, Output, Block, gateCount, gateOf}
+use Rattle.netlist.specs.Netlist.{Operand, input, gate, constant, Gate, Output, Block, gateCount, outputCount, gateOf}
 use Rattle.netlist.specs.Gather.{numberAt, placeIn, renumbered}
-use Rattle.replacement.specs.Placing.{Cut, rewired}
+use Rattle.replacement.specs.Placing.{Cut, nodes, rewired}
 use Rattle.replacement.specs.Replaced.{outside, newNumber, behindOutside, newNets, newOperand, standIn, replaced}
 
 -- a number that is in the list has a place there, and stands at it
@@ -33,11 +33,11 @@ place-found order j m =
     let first : least stands (length order) ≤ i = least-at-most stands (length order) i (eq-eqb (getD order i 0) j is) in
     (omega arith, eqb-true _ j (least-at stands (length order) (omega arith)))
 
-not-false : (t : Bool) → t ≡ false → not t ≡ true
+pub not-false : (t : Bool) → t ≡ false → not t ≡ true
 not-false true e = sym e
 not-false false e = refl
 
-not-true : (t : Bool) → not t ≡ true → t ≡ false
+pub not-true : (t : Bool) → not t ≡ true → t ≡ false
 not-true true e = sym e
 not-true false e = refl
 
@@ -105,3 +105,18 @@ module _ (b : Block) (cut : Cut) where
         ap (λ (n : ℕ). getD (kept ++ added) (n + t) (record { kind = 0; operands = [] })) (sym length-kept)
         ∙ getD-append-add kept added t (record { kind = 0; operands = [] })
         ∙ getD-map (rewired (newOperand b cut)) (new .gates) t (record { kind = 0; operands = [] }) (record { kind = 0; operands = [] }) l
+
+-- the outputs of the replaced netlist
+pub outputs-replaced : (b : Block) (cut : Cut) (new : Block) → outputCount (replaced b cut new) ≡ outputCount b
+unfolding replaced
+outputs-replaced b cut new = length-map (b .outputs) (λ (o : Output). record { port = o .port; node = standIn b cut new (o .node) })
+
+pub node-replaced : (b : Block) (cut : Cut) (new : Block) (p : ℕ) → p < outputCount b
+    → getD (nodes (replaced b cut new)) p (constant false) ≡ standIn b cut new (getD (nodes b) p (constant false))
+unfolding nodes replaced
+node-replaced b cut new p l =
+    let none : Output = record { port = []; node = constant false } in
+    let change : Output → Output = λ o. record { port = o .port; node = standIn b cut new (o .node) } in
+    getD-map (λ (o : Output). o .node) (map change (b .outputs)) p none (constant false) (rw (length-map (b .outputs) change) l)
+    ∙ ap (λ (o : Output). o .node) (getD-map change (b .outputs) p none none l)
+    ∙ ap (standIn b cut new) (sym (getD-map (λ (o : Output). o .node) (b .outputs) p none (constant false) l))

@@ -2,7 +2,7 @@
 --   Among                                  an operand stands in a list of operands
 --   evaluated-up, evaluated-down           a gate's value grows with its operands' values, before and after the change
 --   among-reads, among-uses, node-uses     what a gate reads, and what a block uses
---   complete-operand, complete-node        in a complete block these are there
+--   complete-operand, -node, -from         in a complete block these are there, and in no other
 -- Assumes nothing.
 use Prim.Native.Nat.{ℕ, zero, suc, _≤_, _<_}
 use mathlib.Core.Path.{_≡_, refl, sym, ap, _∙_}
@@ -14,9 +14,9 @@ use lib.ListN.{length, getD, length-map, List·getD-eq-default}
 use lib.Dec.{eqb}
 use borrow.Author.Tests.{eq-eqb}
 use Rattle.laws.specs.Lists.{all, any, member, joined}
-use Rattle.laws.proofs.Tests.{and-left, and-right, or-left, or-right, lt-or-le}
+use Rattle.laws.proofs.Tests.{and-left, and-right, and-intro, or-left, or-right, lt-or-le}
 use Rattle.laws.proofs.Lists.{member-head, member-right}
-use Rattle.laws.proofs.Quantifiers.{all-at, any-from}
+use Rattle.laws.proofs.Quantifiers.{all-at, all-from, any-from}
 use Rattle.encoding.proofs.ListFacts.{getD-map}
 use Rattle.netlist.specs.Values.{Value, undefined}
 use Rattle.netlist.specs.Netlist.{Operand, input, gate, constant, Gate, Output, Block, gateCount, outputCount, gateOf}
@@ -33,10 +33,10 @@ pub record Among (o : Operand) (os : List Operand) : Type 0 where
   pub there : place < length os
   pub is : getD os place (constant false) ≡ o
 
-among-first : (o : Operand) (os : List Operand) → Among o (o ∷ os)
+pub among-first : (o : Operand) (os : List Operand) → Among o (o ∷ os)
 among-first o os = record { place = 0; there = omega arith; is = refl }
 
-among-later : (o p : Operand) (os : List Operand) → Among o os → Among o (p ∷ os)
+pub among-later : (o p : Operand) (os : List Operand) → Among o os → Among o (p ∷ os)
 among-later o p os a = let l = a .there in record { place = suc (a .place); there = omega arith; is = a .is }
 
 -- ---- values
@@ -127,3 +127,15 @@ module _ (b : Block) where
         rw (getD-map (λ (o : Output). o .node) (b .outputs) p (record { port = []; node = constant false }) (constant false) l)
         (all-at (λ (o : Output). isOperand b (o .node)) (b .outputs) p (record { port = []; node = constant false })
         (and-right (all (λ (g : Gate). all (isOperand b) (g .operands)) (b .gates)) _ complete) l)
+
+-- A block in which these are there is complete.
+pub complete-from : (b : Block) → ((j : ℕ) (o : Operand) → Among o (gateOf b j .operands) → isOperand b o ≡ true)
+    → ((p : ℕ) → p < outputCount b → isOperand b (getD (nodes b) p (constant false)) ≡ true) → isComplete b ≡ true
+unfolding isComplete nodes
+complete-from b gates outputs =
+    let none : Output = record { port = []; node = constant false } in
+    and-intro _ _
+    (all-from (λ (g : Gate). all (isOperand b) (g .operands)) (b .gates) (record { kind = 0; operands = [] })
+    (λ j l. all-from (isOperand b) (gateOf b j .operands) (constant false) (λ i k. gates j _ (record { place = i; there = k; is = refl }))))
+    (all-from (λ (o : Output). isOperand b (o .node)) (b .outputs) none
+    (λ p l. rw (getD-map (λ (o : Output). o .node) (b .outputs) p none (constant false) l) at (outputs p l)))

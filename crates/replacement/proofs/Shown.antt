@@ -9,8 +9,9 @@ use Rattle.netlist.specs.Netlist.{Name, Block, inputCount}
 use Rattle.netlist.specs.Groups.{groupOf}
 use Rattle.replacement.specs.Placing.{isComplete}
 use Rattle.replacement.specs.Group.{boundary, cutOf, ownBlock}
-use Rattle.replacement.specs.Claim.{ReplacedUnderOneSetting, ReplacedGates, ReplacedGroup, FitsAt, SameValues}
+use Rattle.replacement.specs.Claim.{ReplacedUnderOneSetting, ReplacedGates, ReplacedGroup, NoNewLoop, FitsAt, SameValues}
 use Rattle.replacement.proofs.Values.{one-setting}
+use Rattle.replacement.proofs.Loops.{was-on-loop}
 use Rattle.replacement.proofs.Own.{own-stands-at}
 use Rattle.replacement.proofs.Connected.{connected-free}
 use Rattle.replacement.proofs.Settings.{allowed-agree}
@@ -36,3 +37,6 @@ connected-fits b j new whole complete inputs =
 pub replaced-group : ReplacedGroup
 replaced-group b j inputNames portNames nevers new whole complete inputs agree x allowed =
     replaced-gates b (groupOf b j) inputNames portNames nevers new whole (connected-fits b j new whole complete inputs) agree x allowed
+
+pub no-new-loop : NoNewLoop
+no-new-loop b cut own new whole stands fits long straight n loop = was-on-loop b cut own new whole stands fits long straight n loop

@@ -38,7 +38,9 @@ use Rattle.replacement.specs.Claim.{SameValues, StandsAt, FitsAt}
 use Rattle.replacement.proofs.Rewired.{Among, evaluated-up, evaluated-down, among-reads, among-uses, node-uses, length-nodes}
 use Rattle.replacement.proofs.Rewired.{complete-operand, complete-node}
 use Rattle.replacement.proofs.InPlace.{Stands, operand-settled}
-use Rattle.replacement.proofs.Numbers.{place-found, newNet-at, gate-outside, gate-new}
+use Rattle.replacement.proofs.Numbers.{place-found, newNet-at, gate-outside, gate-new, outputs-replaced, node-replaced}
+use Rattle.replacement.proofs.Seen.{gate-there, input-there, NewOperand, new-operand, new-node, FreeNet, free-net, free-outside, Seen, seen-operand}
+use Rattle.replacement.proofs.Seen.{seen-node}
 
 -- A bound that every round keeps at the gates of a set holds of the settled values there.
 pub settled-bound : (b : Block) (x : List Value) (S : ℕ → Type 0) (bound : ℕ → Value)
@@ -64,29 +66,6 @@ shown-at h y p l =
 pub length-shown : (h : Block) (y : List Value) → length (shownUnder h y) ≡ outputCount h
 unfolding shownUnder
 length-shown h y = length-map (h .outputs) (outputValue y (settled h y))
-
--- a gate that an output shows is shown
-shown-node : (b : Block) (p k : ℕ) → p < outputCount b → getD (nodes b) p (constant false) ≡ gate k → isShown b k ≡ true
-unfolding isShown nodes gateOperand
-shown-node b p k l e =
-    any-from (λ (o : Output). member k (gateOperand (o .node))) (b .outputs) p (record { port = []; node = constant false }) l
-    (rw (sym (getD-map (λ (o : Output). o .node) (b .outputs) p (record { port = []; node = constant false }) (constant false) l) ∙ e)
-    (member-head k []))
-
--- the outputs of the replaced netlist
-outputs-replaced : (b : Block) (cut : Cut) (new : Block) → outputCount (replaced b cut new) ≡ outputCount b
-unfolding replaced
-outputs-replaced b cut new = length-map (b .outputs) (λ (o : Output). record { port = o .port; node = standIn b cut new (o .node) })
-
-node-replaced : (b : Block) (cut : Cut) (new : Block) (p : ℕ) → p < outputCount b
-    → getD (nodes (replaced b cut new)) p (constant false) ≡ standIn b cut new (getD (nodes b) p (constant false))
-unfolding nodes replaced
-node-replaced b cut new p l =
-    let none : Output = record { port = []; node = constant false } in
-    let change : Output → Output = λ o. record { port = o .port; node = standIn b cut new (o .node) } in
-    getD-map (λ (o : Output). o .node) (map change (b .outputs)) p none (constant false) (rw (length-map (b .outputs) change) l)
-    ∙ ap (λ (o : Output). o .node) (getD-map change (b .outputs) p none none l)
-    ∙ ap (standIn b cut new) (sym (getD-map (λ (o : Output). o .node) (b .outputs) p none (constant false) l))
 
 module _ (b : Block) (cut : Cut) (own new : Block) (whole : isComplete b ≡ true) (stands : StandsAt b cut own) (fits : FitsAt b cut new) where
   -- ---- the group's own block, gate by gate
@@ -120,56 +99,6 @@ module _ (b : Block) (cut : Cut) (own new : Block) (whole : isComplete b ≡ tru
       let l′ : p < length (nodes own) = rw (length-nodes own, ← ports-long) l in
       sym (getD-map (inPlace (cut .nets) (numberAt (cut .gates))) (nodes own) p (constant false) (constant false) l′)
       ∙ ap (λ (os : List Operand). getD os p (constant false)) (stands .outputs) ∙ getD-map gate (cut .ports) p 0 (constant false) l
-
-  -- ---- what the new block uses
-
-  -- a net that it uses is there, and a gate that is one does not depend on the group
-  record FreeNet (o : Operand) : Type 0 where
-    there : isOperand b o ≡ true
-    free : (k : ℕ) → o ≡ gate k → DependsOnNone b (cut .gates) k
-
-  free-net : (i : ℕ) → i < inputCount new → usesInput new i ≡ true → FreeNet (getD (cut .nets) i (constant false))
-  free-net i l u =
-      record {
-        there = all-at (isOperand b) (cut .nets) i (constant false) (stands .nets) (rw (← fits .inputs) l);
-        free = λ k e. fits .independent i k u e;
-      }
-
-  -- a gate that does not depend on the group is not in it
-  free-outside : (k : ℕ) → DependsOnNone b (cut .gates) k → member k (cut .gates) ≡ false
-  free-outside k d = not-true-false (member k (cut .gates)) (λ m. d k m stay)
-
-  gate-there : (k : ℕ) → isOperand b (gate k) ≡ true → k < gateCount b
-  unfolding isOperand isNode
-  gate-there k h = ltb-true k (gateCount b) h
-
-  input-there : (i : ℕ) → isOperand new (input i) ≡ true → i < inputCount new
-  unfolding isOperand isNode
-  input-there i h = ltb-true i (inputCount new) h
-
-  -- an operand of the new block: it is there, and an input that it is is used
-  record NewOperand (o : Operand) : Type 0 where
-    there : isOperand new o ≡ true
-    used : (i : ℕ) → o ≡ input i → usesInput new i ≡ true
-
-  new-operand : (t : ℕ) (o : Operand) → Among o (gateOf new t .operands) → NewOperand o
-  new-operand t o a = record { there = complete-operand new (fits .complete) t o a; used = λ i e. among-uses new t i (rw e at a) }
-
-  new-node : (p : ℕ) → p < outputCount new → NewOperand (getD (nodes new) p (constant false))
-  new-node p l = record { there = complete-node new (fits .complete) p l; used = λ i e. node-uses new i p l e }
-
-  -- ---- what is seen of the group: a gate of it that is an operand outside is a port
-
-  record Seen (o : Operand) : Type 0 where
-    there : isOperand b o ≡ true
-    port : (k : ℕ) → o ≡ gate k → member k (cut .gates) ≡ true → member k (cut .ports) ≡ true
-
-  seen-operand : (j : ℕ) → member j (cut .gates) ≡ false → (o : Operand) → Among o (gateOf b j .operands) → Seen o
-  seen-operand j m o a =
-      record { there = complete-operand b whole j o a; port = λ k e. stands .isRead j k m (among-reads b j k (rw e at a)) }
-
-  seen-node : (p : ℕ) → p < outputCount b → Seen (getD (nodes b) p (constant false))
-  seen-node p l = record { there = complete-node b whole p l; port = λ k e. stands .isShown k (shown-node b p k l e) }
 
   module _ (x : List Value) (agree : shownUnder own (netValues b x (cut .nets)) ≡ shownUnder new (netValues b x (cut .nets))) where
     abbrev y : List Value
@@ -211,31 +140,31 @@ module _ (b : Block) (cut : Cut) (own new : Block) (whole : isComplete b ≡ tru
         (outsideBelow : (j : ℕ) → j < gateCount b → member j (cut .gates) ≡ false
         → Below (getD v (newNumber b cut j) undefined) (getD (settled b x) j undefined))
         (newBelow : (t : ℕ) → t < gateCount new → Below (getD v (behindOutside b cut t) undefined) (getD (settled new y) t undefined)) where
-      net-down : (o : Operand) → FreeNet o → Below (operandValue x v (renumbered (newNumber b cut) o)) (operandValue x (settled b x) o)
+      net-down : (o : Operand) → FreeNet b cut o → Below (operandValue x v (renumbered (newNumber b cut) o)) (operandValue x (settled b x) o)
       unfolding operandValue renumbered
       net-down (input i) f = below-refl (getD x i undefined)
-      net-down (gate k) f = outsideBelow k (gate-there k (f .there)) (free-outside k (f .free k refl))
+      net-down (gate k) f = outsideBelow k (gate-there b k (f .there)) (free-outside b cut k (f .free k refl))
       net-down (constant c) f = below-refl (val c)
 
       input-down : (i : ℕ) → i < inputCount new → usesInput new i ≡ true
           → Below (operandValue x v (getD (newNets b cut) i (constant false))) (getD y i undefined)
       input-down i l u =
-          rw (newNet-at b cut i (rw (← fits .inputs) l), net-value i l) (net-down (getD (cut .nets) i (constant false)) (free-net i l u))
+          rw (newNet-at b cut i (rw (← fits .inputs) l), net-value i l) (net-down (getD (cut .nets) i (constant false)) (free-net b cut own new stands fits i l u))
 
-      new-down : (o : Operand) → NewOperand o → Below (operandValue x v (newOperand b cut o)) (operandValue y (settled new y) o)
+      new-down : (o : Operand) → NewOperand new o → Below (operandValue x v (newOperand b cut o)) (operandValue y (settled new y) o)
       unfolding operandValue newOperand inPlace isOperand isNode
-      new-down (input i) n = input-down i (input-there i (n .there)) (n .used i refl)
+      new-down (input i) n = input-down i (input-there new i (n .there)) (n .used i refl)
       new-down (gate t) n = newBelow t (ltb-true t (gateCount new) (n .there))
       new-down (constant c) n = below-refl (val c)
 
       port-down : (k : ℕ) → member k (cut .ports) ≡ true → Below (operandValue x v (newOperand b cut (portNode k))) (getD (settled b x) k undefined)
-      port-down k m = below-trans (new-down (portNode k) (new-node (placeIn (cut .ports) k) (port-below k m))) (below-of-eq (port-shows k m))
+      port-down k m = below-trans (new-down (portNode k) (new-node new (fits .complete) (placeIn (cut .ports) k) (port-below k m))) (below-of-eq (port-shows k m))
 
-      stand-down : (o : Operand) → Seen o → Below (operandValue x v (standIn b cut new o)) (operandValue x (settled b x) o)
+      stand-down : (o : Operand) → Seen b cut o → Below (operandValue x v (standIn b cut new o)) (operandValue x (settled b x) o)
       unfolding operandValue standIn
       stand-down (input i) s = below-refl (getD x i undefined)
       stand-down (gate k) s =
-          ⊎-elim (λ m. rw m (port-down k (s .port k refl m))) (λ m. rw m (outsideBelow k (gate-there k (s .there)) m))
+          ⊎-elim (λ m. rw m (port-down k (s .port k refl m))) (λ m. rw m (outsideBelow k (gate-there b k (s .there)) m))
           (bool-cases (member k (cut .gates)))
       stand-down (constant c) s = below-refl (val c)
 
@@ -244,14 +173,14 @@ module _ (b : Block) (cut : Cut) (own new : Block) (whole : isComplete b ≡ tru
       outside-next j l m =
           rw (gate-outside b cut new j l m)
           (below-trans
-          (evaluated-down x (settled b x) x v (standIn b cut new) (gateOf b j) (λ o a. stand-down o (seen-operand j m o a)))
+          (evaluated-down x (settled b x) x v (standIn b cut new) (gateOf b j) (λ o a. stand-down o (seen-operand b cut own whole stands j m o a)))
           (below-of-eq (evaluated-settled b x j)))
 
       new-next : (t : ℕ) → t < gateCount new → Below (evaluated x v (gateOf after (behindOutside b cut t))) (getD (settled new y) t undefined)
       new-next t l =
           rw (gate-new b cut new t l)
           (below-trans
-          (evaluated-down y (settled new y) x v (newOperand b cut) (gateOf new t) (λ o a. new-down o (new-operand t o a)))
+          (evaluated-down y (settled new y) x v (newOperand b cut) (gateOf new t) (λ o a. new-down o (new-operand new (fits .complete) t o a)))
           (below-of-eq (evaluated-settled new y t)))
 
     record Down (v : List Value) : Type 0 where
@@ -286,7 +215,7 @@ module _ (b : Block) (cut : Cut) (own new : Block) (whole : isComplete b ≡ tru
       free : DependsOnNone b (cut .gates) k
 
     free-reads : (j k : ℕ) → Free j → reads b j k ≡ true → isOperand b (gate k) ≡ true → Free k
-    free-reads j k f r h = record { there = gate-there k h; free = λ i m p. f .free i m (step r p) }
+    free-reads j k f r h = record { there = gate-there b k h; free = λ i m p. f .free i m (step r p) }
 
     free-operand : (v : List Value) (j : ℕ) → Free j
         → ((k : ℕ) → Free k → Below (getD v k undefined) (getD (settled after x) (newNumber b cut k) undefined))
@@ -296,7 +225,7 @@ module _ (b : Block) (cut : Cut) (own new : Block) (whole : isComplete b ≡ tru
     free-operand v j f before (input i) h r = below-refl (getD x i undefined)
     free-operand v j f before (gate k) h r =
         let g : Free k = free-reads j k f (r k refl) h in
-        rw (free-outside k (g .free)) (before k g)
+        rw (free-outside b cut k (g .free)) (before k g)
     free-operand v j f before (constant c) h r = below-refl (val c)
 
     free-up : (k : ℕ) → Free k → Below (getD (settled b x) k undefined) (getD (settled after x) (newNumber b cut k) undefined)
@@ -307,26 +236,26 @@ module _ (b : Block) (cut : Cut) (own new : Block) (whole : isComplete b ≡ tru
         (evaluated-up x (afterRounds b x r) x (settled after x) (standIn b cut new) (gateOf b j)
         (λ o a. free-operand (afterRounds b x r) j f before o (complete-operand b whole j o a) (λ k e. among-reads b j k (rw e at a))))
         (below-of-eq
-        (ap (evaluated x (settled after x)) (sym (gate-outside b cut new j (f .there) (free-outside j (f .free))))
+        (ap (evaluated x (settled after x)) (sym (gate-outside b cut new j (f .there) (free-outside b cut j (f .free))))
         ∙ evaluated-settled after x (newNumber b cut j))))
 
-    net-up : (o : Operand) → FreeNet o → Below (operandValue x (settled b x) o) (operandValue x (settled after x) (renumbered (newNumber b cut) o))
+    net-up : (o : Operand) → FreeNet b cut o → Below (operandValue x (settled b x) o) (operandValue x (settled after x) (renumbered (newNumber b cut) o))
     unfolding operandValue renumbered
     net-up (input i) f = below-refl (getD x i undefined)
-    net-up (gate k) f = free-up k (record { there = gate-there k (f .there); free = f .free k refl })
+    net-up (gate k) f = free-up k (record { there = gate-there b k (f .there); free = f .free k refl })
     net-up (constant c) f = below-refl (val c)
 
     input-up : (i : ℕ) → i < inputCount new → usesInput new i ≡ true
         → Below (getD y i undefined) (operandValue x (settled after x) (getD (newNets b cut) i (constant false)))
     input-up i l u =
-        rw (newNet-at b cut i (rw (← fits .inputs) l), net-value i l) (net-up (getD (cut .nets) i (constant false)) (free-net i l u))
+        rw (newNet-at b cut i (rw (← fits .inputs) l), net-value i l) (net-up (getD (cut .nets) i (constant false)) (free-net b cut own new stands fits i l u))
 
     -- at the new block's gates,
     operand-up : (v : List Value)
         → ((t : ℕ) → t < gateCount new → Below (getD v t undefined) (getD (settled after x) (behindOutside b cut t) undefined))
-        → (o : Operand) → NewOperand o → Below (operandValue y v o) (operandValue x (settled after x) (newOperand b cut o))
+        → (o : Operand) → NewOperand new o → Below (operandValue y v o) (operandValue x (settled after x) (newOperand b cut o))
     unfolding operandValue newOperand inPlace isOperand isNode
-    operand-up v before (input i) n = input-up i (input-there i (n .there)) (n .used i refl)
+    operand-up v before (input i) n = input-up i (input-there new i (n .there)) (n .used i refl)
     operand-up v before (gate t) n = before t (ltb-true t (gateCount new) (n .there))
     operand-up v before (constant c) n = below-refl (val c)
 
@@ -336,24 +265,24 @@ module _ (b : Block) (cut : Cut) (own new : Block) (whole : isComplete b ≡ tru
         (λ r before t l.
         below-trans
         (evaluated-up y (afterRounds new y r) x (settled after x) (newOperand b cut) (gateOf new t)
-        (λ o a. operand-up (afterRounds new y r) before o (new-operand t o a)))
+        (λ o a. operand-up (afterRounds new y r) before o (new-operand new (fits .complete) t o a)))
         (below-of-eq (ap (evaluated x (settled after x)) (sym (gate-new b cut new t l)) ∙ evaluated-settled after x (behindOutside b cut t))))
 
     port-up : (k : ℕ) → member k (cut .ports) ≡ true
         → Below (getD (settled b x) k undefined) (operandValue x (settled after x) (newOperand b cut (portNode k)))
     port-up k m =
         below-trans (below-of-eq (sym (port-shows k m)))
-        (operand-up (settled new y) new-up (portNode k) (new-node (placeIn (cut .ports) k) (port-below k m)))
+        (operand-up (settled new y) new-up (portNode k) (new-node new (fits .complete) (placeIn (cut .ports) k) (port-below k m)))
 
     -- and at all gates outside.
     stand-up : (v : List Value) → ((k : ℕ) → Below (getD v k undefined) (getD (settled b x) k undefined))
         → ((k : ℕ) → k < gateCount b → member k (cut .gates) ≡ false
         → Below (getD v k undefined) (getD (settled after x) (newNumber b cut k) undefined))
-        → (o : Operand) → Seen o → Below (operandValue x v o) (operandValue x (settled after x) (standIn b cut new o))
+        → (o : Operand) → Seen b cut o → Below (operandValue x v o) (operandValue x (settled after x) (standIn b cut new o))
     unfolding operandValue standIn
     stand-up v low before (input i) s = below-refl (getD x i undefined)
     stand-up v low before (gate k) s =
-        ⊎-elim (λ m. rw m (below-trans (low k) (port-up k (s .port k refl m)))) (λ m. rw m (before k (gate-there k (s .there)) m))
+        ⊎-elim (λ m. rw m (below-trans (low k) (port-up k (s .port k refl m)))) (λ m. rw m (before k (gate-there b k (s .there)) m))
         (bool-cases (member k (cut .gates)))
     stand-up v low before (constant c) s = below-refl (val c)
 
@@ -368,7 +297,7 @@ module _ (b : Block) (cut : Cut) (own new : Block) (whole : isComplete b ≡ tru
         below-trans
         (evaluated-up x (afterRounds b x r) x (settled after x) (standIn b cut new) (gateOf b j)
         (λ o a. stand-up (afterRounds b x r) (afterRounds-below-settled b x r) (λ k l m. before k (record { there = l; out = m })) o
-        (seen-operand j (s .out) o a)))
+        (seen-operand b cut own whole stands j (s .out) o a)))
         (below-of-eq
         (ap (evaluated x (settled after x)) (sym (gate-outside b cut new j (s .there) (s .out))) ∙ evaluated-settled after x (newNumber b cut j))))
 
@@ -378,7 +307,7 @@ module _ (b : Block) (cut : Cut) (own new : Block) (whole : isComplete b ≡ tru
         → getD (settled after x) (newNumber b cut j) undefined ≡ getD (settled b x) j undefined
     gates-same j l m = below-antisym _ _ (down .outsideBelow j l m) (outside-up j (record { there = l; out = m }))
 
-    operand-kept : (o : Operand) → Seen o → operandValue x (settled after x) (standIn b cut new o) ≡ operandValue x (settled b x) o
+    pub operand-kept : (o : Operand) → Seen b cut o → operandValue x (settled after x) (standIn b cut new o) ≡ operandValue x (settled b x) o
     operand-kept o s =
         below-antisym _ _ (stand-down (settled after x) (down .outsideBelow) (down .newBelow) o s)
         (stand-up (settled b x) (λ k. below-refl (getD (settled b x) k undefined)) (λ k l m. outside-up k (record { there = l; out = m })) o s)
@@ -390,7 +319,7 @@ module _ (b : Block) (cut : Cut) (own new : Block) (whole : isComplete b ≡ tru
         (λ p l. let l′ : p < outputCount after = rw (length-shown after x) at l in
         let l″ : p < outputCount b = rw (outputs-replaced b cut new) at l′ in
         shown-at after x p l′ ∙ ap (operandValue x (settled after x)) (node-replaced b cut new p l″)
-        ∙ operand-kept (getD (nodes b) p (constant false)) (seen-node p l″) ∙ sym (shown-at b x p l″))
+        ∙ operand-kept (getD (nodes b) p (constant false)) (seen-node b cut own whole stands p l″) ∙ sym (shown-at b x p l″))
 
     pub one-setting : SameValues b cut new x
     one-setting = record { gates = gates-same; outputs = outputs-same }

@@ -17,7 +17,7 @@ use lib.ListN.{length, getD}
 use Rattle.laws.specs.Lists.{all, member}
 use Rattle.netlist.specs.Values.{Value, undefined, isDefined}
 use Rattle.netlist.specs.Assignments.{Assignment, maskOf, isOne}
-use Rattle.netlist.specs.Netlist.{Name, Operand, gate, constant, Block, inputCount, gateCount, gateOf}
+use Rattle.netlist.specs.Netlist.{Name, Operand, gate, constant, Block, inputCount, gateCount, outputCount, gateOf}
 use Rattle.netlist.specs.StoredBlock.{isOperand}
 use Rattle.netlist.specs.Rounds.{settled, settingCount, outputsUnder, isExcluded}
 use Rattle.netlist.specs.Groups.{OperandPath, reads, groupOf}
@@ -87,3 +87,25 @@ ReplacedGroup =
     → AgreeWhereAllowed (ownBlock b (groupOf b j) inputNames portNames nevers) new
     → (x : List Value) → AllowedAt b x (boundary b (groupOf b j)) (ownBlock b (groupOf b j) inputNames portNames nevers)
     → SameValues b (cutOf b (groupOf b j)) new x
+
+-- ---- loops
+
+-- a chain of reads, of at least one step, leads from gate j back to it
+pub record OnLoop (b : Block) (j : ℕ) : Type 0 where
+  pub next : ℕ
+  pub isRead : reads b j next ≡ true
+  pub back : OperandPath b next j
+
+-- gate n of the replaced netlist was on a loop before, and is a gate outside the group
+pub record WasOnLoop (b : Block) (cut : Cut) (n : ℕ) : Type 0 where
+  pub old : ℕ
+  pub there : old < gateCount b
+  pub apart : member old (cut .gates) ≡ false
+  pub number : n ≡ newNumber b cut old
+  pub loop : OnLoop b old
+
+-- Straight gates bring no loop: every loop of the replaced netlist is one of gates outside the group, and was there before.
+abbrev pub NoNewLoop : Type 0
+NoNewLoop =
+    (b : Block) (cut : Cut) (own new : Block) → isComplete b ≡ true → StandsAt b cut own → FitsAt b cut new
+    → length (cut .ports) ≡ outputCount new → isStraight new ≡ true → (n : ℕ) → OnLoop (replaced b cut new) n → WasOnLoop b cut n

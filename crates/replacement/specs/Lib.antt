@@ -3,3 +3,4 @@ pub mod Placing
 pub mod Group
 pub mod Replaced
 pub mod Claim
+pub mod Several
