@@ -1,36 +1,38 @@
--- What the gates of a replaced netlist read, and what its outputs show: gates outside the group by their new numbers, and gates of the new block.
---   OperandAfter, after-operand   an operand of one of its gates
---   FromNew, new-cases        a gate that an operand of the new block has become
---   FromStand, stand-cases    a gate that stands for an operand outside the group
---   ReadAfter, read-cases     a gate that is read; shown-cases: one that is shown
+-- What the gates of a replaced netlist read, and what its outputs show: gates outside the group by their new numbers,
+-- and gates of the new block.
+--   OperandAfter, after-operand    an operand of one of its gates
+--   FromNew, new-cases             a gate that an operand of the new block has become
+--   FromStand, stand-cases         a gate that stands for an operand outside the group
+--   ReadAfter, read-cases          a gate that is read; shown-cases: one that is shown
 -- Assumes nothing.
-use Prim.Native.Nat.{ℕ, zero, suc, _+_, _-_, _≤_, _<_}
+use Prim.Native.Nat.{ℕ, _-_, _<_}
 use mathlib.Core.Path.{_≡_, refl, sym, ap, subst, _∙_}
-use mathlib.Core.Logic.{_⊎_, inl, inr, ⊎-elim}
-use mathlib.Core.Bool.{Bool, true, false, cond, not, false≢true}
+use mathlib.Core.Logic.{⊎-elim}
+use mathlib.Core.Bool.{Bool, true, false, not, false≢true}
 use mathlib.Core.List.{List, [], _∷_, map}
 use native.Mathlib.Omega.{arith}
 use lib.ListN.{length, getD, length-map}
-use borrow.Author.Tests.{ltb-true, lt-ltb}
-use Rattle.laws.specs.Lists.{all, any, member, joined, upTo}
-use Rattle.laws.proofs.Tests.{bool-cases, lt-or-le, and-intro}
+use Rattle.laws.specs.Lists.{member, joined}
+use Rattle.laws.proofs.Tests.{bool-cases, lt-or-le}
 use Rattle.laws.proofs.Lists.{member-cases, member-one}
-use Rattle.laws.proofs.Quantifiers.{all-at, all-from, any-at, member-from}
+use Rattle.laws.proofs.Quantifiers.{any-at, member-from}
 use Rattle.encoding.proofs.ListFacts.{getD-map}
 use Rattle.reach.specs.Orders.{Once}
 use Rattle.reach.proofs.ListFacts.{keep-ascending, ascending-once, once-getD}
-use Rattle.netlist.specs.Netlist.{Operand, input, gate, constant, Gate, Output, Block, inputCount, gateCount, outputCount, gateOf}
-use Rattle.netlist.specs.StoredBlock.{isNode, isOperand}
+use Rattle.netlist.specs.Netlist.{Operand, input, gate, constant, Gate, Output, Block, inputCount, gateCount}
+use Rattle.netlist.specs.Netlist.{outputCount, gateOf}
 use Rattle.netlist.specs.Groups.{gateOperand, readBy, reads}
 use Rattle.netlist.specs.Gather.{numberAt, placeIn, renumbered}
 use Rattle.replacement.specs.Placing.{isComplete, nodes, rewired, inPlace, Cut, usesInput}
 use Rattle.replacement.specs.Group.{isShown}
-use Rattle.replacement.specs.Replaced.{outside, newNumber, behindOutside, newNets, newOperand, standIn, replaced}
+use Rattle.replacement.specs.Replaced.{outside, newNumber, behindOutside, newOperand, standIn, replaced}
 use Rattle.replacement.specs.Claim.{StandsAt, FitsAt}
 use Rattle.replacement.proofs.Rewired.{Among, among-later, among-below}
-use Rattle.replacement.proofs.Numbers.{place-found, outside-member, outside-apart, newNumber-below, newNumber-back, newNet-at, length-replaced}
+use Rattle.replacement.proofs.Numbers.{place-found, outside-apart, newNumber-below, newNumber-back, newNet-at}
+use Rattle.replacement.proofs.Numbers.{length-replaced}
 use Rattle.replacement.proofs.Numbers.{gate-outside, gate-new, outputs-replaced, node-replaced}
-use Rattle.replacement.proofs.Seen.{gate-there, input-there, NewOperand, new-operand, new-node, FreeNet, free-net, free-outside, Seen, seen-operand}
+use Rattle.replacement.proofs.Seen.{gate-there, input-there, NewOperand, new-operand, new-node, FreeNet}
+use Rattle.replacement.proofs.Seen.{free-net, free-outside, Seen, seen-operand}
 use Rattle.replacement.proofs.Seen.{seen-node}
 
 -- ---- what a gate reads stands among its operands
@@ -44,14 +46,16 @@ among-one (constant c) k h = absurd (false≢true h)
 among-from : (os : List Operand) (k : ℕ) → member k (joined (map gateOperand os)) ≡ true → Among (gate k) os
 among-from [] k h = absurd (false≢true h)
 among-from (o ∷ os) k h =
-    ⊎-elim (λ m. record { place = 0; there = omega arith; is = among-one o k m }) (λ m. among-later (gate k) o os (among-from os k m))
+    ⊎-elim (λ m. record { place = 0; there = omega arith; is = among-one o k m })
+    (λ m. among-later (gate k) o os (among-from os k m))
     (member-cases k (gateOperand o) (joined (map gateOperand os)) h)
 
 pub reads-among : (b : Block) (j k : ℕ) → reads b j k ≡ true → Among (gate k) (gateOf b j .operands)
 unfolding reads readBy
 reads-among b j k r = among-from (gateOf b j .operands) k r
 
-pub shown-place : (b : Block) (k : ℕ) → isShown b k ≡ true → (p : ℕ) × (p < outputCount b) × (getD (nodes b) p (constant false) ≡ gate k)
+pub shown-place : (b : Block) (k : ℕ) → isShown b k ≡ true
+    → (p : ℕ) × (p < outputCount b) × (getD (nodes b) p (constant false) ≡ gate k)
 unfolding isShown nodes
 shown-place b k h =
     let none : Output = record { port = []; node = constant false } in
@@ -64,7 +68,8 @@ pub record Changed (change : Operand → Operand) (os : List Operand) (o : Opera
   pub among : Among from os
   pub to : change from ≡ o
 
-pub among-changed : (change : Operand → Operand) (g : Gate) (o : Operand) → Among o (rewired change g .operands) → Changed change (g .operands) o
+pub among-changed : (change : Operand → Operand) (g : Gate) (o : Operand) → Among o (rewired change g .operands)
+    → Changed change (g .operands) o
 unfolding rewired
 among-changed change g o a =
     let l : a .place < length (g .operands) = rw (length-map (g .operands) change) at (a .there) in
@@ -86,11 +91,14 @@ not-constant c k e = let z : _≡_ {A = ℕ} 0 1 = cc in omega arith
 -- ---- new numbers
 
 module _ (b : Block) (cut : Cut) where
-  pub number-injective : (j k : ℕ) → j < gateCount b → member j (cut .gates) ≡ false → k < gateCount b → member k (cut .gates) ≡ false
+  pub number-injective : (j k : ℕ) → j < gateCount b → member j (cut .gates) ≡ false → k < gateCount b
+      → member k (cut .gates) ≡ false
       → newNumber b cut j ≡ newNumber b cut k → j ≡ k
-  number-injective j k l m l′ m′ e = sym (newNumber-back b cut j l m) ∙ ap (λ (n : ℕ). getD (outside b cut) n 0) e ∙ newNumber-back b cut k l′ m′
+  number-injective j k l m l′ m′ e =
+      sym (newNumber-back b cut j l m) ∙ ap (λ (n : ℕ). getD (outside b cut) n 0) e ∙ newNumber-back b cut k l′ m′
 
-  pub number-not-new : (j t : ℕ) → j < gateCount b → member j (cut .gates) ≡ false → newNumber b cut j ≡ behindOutside b cut t → ⊥
+  pub number-not-new : (j t : ℕ) → j < gateCount b → member j (cut .gates) ≡ false
+      → newNumber b cut j ≡ behindOutside b cut t → ⊥
   unfolding behindOutside
   number-not-new j t l m e = let h = newNumber-below b cut j l m in omega arith
 
@@ -125,7 +133,8 @@ pub data OperandAfter (b : Block) (cut : Cut) (new : Block) (n : ℕ) (o : Opera
   ofNew : (t : ℕ) → t < gateCount new → n ≡ behindOutside b cut t
       → (e : Operand) → Among e (gateOf new t .operands) → newOperand b cut e ≡ o → OperandAfter b cut new n o
 
-module _ (b : Block) (cut : Cut) (new : Block) (n : ℕ) (o : Operand) (a : Among o (gateOf (replaced b cut new) n .operands)) where
+module _ (b : Block) (cut : Cut) (new : Block) (n : ℕ) (o : Operand)
+    (a : Among o (gateOf (replaced b cut new) n .operands)) where
   of-outside : n < length (outside b cut) → OperandAfter b cut new n o
   of-outside l =
       let k = kept-at b cut n l in
@@ -155,13 +164,16 @@ module _ (b : Block) (cut : Cut) (new : Block) (n : ℕ) (o : Operand) (a : Amon
 -- the gate that an operand of the new block has become: one of its gates, or a net of the boundary that it uses
 pub data FromNew (b : Block) (cut : Cut) (new : Block) (o : Operand) (n : ℕ) : Type 0 where
   newGate : (t : ℕ) → o ≡ gate t → t < gateCount new → n ≡ behindOutside b cut t → FromNew b cut new o n
-  net : (i k : ℕ) → usesInput new i ≡ true → getD (cut .nets) i (constant false) ≡ gate k → k < gateCount b → member k (cut .gates) ≡ false
+  net : (i k : ℕ) → usesInput new i ≡ true → getD (cut .nets) i (constant false) ≡ gate k → k < gateCount b
+      → member k (cut .gates) ≡ false
       → n ≡ newNumber b cut k → FromNew b cut new o n
 
 -- the gate that stands for an operand outside the group: itself, or what the new block shows in its place
 pub data FromStand (b : Block) (cut : Cut) (new : Block) (o : Operand) (n : ℕ) : Type 0 where
-  itself : (k : ℕ) → o ≡ gate k → k < gateCount b → member k (cut .gates) ≡ false → n ≡ newNumber b cut k → FromStand b cut new o n
-  shown : (k : ℕ) → o ≡ gate k → member k (cut .gates) ≡ true → (e : Operand) → FromNew b cut new e n → FromStand b cut new o n
+  itself : (k : ℕ) → o ≡ gate k → k < gateCount b → member k (cut .gates) ≡ false → n ≡ newNumber b cut k
+      → FromStand b cut new o n
+  shown : (k : ℕ) → o ≡ gate k → member k (cut .gates) ≡ true → (e : Operand) → FromNew b cut new e n
+      → FromStand b cut new o n
 
 -- what is read: by a gate outside the group, or by a gate of the new block
 pub data ReadAfter (b : Block) (cut : Cut) (new : Block) (n n′ : ℕ) : Type 0 where
@@ -170,14 +182,17 @@ pub data ReadAfter (b : Block) (cut : Cut) (new : Block) (n n′ : ℕ) : Type 0
   byNew : (t : ℕ) → t < gateCount new → n ≡ behindOutside b cut t
       → (o : Operand) → Among o (gateOf new t .operands) → FromNew b cut new o n′ → ReadAfter b cut new n n′
 
-module _ (b : Block) (cut : Cut) (own new : Block) (whole : isComplete b ≡ true) (stands : StandsAt b cut own) (fits : FitsAt b cut new)
+module _ (b : Block) (cut : Cut) (own new : Block) (whole : isComplete b ≡ true) (stands : StandsAt b cut own)
+    (fits : FitsAt b cut new)
     (long : length (cut .ports) ≡ outputCount new) where
-  net-case : (n i : ℕ) → usesInput new i ≡ true → (p : Operand) → getD (cut .nets) i (constant false) ≡ p → FreeNet b cut p
+  net-case : (n i : ℕ) → usesInput new i ≡ true → (p : Operand) → getD (cut .nets) i (constant false) ≡ p
+      → FreeNet b cut p
       → (e : Operand) → renumbered (newNumber b cut) p ≡ gate n → FromNew b cut new e n
   unfolding renumbered
   net-case n i u (input k) is f e h = absurd (not-input k n h)
   net-case n i u (gate k) is f e h =
-      net i k u is (gate-there b k (f .there)) (free-outside b cut k (f .free k refl)) (gate-injective n (newNumber b cut k) (sym h))
+      net i k u is (gate-there b k (f .there)) (free-outside b cut k (f .free k refl))
+      (gate-injective n (newNumber b cut k) (sym h))
   net-case n i u (constant c) is f e h = absurd (not-constant c n h)
 
   pub new-cases : (o : Operand) → NewOperand new o → (n : ℕ) → newOperand b cut o ≡ gate n → FromNew b cut new o n
@@ -187,7 +202,8 @@ module _ (b : Block) (cut : Cut) (own new : Block) (whole : isComplete b ≡ tru
       let u : usesInput new i ≡ true = s .used i refl in
       net-case n i u (getD (cut .nets) i (constant false)) refl (free-net b cut own new stands fits i l u) (input i)
       (sym (newNet-at b cut i (rw (← fits .inputs) l)) ∙ h)
-  new-cases (gate t) s n h = newGate t refl (gate-there new t (s .there)) (gate-injective n (behindOutside b cut t) (sym h))
+  new-cases (gate t) s n h =
+      newGate t refl (gate-there new t (s .there)) (gate-injective n (behindOutside b cut t) (sym h))
   new-cases (constant c) s n h = absurd (not-constant c n h)
 
   -- what the new block shows at a port
@@ -215,11 +231,17 @@ module _ (b : Block) (cut : Cut) (own new : Block) (whole : isComplete b ≡ tru
   read-cases n n′ r = go (after-operand b cut new n (gate n′) (reads-among (replaced b cut new) n n′ r))
     where
       go : OperandAfter b cut new n (gate n′) → ReadAfter b cut new n n′
-      go (ofOutside j l m e o a to) = byOutside j l m e o a (stand-cases o (seen-operand b cut own whole stands j m o a) n′ to)
+      go (ofOutside j l m e o a to) =
+          byOutside j l m e o a (stand-cases o (seen-operand b cut own whole stands j m o a) n′ to)
       go (ofNew t l e o a to) = byNew t l e o a (new-cases o (new-operand new (fits .complete) t o a) n′ to)
 
-  pub shown-cases : (n : ℕ) → isShown (replaced b cut new) n ≡ true → (p : ℕ) × (p < outputCount b) × FromStand b cut new (getD (nodes b) p (constant false)) n
+  pub shown-cases : (n : ℕ) → isShown (replaced b cut new) n ≡ true
+      → (p : ℕ) × (p < outputCount b) × FromStand b cut new (getD (nodes b) p (constant false)) n
   shown-cases n h =
       let (p, l, e) = shown-place (replaced b cut new) n h in
-      let l′ : p < outputCount b = rw (outputs-replaced b cut new) at l in
-      (p, l′, stand-cases (getD (nodes b) p (constant false)) (seen-node b cut own whole stands p l′) n (sym (node-replaced b cut new p l′) ∙ e))
+      let l′ : p < outputCount b = rw (outputs-replaced b cut new) at l in (
+        p,
+        l′,
+        stand-cases (getD (nodes b) p (constant false)) (seen-node b cut own whole stands p l′) n
+            (sym (node-replaced b cut new p l′) ∙ e),
+      )

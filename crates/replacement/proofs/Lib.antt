@@ -11,5 +11,6 @@ pub mod Connected
 pub mod Settings
 pub mod Shown
 pub mod Moved
+pub mod Applied
 pub mod OneByOne
 pub mod AllShown

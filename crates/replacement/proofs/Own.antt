@@ -2,32 +2,33 @@
 --   boundary-has      the boundary has every outside net that a gate of the group reads
 --   own-stands-at     so the own block stands at its cut
 -- Assumes nothing.
-use Prim.Native.Nat.{ℕ, zero, suc, _≤_, _<_}
+use Prim.Native.Nat.{ℕ, _≤_, _<_}
 use mathlib.Core.Path.{_≡_, refl, sym, ap, _∙_}
-use mathlib.Core.Logic.{_⊎_, inl, inr, ⊎-elim}
+use mathlib.Core.Logic.{_⊎_, inl, inr}
 use mathlib.Core.Bool.{Bool, true, false, cond, not, _&&_, _||_, false≢true}
-use mathlib.Core.List.{List, [], _∷_, _++_, map, map-map, map-id}
+use mathlib.Core.List.{List, [], _∷_, map, map-map, map-id}
 use native.Mathlib.Omega.{arith}
 use lib.ListN.{length, getD, length-map}
-use lib.Seq.{ext-getD}
 use lib.Dec.{eqb}
-use borrow.Author.Tests.{eqb-true, eq-eqb, lt-ltb, ltb-true}
-use Rattle.laws.specs.Lists.{all, any, keep, tab, joined, upTo, member, least}
+use borrow.Author.Tests.{eqb-true, eq-eqb, lt-ltb}
+use Rattle.laws.specs.Lists.{all, any, keep, member, least}
 use Rattle.laws.proofs.Tests.{bool-cases, not-both, and-left, and-right, and-intro, or-cases, or-left, or-right}
 use Rattle.laws.proofs.Tab.{length-tab, map-tab, tab-ext, tab-getD}
 use Rattle.laws.proofs.Least.{least-at}
-use Rattle.laws.proofs.Lists.{member-head, member-rest}
-use Rattle.laws.proofs.Quantifiers.{all-at, all-from, all-append, any-at, any-from, any-append, below-any, member-from, all-tab-from}
+use Rattle.laws.proofs.Quantifiers.{all-from, all-append, any-at, any-from, any-append, below-any, member-from}
+use Rattle.laws.proofs.Quantifiers.{all-tab-from}
 use Rattle.reach.proofs.ListFacts.{map-same, member-keep, least-at-most}
 use Rattle.reach.proofs.Reach.{reads-below}
-use Rattle.encoding.proofs.ListFacts.{getD-map, all-map}
+use Rattle.encoding.proofs.ListFacts.{all-map}
 use Rattle.netlist.specs.Assignments.{Assignment}
-use Rattle.netlist.specs.Netlist.{Name, Operand, input, gate, constant, Gate, Output, Block, inputCount, gateCount, gateOf}
+use Rattle.netlist.specs.Netlist.{Name, Operand, input, gate, constant, Gate, Output, Block, inputCount, gateCount}
+use Rattle.netlist.specs.Netlist.{gateOf}
 use Rattle.netlist.specs.StoredBlock.{isNode, isOperand}
 use Rattle.netlist.specs.Groups.{reads}
 use Rattle.netlist.specs.Gather.{numberAt, placeIn}
-use Rattle.replacement.specs.Placing.{isComplete, nodes, rewired, inPlace, Cut}
-use Rattle.replacement.specs.Group.{sameNet, isOutsideNet, firstOnes, operandsOf, boundary, isShown, isReadOutside, ports, cutOf, netPlace, ownOperand}
+use Rattle.replacement.specs.Placing.{isComplete, nodes, rewired, inPlace}
+use Rattle.replacement.specs.Group.{sameNet, isOutsideNet, firstOnes, operandsOf, boundary, isShown}
+use Rattle.replacement.specs.Group.{isReadOutside, ports, cutOf, netPlace, ownOperand}
 use Rattle.replacement.specs.Group.{ownBlock}
 use Rattle.replacement.specs.Claim.{StandsAt}
 use Rattle.replacement.proofs.Rewired.{Among, complete-operand}
@@ -57,11 +58,13 @@ same-eq (gate j) (constant c) h = absurd (false≢true h)
 same-eq (constant c) p h = absurd (false≢true h)
 
 -- what passes a test that the net passes
-keep-has : (test : Operand → Bool) (o : Operand) (os : List Operand) → test o ≡ true → hasNet o os ≡ true → hasNet o (keep test os) ≡ true
+keep-has : (test : Operand → Bool) (o : Operand) (os : List Operand) → test o ≡ true → hasNet o os ≡ true
+    → hasNet o (keep test os) ≡ true
 keep-has test o [] t h = absurd (false≢true h)
 keep-has test o (p ∷ os) t h = go (test p) refl (or-cases (sameNet o p) (hasNet o os) h) (keep-has test o os t)
   where
-    go : (u : Bool) → test p ≡ u → (sameNet o p ≡ true) ⊎ (hasNet o os ≡ true) → (hasNet o os ≡ true → hasNet o (keep test os) ≡ true)
+    go : (u : Bool) → test p ≡ u → (sameNet o p ≡ true) ⊎ (hasNet o os ≡ true)
+        → (hasNet o os ≡ true → hasNet o (keep test os) ≡ true)
         → hasNet o (cond u (p ∷ keep test os) (keep test os)) ≡ true
     go true e (inl s) rest = or-left (sameNet o p) _ s
     go true e (inr s) rest = or-right (sameNet o p) _ (rest s)
@@ -75,10 +78,12 @@ first-has o [] h = h
 first-has o (p ∷ os) h = go (or-cases (sameNet o p) (hasNet o os) h) (bool-cases (sameNet p o)) (first-has o os)
   where
     go : (sameNet o p ≡ true) ⊎ (hasNet o os ≡ true) → (sameNet p o ≡ true) ⊎ (sameNet p o ≡ false)
-        → (hasNet o os ≡ true → hasNet o (firstOnes os) ≡ true) → hasNet o (p ∷ keep (λ q. not (sameNet p q)) (firstOnes os)) ≡ true
+        → (hasNet o os ≡ true → hasNet o (firstOnes os) ≡ true)
+        → hasNet o (p ∷ keep (λ q. not (sameNet p q)) (firstOnes os)) ≡ true
     go (inl s) d rest = or-left (sameNet o p) _ s
     go (inr s) (inl d) rest = or-left (sameNet o p) _ (let e : p ≡ o = same-eq p o d in rw e (rw e at d))
-    go (inr s) (inr d) rest = or-right (sameNet o p) _ (keep-has (λ q. not (sameNet p q)) o (firstOnes os) (rw d refl) (rest s))
+    go (inr s) (inr d) rest =
+        or-right (sameNet o p) _ (keep-has (λ q. not (sameNet p q)) o (firstOnes os) (rw d refl) (rest s))
 
 -- what all of a list pass, all of the first ones pass
 pub all-keep : (test p : Operand → Bool) (os : List Operand) → all p os ≡ true → all p (keep test os) ≡ true
@@ -92,10 +97,13 @@ all-keep test p (o ∷ os) h = go (test o) (all-keep test p os (and-right (p o) 
 pub all-first : (p : Operand → Bool) (os : List Operand) → all p os ≡ true → all p (firstOnes os) ≡ true
 unfolding firstOnes
 all-first p [] h = refl
-all-first p (o ∷ os) h = and-intro (p o) _ (and-left (p o) _ h) (all-keep (λ q. not (sameNet o q)) p (firstOnes os) (all-first p os (and-right (p o) _ h)))
+all-first p (o ∷ os) h =
+    and-intro (p o) _ (and-left (p o) _ h)
+    (all-keep (λ q. not (sameNet o q)) p (firstOnes os) (all-first p os (and-right (p o) _ h)))
 
 -- a net that is in the list stands at its place
-net-found : (nets : List Operand) (o : Operand) → hasNet o nets ≡ true → (netPlace nets o < length nets) × (getD nets (netPlace nets o) (constant false) ≡ o)
+net-found : (nets : List Operand) (o : Operand) → hasNet o nets ≡ true
+    → (netPlace nets o < length nets) × (getD nets (netPlace nets o) (constant false) ≡ o)
 unfolding netPlace
 net-found nets o h =
     let (i, l, s) = any-at (sameNet o) nets (constant false) h in
@@ -107,25 +115,30 @@ net-found nets o h =
 -- ---- the boundary
 
 module _ (b : Block) (group : List ℕ) where
-  operands-has : (js : List ℕ) (j : ℕ) (o : Operand) → member j js ≡ true → ((c : Bool) → o ≡ constant c → ⊥) → Among o (gateOf b j .operands)
+  operands-has : (js : List ℕ) (j : ℕ) (o : Operand) → member j js ≡ true → ((c : Bool) → o ≡ constant c → ⊥)
+      → Among o (gateOf b j .operands)
       → hasNet o (operandsOf b js) ≡ true
   unfolding operandsOf
   operands-has [] j o m n a = absurd (false≢true m)
   operands-has (k ∷ js) j o m n a = any-append (sameNet o) (gateOf b k .operands) (operandsOf b js)
       ∙ go (or-cases (eqb j k) (member j js) m) (λ e. operands-has js j o e n a)
     where
-      go : (eqb j k ≡ true) ⊎ (member j js ≡ true) → (member j js ≡ true → hasNet o (operandsOf b js) ≡ true) → (hasNet o (gateOf b k .operands) || hasNet o (operandsOf b js)) ≡ true
+      go : (eqb j k ≡ true) ⊎ (member j js ≡ true) → (member j js ≡ true → hasNet o (operandsOf b js) ≡ true)
+          → (hasNet o (gateOf b k .operands) || hasNet o (operandsOf b js)) ≡ true
       go (inl e) rest =
           or-left (hasNet o (gateOf b k .operands)) _
           (rw (← eqb-true j k e)
-          (any-from (sameNet o) (gateOf b j .operands) (a .place) (constant false) (a .there) (rw (a .is) (same-self o n))))
+          (any-from (sameNet o) (gateOf b j .operands) (a .place) (constant false) (a .there)
+          (rw (a .is) (same-self o n))))
       go (inr e) rest = or-right (hasNet o (gateOf b k .operands)) _ (rest e)
 
   -- every net outside that a gate of the group reads is in the boundary
-  boundary-has : (j : ℕ) (o : Operand) → member j group ≡ true → isOutsideNet group o ≡ true → ((c : Bool) → o ≡ constant c → ⊥)
+  boundary-has : (j : ℕ) (o : Operand) → member j group ≡ true → isOutsideNet group o ≡ true
+      → ((c : Bool) → o ≡ constant c → ⊥)
       → Among o (gateOf b j .operands) → hasNet o (boundary b group) ≡ true
   unfolding boundary
-  boundary-has j o m t n a = first-has o _ (keep-has (isOutsideNet group) o (operandsOf b group) t (operands-has group j o m n a))
+  boundary-has j o m t n a =
+      first-has o _ (keep-has (isOutsideNet group) o (operandsOf b group) t (operands-has group j o m n a))
 
   -- each of its nets is there, where the netlist is complete
   operands-there : isComplete b ≡ true → (js : List ℕ) → all (isOperand b) (operandsOf b js) ≡ true
@@ -140,7 +153,9 @@ module _ (b : Block) (group : List ℕ) where
 
   pub boundary-there : isComplete b ≡ true → all (isOperand b) (boundary b group) ≡ true
   unfolding boundary
-  boundary-there whole = all-first (isOperand b) _ (all-keep (isOutsideNet group) (isOperand b) (operandsOf b group) (operands-there whole group))
+  boundary-there whole =
+      all-first (isOperand b) _
+      (all-keep (isOutsideNet group) (isOperand b) (operandsOf b group) (operands-there whole group))
 
   -- ---- operands, there and back
 
@@ -150,11 +165,13 @@ module _ (b : Block) (group : List ℕ) where
   abbrev back : Operand → Operand
   back o = inPlace (boundary b group) (numberAt group) o
 
-  input-has : (j i : ℕ) → member j group ≡ true → Among (input i) (gateOf b j .operands) → hasNet (input i) (boundary b group) ≡ true
+  input-has : (j i : ℕ) → member j group ≡ true → Among (input i) (gateOf b j .operands)
+      → hasNet (input i) (boundary b group) ≡ true
   unfolding isOutsideNet
   input-has j i m a = boundary-has j (input i) m refl (λ c e. let z : _≡_ {A = ℕ} 0 1 = cc in omega arith) a
 
-  gate-has : (j k : ℕ) → member j group ≡ true → member k group ≡ false → Among (gate k) (gateOf b j .operands) → hasNet (gate k) (boundary b group) ≡ true
+  gate-has : (j k : ℕ) → member j group ≡ true → member k group ≡ false → Among (gate k) (gateOf b j .operands)
+      → hasNet (gate k) (boundary b group) ≡ true
   unfolding isOutsideNet
   gate-has j k m n a = boundary-has j (gate k) m (rw n refl) (λ c e. let z : _≡_ {A = ℕ} 0 1 = cc in omega arith) a
 
@@ -163,7 +180,8 @@ module _ (b : Block) (group : List ℕ) where
   operand-back j m (input i) a = net-found (boundary b group) (input i) (input-has j i m a) .1
   operand-back j m (gate k) a = go (member k group) refl
     where
-      go : (t : Bool) → member k group ≡ t → back (cond t (gate (placeIn group k)) (input (netPlace (boundary b group) (gate k)))) ≡ gate k
+      go : (t : Bool) → member k group ≡ t
+          → back (cond t (gate (placeIn group k)) (input (netPlace (boundary b group) (gate k)))) ≡ gate k
       go true e = ap gate (place-found group k e .1)
       go false e = net-found (boundary b group) (gate k) (gate-has j k m e a) .1
   operand-back j m (constant c) a = refl
@@ -198,7 +216,8 @@ module _ (b : Block) (group : List ℕ) where
     unfolding isOperand isNode
     gate-fits t l = lt-ltb t (gateCount block) (rw gates-long l)
 
-    operand-fits : (j : ℕ) → member j group ≡ true → (o : Operand) → Among o (gateOf b j .operands) → isOperand block (own o) ≡ true
+    operand-fits : (j : ℕ) → member j group ≡ true → (o : Operand) → Among o (gateOf b j .operands)
+        → isOperand block (own o) ≡ true
     unfolding ownOperand isOperand
     operand-fits j m (input i) a = input-fits _ (net-found (boundary b group) (input i) (input-has j i m a) .0)
     operand-fits j m (gate k) a = go (member k group) refl
@@ -233,7 +252,8 @@ module _ (b : Block) (group : List ℕ) where
     unfolding ownBlock
     block-gates =
         map-map (rewired back) (λ j. rewired own (gateOf b j)) group
-        ∙ map-same _ (gateOf b) group 0 (λ t l. gate-back (getD group t 0) (member-from (getD group t 0) group t l refl))
+        ∙ map-same _ (gateOf b) group 0
+        (λ t l. gate-back (getD group t 0) (member-from (getD group t 0) group t l refl))
 
     block-outputs : map back (nodes block) ≡ map gate (ports b group)
     unfolding ownBlock nodes inPlace numberAt
@@ -245,14 +265,16 @@ module _ (b : Block) (group : List ℕ) where
         ∙ sym (map-tab gate (numberAt (ports b group)) (length (ports b group)))
         ∙ ap (map gate) (tab-getD 0 (ports b group) (length (ports b group)) refl)
 
-    port-from : (j : ℕ) → member j group ≡ true → isReadOutside b group j || isShown b j ≡ true → member j (ports b group) ≡ true
+    port-from : (j : ℕ) → member j group ≡ true → isReadOutside b group j || isShown b j ≡ true
+        → member j (ports b group) ≡ true
     unfolding ports
     port-from j m h = member-keep (λ j. isReadOutside b group j || isShown b j) group j ∙ and-intro _ _ m h
 
     read-outside : (i j : ℕ) → member i group ≡ false → reads b i j ≡ true → isReadOutside b group j ≡ true
     unfolding isReadOutside
     read-outside i j m r =
-        below-any (λ i. not (member i group) && reads b i j) (gateCount b) i (reads-below b i j r) (and-intro (not (member i group)) _ (rw m refl) r)
+        below-any (λ i. not (member i group) && reads b i j) (gateCount b) i (reads-below b i j r)
+        (and-intro (not (member i group)) _ (rw m refl) r)
 
     -- The own block stands at the group's cut.
     pub own-stands-at : StandsAt b (cutOf b group) block

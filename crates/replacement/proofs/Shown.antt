@@ -1,20 +1,19 @@
 -- The claims of specs/Claim.antt hold. Assumes nothing.
 use Prim.Native.Nat.{ℕ}
-use mathlib.Core.Path.{_≡_, sym}
+use mathlib.Core.Path.{_≡_}
 use mathlib.Core.Bool.{true}
-use mathlib.Core.List.{List}
 use lib.ListN.{length}
-use Rattle.netlist.specs.Assignments.{Assignment}
-use Rattle.netlist.specs.Netlist.{Name, Block, inputCount}
+use Rattle.netlist.specs.Netlist.{Block, inputCount}
 use Rattle.netlist.specs.Groups.{groupOf}
 use Rattle.replacement.specs.Placing.{isComplete}
 use Rattle.replacement.specs.Group.{boundary, cutOf, ownBlock}
-use Rattle.replacement.specs.Claim.{ReplacedUnderOneSetting, ReplacedGates, ReplacedGroup, NoNewLoop, FitsAt, SameValues}
+use Rattle.replacement.specs.Claim.{ReplacedUnderOneSetting, ReplacedGates, ReplacedGroup, NoNewLoop}
+use Rattle.replacement.specs.Claim.{AcceptedAgrees, FitsAt}
 use Rattle.replacement.proofs.Values.{one-setting}
 use Rattle.replacement.proofs.Loops.{was-on-loop}
 use Rattle.replacement.proofs.Own.{own-stands-at}
 use Rattle.replacement.proofs.Connected.{connected-free}
-use Rattle.replacement.proofs.Settings.{allowed-agree}
+use Rattle.replacement.proofs.Settings.{allowed-agree, sound-accepted}
 
 pub replaced-under-one-setting : ReplacedUnderOneSetting
 replaced-under-one-setting b cut own new whole stands fits x agree = one-setting b cut own new whole stands fits x agree
@@ -36,7 +35,12 @@ connected-fits b j new whole complete inputs =
 
 pub replaced-group : ReplacedGroup
 replaced-group b j inputNames portNames nevers new whole complete inputs agree x allowed =
-    replaced-gates b (groupOf b j) inputNames portNames nevers new whole (connected-fits b j new whole complete inputs) agree x allowed
+    replaced-gates b (groupOf b j) inputNames portNames nevers new whole
+    (connected-fits b j new whole complete inputs) agree x allowed
+
+pub accepted-agrees : AcceptedAgrees
+accepted-agrees = sound-accepted
 
 pub no-new-loop : NoNewLoop
-no-new-loop b cut own new whole stands fits long straight n loop = was-on-loop b cut own new whole stands fits long straight n loop
+no-new-loop b cut own new whole stands fits long straight n loop =
+    was-on-loop b cut own new whole stands fits long straight n loop

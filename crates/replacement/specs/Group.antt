@@ -1,17 +1,17 @@
--- A group of gates of a netlist, cut out: the nets that it reads from outside, the gates of it that are seen outside, and the block that it is by
--- itself. The definitions are for any list of gates, each once. Assumes nothing.
+-- A group of gates of a netlist, cut out: the nets that it reads from outside, the gates of it that are seen outside,
+-- and the block that it is by itself. The definitions are for any list of gates. Assumes nothing.
 --   boundary   the inputs and outside gates that its gates read, each once, in the order in which they are first read
 --   ports      its gates that an outside gate reads or an output shows, in the group's order
---   ownBlock   the group by itself: its boundary as inputs, its gates numbered from 0 in the group's order, its ports as outputs
-use Prim.Native.Nat.{ℕ, _<_}
-use mathlib.Core.Path.{_≡_}
+--   ownBlock   the group by itself: its boundary as inputs, its gates numbered from 0 in the group's order, its ports
+--              as outputs
+use Prim.Native.Nat.{ℕ}
 use mathlib.Core.Bool.{Bool, true, false, cond, not, _&&_, _||_}
 use mathlib.Core.List.{List, [], _∷_, map}
 use lib.ListN.{length, getD}
 use lib.Dec.{eqb}
 use Rattle.laws.specs.Lists.{any, keep, tab, joined, upTo, member, least}
 use Rattle.netlist.specs.Assignments.{Assignment}
-use Rattle.netlist.specs.Netlist.{Name, Operand, input, gate, constant, Gate, Output, Block, gateCount, gateOf}
+use Rattle.netlist.specs.Netlist.{Name, Operand, input, gate, constant, Output, Block, gateCount, gateOf}
 use Rattle.netlist.specs.Groups.{gateOperand, reads}
 use Rattle.netlist.specs.Gather.{numberAt, placeIn}
 use Rattle.replacement.specs.Placing.{Cut, rewired}
@@ -48,9 +48,11 @@ boundary b group = firstOnes (keep (isOutsideNet group) (operandsOf b group))
 
 -- ---- its ports
 
+-- an output shows gate j
 unfoldable pub isShown : Block → ℕ → Bool
 isShown b j = any (λ (o : Output). member j (gateOperand (o .node))) (b .outputs)
 
+-- a gate outside the group reads it
 unfoldable pub isReadOutside : Block → List ℕ → ℕ → Bool
 isReadOutside b group j = any (λ i. not (member i group) && reads b i j) (upTo (gateCount b))
 
@@ -80,5 +82,6 @@ ownBlock b group inputNames portNames nevers =
       nevers = nevers;
       gates = map (λ j. rewired (ownOperand group (boundary b group)) (gateOf b j)) group;
       outputs =
-          tab (λ p. record { port = getD portNames p []; node = gate (placeIn group (numberAt (ports b group) p)) }) (length (ports b group));
+          tab (λ p. record { port = getD portNames p []; node = gate (placeIn group (numberAt (ports b group) p)) })
+          (length (ports b group));
     }

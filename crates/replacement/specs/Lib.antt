@@ -4,3 +4,4 @@ pub mod Group
 pub mod Replaced
 pub mod Claim
 pub mod Several
+pub mod Example

@@ -1,13 +1,14 @@
--- A netlist with a group of its gates replaced by another block, for instance by straight gates. Inputs, never lines and output ports stay as they are.
--- Gates are numbered afresh: first the gates outside the group, in their old order, and then the gates of the new block, in its order.
--- Where an outside gate or an output named a gate of the group, it now names what the new block shows at that gate's port; the new block's input i is
--- net number i of the boundary. Assumes nothing.
+-- A netlist with a group of its gates replaced by another block, for instance by straight gates. Inputs, never lines
+-- and output ports stay as they are. Gates are numbered afresh: first the gates outside the group, in their old order,
+-- and then the gates of the new block, in its order. Where an outside gate or an output named a gate of the group, it
+-- now names what the new block shows at that gate's port; the new block's input i is net number i of the boundary.
+-- Assumes nothing.
 use Prim.Native.Nat.{ℕ, _+_}
 use mathlib.Core.Bool.{false, cond, not}
 use mathlib.Core.List.{List, map, _++_}
 use lib.ListN.{length, getD}
 use Rattle.laws.specs.Lists.{keep, upTo, member}
-use Rattle.netlist.specs.Netlist.{Operand, input, gate, constant, Gate, Output, Block, gateCount, gateOf}
+use Rattle.netlist.specs.Netlist.{Operand, input, gate, constant, Output, Block, gateCount, gateOf}
 use Rattle.netlist.specs.Gather.{placeIn, renumbered}
 use Rattle.replacement.specs.Placing.{Cut, nodes, rewired, inPlace}
 
@@ -36,13 +37,16 @@ unfoldable pub standIn : Block → Cut → Block → Operand → Operand
 standIn b cut new (input i) = input i
 standIn b cut new (constant c) = constant c
 standIn b cut new (gate j) =
-    cond (member j (cut .gates)) (newOperand b cut (getD (nodes new) (placeIn (cut .ports) j) (constant false))) (gate (newNumber b cut j))
+    cond (member j (cut .gates)) (newOperand b cut (getD (nodes new) (placeIn (cut .ports) j) (constant false)))
+    (gate (newNumber b cut j))
 
 unfoldable pub replaced : Block → Cut → Block → Block
 replaced b cut new =
     record {
       inputs = b .inputs;
       nevers = b .nevers;
-      gates = map (λ j. rewired (standIn b cut new) (gateOf b j)) (outside b cut) ++ map (rewired (newOperand b cut)) (new .gates);
+      gates =
+          map (λ j. rewired (standIn b cut new) (gateOf b j)) (outside b cut)
+          ++ map (rewired (newOperand b cut)) (new .gates);
       outputs = map (λ (o : Output). record { port = o .port; node = standIn b cut new (o .node) }) (b .outputs);
     }

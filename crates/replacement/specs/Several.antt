@@ -1,9 +1,9 @@
--- Several groups of one netlist replaced, one after the other, each by a block that agrees with the group as it stands in the original. proofs/AllShown.antt
--- shows the claims. Assumes nothing.
+-- Several groups of one netlist replaced, one after the other, each by a block that agrees with the group as it stands
+-- in the original. proofs/AllShown.antt shows the claims. Assumes nothing.
 --
--- When a group has been replaced, the gates of the others have new numbers, and a net of theirs that was a gate of the replaced group is what stands for
--- it. The order of the list only decides how the new gates are numbered: first those outside all groups, in their old order, then the new
--- blocks' gates, block after block.
+-- When a group has been replaced, the gates of the others have new numbers, and a net of theirs that was a gate of the
+-- replaced group is what stands for it. The order of the list only decides how the new gates are numbered: first those
+-- outside all groups, in their old order, then the new blocks' gates, block after block.
 use Prim.Native.Nat.{ℕ, zero, suc, _<_}
 use mathlib.Core.Path.{_≡_}
 use mathlib.Core.Bool.{Bool, true, false, not, _&&_}
@@ -50,7 +50,8 @@ replacedFirst (suc n) b (p ∷ ps) = replacedFirst n (replaced b (p .cut) (p .ne
 unfoldable pub numberFirst : ℕ → Block → List Piece → ℕ → ℕ
 numberFirst zero b ps j = j
 numberFirst (suc n) b [] j = j
-numberFirst (suc n) b (p ∷ ps) j = numberFirst n (replaced b (p .cut) (p .new)) (map (movedPiece b p) ps) (newNumber b (p .cut) j)
+numberFirst (suc n) b (p ∷ ps) j =
+    numberFirst n (replaced b (p .cut) (p .new)) (map (movedPiece b p) ps) (newNumber b (p .cut) j)
 
 unfoldable pub replacedAll : Block → List Piece → Block
 replacedAll b ps = replacedFirst (length ps) b ps
@@ -104,21 +105,26 @@ Each P (a ∷ rest) = P a × Each P rest
 
 -- ---- the claims
 
--- Every gate outside all groups settles at the value that it has in the original, and every output shows what it shows there.
+-- Every gate outside all groups settles at the value that it has in the original, and every output shows what it shows
+-- there.
 pub record SameValuesAll (b : Block) (ps : List Piece) (x : List Value) : Type 0 where
   pub gates : (j : ℕ) → j < gateCount b → isOutsideAll ps j ≡ true
       → getD (settled (replacedAll b ps) x) (numberAll b ps j) undefined ≡ getD (settled b x) j undefined
   pub outputs : shownUnder (replacedAll b ps) x ≡ shownUnder b x
 
+-- Different strongly connected groups, each replaced by a block that agrees with it as it stands in the original.
 abbrev pub ReplacedGroups : Type 0
 ReplacedGroups =
-    (b : Block) (gs : List GroupPiece) → isComplete b ≡ true → areDifferent b (map (λ (g : GroupPiece). g .gate) gs) ≡ true
-    → Each (AgreesWithGroup b) gs → (x : List Value) → Each (GroupAllowed b x) gs → SameValuesAll b (map (pieceOf b) gs) x
+    (b : Block) (gs : List GroupPiece) → isComplete b ≡ true
+    → areDifferent b (map (λ (g : GroupPiece). g .gate) gs) ≡ true
+    → Each (AgreesWithGroup b) gs → (x : List Value) → Each (GroupAllowed b x) gs
+    → SameValuesAll b (map (pieceOf b) gs) x
 
 -- Where the new blocks are straight and every gate on a loop is in one of the groups, nothing is on a loop any more.
 abbrev pub NoLoopLeft : Type 0
 NoLoopLeft =
-    (b : Block) (gs : List GroupPiece) → isComplete b ≡ true → areDifferent b (map (λ (g : GroupPiece). g .gate) gs) ≡ true
+    (b : Block) (gs : List GroupPiece) → isComplete b ≡ true
+    → areDifferent b (map (λ (g : GroupPiece). g .gate) gs) ≡ true
     → Each (AgreesWithGroup b) gs → Each (λ g. isStraight (g .new) ≡ true) gs
     → ((j : ℕ) → OnLoop b j → isOutsideAll (map (pieceOf b) gs) j ≡ false)
     → (n : ℕ) → OnLoop (replacedAll b (map (pieceOf b) gs)) n → ⊥
