@@ -1,5 +1,5 @@
 -- The group's own block stands in the netlist: put in place, its gates are the group's gates.
---   boundary-has      the boundary has every outside net that a gate of the group reads
+--   boundary-has      the boundary has every outside net that a gate of the group reads; boundary-once: each once
 --   own-stands-at     so the own block stands at its cut
 -- Assumes nothing.
 use Prim.Native.Nat.{ℕ, _≤_, _<_}
@@ -13,6 +13,7 @@ use lib.Dec.{eqb}
 use borrow.Author.Tests.{eqb-true, eq-eqb, lt-ltb}
 use Rattle.laws.specs.Lists.{all, any, keep, member, least}
 use Rattle.laws.proofs.Tests.{bool-cases, not-both, and-left, and-right, and-intro, or-cases, or-left, or-right}
+use Rattle.laws.proofs.Tests.{or-neither}
 use Rattle.laws.proofs.Tab.{length-tab, map-tab, tab-ext, tab-getD}
 use Rattle.laws.proofs.Least.{least-at}
 use Rattle.laws.proofs.Quantifiers.{all-from, all-append, any-at, any-from, any-append, below-any, member-from}
@@ -27,7 +28,7 @@ use Rattle.netlist.specs.StoredBlock.{isNode, isOperand}
 use Rattle.netlist.specs.Groups.{reads}
 use Rattle.netlist.specs.Gather.{numberAt, placeIn}
 use Rattle.replacement.specs.Placing.{isComplete, nodes, rewired, inPlace}
-use Rattle.replacement.specs.Group.{sameNet, isOutsideNet, firstOnes, operandsOf, boundary, isShown}
+use Rattle.replacement.specs.Group.{sameNet, isOutsideNet, firstOnes, operandsOf, NoNetTwice, boundary, isShown}
 use Rattle.replacement.specs.Group.{isReadOutside, ports, cutOf, netPlace, ownOperand}
 use Rattle.replacement.specs.Group.{ownBlock}
 use Rattle.replacement.specs.Claim.{StandsAt}
@@ -85,6 +86,41 @@ first-has o (p ∷ os) h = go (or-cases (sameNet o p) (hasNet o os) h) (bool-cas
     go (inr s) (inr d) rest =
         or-right (sameNet o p) _ (keep-has (λ q. not (sameNet p q)) o (firstOnes os) (rw d refl) (rest s))
 
+-- each once
+kept-apart : (o : Operand) (os : List Operand) → hasNet o (keep (λ q. not (sameNet o q)) os) ≡ false
+kept-apart o [] = refl
+kept-apart o (p ∷ os) = go (sameNet o p) refl (kept-apart o os)
+  where
+    rest : List Operand
+    rest = keep (λ q. not (sameNet o q)) os
+
+    go : (t : Bool) → sameNet o p ≡ t → hasNet o rest ≡ false → hasNet o (cond (not t) (p ∷ rest) rest) ≡ false
+    go true e h = h
+    go false e h = rw e h
+
+keep-apart : (test : Operand → Bool) (o : Operand) (os : List Operand) → hasNet o os ≡ false
+    → hasNet o (keep test os) ≡ false
+keep-apart test o [] h = h
+keep-apart test o (p ∷ os) h = go (test p) (keep-apart test o os (or-neither (sameNet o p) (hasNet o os) h .1))
+  where
+    go : (t : Bool) → hasNet o (keep test os) ≡ false → hasNet o (cond t (p ∷ keep test os) (keep test os)) ≡ false
+    go true r = rw (or-neither (sameNet o p) (hasNet o os) h .0) r
+    go false r = r
+
+keep-once : (test : Operand → Bool) (os : List Operand) → NoNetTwice os → NoNetTwice (keep test os)
+keep-once test [] h = tt
+keep-once test (o ∷ os) h = go (test o) (keep-once test os (h .1))
+  where
+    go : (t : Bool) → NoNetTwice (keep test os) → NoNetTwice (cond t (o ∷ keep test os) (keep test os))
+    go true r = (keep-apart test o os (h .0), r)
+    go false r = r
+
+first-once : (os : List Operand) → NoNetTwice (firstOnes os)
+unfolding firstOnes
+first-once [] = tt
+first-once (o ∷ os) =
+    (kept-apart o (firstOnes os), keep-once (λ q. not (sameNet o q)) (firstOnes os) (first-once os))
+
 -- what all of a list pass, all of the first ones pass
 pub all-keep : (test p : Operand → Bool) (os : List Operand) → all p os ≡ true → all p (keep test os) ≡ true
 all-keep test p [] h = refl
@@ -139,6 +175,11 @@ module _ (b : Block) (group : List ℕ) where
   unfolding boundary
   boundary-has j o m t n a =
       first-has o _ (keep-has (isOutsideNet group) o (operandsOf b group) t (operands-has group j o m n a))
+
+  -- and stands there once
+  pub boundary-once : NoNetTwice (boundary b group)
+  unfolding boundary
+  boundary-once = first-once (keep (isOutsideNet group) (operandsOf b group))
 
   -- each of its nets is there, where the netlist is complete
   operands-there : isComplete b ≡ true → (js : List ℕ) → all (isOperand b) (operandsOf b js) ≡ true

@@ -5,6 +5,7 @@
 --   ownBlock   the group by itself: its boundary as inputs, its gates numbered from 0 in the group's order, its ports
 --              as outputs
 use Prim.Native.Nat.{ℕ}
+use mathlib.Core.Path.{_≡_}
 use mathlib.Core.Bool.{Bool, true, false, cond, not, _&&_, _||_}
 use mathlib.Core.List.{List, [], _∷_, map}
 use lib.ListN.{length, getD}
@@ -38,6 +39,11 @@ isOutsideNet group (constant c) = false
 unfoldable pub firstOnes : List Operand → List Operand
 firstOnes [] = []
 firstOnes (o ∷ os) = o ∷ keep (λ p. not (sameNet o p)) (firstOnes os)
+
+-- no net stands twice, which holds of every boundary (`boundary-once` in proofs/Own.antt)
+abbrev pub NoNetTwice : List Operand → Type 0
+NoNetTwice [] = Unit
+NoNetTwice (o ∷ os) = (any (sameNet o) os ≡ false) × NoNetTwice os
 
 -- all operands of the group's gates, one gate after the other
 unfoldable pub operandsOf : Block → List ℕ → List Operand
