@@ -13,9 +13,10 @@ use lib.ListN.{length, getD, set}
 use lib.Seq.{getD-set-same, getD-set-other}
 use Rattle.laws.proofs.Tests.{eq-or-ne}
 use Rattle.netlist.specs.Groups.{reads}
-use Rattle.graph.specs.Graph.{network, Graph}
+use Rattle.graph.specs.Graph.{network}
 use Rattle.scc.specs.Layers.{LoopEnd, LayerEnd, Layers}
-use Rattle.scc.specs.Search.{EndStep, LayerStep, OneLayer}
+use Rattle.scc.specs.Search.{EndStep, OneLayer}
+use Rattle.scc.specs.Leaders.{Layered}
 use Rattle.scc.proofs.Slots.{read-slot}
 
 module _ (m : ℕ) (ends : List ℕ) (fits : (i : ℕ) → i < m → EndStep m ends i) where
@@ -40,9 +41,10 @@ module _ (m : ℕ) (ends : List ℕ) (fits : (i : ℕ) → i < m → EndStep m e
       go (inr (a, b, q)) =
           inr (record { behind = a; within = b; same = λ k il ke. same-ends m i (getD ends i 0) refl a b (omega arith) k il ke })
 
-pub layered : {m : ℕ} {graph order ends positions : List ℕ} → Graph m graph → ((i : ℕ) → i < m → LayerStep m graph order ends positions i)
-    → Layers m graph order ends
-layered {m} {graph} {order} {ends} {positions} g steps =
+pub layered : {m : ℕ} {graph order ends positions : List ℕ} → Layered m graph order ends positions → Layers m graph order ends
+layered {m} {graph} {order} {ends} {positions} r =
+    let g = r .legal in
+    let steps = r .steps in
     record {
       inside = λ i l. steps i l .listed .inside;
       every = λ j l. (getD positions j 0, steps j l .listed .below, steps j l .listed .stands);

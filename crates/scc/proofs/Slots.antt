@@ -1,6 +1,7 @@
 -- Gate i of a graph reads gate k exactly where one of its four slots has gate k's place. Cited by whoever walks a graph's slots. Assumes nothing.
 --   by-slot      what holds of the four slots holds of each slot
 --   read-slot    a gate that is read has a slot
+--   read-inside  a gate that is read is one of the graph
 --   slot-read    a slot's gate is read
 use Prim.Native.Nat.{ℕ, _+_, _-_, _≤_, _<_}
 use mathlib.Core.Path.{_≡_, refl, sym, ap, _∙_}
@@ -88,3 +89,6 @@ module _ {m : ℕ} {graph : List ℕ} (g : Graph m graph) (i : ℕ) (l : i < m) 
           let p = g .node i l .place s sl in
           let q : placeAt graph i s ≡ 1 - controllingOf (kindAt graph i) = rw (length-tab, le-ltb s (countAt graph i) past) at p in
           omega arith
+
+  pub read-inside : (k : ℕ) → reads (network m graph) i k ≡ true → k < m
+  read-inside k h = let s = read-slot k h in omega (arith, g .node i l .inside (s .0) (s .1), s .2)

@@ -11,7 +11,7 @@ ghost use mathlib.Core.Bool.{true};
 ghost use Prim.Native.Nat.{_≤_, _<_};
 ghost use Rattle.netlist.specs.Limits.{maxGates};
 ghost use Rattle.graph.specs.Graph.{slots, Graph};
-ghost use Rattle.scc.specs.Layers.{Layers};
+ghost use Rattle.scc.specs.Leaders.{Layered};
 ghost use Rattle.scc.specs.Search.{SlotBefore, Before, EndStep, Listed, LayerStep};
 
 // Where each gate stands in the order.
@@ -146,7 +146,7 @@ pub fn are_layers(
     positions: &[u16; MAX_GATES],
 ) -> bool
     requires { ⌜ Graph m (now graph) ⌝ }
-    ensures { λ r. ⌜ (r ≡ true → Layers m (now (graph .entry)) (now (order .entry)) (now (ends .entry))) ⌝ }
+    ensures { λ r. ⌜ (r ≡ true → Layered m (now (graph .entry)) (now (order .entry)) (now (ends .entry)) (now (positions .entry))) ⌝ }
 {
     let mut i = 0;
     while i < m {

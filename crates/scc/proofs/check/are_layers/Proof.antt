@@ -8,7 +8,6 @@ use borrow.Author.Tests.{not-false}
 use borrow.Author.Needs.{needs}
 use Rattle.laws.proofs.Tests.{eq-or-ne}
 use Rattle.scc.specs.Search.{LayerStep}
-use Rattle.scc.proofs.Layered.{layered}
 use Rattle.scc.proofs.check.are_layers.Statement.{statement}
 use Rattle.scc.proofs.check.are_layers.Tie as tie
 
@@ -34,7 +33,7 @@ loop-again c =
 
 returns-2 : tie.Need-returns-2 Inv-loop μ-loop
 returns-2 c =
-    λ e. layered (c .before .before .pre) (λ k l. c .before .loop .inv .1 k (omega arith))
+    λ e. record { legal = c .before .before .pre; steps = λ k l. c .before .loop .inv .1 k (omega arith) }
 
 pub are-layers-spec : {M : Type 1} → statement M
 are-layers-spec =
