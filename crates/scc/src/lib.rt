@@ -7,4 +7,4 @@ pub mod leaders;
 mod notes;
 mod search;
 mod ties;
-mod words;
+pub mod words;
