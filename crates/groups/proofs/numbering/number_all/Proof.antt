@@ -1,22 +1,19 @@
-use native.Mathlib.Omega.{arith}
-use Rattle.groups.proofs.Counted.{lowest-in, lowest-next, none-next}
-use Rattle.groups.proofs.Turns.{turn-last, turn-within, turn-bare, turn-numbers, numbers-end, end-late}
+-- `groups::numbering::number_all` meets its contract: each turn gives the next group its number. Assumes nothing.
 use Prim.Native.Nat.{_-_, _≤_}
+use native.Mathlib.Omega.{arith}
 use lib.ListN.{length}
 use Rattle.netlist.specs.Groups.{groups}
 use Rattle.graph.specs.Graph.{network}
 use Rattle.groups.specs.Numbering.{NumberedUpTo}
 use Rattle.groups.specs.Waiting.{allOpen, Waiting}
-use borrow.Author.Needs.{needs}
+use Rattle.groups.proofs.Counted.{lowest-in, lowest-next, none-next}
+use Rattle.groups.proofs.Turns.{turn-last, turn-within, turn-bare, turn-numbers, numbers-end, end-late}
 use Rattle.groups.proofs.numbering.number_all.Statement.{statement}
 use Rattle.groups.proofs.numbering.number_all.Tie as tie
-use Rattle.groups.proofs.numbering.number_all.Reads as reads
-use Rattle.groups.proofs.numbering.number_all.Lts as lts
-use Rattle.groups.proofs.numbering.number_group.Reads as number-group-reads
-use Rattle.groups.proofs.ready.lowest.Reads as lowest-reads
 
 abbrev Inv-loop : tie.InvT-loop
-Inv-loop graph m leaders nexts fanout numbers₀ counts₀ ready₀ g₀ numbers counts ready g = (g ≤ length (groups (network m graph))) × NumberedUpTo m graph g numbers × Waiting m leaders numbers m (allOpen graph leaders numbers) counts ready
+Inv-loop graph m leaders nexts fanout numbers₀ counts₀ ready₀ g₀ numbers counts ready g =
+    (g ≤ length (groups (network m graph))) × NumberedUpTo m graph g numbers × Waiting m leaders numbers m (allOpen graph leaders numbers) counts ready
 
 abbrev μ-loop : tie.MeasureT-loop
 μ-loop graph m leaders nexts fanout numbers₀ counts₀ ready₀ g₀ numbers counts ready g = m - g

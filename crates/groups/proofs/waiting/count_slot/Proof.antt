@@ -1,42 +1,21 @@
+-- `groups::waiting::count_slot` meets its contract, by what the slot reads and its leader. Assumes nothing.
 use Prim.Native.Nat.{_/_, _<_}
 use mathlib.Core.Path.{sym, _∙_}
 use native.Mathlib.Omega.{arith}
+use borrow.Author.Needs.{needs}
 use Rattle.graph.specs.Graph.{slots}
 use Rattle.graph.specs.Fanout.{slotPlace}
 use Rattle.graph.proofs.Chains.{slot-inside}
 use Rattle.groups.proofs.Leading.{lead-le}
 use Rattle.groups.proofs.Counted.{counting-small, counting-skip, counting-more, crosses-no-gate, crosses-same, crosses-other}
-use borrow.Author.Needs.{needs}
 use Rattle.groups.proofs.waiting.count_slot.Statement.{statement}
 use Rattle.groups.proofs.waiting.count_slot.Tie as tie
-use Rattle.groups.proofs.waiting.count_slot.Reads as reads
-use Rattle.groups.proofs.waiting.count_slot.Lts as lts
-use Rattle.scc.proofs.words.graph_word.Reads as graph-word-reads
-use Rattle.scc.proofs.words.word_of.Reads as word-of-reads
-
-add-graph-word : tie.Need-add-graph-word
-add-graph-word c = search needs
-
-add-graph-word-2 : tie.Need-add-graph-word-2
-add-graph-word-2 c = search needs
-
-graph-word-requires : tie.Need-graph-word-requires
-graph-word-requires c κs = search needs
-
-cast-place : tie.Need-cast-place
-cast-place c = search needs
 
 returns : tie.Need-returns
 unfolding slotPlace
 returns c =
     let s = c .before .before in
     counting-skip (s .pre .0) (crosses-no-gate (s .args .graph .now) (s .args .leaders .now) (s .args .e) (omega (arith, c .before .graph-word .ensures)))
-
-word-of-requires : tie.Need-word-of-requires
-word-of-requires c κs = search needs
-
-cast-leader : tie.Need-cast-leader
-cast-leader c = search needs
 
 word-of-requires-2 : tie.Need-word-of-requires-2
 unfolding slotPlace
@@ -45,9 +24,6 @@ word-of-requires-2 c κs =
     let s = read .before in
     let legal = s .pre .0 .prepared .legal in
     omega (arith, read .graph-word .ensures, slot-inside legal (s .args .e) (s .pre .1), legal .few)
-
-cast-if2 : tie.Need-cast-if2
-cast-if2 c = search needs
 
 returns-2 : tie.Need-returns-2
 unfolding slotPlace
@@ -66,12 +42,6 @@ word-of-requires-3 c κs =
     let within : s .args .e / slots < s .args .m = omega (arith, s .pre .1) in
     omega (arith, led .word-of .ensures, lead-le (s .pre .0 .prepared) (s .args .e / slots) within, s .pre .0 .prepared .legal .few)
 
-cast-counts : tie.Need-cast-counts
-cast-counts c = search needs
-
-add-counts : tie.Need-add-counts
-add-counts c = search needs
-
 cast-counts-2 : tie.Need-cast-counts-2
 cast-counts-2 c =
     let led = c .before .before .before .before in
@@ -79,9 +49,6 @@ cast-counts-2 c =
     let within : s .args .e / slots < s .args .m = omega (arith, s .pre .1) in
     let low : led .word-of .result < s .args .m = omega (arith, led .word-of .ensures, lead-le (s .pre .0 .prepared) (s .args .e / slots) within) in
     omega (arith, c .word-of3 .ensures, counting-small (s .pre .0) (led .word-of .result) low, s .pre .1, s .pre .0 .prepared .legal .few)
-
-mul-counts : tie.Need-mul-counts
-mul-counts c = search needs
 
 element-write-counts : tie.Need-element-write-counts
 element-write-counts c =
@@ -109,20 +76,20 @@ pub count-slot-spec : {M : Type 1} → statement M
 count-slot-spec =
     tie.close
     (tie.spec
-    add-graph-word
-    add-graph-word-2
-    graph-word-requires
-    cast-place
+    (λ c. search needs)
+    (λ c. search needs)
+    (λ c κs. search needs)
+    (λ c. search needs)
     returns
-    word-of-requires
-    cast-leader
+    (λ c κs. search needs)
+    (λ c. search needs)
     word-of-requires-2
-    cast-if2
+    (λ c. search needs)
     returns-2
     word-of-requires-3
-    cast-counts
-    add-counts
+    (λ c. search needs)
+    (λ c. search needs)
     cast-counts-2
-    mul-counts
+    (λ c. search needs)
     element-write-counts
     returns-3)

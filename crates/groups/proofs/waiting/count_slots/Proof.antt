@@ -1,14 +1,12 @@
+-- `groups::waiting::count_slots` meets its contract: slot after slot is counted. Assumes nothing.
 use Prim.Native.Nat.{_-_, _*_, _≤_}
 use mathlib.Core.Path.{_≡_}
 use native.Mathlib.Omega.{arith}
+use borrow.Author.Needs.{needs}
 use Rattle.graph.specs.Graph.{slots}
 use Rattle.groups.specs.Waiting.{Counting}
-use borrow.Author.Needs.{needs}
 use Rattle.groups.proofs.waiting.count_slots.Statement.{statement}
 use Rattle.groups.proofs.waiting.count_slots.Tie as tie
-use Rattle.groups.proofs.waiting.count_slots.Reads as reads
-use Rattle.groups.proofs.waiting.count_slots.Lts as lts
-use Rattle.groups.proofs.waiting.count_slot.Reads as count-slot-reads
 
 abbrev Inv-loop : tie.InvT-loop
 Inv-loop graph m leaders counts₀ e₀ counts e = (e ≤ slots * m) × Counting m graph leaders e counts
@@ -27,9 +25,6 @@ count-slot-requires c κs = (c .before .before .loop .inv .1, c .before .loop-te
 
 add-e : tie.Need-add-e Inv-loop μ-loop
 add-e c = omega (arith, c .before .before .loop-test .taken, c .before .before .before .loop .inv .1 .prepared .legal .few)
-
-loop-less : tie.Need-loop-less Inv-loop μ-loop
-loop-less c = search needs
 
 loop-again : tie.Need-loop-again Inv-loop μ-loop
 loop-again c = (omega (arith, c .before .before .loop-test .taken), c .count-slot .ensures)
@@ -50,6 +45,6 @@ count-slots-spec =
     mul-loop
     count-slot-requires
     add-e
-    loop-less
+    (λ c. search needs)
     loop-again
     returns)

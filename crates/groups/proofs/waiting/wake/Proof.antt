@@ -1,19 +1,17 @@
+-- `groups::waiting::wake` meets its contract: the list goes down over all slots that read the gate. Assumes nothing.
 use Prim.Native.Nat.{suc, _+_, _-_}
 use mathlib.Core.Path.{_≡_}
 use native.Mathlib.Omega.{arith}
+use borrow.Author.Needs.{needs}
 use lib.ListN.{getD}
 use Rattle.groups.specs.Waiting.{isOpen, Waiting}
 use Rattle.groups.proofs.Counted.{waiting-as, held-end, Waking, waking-first, waking-reads, waking-next, waking-down}
-use borrow.Author.Needs.{needs}
 use Rattle.groups.proofs.waiting.wake.Statement.{statement}
 use Rattle.groups.proofs.waiting.wake.Tie as tie
-use Rattle.groups.proofs.waiting.wake.Reads as reads
-use Rattle.groups.proofs.waiting.wake.Lts as lts
-use Rattle.groups.proofs.waiting.fanout_word.Reads as fanout-word-reads
-use Rattle.groups.proofs.waiting.wake_slot.Reads as wake-slot-reads
 
 abbrev Inv-loop : tie.InvT-loop
-Inv-loop graph m k leaders numbers fanout counts₀ ready₀ at₀ counts ready at = Waking m graph k fanout at × Waiting m leaders numbers (getD leaders k 0) (isOpen graph leaders numbers k at) counts ready
+Inv-loop graph m k leaders numbers fanout counts₀ ready₀ at₀ counts ready at =
+    Waking m graph k fanout at × Waiting m leaders numbers (getD leaders k 0) (isOpen graph leaders numbers k at) counts ready
 
 abbrev μ-loop : tie.MeasureT-loop
 μ-loop graph m k leaders numbers fanout counts₀ ready₀ at₀ counts ready at = at
@@ -21,16 +19,10 @@ abbrev μ-loop : tie.MeasureT-loop
 fanout-word-requires : tie.Need-fanout-word-requires Inv-loop μ-loop
 fanout-word-requires c κs = omega (arith, c .pre .below, c .pre .prepared .legal .few)
 
-cast-at : tie.Need-cast-at Inv-loop μ-loop
-cast-at c = search needs
-
 loop-holds : tie.Need-loop-holds Inv-loop μ-loop
 loop-holds c =
     let s = c .before in
     rw (c .fanout-word .ensures) (waking-first (s .pre .linked) (s .pre .below) (s .pre .prepared .legal .few), s .pre .waiting)
-
-sub-e : tie.Need-sub-e Inv-loop μ-loop
-sub-e c = search needs
 
 wake-slot-requires : tie.Need-wake-slot-requires Inv-loop μ-loop
 wake-slot-requires c κs =
@@ -57,9 +49,6 @@ fanout-word-requires-2 : tie.Need-fanout-word-requires-2 Inv-loop μ-loop
 fanout-word-requires-2 c κs =
     let turn = c .before .before .before .before in
     omega (arith, turn .loop .inv .0 .within, turn .before .before .pre .prepared .legal .few, c .before .before .before .loop-test .taken)
-
-cast-at-2 : tie.Need-cast-at-2 Inv-loop μ-loop
-cast-at-2 c = search needs
 
 loop-less : tie.Need-loop-less Inv-loop μ-loop
 loop-less c =
@@ -95,13 +84,13 @@ wake-spec =
     Inv-loop
     μ-loop
     fanout-word-requires
-    cast-at
+    (λ c. search needs)
     loop-holds
-    sub-e
+    (λ c. search needs)
     wake-slot-requires
     add-fanout-word
     fanout-word-requires-2
-    cast-at-2
+    (λ c. search needs)
     loop-less
     loop-again
     returns)

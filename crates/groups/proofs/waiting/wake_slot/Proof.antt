@@ -1,25 +1,10 @@
+-- `groups::waiting::wake_slot` meets its contract: the group of another gate counts one slot less, and is ready when none is left. Assumes nothing.
 use mathlib.Core.Path.{sym, _∙_}
 use native.Mathlib.Omega.{arith}
-use Rattle.groups.proofs.Counted.{leader-below, wake-skip, slot-some, slot-stays, slot-ready}
 use borrow.Author.Needs.{needs}
+use Rattle.groups.proofs.Counted.{leader-below, wake-skip, slot-some, slot-stays, slot-ready}
 use Rattle.groups.proofs.waiting.wake_slot.Statement.{statement}
 use Rattle.groups.proofs.waiting.wake_slot.Tie as tie
-use Rattle.groups.proofs.waiting.wake_slot.Reads as reads
-use Rattle.groups.proofs.waiting.wake_slot.Lts as lts
-use Rattle.groups.proofs.ready.add.Reads as add-reads
-use Rattle.scc.proofs.words.word_of.Reads as word-of-reads
-
-word-of-requires : tie.Need-word-of-requires
-word-of-requires c κs = search needs
-
-cast-leader : tie.Need-cast-leader
-cast-leader c = search needs
-
-word-of-requires-2 : tie.Need-word-of-requires-2
-word-of-requires-2 c κs = search needs
-
-cast-if1 : tie.Need-cast-if1
-cast-if1 c = search needs
 
 returns : tie.Need-returns
 returns c =
@@ -32,21 +17,12 @@ word-of-requires-3 c κs =
     let s = led .before in
     omega (arith, leader-below (s .pre) (led .word-of .ensures), s .pre .prepared .legal .few)
 
-cast-left : tie.Need-cast-left
-cast-left c = search needs
-
 sub-left : tie.Need-sub-left
 sub-left c =
     let apart = c .before .before in
     let led = apart .before .before in
     let s = led .before in
     omega (arith, c .word-of3 .ensures, slot-some (s .pre) (led .word-of .ensures) (λ q. apart .if1 .left (apart .before .word-of2 .ensures ∙ q)))
-
-cast-counts : tie.Need-cast-counts
-cast-counts c = search needs
-
-mul-counts : tie.Need-mul-counts
-mul-counts c = search needs
 
 element-write-counts : tie.Need-element-write-counts
 element-write-counts c =
@@ -83,16 +59,16 @@ pub wake-slot-spec : {M : Type 1} → statement M
 wake-slot-spec =
     tie.close
     (tie.spec
-    word-of-requires
-    cast-leader
-    word-of-requires-2
-    cast-if1
+    (λ c κs. search needs)
+    (λ c. search needs)
+    (λ c κs. search needs)
+    (λ c. search needs)
     returns
     word-of-requires-3
-    cast-left
+    (λ c. search needs)
     sub-left
-    cast-counts
-    mul-counts
+    (λ c. search needs)
+    (λ c. search needs)
     element-write-counts
     add-requires
     returns-2
