@@ -107,14 +107,6 @@ pub extern "C" fn unloop_groups(block: &[u16], numbers: &mut [u16]) -> Reply
     reply_of(groups::groups(block, numbers))
 }
 
-// For tests, no operation: 1 where the block's groups are found with a certificate, 0 where it is torn, has few gates or is left to the slow way.
-#[no_mangle]
-pub extern "C" fn unloop_certified(block: &[u16]) -> usize
-    ensures { λ r. ⌜ r ≤ 1 ⌝ }
-{
-    certified::is_certified(block) as usize
-}
-
 // Render: the rendered block; count: words.
 #[no_mangle]
 pub extern "C" fn unloop_render(block: &[u16], rendered: &mut [u16]) -> Reply

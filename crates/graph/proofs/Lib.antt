@@ -3,3 +3,4 @@ pub mod Places
 pub mod Rules
 pub mod Decoding
 pub mod Network
+pub mod Chains

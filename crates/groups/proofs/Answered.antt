@@ -1,23 +1,21 @@
--- Groups' outcome as a chain of conditions, and what its inner functions need. Cited by `assign` and `groups`. Assumes nothing.
-use mathlib.Core.Path.{_≡_, refl}
+-- Groups' outcome as a chain of conditions, and the numbers of a block from those of its graph. Cited by `assign_with` and `groups`. Assumes nothing.
+use mathlib.Core.Path.{_≡_, refl, sym, _∙_}
 use mathlib.Core.List.{List}
-use Prim.Native.Nat.{ℕ, _≤_}
+use Prim.Native.Nat.{ℕ, _≤_, _<_}
 use lib.ListN.{length, getD}
 use lib.Dec.{ltb}
 use Rattle.laws.specs.Lists.{tab, placed}
-use Rattle.laws.proofs.Tab.{length-tab, placed-tab}
+use Rattle.laws.proofs.Tab.{length-tab, tab-ext}
 use Rattle.netlist.specs.declared.Refusal.the-variants.{MalformedBlock, NoRoom}
-use Rattle.netlist.specs.Netlist.{gateCount}
+use Rattle.netlist.specs.Netlist.{Block, gateCount}
 use Rattle.netlist.specs.StoredBlock.{decode, isMalformed}
 use Rattle.netlist.specs.Groups.{groups, groupNumber, groupNumbers}
 use Rattle.netlist.specs.Answers.{done, refuseIf, inRoom}
 use Rattle.netlist.specs.Operations.{groupsBlock, groupsOf}
 use Rattle.encoding.proofs.Decoded.{decode-gateCount}
-use Rattle.layout.specs.declared.nodes.Nodes.{Nodes}
-use Rattle.layout.specs.Nodes.{nodesOf}
-use Rattle.components.specs.Leaders.{leaderOf, LeadReady}
-use Rattle.groups.specs.Numbering.{NumberReady, AssignReady}
-use Rattle.groups.proofs.Whole.{search-ready, number-ready}
+use Rattle.graph.specs.Graph.{network, Decoded}
+use Rattle.graph.proofs.Network.{network-gates, network-count, groups-gates, groupNumbers-gates}
+use Rattle.groups.specs.Numbering.{numberAt, NumbersOf, GroupsNumbered}
 
 module _ (ws : List ℕ) (room : ℕ) where
   -- the conditions, and the last one
@@ -30,14 +28,12 @@ module _ (ws : List ℕ) (room : ℕ) where
   unfolding groupsBlock inRoom groupNumbers
   groups-room = rw (length-tab (groupNumber (decode ws)) (gateCount (decode ws)), decode-gateCount ws) refl
 
-module _ {ws : List ℕ} {nodes : Nodes} {leaders queue flags : List ℕ} (a : AssignReady ws nodes leaders queue flags) where
-  pub ready-for : (flags′ queue′ : List ℕ) → length flags′ ≡ length flags → length queue′ ≡ length queue → LeadReady ws nodes flags′ queue′
-  ready-for flags′ queue′ f q =
-      let f′ : nodesOf ws .gates ≤ length flags′ = rw (f, ← a .nodesAre) (a .flagRoom) in
-      let q′ : nodesOf ws .gates ≤ length queue′ = rw (q, ← a .nodesAre) (a .queueRoom) in
-      rw (a .nodesAre) (search-ready ws (a .whole) flags′ queue′ f′ q′)
-
-  pub number-for : (leaders′ entry : List ℕ) → leaders′ ≡ placed (tab (leaderOf (decode ws)) (nodes .gates)) entry → NumberReady ws nodes leaders′
-  number-for leaders′ entry e =
-      rw (a .nodesAre)
-      (number-ready ws (a .whole) leaders′ (λ j l. rw e (placed-tab (leaderOf (decode ws)) (nodes .gates) entry j 0 (rw (a .nodesAre) l))))
+-- a block has its graph's groups
+pub block-numbered : {b : Block} {m : ℕ} {graph numbers entry exit : List ℕ} {count : ℕ} → Decoded b m graph → NumbersOf (network m graph) m numbers count
+    → exit ≡ placed (tab (numberAt numbers) m) entry → GroupsNumbered b entry exit count
+unfolding groupNumbers
+block-numbered {b} {m} {graph} {numbers} d n is =
+    let same : tab (numberAt numbers) m ≡ groupNumbers b =
+    rw (← groupNumbers-gates (network m graph) b (network-gates b m graph d), network-count m graph)
+    (tab-ext (numberAt numbers) (groupNumber (network m graph)) m (λ j l. n .each j l)) in
+    record { numbersAre = is ∙ rw same refl; countIs = n .countIs ∙ rw (groups-gates (network m graph) b (network-gates b m graph d)) refl }

@@ -8,25 +8,20 @@ use native.Mathlib.Omega.{arith}
 use lib.ListN.{length, getD}
 use lib.Dec.{eqb}
 use borrow.Author.Tests.{eqb-true, eq-eqb, not-true, not-false}
-use Rattle.laws.specs.Lists.{any, upTo, member}
+use Rattle.laws.specs.Lists.{upTo, member}
 use Rattle.laws.proofs.Tests.{bool-cases, same-test, and-left, and-right, and-intro, not-both, not-true-false}
-use Rattle.laws.proofs.Quantifiers.{member-at, member-from, any-at, any-from}
 use Rattle.netlist.specs.Netlist.{gateCount}
-use Rattle.netlist.specs.StoredBlock.{decode}
 use Rattle.netlist.specs.Groups.{readBy, reads, sameGroup, groupOf, mayBeNext}
+use Rattle.reach.specs.Inside.{Inside}
+use Rattle.reach.proofs.Reach.{reads-below}
 use Rattle.reach.proofs.ListFacts.{member-keep, member-upTo, upTo-below}
 use Rattle.reach.proofs.SameGroup.{groupOf-member, groupOf-same, groupOf-below}
 use Rattle.reach.proofs.Next.{ready-reads, ready-intro, mayBeNext-intro, mayBeNext-ready}
-use Rattle.layout.specs.declared.nodes.Nodes.{Nodes}
-use Rattle.components.proofs.Leader.{leaders-same, leader-le, leader-same}
-use Rattle.search.specs.Search.{gateReads}
-use Rattle.groups.specs.Numbering.{unnumbered, obstacle, numberedGates, Lowest, NumberReady}
-use Rattle.groups.specs.Waiting.{blocked}
-
-pub any-member : (test : ℕ → Bool) (ks : List ℕ) (k : ℕ) → member k ks ≡ true → test k ≡ true → any test ks ≡ true
-any-member test ks k h t =
-    let r : (i : ℕ) × (i < length ks) × (getD ks i 0 ≡ k) = member-at k ks h in
-    any-from test ks (r .0) 0 (r .1) (rw (r .2) t)
+use Rattle.graph.specs.Graph.{network}
+use Rattle.graph.proofs.Network.{network-count}
+use Rattle.scc.proofs.Slots.{read-inside}
+use Rattle.scc.proofs.Leader.{leaders-same, leader-le, leader-same}
+use Rattle.groups.specs.Numbering.{unnumbered, numberedGates, NumberReady}
 
 -- the numbered gates are those that are not unnumbered
 pub done-member : (m : ℕ) (numbers : List ℕ) (k : ℕ) → k < m → member k (numberedGates m numbers) ≡ not (unnumbered numbers k)
@@ -40,87 +35,73 @@ done-below m numbers k h =
 
 -- ---- leaders
 
-module _ {ws : List ℕ} {nodes : Nodes} {leaders : List ℕ} (r : NumberReady ws nodes leaders) where
-  pub in-block : {j : ℕ} → j < nodes .gates → j < gateCount (decode ws)
-  in-block {j} l = rw (← r .gatesAre) l
+module _ {m : ℕ} {graph : List ℕ} {leaders : List ℕ} (r : NumberReady m graph leaders) where
+  pub in-block : {j : ℕ} → j < m → j < gateCount (network m graph)
+  in-block {j} l = rw (network-count m graph) l
 
-  pub from-block : {j : ℕ} → j < gateCount (decode ws) → j < nodes .gates
-  from-block {j} l = rw (r .gatesAre) l
+  pub from-block : {j : ℕ} → j < gateCount (network m graph) → j < m
+  from-block {j} l = rw (network-count m graph) at l
 
-  pub lead-same : (i j : ℕ) → i < nodes .gates → j < nodes .gates → eqb (getD leaders i 0) (getD leaders j 0) ≡ sameGroup (decode ws) i j
-  lead-same i j il jl = rw (r .leads i il, r .leads j jl) (leaders-same (decode ws) i j (in-block il) (in-block jl))
+  -- what a gate reads is there
+  pub inside : Inside (network m graph)
+  inside i k h = in-block (read-inside (r .legal) i (from-block (reads-below (network m graph) i k h)) k h)
 
-  pub lead-le : (j : ℕ) → j < nodes .gates → getD leaders j 0 ≤ j
-  lead-le j l = rw (r .leads j l) (leader-le (decode ws) j (in-block l))
+  pub lead-same : (i j : ℕ) → i < m → j < m → eqb (getD leaders i 0) (getD leaders j 0) ≡ sameGroup (network m graph) i j
+  lead-same i j il jl = rw (r .leads .each i il, r .leads .each j jl) (leaders-same (network m graph) i j (in-block il) (in-block jl))
 
-  pub lead-group : (j : ℕ) → j < nodes .gates → sameGroup (decode ws) j (getD leaders j 0) ≡ true
-  lead-group j l = rw (r .leads j l) (leader-same (decode ws) j (in-block l))
+  pub lead-le : (j : ℕ) → j < m → getD leaders j 0 ≤ j
+  lead-le j l = rw (r .leads .each j l) (leader-le (network m graph) j (in-block l))
+
+  pub lead-group : (j : ℕ) → j < m → sameGroup (network m graph) j (getD leaders j 0) ≡ true
+  lead-group j l = rw (r .leads .each j l) (leader-same (network m graph) j (in-block l))
 
   -- a leader leads itself
-  pub lead-self : (j : ℕ) → j < nodes .gates → getD leaders (getD leaders j 0) 0 ≡ getD leaders j 0
+  pub lead-self : (j : ℕ) → j < m → getD leaders (getD leaders j 0) 0 ≡ getD leaders j 0
   lead-self j l =
       let le : getD leaders j 0 ≤ j = lead-le j l in
       sym (eqb-true (getD leaders j 0) (getD leaders (getD leaders j 0) 0) (lead-same j (getD leaders j 0) l (omega arith) ∙ lead-group j l))
 
   -- a leader is its group's lowest gate
-  pub lowest : (leader : ℕ) → leader < nodes .gates → Lowest leaders leader
+  pub lowest : (leader : ℕ) → leader < m → (i : ℕ) → i < leader → getD leaders i 0 ≡ leader → ⊥
   lowest leader l i il e = let le : getD leaders i 0 ≤ i = lead-le i (omega arith) in omega arith
 
   -- ---- whether gate j's group may be next, where j leads it
 
-  module _ (numbers : List ℕ) (j : ℕ) (l : j < nodes .gates) (leads : getD leaders j 0 ≡ j) where
+  module _ (numbers : List ℕ) (j : ℕ) (l : j < m) (leads : getD leaders j 0 ≡ j) where
     abbrev done : List ℕ
-    done = numberedGates (nodes .gates) numbers
+    done = numberedGates m numbers
 
     -- the gates that j leads are those of its group
-    led : (i : ℕ) → i < nodes .gates → eqb (getD leaders i 0) j ≡ member i (groupOf (decode ws) j)
+    led : (i : ℕ) → i < m → eqb (getD leaders i 0) j ≡ member i (groupOf (network m graph) j)
     led i il =
-        let both : eqb (getD leaders j 0) (getD leaders i 0) ≡ sameGroup (decode ws) j i = lead-same j i l il in
-        same-test (eqb (getD leaders i 0) j) (member i (groupOf (decode ws) j))
-        (λ e. groupOf-member (decode ws) j i (sym both ∙ eq-eqb (getD leaders j 0) (getD leaders i 0) (leads ∙ sym (eqb-true (getD leaders i 0) j e))))
-        (λ e. eq-eqb (getD leaders i 0) j (sym (eqb-true (getD leaders j 0) (getD leaders i 0) (both ∙ groupOf-same (decode ws) j i e)) ∙ leads))
+        let both : eqb (getD leaders j 0) (getD leaders i 0) ≡ sameGroup (network m graph) j i = lead-same j i l il in
+        same-test (eqb (getD leaders i 0) j) (member i (groupOf (network m graph) j))
+        (λ e. groupOf-member (network m graph) j i (sym both ∙ eq-eqb (getD leaders j 0) (getD leaders i 0) (leads ∙ sym (eqb-true (getD leaders i 0) j e))))
+        (λ e. eq-eqb (getD leaders i 0) j (sym (eqb-true (getD leaders j 0) (getD leaders i 0) (both ∙ groupOf-same (network m graph) j i e)) ∙ leads))
 
-    -- a gate of the group reads an obstacle
-    waits-for : (i k : ℕ) → i < nodes .gates → getD leaders i 0 ≡ j → member k (gateReads ws nodes i) ≡ true → obstacle numbers leaders j k ≡ true
-        → mayBeNext (decode ws) done j ≡ false
-    unfolding obstacle reads
-    waits-for i k il e h o =
-        let u : unnumbered numbers k ≡ true = and-left (unnumbered numbers k) (not (eqb (getD leaders k 0) j)) o in
-        let apart : eqb (getD leaders k 0) j ≡ false = not-true (eqb (getD leaders k 0) j)
-        (and-right (unnumbered numbers k) (not (eqb (getD leaders k 0) j)) o) in
-        let read : reads (decode ws) i k ≡ true = rw (r .whole .operands i il) at h in
-        let kl : k < nodes .gates = from-block (r .inside i k read) in
-        not-true-false (mayBeNext (decode ws) done j) (λ t.
+    -- a gate of the group reads a gate without a number outside it
+    pub waits : (i k : ℕ) → i < m → getD leaders i 0 ≡ j → reads (network m graph) i k ≡ true → unnumbered numbers k ≡ true → (getD leaders k 0 ≡ j → ⊥)
+        → mayBeNext (network m graph) done j ≡ false
+    waits i k il e read u apart =
+        let kl : k < m = from-block (inside i k read) in
+        not-true-false (mayBeNext (network m graph) done j) (λ t.
         ⊎-elim
-        (λ g. not-both (led k kl ∙ g) apart)
-        (λ d. not-both d (done-member (nodes .gates) numbers k kl ∙ ap not u))
-        (ready-reads (decode ws) done (groupOf (decode ws) j) (mayBeNext-ready (decode ws) done j t) i k
+        (λ g. apart (eqb-true (getD leaders k 0) j (led k kl ∙ g)))
+        (λ d. not-both d (done-member m numbers k kl ∙ ap not u))
+        (ready-reads (network m graph) done (groupOf (network m graph) j) (mayBeNext-ready (network m graph) done j t) i k
         (sym (led i il) ∙ eq-eqb (getD leaders i 0) j e) read))
 
-    pub waits : (i : ℕ) → i < nodes .gates → getD leaders i 0 ≡ j → blocked ws nodes leaders numbers j i ≡ true → mayBeNext (decode ws) done j ≡ false
-    unfolding blocked
-    waits i il e h =
-        let f : (x : ℕ) × (x < length (gateReads ws nodes i)) × (obstacle numbers leaders j (getD (gateReads ws nodes i) x 0) ≡ true) =
-        any-at (obstacle numbers leaders j) (gateReads ws nodes i) 0 h in
-        waits-for i (getD (gateReads ws nodes i) (f .0) 0) il e (member-from _ (gateReads ws nodes i) (f .0) (f .1) refl) (f .2)
-
-    -- none is
-    pub free : unnumbered numbers j ≡ true → ((i : ℕ) → i < nodes .gates → getD leaders i 0 ≡ j → blocked ws nodes leaders numbers j i ≡ false)
-        → mayBeNext (decode ws) done j ≡ true
-    unfolding blocked obstacle reads
+    -- none does
+    pub free : unnumbered numbers j ≡ true
+        → ((i k : ℕ) → i < m → getD leaders i 0 ≡ j → reads (network m graph) i k ≡ true → unnumbered numbers k ≡ true → getD leaders k 0 ≡ j)
+        → mayBeNext (network m graph) done j ≡ true
     free u none =
-        mayBeNext-intro (decode ws) done j (done-member (nodes .gates) numbers j l ∙ ap not u)
-        (ready-intro (decode ws) done (groupOf (decode ws) j) (λ i k im read.
-        let kl : k < nodes .gates = from-block (r .inside i k read) in
-        ⊎-elim inr (λ d. ⊎-elim inl (λ g. found i k im read kl d g) (bool-cases (member k (groupOf (decode ws) j))))
+        mayBeNext-intro (network m graph) done j (done-member m numbers j l ∙ ap not u)
+        (ready-intro (network m graph) done (groupOf (network m graph) j) (λ i k im read.
+        let kl : k < m = from-block (inside i k read) in
+        let il : i < m = from-block (groupOf-below (network m graph) j i im) in
+        ⊎-elim inr
+        (λ d. inl (sym (led k kl)
+        ∙ eq-eqb (getD leaders k 0) j
+        (none i k il (eqb-true (getD leaders i 0) j (led i il ∙ im)) read (not-false (unnumbered numbers k) (sym (done-member m numbers k kl) ∙ d)))))
         (bool-cases (member k done))))
-      where
-        found : (i k : ℕ) → member i (groupOf (decode ws) j) ≡ true → member k (readBy (decode ws) i) ≡ true → k < nodes .gates → member k done ≡ false
-            → member k (groupOf (decode ws) j) ≡ false → {A : Type 0} → A
-        found i k im read kl d g =
-            let il : i < nodes .gates = from-block (groupOf-below (decode ws) j i im) in
-            not-both
-            (any-member (obstacle numbers leaders j) (gateReads ws nodes i) k (rw (r .whole .operands i il) read)
-            (and-intro (unnumbered numbers k) (not (eqb (getD leaders k 0) j))
-            (not-false (unnumbered numbers k) (sym (done-member (nodes .gates) numbers k kl) ∙ d)) (ap not (led k kl ∙ g))))
-            (none i il (eqb-true (getD leaders i 0) j (led i il ∙ im)))

@@ -14,7 +14,6 @@ use Rattle.laws.specs.Lists.{joined, member, least}
 use Rattle.laws.proofs.Tests.{and-intro, same-test, not-both, lt-or-le, not-true-false}
 use Rattle.laws.proofs.Least.{least-le, least-below, least-is}
 use Rattle.netlist.specs.Netlist.{Block, gateCount}
-use Rattle.netlist.specs.StoredBlock.{decode}
 use Rattle.netlist.specs.Groups.{sameGroup, mayBeNext, groups, groupNumber}
 use Rattle.reach.specs.Inside.{Inside}
 use Rattle.reach.specs.Numbering.{nextGate}
@@ -23,9 +22,10 @@ use Rattle.reach.proofs.SameGroup.{sameGroup-sym, groupOf-equal}
 use Rattle.reach.proofs.Next.{mayBeNext-intro, mayBeNext-left, mayBeNext-ready, mayBeNext-same}
 use Rattle.reach.proofs.Order.{length-groups, groups-numbered, nextGate-passes}
 use Rattle.reach.proofs.GroupNumber.{groupNumber-is, groupNumber-below, groupNumber-member}
-use Rattle.layout.specs.declared.nodes.Nodes.{Nodes}
-use Rattle.groups.specs.Numbering.{noNumber, unnumbered, numberedGates, leadsNext, numberUpTo, NumberReady}
-use Rattle.groups.proofs.Leading.{done-member, done-below, in-block, from-block, lead-le, lead-group}
+use Rattle.graph.specs.Graph.{network}
+use Rattle.graph.proofs.Network.{network-count}
+use Rattle.groups.specs.Numbering.{noNumber, unnumbered, numberedGates, leadsNext, numberUpTo, NumberReady, NumberedUpTo}
+use Rattle.groups.proofs.Leading.{done-member, done-below, in-block, from-block, inside, lead-le, lead-group}
 
 module _ (b : Block) (inside : Inside b) where
   -- the gates of the first g groups are those with a number below g
@@ -58,42 +58,42 @@ module _ (b : Block) (inside : Inside b) where
       go false e = refl
 
 -- what is known of the numbers when the first g groups have theirs
-pub record State (ws : List ℕ) (nodes : Nodes) (g : ℕ) (leaders numbers : List ℕ) : Type 0 where
-  pub prepared : NumberReady ws nodes leaders
-  pub numbersAre : (j : ℕ) → j < nodes .gates → getD numbers j 0 ≡ numberUpTo (decode ws) g j
+pub record State (m : ℕ) (graph : List ℕ) (g : ℕ) (leaders numbers : List ℕ) : Type 0 where
+  pub prepared : NumberReady m graph leaders
+  pub numbersAre : NumberedUpTo m graph g numbers
 
-module _ {ws : List ℕ} {nodes : Nodes} {g : ℕ} {leaders numbers : List ℕ} (s : State ws nodes g leaders numbers) where
+module _ {m : ℕ} {graph : List ℕ} {g : ℕ} {leaders numbers : List ℕ} (s : State m graph g leaders numbers) where
   abbrev b : Block
-  b = decode ws
+  b = network m graph
 
   abbrev done : List ℕ
-  done = joined (take g (groups (decode ws)))
+  done = joined (take g (groups (network m graph)))
 
-  left : (j : ℕ) → j < nodes .gates → unnumbered numbers j ≡ not (member j done)
+  left : (j : ℕ) → j < m → unnumbered numbers j ≡ not (member j done)
   left j l =
-      open-is b (s .prepared .inside) g numbers (rw (← s .prepared .gatesAre) (s .prepared .whole .fewGates))
-      (λ k kl. s .numbersAre k (from-block (s .prepared) kl)) j (in-block (s .prepared) l)
+      open-is b (inside (s .prepared)) g numbers (rw (network-count m graph) (s .prepared .legal .few))
+      (λ k kl. s .numbersAre .each k (from-block (s .prepared) kl)) j (in-block (s .prepared) l)
 
   -- the gates with a number are those of the first g groups
-  same-done : (k : ℕ) → member k (numberedGates (nodes .gates) numbers) ≡ member k done
+  same-done : (k : ℕ) → member k (numberedGates m numbers) ≡ member k done
   same-done k =
-      ⊎-elim (λ l. done-member (nodes .gates) numbers k l ∙ ap not (left k l) ∙ Bool·not-not (member k done))
-      (λ ge. none ge ∙ sym (outside-done ge)) (lt-or-le k (nodes .gates))
+      ⊎-elim (λ l. done-member m numbers k l ∙ ap not (left k l) ∙ Bool·not-not (member k done))
+      (λ ge. none ge ∙ sym (outside-done ge)) (lt-or-le k m)
     where
-      none : nodes .gates ≤ k → member k (numberedGates (nodes .gates) numbers) ≡ false
+      none : m ≤ k → member k (numberedGates m numbers) ≡ false
       none ge =
-          not-true-false (member k (numberedGates (nodes .gates) numbers))
-          (λ t. let lt : k < nodes .gates = done-below (nodes .gates) numbers k t in omega arith)
+          not-true-false (member k (numberedGates m numbers))
+          (λ t. let lt : k < m = done-below m numbers k t in omega arith)
 
-      outside-done : nodes .gates ≤ k → member k done ≡ false
+      outside-done : m ≤ k → member k done ≡ false
       outside-done ge =
-          not-true-false (member k done) (λ t. let lt : k < nodes .gates = from-block (s .prepared) (groups-numbered b g .below k t) in omega arith)
+          not-true-false (member k done) (λ t. let lt : k < m = from-block (s .prepared) (groups-numbered b g .below k t) in omega arith)
 
-  next-same : mayBeNext b (numberedGates (nodes .gates) numbers) ≡ mayBeNext b done
-  next-same = mayBeNext-same b (numberedGates (nodes .gates) numbers) done same-done
+  next-same : mayBeNext b (numberedGates m numbers) ≡ mayBeNext b done
+  next-same = mayBeNext-same b (numberedGates m numbers) done same-done
 
   -- the lowest gate of the next group leads it
-  pub next-leads : (j : ℕ) → j < nodes .gates → j ≡ nextGate b done → getD leaders j 0 ≡ j
+  pub next-leads : (j : ℕ) → j < m → j ≡ nextGate b done → getD leaders j 0 ≡ j
   next-leads j l e = ⊎-elim lower (λ ge. le-antisymm (lead-le (s .prepared) j l) ge) (lt-or-le (getD leaders j 0) j)
     where
       may : mayBeNext b done j ≡ true
@@ -111,12 +111,12 @@ module _ {ws : List ℕ} {nodes : Nodes} {g : ℕ} {leaders numbers : List ℕ} 
           not-both also (least-below (mayBeNext b done) (gateCount b) (getD leaders j 0) (rw (← e) lt))
 
   -- the loop's search finds the definition's next gate
-  pub next-found : least (leadsNext b (nodes .gates) numbers leaders) (nodes .gates) ≡ nextGate b done
+  pub next-found : least (leadsNext b m numbers leaders) m ≡ nextGate b done
   unfolding leadsNext
   next-found =
-      least-is (leadsNext b (nodes .gates) numbers leaders) (nodes .gates) (nextGate b done)
-      (rw (s .prepared .gatesAre) (least-le (mayBeNext b done) (gateCount b)))
+      least-is (leadsNext b m numbers leaders) m (nextGate b done)
+      (omega (arith, least-le (mayBeNext b done) (gateCount b), network-count m graph))
       (λ i il. rw (next-same, least-below (mayBeNext b done) (gateCount b) i il) (and-false (eqb (getD leaders i 0) i)))
-      (λ l. and-intro (eqb (getD leaders (nextGate b done) 0) (nextGate b done)) (mayBeNext b (numberedGates (nodes .gates) numbers) (nextGate b done))
+      (λ l. and-intro (eqb (getD leaders (nextGate b done) 0) (nextGate b done)) (mayBeNext b (numberedGates m numbers) (nextGate b done))
       (eq-eqb (getD leaders (nextGate b done) 0) (nextGate b done) (next-leads (nextGate b done) l refl))
       (rw next-same (nextGate-passes b done (in-block (s .prepared) l))))

@@ -115,7 +115,7 @@ module _ (l : ℕ) (ready : List ℕ) (fits : l / 64 < length ready) where
 
 -- ---- no gate
 
-zeros : (n i : ℕ) → getD (replicate {A = ℕ} n 0) i 0 ≡ 0
+pub zeros : (n i : ℕ) → getD (replicate {A = ℕ} n 0) i 0 ≡ 0
 zeros zero i = refl
 zeros (suc n) zero = refl
 zeros (suc n) (suc i) = zeros n i

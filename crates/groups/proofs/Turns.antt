@@ -10,72 +10,42 @@ use native.Mathlib.Omega.{arith}
 use lib.ListN.{length, getD, take, drop, replicate, length-replicate, getD-replicate, replicate-append-replicate, List·getD-append}
 use lib.Seq.{take-all, drop-at}
 use lib.Dec.{eqb, ltb}
-use borrow.Author.Tests.{lt-ltb, le-ltb}
+use borrow.Author.Tests.{eq-eqb, lt-ltb, le-ltb}
 use Rattle.laws.specs.Lists.{tab, placed, joined, member, least}
 use Rattle.laws.proofs.Tests.{not-both, lt-or-le}
 use Rattle.laws.proofs.Tab.{tab-ext, length-tab, getD-tab, placed-tab}
 use Rattle.laws.proofs.Slices.{drop-placed}
-use Rattle.layout.specs.declared.nodes.Nodes.{Nodes}
 use Rattle.links.specs.Links.{Linked}
-use Rattle.links.proofs.Linking.{linked-as}
+use Rattle.netlist.specs.Limits.{maxGates}
 use Rattle.netlist.specs.Netlist.{Block, gateCount}
-use Rattle.netlist.specs.StoredBlock.{decode}
 use Rattle.netlist.specs.Groups.{sameGroup, groupOf, groups, groupNumber, groupNumbers}
 use Rattle.reach.specs.Inside.{Inside}
 use Rattle.reach.specs.Numbering.{nextGate}
 use Rattle.reach.proofs.SameGroup.{member-groupOf, sameGroup-sym}
 use Rattle.reach.proofs.Next.{mayBeNext-left}
 use Rattle.reach.proofs.Order.{length-groups, groups-all, nextGate-passes}
-use Rattle.reach.proofs.GroupNumber.{groupNumber-is, groupNumber-below, groupNumber-member}
+use Rattle.reach.proofs.GroupNumber.{groupNumber-is, groupNumber-below, groupNumber-member, groupNumber-same}
 use Rattle.reach.proofs.Build.{groups-at}
-use Rattle.groups.specs.Numbering.{noNumber, unnumbered, leadsNext, groupRenumbered, numberUpTo, NumberReady, GroupsNumbered}
-use Rattle.groups.specs.Waiting.{NextsAre, operandAt, operandsOf}
-use Rattle.groups.proofs.Leading.{in-block, lead-le, lead-same}
+use Rattle.graph.specs.Graph.{network}
+use Rattle.graph.proofs.Network.{network-count}
+use Rattle.groups.specs.Numbering.{noNumber, unnumbered, leadsNext, numberUpTo, NumberReady, NumberedUpTo, NumbersOf}
+use Rattle.groups.specs.Waiting.{NextsAre}
+use Rattle.groups.proofs.Leading.{in-block, inside, lead-le, lead-same}
 use Rattle.groups.proofs.Order.{State, next-leads, next-found}
 
--- a list of one number
-tab-constant : (f : ℕ → ℕ) (v m : ℕ) → ((j : ℕ) → j < m → f j ≡ v) → tab f m ≡ replicate m v
-tab-constant f v zero h = refl
-tab-constant f v (suc m) h =
-    let e : tab f m ≡ replicate m v = tab-constant f v m (λ j l. h j (omega arith)) in
-    let e′ : f m ≡ v = h m (omega arith) in
-    rw (e, e′) (replicate-append-replicate m 1 v ∙ rw add-one refl)
-
-none-number : (b : Block) (j : ℕ) → numberUpTo b 0 j ≡ noNumber
-unfolding numberUpTo
-none-number b j = rw (le-ltb (groupNumber b j) 0 (omega arith)) refl
-
 -- no group has a number yet
-pub numbers-none : (b : Block) (m : ℕ) (entry : List ℕ)
-    → replicate m noNumber ++ drop m entry ≡ placed (tab (numberUpTo b 0) m) (replicate m noNumber ++ drop m entry)
-numbers-none b m entry =
-    let e : tab (numberUpTo b 0) m ≡ replicate m noNumber = tab-constant (numberUpTo b 0) noNumber m (λ j l. none-number b j) in
-    rw (e, length-replicate {A = ℕ} m noNumber, drop-at (replicate m noNumber) (drop m entry) m (length-replicate {A = ℕ} m noNumber)) refl
+pub numbers-none : {m : ℕ} {graph numbers : List ℕ} → length numbers ≡ maxGates → ((j : ℕ) → j < m → getD numbers j 0 ≡ noNumber)
+    → NumberedUpTo m graph 0 numbers
+unfolding numberUpTo
+numbers-none {m} {graph} room none =
+    record { room = room; each = λ j l. none j l ∙ rw (le-ltb (groupNumber (network m graph) j) 0 (omega arith)) refl }
 
-pub bare-all : (m : ℕ) (numbers entry : List ℕ) → numbers ≡ replicate m noNumber ++ drop m entry → (l : ℕ) → l < m → unnumbered numbers l ≡ true
+pub bare-all : {m : ℕ} (numbers : List ℕ) → ((j : ℕ) → j < m → getD numbers j 0 ≡ noNumber) → (j : ℕ) → j < m → unnumbered numbers j ≡ true
 unfolding unnumbered
-bare-all m numbers entry is l lm =
-    rw (
-      is,
-      List·getD-append {A = ℕ} (replicate m noNumber) (drop m entry) 0 l (rw (length-replicate {A = ℕ} m noNumber) lm),
-      getD-replicate m l noNumber 0
-          lm,
-    ) refl
+bare-all numbers none j l = eq-eqb (getD numbers j 0) noNumber (none j l)
 
-pub kept-behind : (m : ℕ) (numbers entry : List ℕ) → numbers ≡ replicate m noNumber ++ drop m entry → drop m numbers ≡ drop m entry
-kept-behind m numbers entry is = rw is (drop-at (replicate m noNumber) (drop m entry) m (length-replicate {A = ℕ} m noNumber))
-
--- ---- links
-
-pub nexts-are : {ws : List ℕ} {nodes : Nodes} {leaders firsts nexts : List ℕ} → NumberReady ws nodes leaders
-    → Linked leaders (nodes .gates) (nodes .gates) 0 firsts nexts → NextsAre leaders (nodes .gates) nexts
+pub nexts-are : {m : ℕ} {graph leaders firsts nexts : List ℕ} → NumberReady m graph leaders → Linked leaders m m 0 firsts nexts → NextsAre leaders m nexts
 nexts-are r s j l = s .nextIs j (omega arith) l (omega (arith, lead-le r j l))
-
-pub readers-are : (ws : List ℕ) (nodes : Nodes) (operands entry readers links : List ℕ) → operands ≡ placed (tab (operandAt ws nodes) (4 * nodes .gates)) entry
-    → Linked operands (4 * nodes .gates) (nodes .gates) 0 readers links → Linked (operandsOf ws nodes) (4 * nodes .gates) (nodes .gates) 0 readers links
-unfolding operandsOf
-readers-are ws nodes operands entry readers links is s =
-    linked-as (λ i l. rw is (placed-tab (operandAt ws nodes) (4 * nodes .gates) entry i 0 l ∙ sym (getD-tab (operandAt ws nodes) (4 * nodes .gates) i 0 l))) s
 
 module _ (b : Block) (inside : Inside b) where
   -- there is a next gate only while groups are left, and always then
@@ -116,82 +86,53 @@ module _ (b : Block) (inside : Inside b) where
           ⊎-elim (λ l. rw (lt-ltb (groupNumber b i) g l, lt-ltb (groupNumber b i) (g + 1) (omega arith)) refl)
           (λ l. rw (le-ltb (groupNumber b i) g l, le-ltb (groupNumber b i) (g + 1) (omega arith)) refl) (lt-or-le (groupNumber b i) g)
 
-  -- all groups have their numbers
-  all-numbered : tab (numberUpTo b (length (groups b))) (gateCount b) ≡ groupNumbers b
-  unfolding numberUpTo groupNumbers
-  all-numbered =
-      tab-ext (numberUpTo b (length (groups b))) (groupNumber b) (gateCount b)
-      (λ j l. rw (lt-ltb (groupNumber b j) (length (groups b)) (groupNumber-below b inside j l)) refl)
-
 -- a turn of the loop: gate j leads the next group
-module _ {ws : List ℕ} {nodes : Nodes} {leaders : List ℕ} (r : NumberReady ws nodes leaders) (g : ℕ) (numbers₀ numbers : List ℕ)
-    (is : numbers ≡ placed (tab (numberUpTo (decode ws) g) (nodes .gates)) numbers₀) (j : ℕ)
-    (found : j ≡ least (leadsNext (decode ws) (nodes .gates) numbers leaders) (nodes .gates)) where
-  number-now : (i : ℕ) → i < nodes .gates → getD numbers i 0 ≡ numberUpTo (decode ws) g i
-  number-now i l = rw is (placed-tab (numberUpTo (decode ws) g) (nodes .gates) numbers₀ i 0 l)
+module _ {m : ℕ} {graph leaders : List ℕ} (r : NumberReady m graph leaders) (g : ℕ) {numbers : List ℕ} (is : NumberedUpTo m graph g numbers) (j : ℕ)
+    (found : j ≡ least (leadsNext (network m graph) m numbers leaders) m) where
+  now : State m graph g leaders numbers
+  now = record { prepared = r; numbersAre = is }
 
-  now : State ws nodes g leaders numbers
-  now = record { prepared = r; numbersAre = number-now }
-
-  next : j ≡ nextGate (decode ws) (joined (take g (groups (decode ws))))
+  next : j ≡ nextGate (network m graph) (joined (take g (groups (network m graph))))
   next = found ∙ next-found now
 
   -- there is none: all groups have their numbers
-  pub turn-last : g ≤ length (groups (decode ws)) → nodes .gates ≤ j → g ≡ length (groups (decode ws))
-  turn-last le h = none-next (decode ws) (r .inside) g le (rw (← next, ← r .gatesAre) h)
+  pub turn-last : g ≤ length (groups (network m graph)) → m ≤ j → g ≡ length (groups (network m graph))
+  turn-last le h = none-next (network m graph) (inside r) g le (rw (← next, network-count m graph) h)
 
-  module _ (l : j < nodes .gates) where
-    pub turn-within : g + 1 ≤ length (groups (decode ws))
-    turn-within = rw add-one (next-within (decode ws) (r .inside) g (rw (← next) (in-block r l)))
+  module _ (l : j < m) where
+    pub turn-within : g + 1 ≤ length (groups (network m graph))
+    turn-within = rw add-one (next-within (network m graph) (inside r) g (rw (← next) (in-block r l)))
+
+    -- the gates that j leads have no number
+    pub turn-bare : unnumbered numbers j ≡ true → (i : ℕ) → i < m → getD leaders i 0 ≡ j → unnumbered numbers i ≡ true
+    unfolding unnumbered numberUpTo
+    turn-bare u i il e =
+        let same : sameGroup (network m graph) i j ≡ true =
+        sym (lead-same r i j il l) ∙ eq-eqb (getD leaders i 0) (getD leaders j 0) (e ∙ sym (next-leads now j l next)) in
+        rw (is .each i il, groupNumber-same (network m graph) (inside r) i j same) (rw (is .each j l) at u)
 
     -- the gates that j leads are those of the next group
-    pub turn-numbers : (numbers′ : List ℕ) → numbers′ ≡ placed (tab (groupRenumbered leaders j g numbers) (nodes .gates)) numbers
-        → numbers′ ≡ placed (tab (numberUpTo (decode ws) (g + 1)) (nodes .gates)) numbers₀
-    unfolding groupRenumbered
-    turn-numbers numbers′ e =
-        let behind : drop (nodes .gates) numbers ≡ drop (nodes .gates) numbers₀ = rw is
-        (drop-placed (tab (numberUpTo (decode ws) g) (nodes .gates)) numbers₀ (nodes .gates) (length-tab (numberUpTo (decode ws) g) (nodes .gates))) in
-        e
-        ∙ rw (length-tab (groupRenumbered leaders j g numbers) (nodes .gates), length-tab (numberUpTo (decode ws) (g + 1)) (nodes .gates), behind)
-        (ap (λ (l : List ℕ). l ++ drop (nodes .gates) numbers₀)
-        (tab-ext (groupRenumbered leaders j g numbers) (numberUpTo (decode ws) (g + 1)) (nodes .gates) each))
+    pub turn-numbers : {numbers′ : List ℕ} → length numbers′ ≡ maxGates
+        → ((i : ℕ) → i < m → getD numbers′ i 0 ≡ cond (eqb (getD leaders i 0) j) g (getD numbers i 0)) → NumberedUpTo m graph (g + 1) numbers′
+    turn-numbers {numbers′} room each = record { room = room; each = numbered }
       where
-        each : (i : ℕ) → i < nodes .gates → cond (eqb (getD leaders i 0) j) g (getD numbers i 0) ≡ numberUpTo (decode ws) (g + 1) i
-        each i il =
-            let led : eqb (getD leaders i 0) j ≡ sameGroup (decode ws) i j = rw (next-leads now j l next) at (lead-same r i j il l) in
-            rw (led, number-now i il) (number-more (decode ws) (r .inside) g i j (sym next) (in-block r il) (in-block r l))
+        numbered : (i : ℕ) → i < m → getD numbers′ i 0 ≡ numberUpTo (network m graph) (g + 1) i
+        numbered i il =
+            let led : eqb (getD leaders i 0) j ≡ sameGroup (network m graph) i j = rw (next-leads now j l next) at (lead-same r i j il l) in
+            each i il ∙ rw (led, is .each i il) (number-more (network m graph) (inside r) g i j (sym next) (in-block r il) (in-block r l))
 
 -- the loop's end
-pub numbers-end : {ws : List ℕ} {nodes : Nodes} {leaders : List ℕ} (g : ℕ) (numbers₀ numbers : List ℕ) → NumberReady ws nodes leaders
-    → numbers ≡ placed (tab (numberUpTo (decode ws) g) (nodes .gates)) numbers₀ → g ≡ length (groups (decode ws))
-    → GroupsNumbered (decode ws) numbers₀ numbers g
-unfolding groupNumbers
-numbers-end {ws} {nodes} {leaders} g numbers₀ numbers r is end =
+pub numbers-end : {m : ℕ} {graph leaders numbers : List ℕ} {g : ℕ} → NumberReady m graph leaders → NumberedUpTo m graph g numbers
+    → g ≡ length (groups (network m graph)) → NumbersOf (network m graph) m numbers g
+unfolding numberUpTo
+numbers-end {m} {graph} {g = g} r is end =
     record {
-      numbersAre =
-          is
-          ∙ rw (
-            length-tab (numberUpTo (decode ws) g) (nodes .gates),
-            length-tab (groupNumber (decode ws)) (gateCount (decode ws)),
-            end,
-            r .gatesAre,
-          )
-          (ap (λ (l : List ℕ). l ++ drop (gateCount (decode ws)) numbers₀) (all-numbered (decode ws) (r .inside)));
+      each = λ j l. is .each j l
+          ∙ rw (lt-ltb (groupNumber (network m graph) j) g (rw end (groupNumber-below (network m graph) (inside r) j (in-block r l)))) refl;
       countIs = end;
     }
 
--- what stands behind the gates' numbers is the entry's
-pub numbers-behind : {b : Block} {m g : ℕ} {entry numbers₀ numbers : List ℕ} → m ≡ gateCount b → drop m numbers₀ ≡ drop m entry
-    → GroupsNumbered b numbers₀ numbers g → GroupsNumbered b entry numbers g
-unfolding groupNumbers
-numbers-behind {b} {m} {entry = entry} {numbers₀} is e d =
-    record {
-      numbersAre =
-          d .numbersAre
-          ∙ rw (length-tab (groupNumber b) (gateCount b), ← is) (ap (λ (l : List ℕ). tab (groupNumber b) m ++ l) e);
-      countIs = d .countIs;
-    }
-
-pub end-late : {ws : List ℕ} {nodes : Nodes} {leaders : List ℕ} (g : ℕ) → NumberReady ws nodes leaders → g ≤ length (groups (decode ws)) → nodes .gates ≤ g
-    → g ≡ length (groups (decode ws))
-end-late {ws} g r le h = let t : length (groups (decode ws)) ≤ gateCount (decode ws) = length-groups (decode ws) in omega (arith, r .gatesAre)
+pub end-late : {m : ℕ} {graph leaders : List ℕ} {g : ℕ} → NumberReady m graph leaders → g ≤ length (groups (network m graph)) → m ≤ g
+    → g ≡ length (groups (network m graph))
+end-late {m} {graph} r le h =
+    let t : length (groups (network m graph)) ≤ gateCount (network m graph) = length-groups (network m graph) in omega (arith, network-count m graph)

@@ -1,52 +1,48 @@
-// The groups' numbers of a whole block.
+// The groups' numbers of a whole block's words.
 use crate::numbering::number_groups;
-use crate::ready::READY_WORDS;
-use components::leaders::lead;
+use graph::GRAPH_WORDS;
+use graph::decode_gates;
 use layout::limits::MAX_GATES;
-use layout::nodes::Nodes;
-use layout::nodes::nodes_of;
-use layout::offsets::OPERAND_WORDS;
+use layout::offsets::gates_of;
+use scc::words::word_of;
 ghost use mathlib.Core.Path.{_≡_};
 ghost use mathlib.Core.Bool.{false};
 ghost use Prim.Native.Nat.{_≤_};
 ghost use lib.ListN.{length, getD};
+ghost use Rattle.laws.specs.Lists.{tab, placed};
+ghost use Rattle.netlist.specs.Limits.{maxGates};
 ghost use Rattle.netlist.specs.StoredBlock.{decode, isMalformed};
-ghost use Rattle.groups.specs.Numbering.{GroupsNumbered, AssignReady};
-ghost use Rattle.groups.specs.Waiting.{NumberRooms};
+ghost use Rattle.graph.specs.Graph.{graphSize};
+ghost use Rattle.groups.specs.Numbering.{numberAt, GroupsNumbered};
 
-// With arrays for the leaders and the search, each with room for every gate. The queue is used again for where each group waits.
+// Writes the first m numbers.
+fn copy_numbers(m: usize, found: &[u16; MAX_GATES], numbers: &mut [u16])
+    requires { ⌜ (m ≤ maxGates) × (m ≤ length (now numbers)) ⌝ }
+    ensures { λ r. ⌜ now (numbers .exit) ≡ placed (tab (numberAt (now (found .entry))) m) (now (numbers .entry)) ⌝ }
+{
+    let mut j = 0;
+    while j < m {
+        numbers[j] = word_of(found, j);
+        j += 1;
+    }
+}
+
+// With room for the graph and the numbers.
 fn assign_with(
     words: &[u16],
-    nodes: Nodes,
+    graph: &mut [u16; GRAPH_WORDS],
+    found: &mut [u16; MAX_GATES],
     numbers: &mut [u16],
-    leaders: &mut [u16],
-    queue: &mut [u16],
-    flags: &mut [u8],
-    nexts: &mut [u16],
-    readers: &mut [u16],
-    links: &mut [u16],
-    operands: &mut [u16],
-    ready: &mut [u64],
 ) -> usize
-    requires { ⌜
-        AssignReady (now words) nodes (now leaders) (now queue) (now flags)
-        × NumberRooms (nodes .gates) (now numbers) (now nexts) (now readers) (now links) (now operands) (now queue) (now ready)
-        ⌝ }
+    requires { ⌜ (isMalformed (now words) ≡ false) × (getD (now words) 1 0 ≤ length (now numbers)) ⌝ }
+    requires { ⌜ (length (now graph) ≡ graphSize) × (length (now found) ≡ maxGates) ⌝ }
     ensures { λ r. ⌜ GroupsNumbered (decode (now (words .entry))) (now (numbers .entry)) (now (numbers .exit)) r ⌝ }
 {
-    lead(words, nodes, leaders, flags, queue);
-    number_groups(
-        words,
-        nodes,
-        leaders,
-        numbers,
-        nexts,
-        readers,
-        links,
-        operands,
-        queue,
-        ready,
-    )
+    decode_gates(words, graph);
+    let m = gates_of(words);
+    let count = number_groups(graph, m, found);
+    copy_numbers(m, found, numbers);
+    count
 }
 
 // Writes each gate's group number; how many groups there are.
@@ -54,26 +50,7 @@ pub fn assign(words: &[u16], numbers: &mut [u16]) -> usize
     requires { ⌜ (isMalformed (now words) ≡ false) × (getD (now words) 1 0 ≤ length (now numbers)) ⌝ }
     ensures { λ r. ⌜ GroupsNumbered (decode (now (words .entry))) (now (numbers .entry)) (now (numbers .exit)) r ⌝ }
 {
-    let nodes = nodes_of(words);
-    let mut leaders = [0u16; MAX_GATES];
-    let mut queue = [0u16; MAX_GATES];
-    let mut flags = [0u8; MAX_GATES];
-    let mut nexts = [0u16; MAX_GATES];
-    let mut readers = [0u16; MAX_GATES];
-    let mut links = [0u16; MAX_GATES * OPERAND_WORDS];
-    let mut operands = [0u16; MAX_GATES * OPERAND_WORDS];
-    let mut ready = [0u64; READY_WORDS];
-    assign_with(
-        words,
-        nodes,
-        numbers,
-        &mut leaders,
-        &mut queue,
-        &mut flags,
-        &mut nexts,
-        &mut readers,
-        &mut links,
-        &mut operands,
-        &mut ready,
-    )
+    let mut graph = [0u16; GRAPH_WORDS];
+    let mut found = [0u16; MAX_GATES];
+    assign_with(words, &mut graph, &mut found, numbers)
 }

@@ -12,8 +12,6 @@ ghost use Rattle.netlist.specs.Operations.{groupsOf};
 
 pub mod assign;
 pub mod numbering;
-mod obstacle;
-mod operands;
 mod ready;
 mod waiting;
 

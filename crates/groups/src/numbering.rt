@@ -1,172 +1,165 @@
 // Groups are numbered one by one: of those that read no gate without a number outside themselves, the one with the lowest gate is next.
-use crate::operands::list_operands;
+use crate::ready::READY_WORDS;
 use crate::ready::lowest;
 use crate::ready::remove;
-use crate::waiting::number_gate;
-use crate::waiting::start;
-use components::leaders::forget;
-use layout::nodes::Nodes;
-use layout::offsets::OPERAND_WORDS;
-use layout::read::word_at;
+use crate::waiting::add_all_ready;
+use crate::waiting::count_slots;
+use crate::waiting::wake;
+use graph::GRAPH_WORDS;
+use graph::fanout::FANOUT_WORDS;
+use graph::fanout::link_slots;
+use layout::fill::fill_words;
+use layout::limits::MAX_GATES;
+use layout::nodes::NONE;
 use links::link;
-ghost use Rattle.netlist.specs.StoredBlock.{decode};
-ghost use Rattle.groups.specs.Numbering.{NumberReady, GroupsNumbered};
-ghost use Rattle.groups.specs.Waiting.{NumberGroupReady, GroupNumbered, AllReady, NumberRooms, Prepared};
+use scc::leaders::lead;
+use scc::words::word_of;
+ghost use mathlib.Core.Path.{_≡_};
+ghost use lib.ListN.{length};
+ghost use Rattle.netlist.specs.Limits.{maxGates};
+ghost use Rattle.graph.specs.Graph.{network, Graph};
+ghost use Rattle.groups.specs.Numbering.{NumbersOf};
+ghost use Rattle.groups.specs.Waiting.{NumberGroupReady, GroupNumbered, AllReady, NumberRooms};
 
-// Gives number g to every gate that `leader` leads; the group is ready.
-fn number_group(
-    words: &[u16],
-    nodes: Nodes,
-    leaders: &[u16],
-    nexts: &[u16],
-    readers: &[u16],
-    links: &[u16],
+// A turn: of so many gates, one leads the group that gets the number.
+struct Turn {
+    gates: usize,
     leader: usize,
-    g: usize,
-    numbers: &mut [u16],
-    places: &mut [u16],
-    ready: &mut [u64],
+    number: usize,
+}
+
+// Gives the turn's number to every gate of its group, which is ready.
+fn number_group(
+    graph: &[u16; GRAPH_WORDS],
+    turn: Turn,
+    leaders: &[u16; MAX_GATES],
+    nexts: &[u16; MAX_GATES],
+    fanout: &[u16; FANOUT_WORDS],
+    numbers: &mut [u16; MAX_GATES],
+    counts: &mut [u16; MAX_GATES],
+    ready: &mut [u64; READY_WORDS],
 )
-    requires { ⌜ NumberGroupReady (now words) nodes (now leaders) (now nexts) (now readers) (now links) leader g (now numbers) (now places) (now ready) ⌝ }
+    requires { ⌜
+        NumberGroupReady (turn .gates) (turn .leader) (turn .number) (now graph) (now leaders) (now nexts) (now fanout) (now numbers) (now counts)
+        (now ready)
+        ⌝ }
     ensures { λ r. ⌜
-        GroupNumbered (now (words .entry)) nodes (now (leaders .entry)) leader g (now (numbers .entry)) (now (numbers .exit)) (now (places .exit))
-        (now (ready .exit))
+        GroupNumbered (turn .gates) (turn .leader) (turn .number) (now (graph .entry)) (now (leaders .entry)) (now (numbers .entry))
+        (now (numbers .exit)) (now (counts .exit)) (now (ready .exit))
         ⌝ }
 {
-    remove(leader, ready);
-    let mut k = leader;
-    while k < nodes.gates {
-        number_gate(
-            words,
-            nodes,
-            leaders,
-            nexts,
-            readers,
-            links,
+    remove(turn.leader, ready);
+    let mut k = turn.leader;
+    while k < turn.gates {
+        numbers[k] = turn.number as u16;
+        wake(
+            graph,
+            turn.gates,
             k,
-            g,
+            leaders,
             numbers,
-            places,
+            fanout,
+            counts,
             ready,
         );
-        k = word_at(nexts, k);
+        k = word_of(nexts, k) as usize;
     }
 }
 
 // Group after group gets its number, the ready one with the lowest gate first; how many groups there are.
 fn number_all(
-    words: &[u16],
-    nodes: Nodes,
-    leaders: &[u16],
-    nexts: &[u16],
-    readers: &[u16],
-    links: &[u16],
-    numbers: &mut [u16],
-    places: &mut [u16],
-    ready: &mut [u64],
+    graph: &[u16; GRAPH_WORDS],
+    m: usize,
+    leaders: &[u16; MAX_GATES],
+    nexts: &[u16; MAX_GATES],
+    fanout: &[u16; FANOUT_WORDS],
+    numbers: &mut [u16; MAX_GATES],
+    counts: &mut [u16; MAX_GATES],
+    ready: &mut [u64; READY_WORDS],
 ) -> usize
-    requires { ⌜ AllReady (now words) nodes (now leaders) (now nexts) (now readers) (now links) (now numbers) (now places) (now ready) ⌝ }
-    ensures { λ r. ⌜ GroupsNumbered (decode (now (words .entry))) (now (numbers .entry)) (now (numbers .exit)) r ⌝ }
+    requires { ⌜ AllReady m (now graph) (now leaders) (now nexts) (now fanout) (now numbers) (now counts) (now ready) ⌝ }
+    ensures { λ r. ⌜ NumbersOf (network m (now (graph .entry))) m (now (numbers .exit)) r ⌝ }
 {
     let mut g = 0;
-    while g < nodes.gates {
-        let j = lowest(ready);
-        if nodes.gates <= j {
+    while g < m {
+        let leader = lowest(ready);
+        if m <= leader {
             return g;
         }
-        number_group(
-            words,
-            nodes,
-            leaders,
-            nexts,
-            readers,
-            links,
-            j,
-            g,
-            numbers,
-            places,
-            ready,
-        );
+        let turn = Turn {
+            gates: m,
+            leader,
+            number: g,
+        };
+        number_group(graph, turn, leaders, nexts, fanout, numbers, counts, ready);
         g += 1;
     }
     g
 }
 
-// No gate has a number; the gates of each group and the readers of each gate are linked; every group has looked once.
+// The leaders, the lists of each group's gates and of each gate's readers, what each group waits for, and the groups that are ready.
 fn prepare(
-    words: &[u16],
-    nodes: Nodes,
-    leaders: &[u16],
-    nexts: &mut [u16],
-    readers: &mut [u16],
-    links: &mut [u16],
-    operands: &mut [u16],
-    numbers: &mut [u16],
-    places: &mut [u16],
-    ready: &mut [u64],
+    graph: &[u16; GRAPH_WORDS],
+    m: usize,
+    leaders: &mut [u16; MAX_GATES],
+    nexts: &mut [u16; MAX_GATES],
+    fanout: &mut [u16; FANOUT_WORDS],
+    numbers: &mut [u16; MAX_GATES],
+    counts: &mut [u16; MAX_GATES],
+    ready: &mut [u64; READY_WORDS],
 )
-    requires { ⌜
-        NumberReady (now words) nodes (now leaders)
-        × NumberRooms (nodes .gates) (now numbers) (now nexts) (now readers) (now links) (now operands) (now places) (now ready)
-        ⌝ }
+    requires { ⌜ NumberRooms m (now graph) (now leaders) (now nexts) (now fanout) (now numbers) (now counts) (now ready) ⌝ }
     ensures { λ r. ⌜
-        Prepared (now (words .entry)) nodes (now (leaders .entry)) (now (numbers .entry)) (now (nexts .exit)) (now (readers .exit))
-        (now (links .exit)) (now (numbers .exit)) (now (places .exit)) (now (ready .exit))
+        AllReady m (now (graph .entry)) (now (leaders .exit)) (now (nexts .exit)) (now (fanout .exit)) (now (numbers .exit)) (now (counts .exit))
+        (now (ready .exit))
         ⌝ }
 {
-    forget(nodes.gates, numbers);
-    link(leaders, nodes.gates, nodes.gates, places, nexts);
-    list_operands(words, nodes, operands);
-    link(
-        operands,
-        OPERAND_WORDS * nodes.gates,
-        nodes.gates,
-        readers,
-        links,
-    );
-    start(words, nodes, leaders, nexts, numbers, places, ready);
+    lead(graph, m, leaders);
+    link_slots(graph, m, fanout);
+    // The counts' array holds the first gate of each group in between.
+    link(leaders, m, m, counts, nexts);
+    fill_words(numbers, m, NONE as u16);
+    fill_words(counts, m, 0);
+    count_slots(graph, m, leaders, counts);
+    add_all_ready(m, leaders, counts, ready);
 }
 
-// Each gate's group number; how many groups there are. The other arrays are used on the way.
-pub fn number_groups(
-    words: &[u16],
-    nodes: Nodes,
-    leaders: &[u16],
-    numbers: &mut [u16],
-    nexts: &mut [u16],
-    readers: &mut [u16],
-    links: &mut [u16],
-    operands: &mut [u16],
-    places: &mut [u16],
-    ready: &mut [u64],
+// With room for what is prepared.
+fn number_with(
+    graph: &[u16; GRAPH_WORDS],
+    m: usize,
+    leaders: &mut [u16; MAX_GATES],
+    nexts: &mut [u16; MAX_GATES],
+    fanout: &mut [u16; FANOUT_WORDS],
+    numbers: &mut [u16; MAX_GATES],
+    counts: &mut [u16; MAX_GATES],
+    ready: &mut [u64; READY_WORDS],
 ) -> usize
-    requires { ⌜
-        NumberReady (now words) nodes (now leaders)
-        × NumberRooms (nodes .gates) (now numbers) (now nexts) (now readers) (now links) (now operands) (now places) (now ready)
-        ⌝ }
-    ensures { λ r. ⌜ GroupsNumbered (decode (now (words .entry))) (now (numbers .entry)) (now (numbers .exit)) r ⌝ }
+    requires { ⌜ NumberRooms m (now graph) (now leaders) (now nexts) (now fanout) (now numbers) (now counts) (now ready) ⌝ }
+    ensures { λ r. ⌜ NumbersOf (network m (now (graph .entry))) m (now (numbers .exit)) r ⌝ }
 {
-    prepare(
-        words,
-        nodes,
-        leaders,
-        nexts,
-        readers,
-        links,
-        operands,
+    prepare(graph, m, leaders, nexts, fanout, numbers, counts, ready);
+    number_all(graph, m, leaders, nexts, fanout, numbers, counts, ready)
+}
+
+// Writes each gate's group number; how many groups there are.
+pub fn number_groups(graph: &[u16; GRAPH_WORDS], m: usize, numbers: &mut [u16; MAX_GATES]) -> usize
+    requires { ⌜ Graph m (now graph) × (length (now numbers) ≡ maxGates) ⌝ }
+    ensures { λ r. ⌜ NumbersOf (network m (now (graph .entry))) m (now (numbers .exit)) r ⌝ }
+{
+    let mut leaders = [0u16; MAX_GATES];
+    let mut nexts = [0u16; MAX_GATES];
+    let mut fanout = [0u16; FANOUT_WORDS];
+    let mut counts = [0u16; MAX_GATES];
+    let mut ready = [0u64; READY_WORDS];
+    number_with(
+        graph,
+        m,
+        &mut leaders,
+        &mut nexts,
+        &mut fanout,
         numbers,
-        places,
-        ready,
-    );
-    number_all(
-        words,
-        nodes,
-        leaders,
-        nexts,
-        readers,
-        links,
-        numbers,
-        places,
-        ready,
+        &mut counts,
+        &mut ready,
     )
 }

@@ -1,176 +1,155 @@
-// Each group waits at a gate of its own that reads an obstacle, or it is ready. Where a gate gets its number, the groups that wait at one of its
-// readers go on looking.
-use crate::obstacle::seek;
+// Each group counts the slots of its gates that read a gate of another group without a number, and is ready where none does. Where a gate gets its number,
+// each of its readers' groups counts one slot less.
+use crate::ready::READY_WORDS;
 use crate::ready::add;
-use layout::nodes::Nodes;
-use layout::offsets::OPERAND_WORDS;
-use layout::read::word_at;
-ghost use Prim.Native.Nat.{_+_, _<_};
+use graph::FIRST_GATE;
+use graph::GRAPH_WORDS;
+use graph::SLOTS;
+use graph::fanout::FANOUT_WORDS;
+use graph::fanout::NEXT_AT;
+use layout::limits::MAX_GATES;
+use scc::words::graph_word;
+use scc::words::word_of;
+ghost use mathlib.Core.Path.{_≡_};
+ghost use Prim.Native.Nat.{_+_, _*_, _≤_, _<_};
 ghost use lib.ListN.{getD};
-ghost use Rattle.groups.specs.Waiting.{LookReady, Looked, Waiting, nobody, StartWaitingReady, FirstReady, operandsOf, Pending, WakeReady};
-ghost use Rattle.groups.specs.Waiting.{AllWaiting, AllLinked, GateReady, GateNumbered};
+ghost use Rattle.netlist.specs.Limits.{maxGates};
+ghost use Rattle.graph.specs.Graph.{slots};
+ghost use Rattle.graph.specs.Fanout.{fanoutSize};
+ghost use Rattle.groups.specs.Waiting.{isOpen, allOpen, Waiting, Counting, ReadyBelow, WakeReady, WakeAllReady};
 
-// The group that `leader` leads looks for an obstacle from gate `from` on: it waits where it finds one, or it is ready.
-fn look(
-    words: &[u16],
-    nodes: Nodes,
-    leaders: &[u16],
-    nexts: &[u16],
-    numbers: &[u16],
-    leader: usize,
-    from: usize,
-    places: &mut [u16],
-    ready: &mut [u64],
-)
-    requires { ⌜ LookReady (now words) nodes (now leaders) (now nexts) leader from (now places) (now ready) ⌝ }
-    ensures { λ r. ⌜
-        Looked (now (words .entry)) nodes (now (leaders .entry)) (now (numbers .entry)) leader from (now (places .entry)) (now (ready .entry))
-        (now (places .exit)) (now (ready .exit))
-        ⌝ }
+// A word of the fan-out.
+fn fanout_word(fanout: &[u16; FANOUT_WORDS], i: usize) -> u16
+    requires { ⌜ i < fanoutSize ⌝ }
+    ensures { λ r. ⌜ r ≡ getD (now (fanout .entry)) i 0 ⌝ }
 {
-    let place = seek(words, nodes, leaders, nexts, numbers, leader, from);
-    places[leader] = place as u16;
-    if nodes.gates <= place {
-        add(leader, ready);
+    fanout[i]
+}
+
+// The group of slot e's gate waits for it, if it reads a gate of another group.
+fn count_slot(
+    graph: &[u16; GRAPH_WORDS],
+    m: usize,
+    e: usize,
+    leaders: &[u16; MAX_GATES],
+    counts: &mut [u16; MAX_GATES],
+)
+    requires { ⌜ Counting m (now graph) (now leaders) e (now counts) × (e < slots * m) ⌝ }
+    ensures { λ r. ⌜ Counting m (now (graph .entry)) (now (leaders .entry)) (e + 1) (now (counts .exit)) ⌝ }
+{
+    let place = graph_word(graph, e + e / SLOTS + 1) as usize;
+    if place < FIRST_GATE {
+        return;
+    }
+    let leader = word_of(leaders, e / SLOTS) as usize;
+    if word_of(leaders, place - FIRST_GATE) as usize == leader {
+        return;
+    }
+    counts[leader] = (word_of(counts, leader) as usize + 1) as u16;
+}
+
+// What each group waits for while no gate has a number.
+pub fn count_slots(
+    graph: &[u16; GRAPH_WORDS],
+    m: usize,
+    leaders: &[u16; MAX_GATES],
+    counts: &mut [u16; MAX_GATES],
+)
+    requires { ⌜ Counting m (now graph) (now leaders) 0 (now counts) ⌝ }
+    ensures { λ r. ⌜ Counting m (now (graph .entry)) (now (leaders .entry)) (slots * m) (now (counts .exit)) ⌝ }
+{
+    let mut e = 0;
+    while e < SLOTS * m {
+        count_slot(graph, m, e, leaders, counts);
+        e += 1;
     }
 }
 
-// Gate l, if it leads a group, has it look for the first time, from l on.
-fn look_first(
-    words: &[u16],
-    nodes: Nodes,
-    leaders: &[u16],
-    nexts: &[u16],
-    numbers: &[u16],
+// Gate l, if it leads a group that waits for nothing, is added.
+fn add_ready(
     l: usize,
-    places: &mut [u16],
-    ready: &mut [u64],
+    leaders: &[u16; MAX_GATES],
+    counts: &[u16; MAX_GATES],
+    ready: &mut [u64; READY_WORDS],
 )
-    requires { ⌜ FirstReady (now words) nodes (now leaders) (now nexts) (now numbers) l (now places) (now ready) ⌝ }
-    ensures { λ r. ⌜
-        Waiting (now (words .entry)) nodes (now (leaders .entry)) (now (numbers .entry)) (l + 1) (nodes .gates) nobody (now (places .exit)) (now (ready .exit))
-        ⌝ }
+    requires { ⌜ ReadyBelow l (now leaders) (now counts) (now ready) × (l < maxGates) ⌝ }
+    ensures { λ r. ⌜ ReadyBelow (l + 1) (now (leaders .entry)) (now (counts .entry)) (now (ready .exit)) ⌝ }
 {
-    if word_at(leaders, l) == l {
-        look(words, nodes, leaders, nexts, numbers, l, l, places, ready);
+    if word_of(leaders, l) as usize != l {
+        return;
     }
+    if word_of(counts, l) != 0 {
+        return;
+    }
+    add(l, ready);
 }
 
-// Every group looks for the first time, from its lowest gate on.
-pub fn start(
-    words: &[u16],
-    nodes: Nodes,
-    leaders: &[u16],
-    nexts: &[u16],
-    numbers: &[u16],
-    places: &mut [u16],
-    ready: &mut [u64],
+// The groups that wait for nothing.
+pub fn add_all_ready(
+    m: usize,
+    leaders: &[u16; MAX_GATES],
+    counts: &[u16; MAX_GATES],
+    ready: &mut [u64; READY_WORDS],
 )
-    requires { ⌜ StartWaitingReady (now words) nodes (now leaders) (now nexts) (now numbers) (now places) (now ready) ⌝ }
-    ensures { λ r. ⌜
-        AllWaiting (now (words .entry)) nodes (now (leaders .entry)) (now (numbers .entry)) nobody (now (places .exit)) (now (ready .exit))
-        ⌝ }
+    requires { ⌜ ReadyBelow 0 (now leaders) (now counts) (now ready) × (m ≤ maxGates) ⌝ }
+    ensures { λ r. ⌜ ReadyBelow m (now (leaders .entry)) (now (counts .entry)) (now (ready .exit)) ⌝ }
 {
     let mut l = 0;
-    while l < nodes.gates {
-        look_first(words, nodes, leaders, nexts, numbers, l, places, ready);
+    while l < m {
+        add_ready(l, leaders, counts, ready);
         l += 1;
     }
 }
 
-// The gate that operand e names got its number: the reader's group looks again, if it waits at the reader.
-fn wake_reader(
-    words: &[u16],
-    nodes: Nodes,
-    leaders: &[u16],
-    nexts: &[u16],
-    numbers: &[u16],
+// Gate k, which slot e reads, got its number: the slot's group waits for it no more.
+fn wake_slot(
+    graph: &[u16; GRAPH_WORDS],
+    m: usize,
     e: usize,
-    places: &mut [u16],
-    ready: &mut [u64],
+    k: usize,
+    leaders: &[u16; MAX_GATES],
+    numbers: &[u16; MAX_GATES],
+    counts: &mut [u16; MAX_GATES],
+    ready: &mut [u64; READY_WORDS],
 )
-    requires { ⌜ WakeReady (now words) nodes (now leaders) (now nexts) (now numbers) e (now places) (now ready) ⌝ }
+    requires { ⌜ WakeReady m (now graph) e k (now leaders) (now numbers) (now counts) (now ready) ⌝ }
     ensures { λ r. ⌜
-        AllWaiting (now (words .entry)) nodes (now (leaders .entry)) (now (numbers .entry))
-        (Pending (now (words .entry)) nodes (getD (operandsOf (now (words .entry)) nodes) e 0) (e + 1)) (now (places .exit)) (now (ready .exit))
+        Waiting m (now (leaders .entry)) (now (numbers .entry)) (getD (now (leaders .entry)) k 0)
+        (isOpen (now (graph .entry)) (now (leaders .entry)) (now (numbers .entry)) k e) (now (counts .exit)) (now (ready .exit))
         ⌝ }
 {
-    let i = e / OPERAND_WORDS;
-    let leader = word_at(leaders, i);
-    if word_at(places, leader) == i {
-        look(
-            words,
-            nodes,
-            leaders,
-            nexts,
-            numbers,
-            leader,
-            i,
-            places,
-            ready,
-        );
+    let leader = word_of(leaders, e / SLOTS) as usize;
+    if word_of(leaders, k) as usize == leader {
+        return;
+    }
+    let left = word_of(counts, leader) as usize - 1;
+    counts[leader] = left as u16;
+    if left == 0 {
+        add(leader, ready);
     }
 }
 
-// Gate k got its number: each of its readers is woken. They stand in `links`, from `readers[k]` on.
-fn wake(
-    words: &[u16],
-    nodes: Nodes,
-    leaders: &[u16],
-    nexts: &[u16],
-    readers: &[u16],
-    links: &[u16],
-    numbers: &[u16],
+// Gate k got its number: each slot that reads it is woken, from the last one down.
+pub fn wake(
+    graph: &[u16; GRAPH_WORDS],
+    m: usize,
     k: usize,
-    places: &mut [u16],
-    ready: &mut [u64],
+    leaders: &[u16; MAX_GATES],
+    numbers: &[u16; MAX_GATES],
+    fanout: &[u16; FANOUT_WORDS],
+    counts: &mut [u16; MAX_GATES],
+    ready: &mut [u64; READY_WORDS],
 )
-    requires { ⌜
-        (k < nodes .gates) × AllLinked (now words) nodes (now leaders) (now nexts) (now readers) (now links)
-        × AllWaiting (now words) nodes (now leaders) (now numbers) (Pending (now words) nodes k 0) (now places) (now ready)
-        ⌝ }
+    requires { ⌜ WakeAllReady m (now graph) k (now leaders) (now numbers) (now fanout) (now counts) (now ready) ⌝ }
     ensures { λ r. ⌜
-        AllWaiting (now (words .entry)) nodes (now (leaders .entry)) (now (numbers .entry)) nobody (now (places .exit)) (now (ready .exit))
+        Waiting m (now (leaders .entry)) (now (numbers .entry)) (getD (now (leaders .entry)) k 0)
+        (allOpen (now (graph .entry)) (now (leaders .entry)) (now (numbers .entry))) (now (counts .exit)) (now (ready .exit))
         ⌝ }
 {
-    let mut e = word_at(readers, k);
-    while e < OPERAND_WORDS * nodes.gates {
-        wake_reader(words, nodes, leaders, nexts, numbers, e, places, ready);
-        e = word_at(links, e);
+    let mut at = fanout_word(fanout, k) as usize;
+    while 0 < at {
+        let e = at - 1;
+        wake_slot(graph, m, e, k, leaders, numbers, counts, ready);
+        at = fanout_word(fanout, NEXT_AT + e) as usize;
     }
-}
-
-// Gate k gets number g, and its readers are woken.
-pub fn number_gate(
-    words: &[u16],
-    nodes: Nodes,
-    leaders: &[u16],
-    nexts: &[u16],
-    readers: &[u16],
-    links: &[u16],
-    k: usize,
-    g: usize,
-    numbers: &mut [u16],
-    places: &mut [u16],
-    ready: &mut [u64],
-)
-    requires { ⌜ GateReady (now words) nodes (now leaders) (now nexts) (now readers) (now links) k g (now numbers) (now places) (now ready) ⌝ }
-    ensures { λ r. ⌜
-        GateNumbered (now (words .entry)) nodes (now (leaders .entry)) k g (now (numbers .entry)) (now (numbers .exit)) (now (places .exit))
-        (now (ready .exit))
-        ⌝ }
-{
-    numbers[k] = g as u16;
-    wake(
-        words,
-        nodes,
-        leaders,
-        nexts,
-        readers,
-        links,
-        numbers,
-        k,
-        places,
-        ready,
-    );
 }

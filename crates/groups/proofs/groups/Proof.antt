@@ -36,38 +36,14 @@ behind-words c =
     passed (inRoom _) (keeps-room _) _ _ MalformedBlock (groups-chain _ _) (words-test c .check-words .ensures) (c .enum-told .given .1)
     ∙ groups-room (now (a .words)) _
 
-check-words-requires : tie.Need-check-words-requires
-check-words-requires c κs = search needs
-
 enum-told : tie.Need-enum-told
 enum-told c = search needs
-
-enum-told-2 : tie.Need-enum-told-2
-enum-told-2 c = search needs
-
-refusal-requires : tie.Need-refusal-requires
-refusal-requires c κs = search needs
 
 returns : tie.Need-returns
 returns c =
     let t = c .before .before .before in
     failed (inRoom _) (keeps-room _) _ _ MalformedBlock (groups-chain _ _) (t .check-words .ensures) (now (start t .args .numbers))
     (c .before .before .match .keys2) (c .refusal .ensures)
-
-gates-of-requires : tie.Need-gates-of-requires
-gates-of-requires c κs = search needs
-
-test-room-requires : tie.Need-test-room-requires
-test-room-requires c κs = search needs
-
-enum-told-3 : tie.Need-enum-told-3
-enum-told-3 c = search needs
-
-enum-told-4 : tie.Need-enum-told-4
-enum-told-4 c = search needs
-
-refusal-requires-2 : tie.Need-refusal-requires-2
-refusal-requires-2 c κs = search needs
 
 returns-2 : tie.Need-returns-2
 returns-2 c =
@@ -84,9 +60,6 @@ assign-requires c κs =
       ltb-false _ _ (passed-false _ NoRoom (rw (← t .before .gates-of .ensures) (t .test-room .ensures)) (c .before .enum-told3 .given .1)),
     )
 
-same-length : tie.Need-same-length
-same-length c = search needs
-
 returns-3 : tie.Need-returns-3
 returns-3 c =
     let assigned = c .before .before in
@@ -102,17 +75,17 @@ pub groups-spec : {M : Type 1} → statement M
 groups-spec =
     tie.close
     (tie.spec
-    check-words-requires
+    (λ c κs. search needs)
     enum-told
-    enum-told-2
-    refusal-requires
+    (λ c. search needs)
+    (λ c κs. search needs)
     returns
-    gates-of-requires
-    test-room-requires
-    enum-told-3
-    enum-told-4
-    refusal-requires-2
+    (λ c κs. search needs)
+    (λ c κs. search needs)
+    (λ c. search needs)
+    (λ c. search needs)
+    (λ c κs. search needs)
     returns-2
     assign-requires
-    same-length
+    (λ c. search needs)
     returns-3)

@@ -1,128 +1,90 @@
 -- `groups::numbering::number_all` meets its contract: each turn gives the next group its number. Assumes nothing.
-use native.Mathlib.Omega.{arith}
 use Prim.Native.Nat.{_-_, _≤_}
-use mathlib.Core.Path.{_≡_, refl, _∙_}
+use native.Mathlib.Omega.{arith}
 use lib.ListN.{length}
-use Rattle.laws.specs.Lists.{tab, placed, least}
-use Rattle.netlist.specs.StoredBlock.{decode}
 use Rattle.netlist.specs.Groups.{groups}
-use Rattle.groups.specs.Numbering.{numberUpTo, leadsNext}
-use Rattle.groups.specs.Waiting.{nobody, AllWaiting}
-use Rattle.groups.proofs.Standing.{lowest-next, none-next, lowest-in}
-use Rattle.groups.proofs.Turns.{turn-last, turn-within, turn-numbers, numbers-end, end-late}
+use Rattle.graph.specs.Graph.{network}
+use Rattle.groups.specs.Numbering.{NumberedUpTo}
+use Rattle.groups.specs.Waiting.{allOpen, Waiting}
+use Rattle.groups.proofs.Counted.{lowest-in, lowest-next, none-next}
+use Rattle.groups.proofs.Turns.{turn-last, turn-within, turn-bare, turn-numbers, numbers-end, end-late}
 use Rattle.groups.proofs.numbering.number_all.Statement.{statement}
 use Rattle.groups.proofs.numbering.number_all.Tie as tie
 
 abbrev Inv-loop : tie.InvT-loop
-Inv-loop words nodes leaders nexts readers links numbers₀ places₀ ready₀ g₀ numbers places ready g =
-    (g ≤ length (groups (decode words))) × (numbers ≡ placed (tab (numberUpTo (decode words) g) (nodes .gates)) numbers₀)
-    × (length numbers ≡ length numbers₀) × AllWaiting words nodes leaders numbers nobody places ready × (length places ≡ length places₀)
-    × (length ready ≡ length ready₀)
+Inv-loop graph m leaders nexts fanout numbers₀ counts₀ ready₀ g₀ numbers counts ready g =
+    (g ≤ length (groups (network m graph))) × NumberedUpTo m graph g numbers × Waiting m leaders numbers m (allOpen graph leaders numbers) counts ready
 
 abbrev μ-loop : tie.MeasureT-loop
-μ-loop words nodes leaders nexts readers links numbers₀ places₀ ready₀ g₀ numbers places ready g = nodes .gates - g
-
--- the function's entry
-abbrev at-start : tie.After-slice-known3 Inv-loop μ-loop → tie.Start Inv-loop μ-loop
-at-start c = c .before .before .before .before .before .before .before .before
+μ-loop graph m leaders nexts fanout numbers₀ counts₀ ready₀ g₀ numbers counts ready g = m - g
 
 loop-holds : tie.Need-loop-holds Inv-loop μ-loop
-loop-holds c = let s = at-start c in (omega arith, s .pre .numbersAre, refl, s .pre .waiting, refl, refl)
+loop-holds c = (omega arith, c .pre .numbersAre, c .pre .waiting)
 
 lowest-requires : tie.Need-lowest-requires Inv-loop μ-loop
-lowest-requires c κs = let at-loop = c .before .before .before in rw (at-loop .loop .inv .5) (at-start (at-loop .before) .pre .readyFew)
-
-same-length : tie.Need-same-length Inv-loop μ-loop
-same-length c = c .before .before .before .before .before .before .loop .inv .2
-
-same-length-2 : tie.Need-same-length-2 Inv-loop μ-loop
-same-length-2 c = c .before .before .before .before .before .before .loop .inv .4
-
-same-length-3 : tie.Need-same-length-3 Inv-loop μ-loop
-same-length-3 c = c .before .before .before .before .before .before .loop .inv .5
+lowest-requires c κs = omega (arith, c .before .before .before .loop .inv .2 .readyRoom)
 
 returns : tie.Need-returns Inv-loop μ-loop
 returns c =
-    let at-loop = c .before .before .before .before .before .before in
-    let s = at-start (at-loop .before) in
-    let l = at-loop .loop in
+    let found = c .before in
+    let turn = found .before .before .before .before in
+    let s = turn .before in
+    let l = turn .loop in
     let r = s .pre .linked .prepared in
-    let none = none-next r (l .inv .3) (c .before .before .lowest .ensures) (c .if2 .taken) in
-    numbers-end (l .g) (s .args .numbers .now) (l .numbers) r (l .inv .1)
-    (turn-last r (l .g) (s .args .numbers .now) (l .numbers) (l .inv .1) (s .args .nodes .gates) none (l .inv .0) (omega arith))
+    numbers-end r (l .inv .1)
+    (turn-last r (l .g) (l .inv .1) (s .args .m) (none-next r (l .inv .2) (found .lowest .ensures) (c .if1 .taken)) (l .inv .0) (omega arith))
 
 number-group-requires : tie.Need-number-group-requires Inv-loop μ-loop
 number-group-requires c κs =
     let chosen = c .before .before .before in
-    let found = chosen .before .before in
-    let turn = found .before .before in
-    let at-loop = turn .before .before in
-    let l = at-loop .loop in
-    let s = at-start (at-loop .before) in
+    let found = chosen .before in
+    let test = found .before .before .before in
+    let turn = test .before in
+    let s = turn .before in
+    let l = turn .loop in
+    let r = s .pre .linked .prepared in
+    let next = lowest-next r (l .inv .2) (found .lowest .ensures) (chosen .if1 .left) in
+    let in-set = lowest-in r (l .inv .2) (found .lowest .ensures) (chosen .if1 .left) in
     record {
       linked = s .pre .linked;
-      below = chosen .if2 .left;
-      numberFits = omega (arith, turn .if1 .taken, s .pre .linked .prepared .whole .fewGates);
-      numberRoom = rw (l .inv .2) (s .pre .numberRoom);
-      chosen = lowest-in (s .pre .linked .prepared) (l .inv .3) (found .lowest .ensures) (chosen .if2 .left);
-      waiting = l .inv .3;
+      below = chosen .if1 .left;
+      numberFits = omega (arith, test .loop-test .taken, r .legal .few);
+      room = l .inv .1 .room;
+      bare = turn-bare r (l .g) (l .inv .1) (found .lowest .result) next (chosen .if1 .left) (l .inv .2 .sound (found .lowest .result) in-set .bare);
+      chosen = in-set;
+      waiting = l .inv .2;
     }
-
--- the group that got its number in this turn, and that it was chosen
-abbrev numbered : tie.After-slice-known6 Inv-loop μ-loop → tie.After-number-group Inv-loop μ-loop
-numbered c = c .before .before .before .before .before .before
-
-abbrev chosen : tie.After-number-group Inv-loop μ-loop → tie.Else2 Inv-loop μ-loop
-chosen c = c .before .before .before .before
-
-abbrev in-loop : tie.Else2 Inv-loop μ-loop → tie.Then1 Inv-loop μ-loop
-in-loop c = c .before .before .before .before
 
 add-g : tie.Need-add-g Inv-loop μ-loop
 add-g c =
-    let turn = in-loop (chosen (numbered c)) in
-    omega (arith, turn .if1 .taken, at-start (turn .before .before .before) .pre .linked .prepared .whole .fewGates)
+    let test = c .before .before .before .before .before .before .before .before in
+    omega (arith, test .loop-test .taken, test .before .before .pre .linked .prepared .legal .few)
 
 loop-less : tie.Need-loop-less Inv-loop μ-loop
-loop-less c = omega (arith, in-loop (chosen (numbered c)) .if1 .taken)
+loop-less c = omega (arith, c .before .before .before .before .before .before .before .before .loop-test .taken)
 
 loop-again : tie.Need-loop-again Inv-loop μ-loop
 loop-again c =
-    let turn = chosen (numbered c) in
-    let found = turn .before .before .lowest in
-    let at-loop = in-loop turn .before .before in
-    let l = at-loop .loop in
-    let s = at-start (at-loop .before) in
-    let a = s .args in
+    let chosen = c .before .before .before .before in
+    let found = chosen .before in
+    let turn = found .before .before .before .before in
+    let s = turn .before in
+    let l = turn .loop in
     let r = s .pre .linked .prepared in
-    let n = numbered c .number-group in
-    let next : found .result ≡ least (leadsNext (decode (a .words .now)) (a .nodes .gates) (l .numbers) (a .leaders .now)) (a .nodes .gates) =
-    lowest-next r (l .inv .3) (found .ensures) (turn .if2 .left) in (
-      turn-within r (l .g) (a .numbers .now) (l .numbers) (l .inv .1) (found .result) next (turn .if2 .left),
-      turn-numbers r (l .g) (a .numbers .now) (l .numbers) (l .inv .1) (found .result) next (turn .if2 .left) (n .last .1 .1 .1 .1 .1 .1 .1 .1 .0)
-          (n .ensures .numbersAre),
-      n .kept .1 .1 .1 .1 .1 .1 .1 .1 .0 ∙ l .inv .2,
-      n .ensures .waiting,
-      n .kept .1 .1 .1 .1 .1 .1 .1 .1 .1 .0 ∙ l .inv .4,
-      n .kept .1 .1 .1 .1 .1 .1 .1 .1 .1 .1 .0 ∙ l .inv .5,
+    let next = lowest-next r (l .inv .2) (found .lowest .ensures) (chosen .if1 .left) in
+    let n = c .number-group .ensures in (
+      turn-within r (l .g) (l .inv .1) (found .lowest .result) next (chosen .if1 .left),
+      turn-numbers r (l .g) (l .inv .1) (found .lowest .result) next (chosen .if1 .left) (n .room) (n .each),
+      n .waiting,
     )
-
-same-length-4 : tie.Need-same-length-4 Inv-loop μ-loop
-same-length-4 c = c .before .before .loop .inv .2
-
-same-length-5 : tie.Need-same-length-5 Inv-loop μ-loop
-same-length-5 c = c .before .before .loop .inv .4
-
-same-length-6 : tie.Need-same-length-6 Inv-loop μ-loop
-same-length-6 c = c .before .before .loop .inv .5
 
 returns-2 : tie.Need-returns-2 Inv-loop μ-loop
 returns-2 c =
-    let at-loop = c .before .before in
-    let l = at-loop .loop in
-    let s = at-start (at-loop .before) in
+    let turn = c .before in
+    let s = turn .before in
+    let l = turn .loop in
     let r = s .pre .linked .prepared in
-    numbers-end (l .g) (s .args .numbers .now) (l .numbers) r (l .inv .1) (end-late (l .g) r (l .inv .0) (c .if1 .left))
+    numbers-end r (l .inv .1) (end-late r (l .inv .0) (c .loop-test .left))
 
 pub number-all-spec : {M : Type 1} → statement M
 number-all-spec =
@@ -132,15 +94,9 @@ number-all-spec =
     μ-loop
     loop-holds
     lowest-requires
-    same-length
-    same-length-2
-    same-length-3
     returns
     number-group-requires
     add-g
     loop-less
     loop-again
-    same-length-4
-    same-length-5
-    same-length-6
     returns-2)

@@ -1,118 +1,87 @@
--- `groups::numbering::prepare` meets its contract, step by step. Assumes nothing.
-use Rattle.netlist.specs.StoredBlock.{decode}
-use Rattle.groups.proofs.Turns.{numbers-none, bare-all, kept-behind, nexts-are, readers-are}
+-- `groups::numbering::prepare` meets its contract: each array is made from the graph and its leaders, before any gate has a number. Assumes nothing.
+use Prim.Native.Nat.{ℕ, _≤_, _<_}
+use mathlib.Core.Path.{_≡_, _∙_}
+use native.Mathlib.Omega.{arith}
 use borrow.Author.Needs.{needs}
+use lib.ListN.{length, getD}
+use Rattle.netlist.specs.Limits.{maxGates}
+use Rattle.scc.proofs.Leader.{filled}
+use Rattle.groups.specs.Numbering.{noNumber, NumberReady}
+use Rattle.groups.proofs.Counted.{counting-none, ready-none, waiting-start}
+use Rattle.groups.proofs.Turns.{numbers-none, bare-all, nexts-are}
 use Rattle.groups.proofs.numbering.prepare.Statement.{statement}
 use Rattle.groups.proofs.numbering.prepare.Tie as tie
 
-forget-requires : tie.Need-forget-requires
-forget-requires c κs = search needs
+-- where the lists are made, and the function's entry
+abbrev lists : tie.After-fill-words2 → tie.After-link
+lists c = c .before .before .before .before
 
-link-requires : tie.Need-link-requires
-link-requires c κs = search needs
+abbrev entry : tie.After-link → tie.Start
+entry c =
+    let slots = c .before .before .before .before .before in
+    slots .before .before .before .before
 
-list-operands-requires : tie.Need-list-operands-requires
-list-operands-requires c κs = search needs
+-- the graph's leaders
+abbrev led : tie.After-link → tie.After-lead
+led c =
+    let slots = c .before .before .before .before .before in
+    slots .before .before
 
-mul-link : tie.Need-mul-link
-mul-link c = search needs
+prepared : (c : tie.After-link) → NumberReady (entry c .args .m) (entry c .args .graph .now) (led c .lead .last .1 .1 .0)
+prepared c = record { legal = entry c .pre .legal; leads = led c .lead .ensures }
 
-link-requires-2 : tie.Need-link-requires-2
-link-requires-2 c κs = search needs
+-- the counts' array is zero again
+zeroed : (c : tie.After-fill-words2)
+    → (length (c .fill-words2 .last .0) ≡ maxGates) × ((l : ℕ) → l < entry (lists c) .args .m → getD (c .fill-words2 .last .0) l 0 ≡ 0)
+zeroed c =
+    let linked = lists c in
+    let s = entry linked in
+    let room : length (linked .link .last .1 .1 .1 .0) ≡ maxGates = linked .link .kept .1 .1 .1 .0 ∙ s .pre .countRoom in
+    let fits : s .args .m ≤ length (linked .link .last .1 .1 .1 .0) = omega (arith, s .pre .legal .few) in
+    let f = filled (s .args .m) 0 (linked .link .last .1 .1 .1 .0) fits (c .fill-words2 .ensures) in
+    (f .0 ∙ room, f .1)
 
--- the function's entry, and its calls before the last, from the call behind each
-abbrev at-start : tie.After-forget-arg → tie.Start
-at-start c = c .before .before .before .before .before .before .before .before .before .before
+count-slots-requires : tie.Need-count-slots-requires
+count-slots-requires c κs =
+    let cleared = c .before .before in
+    counting-none (prepared (lists cleared)) (zeroed cleared .0) (zeroed cleared .1)
 
-abbrev forgotten : tie.After-link → tie.After-forget
-forgotten c = c .before .before .before .before .before
-
-abbrev linked : tie.After-list-operands → tie.After-link
-linked c = c .before .before .before .before .before .before
-
-abbrev listed : tie.After-link2 → tie.After-list-operands
-listed c = c .before .before .before .before .before .before .before
-
-abbrev read-linked : tie.After-start-arg4 → tie.After-link2
-read-linked c = c .before .before .before .before .before .before .before .before
-
-start-requires : tie.Need-start-requires
-start-requires c κs =
-    let behind = linked (listed (read-linked c)) in
-    let first = forgotten behind in
-    let s = at-start (first .before) in
-    record {
-      prepared = s .pre .0;
-      linked = nexts-are (s .pre .0) (behind .link .ensures);
-      placeRoom = rw (behind .link .kept .1 .1 .1 .0) (s .pre .1 .placeRoom);
-      readyRoom = s .pre .1 .readyRoom;
-      noNumbers = bare-all (s .args .nodes .gates) (first .forget .last .1 .0) (s .args .numbers .now) (first .forget .ensures);
-      empty = s .pre .1 .empty;
-    }
-
-same-length : tie.Need-same-length
-same-length c = search needs
-
-same-length-2 : tie.Need-same-length-2
-same-length-2 c = search needs
-
-same-length-3 : tie.Need-same-length-3
-same-length-3 c = search needs
-
-same-length-4 : tie.Need-same-length-4
-same-length-4 c = search needs
-
-same-length-5 : tie.Need-same-length-5
-same-length-5 c = search needs
-
-same-length-6 : tie.Need-same-length-6
-same-length-6 c = search needs
-
-same-length-7 : tie.Need-same-length-7
-same-length-7 c = search needs
+add-all-ready-requires : tie.Need-add-all-ready-requires
+add-all-ready-requires c κs =
+    let counted = c .before .before .before in
+    let s = entry (lists (counted .before .before .before)) in
+    (ready-none (s .pre .readyRoom) (s .pre .none), s .pre .legal .few)
 
 returns : tie.Need-returns
 returns c =
-    let started = c .before .before .before .before in
-    let reading = read-linked (started .before) in
-    let named = listed reading in
-    let grouped = linked named in
-    let first = forgotten grouped in
-    let s = at-start (first .before) in
-    let a = s .args in
-    let operands = named .list-operands in
-    let read = reading .link2 in
+    let counted = c .before .before .before .before in
+    let cleared = counted .before .before .before in
+    let linked = lists cleared in
+    let s = entry linked in
+    let r = prepared linked in
+    let bare = cleared .before .before in
+    let slots = linked .before .before .before .before .before in
+    let none = filled (s .args .m) noNumber (s .args .numbers .now) (omega (arith, s .pre .numberRoom, s .pre .legal .few)) (bare .fill-words .ensures) in
     record {
-      all = record {
-        linked = record {
-          prepared = s .pre .0;
-          nextsAre = nexts-are (s .pre .0) (grouped .link .ensures);
-          readersAre = readers-are (a .words .now) (a .nodes) (operands .last .1 .1 .0) (a .operands .now) (read .last .1 .1 .1 .0) (read .last .1 .1 .1 .1 .0)
-              (operands .ensures) (read .ensures);
-        };
-        numberRoom = rw (first .forget .kept .1 .0) (s .pre .1 .numberRoom);
-        numbersAre = rw (first .forget .ensures) (numbers-none (decode (a .words .now)) (a .nodes .gates) (a .numbers .now));
-        readyFew = rw (started .start .kept .1 .1 .1 .1 .1 .1 .0) (s .pre .1 .readyFew);
-        waiting = started .start .ensures;
+      linked = record {
+        prepared = r;
+        nextsAre = nexts-are r (linked .link .ensures);
+        linked = slots .link-slots .ensures;
       };
-      behind = kept-behind (a .nodes .gates) (first .forget .last .1 .0) (a .numbers .now) (first .forget .ensures);
+      numbersAre = numbers-none (none .0 ∙ s .pre .numberRoom) (none .1);
+      waiting = waiting-start (bare-all (bare .fill-words .last .0) (none .1)) (counted .count-slots .ensures) (c .add-all-ready .ensures);
     }
 
 pub prepare-spec : {M : Type 1} → statement M
 prepare-spec =
     tie.close
     (tie.spec
-    forget-requires
-    link-requires
-    list-operands-requires
-    mul-link
-    link-requires-2
-    start-requires
-    same-length
-    same-length-2
-    same-length-3
-    same-length-4
-    same-length-5
-    same-length-6
-    same-length-7
+    (λ c κs. search needs)
+    (λ c κs. search needs)
+    (λ c κs. search needs)
+    (λ c. search needs)
+    (λ c κs. search needs)
+    (λ c κs. search needs)
+    count-slots-requires
+    add-all-ready-requires
     returns)

@@ -5,24 +5,6 @@ use borrow.Author.Needs.{needs}
 use Rattle.groups.proofs.ready.remove.Statement.{statement}
 use Rattle.groups.proofs.ready.remove.Tie as tie
 
-mul-ready : tie.Need-mul-ready
-mul-ready c = search needs
-
-slice-read-ready : tie.Need-slice-read-ready
-slice-read-ready c = search needs
-
-shl-ready : tie.Need-shl-ready
-shl-ready c = search needs
-
-mul-ready-2 : tie.Need-mul-ready-2
-mul-ready-2 c = search needs
-
-slice-write-ready : tie.Need-slice-write-ready
-slice-write-ready c = search needs
-
-same-length : tie.Need-same-length
-same-length c = search needs
-
 returns : tie.Need-returns
 returns c = let s = c .before in set-removed (s .args .l) (s .args .ready .now) (omega (arith, s .pre .0)) (s .pre .1)
 
@@ -30,10 +12,10 @@ pub remove-spec : {M : Type 1} → statement M
 remove-spec =
     tie.close
     (tie.spec
-    mul-ready
-    slice-read-ready
-    shl-ready
-    mul-ready-2
-    slice-write-ready
-    same-length
+    (λ c. search needs)
+    (λ c. search needs)
+    (λ c. search needs)
+    (λ c. search needs)
+    (λ c. search needs)
+    (λ c. search needs)
     returns)

@@ -1,95 +1,81 @@
--- `groups::waiting::wake` meets its contract: only the readers from e on are still to be woken. Assumes nothing.
-use borrow.Author.Needs.{needs}
+-- `groups::waiting::wake` meets its contract: the list goes down over all slots that read the gate. Assumes nothing.
+use Prim.Native.Nat.{suc, _+_, _-_}
+use mathlib.Core.Path.{_≡_}
 use native.Mathlib.Omega.{arith}
-use Prim.Native.Nat.{_-_, _*_, _<_}
-use mathlib.Core.Path.{_≡_, refl, _∙_}
-use lib.ListN.{length, getD}
-use Rattle.links.specs.Links.{FirstFrom}
-use Rattle.groups.specs.Waiting.{AllWaiting, operandsOf, Pending}
-use Rattle.groups.proofs.Standing.{wake-from, wake-turn, wake-all}
+use borrow.Author.Needs.{needs}
+use lib.ListN.{getD}
+use Rattle.groups.specs.Waiting.{isOpen, Waiting}
+use Rattle.groups.proofs.Counted.{waiting-as, held-end, Waking, waking-first, waking-reads, waking-next, waking-down}
 use Rattle.groups.proofs.waiting.wake.Statement.{statement}
 use Rattle.groups.proofs.waiting.wake.Tie as tie
 
 abbrev Inv-loop : tie.InvT-loop
-Inv-loop words nodes leaders nexts readers links numbers k places₀ ready₀ e₀ places ready e =
-    AllWaiting words nodes leaders numbers (Pending words nodes k e) places ready
-    × (e < 4 * nodes .gates → getD (operandsOf words nodes) e 0 ≡ k) × (length places ≡ length places₀) × (length ready ≡ length ready₀)
+Inv-loop graph m k leaders numbers fanout counts₀ ready₀ at₀ counts ready at =
+    Waking m graph k fanout at × Waiting m leaders numbers (getD leaders k 0) (isOpen graph leaders numbers k at) counts ready
 
 abbrev μ-loop : tie.MeasureT-loop
-μ-loop words nodes leaders nexts readers links numbers k places₀ ready₀ e₀ places ready e = 65536 - e
+μ-loop graph m k leaders numbers fanout counts₀ ready₀ at₀ counts ready at = at
 
--- the function's entry
-abbrev at-start : tie.After-slice-known2 Inv-loop μ-loop → tie.Start Inv-loop μ-loop
-at-start c = c .before .before .before .before .before .before .before .before
-
-word-at-requires : tie.Need-word-at-requires Inv-loop μ-loop
-word-at-requires c κs = search needs
+fanout-word-requires : tie.Need-fanout-word-requires Inv-loop μ-loop
+fanout-word-requires c κs = omega (arith, c .pre .below, c .pre .prepared .legal .few)
 
 loop-holds : tie.Need-loop-holds Inv-loop μ-loop
 loop-holds c =
-    let s = at-start (c .before) in
-    let a = s .args in
-    let f : FirstFrom (operandsOf (a .words .now) (a .nodes)) (a .k) (4 * a .nodes .gates) 0 (c .word-at .result) = rw (c .word-at .ensures)
-    (s .pre .1 .readersAre .firstIs (a .k) (s .pre .0)) in
-    (wake-from f (s .pre .2), λ l. f .found l .1, refl, refl)
+    let s = c .before in
+    rw (c .fanout-word .ensures) (waking-first (s .pre .linked) (s .pre .below) (s .pre .prepared .legal .few), s .pre .waiting)
 
-mul-if1 : tie.Need-mul-if1 Inv-loop μ-loop
-mul-if1 c = omega (arith, at-start (c .before .before .before) .pre .1 .prepared .whole .fewGates)
-
-wake-reader-requires : tie.Need-wake-reader-requires Inv-loop μ-loop
-wake-reader-requires c κs =
-    let in-loop = c .before .before in
-    let at-loop = in-loop .before .before in
-    let s = at-start (at-loop .before .before) in
+wake-slot-requires : tie.Need-wake-slot-requires Inv-loop μ-loop
+wake-slot-requires c κs =
+    let turn = c .before .before .before in
+    let s = turn .before .before in
+    let l = turn .loop in
+    let up : l .at ≡ suc (l .at - 1) = omega (arith, c .before .before .loop-test .taken) in
+    let next : l .at ≡ l .at - 1 + 1 = omega (arith, c .before .before .loop-test .taken) in
     record {
-      prepared = s .pre .1 .prepared;
-      linked = s .pre .1 .nextsAre;
-      below = in-loop .if1 .taken;
-      waiting = rw (at-loop .loop .inv .1 (in-loop .if1 .taken)) (at-loop .loop .inv .0);
+      prepared = s .pre .prepared;
+      slot = omega (arith, l .inv .0 .within, up);
+      reads = waking-reads (s .pre .linked) (s .pre .below) (s .pre .prepared .legal .few) (rw up at (l .inv .0));
+      below = s .pre .below;
+      numbered = s .pre .numbered;
+      waiting = rw (← next) (l .inv .1);
     }
 
-word-at-requires-2 : tie.Need-word-at-requires-2 Inv-loop μ-loop
-word-at-requires-2 c κs = search needs
+add-fanout-word : tie.Need-add-fanout-word Inv-loop μ-loop
+add-fanout-word c =
+    let turn = c .before .before .before .before in
+    omega (arith, turn .loop .inv .0 .within, turn .before .before .pre .prepared .legal .few)
 
--- the turn that was begun, and the one that was made
-abbrev in-loop : tie.After-wake-reader Inv-loop μ-loop → tie.Then1 Inv-loop μ-loop
-in-loop c = c .before .before .before
-
-abbrev at-loop : tie.After-wake-reader Inv-loop μ-loop → tie.At-loop Inv-loop μ-loop
-at-loop c = c .before .before .before .before .before
-
-abbrev woken : tie.After-word-at2 Inv-loop μ-loop → tie.After-wake-reader Inv-loop μ-loop
-woken c = c .before .before .before .before .before
-
-abbrev turn : (c : tie.After-word-at2 Inv-loop μ-loop) → let a = at-start (at-loop (woken c) .before .before) .args in
-    let w = woken c .wake-reader in
-    AllWaiting (a .words .now) (a .nodes) (a .leaders .now) (a .numbers .now) (Pending (a .words .now) (a .nodes) (a .k) (c .word-at2 .result))
-    (w .last .1 .1 .1 .1 .1 .1 .0) (w .last .1 .1 .1 .1 .1 .1 .1 .0)
-    × (c .word-at2 .result < 4 * a .nodes .gates → getD (operandsOf (a .words .now) (a .nodes)) (c .word-at2 .result) 0 ≡ a .k)
-    × (at-loop (woken c) .loop .e < c .word-at2 .result)
-turn c =
-    let s = at-start (at-loop (woken c) .before .before) in
-    let taken = in-loop (woken c) .if1 .taken in
-    wake-turn (s .pre .1) taken (s .pre .0) (at-loop (woken c) .loop .inv .1 taken) (c .word-at2 .ensures) (woken c .wake-reader .ensures)
+fanout-word-requires-2 : tie.Need-fanout-word-requires-2 Inv-loop μ-loop
+fanout-word-requires-2 c κs =
+    let turn = c .before .before .before .before in
+    omega (arith, turn .loop .inv .0 .within, turn .before .before .pre .prepared .legal .few, c .before .before .before .loop-test .taken)
 
 loop-less : tie.Need-loop-less Inv-loop μ-loop
 loop-less c =
-    omega (arith, turn c .2, in-loop (woken c) .if1 .taken, at-start (at-loop (woken c) .before .before) .pre .1 .prepared .whole .fewGates)
+    let turn = c .before .before .before .before .before in
+    let s = turn .before .before in
+    omega (arith, c .fanout-word2 .ensures, s .pre .linked .descends (turn .loop .at - 1), c .before .before .before .before .loop-test .taken)
 
 loop-again : tie.Need-loop-again Inv-loop μ-loop
 loop-again c =
-    let l = at-loop (woken c) .loop in
-    let w = woken c .wake-reader in
-    (turn c .0, turn c .1, w .kept .1 .1 .1 .1 .1 .1 .0 ∙ l .inv .2, w .kept .1 .1 .1 .1 .1 .1 .1 .0 ∙ l .inv .3)
-
-same-length : tie.Need-same-length Inv-loop μ-loop
-same-length c = c .before .before .loop .inv .2
-
-same-length-2 : tie.Need-same-length-2 Inv-loop μ-loop
-same-length-2 c = c .before .before .loop .inv .3
+    let turn = c .before .before .before .before .before in
+    let s = turn .before .before in
+    let l = turn .loop in
+    let up : l .at ≡ suc (l .at - 1) = omega (arith, c .before .before .before .before .loop-test .taken) in
+    let few = s .pre .prepared .legal .few in
+    rw (c .fanout-word2 .ensures) (
+      waking-next (s .pre .linked) (s .pre .below) few (rw up at (l .inv .0)),
+      waking-down (s .pre .linked) (s .pre .below) few (rw up at (l .inv .0)) (s .pre .numbered) (c .before .wake-slot .ensures),
+    )
 
 returns : tie.Need-returns Inv-loop μ-loop
-returns c = let l = c .before .before in wake-all (at-start (l .before .before) .args .k) (c .if1 .left) (l .loop .inv .0)
+returns c =
+    let turn = c .before in
+    let s = turn .before .before in
+    let a = s .args in
+    let end : turn .loop .at ≡ 0 = omega (arith, c .loop-test .left) in
+    waiting-as (turn .loop .inv .1)
+    (λ e el. rw end (held-end (a .graph .now) (a .leaders .now) (a .numbers .now) (a .k) (s .pre .numbered) e))
 
 pub wake-spec : {M : Type 1} → statement M
 wake-spec =
@@ -97,13 +83,14 @@ wake-spec =
     (tie.spec
     Inv-loop
     μ-loop
-    word-at-requires
+    fanout-word-requires
+    (λ c. search needs)
     loop-holds
-    mul-if1
-    wake-reader-requires
-    word-at-requires-2
+    (λ c. search needs)
+    wake-slot-requires
+    add-fanout-word
+    fanout-word-requires-2
+    (λ c. search needs)
     loop-less
     loop-again
-    same-length
-    same-length-2
     returns)

@@ -1,3 +1,0 @@
--- Mathematics of the certificate; no function of src/ is named.
-pub mod Certificate
-pub mod Tests
