@@ -2,3 +2,4 @@
 pub mod Places
 pub mod Graph
 pub mod Decoding
+pub mod Fanout

@@ -1,5 +1,7 @@
 // A block's gates as a graph, decoded once: five words a gate, its operation and the places of its four operands (specs/Graph.antt). Searches, orders,
 // evaluation and copies read a gate here and know nothing of the stored format.
+pub mod fanout;
+
 use layout::kinds::row_of;
 use layout::limits::MAX_GATES;
 use layout::limits::MAX_INPUTS;

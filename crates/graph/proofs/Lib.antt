@@ -1,0 +1,2 @@
+-- Mathematics of graphs; no function of src/ is named.
+pub mod Chains
