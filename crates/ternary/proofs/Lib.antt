@@ -2,3 +2,4 @@
 pub mod Codes
 pub mod Heads
 pub mod GateTable
+pub mod State

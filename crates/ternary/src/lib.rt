@@ -1,4 +1,4 @@
 // The values of one gate and of one output from a block's words. Callers cite specs of `netlist`.
 pub mod gate;
-pub mod output;
+
 pub mod table;
