@@ -13,7 +13,7 @@ use lib.ListN.{length, getD, set}
 use lib.Dec.{leb}
 use Rattle.netlist.specs.Limits.{maxGates}
 use Rattle.graph.specs.Places.{firstGate}
-use Rattle.graph.specs.Graph.{slots, graphSize}
+use Rattle.graph.specs.Graph.{slots}
 
 -- words for every gate and every slot
 abbrev pub fanoutSize : ℕ
@@ -49,7 +49,6 @@ pub record Empty (fanout : List ℕ) : Type 0 where
 pub record LinkReady (graph : List ℕ) (e : ℕ) (fanout : List ℕ) : Type 0 where
   pub below : e < slots * maxGates
   pub inside : slotPlace graph e < firstGate + maxGates
-  pub graphLong : length graph ≡ graphSize
   pub long : length fanout ≡ fanoutSize
 
 -- slot e, which reads this place, is put in front of a gate's list

@@ -24,7 +24,6 @@ link-requires c κs =
     record {
       below = omega (arith, g .few);
       inside = omega (arith, slot-inside g (s .loop .e) (c .before .loop-test .taken), g .few);
-      graphLong = g .long;
       long = s .loop .inv .1 .long;
     }
 
