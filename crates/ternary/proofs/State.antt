@@ -20,17 +20,11 @@ use Rattle.netlist.specs.Kinds.{gateValue}
 use Rattle.netlist.specs.Netlist.{Operand, input, gate, constant, gateOf}
 use Rattle.netlist.specs.Rounds.{operandValue, evaluated}
 use Rattle.graph.specs.Places.{firstInput, firstGate, placeCount, operandAt}
-use Rattle.graph.specs.Graph.{slots, operationWord, kindAt, countAt, placeAt, gateAt, gatesIn, network, Graph}
+use Rattle.graph.specs.Graph.{nodeSize, slots, operationWord, kindAt, countAt, placeAt, gateAt, gatesIn, network, Graph}
+use Rattle.layout.proofs.KindLaws.{kind-last}
+use Rattle.graph.proofs.Rules.{controlling-small, forced-small}
 use Rattle.graph.proofs.Chains.{count-most}
 use Rattle.ternary.specs.State.{Coded, inputsIn, stateIn, LegalGate, slotValue, gateCode}
-
--- a code is its own
-pub code-same : (v : ℕ) → v ≤ 2 → code (valueOf v) ≡ v
-unfolding code valueOf
-code-same zero h = refl
-code-same (suc zero) h = refl
-code-same (suc (suc zero)) h = refl
-code-same (suc (suc (suc v))) h = absurd (omega arith)
 
 module _ (m : ℕ) {values : List ℕ} (c : Coded values) where
   pub place-value : (p : ℕ) → p < firstGate + m → operandValue (inputsIn values) (stateIn m values) (operandAt p) ≡ valueOf (getD values p 0)
@@ -63,6 +57,22 @@ module _ {m : ℕ} {graph : List ℕ} (g : Graph m graph) where
   unfolding network gatesIn
   gate-of j l = getD-tab (gateAt graph) m j (record { kind = 0; operands = [] }) l
 
+  operation-small : (j : ℕ) → j < m → getD graph (nodeSize * j) 0 ≤ 65535
+  unfolding operationWord gateAt
+  operation-small j l =
+      let n = g .node j l in
+      let k = kindAt graph j in
+      let many : length (gateAt graph j .operands) ≡ countAt graph j = length-tab (λ i. operandAt (placeAt graph j i)) (countAt graph j) in
+      omega (
+        arith,
+        n .operation,
+        many,
+        kind-last k (n .kind),
+        count-most k (countAt graph j) (n .kind) (n .count),
+        controlling-small k (n .kind),
+        forced-small k (n .kind),
+      )
+
   pub legal-gate : (j : ℕ) → j < m → LegalGate graph j
   legal-gate j l =
       let n = g .node j l in
@@ -71,6 +81,7 @@ module _ {m : ℕ} {graph : List ℕ} (g : Graph m graph) where
         kind = n .kind;
         count = n .count;
         inside = λ i il. omega (arith, n .inside i il, g .few);
+        small = operation-small j l;
       }
 
   pub evaluated-at : {values : List ℕ} → Coded values → (j : ℕ) → j < m

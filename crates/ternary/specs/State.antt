@@ -3,7 +3,7 @@
 --   inputsIn, stateIn   the values of the inputs and of the gates in it
 --   LegalGate           a gate whose operands can be read
 --   gateCode            the code of a gate's value
-use Prim.Native.Nat.{ℕ, _+_, _≤_, _<_}
+use Prim.Native.Nat.{ℕ, _+_, _*_, _≤_, _<_}
 use mathlib.Core.Path.{_≡_}
 use mathlib.Core.Bool.{true}
 use mathlib.Core.List.{List}
@@ -12,8 +12,9 @@ use Rattle.laws.specs.Lists.{tab}
 use Rattle.netlist.specs.Limits.{maxInputs, maxGates}
 use Rattle.netlist.specs.Values.{Value, code, valueOf}
 use Rattle.netlist.specs.Kinds.{isKind, arityFits, gateValue}
-use Rattle.graph.specs.Places.{firstInput, firstGate, placeCount}
-use Rattle.graph.specs.Graph.{slots, kindAt, countAt, placeAt, Graph}
+use Rattle.netlist.specs.StoredBlock.{nameSize, operandOf}
+use Rattle.graph.specs.Places.{firstInput, firstGate, placeCount, placeOf}
+use Rattle.graph.specs.Graph.{nodeSize, slots, kindAt, countAt, placeAt, Graph}
 
 pub record Coded (values : List ℕ) : Type 0 where
   pub long : length values ≡ placeCount
@@ -34,6 +35,7 @@ pub record LegalGate (graph : List ℕ) (j : ℕ) : Type 0 where
   pub kind : isKind (kindAt graph j) ≡ true
   pub count : arityFits (kindAt graph j) (countAt graph j) ≡ true
   pub inside : (i : ℕ) → i < slots → placeAt graph j i < placeCount
+  pub small : getD graph (nodeSize * j) 0 ≤ 65535
 
 -- the value that slot i of gate j reads
 unfoldable pub slotValue : List ℕ → List ℕ → ℕ → ℕ → Value
@@ -42,3 +44,10 @@ slotValue graph values j i = valueOf (getD values (placeAt graph j i) 0)
 -- the gate's own
 unfoldable pub gateCode : List ℕ → List ℕ → ℕ → ℕ
 gateCode graph values j = code (gateValue (kindAt graph j) (tab (slotValue graph values j) (countAt graph j)))
+
+-- the word behind the port at `port` names what stands at a place
+pub record ShownAt (words : List ℕ) (n port : ℕ) : Type 0 where
+  pub near : port ≤ 65535
+  pub few : n ≤ maxInputs
+  pub word : getD words (port + nameSize) 0 ≤ 65535
+  pub inside : placeOf (operandOf n (getD words (port + nameSize) 0)) < placeCount

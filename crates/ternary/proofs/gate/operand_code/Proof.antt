@@ -6,52 +6,26 @@ use Prim.Native.Nat.{_+_, _*_}
 use lib.ListN.{getD}
 use Rattle.graph.specs.Graph.{placeAt}
 use Rattle.ternary.specs.State.{slotValue}
-use Rattle.ternary.proofs.State.{code-same}
+use Rattle.ternary.proofs.Codes.{code-same}
 use Rattle.ternary.proofs.GateTable.{operand-code-at, operand-code-past}
 use borrow.Author.Needs.{needs}
 use Rattle.ternary.proofs.gate.operand_code.Statement.{statement}
 use Rattle.ternary.proofs.gate.operand_code.Tie as tie
-use Rattle.ternary.proofs.gate.operand_code.Reads as reads
-use Rattle.ternary.proofs.gate.operand_code.Lts as lts
 
--- src/gate.rt:26:27
-mul-place : tie.Need-mul-place
-mul-place c = search needs
-
--- src/gate.rt:26:27
-add-place : tie.Need-add-place
-add-place c = search needs
-
--- src/gate.rt:26:27
-add-place-2 : tie.Need-add-place-2
-add-place-2 c = search needs
-
--- src/gate.rt:26:21
-mul-place-2 : tie.Need-mul-place-2
-mul-place-2 c = search needs
-
--- src/gate.rt:26:21
-element-copy-out-place : tie.Need-element-copy-out-place
-element-copy-out-place c = search needs
-
--- src/gate.rt:26:21
 cast-place : tie.Need-cast-place
 unfolding placeAt
 cast-place c = omega (arith, c .before .before .pre .0 .inside (c .before .before .args .i) (c .before .before .pre .2))
 
--- src/gate.rt:27:9
 element-copy-out-result : tie.Need-element-copy-out-result
 unfolding placeAt
 element-copy-out-result c = omega (arith, c .before .before .pre .0 .inside (c .before .before .args .i) (c .before .before .pre .2))
 
--- src/gate.rt:27:9
 cast-result : tie.Need-cast-result
 cast-result c = 
     let s = c .before .before .before in
     let a = s .args in
     omega (arith, s .pre .1 .most (getD (now (a .graph)) (5 * a .j + 1 + a .i) 0))
 
--- src/gate.rt:15:1
 returns : tie.Need-returns
 unfolding slotValue placeAt
 returns c = 
@@ -61,7 +35,6 @@ returns c =
     let most = s .pre .1 .most (getD (now (a .graph)) (5 * a .j + 1 + a .i) 0) in
     (sym (operand-code-at v (a .count) (a .i) (c .before .before .if1 .taken) ∙ code-same _ most), omega arith)
 
--- src/gate.rt:15:1
 returns-2 : tie.Need-returns-2
 returns-2 c = 
     let a = c .before .args in
@@ -72,11 +45,11 @@ pub operand-code-spec : {M : Type 1} → statement M
 operand-code-spec =
     tie.close
     (tie.spec
-    mul-place
-    add-place
-    add-place-2
-    mul-place-2
-    element-copy-out-place
+    (λ c. search needs)
+    (λ c. search needs)
+    (λ c. search needs)
+    (λ c. search needs)
+    (λ c. search needs)
     cast-place
     element-copy-out-result
     cast-result
