@@ -43,9 +43,12 @@ module _ (x y : List Value) (inputs : (i : ℕ) → getD x i undefined ≡ getD 
   operand-same (gate j) = states j
   operand-same (constant c) = refl
 
+  pub operands-same : operandValue x s ≡ operandValue y t
+  operands-same = fun-ext operand-same
+
   pub evaluated-same : evaluated x s ≡ evaluated y t
   unfolding evaluated
-  evaluated-same = fun-ext (λ g. ap (λ (f : Operand → Value). gateValue (g .kind) (map f (g .operands))) (fun-ext operand-same))
+  evaluated-same = fun-ext (λ g. ap (λ (f : Operand → Value). gateValue (g .kind) (map f (g .operands))) operands-same)
 
 module _ (b : Block) (x y : List Value) (inputs : (i : ℕ) → getD x i undefined ≡ getD y i undefined) where
   after-same : (r : ℕ) → afterRounds b x r ≡ afterRounds b y r

@@ -3,3 +3,4 @@ pub mod Codes
 pub mod Heads
 pub mod GateTable
 pub mod State
+pub mod Outputs
