@@ -14,10 +14,6 @@ use Rattle.simulate.proofs.Starts.{starting-more}
 use Rattle.sheet.proofs.MaskLaws.{byte-most}
 use Rattle.sheet.proofs.masks.put_masks.Statement.{statement}
 use Rattle.sheet.proofs.masks.put_masks.Tie as tie
-use Rattle.sheet.proofs.masks.put_masks.Reads as reads
-use Rattle.sheet.proofs.masks.put_masks.Lts as lts
-use Rattle.sheet.proofs.masks.input_byte.Reads as input-byte-reads
-use Rattle.simulate.proofs.values.put_constants.Reads as put-constants-reads
 
 abbrev Inv-loop : tie.InvT-loop
 Inv-loop n fixed ones values₀ i₀ values i = (i ≤ n) × Starting (map valueOf (tab (inputByte fixed ones) i)) values
@@ -25,35 +21,15 @@ Inv-loop n fixed ones values₀ i₀ values i = (i ≤ n) × Starting (map value
 abbrev μ-loop : tie.MeasureT-loop
 μ-loop n fixed ones values₀ i₀ values i = n - i
 
--- src/masks.rt:30:5
 put-constants-requires : tie.Need-put-constants-requires Inv-loop μ-loop
 put-constants-requires c κs = c .before .pre .1
 
--- src/masks.rt:32:5
 loop-holds : tie.Need-loop-holds Inv-loop μ-loop
 loop-holds c = (omega arith, c .put-constants .ensures)
 
--- src/masks.rt:33:35
-input-byte-requires : tie.Need-input-byte-requires Inv-loop μ-loop
-input-byte-requires c κs = omega arith
-
--- src/masks.rt:33:16
-add-values : tie.Need-add-values Inv-loop μ-loop
-add-values c = omega arith
-
--- src/masks.rt:33:9
 element-write-values : tie.Need-element-write-values Inv-loop μ-loop
 element-write-values c = omega (arith, c .before .before .before .before .before .pre .0)
 
--- src/masks.rt:34:9
-add-i : tie.Need-add-i Inv-loop μ-loop
-add-i c = omega arith
-
--- src/masks.rt:32:5
-loop-less : tie.Need-loop-less Inv-loop μ-loop
-loop-less c = omega arith
-
--- src/masks.rt:32:5
 loop-again : tie.Need-loop-again Inv-loop μ-loop
 loop-again c = 
     let l = c .before .before in
@@ -65,7 +41,6 @@ loop-again c =
     rw add-one (map-append valueOf (tab f i) (f i ∷ [])) in
     (omega arith, rw (more, c .input-byte .ensures) (starting-more (l .loop .inv .1) i (f i) long (omega (arith, s .pre .0)) (byte-most (s .args .fixed) (s .args .ones) i)))
 
--- src/masks.rt:26:1
 returns : tie.Need-returns Inv-loop μ-loop
 unfolding settingBytes
 returns c = 
@@ -81,10 +56,10 @@ put-masks-spec =
     μ-loop
     put-constants-requires
     loop-holds
-    input-byte-requires
-    add-values
+    (λ c κs. omega arith)
+    (λ c. omega arith)
     element-write-values
-    add-i
-    loop-less
+    (λ c. omega arith)
+    (λ c. omega arith)
     loop-again
     returns)

@@ -20,12 +20,6 @@ Inv-loop words fixed ones values n defined₀ shown₀ o₀ defined shown o = (n
 abbrev μ-loop : tie.MeasureT-loop
 μ-loop words fixed ones values n defined₀ shown₀ o₀ defined shown o = o
 
-inputs-of-requires : tie.Need-inputs-of-requires Inv-loop μ-loop
-inputs-of-requires c κs = search needs
-
-outputs-of-requires : tie.Need-outputs-of-requires Inv-loop μ-loop
-outputs-of-requires c κs = search needs
-
 loop-holds : tie.Need-loop-holds Inv-loop μ-loop
 loop-holds c =
     let s = c .before .before .before in
@@ -44,9 +38,6 @@ there c =
     let a = entry c .args in
     let e = length-shown (now (a .words)) (now (a .values)) in
     omega (arith, e, c .before .loop .inv .1 .below)
-
-sub-o : tie.Need-sub-o Inv-loop μ-loop
-sub-o c = omega arith
 
 output-value-requires : tie.Need-output-value-requires Inv-loop μ-loop
 output-value-requires c κs = (record { whole = entry c .pre .0; inputs = c .before .loop .inv .0; below = there c }, entry c .pre .1)
@@ -72,23 +63,14 @@ one-is c =
 mul-defined : tie.Need-mul-defined Inv-loop μ-loop
 mul-defined c = let t = c .before in record { fits = defined-half (t .before .loop .inv .1) (omega arith) }
 
-defined-bit-requires : tie.Need-defined-bit-requires Inv-loop μ-loop
-defined-bit-requires c κs = search needs
-
 add-defined : tie.Need-add-defined Inv-loop μ-loop
 add-defined c = let t = c .before .before in record { fits = defined-fits (t .before .loop .inv .1) (omega arith) (defined-is c) }
 
 mul-shown : tie.Need-mul-shown Inv-loop μ-loop
 mul-shown c = let t = c .before .before in record { fits = one-half (t .before .loop .inv .1) (omega arith) }
 
-one-bit-requires : tie.Need-one-bit-requires Inv-loop μ-loop
-one-bit-requires c κs = search needs
-
 add-shown : tie.Need-add-shown Inv-loop μ-loop
 add-shown c = let t = c .before .before .before in record { fits = one-fits (t .before .loop .inv .1) (omega arith) (one-is c) }
-
-loop-less : tie.Need-loop-less Inv-loop μ-loop
-loop-less c = omega arith
 
 loop-again : tie.Need-loop-again Inv-loop μ-loop
 loop-again c =
@@ -105,17 +87,17 @@ show-outputs-spec =
     (tie.spec
     Inv-loop
     μ-loop
-    inputs-of-requires
-    outputs-of-requires
+    (λ c κs. search needs)
+    (λ c κs. search needs)
     loop-holds
-    sub-o
+    (λ c. omega arith)
     output-value-requires
     mul-defined
-    defined-bit-requires
+    (λ c κs. search needs)
     add-defined
     mul-shown
-    one-bit-requires
+    (λ c κs. search needs)
     add-shown
-    loop-less
+    (λ c. omega arith)
     loop-again
     returns)

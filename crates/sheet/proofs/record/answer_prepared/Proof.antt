@@ -8,28 +8,12 @@ use Rattle.sheet.proofs.RecordLaws.{bad-as, record-refused, record-sett
 use borrow.Author.Needs.{needs}
 use Rattle.sheet.proofs.record.answer_prepared.Statement.{statement}
 use Rattle.sheet.proofs.record.answer_prepared.Tie as tie
-use Rattle.sheet.proofs.record.answer_prepared.Reads as reads
-use Rattle.sheet.proofs.record.answer_prepared.Lts as lts
-use Rattle.layout.proofs.masks.are_masks.Reads as are-masks-reads
-use Rattle.layout.proofs.offsets.inputs_of.Reads as inputs-of-reads
-use Rattle.sheet.proofs.record.refuse.Reads as refuse-reads
-use Rattle.sheet.proofs.record.settle_masks.Reads as settle-masks-reads
 
--- src/record.rt:64:19
-inputs-of-requires : tie.Need-inputs-of-requires
-inputs-of-requires c κs = search needs
-
--- src/record.rt:64:9
 are-masks-requires : tie.Need-are-masks-requires
 are-masks-requires c κs = 
     let s = c .before .before in
     omega (arith, c .inputs-of .ensures, whole-parts (now (s .args .words)) (s .pre .whole) .fewInputs)
 
--- src/record.rt:65:9
-refuse-requires : tie.Need-refuse-requires
-refuse-requires c κs = search needs
-
--- src/record.rt:65:9
 returns : tie.Need-returns
 returns c = 
     let tested = c .before .before in
@@ -38,11 +22,9 @@ returns c =
     ∙ record-refused (now (a .words)) (a .fixed) (a .ones)
     (bad-as (now (a .words)) (a .fixed) (a .ones) (tested .before .inputs-of .ensures) (tested .are-masks .ensures) (c .before .if1 .taken))
 
--- src/record.rt:68:5
 settle-masks-requires : tie.Need-settle-masks-requires
 settle-masks-requires c κs = (c .before .before .before .before .before .pre, blank)
 
--- src/record.rt:53:1
 returns-2 : tie.Need-returns-2
 returns-2 c = 
     let kept = c .before .before in
@@ -56,9 +38,9 @@ pub answer-prepared-spec : {M : Type 1} → statement M
 answer-prepared-spec =
     tie.close
     (tie.spec
-    inputs-of-requires
+    (λ c κs. search needs)
     are-masks-requires
-    refuse-requires
+    (λ c κs. search needs)
     returns
     settle-masks-requires
     returns-2)

@@ -8,40 +8,18 @@ use Rattle.sheet.proofs.RecordLaws.{settled-record}
 use borrow.Author.Needs.{needs}
 use Rattle.sheet.proofs.record.settle_masks.Statement.{statement}
 use Rattle.sheet.proofs.record.settle_masks.Tie as tie
-use Rattle.sheet.proofs.record.settle_masks.Reads as reads
-use Rattle.sheet.proofs.record.settle_masks.Lts as lts
-use Rattle.layout.proofs.offsets.gates_of.Reads as gates-of-reads
-use Rattle.layout.proofs.offsets.inputs_of.Reads as inputs-of-reads
-use Rattle.sheet.proofs.masks.put_masks.Reads as put-masks-reads
-use Rattle.sheet.proofs.outputs.show_outputs.Reads as show-outputs-reads
-use Rattle.simulate.proofs.round.settle_prepared.Reads as settle-prepared-reads
 
--- src/record.rt:47:15
-inputs-of-requires : tie.Need-inputs-of-requires
-inputs-of-requires c κs = search needs
-
--- src/record.rt:47:5
 put-masks-requires : tie.Need-put-masks-requires
 put-masks-requires c κs = 
     let s = c .before .before .before in
     (omega (arith, c .before .inputs-of .ensures, whole-parts (now (s .args .words)) (s .pre .0 .whole) .fewInputs), s .pre .1)
 
--- src/record.rt:48:43
-gates-of-requires : tie.Need-gates-of-requires
-gates-of-requires c κs = search needs
-
--- src/record.rt:48:5
 settle-prepared-requires : tie.Need-settle-prepared-requires
 settle-prepared-requires c κs = 
     let p = c .before .before in
     let s = p .before .before .before .before in
     (prepared-with (s .pre .0 .prepared) (s .pre .0 .tabled) _ (c .before .gates-of .ensures), p .put-masks .ensures .unsettled)
 
--- src/record.rt:49:5
-show-outputs-requires : tie.Need-show-outputs-requires
-show-outputs-requires c κs = search needs
-
--- src/record.rt:35:1
 returns : tie.Need-returns
 returns c = 
     let t = c .before .before in
@@ -57,9 +35,9 @@ pub settle-masks-spec : {M : Type 1} → statement M
 settle-masks-spec =
     tie.close
     (tie.spec
-    inputs-of-requires
+    (λ c κs. search needs)
     put-masks-requires
-    gates-of-requires
+    (λ c κs. search needs)
     settle-prepared-requires
-    show-outputs-requires
+    (λ c κs. search needs)
     returns)
