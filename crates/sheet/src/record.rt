@@ -11,9 +11,12 @@ use netlist::Record;
 use netlist::Refusal;
 use refusals::number_of;
 use simulate::round::UNDEFINED;
+use simulate::round::prepare;
 use simulate::round::settle_prepared;
+use ternary::table::gate_table;
 ghost use mathlib.Core.Path.{_≡_};
-ghost use Rattle.netlist.specs.StoredBlock.{decode};
+ghost use mathlib.Core.Bool.{false};
+ghost use Rattle.netlist.specs.StoredBlock.{decode, isMalformed};
 ghost use Rattle.netlist.specs.Sheet.{refusedRecord, recordOf};
 ghost use Rattle.simulate.specs.Rounded.{Blank};
 ghost use Rattle.sheet.specs.Shown.{RecordReady, settledRecord};
@@ -66,4 +69,16 @@ pub fn answer_prepared(
     }
     let mut values = [UNDEFINED; PLACES];
     settle_masks(words, table, graph, fanout, fixed, ones, &mut values)
+}
+
+// The same of a block that is not malformed: the graph, the fan-out and the table are made for this record.
+pub fn answer_masks(words: &[u16], fixed: u16, ones: u16) -> Record
+    requires { ⌜ isMalformed (now words) ≡ false ⌝ }
+    ensures { λ r. ⌜ r ≡ recordOf (decode (now (words .entry))) fixed ones ⌝ }
+{
+    let table = gate_table();
+    let mut graph = [0u16; GRAPH_WORDS];
+    let mut fanout = [0u16; FANOUT_WORDS];
+    prepare(words, &mut graph, &mut fanout);
+    answer_prepared(words, &table, &graph, &fanout, fixed, ones)
 }
