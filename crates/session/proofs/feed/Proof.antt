@@ -25,7 +25,7 @@ feed-byte-requires : tie.Need-feed-byte-requires Inv-loop μ-loop
 feed-byte-requires c κs = c .before .before .before .before .before .before .before .before .before .loop .inv .0 .ready
 
 loop-again : tie.Need-loop-again Inv-loop μ-loop
-loop-again c = 
+loop-again c =
     let b = c .before .before .before .before .before .before .before .before in
     let in-if1 = b .before .before .before .before .before .before .before .before in
     let in-loop = in-if1 .before in

@@ -6,7 +6,7 @@ use Rattle.session.proofs.finish.Statement.{statement}
 use Rattle.session.proofs.finish.Tie as tie
 
 end-netlist-requires : tie.Need-end-netlist-requires
-end-netlist-requires c κs = 
+end-netlist-requires c κs =
     let at-state = c .before .before .before .before .before in
     let start = at-state .before .before .before .before .before .before in
     let r = start .pre .room in
@@ -14,7 +14,7 @@ end-netlist-requires c κs =
     (omega (arith, held .0, r .textRoom), r .wordRoom, r .outRoom, held .1)
 
 end-line-requires : tie.Need-end-line-requires
-end-line-requires c κs = 
+end-line-requires c κs =
     let at-state2 = c .before .before .before .before .before in
     line-ready (at-state2 .before .before .before .before .before .before .pre) (at-state2 .state2 .given .1)
 
@@ -22,20 +22,20 @@ enum-told : tie.Need-enum-told
 enum-told c = search needs
 
 returns : tie.Need-returns
-returns c = 
+returns c =
     let e = c .before .before .before .before in
     let at-state = e .before .before .before .before .before .before in
     let x = at-state .before .before .before .before .before .before .args in
     netlist-ending (x .text .now) (x .words .now) (x .line .now) (at-state .state .given .1) (e .end-netlist .ensures)
 
 returns-2 : tie.Need-returns-2
-returns-2 c = 
+returns-2 c =
     let at-state2 = c .before .before .before .before .before .before .before .before in
     let x = at-state2 .before .before .before .before .before .before .args in
     line-ending (x .text .now) (x .words .now) (x .line .now) (at-state2 .state2 .given .1) (c .before .before .end-line .ensures)
 
 returns-3 : tie.Need-returns-3
-returns-3 c = 
+returns-3 c =
     let x = c .before .before .before .before .before .before .args in
     over-ending (x .text .now) (x .words .now) (x .line .now) _ (c .enum-told .given .1)
 

@@ -19,7 +19,6 @@ not-ended (Netlist kept fresh) k = refl
 not-ended (Lines count kept) k = refl
 not-ended Ended k = absurd (miss (0 ∷ 1 ∷ []) 2 tt k)
 
-
 enum-told : tie.Need-enum-told
 enum-told c = search needs
 

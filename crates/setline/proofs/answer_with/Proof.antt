@@ -48,37 +48,36 @@ read : (c : tie.After-read-pairs) → let f = found (in-order c) in
     LineRead (start (form-test (in-order c)) .args .words .now) (f .pairs) (c .read-pairs .result) (c .read-pairs .last .1 .1 .0)
 read c = let f = found (in-order c) in c .read-pairs .ensures (f .pairs) (f .for)
 
-
 enum-told : tie.Need-enum-told
 enum-told c = search needs
 
 returns : tie.Need-returns
-returns c = 
+returns c =
     let t = c .before .before .before in
     let s = start t in
     failed-at (inRoom _) (keeps-room _) _ _ SyntaxError (form-chain _ _ _ (s .pre .0 .whole)) (form-told t) (s .args .out .now)
     (c .before .before .match .keys2) (c .refusal .ensures)
 
 read-pairs-requires : tie.Need-read-pairs-requires
-read-pairs-requires c κs = 
+read-pairs-requires c κs =
     let f = found (c .before) in
     (record { pairs = f .pairs; for = f .for }, start (form-test (c .before)) .pre .1)
 
 returns-2 : tie.Need-returns-2
-returns-2 c = 
+returns-2 c =
     let t = c .before .before .before in
     let s = start (form-test (in-order t)) in
     rw (behind-form (in-order t))
     (pairs-failed _ (found (in-order t) .pairs) _ (s .args .out .now) (read t .told) (c .before .before .match2 .keys2) (c .refusal2 .ensures))
 
 show-requires : tie.Need-show-requires
-show-requires c κs = 
+show-requires c κs =
     let told = c .before .before in
     let t = pairs-test told in
     (start (form-test (in-order t)) .pre .0, read t .given (told .enum-told3 .given .1) .unsettled)
 
 returns-3 : tie.Need-returns-3
-returns-3 c = 
+returns-3 c =
     let shown = c .before .before in
     let told = shown .before .before .before in
     let t = pairs-test told in

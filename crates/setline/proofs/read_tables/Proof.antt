@@ -39,7 +39,6 @@ outside-told c ps f =
     c .test-outside .ensures ps pairsAt (decode (start (first c) .args .words .now) .inputs) (f .legal) (f .tabled .counted) (f .tabled .namesAre)
     (f .tabled .placesAre) (inputs-counted (first c .before .inputs-of .ensures) (f .inputsAre))
 
-
 test-repeat-requires : tie.Need-test-repeat-requires
 test-repeat-requires c κs = let f = c .before .before .before .before .before .before .pre .0 .for in (names-room (f .tabled), places-room (f .tabled))
 
@@ -47,22 +46,22 @@ enum-told : tie.Need-enum-told
 enum-told c = search needs
 
 returns : tie.Need-returns
-returns c = 
+returns c =
     λ ps f. let t = c .before .before in repeat-read _ ps _ (repeat-told t ps f) (c .before .match .keys2)
 
 test-outside-requires : tie.Need-test-outside-requires
-test-outside-requires c κs = 
+test-outside-requires c κs =
     let t = c .before .before in
     let f = start t .pre .0 .for in
     (names-room (f .tabled), places-room (f .tabled), rw (t .before .inputs-of .ensures) (inputs-room (f .inputsAre)))
 
 returns-2 : tie.Need-returns-2
-returns-2 c = 
+returns-2 c =
     λ ps f. let t = c .before .before in
     outside-read _ ps _ (repeat-told (first t) ps f) (t .before .enum-told .given .1) (outside-told t ps f) (c .before .match2 .keys2)
 
 fill-setting-requires : tie.Need-fill-setting-requires
-fill-setting-requires c κs = 
+fill-setting-requires c κs =
     let t = first (c .before .before .before) in
     let f = start t .pre .0 .for in
     let n = inputs-few (start t .args .words .now) (f .whole) in (
@@ -79,14 +78,14 @@ slice-aggregate-put-setting : tie.Need-slice-aggregate-put-setting
 slice-aggregate-put-setting c = sym (length-take-le _ _ (filled-room _ _ _ (c .before .before .fill-setting .ensures)))
 
 put-setting-requires : tie.Need-put-setting-requires
-put-setting-requires c κs = 
+put-setting-requires c κs =
     let y = c .before .before .before in
     let t = first (y .before .before .before .before) in
     let p = start t .pre in
     (p .1, line-bytes (p .0 .for) _ (t .before .inputs-of .ensures) (y .fill-setting .ensures))
 
 returns-3 : tie.Need-returns-3
-returns-3 c = 
+returns-3 c =
     λ ps f.
     let y = c .before .before .before .before in
     let told = y .before .before in

@@ -12,18 +12,17 @@ start c = c .before .before .before .before .before .before .before .before .bef
 abbrev pairs-filled : tie.After-fill-inputs → tie.After-fill-pairs
 pairs-filled c = c .before .before .before .before .before .before .before .before .before
 
-
 fill-pairs-requires : tie.Need-fill-pairs-requires
 fill-pairs-requires c κs = let s = c .before .before .before .before .before .before .before .before .before in pair-room (s .pre .0 .0) (s .pre .1)
 
 fill-inputs-requires : tie.Need-fill-inputs-requires
-fill-inputs-requires c κs = 
+fill-inputs-requires c κs =
     let s = start (c .before .before .before .before .before .before .before .before) in
     let n = inputs-few (s .args .words .now) (s .pre .0 .0 .for .whole) in
     (omega (arith, n, c .before .inputs-of .ensures), omega (arith, n, c .before .inputs-of .ensures, s .pre .1 .inputRoom))
 
 read-tables-requires : tie.Need-read-tables-requires
-read-tables-requires c κs = 
+read-tables-requires c κs =
     let i = c .before .before .before .before .before .before .before in
     let p = pairs-filled i in
     let s = start p in
@@ -36,7 +35,7 @@ read-tables-requires c κs =
     )
 
 returns : tie.Need-returns
-returns c = 
+returns c =
     let i = c .before .before .before .before .before .before .before .before in
     let p = pairs-filled i in
     λ ps f.

@@ -18,7 +18,7 @@ loop-holds : tie.Need-loop-holds Inv-loop μ-loop
 loop-holds c = (omega arith, linking-none (c .pre .1))
 
 link-requires : tie.Need-link-requires Inv-loop μ-loop
-link-requires c κs = 
+link-requires c κs =
     let s = c .before .before in
     let g = s .before .pre .0 in
     record {
@@ -28,7 +28,7 @@ link-requires c κs =
     }
 
 loop-again : tie.Need-loop-again Inv-loop μ-loop
-loop-again c = 
+loop-again c =
     let s = c .before .before .before in
     let g = s .before .pre .0 in
     let l = c .before .before .loop-test .taken in

@@ -8,7 +8,7 @@ use Rattle.session.proofs.netlist_part.end_netlist.Statement.{statement
 use Rattle.session.proofs.netlist_part.end_netlist.Tie as tie
 
 returns : tie.Need-returns
-returns c = 
+returns c =
     let o = c .before .before .before .before in
     let start = o .before .before .before .before .before .before .before .before in
     rw (← opened-ends (readText (take (start .args .held) (start .args .text .now)))) (o .«open» .ensures [] .output)

@@ -10,7 +10,7 @@ use Rattle.session.proofs.netlist_part.netlist_byte.Statement.{statemen
 use Rattle.session.proofs.netlist_part.netlist_byte.Tie as tie
 
 returns : tie.Need-returns
-returns c = 
+returns c =
     let o = c .before .before .before .before in
     let in-if2 = o .before .before .before .before .before .before in
     let in-if1 = in-if2 .before in
@@ -19,14 +19,14 @@ returns c =
     (and-intro (x .fresh) (eqb (x .byte) lf) (in-if1 .if1 .taken) (in-if2 .if2 .taken)) (o .«open» .ensures line)
 
 returns-2 : tie.Need-returns-2
-returns-2 c = 
+returns-2 c =
     let s = c .before .before .before .before .before in
     let x = s .args in
     λ line. turn-keeps (x .held) (x .fresh) (x .byte) (x .text .now) _ _ _ line _
     (not-both (x .fresh) (eqb (x .byte) lf) (⊎-elim (λ p. inl (p .1 .left)) (λ q. inr (q .left)) (c .before .if1 .came))) (c .if3 .taken) (s .pre .1) (s .pre .4)
 
 returns-3 : tie.Need-returns-3
-returns-3 c = 
+returns-3 c =
     let past-if3 = c .before .before .before .before in
     let joined1 = past-if3 .before in
     let x = joined1 .before .before .before .before .args in

@@ -20,7 +20,6 @@ legal f =
     read-legal (take (start .args .held) (start .args .text .now)) (start .args .words .now) _ (start .pre .1) _ (r .read .ensures) (found .0 .0)
     (found .0 .1 .0) (found .1)
 
-
 slice-aggregate-read : tie.Need-slice-aggregate-read
 slice-aggregate-read c = sym (length-take-le _ _ (c .before .before .before .before .pre .0))
 
@@ -31,12 +30,12 @@ slice-aggregate-prepare : tie.Need-slice-aggregate-prepare
 slice-aggregate-prepare c = sym (length-take-le _ _ (legal (c .before .before) .0))
 
 prepare-requires : tie.Need-prepare-requires
-prepare-requires c κs = 
+prepare-requires c κs =
     let bare = c .before .before .before .before .before .before .before .before .before .before .before .before .before .before .pre .3 in
     (legal (c .before .before .before .before) .1, bare .long, bare .empty)
 
 returns : tie.Need-returns
-returns c = 
+returns c =
     let read = c .before .before .before .before .before .before .before .before .before in
     let start = read .before .before .before .before .before .before in
     let found = c .before .before .before .before .before .why .given in
@@ -45,7 +44,7 @@ returns c =
     _ _ _ line _ _ _ (c .before .before .tell .ensures)
 
 returns-2 : tie.Need-returns-2
-returns-2 c = 
+returns-2 c =
     let read = c .before .before .before .before .before .before .before .before .before in
     let start = read .before .before .before .before .before .before in
     let found = c .before .before .before .before .before .count .given in

@@ -5,7 +5,7 @@ use Rattle.session.proofs.set_lines.answer.Statement.{statement}
 use Rattle.session.proofs.set_lines.answer.Tie as tie
 
 returns : tie.Need-returns
-returns c = 
+returns c =
     let a = c .before .before .before .before .before .before .before .before .before in
     let start = a .before .before .before .before .before .before .before in
     let x = start .args in
@@ -15,7 +15,7 @@ returns c =
     (c .before .before .tell .ensures)
 
 returns-2 : tie.Need-returns-2
-returns-2 c = 
+returns-2 c =
     let a = c .before .before .before .before .before in
     let start = a .before .before .before .before .before .before .before in
     let x = start .args in

@@ -9,7 +9,7 @@ use Rattle.session.proofs.set_lines.end_line.Statement.{statement}
 use Rattle.session.proofs.set_lines.end_line.Tie as tie
 
 returns : tie.Need-returns
-returns c = 
+returns c =
     let x = c .before .before .before .before .args in
     rw (c .if1 .taken) (no-last-line (take (x .count) (x .words .now)) (x .line .now) _)
 
@@ -20,7 +20,7 @@ slice-aggregate-answer-2 : tie.Need-slice-aggregate-answer-2
 slice-aggregate-answer-2 c = sym (length-take-le _ _ (omega arith))
 
 returns-2 : tie.Need-returns-2
-returns-2 c = 
+returns-2 c =
     let past-if1 = c .before .before .before .before .before .before in
     let start = past-if1 .before .before .before .before in
     let some = nonzero (start .args .held) (past-if1 .if1 .left) in

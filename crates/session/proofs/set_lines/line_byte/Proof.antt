@@ -9,7 +9,7 @@ use Rattle.session.proofs.set_lines.line_byte.Statement.{statement}
 use Rattle.session.proofs.set_lines.line_byte.Tie as tie
 
 returns : tie.Need-returns
-returns c = 
+returns c =
     let h = c .before .before .before in
     let start = h .before .before .before .before .before in
     let x = start .args in
@@ -23,7 +23,7 @@ slice-aggregate-answer-2 : tie.Need-slice-aggregate-answer-2
 slice-aggregate-answer-2 c = sym (length-take-le _ _ (c .before .before .before .before .before .hold .ensures .within))
 
 returns-2 : tie.Need-returns-2
-returns-2 c = 
+returns-2 c =
     let past-if1 = c .before .before .before .before .before .before in
     let h = past-if1 .before .before .before in
     let start = h .before .before .before .before .before in

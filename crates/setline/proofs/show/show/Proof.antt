@@ -6,12 +6,12 @@ use Rattle.setline.proofs.show.show.Statement.{statement}
 use Rattle.setline.proofs.show.show.Tie as tie
 
 settle-prepared-requires : tie.Need-settle-prepared-requires
-settle-prepared-requires c κs = 
+settle-prepared-requires c κs =
     let s = c .before .before .before .before in
     (prepared-with (s .pre .0 .prepared) (s .pre .0 .tabled) _ (c .before .gates-of .ensures), s .pre .1)
 
 returns : tie.Need-returns
-returns c = 
+returns c =
     let t = c .before .before .before .before .before in
     let s = t .before .before .before .before .before in
     λ x starting.

@@ -31,7 +31,7 @@ element-write-values : tie.Need-element-write-values Inv-loop μ-loop
 element-write-values c = omega (arith, c .before .before .before .before .before .pre .0)
 
 loop-again : tie.Need-loop-again Inv-loop μ-loop
-loop-again c = 
+loop-again c =
     let l = c .before .before in
     let s = l .before .before .before in
     let f = inputByte (s .args .fixed) (s .args .ones) in
@@ -43,7 +43,7 @@ loop-again c =
 
 returns : tie.Need-returns Inv-loop μ-loop
 unfolding settingBytes
-returns c = 
+returns c =
     let l = c .before in
     let e : l .loop .i ≡ l .before .before .before .args .n = omega arith in
     rw e at (l .loop .inv .1)

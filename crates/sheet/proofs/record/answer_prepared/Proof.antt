@@ -10,12 +10,12 @@ use Rattle.sheet.proofs.record.answer_prepared.Statement.{statement}
 use Rattle.sheet.proofs.record.answer_prepared.Tie as tie
 
 are-masks-requires : tie.Need-are-masks-requires
-are-masks-requires c κs = 
+are-masks-requires c κs =
     let s = c .before .before in
     omega (arith, c .inputs-of .ensures, whole-parts (now (s .args .words)) (s .pre .whole) .fewInputs)
 
 returns : tie.Need-returns
-returns c = 
+returns c =
     let tested = c .before .before in
     let a = tested .before .before .before .args in
     c .refuse .ensures
@@ -26,7 +26,7 @@ settle-masks-requires : tie.Need-settle-masks-requires
 settle-masks-requires c κs = (c .before .before .before .before .before .pre, blank)
 
 returns-2 : tie.Need-returns-2
-returns-2 c = 
+returns-2 c =
     let kept = c .before .before in
     let tested = kept .before in
     let a = tested .before .before .before .args in

@@ -10,18 +10,18 @@ use Rattle.sheet.proofs.record.settle_masks.Statement.{statement}
 use Rattle.sheet.proofs.record.settle_masks.Tie as tie
 
 put-masks-requires : tie.Need-put-masks-requires
-put-masks-requires c κs = 
+put-masks-requires c κs =
     let s = c .before .before .before in
     (omega (arith, c .before .inputs-of .ensures, whole-parts (now (s .args .words)) (s .pre .0 .whole) .fewInputs), s .pre .1)
 
 settle-prepared-requires : tie.Need-settle-prepared-requires
-settle-prepared-requires c κs = 
+settle-prepared-requires c κs =
     let p = c .before .before in
     let s = p .before .before .before .before in
     (prepared-with (s .pre .0 .prepared) (s .pre .0 .tabled) _ (c .before .gates-of .ensures), p .put-masks .ensures .unsettled)
 
 returns : tie.Need-returns
-returns c = 
+returns c =
     let t = c .before .before in
     let p = t .before .before .before in
     let n = p .before .before in

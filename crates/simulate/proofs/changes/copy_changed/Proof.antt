@@ -43,7 +43,7 @@ element-write-values : tie.Need-element-write-values Inv-loop μ-loop
 element-write-values c = omega (arith, inside (c .before .before))
 
 loop-again : tie.Need-loop-again Inv-loop μ-loop
-loop-again c = 
+loop-again c =
     let l = c .before .before .before .before in
     let s = l .before in (
       omega arith,
@@ -52,7 +52,7 @@ loop-again c =
     )
 
 returns : tie.Need-returns Inv-loop μ-loop
-returns c = 
+returns c =
     let l = c .before .before in
     let e : l .loop .q ≡ l .before .args .changed .tail = omega arith in
     rw e at (l .loop .inv .2)

@@ -7,7 +7,7 @@ copy-changed-requires : tie.Need-copy-changed-requires
 copy-changed-requires c κs = let s = c .before .before .before in (copy-ready (s .pre .0 .legal) (s .pre .1), s .pre .1 .ordered)
 
 update-changed-requires : tie.Need-update-changed-requires
-update-changed-requires c κs = 
+update-changed-requires c κs =
     let f = c .before .before .before in
     let s = f .before .before .before .before in
     let g = s .pre .0 .legal in
@@ -18,7 +18,7 @@ update-changed-requires c κs =
     )
 
 returns : tie.Need-returns
-returns c = 
+returns c =
     let f = c .before .before .before .before in
     let s = f .before .before .before .before in
     round-next (s .pre .0 .legal) (s .pre .1) (f .copy-changed .ensures) (c .update-changed .ensures)

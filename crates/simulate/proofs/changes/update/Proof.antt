@@ -22,7 +22,7 @@ gate-value-requires : tie.Need-gate-value-requires
 gate-value-requires c κs = let s = c .before .before in (s .pre .0, (legal-gate (s .pre .1 .legal) (s .args .j) (s .pre .2), s .pre .1 .coded))
 
 returns-2 : tie.Need-returns-2
-returns-2 c = 
+returns-2 c =
     let s = c .before .before .before .before in
     one-undefined (s .pre .1) (s .args .j) (s .pre .2) (c .before .before .if1 .left) (c .before .gate-value .ensures) (c .if2 .taken)
 
@@ -36,7 +36,7 @@ add-result : tie.Need-add-result
 add-result c = omega (arith, room c, start c .pre .1 .legal .few)
 
 returns-3 : tie.Need-returns-3
-returns-3 c = 
+returns-3 c =
     let s = start c in
     one-new (s .pre .1) (s .args .j) (s .pre .2) (c .before .gate-value .result) (c .before .before .if1 .left) (c .if2 .left)
     (c .before .gate-value .ensures)

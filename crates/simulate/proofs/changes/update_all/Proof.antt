@@ -17,18 +17,18 @@ loop-holds : tie.Need-loop-holds Inv-loop μ-loop
 loop-holds c = (omega arith, updated-none _ _ 0, λ i l. absurd (omega arith))
 
 update-requires : tie.Need-update-requires Inv-loop μ-loop
-update-requires c κs = 
+update-requires c κs =
     let l = c .before .before .before in
     (l .before .pre .0, updated-ready (l .before .pre .1) (l .loop .inv .1), c .before .before .loop-test .taken)
 
 loop-again : tie.Need-loop-again Inv-loop μ-loop
-loop-again c = 
+loop-again c =
     let l = c .before .before .before .before in
     let u = c .update .ensures in
     (omega arith, updated-then (l .loop .inv .1) (u .updated), below-next (l .loop .inv .2) (c .before .before .before .loop-test .taken) u)
 
 returns : tie.Need-returns Inv-loop μ-loop
-returns c = 
+returns c =
     let l = c .before in
     record { updated = l .loop .inv .1; done = λ i il. l .loop .inv .2 i (omega arith) }
 

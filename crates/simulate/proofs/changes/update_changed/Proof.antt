@@ -35,7 +35,6 @@ starts : (l : tie.At-loop Inv-loop μ-loop) → l .loop .q < l .before .args .ch
     → getD (now (l .before .args .fanout)) (getD (l .loop .queue) (l .loop .q) 0) 0 ≤ slots * l .before .args .m
 starts l below = l .before .pre .0 .linked .starts _ (inside l below)
 
-
 mul-k : tie.Need-mul-k Inv-loop μ-loop
 mul-k c = omega (arith, c .before .before .before .pre .1 .1 .0 .queued)
 
@@ -52,12 +51,12 @@ element-copy-out-t17 : tie.Need-element-copy-out-t17 Inv-loop μ-loop
 element-copy-out-t17 c = omega (arith, inside (c .before .before .before) (c .before .if1 .taken))
 
 cast-t20 : tie.Need-cast-t20 Inv-loop μ-loop
-cast-t20 c = 
+cast-t20 c =
     let l = c .before .before .before .before in
     omega (arith, starts l (c .before .before .if1 .taken), l .before .pre .0 .legal .few)
 
 update-readers-requires : tie.Need-update-readers-requires Inv-loop μ-loop
-update-readers-requires c κs = 
+update-readers-requires c κs =
     let t = c .before .before .before .before in
     let l = t .before .before in
     let p = l .before .pre in
@@ -65,7 +64,7 @@ update-readers-requires c κs =
     ((p .0 .tabled, updated-ready (p .1 .0 .0) (l .loop .inv .1)), record { descends = f .descends; starts = starts l (t .if1 .taken) })
 
 loop-again : tie.Need-loop-again Inv-loop μ-loop
-loop-again c = 
+loop-again c =
     let t = c .before .before .before .before .before in
     let l = t .before .before in
     let s = l .before in
@@ -76,7 +75,7 @@ loop-again c =
     )
 
 returns : tie.Need-returns Inv-loop μ-loop
-returns c = 
+returns c =
     let l = c .before .before in
     let s = l .before in
     record {

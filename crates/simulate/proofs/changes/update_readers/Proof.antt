@@ -28,9 +28,8 @@ few l = omega (arith, l .loop .inv .0, l .before .pre .1 .starts, l .before .pre
 down : (l : tie.At-loop Inv-loop μ-loop) → getD (now (l .before .args .fanout)) (maxGates + (l .loop .p - 1)) 0 ≤ l .loop .p - 1
 down l = l .before .pre .1 .descends (l .loop .p - 1)
 
-
 update-requires : tie.Need-update-requires Inv-loop μ-loop
-update-requires c κs = 
+update-requires c κs =
     let l = c .before .before .before in
     let s = l .before in
     (s .pre .0 .0, updated-ready (s .pre .0 .1) (l .loop .inv .1), omega (arith, s .pre .1 .starts, l .loop .inv .0))
@@ -42,7 +41,7 @@ mul-p : tie.Need-mul-p Inv-loop μ-loop
 mul-p c = omega (arith, few (c .before .before .before .before))
 
 element-copy-out-p : tie.Need-element-copy-out-p Inv-loop μ-loop
-element-copy-out-p c = 
+element-copy-out-p c =
     let l = c .before .before .before .before in
     omega (arith, few l, c .before .before .before .loop-test .taken)
 
@@ -50,12 +49,12 @@ cast-p : tie.Need-cast-p Inv-loop μ-loop
 cast-p c = omega (arith, down (c .before .before .before .before .before))
 
 loop-less : tie.Need-loop-less Inv-loop μ-loop
-loop-less c = 
+loop-less c =
     let l = c .before .before .before .before .before in
     omega (arith, down l, c .before .before .before .before .loop-test .taken)
 
 loop-again : tie.Need-loop-again Inv-loop μ-loop
-loop-again c = 
+loop-again c =
     let u = c .before in
     let l = u .before .before .before .before in
     let s = l .before in
@@ -66,7 +65,7 @@ loop-again c =
     )
 
 returns : tie.Need-returns Inv-loop μ-loop
-returns c = 
+returns c =
     let l = c .before in
     record { updated = l .loop .inv .1; done = awaiting-end _ _ _ (l .loop .found) _ (l .loop .p) (l .loop .inv .2) (c .loop-test .left) }
 

@@ -22,14 +22,14 @@ abbrev μ-loop : tie.MeasureT-loop
 μ-loop table graph fanout m values₀ found₀ queue₀ head₀ tail₀ count₀ values found queue head tail count = m - count
 
 update-all-requires : tie.Need-update-all-requires Inv-loop μ-loop
-update-all-requires c κs = 
+update-all-requires c κs =
     let s = c .before .before .before in
     let k = s .pre .2 in
     let g = s .pre .0 .legal in
     (s .pre .0 .tabled, first-ready g _ (s .pre .1) (λ j l. k .none j (omega (arith, g .few))) (k .foundRoom) (k .queueRoom))
 
 loop-holds : tie.Need-loop-holds Inv-loop μ-loop
-loop-holds c = 
+loop-holds c =
     let s = c .before .before .before .before in
     let k = s .pre .2 in
     let g = s .pre .0 .legal in
@@ -57,7 +57,7 @@ below d =
     omega (arith, more d .reached, rounds-le b (inputsIn (now (a .values))), network-count (a .m) (now (a .graph)))
 
 next-round-requires : tie.Need-next-round-requires Inv-loop μ-loop
-next-round-requires c κs = 
+next-round-requires c κs =
     let l = c .before .before .before .before in
     (start l .pre .0, l .loop .inv .made)
 

@@ -27,14 +27,14 @@ abbrev start : tie.After-prepare → tie.Start
 start c = c .before .before .before .before .before .before .before
 
 settle-prepared-requires : tie.Need-settle-prepared-requires
-settle-prepared-requires c κs = 
+settle-prepared-requires c κs =
     let r = ready (put c) in (
       prepared-with (r .prepare .ensures) (r .before .before .before .gate-table .ensures) _ (c .before .before .before .before .gates-of .ensures),
       put c .put-setting .ensures .unsettled,
     )
 
 returns : tie.Need-returns
-returns c = 
+returns c =
     let t = c .before .before in
     let v = t .before .before .before .before in
     let r = ready (put v) in

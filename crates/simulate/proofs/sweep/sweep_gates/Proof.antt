@@ -16,7 +16,7 @@ loop-holds : tie.Need-loop-holds Inv-loop μ-loop
 loop-holds c = (omega arith, sweeping-none _ (c .pre .1) (c .pre .2))
 
 gate-value-requires : tie.Need-gate-value-requires Inv-loop μ-loop
-gate-value-requires c κs = 
+gate-value-requires c κs =
     let l = c .before .before in
     let s = l .before in
     (s .pre .0, (legal-gate (s .pre .1) (l .loop .j) (c .before .loop-test .taken), l .loop .inv .1 .coded))
@@ -25,7 +25,7 @@ element-write-values : tie.Need-element-write-values Inv-loop μ-loop
 element-write-values c = omega (arith, c .before .before .before .before .pre .1 .few)
 
 loop-again : tie.Need-loop-again Inv-loop μ-loop
-loop-again c = 
+loop-again c =
     let l = c .before .before .before in
     (omega arith, sweeping-more _ (l .before .pre .1) (l .loop .inv .1) (c .before .before .loop-test .taken) (c .gate-value .result) (c .gate-value .ensures))
 

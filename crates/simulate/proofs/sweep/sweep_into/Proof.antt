@@ -10,7 +10,7 @@ put-setting-requires : tie.Need-put-setting-requires
 put-setting-requires c κs = (blank, c .before .before .before .before .before .before .before .pre .1)
 
 sweep-gates-requires : tie.Need-sweep-gates-requires
-sweep-gates-requires c κs = 
+sweep-gates-requires c κs =
     let d = c .before .before .before .before .before .before in
     let m = c .before .before .before in (
       d .before .before .gate-table .ensures,
@@ -19,7 +19,7 @@ sweep-gates-requires c κs =
     )
 
 returns : tie.Need-returns
-returns c = 
+returns c =
     let t = c .before .before in
     let w = t .before .before .before in
     let m = w .before .before .before .before in

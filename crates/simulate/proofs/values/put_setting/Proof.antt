@@ -29,7 +29,7 @@ element-write-values : tie.Need-element-write-values Inv-loop μ-loop
 element-write-values c = omega (arith, c .before .before .before .before .before .before .pre .1 .few)
 
 loop-again : tie.Need-loop-again Inv-loop μ-loop
-loop-again c = 
+loop-again c =
     let l = c .before .before in
     let s = l .before .before .before .before in
     let setting = now (s .args .setting) in
@@ -41,7 +41,7 @@ loop-again c =
     (omega arith, rw more (starting-more (l .loop .inv .1) i (getD setting i 0) long (omega (arith, s .pre .1 .few)) (s .pre .1 .most i)))
 
 returns : tie.Need-returns Inv-loop μ-loop
-returns c = 
+returns c =
     let l = c .before in
     let setting = now (l .before .before .before .before .args .setting) in
     rw (take-all (l .loop .i) setting (c .loop-test .left)) at (l .loop .inv .1)

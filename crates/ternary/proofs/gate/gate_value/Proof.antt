@@ -22,14 +22,14 @@ cast-operation c = omega (arith, c .before .pre .1 .0 .small)
 
 element-copy-out-result : tie.Need-element-copy-out-result
 unfolding kindAt
-element-copy-out-result c = 
+element-copy-out-result c =
     let s = c .before .before .before .before .before in
     let k = kind-last (kindAt (now (s .args .graph)) (s .args .j)) (s .pre .1 .0 .kind) in
     omega (arith, c .before .before .before .operand-code .ensures .1, c .before .before .operand-code2 .ensures .1, c .before .operand-code3 .ensures .1, c .operand-code4 .ensures .1)
 
 returns : tie.Need-returns
 unfolding gateCode gateIndex tableIndex kindAt countAt
-returns c = 
+returns c =
     let o = c .before in
     let s = o .before .before .before .before .before in
     let a = s .args in

@@ -21,14 +21,14 @@ unfolding placeAt
 element-copy-out-result c = omega (arith, c .before .before .pre .0 .inside (c .before .before .args .i) (c .before .before .pre .2))
 
 cast-result : tie.Need-cast-result
-cast-result c = 
+cast-result c =
     let s = c .before .before .before in
     let a = s .args in
     omega (arith, s .pre .1 .most (getD (now (a .graph)) (5 * a .j + 1 + a .i) 0))
 
 returns : tie.Need-returns
 unfolding slotValue placeAt
-returns c = 
+returns c =
     let s = c .before .before .before in
     let a = s .args in
     let v = slotValue (now (a .graph)) (now (a .values)) (a .j) in
@@ -36,7 +36,7 @@ returns c =
     (sym (operand-code-at v (a .count) (a .i) (c .before .before .if1 .taken) ∙ code-same _ most), omega arith)
 
 returns-2 : tie.Need-returns-2
-returns-2 c = 
+returns-2 c =
     let a = c .before .args in
     let v = slotValue (now (a .graph)) (now (a .values)) (a .j) in
     (sym (operand-code-past v (a .count) (a .i) (omega arith)), omega arith)
