@@ -56,7 +56,8 @@ fn serve_some(
     out: &mut [u8],
 ) -> Served
     requires { ⌜ SessionReady state (now text) (now words) (now graph) (now fanout) (now line) (now out) ⌝ }
-    ensures { λ r. ⌜ SessionReady (r .state) (now (text .exit)) (now (words .exit)) (now (graph .exit)) (now (fanout .exit)) (now (line .exit)) (now (out .exit)) ⌝ }
+    ensures { λ r. ⌜ SessionReady (r .state) (now (text .exit)) (now (words .exit)) (now (graph .exit)) (now (fanout .exit)) (now
+        (line .exit)) (now (out .exit)) ⌝ }
 {
     let mut piece = io::buffer();
     let n = io::count(libc::read(0, &mut piece), &piece);

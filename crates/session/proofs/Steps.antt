@@ -168,11 +168,13 @@ module _ {state : State} (text words line : List ℕ) where
   netlist-step c e h = rw e h
 
   pub line-step : (c : ℕ) {count kept : ℕ} {s : State} {t w g f l o : List ℕ} {n : ℕ} → state ≡ Lines count kept
-      → SessionStepped (turn (inLines (take count words) (take kept line)) c) s t w g f l o n → SessionStepped (turn (runOf state text words line) c) s t w g f l o n
+      → SessionStepped (turn (inLines (take count words) (take kept line)) c) s t w g f l o n → SessionStepped (turn
+      (runOf state text words line) c) s t w g f l o n
   unfolding runOf
   line-step c e h = rw e h
 
-  pub over-step : (c : ℕ) (graph fanout out : List ℕ) → state ≡ Ended → SessionStepped (turn (runOf state text words line) c) Ended text words graph fanout line out 0
+  pub over-step : (c : ℕ) (graph fanout out : List ℕ) → state ≡ Ended → SessionStepped (turn
+      (runOf state text words line) c) Ended text words graph fanout line out 0
   unfolding runOf turn Sound
   over-step c graph fanout out e = rw e (record { sound = tt; next = refl; output = nothing-written out })
 

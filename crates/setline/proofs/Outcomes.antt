@@ -46,7 +46,8 @@ module _ (ws line : List ℕ) (room : ℕ) where
   pub line-chain : answerLine ws line room ≡ inRoom room (refuseIf (isMalformed ws) MalformedBlock
       (refuseAt (firstBadInSetLine n line) SyntaxError (behindForm (decode ws) (setLineReader n line))))
   unfolding answerLine lineOutcome firstBadInSetLine
-  line-chain = rw (decode-inputCount ws) (ap (λ o. inRoom room (refuseIf (isMalformed ws) MalformedBlock o)) (parsed-chain (decode ws) line (setLineReader n line)))
+  line-chain = rw (decode-inputCount ws) (ap (λ o. inRoom room (refuseIf (isMalformed ws) MalformedBlock o)) (parsed-chain
+      (decode ws) line (setLineReader n line)))
 
 -- a line in form has pairs, and the rest of the chain is theirs
 pub record Found (ws line : List ℕ) : Type 0 where

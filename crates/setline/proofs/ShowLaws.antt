@@ -120,13 +120,15 @@ module _ (ws : List ℕ) (whole : isMalformed ws ≡ false) {values : List ℕ} 
   port-is o l =
       let d : Output = outputOf o in
       let shows = shown-code ws whole o l d c in
-      let shown : valueOf (getD values (placeOf (operandOf (getD ws 0 0) (getD ws (from + outputSize * o + nameSize) 0))) 0) ≡ outputValue x state (outputOf o) =
+      let shown : valueOf (getD values (placeOf (operandOf (getD ws 0 0) (getD ws
+      (from + outputSize * o + nameSize) 0))) 0) ≡ outputValue x state (outputOf o) =
       ap valueOf shows ∙ valueOf-code (outputValue x state (getD (decode ws .outputs) o d)) ∙ ap (outputValue x state) (decode-output ws o d l) in
       ap (λ (v : Value). pairText (nameAt ws (from + outputSize * o)) v []) shown
 
   show-ports : tab (portPiece ws from values) (getD ws 2 0) ≡ map (portText x state) (decode ws .outputs)
   unfolding decode
-  show-ports = tab-ext (portPiece ws from values) (λ o. portText x state (outputOf o)) (getD ws 2 0) port-is ∙ sym (map-tab (portText x state) outputOf (getD ws 2 0))
+  show-ports = tab-ext (portPiece ws from values) (λ o. portText x state (outputOf o)) (getD ws 2 0) port-is ∙ sym (map-tab
+      (portText x state) outputOf (getD ws 2 0))
 
   -- the line from what the places hold
   pub show-shown : showText ws values ≡ ascii "(show" ++ (joined (map (portText x state) (decode ws .outputs)) ++ ascii ")\n")
@@ -141,7 +143,8 @@ show-is ws whole {graph} {start} {values} {m} {count} {x} d s e r =
     let t : SettledIn (getD ws 1 0) graph start values count = rw e at r in
     let st : List Value = settled (decode ws) x in
     let found : stateIn (getD ws 1 0) values ≡ st = t .state ∙ settled-of d s in
-    let same : operandValue (inputsIn values) st ≡ operandValue x st = rw (t .inputs) (operands-same (inputsIn start) x (starting-inputs s) st st (λ j. refl)) in
+    let same : operandValue (inputsIn values) st ≡ operandValue x st = rw (t .inputs) (operands-same (inputsIn start) x
+    (starting-inputs s) st st (λ j. refl)) in
     show-shown ws whole (r .coded)
     ∙ ap (λ (f : Operand → Value). ascii "(show" ++ (joined (map (λ (o : Output). pairText (o .port) (f (o .node)) []) (decode ws .outputs)) ++ ascii ")\n"))
     (ap (operandValue (inputsIn values)) found ∙ same)

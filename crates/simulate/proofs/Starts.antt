@@ -100,7 +100,8 @@ module _ {x : List Value} {values : List ℕ} (s : Starting x values) (i v : ℕ
 
   coded-most : (p : ℕ) → getD after p 0 ≤ 2
   coded-most p =
-      ⊎-elim (λ e. let h : getD after p 0 ≡ v = ap (λ (q : ℕ). getD after q 0) e ∙ here′ in omega arith) (λ ne. rw (other p ne) (s .unsettled .coded .most p)) (eq-or-ne p (firstInput + i))
+      ⊎-elim (λ e. let h : getD after p 0 ≡ v = ap (λ (q : ℕ). getD after q 0) e ∙ here′ in omega arith) (λ ne. rw (other p ne)
+      (s .unsettled .coded .most p)) (eq-or-ne p (firstInput + i))
 
   given′ : (k : ℕ) → k < maxInputs → valueOf (getD after (firstInput + k) 0) ≡ getD (x ++ (valueOf v ∷ [])) k undefined
   given′ k l = ⊎-elim below (λ h. ⊎-elim at-it (above h) (eq-or-ne k i)) (lt-or-le k i)

@@ -78,7 +78,8 @@ module _ {m : ℕ} {graph : List ℕ} (start : List ℕ) (g : Graph m graph) whe
         let inputs : inputsIn values ≡ x = inputs-same values start (h .low) in
         e ∙ evaluated-at g (h .coded) j jl
         ∙ ap code
-        (ap (λ (f : Gate → Value). f (gateOf b j)) (evaluated-same (inputsIn values) x (λ i. ap (λ (l : List Value). getD l i undefined) inputs) (stateIn m values) (take j s) states)
+        (ap (λ (f : Gate → Value). f (gateOf b j)) (evaluated-same (inputsIn values) x (λ i. ap (λ
+        (l : List Value). getD l i undefined) inputs) (stateIn m values) (take j s) states)
         ∙ sym (getD-sweep b x j (rw (network-count m graph) jl)))
 
     pub sweeping-more : (r : ℕ) → r ≡ gateCode graph values j → Sweeping m graph start (set values (firstGate + j) r) (j + 1)

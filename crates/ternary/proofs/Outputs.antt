@@ -62,5 +62,6 @@ module _ (ws : List ℕ) (whole : isMalformed ws ≡ false) (o : ℕ) (l : o < g
       let parts = whole-parts ws whole in
       let p = placeOf (operandOf n word) in
       let there : operandValue (inputsIn values) (stateIn m values) (operandOf n word) ≡ valueOf (getD values p 0) =
-      rw (operandAt-word n word (parts .fewInputs) (omega (arith, whole-node ws whole o l, parts .fewInputs, parts .fewGates))) at (place-value m c p place-there) in
+      rw (operandAt-word n word (parts .fewInputs) (omega (arith, whole-node ws whole o l, parts .fewInputs, parts .fewGates))) at
+      (place-value m c p place-there) in
       sym (code-same (getD values p 0) (c .most p)) ∙ ap code (sym there) ∙ rw (decode-output ws o d l) refl

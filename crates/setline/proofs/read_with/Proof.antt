@@ -29,7 +29,8 @@ read-tables-requires c κs =
     let f = s .pre .0 .0 in (
       record {
         pairs = f .pairs;
-        for = tables-for (f .for) _ (p .fill-pairs .ensures (f .pairs) (pairs-at (f .for .is))) (i .before .before .inputs-of .ensures) (i .fill-inputs .ensures);
+        for = tables-for (f .for) _ (p .fill-pairs .ensures (f .pairs) (pairs-at (f .for .is)))
+            (i .before .before .inputs-of .ensures) (i .fill-inputs .ensures);
       },
       s .pre .0 .1,
     )

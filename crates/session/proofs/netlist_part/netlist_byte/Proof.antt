@@ -23,7 +23,8 @@ returns-2 c =
     let s = c .before .before .before .before .before in
     let x = s .args in
     λ line. turn-keeps (x .held) (x .fresh) (x .byte) (x .text .now) _ _ _ line _
-    (not-both (x .fresh) (eqb (x .byte) lf) (⊎-elim (λ p. inl (p .1 .left)) (λ q. inr (q .left)) (c .before .if1 .came))) (c .if3 .taken) (s .pre .1) (s .pre .4)
+    (not-both (x .fresh) (eqb (x .byte) lf) (⊎-elim (λ p. inl (p .1 .left)) (λ q. inr (q .left)) (c .before .if1 .came)))
+    (c .if3 .taken) (s .pre .1) (s .pre .4)
 
 returns-3 : tie.Need-returns-3
 returns-3 c =

@@ -34,7 +34,8 @@ spaced c = c .before .before .before .before
 
 byte-is : (c : tie.After-value-byte) → let a = start (asked (opened (named (spaced c)))) .args in
     c .value-byte .result ∷ []
-    ≡ valueText (valueOf (getD (a .values .now) (placeOf (operandOf (getD (a .words .now) 0 0) (getD (a .words .now) (a .from + outputSize * a .o + nameSize) 0))) 0))
+    ≡ valueText (valueOf (getD (a .values .now) (placeOf (operandOf (getD (a .words .now) 0 0) (getD (a .words .now)
+    (a .from + outputSize * a .o + nameSize) 0))) 0))
 byte-is c =
     let q = asked (opened (named (spaced c))) in
     rw (← q .before .inputs-of .ensures) (c .value-byte .ensures ∙ ap (λ (v : ℕ). valueText (valueOf v)) (q .shown-value .ensures))
@@ -57,8 +58,11 @@ put-name-requires : tie.Need-put-name-requires
 unfolding portPiece pairText
 put-name-requires c κs =
     let o = c .before .before .before in
-    let s = start (asked o) in
-    (omega (arith, s .pre .0 .below, ports-near (s .args .words .now) (s .pre .0 .whole) (s .pre .0 .start)), short-first _ (short-rest {xs = ascii " ("} _ (s .pre .1) (o .put-all .ensures)))
+    let s = start (asked o) in (
+      omega (arith, s .pre .0 .below, ports-near (s .args .words .now) (s .pre .0 .whole) (s .pre .0 .start)),
+      short-first _
+          (short-rest {xs = ascii " ("} _ (s .pre .1) (o .put-all .ensures)),
+    )
 
 put-requires : tie.Need-put-requires
 unfolding portPiece pairText

@@ -15,7 +15,8 @@ returns c =
     let t = c .before .before .before .before .before in
     let s = t .before .before .before .before .before in
     λ x starting.
-    rw (show-is (s .args .words .now) (s .pre .0 .whole) (s .pre .0 .prepared .decoded) starting (t .before .before .gates-of .ensures) (t .settle-prepared .ensures))
+    rw (show-is (s .args .words .now) (s .pre .0 .whole) (s .pre .0 .prepared .decoded) starting
+    (t .before .before .gates-of .ensures) (t .settle-prepared .ensures))
     at (c .before .before .show-settled .ensures)
 
 pub show-spec : {M : Type 1} → statement M

@@ -38,8 +38,11 @@ loop-again c =
     let i = l .loop .i in
     let long : length (map valueOf (tab f i)) ≡ i = length-map (tab f i) valueOf ∙ length-tab f i in
     let more : map valueOf (tab f (i + 1)) ≡ map valueOf (tab f i) ++ (valueOf (f i) ∷ []) =
-    rw add-one (map-append valueOf (tab f i) (f i ∷ [])) in
-    (omega arith, rw (more, c .input-byte .ensures) (starting-more (l .loop .inv .1) i (f i) long (omega (arith, s .pre .0)) (byte-most (s .args .fixed) (s .args .ones) i)))
+    rw add-one (map-append valueOf (tab f i) (f i ∷ [])) in (
+      omega arith,
+      rw (more, c .input-byte .ensures) (starting-more (l .loop .inv .1) i (f i) long (omega (arith, s .pre .0))
+          (byte-most (s .args .fixed) (s .args .ones) i)),
+    )
 
 returns : tie.Need-returns Inv-loop μ-loop
 unfolding settingBytes

@@ -39,7 +39,8 @@ returns c =
     let v = t .before .before .before .before in
     let r = ready (put v) in
     let a = start r .args in
-    settled-bytes (now (a .setting)) (now (a .out)) (r .prepare .ensures .decoded) (put v .put-setting .ensures) _ (v .before .before .before .before .gates-of .ensures)
+    settled-bytes (now (a .setting)) (now (a .out)) (r .prepare .ensures .decoded) (put v .put-setting .ensures) _
+    (v .before .before .before .before .gates-of .ensures)
     (t .before .before .before .settle-prepared .ensures) (t .take-gates .ensures)
 
 pub settle-into-spec : {M : Type 1} → statement M

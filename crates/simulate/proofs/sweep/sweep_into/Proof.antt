@@ -26,7 +26,8 @@ returns c =
     let p = m .before in
     let d = p .before .before in
     let a = d .before .before .before .before .before .before .args in (
-      swept-bytes (now (a .words)) (now (a .setting)) (now (a .out)) (d .decode-gates .ensures) (p .put-setting .ensures) _ (m .gates-of .ensures) (w .sweep-gates .ensures)
+      swept-bytes (now (a .words)) (now (a .setting)) (now (a .out)) (d .decode-gates .ensures) (p .put-setting .ensures) _
+          (m .gates-of .ensures) (w .sweep-gates .ensures)
           (t .take-gates .ensures),
       m .gates-of .ensures,
     )

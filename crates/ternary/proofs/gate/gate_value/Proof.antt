@@ -41,7 +41,8 @@ returns c =
     let k = kind-last kind (s .pre .1 .0 .kind) in
     let fits : arityFits kind (length vs) ≡ true = rw (length-tab v count) (s .pre .1 .0 .count) in
     rw (s .pre .0)
-    (table-at _ (omega (arith, o .before .before .before .operand-code .ensures .1, o .before .before .operand-code2 .ensures .1, o .before .operand-code3 .ensures .1, o .operand-code4 .ensures .1))
+    (table-at _ (omega
+    (arith, o .before .before .before .operand-code .ensures .1, o .before .before .operand-code2 .ensures .1, o .before .operand-code3 .ensures .1, o .operand-code4 .ensures .1))
     ∙ rw (o .before .before .before .operand-code .ensures .0, o .before .before .operand-code2 .ensures .0, o .before .operand-code3 .ensures .0, o .operand-code4 .ensures .0)
     (gate-entry kind vs k fits))
 
