@@ -239,7 +239,8 @@ gate-place p k h =
     (λ ne. ⊎-elim
     (λ e. absurd (let z : constant true ≡ gate k = sym (rw e refl) ∙ h in let w : _≡_ {A = ℕ} 0 1 = cc in omega arith))
     (λ nf. ⊎-elim
-    (λ l. absurd (let z : input (p - firstInput) ≡ gate k = rw (ne-eqb p 0 ne, ne-eqb p 1 nf, lt-ltb p firstGate l) at h in let w : _≡_ {A = ℕ} 0 1 = cc in omega arith))
+    (λ l. absurd (let z : input (p - firstInput) ≡ gate k = rw
+    (ne-eqb p 0 ne, ne-eqb p 1 nf, lt-ltb p firstGate l) at h in let w : _≡_ {A = ℕ} 0 1 = cc in omega arith))
     (λ l. let z : gate (p - firstGate) ≡ gate k = rw (ne-eqb p 0 ne, ne-eqb p 1 nf, le-ltb p firstGate l) at h in let w : p - firstGate ≡ k = cc in omega arith)
     (lt-or-le p firstGate))
     (eq-or-ne p 1))

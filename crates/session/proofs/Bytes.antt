@@ -30,8 +30,8 @@ module _ (r : Run) (piece : List ℕ) (n : ℕ) (l : n < length piece) where
 
 -- ---- a piece, byte after byte
 
-pub at-start : {state : State} {text words line out : List ℕ} (piece : List ℕ) → SessionReady state text words line out
-    → Progressed (runOf state text words line) piece state text words line out 0 0
+pub at-start : {state : State} {text words graph fanout line out : List ℕ} (piece : List ℕ) → SessionReady state text words graph fanout line out
+    → Progressed (runOf state text words line) piece state text words graph fanout line out 0 0
 unfolding after outputs
 at-start {out = out} piece h = record { ready = h; within = omega arith; next = refl; output = nothing-written out }
 
@@ -39,11 +39,11 @@ no-bytes : (l : List ℕ) → 0 ≡ length l → l ≡ []
 no-bytes [] e = refl
 no-bytes (x ∷ l) e = absurd (omega arith)
 
-module _ {r : Run} {piece : List ℕ} {state : State} {text words line out : List ℕ} {taken written : ℕ}
-    (p : Progressed r piece state text words line out taken written) where
-  pub one-byte : {s : State} {t w l o : List ℕ} {n : ℕ} → taken < length piece → written ≡ 0
-      → SessionStepped (turn (runOf state text words line) (getD piece taken 0)) s t w l o n → SessionRoom t w l o
-      → Progressed r piece s t w l o (taken + 1) n
+module _ {r : Run} {piece : List ℕ} {state : State} {text words graph fanout line out : List ℕ} {taken written : ℕ}
+    (p : Progressed r piece state text words graph fanout line out taken written) where
+  pub one-byte : {s : State} {t w g f l o : List ℕ} {n : ℕ} → taken < length piece → written ≡ 0
+      → SessionStepped (turn (runOf state text words line) (getD piece taken 0)) s t w g f l o n → SessionRoom t w l o
+      → Progressed r piece s t w g f l o (taken + 1) n
   one-byte {n = n} more none h room =
       let c = getD piece taken 0 in
       let e : outputs r (take taken piece) ≡ [] = no-bytes _ (sym none ∙ p .output .countIs) in
@@ -56,9 +56,9 @@ module _ {r : Run} {piece : List ℕ} {state : State} {text words line out : Lis
         output = rw f (h .output);
       }
 
-  pub fed : (length piece ≤ taken) ⊎ (written ≡ 0 → ⊥) → Advanced r piece state text words line out taken written
+  pub fed : (length piece ≤ taken) ⊎ (written ≡ 0 → ⊥) → Advanced r piece state text words graph fanout line out taken written
   unfolding outputs
-  fed end = record { progress = p; moves = λ some. moved end some (lt-or-le 0 taken) }
+  fed end = record { progress = p; moves = λ some. moved end some (lt-or-le 0 taken); stops = end }
     where
       moved : (length piece ≤ taken) ⊎ (written ≡ 0 → ⊥) → 0 < length piece → (0 < taken) ⊎ (taken ≤ 0) → 0 < taken
       moved end some (inl l) = l

@@ -23,12 +23,13 @@ use Rattle.netlist.specs.Program.{shown}
 use Rattle.netlist.specs.Bench.{lineAnswer, lineAnswers, lastLine, benchAfter}
 use Rattle.runs.specs.Runs.{heldBytes, inNetlist, inLines, opened, turn, ending}
 use Rattle.runs.proofs.Whole.{read-whole}
+use Rattle.simulate.specs.Rounded.{PreparedFor}
 use Rattle.telling.specs.Shown.{Shown}
 use Rattle.telling.proofs.Told.{Gave, told-refused, told-done, gave-within}
 use Rattle.telling.proofs.Sizes.{read-fits}
 use Rattle.session.specs.declared.State.{State}
 use Rattle.session.specs.declared.State.the-variants.{Netlist, Lines, Ended}
-use Rattle.session.specs.Session.{runOf, Sound, SessionReady, TextHeld, LineRoom, AnswerWritten, SessionStepped}
+use Rattle.session.specs.Session.{runOf, Unprepared, Sound, SessionReady, TextHeld, LineRoom, AnswerWritten, SessionStepped}
 use Rattle.session.proofs.Answers.{shown-written, nothing-written}
 
 -- ---- the end of the netlist
@@ -42,20 +43,25 @@ module _ (t entry exit : List ℕ) (room : maxBlock ≤ length entry) (a : Answe
   unfolding read
   is-done count detail e = told-done (readText t) a entry exit (read-fits (length entry) room t) p count detail e
 
-  pub read-refused : (why : Refusal) → a ≡ Refused why → (text line out final : List ℕ) (n : ℕ) → Shown (refused why) out final n
-      → SessionStepped (opened (readText t)) Ended text exit line final n
+  pub read-refused : (why : Refusal) → a ≡ Refused why → (text graph fanout line out final : List ℕ) (n : ℕ) → Shown (refused why) out final n
+      → SessionStepped (opened (readText t)) Ended text exit graph fanout line final n
   unfolding opened runOf Sound shown
-  read-refused why e text line out final n s =
+  read-refused why e text graph fanout line out final n s =
       rw (is-refused why e) (record { sound = tt; next = refl; output = shown-written s })
 
-  pub read-done : (count detail : ℕ) → a ≡ Done count detail → (text line out : List ℕ)
-      → SessionStepped (opened (readText t)) (Lines count 0) text exit line out 0
+  -- the block that was read is not malformed
+  pub read-legal : (count detail : ℕ) → a ≡ Done count detail → (count ≤ length exit) × (isMalformed (take count exit) ≡ false)
+  read-legal count detail e =
+      let g = is-done count detail e in (gave-within g, rw (g .front) (read-whole t (g .result) count detail (g .is)))
+
+  pub read-done : (count detail : ℕ) → a ≡ Done count detail → (text graph fanout line out : List ℕ) → PreparedFor (take count exit) graph fanout
+      → SessionStepped (opened (readText t)) (Lines count 0) text exit graph fanout line out 0
   unfolding opened runOf Sound
-  read-done count detail e text line out =
+  read-done count detail e text graph fanout line out prepared =
       let g = is-done count detail e in
       rw (g .is)
       (record {
-        sound = (omega arith, gave-within g, rw (g .front) (read-whole t (g .result) count detail (g .is)));
+        sound = (omega arith, read-legal count detail e .0, read-legal count detail e .1, prepared);
         next = ap (λ (ws : List ℕ). inLines ws []) (g .front);
         output = nothing-written out;
       })
@@ -68,24 +74,24 @@ opened-ends (refused r) = refl
 
 -- ---- a byte of the netlist
 
-module _ (kept : ℕ) (fresh : Bool) (c : ℕ) (text words line out : List ℕ) where
-  pub turn-opens : {state : State} {text′ words′ line′ out′ : List ℕ} {n : ℕ} → fresh && eqb c lf ≡ true
-      → SessionStepped (opened (readText (take kept text))) state text′ words′ line′ out′ n
-      → SessionStepped (turn (inNetlist fresh (take kept text)) c) state text′ words′ line′ out′ n
+module _ (kept : ℕ) (fresh : Bool) (c : ℕ) (text words graph fanout line out : List ℕ) where
+  pub turn-opens : {state : State} {text′ words′ graph′ fanout′ line′ out′ : List ℕ} {n : ℕ} → fresh && eqb c lf ≡ true
+      → SessionStepped (opened (readText (take kept text))) state text′ words′ graph′ fanout′ line′ out′ n
+      → SessionStepped (turn (inNetlist fresh (take kept text)) c) state text′ words′ graph′ fanout′ line′ out′ n
   unfolding turn
   turn-opens e s = rw e s
 
-  pub turn-keeps : fresh && eqb c lf ≡ false → kept < maxText → maxText ≤ length text
-      → SessionStepped (turn (inNetlist fresh (take kept text)) c) (Netlist (kept + 1) (eqb c lf)) (set text kept c) words line out 0
+  pub turn-keeps : fresh && eqb c lf ≡ false → kept < maxText → maxText ≤ length text → Unprepared graph fanout
+      → SessionStepped (turn (inNetlist fresh (take kept text)) c) (Netlist (kept + 1) (eqb c lf)) (set text kept c) words graph fanout line out 0
   unfolding turn runOf Sound
-  turn-keeps e l room =
+  turn-keeps e l room bare =
       let m : length (take kept text) ≡ kept = length-take-le kept text (omega arith) in
       let f : take (kept + 1) (set text kept c) ≡ take kept text ++ (c ∷ []) = rw add-one (take-suc-set text kept c (omega arith)) in
       rw (e, m, lt-ltb kept maxText l)
-      (record { sound = omega arith; next = ap (inNetlist (eqb c lf)) f; output = nothing-written out })
+      (record { sound = (omega arith, bare); next = ap (inNetlist (eqb c lf)) f; output = nothing-written out })
 
   pub turn-too-long : {final : List ℕ} {n : ℕ} → fresh && eqb c lf ≡ false → maxText ≤ kept → kept ≤ length text → Shown (refused TextTooLong) out final n
-      → SessionStepped (turn (inNetlist fresh (take kept text)) c) Ended text words line final n
+      → SessionStepped (turn (inNetlist fresh (take kept text)) c) Ended text words graph fanout line final n
   unfolding turn runOf Sound shown
   turn-too-long e l room s =
       let m : length (take kept text) ≡ kept = length-take-le kept text room in
@@ -119,23 +125,24 @@ module _ (kept c : ℕ) (line : List ℕ) (few : kept ≤ heldBytes) (room : hel
       }
 
 module _ (count kept c : ℕ) (words line line′ : List ℕ) (r : ℕ) (h : TextHeld (take kept line) c line′ r)
-    (there : count ≤ length words) (whole : isMalformed (take count words) ≡ false) where
+    (there : count ≤ length words) (whole : isMalformed (take count words) ≡ false) {graph fanout : List ℕ}
+    (prepared : PreparedFor (take count words) graph fanout) where
   pub turn-holds : (text out : List ℕ) → eqb c lf ≡ false
-      → SessionStepped (turn (inLines (take count words) (take kept line)) c) (Lines count r) text words line′ out 0
+      → SessionStepped (turn (inLines (take count words) (take kept line)) c) (Lines count r) text words graph fanout line′ out 0
   unfolding turn runOf Sound
   turn-holds text out e =
       rw e (record {
-        sound = (h .few, there, whole);
+        sound = (h .few, there, whole, prepared);
         next = ap (inLines (take count words)) (h .bytesAre);
         output = nothing-written out;
       })
 
   pub turn-answers : (text out : List ℕ) (n : ℕ) → eqb c lf ≡ true → AnswerWritten (lineAnswer (decode (take count words)) (take r line′)) out n
-      → SessionStepped (turn (inLines (take count words) (take kept line)) c) (Lines count 0) text words line′ out n
+      → SessionStepped (turn (inLines (take count words) (take kept line)) c) (Lines count 0) text words graph fanout line′ out n
   unfolding turn runOf Sound
   turn-answers text out n e w =
       rw e (record {
-        sound = (omega arith, there, whole);
+        sound = (omega arith, there, whole, prepared);
         next = refl;
         output = rw (h .bytesAre) at w;
       })
@@ -155,19 +162,21 @@ last-line ws (c ∷ line) out n l w = rw (append-nil (lineAnswer (decode ws) (c 
 -- ---- the state's case
 
 module _ {state : State} (text words line : List ℕ) where
-  pub netlist-step : (c : ℕ) {kept : ℕ} {fresh : Bool} {s : State} {t w l o : List ℕ} {n : ℕ} → state ≡ Netlist kept fresh
-      → SessionStepped (turn (inNetlist fresh (take kept text)) c) s t w l o n → SessionStepped (turn (runOf state text words line) c) s t w l o n
+  pub netlist-step : (c : ℕ) {kept : ℕ} {fresh : Bool} {s : State} {t w g f l o : List ℕ} {n : ℕ} → state ≡ Netlist kept fresh
+      → SessionStepped (turn (inNetlist fresh (take kept text)) c) s t w g f l o n → SessionStepped (turn (runOf state text words line) c) s t w g f l o n
   unfolding runOf
   netlist-step c e h = rw e h
 
-  pub line-step : (c : ℕ) {count kept : ℕ} {s : State} {t w l o : List ℕ} {n : ℕ} → state ≡ Lines count kept
-      → SessionStepped (turn (inLines (take count words) (take kept line)) c) s t w l o n → SessionStepped (turn (runOf state text words line) c) s t w l o n
+  pub line-step : (c : ℕ) {count kept : ℕ} {s : State} {t w g f l o : List ℕ} {n : ℕ} → state ≡ Lines count kept
+      → SessionStepped (turn (inLines (take count words) (take kept line)) c) s t w g f l o n → SessionStepped (turn
+      (runOf state text words line) c) s t w g f l o n
   unfolding runOf
   line-step c e h = rw e h
 
-  pub over-step : (c : ℕ) (out : List ℕ) → state ≡ Ended → SessionStepped (turn (runOf state text words line) c) Ended text words line out 0
+  pub over-step : (c : ℕ) (graph fanout out : List ℕ) → state ≡ Ended → SessionStepped (turn
+      (runOf state text words line) c) Ended text words graph fanout line out 0
   unfolding runOf turn Sound
-  over-step c out e = rw e (record { sound = tt; next = refl; output = nothing-written out })
+  over-step c graph fanout out e = rw e (record { sound = tt; next = refl; output = nothing-written out })
 
   pub netlist-ending : {kept : ℕ} {fresh : Bool} {out : List ℕ} {n : ℕ} → state ≡ Netlist kept fresh
       → AnswerWritten (benchAfter (readText (take kept text)) []) out n → AnswerWritten (ending (runOf state text words line)) out n
@@ -183,16 +192,16 @@ module _ {state : State} (text words line : List ℕ) where
   unfolding runOf ending
   over-ending out e = rw e (nothing-written out)
 
-module _ {state : State} {text words line out : List ℕ} (h : SessionReady state text words line out) where
-  pub netlist-ready : {kept : ℕ} {fresh : Bool} → state ≡ Netlist kept fresh → kept ≤ maxText
+module _ {state : State} {text words graph fanout line out : List ℕ} (h : SessionReady state text words graph fanout line out) where
+  pub netlist-ready : {kept : ℕ} {fresh : Bool} → state ≡ Netlist kept fresh → (kept ≤ maxText) × Unprepared graph fanout
   unfolding Sound
   netlist-ready e = rw e at (h .sound)
 
-  pub line-ready : {count kept : ℕ} → state ≡ Lines count kept → LineRoom count kept words line out
+  pub line-ready : {count kept : ℕ} → state ≡ Lines count kept → LineRoom count kept words graph fanout line out
   unfolding Sound
   line-ready {count} {kept} e =
-      let s : Sound (Lines count kept) words = rw e at (h .sound) in
-      record { wordsThere = s .1; whole = s .2; few = s .0; lineRoom = h .room .lineRoom; outRoom = h .room .outRoom }
+      let s : Sound (Lines count kept) words graph fanout = rw e at (h .sound) in
+      record { wordsThere = s .1; whole = s .2; prepared = s .3; few = s .0; lineRoom = h .room .lineRoom; outRoom = h .room .outRoom }
 
 -- neither is both
 pub not-both : (a b : Bool) → (b ≡ false) ⊎ (a ≡ false) → a && b ≡ false

@@ -2,11 +2,15 @@
 -- crates/runs, which is the bench. Assumes nothing.
 use Prim.Native.Nat.{ℕ, _+_, _*_, _≤_, _<_}
 use mathlib.Core.Path.{_≡_}
-use mathlib.Core.Bool.{false}
+use mathlib.Core.Bool.{Bool, true, false}
+use mathlib.Core.Logic.{_⊎_}
 use mathlib.Core.List.{List}
 use lib.ListN.{length, take}
 use Rattle.netlist.specs.Limits.{maxText, maxOutputs, maxName, maxBlock}
 use Rattle.netlist.specs.StoredBlock.{isMalformed}
+use Rattle.graph.specs.Graph.{graphSize}
+use Rattle.graph.specs.Fanout.{Empty}
+use Rattle.simulate.specs.Rounded.{PreparedFor}
 use Rattle.runs.specs.Runs.{heldBytes, Run, inNetlist, inLines, over, Turn, start, heldFront, after, outputs}
 use Rattle.session.specs.declared.State.{State}
 use Rattle.session.specs.declared.State.the-variants.{Netlist, Lines, Ended}
@@ -21,11 +25,23 @@ runOf (Netlist kept fresh) text words line = inNetlist fresh (take kept text)
 runOf (Lines count kept) text words line = inLines (take count words) (take kept line)
 runOf Ended text words line = over
 
--- what is held is there, and the block is not torn
-unfoldable pub Sound : State → List ℕ → Type 0
-Sound (Netlist kept fresh) words = kept ≤ maxText
-Sound (Lines count kept) words = (kept ≤ heldBytes) × (count ≤ length words) × (isMalformed (take count words) ≡ false)
-Sound Ended words = Unit {0}
+-- arrays for a graph and its fan-out, as they are before a block is read
+pub record Unprepared (graph fanout : List ℕ) : Type 0 where
+  pub long : length graph ≡ graphSize
+  pub empty : Empty fanout
+
+-- what is held is there, and the block is not malformed and prepared
+unfoldable pub Sound : State → List ℕ → List ℕ → List ℕ → Type 0
+Sound (Netlist kept fresh) words graph fanout = (kept ≤ maxText) × Unprepared graph fanout
+Sound (Lines count kept) words graph fanout =
+    (kept ≤ heldBytes) × (count ≤ length words) × (isMalformed (take count words) ≡ false) × PreparedFor (take count words) graph fanout
+Sound Ended words graph fanout = Unit {0}
+
+-- behind a refused netlist
+unfoldable pub hasEnded : State → Bool
+hasEnded (Netlist kept fresh) = false
+hasEnded (Lines count kept) = false
+hasEnded Ended = true
 
 -- the buffers are long enough
 pub record SessionRoom (text words line out : List ℕ) : Type 0 where
@@ -35,13 +51,13 @@ pub record SessionRoom (text words line out : List ℕ) : Type 0 where
   pub outRoom : maxAnswer ≤ length out
 
 -- What every step keeps.
-pub record SessionReady (state : State) (text words line out : List ℕ) : Type 0 where
+pub record SessionReady (state : State) (text words graph fanout line out : List ℕ) : Type 0 where
   pub room : SessionRoom text words line out
-  pub sound : Sound state words
+  pub sound : Sound state words graph fanout
 
 -- the first state: ready in all buffers that are long enough, and at the start of the run
 pub record Fresh (state : State) : Type 0 where
-  pub isSound : (words : List ℕ) → Sound state words
+  pub isSound : (words graph fanout : List ℕ) → Unprepared graph fanout → Sound state words graph fanout
   pub isStart : (text words line : List ℕ) → runOf state text words line ≡ start
 
 -- `written` bytes in front of `out` are this output
@@ -51,22 +67,24 @@ pub record AnswerWritten (output out : List ℕ) (written : ℕ) : Type 0 where
   pub bytesAre : take written out ≡ output
 
 -- one byte: the next state stands for the turn's next run, and its output is written
-pub record SessionStepped (t : Turn) (state : State) (text words line out : List ℕ) (written : ℕ) : Type 0 where
-  pub sound : Sound state words
+pub record SessionStepped (t : Turn) (state : State) (text words graph fanout line out : List ℕ) (written : ℕ) : Type 0 where
+  pub sound : Sound state words graph fanout
   pub next : runOf state text words line ≡ t .next
   pub output : AnswerWritten (t .output) out written
 
 -- What was taken of a piece led the run from `r` to where the state stands, and the answers to it are written.
-pub record Progressed (r : Run) (piece : List ℕ) (state : State) (text words line out : List ℕ) (taken written : ℕ) : Type 0 where
-  pub ready : SessionReady state text words line out
+pub record Progressed (r : Run) (piece : List ℕ) (state : State) (text words graph fanout line out : List ℕ) (taken written : ℕ) : Type 0 where
+  pub ready : SessionReady state text words graph fanout line out
   pub within : taken ≤ length piece
   pub next : runOf state text words line ≡ after r (take taken piece)
   pub output : AnswerWritten (outputs r (take taken piece)) out written
 
--- The same, and something is taken of a piece that isn't empty.
-pub record Advanced (r : Run) (piece : List ℕ) (state : State) (text words line out : List ℕ) (taken written : ℕ) : Type 0 where
-  pub progress : Progressed r piece state text words line out taken written
+-- The same, and something is taken of a piece that isn't empty: all of it, or up to a byte that is answered. Left free: what stands in `out` behind the
+-- answer, in `text` and `line` behind the bytes that are held, and in `words` behind the block's.
+pub record Advanced (r : Run) (piece : List ℕ) (state : State) (text words graph fanout line out : List ℕ) (taken written : ℕ) : Type 0 where
+  pub progress : Progressed r piece state text words graph fanout line out taken written
   pub moves : 0 < length piece → 0 < taken
+  pub stops : (length piece ≤ taken) ⊎ (written ≡ 0 → ⊥)
 
 -- a line that holds these bytes, and a byte more as far as it is held
 pub record TextHeld (before : List ℕ) (c : ℕ) (line : List ℕ) (r : ℕ) : Type 0 where
@@ -75,9 +93,10 @@ pub record TextHeld (before : List ℕ) (c : ℕ) (line : List ℕ) (r : ℕ) : 
   pub within : r ≤ length line
 
 -- a block and a line that are held, and room for an answer
-pub record LineRoom (count kept : ℕ) (words line out : List ℕ) : Type 0 where
+pub record LineRoom (count kept : ℕ) (words graph fanout line out : List ℕ) : Type 0 where
   pub wordsThere : count ≤ length words
   pub whole : isMalformed (take count words) ≡ false
+  pub prepared : PreparedFor (take count words) graph fanout
   pub few : kept ≤ heldBytes
   pub lineRoom : heldBytes ≤ length line
   pub outRoom : maxAnswer ≤ length out

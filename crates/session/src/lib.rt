@@ -1,6 +1,9 @@
 // The bench in pieces of its input: the state goes in by value and comes back, the buffers are lent. `start` gives the first state, `feed`
-// takes a piece of input up to the first answer in it, `finish` answers what is left at the input's end. Whatever the pieces, what is
+// takes a piece of input up to the first answer in it, `finish` answers what is left at the input's end. A block is tested and prepared once, when it
+// is read: `graph` and `fanout` are room for what is prepared. Whatever the pieces, what is
 // written is the bench's output (`pieces-bench` in crates/runs).
+use graph::GRAPH_WORDS;
+use graph::fanout::FANOUT_WORDS;
 use layout::limits::MAX_INPUTS;
 use layout::limits::MAX_NAME;
 use layout::limits::MAX_OUTPUTS;
@@ -8,9 +11,10 @@ use netlist_part::end_netlist;
 use netlist_part::netlist_byte;
 use set_lines::end_line;
 use set_lines::line_byte;
+ghost use mathlib.Core.Path.{_≡_};
 ghost use lib.ListN.{length};
 ghost use Rattle.runs.specs.Runs.{turn, ending};
-ghost use Rattle.session.specs.Session.{runOf, SessionReady, Fresh, AnswerWritten, SessionStepped, Advanced};
+ghost use Rattle.session.specs.Session.{runOf, hasEnded, SessionReady, Fresh, AnswerWritten, SessionStepped, Advanced};
 
 mod netlist_part;
 mod set_lines;
@@ -56,7 +60,9 @@ pub fn start() -> State
 }
 
 // Whether the run is over before its input ends: behind a refused netlist nothing is written any more.
-pub fn is_over(state: State) -> bool {
+pub fn is_over(state: State) -> bool
+    ensures { λ r. ⌜ r ≡ hasEnded state ⌝ }
+{
     if let State::Ended = state {
         true
     } else {
@@ -70,19 +76,23 @@ fn feed_byte(
     byte: u8,
     text: &mut [u8],
     words: &mut [u16],
+    graph: &mut [u16; GRAPH_WORDS],
+    fanout: &mut [u16; FANOUT_WORDS],
     line: &mut [u8],
     out: &mut [u8],
 ) -> Fed
-    requires { ⌜ SessionReady state (now text) (now words) (now line) (now out) ⌝ }
+    requires { ⌜ SessionReady state (now text) (now words) (now graph) (now fanout) (now line) (now out) ⌝ }
     ensures { λ r. ⌜ SessionStepped (turn (runOf state (now (text .entry)) (now (words .entry)) (now (line .entry))) byte) (r .state) (now (text .exit))
-        (now (words .exit)) (now (line .exit)) (now (out .exit)) (r .written) ⌝ }
+        (now (words .exit)) (now (graph .exit)) (now (fanout .exit)) (now (line .exit)) (now (out .exit)) (r .written) ⌝ }
 {
     match state {
-        State::Netlist { length, fresh } => netlist_byte(length, fresh, byte, text, words, out),
+        State::Netlist { length, fresh } => {
+            netlist_byte(length, fresh, byte, text, words, graph, fanout, out)
+        }
         State::Lines {
             words: count,
             length,
-        } => line_byte(count, length, byte, words, line, out),
+        } => line_byte(count, length, byte, words, graph, fanout, line, out),
         State::Ended => Fed {
             state: State::Ended,
             written: 0,
@@ -96,18 +106,20 @@ pub fn feed(
     piece: &[u8],
     text: &mut [u8],
     words: &mut [u16],
+    graph: &mut [u16; GRAPH_WORDS],
+    fanout: &mut [u16; FANOUT_WORDS],
     line: &mut [u8],
     out: &mut [u8],
 ) -> Progress
-    requires { ⌜ SessionReady state (now text) (now words) (now line) (now out) ⌝ }
+    requires { ⌜ SessionReady state (now text) (now words) (now graph) (now fanout) (now line) (now out) ⌝ }
     ensures { λ r. ⌜ Advanced (runOf state (now (text .entry)) (now (words .entry)) (now (line .entry))) (now (piece .entry)) (r .state)
-        (now (text .exit)) (now (words .exit)) (now (line .exit)) (now (out .exit)) (r .taken) (r .written) ⌝ }
+        (now (text .exit)) (now (words .exit)) (now (graph .exit)) (now (fanout .exit)) (now (line .exit)) (now (out .exit)) (r .taken) (r .written) ⌝ }
 {
     let mut state = state;
     let mut taken = 0;
     let mut written = 0;
     while taken < piece.len() && written == 0 {
-        let fed = feed_byte(state, piece[taken], text, words, line, out);
+        let fed = feed_byte(state, piece[taken], text, words, graph, fanout, line, out);
         state = fed.state;
         written = fed.written;
         taken += 1;
@@ -120,16 +132,24 @@ pub fn feed(
 }
 
 // The end of the input: the answer's bytes at the start of `out`, and how many they are.
-pub fn finish(state: State, text: &[u8], words: &mut [u16], line: &[u8], out: &mut [u8]) -> usize
-    requires { ⌜ SessionReady state (now text) (now words) (now line) (now out) ⌝ }
+pub fn finish(
+    state: State,
+    text: &[u8],
+    words: &mut [u16],
+    graph: &mut [u16; GRAPH_WORDS],
+    fanout: &mut [u16; FANOUT_WORDS],
+    line: &[u8],
+    out: &mut [u8],
+) -> usize
+    requires { ⌜ SessionReady state (now text) (now words) (now graph) (now fanout) (now line) (now out) ⌝ }
     ensures { λ r. ⌜ AnswerWritten (ending (runOf state (now (text .entry)) (now (words .entry)) (now (line .entry)))) (now (out .exit)) r ⌝ }
 {
     match state {
-        State::Netlist { length, fresh: _ } => end_netlist(length, text, words, out),
+        State::Netlist { length, fresh: _ } => end_netlist(length, text, words, graph, fanout, out),
         State::Lines {
             words: count,
             length,
-        } => end_line(count, length, words, line, out),
+        } => end_line(count, length, words, graph, fanout, line, out),
         State::Ended => 0,
     }
 }

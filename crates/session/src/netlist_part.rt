@@ -1,10 +1,13 @@
 // The netlist part of the bench's input: its bytes are held until an empty line ends it, and then the block is read.
 use crate::Fed;
 use crate::State;
+use graph::GRAPH_WORDS;
+use graph::fanout::FANOUT_WORDS;
 use layout::limits::MAX_TEXT;
 use netlist::Answer;
 use netlist::Refusal;
 use reading::read;
+use simulate::round::prepare;
 use telling::tell;
 ghost use mathlib.Core.List.{List, []};
 ghost use Prim.Native.Nat.{ℕ, _≤_};
@@ -13,14 +16,21 @@ ghost use Rattle.netlist.specs.Limits.{maxText, maxBlock};
 ghost use Rattle.netlist.specs.Operations.{readText};
 ghost use Rattle.netlist.specs.Bench.{benchAfter};
 ghost use Rattle.runs.specs.Runs.{inNetlist, opened, turn};
-ghost use Rattle.session.specs.Session.{maxAnswer, SessionStepped, AnswerWritten};
+ghost use Rattle.session.specs.Session.{maxAnswer, Unprepared, SessionStepped, AnswerWritten};
 
-// Reads the block; a refusal ends the run.
-fn open(held: usize, text: &[u8], words: &mut [u16], out: &mut [u8]) -> Fed
-    requires { ⌜ (held ≤ length (now text)) × (maxBlock ≤ length (now words)) × (maxAnswer ≤ length (now out)) ⌝ }
+// Reads the block, and prepares it; a refusal ends the run.
+fn open(
+    held: usize,
+    text: &[u8],
+    words: &mut [u16],
+    graph: &mut [u16; GRAPH_WORDS],
+    fanout: &mut [u16; FANOUT_WORDS],
+    out: &mut [u8],
+) -> Fed
+    requires { ⌜ (held ≤ length (now text)) × (maxBlock ≤ length (now words)) × (maxAnswer ≤ length (now out)) × Unprepared (now graph) (now fanout) ⌝ }
     ensures { λ r. ⌜ ((line : List ℕ)
         → SessionStepped (opened (readText (take held (now (text .entry))))) (r .state) (now (text .entry))
-        (now (words .exit)) line (now (out .exit)) (r .written)) ⌝ }
+        (now (words .exit)) (now (graph .exit)) (now (fanout .exit)) line (now (out .exit)) (r .written)) ⌝ }
 {
     match read(&text[..held], words) {
         Answer::Refused(why) => {
@@ -30,13 +40,16 @@ fn open(held: usize, text: &[u8], words: &mut [u16], out: &mut [u8]) -> Fed
                 written,
             }
         }
-        Answer::Done { count, detail: _ } => Fed {
-            state: State::Lines {
-                words: count,
-                length: 0,
-            },
-            written: 0,
-        },
+        Answer::Done { count, detail: _ } => {
+            prepare(&words[..count], graph, fanout);
+            Fed {
+                state: State::Lines {
+                    words: count,
+                    length: 0,
+                },
+                written: 0,
+            }
+        }
     }
 }
 
@@ -47,15 +60,18 @@ pub fn netlist_byte(
     byte: u8,
     text: &mut [u8],
     words: &mut [u16],
+    graph: &mut [u16; GRAPH_WORDS],
+    fanout: &mut [u16; FANOUT_WORDS],
     out: &mut [u8],
 ) -> Fed
-    requires { ⌜ (held ≤ maxText) × (maxText ≤ length (now text)) × (maxBlock ≤ length (now words)) × (maxAnswer ≤ length (now out)) ⌝ }
+    requires { ⌜ (held ≤ maxText) × (maxText ≤ length (now text)) × (maxBlock ≤ length (now words)) × (maxAnswer ≤ length (now out))
+        × Unprepared (now graph) (now fanout) ⌝ }
     ensures { λ r. ⌜ ((line : List ℕ)
         → SessionStepped (turn (inNetlist fresh (take held (now (text .entry)))) byte) (r .state) (now (text .exit))
-        (now (words .exit)) line (now (out .exit)) (r .written)) ⌝ }
+        (now (words .exit)) (now (graph .exit)) (now (fanout .exit)) line (now (out .exit)) (r .written)) ⌝ }
 {
     if fresh && byte == b'\n' {
-        return open(held, text, words, out);
+        return open(held, text, words, graph, fanout, out);
     }
     if held < MAX_TEXT {
         text[held] = byte;
@@ -75,10 +91,17 @@ pub fn netlist_byte(
 }
 
 // The input ends in the netlist: a refusal is told, and a good netlist gives nothing.
-pub fn end_netlist(held: usize, text: &[u8], words: &mut [u16], out: &mut [u8]) -> usize
-    requires { ⌜ (held ≤ length (now text)) × (maxBlock ≤ length (now words)) × (maxAnswer ≤ length (now out)) ⌝ }
+pub fn end_netlist(
+    held: usize,
+    text: &[u8],
+    words: &mut [u16],
+    graph: &mut [u16; GRAPH_WORDS],
+    fanout: &mut [u16; FANOUT_WORDS],
+    out: &mut [u8],
+) -> usize
+    requires { ⌜ (held ≤ length (now text)) × (maxBlock ≤ length (now words)) × (maxAnswer ≤ length (now out)) × Unprepared (now graph) (now fanout) ⌝ }
     ensures { λ r. ⌜ AnswerWritten (benchAfter (readText (take held (now (text .entry)))) []) (now (out .exit)) r ⌝ }
 {
-    let fed = open(held, text, words, out);
+    let fed = open(held, text, words, graph, fanout, out);
     fed.written
 }

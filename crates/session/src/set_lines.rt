@@ -3,9 +3,12 @@
 use crate::Fed;
 use crate::LINE_BYTES;
 use crate::State;
+use graph::GRAPH_WORDS;
+use graph::fanout::FANOUT_WORDS;
 use netlist::Answer;
 use setline::answer_line;
 use telling::tell;
+use ternary::table::gate_table;
 ghost use mathlib.Core.Path.{_≡_};
 ghost use mathlib.Core.Bool.{false};
 ghost use mathlib.Core.List.{List};
@@ -13,15 +16,23 @@ ghost use Prim.Native.Nat.{ℕ, _≤_};
 ghost use lib.ListN.{length, take};
 ghost use Rattle.netlist.specs.StoredBlock.{isMalformed, decode};
 ghost use Rattle.netlist.specs.Bench.{lineAnswer, lineAnswers, lastLine};
+ghost use Rattle.simulate.specs.Rounded.{PreparedFor};
 ghost use Rattle.runs.specs.Runs.{heldBytes, inLines, turn};
 ghost use Rattle.session.specs.Session.{maxAnswer, TextHeld, LineRoom, SessionStepped, AnswerWritten};
 
 // The answer to a line.
-fn answer(words: &[u16], line: &[u8], out: &mut [u8]) -> usize
-    requires { ⌜ (isMalformed (now words) ≡ false) × (maxAnswer ≤ length (now out)) ⌝ }
+fn answer(
+    words: &[u16],
+    graph: &[u16; GRAPH_WORDS],
+    fanout: &[u16; FANOUT_WORDS],
+    line: &[u8],
+    out: &mut [u8],
+) -> usize
+    requires { ⌜ (isMalformed (now words) ≡ false) × PreparedFor (now words) (now graph) (now fanout) × (maxAnswer ≤ length (now out)) ⌝ }
     ensures { λ r. ⌜ AnswerWritten (lineAnswer (decode (now (words .entry))) (now (line .entry))) (now (out .exit)) r ⌝ }
 {
-    match answer_line(words, line, out) {
+    let table = gate_table();
+    match answer_line(words, &table, graph, fanout, line, out) {
         Answer::Refused(why) => tell(why, out),
         Answer::Done { count, detail: _ } => count,
     }
@@ -45,13 +56,15 @@ pub fn line_byte(
     held: usize,
     byte: u8,
     words: &[u16],
+    graph: &[u16; GRAPH_WORDS],
+    fanout: &[u16; FANOUT_WORDS],
     line: &mut [u8],
     out: &mut [u8],
 ) -> Fed
-    requires { ⌜ LineRoom count held (now words) (now line) (now out) ⌝ }
+    requires { ⌜ LineRoom count held (now words) (now graph) (now fanout) (now line) (now out) ⌝ }
     ensures { λ r. ⌜ ((text : List ℕ)
         → SessionStepped (turn (inLines (take count (now (words .entry))) (take held (now (line .entry)))) byte) (r .state) text
-        (now (words .entry)) (now (line .exit)) (now (out .exit)) (r .written)) ⌝ }
+        (now (words .entry)) (now (graph .entry)) (now (fanout .entry)) (now (line .exit)) (now (out .exit)) (r .written)) ⌝ }
 {
     let kept = hold(line, held, byte);
     if byte != b'\n' {
@@ -63,7 +76,7 @@ pub fn line_byte(
             written: 0,
         };
     }
-    let written = answer(&words[..count], &line[..kept], out);
+    let written = answer(&words[..count], graph, fanout, &line[..kept], out);
     Fed {
         state: State::Lines {
             words: count,
@@ -74,12 +87,20 @@ pub fn line_byte(
 }
 
 // The input ends in a line: it is answered unless it is empty.
-pub fn end_line(count: usize, held: usize, words: &[u16], line: &[u8], out: &mut [u8]) -> usize
-    requires { ⌜ LineRoom count held (now words) (now line) (now out) ⌝ }
+pub fn end_line(
+    count: usize,
+    held: usize,
+    words: &[u16],
+    graph: &[u16; GRAPH_WORDS],
+    fanout: &[u16; FANOUT_WORDS],
+    line: &[u8],
+    out: &mut [u8],
+) -> usize
+    requires { ⌜ LineRoom count held (now words) (now graph) (now fanout) (now line) (now out) ⌝ }
     ensures { λ r. ⌜ AnswerWritten (lineAnswers (decode (take count (now (words .entry)))) (lastLine (take held (now (line .entry))))) (now (out .exit)) r ⌝ }
 {
     if held == 0 {
         return 0;
     }
-    answer(&words[..count], &line[..held], out)
+    answer(&words[..count], graph, fanout, &line[..held], out)
 }

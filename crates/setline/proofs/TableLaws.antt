@@ -1,14 +1,17 @@
 -- The tables that the loops fill are those of the line's pairs and of the block's inputs. Assumes nothing.
 use Prim.Native.Nat.{ℕ, zero, suc, _+_, _*_, _≤_, _<_}
 use mathlib.Core.Path.{_≡_, refl, sym, ap, _∙_}
+use mathlib.Core.Logic.{⊎-elim}
 use mathlib.Core.Bool.{true, false, cond, _&&_}
 use mathlib.Core.List.{List, [], _∷_, map, append-nil}
 use native.Mathlib.Omega.{arith}
-use lib.ListN.{length, getD, take, length-map}
-use lib.Dec.{leb, eqb}
-use borrow.Author.Tests.{leb-true, ne-eqb}
+use lib.ListN.{length, getD, take, length-map, List·getD-eq-default}
+use lib.Seq.{getD-take}
+use lib.Dec.{leb, eqb, ltb}
+use borrow.Author.Tests.{leb-true, ne-eqb, lt-ltb, le-ltb}
 use Rattle.laws.specs.Lists.{ascii, all, tab, placed, trimmed, onto}
-use Rattle.laws.proofs.Tests.{and-left, and-right}
+use Rattle.laws.proofs.Tests.{lt-or-le, and-left, and-right}
+use Rattle.laws.proofs.Tab.{length-tab, getD-tab}
 use Rattle.laws.proofs.Quantifiers.{all-at}
 use Rattle.encoding.proofs.ListFacts.{tab-is, getD-map}
 use Rattle.encoding.proofs.Decoded.{decode-inputCount, decode-input}
@@ -16,7 +19,7 @@ use Rattle.encoding.proofs.Intact.{intact-wellFormed}
 use Rattle.encoding.proofs.Readers.{whole-intact}
 use Rattle.encoding.proofs.WellFormed.{WellFormed, wellFormed-parts}
 use Rattle.netlist.specs.Limits.{maxInputs}
-use Rattle.netlist.specs.Values.{valueOf}
+use Rattle.netlist.specs.Values.{code, val, valueOf}
 use Rattle.netlist.specs.Netlist.{Name}
 use Rattle.netlist.specs.StoredBlock.{nameSize, inputsAt, bytesAt, nameAt, decode, isMalformed}
 use Rattle.netlist.specs.Names.{isNameByte, isLetter, isDigit, isUnderscore}
@@ -24,7 +27,10 @@ use Rattle.netlist.specs.Syntax.{Pair, printPair, isLegalPair, printLines}
 use Rattle.netlist.specs.SetLine.{printSetLine, isLegalSetLine}
 use Rattle.netlist.specs.Bench.{givenValues}
 use Rattle.names.specs.Packed.{packed, nameFront}
-use Rattle.pairs.specs.PairBytes.{inputCode}
+use Rattle.rounds.proofs.Values.{code-le}
+use Rattle.names.specs.Search.{indexOf}
+use Rattle.simulate.specs.Rounded.{Bytes}
+use Rattle.pairs.specs.PairBytes.{givenCode, inputCode}
 use Rattle.pairs.specs.Tables.{PairsAt, PairRoom, PairsTabled, InputsAre}
 use Rattle.pairs.proofs.PairPlaces.{count-is}
 use Rattle.pairs.proofs.TableLaws.{taken, setting-given, plain-bytes}
@@ -129,7 +135,7 @@ tables-for {ws} {ps} {line} f {names} {places} {codes} {count} {n} inputs₀ {in
   inputsAre = inputs-filled ws (f .whole) inputs₀ (rw e at g);
 }
 
-pub pair-room : {ws line names places codes inputs setting : List ℕ} → InForm ws line → SetTableRoom names places codes inputs setting
+pub pair-room : {ws line names places codes inputs : List ℕ} → InForm ws line → SetTableRoom names places codes inputs
     → PairRoom line pairsAt names places codes
 pair-room {ws} {line} f r =
     let n = inputs-few ws (f .for .whole) in
@@ -143,3 +149,44 @@ pair-room {ws} {line} f r =
       placeRoom = omega (arith, n, k, c, r .placeRoom);
       codeRoom = omega (arith, n, k, c, r .codeRoom);
     }
+
+-- ---- the bytes of the setting that a line gives
+
+code-bounded : (ps : List Pair) (i : ℕ) → getD (map (λ (p : Pair). code (val (p .value))) ps) i 0 ≤ 2
+code-bounded [] i = omega arith
+code-bounded (p ∷ ps) zero = code-le (val (p .value))
+code-bounded (p ∷ ps) (suc i) = code-bounded ps i
+
+given-most : {ps : List Pair} {at count : ℕ} {names places codes : List ℕ} → PairsTabled ps at count names places codes → (name : ℕ)
+    → givenCode names codes count name ≤ 2
+unfolding givenCode
+given-most {ps} {at} {count} {names} {places} {codes} t name = ⊎-elim there past (lt-or-le (indexOf names count name) count)
+  where
+    i : ℕ
+    i = indexOf names count name
+
+    there : i < count → cond (ltb i count) (getD codes i 0) 2 ≤ 2
+    there l =
+        let few : i < length ps = omega (arith, t .counted) in
+        let is : getD codes i 0 ≡ getD (map (λ (p : Pair). code (val (p .value))) ps) i 0 =
+        sym (getD-take (length ps) codes i 0 few) ∙ ap (λ (s : List ℕ). getD s i 0) (t .codesAre .values) in
+        rw (lt-ltb i count l, is) (code-bounded ps i)
+
+    past : count ≤ i → cond (ltb i count) (getD codes i 0) 2 ≤ 2
+    past l = rw (le-ltb i count l) (omega arith)
+
+pub line-bytes : {ws : List ℕ} {ps : List Pair} {names places codes : List ℕ} {count : ℕ} {inputs : List ℕ}
+    → TablesFor ws ps names places codes count inputs → {n : ℕ} (setting₀ : List ℕ) {setting : List ℕ} → n ≡ getD ws 0 0
+    → setting ≡ placed (tab (inputCode names codes count inputs) n) setting₀ → Bytes (take n setting)
+unfolding inputCode
+line-bytes {ws} {ps} {names} {places} {codes} {count} {inputs} t {n} setting₀ {setting} e f =
+    let f′ = inputCode names codes count inputs in
+    let is : take n setting ≡ tab f′ n = ap (take n) f ∙ taken f′ n setting₀ in
+    rw is
+    (record {
+      few = rw (length-tab f′ n) (omega (arith, inputs-few ws (t .whole)));
+      most = λ i. ⊎-elim
+          (λ l. rw (getD-tab f′ n i 0 l) (given-most (t .tabled) (getD inputs i 0)))
+          (λ l. let long : length (tab f′ n) ≤ i = rw (length-tab f′ n) l in rw (List·getD-eq-default (tab f′ n) 0 long) (omega arith))
+          (lt-or-le i n);
+    })

@@ -2,13 +2,21 @@
 use Prim.Native.Nat.{ℕ, _+_, _*_, _≤_}
 use mathlib.Core.Path.{_≡_}
 use mathlib.Core.Bool.{true, false}
-use mathlib.Core.List.{List}
+use mathlib.Core.List.{List, []}
 use lib.ListN.{length, getD}
 use Rattle.laws.specs.Lists.{ascii, all}
 use Rattle.netlist.specs.Limits.{maxName, maxInputs}
+use Rattle.netlist.specs.declared.Refusal.the-variants.{DuplicateDeclaration, UndeclaredName}
+use Rattle.netlist.specs.Netlist.{Block}
+use Rattle.netlist.specs.Reading.{firstRepeat, firstOutside}
+use Rattle.netlist.specs.Bench.{givenNames, givenValues}
 use Rattle.netlist.specs.StoredBlock.{nameSize, inputsAt, bytesAt, decode, isMalformed}
 use Rattle.netlist.specs.Syntax.{Pair, isLegalPair}
 use Rattle.netlist.specs.SetLine.{printSetLine, isLegalSetLine}
+use Rattle.refusals.specs.declared.Test.{Test}
+use Rattle.refusals.specs.declared.Test.the-variants.{Passed, Failed}
+use Rattle.refusals.specs.Tests.{testAt}
+use Rattle.simulate.specs.Rounded.{Starting}
 use Rattle.names.specs.Packed.{packed, nameFront}
 use Rattle.pairs.specs.Tables.{PairsTabled, InputsAre}
 
@@ -38,12 +46,11 @@ pub record InForm (ws line : List ℕ) : Type 0 where
   pub pairs : List Pair
   pub for : LineFor ws pairs line
 
-pub record SetTableRoom (names places codes inputs setting : List ℕ) : Type 0 where
+pub record SetTableRoom (names places codes inputs : List ℕ) : Type 0 where
   pub nameRoom : maxInputs ≤ length names
   pub placeRoom : maxInputs ≤ length places
   pub codeRoom : maxInputs ≤ length codes
   pub inputRoom : maxInputs ≤ length inputs
-  pub settingRoom : maxInputs ≤ length setting
 
 -- the tables are those of these pairs and of the block's inputs
 pub record TablesFor (ws : List ℕ) (ps : List Pair) (names places codes : List ℕ) (count : ℕ) (inputs : List ℕ) : Type 0 where
@@ -53,7 +60,23 @@ pub record TablesFor (ws : List ℕ) (ps : List Pair) (names places codes : List
   pub tabled : PairsTabled ps pairsAt count names places codes
   pub inputsAre : InputsAre (decode ws .inputs) (getD ws 0 0) inputs
 
-pub record SetTablesReady (ws names places codes : List ℕ) (count : ℕ) (inputs setting : List ℕ) : Type 0 where
+pub record SetTablesReady (ws names places codes : List ℕ) (count : ℕ) (inputs : List ℕ) : Type 0 where
   pub pairs : List Pair
   pub for : TablesFor ws pairs names places codes count inputs
-  pub settingRoom : maxInputs ≤ length setting
+
+-- ---- what reading a line comes to
+
+-- a second test, unless the first fails
+unfoldable pub thenTest : Test → Test → Test
+thenTest Passed t = t
+thenTest (Failed why) t = Failed why
+
+-- 4 before 5
+unfoldable pub pairsTest : Block → List Pair → Test
+pairsTest b ps =
+    thenTest (testAt (firstRepeat [] (givenNames ps)) DuplicateDeclaration) (testAt (firstOutside (b .inputs) (givenNames ps)) UndeclaredName)
+
+-- where both pass, the inputs have what the line gives them
+pub record LineRead (ws : List ℕ) (ps : List Pair) (r : Test) (values : List ℕ) : Type 0 where
+  pub told : r ≡ pairsTest (decode ws) ps
+  pub given : r ≡ Passed → Starting (givenValues (decode ws) ps) values

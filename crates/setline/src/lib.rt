@@ -1,6 +1,8 @@
-// The answer to one line of the bench: the show line of a set line, or a refusal (6, 2, 4, 5, 11).
-use block::check_words;
+// The answer to one line of the bench, for a block that is prepared: the show line of a set line, or a refusal (2, 4, 5, 11).
 use form::pairs::test_set_line;
+use graph::GRAPH_WORDS;
+use graph::PLACES;
+use graph::fanout::FANOUT_WORDS;
 use inputs::fill_inputs;
 use layout::limits::MAX_INPUTS;
 use layout::offsets::inputs_of;
@@ -12,13 +14,16 @@ use pairs::tables::fill_pairs;
 use refusals::Test;
 use refusals::refusal;
 use show::show;
+use simulate::round::UNDEFINED;
+use simulate::values::put_setting;
 ghost use mathlib.Core.List.{List};
 ghost use lib.ListN.{length};
-ghost use Rattle.netlist.specs.StoredBlock.{decode};
-ghost use Rattle.netlist.specs.Answers.{inRoom, Promise};
+ghost use Rattle.netlist.specs.Answers.{Promise};
 ghost use Rattle.netlist.specs.Syntax.{Pair};
-ghost use Rattle.netlist.specs.Bench.{pairsOutcome, answerLine};
-ghost use Rattle.setline.specs.Tables.{LineFor, InForm, SetTableRoom, TablesFor, SetTablesReady};
+ghost use Rattle.netlist.specs.Bench.{answerLine};
+ghost use Rattle.simulate.specs.Rounded.{Blank};
+ghost use Rattle.setline.specs.Shown.{BlockReady};
+ghost use Rattle.setline.specs.Tables.{LineFor, InForm, SetTableRoom, TablesFor, SetTablesReady, LineRead};
 
 mod inputs;
 mod show;
@@ -26,90 +31,111 @@ mod show;
 // The bytes of `(set`, behind which the pairs stand.
 const PAIRS_AT: usize = 4;
 
-// 4 and 5, and then the show line under what the line gives the inputs.
-fn answer_tables(
+// 4 and 5, and then what the line gives the inputs, in an array of values where nothing has one.
+fn read_tables(
     words: &[u16],
     names: &[u64],
     places: &[usize],
     codes: &[u8],
     count: usize,
     inputs: &[u64],
-    setting: &mut [u8],
-    out: &mut [u8],
-) -> Answer
-    requires { ⌜ SetTablesReady (now words) (now names) (now places) (now codes) count (now inputs) (now setting) ⌝ }
+    values: &mut [u8; PLACES],
+) -> Test
+    requires { ⌜ SetTablesReady (now words) (now names) (now places) (now codes) count (now inputs) × Blank (now values) ⌝ }
     ensures { λ r. ⌜ ((ps : List Pair)
         → TablesFor (now (words .entry)) ps (now (names .entry)) (now (places .entry)) (now (codes .entry)) count (now (inputs .entry))
-        → Promise (inRoom (length (now (out .entry))) (pairsOutcome (decode (now (words .entry))) ps)) (now (out .entry)) r (now (out .exit))) ⌝ }
+        → LineRead (now (words .entry)) ps r (now (values .exit))) ⌝ }
 {
     let n = inputs_of(words);
     let tested = test_repeat(names, places, count);
     let Test::Passed = tested else {
-        return refusal(tested);
+        return tested;
     };
     let tested = test_outside(names, places, count, inputs, n);
     let Test::Passed = tested else {
-        return refusal(tested);
+        return tested;
     };
-    fill_setting(names, codes, count, inputs, n, setting);
-    show(words, &setting[..n], out)
+    let mut setting = [0u8; MAX_INPUTS];
+    fill_setting(names, codes, count, inputs, n, &mut setting);
+    put_setting(&setting[..n], values);
+    Test::Passed
 }
 
-// The tables, and then the tests and the line.
-fn answer_with(
+// The tables, and then the tests and the setting.
+fn read_with(
     words: &[u16],
     line: &[u8],
     names: &mut [u64],
     places: &mut [usize],
     codes: &mut [u8],
     inputs: &mut [u64],
-    setting: &mut [u8],
-    out: &mut [u8],
-) -> Answer
-    requires { ⌜ InForm (now words) (now line) ⌝ }
-    requires { ⌜ SetTableRoom (now names) (now places) (now codes) (now inputs) (now setting) ⌝ }
-    ensures { λ r. ⌜ ((ps : List Pair) → LineFor (now (words .entry)) ps (now (line .entry))
-        → Promise (inRoom (length (now (out .entry))) (pairsOutcome (decode (now (words .entry))) ps)) (now (out .entry)) r (now (out .exit))) ⌝ }
+    values: &mut [u8; PLACES],
+) -> Test
+    requires { ⌜ InForm (now words) (now line) × Blank (now values) ⌝ }
+    requires { ⌜ SetTableRoom (now names) (now places) (now codes) (now inputs) ⌝ }
+    ensures { λ r. ⌜ ((ps : List Pair) → LineFor (now (words .entry)) ps (now (line .entry)) → LineRead (now (words .entry)) ps r (now (values .exit))) ⌝ }
 {
     let count = fill_pairs(line, PAIRS_AT, names, places, codes);
     fill_inputs(words, inputs_of(words), inputs);
-    answer_tables(words, names, places, codes, count, inputs, setting, out)
+    read_tables(words, names, places, codes, count, inputs, values)
 }
 
 // A line in form: room for the tables of at most MAX_INPUTS pairs.
-fn answer_pairs(words: &[u16], line: &[u8], out: &mut [u8]) -> Answer
-    requires { ⌜ InForm (now words) (now line) ⌝ }
-    ensures { λ r. ⌜ ((ps : List Pair) → LineFor (now (words .entry)) ps (now (line .entry))
-        → Promise (inRoom (length (now (out .entry))) (pairsOutcome (decode (now (words .entry))) ps)) (now (out .entry)) r (now (out .exit))) ⌝ }
+fn read_pairs(words: &[u16], line: &[u8], values: &mut [u8; PLACES]) -> Test
+    requires { ⌜ InForm (now words) (now line) × Blank (now values) ⌝ }
+    ensures { λ r. ⌜ ((ps : List Pair) → LineFor (now (words .entry)) ps (now (line .entry)) → LineRead (now (words .entry)) ps r (now (values .exit))) ⌝ }
 {
     let mut names = [0u64; MAX_INPUTS];
     let mut places = [0usize; MAX_INPUTS];
     let mut codes = [0u8; MAX_INPUTS];
     let mut inputs = [0u64; MAX_INPUTS];
-    let mut setting = [0u8; MAX_INPUTS];
-    answer_with(
+    read_with(
         words,
         line,
         &mut names,
         &mut places,
         &mut codes,
         &mut inputs,
-        &mut setting,
-        out,
+        values,
     )
 }
 
-// The answer to a line, with its LF, for the block of these words; count: bytes of the show line.
-pub fn answer_line(words: &[u16], line: &[u8], out: &mut [u8]) -> Answer
+// The answer to a line, with its LF, for a block that is prepared; `values` is room for what stands at each place. Count: bytes of the show line.
+fn answer_with(
+    words: &[u16],
+    table: &[u8; 1792],
+    graph: &[u16; GRAPH_WORDS],
+    fanout: &[u16; FANOUT_WORDS],
+    line: &[u8],
+    values: &mut [u8; PLACES],
+    out: &mut [u8],
+) -> Answer
+    requires { ⌜ BlockReady (now words) (now table) (now graph) (now fanout) × Blank (now values) ⌝ }
     ensures { λ r. ⌜ Promise (answerLine (now (words .entry)) (now (line .entry)) (length (now (out .entry)))) (now (out .entry)) r (now (out .exit)) ⌝ }
 {
-    let tested = check_words(words);
-    let Test::Passed = tested else {
-        return refusal(tested);
-    };
     let tested = test_set_line(line, inputs_of(words));
     let Test::Passed = tested else {
         return refusal(tested);
     };
-    answer_pairs(words, line, out)
+    let tested = read_pairs(words, line, values);
+    let Test::Passed = tested else {
+        return refusal(tested);
+    };
+    show(words, table, graph, fanout, values, out)
+}
+
+// The same in an array of its own.
+pub fn answer_line(
+    words: &[u16],
+    table: &[u8; 1792],
+    graph: &[u16; GRAPH_WORDS],
+    fanout: &[u16; FANOUT_WORDS],
+    line: &[u8],
+    out: &mut [u8],
+) -> Answer
+    requires { ⌜ BlockReady (now words) (now table) (now graph) (now fanout) ⌝ }
+    ensures { λ r. ⌜ Promise (answerLine (now (words .entry)) (now (line .entry)) (length (now (out .entry)))) (now (out .entry)) r (now (out .exit)) ⌝ }
+{
+    let mut values = [UNDEFINED; PLACES];
+    answer_with(words, table, graph, fanout, line, &mut values, out)
 }

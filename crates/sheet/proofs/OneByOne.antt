@@ -1,18 +1,16 @@
 -- A sheet is one call of Settle after another: each record is what is read off the answer to its own setting. Assumes nothing.
 use mathlib.Core.Path.{_≡_, refl, _∙_}
-use mathlib.Core.Bool.{Bool, true, false, cond}
+use mathlib.Core.Bool.{false, cond}
 use mathlib.Core.List.{List, [], _∷_, map}
 use Prim.Native.Nat.{ℕ, _≤_}
-use native.Mathlib.Omega.{arith}
 use lib.ListN.{getD}
-use lib.Dec.{eqb, leb}
+use lib.Dec.{leb}
 use borrow.Author.Tests.{le-ltb, le-leb, eq-eqb}
 use Rattle.laws.proofs.Quantifiers.{all-tab-from}
 use Rattle.netlist.specs.declared.Record.{Record}
 use Rattle.netlist.specs.Values.{code, valueOf}
 use Rattle.netlist.specs.Netlist.{Block, inputCount, gateCount}
 use Rattle.netlist.specs.StoredBlock.{decode, isMalformed}
-use Rattle.netlist.specs.Assignments.{bit}
 use Rattle.netlist.specs.Rounds.{rounds, settled}
 use Rattle.netlist.specs.Answers.{Outcome, done, refused, refuseIf, refusalNumber}
 use Rattle.netlist.specs.Operations.{isBadSetting, settle}
@@ -21,7 +19,7 @@ use Rattle.netlist.specs.Sheet.{sheetRecords}
 use Rattle.encoding.proofs.Decoded.{decode-gateCount}
 use Rattle.rounds.proofs.Values.{values-codes}
 use Rattle.simulate.proofs.Outcomes.{settle-chain, settle-room}
-use Rattle.sheet.proofs.MaskLaws.{length-settingBytes}
+use Rattle.sheet.proofs.MaskLaws.{length-settingBytes, byte-most}
 
 -- What a caller of Settle reads off the answer to a setting's bytes, for the record of two masks.
 unfoldable pub readOff : Block → ℕ → ℕ → List ℕ → Outcome → Record
@@ -36,18 +34,6 @@ oneCall ws room r =
     (readOff (decode ws) (r .fixed) (r .ones) (settingBytes (inputCount (decode ws)) (r .fixed) (r .ones))
     (settle ws (settingBytes (inputCount (decode ws)) (r .fixed) (r .ones)) room))
 
-bit-small : (s i : ℕ) → bit s i ≤ 2
-unfolding bit
-bit-small s i = omega arith
-
-byte-small : (fixed ones i : ℕ) → leb (inputByte fixed ones i) 2 ≡ true
-unfolding inputByte
-byte-small fixed ones i = go (eqb (bit fixed i) 1)
-  where
-    go : (t : Bool) → leb (cond t (bit ones i) 2) 2 ≡ true
-    go true = le-leb (bit ones i) 2 (bit-small ones i)
-    go false = refl
-
 module _ (ws : List ℕ) (whole : isMalformed ws ≡ false) (room : ℕ) (enough : gateCount (decode ws) ≤ room) where
   -- the bytes of two masks are a setting that Settle takes
   setting-legal : (fixed ones : ℕ) → isBadSetting (decode ws) (settingBytes (inputCount (decode ws)) fixed ones) ≡ false
@@ -55,7 +41,7 @@ module _ (ws : List ℕ) (whole : isMalformed ws ≡ false) (room : ℕ) (enough
   setting-legal fixed ones =
       rw (
         eq-eqb _ (inputCount (decode ws)) (length-settingBytes (inputCount (decode ws)) fixed ones),
-        all-tab-from (λ v. leb v 2) (inputByte fixed ones) (inputCount (decode ws)) (λ i l. byte-small fixed ones i),
+        all-tab-from (λ v. leb v 2) (inputByte fixed ones) (inputCount (decode ws)) (λ i l. le-leb (inputByte fixed ones i) 2 (byte-most fixed ones i)),
       )
 
   -- what Settle answers to them

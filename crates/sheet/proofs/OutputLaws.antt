@@ -7,47 +7,37 @@ use native.Mathlib.Omega.{arith}
 use lib.ListN.{length, getD, drop, length-map, List·getD-map}
 use Rattle.netlist.specs.Values.{Value, undefined, code, valueOf}
 use Rattle.netlist.specs.Limits.{maxOutputs}
-use Rattle.netlist.specs.StoredBlock.{nameSize, outputSize, neversAt, gatesAt, outputsAt, outputAt, decode, isMalformed}
+use Rattle.netlist.specs.StoredBlock.{nameSize, outputSize, neversAt, gatesAt, outputsAt, operandOf, decode, isMalformed}
 use Rattle.netlist.specs.Rounds.{outputValue}
 use Rattle.netlist.specs.Sheet.{outputValues, showing}
 use Rattle.laws.proofs.Elements.{getD-defaults}
 use Rattle.layout.proofs.Gathered.{Gathered}
-use Rattle.encoding.proofs.Decoded.{decode-outputCount, decode-output}
+use Rattle.encoding.proofs.Decoded.{decode-outputCount}
 use Rattle.encoding.proofs.Readers.{whole-parts}
 use Rattle.rounds.proofs.Values.{valueOf-code}
-use Rattle.ternary.specs.Legal.{wordValue}
-use Rattle.sheet.specs.Shown.{OfBlock, noOutput, outputCode}
+use Rattle.graph.specs.Places.{placeOf}
+use Rattle.ternary.specs.State.{Coded, inputsIn, stateIn, ShownAt}
+use Rattle.ternary.proofs.Outputs.{shown-ready, shown-code}
+use Rattle.sheet.specs.Shown.{OfBlock, noOutput, outputCode, shownIn}
 
 -- ---- the outputs of a block's words
 
-module _ (ws setting gates : List ℕ) where
-  -- what all outputs show
-  abbrev pub shown : List Value
-  shown = outputValues (decode ws) (map valueOf setting) (map valueOf gates)
+module _ (ws values : List ℕ) where
+  pub length-shown : length (shownIn ws values) ≡ getD ws 2 0
+  unfolding shownIn outputValues
+  length-shown = length-map (decode ws .outputs) (outputValue (inputsIn values) (stateIn (getD ws 1 0) values)) ∙ decode-outputCount ws
 
-  pub length-shown : length shown ≡ getD ws 2 0
-  unfolding outputValues
-  length-shown = length-map (decode ws .outputs) (outputValue (map valueOf setting) (map valueOf gates)) ∙ decode-outputCount ws
-
-  pub few-shown : isMalformed ws ≡ false → length shown ≤ maxOutputs
+  pub few-shown : isMalformed ws ≡ false → length (shownIn ws values) ≤ maxOutputs
   few-shown t = rw length-shown (whole-parts ws t .fewOutputs)
 
-  module _ (o : ℕ) (l : o < getD ws 2 0) where
-    -- the code that is found is that of output o
-    pub shown-at : valueOf (outputCode ws setting gates o) ≡ getD shown o undefined
-    unfolding outputCode outputValues
-    shown-at =
-        valueOf-code (outputValue (map valueOf setting) (map valueOf gates) (getD (decode ws .outputs) o noOutput))
-        ∙ sym (List·getD-map (outputValue (map valueOf setting) (map valueOf gates)) (decode ws .outputs) o noOutput)
-        ∙ getD-defaults (map (outputValue (map valueOf setting) (map valueOf gates)) (decode ws .outputs)) o
-        (outputValue (map valueOf setting) (map valueOf gates) noOutput) undefined
-        (rw (length-map (decode ws .outputs) (outputValue (map valueOf setting) (map valueOf gates)), decode-outputCount ws) l)
-
-    -- output o's value by its node's word
-    pub code-at : outputCode ws setting gates o
-        ≡ code (wordValue (getD ws 0 0) setting gates (getD ws (outputsAt (getD ws 0 0) (getD ws 3 0) (getD ws 1 0) + outputSize * o + nameSize) 0))
-    unfolding outputCode outputValue outputAt
-    code-at = rw (decode-output ws o noOutput l)
+  -- the code that is found is that of output o
+  pub shown-at : (o : ℕ) → o < getD ws 2 0 → valueOf (outputCode ws values o) ≡ getD (shownIn ws values) o undefined
+  unfolding outputCode shownIn outputValues
+  shown-at o l =
+      let show = outputValue (inputsIn values) (stateIn (getD ws 1 0) values) in
+      valueOf-code (show (getD (decode ws .outputs) o noOutput))
+      ∙ sym (List·getD-map show (decode ws .outputs) o noOutput)
+      ∙ getD-defaults (map show (decode ws .outputs)) o (show noOutput) undefined (rw (length-map (decode ws .outputs) show, decode-outputCount ws) l)
 
 -- no word of an output stands far out
 pub output-near : {ws : List ℕ} {n o : ℕ} → OfBlock ws n o → (o ≤ maxOutputs) × (outputsAt (getD ws 0 0) (getD ws 3 0) (getD ws 1 0) ≤ 8192)
@@ -57,10 +47,9 @@ output-near {ws} h =
     (omega (arith, h .below, i .fewOutputs), omega (arith, i .fewInputs, i .fewNevers, i .fewGates))
 
 -- the bit of a test, of the code that was found for output o
-pub output-bit : (test : Value → Bool) (ws setting gates : List ℕ) (o : ℕ) {v b : ℕ} → o < getD ws 2 0 → v ≡ outputCode ws setting gates o
-    → b ≡ cond (test (valueOf v)) 1 0
-    → b ≡ cond (test (getD (shown ws setting gates) o undefined)) 1 0
-output-bit test ws setting gates o l e p = p ∙ ap (λ (x : Value). cond (test x) 1 0) (ap valueOf e ∙ shown-at ws setting gates o l)
+pub output-bit : (test : Value → Bool) (ws values : List ℕ) (o : ℕ) {v b : ℕ} → o < getD ws 2 0 → v ≡ outputCode ws values o
+    → b ≡ cond (test (valueOf v)) 1 0 → b ≡ cond (test (getD (shownIn ws values) o undefined)) 1 0
+output-bit test ws values o l e p = p ∙ ap (λ (x : Value). cond (test x) 1 0) (ap valueOf e ∙ shown-at ws values o l)
 
 -- the record of the masks of all outputs
 pub gathered-record : {vs : List Value} {o d v : ℕ} (fixed ones : ℕ) → Gathered vs o d v → o ≤ 0
@@ -71,7 +60,12 @@ gathered-record {vs} {o} fixed ones g z =
     let p : drop o vs ≡ vs = rw e in
     rw (g .defineds, g .ones, p)
 
--- the code that is found at the place of output o's node
-pub output-code : (ws setting gates : List ℕ) {n o at : ℕ} → OfBlock ws n o → at ≡ outputsAt (getD ws 0 0) (getD ws 3 0) (getD ws 1 0)
-    → code (wordValue n setting gates (getD ws (at + outputSize * o + nameSize) 0)) ≡ outputCode ws setting gates o
-output-code ws setting gates {n} {o} h e = rw (e, h .inputs) (sym (code-at ws setting gates o (h .below)))
+-- output o's words, and the code that is found at the place of its node
+pub output-ready : {ws : List ℕ} {n o at : ℕ} → OfBlock ws n o → at ≡ outputsAt (getD ws 0 0) (getD ws 3 0) (getD ws 1 0)
+    → ShownAt ws n (at + outputSize * o)
+output-ready {ws} {n} {o} h e = rw (e, h .inputs) (shown-ready ws (h .whole) o (h .below))
+
+pub output-code : (ws : List ℕ) {values : List ℕ} {n o at : ℕ} → OfBlock ws n o → Coded values → at ≡ outputsAt (getD ws 0 0) (getD ws 3 0) (getD ws 1 0)
+    → getD values (placeOf (operandOf n (getD ws (at + outputSize * o + nameSize) 0))) 0 ≡ outputCode ws values o
+unfolding outputCode
+output-code ws {values} {n} {o} h c e = rw (e, h .inputs) (shown-code ws (h .whole) o (h .below) noOutput c)

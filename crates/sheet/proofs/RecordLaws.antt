@@ -2,24 +2,23 @@
 use mathlib.Core.Path.{_≡_, refl, sym, ap, _∙_}
 use mathlib.Core.Bool.{Bool, true, false, not}
 use mathlib.Core.List.{List, [], map}
-use Prim.Native.Nat.{ℕ, _≤_}
-use native.Mathlib.Omega.{arith}
-use lib.ListN.{length, getD, take, length-map, length-take}
+use Prim.Native.Nat.{ℕ}
+use lib.ListN.{getD}
 use Rattle.netlist.specs.declared.Answer.the-variants.{Done, Refused}
 use Rattle.netlist.specs.declared.Refusal.the-variants.{MalformedBlock}
-use Rattle.netlist.specs.Values.{Value, code, valueOf}
+use Rattle.netlist.specs.Values.{Value, valueOf}
+use Rattle.netlist.specs.Netlist.{Operand, Output}
 use Rattle.netlist.specs.StoredBlock.{decode, isMalformed}
 use Rattle.netlist.specs.Assignments.{areMasks}
-use Rattle.netlist.specs.Rounds.{settled}
+use Rattle.netlist.specs.Rounds.{operandValue, outputValue, settled}
 use Rattle.netlist.specs.Answers.{done, refuseIf, answerOf}
 use Rattle.netlist.specs.Sheet.{settingBytes, isBadMasks, outputValues, showing, settledOutputs, refusedRecord, recordOf, sheet}
-use Rattle.laws.specs.Lists.{placed}
-use Rattle.laws.proofs.Slices.{take-placed}
-use Rattle.encoding.proofs.Decoded.{decode-inputCount, decode-gateCount}
-use Rattle.rounds.proofs.Values.{values-codes}
-use Rattle.rounds.proofs.Rounds.{length-settled}
-use Rattle.sheet.specs.Shown.{settledRecord}
-use Rattle.sheet.proofs.MaskLaws.{length-settingBytes}
+use Rattle.encoding.proofs.Decoded.{decode-inputCount}
+use Rattle.graph.specs.Graph.{Decoded}
+use Rattle.ternary.specs.State.{inputsIn, stateIn}
+use Rattle.simulate.specs.Rounded.{Starting, SettledIn}
+use Rattle.simulate.proofs.Rounds.{operands-same, starting-inputs, settled-of}
+use Rattle.sheet.specs.Shown.{settledRecord, shownIn}
 
 -- ---- the call
 
@@ -53,26 +52,16 @@ module _ (ws : List ℕ) (fixed ones : ℕ) where
   unfolding recordOf settledRecord
   record-settled h = rw (decode-inputCount ws, h)
 
-  -- the bytes that stand in front are the setting's
-  pub settled-bytes : (bytes entry : List ℕ) {n : ℕ} → n ≡ getD ws 0 0 → bytes ≡ placed (settingBytes n fixed ones) entry
-      → showing fixed ones (settledOutputs (decode ws) (map valueOf (take n bytes))) ≡ settledRecord ws fixed ones
-  unfolding settledRecord
-  settled-bytes bytes entry {n} e f =
-      let p : take n bytes ≡ settingBytes n fixed ones = ap (take n) f ∙ take-placed (settingBytes n fixed ones) entry n (length-settingBytes n fixed ones) in
-      rw (p, e)
-
-  -- the values that stand in front are the settled ones
-  pub settled-values : (setting : List ℕ) {values : List ℕ} (entry : List ℕ) {m : ℕ} → m ≡ getD ws 1 0
-      → values ≡ placed (map code (settled (decode ws) (map valueOf setting))) entry
-      → showing fixed ones (outputValues (decode ws) (map valueOf setting) (map valueOf (take m values)))
-      ≡ showing fixed ones (settledOutputs (decode ws) (map valueOf setting))
-  unfolding settledOutputs
-  settled-values setting {values} entry {m} e s =
-      let x : List Value = settled (decode ws) (map valueOf setting) in
-      let l : length (map code x) ≡ m = length-map x code ∙ length-settled (decode ws) (map valueOf setting) ∙ decode-gateCount ws ∙ sym e in
-      let p : take m values ≡ map code x = ap (take m) s ∙ take-placed (map code x) entry m l in
-      rw (p, values-codes x)
-
--- as many bytes stand in front as are asked for
-pub front-length : (xs : List ℕ) {n : ℕ} → n ≤ length xs → n ≡ length (take n xs)
-front-length xs {n} l = rw (length-take n xs) (omega arith)
+-- what the outputs show under the settled values of the masks' setting
+pub settled-record : (ws : List ℕ) (fixed ones : ℕ) {graph start values : List ℕ} {m count : ℕ} → Decoded (decode ws) (getD ws 1 0) graph
+    → Starting (map valueOf (settingBytes (getD ws 0 0) fixed ones)) start → m ≡ getD ws 1 0 → SettledIn m graph start values count
+    → showing fixed ones (shownIn ws values) ≡ settledRecord ws fixed ones
+unfolding settledRecord settledOutputs shownIn outputValues outputValue
+settled-record ws fixed ones {graph} {start} {values} {m} {count} d s e r =
+    let x : List Value = map valueOf (settingBytes (getD ws 0 0) fixed ones) in
+    let t : SettledIn (getD ws 1 0) graph start values count = rw e at r in
+    let found : stateIn (getD ws 1 0) values ≡ settled (decode ws) x = t .state ∙ settled-of d s in
+    let same : operandValue (inputsIn values) (settled (decode ws) x) ≡ operandValue x (settled (decode ws) x) =
+    rw (t .inputs) (operands-same (inputsIn start) x (starting-inputs s) (settled (decode ws) x) (settled (decode ws) x) (λ j. refl)) in
+    ap (λ (f : Operand → Value). showing fixed ones (map (λ (o : Output). f (o .node)) (decode ws .outputs)))
+    (ap (operandValue (inputsIn values)) found ∙ same)

@@ -1,10 +1,14 @@
-// The setting's bytes that a record's two masks of inputs stand for.
+// The setting that a record's two masks of inputs stand for.
+use graph::FIRST_INPUT;
+use graph::PLACES;
+use simulate::values::put_constants;
 ghost use mathlib.Core.Path.{_≡_};
+ghost use mathlib.Core.List.{map};
 ghost use Prim.Native.Nat.{_≤_, _<_};
-ghost use lib.ListN.{length};
-ghost use Rattle.laws.specs.Lists.{placed};
 ghost use Rattle.netlist.specs.Limits.{maxInputs};
+ghost use Rattle.netlist.specs.Values.{valueOf};
 ghost use Rattle.netlist.specs.Sheet.{inputByte, settingBytes};
+ghost use Rattle.simulate.specs.Rounded.{Blank, Starting};
 
 // 0 or 1 for an input that is fixed, 2 for any other.
 fn input_byte(fixed: usize, ones: usize, i: usize) -> u8
@@ -18,15 +22,15 @@ fn input_byte(fixed: usize, ones: usize, i: usize) -> u8
     }
 }
 
-// The setting's bytes into the beginning of `setting`.
-pub fn fill_setting(n: usize, fixed: usize, ones: usize, setting: &mut [u8])
-    requires { ⌜ n ≤ maxInputs ⌝ }
-    requires { ⌜ n ≤ length (now setting) ⌝ }
-    ensures { λ _. ⌜ now (setting .exit) ≡ placed (settingBytes n fixed ones) (now (setting .entry)) ⌝ }
+// The constants and the inputs of a setting of n inputs, in an array of values where nothing has one.
+pub fn put_masks(n: usize, fixed: usize, ones: usize, values: &mut [u8; PLACES])
+    requires { ⌜ (n ≤ maxInputs) × Blank (now values) ⌝ }
+    ensures { λ _. ⌜ Starting (map valueOf (settingBytes n fixed ones)) (now (values .exit)) ⌝ }
 {
+    put_constants(values);
     let mut i = 0;
     while i < n {
-        setting[i] = input_byte(fixed, ones, i);
+        values[FIRST_INPUT + i] = input_byte(fixed, ones, i);
         i += 1;
     }
 }

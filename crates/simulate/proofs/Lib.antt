@@ -1,6 +1,7 @@
--- Laws on the rounds in a slice that belong to no one function.
+-- Laws on the rounds in an array that belong to no one function.
 pub mod Settings
 pub mod Codes
+pub mod Starts
 pub mod Updates
 pub mod Rounds
 pub mod Sweeps

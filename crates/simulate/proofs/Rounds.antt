@@ -1,110 +1,198 @@
--- Rounds in a slice until one changes nothing: what the loop of Settle keeps, and what it ends with. Assumes nothing.
+-- Rounds in an array until one changes nothing: what the loop of Settle keeps, and what it ends with. Assumes nothing.
 --   Rounding                                     after `count` rounds that changed something, and one more
 --   rounding-none, rounding-more, rounding-end   the first, a further one, and the one that changed nothing
-use mathlib.Core.Path.{_≡_, refl, sym, ap, _∙_}
+--   settled-of, rounds-of                        the settled values of a block, from its graph's
+--   state-codes                                  the codes of an array's gates
+use mathlib.Core.Path.{_≡_, refl, sym, ap, _∙_, fun-ext}
 use mathlib.Core.Logic.{⊎-elim}
-use mathlib.Core.Bool.{true, false}
-use mathlib.Core.List.{List, map, _++_}
-use Prim.Native.Nat.{ℕ, suc, _+_, _-_, _≤_, _<_}
+use mathlib.Core.Bool.{Bool, true, false}
+use mathlib.Core.List.{List, map}
+use Prim.Native.Nat.{ℕ, zero, suc, _+_, _≤_, _<_}
 use native.Mathlib.Numerals.{add-one}
 use native.Mathlib.Omega.{arith}
-use lib.ListN.{length, getD, take, drop, length-map, length-drop, take-append-drop}
-use lib.Seq.{ext-getD, getD-take, getD-drop}
-use Rattle.laws.specs.Lists.{same, placed}
-use Rattle.laws.proofs.Same.{same-eq, eq-same}
-use Rattle.laws.proofs.Tests.{not-true-false}
-use Rattle.netlist.specs.Values.{code, valueOf}
+use lib.ListN.{length, getD, replicate, List·getD-eq-default}
+use lib.Seq.{ext-getD}
+use Rattle.laws.specs.Lists.{same, least, tab, placed}
+use Rattle.laws.proofs.Tests.{not-true-false, lt-or-le}
+use Rattle.laws.proofs.Tab.{getD-tab, length-tab, map-tab, tab-ext}
+use Rattle.netlist.specs.Limits.{maxInputs}
+use Rattle.netlist.specs.Values.{Value, undefined, code, valueOf}
+use Rattle.netlist.specs.Kinds.{gateValue}
+use Rattle.netlist.specs.Netlist.{Operand, input, gate, constant, Gate, Block, gateCount}
 use Rattle.netlist.specs.StoredBlock.{decode}
-use Rattle.netlist.specs.Rounds.{afterRounds, isStable, rounds, settled}
-use Rattle.encoding.proofs.Decoded.{decode-gateCount}
-use Rattle.rounds.proofs.Rounds.{length-afterRounds, rounds-more, rounds-end, afterRounds-settled}
-use Rattle.simulate.specs.Rounded.{Settled}
-use Rattle.simulate.specs.Changes.{definedBytes, Round, RoundStarted, Turned}
-use Rattle.simulate.proofs.Codes.{roundCodes-of, codes-start}
-use Rattle.simulate.proofs.Updates.{defined-same, same-front}
+use Rattle.netlist.specs.GateTable.{gateTable}
+use Rattle.netlist.specs.Rounds.{operandValue, evaluated, round, afterRounds, isStable, rounds, settled}
+use Rattle.rounds.proofs.Values.{code-injective}
+use Rattle.rounds.proofs.Rounds.{length-round, getD-round, stable-eq, eq-stable, rounds-more, rounds-end, afterRounds-settled}
+use Rattle.graph.specs.Places.{firstInput, firstGate}
+use Rattle.graph.specs.Graph.{network, Graph, Decoded}
+use Rattle.graph.proofs.Network.{network-gates, network-count, rounds-gates, settled-gates}
+use Rattle.ternary.specs.State.{Coded, inputsIn, stateIn}
+use Rattle.ternary.proofs.Codes.{code-same}
+use Rattle.simulate.specs.Rounded.{Prepared, PreparedFor, Unsettled, Starting, SettledIn, Settled}
+use Rattle.simulate.specs.Changes.{definedFrom, Round, Turned}
+use Rattle.simulate.proofs.Updates.{defined-same, state-at, code-at, length-stateIn, found-is}
 
--- the bytes behind those of the gates are as they were
-abbrev pub Beyond : List ℕ → List ℕ → List ℕ → Type 0
-Beyond ws values entry = (j : ℕ) → getD ws 1 0 ≤ j → getD values j 0 ≡ getD entry j 0
+-- ---- inputs with the same values
 
--- a list with other first elements
-pub front-placed : (m : ℕ) (values entry codes : List ℕ) → take m values ≡ codes → length codes ≡ m → length values ≡ length entry
-    → ((j : ℕ) → m ≤ j → getD values j 0 ≡ getD entry j 0) → values ≡ placed codes entry
-front-placed m values entry codes t long e h = sym (take-append-drop m values) ∙ rw (t, long) (ap (λ (r : List ℕ). codes ++ r) rest)
-  where
-    rest : drop m values ≡ drop m entry
-    rest =
-        ext-getD 0 (drop m values) (drop m entry) (length-drop m values ∙ ap (λ (k : ℕ). k - m) e ∙ sym (length-drop m entry))
-        (λ i l. getD-drop m values i 0 ∙ h (m + i) (omega arith) ∙ sym (getD-drop m entry i 0))
+module _ (x y : List Value) (inputs : (i : ℕ) → getD x i undefined ≡ getD y i undefined) (s t : List Value)
+    (states : (j : ℕ) → getD s j undefined ≡ getD t j undefined) where
+  operand-same : (o : Operand) → operandValue x s o ≡ operandValue y t o
+  unfolding operandValue
+  operand-same (input i) = inputs i
+  operand-same (gate j) = states j
+  operand-same (constant c) = refl
 
-module _ (ws setting : List ℕ) where
-  -- the codes after so many rounds
-  abbrev pub codesAfter : ℕ → List ℕ
-  codesAfter count = map code (afterRounds (decode ws) (map valueOf setting) count)
+  pub operands-same : operandValue x s ≡ operandValue y t
+  operands-same = fun-ext operand-same
 
-  length-codesAfter : (count : ℕ) → length (codesAfter count) ≡ getD ws 1 0
-  length-codesAfter count =
-      length-map (afterRounds (decode ws) (map valueOf setting) count) code ∙ length-afterRounds (decode ws) (map valueOf setting) count ∙ decode-gateCount ws
+  pub evaluated-same : evaluated x s ≡ evaluated y t
+  unfolding evaluated
+  evaluated-same = fun-ext (λ g. ap (λ (f : Operand → Value). gateValue (g .kind) (map f (g .operands))) operands-same)
 
-  -- `old` has the state after `count` rounds that changed something, `values` the one after a round more
-  pub record Rounding (old values queue : List ℕ) (head tail count : ℕ) : Type 0 where
-    pub reached : count ≤ rounds (decode ws) (map valueOf setting)
-    pub round : Round ws setting old values queue head tail
-    pub last : take (getD ws 1 0) old ≡ codesAfter count
+module _ (b : Block) (x y : List Value) (inputs : (i : ℕ) → getD x i undefined ≡ getD y i undefined) where
+  after-same : (r : ℕ) → afterRounds b x r ≡ afterRounds b y r
+  unfolding afterRounds round
+  after-same zero = refl
+  after-same (suc r) =
+      ap (λ (f : Gate → Value). map f (b .gates)) (evaluated-same x y inputs (afterRounds b x r) (afterRounds b x r) (λ j. refl))
+      ∙ ap (λ (s : List Value). map (evaluated y s) (b .gates)) (after-same r)
 
-  pub rounding-none : {entry old values queue : List ℕ} {tail : ℕ} → RoundStarted ws setting entry old values queue tail → Rounding old values queue 0 tail 0
+  rounds-same : rounds b x ≡ rounds b y
+  unfolding rounds isStable
+  rounds-same =
+      ap (λ (f : ℕ → Bool). least f (gateCount b))
+      (fun-ext (λ r. ap (λ (s : List Value). same (map code s) (map code (afterRounds b x r))) (after-same (suc r))
+      ∙ ap (λ (s : List Value). same (map code (afterRounds b y (suc r))) (map code s)) (after-same r)))
+
+  settled-same : settled b x ≡ settled b y
+  unfolding settled
+  settled-same = after-same (rounds b x) ∙ ap (afterRounds b y) rounds-same
+
+-- the inputs of an array that starts with x
+pub starting-inputs : {x : List Value} {values : List ℕ} → Starting x values → (i : ℕ) → getD (inputsIn values) i undefined ≡ getD x i undefined
+unfolding inputsIn
+starting-inputs {x} {values} s i =
+    ⊎-elim
+    (λ l. getD-tab (λ i. valueOf (getD values (firstInput + i) 0)) maxInputs i undefined l ∙ s .given i l)
+    (λ l. let long : length (inputsIn values) ≤ i = rw (length-tab (λ i. valueOf (getD values (firstInput + i) 0)) maxInputs) l in
+    let few : length x ≤ i = omega (arith, s .few) in
+    List·getD-eq-default (inputsIn values) undefined long ∙ sym (List·getD-eq-default x undefined few))
+    (lt-or-le i maxInputs)
+
+-- ---- what settling a block's graph finds
+
+module _ {c : Block} {m : ℕ} {graph : List ℕ} (d : Decoded c m graph) {x : List Value} {values : List ℕ} (s : Starting x values) where
+  pub settled-of : settled (network m graph) (inputsIn values) ≡ settled c x
+  settled-of = settled-gates (network m graph) c (network-gates c m graph d) (inputsIn values) ∙ settled-same c (inputsIn values) x (starting-inputs s)
+
+  pub rounds-of : rounds (network m graph) (inputsIn values) ≡ rounds c x
+  rounds-of = rounds-gates (network m graph) c (network-gates c m graph d) (inputsIn values) ∙ rounds-same c (inputsIn values) x (starting-inputs s)
+
+-- ---- the rounds
+
+-- `values` has the state after `count` rounds that changed something, and `found` the one after a round more
+pub record Rounding (m : ℕ) (graph start values found queue : List ℕ) (head tail count : ℕ) : Type 0 where
+  pub reached : count ≤ rounds (network m graph) (inputsIn start)
+  pub made : Round m graph values found queue head tail
+  pub inputs : inputsIn values ≡ inputsIn start
+  pub last : stateIn m values ≡ afterRounds (network m graph) (inputsIn start) count
+
+module _ {m : ℕ} {graph : List ℕ} (start : List ℕ) (g : Graph m graph) where
+  abbrev b : Block
+  b = network m graph
+
+  abbrev x : List Value
+  x = inputsIn start
+
+  -- the state a round later
+  abbrev later : List ℕ → List Value
+  later values = round b (inputsIn values) (stateIn m values)
+
+  pub rounding-none : {found queue : List ℕ} {tail : ℕ} → stateIn m start ≡ replicate m undefined → Round m graph start found queue 0 tail
+      → Rounding m graph start start found queue 0 tail 0
   unfolding afterRounds
-  rounding-none s = record { reached = omega arith; round = s .round; last = s .last ∙ rw (decode-gateCount ws) (sym (codes-start (getD ws 1 0))) }
+  rounding-none first r = record { reached = omega arith; made = r; inputs = refl; last = rw (network-count m graph) first }
 
-  module _ {old values queue : List ℕ} {head tail count : ℕ} (r : Rounding old values queue head tail count) where
-    next-codes : take (getD ws 1 0) values ≡ codesAfter (suc count)
+  module _ {values found queue : List ℕ} {head tail count : ℕ} (r : Rounding m graph start values found queue head tail count) where
+    later-is : later values ≡ afterRounds b x (suc count)
     unfolding afterRounds
-    next-codes = r .round .holds ∙ rw (r .last) (roundCodes-of ws setting (afterRounds (decode ws) (map valueOf setting) count))
-
-    stable-same : isStable (decode ws) (map valueOf setting) count ≡ same (take (getD ws 1 0) values) (take (getD ws 1 0) old)
-    unfolding isStable
-    stable-same = rw (next-codes, r .last) refl
+    later-is = rw (r .inputs, r .last) refl
 
     -- a gate is queued only if it changed
-    unstable : head < tail → isStable (decode ws) (map valueOf setting) count ≡ false
-    unstable some = rw stable-same (not-true-false (same (take (getD ws 1 0) values) (take (getD ws 1 0) old)) none)
+    unstable : head < tail → isStable b x count ≡ false
+    unstable some = not-true-false (isStable b x count) none
       where
-        none : same (take (getD ws 1 0) values) (take (getD ws 1 0) old) ≡ true → ⊥
+        none : isStable b x count ≡ true → ⊥
         none h =
-            let e : take (getD ws 1 0) values ≡ take (getD ws 1 0) old = same-eq (take (getD ws 1 0) values) (take (getD ws 1 0) old) h in
-            let many : definedBytes values (getD ws 1 0) ≡ definedBytes old (getD ws 1 0) =
-            defined-same values old (getD ws 1 0)
-            (λ j l. sym (getD-take (getD ws 1 0) values j 0 l) ∙ ap (λ (s : List ℕ). getD s j 0) e ∙ getD-take (getD ws 1 0) old j 0 l) in
-            omega (arith, r .round .before, r .round .counted)
+            let stays : later values ≡ stateIn m values = later-is ∙ stable-eq b x count h ∙ sym (r .last) in
+            let many : definedFrom 0 found m ≡ definedFrom firstGate values m =
+            defined-same 0 found firstGate values m
+            (λ j l. let z : 0 + j ≡ j = omega arith in
+            rw z
+            (found-is g found (r .made .coded) j l (r .made .done j l)
+            ∙ ap (λ (s : List Value). code (getD s j undefined)) stays ∙ code-at m (r .made .coded) j l)) in
+            omega (arith, r .made .before, r .made .counted)
 
     -- a round that changed something
-    pub rounding-more : {old′ values′ queue′ : List ℕ} {end : ℕ} → head < tail → Turned ws setting values old′ values′ queue′ tail end
-        → Rounding old′ values′ queue′ tail end (count + 1)
+    pub rounding-more : {values′ found′ queue′ : List ℕ} {end : ℕ} → head < tail → Turned m graph values values′ found′ queue′ tail end
+        → Rounding m graph start values′ found′ queue′ tail end (count + 1)
     rounding-more some t =
         rw add-one
         (record {
-          reached = rounds-more (decode ws) (map valueOf setting) count (r .reached) (unstable some);
-          round = t .round;
-          last = t .last ∙ next-codes;
+          reached = rounds-more b x count (r .reached) (unstable some);
+          made = t .made;
+          inputs = t .inputs ∙ r .inputs;
+          last = t .state ∙ later-is;
         })
 
     -- the first that changed nothing
-    pub rounding-end : {entry : List ℕ} → tail ≤ head → Beyond ws values entry → length values ≡ length entry → Settled ws setting entry values count
-    rounding-end {entry} none beyond long =
-        let b = decode ws in
-        let x = map valueOf setting in
+    pub rounding-end : tail ≤ head → SettledIn m graph start values count
+    rounding-end none =
         let last : rounds b x ≡ count = rounds-end b x count (r .reached) stable in
-        let now : afterRounds b x (suc count) ≡ settled b x = afterRounds-settled b x (suc count) (omega arith) in
         record {
-          values =
-              front-placed (getD ws 1 0) values entry (map code (settled b x)) (next-codes ∙ ap (map code) now)
-              (rw (← now) (length-codesAfter (suc count))) long beyond;
+          coded = r .made .coded;
+          inputs = r .inputs;
+          state = r .last ∙ afterRounds-settled b x count (omega arith);
           reported = sym last;
         }
       where
-        stable : isStable (decode ws) (map valueOf setting) count ≡ true
-        stable =
-            rw stable-same
-            (eq-same (take (getD ws 1 0) values) (take (getD ws 1 0) old)
-            (same-front values old (getD ws 1 0) (r .round .valueRoom) (r .round .oldRoom)
-            (λ j l. ⊎-elim (λ e. e) (λ q. absurd (omega (arith, q .1, q .2))) (r .round .told j l))))
+        unchanged : (j : ℕ) → j < m → getD found j 0 ≡ getD values (firstGate + j) 0
+        unchanged j l = ⊎-elim (λ e. e) (λ q. absurd (omega (arith, q .1, q .2))) (r .made .told j l)
+
+        stays : later values ≡ stateIn m values
+        stays =
+            ext-getD undefined (later values) (stateIn m values)
+            (length-round b (inputsIn values) (stateIn m values) ∙ network-count m graph ∙ sym (length-stateIn m values))
+            (λ j l. let below : j < m = rw (length-round b (inputsIn values) (stateIn m values), network-count m graph) at l in
+            code-injective (getD (later values) j undefined) (getD (stateIn m values) j undefined)
+            (sym (found-is g found (r .made .coded) j below (r .made .done j below)) ∙ unchanged j below ∙ sym (code-at m (r .made .coded) j below)))
+
+        stable : isStable b x count ≡ true
+        stable = eq-stable b x count (sym later-is ∙ stays ∙ r .last)
+
+-- ---- the codes of an array's gates
+
+pub state-codes : (m : ℕ) {values : List ℕ} → Coded values → tab (λ j. getD values (firstGate + j) 0) m ≡ map code (stateIn m values)
+unfolding stateIn
+state-codes m {values} c =
+    tab-ext (λ j. getD values (firstGate + j) 0) (λ j. code (valueOf (getD values (firstGate + j) 0))) m
+    (λ j l. sym (code-same (getD values (firstGate + j) 0) (c .most (firstGate + j))))
+    ∙ sym (map-tab code (λ j. valueOf (getD values (firstGate + j) 0)) m)
+
+-- ---- from the array to the caller's slice
+
+pub prepared-with : {ws table graph fanout : List ℕ} → PreparedFor ws graph fanout → table ≡ gateTable → (m : ℕ) → m ≡ getD ws 1 0
+    → Prepared m table graph fanout
+prepared-with p t m e = record { tabled = t; legal = rw e (p .decoded .legal); linked = rw e (p .linked) }
+
+pub settled-bytes : {ws graph start values out′ : List ℕ} (setting out : List ℕ) {count : ℕ} → Decoded (decode ws) (getD ws 1 0) graph
+    → Starting (map valueOf setting) start → (m : ℕ) → m ≡ getD ws 1 0 → SettledIn m graph start values count
+    → out′ ≡ placed (tab (λ j. getD values (firstGate + j) 0) m) out → Settled ws setting out out′ count
+settled-bytes {ws} {graph} {start} {values} setting out {count} d s m e r o =
+    let c : SettledIn (getD ws 1 0) graph start values count = rw e at r in
+    let found : stateIn m values ≡ settled (decode ws) (map valueOf setting) = rw e (c .state ∙ settled-of d s) in
+    record {
+      values = o ∙ ap (λ (codes : List ℕ). placed codes out) (state-codes m (r .coded) ∙ ap (map code) found);
+      reported = c .reported ∙ rounds-of d s;
+    }

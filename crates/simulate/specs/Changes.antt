@@ -1,110 +1,114 @@
--- A round that evaluates only gates that read a gate that changed in the round before. `old` holds the values of the round before, one byte for each gate,
--- `values` those of this one, and the queue the gates that changed, in the order in which they did. Cited by the contracts of this crate. Assumes nothing.
+-- A round that evaluates only gates that read a gate that changed in the round before. `values` has the codes of the state before the round, by place,
+-- `found` those of the gates behind it, and the queue the gates that changed, in the order in which they did. Cited by the contracts of this crate.
+-- Assumes nothing.
 --   Done, Steady, UpdateReady   what is asked of the values
 --   Updated                     what evaluating some gates does
---   Round, RoundStarted, Turned      between two rounds, from none to the first, and from one to the next
-use Prim.Native.Nat.{ℕ, suc, _+_, _/_, _≤_, _<_}
+--   Round, Turned               between two rounds, and from one to the next
+use Prim.Native.Nat.{ℕ, suc, _+_, _*_, _/_, _≤_, _<_}
 use mathlib.Core.Path.{_≡_}
 use mathlib.Core.Logic.{_⊎_}
-use mathlib.Core.Bool.{true, false, not}
-use mathlib.Core.List.{List, map}
-use lib.ListN.{length, getD, take, replicate}
+use mathlib.Core.Bool.{true, not}
+use mathlib.Core.List.{List}
+use lib.ListN.{length, getD}
 use lib.Dec.{eqb}
 use Rattle.laws.specs.Lists.{countBelow}
-use Rattle.layout.specs.declared.nodes.Nodes.{Nodes}
-use Rattle.layout.specs.Nodes.{nodesOf}
-use Rattle.netlist.specs.Values.{valueOf}
+use Rattle.netlist.specs.Limits.{maxGates}
 use Rattle.netlist.specs.Groups.{reads}
-use Rattle.netlist.specs.StoredBlock.{decode, isMalformed}
+use Rattle.netlist.specs.Rounds.{round}
 use Rattle.rounds.specs.Order.{BelowAll}
-use Rattle.readers.specs.Readers.{Chain}
-use Rattle.simulate.specs.Rounded.{gateCode, roundCodes}
+use Rattle.graph.specs.Places.{firstGate}
+use Rattle.graph.specs.Graph.{slots, network, Graph}
+use Rattle.graph.specs.Fanout.{Chain, Descends}
+use Rattle.ternary.specs.State.{Coded, inputsIn, stateIn, gateCode}
 
--- how many of the first m bytes are not 2, so 0 or 1
-unfoldable pub definedBytes : List ℕ → ℕ → ℕ
-definedBytes values m = countBelow (λ j. not (eqb (getD values j 0) 2)) m
+-- how many of the m codes from a place on are not 2, so 0 or 1
+unfoldable pub definedFrom : ℕ → List ℕ → ℕ → ℕ
+definedFrom p codes m = countBelow (λ j. not (eqb (getD codes (p + j) 0) 2)) m
 
 -- gate k stands in the queue, not before `head` and before `tail`
 abbrev pub QueuedIn : List ℕ → ℕ → ℕ → ℕ → Type 0
 QueuedIn queue head tail k = (q : ℕ) × (head ≤ q) × (q < tail) × (getD queue q 0 ≡ k)
 
--- gate j's value is the one evaluated from `old`
-abbrev pub Done : List ℕ → List ℕ → List ℕ → List ℕ → ℕ → Type 0
-Done ws setting old values j = getD values j 0 ≡ gateCode ws setting old j
+-- gate j's value is the one evaluated from `values`
+abbrev pub Done : List ℕ → List ℕ → List ℕ → ℕ → Type 0
+Done graph values found j = getD found j 0 ≡ gateCode graph values j
 
 -- each gate that is 0 or 1 has that value: it need not be evaluated
-abbrev pub Steady : List ℕ → List ℕ → List ℕ → List ℕ → Type 0
-Steady ws setting old values = (j : ℕ) → j < getD ws 1 0 → (getD values j 0 ≡ 2) ⊎ Done ws setting old values j
+abbrev pub Steady : ℕ → List ℕ → List ℕ → List ℕ → Type 0
+Steady m graph values found = (j : ℕ) → j < m → (getD found j 0 ≡ 2) ⊎ Done graph values found j
 
--- a block that is not torn, a byte for each of its gates in `old`, room for its gates, and a queue as long as the gates that are 0 or 1
-pub record UpdateReady (ws : List ℕ) (nodes : Nodes) (setting old values queue : List ℕ) (end : ℕ) : Type 0 where
-  pub whole : isMalformed ws ≡ false
-  pub nodesAre : nodes ≡ nodesOf ws
-  pub gates : length old ≡ getD ws 1 0
-  pub valueRoom : getD ws 1 0 ≤ length values
-  pub queueRoom : getD ws 1 0 ≤ length queue
-  pub steady : Steady ws setting old values
-  pub counted : end ≡ definedBytes values (getD ws 1 0)
+-- a graph, room for its gates, and a queue as long as the gates that are 0 or 1
+pub record UpdateReady (m : ℕ) (graph values found queue : List ℕ) (end : ℕ) : Type 0 where
+  pub legal : Graph m graph
+  pub coded : Coded values
+  pub foundRoom : length found ≡ maxGates
+  pub queueRoom : length queue ≡ maxGates
+  pub steady : Steady m graph values found
+  pub counted : end ≡ definedFrom 0 found m
 
 -- some gates were evaluated: those that changed are queued, from `end` to `end′`
-pub record Updated (ws setting old values queue : List ℕ) (end : ℕ) (values′ queue′ : List ℕ) (end′ : ℕ) : Type 0 where
-  pub beyond : (j : ℕ) → getD ws 1 0 ≤ j → getD values′ j 0 ≡ getD values j 0
-  pub each : (j : ℕ) → j < getD ws 1 0 → (getD values′ j 0 ≡ getD values j 0) ⊎ (Done ws setting old values′ j × QueuedIn queue′ end end′ j)
+pub record Updated (m : ℕ) (graph values found queue : List ℕ) (end : ℕ) (found′ queue′ : List ℕ) (end′ : ℕ) : Type 0 where
+  pub foundLong : length found′ ≡ length found
+  pub queueLong : length queue′ ≡ length queue
+  pub each : (j : ℕ) → j < m → (getD found′ j 0 ≡ getD found j 0) ⊎ (Done graph values found′ j × QueuedIn queue′ end end′ j)
   pub front : (q : ℕ) → q < end → getD queue′ q 0 ≡ getD queue q 0
-  pub inside : (q : ℕ) → end ≤ q → q < end′ → getD queue′ q 0 < getD ws 1 0
+  pub inside : (q : ℕ) → end ≤ q → q < end′ → getD queue′ q 0 < m
   pub ordered : end ≤ end′
-  pub counted : end′ + definedBytes values (getD ws 1 0) ≡ end + definedBytes values′ (getD ws 1 0)
+  pub counted : end′ + definedFrom 0 found m ≡ end + definedFrom 0 found′ m
+
+-- a list of readers that are gates of the graph
+pub record ListReady (m : ℕ) (fanout : List ℕ) (from : ℕ) : Type 0 where
+  pub descends : Descends fanout
+  pub starts : from ≤ slots * m
 
 -- gate j was
-pub record UpdatedOne (ws setting old values queue : List ℕ) (end j : ℕ) (values′ queue′ : List ℕ) (end′ : ℕ) : Type 0 where
-  pub updated : Updated ws setting old values queue end values′ queue′ end′
-  pub done : Done ws setting old values′ j
+pub record UpdatedOne (m : ℕ) (graph values found queue : List ℕ) (end j : ℕ) (found′ queue′ : List ℕ) (end′ : ℕ) : Type 0 where
+  pub updated : Updated m graph values found queue end found′ queue′ end′
+  pub done : Done graph values found′ j
 
 -- the gates in a list of readers were
-pub record UpdatedList (ws setting old values queue : List ℕ) (end : ℕ) (next : List ℕ) (from : ℕ) (values′ queue′ : List ℕ) (end′ : ℕ) : Type 0 where
-  pub updated : Updated ws setting old values queue end values′ queue′ end′
-  pub done : (e : ℕ) → Chain next (suc e) from → Done ws setting old values′ (e / 4)
+pub record UpdatedList (m : ℕ) (graph fanout values found queue : List ℕ) (end from : ℕ) (found′ queue′ : List ℕ) (end′ : ℕ) : Type 0 where
+  pub updated : Updated m graph values found queue end found′ queue′ end′
+  pub done : (e : ℕ) → Chain fanout (suc e) from → Done graph values found′ (e / slots)
 
 -- all gates have their values
-pub record UpdatedAll (ws setting old values queue : List ℕ) (end : ℕ) (values′ queue′ : List ℕ) (end′ : ℕ) : Type 0 where
-  pub updated : Updated ws setting old values queue end values′ queue′ end′
-  pub done : (j : ℕ) → j < getD ws 1 0 → Done ws setting old values′ j
+pub record UpdatedAll (m : ℕ) (graph values found queue : List ℕ) (end : ℕ) (found′ queue′ : List ℕ) (end′ : ℕ) : Type 0 where
+  pub updated : Updated m graph values found queue end found′ queue′ end′
+  pub done : (j : ℕ) → j < m → Done graph values found′ j
 
 -- a gate has its value, or reads a gate that is queued
-abbrev pub Awake : List ℕ → List ℕ → List ℕ → List ℕ → List ℕ → ℕ → ℕ → Type 0
-Awake ws setting old values queue head tail =
-    (j : ℕ) → j < getD ws 1 0 → Done ws setting old values j ⊎ ((k : ℕ) × (reads (decode ws) j k ≡ true) × QueuedIn queue head tail k)
+abbrev pub Awake : ℕ → List ℕ → List ℕ → List ℕ → List ℕ → ℕ → ℕ → Type 0
+Awake m graph values found queue head tail =
+    (j : ℕ) → j < m → Done graph values found j ⊎ ((k : ℕ) × (reads (network m graph) j k ≡ true) × QueuedIn queue head tail k)
 
 -- the queued gates are there
-pub record CopyChangedReady (values queue : List ℕ) (head tail : ℕ) (old : List ℕ) : Type 0 where
-  pub queued : tail ≤ length queue
-  pub inside : (q : ℕ) → q < tail → (getD queue q 0 < length values) × (getD queue q 0 < length old)
+pub record CopyReady (queue : List ℕ) (tail : ℕ) (values : List ℕ) : Type 0 where
+  pub long : firstGate + maxGates ≡ length values
+  pub queued : tail ≤ maxGates
+  pub inside : (q : ℕ) → q < tail → getD queue q 0 < maxGates
 
--- the queued gates have their new values in `old`, and the others the old ones
-pub record Copied (values queue : List ℕ) (head tail : ℕ) (old old′ : List ℕ) : Type 0 where
-  pub each : (j : ℕ) → (getD old′ j 0 ≡ getD values j 0) ⊎ ((getD old′ j 0 ≡ getD old j 0) × (QueuedIn queue head tail j → ⊥))
+-- the queued gates have their new values at their places, and the others the old ones; what stands below the gates is as it was
+pub record Copied (found queue : List ℕ) (head tail : ℕ) (values values′ : List ℕ) : Type 0 where
+  pub long : length values′ ≡ length values
+  pub low : (p : ℕ) → p < firstGate → getD values′ p 0 ≡ getD values p 0
+  pub each : (j : ℕ) → (QueuedIn queue head tail j × (getD values′ (firstGate + j) 0 ≡ getD found j 0))
+      ⊎ ((QueuedIn queue head tail j → ⊥) × (getD values′ (firstGate + j) 0 ≡ getD values (firstGate + j) 0))
 
--- `values` is a round later than `old`, and the queue has the gates that changed in it from `head` to `tail`
-pub record Round (ws setting old values queue : List ℕ) (head tail : ℕ) : Type 0 where
-  pub oldRoom : getD ws 1 0 ≤ length old
-  pub valueRoom : getD ws 1 0 ≤ length values
-  pub queueRoom : getD ws 1 0 ≤ length queue
-  pub holds : take (getD ws 1 0) values ≡ roundCodes ws setting (take (getD ws 1 0) old)
-  pub grows : BelowAll (map valueOf (take (getD ws 1 0) old)) (map valueOf (take (getD ws 1 0) values))
-  pub told : (j : ℕ) → j < getD ws 1 0 → (getD values j 0 ≡ getD old j 0) ⊎ QueuedIn queue head tail j
-  pub inside : (q : ℕ) → q < tail → getD queue q 0 < getD ws 1 0
+-- `found` is a round later than `values`, and the queue has the gates that changed in it from `head` to `tail`
+pub record Round (m : ℕ) (graph values found queue : List ℕ) (head tail : ℕ) : Type 0 where
+  pub coded : Coded values
+  pub foundRoom : length found ≡ maxGates
+  pub queueRoom : length queue ≡ maxGates
+  pub done : (j : ℕ) → j < m → Done graph values found j
+  pub grows : BelowAll (stateIn m values) (round (network m graph) (inputsIn values) (stateIn m values))
+  pub told : (j : ℕ) → j < m → (getD found j 0 ≡ getD values (firstGate + j) 0) ⊎ QueuedIn queue head tail j
+  pub inside : (q : ℕ) → q < tail → getD queue q 0 < m
   pub ordered : head ≤ tail
-  pub before : head ≡ definedBytes old (getD ws 1 0)
-  pub counted : tail ≡ definedBytes values (getD ws 1 0)
+  pub before : head ≡ definedFrom firstGate values m
+  pub counted : tail ≡ definedFrom 0 found m
 
--- the first round, from all gates undefined
-pub record RoundStarted (ws setting values old′ values′ queue′ : List ℕ) (tail : ℕ) : Type 0 where
-  pub round : Round ws setting old′ values′ queue′ 0 tail
-  pub last : take (getD ws 1 0) old′ ≡ replicate (getD ws 1 0) 2
-  pub beyond : (j : ℕ) → getD ws 1 0 ≤ j → getD values′ j 0 ≡ getD values j 0
-
--- one round more
-pub record Turned (ws setting values old′ values′ queue′ : List ℕ) (tail end : ℕ) : Type 0 where
-  pub round : Round ws setting old′ values′ queue′ tail end
-  pub last : take (getD ws 1 0) old′ ≡ take (getD ws 1 0) values
-  pub beyond : (j : ℕ) → getD ws 1 0 ≤ j → getD values′ j 0 ≡ getD values j 0
+-- one round more: `values` has what was found
+pub record Turned (m : ℕ) (graph values values′ found′ queue′ : List ℕ) (tail end : ℕ) : Type 0 where
+  pub made : Round m graph values′ found′ queue′ tail end
+  pub inputs : inputsIn values′ ≡ inputsIn values
+  pub state : stateIn m values′ ≡ round (network m graph) (inputsIn values) (stateIn m values)

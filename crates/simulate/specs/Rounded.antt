@@ -1,37 +1,77 @@
--- What the rounds in src/ ask of a block's words, and what they leave in the slice of values.
+-- What settling asks of what is prepared, and what it leaves in the array of values. Cited by the contracts of this crate, of `sheet`, `setline` and
+-- `session`. Assumes nothing.
+--   PreparedFor   the graph and the fan-out of a block's gates
+--   Bytes, Blank  a setting's bytes, and an array in which nothing has a value
+--   Starting      an array with the inputs' values, in which no gate has a value
+--   SettledIn     the settled values in an array, and the number of rounds
+--   SweptIn       the values of one sweep
+--   Settled       the settled values in the first bytes of a slice
 use mathlib.Core.Path.{_≡_}
-use mathlib.Core.Bool.{false}
 use mathlib.Core.List.{List, map}
-use Prim.Native.Nat.{ℕ, _≤_, _<_}
-use lib.ListN.{getD}
+use Prim.Native.Nat.{ℕ, _+_, _≤_, _<_}
+use lib.ListN.{length, getD}
 use Rattle.laws.specs.Lists.{placed}
-use Rattle.layout.specs.declared.nodes.Nodes.{Nodes}
-use Rattle.layout.specs.Nodes.{nodesOf}
-use Rattle.netlist.specs.Values.{code, valueOf}
-use Rattle.netlist.specs.Netlist.{gateOf}
-use Rattle.netlist.specs.StoredBlock.{decode, isMalformed}
-use Rattle.netlist.specs.Rounds.{evaluated, round, rounds, settled}
+use Rattle.netlist.specs.Limits.{maxInputs, maxGates}
+use Rattle.netlist.specs.Values.{Value, undefined, code, valueOf}
+use Rattle.netlist.specs.Netlist.{Block}
+use Rattle.netlist.specs.StoredBlock.{decode}
+use Rattle.netlist.specs.GateTable.{gateTable}
+use Rattle.netlist.specs.Rounds.{rounds, settled}
 use Rattle.netlist.specs.Rendering.{sweep}
+use Rattle.graph.specs.Places.{firstInput, firstGate, placeCount}
+use Rattle.graph.specs.Graph.{network, Graph, Decoded}
+use Rattle.graph.specs.Fanout.{Fanout}
+use Rattle.ternary.specs.State.{Coded, inputsIn, stateIn}
 
--- gate j of a block that is not torn
-pub record InBlock (ws : List ℕ) (nodes : Nodes) (j : ℕ) : Type 0 where
-  pub whole : isMalformed ws ≡ false
-  pub nodesAre : nodes ≡ nodesOf ws
-  pub below : j < getD ws 1 0
+-- the table, a graph of m gates and its fan-out
+pub record Prepared (m : ℕ) (table graph fanout : List ℕ) : Type 0 where
+  pub tabled : table ≡ gateTable
+  pub legal : Graph m graph
+  pub linked : Fanout m graph fanout
 
--- a block that is not torn, whose values a slice of `room` bytes holds
-pub record ForRounds (ws : List ℕ) (nodes : Nodes) (room : ℕ) : Type 0 where
-  pub whole : isMalformed ws ≡ false
-  pub nodesAre : nodes ≡ nodesOf ws
-  pub fits : nodes .gates ≤ room
+-- of the block that these words hold
+pub record PreparedFor (ws graph fanout : List ℕ) : Type 0 where
+  pub decoded : Decoded (decode ws) (getD ws 1 0) graph
+  pub linked : Fanout (getD ws 1 0) graph fanout
 
--- the code of gate j's value, from the bytes of the setting and of the gates' values
-unfoldable pub gateCode : List ℕ → List ℕ → List ℕ → ℕ → ℕ
-gateCode ws setting values j = code (evaluated (map valueOf setting) (map valueOf values) (gateOf (decode ws) j))
+-- a setting: a byte for each input, each 0, 1 or 2
+pub record Bytes (setting : List ℕ) : Type 0 where
+  pub few : length setting ≤ maxInputs
+  pub most : (i : ℕ) → getD setting i 0 ≤ 2
 
--- the codes of all gates after one round from `values`
-unfoldable pub roundCodes : List ℕ → List ℕ → List ℕ → List ℕ
-roundCodes ws setting values = map code (round (decode ws) (map valueOf setting) (map valueOf values))
+-- nothing has a value yet
+pub record Blank (values : List ℕ) : Type 0 where
+  pub long : length values ≡ placeCount
+  pub all : (p : ℕ) → p < placeCount → getD values p 0 ≡ 2
+
+-- no gate has a value
+pub record Unsettled (values : List ℕ) : Type 0 where
+  pub coded : Coded values
+  pub none : (j : ℕ) → j < maxGates → getD values (firstGate + j) 0 ≡ 2
+
+-- and the inputs have these
+pub record Starting (x : List Value) (values : List ℕ) : Type 0 where
+  pub unsettled : Unsettled values
+  pub few : length x ≤ maxInputs
+  pub given : (i : ℕ) → i < maxInputs → valueOf (getD values (firstInput + i) 0) ≡ getD x i undefined
+
+-- room for a round: nothing is found yet
+pub record ScratchReady (found queue : List ℕ) : Type 0 where
+  pub foundRoom : length found ≡ maxGates
+  pub none : (j : ℕ) → j < maxGates → getD found j 0 ≡ 2
+  pub queueRoom : length queue ≡ maxGates
+
+-- the inputs are as they were, and the gates have their settled values
+pub record SettledIn (m : ℕ) (graph values values′ : List ℕ) (count : ℕ) : Type 0 where
+  pub coded : Coded values′
+  pub inputs : inputsIn values′ ≡ inputsIn values
+  pub state : stateIn m values′ ≡ settled (network m graph) (inputsIn values)
+  pub reported : count ≡ rounds (network m graph) (inputsIn values)
+
+-- the same of one sweep
+pub record SweptIn (m : ℕ) (graph values values′ : List ℕ) : Type 0 where
+  pub coded : Coded values′
+  pub state : stateIn m values′ ≡ sweep (network m graph) (inputsIn values)
 
 -- the settled values in the first bytes of a slice, and the number of rounds
 pub record Settled (ws setting entry exit : List ℕ) (count : ℕ) : Type 0 where

@@ -1,7 +1,13 @@
-// One sweep of a block that is not torn, straight into the slice for the values.
-use crate::round::value_of_gate;
-use layout::nodes::Nodes;
-use layout::nodes::nodes_of;
+// One sweep of a block that is not malformed.
+use crate::round::UNDEFINED;
+use crate::values::put_setting;
+use crate::values::take_gates;
+use graph::FIRST_GATE;
+use graph::GRAPH_WORDS;
+use graph::PLACES;
+use graph::decode_gates;
+use layout::offsets::gates_of;
+use ternary::gate::gate_value;
 use ternary::table::gate_table;
 ghost use mathlib.Core.Path.{_≡_};
 ghost use mathlib.Core.Bool.{false};
@@ -10,31 +16,35 @@ ghost use lib.ListN.{length, getD};
 ghost use Rattle.laws.specs.Lists.{placed};
 ghost use Rattle.netlist.specs.StoredBlock.{isMalformed};
 ghost use Rattle.netlist.specs.GateTable.{gateTable};
-ghost use Rattle.simulate.specs.Rounded.{ForRounds, sweepCodes};
+ghost use Rattle.graph.specs.Graph.{Graph};
+ghost use Rattle.simulate.specs.Rounded.{Unsettled, Bytes, SweptIn, sweepCodes};
 
-// Each gate once, in ascending order, from the setting and the values that this sweep has found so far.
-fn sweep_gates(table: &[u8; 1792], words: &[u16], nodes: Nodes, setting: &[u8], values: &mut [u8])
-    requires { ⌜ now table ≡ gateTable ⌝ }
-    requires { ⌜ ForRounds (now words) nodes (length (now values)) ⌝ }
-    ensures { λ r. ⌜ now (values .exit) ≡ placed (sweepCodes (now (words .entry)) (now (setting .entry))) (now (values .entry)) ⌝ }
+// Each gate once, in ascending order, from the inputs and the values that this sweep has found so far.
+fn sweep_gates(table: &[u8; 1792], graph: &[u16; GRAPH_WORDS], m: usize, values: &mut [u8; PLACES])
+    requires { ⌜ (now table ≡ gateTable) × Graph m (now graph) × Unsettled (now values) ⌝ }
+    ensures { λ r. ⌜ SweptIn m (now (graph .entry)) (now (values .entry)) (now (values .exit)) ⌝ }
 {
     let mut j = 0;
-    while j < nodes.gates {
-        let found = value_of_gate(table, words, nodes, j, setting, &values[..j]);
-        values[j] = found;
+    while j < m {
+        let found = gate_value(table, graph, j, values);
+        values[FIRST_GATE + j] = found;
         j += 1;
     }
 }
 
-// The values of one sweep into the first bytes of `values`; how many gates there are.
-pub fn sweep_into(words: &[u16], setting: &[u8], values: &mut [u8]) -> usize
-    requires { ⌜ isMalformed (now words) ≡ false ⌝ }
-    requires { ⌜ getD (now words) 1 0 ≤ length (now values) ⌝ }
-    ensures { λ r. ⌜ now (values .exit) ≡ placed (sweepCodes (now (words .entry)) (now (setting .entry))) (now (values .entry)) ⌝ }
+// The values of one sweep into the first bytes of `out`; how many gates there are.
+pub fn sweep_into(words: &[u16], setting: &[u8], out: &mut [u8]) -> usize
+    requires { ⌜ (isMalformed (now words) ≡ false) × Bytes (now setting) × (getD (now words) 1 0 ≤ length (now out)) ⌝ }
+    ensures { λ r. ⌜ now (out .exit) ≡ placed (sweepCodes (now (words .entry)) (now (setting .entry))) (now (out .entry)) ⌝ }
     ensures { λ r. ⌜ r ≡ getD (now (words .entry)) 1 0 ⌝ }
 {
     let table = gate_table();
-    let nodes = nodes_of(words);
-    sweep_gates(&table, words, nodes, setting, values);
-    nodes.gates
+    let mut graph = [0u16; GRAPH_WORDS];
+    decode_gates(words, &mut graph);
+    let mut values = [UNDEFINED; PLACES];
+    put_setting(setting, &mut values);
+    let m = gates_of(words);
+    sweep_gates(&table, &graph, m, &mut values);
+    take_gates(&values, m, out);
+    m
 }

@@ -1,22 +1,17 @@
--- A gate's head word: what a legal one says, and the gate's value from it and the operands' words. Assumes nothing.
+-- A gate's head word: what a legal one says. Assumes nothing.
 use mathlib.Core.Path.{_≡_}
 use mathlib.Core.Logic.{⊎-elim}
 use mathlib.Core.Bool.{true}
-use mathlib.Core.List.{List, map}
-use Prim.Native.Nat.{ℕ, _+_, _/_, _%_, _≤_, _<_}
+use mathlib.Core.List.{List}
+use Prim.Native.Nat.{ℕ, _/_, _%_, _≤_, _<_}
 use native.Mathlib.Omega.{arith}
 use lib.ListN.{length, getD, List·getD-eq-default}
 use lib.Dec.{leb}
 use borrow.Author.Tests.{leb-true}
-use Rattle.laws.specs.Lists.{tab}
-use Rattle.laws.proofs.Tab.{map-tab}
 use Rattle.laws.proofs.Tests.{and-left, lt-or-le}
-use Rattle.netlist.specs.Values.{valueOf}
-use Rattle.netlist.specs.Kinds.{fewestOperands, arityFits, gateValue}
-use Rattle.netlist.specs.Rounds.{operandValue, evaluated}
-use Rattle.netlist.specs.StoredBlock.{operandOf, gateAt}
+use Rattle.netlist.specs.Kinds.{fewestOperands, arityFits}
 use Rattle.layout.proofs.KindLaws.{not-counts, kind-last}
-use Rattle.ternary.specs.Legal.{LegalHead, valueFrom}
+use Rattle.ternary.specs.Legal.{LegalHead}
 
 module _ (words : List ℕ) (at : ℕ) (l : LegalHead words at) where
   head-kind : getD words at 0 % 8 ≤ 6
@@ -51,16 +46,3 @@ headOf words at h l e =
       kind = head-kind words at l;
       count = l .count;
     })
-
-module _ (n : ℕ) (words : List ℕ) (at : ℕ) (inputs gates : List ℕ) where
-  -- the gate's operand values
-  operands-from : map (operandValue (map valueOf inputs) (map valueOf gates)) (gateAt n words at .operands)
-      ≡ tab (valueFrom words n (at + 1) inputs gates) (getD words at 0 / 8)
-  unfolding gateAt valueFrom
-  operands-from = map-tab (operandValue (map valueOf inputs) (map valueOf gates)) (λ i. operandOf n (getD words (at + 1 + i) 0)) (getD words at 0 / 8)
-
-  -- the gate's value from them
-  pub evaluated-gate : (h : ℕ) → h ≡ getD words at 0
-      → evaluated (map valueOf inputs) (map valueOf gates) (gateAt n words at) ≡ gateValue (h % 8) (tab (valueFrom words n (at + 1) inputs gates) (h / 8))
-  unfolding evaluated gateAt
-  evaluated-gate h e = rw (e, operands-from)

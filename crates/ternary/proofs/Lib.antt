@@ -2,3 +2,5 @@
 pub mod Codes
 pub mod Heads
 pub mod GateTable
+pub mod State
+pub mod Outputs

@@ -1,91 +1,51 @@
-// One gate's value from its words and the values of the inputs and gates: the operands' codes, and one read of the table of all gates.
+// One gate's value from a graph and the values of what stands at each place: its operands' codes, and one read of the table of all gates.
 // It is found once for each gate, round and setting.
 use crate::table::ABSENT;
-use layout::nodes::CONSTANT_0;
-use layout::nodes::CONSTANT_1;
-use layout::read::value_at;
-use layout::read::word_at;
+use graph::GRAPH_WORDS;
+use graph::NODE_SIZE;
+use graph::PLACES;
 ghost use mathlib.Core.Path.{_≡_};
-ghost use mathlib.Core.List.{map};
-ghost use Prim.Native.Nat.{_<_, _^_};
+ghost use Prim.Native.Nat.{_≤_, _<_};
 ghost use Rattle.laws.specs.Lists.{tab};
-ghost use Rattle.netlist.specs.Values.{code, valueOf};
 ghost use Rattle.netlist.specs.GateTable.{operandCode, gateTable};
-ghost use Rattle.netlist.specs.Rounds.{evaluated};
-ghost use Rattle.netlist.specs.StoredBlock.{gateAt};
-ghost use Rattle.ternary.specs.Legal.{LegalHead, wordValue, valueFrom};
+ghost use Rattle.graph.specs.Graph.{slots};
+ghost use Rattle.ternary.specs.State.{Coded, LegalGate, slotValue, gateCode};
 
-// A byte that holds a value, as the value's code.
-fn coded(v: u8) -> u8
-    ensures { λ r. ⌜ r ≡ code (valueOf v) ⌝ }
-{
-    if v < 2 { v } else { 2 }
-}
-
-// The value of the operand that `word` stands for, in a block of n inputs.
-pub fn operand_value(word: usize, n: usize, inputs: &[u8], gates: &[u8]) -> u8
-    ensures { λ r. ⌜ r ≡ code (wordValue n (now (inputs .entry)) (now (gates .entry)) word) ⌝ }
-{
-    if word < n {
-        return coded(value_at(inputs, word));
-    }
-    match word {
-        CONSTANT_0 => 0,
-        CONSTANT_1 => 1,
-        _ => coded(value_at(gates, word - n)),
-    }
-}
-
-// Where a gate's operand words start, and how many they are.
-struct Operands {
-    from: usize,
-    count: usize,
-}
-
-// The code of operand `place` of a gate.
+// The code of operand `i` of gate `j`, which has `count` operands.
 fn operand_code(
-    words: &[u16],
-    n: usize,
-    operands: Operands,
-    place: usize,
-    inputs: &[u8],
-    gates: &[u8],
+    graph: &[u16; GRAPH_WORDS],
+    j: usize,
+    count: usize,
+    i: usize,
+    values: &[u8; PLACES],
 ) -> usize
-    requires { ⌜ operands .from < 2 ^ 63 ⌝ }
-    requires { ⌜ place < 4 ⌝ }
-    ensures { λ r. ⌜
-        r ≡ operandCode (tab (valueFrom (now (words .entry)) n (operands .from) (now (inputs .entry)) (now (gates .entry))) (operands .count)) place
-        ⌝ }
+    requires { ⌜ LegalGate (now graph) j × Coded (now values) × (i < slots) ⌝ }
+    ensures { λ r. ⌜ (r ≡ operandCode (tab (slotValue (now (graph .entry)) (now (values .entry)) j) count) i) × (r ≤ 3) ⌝ }
 {
-    if place < operands.count {
-        operand_value(word_at(words, operands.from + place), n, inputs, gates) as usize
+    if i < count {
+        let place = graph[NODE_SIZE * j + 1 + i] as usize;
+        values[place] as usize
     } else {
         ABSENT
     }
 }
 
-// The value of the gate whose words start at `at`: the operands' codes, and one read of the table.
+// The value of gate `j`: its operands' codes, and one read of the table.
 pub fn gate_value(
     table: &[u8; 1792],
-    words: &[u16],
-    n: usize,
-    at: usize,
-    inputs: &[u8],
-    gates: &[u8],
+    graph: &[u16; GRAPH_WORDS],
+    j: usize,
+    values: &[u8; PLACES],
 ) -> u8
     requires { ⌜ now table ≡ gateTable ⌝ }
-    requires { ⌜ LegalHead (now words) at ⌝ }
-    ensures { λ r. ⌜ r ≡ code (evaluated (map valueOf (now (inputs .entry))) (map valueOf (now (gates .entry))) (gateAt n (now (words .entry)) at)) ⌝ }
+    requires { ⌜ LegalGate (now graph) j × Coded (now values) ⌝ }
+    ensures { λ r. ⌜ r ≡ gateCode (now (graph .entry)) (now (values .entry)) j ⌝ }
 {
-    let head = word_at(words, at);
-    let from = at + 1;
-    let operands = Operands {
-        from,
-        count: head / 8,
-    };
-    let a = operand_code(words, n, operands, 0, inputs, gates);
-    let b = operand_code(words, n, operands, 1, inputs, gates);
-    let c = operand_code(words, n, operands, 2, inputs, gates);
-    let d = operand_code(words, n, operands, 3, inputs, gates);
-    table[256 * (head % 8) + a + 4 * b + 16 * c + 64 * d]
+    let operation = graph[NODE_SIZE * j] as usize;
+    let count = operation / 8 % 8;
+    let a = operand_code(graph, j, count, 0, values);
+    let b = operand_code(graph, j, count, 1, values);
+    let c = operand_code(graph, j, count, 2, values);
+    let d = operand_code(graph, j, count, 3, values);
+    table[256 * (operation % 8) + a + 4 * b + 16 * c + 64 * d]
 }

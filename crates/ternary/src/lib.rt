@@ -1,4 +1,4 @@
-// The values of one gate and of one output from a block's words. Callers cite specs of `netlist`.
+// The value of one gate of a graph, and of one output. Callers cite specs of `netlist`.
 pub mod gate;
 pub mod output;
 pub mod table;

@@ -12,19 +12,19 @@ use Rattle.laws.proofs.Elements.{rest-is-drop}
 use Rattle.session.specs.Session.{SessionReady}
 
 abbrev Inv-loop : tie.InvT-loop
-Inv-loop piece text₀ words₀ line₀ out₀ state₀ at₀ text words line out state at =
-    (at ≤ length piece) × SessionReady state text words line out
+Inv-loop piece text₀ words₀ graph₀ fanout₀ line₀ out₀ state₀ at₀ text words graph fanout line out state at =
+    (at ≤ length piece) × SessionReady state text words graph fanout line out
     × (length text ≡ length text₀) × (length words ≡ length words₀) × (length line ≡ length line₀) × (length out ≡ length out₀)
 
 abbrev μ-loop : tie.MeasureT-loop
-μ-loop piece text₀ words₀ line₀ out₀ state₀ at₀ text words line out state at = length piece - at
+μ-loop piece text₀ words₀ graph₀ fanout₀ line₀ out₀ state₀ at₀ text words graph fanout line out state at = length piece - at
 
 -- what was fed, from the answers' write; the loop's head, from there; the function's entry, from the head
 abbrev fed : tie.After-slice-known8 Inv-loop μ-loop → tie.After-feed Inv-loop μ-loop
 fed c = c .before .before .before .before .before .before .before .before
 
 abbrev head : tie.After-feed Inv-loop μ-loop → tie.At-loop Inv-loop μ-loop
-head f = f .before .before .before .before .before .before .before
+head f = f .before .before .before .before .before .before .before .before .before
 
 abbrev start : tie.At-loop Inv-loop μ-loop → tie.Start Inv-loop μ-loop
 start l = l .before .before .before .before .before .before
@@ -39,26 +39,14 @@ part-length l =
 loop-holds : tie.Need-loop-holds Inv-loop μ-loop
 loop-holds c = (omega arith, c .before .before .before .before .before .pre, refl, refl, refl, refl)
 
-sub-feed : tie.Need-sub-feed Inv-loop μ-loop
-sub-feed c = omega arith
-
-part-feed-start : tie.Need-part-feed-start Inv-loop μ-loop
-part-feed-start c = omega arith
-
-part-feed-end : tie.Need-part-feed-end Inv-loop μ-loop
-part-feed-end c = omega arith
-
 feed-requires : tie.Need-feed-requires Inv-loop μ-loop
-feed-requires c κs = c .before .before .before .before .before .before .loop .inv .1
+feed-requires c κs = c .before .before .before .before .before .before .before .before .loop .inv .1
 
 slice-reshare-prefix-write-all : tie.Need-slice-reshare-prefix-write-all Inv-loop μ-loop
 slice-reshare-prefix-write-all c = fed c .feed .ensures .progress .output .within
 
 slice-aggregate-write-all : tie.Need-slice-aggregate-write-all Inv-loop μ-loop
 slice-aggregate-write-all c = sym (length-take-le _ _ (fed (c .before) .feed .ensures .progress .output .within))
-
-write-all-requires : tie.Need-write-all-requires Inv-loop μ-loop
-write-all-requires c κs = search needs
 
 add-at : tie.Need-add-at Inv-loop μ-loop
 add-at c =
@@ -71,7 +59,7 @@ loop-less : tie.Need-loop-less Inv-loop μ-loop
 loop-less c =
     let f = fed (c .before .before .before) in
     let part = part-length (head f) in
-    let more = f .before .before .before .before .before .before .loop-test .taken in
+    let more = f .before .before .before .before .before .before .before .before .loop-test .taken in
     let moved = f .feed .ensures .moves (omega (arith, part, more)) in
     omega (arith, part, more, moved, f .feed .ensures .progress .within)
 
@@ -80,18 +68,6 @@ loop-again c =
     let f = fed (c .before .before .before) in
     let part = part-length (head f) in
     (omega (arith, part, f .feed .ensures .progress .within), f .feed .ensures .progress .ready, omega arith, omega arith, omega arith, omega arith)
-
-same-length : tie.Need-same-length Inv-loop μ-loop
-same-length c = omega arith
-
-same-length-2 : tie.Need-same-length-2 Inv-loop μ-loop
-same-length-2 c = omega arith
-
-same-length-3 : tie.Need-same-length-3 Inv-loop μ-loop
-same-length-3 c = omega arith
-
-same-length-4 : tie.Need-same-length-4 Inv-loop μ-loop
-same-length-4 c = omega arith
 
 returns : tie.Need-returns Inv-loop μ-loop
 returns c = c .before .loop .inv .1
@@ -103,18 +79,18 @@ serve-piece-spec =
     Inv-loop
     μ-loop
     loop-holds
-    sub-feed
-    part-feed-start
-    part-feed-end
+    (λ c. omega arith)
+    (λ c. omega arith)
+    (λ c. omega arith)
     feed-requires
     slice-reshare-prefix-write-all
     slice-aggregate-write-all
-    write-all-requires
+    (λ c κs. search needs)
     add-at
     loop-less
     loop-again
-    same-length
-    same-length-2
-    same-length-3
-    same-length-4
+    (λ c. omega arith)
+    (λ c. omega arith)
+    (λ c. omega arith)
+    (λ c. omega arith)
     returns)

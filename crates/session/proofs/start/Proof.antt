@@ -8,7 +8,7 @@ use native.Mathlib.Omega.{arith}
 returns : tie.Need-returns
 unfolding runOf Sound
 returns c =
-    record { isSound = λ words. omega arith; isStart = λ text words line. refl }
+    record { isSound = λ words graph fanout bare. (omega arith, bare); isStart = λ text words line. refl }
 
 pub start-spec : {M : Type 1} → statement M
 start-spec = tie.close (tie.spec returns)

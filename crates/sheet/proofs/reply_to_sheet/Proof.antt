@@ -10,20 +10,8 @@ use Rattle.sheet.proofs.RecordLaws.{sheet-chain, sheet-done}
 use Rattle.sheet.proofs.reply_to_sheet.Statement.{statement}
 use Rattle.sheet.proofs.reply_to_sheet.Tie as tie
 
-check-words-requires : tie.Need-check-words-requires
-check-words-requires c κs = search needs
-
 enum-told : tie.Need-enum-told
 enum-told c = search needs
-
-enum-told-2 : tie.Need-enum-told-2
-enum-told-2 c = search needs
-
-refusal-requires : tie.Need-refusal-requires
-refusal-requires c κs = search needs
-
-reply-of-requires : tie.Need-reply-of-requires
-reply-of-requires c κs = search needs
 
 returns : tie.Need-returns
 returns c =
@@ -31,9 +19,6 @@ returns c =
     let told = failed bare keeps-bare _ _ MalformedBlock (sheet-chain _ _) (t .before .check-words .ensures) [] (t .match .keys2)
     (c .before .refusal .ensures) in
     shows-same (promise-answer told) (c .reply-of .ensures)
-
-reply-of-requires-2 : tie.Need-reply-of-requires-2
-reply-of-requires-2 c κs = search needs
 
 returns-2 : tie.Need-returns-2
 returns-2 c =
@@ -46,11 +31,11 @@ pub reply-to-sheet-spec : {M : Type 1} → statement M
 reply-to-sheet-spec =
     tie.close
     (tie.spec
-    check-words-requires
+    (λ c κs. search needs)
     enum-told
-    enum-told-2
-    refusal-requires
-    reply-of-requires
+    (λ c. search needs)
+    (λ c κs. search needs)
+    (λ c κs. search needs)
     returns
-    reply-of-requires-2
+    (λ c κs. search needs)
     returns-2)

@@ -1,67 +1,71 @@
--- `session::netlist_part::open` meets its contract: what Read tells of the netlist is the run's turn at its end. Assumes nothing.
+-- `session::netlist_part::open` meets its contract: what Read tells of the netlist is the run's turn at its end, and a block is prepared. Assumes nothing.
+use mathlib.Core.Path.{_≡_, sym}
+use mathlib.Core.Bool.{false}
+use Prim.Native.Nat.{_≤_}
+use lib.ListN.{length, take}
+use Rattle.netlist.specs.StoredBlock.{isMalformed}
+use lib.Seq.{length-take-le}
+use Rattle.session.proofs.Steps.{read-refused, read-legal, read-done}
 use borrow.Author.Needs.{needs}
 use Rattle.session.proofs.netlist_part.open.Statement.{statement}
 use Rattle.session.proofs.netlist_part.open.Tie as tie
-use Rattle.session.proofs.Steps.{read-refused, read-done}
-use lib.Seq.{length-take-le}
-use mathlib.Core.Path.{sym}
-use lib.ListN.{take}
+
+-- the block that was read
+legal : (f : tie.After-count) → let words = f .before .before .before .before .read .last .1 .0 in
+    (f .count .given .0 .0 ≤ length words) × (isMalformed (take (f .count .given .0 .0) words) ≡ false)
+legal f =
+    let r = f .before .before .before .before in
+    let start = r .before .before .before .before .before .before in
+    let found = f .count .given in
+    read-legal (take (start .args .held) (start .args .text .now)) (start .args .words .now) _ (start .pre .1) _ (r .read .ensures) (found .0 .0)
+    (found .0 .1 .0) (found .1)
 
 slice-aggregate-read : tie.Need-slice-aggregate-read
-slice-aggregate-read c =
-    sym (length-take-le _ _ (c .before .before .before .before .pre .0))
+slice-aggregate-read c = sym (length-take-le _ _ (c .before .before .before .before .pre .0))
 
-read-requires : tie.Need-read-requires
-read-requires c κs = search needs
+slice-reshare-prefix-prepare : tie.Need-slice-reshare-prefix-prepare
+slice-reshare-prefix-prepare c = legal (c .before) .0
 
-enum-known-why : tie.Need-enum-known-why
-enum-known-why c = search needs
+slice-aggregate-prepare : tie.Need-slice-aggregate-prepare
+slice-aggregate-prepare c = sym (length-take-le _ _ (legal (c .before .before) .0))
 
-tell-requires : tie.Need-tell-requires
-tell-requires c κs = search needs
-
-enum-known-count : tie.Need-enum-known-count
-enum-known-count c = search needs
-
-same-length : tie.Need-same-length
-same-length c = search needs
-
-same-length-2 : tie.Need-same-length-2
-same-length-2 c = search needs
+prepare-requires : tie.Need-prepare-requires
+prepare-requires c κs =
+    let bare = c .before .before .before .before .before .before .before .before .before .before .before .before .before .before .pre .3 in
+    (legal (c .before .before .before .before) .1, bare .long, bare .empty)
 
 returns : tie.Need-returns
 returns c =
-    let at-why = c .before .before .before .before .before in
-    let at-read = at-why .before .before .before .before in
-    let start = at-read .before .before .before .before .before .before in
-    let found = at-why .why .given in
+    let read = c .before .before .before .before .before .before .before .before .before in
+    let start = read .before .before .before .before .before .before in
+    let found = c .before .before .before .before .before .why .given in
     λ line. read-refused (take (start .args .held) (start .args .text .now)) (start .args .words .now) _ (start .pre .1) _
-    (at-read .read .ensures) (found .0 .0) (found .1)
-    _ line _ _ _ (c .before .before .tell .ensures)
-
-same-length-3 : tie.Need-same-length-3
-same-length-3 c = search needs
+    (read .read .ensures) (found .0 .0) (found .1)
+    _ _ _ line _ _ _ (c .before .before .tell .ensures)
 
 returns-2 : tie.Need-returns-2
 returns-2 c =
-    let at-read = c .before .before .before .before .before in
-    let start = at-read .before .before .before .before .before .before in
-    let found = c .before .count .given in
+    let read = c .before .before .before .before .before .before .before .before .before in
+    let start = read .before .before .before .before .before .before in
+    let found = c .before .before .before .before .before .count .given in
     λ line. read-done (take (start .args .held) (start .args .text .now)) (start .args .words .now) _ (start .pre .1) _
-    (at-read .read .ensures) (found .0 .0) (found .0 .1 .0) (found .1)
-    _ line _
+    (read .read .ensures) (found .0 .0) (found .0 .1 .0) (found .1)
+    _ _ _ line _ (c .prepare .ensures)
 
 pub open-spec : {M : Type 1} → statement M
 open-spec =
     tie.close
     (tie.spec
     slice-aggregate-read
-    read-requires
-    enum-known-why
-    tell-requires
-    enum-known-count
-    same-length
-    same-length-2
+    (λ c κs. search needs)
+    (λ c. search needs)
+    (λ c κs. search needs)
+    (λ c. search needs)
+    slice-reshare-prefix-prepare
+    slice-aggregate-prepare
+    prepare-requires
+    (λ c. search needs)
+    (λ c. search needs)
     returns
-    same-length-3
+    (λ c. search needs)
     returns-2)

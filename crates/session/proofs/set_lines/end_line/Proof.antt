@@ -1,12 +1,12 @@
--- `session::set_lines::end_line` meets its contract: an empty rest is no line. Assumes nothing.
-use borrow.Author.Needs.{needs}
-use Rattle.session.proofs.set_lines.end_line.Statement.{statement}
-use Rattle.session.proofs.set_lines.end_line.Tie as tie
+-- `session::set_lines::end_line` meets its contract: a line that is not empty is answered. Assumes nothing.
 use Rattle.session.proofs.Steps.{no-last-line, last-line, nonzero}
 use native.Mathlib.Omega.{arith}
 use lib.ListN.{take}
 use lib.Seq.{length-take-le}
 use mathlib.Core.Path.{sym}
+use borrow.Author.Needs.{needs}
+use Rattle.session.proofs.set_lines.end_line.Statement.{statement}
+use Rattle.session.proofs.set_lines.end_line.Tie as tie
 
 returns : tie.Need-returns
 returns c =
@@ -14,18 +14,10 @@ returns c =
     rw (c .if1 .taken) (no-last-line (take (x .count) (x .words .now)) (x .line .now) _)
 
 slice-aggregate-answer : tie.Need-slice-aggregate-answer
-slice-aggregate-answer c =
-    sym (length-take-le _ _ (c .before .before .before .before .before .pre .wordsThere))
+slice-aggregate-answer c = sym (length-take-le _ _ (c .before .before .before .before .before .pre .wordsThere))
 
 slice-aggregate-answer-2 : tie.Need-slice-aggregate-answer-2
-slice-aggregate-answer-2 c =
-    sym (length-take-le _ _ (omega arith))
-
-answer-requires : tie.Need-answer-requires
-answer-requires c κs = search needs
-
-same-length : tie.Need-same-length
-same-length c = search needs
+slice-aggregate-answer-2 c = sym (length-take-le _ _ (omega arith))
 
 returns-2 : tie.Need-returns-2
 returns-2 c =
@@ -42,6 +34,6 @@ end-line-spec =
     returns
     slice-aggregate-answer
     slice-aggregate-answer-2
-    answer-requires
-    same-length
+    (λ c κs. search needs)
+    (λ c. search needs)
     returns-2)

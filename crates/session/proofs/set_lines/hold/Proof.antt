@@ -4,15 +4,6 @@ use Rattle.session.proofs.set_lines.hold.Statement.{statement}
 use Rattle.session.proofs.set_lines.hold.Tie as tie
 use Rattle.session.proofs.Steps.{held-stored, held-full}
 
-slice-write-line : tie.Need-slice-write-line
-slice-write-line c = search needs
-
-add-result : tie.Need-add-result
-add-result c = search needs
-
-same-length : tie.Need-same-length
-same-length c = search needs
-
 returns : tie.Need-returns
 returns c =
     let s = c .before in
@@ -24,4 +15,4 @@ returns-2 c =
     held-full (s .args .held) (s .args .byte) (s .args .line .now) (s .pre .0) (s .pre .1) (c .if1 .left)
 
 pub hold-spec : {M : Type 1} → statement M
-hold-spec = tie.close (tie.spec slice-write-line add-result same-length returns returns-2)
+hold-spec = tie.close (tie.spec (λ c. search needs) (λ c. search needs) (λ c. search needs) returns returns-2)

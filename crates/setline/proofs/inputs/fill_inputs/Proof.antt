@@ -20,33 +20,6 @@ abbrev μ-loop : tie.MeasureT-loop
 loop-holds : tie.Need-loop-holds Inv-loop μ-loop
 loop-holds c = (omega arith, refl, refl)
 
-mul-name-bytes : tie.Need-mul-name-bytes Inv-loop μ-loop
-mul-name-bytes c = omega arith
-
-add-name-bytes : tie.Need-add-name-bytes Inv-loop μ-loop
-add-name-bytes c = omega arith
-
-name-bytes-requires : tie.Need-name-bytes-requires Inv-loop μ-loop
-name-bytes-requires c κs = omega arith
-
-slice-aggregate-pack : tie.Need-slice-aggregate-pack Inv-loop μ-loop
-slice-aggregate-pack c = search needs
-
-pack-requires : tie.Need-pack-requires Inv-loop μ-loop
-pack-requires c κs = search needs
-
-mul-inputs : tie.Need-mul-inputs Inv-loop μ-loop
-mul-inputs c = omega arith
-
-slice-write-inputs : tie.Need-slice-write-inputs Inv-loop μ-loop
-slice-write-inputs c = omega arith
-
-add-i : tie.Need-add-i Inv-loop μ-loop
-add-i c = omega arith
-
-loop-less : tie.Need-loop-less Inv-loop μ-loop
-loop-less c = omega arith
-
 loop-again : tie.Need-loop-again Inv-loop μ-loop
 unfolding inputKey
 loop-again c =
@@ -71,15 +44,15 @@ fill-inputs-spec =
     Inv-loop
     μ-loop
     loop-holds
-    mul-name-bytes
-    add-name-bytes
-    name-bytes-requires
-    slice-aggregate-pack
-    pack-requires
-    mul-inputs
-    slice-write-inputs
-    add-i
-    loop-less
+    (λ c. omega arith)
+    (λ c. omega arith)
+    (λ c κs. omega arith)
+    (λ c. search needs)
+    (λ c κs. search needs)
+    (λ c. omega arith)
+    (λ c. omega arith)
+    (λ c. omega arith)
+    (λ c. omega arith)
     loop-again
     same-length
     returns)

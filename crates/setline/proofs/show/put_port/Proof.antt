@@ -2,22 +2,23 @@
 use borrow.Author.Needs.{needs}
 use Rattle.setline.proofs.show.put_port.Statement.{statement}
 use Rattle.setline.proofs.show.put_port.Tie as tie
-use Prim.Native.Nat.{_+_, _*_}
-use mathlib.Core.Path.{_≡_}
+use Prim.Native.Nat.{ℕ, _+_, _*_}
+use mathlib.Core.Path.{_≡_, ap, _∙_}
 use mathlib.Core.List.{[], _∷_}
 use native.Mathlib.Omega.{arith}
 use lib.ListN.{getD}
 use Rattle.laws.specs.Lists.{ascii}
-use Rattle.netlist.specs.StoredBlock.{nameSize, outputSize}
+use Rattle.netlist.specs.StoredBlock.{nameSize, outputSize, operandOf}
+use Rattle.netlist.specs.Values.{valueOf}
 use Rattle.netlist.specs.Syntax.{valueText, pairText}
-use Rattle.ternary.specs.Legal.{wordValue}
+use Rattle.graph.specs.Places.{placeOf}
 use Rattle.writing.proofs.Appending.{appended-then, short-first, short-rest}
 use Rattle.setline.specs.Shown.{portPiece}
-use Rattle.setline.proofs.ShowLaws.{value-shown}
+use Rattle.setline.proofs.ShowLaws.{ports-near, port-ready}
 
 -- the stages: the value is found, and then the pieces are put
 abbrev start : tie.After-shown-value → tie.Start
-start c = c .before .before .before .before .before .before
+start c = c .before .before .before .before
 
 abbrev asked : tie.After-put-all → tie.After-shown-value
 asked c = c .before .before .before
@@ -33,25 +34,20 @@ spaced c = c .before .before .before .before
 
 byte-is : (c : tie.After-value-byte) → let a = start (asked (opened (named (spaced c)))) .args in
     c .value-byte .result ∷ []
-    ≡ valueText (wordValue (getD (a .words .now) 0 0) (a .setting .now) (a .gates .now) (getD (a .words .now) (a .from + outputSize * a .o + nameSize) 0))
+    ≡ valueText (valueOf (getD (a .values .now) (placeOf (operandOf (getD (a .words .now) 0 0) (getD (a .words .now)
+    (a .from + outputSize * a .o + nameSize) 0))) 0))
 byte-is c =
     let q = asked (opened (named (spaced c))) in
-    rw (← q .before .inputs-of .ensures) (value-shown _ (q .shown-value .ensures) (c .value-byte .ensures))
+    rw (← q .before .inputs-of .ensures) (c .value-byte .ensures ∙ ap (λ (v : ℕ). valueText (valueOf v)) (q .shown-value .ensures))
 
 mul-port : tie.Need-mul-port
-mul-port c = search needs
+mul-port c = let s = c .before .before in omega (arith, s .pre .0 .below, ports-near (s .args .words .now) (s .pre .0 .whole) (s .pre .0 .start))
 
 add-port : tie.Need-add-port
-add-port c = search needs
-
-inputs-of-requires : tie.Need-inputs-of-requires
-inputs-of-requires c κs = search needs
+add-port c = let s = c .before .before in omega (arith, s .pre .0 .below, ports-near (s .args .words .now) (s .pre .0 .whole) (s .pre .0 .start))
 
 shown-value-requires : tie.Need-shown-value-requires
-shown-value-requires c κs = search needs
-
-slice-aggregate-put-all : tie.Need-slice-aggregate-put-all
-slice-aggregate-put-all c = search needs
+shown-value-requires c κs = port-ready (c .before .before .before .pre .0) (c .inputs-of .ensures)
 
 put-all-requires : tie.Need-put-all-requires
 unfolding portPiece pairText
@@ -62,8 +58,11 @@ put-name-requires : tie.Need-put-name-requires
 unfolding portPiece pairText
 put-name-requires c κs =
     let o = c .before .before .before in
-    let s = start (asked o) in
-    (omega (arith, s .pre .0), short-first _ (short-rest {xs = ascii " ("} _ (s .pre .1) (o .put-all .ensures)))
+    let s = start (asked o) in (
+      omega (arith, s .pre .0 .below, ports-near (s .args .words .now) (s .pre .0 .whole) (s .pre .0 .start)),
+      short-first _
+          (short-rest {xs = ascii " ("} _ (s .pre .1) (o .put-all .ensures)),
+    )
 
 put-requires : tie.Need-put-requires
 unfolding portPiece pairText
@@ -72,9 +71,6 @@ put-requires c κs =
     let o = opened n in
     let a = short-rest {xs = ascii " ("} _ (start (asked o) .pre .1) (o .put-all .ensures) in
     short-first {xs = ascii " "} _ (short-rest _ a (n .put-name .ensures))
-
-value-byte-requires : tie.Need-value-byte-requires
-value-byte-requires c κs = search needs
 
 put-requires-2 : tie.Need-put-requires-2
 unfolding portPiece pairText
@@ -98,9 +94,6 @@ put-requires-3 c κs =
     let d = short-rest {xs = ascii " "} _ b (s .put .ensures) in
     short-rest _ d (rw (byte-is (f .before)) at (f .put2 .ensures))
 
-same-length : tie.Need-same-length
-same-length c = search needs
-
 returns : tie.Need-returns
 unfolding portPiece pairText
 returns c =
@@ -118,14 +111,14 @@ put-port-spec =
     (tie.spec
     mul-port
     add-port
-    inputs-of-requires
+    (λ c κs. search needs)
     shown-value-requires
-    slice-aggregate-put-all
+    (λ c. search needs)
     put-all-requires
     put-name-requires
     put-requires
-    value-byte-requires
+    (λ c κs. search needs)
     put-requires-2
     put-requires-3
-    same-length
+    (λ c. search needs)
     returns)

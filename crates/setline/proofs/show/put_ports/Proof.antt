@@ -3,18 +3,19 @@ use Prim.Native.Nat.{_-_}
 use native.Mathlib.Omega.{arith}
 use Rattle.writing.proofs.Appending.{appended-length, PiecesPut, put-none, put-short, put-more, put-every}
 use Rattle.setline.specs.Shown.{portPiece}
+use Rattle.setline.proofs.ShowLaws.{ports-near}
 use Rattle.setline.proofs.show.put_ports.Statement.{statement}
 use Rattle.setline.proofs.show.put_ports.Tie as tie
 
 abbrev Inv-loop : tie.InvT-loop
-Inv-loop text₀ at words from k setting gates end₀ o₀ text end o = PiecesPut (portPiece words from setting gates) k text₀ at text end o
+Inv-loop text₀ at words from k values end₀ o₀ text end o = PiecesPut (portPiece words from values) k text₀ at text end o
 
 abbrev μ-loop : tie.MeasureT-loop
-μ-loop text₀ at words from k setting gates end₀ o₀ text end o = k - o
+μ-loop text₀ at words from k values end₀ o₀ text end o = k - o
 
 -- the function's entry, from the loop's head
 abbrev start : tie.At-loop Inv-loop μ-loop → tie.Start Inv-loop μ-loop
-start l = l .before .before .before .before .before
+start l = l .before .before .before
 
 loop-holds : tie.Need-loop-holds Inv-loop μ-loop
 loop-holds c = put-none
@@ -23,13 +24,13 @@ put-port-requires : tie.Need-put-port-requires Inv-loop μ-loop
 put-port-requires c κs =
     let l = c .before .before in
     let more = c .before .loop-test .taken in
-    ((start l .pre .0 .0, omega (arith, start l .pre .0, more)), put-short (l .loop .inv) more (start l .pre .1))
+    let p = start l .pre .0 in
+    (record { whole = p .whole; start = p .start; below = omega (arith, p .many, more) }, put-short (l .loop .inv) more (start l .pre .1))
 
 add-o : tie.Need-add-o Inv-loop μ-loop
-add-o c = omega (arith, start (c .before .before .before .before .before) .pre .0)
-
-loop-less : tie.Need-loop-less Inv-loop μ-loop
-loop-less c = omega arith
+add-o c =
+    let s = start (c .before .before .before .before .before) in
+    omega (arith, s .pre .0 .many, ports-near (s .args .words .now) (s .pre .0 .whole) (s .pre .0 .start))
 
 loop-again : tie.Need-loop-again Inv-loop μ-loop
 loop-again c =
@@ -51,7 +52,7 @@ put-ports-spec =
     loop-holds
     put-port-requires
     add-o
-    loop-less
+    (λ c. omega arith)
     loop-again
     same-length
     returns)

@@ -8,57 +8,39 @@ use Rattle.laws.specs.Lists.{ascii}
 use Rattle.writing.specs.Pieces.{Short, pieces}
 use Rattle.writing.proofs.Appending.{appended-then, short-first, short-rest}
 use Rattle.setline.specs.Shown.{portPiece, showText}
-use Rattle.setline.proofs.ShowLaws.{show-of, show-short, ports-near}
+use Rattle.setline.proofs.ShowLaws.{show-of, show-short}
 
 -- the three parts, from the header that was read
-parts : (c : tie.After-outputs-of) → let a = c .before .before .before .before .before .before .args in
-    showText (a .words .now) (a .setting .now) (a .gates .now)
+parts : (c : tie.After-outputs-of) → let a = c .before .before .before .before .args in
+    showText (a .words .now) (a .values .now)
     ≡ ascii "(show"
-    ++ (pieces (portPiece (a .words .now) (c .before .outputs-at .result) (a .setting .now) (a .gates .now)) (c .outputs-of .result) ++ ascii ")\n")
+    ++ (pieces (portPiece (a .words .now) (c .before .outputs-at .result) (a .values .now)) (c .outputs-of .result) ++ ascii ")\n")
 parts c =
-    let a = c .before .before .before .before .before .before .args in
-    show-of (a .words .now) (a .setting .now) (a .gates .now) (c .outputs-of .ensures) (c .before .outputs-at .ensures)
+    let a = c .before .before .before .before .args in
+    show-of (a .words .now) (a .values .now) (c .outputs-of .ensures) (c .before .outputs-at .ensures)
 
-whole : (c : tie.After-outputs-of) → let a = c .before .before .before .before .before .before .args in
+whole : (c : tie.After-outputs-of) → let a = c .before .before .before .before .args in
     Short
     (ascii "(show"
-    ++ (pieces (portPiece (a .words .now) (c .before .outputs-at .result) (a .setting .now) (a .gates .now)) (c .outputs-of .result) ++ ascii ")\n")) 0
+    ++ (pieces (portPiece (a .words .now) (c .before .outputs-at .result) (a .values .now)) (c .outputs-of .result) ++ ascii ")\n")) 0
 whole c =
-    let s = c .before .before .before .before .before .before in
-    rw (parts c) at (show-short (s .args .words .now) (s .args .setting .now) (s .args .gates .now) (s .pre))
-
-outputs-at-requires : tie.Need-outputs-at-requires
-outputs-at-requires c κs = search needs
-
-slice-aggregate-put-all : tie.Need-slice-aggregate-put-all
-slice-aggregate-put-all c = search needs
-
-put-all-requires : tie.Need-put-all-requires
-put-all-requires c κs = search needs
-
-outputs-of-requires : tie.Need-outputs-of-requires
-outputs-of-requires c κs = search needs
+    let s = c .before .before .before .before in
+    rw (parts c) at (show-short (s .args .words .now) (s .args .values .now) (s .pre))
 
 put-ports-requires : tie.Need-put-ports-requires
 put-ports-requires c κs =
     let o = c .before .before .before in
     let h = o .before .before .before in
-    let s = h .before .before .before .before .before .before in (
-      ports-near (s .args .words .now) (s .pre) (h .before .outputs-at .ensures) (h .outputs-of .ensures),
+    let s = h .before .before .before .before in (
+      record { whole = s .pre; start = h .before .outputs-at .ensures; many = h .outputs-of .ensures },
       short-first _ (short-rest {xs = ascii "(show"} _ (whole h) (o .put-all .ensures)),
     )
-
-slice-aggregate-put-all-2 : tie.Need-slice-aggregate-put-all-2
-slice-aggregate-put-all-2 c = search needs
 
 put-all-requires-2 : tie.Need-put-all-requires-2
 put-all-requires-2 c κs =
     let p = c .before .before .before .before in
     let o = p .before .before .before .before in
     short-rest _ (short-rest {xs = ascii "(show"} _ (whole (o .before .before .before)) (o .put-all .ensures)) (p .put-ports .ensures)
-
-same-length : tie.Need-same-length
-same-length c = search needs
 
 returns : tie.Need-returns
 returns c =
@@ -71,12 +53,12 @@ pub put-show-spec : {M : Type 1} → statement M
 put-show-spec =
     tie.close
     (tie.spec
-    outputs-at-requires
-    outputs-of-requires
-    slice-aggregate-put-all
-    put-all-requires
+    (λ c κs. search needs)
+    (λ c κs. search needs)
+    (λ c. search needs)
+    (λ c κs. search needs)
     put-ports-requires
-    slice-aggregate-put-all-2
+    (λ c. search needs)
     put-all-requires-2
-    same-length
+    (λ c. search needs)
     returns)

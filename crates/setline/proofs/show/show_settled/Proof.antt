@@ -17,31 +17,19 @@ use Rattle.setline.proofs.Outcomes.{show-room}
 
 -- the function's entry, the line, and its length where the room is tested
 abbrev start : tie.After-test-room → tie.Start
-start c = c .before .before .before .before .before .before .before .before
+start c = c .before .before .before .before .before .before
 
 abbrev line : tie.After-test-room → List ℕ
-line c = let a = start c .args in showText (a .words .now) (a .setting .now) (a .gates .now)
+line c = let a = start c .args in showText (a .words .now) (a .values .now)
 
 measured : (c : tie.After-test-room) → c .before .before .put-show .result ≡ length (line c)
 measured c = omega (arith, c .before .before .put-show .ensures .endIs)
 
-slice-aggregate-put-show : tie.Need-slice-aggregate-put-show
-slice-aggregate-put-show c = search needs
-
 put-show-requires : tie.Need-put-show-requires
-put-show-requires c κs = c .before .before .before .before .before .pre
-
-test-room-requires : tie.Need-test-room-requires
-test-room-requires c κs = search needs
+put-show-requires c κs = c .before .before .before .pre
 
 enum-told : tie.Need-enum-told
 enum-told c = search needs
-
-enum-told-2 : tie.Need-enum-told-2
-enum-told-2 c = search needs
-
-refusal-requires : tie.Need-refusal-requires
-refusal-requires c κs = search needs
 
 returns : tie.Need-returns
 returns c =
@@ -51,9 +39,6 @@ returns c =
 
 put-show-requires-2 : tie.Need-put-show-requires-2
 put-show-requires-2 c κs = start (c .before .before .before) .pre
-
-same-length : tie.Need-same-length
-same-length c = search needs
 
 returns-2 : tie.Need-returns-2
 returns-2 c =
@@ -68,13 +53,13 @@ pub show-settled-spec : {M : Type 1} → statement M
 show-settled-spec =
     tie.close
     (tie.spec
-    slice-aggregate-put-show
+    (λ c. search needs)
     put-show-requires
-    test-room-requires
+    (λ c κs. search needs)
     enum-told
-    enum-told-2
-    refusal-requires
+    (λ c. search needs)
+    (λ c κs. search needs)
     returns
     put-show-requires-2
-    same-length
+    (λ c. search needs)
     returns-2)

@@ -6,15 +6,6 @@ use Rattle.netlist.specs.Sheet.{inputByte}
 use Rattle.sheet.proofs.masks.input_byte.Statement.{statement}
 use Rattle.sheet.proofs.masks.input_byte.Tie as tie
 
-shr-if1 : tie.Need-shr-if1
-shr-if1 c = search needs
-
-shr-result : tie.Need-shr-result
-shr-result c = search needs
-
-cast-result : tie.Need-cast-result
-cast-result c = search needs
-
 returns : tie.Need-returns
 unfolding inputByte bit
 returns c = simp (eq-eqb _ 1 (c .if1 .taken))
@@ -24,4 +15,4 @@ unfolding inputByte bit
 returns-2 c = simp (ne-eqb _ 1 (c .if1 .left))
 
 pub input-byte-spec : {M : Type 1} → statement M
-input-byte-spec = tie.close (tie.spec shr-if1 shr-result cast-result returns returns-2)
+input-byte-spec = tie.close (tie.spec (λ c. search needs) (λ c. search needs) (λ c. search needs) returns returns-2)

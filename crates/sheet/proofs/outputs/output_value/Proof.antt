@@ -3,33 +3,23 @@ use mathlib.Core.Path.{_∙_}
 use native.Mathlib.Omega.{arith}
 use denote.Ref.{now}
 use borrow.Author.Needs.{needs}
-use Rattle.sheet.proofs.OutputLaws.{output-code, output-near}
+use Rattle.sheet.proofs.OutputLaws.{output-code, output-ready, output-near}
 use Rattle.sheet.proofs.outputs.output_value.Statement.{statement}
 use Rattle.sheet.proofs.outputs.output_value.Tie as tie
 
-outputs-at-requires : tie.Need-outputs-at-requires
-outputs-at-requires c κs = search needs
-
 mul-port : tie.Need-mul-port
-mul-port c =
-    let s = c .before .before .before .before in
-    omega (arith, output-near (s .pre))
+mul-port c = omega (arith, output-near (c .before .before .pre .0))
 
 add-port : tie.Need-add-port
-add-port c =
-    let s = c .before .before .before .before in
-    omega (arith, output-near (s .pre), c .outputs-at .ensures)
+add-port c = omega (arith, output-near (c .before .before .pre .0), c .outputs-at .ensures)
 
 shown-value-requires : tie.Need-shown-value-requires
-shown-value-requires c κs =
-    let s = c .before .before .before .before in
-    omega (arith, output-near (s .pre), c .outputs-at .ensures)
+shown-value-requires c κs = output-ready (c .before .before .pre .0) (c .outputs-at .ensures)
 
 returns : tie.Need-returns
 returns c =
-    let s = c .before .before .before .before .before in
-    let a = s .args in
-    c .shown-value .ensures ∙ output-code (now (a .words)) (now (a .setting)) (now (a .gates)) (s .pre) (c .before .outputs-at .ensures)
+    let s = c .before .before .before in
+    c .shown-value .ensures ∙ output-code (now (s .args .words)) (s .pre .0) (s .pre .1) (c .before .outputs-at .ensures)
 
 pub output-value-spec : {M : Type 1} → statement M
-output-value-spec = tie.close (tie.spec outputs-at-requires mul-port add-port shown-value-requires returns)
+output-value-spec = tie.close (tie.spec (λ c κs. search needs) mul-port add-port shown-value-requires returns)

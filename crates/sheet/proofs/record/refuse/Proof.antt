@@ -6,9 +6,6 @@ use Rattle.netlist.specs.Sheet.{refusedRecord}
 use Rattle.sheet.proofs.record.refuse.Statement.{statement}
 use Rattle.sheet.proofs.record.refuse.Tie as tie
 
-number-of-requires : tie.Need-number-of-requires
-number-of-requires c κs = search needs
-
 cast-t5 : tie.Need-cast-t5
 unfolding refusalNumber
 cast-t5 c = omega (arith, c .number-of .ensures)
@@ -18,4 +15,4 @@ unfolding refusedRecord
 returns c = rw (c .number-of .ensures)
 
 pub refuse-spec : {M : Type 1} → statement M
-refuse-spec = tie.close (tie.spec number-of-requires cast-t5 returns)
+refuse-spec = tie.close (tie.spec (λ c κs. search needs) cast-t5 returns)

@@ -1,56 +1,61 @@
 -- `simulate::changes::copy_changed` meets its contract: the gates queued before q have their values copied. Assumes nothing.
-use mathlib.Core.Path.{_≡_, refl}
-use Prim.Native.Nat.{_-_}
+use mathlib.Core.Path.{_≡_}
+use Prim.Native.Nat.{_-_, _≤_, _<_}
 use native.Mathlib.Omega.{arith}
-use lib.ListN.{length, length-set}
+use denote.Ref.{now}
+use lib.ListN.{getD}
+use Rattle.netlist.specs.Limits.{maxGates}
 use Rattle.simulate.specs.Changes.{Copied}
-use Rattle.simulate.proofs.Updates.{copied-none, copied-next, copied-all}
+use Rattle.simulate.proofs.Updates.{copied-none, copied-next}
 use Rattle.simulate.proofs.changes.copy_changed.Statement.{statement}
 use Rattle.simulate.proofs.changes.copy_changed.Tie as tie
 
 abbrev Inv-loop : tie.InvT-loop
-Inv-loop values queue changed old₀ q₀ old q = Copied values queue (changed .head) q old₀ old × (length old ≡ length old₀)
+Inv-loop found queue changed values₀ q₀ values q =
+    (changed .head ≤ q) × (q ≤ changed .tail) × Copied found queue (changed .head) q values₀ values
 
 abbrev μ-loop : tie.MeasureT-loop
-μ-loop values queue changed old₀ q₀ old q = changed .tail - q
+μ-loop found queue changed values₀ q₀ values q = changed .tail - q
 
 loop-holds : tie.Need-loop-holds Inv-loop μ-loop
-loop-holds c = (copied-none _ _ _ _, refl)
+loop-holds c = (omega arith, c .pre .1, copied-none _ _ _ _)
 
 mul-k : tie.Need-mul-k Inv-loop μ-loop
-mul-k c = omega (arith, c .before .before .before .pre .queued)
+mul-k c = omega (arith, c .before .before .before .pre .0 .queued)
 
-shared-slice-read-k : tie.Need-shared-slice-read-k Inv-loop μ-loop
-shared-slice-read-k c = omega (arith, c .before .before .before .before .pre .queued)
+element-copy-out-k : tie.Need-element-copy-out-k Inv-loop μ-loop
+element-copy-out-k c = omega (arith, c .before .before .before .pre .0 .queued)
+
+-- a queued gate
+inside : (c : tie.Then1 Inv-loop μ-loop) → getD (now (c .before .before .before .args .queue)) (c .before .before .loop .q) 0 < maxGates
+inside c = c .before .before .before .pre .0 .inside (c .before .before .loop .q) (c .if1 .taken)
 
 cast-k : tie.Need-cast-k Inv-loop μ-loop
-cast-k c = omega (arith, c .shared-slice-known .given (c .before .before .before .loop .q))
+cast-k c = omega (arith, inside (c .before))
 
-shared-slice-read-old : tie.Need-shared-slice-read-old Inv-loop μ-loop
-shared-slice-read-old c =
-    omega (arith, c .before .before .before .before .before .pre .inside (c .before .before .before .before .loop .q) (c .before .before .if1 .taken) .0)
+element-copy-out-values : tie.Need-element-copy-out-values Inv-loop μ-loop
+element-copy-out-values c = inside (c .before)
 
-slice-write-old : tie.Need-slice-write-old Inv-loop μ-loop
-slice-write-old c =
-    omega (arith, c .before .before .before .before .before .pre .inside (c .before .before .before .before .loop .q) (c .before .before .if1 .taken) .1)
+add-values : tie.Need-add-values Inv-loop μ-loop
+add-values c = omega (arith, inside (c .before .before))
 
-add-q : tie.Need-add-q Inv-loop μ-loop
-add-q c = omega arith
-
-loop-less : tie.Need-loop-less Inv-loop μ-loop
-loop-less c = omega arith
+element-write-values : tie.Need-element-write-values Inv-loop μ-loop
+element-write-values c = omega (arith, inside (c .before .before))
 
 loop-again : tie.Need-loop-again Inv-loop μ-loop
 loop-again c =
     let l = c .before .before .before .before in
-    let s = l .before in
-    (copied-next (l .loop .inv .0) (omega (arith, s .pre .inside (l .loop .q) (c .before .before .if1 .taken) .1)), simp length-set (l .loop .inv .1))
-
-same-length : tie.Need-same-length Inv-loop μ-loop
-same-length c = c .before .before .loop .inv .1
+    let s = l .before in (
+      omega arith,
+      omega arith,
+      copied-next (l .loop .inv .2) (l .loop .inv .0) (omega (arith, inside (c .before .before), s .pre .0 .long)),
+    )
 
 returns : tie.Need-returns Inv-loop μ-loop
-returns c = copied-all (c .before .before .loop .inv .0) (c .if1 .left)
+returns c =
+    let l = c .before .before in
+    let e : l .loop .q ≡ l .before .args .changed .tail = omega arith in
+    rw e at (l .loop .inv .2)
 
 pub copy-changed-spec : {M : Type 1} → statement M
 copy-changed-spec =
@@ -60,12 +65,12 @@ copy-changed-spec =
     μ-loop
     loop-holds
     mul-k
-    shared-slice-read-k
+    element-copy-out-k
     cast-k
-    shared-slice-read-old
-    slice-write-old
-    add-q
-    loop-less
+    element-copy-out-values
+    add-values
+    element-write-values
+    (λ c. omega arith)
+    (λ c. omega arith)
     loop-again
-    same-length
     returns)

@@ -1,81 +1,57 @@
 -- `simulate::changes::update` meets its contract: the gate has its value, gets none, or is queued. Assumes nothing.
-use Prim.Native.Nat.{_≤_, _<_}
+use Prim.Native.Nat.{_<_}
 use native.Mathlib.Omega.{arith}
-use denote.Ref.{now}
-use lib.ListN.{getD}
-use Rattle.netlist.specs.Limits.{maxGates}
-use Rattle.encoding.proofs.Readers.{whole-parts}
+use Rattle.ternary.proofs.State.{legal-gate}
 use Rattle.simulate.proofs.Updates.{one-kept, one-undefined, one-room, one-new}
 use borrow.Author.Needs.{needs}
 use Rattle.simulate.proofs.changes.update.Statement.{statement}
 use Rattle.simulate.proofs.changes.update.Tie as tie
 
--- the function's entry, where the gate gets a value
+-- the function's entry, where the gate gets a value, and room for it
 abbrev start : tie.Else2 → tie.Start
-start c = c .before .before .before .before .before .before .before .before .before
+start c = c .before .before .before .before
 
--- few gates, and room for this one
-few : (s : tie.Start) → getD (now (s .args .words)) 1 0 ≤ maxGates
-few s = whole-parts (now (s .args .words)) (s .pre .1 .0 .whole) .fewGates
-
-room : (c : tie.Else2) → start c .args .end < getD (now (start c .args .words)) 1 0
+room : (c : tie.Else2) → start c .args .end < start c .args .m
 room c =
-    one-room (start c .pre .1 .0) (start c .args .j) (start c .pre .1 .1) (c .before .value-of-gate .result) (c .before .before .if1 .left) (c .if2 .left)
-
-slice-read-if1 : tie.Need-slice-read-if1
-slice-read-if1 c = search needs
+    one-room (start c .pre .1) (start c .args .j) (start c .pre .2) (c .before .gate-value .result) (c .before .before .if1 .left) (c .if2 .left)
 
 returns : tie.Need-returns
-returns c = let s = c .before .before .before .before .before .before .before in one-kept (s .pre .1 .0) (s .args .j) (s .pre .1 .1) (c .if1 .taken)
+returns c = let s = c .before .before in one-kept (s .pre .1) (s .args .j) (s .pre .2) (c .if1 .taken)
 
-value-of-gate-requires : tie.Need-value-of-gate-requires
-value-of-gate-requires c κs = search needs
+gate-value-requires : tie.Need-gate-value-requires
+gate-value-requires c κs = let s = c .before .before in (s .pre .0, (legal-gate (s .pre .1 .legal) (s .args .j) (s .pre .2), s .pre .1 .coded))
 
 returns-2 : tie.Need-returns-2
 returns-2 c =
-    let s = c .before .before .before .before .before .before .before .before .before in
-    one-undefined (s .pre .1 .0) (s .args .j) (s .pre .1 .1) (c .before .before .if1 .left) (c .before .value-of-gate .ensures) (c .if2 .taken)
-
-slice-write-values : tie.Need-slice-write-values
-slice-write-values c = search needs
-
-cast-queue : tie.Need-cast-queue
-cast-queue c = omega (arith, few (start c), start c .pre .1 .1)
+    let s = c .before .before .before .before in
+    one-undefined (s .pre .1) (s .args .j) (s .pre .2) (c .before .before .if1 .left) (c .before .gate-value .ensures) (c .if2 .taken)
 
 mul-queue : tie.Need-mul-queue
-mul-queue c = omega (arith, few (start c), room c)
+mul-queue c = omega (arith, room c, start c .pre .1 .legal .few)
 
-slice-write-queue : tie.Need-slice-write-queue
-slice-write-queue c = omega (arith, room c, start c .pre .1 .0 .queueRoom)
+element-write-queue : tie.Need-element-write-queue
+element-write-queue c = omega (arith, room c, start c .pre .1 .legal .few)
 
 add-result : tie.Need-add-result
-add-result c = omega (arith, few (start c), room c)
-
-same-length : tie.Need-same-length
-same-length c = search needs
-
-same-length-2 : tie.Need-same-length-2
-same-length-2 c = search needs
+add-result c = omega (arith, room c, start c .pre .1 .legal .few)
 
 returns-3 : tie.Need-returns-3
 returns-3 c =
     let s = start c in
-    one-new (s .pre .1 .0) (s .args .j) (s .pre .1 .1) (c .before .value-of-gate .result) (c .before .before .if1 .left) (c .if2 .left)
-    (c .before .value-of-gate .ensures)
+    one-new (s .pre .1) (s .args .j) (s .pre .2) (c .before .gate-value .result) (c .before .before .if1 .left) (c .if2 .left)
+    (c .before .gate-value .ensures)
 
 pub update-spec : {M : Type 1} → statement M
 update-spec =
     tie.close
     (tie.spec
-    slice-read-if1
+    (λ c. search needs)
     returns
-    value-of-gate-requires
+    gate-value-requires
     returns-2
-    slice-write-values
-    cast-queue
+    (λ c. search needs)
+    (λ c. search needs)
     mul-queue
-    slice-write-queue
+    element-write-queue
     add-result
-    same-length
-    same-length-2
     returns-3)

@@ -16,6 +16,7 @@ use Rattle.netlist.specs.Answers.{done, refuseIf, inRoom}
 use Rattle.netlist.specs.Operations.{isBadSetting, passBlock, pass}
 use Rattle.refusals.proofs.Promised.{passed, passed-false, failed, keeps-room, bare, keeps-bare, finished}
 use Rattle.simulate.specs.Rounded.{sweepCodes}
+use Rattle.simulate.proofs.Starts.{good-setting}
 use Rattle.simulate.proofs.Outcomes.{pass-chain, pass-room, pass-promise}
 use Rattle.simulate.proofs.pass.pass.Statement.{statement}
 use Rattle.simulate.proofs.pass.pass.Tie as tie
@@ -65,17 +66,8 @@ behind-setting c =
     passed (inRoom _) (keeps-room _) _ _ BadSetting (behind-straight (setting-test c .before)) (setting-test c .test-setting .ensures) (c .enum-told5 .given .1)
     ∙ pass-room (now (a .words)) (now (a .setting)) _
 
-check-words-requires : tie.Need-check-words-requires
-check-words-requires c κs = search needs
-
 enum-told : tie.Need-enum-told
 enum-told c = search needs
-
-enum-told-2 : tie.Need-enum-told-2
-enum-told-2 c = search needs
-
-refusal-requires : tie.Need-refusal-requires
-refusal-requires c κs = search needs
 
 returns : tie.Need-returns
 returns c =
@@ -88,15 +80,6 @@ check-straight-requires : tie.Need-check-straight-requires
 check-straight-requires c κs =
     whole c
 
-enum-told-3 : tie.Need-enum-told-3
-enum-told-3 c = search needs
-
-enum-told-4 : tie.Need-enum-told-4
-enum-told-4 c = search needs
-
-refusal-requires-2 : tie.Need-refusal-requires-2
-refusal-requires-2 c κs = search needs
-
 returns-2 : tie.Need-returns-2
 returns-2 c =
     let t = c .before .before .before in
@@ -105,18 +88,6 @@ returns-2 c =
     (now (start (words-test (t .before)) .args .values))
     (c .before .before .match2 .keys2) (c .refusal2 .ensures))
 
-test-setting-requires : tie.Need-test-setting-requires
-test-setting-requires c κs = search needs
-
-enum-told-5 : tie.Need-enum-told-5
-enum-told-5 c = search needs
-
-enum-told-6 : tie.Need-enum-told-6
-enum-told-6 c = search needs
-
-refusal-requires-3 : tie.Need-refusal-requires-3
-refusal-requires-3 c κs = search needs
-
 returns-3 : tie.Need-returns-3
 returns-3 c =
     let t = c .before .before .before in
@@ -124,21 +95,6 @@ returns-3 c =
     pass-promise
     (failed (inRoom _) (keeps-room _) _ _ BadSetting (behind-straight (t .before)) (t .test-setting .ensures) (now (a .values))
     (c .before .before .match3 .keys2) (c .refusal3 .ensures))
-
-gates-of-requires : tie.Need-gates-of-requires
-gates-of-requires c κs = search needs
-
-test-room-requires : tie.Need-test-room-requires
-test-room-requires c κs = search needs
-
-enum-told-7 : tie.Need-enum-told-7
-enum-told-7 c = search needs
-
-enum-told-8 : tie.Need-enum-told-8
-enum-told-8 c = search needs
-
-refusal-requires-4 : tie.Need-refusal-requires-4
-refusal-requires-4 c κs = search needs
 
 returns-4 : tie.Need-returns-4
 returns-4 c =
@@ -150,13 +106,13 @@ returns-4 c =
 
 sweep-into-requires : tie.Need-sweep-into-requires
 sweep-into-requires c κs =
-    let t = c .before in (
-      whole (straight-test (setting-test (room-test t .before .before) .before) .before),
+    let t = c .before in
+    let s = room-test t .before .before in
+    let w = whole (straight-test (setting-test s .before) .before) in (
+      w,
+      good-setting _ _ w (passed-false _ BadSetting (setting-test s .test-setting .ensures) (s .enum-told5 .given .1)),
       ltb-false _ _ (passed-false _ NoRoom (rw (← room-test t .before .gates-of .ensures) (room-test t .test-room .ensures)) (t .enum-told7 .given .1)),
     )
-
-same-length : tie.Need-same-length
-same-length c = search needs
 
 returns-5 : tie.Need-returns-5
 returns-5 c =
@@ -172,27 +128,27 @@ pub pass-spec : {M : Type 1} → statement M
 pass-spec =
     tie.close
     (tie.spec
-    check-words-requires
+    (λ c κs. search needs)
     enum-told
-    enum-told-2
-    refusal-requires
+    (λ c. search needs)
+    (λ c κs. search needs)
     returns
     check-straight-requires
-    enum-told-3
-    enum-told-4
-    refusal-requires-2
+    (λ c. search needs)
+    (λ c. search needs)
+    (λ c κs. search needs)
     returns-2
-    test-setting-requires
-    enum-told-5
-    enum-told-6
-    refusal-requires-3
+    (λ c κs. search needs)
+    (λ c. search needs)
+    (λ c. search needs)
+    (λ c κs. search needs)
     returns-3
-    gates-of-requires
-    test-room-requires
-    enum-told-7
-    enum-told-8
-    refusal-requires-4
+    (λ c κs. search needs)
+    (λ c κs. search needs)
+    (λ c. search needs)
+    (λ c. search needs)
+    (λ c κs. search needs)
     returns-4
     sweep-into-requires
-    same-length
+    (λ c. search needs)
     returns-5)

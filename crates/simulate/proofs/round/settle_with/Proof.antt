@@ -1,106 +1,77 @@
--- `simulate::round::settle_with` meets its contract. The loop's invariant: `old` has the state after `count` rounds, each of which changed something, and
--- `values` that after one more. The measure is the number of gates less that count. Assumes nothing.
-use mathlib.Core.Path.{_≡_, refl, _∙_}
-use mathlib.Core.List.{map}
-use Prim.Native.Nat.{_+_, _-_, _<_}
+-- `simulate::round::settle_with` meets its contract. The loop's invariant: `values` has the state after `count` rounds, each of which changed something, and
+-- `found` that after one more. The measure is the number of gates less that count. Assumes nothing.
+use mathlib.Core.Path.{_≡_}
+use lib.ListN.{getD}
+use Prim.Native.Nat.{ℕ, _+_, _-_, _<_}
 use native.Mathlib.Omega.{arith}
 use denote.Ref.{now}
-use lib.ListN.{length, getD}
-use Rattle.netlist.specs.Values.{valueOf}
-use Rattle.netlist.specs.StoredBlock.{decode}
-use Rattle.encoding.proofs.Decoded.{decode-gateCount}
-use Rattle.encoding.proofs.Readers.{whole-parts}
 use Rattle.rounds.proofs.Rounds.{rounds-le}
-use Rattle.simulate.proofs.Codes.{gates-are}
-use Rattle.simulate.proofs.Rounds.{Beyond, Rounding, rounding-none, rounding-more, rounding-end}
+use Rattle.graph.specs.Graph.{network}
+use Rattle.graph.proofs.Network.{network-count}
+use Rattle.ternary.specs.State.{inputsIn}
+use Rattle.simulate.proofs.Updates.{first-ready, first-state, round-first}
+use Rattle.simulate.proofs.Rounds.{Rounding, rounding-none, rounding-more, rounding-end}
 use Rattle.simulate.proofs.round.settle_with.Statement.{statement}
 use Rattle.simulate.proofs.round.settle_with.Tie as tie
 
 abbrev Inv-loop : tie.InvT-loop
-Inv-loop table words nodes first next setting values₀ old₀ queue₀ head₀ tail₀ count₀ values old queue head tail count =
-    Rounding words setting old values queue head tail count × Beyond words values values₀ × (length values ≡ length values₀)
-    × (length old ≡ length old₀) × (length queue ≡ length queue₀)
+Inv-loop table graph fanout m values₀ found₀ queue₀ head₀ tail₀ count₀ values found queue head tail count =
+    Rounding m graph values₀ values found queue head tail count
 
 abbrev μ-loop : tie.MeasureT-loop
-μ-loop table words nodes first next setting values₀ old₀ queue₀ head₀ tail₀ count₀ values old queue head tail count =
-    getD words 1 0 - count
+μ-loop table graph fanout m values₀ found₀ queue₀ head₀ tail₀ count₀ values found queue head tail count = m - count
 
-first-round-requires : tie.Need-first-round-requires Inv-loop μ-loop
-first-round-requires c κs = let s = c .before .before .before .before .before .before .before .before .before .before in (s .pre .0, s .pre .1 .0)
+update-all-requires : tie.Need-update-all-requires Inv-loop μ-loop
+update-all-requires c κs =
+    let s = c .before .before .before in
+    let k = s .pre .2 in
+    let g = s .pre .0 .legal in
+    (s .pre .0 .tabled, first-ready g _ (s .pre .1) (λ j l. k .none j (omega (arith, g .few))) (k .foundRoom) (k .queueRoom))
 
 loop-holds : tie.Need-loop-holds Inv-loop μ-loop
-loop-holds c = (rounding-none _ _ (c .before .before .before .before .before .before .first-round .ensures), λ j l. refl, refl, refl, refl)
+loop-holds c =
+    let s = c .before .before .before .before in
+    let k = s .pre .2 in
+    let g = s .pre .0 .legal in
+    let none : (j : ℕ) → j < s .args .m → getD (now (s .args .found)) j 0 ≡ 2 = λ j l. k .none j (omega (arith, g .few)) in
+    rounding-none _ g (first-state g (now (s .args .found)) (s .pre .1) none (k .foundRoom))
+    (round-first g (now (s .args .found)) (s .pre .1) none (k .foundRoom) (k .queueRoom) (c .update-all .ensures))
 
--- the function's entry and the first round, from the loop's head, and the loop's head, from a further round
-abbrev start : tie.At-loop Inv-loop μ-loop → tie.Start Inv-loop μ-loop
-start l = l .before .before .before .before .before .before .before .before .before .before .before .before .before .before .before .before .before .before
-
-abbrev first : tie.At-loop Inv-loop μ-loop → tie.After-first-round Inv-loop μ-loop
-first l = l .before .before .before .before .before .before .before
-
+-- the function's entry and the loop's head, from a further round
 abbrev head : tie.After-next-round Inv-loop μ-loop → tie.At-loop Inv-loop μ-loop
 head d = d .before .before .before .before .before
 
--- a round that changed something
-more : (d : tie.After-next-round Inv-loop μ-loop)
-    → Rounding (now (start (head d) .args .words)) (now (start (head d) .args .setting)) (d .next-round .last .1 .1 .1 .1 .1 .1 .1 .0)
-    (d .next-round .last .1 .1 .1 .1 .1 .1 .0)
-    (d .next-round .last .1 .1 .1 .1 .1 .1 .1 .1 .0) (head d .loop .tail) (d .next-round .result) (head d .loop .count + 1)
-more d = rounding-more _ _ (head d .loop .inv .0) (d .before .before .before .before .loop-test .taken) (d .next-round .ensures)
+abbrev start : tie.At-loop Inv-loop μ-loop → tie.Start Inv-loop μ-loop
+start l = l .before .before .before .before .before
 
--- so the count before it is below the number of gates
-below : (d : tie.After-next-round Inv-loop μ-loop) → head d .loop .count < getD (now (start (head d) .args .words)) 1 0
+-- a round that changed something, so that the count before it is below the number of gates
+more : (d : tie.After-next-round Inv-loop μ-loop) → let a = start (head d) .args in
+    Rounding (a .m) (now (a .graph)) (now (a .values)) (d .next-round .last .1 .1 .1 .1 .0) (d .next-round .last .1 .1 .1 .1 .1 .0)
+    (d .next-round .last .1 .1 .1 .1 .1 .1 .0) (head d .loop .tail) (d .next-round .result) (head d .loop .count + 1)
+more d = rounding-more _ (start (head d) .pre .0 .legal) (head d .loop .inv) (d .before .before .before .before .loop-test .taken) (d .next-round .ensures)
+
+below : (d : tie.After-next-round Inv-loop μ-loop) → head d .loop .count < start (head d) .args .m
 below d =
     let a = start (head d) .args in
-    omega (arith, more d .reached, rounds-le (decode (now (a .words))) (map valueOf (now (a .setting))), decode-gateCount (now (a .words)))
+    let b = network (a .m) (now (a .graph)) in
+    omega (arith, more d .reached, rounds-le b (inputsIn (now (a .values))), network-count (a .m) (now (a .graph)))
 
 next-round-requires : tie.Need-next-round-requires Inv-loop μ-loop
 next-round-requires c κs =
     let l = c .before .before .before .before in
-    let s = start l in
-    let p = s .pre .1 .0 .0 in (
-      s .pre .0,
-      (
-        record { whole = p .whole; nodesAre = p .nodesAre; fits = omega (arith, l .loop .inv .0 .round .valueRoom, gates-are _ (p .nodesAre)) },
-        (s .pre .1 .1, l .loop .inv .0 .round),
-      ),
-    )
+    (start l .pre .0, l .loop .inv .made)
 
 add-count : tie.Need-add-count Inv-loop μ-loop
-add-count c =
-    let d = c .before .before .before .before .before .before in
-    let s = start (head d) in
-    omega (arith, below d, whole-parts (now (s .args .words)) (s .pre .1 .0 .0 .whole) .fewGates)
+add-count c = omega (arith, below c, start (head c) .pre .0 .legal .few)
 
 loop-less : tie.Need-loop-less Inv-loop μ-loop
-loop-less c = omega (arith, below (c .before .before .before .before .before .before))
+loop-less c = omega (arith, below c)
 
 loop-again : tie.Need-loop-again Inv-loop μ-loop
-loop-again c =
-    let d = c .before .before .before .before .before .before in
-    let l = head d in
-    let t = d .next-round .ensures in (
-      more d,
-      λ j jl. t .beyond j jl ∙ l .loop .inv .1 j jl,
-      d .next-round .kept .1 .1 .1 .1 .1 .1 .0 ∙ l .loop .inv .2,
-      d .next-round .kept .1 .1 .1 .1 .1 .1 .1 .0 ∙ l .loop .inv .3,
-      d .next-round .kept .1 .1 .1 .1 .1 .1 .1 .1 .0 ∙ l .loop .inv .4,
-    )
-
-same-length : tie.Need-same-length Inv-loop μ-loop
-same-length c = c .before .loop .inv .2 ∙ first (c .before) .first-round .kept .1 .1 .1 .1 .0
-
-same-length-2 : tie.Need-same-length-2 Inv-loop μ-loop
-same-length-2 c = c .before .loop .inv .3 ∙ first (c .before) .first-round .kept .1 .1 .1 .1 .1 .0
-
-same-length-3 : tie.Need-same-length-3 Inv-loop μ-loop
-same-length-3 c = c .before .loop .inv .4 ∙ first (c .before) .first-round .kept .1 .1 .1 .1 .1 .1 .0
+loop-again c = more c
 
 returns : tie.Need-returns Inv-loop μ-loop
-returns c =
-    let l = c .before in
-    rounding-end _ _ (l .loop .inv .0) (c .loop-test .left) (λ j jl. l .loop .inv .1 j jl ∙ first l .first-round .ensures .beyond j jl)
-    (l .loop .inv .2 ∙ first l .first-round .kept .1 .1 .1 .1 .0)
+returns c = rounding-end _ (start (c .before) .pre .0 .legal) (c .before .loop .inv) (c .loop-test .left)
 
 pub settle-with-spec : {M : Type 1} → statement M
 settle-with-spec =
@@ -108,13 +79,10 @@ settle-with-spec =
     (tie.spec
     Inv-loop
     μ-loop
-    first-round-requires
+    update-all-requires
     loop-holds
     next-round-requires
     add-count
     loop-less
     loop-again
-    same-length
-    same-length-2
-    same-length-3
     returns)

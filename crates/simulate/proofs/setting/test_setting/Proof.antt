@@ -5,16 +5,10 @@ use Rattle.simulate.proofs.Settings.{bad-setting}
 use Rattle.simulate.proofs.setting.test_setting.Statement.{statement}
 use Rattle.simulate.proofs.setting.test_setting.Tie as tie
 
-inputs-of-requires : tie.Need-inputs-of-requires
-inputs-of-requires c κs = search needs
-
-test-bytes-requires : tie.Need-test-bytes-requires
-test-bytes-requires c κs = search needs
-
 returns : tie.Need-returns
 returns c =
     let a = c .before .before .before .before .args in
     rw (bad-setting (now (a .words)) (now (a .setting)), ← c .before .inputs-of .ensures) (c .test-bytes .ensures)
 
 pub test-setting-spec : {M : Type 1} → statement M
-test-setting-spec = tie.close (tie.spec inputs-of-requires test-bytes-requires returns)
+test-setting-spec = tie.close (tie.spec (λ c κs. search needs) (λ c κs. search needs) returns)

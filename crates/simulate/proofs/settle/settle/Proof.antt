@@ -14,6 +14,7 @@ use Rattle.netlist.specs.Rounds.{rounds, settled}
 use Rattle.netlist.specs.Answers.{done, refuseIf, inRoom}
 use Rattle.netlist.specs.Operations.{isBadSetting, settleBlock, settle}
 use Rattle.refusals.proofs.Promised.{passed, passed-false, failed, keeps-room, bare, keeps-bare, finished}
+use Rattle.simulate.proofs.Starts.{good-setting}
 use Rattle.simulate.proofs.Outcomes.{settle-chain, settle-room}
 use Rattle.simulate.proofs.settle.settle.Statement.{statement}
 use Rattle.simulate.proofs.settle.settle.Tie as tie
@@ -47,17 +48,8 @@ behind-setting c =
     passed (inRoom _) (keeps-room _) _ _ BadSetting (behind-words (setting-test c .before)) (setting-test c .test-setting .ensures) (c .enum-told3 .given .1)
     ∙ settle-room (now (a .words)) (now (a .setting)) _
 
-check-words-requires : tie.Need-check-words-requires
-check-words-requires c κs = search needs
-
 enum-told : tie.Need-enum-told
 enum-told c = search needs
-
-enum-told-2 : tie.Need-enum-told-2
-enum-told-2 c = search needs
-
-refusal-requires : tie.Need-refusal-requires
-refusal-requires c κs = search needs
 
 returns : tie.Need-returns
 returns c =
@@ -65,38 +57,11 @@ returns c =
     failed (inRoom _) (keeps-room _) _ _ MalformedBlock (settle-chain _ _ _) (t .check-words .ensures) (now (start t .args .values))
     (c .before .before .match .keys2) (c .refusal .ensures)
 
-test-setting-requires : tie.Need-test-setting-requires
-test-setting-requires c κs = search needs
-
-enum-told-3 : tie.Need-enum-told-3
-enum-told-3 c = search needs
-
-enum-told-4 : tie.Need-enum-told-4
-enum-told-4 c = search needs
-
-refusal-requires-2 : tie.Need-refusal-requires-2
-refusal-requires-2 c κs = search needs
-
 returns-2 : tie.Need-returns-2
 returns-2 c =
     let t = c .before .before .before in
     failed (inRoom _) (keeps-room _) _ _ BadSetting (behind-words (t .before)) (t .test-setting .ensures) (now (start (words-test (t .before)) .args .values))
     (c .before .before .match2 .keys2) (c .refusal2 .ensures)
-
-gates-of-requires : tie.Need-gates-of-requires
-gates-of-requires c κs = search needs
-
-test-room-requires : tie.Need-test-room-requires
-test-room-requires c κs = search needs
-
-enum-told-5 : tie.Need-enum-told-5
-enum-told-5 c = search needs
-
-enum-told-6 : tie.Need-enum-told-6
-enum-told-6 c = search needs
-
-refusal-requires-3 : tie.Need-refusal-requires-3
-refusal-requires-3 c κs = search needs
 
 returns-3 : tie.Need-returns-3
 returns-3 c =
@@ -108,13 +73,14 @@ returns-3 c =
 settle-into-requires : tie.Need-settle-into-requires
 settle-into-requires c κs =
     let t = c .before in
-    let w = words-test (setting-test (room-test t .before .before) .before) in (
-      passed-false _ MalformedBlock (w .check-words .ensures) (setting-test (room-test t .before .before) .before .enum-told .given .1),
+    let s = room-test t .before .before in
+    let e = setting-test s .before in
+    let w = words-test e in
+    let whole = passed-false _ MalformedBlock (w .check-words .ensures) (e .enum-told .given .1) in (
+      whole,
+      good-setting _ _ whole (passed-false _ BadSetting (setting-test s .test-setting .ensures) (s .enum-told3 .given .1)),
       ltb-false _ _ (passed-false _ NoRoom (rw (← room-test t .before .gates-of .ensures) (room-test t .test-room .ensures)) (t .enum-told5 .given .1)),
     )
-
-same-length : tie.Need-same-length
-same-length c = search needs
 
 returns-4 : tie.Need-returns-4
 returns-4 c =
@@ -129,22 +95,22 @@ pub settle-spec : {M : Type 1} → statement M
 settle-spec =
     tie.close
     (tie.spec
-    check-words-requires
+    (λ c κs. search needs)
     enum-told
-    enum-told-2
-    refusal-requires
+    (λ c. search needs)
+    (λ c κs. search needs)
     returns
-    test-setting-requires
-    enum-told-3
-    enum-told-4
-    refusal-requires-2
+    (λ c κs. search needs)
+    (λ c. search needs)
+    (λ c. search needs)
+    (λ c κs. search needs)
     returns-2
-    gates-of-requires
-    test-room-requires
-    enum-told-5
-    enum-told-6
-    refusal-requires-3
+    (λ c κs. search needs)
+    (λ c κs. search needs)
+    (λ c. search needs)
+    (λ c. search needs)
+    (λ c κs. search needs)
     returns-3
     settle-into-requires
-    same-length
+    (λ c. search needs)
     returns-4)

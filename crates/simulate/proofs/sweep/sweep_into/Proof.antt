@@ -1,30 +1,46 @@
--- `simulate::sweep::sweep_into` meets its contract: it makes the table and lends it to the sweep. Assumes nothing.
-use native.Mathlib.Omega.{arith}
+-- `simulate::sweep::sweep_into` meets its contract: the sweep of the graph is the block's (`swept-bytes`). Assumes nothing.
+use denote.Ref.{now}
+use Rattle.simulate.proofs.Starts.{blank}
+use Rattle.simulate.proofs.Sweeps.{swept-bytes}
 use borrow.Author.Needs.{needs}
-use Rattle.simulate.proofs.Codes.{gates-are}
 use Rattle.simulate.proofs.sweep.sweep_into.Statement.{statement}
 use Rattle.simulate.proofs.sweep.sweep_into.Tie as tie
 
-gate-table-requires : tie.Need-gate-table-requires
-gate-table-requires c κs = search needs
-
-nodes-of-requires : tie.Need-nodes-of-requires
-nodes-of-requires c κs = search needs
+put-setting-requires : tie.Need-put-setting-requires
+put-setting-requires c κs = (blank, c .before .before .before .before .before .before .before .pre .1)
 
 sweep-gates-requires : tie.Need-sweep-gates-requires
 sweep-gates-requires c κs =
-    let made = c .before .before in
-    let s = made .before .before .before .before .before in
-    let are = made .nodes-of .ensures in
-    (made .before .gate-table .ensures, record { whole = s .pre .0; nodesAre = are; fits = omega (arith, gates-are _ are, s .pre .1) })
-
-same-length : tie.Need-same-length
-same-length c = search needs
+    let d = c .before .before .before .before .before .before in
+    let m = c .before .before .before in (
+      d .before .before .gate-table .ensures,
+      rw (m .gates-of .ensures) (d .decode-gates .ensures .legal),
+      m .before .put-setting .ensures .unsettled,
+    )
 
 returns : tie.Need-returns
 returns c =
-    let swept = c .before .before in
-    (swept .sweep-gates .ensures, gates-are _ (swept .before .before .before .nodes-of .ensures))
+    let t = c .before .before in
+    let w = t .before .before .before in
+    let m = w .before .before .before .before in
+    let p = m .before in
+    let d = p .before .before in
+    let a = d .before .before .before .before .before .before .args in (
+      swept-bytes (now (a .words)) (now (a .setting)) (now (a .out)) (d .decode-gates .ensures) (p .put-setting .ensures) _
+          (m .gates-of .ensures) (w .sweep-gates .ensures)
+          (t .take-gates .ensures),
+      m .gates-of .ensures,
+    )
 
 pub sweep-into-spec : {M : Type 1} → statement M
-sweep-into-spec = tie.close (tie.spec gate-table-requires nodes-of-requires sweep-gates-requires same-length returns)
+sweep-into-spec =
+    tie.close
+    (tie.spec
+    (λ c κs. search needs)
+    (λ c κs. search needs)
+    put-setting-requires
+    (λ c κs. search needs)
+    sweep-gates-requires
+    (λ c κs. search needs)
+    (λ c. search needs)
+    returns)

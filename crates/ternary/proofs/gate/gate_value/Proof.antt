@@ -1,132 +1,70 @@
--- `ternary::gate::gate_value` meets its contract: the codes are the digits of the gate's index, and its entry is the gate's value
--- (`gate-entry`). Assumes nothing.
-use mathlib.Core.Path.{_≡_, sym, ap, _∙_}
-use mathlib.Core.List.{List}
+-- `ternary::gate::gate_value` meets its contract: the codes are the digits of the gate's index, and its entry is the gate's value (`gate-entry`).
+-- Assumes nothing.
+use mathlib.Core.Path.{_≡_, _∙_}
 use mathlib.Core.Bool.{true}
-use Prim.Native.Nat.{ℕ, _+_, _/_, _%_, _≤_}
-use denote.Ref.{now}
-use borrow.Author.Needs.{needs}
 use native.Mathlib.Omega.{arith}
+use denote.Ref.{now}
+use lib.ListN.{length}
 use Rattle.laws.specs.Lists.{tab}
 use Rattle.laws.proofs.Tab.{length-tab}
-use Rattle.netlist.specs.Values.{Value, code}
-use lib.ListN.{length}
 use Rattle.netlist.specs.Kinds.{arityFits}
-use Rattle.netlist.specs.GateTable.{tableIndex, gateIndex, operandCode}
-use Rattle.ternary.specs.Legal.{valueFrom}
-use Rattle.ternary.proofs.Heads.{Head, headOf, evaluated-gate}
-use Rattle.ternary.proofs.GateTable.{table-at, operand-code-le, gate-entry}
+use Rattle.netlist.specs.GateTable.{tableIndex, gateIndex}
+use Rattle.layout.proofs.KindLaws.{kind-last}
+use Rattle.graph.specs.Graph.{kindAt, countAt}
+use Rattle.ternary.specs.State.{slotValue, gateCode}
+use Rattle.ternary.proofs.GateTable.{table-at, gate-entry}
+use borrow.Author.Needs.{needs}
 use Rattle.ternary.proofs.gate.gate_value.Statement.{statement}
 use Rattle.ternary.proofs.gate.gate_value.Tie as tie
 
--- what is known of the head word
-head : (c : tie.After-word-at) →
-    let start = c .before .before .before .before in
-    Head (now (start .args .words)) (start .args .at) (c .word-at .result)
-head c = headOf _ _ _ (c .before .before .before .before .pre .1) (c .word-at .ensures)
-
-few : (r : ℕ) (vs : List Value) (p : ℕ) → r ≡ operandCode vs p → r ≤ 3
-few r vs p e = rw e (operand-code-le vs p)
-
--- the four codes are at most 3
-codes : (c : tie.After-operand-code4) →
-    (c .before .before .before .operand-code .result ≤ 3)
-    × (c .before .before .operand-code2 .result ≤ 3)
-    × (c .before .operand-code3 .result ≤ 3)
-    × (c .operand-code4 .result ≤ 3)
-codes c = (
-  few _ _ _ (c .before .before .before .operand-code .ensures),
-  few _ _ _ (c .before .before .operand-code2 .ensures),
-  few _ _ _ (c .before .operand-code3 .ensures),
-  few _ _ _ (c .operand-code4 .ensures),
-)
-
-word-at-requires : tie.Need-word-at-requires
-word-at-requires c κs = search needs
-
-add-from : tie.Need-add-from
-add-from c = omega (arith, head c)
-
-operand-code-requires : tie.Need-operand-code-requires
-operand-code-requires c κs = let h = head c in (omega arith, omega arith)
-
-operand-code-requires-2 : tie.Need-operand-code-requires-2
-operand-code-requires-2 c κs = let h = head (c .before) in (omega arith, omega arith)
-
-operand-code-requires-3 : tie.Need-operand-code-requires-3
-operand-code-requires-3 c κs = let h = head (c .before .before) in (omega arith, omega arith)
-
-operand-code-requires-4 : tie.Need-operand-code-requires-4
-operand-code-requires-4 c κs = let h = head (c .before .before .before) in (omega arith, omega arith)
-
-mul-result : tie.Need-mul-result
-mul-result c = search needs
-
-add-result : tie.Need-add-result
-add-result c = let few = codes c in omega arith
-
-mul-result-2 : tie.Need-mul-result-2
-mul-result-2 c = let few = codes c in omega arith
-
-add-result-2 : tie.Need-add-result-2
-add-result-2 c = let few = codes c in omega arith
-
-mul-result-3 : tie.Need-mul-result-3
-mul-result-3 c = let few = codes c in omega arith
-
-add-result-3 : tie.Need-add-result-3
-add-result-3 c = let few = codes c in omega arith
-
-mul-result-4 : tie.Need-mul-result-4
-mul-result-4 c = let few = codes c in omega arith
-
-add-result-4 : tie.Need-add-result-4
-add-result-4 c = let few = codes c in omega arith
+cast-operation : tie.Need-cast-operation
+cast-operation c = omega (arith, c .before .pre .1 .0 .small)
 
 element-copy-out-result : tie.Need-element-copy-out-result
-element-copy-out-result c = let few = codes c in let h = head (c .before .before .before .before) in omega (arith, h .kind)
+unfolding kindAt
+element-copy-out-result c =
+    let s = c .before .before .before .before .before in
+    let k = kind-last (kindAt (now (s .args .graph)) (s .args .j)) (s .pre .1 .0 .kind) in
+    omega (arith, c .before .before .before .operand-code .ensures .1, c .before .before .operand-code2 .ensures .1, c .before .operand-code3 .ensures .1, c .operand-code4 .ensures .1)
 
 returns : tie.Need-returns
-unfolding gateIndex tableIndex
+unfolding gateCode gateIndex tableIndex kindAt countAt
 returns c =
     let o = c .before in
-    let w = o .before .before .before .before in
-    let start = w .before .before .before .before in
-    let a = start .args in
-    let h = w .word-at .result in
-    let v = valueFrom (now (a .words)) (a .n) (a .at + 1) (now (a .inputs)) (now (a .gates)) in
-    let vs = tab v (h / 8) in
-    let k = head w in
-    let few = codes o in
-    let fits : arityFits (h % 8) (length vs) ≡ true = rw (length-tab v (h / 8)) (k .count) in
-    rw (start .pre .0)
-    (table-at _ (omega (arith, k .kind))
-    ∙ rw (
-      o .before .before .before .operand-code .ensures,
-      o .before .before .operand-code2 .ensures,
-      o .before .operand-code3 .ensures,
-      o .operand-code4 .ensures,
-    )
-    (gate-entry (h % 8) vs (k .kind) fits)
-    ∙ ap code (sym (evaluated-gate (a .n) (now (a .words)) (a .at) (now (a .inputs)) (now (a .gates)) h (w .word-at .ensures))))
+    let s = o .before .before .before .before .before in
+    let a = s .args in
+    let graph = now (a .graph) in
+    let kind = kindAt graph (a .j) in
+    let count = countAt graph (a .j) in
+    let v = slotValue graph (now (a .values)) (a .j) in
+    let vs = tab v count in
+    let k = kind-last kind (s .pre .1 .0 .kind) in
+    let fits : arityFits kind (length vs) ≡ true = rw (length-tab v count) (s .pre .1 .0 .count) in
+    rw (s .pre .0)
+    (table-at _ (omega
+    (arith, o .before .before .before .operand-code .ensures .1, o .before .before .operand-code2 .ensures .1, o .before .operand-code3 .ensures .1, o .operand-code4 .ensures .1))
+    ∙ rw (o .before .before .before .operand-code .ensures .0, o .before .before .operand-code2 .ensures .0, o .before .operand-code3 .ensures .0, o .operand-code4 .ensures .0)
+    (gate-entry kind vs k fits))
 
 pub gate-value-spec : {M : Type 1} → statement M
 gate-value-spec =
     tie.close
     (tie.spec
-    word-at-requires
-    add-from
-    operand-code-requires
-    operand-code-requires-2
-    operand-code-requires-3
-    operand-code-requires-4
-    mul-result
-    add-result
-    mul-result-2
-    add-result-2
-    mul-result-3
-    add-result-3
-    mul-result-4
-    add-result-4
+    (λ c. search needs)
+    (λ c. search needs)
+    (λ c. search needs)
+    cast-operation
+    (λ c κs. search needs)
+    (λ c κs. search needs)
+    (λ c κs. search needs)
+    (λ c κs. search needs)
+    (λ c. search needs)
+    (λ c. search needs)
+    (λ c. search needs)
+    (λ c. search needs)
+    (λ c. search needs)
+    (λ c. search needs)
+    (λ c. search needs)
+    (λ c. search needs)
     element-copy-out-result
     returns)

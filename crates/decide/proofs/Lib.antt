@@ -1,2 +1,0 @@
--- Mathematics of evaluation in place; no function of src/ is named.
-pub mod Waking
