@@ -74,7 +74,6 @@ pub record Node (m : ℕ) (graph : List ℕ) (j : ℕ) : Type 0 where
 
 pub record Graph (m : ℕ) (graph : List ℕ) : Type 0 where
   pub few : m ≤ maxGates
-  pub long : length graph ≡ graphSize
   pub node : (j : ℕ) → j < m → Node m graph j
 
 -- the graph of a block's gates

@@ -18,7 +18,7 @@ ghost use Rattle.netlist.specs.Limits.{maxInputs};
 ghost use Rattle.netlist.specs.Kinds.{isKind};
 ghost use Rattle.netlist.specs.StoredBlock.{operandOf, decode, isMalformed};
 ghost use Rattle.graph.specs.Places.{placeOf};
-ghost use Rattle.graph.specs.Graph.{controllingOf, forcedOf, Decoded};
+ghost use Rattle.graph.specs.Graph.{graphSize, controllingOf, forcedOf, Decoded};
 ghost use Rattle.graph.specs.Decoding.{WordsOf, wordPlace, nodeWords};
 
 // The places of what a gate reads: the two constants, the inputs, the gates.
@@ -122,7 +122,7 @@ fn put_node(words: &[u16], nodes: Nodes, j: usize, graph: &mut [u16; GRAPH_WORDS
 
 // The graph of a block.
 pub fn decode_gates(words: &[u16], graph: &mut [u16; GRAPH_WORDS])
-    requires { ⌜ isMalformed (now words) ≡ false ⌝ }
+    requires { ⌜ (isMalformed (now words) ≡ false) × (length (now graph) ≡ graphSize) ⌝ }
     ensures { λ r. ⌜ Decoded (decode (now (words .entry))) (getD (now (words .entry)) 1 0) (now (graph .exit)) ⌝ }
 {
     let nodes = nodes_of(words);

@@ -1,54 +1,57 @@
+-- `graph::decode_gates` meets its contract: gate after gate is put. Assumes nothing.
+use mathlib.Core.Path.{_≡_, refl, sym}
+use Prim.Native.Nat.{_+_, _-_, _≤_, _<_}
+use native.Mathlib.Omega.{arith}
+use borrow.Author.Needs.{needs}
+use Rattle.layout.specs.Nodes.{nodesOf}
+use Rattle.netlist.specs.Limits.{maxGates}
+use Rattle.graph.specs.Decoding.{Putting}
+use Rattle.graph.proofs.Decoding.{words-of, putting-none, putting-more, graph-decoded}
 use Rattle.graph.proofs.decode_gates.Statement.{statement}
 use Rattle.graph.proofs.decode_gates.Tie as tie
-use Rattle.graph.proofs.decode_gates.Reads as reads
-use Rattle.graph.proofs.decode_gates.Lts as lts
-use Rattle.graph.proofs.put_node.Reads as put-node-reads
-use Rattle.layout.proofs.nodes.nodes_of.Reads as nodes-of-reads
 
 abbrev Inv-loop : tie.InvT-loop
-Inv-loop words graph₀ nodes j₀ graph j = ?
+Inv-loop words graph₀ nodes j₀ graph j = (j ≤ nodes .gates) × Putting words nodes j graph
 
 abbrev μ-loop : tie.MeasureT-loop
-μ-loop words graph₀ nodes j₀ graph j = ?
+μ-loop words graph₀ nodes j₀ graph j = nodes .gates - j
 
--- src/lib.rt:128:9
 nodes-of-requires : tie.Need-nodes-of-requires Inv-loop μ-loop
-nodes-of-requires c κs = ?
+nodes-of-requires c κs = search needs
 
--- src/lib.rt:130:5
 loop-holds : tie.Need-loop-holds Inv-loop μ-loop
-loop-holds c = ?
+loop-holds c = (omega arith, putting-none _ _ _ (c .before .before .pre .1))
 
--- src/lib.rt:131:9
 put-node-requires : tie.Need-put-node-requires Inv-loop μ-loop
-put-node-requires c κs = ?
+put-node-requires c κs =
+    let turn = c .before .before .before in
+    let s = turn .before .before .before in
+    (rw (turn .before .nodes-of .ensures) (words-of (s .args .words .now) (s .pre .0)), omega arith)
 
--- src/lib.rt:132:9
 add-j : tie.Need-add-j Inv-loop μ-loop
-add-j c = ?
+add-j c = search needs
 
--- src/lib.rt:130:5
 loop-less : tie.Need-loop-less Inv-loop μ-loop
-loop-less c = ?
+loop-less c = omega arith
 
--- src/lib.rt:130:5
 loop-again : tie.Need-loop-again Inv-loop μ-loop
-loop-again c = ?
+loop-again c =
+    let turn = c .before .before .before .before in
+    let known = turn .before in
+    let s = known .before .before in
+    let few : turn .loop .j < known .nodes-of .result .gates = omega arith in
+    let most : known .nodes-of .result .gates ≤ maxGates = rw (known .nodes-of .ensures) (words-of (s .args .words .now) (s .pre .0) .fewGates) in
+    (omega arith, putting-more (turn .loop .inv .1) (omega arith) (c .put-node .ensures))
 
--- src/lib.rt:124:1
 returns : tie.Need-returns Inv-loop μ-loop
-returns c = ?
+unfolding nodesOf
+returns c =
+    let known = c .before .before .before in
+    let s = known .before .before in
+    let is = known .nodes-of .ensures in
+    let all : c .before .before .loop .j ≡ known .nodes-of .result .gates = omega arith in
+    graph-decoded (s .args .words .now) (s .pre .0) (rw (all, is) at (c .before .before .loop .inv .1))
 
 pub decode-gates-spec : {M : Type 1} → statement M
 decode-gates-spec =
-    tie.close
-    (tie.spec
-    Inv-loop
-    μ-loop
-    nodes-of-requires
-    loop-holds
-    put-node-requires
-    add-j
-    loop-less
-    loop-again
-    returns)
+    tie.close (tie.spec Inv-loop μ-loop nodes-of-requires loop-holds put-node-requires add-j loop-less loop-again returns)

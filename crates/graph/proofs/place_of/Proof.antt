@@ -1,37 +1,27 @@
+-- `graph::place_of` meets its contract: an input, one of the two constants, or a gate. Assumes nothing.
+use mathlib.Core.Path.{_≡_, sym, _∙_}
+use Prim.Native.Nat.{_+_, _-_, _<_}
+use native.Mathlib.Omega.{arith}
 use borrow.Author.Needs.{needs}
+use Rattle.graph.proofs.Places.{place-input, place-zero, place-one, place-gate}
 use Rattle.graph.proofs.place_of.Statement.{statement}
 use Rattle.graph.proofs.place_of.Tie as tie
-use Rattle.graph.proofs.place_of.Reads as reads
-use Rattle.graph.proofs.place_of.Lts as lts
 
--- src/lib.rt:84:16
-add-result : tie.Need-add-result
-add-result c = search needs
+input : tie.Need-returns
+input c = sym (place-input (c .before .args .n) (c .before .args .word) (c .if1 .taken))
 
--- src/lib.rt:84:9
-returns : tie.Need-returns
-returns c = ?
+zero : tie.Need-returns-2
+zero c = rw (c .match .keys1) (sym (place-zero (c .before .before .args .n) (c .before .before .pre .0)))
 
--- src/lib.rt:89:14
-add-result-2 : tie.Need-add-result-2
-add-result-2 c = search needs
+one : tie.Need-returns-3
+one c = rw (c .match .keys2) (sym (place-one (c .before .before .args .n) (c .before .before .pre .0)))
 
--- src/lib.rt:89:14
-sub-result : tie.Need-sub-result
-sub-result c = search needs
-
--- src/lib.rt:79:1
-returns-2 : tie.Need-returns-2
-returns-2 c = ?
-
--- src/lib.rt:79:1
-returns-3 : tie.Need-returns-3
-returns-3 c = ?
-
--- src/lib.rt:79:1
-returns-4 : tie.Need-returns-4
-returns-4 c = ?
+gate : tie.Need-returns-4
+gate c =
+    let n = c .before .before .args .n in
+    let word = c .before .before .args .word in
+    let moved : 14 + word - n ≡ 14 + (word - n) = omega arith in
+    moved ∙ sym (place-gate n word (omega arith) (omega arith))
 
 pub place-of-spec : {M : Type 1} → statement M
-place-of-spec =
-    tie.close (tie.spec add-result returns add-result-2 sub-result returns-2 returns-3 returns-4)
+place-of-spec = tie.close (tie.spec (λ c. search needs) input (λ c. search needs) (λ c. search needs) zero one gate)

@@ -1,38 +1,41 @@
+-- `graph::rule_of` meets its contract: each arm has its kind's numbers, and kinds 1 to 4 those of the table's row. Assumes nothing.
+use mathlib.Core.Path.{_≡_, refl, sym, ap, _∙_}
+use mathlib.Core.Bool.{true}
+use Prim.Native.Nat.{_≤_}
+use native.Mathlib.Omega.{arith}
 use borrow.Author.Needs.{needs}
+use borrow.Author.Tests.{le-leb}
+use Rattle.netlist.specs.declared.Row.{Row}
+use Rattle.netlist.specs.Kinds.{isNot, isXor, isXnor, isKind}
+use Rattle.graph.specs.Graph.{controllingOf, forcedOf}
+use Rattle.graph.proofs.Rules.{controlling-small, forced-small, rule-row}
 use Rattle.graph.proofs.rule_of.Statement.{statement}
 use Rattle.graph.proofs.rule_of.Tie as tie
-use Rattle.graph.proofs.rule_of.Reads as reads
-use Rattle.graph.proofs.rule_of.Lts as lts
-use Rattle.layout.proofs.kinds.row_of.Reads as row-of-reads
 
--- src/lib.rt:69:17
-row-of-requires : tie.Need-row-of-requires
-row-of-requires c κs = search needs
+not-row : tie.Need-returns
+unfolding controllingOf forcedOf isNot
+not-row c = rw (c .match .keys1) (refl, refl, omega arith, omega arith)
 
--- src/lib.rt:71:30
-cast-t4 : tie.Need-cast-t4
-cast-t4 c = search needs
+xor-row : tie.Need-returns-2
+unfolding controllingOf forcedOf isNot isXor
+xor-row c = rw (c .match .keys2) (refl, refl, omega arith, omega arith)
 
--- src/lib.rt:72:25
-cast-t5 : tie.Need-cast-t5
-cast-t5 c = search needs
+xnor-row : tie.Need-returns-3
+unfolding controllingOf forcedOf isNot isXor isXnor
+xnor-row c = rw (c .match .keys3) (refl, refl, omega arith, omega arith)
 
--- src/lib.rt:51:1
-returns : tie.Need-returns
-returns c = ?
-
--- src/lib.rt:51:1
-returns-2 : tie.Need-returns-2
-returns-2 c = ?
-
--- src/lib.rt:51:1
-returns-3 : tie.Need-returns-3
-returns-3 c = ?
-
--- src/lib.rt:51:1
-returns-4 : tie.Need-returns-4
-returns-4 c = ?
+table-row : tie.Need-returns-4
+unfolding isKind
+table-row c =
+    let s = c .before .before .before .before in
+    let kind = s .args .kind in
+    let legal : isKind kind ≡ true = le-leb kind 6 (s .pre) in
+    let is = c .before .before .row-of .ensures (omega arith) in
+    let rule = rule-row kind legal (omega arith) (omega arith) (omega arith) in
+    let first = ap (λ (r : Row). r .controlling) is ∙ rule .0 in
+    let second = ap (λ (r : Row). r .forced) is ∙ rule .1 in
+    (first, second, rw first (controlling-small kind legal), rw second (forced-small kind legal))
 
 pub rule-of-spec : {M : Type 1} → statement M
 rule-of-spec =
-    tie.close (tie.spec row-of-requires cast-t4 cast-t5 returns returns-2 returns-3 returns-4)
+    tie.close (tie.spec (λ c κs. search needs) (λ c. search needs) (λ c. search needs) not-row xor-row xnor-row table-row)

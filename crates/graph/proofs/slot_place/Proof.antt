@@ -1,57 +1,51 @@
+-- `graph::slot_place` meets its contract: an operand's own place, or the constant behind the last operand. Assumes nothing.
+use mathlib.Core.Path.{_≡_, refl, sym, _∙_}
+use Prim.Native.Nat.{_+_, _/_, _≤_, _<_}
+use native.Mathlib.Omega.{arith}
 use borrow.Author.Needs.{needs}
+use borrow.Author.Tests.{lt-ltb, le-ltb}
+use lib.ListN.{getD}
+use Rattle.graph.specs.Decoding.{wordPlace}
 use Rattle.graph.proofs.slot_place.Statement.{statement}
 use Rattle.graph.proofs.slot_place.Tie as tie
-use Rattle.graph.proofs.slot_place.Reads as reads
-use Rattle.graph.proofs.slot_place.Lts as lts
-use Rattle.graph.proofs.place_of.Reads as place-of-reads
-use Rattle.layout.proofs.read.word_in.Reads as word-in-reads
 
--- src/lib.rt:98:12
-word-in-requires : tie.Need-word-in-requires
-word-in-requires c κs = search needs
-
--- src/lib.rt:99:26
-add-word : tie.Need-add-word
-add-word c = search needs
-
--- src/lib.rt:99:26
-add-word-2 : tie.Need-add-word-2
-add-word-2 c = search needs
-
--- src/lib.rt:99:20
-mul-word : tie.Need-mul-word
-mul-word c = search needs
-
--- src/lib.rt:99:20
-shared-slice-read-word : tie.Need-shared-slice-read-word
-shared-slice-read-word c = search needs
-
--- src/lib.rt:99:20
 cast-word : tie.Need-cast-word
-cast-word c = ?
+cast-word c =
+    let s = c .before .before .before .before in
+    omega (arith, c .shared-slice-known2 .given (s .args .at + 1 + s .args .i))
 
--- src/lib.rt:100:9
 place-of-requires : tie.Need-place-of-requires
-place-of-requires c κs = ?
+place-of-requires c κs =
+    let s = c .before .before .before .before in
+    (s .pre .0, omega (arith, c .shared-slice-known2 .given (s .args .at + 1 + s .args .i)))
 
--- src/lib.rt:100:9
-returns : tie.Need-returns
-returns c = ?
+operand : tie.Need-returns
+unfolding wordPlace
+operand c =
+    let test = c .before .before in
+    let asked = test .before in
+    let s = asked .before .before in
+    let there : s .args .i < getD (s .args .words .now) (s .args .at) 0 / 8 = rw (asked .word-in .ensures) at (test .if1 .taken) in
+    c .place-of .ensures ∙ rw (lt-ltb (s .args .i) _ there) refl
 
--- src/lib.rt:94:1
-returns-2 : tie.Need-returns-2
-returns-2 c = ?
+absent : tie.Need-returns-2
+unfolding wordPlace
+absent c =
+    let asked = c .before in
+    let s = asked .before .before in
+    let past : getD (s .args .words .now) (s .args .at) 0 / 8 ≤ s .args .i = omega (arith, asked .word-in .ensures) in
+    rw (le-ltb (s .args .i) _ past) refl
 
 pub slot-place-spec : {M : Type 1} → statement M
 slot-place-spec =
     tie.close
     (tie.spec
-    word-in-requires
-    add-word
-    add-word-2
-    mul-word
-    shared-slice-read-word
+    (λ c κs. search needs)
+    (λ c. search needs)
+    (λ c. search needs)
+    (λ c. search needs)
+    (λ c. search needs)
     cast-word
     place-of-requires
-    returns
-    returns-2)
+    operand
+    absent)
