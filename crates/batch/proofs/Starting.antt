@@ -37,9 +37,9 @@ cleared-more {k} {w} {mid} c l =
     }
 
 -- two pairs stored there leave the length
-pub stored-long : {k p q : ℕ} {w a b c : List ℕ} {r t : Pair} → length w ≡ laneSize → Cleared k w a → b ≡ putPair a p r → c ≡ putPair b q t
+pub stored-long : {k : ℕ} {w a b c : List ℕ} (p : ℕ) (r : Pair) (q : ℕ) (t : Pair) → length w ≡ laneSize → Cleared k w a → b ≡ putPair a p r → c ≡ putPair b q t
     → length c ≡ laneSize
-stored-long {k} {p} {q} {w} {a} {b} {c} {r} {t} long cleared e f =
+stored-long {k} {w} {a} {b} {c} p r q t long cleared e f =
     ap length f ∙ put-length b q t ∙ ap length e ∙ put-length a p r ∙ cleared .long ∙ long
 
 pub inputs-none : (n base : ℕ) (w : List ℕ) → InputsStarted n base 0 w w
@@ -68,7 +68,7 @@ module _ {m n base used : ℕ} {w a b c d : List ℕ} (fewGates : m ≤ maxGates
   lengths =
       let la : length a ≡ laneSize = cleared .long ∙ long in
       let lb : length b ≡ laneSize = ap length zero ∙ put-length a 0 (record { zeros = used; ones = 0 }) ∙ la in
-      (la, lb, stored-long long cleared zero one)
+      (la, lb, stored-long 0 _ 1 _ long cleared zero one)
 
   blank : (p : ℕ) → p < firstGate + m → pairAt a p ≡ noLanes
   unfolding pairAt noLanes

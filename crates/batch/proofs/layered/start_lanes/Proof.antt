@@ -11,7 +11,7 @@ put-inputs-requires c κs =
     let zero = one .before .before in
     let clear = zero .before .before .before in
     let s = clear .before .before in
-    (s .pre .1, stored-long (s .pre .2) (clear .clear-words .ensures) (zero .put-pair .ensures) (one .put-pair2 .ensures))
+    (s .pre .1, stored-long 0 _ 1 _ (s .pre .2) (clear .clear-words .ensures) (zero .put-pair .ensures) (one .put-pair2 .ensures))
 
 returns : tie.Need-returns
 returns c =
