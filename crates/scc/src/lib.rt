@@ -1,1 +1,0 @@
-// The gates in layers.
