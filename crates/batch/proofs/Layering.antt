@@ -3,6 +3,7 @@
 --   lanes-one, lanes-swept, lanes-underway  one gate, a list of gates, and what is left on the way
 --   part-among, among-part                  positions of a part of the order
 --   advanced-none, -swept, -still, -decided, -then   sweeps over a part
+--   settled-decoded                         a graph's settled values are the block's
 --   started-underway, reached-start, reached-one, reached-loop, reached-settled   layers
 -- Assumes nothing.
 use mathlib.Core.Path.{_≡_, refl, sym, ap, ap₂, _∙_}
@@ -33,9 +34,9 @@ use Rattle.rounds.proofs.AnyOrder.{start-below-settled, run-elsewhere, fixed-se
 use Rattle.rounds.proofs.InPlace.{start-rising, run-fixed}
 use Rattle.rounds.proofs.ListFacts.{getD-replicate-default}
 use Rattle.graph.specs.Places.{firstInput, firstGate}
-use Rattle.graph.specs.Graph.{gateAt, Node, Graph, network}
+use Rattle.graph.specs.Graph.{gateAt, Node, Graph, network, Decoded}
 use Rattle.graph.specs.Graph.{gatesIn as gatesOf}
-use Rattle.graph.proofs.Network.{network-count}
+use Rattle.graph.proofs.Network.{network-gates, network-count, count-gates, settled-gates}
 use Rattle.scc.specs.Layers.{LoopEnd, LayerEnd, Layers}
 use Rattle.lanes.specs.declared.Pair.{Pair}
 use Rattle.lanes.specs.Pairs.{lane, full, noLanes}
@@ -455,3 +456,18 @@ module _ {m : ℕ} {graph order ends : List ℕ} (layers : Layers m graph order 
       fixed s l j h =
           let p = layers .every j (rw (network-count m graph) at h) in
           rw (p .2) at (r .still (p .0) (p .1) s l)
+
+-- ---- a block's words
+
+-- what is settled in a graph is settled in the block that it was decoded from
+pub settled-decoded : {b : Block} {m n base : ℕ} {graph w : List ℕ} → Decoded b m graph → LanesSettled (network m graph) n base w → LanesSettled b n base w
+settled-decoded {b} {m} {n} {base} {graph} {w} d s =
+    let e = network-gates b m graph d in
+    let count = count-gates (network m graph) b e in
+    record {
+      filled = s .filled;
+      inputs = s .inputs;
+      inputsProper = s .inputsProper;
+      gatesProper = rw (← count) (s .gatesProper);
+      settledLanes = λ k l. rw (← count) (s .settledLanes k l ∙ settled-gates (network m graph) b e (settingOf n (base + k)));
+    }

@@ -7,6 +7,7 @@
 --   Reached, LayerSettled     the layers below a position are settled
 --   startInputs, LanesStarted the first pairs
 --   LanesSettled              the settled values of a batch
+--   PlanRoom, Planned         a block's words, decoded and in layers
 -- Assumes nothing.
 use mathlib.Core.Path.{_≡_}
 use mathlib.Core.Bool.{Bool, true, false, cond, not, _||_}
@@ -21,7 +22,9 @@ use Rattle.netlist.specs.Values.{Value, undefined}
 use Rattle.netlist.specs.Netlist.{Block, gateCount, gateOf}
 use Rattle.netlist.specs.Rounds.{evaluated, settled, settingOf}
 use Rattle.graph.specs.Places.{firstInput, firstGate}
-use Rattle.graph.specs.Graph.{Node, Graph, network}
+use Rattle.netlist.specs.StoredBlock.{decode, isMalformed}
+use Rattle.graph.specs.Graph.{graphSize, Node, Graph, network, Decoded}
+use Rattle.scc.specs.Layers.{Layers}
 use Rattle.lanes.specs.declared.Pair.{Pair}
 use Rattle.lanes.specs.Pairs.{lane, noLanes, full}
 use Rattle.lanes.specs.PairRounds.{AllProper}
@@ -149,3 +152,17 @@ pub record LanesSettled (b : Block) (n base : ℕ) (w : List ℕ) : Type 0 where
   pub inputsProper : AllProper (lanesOf n) (inputsIn w)
   pub gatesProper : AllProper (lanesOf n) (gatesIn (gateCount b) w)
   pub settledLanes : (s : ℕ) → s < lanesOf n → map (lane s) (gatesIn (gateCount b) w) ≡ settled b (settingOf n (base + s))
+
+-- ---- a block's words
+
+-- arrays for a plan
+pub record PlanRoom (graph order ends : List ℕ) : Type 0 where
+  pub graphRoom : length graph ≡ graphSize
+  pub orderRoom : length order ≡ maxGates
+  pub endRoom : length ends ≡ maxGates
+
+-- the graph of whole words, and its gates in layers
+pub record Planned (ws graph order ends : List ℕ) : Type 0 where
+  pub whole : isMalformed ws ≡ false
+  pub decoded : Decoded (decode ws) (getD ws 1 0) graph
+  pub layers : Layers (getD ws 1 0) graph order ends

@@ -1,102 +1,71 @@
--- `verdict::settings::count_batch` meets its contract: below the first batch with another, those that may come are settled. Assumes nothing.
-use mathlib.Core.Path.{refl, _∙_}
-use native.Mathlib.Omega.{arith}
 use borrow.Author.Needs.{needs}
-use Rattle.netlist.specs.StoredBlock.{decode}
-use Rattle.encoding.proofs.Decoded.{decode-inputCount}
-use Rattle.lanes.specs.Batches.{lanesOf}
-use Rattle.lanes.proofs.InputLaws.{lanesOf-most}
-use Rattle.lanes.proofs.WordLaws.{tells-count}
-use Rattle.verdict.proofs.Batching.{judged, count-coming}
 use Rattle.verdict.proofs.settings.count_batch.Statement.{statement}
 use Rattle.verdict.proofs.settings.count_batch.Tie as tie
+use Rattle.verdict.proofs.settings.count_batch.Reads as reads
+use Rattle.verdict.proofs.settings.count_batch.Lts as lts
+use Rattle.judge.proofs.decided.judge_batch.Reads as judge-batch-reads
+use Rattle.judge.proofs.nevers.coming_lanes.Reads as coming-lanes-reads
+use Rattle.lanes.proofs.words.count_lanes.Reads as count-lanes-reads
+use Rattle.lanes.proofs.words.lane_count.Reads as lane-count-reads
+use Rattle.layout.proofs.offsets.inputs_of.Reads as inputs-of-reads
+use Rattle.verdict.proofs.settings.count_held.Reads as count-held-reads
 
--- the function's entry, from the number of lanes; and a decided batch, from what is lent to be counted
-abbrev start : tie.After-lane-count → tie.Start
-start c = c .before .before .before .before .before
+-- src/settings.rt:127:9
+inputs-of-requires : tie.Need-inputs-of-requires
+inputs-of-requires c κs = search needs
 
-abbrev decided : tie.After-count-held-arg4 → tie.After-decide-batch
-decided c = c .before .before .before .before .before .before
-
-abbrev counted : tie.After-decide-batch → tie.After-lane-count
-counted d = d .before .before .before .before .before
-
+-- src/settings.rt:128:15
 lane-count-requires : tie.Need-lane-count-requires
 lane-count-requires c κs = search needs
 
+-- src/settings.rt:128:8
 add-if1 : tie.Need-add-if1
-add-if1 c = omega (arith, c .lane-count .ensures, lanesOf-most (start c .args .nodes .inputs), start c .pre .0 .2)
+add-if1 c = ?
 
+-- src/settings.rt:129:28
 coming-lanes-requires : tie.Need-coming-lanes-requires
-coming-lanes-requires c κs =
-    let p = start (c .before) .pre .0 in
-    (p .0 .fewInputs, omega (arith, p .1), p .0 .legible .inputs ∙ decode-inputCount _)
+coming-lanes-requires c κs = ?
 
+-- src/settings.rt:129:9
 count-lanes-requires : tie.Need-count-lanes-requires
 count-lanes-requires c κs = search needs
 
+-- src/settings.rt:129:9
 returns : tie.Need-returns
-returns c =
-    let t = c .before .before in
-    let s = start (t .before) in
-    let n = s .args .nodes .inputs in (
-      c .count-lanes .ensures ∙ tells-count (lanesOf-most n) (c .before .coming-lanes .ensures)
-          ∙ count-coming (decode (s .args .words .now)) (s .args .base) (lanesOf n) (s .pre .1 .before)
-          (omega (arith, t .before .lane-count .ensures, t .if1 .taken)),
-      λ h. (refl, refl),
-    )
+returns c = ?
 
+-- src/settings.rt:132:9
 count-held-requires : tie.Need-count-held-requires
-count-held-requires c κs =
-    let t = c .before .before in
-    let p = start (t .before .before) .pre in
-    judged (p .0 .0) (p .0 .1) (p .1 .held (omega (arith, t .if2 .taken)))
+count-held-requires c κs = ?
 
-same-length : tie.Need-same-length
-same-length c = search needs
-
-same-length-2 : tie.Need-same-length-2
-same-length-2 c = search needs
-
+-- src/settings.rt:132:9
 returns-2 : tie.Need-returns-2
-returns-2 c = (c .count-held .ensures, λ h. (refl, refl))
+returns-2 c = search needs
 
-decide-batch-requires : tie.Need-decide-batch-requires
-decide-batch-requires c κs = search needs
+-- src/settings.rt:134:5
+judge-batch-requires : tie.Need-judge-batch-requires
+judge-batch-requires c κs = search needs
 
+-- src/settings.rt:135:5
 count-held-requires-2 : tie.Need-count-held-requires-2
-count-held-requires-2 c κs =
-    let d = decided c in
-    let p = start (counted d) .pre .0 in
-    judged (p .0) (p .1) (d .decide-batch .ensures)
+count-held-requires-2 c κs = search needs
 
-same-length-3 : tie.Need-same-length-3
-same-length-3 c = search needs
-
-same-length-4 : tie.Need-same-length-4
-same-length-4 c = search needs
-
+-- src/settings.rt:112:1
 returns-3 : tie.Need-returns-3
-returns-3 c =
-    let d = decided (c .before) in
-    let above = d .before .before .before .before in
-    (c .count-held2 .ensures, λ h. absurd (omega (arith, above .if1 .left, above .before .lane-count .ensures, h)))
+returns-3 c = ?
 
 pub count-batch-spec : {M : Type 1} → statement M
 count-batch-spec =
     tie.close
     (tie.spec
+    inputs-of-requires
     lane-count-requires
     add-if1
     coming-lanes-requires
     count-lanes-requires
     returns
     count-held-requires
-    same-length
-    same-length-2
     returns-2
-    decide-batch-requires
+    judge-batch-requires
     count-held-requires-2
-    same-length-3
-    same-length-4
     returns-3)
