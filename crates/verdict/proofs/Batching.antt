@@ -1,6 +1,7 @@
 -- Batches one after the other.
 --   Place, place-first, place-next    where a batch starts
 --   lanesOf-some                      a batch has a lane
+--   tells-from                        the number of inputs
 --   passed-sound, found-unsound       what the outputs' words tell of a batch
 --   batch-more, lowest-in-batch       one batch more; the lowest setting in the first batch that has one
 --   count-add, count-coming, reached  how many are settled
@@ -78,6 +79,11 @@ pub lanesOf-some : (n : ℕ) → 0 < lanesOf n
 unfolding lanesOf
 lanesOf-some n = pow-pos (min n 6)
 
+-- ---- the number of inputs, as the code reads it and as the words have it
+
+pub tells-from : {n k base : ℕ} {p : ℕ → Bool} {w : ℕ} → n ≡ k → Tells (lanesOf n) base p w → Tells (lanesOf k) base p w
+tells-from e t = rw e at t
+
 -- ---- what the outputs' words tell
 
 -- a setting that is not sound may come and is not settled
@@ -100,9 +106,10 @@ both-unsound b s = go (isExcluded b s) (isSettled b s)
     go false false h k = refl
 
 module _ {ws : List ℕ} {n base : ℕ} {w : List ℕ} (j : Judged ws n base w) {at : ℕ}
-    (first : at ≡ outputsAt (getD ws 0 0) (getD ws 3 0) (getD ws 1 0)) {coming : ℕ} (comes : Tells (lanesOf n) base (mayCome (decode ws)) coming) where
+    (first : at ≡ outputsAt (getD ws 0 0) (getD ws 3 0) (getD ws 1 0)) {k : ℕ} (same : k ≡ n) {coming : ℕ}
+    (comes : Tells (lanesOf k) base (mayCome (decode ws)) coming) where
   -- no output is undefined at a lane that may come
-  pub passed-sound : ((o : ℕ) → o < getD ws 2 0 → bitAnd coming (undefinedWord ws at n w o) ≡ 0)
+  pub passed-sound : ((o : ℕ) → o < getD ws 2 0 → bitAnd coming (undefinedWord ws at k w o) ≡ 0)
       → (s : ℕ) → s < lanesOf n → isSoundAt (decode ws) (base + s) ≡ true
   passed-sound none s l = ⊎-elim (λ h. h) (λ h. absurd (no-lane h)) (bool-cases (isSoundAt (decode ws) (base + s)))
     where
@@ -111,13 +118,13 @@ module _ {ws : List ℕ} {n base : ℕ} {w : List ℕ} (j : Judged ws n base w) 
           let u = unsound-both (decode ws) (base + s) h in
           let f = undefined-some ws (base + s) (u .1) in
           not-both (and-intro (mayCome (decode ws) (base + s)) (isUndefinedAt (decode ws) (f .0) (base + s)) (u .0) (f .2))
-          (tells-no-lane (tells-and comes (undefined-tells j first (f .0) (f .1))) (none (f .0) (f .1)) s l)
+          (tells-no-lane (tells-and (tells-from same comes) (undefined-tells j first (f .0) (f .1))) (rw same at (none (f .0) (f .1))) s l)
 
   -- an output is undefined at one
-  pub found-unsound : (o : ℕ) → o < getD ws 2 0 → (bitAnd coming (undefinedWord ws at n w o) ≡ 0 → ⊥)
+  pub found-unsound : (o : ℕ) → o < getD ws 2 0 → (bitAnd coming (undefinedWord ws at k w o) ≡ 0 → ⊥)
       → (s : ℕ) × (s < lanesOf n) × (isSoundAt (decode ws) (base + s) ≡ false)
   found-unsound o l h =
-      let f = tells-some (tells-and comes (undefined-tells j first o l)) h in
+      let f = tells-some (tells-and (tells-from same comes) (undefined-tells j first o l)) (λ z. h (rw same z)) in
       let may = mayCome (decode ws) (base + f .0) in
       let lacks = isUndefinedAt (decode ws) o (base + f .0) in (
         f .0,

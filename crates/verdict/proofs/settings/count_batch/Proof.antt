@@ -1,71 +1,74 @@
+-- `verdict::settings::count_batch` meets its contract: below the first batch with another, those that may come are settled. Assumes nothing.
+use mathlib.Core.Path.{_≡_, refl, _∙_}
+use Prim.Native.Nat.{_+_, _≤_}
+use native.Mathlib.Omega.{arith}
 use borrow.Author.Needs.{needs}
+use lib.ListN.{getD}
+use Rattle.netlist.specs.StoredBlock.{decode}
+use Rattle.encoding.proofs.Readers.{whole-parts}
+use Rattle.lanes.specs.Batches.{lanesOf}
+use Rattle.lanes.proofs.InputLaws.{lanesOf-most}
+use Rattle.lanes.proofs.WordLaws.{tells-count}
+use Rattle.verdict.proofs.Batching.{count-coming}
 use Rattle.verdict.proofs.settings.count_batch.Statement.{statement}
 use Rattle.verdict.proofs.settings.count_batch.Tie as tie
-use Rattle.verdict.proofs.settings.count_batch.Reads as reads
-use Rattle.verdict.proofs.settings.count_batch.Lts as lts
-use Rattle.judge.proofs.decided.judge_batch.Reads as judge-batch-reads
-use Rattle.judge.proofs.nevers.coming_lanes.Reads as coming-lanes-reads
-use Rattle.lanes.proofs.words.count_lanes.Reads as count-lanes-reads
-use Rattle.lanes.proofs.words.lane_count.Reads as lane-count-reads
-use Rattle.layout.proofs.offsets.inputs_of.Reads as inputs-of-reads
-use Rattle.verdict.proofs.settings.count_held.Reads as count-held-reads
 
--- src/settings.rt:127:9
-inputs-of-requires : tie.Need-inputs-of-requires
-inputs-of-requires c κs = search needs
+-- the function's entry, from the number of lanes
+abbrev start : tie.After-lane-count → tie.Start
+start c = c .before .before .before
 
--- src/settings.rt:128:15
-lane-count-requires : tie.Need-lane-count-requires
-lane-count-requires c κs = search needs
+-- so many lanes has a batch
+many : (c : tie.After-lane-count) → c .lane-count .result ≡ lanesOf (getD (start c .args .words .now) 0 0)
+many c = rw (c .before .inputs-of .ensures) at (c .lane-count .ensures)
 
--- src/settings.rt:128:8
 add-if1 : tie.Need-add-if1
-add-if1 c = ?
+add-if1 c = omega (arith, many c, lanesOf-most (getD (start c .args .words .now) 0 0), start c .pre .1 .1)
 
--- src/settings.rt:129:28
 coming-lanes-requires : tie.Need-coming-lanes-requires
-coming-lanes-requires c κs = ?
+coming-lanes-requires c κs =
+    let l = c .before in
+    let s = start l in
+    let n = l .before .inputs-of .ensures in
+    (rw n (whole-parts (s .args .words .now) (s .pre .0 .0 .whole) .fewInputs), s .pre .1 .0, n)
 
--- src/settings.rt:129:9
-count-lanes-requires : tie.Need-count-lanes-requires
-count-lanes-requires c κs = search needs
-
--- src/settings.rt:129:9
 returns : tie.Need-returns
-returns c = ?
+returns c =
+    let t = c .before .before in
+    let l = t .before in
+    let s = start l in
+    let n = getD (s .args .words .now) 0 0 in (
+      c .count-lanes .ensures ∙ tells-count (lanesOf-most n) (rw (l .before .inputs-of .ensures) at (c .before .coming-lanes .ensures))
+          ∙ count-coming (decode (s .args .words .now)) (s .args .base) (lanesOf n) (s .pre .1 .2 .before) (omega (arith, many l, t .if1 .taken)),
+      (λ h. refl, s .pre .0 .1),
+    )
 
--- src/settings.rt:132:9
 count-held-requires : tie.Need-count-held-requires
-count-held-requires c κs = ?
+count-held-requires c κs = let t = c .before in start (t .before .before) .pre .1 .2 .held (t .if2 .taken)
 
--- src/settings.rt:132:9
 returns-2 : tie.Need-returns-2
-returns-2 c = search needs
+returns-2 c = (c .count-held .ensures, (λ h. refl, start (c .before .before .before .before) .pre .0 .1))
 
--- src/settings.rt:134:5
 judge-batch-requires : tie.Need-judge-batch-requires
-judge-batch-requires c κs = search needs
+judge-batch-requires c κs = let s = start (c .before .before .before) in (s .pre .0 .0, s .pre .1 .0, s .pre .0 .1)
 
--- src/settings.rt:135:5
-count-held-requires-2 : tie.Need-count-held-requires-2
-count-held-requires-2 c κs = search needs
-
--- src/settings.rt:112:1
 returns-3 : tie.Need-returns-3
-returns-3 c = ?
+returns-3 c =
+    let d = c .before .before in
+    let e = d .before .before .before in
+    (c .count-held2 .ensures, (λ h. absurd (omega (arith, e .if1 .left, many (e .before), h)), d .judge-batch .ensures .settled .filled .long))
 
 pub count-batch-spec : {M : Type 1} → statement M
 count-batch-spec =
     tie.close
     (tie.spec
-    inputs-of-requires
-    lane-count-requires
+    (λ c κs. search needs)
+    (λ c κs. search needs)
     add-if1
     coming-lanes-requires
-    count-lanes-requires
+    (λ c κs. search needs)
     returns
     count-held-requires
     returns-2
     judge-batch-requires
-    count-held-requires-2
+    (λ c κs. c .before .judge-batch .ensures)
     returns-3)

@@ -1,49 +1,62 @@
+-- `verdict::settings::lowest_in` meets its contract: in the first batch that has such a setting, the lowest lane. Assumes nothing.
+use mathlib.Core.Path.{_≡_, ap, _∙_}
+use Prim.Native.Nat.{_+_, _^_, _≤_, _<_}
+use native.Mathlib.Omega.{arith}
 use borrow.Author.Needs.{needs}
+use lib.ListN.{getD}
+use Rattle.laws.proofs.Least.{least-le}
+use Rattle.encoding.proofs.Readers.{whole-parts}
+use Rattle.lanes.specs.Words.{hasLane}
+use Rattle.verdict.proofs.Counting.{few-settings}
+use Rattle.verdict.proofs.Batching.{lowest-in-batch, lowest-nowhere}
 use Rattle.verdict.proofs.settings.lowest_in.Statement.{statement}
 use Rattle.verdict.proofs.settings.lowest_in.Tie as tie
-use Rattle.verdict.proofs.settings.lowest_in.Reads as reads
-use Rattle.verdict.proofs.settings.lowest_in.Lts as lts
-use Rattle.judge.proofs.settled.unsound_lanes.Reads as unsound-lanes-reads
-use Rattle.lanes.proofs.words.lowest_lane.Reads as lowest-lane-reads
-use Rattle.layout.proofs.offsets.inputs_of.Reads as inputs-of-reads
-use Rattle.verdict.proofs.settings.setting_count.Reads as setting-count-reads
 
--- src/settings.rt:80:9
-inputs-of-requires : tie.Need-inputs-of-requires
-inputs-of-requires c κs = search needs
+-- the function's entry, from the number of settings
+abbrev start : tie.After-setting-count → tie.Start
+start c = c .before .before .before
 
--- src/settings.rt:81:15
-setting-count-requires : tie.Need-setting-count-requires
-setting-count-requires c κs = ?
+few : (s : tie.Start) → getD (s .args .words .now) 0 0 ≤ 12
+few s = whole-parts (s .args .words .now) (s .pre .0) .fewInputs
 
--- src/settings.rt:82:35
+-- there is such a batch
+inside : (c : tie.Then1) → let s = start (c .before) in s .args .base < 2 ^ getD (s .args .words .now) 0 0
+inside c = let k = c .before in omega (arith, rw (k .before .inputs-of .ensures) at (k .setting-count .ensures), c .if1 .taken)
+
 unsound-lanes-requires : tie.Need-unsound-lanes-requires
-unsound-lanes-requires c κs = ?
+unsound-lanes-requires c κs =
+    let k = c .before in
+    rw (k .before .inputs-of .ensures) (start k .pre .1 .judged (inside c))
 
--- src/settings.rt:82:23
-lowest-lane-requires : tie.Need-lowest-lane-requires
-lowest-lane-requires c κs = search needs
-
--- src/settings.rt:82:16
 add-result : tie.Need-add-result
-add-result c = ?
+add-result c =
+    let u = c .before in
+    let s = start (u .before .before) in
+    omega
+    (arith, c .lowest-lane .ensures, least-le (hasLane (u .unsound-lanes .result)) 64, s .pre .1 .within,
+    few-settings (getD (s .args .words .now) 0 0) (few s))
 
--- src/settings.rt:82:9
 returns : tie.Need-returns
-returns c = ?
+returns c =
+    let u = c .before in
+    let k = u .before .before in
+    let s = start k in
+    ap (λ k. s .args .base + k) (c .lowest-lane .ensures)
+    ∙ lowest-in-batch (s .pre .1) (inside (u .before)) (rw (k .before .inputs-of .ensures) at (u .unsound-lanes .ensures))
 
--- src/settings.rt:76:1
 returns-2 : tie.Need-returns-2
-returns-2 c = ?
+returns-2 c =
+    let k = c .before in
+    lowest-nowhere (start k .pre .1) (omega (arith, rw (k .before .inputs-of .ensures) at (k .setting-count .ensures), c .if1 .left))
 
 pub lowest-in-spec : {M : Type 1} → statement M
 lowest-in-spec =
     tie.close
     (tie.spec
-    inputs-of-requires
-    setting-count-requires
+    (λ c κs. search needs)
+    (λ c κs. rw (c .inputs-of .ensures) (few (c .before .before)))
     unsound-lanes-requires
-    lowest-lane-requires
+    (λ c κs. search needs)
     add-result
     returns
     returns-2)
