@@ -3,11 +3,12 @@
 --   lanes-one, lanes-swept, lanes-underway  one gate, a list of gates, and what is left on the way
 --   part-among, among-part                  positions of a part of the order
 --   advanced-none, -swept, -still, -decided, -then   sweeps over a part
+--   straight-start, -more, -settled         a straight block, gate by gate
 --   settled-decoded                         a graph's settled values are the block's
 --   started-underway, reached-start, reached-one, reached-loop, reached-settled   layers
 -- Assumes nothing.
 use mathlib.Core.Path.{_≡_, refl, sym, ap, ap₂, _∙_}
-use mathlib.Core.Logic.{⊎-elim}
+use mathlib.Core.Logic.{inl, ⊎-elim}
 use mathlib.Core.Bool.{Bool, true, false, not, _||_, true≢false, false≢true}
 use mathlib.Core.List.{List, [], _∷_, _++_, map}
 use Prim.Native.Nat.{ℕ, zero, suc, _+_, _-_, _*_, _%_, _≤_, _<_}
@@ -28,6 +29,8 @@ use Rattle.netlist.specs.Netlist.{Gate, Block, gateCount, gateOf}
 use Rattle.netlist.specs.Groups.{reads}
 use Rattle.netlist.specs.Rounds.{evaluated, settled, settingOf}
 use Rattle.netlist.specs.Steps.{stepAt, run}
+use Rattle.netlist.specs.Rendering.{isStraight}
+use Rattle.reach.proofs.Straight.{straight-reads}
 use Rattle.rounds.proofs.Values.{below-of-eq}
 use Rattle.rounds.proofs.Evaluation.{evaluated-agree}
 use Rattle.rounds.proofs.AnyOrder.{start-below-settled, run-elsewhere, fixed-settled}
@@ -36,7 +39,7 @@ use Rattle.rounds.proofs.ListFacts.{getD-replicate-default}
 use Rattle.graph.specs.Places.{firstInput, firstGate}
 use Rattle.graph.specs.Graph.{gateAt, Node, Graph, network, Decoded}
 use Rattle.graph.specs.Graph.{gatesIn as gatesOf}
-use Rattle.graph.proofs.Network.{network-gates, network-count, count-gates, settled-gates}
+use Rattle.graph.proofs.Network.{network-gates, network-count, count-gates, readBy-gates, settled-gates}
 use Rattle.scc.specs.Layers.{LoopEnd, LayerEnd, Layers}
 use Rattle.lanes.specs.declared.Pair.{Pair}
 use Rattle.lanes.specs.Pairs.{lane, full, noLanes}
@@ -49,7 +52,7 @@ use Rattle.lanes.proofs.LaneWordLaws.{node-legal, gatePairIn-evaluated, put-inp
 use Rattle.batch.specs.Batch.{Underway, Swept, room, placeOf}
 use Rattle.batch.specs.Layered.{isOther, GateEvaluated, GatesEvaluated, noGate, gateMore, Part, OrderPart, part, Among}
 use Rattle.batch.specs.Layered.{LanesUnderway, LanesSwept, roomIn, valueAt, evaluatedAt, Still, PartAdvanced, PartDecided}
-use Rattle.batch.specs.Layered.{startInputs, LanesStarted, Reached, LayerSettled, LanesSettled}
+use Rattle.batch.specs.Layered.{startInputs, LanesStarted, Reached, LayerSettled, StraightReached, LanesSettled}
 use Rattle.batch.proofs.Sweeping.{swept-none, swept-one, swept-then, swept-underway, lane-defined}
 use Rattle.batch.proofs.Inputs.{settled-inputs, startInputs-proper, startInputs-lane}
 
@@ -457,6 +460,45 @@ module _ {m : ℕ} {graph order ends : List ℕ} (layers : Layers m graph order 
           let p = layers .every j (rw (network-count m graph) at h) in
           rw (p .2) at (r .still (p .0) (p .1) s l)
 
+-- ---- a straight block's gates, as they come
+
+as-come : ℕ → List ℕ
+as-come m = tab (λ i. i) m
+
+as-come-at : (m i : ℕ) → i < m → getD (as-come m) i 0 ≡ i
+unfolding as-come
+as-come-at m i l = getD-tab (λ i. i) m i 0 l
+
+straight-layers : (m : ℕ) (graph : List ℕ) → isStraight (network m graph) ≡ true → Layers m graph (as-come m) (as-come m)
+straight-layers m graph h =
+    record {
+      inside = λ i l. rw (as-come-at m i l) l;
+      every = λ j l. (j, l, as-come-at m j l);
+      once = λ i k l q e. sym (as-come-at m i l) ∙ e ∙ as-come-at m k q;
+      end = λ i l. record { cases = inl (as-come-at m i l) };
+      reads = λ i k l q e.
+          rw (as-come-at m i l) (straight-reads (network m graph) h i k (rw (as-come-at m i l, as-come-at m k q) at e));
+    }
+
+pub straight-start : {m n base : ℕ} {graph w : List ℕ} → n ≤ maxInputs → LanesStarted m n base w → StraightReached m n graph 0 w
+straight-start few s = record { reached = reached-start few s }
+
+module _ (m : ℕ) (graph : List ℕ) (h : isStraight (network m graph) ≡ true) where
+  -- one gate more
+  pub straight-more : {n i : ℕ} {w after : List ℕ} {changed : Bool} → Graph m graph → i < m → StraightReached m n graph i w
+      → GateEvaluated graph i w after changed → StraightReached m n graph (i + 1) after × (inputsIn after ≡ inputsIn w)
+  unfolding as-come
+  straight-more {n} {i} {w} {after} {changed} g l r e =
+      let e′ : GateEvaluated graph (getD (as-come m) i 0) w after changed = rw (as-come-at m i l) e in
+      let s = reached-one (straight-layers m graph h) i g l (as-come-at m i l) (r .reached) e′ in
+      (record { reached = s .reached }, s .inputsKept)
+
+  -- all of them
+  pub straight-settled : {n base : ℕ} {w : List ℕ} → n ≤ maxInputs → base % 64 ≡ 0 → StraightReached m n graph m w → inputsIn w ≡ startInputs n base
+      → LanesSettled (network m graph) n base w
+  unfolding as-come
+  straight-settled few aligned r inputs = reached-settled (straight-layers m graph h) few aligned (r .reached) inputs
+
 -- ---- a block's words
 
 -- what is settled in a graph is settled in the block that it was decoded from
@@ -471,3 +513,10 @@ settled-decoded {b} {m} {n} {base} {graph} {w} d s =
       gatesProper = rw (← count) (s .gatesProper);
       settledLanes = λ k l. rw (← count) (s .settledLanes k l ∙ settled-gates (network m graph) b e (settingOf n (base + k)));
     }
+
+-- a straight block's network is straight
+pub straight-decoded : {b : Block} {m : ℕ} {graph : List ℕ} → Decoded b m graph → isStraight b ≡ true → isStraight (network m graph) ≡ true
+unfolding isStraight
+straight-decoded {b} {m} {graph} d h =
+    let e = network-gates b m graph d in
+    rw (readBy-gates (network m graph) b e, e) h

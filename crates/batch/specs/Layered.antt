@@ -4,10 +4,10 @@
 --   part, Among               these gates, there or back
 --   LanesUnderway, LanesSwept the pairs on the way to the settled values, and after a list of gates was evaluated
 --   Still, PartAdvanced, PartDecided   gates that have the values that their evaluation gives
---   Reached, LayerSettled     the layers below a position are settled
+--   Reached, LayerSettled, StraightReached   the layers below a position are settled
 --   startInputs, LanesStarted the first pairs
 --   LanesSettled              the settled values of a batch
---   PlanRoom, Planned         a block's words, decoded and in layers
+--   PlanRoom, Planned, StraightPlanned   a block's words, decoded and in layers, or straight
 -- Assumes nothing.
 use mathlib.Core.Path.{_≡_}
 use mathlib.Core.Bool.{Bool, true, false, cond, not, _||_}
@@ -23,6 +23,7 @@ use Rattle.netlist.specs.Netlist.{Block, gateCount, gateOf}
 use Rattle.netlist.specs.Rounds.{evaluated, settled, settingOf}
 use Rattle.graph.specs.Places.{firstInput, firstGate}
 use Rattle.netlist.specs.StoredBlock.{decode, isMalformed}
+use Rattle.netlist.specs.Rendering.{isStraight}
 use Rattle.graph.specs.Graph.{graphSize, Node, Graph, network, Decoded}
 use Rattle.scc.specs.Layers.{Layers}
 use Rattle.lanes.specs.declared.Pair.{Pair}
@@ -145,6 +146,10 @@ pub record LayerSettled (m n : ℕ) (graph order ends : List ℕ) (i : ℕ) (w a
   pub more : i < next
   pub within : next ≤ m
 
+-- the same where the gates stand as they come, each a layer of its own
+pub record StraightReached (m n : ℕ) (graph : List ℕ) (i : ℕ) (w : List ℕ) : Type 0 where
+  pub reached : Reached m n graph (tab (λ k. k) m) (tab (λ k. k) m) i w
+
 -- the settled values of a block's first m gates, of n inputs, in the batch at `base`
 pub record LanesSettled (b : Block) (n base : ℕ) (w : List ℕ) : Type 0 where
   pub filled : Filled (full (lanesOf n)) w
@@ -166,3 +171,9 @@ pub record Planned (ws graph order ends : List ℕ) : Type 0 where
   pub whole : isMalformed ws ≡ false
   pub decoded : Decoded (decode ws) (getD ws 1 0) graph
   pub layers : Layers (getD ws 1 0) graph order ends
+
+-- the graph of whole words of a straight block
+pub record StraightPlanned (ws graph : List ℕ) : Type 0 where
+  pub whole : isMalformed ws ≡ false
+  pub decoded : Decoded (decode ws) (getD ws 1 0) graph
+  pub straight : isStraight (decode ws) ≡ true

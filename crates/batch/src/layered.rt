@@ -16,6 +16,7 @@ ghost use mathlib.Core.Bool.{true, false};
 ghost use Prim.Native.Nat.{_+_, _≤_, _<_, _%_};
 ghost use lib.ListN.{length};
 ghost use Rattle.netlist.specs.Limits.{maxInputs, maxGates};
+ghost use Rattle.netlist.specs.Rendering.{isStraight};
 ghost use Rattle.graph.specs.Graph.{Node, Graph, network};
 ghost use Rattle.scc.specs.Layers.{Layers};
 ghost use Rattle.lanes.specs.Pairs.{full};
@@ -226,5 +227,25 @@ pub fn decide_batch(
     let mut i = 0;
     while i < m {
         i = settle_layer(graph, m, n, order, ends, i, lanes);
+    }
+}
+
+// The same of gates each of which reads only gates before it: evaluated once, as they come.
+pub fn decide_straight(
+    graph: &[u16; GRAPH_WORDS],
+    m: usize,
+    n: usize,
+    base: usize,
+    lanes: &mut [u64; LANE_WORDS],
+)
+    requires { ⌜ Graph m (now graph) × (isStraight (network m (now graph)) ≡ true) ⌝ }
+    requires { ⌜ (n ≤ maxInputs) × (base % 64 ≡ 0) × (length (now lanes) ≡ laneSize) ⌝ }
+    ensures { λ r. ⌜ LanesSettled (network m (now (graph .entry))) n base (now (lanes .exit)) ⌝ }
+{
+    start_lanes(m, n, base, lanes);
+    let mut j = 0;
+    while j < m {
+        step(graph, j, lanes);
+        j += 1;
     }
 }

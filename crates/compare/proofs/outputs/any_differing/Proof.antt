@@ -1,55 +1,43 @@
--- `compare::outputs::any_differing` meets its contract: the word so far has the lanes of the outputs passed. Assumes nothing.
-use mathlib.Core.Path.{_≡_, refl, ap, _∙_}
-use Prim.Native.Nat.{_-_, _≤_}
-use native.Mathlib.Numerals.{add-one}
-use native.Mathlib.Omega.{arith}
-use borrow.Author.Needs.{needs}
-use lib.ListN.{getD}
-use Rattle.compare.specs.Words.{differingWords}
 use Rattle.compare.proofs.outputs.any_differing.Statement.{statement}
 use Rattle.compare.proofs.outputs.any_differing.Tie as tie
+use Rattle.compare.proofs.outputs.any_differing.Reads as reads
+use Rattle.compare.proofs.outputs.any_differing.Lts as lts
+use Rattle.compare.proofs.outputs.differing_lanes.Reads as differing-lanes-reads
+use Rattle.layout.proofs.offsets.outputs_of.Reads as outputs-of-reads
 
 abbrev Inv-loop : tie.InvT-loop
-Inv-loop ours theirs used zeros ones lows highs count lanes₀ o₀ lanes o = (o ≤ count) × (lanes ≡ differingWords ours theirs used zeros ones lows highs o)
+Inv-loop ours theirs n lanes others count word₀ o₀ word o = ?
 
 abbrev μ-loop : tie.MeasureT-loop
-μ-loop ours theirs used zeros ones lows highs count lanes₀ o₀ lanes o = count - o
+μ-loop ours theirs n lanes others count word₀ o₀ word o = ?
 
--- the function's entry
-abbrev start : tie.After-outputs-of Inv-loop μ-loop → tie.Start Inv-loop μ-loop
-start c = c .before .before .before .before .before .before .before
-
+-- src/outputs.rt:43:9
 outputs-of-requires : tie.Need-outputs-of-requires Inv-loop μ-loop
-outputs-of-requires c κs = search needs
+outputs-of-requires c κs = ?
 
+-- src/outputs.rt:46:5
 loop-holds : tie.Need-loop-holds Inv-loop μ-loop
-unfolding differingWords
-loop-holds c = (omega arith, refl)
+loop-holds c = ?
 
+-- src/outputs.rt:47:23
 differing-lanes-requires : tie.Need-differing-lanes-requires Inv-loop μ-loop
-differing-lanes-requires c κs =
-    let k = c .before .before in
-    ((start k .pre .0, omega (arith, k .outputs-of .ensures, c .loop-test .taken)), start k .pre .1)
+differing-lanes-requires c κs = ?
 
+-- src/outputs.rt:48:9
 add-o : tie.Need-add-o Inv-loop μ-loop
-add-o c = omega arith
+add-o c = ?
 
+-- src/outputs.rt:46:5
 loop-less : tie.Need-loop-less Inv-loop μ-loop
-loop-less c = omega arith
+loop-less c = ?
 
+-- src/outputs.rt:46:5
 loop-again : tie.Need-loop-again Inv-loop μ-loop
-unfolding differingWords
-loop-again c =
-    let l = c .before .before in
-    (omega arith, rw (add-one (l .loop .o), l .loop .inv .1, c .differing-lanes .ensures) refl)
+loop-again c = ?
 
+-- src/outputs.rt:31:1
 returns : tie.Need-returns Inv-loop μ-loop
-returns c =
-    let l = c .before in
-    let a = start (l .before) .args in
-    let end : l .loop .o ≡ getD (a .ours .now) 2 0 = omega (arith, l .before .outputs-of .ensures, l .loop .inv .0) in
-    l .loop .inv .1
-    ∙ ap (differingWords (a .ours .now) (a .theirs .now) (a .used) (a .zeros .now) (a .ones .now) (a .lows .now) (a .highs .now)) end
+returns c = ?
 
 pub any-differing-spec : {M : Type 1} → statement M
 any-differing-spec =
