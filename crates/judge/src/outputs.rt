@@ -12,13 +12,7 @@ ghost use Prim.Native.Nat.{_^_, _<_};
 ghost use Rattle.judge.specs.Lanes.{outputPair, undefinedWord, unsettledWord, OutputThere, OutputsThere};
 
 // The pair of output `o`.
-pub fn output_pair(
-    words: &[u16],
-    at: usize,
-    n: usize,
-    o: usize,
-    lanes: &[u64; LANE_WORDS],
-) -> Pair
+pub fn output_pair(words: &[u16], at: usize, n: usize, o: usize, lanes: &[u64; LANE_WORDS]) -> Pair
     requires { ⌜ OutputThere (now words) at n o ⌝ }
     ensures { λ r. ⌜ r ≡ outputPair (now (words .entry)) at n (now (lanes .entry)) o ⌝ }
 {

@@ -28,11 +28,39 @@ use Rattle.layout.proofs.KindLaws.{not-counts, other-counts, kind-last}
 use Rattle.graph.specs.Places.{firstInput, firstGate, operandAt}
 use Rattle.graph.specs.Graph.{controllingOf, forcedOf, operationWord, operandPlace, kindAt, countAt, placeAt, gateAt, Node}
 use Rattle.lanes.specs.declared.Pair.{Pair}
-use Rattle.lanes.specs.Pairs.{Proper, full, noLanes, always, isConjunction, isParity, inverts, bothPair, eitherPair, parityPair, combined, neutral,
-  folded, swapped, finished, pairOf}
+use Rattle.lanes.specs.Pairs.{
+  Proper,
+  full,
+  noLanes,
+  always,
+  isConjunction,
+  isParity,
+  inverts,
+  bothPair,
+  eitherPair,
+  parityPair,
+  combined,
+  neutral,
+  folded,
+  swapped,
+  finished,
+  pairOf,
+}
 use Rattle.lanes.specs.PairRounds.{operandPair, evaluatedPair, LegalGate, AllProper}
-use Rattle.lanes.specs.LaneWords.{pairAt, putPair, inputsIn, gatesIn, Filled, operandWord, someWord, everyWord, rulePair, parityOf, parityAt,
-  gatePairIn}
+use Rattle.lanes.specs.LaneWords.{
+  pairAt,
+  putPair,
+  inputsIn,
+  gatesIn,
+  Filled,
+  operandWord,
+  someWord,
+  everyWord,
+  rulePair,
+  parityOf,
+  parityAt,
+  gatePairIn,
+}
 use Rattle.lanes.proofs.BitLaws.{bit-low, bit-zero, bit-high, bit-and, bit-or, bit-full, eq-by-bits}
 use Rattle.lanes.proofs.RoundLaws.{operandPair-proper}
 
@@ -108,14 +136,24 @@ module _ {used : ℕ} {w : List ℕ} (filled : Filled used w) (m : ℕ) where
       an-input : (p ≡ 0 → ⊥) → (p ≡ 1 → ⊥) → p < firstGate → pairAt w p ≡ operandPair used (inputsIn w) (gatesIn m w) (operandAt p)
       an-input n o h =
           let e : firstInput + (p - firstInput) ≡ p = omega arith in
-          rw (ne-eqb p 0 n, ne-eqb p 1 o, lt-ltb p firstGate h,
-          getD-tab (λ i. pairAt w (firstInput + i)) maxInputs (p - firstInput) noLanes (omega arith), e)
+          rw (
+            ne-eqb p 0 n,
+            ne-eqb p 1 o,
+            lt-ltb p firstGate h,
+            getD-tab (λ i. pairAt w (firstInput + i)) maxInputs (p - firstInput) noLanes (omega arith),
+            e,
+          )
 
       a-gate : firstGate ≤ p → pairAt w p ≡ operandPair used (inputsIn w) (gatesIn m w) (operandAt p)
       a-gate h =
           let e : firstGate + (p - firstGate) ≡ p = omega arith in
-          rw (ne-eqb p 0 (omega arith), ne-eqb p 1 (omega arith), le-ltb p firstGate h,
-          getD-tab (λ j. pairAt w (firstGate + j)) m (p - firstGate) noLanes (omega arith), e)
+          rw (
+            ne-eqb p 0 (omega arith),
+            ne-eqb p 1 (omega arith),
+            le-ltb p firstGate h,
+            getD-tab (λ j. pairAt w (firstGate + j)) m (p - firstGate) noLanes (omega arith),
+            e,
+          )
 
 -- ---- one gate
 
@@ -128,7 +166,6 @@ parity-four graph j w e f g h i k l = l ∙ rw (k, i, h, g, f, e) refl
 pub node-legal : {m : ℕ} {graph : List ℕ} {j : ℕ} → Node m graph j → LegalGate (gateAt graph j)
 unfolding gateAt
 node-legal {m} {graph} {j} n = record { kind = n .kind; count = rw (length-tab (λ i. operandAt (placeAt graph j i)) (countAt graph j)) (n .count) }
-
 
 -- a row's values, and those of the other kinds
 row-low : (k : ℕ) → k ≤ 6 → (controllingOf k ≤ 1) × (forcedOf k ≤ 1)
@@ -273,9 +310,17 @@ module _ {m lanes : ℕ} {graph : List ℕ} {j : ℕ} {w : List ℕ} (node : Nod
       let both : bitAnd (full lanes) (full lanes) ≡ full lanes = and-full lanes (full lanes) (full-within lanes) in
       let zeros = and-full lanes (p graph j w 0 .zeros) (place-proper 0 (omega arith) .zerosWithin) in
       let ones = and-full lanes (p graph j w 0 .ones) (place-proper 0 (omega arith) .onesWithin) in
-      simp
-      (word-zeros graph j w, word-ones graph j w, a 1 (omega arith) (omega arith), a 2 (omega arith) (omega arith), a 3 (omega arith) (omega arith), both,
-      zeros, ones, or-none)
+      simp (
+        word-zeros graph j w,
+        word-ones graph j w,
+        a 1 (omega arith) (omega arith),
+        a 2 (omega arith) (omega arith),
+        a 3 (omega arith) (omega arith),
+        both,
+        zeros,
+        ones,
+        or-none,
+      )
       refl
 
   by-kind : (k : ℕ) → kindAt graph j ≡ k → k ≤ 6
@@ -313,16 +358,21 @@ put-length w p q = length-set (set w (2 * p) (q .zeros)) (2 * p + 1) (q .ones) �
 pub put-same : (w : List ℕ) (p : ℕ) (q : Pair) → 2 * p + 1 < length w → pairAt (putPair w p q) p ≡ q
 unfolding pairAt putPair
 put-same w p q l =
-    rw (getD-set-same (set w (2 * p) (q .zeros)) (2 * p + 1) (q .ones) 0 (rw (length-set w (2 * p) (q .zeros)) l),
-    getD-set-other (set w (2 * p) (q .zeros)) (2 * p + 1) (2 * p) (q .ones) 0 (omega arith),
-    getD-set-same w (2 * p) (q .zeros) 0 (omega arith)) refl
+    rw (
+      getD-set-same (set w (2 * p) (q .zeros)) (2 * p + 1) (q .ones) 0 (rw (length-set w (2 * p) (q .zeros)) l),
+      getD-set-other (set w (2 * p) (q .zeros)) (2 * p + 1) (2 * p) (q .ones) 0 (omega arith),
+      getD-set-same w (2 * p) (q .zeros) 0 (omega arith),
+    ) refl
 
 pub put-other : (w : List ℕ) (p : ℕ) (q : Pair) (r : ℕ) → (r ≡ p → ⊥) → pairAt (putPair w p q) r ≡ pairAt w r
 unfolding pairAt putPair
 put-other w p q r d =
-    rw (getD-set-other (set w (2 * p) (q .zeros)) (2 * p + 1) (2 * r) (q .ones) 0 (omega arith),
-    getD-set-other (set w (2 * p) (q .zeros)) (2 * p + 1) (2 * r + 1) (q .ones) 0 (omega arith),
-    getD-set-other w (2 * p) (2 * r) (q .zeros) 0 (omega arith), getD-set-other w (2 * p) (2 * r + 1) (q .zeros) 0 (omega arith)) refl
+    rw (
+      getD-set-other (set w (2 * p) (q .zeros)) (2 * p + 1) (2 * r) (q .ones) 0 (omega arith),
+      getD-set-other (set w (2 * p) (q .zeros)) (2 * p + 1) (2 * r + 1) (q .ones) 0 (omega arith),
+      getD-set-other w (2 * p) (2 * r) (q .zeros) 0 (omega arith),
+      getD-set-other w (2 * p) (2 * r + 1) (q .zeros) 0 (omega arith),
+    ) refl
 
 -- at a gate
 module _ (w : List ℕ) (j : ℕ) (q : Pair) where

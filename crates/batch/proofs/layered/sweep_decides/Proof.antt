@@ -42,7 +42,7 @@ returns-2 c =
     let d = e .before in
     let s = d .before .before in (
       advanced-decided (c .is-decided .result) (s .pre .1) (advanced-swept (s .args .back) (s .pre .2) (made d)) (u .used-lanes .ensures)
-      (c .is-decided .ensures),
+          (c .is-decided .ensures),
       λ f. made d .swept .less (not-false (d .sweep-part .result) (e .if1 .left)),
     )
 

@@ -12,8 +12,7 @@ decide-batch-requires c κs =
     let m = n .before in
     let s = m .before .before in
     let p = s .pre .0 in
-    let few = whole-parts (s .args .words .now) (p .whole) .fewInputs in
-    (
+    let few = whole-parts (s .args .words .now) (p .whole) .fewInputs in (
       (rw (m .gates-of .ensures) (p .decoded .legal), rw (m .gates-of .ensures) (p .layers)),
       (rw (n .inputs-of .ensures) few, s .pre .1, s .pre .2),
     )

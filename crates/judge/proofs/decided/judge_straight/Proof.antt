@@ -12,8 +12,7 @@ decide-straight-requires c κs =
     let m = n .before in
     let s = m .before .before in
     let p = s .pre .0 in
-    let few = whole-parts (s .args .words .now) (p .whole) .fewInputs in
-    (
+    let few = whole-parts (s .args .words .now) (p .whole) .fewInputs in (
       (rw (m .gates-of .ensures) (p .decoded .legal), rw (m .gates-of .ensures) (straight-decoded (p .decoded) (p .straight))),
       (rw (n .inputs-of .ensures) few, s .pre .1, s .pre .2),
     )

@@ -3,13 +3,8 @@ use borrow.Author.Needs.{needs}
 use Rattle.lanes.proofs.evaluate.operand_pair.Statement.{statement}
 use Rattle.lanes.proofs.evaluate.operand_pair.Tie as tie
 
-operand-place-requires : tie.Need-operand-place-requires
-operand-place-requires c κs = search needs
-
-pair-at-requires : tie.Need-pair-at-requires
-pair-at-requires c κs = search needs
-
 returns : tie.Need-returns
 returns c = rw (c .before .operand-place .ensures .0) at (c .pair-at .ensures)
+
 pub operand-pair-spec : {M : Type 1} → statement M
-operand-pair-spec = tie.close (tie.spec operand-place-requires pair-at-requires returns)
+operand-pair-spec = tie.close (tie.spec (λ c κs. search needs) (λ c κs. search needs) returns)

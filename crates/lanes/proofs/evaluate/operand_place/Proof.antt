@@ -6,35 +6,22 @@ use borrow.Author.Needs.{needs}
 use Rattle.lanes.proofs.evaluate.operand_place.Statement.{statement}
 use Rattle.lanes.proofs.evaluate.operand_place.Tie as tie
 
-mul-result : tie.Need-mul-result
-mul-result c = search needs
-
-add-result : tie.Need-add-result
-add-result c = search needs
-
-add-result-2 : tie.Need-add-result-2
-add-result-2 c = search needs
-
-mul-result-2 : tie.Need-mul-result-2
-mul-result-2 c = search needs
-
-element-copy-out-result : tie.Need-element-copy-out-result
-element-copy-out-result c = search needs
-
 cast-result : tie.Need-cast-result
 unfolding placeAt
 cast-result c = let s = c .before in omega (arith, s .pre .0 .inside (s .args .i) (s .pre .2))
+
 returns : tie.Need-returns
 unfolding placeAt
 returns c = let s = c .before in (refl, omega (arith, s .pre .0 .inside (s .args .i) (s .pre .2)))
+
 pub operand-place-spec : {M : Type 1} → statement M
 operand-place-spec =
     tie.close
     (tie.spec
-    mul-result
-    add-result
-    add-result-2
-    mul-result-2
-    element-copy-out-result
+    (λ c. search needs)
+    (λ c. search needs)
+    (λ c. search needs)
+    (λ c. search needs)
+    (λ c. search needs)
     cast-result
     returns)

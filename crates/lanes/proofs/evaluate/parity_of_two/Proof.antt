@@ -7,5 +7,6 @@ use Rattle.lanes.proofs.evaluate.parity_of_two.Tie as tie
 returns : tie.Need-returns
 unfolding parityPair
 returns c = refl
+
 pub parity-of-two-spec : {M : Type 1} → statement M
 parity-of-two-spec = tie.close (tie.spec returns)

@@ -8,27 +8,6 @@ use borrow.Author.Needs.{needs}
 use Rattle.lanes.proofs.evaluate.parity_pair.Statement.{statement}
 use Rattle.lanes.proofs.evaluate.parity_pair.Tie as tie
 
-operand-pair-requires : tie.Need-operand-pair-requires
-operand-pair-requires c κs = search needs
-
-operand-pair-requires-2 : tie.Need-operand-pair-requires-2
-operand-pair-requires-2 c κs = search needs
-
-operand-pair-requires-3 : tie.Need-operand-pair-requires-3
-operand-pair-requires-3 c κs = search needs
-
-operand-pair-requires-4 : tie.Need-operand-pair-requires-4
-operand-pair-requires-4 c κs = search needs
-
-parity-of-two-requires : tie.Need-parity-of-two-requires
-parity-of-two-requires c κs = search needs
-
-parity-of-two-requires-2 : tie.Need-parity-of-two-requires-2
-parity-of-two-requires-2 c κs = search needs
-
-parity-of-two-requires-3 : tie.Need-parity-of-two-requires-3
-parity-of-two-requires-3 c κs = search needs
-
 returns : tie.Need-returns
 unfolding parityAt
 returns c =
@@ -41,6 +20,7 @@ returns c =
     let e = parity-four (s .args .graph .now) (s .args .j) (s .args .lanes .now) (b .before .operand-pair .ensures) (b .operand-pair2 .ensures)
     (d .before .operand-pair3 .ensures) (d .operand-pair4 .ensures) (x .parity-of-two .ensures) (y .parity-of-two2 .ensures) (z .parity-of-two3 .ensures) in
     rw (c .if1 .taken) e
+
 returns-2 : tie.Need-returns-2
 unfolding parityAt swapped
 returns-2 c =
@@ -53,16 +33,17 @@ returns-2 c =
     let e = parity-four (s .args .graph .now) (s .args .j) (s .args .lanes .now) (b .before .operand-pair .ensures) (b .operand-pair2 .ensures)
     (d .before .operand-pair3 .ensures) (d .operand-pair4 .ensures) (x .parity-of-two .ensures) (y .parity-of-two2 .ensures) (z .parity-of-two3 .ensures) in
     rw (ne-eqb (s .args .forced) 0 (c .if1 .left), e) refl
+
 pub parity-pair-spec : {M : Type 1} → statement M
 parity-pair-spec =
     tie.close
     (tie.spec
-    operand-pair-requires
-    operand-pair-requires-2
-    operand-pair-requires-3
-    operand-pair-requires-4
-    parity-of-two-requires
-    parity-of-two-requires-2
-    parity-of-two-requires-3
+    (λ c κs. search needs)
+    (λ c κs. search needs)
+    (λ c κs. search needs)
+    (λ c κs. search needs)
+    (λ c κs. search needs)
+    (λ c κs. search needs)
+    (λ c κs. search needs)
     returns
     returns-2)

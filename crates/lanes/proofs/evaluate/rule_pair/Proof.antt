@@ -5,24 +5,17 @@ use borrow.Author.Needs.{needs}
 use Rattle.lanes.proofs.evaluate.rule_pair.Statement.{statement}
 use Rattle.lanes.proofs.evaluate.rule_pair.Tie as tie
 
-some-word-requires : tie.Need-some-word-requires
-some-word-requires c κs = search needs
-
-sub-every-word : tie.Need-sub-every-word
-sub-every-word c = search needs
-
-every-word-requires : tie.Need-every-word-requires
-every-word-requires c κs = search needs
-
 returns : tie.Need-returns
 unfolding rulePair
 returns c = let e = c .before in rw (e .before .some-word .ensures, e .every-word .ensures, c .if1 .taken)
+
 returns-2 : tie.Need-returns-2
 unfolding rulePair
-returns-2 c = 
+returns-2 c =
     let e = c .before in
     let s = e .before .before in
     rw (e .before .some-word .ensures, e .every-word .ensures, ne-eqb (s .args .forced) 0 (c .if1 .left))
+
 pub rule-pair-spec : {M : Type 1} → statement M
 rule-pair-spec =
-    tie.close (tie.spec some-word-requires sub-every-word every-word-requires returns returns-2)
+    tie.close (tie.spec (λ c κs. search needs) (λ c. search needs) (λ c κs. search needs) returns returns-2)

@@ -32,9 +32,13 @@ add-result : tie.Need-add-result
 add-result c =
     let u = c .before in
     let s = start (u .before .before) in
-    omega
-    (arith, c .lowest-lane .ensures, least-le (hasLane (u .unsound-lanes .result)) 64, s .pre .1 .within,
-    few-settings (getD (s .args .words .now) 0 0) (few s))
+    omega (
+      arith,
+      c .lowest-lane .ensures,
+      least-le (hasLane (u .unsound-lanes .result)) 64,
+      s .pre .1 .within,
+      few-settings (getD (s .args .words .now) 0 0) (few s),
+    )
 
 returns : tie.Need-returns
 returns c =
