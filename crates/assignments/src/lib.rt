@@ -42,7 +42,22 @@ pub fn cover_entries(settled: &[u8], n: usize, out: &mut [u16]) -> usize
     }
     let mut sound = [0u8; MAX_ASSIGNMENTS];
     let mut weights = [0u32; MAX_SETTINGS];
-    cover_within(settled, n, &mut sound, &mut weights, out)
+    cover_many(settled, n, &mut sound, &mut weights, out)
+}
+
+// The same with tables for the most inputs. It stands between the function that makes them and the one on slices, so that no proof computes the length
+// of half a million elements.
+fn cover_many(
+    settled: &[u8],
+    n: usize,
+    sound: &mut [u8; MAX_ASSIGNMENTS],
+    weights: &mut [u32; MAX_SETTINGS],
+    out: &mut [u16],
+) -> usize
+    requires { ⌜ (n ≤ maxInputs) × (2 ^ n ≤ length (now settled)) ⌝ }
+    ensures { λ r. ⌜ EntriesWritten (coverOver (settledBy (now (settled .entry))) n) (now (out .entry)) (now (out .exit)) r ⌝ }
+{
+    cover_within(settled, n, sound, weights, out)
 }
 
 // The same for few inputs.
