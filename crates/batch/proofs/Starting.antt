@@ -78,7 +78,8 @@ module _ {m n base used : ℕ} {w a b c d : List ℕ} (fewGates : m ≤ maxGates
   rest : (p : ℕ) → firstInput ≤ p → p < firstGate + m → pairAt c p ≡ noLanes
   rest p l h =
       rw one
-      (put-other b 1 (record { zeros = 0; ones = used }) p (omega arith) ∙ rw zero (put-other a 0 (record { zeros = used; ones = 0 }) p (omega arith) ∙ blank p h))
+      (put-other b 1 (record { zeros = 0; ones = used }) p (omega arith)
+      ∙ rw zero (put-other a 0 (record { zeros = used; ones = 0 }) p (omega arith) ∙ blank p h))
 
   pub lanes-started : LanesStarted m n base d
   unfolding startInputs inputsIn gatesIn always

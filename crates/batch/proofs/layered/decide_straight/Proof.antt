@@ -47,4 +47,13 @@ returns c =
 pub decide-straight-spec : {M : Type 1} → statement M
 decide-straight-spec =
     tie.close
-    (tie.spec Inv-loop μ-loop start-lanes-requires loop-holds step-requires (λ c. omega (arith, c .before .before .loop-test .taken)) (λ c. omega arith) loop-again returns)
+    (tie.spec
+    Inv-loop
+    μ-loop
+    start-lanes-requires
+    loop-holds
+    step-requires
+    (λ c. omega (arith, c .before .before .loop-test .taken))
+    (λ c. omega arith)
+    loop-again
+    returns)

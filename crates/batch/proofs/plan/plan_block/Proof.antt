@@ -17,5 +17,8 @@ returns c =
     let s = d .before .before .before in
     record { whole = s .pre .0; decoded = d .decode-gates .ensures; layers = rw (m .gates-of .ensures) at (c .layer-gates .ensures) }
 
+decode-gates-requires : tie.Need-decode-gates-requires
+decode-gates-requires c κs = let s = c .before .before in (s .pre .0, s .pre .1 .graphRoom)
+
 pub plan-block-spec : {M : Type 1} → statement M
-plan-block-spec = tie.close (tie.spec (λ c κs. let s = c .before .before in (s .pre .0, s .pre .1 .graphRoom)) (λ c κs. search needs) layer-gates-requires returns)
+plan-block-spec = tie.close (tie.spec decode-gates-requires (λ c κs. search needs) layer-gates-requires returns)

@@ -51,7 +51,8 @@ counted f =
     count-batch (decode (start l .args .words .now)) (l .loop .base) (many l) (l .loop .inv .1)
     (f .count-batch .ensures .0)
 
-next : (f : tie.After-count-batch Inv-loop μ-loop) → let l = head f in Place (getD (start l .args .words .now) 0 0) (l .loop .base + l .before .lane-count .result)
+next : (f : tie.After-count-batch Inv-loop μ-loop) → let l = head f in
+    Place (getD (start l .args .words .now) 0 0) (l .loop .base + l .before .lane-count .result)
 next f =
     let l = head f in
     place-next (many l) (all-settings l) (l .loop .inv .0) (f .before .before .loop-test .taken)
@@ -112,7 +113,8 @@ returns c =
     let words = s .args .words .now in
     let count = h .before .before .setting-count .result in
     let all : l .base ≡ count = omega (arith, l .inv .0 .within, all-settings h, c .loop-test .left) in
-    l .inv .1 ∙ count-end (decode words) (l .base) count (setting-count (decode words) (getD words 0 0) count (sym (decode-inputCount words)) (all-settings h)) all
+    l .inv .1
+    ∙ count-end (decode words) (l .base) count (setting-count (decode words) (getD words 0 0) count (sym (decode-inputCount words)) (all-settings h)) all
 
 pub count-settled-spec : {M : Type 1} → statement M
 count-settled-spec =

@@ -58,7 +58,8 @@ room d =
     let h = inside (d .before .before) in
     (omega (arith, l .loop .inv .0 .whole h, s .pre .2), omega (arith, h, few-settings (getD (s .args .words .now) 0 0) (few s)))
 
-next : (d : tie.After-judge-batch Inv-loop μ-loop) → let l = head d in Place (getD (start l .args .words .now) 0 0) (l .loop .base + l .before .lane-count .result)
+next : (d : tie.After-judge-batch Inv-loop μ-loop) → let l = head d in
+    Place (getD (start l .args .words .now) 0 0) (l .loop .base + l .before .lane-count .result)
 next d = let l = head d in place-next (many l) (all-settings l) (l .loop .inv .0) (d .before .before .loop-test .taken)
 
 loop-holds : tie.Need-loop-holds Inv-loop μ-loop
