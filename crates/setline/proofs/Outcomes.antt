@@ -21,7 +21,8 @@ use Rattle.netlist.specs.SetLine.{setLineReader}
 use Rattle.netlist.specs.Bench.{givenNames, givenValues, showLine, pairsOutcome, parsedOutcome, lineOutcome, answerLine}
 use Rattle.encoding.proofs.Decoded.{decode-inputCount}
 use Rattle.grammar.proofs.SetLines.{setLine-sound}
-use Rattle.form.specs.Scan.{badOf, firstBadInSetLine}
+use Rattle.form.specs.Scan.{badOf}
+use Rattle.setform.specs.Line.{firstBadInSetLine}
 use Rattle.refusals.specs.declared.Test.{Test}
 use Rattle.refusals.specs.declared.Test.the-variants.{Passed, Failed}
 use Rattle.refusals.specs.Tests.{testAt, refusalOf}

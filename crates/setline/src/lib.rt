@@ -1,5 +1,4 @@
 // The answer to one line of the bench, for a block that is prepared: the show line of a set line, or a refusal (2, 4, 5, 11).
-use form::pairs::test_set_line;
 use graph::GRAPH_WORDS;
 use graph::PLACES;
 use graph::fanout::FANOUT_WORDS;
@@ -13,6 +12,7 @@ use pairs::given::test_repeat;
 use pairs::tables::fill_pairs;
 use refusals::Test;
 use refusals::refusal;
+use setform::test_set_line;
 use show::show;
 use simulate::round::UNDEFINED;
 use simulate::values::put_setting;

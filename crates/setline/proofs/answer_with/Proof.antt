@@ -7,7 +7,7 @@ use Rattle.netlist.specs.Answers.{inRoom}
 use Rattle.netlist.specs.Bench.{pairsOutcome, answerLine}
 use Rattle.refusals.specs.Tests.{testAt}
 use Rattle.refusals.proofs.Promised.{passed-none, passed-at, failed-at, keeps-room}
-use Rattle.form.specs.Scan.{firstBadInSetLine}
+use Rattle.setform.specs.Line.{firstBadInSetLine}
 use Rattle.setline.specs.Tables.{LineRead}
 use Rattle.setline.proofs.Outcomes.{Found, in-form, form-chain, pairs-passed, pairs-failed}
 use borrow.Author.Needs.{needs}

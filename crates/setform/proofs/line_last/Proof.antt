@@ -1,0 +1,63 @@
+-- `setform::line_last` meets its contract.
+-- Assumes nothing.
+use borrow.Author.Needs.{needs}
+use Rattle.setform.proofs.line_last.Statement.{statement}
+use Rattle.setform.proofs.line_last.Tie as tie
+use mathlib.Core.Path.{sym, _∙_}
+use mathlib.Core.List.{List}
+use Prim.Native.Nat.{ℕ}
+use Rattle.laws.specs.Lists.{ascii}
+use Rattle.netlist.specs.Parse.{nothingBehind}
+use Rattle.setform.specs.Line.{lineLast}
+use Rattle.form.proofs.ListFacts.{lastOnes, length-last}
+use Rattle.form.proofs.Chain.{Behind, first-bad, first-next}
+use Rattle.form.proofs.LineSteps.{shortens-word}
+use Rattle.setform.proofs.LineSteps.{last-word, nothing-left, something-left}
+
+abbrev text : tie.After-known-told → List ℕ
+text c = c .before .before .before .before .before .before .args .s .now
+
+-- behind the LF
+behind : (c : tie.After-known-told) → Behind {B = ℕ} lineLast (text c) (c .before .found .given .0 .0) (nothingBehind 0)
+behind c = first-next last-word (shortens-word (ascii "\n")) (text c) (c .before .before .before .word .ensures) (c .before .found .given .1)
+
+slice-aggregate-word : tie.Need-slice-aggregate-word
+slice-aggregate-word c = search needs
+
+word-requires : tie.Need-word-requires
+word-requires c κs = search needs
+
+enum-known-found : tie.Need-enum-known-found
+enum-known-found c = search needs
+
+enum-told : tie.Need-enum-told
+enum-told c = search needs
+
+returns : tie.Need-returns
+returns c = first-bad last-word (c .before .before .before .before .before .args .s .now) (c .before .before .word .ensures) (c .enum-told .given .1)
+
+returns-2 : tie.Need-returns-2
+returns-2 c =
+    let b = c .before in
+    let a = behind b in
+    let n = b .before .found .given .0 .0 in
+    sym (a .is-rest ∙ nothing-left (lastOnes n (text b)) n (length-last n (text b) (a .within)) (c .if1 .taken))
+
+returns-3 : tie.Need-returns-3
+returns-3 c =
+    let b = c .before in
+    let a = behind b in
+    let n = b .before .found .given .0 .0 in
+    sym (a .is-rest ∙ something-left (lastOnes n (text b)) n (length-last n (text b) (a .within)) (c .if1 .left))
+
+pub line-last-spec : {M : Type 1} → statement M
+line-last-spec =
+    tie.close
+    (tie.spec
+    slice-aggregate-word
+    word-requires
+    enum-known-found
+    enum-told
+    returns
+    returns-2
+    returns-3)
