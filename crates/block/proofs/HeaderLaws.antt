@@ -5,7 +5,7 @@ use mathlib.Core.List.{List}
 use Prim.Native.Nat.{ℕ, _+_, _*_, _≤_}
 use lib.ListN.{length, getD}
 use lib.Dec.{eqb, leb}
-use borrow.Author.Tests.{leb-true}
+use borrow.Author.Tests.{leb-true, eqb-true}
 use Rattle.laws.proofs.Tests.{and-left, and-right}
 use Rattle.netlist.specs.Limits.{maxInputs, maxNevers, maxGates, maxOutputs}
 use Rattle.netlist.specs.StoredBlock.{outputSize, inputsAt, outputsAt}
@@ -35,3 +35,14 @@ header-limits ws h =
       outputs = leb-true (getD ws 2 0) maxOutputs (and-right (long && n && m) k h4);
       nevers = leb-true (getD ws 3 0) maxNevers (and-right (long && n && m && k) lines h5);
     }
+
+-- and of the length
+pub header-length : (ws : List ℕ) → headerRule ws ≡ true → length ws ≡ outputsAt (getD ws 0 0) (getD ws 3 0) (getD ws 1 0) + outputSize * getD ws 2 0
+unfolding headerRule
+header-length ws h =
+    let said = outputsAt (getD ws 0 0) (getD ws 3 0) (getD ws 1 0) + outputSize * getD ws 2 0 in
+    let limits =
+    leb inputsAt (length ws) && leb (getD ws 0 0) maxInputs && leb (getD ws 1 0) maxGates
+    && leb (getD ws 2 0) maxOutputs
+    && leb (getD ws 3 0) maxNevers in
+    eqb-true (length ws) said (and-right limits (eqb (length ws) said) h)

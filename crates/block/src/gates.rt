@@ -2,15 +2,15 @@
 use layout::nodes::CONSTANT_0;
 use layout::nodes::CONSTANT_1;
 use layout::offsets::GATE_SIZE;
-use layout::offsets::OPERAND_WORDS;
-use layout::read::word_at;
+use layout::read::word_in;
 ghost use mathlib.Core.Path.{_≡_};
 ghost use mathlib.Core.Bool.{_&&_};
 ghost use Prim.Native.Nat.{_≤_, _<_, _+_, _*_};
+ghost use lib.ListN.{length};
 ghost use Rattle.laws.specs.Lists.{all, upTo};
 ghost use Rattle.netlist.specs.Limits.{maxInputs, maxGates};
 ghost use Rattle.netlist.specs.Kinds.{isKind, arityFits};
-ghost use Rattle.netlist.specs.StoredBlock.{operandWords};
+ghost use Rattle.netlist.specs.StoredBlock.{gateSize, operandWords};
 ghost use Rattle.encoding.specs.Rules.{nodeRule, operandRule, gateRule};
 ghost use Rattle.block.specs.Steps.{slotRule, gateRuleAt, gatesRule, lowerRule};
 
@@ -48,48 +48,47 @@ pub fn is_operand(nodes: usize, word: usize) -> bool
     word == CONSTANT_0 || word == CONSTANT_1
 }
 
-// Operand word i of the gate at `at`: an operand below the count, 0 from there on.
-fn slot_fits(words: &[u16], nodes: usize, at: usize, count: usize, i: usize) -> bool
-    requires { ⌜ at ≤ 65535 ⌝ }
-    requires { ⌜ i < operandWords ⌝ }
-    ensures { λ r. ⌜ r ≡ slotRule (now (words .entry)) nodes at count i ⌝ }
+// An operand word, by one comparison: the constants are the two highest words, so that two further on they are 0 and 1 again.
+fn is_operand_word(nodes: usize, word: u16) -> bool
+    requires { ⌜ nodes ≤ 65534 ⌝ }
+    ensures { λ r. ⌜ r ≡ operandRule nodes word ⌝ }
 {
-    let word = word_at(words, at + 1 + i);
-    if i < count {
-        is_operand(nodes, word)
-    } else {
-        word == 0
-    }
+    (word as usize + 2) % 65536 < nodes + 2
 }
 
-// The four operand words of the gate at `at`.
+// The four operand words of the gate at `at`: operands below the count, 0 from there on. All of a gate's are tested before the one branch.
 fn slots_fit(words: &[u16], nodes: usize, at: usize, count: usize) -> bool
-    requires { ⌜ at ≤ 65535 ⌝ }
+    requires { ⌜ (at + operandWords < length (now words)) × (nodes ≤ 65534) × (1 ≤ count) ⌝ }
     ensures { λ r. ⌜ r ≡ all (slotRule (now (words .entry)) nodes at count) (upTo operandWords) ⌝ }
 {
-    let mut i = 0;
-    while i < OPERAND_WORDS {
-        if !slot_fits(words, nodes, at, count, i) {
-            return false;
-        }
-        i += 1;
+    let first = is_operand_word(nodes, words[at + 1]);
+    let b = words[at + 2];
+    let c = words[at + 3];
+    let d = words[at + 4];
+    match count {
+        1 => first & (b == 0) & (c == 0) & (d == 0),
+        2 => first & is_operand_word(nodes, b) & (c == 0) & (d == 0),
+        3 => first & is_operand_word(nodes, b) & is_operand_word(nodes, c) & (d == 0),
+        _ => first
+            & is_operand_word(nodes, b)
+            & is_operand_word(nodes, c)
+            & is_operand_word(nodes, d),
     }
-    true
 }
 
 // The gate whose first word is at `at`.
 fn fits(words: &[u16], nodes: usize, at: usize) -> bool
-    requires { ⌜ at ≤ 65535 ⌝ }
+    requires { ⌜ (at + operandWords < length (now words)) × (nodes ≤ 65534) ⌝ }
     ensures { λ r. ⌜ r ≡ gateRule (now (words .entry)) nodes at ⌝ }
 {
-    let head = word_at(words, at);
+    let head = word_in(words, at);
     has_arity(head % 8, head / 8) && slots_fit(words, nodes, at, head / 8)
 }
 
 // Gate j of those from `at` on.
 fn fits_at(words: &[u16], nodes: usize, at: usize, j: usize) -> bool
-    requires { ⌜ at ≤ 8192 ⌝ }
-    requires { ⌜ j ≤ maxGates ⌝ }
+    requires { ⌜ (at ≤ 8192) × (j ≤ maxGates) × (nodes ≤ 65534) ⌝ }
+    requires { ⌜ at + gateSize * j + operandWords < length (now words) ⌝ }
     ensures { λ r. ⌜ r ≡ gateRuleAt (now (words .entry)) nodes at j ⌝ }
 {
     fits(words, nodes, at + GATE_SIZE * j)
@@ -97,8 +96,8 @@ fn fits_at(words: &[u16], nodes: usize, at: usize, j: usize) -> bool
 
 // All m gates.
 pub fn fit(words: &[u16], nodes: usize, at: usize, m: usize) -> bool
-    requires { ⌜ at ≤ 8192 ⌝ }
-    requires { ⌜ m ≤ maxGates ⌝ }
+    requires { ⌜ (at ≤ 8192) × (m ≤ maxGates) × (nodes ≤ 65534) ⌝ }
+    requires { ⌜ at + gateSize * m ≤ length (now words) ⌝ }
     ensures { λ r. ⌜ r ≡ gatesRule (now (words .entry)) nodes at m ⌝ }
 {
     let mut j = 0;
@@ -113,9 +112,8 @@ pub fn fit(words: &[u16], nodes: usize, at: usize, m: usize) -> bool
 
 // Does each gate keep its rule with only the inputs and the lower gates as nodes?
 pub fn read_lower(words: &[u16], n: usize, at: usize, m: usize) -> bool
-    requires { ⌜ n ≤ maxInputs ⌝ }
-    requires { ⌜ at ≤ 8192 ⌝ }
-    requires { ⌜ m ≤ maxGates ⌝ }
+    requires { ⌜ (n ≤ maxInputs) × (at ≤ 8192) × (m ≤ maxGates) ⌝ }
+    requires { ⌜ at + gateSize * m ≤ length (now words) ⌝ }
     ensures { λ r. ⌜ r ≡ lowerRule (now (words .entry)) n at m ⌝ }
 {
     let mut j = 0;

@@ -6,12 +6,13 @@ use refusals::Test;
 use refusals::refuse_if;
 ghost use mathlib.Core.Path.{_≡_};
 ghost use mathlib.Core.Bool.{false, not};
-ghost use Prim.Native.Nat.{_≤_};
+ghost use Prim.Native.Nat.{_≤_, _+_, _*_};
+ghost use lib.ListN.{length};
 ghost use Rattle.encoding.specs.Rules.{intact};
 ghost use Rattle.netlist.specs.declared.Refusal.the-variants.{MalformedBlock, NotStraight};
 ghost use Rattle.refusals.specs.Tests.{testOf};
 ghost use Rattle.netlist.specs.Limits.{maxInputs, maxNevers, maxGates, maxOutputs};
-ghost use Rattle.netlist.specs.StoredBlock.{isMalformed, decode};
+ghost use Rattle.netlist.specs.StoredBlock.{outputSize, outputsAt, isMalformed, decode};
 ghost use Rattle.netlist.specs.Rendering.{isStraight};
 ghost use Rattle.block.specs.Steps.{frontRule, partsRule};
 
@@ -39,6 +40,7 @@ fn parts_fit(words: &[u16], n: usize, l: usize, m: usize, k: usize) -> bool
     requires { ⌜ l ≤ maxNevers ⌝ }
     requires { ⌜ m ≤ maxGates ⌝ }
     requires { ⌜ k ≤ maxOutputs ⌝ }
+    requires { ⌜ length (now words) ≡ outputsAt n l m + outputSize * k ⌝ }
     ensures { λ r. ⌜ r ≡ partsRule (now (words .entry)) n l m k ⌝ }
 {
     let outputs_at = offsets::outputs_behind(n, l, m);

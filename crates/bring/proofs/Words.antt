@@ -1,5 +1,6 @@
 -- The words of a block stored before there were never lines, and the same with a fourth count. Assumes nothing.
 --   length-brought, brought-from       the number of words; all of them, one by one
+--   placed-over, placed-again          a longer list over a shorter one, and a list once more
 --   word-before, word-four, word-after where each stands
 --   torn-short, torn-inputs, torn-long what the old rules refuse at once
 --   torn-brought                       what is left: the old rules are today's, of the words with a fourth count
@@ -7,13 +8,14 @@
 --   bring-start, bring-room            the conditions one after the other
 use mathlib.Core.Path.{_≡_, refl, sym, ap, subst, _∙_}
 use mathlib.Core.Bool.{Bool, true, false, _&&_}
-use mathlib.Core.List.{List, [], _∷_, map, append-nil}
+use mathlib.Core.List.{List, [], _∷_, _++_, map, append-nil}
 use Prim.Native.Nat.{ℕ, zero, suc, _+_, _-_, _≤_, _<_}
 use native.Mathlib.Omega.{arith}
 use lib.ListN.{length, getD, drop}
+use lib.Seq.{drop-append-add, drop-drop}
 use lib.Dec.{leb, ltb}
 use borrow.Author.Tests.{leb-true, le-leb, not-false}
-use Rattle.laws.specs.Lists.{same, joined, tab}
+use Rattle.laws.specs.Lists.{same, joined, tab, placed}
 use Rattle.laws.proofs.Tab.{tab-getD}
 use Rattle.laws.proofs.Tests.{and-left, and-right, same-test}
 use Rattle.laws.proofs.Same.{same-eq, eq-same}
@@ -70,6 +72,21 @@ word-after ws (suc (suc (suc (suc q)))) l k =
 
 pub brought-from : (ws : List ℕ) (count : ℕ) → 3 ≤ length ws → count ≡ length ws + 1 → tab (λ p. getD (brought ws) p 0) count ≡ brought ws
 brought-from ws count l e = tab-getD 0 (brought ws) count (length-brought ws l ∙ sym e)
+
+-- a longer list over a shorter one
+pub placed-over : (xs ys entry : List ℕ) → length xs ≤ length ys → placed ys (placed xs entry) ≡ placed ys entry
+placed-over xs ys entry h =
+    let k = length ys - length xs in
+    let e : length ys ≡ length xs + k = omega arith in
+    ap (λ (behind : List ℕ). ys ++ behind)
+    (ap (λ (n : ℕ). drop n (placed xs entry)) e
+    ∙ drop-append-add xs (drop (length xs) entry) k
+    ∙ drop-drop k (length xs) entry
+    ∙ ap (λ (n : ℕ). drop n entry) (sym e))
+
+-- the same list once more
+pub placed-again : (xs entry slice : List ℕ) → slice ≡ placed xs entry → slice ≡ placed xs slice
+placed-again xs entry slice e = e ∙ sym (placed-over xs xs entry (omega arith)) ∙ ap (placed xs) (sym e)
 
 -- ---- the old rules
 

@@ -10,7 +10,7 @@ use refusals::test_room;
 ghost use mathlib.Core.Path.{_≡_};
 ghost use Prim.Native.Nat.{_≤_, _<_};
 ghost use lib.ListN.{length, getD};
-ghost use Rattle.laws.specs.Lists.{placed};
+ghost use Rattle.laws.specs.Lists.{tab, placed};
 ghost use Rattle.netlist.specs.declared.Refusal.the-variants.{MalformedBlock};
 ghost use Rattle.netlist.specs.Answers.{Promise};
 ghost use Rattle.refusals.specs.Tests.{testOf};
@@ -21,29 +21,36 @@ const COUNTS_BEFORE: usize = 3;
 
 const MAX_INPUTS_BEFORE: usize = 10;
 
-// Word p of the block of today.
-fn brought_word(old: &[u16], p: usize) -> u16
-    requires { ⌜ (3 ≤ length (now old)) × (p ≤ length (now old)) ⌝ }
+// Word p of the four counts of the block of today.
+fn brought_count(old: &[u16], p: usize) -> u16
+    requires { ⌜ (3 ≤ length (now old)) × (p ≤ 3) ⌝ }
     ensures { λ r. ⌜ r ≡ getD (brought (now (old .entry))) p 0 ⌝ }
 {
-    if p < COUNTS_BEFORE {
-        return old[p];
-    }
-    if p == COUNTS_BEFORE {
-        return 0;
-    }
-    old[p - 1]
+    if p < COUNTS_BEFORE { old[p] } else { 0 }
 }
 
-// All of them.
+// The four counts.
+fn put_counts(old: &[u16], block: &mut [u16])
+    requires { ⌜ (3 ≤ length (now old)) × (length (now old) < length (now block)) ⌝ }
+    ensures { λ r. ⌜ now (block .exit) ≡ placed (tab (λ p. getD (brought (now (old .entry))) p 0) 4) (now (block .entry)) ⌝ }
+{
+    let mut p = 0;
+    while p <= COUNTS_BEFORE {
+        block[p] = brought_count(old, p);
+        p += 1;
+    }
+}
+
+// All words. Behind the counts they are the old ones, each a place further on: a loop of its own, which moves many at a time.
 fn put_brought(old: &[u16], block: &mut [u16])
     requires { ⌜ (3 ≤ length (now old)) × (length (now old) < length (now block)) ⌝ }
     ensures { λ r. ⌜ now (block .exit) ≡ placed (brought (now (old .entry))) (now (block .entry)) ⌝ }
 {
+    put_counts(old, block);
     let count = old.len() + 1;
-    let mut p = 0;
+    let mut p = COUNTS_BEFORE + 1;
     while p < count {
-        block[p] = brought_word(old, p);
+        block[p] = old[p - 1];
         p += 1;
     }
 }

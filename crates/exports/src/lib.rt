@@ -144,9 +144,10 @@ pub extern "C" fn unloop_line(text: &[u8], place: usize) -> Span
     ensures { λ r. ⌜ r .start ≡ lineStart (now (text .entry)) place ⌝ }
     ensures { λ r. ⌜ r .length ≡ lineLength (now (text .entry)) place ⌝ }
 {
+    let start = line::line_start(text, place);
     Span {
-        start: line::line_start(text, place),
-        length: line::line_length(text, place),
+        start,
+        length: line::line_length(text, place, start),
     }
 }
 

@@ -1,8 +1,13 @@
 // Line (SPECIFICATION 7.4): the line of the text that holds a given place, as the part of the caller's own text, without its LF. Never refuses.
 // `line_start` and `line_length` are its two ends for callers who cannot be handed a part: the C export.
 ghost use mathlib.Core.Path.{_≡_};
-ghost use Prim.Native.Nat.{_+_};
-ghost use Rattle.netlist.specs.Line.{clamped, lineStart, lineEnd, lineLength, lineAt};
+ghost use mathlib.Core.Bool.{false};
+ghost use Prim.Native.Nat.{ℕ, _+_, _<_, _≤_};
+ghost use lib.ListN.{length, getD, drop};
+ghost use Rattle.netlist.specs.Line.{lf, clamped, startBefore, untilLf, lineStart, lineEnd, lineLength, lineAt};
+
+// The bytes that are looked at together, so that a processor compares many at a time.
+const PART: usize = 64;
 
 // The place, or the end where it is past it.
 fn clamp(text: &[u8], place: usize) -> usize
@@ -15,11 +20,55 @@ fn clamp(text: &[u8], place: usize) -> usize
     }
 }
 
+// Does an LF stand in the part from `at` on? No byte of it ends the search.
+fn has_lf(text: &[u8], at: usize) -> bool
+    requires { ⌜ at + 64 ≤ length (now text) ⌝ }
+    ensures { λ r. ⌜ (r ≡ false → (k : ℕ) → k < 64 → getD (now (text .entry)) (at + k) 0 ≡ lf → ⊥) ⌝ }
+{
+    let mut found = false;
+    let mut i = 0;
+    while i < PART {
+        found = found | (text[at + i] == b'\n');
+        i += 1;
+    }
+    found
+}
+
+// Backwards over the parts without an LF.
+fn skip_before(text: &[u8], at: usize) -> usize
+    requires { ⌜ at ≤ length (now text) ⌝ }
+    ensures { λ r. ⌜ (r ≤ length (now (text .entry))) × (startBefore (now (text .entry)) at ≡ startBefore (now (text .entry)) r) ⌝ }
+{
+    let mut start = at;
+    while PART <= start {
+        if has_lf(text, start - PART) {
+            return start;
+        }
+        start -= PART;
+    }
+    start
+}
+
+// Onwards over the parts without an LF.
+fn skip_behind(text: &[u8], at: usize) -> usize
+    requires { ⌜ at ≤ length (now text) ⌝ }
+    ensures { λ r. ⌜ (r ≤ length (now (text .entry))) × (at + untilLf (drop at (now (text .entry))) ≡ r + untilLf (drop r (now (text .entry)))) ⌝ }
+{
+    let mut end = at;
+    while PART <= text.len() - end {
+        if has_lf(text, end) {
+            return end;
+        }
+        end += PART;
+    }
+    end
+}
+
 // The place of the line's first byte: behind the last LF before the place.
 pub fn line_start(text: &[u8], place: usize) -> usize
     ensures { λ r. ⌜ r ≡ lineStart (now (text .entry)) place ⌝ }
 {
-    let mut at = clamp(text, place);
+    let mut at = skip_before(text, clamp(text, place));
     while 0 < at {
         if text[at - 1] == b'\n' {
             return at;
@@ -33,7 +82,7 @@ pub fn line_start(text: &[u8], place: usize) -> usize
 fn line_end(text: &[u8], place: usize) -> usize
     ensures { λ r. ⌜ r ≡ lineEnd (now (text .entry)) place ⌝ }
 {
-    let mut at = clamp(text, place);
+    let mut at = skip_behind(text, clamp(text, place));
     while at < text.len() {
         if text[at] == b'\n' {
             return at;
@@ -43,11 +92,12 @@ fn line_end(text: &[u8], place: usize) -> usize
     at
 }
 
-// How many bytes the line has, without its LF.
-pub fn line_length(text: &[u8], place: usize) -> usize
+// How many bytes the line has, without its LF, once its start is known.
+pub fn line_length(text: &[u8], place: usize, start: usize) -> usize
+    requires { ⌜ start ≡ lineStart (now text) place ⌝ }
     ensures { λ r. ⌜ r ≡ lineLength (now (text .entry)) place ⌝ }
 {
-    line_end(text, place) - line_start(text, place)
+    line_end(text, place) - start
 }
 
 // The line: its bytes, and that it is the caller's own part, from the line's start on.

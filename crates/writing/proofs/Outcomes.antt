@@ -6,7 +6,8 @@ use mathlib.Core.List.{List}
 use native.Mathlib.Omega.{arith}
 use lib.ListN.{length, getD}
 use lib.Dec.{ltb}
-use Rattle.netlist.specs.Limits.{maxInputs}
+use borrow.Author.Tests.{le-ltb}
+use Rattle.netlist.specs.Limits.{maxInputs, maxWritten}
 use Rattle.netlist.specs.StoredBlock.{neversAt, gatesAt, outputsAt, decode, isMalformed}
 use Rattle.netlist.specs.Answers.{done, refuseIf, inRoom}
 use Rattle.netlist.specs.declared.Refusal.the-variants.{MalformedBlock, NoRoom}
@@ -15,6 +16,8 @@ use Rattle.netlist.specs.Operations.{counted, writeWords, write}
 use Rattle.encoding.proofs.Decoded.{decode-inputCount}
 use Rattle.encoding.proofs.WellFormed.{wellFormed-parts}
 use Rattle.grammar.proofs.WritingLength.{written-length}
+use Rattle.refusals.specs.declared.Test.the-variants.{Passed}
+use Rattle.refusals.specs.Tests.{testOf}
 use Rattle.writing.specs.Pieces.{Short, pieces, inputText, neverLineText, gateText, outputText, blockText}
 use Rattle.writing.proofs.WrittenText.{decoded-well, written-pieces}
 
@@ -45,6 +48,14 @@ few-inputs ws whole = omega (arith, wellFormed-parts (decode ws) (decoded-well w
 pub block-short : (ws : List ℕ) → isMalformed ws ≡ false → Short (blockText ws) 0
 block-short ws whole =
     record { small = rw (← written-pieces ws whole) (omega (arith, written-length (decode ws) (decoded-well ws whole))) }
+
+pub block-longest : (ws : List ℕ) → isMalformed ws ≡ false → length (blockText ws) ≤ maxWritten
+block-longest ws whole = rw (← written-pieces ws whole) (written-length (decode ws) (decoded-well ws whole))
+
+-- room for the longest text is room enough
+pub room-enough : (ws : List ℕ) (room : ℕ) → isMalformed ws ≡ false → maxWritten ≤ room → Passed ≡ testOf (ltb room (length (blockText ws))) NoRoom
+unfolding testOf
+room-enough ws room whole h = rw (le-ltb room (length (blockText ws)) (omega (arith, block-longest ws whole))) refl
 
 -- ---- the chain of conditions: from 6 on, and from 11 on
 

@@ -6,7 +6,7 @@ use mathlib.Core.Bool.{cond}
 use mathlib.Core.List.{List, [], _∷_, _++_}
 use lib.ListN.{length, getD}
 use lib.Seq.{sets}
-use lib.Dec.{eqb}
+use lib.Dec.{eqb, ltb}
 use Rattle.laws.specs.Lists.{ascii, tab, joined}
 use Rattle.netlist.specs.Assignments.{bit}
 use Rattle.netlist.specs.Kinds.{keyword}
@@ -30,6 +30,10 @@ pieces f count = joined (tab f count)
 -- the operand whose word is at `at`
 unfoldable pub operandText : List ℕ → ℕ → List ℕ
 operandText ws at = printTerm (termOf (decode ws) (operandOf (getD ws 0 0) (getD ws at 0))) []
+
+-- the decimal digit of so many units, where the number has one
+unfoldable pub digitAt : ℕ → ℕ → List ℕ
+digitAt v unit = cond (ltb v unit) [] ((48 + v / unit % 10) ∷ [])
 
 -- ` (NAME VALUE)`: the name whose words are at `at`, and the byte of its value
 unfoldable pub pairPiece : List ℕ → ℕ → ℕ → List ℕ

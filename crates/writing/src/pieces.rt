@@ -16,7 +16,7 @@ ghost use Rattle.laws.specs.Lists.{trimmed};
 ghost use Rattle.netlist.specs.Kinds.{keyword};
 ghost use Rattle.netlist.specs.StoredBlock.{bytesAt, nameAt};
 ghost use Rattle.netlist.specs.Writing.{decimal, gateName};
-ghost use Rattle.writing.specs.Pieces.{Appended, Short, pairPiece, operandText};
+ghost use Rattle.writing.specs.Pieces.{Appended, Short, pairPiece, digitAt, operandText};
 
 // One byte.
 pub fn put(text: &mut [u8], at: usize, byte: u8) -> usize
@@ -109,13 +109,39 @@ pub fn put_decimal(text: &mut [u8], at: usize, v: usize) -> usize
     put(text, end, (48 + v % 10) as u8)
 }
 
+// The digit of so many units, where the number has one.
+fn put_digit(text: &mut [u8], at: usize, v: usize, unit: usize) -> usize
+    requires { ⌜ 1 ≤ unit ⌝ }
+    requires { ⌜ Short (digitAt v unit) at ⌝ }
+    ensures { λ r. ⌜ Appended (digitAt v unit) (now (text .entry)) at (now (text .exit)) r ⌝ }
+{
+    if v < unit {
+        return at;
+    }
+    put(text, at, (48 + v / unit % 10) as u8)
+}
+
+// The decimal digits of a number, which is mostly a gate's: one after the other, without a call for each.
+fn put_number(text: &mut [u8], at: usize, v: usize) -> usize
+    requires { ⌜ Short (decimal v) at ⌝ }
+    ensures { λ r. ⌜ Appended (decimal v) (now (text .entry)) at (now (text .exit)) r ⌝ }
+{
+    if 10000 <= v {
+        return put_decimal(text, at, v);
+    }
+    let thousands = put_digit(text, at, v, 1000);
+    let hundreds = put_digit(text, thousands, v, 100);
+    let tens = put_digit(text, hundreds, v, 10);
+    put(text, tens, (48 + v % 10) as u8)
+}
+
 // The name of gate j: `_` and its number.
 pub fn put_gate_name(text: &mut [u8], at: usize, j: usize) -> usize
     requires { ⌜ Short (gateName j) at ⌝ }
     ensures { λ r. ⌜ Appended (gateName j) (now (text .entry)) at (now (text .exit)) r ⌝ }
 {
     let end = put(text, at, b'_');
-    put_decimal(text, end, j)
+    put_number(text, end, j)
 }
 
 // The keyword of a kind.

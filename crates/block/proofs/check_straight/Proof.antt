@@ -2,7 +2,7 @@
 -- as nodes (`straight-is`). Assumes nothing.
 use borrow.Author.Needs.{needs}
 use native.Mathlib.Omega.{arith}
-use Rattle.netlist.specs.StoredBlock.{neversAt, gatesAt}
+use Rattle.netlist.specs.StoredBlock.{neversAt, gatesAt, outputsAt}
 use Rattle.encoding.proofs.Readers.{whole-parts}
 use Rattle.block.proofs.StraightLaws.{straight-is}
 use Rattle.block.proofs.check_straight.Statement.{statement}
@@ -18,12 +18,12 @@ gates-at-requires : tie.Need-gates-at-requires
 gates-at-requires c κs = search needs
 
 read-lower-requires : tie.Need-read-lower-requires
-unfolding gatesAt neversAt
+unfolding outputsAt gatesAt neversAt
 read-lower-requires c κs =
     let s = c .before .before .before .before in
     let w = whole-parts (s .args .words .now) (s .pre) in
     rw (c .before .before .inputs-of .ensures, c .before .gates-of .ensures, c .gates-at .ensures)
-    (w .fewInputs, (omega (arith, w .fewInputs, w .fewNevers), w .fewGates))
+    ((w .fewInputs, omega (arith, w .fewInputs, w .fewNevers), w .fewGates), omega (arith, w .sized))
 
 refuse-if-requires : tie.Need-refuse-if-requires
 refuse-if-requires c κs = search needs

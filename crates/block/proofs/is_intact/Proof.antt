@@ -4,7 +4,7 @@ use lib.ListN.{getD}
 use borrow.Author.Needs.{needs}
 use borrow.Author.Tests.{not-true, not-false}
 use Rattle.encoding.specs.Rules.{intact}
-use Rattle.block.proofs.HeaderLaws.{Limits, header-limits}
+use Rattle.block.proofs.HeaderLaws.{Limits, header-limits, header-length}
 use Rattle.block.proofs.is_intact.Statement.{statement}
 use Rattle.block.proofs.is_intact.Tie as tie
 
@@ -30,10 +30,10 @@ nevers-of-requires c κs = search needs
 parts-fit-requires : tie.Need-parts-fit-requires
 parts-fit-requires c κs =
     let ws = c .before .before .before .before .before .before .before .args .words .now in
-    let l : Limits (getD ws 0 0) (getD ws 1 0) (getD ws 2 0) (getD ws 3 0) = header-limits ws
-    (sym (c .before .before .before .before .before .fits2 .ensures) ∙ not-false _ (c .before .before .before .before .if1 .left)) in
+    let h = sym (c .before .before .before .before .before .fits2 .ensures) ∙ not-false _ (c .before .before .before .before .if1 .left) in
+    let l : Limits (getD ws 0 0) (getD ws 1 0) (getD ws 2 0) (getD ws 3 0) = header-limits ws h in
     rw (c .before .before .before .inputs-of .ensures, c .before .before .gates-of .ensures, c .before .outputs-of .ensures, c .nevers-of .ensures)
-    (l .inputs, (l .nevers, (l .gates, l .outputs)))
+    (l .inputs, (l .nevers, (l .gates, (l .outputs, header-length ws h))))
 
 returns-2 : tie.Need-returns-2
 unfolding intact

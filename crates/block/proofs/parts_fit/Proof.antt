@@ -23,7 +23,7 @@ gates-behind-requires : tie.Need-gates-behind-requires
 gates-behind-requires c κs = search needs
 
 fit-requires : tie.Need-fit-requires
-unfolding neversAt gatesAt
+unfolding neversAt gatesAt outputsAt
 fit-requires c κs = omega (arith, c .gates-behind .ensures, c .before .before .before .before .before .pre)
 
 returns-2 : tie.Need-returns-2

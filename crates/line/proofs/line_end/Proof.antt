@@ -1,9 +1,9 @@
--- `line::line_end` meets its contract. The loop goes up from the place; its invariant: the end from `at` on is the end.
+-- `line::line_end` meets its contract. The loop goes up from the part that has the LF; its invariant: the end from `at` on is the end.
 -- Assumes nothing.
 use Rattle.line.proofs.line_end.Statement.{statement}
 use Rattle.line.proofs.line_end.Tie as tie
-use mathlib.Core.Path.{_≡_, refl, sym, _∙_}
-use Prim.Native.Nat.{_≤_, _+_, _-_}
+use mathlib.Core.Path.{_≡_, sym, ap, _∙_}
+use Prim.Native.Nat.{ℕ, _≤_, _+_, _-_}
 use native.Mathlib.Numerals.{add-one}
 use native.Mathlib.Omega.{arith}
 use lib.ListN.{length, drop}
@@ -19,17 +19,22 @@ abbrev μ-loop : tie.MeasureT-loop
 clamp-requires : tie.Need-clamp-requires Inv-loop μ-loop
 clamp-requires c κs = tt
 
+skip-behind-requires : tie.Need-skip-behind-requires Inv-loop μ-loop
+skip-behind-requires c κs = let a = c .before .before .args in rw (c .clamp .ensures) (clamped-le (a .text .now) (a .place))
+
 loop-holds : tie.Need-loop-holds Inv-loop μ-loop
 unfolding lineEnd
-loop-holds c = let a = c .before .before .args in
-    rw (c .clamp .ensures) (clamped-le (a .text .now) (a .place), refl)
+loop-holds c =
+    let skip = c .skip-behind .ensures in
+    let text = c .before .before .before .args .text .now in
+    (skip .0, ap (λ (at : ℕ). at + untilLf (drop at text)) (sym (c .before .clamp .ensures)) ∙ skip .1)
 
 shared-slice-read-if1 : tie.Need-shared-slice-read-if1 Inv-loop μ-loop
 shared-slice-read-if1 c = omega arith
 
 returns : tie.Need-returns Inv-loop μ-loop
 returns c = let l = c .before .before .before in
-    end-at (l .before .before .before .args .text .now) (l .loop .at) (c .before .before .loop-test .taken) (c .if1 .taken) ∙ sym (l .loop .inv .1)
+    end-at (l .before .before .before .before .args .text .now) (l .loop .at) (c .before .before .loop-test .taken) (c .if1 .taken) ∙ sym (l .loop .inv .1)
 
 add-at : tie.Need-add-at Inv-loop μ-loop
 add-at c = omega arith
@@ -39,12 +44,12 @@ loop-less c = omega arith
 
 loop-again : tie.Need-loop-again Inv-loop μ-loop
 loop-again c = let l = c .before .before .before in
-    let e = l .loop .inv .1 ∙ end-behind (l .before .before .before .args .text .now) (l .loop .at) (c .before .before .loop-test .taken) (c .if1 .left) in
+    let e = l .loop .inv .1 ∙ end-behind (l .before .before .before .before .args .text .now) (l .loop .at) (c .before .before .loop-test .taken) (c .if1 .left) in
     (omega arith, rw (add-one (l .loop .at)) e)
 
 returns-2 : tie.Need-returns-2 Inv-loop μ-loop
 returns-2 c = let l = c .before in
-    end-over (l .before .before .before .args .text .now) (l .loop .at) (c .loop-test .left) ∙ sym (l .loop .inv .1)
+    end-over (l .before .before .before .before .args .text .now) (l .loop .at) (c .loop-test .left) ∙ sym (l .loop .inv .1)
 
 pub line-end-spec : {M : Type 1} → statement M
 line-end-spec =
@@ -53,6 +58,7 @@ line-end-spec =
     Inv-loop
     μ-loop
     clamp-requires
+    skip-behind-requires
     loop-holds
     shared-slice-read-if1
     returns

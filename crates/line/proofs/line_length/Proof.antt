@@ -10,16 +10,12 @@ use Rattle.line.proofs.Ends.{ends-in-order}
 line-end-requires : tie.Need-line-end-requires
 line-end-requires c κs = search needs
 
-line-start-requires : tie.Need-line-start-requires
-line-start-requires c κs = search needs
-
 sub-result : tie.Need-sub-result
-sub-result c = let a = c .before .before .before .args in
-    omega (arith, ends-in-order (a .text .now) (a .place), c .line-start .ensures, c .before .line-end .ensures)
+sub-result c = let s = c .before .before in omega (arith, ends-in-order (s .args .text .now) (s .args .place), c .line-end .ensures, s .pre)
 
 returns : tie.Need-returns
 unfolding lineLength
-returns c = rw (c .line-start .ensures, c .before .line-end .ensures)
+returns c = rw (c .line-end .ensures, c .before .before .pre)
 
 pub line-length-spec : {M : Type 1} → statement M
-line-length-spec = tie.close (tie.spec line-end-requires line-start-requires sub-result returns)
+line-length-spec = tie.close (tie.spec line-end-requires sub-result returns)

@@ -1,4 +1,4 @@
--- `line::line_start` meets its contract. The loop goes down from the place; its invariant: the start before `at` is the start.
+-- `line::line_start` meets its contract. The loop goes down from the part that has the LF; its invariant: the start before `at` is the start.
 -- Assumes nothing.
 use Rattle.line.proofs.line_start.Statement.{statement}
 use Rattle.line.proofs.line_start.Tie as tie
@@ -18,10 +18,15 @@ abbrev μ-loop : tie.MeasureT-loop
 clamp-requires : tie.Need-clamp-requires Inv-loop μ-loop
 clamp-requires c κs = tt
 
+skip-before-requires : tie.Need-skip-before-requires Inv-loop μ-loop
+skip-before-requires c κs = let a = c .before .before .args in rw (c .clamp .ensures) (clamped-le (a .text .now) (a .place))
+
 loop-holds : tie.Need-loop-holds Inv-loop μ-loop
 unfolding lineStart
-loop-holds c = let a = c .before .before .args in
-    rw (c .clamp .ensures) (clamped-le (a .text .now) (a .place), refl)
+loop-holds c =
+    let skip = c .skip-before .ensures in
+    let text = c .before .before .before .args .text .now in
+    (skip .0, ap (startBefore text) (sym (c .before .clamp .ensures)) ∙ skip .1)
 
 sub-if1 : tie.Need-sub-if1 Inv-loop μ-loop
 sub-if1 c = omega arith
@@ -31,7 +36,7 @@ shared-slice-read-if1 c = omega arith
 
 returns : tie.Need-returns Inv-loop μ-loop
 returns c = let l = c .before .before .before in
-    sym (l .loop .inv .1 ∙ start-at (l .before .before .before .args .text .now) (l .loop .at) (c .before .before .loop-test .taken) (c .if1 .taken))
+    sym (l .loop .inv .1 ∙ start-at (l .before .before .before .before .args .text .now) (l .loop .at) (c .before .before .loop-test .taken) (c .if1 .taken))
 
 sub-at : tie.Need-sub-at Inv-loop μ-loop
 sub-at c = omega arith
@@ -42,14 +47,14 @@ loop-less c = omega arith
 loop-again : tie.Need-loop-again Inv-loop μ-loop
 loop-again c = let l = c .before .before .before in (
   omega arith,
-  l .loop .inv .1 ∙ start-before (l .before .before .before .args .text .now) (l .loop .at) (c .before .before .loop-test .taken)
+  l .loop .inv .1 ∙ start-before (l .before .before .before .before .args .text .now) (l .loop .at) (c .before .before .loop-test .taken)
       (c .if1 .left),
 )
 
 returns-2 : tie.Need-returns-2 Inv-loop μ-loop
 unfolding startBefore
 returns-2 c = let z : c .before .loop .at ≡ 0 = omega arith in
-    sym (c .before .loop .inv .1 ∙ ap (startBefore (c .before .before .before .before .args .text .now)) z)
+    sym (c .before .loop .inv .1 ∙ ap (startBefore (c .before .before .before .before .before .args .text .now)) z)
 
 pub line-start-spec : {M : Type 1} → statement M
 line-start-spec =
@@ -58,6 +63,7 @@ line-start-spec =
     Inv-loop
     μ-loop
     clamp-requires
+    skip-before-requires
     loop-holds
     sub-if1
     shared-slice-read-if1

@@ -1,5 +1,4 @@
--- `writing::write` meets its contract. The first pass tells the length of the text, the second writes it; a block that is not torn has a
--- short text. Assumes nothing.
+-- `writing::write` meets its contract: once there is room, the text is written. Assumes nothing.
 use Prim.Native.Nat.{ℕ}
 use mathlib.Core.Path.{_≡_, ap, _∙_}
 use mathlib.Core.Bool.{false}
@@ -19,32 +18,18 @@ use Rattle.writing.proofs.Outcomes.{few-inputs, block-short, write-star
 use Rattle.writing.proofs.write.Statement.{statement}
 use Rattle.writing.proofs.write.Tie as tie
 
--- the entry, the first test, the measuring pass, and the second test
+-- the entry, the first test, and the second
 abbrev start : tie.After-check-words → tie.Start
 start c = c .before .before .before
 
 abbrev words-test : tie.After-enum-told → tie.After-check-words
 words-test c = c .before .before
 
-abbrev whole-block : tie.After-put-block → tie.After-enum-told
-whole-block c = c .before .before
-
-abbrev measured : tie.After-test-room → tie.After-put-block
-measured c = c .before .before
+abbrev whole-block : tie.After-check-room → tie.After-enum-told
+whole-block c = c .before
 
 whole : (c : tie.After-enum-told) → isMalformed (start (words-test c) .args .words .now) ≡ false
 whole c = passed-false _ MalformedBlock (words-test c .check-words .ensures) (c .enum-told .given .1)
-
--- the first pass tells the length
-length-told : (c : tie.After-put-block) → c .put-block .result ≡ length (blockText (start (words-test (whole-block c)) .args .words .now))
-length-told c = let e = c .put-block .ensures .endIs in omega (arith, e)
-
--- the second test is the condition on the room
-room-told : (c : tie.After-test-room) → let a = start (words-test (whole-block (measured c))) .args in
-    c .test-room .result ≡ testOf (ltb (length (a .text .now)) (length (blockText (a .words .now)))) NoRoom
-room-told c =
-    let a = start (words-test (whole-block (measured c))) .args in
-    c .test-room .ensures ∙ ap (λ (n : ℕ). testOf (ltb (length (a .text .now)) n) NoRoom) (length-told (measured c))
 
 check-words-requires : tie.Need-check-words-requires
 check-words-requires c κs = search needs
@@ -64,16 +49,8 @@ returns c =
     failed (inRoom _) (keeps-room _) _ _ MalformedBlock (write-start _ _) (t .check-words .ensures) (start t .args .text .now)
     (c .before .before .match .keys2) (c .refusal .ensures)
 
-slice-aggregate-put-block : tie.Need-slice-aggregate-put-block
-slice-aggregate-put-block c = search needs
-
-put-block-requires : tie.Need-put-block-requires
-put-block-requires c κs =
-    let ws = start (words-test (c .before)) .args .words .now in
-    (few-inputs ws (whole (c .before)), block-short ws (whole (c .before)))
-
-test-room-requires : tie.Need-test-room-requires
-test-room-requires c κs = search needs
+check-room-requires : tie.Need-check-room-requires
+check-room-requires c κs = whole c
 
 enum-told-3 : tie.Need-enum-told-3
 enum-told-3 c = search needs
@@ -87,14 +64,14 @@ refusal-requires-2 c κs = search needs
 returns-2 : tie.Need-returns-2
 returns-2 c =
     let t = c .before .before .before in
-    let w = whole-block (measured t) in
+    let w = whole-block t in
     let a = start (words-test w) .args in
-    failed bare keeps-bare _ _ NoRoom (write-room (a .words .now) (length (a .text .now)) (whole w)) (room-told t) (a .text .now)
+    failed bare keeps-bare _ _ NoRoom (write-room (a .words .now) (length (a .text .now)) (whole w)) (t .check-room .ensures) (a .text .now)
     (c .before .before .match2 .keys2) (c .refusal2 .ensures)
 
-put-block-requires-2 : tie.Need-put-block-requires-2
-put-block-requires-2 c κs =
-    let w = whole-block (measured (c .before .before .before)) in
+put-block-requires : tie.Need-put-block-requires
+put-block-requires c κs =
+    let w = whole-block (c .before .before .before) in
     let ws = start (words-test w) .args .words .now in
     (few-inputs ws (whole w), block-short ws (whole w))
 
@@ -103,14 +80,17 @@ same-length c = search needs
 
 returns-3 : tie.Need-returns-3
 returns-3 c =
-    let e = c .before .before .before .before in
+    let put = c .before .before in
+    let e = put .before .before in
     let t = e .before .before in
-    let w = whole-block (measured t) in
+    let w = whole-block t in
     let a = start (words-test w) .args in
-    let fits = ltb-false (length (a .text .now)) (length (blockText (a .words .now))) (passed-false _ NoRoom (room-told t) (e .enum-told3 .given .1)) in
+    let there = passed-false _ NoRoom (t .check-room .ensures) (e .enum-told3 .given .1) in
+    let fits = ltb-false (length (a .text .now)) (length (blockText (a .words .now))) there in
+    let count : put .put-block .result ≡ length (blockText (a .words .now)) = let n = put .put-block .ensures .endIs in omega (arith, n) in
     finished
-    (passed bare keeps-bare _ _ NoRoom (write-room (a .words .now) (length (a .text .now)) (whole w)) (room-told t) (e .enum-told3 .given .1))
-    (length-told (measured t)) (c .before .before .put-block2 .ensures .textIs ∙ sets-placed (blockText (a .words .now)) (a .text .now) fits)
+    (passed bare keeps-bare _ _ NoRoom (write-room (a .words .now) (length (a .text .now)) (whole w)) (t .check-room .ensures) (e .enum-told3 .given .1))
+    count (put .put-block .ensures .textIs ∙ sets-placed (blockText (a .words .now)) (a .text .now) fits)
 
 pub write-spec : {M : Type 1} → statement M
 write-spec =
@@ -121,13 +101,11 @@ write-spec =
     enum-told-2
     refusal-requires
     returns
-    slice-aggregate-put-block
-    put-block-requires
-    test-room-requires
+    check-room-requires
     enum-told-3
     enum-told-4
     refusal-requires-2
     returns-2
-    put-block-requires-2
+    put-block-requires
     same-length
     returns-3)

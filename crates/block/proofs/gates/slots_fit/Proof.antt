@@ -1,60 +1,86 @@
--- `block::gates::slots_fit` meets its contract: all words passed keep their rule. Assumes nothing.
-use mathlib.Core.Path.{_≡_, refl}
-use mathlib.Core.Bool.{true}
-use Prim.Native.Nat.{_≤_, _-_}
+-- `block::gates::slots_fit` meets its contract: in each arm the words below the count are tested as operands and the others for 0 (`slots`).
+-- Assumes nothing.
 use borrow.Author.Needs.{needs}
-use Rattle.laws.specs.Lists.{all, upTo}
-use Rattle.block.proofs.TestLaws.{passes, fails, passed}
-use Rattle.block.specs.Steps.{slotRule}
+use mathlib.Core.Path.{_∙_}
+use native.Mathlib.Omega.{arith}
+use Rattle.block.proofs.SlotLaws.{used, unused, slots}
 use Rattle.block.proofs.gates.slots_fit.Statement.{statement}
 use Rattle.block.proofs.gates.slots_fit.Tie as tie
 
-abbrev Inv-loop : tie.InvT-loop
-Inv-loop words nodes at count i₀ i = (i ≤ 4) × (all (slotRule words nodes at count) (upTo i) ≡ true)
-
-abbrev μ-loop : tie.MeasureT-loop
-μ-loop words nodes at count i₀ i = 4 - i
-
-loop-holds : tie.Need-loop-holds Inv-loop μ-loop
-loop-holds c = (search needs, refl)
-
-slot-fits-requires : tie.Need-slot-fits-requires Inv-loop μ-loop
-slot-fits-requires c κs = search needs
-
-returns : tie.Need-returns Inv-loop μ-loop
+returns : tie.Need-returns
 returns c =
-    let a = c .before .before .before .before .before .args in
-    let l = c .before .before .before .loop in
-    fails (slotRule (a .words .now) (a .nodes) (a .at) (a .count)) 4 (l .i) (search needs) (c .before .slot-fits .ensures) (c .if1 .taken)
+    let first = c .before .before .before .before in
+    let a = first .before .before .before .args in
+    let below = used (a .words .now) (a .nodes) (a .at) (a .count) in
+    let behind = unused (a .words .now) (a .nodes) (a .at) (a .count) in
+    slots (a .words .now) (a .nodes) (a .at) (a .count)
+    (first .is-operand-word .ensures ∙ below 0 (omega arith))
+    (behind 1 (omega arith))
+    (behind 2 (omega arith))
+    (behind 3 (omega arith))
 
-add-i : tie.Need-add-i Inv-loop μ-loop
-add-i c = search needs
-
-loop-less : tie.Need-loop-less Inv-loop μ-loop
-loop-less c = search needs
-
-loop-again : tie.Need-loop-again Inv-loop μ-loop
-loop-again c =
-    let a = c .before .before .before .before .before .args in
-    let l = c .before .before .before .loop in
-    (search needs, passes (slotRule (a .words .now) (a .nodes) (a .at) (a .count)) (l .i) (l .inv .1) (c .before .slot-fits .ensures) (c .if1 .left))
-
-returns-2 : tie.Need-returns-2 Inv-loop μ-loop
+returns-2 : tie.Need-returns-2
 returns-2 c =
-    let a = c .before .before .before .args in
-    let l = c .before .loop in
-    passed (slotRule (a .words .now) (a .nodes) (a .at) (a .count)) 4 (l .i) (l .inv .0) (c .loop-test .left) (l .inv .1)
+    let arm = c .before in
+    let first = arm .before .before .before .before in
+    let a = first .before .before .before .args in
+    let below = used (a .words .now) (a .nodes) (a .at) (a .count) in
+    let behind = unused (a .words .now) (a .nodes) (a .at) (a .count) in
+    slots (a .words .now) (a .nodes) (a .at) (a .count)
+    (first .is-operand-word .ensures ∙ below 0 (omega arith))
+    (c .is-operand-word2 .ensures ∙ below 1 (omega arith))
+    (behind 2 (omega arith))
+    (behind 3 (omega arith))
+
+returns-3 : tie.Need-returns-3
+returns-3 c =
+    let arm = c .before .before in
+    let first = arm .before .before .before .before in
+    let a = first .before .before .before .args in
+    let below = used (a .words .now) (a .nodes) (a .at) (a .count) in
+    let behind = unused (a .words .now) (a .nodes) (a .at) (a .count) in
+    slots (a .words .now) (a .nodes) (a .at) (a .count)
+    (first .is-operand-word .ensures ∙ below 0 (omega arith))
+    (c .before .is-operand-word3 .ensures ∙ below 1 (omega arith))
+    (c .is-operand-word4 .ensures ∙ below 2 (omega arith))
+    (behind 3 (omega arith))
+
+returns-4 : tie.Need-returns-4
+returns-4 c =
+    let arm = c .before .before .before in
+    let first = arm .before .before .before .before in
+    let a = first .before .before .before .args in
+    let below = used (a .words .now) (a .nodes) (a .at) (a .count) in
+    slots (a .words .now) (a .nodes) (a .at) (a .count)
+    (first .is-operand-word .ensures ∙ below 0 (omega arith))
+    (c .before .before .is-operand-word5 .ensures ∙ below 1 (omega arith))
+    (c .before .is-operand-word6 .ensures ∙ below 2 (omega arith))
+    (c .is-operand-word7 .ensures ∙ below 3 (omega arith))
 
 pub slots-fit-spec : {M : Type 1} → statement M
 slots-fit-spec =
     tie.close
     (tie.spec
-    Inv-loop
-    μ-loop
-    loop-holds
-    slot-fits-requires
+    (λ c. search needs)
+    (λ c. search needs)
+    (λ c. search needs)
+    (λ c κs. search needs)
+    (λ c. search needs)
+    (λ c. search needs)
+    (λ c. search needs)
+    (λ c. search needs)
+    (λ c. search needs)
+    (λ c. search needs)
+    (λ c. search needs)
+    (λ c. search needs)
+    (λ c. search needs)
+    (λ c κs. search needs)
+    (λ c κs. search needs)
+    (λ c κs. search needs)
+    (λ c κs. search needs)
+    (λ c κs. search needs)
+    (λ c κs. search needs)
     returns
-    add-i
-    loop-less
-    loop-again
-    returns-2)
+    returns-2
+    returns-3
+    returns-4)

@@ -12,9 +12,9 @@ put-requires : tie.Need-put-requires
 unfolding gateName
 put-requires c κs = short-first {xs = ascii "_"} (decimal (c .before .before .args .j)) (c .before .before .pre)
 
-put-decimal-requires : tie.Need-put-decimal-requires
+put-number-requires : tie.Need-put-number-requires
 unfolding gateName
-put-decimal-requires c κs =
+put-number-requires c κs =
     let opened = c .before .before .before in
     short-smaller (omega arith) (short-rest (decimal (opened .before .before .before .args .j)) (opened .before .before .before .pre) (opened .put .ensures))
 
@@ -23,7 +23,7 @@ same-length c = search needs
 
 returns : tie.Need-returns
 unfolding gateName
-returns c = appended-then (c .before .before .before .before .before .before .put .ensures) (c .before .before .put-decimal .ensures)
+returns c = appended-then (c .before .before .before .before .before .before .put .ensures) (c .before .before .put-number .ensures)
 
 pub put-gate-name-spec : {M : Type 1} → statement M
-put-gate-name-spec = tie.close (tie.spec put-requires put-decimal-requires same-length returns)
+put-gate-name-spec = tie.close (tie.spec put-requires put-number-requires same-length returns)
