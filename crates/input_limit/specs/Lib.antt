@@ -1,0 +1,2 @@
+-- What Paper 8 says of the program just before it.
+pub mod InputLimit
