@@ -7,3 +7,4 @@ pub mod Gathered
 pub mod Words
 pub mod Together
 pub mod Again
+pub mod SettleMoved

@@ -1,2 +1,3 @@
 -- Conditions that the laws of renumbered gates speak of.
 pub mod Renumbering
+pub mod Moved

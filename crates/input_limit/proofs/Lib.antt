@@ -1,0 +1,2 @@
+pub mod InputLimit
+pub mod Largest
