@@ -16,7 +16,7 @@ read_options() {
 # Fails where an option is unknown or lacks what it needs, or where what is to be read is not there, and answers --help and --version. Sets
 # `only` to the FILE, or - for standard input, where one rendering is all that is asked for.
 look_at() {
-  local word option value attached needs path readable=() files=() options=0
+  local word option value attached needs path readable=() files=() options=0 catalogue=
   read_options
   while (($#)); do
     word=$1
@@ -43,9 +43,13 @@ look_at() {
       -h | --help) exec cat "$usage" ;;
       -V | --version) exec sed -n 's/^version = "\(.*\)"/unloop \1/p' "$root/rust/Cargo.toml" ;;
       --sheet | --run-cells | --check) readable+=("$value") ;;
-      --audit) [[ -d $value ]] || fail "$value: No such file or directory" ;;
+      --audit | --store) # what else is given may be a folder, a file that is gone, or a name
+        [[ -e $value || $value == *.@(net|out|cover) ]] || fail "$value: No such file or directory"
+        catalogue=yes
+        ;;
     esac
   done
+  if [[ -n $catalogue ]]; then files=(); fi
   for path in "${readable[@]}" "${files[@]}"; do look_at_path "$path"; done
   only=
   if ((options == 0 && ${#files[@]} < 2)); then only=${files[0]--}; fi

@@ -309,7 +309,10 @@ fn bad_usage() {
             &["--into", "out"],
             "--into needs a FILE: standard input has no name",
         ),
-        (&["--force", "a"], "--force needs --into DIR or --page DIR"),
+        (
+            &["--force", "a"],
+            "--force needs --into DIR, --page DIR or --store DIR",
+        ),
     ] {
         let errors = format!("unloop: {line} (see --help)\n");
         told(run(&scratch, words), 2, "", &errors);

@@ -1,6 +1,7 @@
 //! The words of the command line. The options are those that usage.txt lists, which bin/unloop reads too, before this is built.
 
 use crate::source::{is_input, shown};
+use crate::store::Store;
 use crate::USAGE;
 use std::ffi::{OsStr, OsString};
 use std::os::unix::ffi::OsStrExt;
@@ -38,13 +39,22 @@ pub enum Request {
         ours: PathBuf,
         json: bool,
     },
-    Audit {
-        folder: PathBuf,
-        json: bool,
-    },
+    Audit(Audited, bool),
+    Store(Store),
+    Cover(Vec<PathBuf>),
     Export(Export),
     FromBlif(Option<PathBuf>),
     Page(Target, Vec<PathBuf>),
+}
+
+/// Entries of catalogues: those of folders, and of files.
+#[derive(Debug)]
+pub struct Audited {
+    pub paths: Vec<PathBuf>,
+    /// Those of the folders below too.
+    pub recursive: bool,
+    /// Only what is lost is told.
+    pub quiet: bool,
 }
 
 /// Files that are written in another form: their renderings, or they themselves.
@@ -80,6 +90,8 @@ enum Task {
     RunCells(PathBuf),
     Check(PathBuf),
     Audit(PathBuf),
+    Store(PathBuf),
+    Cover,
     Export(Form),
     FromBlif,
     Page(PathBuf),
@@ -93,7 +105,9 @@ impl Task {
             Task::Sheet(_) => "--sheet SETTINGS",
             Task::RunCells(_) => "--run-cells SETTINGS",
             Task::Check(_) => "--check THEIRS",
-            Task::Audit(_) => "--audit DIR",
+            Task::Audit(_) => "--audit PATH",
+            Task::Store(_) => "--store DIR",
+            Task::Cover => "--cover",
             Task::Export(Form::Verilog) => "--verilog",
             Task::Export(Form::Blif) => "--blif",
             Task::Export(Form::Cells) => "--cells",
@@ -112,6 +126,8 @@ struct Given {
     force: bool,
     json: bool,
     original: bool,
+    recursive: bool,
+    quiet: bool,
     /// Asked for instead of all else.
     about: Option<Request>,
 }
@@ -245,12 +261,16 @@ impl Given {
             "--force" => self.force = true,
             "--json" => self.json = true,
             "--original" => self.original = true,
+            "--recursive" => self.recursive = true,
+            "--quiet" => self.quiet = true,
             _ => self.tasks.push(match name {
                 "--into" => Task::Into(operand),
                 "--sheet" => Task::Sheet(operand),
                 "--run-cells" => Task::RunCells(operand),
                 "--check" => Task::Check(operand),
                 "--audit" => Task::Audit(operand),
+                "--store" => Task::Store(operand),
+                "--cover" => Task::Cover,
                 "--page" => Task::Page(operand),
                 "--verilog" => Task::Export(Form::Verilog),
                 "--blif" => Task::Export(Form::Blif),
@@ -268,7 +288,7 @@ fn request(mut given: Given) -> Result<Request, String> {
     let task = tasks.next().unwrap_or_default();
     let other = tasks.next();
     drop(tasks);
-    let writes = matches!(task, Task::Into(_) | Task::Page(_));
+    let writes = matches!(task, Task::Into(_) | Task::Page(_) | Task::Store(_));
     let reports = matches!(
         task,
         Task::Render | Task::Into(_) | Task::Check(_) | Task::Audit(_)
@@ -276,7 +296,7 @@ fn request(mut given: Given) -> Result<Request, String> {
     let fits = (writes || !given.force) && (reports || !given.json);
     match task {
         Task::Render if given.force => {
-            return Err("--force needs --into DIR or --page DIR".to_string())
+            return Err("--force needs --into DIR, --page DIR or --store DIR".to_string())
         }
         Task::Sheet(_) | Task::Check(_) => {}
         _ => {
@@ -295,10 +315,26 @@ fn request(mut given: Given) -> Result<Request, String> {
             }
         }
     }
-    if given.original && !matches!(task, Task::Export(_)) {
-        return Err("--original needs --verilog, --blif or --cells".to_string());
-    }
+    modified(&task, &given)?;
     made(task, other.is_none() && fits, given)
+}
+
+/// What some options need to have a meaning.
+fn modified(task: &Task, given: &Given) -> Result<(), String> {
+    let wrong = |what: &str| Err(what.to_string());
+    match task {
+        Task::Export(_) => {}
+        _ if given.original => return wrong("--original needs --verilog, --blif or --cells"),
+        _ => {}
+    }
+    match task {
+        Task::Audit(_) => Ok(()),
+        _ if given.quiet => wrong("--quiet needs --audit PATH"),
+        Task::Store(_) if given.files.is_empty() => Ok(()),
+        Task::Store(_) if given.recursive => wrong("--recursive goes with no NAME"),
+        _ if given.recursive => wrong("--recursive needs --audit PATH or --store DIR"),
+        _ => Ok(()),
+    }
 }
 
 /// The request of a task; `fits`: no other option stands in its way.
@@ -308,17 +344,44 @@ fn made(task: Task, fits: bool, given: Given) -> Result<Request, String> {
         force,
         json,
         original,
+        recursive,
+        quiet,
         ..
     } = given;
+    let target = |folder| Target { folder, force };
+    Ok(match task {
+        Task::Render => rendered(files, None, json),
+        Task::Into(folder) => rendered(named(files, "--into")?, Some(target(folder)), json),
+        Task::Audit(first) => {
+            let audited = Audited {
+                paths: named([vec![first], files].concat(), "--audit")?,
+                recursive,
+                quiet,
+            };
+            Request::Audit(audited, json)
+        }
+        Task::Store(folder) => Request::Store(Store {
+            folder,
+            names: files,
+            recursive,
+            force,
+        }),
+        Task::Cover => Request::Cover(files),
+        Task::Export(form) => Request::Export(Export {
+            form,
+            original,
+            files,
+        }),
+        Task::Page(folder) => Request::Page(target(folder), named(files, "--page")?),
+        task => return of_one_file(task, fits, files, json),
+    })
+}
+
+/// The request of a task that takes one file.
+fn of_one_file(task: Task, fits: bool, files: Vec<PathBuf>, json: bool) -> Result<Request, String> {
     let one = |files: Vec<PathBuf>| <[PathBuf; 1]>::try_from(files).ok();
     let wrong = |what: &str| Err(what.to_string());
     Ok(match task {
-        Task::Render => rendered(files, None, json),
-        Task::Into(folder) => rendered(
-            named(files, "--into")?,
-            Some(Target { folder, force }),
-            json,
-        ),
         Task::Sheet(_) if !fits => return wrong("--sheet SETTINGS goes with no other option"),
         Task::Sheet(settings) => match one(files) {
             Some([file]) => Request::Sheet { settings, file },
@@ -332,16 +395,8 @@ fn made(task: Task, fits: bool, given: Given) -> Result<Request, String> {
             Some([ours]) if fits => Request::Check { theirs, ours, json },
             _ => return wrong("--check THEIRS needs one FILE and no other option"),
         },
-        Task::Audit(folder) if files.is_empty() => Request::Audit { folder, json },
-        Task::Audit(_) => return wrong("--audit DIR takes no FILE"),
-        Task::Export(form) => Request::Export(Export {
-            form,
-            original,
-            files,
-        }),
         Task::FromBlif if files.len() < 2 => Request::FromBlif(files.into_iter().next()),
-        Task::FromBlif => return wrong("--from-blif takes one FILE"),
-        Task::Page(folder) => Request::Page(Target { folder, force }, named(files, "--page")?),
+        _ => return wrong("--from-blif takes one FILE"),
     })
 }
 

@@ -3,7 +3,7 @@
 use unloop::{hint, visible, Assignment, Block, Location, Refusal, Value};
 
 /// The entries of a cover that are told.
-const ENTRIES_TOLD: usize = 8;
+pub const ENTRIES_TOLD: usize = 8;
 
 /// The refusal that the program's output is, if it is one. No rendering begins so.
 pub fn refusal_in(output: &[u8]) -> Result<Option<Refusal>, String> {
