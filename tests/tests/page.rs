@@ -502,7 +502,8 @@ fn swollen_and_not_settled() {
         panic!("{page}")
     };
     assert!(lines.starts_with("x.net: swollen: "), "{lines}");
-    let unsettled = "\n  not settled with a = 1: z undefined\n  settles with a = 0";
+    let unsettled =
+        "\n  not settled with a = 1: z undefined\n  q waits for itself\n  settles with a = 0";
     assert_eq!(lines.matches(unsettled).count(), 1, "{lines}");
     let block = Block::from_words(&read(text.as_bytes(), usize::MAX).1);
     sheet_is_right(&page, &block, 1);
