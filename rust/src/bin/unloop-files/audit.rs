@@ -126,6 +126,33 @@ pub fn run(asked: &Audited, json: bool) -> ExitCode {
     })
 }
 
+/// What is found of an entry that has an original.
+pub struct Judged {
+    pub holds: bool,
+    /// In a few words.
+    pub state: String,
+    /// Each with the word that its line begins with.
+    pub facts: [(&'static str, Fact); 3],
+    /// Where some are lost: the command that stores today's, and whether they get weaker.
+    pub anew: Option<(String, bool)>,
+    pub block: Option<Block>,
+}
+
+/// Judges an entry by its files; `original` is the original's text.
+pub fn judged(base: &Path, entry: &Entry, original: &[u8]) -> Judged {
+    let found = audit(original, entry.out.as_deref(), entry.cover.as_deref());
+    let block = Block::read(original);
+    let weaker = !weaker(&found, entry, &block).is_empty();
+    let (holds, block) = (found.holds(), block.ok());
+    Judged {
+        holds,
+        state: state(holds, entry, block.as_ref()),
+        facts: Fact::all(&found, entry, block.as_ref()),
+        anew: (!holds).then(|| (anew(base, weaker), weaker)),
+        block,
+    }
+}
+
 fn told(base: &Path, entry: &Entry) -> Told {
     let name = original(&entry.name);
     let file = ("file", Json::text(&name));
@@ -137,25 +164,24 @@ fn told(base: &Path, entry: &Entry) -> Told {
             json: Json::Object(object([file, ("holds", Json::Bool(false)), why])),
         };
     };
-    let found = audit(original, entry.out.as_deref(), entry.cover.as_deref());
-    let block = Block::read(original);
-    let (holds, weaker) = (found.holds(), !weaker(&found, entry, &block).is_empty());
-    let block = block.ok();
-    let facts = Fact::all(&found, entry, block.as_ref());
-    let mut lines = vec![format!("{name}: {}", state(holds, entry, block.as_ref()))];
+    let Judged {
+        holds,
+        state,
+        facts,
+        anew,
+        block,
+    } = judged(base, entry, original);
+    let mut lines = vec![format!("{name}: {state}")];
     lines.extend(facts.iter().filter_map(|(what, fact)| fact.line(what)));
     let exclusions = block.as_ref().map(exclusions).unwrap_or_default();
     lines.extend(exclusions.iter().map(|line| format!("  {line}")));
     let mut fields = object([file, ("holds", Json::Bool(holds))]);
-    let [rendering, never, cover] = facts.map(|(_, fact)| fact.json());
-    fields.extend(object([
-        ("rendering", rendering),
-        ("never", never),
-        ("cover", cover),
-    ]));
+    let facts = facts.map(|(_, fact)| fact.json());
+    let facts = ["rendering", "never", "cover"].into_iter().zip(facts);
+    fields.extend(facts.map(|(name, fact)| (name.to_string(), fact)));
     fields.extend(block.as_ref().map(excluded).unwrap_or_default());
-    if !holds {
-        lines.push(format!("  to store it anew: {}", anew(base, weaker)));
+    if let Some((command, weaker)) = anew {
+        lines.push(format!("  to store it anew: {command}"));
         fields.extend(object([("weaker", Json::Bool(weaker))]));
     }
     Told {

@@ -77,6 +77,7 @@ fn answered(request: Request, program: Program) -> ExitCode {
         }) => Ok(export::run(form, original, &sources(files))),
         Request::FromBlif(file) => export::from_blif(file.map_or(Source::Input, Source::of)),
         Request::Page(target, files) => page::run(&target, files),
+        Request::AuditedPage(target, audited) => page::run_audited(&target, &audited),
     };
     done.unwrap_or_else(|reason| failed(&reason))
 }

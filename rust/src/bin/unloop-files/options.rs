@@ -45,6 +45,7 @@ pub enum Request {
     Export(Export),
     FromBlif(Option<PathBuf>),
     Page(Target, Vec<PathBuf>),
+    AuditedPage(Target, Audited),
 }
 
 /// Entries of catalogues: those of folders, and of files.
@@ -173,7 +174,7 @@ fn reads(given: &Given) -> Result<Vec<PathBuf>, String> {
 fn written(request: Request) -> Result<Request, String> {
     let silent = "writes nothing to standard output, so -o has no use";
     match request {
-        Request::Page(..) => Err(format!("--page DIR {silent}")),
+        Request::Page(..) | Request::AuditedPage(..) => Err(format!("--page DIR {silent}")),
         Request::Render {
             into: Some(_),
             json: false,
@@ -284,6 +285,9 @@ impl Given {
 }
 
 fn request(mut given: Given) -> Result<Request, String> {
+    if let Some((folder, first)) = page_of_an_audit(&given.tasks) {
+        return audited_page(folder, first, given);
+    }
     let mut tasks = given.tasks.drain(..);
     let task = tasks.next().unwrap_or_default();
     let other = tasks.next();
@@ -319,6 +323,35 @@ fn request(mut given: Given) -> Result<Request, String> {
     made(task, other.is_none() && fits, given)
 }
 
+/// The two tasks that go together: the folder of the page, and the audit's first path.
+fn page_of_an_audit(tasks: &[Task]) -> Option<(PathBuf, PathBuf)> {
+    match tasks {
+        [Task::Page(folder), Task::Audit(first)] | [Task::Audit(first), Task::Page(folder)] => {
+            Some((folder.clone(), first.clone()))
+        }
+        _ => None,
+    }
+}
+
+/// The page of what an audit finds.
+fn audited_page(folder: PathBuf, first: PathBuf, given: Given) -> Result<Request, String> {
+    if given.json || given.quiet || given.original {
+        let what = "--page DIR with --audit PATH goes with --force and --recursive alone";
+        return Err(what.to_string());
+    }
+    let force = given.force;
+    let audited = audited(first, given)?;
+    Ok(Request::AuditedPage(Target { folder, force }, audited))
+}
+
+fn audited(first: PathBuf, given: Given) -> Result<Audited, String> {
+    Ok(Audited {
+        paths: named([vec![first], given.files].concat(), "--audit")?,
+        recursive: given.recursive,
+        quiet: given.quiet,
+    })
+}
+
 /// What some options need to have a meaning.
 fn modified(task: &Task, given: &Given) -> Result<(), String> {
     let wrong = |what: &str| Err(what.to_string());
@@ -339,41 +372,26 @@ fn modified(task: &Task, given: &Given) -> Result<(), String> {
 
 /// The request of a task; `fits`: no other option stands in its way.
 fn made(task: Task, fits: bool, given: Given) -> Result<Request, String> {
-    let Given {
-        files,
-        force,
-        json,
-        original,
-        recursive,
-        quiet,
-        ..
-    } = given;
+    let (force, json) = (given.force, given.json);
     let target = |folder| Target { folder, force };
     Ok(match task {
-        Task::Render => rendered(files, None, json),
-        Task::Into(folder) => rendered(named(files, "--into")?, Some(target(folder)), json),
-        Task::Audit(first) => {
-            let audited = Audited {
-                paths: named([vec![first], files].concat(), "--audit")?,
-                recursive,
-                quiet,
-            };
-            Request::Audit(audited, json)
-        }
+        Task::Render => rendered(given.files, None, json),
+        Task::Into(folder) => rendered(named(given.files, "--into")?, Some(target(folder)), json),
+        Task::Audit(first) => Request::Audit(audited(first, given)?, json),
         Task::Store(folder) => Request::Store(Store {
             folder,
-            names: files,
-            recursive,
+            names: given.files,
+            recursive: given.recursive,
             force,
         }),
-        Task::Cover => Request::Cover(files),
+        Task::Cover => Request::Cover(given.files),
         Task::Export(form) => Request::Export(Export {
             form,
-            original,
-            files,
+            original: given.original,
+            files: given.files,
         }),
-        Task::Page(folder) => Request::Page(target(folder), named(files, "--page")?),
-        task => return of_one_file(task, fits, files, json),
+        Task::Page(folder) => Request::Page(target(folder), named(given.files, "--page")?),
+        task => return of_one_file(task, fits, given.files, json),
     })
 }
 

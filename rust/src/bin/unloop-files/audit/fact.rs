@@ -46,6 +46,11 @@ impl Fact {
         why.map(|why| format!("  {what}: {why}"))
     }
 
+    /// In a word: `holds`, or how it is lost.
+    pub fn state(&self) -> &'static str {
+        self.state
+    }
+
     /// Why it is lost, in words.
     pub fn why(&self) -> Option<&str> {
         self.why.as_deref()
