@@ -384,8 +384,12 @@ fn json_and_errors() {
     let error = "unloop: d: no NAME.net, NAME.out or NAME.cover is in it\n";
     scratch.put("d/x", "");
     told(run(&scratch, &["--audit", "d"]), 2, "", error);
-    let error = "unloop: --audit needs a FILE: standard input has no name (see --help)\n";
+    let error = "unloop: --audit needs a PATH: standard input has no name (see --help)\n";
     told(run(&scratch, &["--audit", ".", "-"]), 2, "", error);
+    told(run(&scratch, &["--audit"]), 2, "", error);
+    for words in [&["--audit", "--json", "."][..], &["--json", "--audit=."]] {
+        told(run(&scratch, words), 0, object, "");
+    }
 }
 
 /// Folders and files, any number; an entry is told once, by any of its files, and where all but one are gone too.

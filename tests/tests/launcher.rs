@@ -93,7 +93,7 @@ fn folders_and_names() {
     for words in [
         &["--store", "/", "name"][..],
         &["--audit", "/", "/", "gone.net"],
-        &["--audit", "gone.cover"],
+        &["--audit=gone.cover"],
     ] {
         let scratch = repository();
         let ended = run(&scratch, words);
@@ -332,6 +332,7 @@ fn arguments_are_looked_at_first() {
         &["--sheet", "none", "a.net"],
         &["--check=none", "a.net"],
         &["--audit=none"],
+        &["--audit", "none"],
         &["--store=none"],
         &["a\n\x1b.net"],
     ] {

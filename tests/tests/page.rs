@@ -626,7 +626,7 @@ fn lost_facts(page: &str) {
 #[test]
 fn audited_alone() {
     let scratch = with(&[("d/a.net", "(in a)\n"), ("d/a.cover", "always\n")]);
-    let why = "--page DIR with --audit PATH goes with --force and --recursive alone (see --help)";
+    let why = "--page DIR with --audit goes with --force and --recursive alone (see --help)";
     for other in ["--quiet", "--json", "--original"] {
         let ended = run(&scratch, &["--page", "out", other, "--audit", "d"]);
         told(ended, 2, "", &format!("unloop: {why}\n"));

@@ -341,14 +341,14 @@ fn bad_usage() {
             &["--store", "d", "--json"][..],
             "--store DIR doesn't go with --force or --json",
         ),
-        (&["--store", "d", "--quiet"], "--quiet needs --audit PATH"),
+        (&["--store", "d", "--quiet"], "--quiet needs --audit"),
         (
             &["--store", "d", "--recursive", "a"],
             "--recursive goes with no NAME",
         ),
         (
             &["--recursive", "d/a.net"],
-            "--recursive needs --audit PATH or --store DIR",
+            "--recursive needs --audit or --store DIR",
         ),
     ] {
         told(

@@ -90,7 +90,7 @@ enum Task {
     Sheet(PathBuf),
     RunCells(PathBuf),
     Check(PathBuf),
-    Audit(PathBuf),
+    Audit,
     Store(PathBuf),
     Cover,
     Export(Form),
@@ -106,7 +106,7 @@ impl Task {
             Task::Sheet(_) => "--sheet SETTINGS",
             Task::RunCells(_) => "--run-cells SETTINGS",
             Task::Check(_) => "--check THEIRS",
-            Task::Audit(_) => "--audit PATH",
+            Task::Audit => "--audit",
             Task::Store(_) => "--store DIR",
             Task::Cover => "--cover",
             Task::Export(Form::Verilog) => "--verilog",
@@ -236,6 +236,11 @@ fn given(mut words: impl Iterator<Item = OsString>) -> Result<Given, String> {
         let unknown = || format!("unknown option {}", shown(word.as_ref()));
         let Listed { name, needs } = given_as.to_str().and_then(listed).ok_or_else(unknown)?;
         let operand = match (needs, value) {
+            // As if it stood behind it.
+            (None, Some(path)) if name == "--audit" => {
+                given.files.push(path.into());
+                PathBuf::new()
+            }
             (None, Some(_)) => return Err(format!("{} takes no value", shown(given_as.as_ref()))),
             (None, None) => PathBuf::new(),
             (Some(_), Some(value)) => value.into(),
@@ -269,7 +274,7 @@ impl Given {
                 "--sheet" => Task::Sheet(operand),
                 "--run-cells" => Task::RunCells(operand),
                 "--check" => Task::Check(operand),
-                "--audit" => Task::Audit(operand),
+                "--audit" => Task::Audit,
                 "--store" => Task::Store(operand),
                 "--cover" => Task::Cover,
                 "--page" => Task::Page(operand),
@@ -285,8 +290,8 @@ impl Given {
 }
 
 fn request(mut given: Given) -> Result<Request, String> {
-    if let Some((folder, first)) = page_of_an_audit(&given.tasks) {
-        return audited_page(folder, first, given);
+    if let Some(folder) = page_of_an_audit(&given.tasks) {
+        return audited_page(folder, given);
     }
     let mut tasks = given.tasks.drain(..);
     let task = tasks.next().unwrap_or_default();
@@ -295,7 +300,7 @@ fn request(mut given: Given) -> Result<Request, String> {
     let writes = matches!(task, Task::Into(_) | Task::Page(_) | Task::Store(_));
     let reports = matches!(
         task,
-        Task::Render | Task::Into(_) | Task::Check(_) | Task::Audit(_)
+        Task::Render | Task::Into(_) | Task::Check(_) | Task::Audit
     );
     let fits = (writes || !given.force) && (reports || !given.json);
     match task {
@@ -323,30 +328,32 @@ fn request(mut given: Given) -> Result<Request, String> {
     made(task, other.is_none() && fits, given)
 }
 
-/// The two tasks that go together: the folder of the page, and the audit's first path.
-fn page_of_an_audit(tasks: &[Task]) -> Option<(PathBuf, PathBuf)> {
+/// The folder of the page, where it is asked for with an audit: the two tasks that go together.
+fn page_of_an_audit(tasks: &[Task]) -> Option<PathBuf> {
     match tasks {
-        [Task::Page(folder), Task::Audit(first)] | [Task::Audit(first), Task::Page(folder)] => {
-            Some((folder.clone(), first.clone()))
+        [Task::Page(folder), Task::Audit] | [Task::Audit, Task::Page(folder)] => {
+            Some(folder.clone())
         }
         _ => None,
     }
 }
 
 /// The page of what an audit finds.
-fn audited_page(folder: PathBuf, first: PathBuf, given: Given) -> Result<Request, String> {
+fn audited_page(folder: PathBuf, given: Given) -> Result<Request, String> {
     if given.json || given.quiet || given.original {
-        let what = "--page DIR with --audit PATH goes with --force and --recursive alone";
+        let what = "--page DIR with --audit goes with --force and --recursive alone";
         return Err(what.to_string());
     }
-    let force = given.force;
-    let audited = audited(first, given)?;
-    Ok(Request::AuditedPage(Target { folder, force }, audited))
+    let target = Target {
+        folder,
+        force: given.force,
+    };
+    Ok(Request::AuditedPage(target, audited(given)?))
 }
 
-fn audited(first: PathBuf, given: Given) -> Result<Audited, String> {
+fn audited(given: Given) -> Result<Audited, String> {
     Ok(Audited {
-        paths: named([vec![first], given.files].concat(), "--audit")?,
+        paths: named(given.files, "--audit")?,
         recursive: given.recursive,
         quiet: given.quiet,
     })
@@ -361,11 +368,11 @@ fn modified(task: &Task, given: &Given) -> Result<(), String> {
         _ => {}
     }
     match task {
-        Task::Audit(_) => Ok(()),
-        _ if given.quiet => wrong("--quiet needs --audit PATH"),
+        Task::Audit => Ok(()),
+        _ if given.quiet => wrong("--quiet needs --audit"),
         Task::Store(_) if given.files.is_empty() => Ok(()),
         Task::Store(_) if given.recursive => wrong("--recursive goes with no NAME"),
-        _ if given.recursive => wrong("--recursive needs --audit PATH or --store DIR"),
+        _ if given.recursive => wrong("--recursive needs --audit or --store DIR"),
         _ => Ok(()),
     }
 }
@@ -377,7 +384,7 @@ fn made(task: Task, fits: bool, given: Given) -> Result<Request, String> {
     Ok(match task {
         Task::Render => rendered(given.files, None, json),
         Task::Into(folder) => rendered(named(given.files, "--into")?, Some(target(folder)), json),
-        Task::Audit(first) => Request::Audit(audited(first, given)?, json),
+        Task::Audit => Request::Audit(audited(given)?, json),
         Task::Store(folder) => Request::Store(Store {
             folder,
             names: given.files,
@@ -424,8 +431,11 @@ fn rendered(files: Vec<PathBuf>, into: Option<Target>, json: bool) -> Request {
 
 /// The files, of which there must be one at least.
 fn named(files: Vec<PathBuf>, option: &str) -> Result<Vec<PathBuf>, String> {
+    let what = if option == "--audit" { "PATH" } else { "FILE" };
     match files.is_empty() || files.iter().any(|file| is_input(file)) {
-        true => Err(format!("{option} needs a FILE: standard input has no name")),
+        true => Err(format!(
+            "{option} needs a {what}: standard input has no name"
+        )),
         false => Ok(files),
     }
 }
