@@ -241,10 +241,15 @@ fn cells() {
     assert_eq!(scratch.get("smallest.cells").as_bytes(), table);
     let same = "1 entry: 0 stored, 1 as before\n";
     told(run(&scratch, &["--store", "."]), 0, same, "");
-    scratch.put("smallest.net", catalogue("latch.net"));
-    let ended = run(&scratch, &["--store", ".", "--force"]);
-    let output = String::from_utf8(ended.stdout).unwrap();
-    assert!(output.contains("; cells are gone\n"), "{output}");
+    // A refusal has none, and nothing is removed without a word.
+    put_entry(&scratch, "smallest", "latch");
+    let gone = "smallest: cells are gone\n  weaker: what is refused has no cells\n";
+    let weaker = "1 entry: 0 stored, 0 as before, 1 weaker and not stored without --force\n";
+    let output = format!("{gone}{weaker}");
+    told(run(&scratch, &["--store", "."]), 1, &output, "");
+    assert_eq!(scratch.get("smallest.cells").as_bytes(), table);
+    let output = format!("{gone}1 entry: 1 stored, 0 as before\n");
+    told(run(&scratch, &["--store", ".", "--force"]), 0, &output, "");
     assert_eq!(
         scratch.names("."),
         ["smallest.cover", "smallest.net", "smallest.out"]

@@ -177,19 +177,22 @@ fn plan(program: &Program, base: &Path) -> Result<Plan, String> {
         files.push((path(COVER), cover));
     }
     let mut changes = changes(&found, &entry, &block, answer);
+    let mut weaker = weaker(&found, &entry, &block);
     if let Some((told, cells)) = cells(base, &entry, &block) {
+        let gone = "what is refused has no cells".to_string();
+        weaker.extend(cells.is_none().then_some(gone));
         changes.push(told);
         files.push((path(CELLS), cells));
     }
     files.retain(|(path, content)| content.is_some() || path.symlink_metadata().is_ok());
     Ok(Plan {
         changes,
-        weaker: weaker(&found, &entry, &block),
+        weaker,
         files,
     })
 }
 
-/// The table of cells, where there is one and it is another: it is that of the program's rendering, and goes where there is none.
+/// The table of cells, where one is stored that doesn't hold: that of the program's rendering, or none where the original is refused.
 fn cells(
     base: &Path,
     entry: &Entry,
@@ -201,9 +204,14 @@ fn cells(
     let table = rendering.and_then(|block| cell_table(&block, &module_name(&stem)).ok());
     match table.map(String::into_bytes) {
         None => Some(("cells are gone".to_string(), None)),
-        Some(table) if table == *stored => None,
-        table => Some(("cells anew".to_string(), table)),
+        Some(today) if cells_hold(stored, &today) => None,
+        today => Some(("cells anew".to_string(), today)),
     }
+}
+
+/// Whether a stored table holds, beside today's. It does where it is the same text; what CompareCells says of another one belongs here.
+fn cells_hold(stored: &[u8], today: &[u8]) -> bool {
+    stored == today
 }
 
 /// What changes, in words; `answer`: what the program says today, where that is stored.
