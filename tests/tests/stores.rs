@@ -9,7 +9,7 @@ use simulator::generate::{for_blocks, Report, Size};
 use simulator::write;
 use std::fs;
 use std::os::unix::fs::symlink;
-use std::process::Stdio;
+use std::process::{Command, Stdio};
 use std::thread::sleep;
 use std::time::Instant;
 
@@ -386,6 +386,29 @@ fn files_that_cannot_be_replaced() {
     );
 }
 
+/// It is ended by the system in the midst of a file, since no file may have more than 1,024 bytes: what was there stays.
+#[test]
+fn ended_within_a_file() {
+    let (old, new) = ("(in a)\n(out y a)\n", catalogue("scaler.out"));
+    assert!(new.len() > 1_024);
+    let scratch = with(&[("x.net", &catalogue("scaler.net")), ("x.out", old)]);
+    let unlimited = run(&scratch, &["--version"]);
+    assert!(unlimited.status.success());
+    let limited = |script: &str| {
+        let mut shell = Command::new("bash");
+        let command = root().join("bin/unloop");
+        let shell = shell.args(["-c", script]).arg(command);
+        ended(shell.current_dir(scratch.path(".")), b"")
+    };
+    let cut = limited("ulimit -f 1; exec \"$0\" --store .");
+    assert!(!cut.status.success(), "{cut:?}");
+    assert_eq!(scratch.get("x.out"), old);
+    assert!(!scratch.path("x.cover").exists());
+    let whole = limited("exec \"$0\" --store .");
+    assert!(whole.status.success(), "{whole:?}");
+    assert_eq!(scratch.get("x.out"), new);
+}
+
 /// Whenever it is ended, each file is the one before or the one behind, as a whole.
 #[test]
 fn interrupted() {
@@ -417,10 +440,10 @@ fn interrupted() {
     assert!(child.wait().unwrap().success());
     let time = start.elapsed();
     assert_eq!(whole(&scratch), entries.len());
-    for step in 0..15 {
+    for step in 0..10 {
         let scratch = Scratch::new();
         let (_, mut child) = begun(&scratch);
-        sleep(time * step / 12);
+        sleep(time * step / 8);
         child.kill().unwrap();
         child.wait().unwrap();
         let replaced = whole(&scratch);
