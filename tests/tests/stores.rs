@@ -262,30 +262,30 @@ fn what_cannot_be_read() {
     let scratch = with(&[]);
     put_entry(&scratch, "x", "smallest");
     scratch.put("x.net", "(in s)");
-    let change = "x: cover always → gone; rendered → refused with 2 form\n\
-                  \x20 weaker: a rendering becomes refused with 2 form\n\
-                  \x20 weaker: an original that can't be read has no cover\n";
-    let weaker = "1 entry: 0 stored, 0 as before, 1 weaker and not stored without --force\n";
-    told(
-        run(&scratch, &["--store", "."]),
-        1,
-        &format!("{change}{weaker}"),
-        "",
+    let weaker = |change: &str| {
+        let summary = "1 entry: 0 stored, 0 as before, 1 weaker and not stored without --force\n";
+        let ended = run(&scratch, &["--store", "."]);
+        told(ended, 1, &format!("{change}{summary}"), "");
+    };
+    weaker(
+        "x: cover always → gone; rendered → refused with 2 form\n\
+         \x20 weaker: a rendering becomes refused with 2 form\n\
+         \x20 weaker: an original that can't be read has no cover\n",
     );
-    assert_eq!(
-        run(&scratch, &["--store", ".", "--force"]).status.code(),
-        Some(0)
-    );
+    let ended = run(&scratch, &["--store", ".", "--force"]);
+    assert_eq!(ended.status.code(), Some(0));
     assert_eq!(scratch.names("."), ["x.net", "x.out"]);
     put_entry(&scratch, "x", "latch");
     scratch.put("x.cover", "set\n");
-    let change = "x: cover set → set = 1 | reset = 1\n\
-                  \x20 weaker: what the stored cover says can't be read, line 1: not PIN = 0 or PIN = 1: set\n";
-    told(
-        run(&scratch, &["--store", "."]),
-        1,
-        &format!("{change}{weaker}"),
-        "",
+    weaker(
+        "x: cover set → set = 1 | reset = 1\n\
+         \x20 weaker: what the stored cover says can't be read, line 1: not PIN = 0 or PIN = 1: set\n",
+    );
+    put_entry(&scratch, "x", "mode-pins");
+    scratch.put("x.cover", "never\nalways\n");
+    weaker(
+        "x: never lines anew (line 1: it names no pin)\n\
+         \x20 weaker: what the stored never lines say can't be read, line 1: it names no pin\n",
     );
     // Nothing is stronger than this one.
     put_entry(&scratch, "x", "smallest");
@@ -305,17 +305,14 @@ fn names_folders_and_errors() {
         ("n/README", ""),
     ]);
     let new = |name: &str| format!("{name}: new; cover always; rendered\n");
-    let stored = |count: usize| match count {
-        1 => "1 entry: 1 stored, 0 as before\n".to_string(),
-        _ => format!("{count} entries: {count} stored, 0 as before\n"),
-    };
-    let output = new("b.c") + &stored(1);
+    let stored = "1 entry: 1 stored, 0 as before\n";
+    let output = new("b.c") + stored;
     told(run(&scratch, &["--store", "d", "b.c"]), 0, &output, "");
     assert_eq!(
         scratch.names("d"),
         ["a.net", "b.c.cover", "b.c.net", "b.c.out", "e", "g.out"]
     );
-    let output = new("a") + &stored(1);
+    let output = new("a") + stored;
     told(run(&scratch, &["--store", "d", "a.net"]), 0, &output, "");
     let output = new("e/f") + "3 entries: 1 stored, 2 as before\n";
     told(

@@ -228,6 +228,9 @@ fn changes(
     told.extend(found.ports.in_words("port"));
     match (&found.never, block) {
         (Never::Changed(changes), Ok(block)) => told.extend(promised_lines(changes, block)),
+        (Never::Illegible { line, reason }, _) => {
+            told.push(format!("never lines anew (line {line}: {reason})"));
+        }
         (Never::Missing, Ok(block)) => {
             let (names, lines) = (block.input_names(), block.never_lines());
             told.extend(lines.iter().map(|line| line.never_line(&names)));

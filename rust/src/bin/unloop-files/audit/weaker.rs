@@ -37,13 +37,16 @@ pub fn becomes_refusal(
 
 fn never(found: &Never, block: &Result<Block, Refusal>) -> Option<String> {
     let block = block.as_ref().ok()?;
-    let more = match found {
-        Never::Changed(changes) => changes.more_settings,
-        Never::Illegible { .. } => block.excluded_settings() > 0,
-        _ => false,
-    };
     let (excluded, all) = (block.excluded_settings(), 1 << block.inputs());
-    more.then(|| format!("more settings are promised never to come, now {excluded} of {all}"))
+    match found {
+        Never::Changed(changes) if changes.more_settings => Some(format!(
+            "more settings are promised never to come, now {excluded} of {all}"
+        )),
+        Never::Illegible { line, reason } if excluded > 0 => Some(format!(
+            "what the stored never lines say can't be read, line {line}: {reason}"
+        )),
+        _ => None,
+    }
 }
 
 fn cover(found: &Cover, block: &Result<Block, Refusal>) -> Option<String> {
