@@ -1,5 +1,7 @@
 //! The processor time of this thread, and of children. Time on the wall also has what other work on the machine took, which made ratios of long calls
-//! vary by a factor of two. Reading it costs a fraction of a microsecond.
+//! vary by a factor of two. Reading it costs a fraction of a microsecond, so short calls are measured many at a time.
+
+use std::hint::black_box;
 
 /// C's `struct timespec` on 64-bit Linux.
 #[repr(C)]
@@ -29,7 +31,7 @@ const CLOCK_THREAD_CPUTIME_ID: i32 = 3;
 const RUSAGE_CHILDREN: i32 = -1;
 
 /// Seconds of processor time that this thread has had.
-pub fn seconds() -> f64 {
+fn seconds() -> f64 {
     let mut time = Timespec {
         seconds: 0,
         nanoseconds: 0,
@@ -38,6 +40,27 @@ pub fn seconds() -> f64 {
     let failed = unsafe { clock_gettime(CLOCK_THREAD_CPUTIME_ID, &mut time) };
     assert_eq!(failed, 0, "no clock of the thread's processor time");
     time.seconds as f64 + 1e-9 * time.nanoseconds as f64
+}
+
+/// Short calls are repeated until they take so long together, hundreds of times what the clock takes.
+const STRETCH: f64 = 200e-6;
+
+/// How many calls make a stretch that is long enough to be measured.
+pub fn calls_in_a_stretch<R>(mut call: impl FnMut() -> R) -> usize {
+    let mut calls = 1;
+    while calls as f64 * seconds_of_a_call(calls, &mut call) < STRETCH {
+        calls *= 2;
+    }
+    calls
+}
+
+/// Seconds of processor time of one call, from so many.
+pub fn seconds_of_a_call<R>(calls: usize, mut call: impl FnMut() -> R) -> f64 {
+    let start = seconds();
+    for _ in 0..calls {
+        black_box(call());
+    }
+    (seconds() - start) / calls as f64
 }
 
 /// Seconds of processor time that the children of this process, and theirs, had until they ended.

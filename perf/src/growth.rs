@@ -7,7 +7,7 @@ mod chart;
 mod picture;
 
 use crate::program::load;
-use blocks::{crossed, grown_texts, FAMILIES, FEW_INPUTS, MIDDLE};
+use blocks::{crossed, grown_texts, Family, FAMILIES, FEW_INPUTS, MIDDLE};
 use calls::{on_block, on_records, on_settings, on_straight, on_text, Call};
 use chart::{Chart, Curve};
 use simulator::executed::root;
@@ -60,7 +60,7 @@ fn chart(
     }
 }
 
-fn by_gates((name, block): &(&str, fn(usize, usize) -> Vec<u16>)) -> Chart {
+fn by_gates((name, block): &Family) -> Chart {
     let straight = *name == FAMILIES[0].0;
     let title = format!("{name}, {FEW_INPUTS} inputs");
     chart(title, "gates", &doubled(32, GATES), |gates| {

@@ -1,9 +1,10 @@
 //! What the operations are measured on.
 
+use crate::operations::Two;
 use simulator::block::{Block, Gate, Kind, Source};
 use simulator::executed::root;
 use simulator::generate::{for_typical_blocks, large, long_texts, longest_written, widest_cover};
-use simulator::limits::{BLOCK_WORDS, GATES, WRITTEN_BYTES};
+use simulator::limits::{BLOCK_WORDS, CELL_WORDS, GATES, OLD_INPUTS, TEXT_BYTES, WRITTEN_BYTES};
 use std::fs;
 use std::ops::Range;
 use unloop::raw;
@@ -26,37 +27,77 @@ pub fn blocks(largest: &[&str]) -> Vec<Set<Vec<u16>>> {
         .collect()
 }
 
+/// Each input of these sets as another one, where it has one.
+fn mapped<I, J>(sets: Vec<Set<I>>, other: impl Fn(I) -> Option<J>) -> Vec<Set<J>> {
+    let set = |(name, inputs): Set<I>| (name, inputs.into_iter().filter_map(&other).collect());
+    sets.into_iter().map(set).collect()
+}
+
 /// The same as they were stored before there were never lines.
 pub fn old_blocks(largest: &[&str]) -> Vec<Set<Vec<u16>>> {
-    let old = |words: Vec<u16>| Block::from_words(&words).to_old_words();
-    let set = |(name, words): Set<Vec<u16>>| (name, words.into_iter().map(old).collect());
-    blocks(largest).into_iter().map(set).collect()
+    mapped(blocks(largest), |words| {
+        Some(Block::from_words(&words).to_old_words())
+    })
 }
 
 /// The same with a setting each, all inputs 1.
 pub fn settings(largest: &[&str]) -> Vec<Set<UnderSetting>> {
-    let ones = |words: Vec<u16>| {
-        let setting = vec![1; usize::from(words[0])];
-        (words, setting)
-    };
-    let set = |(name, words): Set<Vec<u16>>| (name, words.into_iter().map(ones).collect());
-    blocks(largest).into_iter().map(set).collect()
+    mapped(blocks(largest), |words| Some(under_ones(words)))
 }
 
-/// The renderings of the typical blocks, and large straight blocks, with a setting each.
-pub fn straight(largest: &[&str]) -> Vec<Set<UnderSetting>> {
-    let mut sets = settings(largest);
-    sets[0] = ("typical-rendered".to_string(), Vec::new());
-    for words in typical() {
-        let setting = vec![1; usize::from(words[0])];
-        sets[0]
-            .1
-            .extend(rendered(&words).map(|words| (words, setting)));
-    }
+fn under_ones(words: Vec<u16>) -> UnderSetting {
+    let setting = vec![1; usize::from(words[0])];
+    (words, setting)
+}
+
+/// The renderings of the typical blocks, and large straight blocks.
+pub fn straight(largest: &[&str]) -> Vec<Set<Vec<u16>>> {
+    let mut sets = blocks(largest);
+    let renderings = typical().into_iter().filter_map(|words| rendered(&words));
+    sets[0] = ("typical-rendered".to_string(), renderings.collect());
     sets
 }
 
-fn rendered(words: &[u16]) -> Option<Vec<u16>> {
+/// The same with a setting each, all inputs 1.
+pub fn straight_settings(largest: &[&str]) -> Vec<Set<UnderSetting>> {
+    mapped(straight(largest), |words| Some(under_ones(words)))
+}
+
+/// The cells of straight blocks, with a setting each, all inputs 1.
+pub fn cells(largest: &[&str]) -> Vec<Set<UnderSetting>> {
+    mapped(straight_settings(largest), |(words, setting)| {
+        Some((cells_of(&words), setting))
+    })
+}
+
+/// The cells of a straight block.
+pub fn cells_of(words: &[u16]) -> Vec<u16> {
+    let mut cells = vec![0; CELL_WORDS * GATES];
+    let told = raw::cells(words, &mut cells);
+    assert_eq!(told.number, 0, "straight");
+    cells.truncate(told.count);
+    cells
+}
+
+/// Blocks and what Render makes of them; without those that it refuses.
+pub fn with_renderings(largest: &[&str]) -> Vec<Set<Two>> {
+    mapped(blocks(largest), |words| {
+        rendered(&words).map(|rendered| (words, rendered))
+    })
+}
+
+/// What Gather makes of blocks: other blocks, and the lists of old numbers.
+pub fn gathered(largest: &[&str]) -> Vec<Set<Two>> {
+    mapped(blocks(largest), |words| {
+        let [mut gathered, mut order] =
+            [words.len(), usize::from(words[1])].map(|room| vec![0; room]);
+        let told = raw::gather(&words, &mut gathered, &mut order);
+        (told.number == 0).then_some((gathered, order))
+    })
+}
+
+/// What Render makes of a block, if it does.
+pub fn rendered(words: &[u16]) -> Option<Vec<u16>> {
     let mut rendered = vec![0; BLOCK_WORDS];
     let told = raw::render(words, &mut rendered);
     rendered.truncate(told.count);
@@ -71,6 +112,19 @@ pub fn texts() -> Vec<Set<Vec<u8>>> {
     std::iter::once(("typical".to_string(), typical))
         .chain(longest)
         .collect()
+}
+
+/// The texts of the typical blocks, and one line as long as a text may be, each with a place in its middle.
+pub fn places() -> Vec<Set<(Vec<u8>, usize)>> {
+    let typical = typical().iter().map(|words| written(words)).collect();
+    let sets = vec![
+        ("typical".to_string(), typical),
+        ("longest".to_string(), vec![vec![b'x'; TEXT_BYTES]]),
+    ];
+    mapped(sets, |text| {
+        let middle = text.len() / 2;
+        Some((text, middle))
+    })
 }
 
 /// The text of a block.
@@ -115,6 +169,7 @@ pub fn catalogue() -> Vec<Vec<u16>> {
 pub fn named(name: &str) -> Block {
     match name {
         "longest" => longest_written(),
+        "longest-before" => longest_before(),
         "most-entries" => widest_cover(),
         "two-way-row" => two_way_row(),
         _ => {
@@ -122,6 +177,13 @@ pub fn named(name: &str) -> Block {
             found.expect("a block of this name").1
         }
     }
+}
+
+/// The block with the longest text that Bring takes: it has ten inputs and no never lines.
+fn longest_before() -> Block {
+    let mut block = longest_written().without_nevers();
+    block.inputs.truncate(OLD_INPUTS);
+    block
 }
 
 /// The first of the straight gates of four operands, over the first inputs; the outputs show the last gates.

@@ -4,6 +4,7 @@ pub mod archive;
 mod clock;
 pub mod growth;
 pub mod inputs;
+pub mod lines;
 pub mod measure;
 pub mod operations;
 pub mod plain;

@@ -11,6 +11,8 @@ pub struct Line {
     pub name: String,
     pub library: f64,
     pub plain: f64,
+    /// How many of the inputs are refused.
+    pub refused: usize,
 }
 
 impl Line {
@@ -38,35 +40,62 @@ impl<I, T: Copy + PartialEq + Debug> Operation<I, T> {
     /// The times on the inputs of a set, in sum. Panics where the programs differ.
     pub fn measured(&self, set: &str, inputs: &[I]) -> Line {
         let name = format!("{}/{set}", self.name);
-        let (mut library, mut plain) = (f64::MAX, f64::MAX);
+        let answered = |input| self.answered(&name, input);
+        let refused = inputs.iter().map(answered).filter(|told| told.number != 0);
+        let refused = refused.count();
+        let programs = [self.library, self.plain];
+        let calls: Vec<[usize; 2]> = inputs
+            .iter()
+            .map(|input| {
+                programs.map(|run| self.run(run, input, |call| clock::calls_in_a_stretch(call)))
+            })
+            .collect();
+        let mut best = [f64::MAX; 2];
         let start = Instant::now();
         for repetition in 1.. {
-            let (mut library_took, mut plain_took) = (0.0, 0.0);
-            for input in inputs {
-                let proved = self.timed(self.library, input, &mut library_took);
-                let other = self.timed(self.plain, input, &mut plain_took);
-                assert!(proved == other, "{name}: {:?}, {:?}", proved.0, other.0);
+            let mut took = [0.0; 2];
+            for (input, calls) in inputs.iter().zip(&calls) {
+                for i in 0..2 {
+                    let timed =
+                        |call: &mut dyn FnMut() -> Reply| clock::seconds_of_a_call(calls[i], call);
+                    took[i] += self.run(programs[i], input, timed);
+                }
             }
-            library = library_took.min(library);
-            plain = plain_took.min(plain);
+            best = [0, 1].map(|i| best[i].min(took[i]));
             let spent = start.elapsed();
             if spent > TOO_LONG || (repetition >= REPETITIONS && spent > ENOUGH) {
                 break;
             }
         }
+        let [library, plain] = best;
         Line {
             name,
             library,
             plain,
+            refused,
         }
     }
 
-    /// The answer and the slice after one call; the slice is filled before the clock starts.
-    fn timed(&self, run: fn(&I, &mut [T]) -> Reply, input: &I, took: &mut f64) -> (Reply, Vec<T>) {
+    /// What both programs answer.
+    fn answered(&self, name: &str, input: &I) -> Reply {
+        let [proved, other] = [self.library, self.plain].map(|run| {
+            let mut result = vec![self.filler; self.room];
+            (run(input, &mut result), result)
+        });
+        assert!(proved == other, "{name}: {:?}, {:?}", proved.0, other.0);
+        proved.0
+    }
+
+    /// Hands a call over to be timed; the slice is lent and filled before.
+    fn run<R>(
+        &self,
+        run: fn(&I, &mut [T]) -> Reply,
+        input: &I,
+        timed: impl FnOnce(&mut dyn FnMut() -> Reply) -> R,
+    ) -> R {
         let mut result = vec![self.filler; self.room];
-        let start = clock::seconds();
-        let told = black_box(run)(black_box(input), black_box(&mut result));
-        *took += clock::seconds() - start;
-        (told, black_box(result))
+        let timed = timed(&mut || black_box(run)(black_box(input), black_box(&mut result)));
+        black_box(result);
+        timed
     }
 }

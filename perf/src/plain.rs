@@ -1,26 +1,43 @@
-//! What the proved library does, written the straightforward way: plain safe Rust over the same words, texts and lent slices,
-//! with the same checks and refusals, and with vectors and the standard library's tables wherever they are handy.
+//! What the proved library does, as a good programmer would write it for speed: safe Rust over the same words, texts and lent slices, with the
+//! same checks and refusals. Gates are decoded once; Settle looks at the readers of what changed; whatever goes through all settings goes
+//! group by group, up to eight words of 64 settings a gate.
 
 mod bench;
-pub mod block;
+mod bits;
+mod block;
 mod bring;
+mod cells;
+mod compare;
 mod cover;
+mod decided;
+mod gate;
+mod gather;
 mod groups;
 mod lanes;
+mod line;
+mod names;
+mod pair;
 mod parse;
 mod read;
+mod readers;
 mod render;
 mod settle;
+mod sheet;
 mod verdict;
 mod write;
 
 pub use bench::bench;
 pub use bring::bring;
+pub use cells::{cells, run};
+pub use compare::compare;
 pub use cover::cover;
+pub use gather::{gather, scatter};
 pub use groups::groups;
+pub use line::line;
 pub use read::read;
 pub use render::render;
 pub use settle::{pass, settle};
+pub use sheet::sheet;
 pub use verdict::verdict;
 pub use write::write;
 

@@ -9,8 +9,11 @@ use simulator::limits::{GATES, INPUTS, TEXT_BYTES};
 pub const FEW_INPUTS: usize = 8;
 pub const MIDDLE: usize = 512;
 
-/// Blocks of so many inputs and gates, by name; those of the first are straight.
-pub const FAMILIES: [(&str, fn(usize, usize) -> Vec<u16>); 3] = [
+/// A name, and the block of so many inputs and gates.
+pub type Family = (&'static str, fn(usize, usize) -> Vec<u16>);
+
+/// The blocks of the first are straight.
+pub const FAMILIES: [Family; 3] = [
     ("straight gates that read the four before them", grown),
     ("a chain, each gate reads the next one", chained),
     ("one ring, each gate reads the one before", ringed),

@@ -1,8 +1,8 @@
 //! The program `bench`, line by line: the netlist read and kept as a list of gates, each set line parsed and settled.
 
-use super::block::{name_bytes, Block};
+use super::block::{name, Block};
 use super::read;
-use super::settle::settled_values;
+use super::settle::Network;
 use std::io::{self, BufRead, Write};
 
 /// Reads the whole input and writes each answer as soon as its line is read.
@@ -14,16 +14,23 @@ pub fn bench(mut input: impl BufRead, mut output: impl Write) -> io::Result<()> 
         writeln!(output, "(refused {} {})", told.number, told.detail)?;
         return output.flush();
     }
-    words.truncate(told.count as usize);
+    words.truncate(told.count);
     let block = Block::of(&words).expect("read");
-    let names: Vec<Vec<u8>> = block.inputs.iter().map(|words| name_of(words)).collect();
-    let ports = block.outputs.iter();
-    let ports: Vec<(Vec<u8>, usize)> = ports.map(|(port, node)| (name_of(port), *node)).collect();
+    let mut network = Network::of(&block);
+    let names: Vec<Vec<u8>> = block.names().map(bytes_of).collect();
+    let ports = block
+        .outputs
+        .iter()
+        .map(|output| bytes_of(name(&output[..4])));
+    let ports: Vec<(Vec<u8>, usize)> = ports.zip(block.shown()).collect();
     let longest = 4 + 13 * names.len() + 2;
     let mut line = Vec::new();
     while next_line(&mut input, &mut line, longest + 1)? {
         match setting(&line, &names) {
-            Ok(setting) => show(&mut output, &ports, &settled_values(&block, &setting).1)?,
+            Ok(setting) => {
+                network.settle(&setting);
+                show(&mut output, &ports, &network.values)?;
+            }
             Err((number, detail)) => writeln!(output, "(refused {number} {detail})")?,
         }
         output.flush()?;
@@ -67,9 +74,9 @@ fn next_line(input: &mut impl BufRead, line: &mut Vec<u8>, most: usize) -> io::R
     }
 }
 
-fn name_of(words: &[u16]) -> Vec<u8> {
-    let bytes = name_bytes(words);
-    bytes.iter().copied().take_while(|&b| b != 0).collect()
+fn bytes_of(name: u64) -> Vec<u8> {
+    let bytes = name.to_le_bytes().into_iter();
+    bytes.take_while(|&byte| byte != 0).collect()
 }
 
 /// A value for each input, or a refusal's number and detail.

@@ -11,7 +11,7 @@ pub fn bring(old: &[u16], block: &mut [u16]) -> Reply {
     };
     let words = [head, &[0], rest].concat();
     match Block::of(&words) {
-        Some(brought) if brought.inputs.len() <= 10 => handed_over(&words, words.len(), block),
+        Some(brought) if brought.n <= 10 => handed_over(&words, words.len(), block),
         _ => refused(6, 0),
     }
 }

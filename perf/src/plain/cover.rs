@@ -1,21 +1,41 @@
-//! Cover: soundness of every partial assignment from those that fix one input more, then those from which nothing can be dropped.
+//! Cover: for each mask the set of its sound assignments, from that of a mask with one input more; then those from which nothing can be
+//! dropped. The settings of the first six inputs are the bits of a word.
 
 use super::block::Block;
-use super::lanes::{Batches, LANES};
+use super::decided::Decided;
 use super::{handed_over, refused};
 use unloop::raw::Reply;
+
+/// How many inputs have their settings in one word, and how many masks they have.
+const LOW: usize = 6;
+const MASKS: usize = 1 << LOW;
+
+/// The sound assignments of each mask of the first six inputs, where the others are fixed or free. Only bits within the mask count.
+type Row = [u64; MASKS];
 
 /// Two words an entry; count: entries.
 pub fn cover(words: &[u16], entries: &mut [u16]) -> Reply {
     let Some(block) = Block::of(words) else {
         return refused(6, 0);
     };
-    let table = Table::of(&block);
+    let decided = Decided::of(&block);
+    if decided.lowest_undecided().is_none() {
+        return handed_over(&[0, 0], 1, entries);
+    }
+    let table = Table::of(&block, &decided);
     let mut result = Vec::new();
-    for mask in 0..=table.full {
-        for ones in parts(mask) {
-            if table.is_minimal(mask, ones) {
-                result.extend([mask as u16, ones as u16]);
+    for high in 0..=table.full {
+        let rows: Vec<(usize, Row)> = parts(high)
+            .map(|ones| (ones, table.minimal(high, ones)))
+            .collect();
+        for low in 0..1 << block.n.min(LOW) {
+            for (ones, row) in &rows {
+                let mut bits = row[low];
+                while bits != 0 {
+                    let ones = ones << LOW | bits.trailing_zeros() as usize;
+                    result.extend([(high << LOW | low) as u16, ones as u16]);
+                    bits &= bits - 1;
+                }
             }
         }
     }
@@ -28,31 +48,43 @@ fn parts(mask: usize) -> impl Iterator<Item = usize> {
     std::iter::successors(Some(0), next)
 }
 
-/// Whether each assignment is sound: digit i to base 3 is 0 where input i is free, else 1 more than its value.
+/// The inputs of a mask, as masks.
+fn bits(mask: usize) -> impl Iterator<Item = usize> {
+    (0..LOW)
+        .map(|input| 1 << input)
+        .filter(move |bit| mask & bit != 0)
+}
+
+/// A row for each assignment of the inputs behind the first six: digit i to base 3 is 0 where input 6 + i is free, else 1 more than its value.
 struct Table {
+    /// The mask of those inputs.
     full: usize,
     /// For each mask, the number to base 3 with the same digits.
     ternary: Vec<usize>,
-    sound: Vec<bool>,
+    rows: Vec<Row>,
+    /// For each mask of the first six inputs, the settings that are 0 outside it.
+    within: Row,
 }
 
 impl Table {
-    fn of(block: &Block) -> Table {
-        let n = block.inputs.len();
-        let full = (1 << n) - 1;
-        let digits = |mask: usize| (0..n).map(move |i| (mask >> i & 1) * 3_usize.pow(i as u32));
+    fn of(block: &Block, decided: &Decided) -> Table {
+        let more = block.n.saturating_sub(LOW);
+        let full = (1 << more) - 1;
+        let powers = |mask: usize| bits(mask).map(|bit| 3_usize.pow(bit.ilog2())).sum();
+        let spread = |set: u64, bit: usize| set | set << bit;
         let mut table = Table {
             full,
-            ternary: (0..=full).map(|mask| digits(mask).sum()).collect(),
-            sound: vec![false; 3_usize.pow(n as u32)],
+            ternary: (0..=full).map(powers).collect(),
+            rows: vec![[0; MASKS]; 3_usize.pow(more as u32)],
+            within: std::array::from_fn(|mask| bits(mask).fold(1, spread)),
         };
-        let undecided: Vec<u64> = Batches::of(block).map(|batch| batch.undecided).collect();
+        let least = (1 << block.n.min(LOW)) - 1;
         for mask in (0..=full).rev() {
             for ones in parts(mask) {
                 let at = table.at(mask, ones);
-                table.sound[at] = match mask == full {
-                    true => undecided[ones / LANES] >> (ones % LANES) & 1 == 0,
-                    false => table.is_sound_by_cases(mask, ones),
+                table.rows[at] = match mask == full {
+                    true => fixed(!decided.undecided[ones], least),
+                    false => table.by_cases(mask, ones),
                 };
             }
         }
@@ -63,16 +95,38 @@ impl Table {
         self.ternary[mask] + self.ternary[ones]
     }
 
-    /// Both values of the first free input.
-    fn is_sound_by_cases(&self, mask: usize, ones: usize) -> bool {
+    /// Sound under both values of the first free input.
+    fn by_cases(&self, mask: usize, ones: usize) -> Row {
         let free = 1 << mask.trailing_ones();
-        self.sound[self.at(mask | free, ones)] && self.sound[self.at(mask | free, ones | free)]
+        let [zero, one] = [ones, ones | free].map(|ones| &self.rows[self.at(mask | free, ones)]);
+        std::array::from_fn(|low| zero[low] & one[low])
     }
 
-    fn is_minimal(&self, mask: usize, ones: usize) -> bool {
-        let bits = (0..self.full.count_ones()).map(|i| 1 << i);
-        let mut fixed = bits.filter(|bit| mask & bit != 0);
-        self.sound[self.at(mask, ones)]
-            && fixed.all(|bit| !self.sound[self.at(mask & !bit, ones & !bit)])
+    /// Those that are sound with no fixed input dropped only.
+    fn minimal(&self, mask: usize, ones: usize) -> Row {
+        let sound = &self.rows[self.at(mask, ones)];
+        let mut row: Row = std::array::from_fn(|low| sound[low] & self.within[low]);
+        for bit in bits(mask) {
+            let dropped = &self.rows[self.at(mask & !bit, ones & !bit)];
+            (0..MASKS).for_each(|low| row[low] &= !dropped[low]);
+        }
+        for (low, set) in row.iter_mut().enumerate().filter(|(_, set)| **set != 0) {
+            for bit in bits(low) {
+                let dropped = sound[low & !bit] & self.within[low & !bit];
+                *set &= !(dropped | dropped << bit);
+            }
+        }
+        row
     }
+}
+
+/// The row where all inputs behind the first six are fixed: from the sound settings, one input after the other is freed.
+fn fixed(settings: u64, full: usize) -> Row {
+    let mut row = [0; MASKS];
+    row[full] = settings;
+    for mask in (0..full).rev() {
+        let free = 1 << mask.trailing_ones();
+        row[mask] = row[mask | free] & row[mask | free] >> free;
+    }
+    row
 }

@@ -1,37 +1,41 @@
-//! Recursive descent over the bytes of a text.
+//! Recursive descent over the bytes of a text, into a few lists that grow as a whole.
 
-use super::block::{is_name_byte, Kind};
+use super::block::{is_name_byte, ONE, ZERO};
+use super::gate::Kind;
 
+/// The bytes of a name as a number, the first byte lowest, and its place.
 #[derive(Clone, Copy)]
-pub struct Name<'a> {
+pub struct Name {
+    pub bytes: u64,
     pub place: usize,
-    pub bytes: &'a [u8],
 }
 
 #[derive(Clone, Copy)]
-pub enum Operand<'a> {
-    Constant(bool),
-    Named(Name<'a>),
-    Inner(usize),
+enum Operand {
+    Named(Name),
+    Word(u16),
 }
 
 #[derive(Default)]
-pub struct Netlist<'a> {
-    pub inputs: Vec<Name<'a>>,
-    /// The names and values of each never line.
-    pub nevers: Vec<Vec<(Name<'a>, bool)>>,
-    /// The kind and the operands of each gate, by closing bracket.
-    pub gates: Vec<(Kind, Vec<Operand<'a>>)>,
+pub struct Netlist {
+    pub inputs: Vec<Name>,
+    /// The names and values of all never lines, and where each line ends among them.
+    pub pairs: Vec<(Name, bool)>,
+    pub nevers: Vec<usize>,
+    /// The words of the gates, by closing bracket; 0 where a name is read.
+    pub gates: Vec<u16>,
+    /// The names that are read, each with the place of its word.
+    pub reads: Vec<(Name, usize)>,
     /// The gate lines' names and gates.
-    pub named: Vec<(Name<'a>, usize)>,
-    pub outputs: Vec<(Name<'a>, Name<'a>)>,
+    pub named: Vec<(Name, usize)>,
+    pub outputs: Vec<(Name, Name)>,
 }
 
 /// Fails with the place of the first byte that can't stand there.
 pub struct Parser<'a> {
     text: &'a [u8],
     place: usize,
-    pub netlist: Netlist<'a>,
+    pub netlist: Netlist,
 }
 
 #[derive(PartialEq, PartialOrd)]
@@ -56,13 +60,13 @@ impl<'a> Parser<'a> {
     }
 
     fn expect(&mut self, bytes: &[u8]) -> Result<(), usize> {
-        for &byte in bytes {
-            if self.peek() != Some(byte) {
-                return Err(self.place);
-            }
-            self.place += 1;
+        let rest = &self.text[self.place..];
+        if rest.starts_with(bytes) {
+            self.place += bytes.len();
+            return Ok(());
         }
-        Ok(())
+        let same = rest.iter().zip(bytes).take_while(|(a, b)| a == b);
+        Err(self.place + same.count())
     }
 
     pub fn lines(&mut self) -> Result<(), usize> {
@@ -99,16 +103,16 @@ impl<'a> Parser<'a> {
 
     fn never(&mut self) -> Result<(), usize> {
         self.expect(b"never ")?;
-        let mut pairs = vec![self.pair()?];
+        self.pair()?;
         while self.peek() == Some(b' ') {
             self.place += 1;
-            pairs.push(self.pair()?);
+            self.pair()?;
         }
-        self.netlist.nevers.push(pairs);
+        self.netlist.nevers.push(self.netlist.pairs.len());
         Ok(())
     }
 
-    fn pair(&mut self) -> Result<(Name<'a>, bool), usize> {
+    fn pair(&mut self) -> Result<(), usize> {
         self.expect(b"(")?;
         let name = self.name(true)?;
         self.expect(b" ")?;
@@ -117,7 +121,8 @@ impl<'a> Parser<'a> {
         };
         self.place += 1;
         self.expect(b")")?;
-        Ok((name, value == b'1'))
+        self.netlist.pairs.push((name, value == b'1'));
+        Ok(())
     }
 
     fn gate_line(&mut self) -> Result<(), usize> {
@@ -139,41 +144,51 @@ impl<'a> Parser<'a> {
     }
 
     /// The next name, which may start with `_` or not.
-    fn name(&mut self, underscore: bool) -> Result<Name<'a>, usize> {
+    fn name(&mut self, underscore: bool) -> Result<Name, usize> {
         let place = self.place;
         match self.peek() {
             Some(b'a'..=b'z') => {}
             Some(b'_') if underscore => {}
             _ => return Err(place),
         }
-        let rest = &self.text[place..];
-        let length = rest
-            .iter()
-            .take(8)
-            .take_while(|&&b| is_name_byte(b))
-            .count();
+        let rest = self.text[place..].iter().take(8);
+        let (mut bytes, mut length) = (0, 0);
+        for &byte in rest.take_while(|&&byte| is_name_byte(byte)) {
+            bytes |= u64::from(byte) << (8 * length);
+            length += 1;
+        }
         self.place += length;
-        let bytes = &rest[..length];
-        Ok(Name { place, bytes })
+        Ok(Name { bytes, place })
     }
 
     /// The gate number of an expression.
     fn expression(&mut self, depth: usize) -> Result<usize, usize> {
         self.expect(b"(")?;
         let kind = self.kind()?;
-        let mut operands = Vec::with_capacity(4);
+        let mut operands = [Operand::Word(0); 4];
+        let mut count = 0;
         loop {
-            operands.push(self.operand(depth)?);
-            let count = operands.len();
+            operands[count] = self.operand(depth)?;
+            count += 1;
             match self.peek() {
                 Some(b' ') if kind != Kind::Not && count < 4 => self.place += 1,
-                Some(b')') if kind.takes(count) => break,
+                Some(b')') if kind == Kind::Not || count > 1 => break,
                 _ => return Err(self.place),
             }
         }
         self.place += 1;
-        self.netlist.gates.push((kind, operands));
-        Ok(self.netlist.gates.len() - 1)
+        let Netlist { gates, reads, .. } = &mut self.netlist;
+        gates.push(kind as u16 + 8 * count as u16);
+        for operand in operands {
+            if let Operand::Named(name) = operand {
+                reads.push((name, gates.len()));
+            }
+            gates.push(match operand {
+                Operand::Named(_) => 0,
+                Operand::Word(word) => word,
+            });
+        }
+        Ok(gates.len() / 5 - 1)
     }
 
     /// A kind and the space behind it.
@@ -192,13 +207,16 @@ impl<'a> Parser<'a> {
         Ok(kind)
     }
 
-    fn operand(&mut self, depth: usize) -> Result<Operand<'a>, usize> {
+    fn operand(&mut self, depth: usize) -> Result<Operand, usize> {
         match self.peek() {
             Some(digit @ (b'0' | b'1')) => {
                 self.place += 1;
-                Ok(Operand::Constant(digit == b'1'))
+                Ok(Operand::Word(if digit == b'1' { ONE } else { ZERO }))
             }
-            Some(b'(') if depth < 8 => self.expression(depth + 1).map(Operand::Inner),
+            Some(b'(') if depth < 8 => {
+                let gate = self.expression(depth + 1)?;
+                Ok(Operand::Word((self.netlist.inputs.len() + gate) as u16))
+            }
             _ => self.name(true).map(Operand::Named),
         }
     }

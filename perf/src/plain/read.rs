@@ -1,8 +1,8 @@
 //! Read: the text parsed, then its names looked up.
 
-use super::parse::{Name, Netlist, Operand, Parser};
+use super::names::Names;
+use super::parse::{Name, Netlist, Parser};
 use super::{handed_over, refused};
-use std::collections::{HashMap, HashSet};
 use unloop::raw::Reply;
 
 /// Text to block; count: words.
@@ -25,7 +25,7 @@ fn words_of(text: &[u8]) -> Result<Vec<u16>, Refusal> {
     let netlist = parser.netlist;
     let crowded = netlist.inputs.len() > 12
         || netlist.nevers.len() > 8
-        || netlist.gates.len() > 1_024
+        || netlist.gates.len() > 5 * 1_024
         || netlist.outputs.len() > 16;
     if crowded {
         return Err((3, 0));
@@ -39,42 +39,48 @@ fn words_of(text: &[u8]) -> Result<Vec<u16>, Refusal> {
     netlist.words(&nodes).map_err(|place| (5, place))
 }
 
-impl<'a> Netlist<'a> {
+impl Netlist {
     /// The node of each name, or the place of the first name or port declared again.
-    fn declared(&self) -> Result<HashMap<&'a [u8], usize>, usize> {
+    fn declared(&self) -> Result<Names, usize> {
         let n = self.inputs.len();
-        let mut nodes = HashMap::new();
-        let inputs = self.inputs.iter().enumerate().map(|(i, name)| (name, i));
+        let mut nodes = Names::with_room(n + self.named.len());
+        let inputs = self.inputs.iter().zip(0..);
         let gates = self.named.iter().map(|(name, gate)| (name, n + gate));
         for (name, node) in inputs.chain(gates) {
-            if nodes.insert(name.bytes, node).is_some() {
+            if !nodes.insert(name.bytes, node as u16) {
                 return Err(name.place);
             }
         }
-        let mut ports = HashSet::new();
-        match self.outputs.iter().find(|(p, _)| !ports.insert(p.bytes)) {
-            Some((port, _)) => Err(port.place),
+        match first_again(self.outputs.iter().map(|(port, _)| port)) {
+            Some(place) => Err(place),
             None => Ok(nodes),
         }
     }
 
-    /// The place of the first name that its never line has given already.
-    fn given_again(&self) -> Option<usize> {
-        self.nevers.iter().find_map(|pairs| {
-            let mut seen = HashSet::new();
-            let again = pairs.iter().find(|(name, _)| !seen.insert(name.bytes));
-            again.map(|(name, _)| name.place)
+    /// The pairs of each never line.
+    fn nevers(&self) -> impl Iterator<Item = &[(Name, bool)]> {
+        let mut start = 0;
+        self.nevers.iter().map(move |&end| {
+            let pairs = &self.pairs[start..end];
+            start = end;
+            pairs
         })
     }
 
+    /// The place of the first name that its never line has given already.
+    fn given_again(&self) -> Option<usize> {
+        let mut lines = self.nevers();
+        lines.find_map(|pairs| first_again(pairs.iter().map(|(name, _)| name)))
+    }
+
     /// The two masks of each never line, or the place of the first name that is no input's.
-    fn masks(&self, nodes: &HashMap<&[u8], usize>) -> Result<Vec<u16>, usize> {
+    fn masks(&self, nodes: &Names) -> Result<Vec<u16>, usize> {
         let mut masks = Vec::with_capacity(2 * self.nevers.len());
-        for pairs in &self.nevers {
+        for pairs in self.nevers() {
             let (mut fixed, mut ones) = (0, 0);
             for (name, value) in pairs {
                 match nodes.get(name.bytes) {
-                    Some(&node) if node < self.inputs.len() => {
+                    Some(node) if usize::from(node) < self.inputs.len() => {
                         fixed |= 1 << node;
                         ones |= u16::from(*value) << node;
                     }
@@ -87,45 +93,43 @@ impl<'a> Netlist<'a> {
     }
 
     /// The stored block, or the earliest place of a name that isn't declared.
-    fn words(&self, nodes: &HashMap<&[u8], usize>) -> Result<Vec<u16>, usize> {
-        let n = self.inputs.len();
-        let mut unknown: Option<usize> = None;
-        let mut node = |name: &Name| match nodes.get(name.bytes) {
-            Some(&node) => node as u16,
-            None => {
-                unknown = Some(unknown.map_or(name.place, |place| place.min(name.place)));
+    fn words(&self, nodes: &Names) -> Result<Vec<u16>, usize> {
+        let mut unknown = usize::MAX;
+        let mut node = |name: &Name| {
+            nodes.get(name.bytes).unwrap_or_else(|| {
+                unknown = unknown.min(name.place);
                 0
-            }
+            })
         };
-        let [m, k, l] = [self.gates.len(), self.outputs.len(), self.nevers.len()];
-        let counts = [n, m, k, l];
-        let mut words: Vec<u16> = counts.iter().map(|&count| count as u16).collect();
-        for input in &self.inputs {
-            words.extend(name_words(input.bytes));
-        }
+        let [k, l] = [self.outputs.len(), self.nevers.len()];
+        let counts = [self.inputs.len(), self.gates.len() / 5, k, l];
+        let mut words = Vec::with_capacity(5_268);
+        words.extend(counts.map(|count| count as u16));
+        words.extend(self.inputs.iter().flat_map(|input| name_words(input.bytes)));
         words.extend(self.masks(nodes)?);
-        for (kind, operands) in &self.gates {
-            words.push(*kind as u16 + 8 * operands.len() as u16);
-            words.extend(operands.iter().map(|operand| match operand {
-                Operand::Constant(value) => 65_534 + u16::from(*value),
-                Operand::Inner(gate) => (n + gate) as u16,
-                Operand::Named(name) => node(name),
-            }));
-            words.extend(std::iter::repeat_n(0, 4 - operands.len()));
+        let first = words.len();
+        words.extend_from_slice(&self.gates);
+        for (name, place) in &self.reads {
+            words[first + place] = node(name);
         }
         for (port, shown) in &self.outputs {
             words.extend(name_words(port.bytes));
             words.push(node(shown));
         }
         match unknown {
-            Some(place) => Err(place),
-            None => Ok(words),
+            usize::MAX => Ok(words),
+            place => Err(place),
         }
     }
 }
 
-fn name_words(name: &[u8]) -> [u16; 4] {
-    let mut bytes = [0; 8];
-    bytes[..name.len()].copy_from_slice(name);
-    [0, 2, 4, 6].map(|i| u16::from_le_bytes([bytes[i], bytes[i + 1]]))
+/// The place of the first name that stands before it too.
+fn first_again<'a>(names: impl ExactSizeIterator<Item = &'a Name>) -> Option<usize> {
+    let mut seen = Names::with_room(names.len());
+    let mut names = names.filter(|name| !seen.insert(name.bytes, 0));
+    names.next().map(|name| name.place)
+}
+
+fn name_words(name: u64) -> [u16; 4] {
+    [0, 16, 32, 48].map(|shift| (name >> shift) as u16)
 }

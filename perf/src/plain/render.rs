@@ -1,8 +1,10 @@
-//! Render: the copies in order, with a table of each gate's newest copy.
+//! Render: the passes counted while the loops settle, then the copies in order, with a table of each gate's newest copy.
 
-use super::block::Block;
-use super::groups::ordered_groups;
-use super::lanes::Batches;
+use super::block::{Block, ZERO};
+use super::decided::Decided;
+use super::gate::Gate;
+use super::groups::Groups;
+use super::lanes::Order;
 use super::{handed_over, refused};
 use unloop::raw::Reply;
 
@@ -13,67 +15,65 @@ pub fn render(words: &[u16], rendered: &mut [u16]) -> Reply {
     let Some(block) = Block::of(words) else {
         return refused(6, 0);
     };
-    let groups = ordered_groups(&block);
-    let Some((passes, lowest)) = counted(&block, &groups) else {
+    let gates = Gate::all(&block);
+    let groups = Groups::in_order(&block, &gates);
+    let mut passes = Passes {
+        counts: vec![1; groups.iter().count()],
+        copies: block.m,
+    };
+    let sizes: Vec<usize> = groups.iter().map(<[u16]>::len).collect();
+    let mut on_loop = |group: usize, needed| passes.raise(group, needed, sizes[group]);
+    let Some(decided) = Decided::by_groups(&block, &gates, &groups, Order::OneWay, &mut on_loop)
+    else {
         return refused(8, 0);
     };
-    if let Some(setting) = lowest {
+    if let Some(setting) = decided.lowest_undecided() {
         return refused(9, setting);
     }
-    let result = rendering(words, &block, &groups, &passes);
+    let result = rendering(&block, &groups, &passes);
     handed_over(&result, result.len(), rendered)
 }
 
-/// The passes of each group, and the lowest setting that comes and isn't settled; nothing once the copies don't fit.
-fn counted(block: &Block, groups: &[Vec<usize>]) -> Option<(Vec<usize>, Option<usize>)> {
-    let mut passes = vec![1; groups.len()];
-    let mut copies = block.gates.len();
-    let mut lowest = None;
-    let mut batches = Batches::of(block);
-    while let Some(batch) = batches.next() {
-        lowest = lowest.or(batch.lowest());
-        let loops = groups.iter().zip(&mut passes);
-        for (group, passes) in loops.filter(|(group, _)| group.len() > 1) {
-            let most = *passes + (MOST_COPIES - copies) / group.len();
-            let more = batches.passes(&batch, group, most)?.saturating_sub(*passes);
-            copies += more * group.len();
-            *passes += more;
-        }
-    }
-    Some((passes, lowest))
+/// The passes that each group needs, and the copies of all.
+struct Passes {
+    counts: Vec<usize>,
+    copies: usize,
 }
 
-fn rendering(words: &[u16], block: &Block, groups: &[Vec<usize>], passes: &[usize]) -> Vec<u16> {
-    let (n, m) = (block.inputs.len(), block.gates.len());
-    let (head, rest) = words.split_at(4 + 4 * n + 2 * block.nevers.len());
-    let (gates, outputs) = rest.split_at(5 * m);
-    let mut result = head.to_vec();
-    let copies = groups.iter().zip(passes).map(|(g, p)| g.len() * p);
-    result[1] = copies.sum::<usize>() as u16;
-    let mut newest: Vec<Option<u16>> = vec![None; m];
+impl Passes {
+    /// A group of this size needs so many at least. Nothing once the copies don't fit.
+    fn raise(&mut self, group: usize, needed: usize, size: usize) -> Option<()> {
+        let more = needed.saturating_sub(self.counts[group]);
+        self.counts[group] += more;
+        self.copies += more * size;
+        (self.copies <= MOST_COPIES).then_some(())
+    }
+}
+
+fn rendering(block: &Block, groups: &Groups, passes: &Passes) -> Vec<u16> {
+    let mut result = Vec::with_capacity(block.head.len() + 5 * (passes.copies + 16));
+    result.extend_from_slice(block.head);
+    result[1] = passes.copies as u16;
+    let n = block.n;
+    // By node: itself where it is an input, else the newest copy.
+    let mut newest: Vec<u16> = (0..n as u16).collect();
+    newest.resize(n + block.m, ZERO);
     let mut next = n as u16;
-    for (group, &passes) in groups.iter().zip(passes) {
-        for _pass in 0..passes {
-            for &gate in group {
-                let stored = &gates[5 * gate..5 * gate + 5];
-                let count = usize::from(stored[0] / 8);
-                result.push(stored[0]);
-                for (place, &word) in stored[1..].iter().enumerate() {
-                    let is_gate = place < count && word < 65_534 && usize::from(word) >= n;
-                    result.push(match is_gate {
-                        true => newest[usize::from(word) - n].unwrap_or(65_534),
-                        false => word,
-                    });
-                }
-                newest[gate] = Some(next);
-                next += 1;
+    for (group, &passes) in groups.iter().zip(&passes.counts) {
+        for &gate in std::iter::repeat_n(group, passes).flatten() {
+            let mut words = block.gates[usize::from(gate)];
+            let count = usize::from(words[0] / 8);
+            for word in words[1..=count].iter_mut().filter(|word| **word < ZERO) {
+                *word = newest[usize::from(*word)];
             }
+            result.extend(words);
+            newest[n + usize::from(gate)] = next;
+            next += 1;
         }
     }
-    for output in outputs.chunks(5) {
-        result.extend(&output[..4]);
-        let shown = usize::from(output[4]).checked_sub(n);
-        result.push(shown.and_then(|gate| newest[gate]).unwrap_or(output[4]));
+    for (output, node) in block.outputs.iter().zip(block.shown()) {
+        result.extend_from_slice(&output[..4]);
+        result.push(newest[node]);
     }
     result
 }

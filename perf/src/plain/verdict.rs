@@ -1,7 +1,7 @@
-//! Verdict: all settings, sixty-four at a time.
+//! Verdict: the settled settings counted.
 
 use super::block::Block;
-use super::lanes::Batches;
+use super::decided::Decided;
 use super::{done, refused};
 use unloop::raw::Reply;
 
@@ -10,11 +10,14 @@ pub fn verdict(words: &[u16]) -> Reply {
     let Some(block) = Block::of(words) else {
         return refused(6, 0);
     };
-    let mut settled = 0;
-    let mut lowest = None;
-    for batch in Batches::of(&block) {
-        settled += batch.settled();
-        lowest = lowest.or(batch.lowest());
-    }
-    done(settled, lowest.unwrap_or(1 << block.inputs.len()))
+    let decided = Decided::of(&block);
+    let size = |set: &[u64]| {
+        set.iter()
+            .map(|word| word.count_ones() as usize)
+            .sum::<usize>()
+    };
+    done(
+        size(&decided.coming) - size(&decided.undecided),
+        decided.lowest_undecided().unwrap_or(1 << block.n),
+    )
 }

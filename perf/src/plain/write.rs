@@ -1,67 +1,72 @@
-//! Write: the lines one after the other.
+//! Write: the lines one after the other, with the name of each node made once.
 
-use super::block::{name_bytes, Block};
+use super::block::{name, Block, ONE, ZERO};
 use super::{handed_over, refused};
-use std::io::Write;
 use unloop::raw::Reply;
+
+const KEYWORDS: [&[u8]; 7] = [b"not", b"and", b"or", b"nand", b"nor", b"xor", b"xnor"];
 
 /// Block to text; count: bytes.
 pub fn write(words: &[u16], text: &mut [u8]) -> Reply {
     let Some(block) = Block::of(words) else {
         return refused(6, 0);
     };
-    let written = lines(&block).expect("a vector takes every byte");
+    let written = lines(&block);
     handed_over(&written, written.len(), text)
 }
 
-fn lines(block: &Block) -> std::io::Result<Vec<u8>> {
-    let mut text = Vec::new();
-    for name in &block.inputs {
-        text.extend(b"(in ");
-        push_name(&mut text, name);
-        text.extend(b")\n");
+fn lines(block: &Block) -> Vec<u8> {
+    let gates = (0..block.m).map(gate_name);
+    let names: Vec<u64> = block.names().chain(gates).collect();
+    let mut text = Vec::with_capacity(58_098);
+    for &name in &names[..block.n] {
+        push(&mut text, b"(in ", name, b")\n");
     }
-    for never in &block.nevers {
+    for &[fixed, ones] in block.nevers() {
         text.extend(b"(never");
-        for (i, name) in block.inputs.iter().enumerate() {
-            if never[0] >> i & 1 == 1 {
-                text.extend(b" (");
-                push_name(&mut text, name);
-                write!(text, " {})", never[1] >> i & 1)?;
+        for (input, &name) in names[..block.n].iter().enumerate() {
+            if fixed >> input & 1 == 1 {
+                let value = [b" 0)", b" 1)"][usize::from(ones >> input & 1)];
+                push(&mut text, b" (", name, value);
             }
         }
         text.extend(b")\n");
     }
-    for (number, gate) in block.gates.iter().enumerate() {
-        write!(text, "(gate _{number} ({}", gate.kind.keyword())?;
-        for &operand in gate.operands() {
-            text.push(b' ');
-            push_node(&mut text, block, operand)?;
+    for (gate, &name) in block.gates.iter().zip(&names[block.n..]) {
+        push(&mut text, b"(gate ", name, b" (");
+        text.extend(KEYWORDS[usize::from(gate[0] % 8)]);
+        for &word in &gate[1..][..usize::from(gate[0] / 8)] {
+            match word {
+                ZERO => text.extend(b" 0"),
+                ONE => text.extend(b" 1"),
+                node => push(&mut text, b" ", names[usize::from(node)], b""),
+            }
         }
         text.extend(b"))\n");
     }
-    for &(port, shown) in &block.outputs {
-        text.extend(b"(out ");
-        push_name(&mut text, port);
-        text.push(b' ');
-        push_node(&mut text, block, shown)?;
-        text.extend(b")\n");
+    for (output, node) in block.outputs.iter().zip(block.shown()) {
+        push(&mut text, b"(out ", name(&output[..4]), b" ");
+        push(&mut text, b"", names[node], b")\n");
     }
-    Ok(text)
+    text
 }
 
-fn push_name(text: &mut Vec<u8>, name: &[u16]) {
-    text.extend(name_bytes(name).iter().filter(|&&byte| byte != 0));
+/// The name of a gate, `_` and its number, as a number with the first byte lowest.
+fn gate_name(gate: usize) -> u64 {
+    let (mut name, mut rest) = (0, gate);
+    loop {
+        name = name << 8 | u64::from(b'0' + (rest % 10) as u8);
+        rest /= 10;
+        if rest == 0 {
+            return name << 8 | u64::from(b'_');
+        }
+    }
 }
 
-fn push_node(text: &mut Vec<u8>, block: &Block, node: usize) -> std::io::Result<()> {
-    let (n, m) = (block.inputs.len(), block.gates.len());
-    if node < n {
-        push_name(text, block.inputs[node]);
-    } else if node < n + m {
-        write!(text, "_{}", node - n)?;
-    } else {
-        text.push(if node == n + m { b'0' } else { b'1' });
-    }
-    Ok(())
+fn push(text: &mut Vec<u8>, before: &[u8], name: u64, behind: &[u8]) {
+    text.extend_from_slice(before);
+    let end = text.len() + 8 - name.leading_zeros() as usize / 8;
+    text.extend_from_slice(&name.to_le_bytes());
+    text.truncate(end);
+    text.extend_from_slice(behind);
 }

@@ -1,0 +1,77 @@
+//! All settings of a block, as many side by side as fit.
+
+use super::block::Block;
+use super::gate::Gate;
+use super::groups::Groups;
+use super::lanes::{to_its_end, Lanes, Order};
+
+/// What is known of all settings.
+#[derive(Default)]
+pub struct Decided {
+    /// The settings that come, and those of them under which some output is undefined.
+    pub coming: Vec<u64>,
+    pub undecided: Vec<u64>,
+}
+
+/// Calls a function with as many words a gate as the settings fill, at most eight.
+macro_rules! by_width {
+    ($n:expr, $run:ident($($argument:expr),*)) => {
+        match $n {
+            0..=6 => $run::<1>($($argument),*),
+            7 => $run::<2>($($argument),*),
+            8 => $run::<4>($($argument),*),
+            _ => $run::<8>($($argument),*),
+        }
+    };
+}
+pub(super) use by_width;
+
+impl Decided {
+    pub fn of(block: &Block) -> Decided {
+        let gates = Gate::all(block);
+        let groups = Groups::of(block, &gates);
+        let order = Order::ThereAndBack;
+        let decided = Decided::by_groups(block, &gates, &groups, order, &mut to_its_end);
+        decided.expect("every loop goes to its end")
+    }
+
+    /// With these groups; nothing where a loop ended all.
+    pub fn by_groups(
+        block: &Block,
+        gates: &[Gate],
+        groups: &Groups,
+        order: Order,
+        on_loop: &mut impl FnMut(usize, usize) -> Option<()>,
+    ) -> Option<Decided> {
+        by_width!(block.n, all_settings(block, gates, groups, order, on_loop))
+    }
+
+    /// The lowest setting that comes and isn't settled.
+    pub fn lowest_undecided(&self) -> Option<usize> {
+        lowest(&self.undecided)
+    }
+}
+
+fn all_settings<const W: usize>(
+    block: &Block,
+    gates: &[Gate],
+    groups: &Groups,
+    order: Order,
+    on_loop: &mut impl FnMut(usize, usize) -> Option<()>,
+) -> Option<Decided> {
+    let mut lanes = Lanes::<W>::new(block, gates, groups, order);
+    let mut decided = Decided::default();
+    for base in (0..1 << block.n).step_by(64 * W) {
+        let coming = lanes.start(base);
+        lanes.settle(&coming, on_loop)?;
+        decided.coming.extend(coming);
+        decided.undecided.extend(lanes.undecided(&coming));
+    }
+    Some(decided)
+}
+
+/// The lowest setting of a set.
+pub fn lowest(set: &[u64]) -> Option<usize> {
+    let word = set.iter().position(|&word| word != 0)?;
+    Some(64 * word + set[word].trailing_zeros() as usize)
+}
