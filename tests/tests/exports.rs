@@ -304,7 +304,7 @@ fn originals_and_refusals() {
         module,
         "",
     );
-    let report = "ring.net: undecided\n  not settled: y undefined\n  settles under no setting\n";
+    let report = "ring.net: undecided\n  not settled: y undefined\n  p waits for itself\n  settles under no setting\n";
     told(run(&scratch, &["--verilog", "ring.net"]), 1, "", report);
     let words = ["--original", "--blif", "ring.net", "d/ring.net"];
     let model = ".model ring\n.inputs\n.outputs y\n.names _0 _0\n0 1\n.names _0 y\n1 1\n.end\n";
