@@ -1,7 +1,7 @@
 -- From cells' words to their table. Cited by `table`.
 --   LegalParts, legal-parts    what the test of legal cells says
 --   operand-place              the place of a legal cell's operand is an earlier one
---   tabled-none, tabled-more, table-made   word after word, and the whole table
+--   tabled-none, tabled-more, tabled-count   word after word, and the whole table
 -- Assumes nothing.
 use mathlib.Core.Path.{_≡_, refl, sym, ap, _∙_}
 use mathlib.Core.Logic.{⊎-elim}
@@ -26,13 +26,13 @@ use Rattle.encoding.proofs.Readers.{OperandWord, operandRule-cases}
 use Rattle.cells.proofs.Earlier.{wordRule, reads-rule}
 use Rattle.graph.specs.Places.{firstGate, operandAt, placeOf}
 use Rattle.graph.proofs.Places.{place-input, place-zero, place-one, place-gate, operandAt-word}
-use Rattle.cell_lanes.specs.Table.{tableSize, tableWord, cellIn, tableCells, CellPlaces, EarlierPlaces, Tabled, CellTable}
+use Rattle.cell_lanes.specs.Table.{countAt, tableSize, countIn, tableWord, cellIn, tableCells, CellPlaces, EarlierPlaces, Tabled, CellTable}
 
 -- ---- legal cells
 
 pub record LegalParts (n : ℕ) (cells : List ℕ) : Type 0 where
   pub fewInputs : n ≤ maxInputs
-  pub short : length cells ≤ tableSize
+  pub short : length cells ≤ countAt
   pub whole : length cells % cellSize ≡ 0
   pub reads : (j : ℕ) → j < cellCount cells → readsEarlier n cells j ≡ true
 
@@ -133,18 +133,31 @@ module _ {n : ℕ} {cells : List ℕ} (legal : LegalParts n cells) where
         (λ i k. rw (table-operand j i l k) (operandAt-word n _ (legal .fewInputs) (word-small j _ (omega (arith, few-cells)) (operand-word j i l k)))) in
         rw (operands, table-truth j l) refl
 
-    -- the whole table; the cells' words are words
-    pub table-made : ((i : ℕ) → getD cells i 0 < 65536) → CellTable n cells table
+    cell-places : (j : ℕ) → j < cellCount cells → getD cells (cellSize * j + operandWords) 0 < 65536 → CellPlaces (firstGate + j) table j
+    cell-places j l small =
+        record { inside = λ i k. rw (table-operand j i l k) (operand-place j i l k); truth = rw (table-truth j l) small }
+
+    -- the whole table, from the number of cells on; the cells' words are words
+    table-made : countIn table ≡ cellCount cells → ((i : ℕ) → getD cells i 0 < 65536) → CellTable n cells table
     unfolding tableCells cellsIn
-    table-made small =
+    table-made counted small =
         record {
-          long = t .long;
-          holds = tab-ext (cellIn table) (λ j. cellAt n cells (cellSize * j)) (cellCount cells) cell-is;
+          count = counted;
+          holds = rw counted (tab-ext (cellIn table) (λ j. cellAt n cells (cellSize * j)) (cellCount cells) cell-is);
           places = record {
-            few = few-cells;
-            cell = λ j l. record {
-              inside = λ i k. rw (table-operand j i l k) (operand-place j i l k);
-              truth = rw (table-truth j l) (small (cellSize * j + operandWords));
-            };
+            few = rw counted few-cells;
+            cell = λ j l. let below : j < cellCount cells = rw counted at l in cell-places j below (small (cellSize * j + operandWords));
           };
         }
+
+  -- the number of cells is stored behind the words
+  pub tabled-count : {table : List ℕ} {r : ℕ} → Tabled n cells (length cells) table → r ≡ cellCount cells → ((i : ℕ) → getD cells i 0 < 65536)
+      → CellTable n cells (set table countAt r)
+  tabled-count {table} {r} t e small =
+      let stored : getD (set table countAt r) countAt 0 ≡ r = getD-set-same table countAt r 0 (omega (arith, t .long)) in
+      table-made
+      (record {
+        long = length-set table countAt r ∙ t .long;
+        word = λ q l. getD-set-other table countAt q r 0 (λ same. omega (arith, legal .short)) ∙ t .word q l;
+      })
+      (stored ∙ e) small

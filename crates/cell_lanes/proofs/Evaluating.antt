@@ -30,7 +30,7 @@ use Rattle.lanes.proofs.InputLaws.{lanesOf-most, pattern-bit}
 use Rattle.graph.specs.Places.{firstInput, firstGate, placeCount, operandAt}
 use Rattle.graph.proofs.Places.{operandAt-zero, operandAt-one, operandAt-input, operandAt-gate}
 use Rattle.cell_lanes.specs.Choices.{cellWord}
-use Rattle.cell_lanes.specs.Table.{cellIn, tableCells, CellPlaces, EarlierPlaces}
+use Rattle.cell_lanes.specs.Table.{countIn, cellIn, tableCells, CellPlaces, EarlierPlaces}
 use Rattle.cell_lanes.specs.CellLanes.{Carries, placeBit, inputWord, operandWord, cellWordAt, Filled, InputsIn, Evaluated}
 use Rattle.cell_lanes.proofs.Choosing.{cell-within, cell-at}
 use Rattle.cell_lanes.proofs.Running.{ran, cell-run}
@@ -131,9 +131,12 @@ inputs-in n base aligned f = record { ready = λ cs. inputs-ready n base aligned
 
 -- ---- the cells
 
-module _ (n base : ℕ) (table : List ℕ) (count : ℕ) (places : EarlierPlaces count table) where
+module _ (n base : ℕ) (table : List ℕ) (places : EarlierPlaces table) where
   abbrev cs : List Cell
-  cs = tableCells count table
+  cs = tableCells table
+
+  abbrev count : ℕ
+  count = countIn table
 
   -- what stands at an earlier place is there
   place-earlier : (p j : ℕ) → p < firstGate + j → isEarlier j (operandAt p) ≡ true

@@ -1,5 +1,6 @@
 // The words of all places in a batch of settings: the two constants, the inputs, and cell after cell.
 use crate::choice::cell_word;
+use crate::table::COUNT_AT;
 use crate::table::TABLE_WORDS;
 use cells::CELL_SIZE;
 use graph::FIRST_GATE;
@@ -16,7 +17,7 @@ ghost use Rattle.netlist.specs.Limits.{maxInputs, maxGates};
 ghost use Rattle.lanes.specs.Pairs.{full};
 ghost use Rattle.lanes.specs.Batches.{lanesOf};
 ghost use Rattle.graph.specs.Places.{placeCount};
-ghost use Rattle.cell_lanes.specs.Table.{tableSize, CellPlaces, EarlierPlaces, tableCells};
+ghost use Rattle.cell_lanes.specs.Table.{tableSize, countIn, CellPlaces, EarlierPlaces, tableCells};
 ghost use Rattle.cell_lanes.specs.CellLanes.{inputWord, cellWordAt, InputsIn, Evaluated};
 
 // The word of input `i` of n; 0 behind the last.
@@ -65,20 +66,15 @@ fn cell_word_at(used: u64, table: &[u16; TABLE_WORDS], j: usize, nodes: &[u64; P
     cell_word(used, table[at + OPERAND_WORDS] as usize, a, b, c, d)
 }
 
-// All of them: the first `count` cells of the table under the settings from `base` on.
-pub fn evaluate_cells(
-    n: usize,
-    base: usize,
-    table: &[u16; TABLE_WORDS],
-    count: usize,
-    nodes: &mut [u64; PLACES],
-)
-    requires { ⌜ (n ≤ maxInputs) × (base % 64 ≡ 0) × EarlierPlaces count (now table) ⌝ }
+// All of them: the table's cells under the settings from `base` on.
+pub fn evaluate_cells(n: usize, base: usize, table: &[u16; TABLE_WORDS], nodes: &mut [u64; PLACES])
+    requires { ⌜ (n ≤ maxInputs) × (base % 64 ≡ 0) × EarlierPlaces (now table) ⌝ }
     requires { ⌜ length (now nodes) ≡ placeCount ⌝ }
-    ensures { λ r. ⌜ Evaluated n base (tableCells count (now (table .entry))) count (now (nodes .exit)) ⌝ }
+    ensures { λ r. ⌜ Evaluated n base (tableCells (now (table .entry))) (countIn (now (table .entry))) (now (nodes .exit)) ⌝ }
 {
     let used = used_lanes(n);
     put_inputs(n, base, nodes);
+    let count = table[COUNT_AT] as usize;
     let mut j = 0;
     while j < count {
         nodes[FIRST_GATE + j] = cell_word_at(used, table, j, nodes);

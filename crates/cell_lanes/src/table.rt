@@ -1,4 +1,5 @@
-// Cells decoded once: five words a cell, the places of its four operands (crates/graph/specs/Places.antt) and its truth word.
+// Cells decoded once: five words a cell, the places of its four operands (crates/graph/specs/Places.antt) and its truth word, and behind them all the number
+// of cells.
 use cells::CELL_SIZE;
 use graph::place_of;
 use layout::limits::MAX_GATES;
@@ -10,7 +11,10 @@ ghost use lib.ListN.{length};
 ghost use Rattle.netlist.specs.Cells.{areLegalCells};
 ghost use Rattle.cell_lanes.specs.Table.{tableSize, tableWord, CellTable};
 
-pub const TABLE_WORDS: usize = CELL_SIZE * MAX_GATES;
+// Where the number of cells stands.
+pub const COUNT_AT: usize = CELL_SIZE * MAX_GATES;
+
+pub const TABLE_WORDS: usize = COUNT_AT + 1;
 
 // Word `p` of the table: a truth word is kept, an operand becomes its place.
 fn table_word(n: usize, cells: &[u16], p: usize) -> u16
@@ -34,4 +38,5 @@ pub fn decode_cells(n: usize, cells: &[u16], table: &mut [u16; TABLE_WORDS])
         table[p] = table_word(n, cells, p);
         p += 1;
     }
+    table[COUNT_AT] = (cells.len() / CELL_SIZE) as u16;
 }

@@ -1,12 +1,13 @@
 -- `cell_lanes::table::decode_cells` meets its contract: word after word is made. Assumes nothing.
-use mathlib.Core.Path.{_≡_}
+use mathlib.Core.Path.{_≡_, refl}
 use Prim.Native.Nat.{_-_, _≤_}
 use native.Mathlib.Omega.{arith}
 use borrow.Author.Needs.{needs}
 use denote.Ref.{now}
 use lib.ListN.{length}
+use Rattle.netlist.specs.Cells.{cellCount}
 use Rattle.cell_lanes.specs.Table.{Tabled}
-use Rattle.cell_lanes.proofs.Decoding.{LegalParts, legal-parts, tabled-none, tabled-more, table-made}
+use Rattle.cell_lanes.proofs.Decoding.{LegalParts, legal-parts, tabled-none, tabled-more, tabled-count}
 use Rattle.cell_lanes.proofs.table.decode_cells.Statement.{statement}
 use Rattle.cell_lanes.proofs.table.decode_cells.Tie as tie
 
@@ -35,12 +36,16 @@ loop-again c =
     let turn = c .before .before in
     (omega arith, tabled-more (legal turn) (turn .loop .inv .1) (c .before .loop-test .taken) (c .table-word .ensures))
 
+cast-count : tie.Need-cast-table Inv-loop μ-loop
+cast-count c = let few = legal (c .before) in omega arith
+
 returns : tie.Need-returns Inv-loop μ-loop
+unfolding cellCount
 returns c =
     let l = c .before in
     let cells = now (l .before .before .args .cells) in
     let all : l .loop .p ≡ length cells = omega arith in
-    table-made (legal l) (rw all at (l .loop .inv .1)) (λ i. omega (arith, l .before .shared-slice-known .given i))
+    tabled-count (legal l) (rw all at (l .loop .inv .1)) refl (λ i. omega (arith, l .before .shared-slice-known .given i))
 
 pub decode-cells-spec : {M : Type 1} → statement M
 decode-cells-spec =
@@ -55,4 +60,6 @@ decode-cells-spec =
     (λ c. omega arith)
     (λ c. omega arith)
     loop-again
+    cast-count
+    (λ c. search needs)
     returns)
