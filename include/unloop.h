@@ -137,6 +137,13 @@ unloop_reply unloop_render(const uint16_t *block, size_t block_length, uint16_t 
    6 (either block), 10 (theirs), 12 (other input names or ports, or another order). Stack: 64 KiB. */
 unloop_reply unloop_compare(const uint16_t *ours, size_t ours_length, const uint16_t *theirs, size_t theirs_length);
 
+/* CompareCells: are cells made elsewhere, legal for the block's n inputs as Run has it, as good as the block? The list has a word for each output:
+   the node that shows it, an input, or n + the cell's number. Accepted: count and detail 0. Else detail: the number of the lowest settled setting
+   under which a node shows another value than its output; count: the lowest such output, from 0, plus 1. Settings that the block excludes do
+   not count. 6 (the block), 6 (the cells), 12 (another length than k), 6 (a word that is neither an input nor a cell). Stack: 64 KiB. */
+unloop_reply unloop_compare_cells(const uint16_t *block, size_t block_length, const uint16_t *cells, size_t cells_length,
+                                  const uint16_t *shown, size_t shown_length);
+
 /* Bring: a block stored before there were never lines, with the three counts n, m, k and at most 10 inputs, to one of today, with l = 0;
    count: words. 6 (by the rules of then), 11. Stack: 32 KiB. */
 unloop_reply unloop_bring(const uint16_t *old, size_t old_length, uint16_t *block, size_t block_length);

@@ -8,7 +8,7 @@ use crate::raw::{self, Reply};
 use crate::{Assignment, Disagreement, Groups, Refusal, Settled, Value, Verdict};
 
 /// A block of gates. Its words keep every rule of the stored block, so no method refuses with
-/// [`Refusal::MalformedBlock`], nor for want of room.
+/// [`Refusal::MalformedBlock`] but of other words that it is lent, nor for want of room.
 #[derive(Debug, Clone, PartialEq, Eq, Hash)]
 pub struct Block {
     words: Vec<u16>,
@@ -314,12 +314,7 @@ impl Block {
     /// # Ok::<(), Refusal>(())
     /// ```
     pub fn compare(&self, theirs: &Block) -> Result<Option<Disagreement>, Refusal> {
-        let told = raw::compare(&self.words, &theirs.words).done()?;
-        let lowest = told.count.checked_sub(1);
-        Ok(lowest.map(|output| Disagreement {
-            setting: told.detail,
-            output,
-        }))
+        lowest(raw::compare(&self.words, &theirs.words))
     }
 
     /// The gates' values and the count by Settle or Pass.
@@ -332,6 +327,16 @@ impl Block {
         let (codes, count) = filled(self.gates(), |codes| run(&self.words, &setting, codes))?;
         Ok((codes.into_iter().map(Value::of_code).collect(), count))
     }
+}
+
+/// The disagreement that a comparison tells, if there is one.
+pub(crate) fn lowest(told: Reply) -> Result<Option<Disagreement>, Refusal> {
+    let told = told.done()?;
+    let output = told.count.checked_sub(1);
+    Ok(output.map(|output| Disagreement {
+        setting: told.detail,
+        output,
+    }))
 }
 
 /// The slice after an operation that was lent so much room, and its count.

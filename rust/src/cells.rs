@@ -1,7 +1,7 @@
 //! Cells of four operands and a truth word, as the lookup-cell board has them.
 
 use crate::limits::CELLS_WORDS;
-use crate::{block, raw, Block, Refusal};
+use crate::{block, raw, Block, Disagreement, Refusal};
 
 /// Cells over some inputs. The words keep every rule of cells, so that only a setting can be refused.
 #[derive(Debug, Clone, PartialEq, Eq, Hash)]
@@ -68,5 +68,33 @@ impl Block {
         let words = block::counted(CELLS_WORDS, made)?;
         let inputs = self.inputs();
         Ok(Cells { inputs, words })
+    }
+    /// Whether cells made elsewhere are as good as this block: under every settled setting of the block that may come, each output must be
+    /// shown by the node listed for it, in order: an input's number, or a cell's behind the inputs. `None`: they are accepted.
+    ///
+    /// ```
+    /// # use unloop::{Block, Cells, Disagreement, Refusal};
+    /// let block = Block::read("(in a)\n(in b)\n(gate p (and a q))\n(gate q (or b p))\n(out y q)\n(out z b)\n")?;
+    /// let inverted = Cells::from_words(2, [1, 65534, 65534, 65534, 0x5555])?;
+    /// assert_eq!(block.compare_cells(&inverted, &[1, 1])?, None);
+    /// assert_eq!(block.compare_cells(&inverted, &[1, 2])?, Some(Disagreement { setting: 0, output: 1 }));
+    /// assert_eq!(block.compare_cells(&inverted, &[1]), Err(Refusal::InterfaceMismatch));
+    /// assert_eq!(block.compare_cells(&inverted, &[1, 3]), Err(Refusal::MalformedBlock));
+    /// # Ok::<(), Refusal>(())
+    /// ```
+    ///
+    /// Cells over another number of inputs number their nodes in another way, and are refused with [`Refusal::InterfaceMismatch`].
+    pub fn compare_cells(
+        &self,
+        cells: &Cells,
+        shown: &[usize],
+    ) -> Result<Option<Disagreement>, Refusal> {
+        if cells.inputs != self.inputs() {
+            return Err(Refusal::InterfaceMismatch);
+        }
+        // The greatest word is a constant's: no node, as any number above it.
+        let word = |&node: &usize| u16::try_from(node).unwrap_or(u16::MAX);
+        let shown: Vec<u16> = shown.iter().map(word).collect();
+        block::lowest(raw::compare_cells(self.words(), &cells.words, &shown))
     }
 }

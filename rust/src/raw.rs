@@ -70,6 +70,14 @@ extern "C" {
         theirs: *const u16,
         their_words: usize,
     ) -> Reply;
+    fn unloop_compare_cells(
+        block: *const u16,
+        words: usize,
+        cells: *const u16,
+        cell_words: usize,
+        shown: *const u16,
+        length: usize,
+    ) -> Reply;
     fn unloop_bring(old: *const u16, words: usize, block: *mut u16, room: usize) -> Reply;
     fn unloop_cells(block: *const u16, words: usize, cells: *mut u16, room: usize) -> Reply;
     fn unloop_run(
@@ -171,6 +179,16 @@ pub fn render(block: &[u16], rendered: &mut [u16]) -> Reply {
 pub fn compare(ours: &[u16], theirs: &[u16]) -> Reply {
     // SAFETY: both are slices with their lengths, and are only read; they may be the same.
     unsafe { unloop_compare(ours.as_ptr(), ours.len(), theirs.as_ptr(), theirs.len()) }
+}
+
+/// Count and detail 0 where the cells are accepted, each output shown by its word of the list, an input or n + the cell's number; else the
+/// lowest settled setting of the block with another value at an output as detail, and the lowest such output, counted from 1, as count.
+/// Settings that the block excludes don't count.
+pub fn compare_cells(block: &[u16], cells: &[u16], shown: &[u16]) -> Reply {
+    let (words, cell_words, length) = (block.len(), cells.len(), shown.len());
+    let (block, cells, shown) = (block.as_ptr(), cells.as_ptr(), shown.as_ptr());
+    // SAFETY: the three are slices with their lengths, and are only read; they may overlap.
+    unsafe { unloop_compare_cells(block, words, cells, cell_words, shown, length) }
 }
 
 /// A block stored before there were never lines, with three counts, to one of today; count: words.

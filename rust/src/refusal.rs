@@ -79,7 +79,8 @@ refusals! {
     10 "looped" NotStraight => "some gate reads itself or a gate behind it",
     /// The slice for the result is too small. A [`Block`](crate::Block) has room for every result.
     11 "short" NoRoom => "the slice for the result is too small",
-    /// Two blocks that are compared have other input names or ports, or the same in another order.
+    /// Two blocks that are compared have other input names or ports, or the same in another order; or cells that are compared are over another
+    /// number of inputs, or listed nodes are not as many as the outputs.
     12 "strangers" InterfaceMismatch => "the blocks do not have the same input names and ports in the same order",
     /// A list of gate numbers that doesn't have each gate's once.
     13 "order" NotAPermutation => "the list does not have each gate number once",

@@ -56,6 +56,9 @@ static void lend_no_words(uint16_t *words, unloop_record *records)
     answers(unloop_render(straight, LENGTH(straight), words, 0), 11, 0, 0, "render to nowhere");
     answers(unloop_compare(words, 0, words, 0), 6, 0, 0, "compare of no words");
     answers(unloop_compare(straight, LENGTH(straight), words, 0), 6, 0, 0, "compare with no words");
+    answers(unloop_compare_cells(words, 0, words, 0, words, 0), 6, 0, 0, "compare cells of no words");
+    answers(unloop_compare_cells(empty, 4, words, 0, words, 0), 0, 0, 0, "no cells and no list for the empty block");
+    answers(unloop_compare_cells(straight, LENGTH(straight), words, 0, words, 0), 12, 0, 0, "no cells and no list for an output");
     answers(unloop_bring(words, 0, words, 0), 6, 0, 0, "bring of no words");
     answers(unloop_bring(old_empty, 3, words, 0), 11, 0, 0, "bring to nowhere");
     answers(unloop_cells(words, 0, words, 0), 6, 0, 0, "cells of no words");
@@ -85,11 +88,13 @@ static void read_overlaps(void)
 {
     /* A not of nothing but constants, twice, and an and of the nodes 0, 1, 2: that operands are the list of gates in their order. */
     static const uint16_t block[] = {0, 3, 0, 0, 8, 65535, 0, 0, 0, 8, 65535, 0, 0, 0, 25, 0, 1, 2, 0};
-    static const uint16_t cells[] = {1, 65534, 65534, 65534, 0x5555};
+    static const uint16_t cells[] = {1, 65534, 65534, 65534, 0x5555}, inverter[] = {0, 65534, 65534, 65534, 0x5555};
     uint16_t original[LENGTH(block)];
     uint8_t values[1] = {9};
 
     answers(unloop_compare(straight, LENGTH(straight), straight, LENGTH(straight)), 0, 0, 0, "compare of a block with itself");
+    answers(unloop_compare_cells(straight, LENGTH(straight), cells, LENGTH(cells), cells, 1), 6, 0, 0, "cells that read themselves");
+    answers(unloop_compare_cells(straight, LENGTH(straight), inverter, LENGTH(inverter), straight, 1), 0, 0, 0, "a list in the block's words");
     answers(unloop_settle(straight, LENGTH(straight), (const uint8_t *)straight, 1, values, 1), 0, 1, 0, "settle from a byte of the block");
     check(values[0] == 0, "the value of settle from a byte of the block");
     values[0] = 9;

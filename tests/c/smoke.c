@@ -88,6 +88,8 @@ static void run_cells(void)
     answers(unloop_cells(rendered, 33, cells, 19), 11, 0, 0, "cells, one word short");
     answers(unloop_cells(looped, LENGTH(looped), cells, 0), 10, 0, 0, "cells of a loop");
     answers(unloop_cells(rendered, 32, cells, LENGTH(cells)), 6, 0, 0, "cells of torn words");
+    answers(unloop_compare_cells(looped, LENGTH(looped), cells, 20, rendered + 32, 1), 0, 0, 0, "compare cells, accepted");
+    answers(unloop_compare_cells(looped, LENGTH(looped), cells, 20, rendered + 32, 0), 12, 0, 0, "compare cells without a list");
     answers(unloop_run(1, cells, 20, one, 1, values, LENGTH(values)), 0, 4, 0, "run");
     check(values[0] == 0 && values[1] == 1 && values[2] == 1 && values[3] == 1 && values[4] == 9, "the values of the run");
     answers(unloop_run(1, cells, 20, undefined, 1, values, LENGTH(values)), 7, 0, 0, "run from an undefined input");

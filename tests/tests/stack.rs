@@ -96,6 +96,12 @@ impl Round {
             assert_ne!(raw::cells(words, &mut made).number, 6)
         });
         let foreign = foreign_cells(&mut Random::new(0), INPUTS, GATES);
+        let list = vec![0; words[2].into()];
+        self.run("compare_cells", || {
+            let told = raw::compare_cells(words, &foreign, &list);
+            let fewer = words[0] < INPUTS as u16;
+            assert!(told.number == 0 || fewer, "{told:?}");
+        });
         self.run("run", || {
             let told = raw::run(INPUTS, &foreign, &[1; INPUTS], &mut values);
             assert_eq!((told.number, told.count), (0, GATES));

@@ -1,7 +1,7 @@
 // Lookup cells (SPECIFICATION 7.15, 7.16): making cells from a straight block, and running cells, which may have been made elsewhere.
 use layout::offsets::OPERAND_WORDS;
 
-mod legal;
+pub mod legal;
 pub mod make;
 pub mod run;
 mod truth;

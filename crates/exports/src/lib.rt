@@ -14,6 +14,7 @@ ghost use Rattle.netlist.specs.Bring.{bring};
 ghost use Rattle.netlist.specs.Cells.{runCells};
 ghost use Rattle.netlist.specs.Sheet.{sheet, sheetRecords};
 ghost use Rattle.netlist.specs.Compare.{compare};
+ghost use Rattle.netlist.specs.CompareCells.{compareCells};
 ghost use Rattle.netlist.specs.Line.{lineStart, lineLength};
 ghost use Rattle.netlist.specs.Gather.{scatter};
 ghost use Rattle.exports.specs.Replies.{Replies, PassReply, RenderReply, CellsReply, GatherReply};
@@ -157,6 +158,15 @@ pub extern "C" fn unloop_compare(ours: &[u16], theirs: &[u16]) -> Reply
     ensures { λ r. ⌜ Shows (answerOf (compare (now (ours .entry)) (now (theirs .entry)))) r ⌝ }
 {
     reply_of(compare::compare(ours, theirs))
+}
+
+// CompareCells: are cells made elsewhere as good as the block, each output shown by the node that the list has for it? Accepted: count and detail 0; else the
+// lowest output that differs, counted from 1, and the lowest setting.
+#[no_mangle]
+pub extern "C" fn unloop_compare_cells(block: &[u16], cells: &[u16], shown: &[u16]) -> Reply
+    ensures { λ r. ⌜ Shows (answerOf (compareCells (now (block .entry)) (now (cells .entry)) (now (shown .entry)))) r ⌝ }
+{
+    reply_of(compare_cells::compare_cells(block, cells, shown))
 }
 
 // Gather: the block with its gates by group, and the list of their old numbers; count: the block's words.

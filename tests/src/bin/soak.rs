@@ -90,6 +90,12 @@ const KINDS: &[Kind] = &[
     kind("cells of malformed blocks", 11, cells::malformed_words),
     kind("foreign cells", 1, |s| cells::foreign(s, 40)),
     kind("malformed cells", 11, cells::malformed_runs),
+    kind("tables of cells for small blocks", 1, |s| {
+        cells::tables(s, Size::SMALL);
+    }),
+    kind("tables of cells for middle blocks", 101, |s| {
+        cells::tables(s, Size::MIDDLE);
+    }),
     kind("small blocks gathered", 1, |s| {
         gather::blocks(s, Size::SMALL)
     }),

@@ -1,15 +1,17 @@
-//! Cells and Run, the library's against the simulator's, and both ends of the way from a block to a run.
+//! Cells, Run and CompareCells, the library's against the simulator's, and both ends of the way from a block to a run.
 
 use super::tally::count;
 use super::{compare, mangled};
-use crate::block::{Block, Source};
+use crate::block::{Block, Output, Source};
 use crate::foreign::shown;
 use crate::generate::{
-    cell_setting, for_blocks, foreign_cells, malformed, malformed_cells, Random, Report, Size,
+    cell_setting, changed_tables, for_blocks, foreign_cells, malformed, malformed_cells,
+    strange_tables, Random, Report, Size,
 };
 use crate::limits::{BLOCK_WORDS, CELL_WORDS, GATES, INPUTS};
 use crate::render::copied;
 use crate::values::{setting_bytes, Network};
+use crate::Answer;
 use std::ops::Range;
 use unloop::raw;
 
@@ -140,4 +142,66 @@ pub fn whole_way(block: &Block, words: &[u16]) -> bool {
         assert!(ran.eq(shown(block, &setting, &settled)), "setting {number}");
     }
     true
+}
+
+/// Compares CompareCells on any words, and gives its answer.
+pub fn compare_table(block: &[u16], cells: &[u16], list: &[u16]) -> Answer {
+    let _report = Report(|| format!("compare cells {block:?} with {cells:?}, list {list:?}"));
+    let told = Answer::from(raw::compare_cells(block, cells, list));
+    assert_eq!(told, crate::compared_cells(block, cells, list));
+    count(|tally| {
+        tally.tables += 1;
+        tally.answered[told.number] += 1;
+    });
+    told
+}
+
+/// The nodes that a block's outputs show, as a list of words.
+pub fn list_of(block: &Block) -> Vec<u16> {
+    let word = |output: &Output| match output.node {
+        Source::Input(input) => input,
+        Source::Gate(gate) => block.inputs.len() + gate,
+        Source::Constant(_) => unreachable!("an output is no constant"),
+    };
+    let words = block.outputs.iter().map(word);
+    words.map(|word| word as u16).collect()
+}
+
+/// How many legal tables with one thing changed were caught, and how many show the same under every setting that counts.
+#[derive(Debug, Default)]
+pub struct Changed {
+    pub caught: usize,
+    pub equal: usize,
+}
+
+/// A block with the cells of what the passes of Render make of it; then with one thing of them changed, and with strange ones.
+pub fn compare_tables(random: &mut Random, block: &Block, words: &[u16], changed: &mut Changed) {
+    let straight = copied(block);
+    if straight.gates.len() > GATES {
+        return;
+    }
+    let (n, list) = (block.inputs.len(), list_of(&straight));
+    let cells = crate::cells(&straight.to_words(), usize::MAX).1;
+    assert_eq!(compare_table(words, &cells, &list), Answer::success(0));
+    for (cells, list) in changed_tables(random, n, &cells, &list) {
+        let told = compare_table(words, &cells, &list);
+        assert_eq!(told.number, 0);
+        match told.count {
+            0 => changed.equal += 1,
+            _ => changed.caught += 1,
+        }
+    }
+    for (cells, list) in strange_tables(random, n, &cells, &list) {
+        compare_table(words, &cells, &list);
+    }
+    compare_table(&mangled(random, words), &cells, &list);
+}
+
+/// Blocks with right tables, changed ones and strange ones.
+pub fn tables(seeds: Range<u64>, size: Size) -> Changed {
+    let mut changed = Changed::default();
+    for_blocks(seeds, size, |random, block, words| {
+        compare_tables(random, block, words, &mut changed);
+    });
+    changed
 }

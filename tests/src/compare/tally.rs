@@ -21,6 +21,8 @@ pub struct Tally {
     pub made: usize,
     /// Lists of words and settings in Run.
     pub runs: usize,
+    /// Blocks with cells and a list of nodes in CompareCells.
+    pub tables: usize,
     /// Lists of words in Gather.
     pub gathered: usize,
     /// Lists of words and of gate numbers in Scatter.
@@ -44,6 +46,7 @@ thread_local! {
             brought: 0,
             made: 0,
             runs: 0,
+            tables: 0,
             gathered: 0,
             scattered: 0,
             settings: 0,
@@ -77,6 +80,7 @@ impl Display for Tally {
             brought,
             made,
             runs,
+            tables,
             gathered,
             scattered,
             settings,
@@ -90,7 +94,10 @@ impl Display for Tally {
             f,
             "{all_excluded} with every setting excluded, {brought} in Bring, "
         )?;
-        write!(f, "{made} in Cells, {runs} in Run, ")?;
+        write!(
+            f,
+            "{made} in Cells, {runs} in Run, {tables} in CompareCells, "
+        )?;
         write!(f, "{gathered} in Gather, {scattered} in Scatter, ")?;
         write!(f, "{texts} texts, {places} places of lines, ")?;
         write!(f, "answers by number {answered:?}")

@@ -1,0 +1,4 @@
+-- The sentences hold.
+pub mod Judged
+pub mod Answers
+pub mod Made

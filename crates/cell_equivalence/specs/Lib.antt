@@ -1,0 +1,2 @@
+-- What the answers of CompareCells say, as sentences.
+pub mod Sentences

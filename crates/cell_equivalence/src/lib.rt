@@ -1,0 +1,1 @@
+// No code: what the answers of CompareCells say (SPECIFICATION 7.19).

@@ -1,0 +1,4 @@
+-- Laws on comparing that belong to no one function.
+pub mod Differences
+pub mod Searching
+pub mod Chain

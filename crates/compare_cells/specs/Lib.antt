@@ -1,0 +1,4 @@
+-- What the contracts of this crate add to the definitions of `netlist`.
+pub mod Ready
+pub mod Words
+pub mod Found

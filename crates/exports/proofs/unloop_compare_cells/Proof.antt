@@ -1,0 +1,17 @@
+-- `exports::unloop_compare_cells` meets its contract: its reply keeps the operation's promise. Assumes nothing.
+use Rattle.exports.proofs.Shown.{shows-told}
+use borrow.Author.Needs.{needs}
+use Rattle.exports.proofs.unloop_compare_cells.Statement.{statement}
+use Rattle.exports.proofs.unloop_compare_cells.Tie as tie
+
+compare-cells-requires : tie.Need-compare-cells-requires
+compare-cells-requires c κs = search needs
+
+reply-of-requires : tie.Need-reply-of-requires
+reply-of-requires c κs = search needs
+
+returns : tie.Need-returns
+returns c = shows-told (c .before .compare-cells .ensures) (c .reply-of .ensures)
+
+pub unloop-compare-cells-spec : {M : Type 1} → statement M
+unloop-compare-cells-spec = tie.close (tie.spec compare-cells-requires reply-of-requires returns)
