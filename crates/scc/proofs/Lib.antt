@@ -1,0 +1,3 @@
+-- Mathematics of layers; no function of src/ is named.
+pub mod Slots
+pub mod Layered
