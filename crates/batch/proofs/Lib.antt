@@ -2,3 +2,6 @@
 pub mod Sweeping
 pub mod LegibleLaws
 pub mod BatchLaws
+pub mod Inputs
+pub mod Layering
+pub mod Starting

@@ -69,7 +69,7 @@ bit-defined (suc zero) zero h l e = (false, refl)
 bit-defined (suc zero) (suc o) h l e = (false, refl)
 bit-defined (suc (suc z)) o h l e = absurd (omega arith)
 
-lane-defined : (lanes : ℕ) (p : Pair) → bitOr (p .zeros) (p .ones) ≡ full lanes → (s : ℕ) → s < lanes → (c : Bool) × (lane s p ≡ val c)
+pub lane-defined : (lanes : ℕ) (p : Pair) → bitOr (p .zeros) (p .ones) ≡ full lanes → (s : ℕ) → s < lanes → (c : Bool) × (lane s p ≡ val c)
 unfolding lane
 lane-defined lanes p e s l =
     bit-defined (bit (p .zeros) s) (bit (p .ones) s) (bit-low (p .zeros) s) (bit-low (p .ones) s)

@@ -7,3 +7,4 @@ pub mod InputLaws
 pub mod KindTests
 pub mod NodeLaws
 pub mod WordLaws
+pub mod LaneWordLaws

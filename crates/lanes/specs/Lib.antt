@@ -4,3 +4,4 @@ pub mod PairRounds
 pub mod Batches
 pub mod Nodes
 pub mod Words
+pub mod LaneWords

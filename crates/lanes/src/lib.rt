@@ -1,4 +1,7 @@
 // Sixty-four settings at a time: one gate's values under them as a pair of words, and the gate's pair from its operands' pairs.
+use graph::PLACES;
+
+pub mod evaluate;
 pub mod gate;
 pub mod inputs;
 pub mod words;
@@ -8,3 +11,6 @@ pub struct Pair {
     pub zeros: u64,
     pub ones: u64,
 }
+
+// Two words for each place: word 2 × place + v marks the lanes of value v.
+pub const LANE_WORDS: usize = 2 * PLACES;
