@@ -2,14 +2,14 @@
 --   differing-tells, differing-first   where an output shows another value; where one of the first outputs does
 --   marked-lanes                       where the blocks disagree
 --   lowest-there                       the lowest output that differs at a lane
---   marked-batch, marked-lowest        the same of a batch that was decided; its lowest lane
+--   marked-lowest                      the lowest lane of a batch
 --   search-accepted, search-found      no setting disagrees; one does, and no lower one
 --   search-passed, search-marked       one batch more; the batch at which the search ends
 -- Assumes nothing.
 use mathlib.Core.Path.{_≡_, refl, sym, _∙_}
 use mathlib.Core.Bool.{Bool, true, false, not}
 use mathlib.Core.List.{List}
-use Prim.Native.Nat.{ℕ, zero, suc, _+_, _%_, _^_, _≤_, _<_, max}
+use Prim.Native.Nat.{ℕ, zero, suc, _+_, _^_, _≤_, _<_, max}
 use native.Mathlib.Omega.{arith}
 use lib.Bits.{bitAnd, bitXor, differ, or-lt, xor-lt}
 use lib.Dec.{eqb}
@@ -17,8 +17,6 @@ use lib.ListN.{getD}
 use borrow.Author.Tests.{lt-ltb, le-ltb}
 use Rattle.laws.specs.Lists.{any, upTo, least}
 use Rattle.laws.proofs.Least.{least-le, least-below, least-at, least-is}
-use Rattle.layout.specs.declared.nodes.Nodes.{Nodes}
-use Rattle.layout.specs.Nodes.{nodesOf}
 use Rattle.netlist.specs.declared.Answer.the-variants.{Done}
 use Rattle.netlist.specs.Values.{code}
 use Rattle.netlist.specs.Netlist.{Block}
@@ -29,18 +27,17 @@ use Rattle.netlist.specs.Answers.{answerOf}
 use Rattle.netlist.specs.Compare.{differs, disagrees, lowestDisagreement, lowestDiffering, judgedAt, compareBlocks}
 use Rattle.encoding.proofs.Decoded.{decode-outputCount}
 use Rattle.lanes.specs.declared.Pair.{Pair}
-use Rattle.lanes.specs.Pairs.{markedLanes, lane, Proper, full}
+use Rattle.lanes.specs.Pairs.{markedLanes, lane, Proper}
 use Rattle.lanes.specs.Batches.{lanesOf}
 use Rattle.lanes.proofs.BitLaws.{bit-or, bit-xor}
 use Rattle.lanes.proofs.InputLaws.{lanesOf-most}
-use Rattle.batch.specs.Batch.{BatchSettled}
 use Rattle.lanes.specs.Words.{hasLane, Tells}
 use Rattle.lanes.proofs.WordLaws.{tells-as, tells-none, tells-and, tells-or, tells-no-lane, tells-some, tells-lowest}
 use Rattle.judge.proofs.OutputLaws.{output-proper, output-lane, any-first}
 use Rattle.compare.specs.Words.{differingIn, portPair, differingWord, differingWords, differsAt}
 use Rattle.verdict.proofs.Batching.{Place, batch-more}
-use Rattle.compare.specs.Ready.{CompareReady, BothJudged, Marked}
-use Rattle.compare.proofs.Rooms.{both-judged, setting-count}
+use Rattle.compare.specs.Ready.{BothJudged}
+use Rattle.compare.proofs.Rooms.{setting-count}
 
 -- ---- two pairs at a lane
 
@@ -91,8 +88,7 @@ module _ {lanes : ℕ} {p q : Pair} (first : Proper lanes p) (second : Proper la
 
 -- ---- one batch
 
-module _ {ours theirs : List ℕ} {base : ℕ} {zeros ones theirZeros theirOnes : List ℕ}
-    (j : BothJudged ours theirs base zeros ones theirZeros theirOnes) {used : ℕ} (inUse : used ≡ full (lanesOf (getD ours 0 0))) where
+module _ {ours theirs : List ℕ} {base : ℕ} {w others : List ℕ} (j : BothJudged ours theirs base w others) {n : ℕ} (same : n ≡ getD ours 0 0) where
   abbrev a : Block
   a = decode ours
 
@@ -102,13 +98,13 @@ module _ {ours theirs : List ℕ} {base : ℕ} {zeros ones theirZeros theirOnes 
   abbrev lanes : ℕ
   lanes = lanesOf (getD ours 0 0)
 
-  pub differing-tells : (o : ℕ) → o < getD ours 2 0 → Tells lanes base (λ s. differs a b s o) (differingWord ours theirs used zeros ones theirZeros theirOnes o)
+  pub differing-tells : (o : ℕ) → o < getD ours 2 0 → Tells lanes base (λ s. differs a b s o) (differingWord ours theirs n w others o)
   unfolding differingWord portPair differs
   differing-tells o there =
-      let first = output-proper (j .our-values) refl o in
-      let second = output-proper (j .their-values) refl o in
       let there′ : o < getD theirs 2 0 = rw (j .pair .outputs) there in
-      rw inUse
+      let first = output-proper (j .our-values) refl o there in
+      let second = output-proper (j .their-values) refl o there′ in
+      rw same
       (record {
         within = differingIn-within first second;
         each = λ s l.
@@ -116,7 +112,7 @@ module _ {ours theirs : List ℕ} {base : ℕ} {zeros ones theirZeros theirOnes 
       })
 
   differing-first : (k : ℕ) → k ≤ getD ours 2 0
-      → Tells lanes base (λ s. any (differs a b s) (upTo k)) (differingWords ours theirs used zeros ones theirZeros theirOnes k)
+      → Tells lanes base (λ s. any (differs a b s) (upTo k)) (differingWords ours theirs n w others k)
   unfolding differingWords
   differing-first zero l = tells-as (λ s. refl) tells-none
   differing-first (suc k) l =
@@ -124,35 +120,23 @@ module _ {ours theirs : List ℕ} {base : ℕ} {zeros ones theirZeros theirOnes 
 
   -- at the lanes of settings that count
   pub marked-lanes : {counted word : ℕ} → Tells lanes base (isCounted a) counted
-      → word ≡ differingWords ours theirs used zeros ones theirZeros theirOnes (getD ours 2 0) → Tells lanes base (disagrees a b) (bitAnd counted word)
+      → word ≡ differingWords ours theirs n w others (getD ours 2 0) → Tells lanes base (disagrees a b) (bitAnd counted word)
   unfolding disagrees
   marked-lanes t e = rw e (tells-as (λ s. rw (decode-outputCount ours)) (tells-and t (differing-first (getD ours 2 0) (omega arith))))
 
   -- the lowest output at a lane
-  pub lowest-there : {s r : ℕ} → s < lanes → r ≡ least (differsAt ours theirs used zeros ones theirZeros theirOnes s) (getD ours 2 0)
+  pub lowest-there : {s r : ℕ} → s < lanes → r ≡ least (differsAt ours theirs n w others s) (getD ours 2 0)
       → r ≡ lowestDiffering a b (base + s)
   unfolding lowestDiffering differsAt
   lowest-there {s} {r} l e =
       let count = getD ours 2 0 in
-      let test = differsAt ours theirs used zeros ones theirZeros theirOnes s in
+      let test = differsAt ours theirs n w others s in
       let few : r ≤ count = rw e (least-le test count) in
-      let same : (o : ℕ) → o < count → test o ≡ differs a b (base + s) o = λ o there. differing-tells o there .each s l in
+      let alike : (o : ℕ) → o < count → test o ≡ differs a b (base + s) o = λ o there. differing-tells o there .each s l in
       rw (decode-outputCount ours)
       (sym (least-is (differs a b (base + s)) count r few
-      (λ i below. sym (same i (omega arith)) ∙ least-below test count i (rw (← e) below))
-      (λ there. sym (same r there) ∙ rw e (least-at test count (rw (← e) there)))))
-
--- both blocks were decided, and the lanes of settings that count and of outputs that differ are known
-pub marked-batch : {ours theirs order theirOrder zeros ones theirZeros theirOnes : List ℕ}
-    → CompareReady ours theirs order theirOrder zeros ones theirZeros theirOnes → {nodes theirNodes : Nodes} {base used counted word : ℕ} {z o tz to : List ℕ}
-    → nodes ≡ nodesOf ours → theirNodes ≡ nodesOf theirs → base % 64 ≡ 0 → BatchSettled (decode ours) (nodes .inputs) base z o
-    → BatchSettled (decode theirs) (theirNodes .inputs) base tz to → used ≡ full (lanesOf (nodes .inputs))
-    → Tells (lanesOf (nodes .inputs)) base (isCounted (decode ours)) counted → word ≡ differingWords ours theirs used z o tz to (getD ours 2 0)
-    → Marked ours theirs base z o tz to (bitAnd counted word)
-unfolding nodesOf
-marked-batch r e f aligned p q u t w =
-    let j = both-judged r e f aligned p q in
-    record { judged = j; tells = marked-lanes j (u ∙ rw e) (rw e at t) w }
+      (λ i below. sym (alike i (omega arith)) ∙ least-below test count i (rw (← e) below))
+      (λ there. sym (alike r there) ∙ rw e (least-at test count (rw (← e) there)))))
 
 -- the lowest lane of a word that is not 0
 pub marked-lowest : (n : ℕ) {base : ℕ} {test : ℕ → Bool} {w : ℕ} → Tells (lanesOf n) base test w → (w ≡ 0 → ⊥) → let r = least (hasLane w) 64 in
@@ -180,22 +164,22 @@ module _ (a b : Block) (s count : ℕ) (e : count ≡ settingCount a) (before : 
 
 -- ---- batch by batch
 
-module _ {ours theirs : List ℕ} {n base : ℕ} {zeros ones theirZeros theirOnes : List ℕ} {w : ℕ}
-    (m : Marked ours theirs base zeros ones theirZeros theirOnes w) (e : n ≡ getD ours 0 0)
+module _ {ours theirs : List ℕ} {n base : ℕ} {w others : List ℕ} {word : ℕ} (j : BothJudged ours theirs base w others)
+    (t : Tells (lanesOf (getD ours 0 0)) base (disagrees (decode ours) (decode theirs)) word) (e : n ≡ getD ours 0 0)
     (before : (i : ℕ) → i < base → disagrees (decode ours) (decode theirs) i ≡ false) where
   -- no lane of this one
-  pub search-passed : {step : ℕ} → step ≡ lanesOf n → w ≡ 0 → (i : ℕ) → i < base + step → disagrees (decode ours) (decode theirs) i ≡ false
-  search-passed is z = batch-more (λ i. disagrees (decode ours) (decode theirs) i ≡ false) (is ∙ rw e) before (tells-no-lane (m .tells) z)
+  pub search-passed : {step : ℕ} → step ≡ lanesOf n → word ≡ 0 → (i : ℕ) → i < base + step → disagrees (decode ours) (decode theirs) i ≡ false
+  search-passed is z = batch-more (λ i. disagrees (decode ours) (decode theirs) i ≡ false) (is ∙ rw e) before (tells-no-lane t z)
 
   -- some: the lowest lane, and there the lowest output
-  pub search-marked : (w ≡ 0 → ⊥) → {count used lane o : ℕ} → count ≡ 2 ^ n → used ≡ full (lanesOf n) → Place n base → base < count
-      → lane ≡ least (hasLane w) 64 → o ≡ least (differsAt ours theirs used zeros ones theirZeros theirOnes lane) (getD ours 2 0)
+  pub search-marked : (word ≡ 0 → ⊥) → {count lane o : ℕ} → count ≡ 2 ^ n → Place n base → base < count
+      → lane ≡ least (hasLane word) 64 → o ≡ least (differsAt ours theirs n w others lane) (getD ours 2 0)
       → Done (o + 1) (base + lane) ≡ answerOf (compareBlocks (decode ours) (decode theirs))
-  search-marked h {count} {used} {lane} {o} many u place below is lowest =
-      let f = marked-lowest (getD ours 0 0) (m .tells) h in
+  search-marked h {count} {lane} {o} many place below is lowest =
+      let f = marked-lowest (getD ours 0 0) t h in
       let there : lane < lanesOf (getD ours 0 0) = rw is (f .0) in
       let room : base + lanesOf n ≤ 2 ^ n = place .whole (rw (← many) below) in
       let there′ : lane < lanesOf n = rw e there in
       search-found (decode ours) (decode theirs) (base + lane) count (setting-count ours e many)
       (batch-more (λ i. disagrees (decode ours) (decode theirs) i ≡ false) refl before (λ i l. f .2 i (rw (← is) l))) o (omega arith) (rw is (f .1))
-      (lowest-there (m .judged) (u ∙ rw e) there lowest)
+      (lowest-there j e there lowest)

@@ -1,7 +1,7 @@
 -- Mathematics of comparing two blocks; no function of src/ is named.
 --   Interfaces    the same names, word by word
 --   Differences   what one setting tells, and the search over all of them
---   Rooms         what the slices lent are good for
+--   Rooms         numbers that were read
 --   Accepted      the operation answers by the two sentences of the definitions
 --   Rendered      what Render makes of a block is accepted for it
 --   Chain         the operation's conditions

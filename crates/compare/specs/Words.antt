@@ -15,14 +15,14 @@ use Rattle.judge.specs.Lanes.{outputPair}
 unfoldable pub differingIn : Pair → Pair → ℕ
 differingIn p q = bitOr (bitXor (p .zeros) (q .zeros)) (bitXor (p .ones) (q .ones))
 
--- the words of ours and of theirs, `used` with a bit at each lane in use, and the pairs of both blocks' inputs and gates
-module _ (ours theirs : List ℕ) (used : ℕ) (zeros ones theirZeros theirOnes : List ℕ) where
+-- the words of ours and of theirs, both of n inputs, and the pairs of both blocks' inputs and gates
+module _ (ours theirs : List ℕ) (n : ℕ) (w others : List ℕ) where
   -- the pair of output o
-  unfoldable pub portPair : List ℕ → List ℕ → List ℕ → ℕ → Pair
-  portPair ws zeros ones o = outputPair ws (outputsAt (getD ws 0 0) (getD ws 3 0) (getD ws 1 0)) used zeros ones o
+  unfoldable pub portPair : List ℕ → List ℕ → ℕ → Pair
+  portPair ws v o = outputPair ws (outputsAt (getD ws 0 0) (getD ws 3 0) (getD ws 1 0)) n v o
 
   unfoldable pub differingWord : ℕ → ℕ
-  differingWord o = differingIn (portPair ours zeros ones o) (portPair theirs theirZeros theirOnes o)
+  differingWord o = differingIn (portPair ours w o) (portPair theirs others o)
 
   unfoldable pub differingWords : ℕ → ℕ
   differingWords zero = 0

@@ -1,8 +1,9 @@
 // Compare (SPECIFICATION 7.13): is a loop-free block that was made elsewhere as good as the original?
 use block::check_straight;
 use block::check_words;
+use graph::GRAPH_WORDS;
+use lanes::LANE_WORDS;
 use layout::limits::MAX_GATES;
-use layout::limits::MAX_INPUTS;
 use netlist::Answer;
 use refusals::Test;
 use refusals::refusal;
@@ -16,26 +17,26 @@ pub mod interface;
 pub mod outputs;
 pub mod settings;
 
-// Both blocks passed the tests: room for an order and for two words an input and a gate, of each block.
+// Both blocks passed the tests: room for a plan of ours, a graph of theirs, and two words a place of each.
 fn compare_pair(ours: &[u16], theirs: &[u16]) -> Answer
     requires { ⌜ BlockPair (now ours) (now theirs) ⌝ }
     ensures { λ r. ⌜ r ≡ answerOf (compareBlocks (decode (now (ours .entry))) (decode (now (theirs .entry)))) ⌝ }
 {
+    let mut graph = [0u16; GRAPH_WORDS];
     let mut order = [0u16; MAX_GATES];
-    let mut path = [0u16; MAX_GATES];
-    let mut zeros = [0u64; MAX_INPUTS + MAX_GATES];
-    let mut ones = [0u64; MAX_INPUTS + MAX_GATES];
-    let mut lows = [0u64; MAX_INPUTS + MAX_GATES];
-    let mut highs = [0u64; MAX_INPUTS + MAX_GATES];
+    let mut ends = [0u16; MAX_GATES];
+    let mut their_graph = [0u16; GRAPH_WORDS];
+    let mut lanes = [0u64; LANE_WORDS];
+    let mut others = [0u64; LANE_WORDS];
     settings::compare_with(
         ours,
         theirs,
+        &mut graph,
         &mut order,
-        &mut path,
-        &mut zeros,
-        &mut ones,
-        &mut lows,
-        &mut highs,
+        &mut ends,
+        &mut their_graph,
+        &mut lanes,
+        &mut others,
     )
 }
 

@@ -1,11 +1,11 @@
-// Where the outputs of two blocks differ, from the pairs of each block's inputs and gates in a batch: `zeros` and `ones` of ours, `lows` and `highs` of theirs.
-// `used` has a bit at each lane in use.
+// Where the outputs of two blocks of n inputs differ, from the pairs of each block in a batch: `lanes` of ours, `others` of theirs.
 use judge::outputs::output_pair;
+use lanes::LANE_WORDS;
 use layout::offsets::outputs_at;
 use layout::offsets::outputs_of;
 ghost use mathlib.Core.Path.{_≡_};
 ghost use Prim.Native.Nat.{_<_};
-ghost use lib.ListN.{length, getD};
+ghost use lib.ListN.{getD};
 ghost use Rattle.laws.specs.Lists.{least};
 ghost use Rattle.compare.specs.Ready.{BlockPair};
 ghost use Rattle.compare.specs.Words.{differingWord, differingWords, differsAt};
@@ -14,22 +14,16 @@ ghost use Rattle.compare.specs.Words.{differingWord, differingWords, dif
 fn differing_lanes(
     ours: &[u16],
     theirs: &[u16],
+    n: usize,
     o: usize,
-    used: u64,
-    zeros: &[u64],
-    ones: &[u64],
-    lows: &[u64],
-    highs: &[u64],
+    lanes: &[u64; LANE_WORDS],
+    others: &[u64; LANE_WORDS],
 ) -> u64
-    requires { ⌜ BlockPair (now ours) (now theirs) × (o < getD (now ours) 2 0) ⌝ }
-    requires { ⌜ (length (now zeros) ≡ length (now ones)) × (length (now lows) ≡ length (now highs)) ⌝ }
-    ensures { λ r. ⌜
-        r ≡ differingWord (now (ours .entry)) (now (theirs .entry)) used (now (zeros .entry)) (now (ones .entry)) (now (lows .entry))
-        (now (highs .entry)) o
-        ⌝ }
+    requires { ⌜ BlockPair (now ours) (now theirs) × (n ≡ getD (now ours) 0 0) × (o < getD (now ours) 2 0) ⌝ }
+    ensures { λ r. ⌜ r ≡ differingWord (now (ours .entry)) (now (theirs .entry)) n (now (lanes .entry)) (now (others .entry)) o ⌝ }
 {
-    let shown = output_pair(ours, outputs_at(ours), o, used, zeros, ones);
-    let other = output_pair(theirs, outputs_at(theirs), o, used, lows, highs);
+    let shown = output_pair(ours, outputs_at(ours), n, o, lanes);
+    let other = output_pair(theirs, outputs_at(theirs), n, o, others);
     (shown.zeros ^ other.zeros) | (shown.ones ^ other.ones)
 }
 
@@ -37,52 +31,44 @@ fn differing_lanes(
 pub fn any_differing(
     ours: &[u16],
     theirs: &[u16],
-    used: u64,
-    zeros: &[u64],
-    ones: &[u64],
-    lows: &[u64],
-    highs: &[u64],
+    n: usize,
+    lanes: &[u64; LANE_WORDS],
+    others: &[u64; LANE_WORDS],
 ) -> u64
-    requires { ⌜ BlockPair (now ours) (now theirs) ⌝ }
-    requires { ⌜ (length (now zeros) ≡ length (now ones)) × (length (now lows) ≡ length (now highs)) ⌝ }
+    requires { ⌜ BlockPair (now ours) (now theirs) × (n ≡ getD (now ours) 0 0) ⌝ }
     ensures { λ r. ⌜
-        r ≡ differingWords (now (ours .entry)) (now (theirs .entry)) used (now (zeros .entry)) (now (ones .entry)) (now (lows .entry))
-        (now (highs .entry)) (getD (now (ours .entry)) 2 0)
+        r ≡ differingWords (now (ours .entry)) (now (theirs .entry)) n (now (lanes .entry)) (now (others .entry)) (getD (now (ours .entry)) 2 0)
         ⌝ }
 {
     let count = outputs_of(ours);
-    let mut lanes = 0u64;
+    let mut word = 0u64;
     let mut o = 0;
     while o < count {
-        lanes = lanes | differing_lanes(ours, theirs, o, used, zeros, ones, lows, highs);
+        word = word | differing_lanes(ours, theirs, n, o, lanes, others);
         o += 1;
     }
-    lanes
+    word
 }
 
 // The lowest output that shows another value in theirs at a lane, or the number of outputs.
 pub fn lowest_differing(
     ours: &[u16],
     theirs: &[u16],
+    n: usize,
     lane: usize,
-    used: u64,
-    zeros: &[u64],
-    ones: &[u64],
-    lows: &[u64],
-    highs: &[u64],
+    lanes: &[u64; LANE_WORDS],
+    others: &[u64; LANE_WORDS],
 ) -> usize
-    requires { ⌜ BlockPair (now ours) (now theirs) × (lane < 64) ⌝ }
-    requires { ⌜ (length (now zeros) ≡ length (now ones)) × (length (now lows) ≡ length (now highs)) ⌝ }
+    requires { ⌜ BlockPair (now ours) (now theirs) × (n ≡ getD (now ours) 0 0) × (lane < 64) ⌝ }
     ensures { λ r. ⌜
-        r ≡ least (differsAt (now (ours .entry)) (now (theirs .entry)) used (now (zeros .entry)) (now (ones .entry)) (now (lows .entry))
-        (now (highs .entry)) lane) (getD (now (ours .entry)) 2 0)
+        r ≡ least (differsAt (now (ours .entry)) (now (theirs .entry)) n (now (lanes .entry)) (now (others .entry)) lane) (getD (now (ours .entry)) 2 0)
         ⌝ }
 {
     let count = outputs_of(ours);
     let mut o = 0;
     while o < count {
-        let lanes = differing_lanes(ours, theirs, o, used, zeros, ones, lows, highs);
-        if (lanes >> lane) % 2 == 1 {
+        let word = differing_lanes(ours, theirs, n, o, lanes, others);
+        if (word >> lane) % 2 == 1 {
             return o;
         }
         o += 1;

@@ -1,84 +1,81 @@
-// The search for the lowest setting under which two blocks disagree, a batch of up to 64 at a time. Ours is decided in place along `order` in `zeros` and
-// `ones`, theirs along `path` in `lows` and `highs`.
+// The search for the lowest setting under which two blocks disagree, a batch of up to 64 at a time. Ours is decided by its plan in `lanes`, theirs, which is
+// straight, gate by gate in `others`.
 use crate::outputs::any_differing;
 use crate::outputs::lowest_differing;
-use batch::in_place::decide_batch;
+use batch::plan::plan_block;
+use graph::GRAPH_WORDS;
+use graph::decode_gates;
+use judge::decided::judge_batch;
+use judge::decided::judge_straight;
 use judge::settled::counted_lanes;
-use lanes::inputs::used_lanes;
+use lanes::LANE_WORDS;
 use lanes::words::lane_count;
 use lanes::words::lowest_lane;
-use layout::nodes::nodes_of;
-use layout::offsets::gates_of;
+use layout::limits::MAX_GATES;
 use layout::offsets::inputs_of;
 use netlist::Answer;
 use verdict::settings::setting_count;
-use visiting::order_gates;
 ghost use mathlib.Core.Path.{_≡_};
-ghost use Prim.Native.Nat.{_+_, _%_};
-ghost use lib.ListN.{length};
-ghost use Rattle.netlist.specs.Limits.{maxInputs, maxGates};
+ghost use lib.ListN.{length, getD};
 ghost use Rattle.netlist.specs.StoredBlock.{decode};
 ghost use Rattle.netlist.specs.Answers.{answerOf};
-ghost use Rattle.netlist.specs.Compare.{compareBlocks};
-ghost use Rattle.compare.specs.Ready.{BlockPair, CompareReady, Marked};
+ghost use Rattle.netlist.specs.Compare.{disagrees, compareBlocks};
+ghost use Rattle.graph.specs.Graph.{graphSize};
+ghost use Rattle.lanes.specs.Batches.{lanesOf};
+ghost use Rattle.lanes.specs.Words.{Tells};
+ghost use Rattle.lanes.specs.LaneWords.{laneSize};
+ghost use Rattle.batch.specs.Layered.{PlanRoom};
+ghost use Rattle.compare.specs.Ready.{BlockPair, CompareReady, BothJudged};
 
-// The lanes of the batch at `base` at which the blocks disagree; the slices hold both blocks' settled values.
+// The lanes of the batch at `base` at which the blocks disagree, when both blocks' settled values are there.
 fn disagreeing_lanes(
     ours: &[u16],
     theirs: &[u16],
-    order: &[u16],
-    path: &[u16],
     base: usize,
-    zeros: &mut [u64],
-    ones: &mut [u64],
-    lows: &mut [u64],
-    highs: &mut [u64],
+    lanes: &[u64; LANE_WORDS],
+    others: &[u64; LANE_WORDS],
 ) -> u64
-    requires { ⌜
-        CompareReady (now ours) (now theirs) (now order) (now path) (now zeros) (now ones) (now lows) (now highs) × (base % 64 ≡ 0)
-        ⌝ }
+    requires { ⌜ BothJudged (now ours) (now theirs) base (now lanes) (now others) ⌝ }
     ensures { λ r. ⌜
-        Marked (now (ours .entry)) (now (theirs .entry)) base (now (zeros .exit)) (now (ones .exit)) (now (lows .exit)) (now (highs .exit)) r
+        Tells (lanesOf (getD (now (ours .entry)) 0 0)) base (disagrees (decode (now (ours .entry))) (decode (now (theirs .entry)))) r
         ⌝ }
 {
-    let nodes = nodes_of(ours);
-    decide_batch(ours, nodes, order, base, zeros, ones);
-    decide_batch(theirs, nodes_of(theirs), path, base, lows, highs);
-    let counted = counted_lanes(ours, nodes.inputs, base, zeros, ones);
-    let used = used_lanes(nodes.inputs);
-    counted & any_differing(ours, theirs, used, zeros, ones, lows, highs)
+    let n = inputs_of(ours);
+    counted_lanes(ours, n, base, lanes) & any_differing(ours, theirs, n, lanes, others)
 }
 
 // The batches in ascending order, up to the first disagreement: the lowest lane, and there the lowest output.
 fn search_settings(
     ours: &[u16],
     theirs: &[u16],
-    order: &[u16],
-    path: &[u16],
-    zeros: &mut [u64],
-    ones: &mut [u64],
-    lows: &mut [u64],
-    highs: &mut [u64],
+    graph: &[u16; GRAPH_WORDS],
+    order: &[u16; MAX_GATES],
+    ends: &[u16; MAX_GATES],
+    their_graph: &[u16; GRAPH_WORDS],
+    lanes: &mut [u64; LANE_WORDS],
+    others: &mut [u64; LANE_WORDS],
 ) -> Answer
-    requires { ⌜ CompareReady (now ours) (now theirs) (now order) (now path) (now zeros) (now ones) (now lows) (now highs) ⌝ }
+    requires { ⌜ CompareReady (now ours) (now theirs) (now graph) (now order) (now ends) (now «their_graph») ⌝ }
+    requires { ⌜ (length (now lanes) ≡ laneSize) × (length (now others) ≡ laneSize) ⌝ }
     ensures { λ r. ⌜ r ≡ answerOf (compareBlocks (decode (now (ours .entry))) (decode (now (theirs .entry)))) ⌝ }
 {
     let n = inputs_of(ours);
-    let used = used_lanes(n);
     let count = setting_count(n);
-    let lanes = lane_count(n);
+    let batch = lane_count(n);
     let mut base = 0;
     while base < count {
-        let word = disagreeing_lanes(ours, theirs, order, path, base, zeros, ones, lows, highs);
+        judge_batch(ours, graph, order, ends, base, lanes);
+        judge_straight(theirs, their_graph, base, others);
+        let word = disagreeing_lanes(ours, theirs, base, lanes, others);
         if word != 0 {
             let lane = lowest_lane(word);
-            let o = lowest_differing(ours, theirs, lane, used, zeros, ones, lows, highs);
+            let o = lowest_differing(ours, theirs, n, lane, lanes, others);
             return Answer::Done {
                 count: o + 1,
                 detail: base + lane,
             };
         }
-        base += lanes;
+        base += batch;
     }
     Answer::Done {
         count: 0,
@@ -86,36 +83,22 @@ fn search_settings(
     }
 }
 
-// The same, with room for an order and for two words an input and a gate, of each block.
+// The same, with room for a plan of ours, a graph of theirs, and two words a place of each.
 pub fn compare_with(
     ours: &[u16],
     theirs: &[u16],
-    order: &mut [u16],
-    path: &mut [u16],
-    zeros: &mut [u64],
-    ones: &mut [u64],
-    lows: &mut [u64],
-    highs: &mut [u64],
+    graph: &mut [u16; GRAPH_WORDS],
+    order: &mut [u16; MAX_GATES],
+    ends: &mut [u16; MAX_GATES],
+    their_graph: &mut [u16; GRAPH_WORDS],
+    lanes: &mut [u64; LANE_WORDS],
+    others: &mut [u64; LANE_WORDS],
 ) -> Answer
-    requires { ⌜ BlockPair (now ours) (now theirs) ⌝ }
-    requires { ⌜ (length (now order) ≡ maxGates) × (length (now path) ≡ maxGates) ⌝ }
-    requires { ⌜ (length (now zeros) ≡ maxInputs + maxGates) × (length (now ones) ≡ maxInputs + maxGates) ⌝ }
-    requires { ⌜ (length (now lows) ≡ maxInputs + maxGates) × (length (now highs) ≡ maxInputs + maxGates) ⌝ }
+    requires { ⌜ BlockPair (now ours) (now theirs) × PlanRoom (now graph) (now order) (now ends) × (length (now «their_graph») ≡ graphSize) ⌝ }
+    requires { ⌜ (length (now lanes) ≡ laneSize) × (length (now others) ≡ laneSize) ⌝ }
     ensures { λ r. ⌜ r ≡ answerOf (compareBlocks (decode (now (ours .entry))) (decode (now (theirs .entry)))) ⌝ }
 {
-    let n = inputs_of(ours);
-    let m = gates_of(ours);
-    let others = gates_of(theirs);
-    order_gates(ours, order);
-    order_gates(theirs, path);
-    search_settings(
-        ours,
-        theirs,
-        &order[..m],
-        &path[..others],
-        &mut zeros[..n + m],
-        &mut ones[..n + m],
-        &mut lows[..n + others],
-        &mut highs[..n + others],
-    )
+    plan_block(ours, graph, order, ends);
+    decode_gates(theirs, their_graph);
+    search_settings(ours, theirs, graph, order, ends, their_graph, lanes, others)
 }

@@ -2,18 +2,19 @@
 -- Assumes nothing.
 use mathlib.Core.Path.{_≡_}
 use mathlib.Core.List.{List}
-use Prim.Native.Nat.{ℕ, _+_, _^_, _≤_, _<_}
+use Prim.Native.Nat.{ℕ, _^_, _≤_, _<_}
 use lib.ListN.{length}
-use Rattle.netlist.specs.Limits.{maxInputs, maxGates}
+use Rattle.netlist.specs.Limits.{maxInputs}
 use Rattle.netlist.specs.Netlist.{Block}
 use Rattle.netlist.specs.Rounds.{settingCount, isSoundAt}
+use Rattle.lanes.specs.LaneWords.{laneSize}
+use Rattle.batch.specs.Layered.{PlanRoom}
 use Rattle.assignments.specs.Tables.{settledBy}
 
--- room for the gates' order, two words for each input and each gate, and a byte for each setting of the most inputs
-pub record CoverRoom (order zeros ones settled : List ℕ) : Type 0 where
-  pub orderRoom : length order ≡ maxGates
-  pub zeroRoom : length zeros ≡ maxInputs + maxGates
-  pub oneRoom : length ones ≡ maxInputs + maxGates
+-- room for a plan, two words for each place, and a byte for each setting of the most inputs
+pub record CoverRoom (graph order ends lanes settled : List ℕ) : Type 0 where
+  pub planRoom : PlanRoom graph order ends
+  pub laneRoom : length lanes ≡ laneSize
   pub settledRoom : length settled ≡ 2 ^ maxInputs
 
 -- the table has a byte for each setting, 1 exactly where it never comes or is settled

@@ -1,8 +1,9 @@
 // Cover (SPECIFICATION 4, 7.7): the sound partial assignments from which no single fixed input can be dropped.
 use assignments::cover_entries;
 use block::check_words;
+use graph::GRAPH_WORDS;
+use lanes::LANE_WORDS;
 use layout::limits::MAX_GATES;
-use layout::limits::MAX_INPUTS;
 use layout::limits::MAX_SETTINGS;
 use layout::offsets;
 use netlist::Answer;
@@ -20,21 +21,22 @@ ghost use Rattle.cover.specs.Table.{CoverRoom};
 
 mod table;
 
-// Cover of a block that is not torn, with arrays for an order of the gates, two words an input and a gate, and a byte a setting.
+// Cover of a block that is not torn, with arrays for its graph, its gates in layers, two words a place, and a byte a setting.
 // `cover_entries` alters nothing where the entries' words, two an entry, do not fit.
 fn whole_cover(
     words: &[u16],
-    order: &mut [u16],
-    zeros: &mut [u64],
-    ones: &mut [u64],
+    graph: &mut [u16; GRAPH_WORDS],
+    order: &mut [u16; MAX_GATES],
+    ends: &mut [u16; MAX_GATES],
+    lanes: &mut [u64; LANE_WORDS],
     settled: &mut [u8],
     entries: &mut [u16],
 ) -> Answer
     requires { ⌜ isMalformed (now words) ≡ false ⌝ }
-    requires { ⌜ CoverRoom (now order) (now zeros) (now ones) (now settled) ⌝ }
+    requires { ⌜ CoverRoom (now graph) (now order) (now ends) (now lanes) (now settled) ⌝ }
     ensures { λ r. ⌜ Promise (coverOf (now (words .entry)) (length (now (entries .entry)))) (now (entries .entry)) r (now (entries .exit)) ⌝ }
 {
-    tabulate(words, order, zeros, ones, settled);
+    tabulate(words, graph, order, ends, lanes, settled);
     let n = offsets::inputs_of(words);
     let count = cover_entries(settled, n, entries);
     let tested = test_room(entries.len() / 2, count);
@@ -52,15 +54,17 @@ pub fn cover(words: &[u16], entries: &mut [u16]) -> Answer
     let Test::Passed = tested else {
         return refusal(tested);
     };
+    let mut graph = [0u16; GRAPH_WORDS];
     let mut order = [0u16; MAX_GATES];
-    let mut zeros = [0u64; MAX_INPUTS + MAX_GATES];
-    let mut ones = [0u64; MAX_INPUTS + MAX_GATES];
+    let mut ends = [0u16; MAX_GATES];
+    let mut lanes = [0u64; LANE_WORDS];
     let mut settled = [0u8; MAX_SETTINGS];
     whole_cover(
         words,
+        &mut graph,
         &mut order,
-        &mut zeros,
-        &mut ones,
+        &mut ends,
+        &mut lanes,
         &mut settled,
         entries,
     )

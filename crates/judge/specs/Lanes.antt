@@ -1,12 +1,13 @@
 -- Words with a bit at each lane of a batch whose setting passes a test. Cited by the contracts of this crate, of `verdict` and of `compare`.
 --   agreesAt, mayCome, isUndefinedAt, isUnsettled, isUnsound   the tests
 --   undefinedWord, unsettledWord    the lanes at which an output, or one of the first outputs, is undefined
+--   OutputThere, OutputsThere       outputs that can be read
 --   Judged                          a batch that was decided
 -- Assumes nothing.
 use mathlib.Core.Path.{_≡_}
-use mathlib.Core.Bool.{Bool, not, _||_}
+use mathlib.Core.Bool.{Bool, false, not, _||_}
 use mathlib.Core.List.{List}
-use Prim.Native.Nat.{ℕ, zero, suc, _+_, _*_, _%_, _≤_}
+use Prim.Native.Nat.{ℕ, zero, suc, _+_, _*_, _%_, _^_, _≤_, _<_}
 use lib.Bits.{bitOr, bitXor}
 use lib.Dec.{eqb}
 use lib.ListN.{getD}
@@ -14,11 +15,14 @@ use Rattle.netlist.specs.Values.{undefined, isDefined}
 use Rattle.netlist.specs.Netlist.{Block}
 use Rattle.netlist.specs.Assignments.{bit, Assignment, fixes}
 use Rattle.netlist.specs.Limits.{maxInputs}
-use Rattle.netlist.specs.StoredBlock.{nameSize, outputSize, decode}
+use Rattle.netlist.specs.StoredBlock.{nameSize, outputSize, operandOf, decode, isMalformed}
 use Rattle.netlist.specs.Rounds.{outputsUnder, isSettled, isExcluded, isSoundAt}
 use Rattle.lanes.specs.declared.Pair.{Pair}
-use Rattle.lanes.specs.Nodes.{wordPair}
-use Rattle.batch.specs.Batch.{BatchSettled}
+use Rattle.graph.specs.Places.{placeCount, placeOf}
+use Rattle.lanes.specs.Pairs.{full}
+use Rattle.lanes.specs.Batches.{lanesOf}
+use Rattle.lanes.specs.LaneWords.{pairAt}
+use Rattle.batch.specs.Layered.{LanesSettled}
 
 -- ---- tests of setting number s
 
@@ -39,27 +43,40 @@ isUnsettled b s = not (isSettled b s)
 unfoldable pub isUnsound : Block → ℕ → Bool
 isUnsound b s = not (isSoundAt b s)
 
--- ---- words of lanes, from the pairs of the inputs and gates
+-- ---- words of lanes, from the pairs of the inputs and gates of a block of n inputs, whose outputs' words start at `at`
 
--- the pair of output o, where `used` has a bit at each lane in use and the outputs' words start at `at`
-unfoldable pub outputPair : List ℕ → ℕ → ℕ → List ℕ → List ℕ → ℕ → Pair
-outputPair ws at used zeros ones o = wordPair used zeros ones (getD ws (at + outputSize * o + nameSize) 0)
+-- the pair of output o
+unfoldable pub outputPair : List ℕ → ℕ → ℕ → List ℕ → ℕ → Pair
+outputPair ws at n w o = pairAt w (placeOf (operandOf n (getD ws (at + outputSize * o + nameSize) 0)))
 
--- neither 0 nor 1
+-- neither 0 nor 1, where `used` has a bit at each lane in use
 unfoldable pub undefinedIn : ℕ → Pair → ℕ
 undefinedIn used p = bitXor used (bitOr (p .zeros) (p .ones))
 
-unfoldable pub undefinedWord : List ℕ → ℕ → ℕ → List ℕ → List ℕ → ℕ → ℕ
-undefinedWord ws at used zeros ones o = undefinedIn used (outputPair ws at used zeros ones o)
+unfoldable pub undefinedWord : List ℕ → ℕ → ℕ → List ℕ → ℕ → ℕ
+undefinedWord ws at n w o = undefinedIn (full (lanesOf n)) (outputPair ws at n w o)
 
 -- one of the first outputs is undefined
-unfoldable pub unsettledWord : List ℕ → ℕ → ℕ → List ℕ → List ℕ → ℕ → ℕ
-unsettledWord ws at used zeros ones zero = 0
-unsettledWord ws at used zeros ones (suc o) = bitOr (unsettledWord ws at used zeros ones o) (undefinedWord ws at used zeros ones o)
+unfoldable pub unsettledWord : List ℕ → ℕ → ℕ → List ℕ → ℕ → ℕ
+unsettledWord ws at n w zero = 0
+unsettledWord ws at n w (suc o) = bitOr (unsettledWord ws at n w o) (undefinedWord ws at n w o)
 
--- the slices hold the settled values of the batch at `base`, of a block of n inputs
-pub record Judged (ws : List ℕ) (n base : ℕ) (zeros ones : List ℕ) : Type 0 where
-  pub settled : BatchSettled (decode ws) n base zeros ones
+-- what reading output o asks
+pub record OutputThere (ws : List ℕ) (at n o : ℕ) : Type 0 where
+  pub near : at < 2 ^ 32
+  pub few : o < 2 ^ 32
+  pub fewInputs : n ≤ maxInputs
+  pub inside : placeOf (operandOf n (getD ws (at + outputSize * o + nameSize) 0)) < placeCount
+
+-- the same of the first outputs
+pub record OutputsThere (ws : List ℕ) (at n count : ℕ) : Type 0 where
+  pub many : count < 2 ^ 32
+  pub each : (o : ℕ) → o < count → OutputThere ws at n o
+
+-- the lanes hold the settled values of the batch at `base`, of a block of n inputs
+pub record Judged (ws : List ℕ) (n base : ℕ) (w : List ℕ) : Type 0 where
+  pub whole : isMalformed ws ≡ false
+  pub settled : LanesSettled (decode ws) n base w
   pub inputs : n ≡ getD ws 0 0
   pub fewInputs : n ≤ maxInputs
   pub aligned : base % 64 ≡ 0

@@ -1,63 +1,55 @@
-// What the outputs are at the lanes of a batch, from the pairs of its inputs and gates. `used` has a bit at each lane in use; the outputs' words
-// start at `at`.
+// What the outputs are at the lanes of a batch, from the pairs of its inputs and gates, in a block of n inputs whose outputs' words start at `at`.
+use graph::place_of;
+use lanes::LANE_WORDS;
 use lanes::Pair;
-use lanes::gate::operand_pair;
+use lanes::evaluate::pair_at;
+use lanes::inputs::used_lanes;
 use layout::offsets::NAME_SIZE;
 use layout::offsets::OUTPUT_SIZE;
 use layout::read::word_at;
 ghost use mathlib.Core.Path.{_≡_};
 ghost use Prim.Native.Nat.{_^_, _<_};
-ghost use lib.ListN.{length};
-ghost use Rattle.judge.specs.Lanes.{outputPair, undefinedWord, unsettledWord};
+ghost use Rattle.judge.specs.Lanes.{outputPair, undefinedWord, unsettledWord, OutputThere, OutputsThere};
 
 // The pair of output `o`.
-pub fn output_pair(
-    words: &[u16],
-    at: usize,
-    o: usize,
-    used: u64,
-    zeros: &[u64],
-    ones: &[u64],
-) -> Pair
-    requires { ⌜ (at < 2 ^ 32) × (o < 2 ^ 32) × (length (now zeros) ≡ length (now ones)) ⌝ }
-    ensures { λ r. ⌜ r ≡ outputPair (now (words .entry)) at used (now (zeros .entry)) (now (ones .entry)) o ⌝ }
+pub fn output_pair(words: &[u16], at: usize, n: usize, o: usize, lanes: &[u64; LANE_WORDS]) -> Pair
+    requires { ⌜ OutputThere (now words) at n o ⌝ }
+    ensures { λ r. ⌜ r ≡ outputPair (now (words .entry)) at n (now (lanes .entry)) o ⌝ }
 {
     let node = word_at(words, at + OUTPUT_SIZE * o + NAME_SIZE);
-    operand_pair(node, used, zeros, ones)
+    pair_at(lanes, place_of(node, n))
 }
 
 // Where it is undefined.
 pub fn undefined_lanes(
     words: &[u16],
     at: usize,
+    n: usize,
     o: usize,
-    used: u64,
-    zeros: &[u64],
-    ones: &[u64],
+    lanes: &[u64; LANE_WORDS],
 ) -> u64
-    requires { ⌜ (at < 2 ^ 32) × (o < 2 ^ 32) × (length (now zeros) ≡ length (now ones)) ⌝ }
-    ensures { λ r. ⌜ r ≡ undefinedWord (now (words .entry)) at used (now (zeros .entry)) (now (ones .entry)) o ⌝ }
+    requires { ⌜ OutputThere (now words) at n o ⌝ }
+    ensures { λ r. ⌜ r ≡ undefinedWord (now (words .entry)) at n (now (lanes .entry)) o ⌝ }
 {
-    let pair = output_pair(words, at, o, used, zeros, ones);
-    used ^ (pair.zeros | pair.ones)
+    let pair = output_pair(words, at, n, o, lanes);
+    used_lanes(n) ^ (pair.zeros | pair.ones)
 }
 
 // Where one of `count` outputs is undefined.
 pub fn unsettled_lanes(
     words: &[u16],
     at: usize,
+    n: usize,
     count: usize,
-    used: u64,
-    zeros: &[u64],
-    ones: &[u64],
+    lanes: &[u64; LANE_WORDS],
 ) -> u64
-    requires { ⌜ (at < 2 ^ 32) × (count < 2 ^ 32) × (length (now zeros) ≡ length (now ones)) ⌝ }
-    ensures { λ r. ⌜ r ≡ unsettledWord (now (words .entry)) at used (now (zeros .entry)) (now (ones .entry)) count ⌝ }
+    requires { ⌜ OutputsThere (now words) at n count ⌝ }
+    ensures { λ r. ⌜ r ≡ unsettledWord (now (words .entry)) at n (now (lanes .entry)) count ⌝ }
 {
     let mut unsettled = 0u64;
     let mut o = 0;
     while o < count {
-        unsettled = unsettled | undefined_lanes(words, at, o, used, zeros, ones);
+        unsettled = unsettled | undefined_lanes(words, at, n, o, lanes);
         o += 1;
     }
     unsettled

@@ -12,21 +12,6 @@ use Rattle.visiting.specs.Visits.{Visits}
 use Rattle.schedule.specs.Listing.{Numbers, PassesAre}
 use Rattle.passes.specs.Counting.{Listing}
 
--- what the search for the lowest setting asks
-pub record LowestReady (ws order zeros ones : List ℕ) : Type 0 where
-  pub whole : isMalformed ws ≡ false
-  pub visits : Visits (getD ws 1 0) (take (getD ws 1 0) order)
-  pub orderRoom : getD ws 1 0 ≤ length order
-  pub zeroRoom : getD ws 0 0 + getD ws 1 0 ≤ length zeros
-  pub oneRoom : getD ws 0 0 + getD ws 1 0 ≤ length ones
-
--- what the search for an unsettled setting asks
-pub record SettingsReady (ws order zeros ones : List ℕ) : Type 0 where
-  pub whole : isMalformed ws ≡ false
-  pub orderRoom : getD ws 1 0 ≤ length order
-  pub zeroRoom : getD ws 0 0 + getD ws 1 0 ≤ length zeros
-  pub oneRoom : getD ws 0 0 + getD ws 1 0 ≤ length ones
-
 -- what the count along an order asks: the groups' gates, where each group starts, and room
 pub record AlongReady (ws order : List ℕ) (count : ℕ) (members starts passes zeros ones settledZeros settledOnes : List ℕ) : Type 0 where
   pub whole : isMalformed ws ≡ false

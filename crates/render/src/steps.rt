@@ -1,6 +1,9 @@
 // The steps of Render: number the groups, count their passes, look for a setting that is not settled, write.
+use batch::plan::plan_block;
 use copying::rendered::write_rendering;
+use graph::GRAPH_WORDS;
 use groups::assign::assign;
+use lanes::LANE_WORDS;
 use layout::limits::MAX_GATES;
 use layout::nodes::nodes_of;
 use layout::offsets::OUTPUT_SIZE;
@@ -22,41 +25,45 @@ use verdict::settings::lowest_unsettled;
 use verdict::settings::setting_count;
 use visiting::order_gates;
 ghost use mathlib.Core.Path.{_≡_};
-ghost use mathlib.Core.Bool.{not};
+ghost use mathlib.Core.Bool.{false, not};
 ghost use lib.ListN.{length};
 ghost use Rattle.netlist.specs.declared.Refusal.the-variants.{NotSettled};
-ghost use Rattle.netlist.specs.StoredBlock.{decode};
+ghost use Rattle.netlist.specs.StoredBlock.{decode, isMalformed};
 ghost use Rattle.netlist.specs.Rounds.{lowestUnsettled};
 ghost use Rattle.netlist.specs.Cover.{isSound};
 ghost use Rattle.netlist.specs.Answers.{Promise};
 ghost use Rattle.refusals.specs.Tests.{testOf};
 ghost use Rattle.netlist.specs.Operations.{render};
+ghost use Rattle.lanes.specs.LaneWords.{laneSize};
+ghost use Rattle.batch.specs.Layered.{PlanRoom};
 ghost use Rattle.passes.specs.Counting.{AllCounted};
-ghost use Rattle.render.specs.Tests.{LowestReady, SettingsReady, AlongReady, CopiesReady, RenderingReady, ArrayRoom};
+ghost use Rattle.render.specs.Tests.{AlongReady, CopiesReady, RenderingReady, ArrayRoom};
 
-// The lowest setting that may come and is not settled, or 2^n; the gates are evaluated along `order`.
-fn lowest_along(words: &[u16], order: &[u16], zeros: &mut [u64], ones: &mut [u64]) -> usize
-    requires { ⌜ LowestReady (now words) (now order) (now zeros) (now ones) ⌝ }
+// The lowest setting that may come and is not settled, or 2^n, with room for the block's graph, its gates in layers, and two words a place.
+fn lowest_planned(
+    words: &[u16],
+    graph: &mut [u16; GRAPH_WORDS],
+    layers: &mut [u16; MAX_GATES],
+    ends: &mut [u16; MAX_GATES],
+    lanes: &mut [u64; LANE_WORDS],
+) -> usize
+    requires { ⌜ (isMalformed (now words) ≡ false) × PlanRoom (now graph) (now layers) (now ends) × (length (now lanes) ≡ laneSize) ⌝ }
     ensures { λ r. ⌜ r ≡ lowestUnsettled (decode (now (words .entry))) ⌝ }
 {
-    let nodes = nodes_of(words);
-    let size = nodes.inputs + nodes.gates;
-    lowest_unsettled(
-        words,
-        nodes,
-        &order[..nodes.gates],
-        &mut zeros[..size],
-        &mut ones[..size],
-    )
+    plan_block(words, graph, layers, ends);
+    lowest_unsettled(words, graph, layers, ends, lanes)
 }
 
 // 9: is some setting that may come not settled? Tells the lowest.
-fn find_unsettled(words: &[u16], order: &mut [u16], zeros: &mut [u64], ones: &mut [u64]) -> Test
-    requires { ⌜ SettingsReady (now words) (now order) (now zeros) (now ones) ⌝ }
+fn find_unsettled(words: &[u16]) -> Test
+    requires { ⌜ isMalformed (now words) ≡ false ⌝ }
     ensures { λ r. ⌜ r ≡ testOf (not (isSound (decode (now (words .entry))))) (NotSettled (lowestUnsettled (decode (now (words .entry))))) ⌝ }
 {
-    order_gates(words, order);
-    let lowest = lowest_along(words, order, zeros, ones);
+    let mut graph = [0u16; GRAPH_WORDS];
+    let mut layers = [0u16; MAX_GATES];
+    let mut ends = [0u16; MAX_GATES];
+    let mut lanes = [0u64; LANE_WORDS];
+    let lowest = lowest_planned(words, &mut graph, &mut layers, &mut ends, &mut lanes);
     let count = setting_count(inputs_of(words));
     refuse_if(lowest < count, Refusal::NotSettled(lowest))
 }
@@ -203,7 +210,7 @@ pub fn render_with(
     let Test::Passed = tested else {
         return refusal(tested);
     };
-    let tested = find_unsettled(words, order, zeros, ones);
+    let tested = find_unsettled(words);
     let Test::Passed = tested else {
         return refusal(tested);
     };

@@ -1,8 +1,7 @@
 -- Batches one after the other.
 --   Place, place-first, place-next    where a batch starts
 --   lanesOf-some                      a batch has a lane
---   judged, decidable-kept            a decided batch; slices of the same lengths
---   whole-decidable                   words that are not torn
+--   tells-from                        the number of inputs
 --   passed-sound, found-unsound       what the outputs' words tell of a batch
 --   batch-more, lowest-in-batch       one batch more; the lowest setting in the first batch that has one
 --   count-add, count-coming, reached  how many are settled
@@ -22,20 +21,13 @@ use Rattle.laws.specs.Lists.{countBelow, least, tab, placed}
 use Rattle.laws.proofs.Tests.{bool-cases, lt-or-le, not-both, and-intro, and-left, and-right}
 use Rattle.laws.proofs.Tab.{set-placed-tab}
 use Rattle.laws.proofs.Counting.{countBelow-ext}
-use Rattle.layout.specs.declared.nodes.Nodes.{Nodes}
-use Rattle.layout.specs.Nodes.{nodesOf}
-use Rattle.netlist.specs.Netlist.{Block, inputCount, gateCount}
+use Rattle.netlist.specs.Netlist.{Block}
 use Rattle.netlist.specs.Assignments.{bit}
-use Rattle.netlist.specs.StoredBlock.{outputsAt, decode, isMalformed}
+use Rattle.netlist.specs.StoredBlock.{outputsAt, decode}
 use Rattle.netlist.specs.Rounds.{settingCount, isSettled, isExcluded, isCounted, isSoundAt, lowestUnsettled}
-use Rattle.encoding.proofs.Decoded.{decode-inputCount, decode-gateCount}
-use Rattle.encoding.proofs.Readers.{whole-parts}
-use Rattle.visiting.specs.Visits.{Visits}
-use Rattle.batch.proofs.LegibleLaws.{legible}
-use Rattle.lanes.specs.Pairs.{full}
+use Rattle.encoding.proofs.Decoded.{decode-inputCount}
 use Rattle.lanes.specs.Batches.{lanesOf}
 use Rattle.lanes.proofs.InputLaws.{lanesOf-most}
-use Rattle.batch.specs.Batch.{Decidable, BatchSettled}
 use Rattle.lanes.specs.Words.{hasLane, Tells}
 use Rattle.judge.specs.Lanes.{Judged, mayCome, isUndefinedAt, isUnsettled, isUnsound, undefinedWord}
 use Rattle.lanes.proofs.WordLaws.{tells-and, tells-no-lane, tells-some, tells-lowest, lane-bit}
@@ -87,42 +79,10 @@ pub lanesOf-some : (n : ℕ) → 0 < lanesOf n
 unfolding lanesOf
 lanesOf-some n = pow-pos (min n 6)
 
--- ---- a decided batch
+-- ---- the number of inputs, as the code reads it and as the words have it
 
-module _ {ws : List ℕ} {nodes : Nodes} {order zeros ones : List ℕ} (d : Decidable ws nodes order zeros ones) {zeros′ ones′ : List ℕ} where
-  pub judged : {base : ℕ} → base % 64 ≡ 0 → BatchSettled (decode ws) (nodes .inputs) base zeros′ ones′
-      → Judged ws (nodes .inputs) base zeros′ ones′
-  judged e s =
-      record {
-        settled = s;
-        inputs = d .legible .inputs ∙ decode-inputCount ws;
-        fewInputs = d .fewInputs;
-        aligned = e;
-      }
-
-  pub decidable-kept : length zeros′ ≡ length zeros → length ones′ ≡ length ones → Decidable ws nodes order zeros′ ones′
-  decidable-kept e f =
-      record {
-        legible = d .legible;
-        visits = d .visits;
-        fewInputs = d .fewInputs;
-        zerosLong = e ∙ d .zerosLong;
-        onesLong = f ∙ d .onesLong;
-      }
-
--- whole words, an order over all gates, and a word for each node are what deciding a batch asks
-pub whole-decidable : (ws : List ℕ) (nodes : Nodes) (order zeros ones : List ℕ) → isMalformed ws ≡ false → nodes ≡ nodesOf ws → Visits (nodes .gates) order
-    → length zeros ≡ nodes .inputs + nodes .gates → length ones ≡ nodes .inputs + nodes .gates → Decidable ws nodes order zeros ones
-unfolding nodesOf
-whole-decidable ws nodes order zeros ones h are v zl ol =
-    let c : nodes .gates ≡ gateCount (decode ws) = rw are (sym (decode-gateCount ws)) in
-    record {
-      legible = rw are (legible ws h);
-      visits = rw (← c) v;
-      fewInputs = rw are (whole-parts ws h .fewInputs);
-      zerosLong = rw (← c) zl;
-      onesLong = rw (← c) ol;
-    }
+pub tells-from : {n k base : ℕ} {p : ℕ → Bool} {w : ℕ} → n ≡ k → Tells (lanesOf n) base p w → Tells (lanesOf k) base p w
+tells-from e t = rw e at t
 
 -- ---- what the outputs' words tell
 
@@ -145,11 +105,11 @@ both-unsound b s = go (isExcluded b s) (isSettled b s)
     go false true h k = not-both k refl
     go false false h k = refl
 
-module _ {ws : List ℕ} {n base : ℕ} {zeros ones : List ℕ} (j : Judged ws n base zeros ones) {at : ℕ}
-    (first : at ≡ outputsAt (getD ws 0 0) (getD ws 3 0) (getD ws 1 0)) {used : ℕ} (lanes : used ≡ full (lanesOf n))
-    {coming : ℕ} (comes : Tells (lanesOf n) base (mayCome (decode ws)) coming) where
+module _ {ws : List ℕ} {n base : ℕ} {w : List ℕ} (j : Judged ws n base w) {at : ℕ}
+    (first : at ≡ outputsAt (getD ws 0 0) (getD ws 3 0) (getD ws 1 0)) {k : ℕ} (same : k ≡ n) {coming : ℕ}
+    (comes : Tells (lanesOf k) base (mayCome (decode ws)) coming) where
   -- no output is undefined at a lane that may come
-  pub passed-sound : ((o : ℕ) → o < getD ws 2 0 → bitAnd coming (undefinedWord ws at used zeros ones o) ≡ 0)
+  pub passed-sound : ((o : ℕ) → o < getD ws 2 0 → bitAnd coming (undefinedWord ws at k w o) ≡ 0)
       → (s : ℕ) → s < lanesOf n → isSoundAt (decode ws) (base + s) ≡ true
   passed-sound none s l = ⊎-elim (λ h. h) (λ h. absurd (no-lane h)) (bool-cases (isSoundAt (decode ws) (base + s)))
     where
@@ -158,13 +118,13 @@ module _ {ws : List ℕ} {n base : ℕ} {zeros ones : List ℕ} (j : Judged ws n
           let u = unsound-both (decode ws) (base + s) h in
           let f = undefined-some ws (base + s) (u .1) in
           not-both (and-intro (mayCome (decode ws) (base + s)) (isUndefinedAt (decode ws) (f .0) (base + s)) (u .0) (f .2))
-          (tells-no-lane (tells-and comes (undefined-tells j first (f .0) (f .1))) (rw (← lanes) (none (f .0) (f .1))) s l)
+          (tells-no-lane (tells-and (tells-from same comes) (undefined-tells j first (f .0) (f .1))) (rw same at (none (f .0) (f .1))) s l)
 
   -- an output is undefined at one
-  pub found-unsound : (o : ℕ) → o < getD ws 2 0 → (bitAnd coming (undefinedWord ws at used zeros ones o) ≡ 0 → ⊥)
+  pub found-unsound : (o : ℕ) → o < getD ws 2 0 → (bitAnd coming (undefinedWord ws at k w o) ≡ 0 → ⊥)
       → (s : ℕ) × (s < lanesOf n) × (isSoundAt (decode ws) (base + s) ≡ false)
   found-unsound o l h =
-      let f = tells-some (tells-and comes (undefined-tells j first o l)) (λ z. h (rw lanes z)) in
+      let f = tells-some (tells-and (tells-from same comes) (undefined-tells j first o l)) (λ z. h (rw same z)) in
       let may = mayCome (decode ws) (base + f .0) in
       let lacks = isUndefinedAt (decode ws) o (base + f .0) in (
         f .0,
@@ -181,15 +141,16 @@ batch-more P {base} {lanes} {step} is before inside i l =
     ⊎-elim (before i) (λ h. let e : base + (i - base) ≡ i = omega arith in rw e at (inside (i - base) (omega arith))) (lt-or-le i base)
 
 -- the lowest lane of the first batch that has one
-pub lowest-in-batch : {b : Block} {n r : ℕ} {zeros ones : List ℕ} {w : ℕ} → n ≡ inputCount b → FirstBatch b n r zeros ones → r < 2 ^ n
-    → Tells (lanesOf n) r (isUnsound b) w → r + least (hasLane w) 64 ≡ lowestUnsettled b
+pub lowest-in-batch : {ws : List ℕ} {r : ℕ} {w : List ℕ} {word : ℕ} → FirstBatch ws r w → r < 2 ^ getD ws 0 0
+    → Tells (lanesOf (getD ws 0 0)) r (isUnsound (decode ws)) word → r + least (hasLane word) 64 ≡ lowestUnsettled (decode ws)
 unfolding isUnsound settingCount
-lowest-in-batch {b} {n} {r} {zeros} {ones} {w} many f l t =
+lowest-in-batch {ws} {r} {w} {word} f l t =
+    let b = decode ws in
     let room = f .whole l in
     let s = f .some l in
-    let lo = tells-lowest t (lanesOf-most n) (s .0) (s .1) (rw (s .2)) in
-    let k = least (hasLane w) 64 in
-    lowest-found b (r + k) (2 ^ n) (ap (λ (i : ℕ). 2 ^ i) many) (omega (arith, lo .0))
+    let lo = tells-lowest t (lanesOf-most (getD ws 0 0)) (s .0) (s .1) (rw (s .2)) in
+    let k = least (hasLane word) 64 in
+    lowest-found b (r + k) (2 ^ getD ws 0 0) (ap (λ (i : ℕ). 2 ^ i) (sym (decode-inputCount ws))) (omega (arith, lo .0))
     (batch-more (λ i. isSoundAt b i ≡ true) refl (f .before) (λ i m. not-false-true (isSoundAt b (r + i)) (lo .2 i m)))
     (λ m. not-true-is-false (isSoundAt b (r + k)) (lo .1))
   where
@@ -202,11 +163,11 @@ lowest-in-batch {b} {n} {r} {zeros} {ones} {w} many f l t =
     not-true-is-false false h = refl
 
 -- without such a batch
-pub lowest-nowhere : {b : Block} {n r : ℕ} {zeros ones : List ℕ} → n ≡ inputCount b → FirstBatch b n r zeros ones → 2 ^ n ≤ r → r ≡ lowestUnsettled b
+pub lowest-nowhere : {ws : List ℕ} {r : ℕ} {w : List ℕ} → FirstBatch ws r w → 2 ^ getD ws 0 0 ≤ r → r ≡ lowestUnsettled (decode ws)
 unfolding settingCount
-lowest-nowhere {b} {n} {r} many f l =
+lowest-nowhere {ws} {r} f l =
     let w = f .within in
-    lowest-found b r (2 ^ n) (ap (λ (i : ℕ). 2 ^ i) many) w (f .before) (λ m. absurd (omega arith))
+    lowest-found (decode ws) r (2 ^ getD ws 0 0) (ap (λ (i : ℕ). 2 ^ i) (sym (decode-inputCount ws))) w (f .before) (λ m. absurd (omega arith))
 
 -- ---- how many
 
@@ -221,13 +182,13 @@ unfolding countedFrom
 count-coming b base lanes before h =
     countBelow-ext (λ s. mayCome b (base + s)) (countedFrom b base) lanes (λ s l. sound-counted b (base + s) (before (base + s) (omega arith)))
 
--- the batch at `base`, when the slices have not been changed up to the first batch with another
-pub reached : {b : Block} {n first base : ℕ} {zeros ones zeros′ ones′ : List ℕ} → FirstBatch b n first zeros ones → base < 2 ^ n
-    → (base ≤ first → (zeros′ ≡ zeros) × (ones′ ≡ ones)) → FirstReached b n first base zeros′ ones′
+-- the batch at `base`, when the lanes have not been changed up to the first batch with another
+pub reached : {ws : List ℕ} {first base : ℕ} {w after : List ℕ} → FirstBatch ws first w → base < 2 ^ getD ws 0 0
+    → (base ≤ first → after ≡ w) → FirstReached ws first base after
 reached f l kept =
     record {
       before = f .before;
-      held = λ e. let k = kept (omega arith) in rw (e, k .0, k .1) (f .settled (rw (← e) l));
+      held = λ e. let k = kept (omega arith) in rw (e, k) (f .judged (rw (← e) l));
     }
 
 pub count-batch : (b : Block) (base : ℕ) {lanes step count more : ℕ} → step ≡ lanes → count ≡ countBelow (isCounted b) base

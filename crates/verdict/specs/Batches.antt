@@ -3,27 +3,29 @@ use Prim.Native.Nat.{ℕ, zero, suc, _+_, _%_, _^_, _≤_, _<_}
 use mathlib.Core.Path.{_≡_}
 use mathlib.Core.Bool.{Bool, true, false}
 use mathlib.Core.List.{List}
-use lib.ListN.{set}
+use lib.ListN.{length, getD, set}
 use Rattle.netlist.specs.Netlist.{Block}
 use Rattle.netlist.specs.Assignments.{bit}
+use Rattle.netlist.specs.StoredBlock.{decode}
 use Rattle.netlist.specs.Rounds.{isCounted, isSoundAt}
 use Rattle.lanes.specs.Batches.{lanesOf}
-use Rattle.batch.specs.Batch.{BatchSettled}
+use Rattle.lanes.specs.LaneWords.{laneSize}
+use Rattle.judge.specs.Lanes.{Judged}
 
--- r is the first setting of the first batch that has one which may come and is not settled, and the slices hold that batch's settled values; or it
+-- r is the first setting of the first batch that has one which may come and is not settled, and the lanes hold that batch's settled values; or it
 -- is 2^n, where there is none
-pub record FirstBatch (b : Block) (n r : ℕ) (zeros ones : List ℕ) : Type 0 where
-  pub within : r ≤ 2 ^ n
-  pub before : (i : ℕ) → i < r → isSoundAt b i ≡ true
-  pub aligned : r < 2 ^ n → r % 64 ≡ 0
-  pub whole : r < 2 ^ n → r + lanesOf n ≤ 2 ^ n
-  pub settled : r < 2 ^ n → BatchSettled b n r zeros ones
-  pub some : r < 2 ^ n → (s : ℕ) × (s < lanesOf n) × (isSoundAt b (r + s) ≡ false)
+pub record FirstBatch (ws : List ℕ) (r : ℕ) (w : List ℕ) : Type 0 where
+  pub within : r ≤ 2 ^ getD ws 0 0
+  pub before : (i : ℕ) → i < r → isSoundAt (decode ws) i ≡ true
+  pub whole : r < 2 ^ getD ws 0 0 → r + lanesOf (getD ws 0 0) ≤ 2 ^ getD ws 0 0
+  pub judged : r < 2 ^ getD ws 0 0 → Judged ws (getD ws 0 0) r w
+  pub some : r < 2 ^ getD ws 0 0 → (s : ℕ) × (s < lanesOf (getD ws 0 0)) × (isSoundAt (decode ws) (r + s) ≡ false)
+  pub long : length w ≡ laneSize
 
--- no setting below `first` may come and is not settled, and where the batch at `base` is the one at `first`, the slices hold its settled values
-pub record FirstReached (b : Block) (n first base : ℕ) (zeros ones : List ℕ) : Type 0 where
-  pub before : (i : ℕ) → i < first → isSoundAt b i ≡ true
-  pub held : base ≡ first → BatchSettled b n base zeros ones
+-- no setting below `first` may come and is not settled, and where the batch at `base` is the one at `first`, the lanes hold its settled values
+pub record FirstReached (ws : List ℕ) (first base : ℕ) (w : List ℕ) : Type 0 where
+  pub before : (i : ℕ) → i < first → isSoundAt (decode ws) i ≡ true
+  pub held : base ≡ first → Judged ws (getD ws 0 0) base w
 
 -- of the batch at `base`: setting s of it may come and is settled
 unfoldable pub countedFrom : Block → ℕ → ℕ → Bool

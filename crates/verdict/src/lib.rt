@@ -1,41 +1,37 @@
 // Verdict (SPECIFICATION 7.6).
+use batch::plan::plan_block;
 use block::check_words;
+use graph::GRAPH_WORDS;
+use lanes::LANE_WORDS;
 use layout::limits::MAX_GATES;
-use layout::limits::MAX_INPUTS;
-use layout::nodes::nodes_of;
 use netlist::Answer;
 use refusals::Test;
 use refusals::refusal;
-use visiting::order_gates;
 ghost use mathlib.Core.Path.{_≡_};
 ghost use mathlib.Core.Bool.{false};
-ghost use Prim.Native.Nat.{_+_};
 ghost use lib.ListN.{length};
-ghost use Rattle.netlist.specs.Limits.{maxInputs, maxGates};
 ghost use Rattle.netlist.specs.Answers.{Told};
 ghost use Rattle.netlist.specs.StoredBlock.{isMalformed};
 ghost use Rattle.netlist.specs.Operations.{verdict as verdictOf};
+ghost use Rattle.lanes.specs.LaneWords.{laneSize};
+ghost use Rattle.batch.specs.Layered.{PlanRoom};
 
 pub mod settings;
 
-// Verdict of a block that is not torn, with room for an order, and for two words an input and a gate.
-fn whole_verdict(words: &[u16], order: &mut [u16], zeros: &mut [u64], ones: &mut [u64]) -> Answer
+// Verdict of a block that is not torn, with room for its graph, its gates in layers, and two words a place.
+fn whole_verdict(
+    words: &[u16],
+    graph: &mut [u16; GRAPH_WORDS],
+    order: &mut [u16; MAX_GATES],
+    ends: &mut [u16; MAX_GATES],
+    lanes: &mut [u64; LANE_WORDS],
+) -> Answer
     requires { ⌜ isMalformed (now words) ≡ false ⌝ }
-    requires { ⌜ length (now order) ≡ maxGates ⌝ }
-    requires { ⌜ length (now zeros) ≡ maxInputs + maxGates ⌝ }
-    requires { ⌜ length (now ones) ≡ maxInputs + maxGates ⌝ }
+    requires { ⌜ PlanRoom (now graph) (now order) (now ends) × (length (now lanes) ≡ laneSize) ⌝ }
     ensures { λ r. ⌜ Told (verdictOf (now (words .entry))) r ⌝ }
 {
-    let nodes = nodes_of(words);
-    let count = nodes.inputs + nodes.gates;
-    order_gates(words, order);
-    settings::search_settings(
-        words,
-        nodes,
-        &order[..nodes.gates],
-        &mut zeros[..count],
-        &mut ones[..count],
-    )
+    plan_block(words, graph, order, ends);
+    settings::search_settings(words, graph, order, ends, lanes)
 }
 
 // Verdict (6): how many settings that may come are settled; detail: the lowest other of them, or 2^n where there is none.
@@ -46,8 +42,9 @@ pub fn verdict(words: &[u16]) -> Answer
     let Test::Passed = tested else {
         return refusal(tested);
     };
+    let mut graph = [0u16; GRAPH_WORDS];
     let mut order = [0u16; MAX_GATES];
-    let mut zeros = [0u64; MAX_INPUTS + MAX_GATES];
-    let mut ones = [0u64; MAX_INPUTS + MAX_GATES];
-    whole_verdict(words, &mut order, &mut zeros, &mut ones)
+    let mut ends = [0u16; MAX_GATES];
+    let mut lanes = [0u64; LANE_WORDS];
+    whole_verdict(words, &mut graph, &mut order, &mut ends, &mut lanes)
 }

@@ -10,17 +10,14 @@ use Rattle.compare.proofs.outputs.any_differing.Statement.{statement}
 use Rattle.compare.proofs.outputs.any_differing.Tie as tie
 
 abbrev Inv-loop : tie.InvT-loop
-Inv-loop ours theirs used zeros ones lows highs count lanes₀ o₀ lanes o = (o ≤ count) × (lanes ≡ differingWords ours theirs used zeros ones lows highs o)
+Inv-loop ours theirs n lanes others count word₀ o₀ word o = (o ≤ count) × (word ≡ differingWords ours theirs n lanes others o)
 
 abbrev μ-loop : tie.MeasureT-loop
-μ-loop ours theirs used zeros ones lows highs count lanes₀ o₀ lanes o = count - o
+μ-loop ours theirs n lanes others count word₀ o₀ word o = count - o
 
 -- the function's entry
 abbrev start : tie.After-outputs-of Inv-loop μ-loop → tie.Start Inv-loop μ-loop
-start c = c .before .before .before .before .before .before .before
-
-outputs-of-requires : tie.Need-outputs-of-requires Inv-loop μ-loop
-outputs-of-requires c κs = search needs
+start c = c .before .before .before
 
 loop-holds : tie.Need-loop-holds Inv-loop μ-loop
 unfolding differingWords
@@ -29,13 +26,7 @@ loop-holds c = (omega arith, refl)
 differing-lanes-requires : tie.Need-differing-lanes-requires Inv-loop μ-loop
 differing-lanes-requires c κs =
     let k = c .before .before in
-    ((start k .pre .0, omega (arith, k .outputs-of .ensures, c .loop-test .taken)), start k .pre .1)
-
-add-o : tie.Need-add-o Inv-loop μ-loop
-add-o c = omega arith
-
-loop-less : tie.Need-loop-less Inv-loop μ-loop
-loop-less c = omega arith
+    (start k .pre .0, start k .pre .1, omega (arith, k .outputs-of .ensures, c .loop-test .taken))
 
 loop-again : tie.Need-loop-again Inv-loop μ-loop
 unfolding differingWords
@@ -48,8 +39,7 @@ returns c =
     let l = c .before in
     let a = start (l .before) .args in
     let end : l .loop .o ≡ getD (a .ours .now) 2 0 = omega (arith, l .before .outputs-of .ensures, l .loop .inv .0) in
-    l .loop .inv .1
-    ∙ ap (differingWords (a .ours .now) (a .theirs .now) (a .used) (a .zeros .now) (a .ones .now) (a .lows .now) (a .highs .now)) end
+    l .loop .inv .1 ∙ ap (differingWords (a .ours .now) (a .theirs .now) (a .n) (a .lanes .now) (a .others .now)) end
 
 pub any-differing-spec : {M : Type 1} → statement M
 any-differing-spec =
@@ -57,10 +47,10 @@ any-differing-spec =
     (tie.spec
     Inv-loop
     μ-loop
-    outputs-of-requires
+    (λ c κs. search needs)
     loop-holds
     differing-lanes-requires
-    add-o
-    loop-less
+    (λ c. omega arith)
+    (λ c. omega arith)
     loop-again
     returns)

@@ -1,30 +1,21 @@
 -- `compare::outputs::differing_lanes` meets its contract. Assumes nothing.
+use mathlib.Core.Path.{sym, _∙_}
 use borrow.Author.Needs.{needs}
+use Rattle.judge.proofs.OutputLaws.{output-there}
 use Rattle.compare.specs.Words.{differingIn, portPair, differingWord}
-use Rattle.compare.proofs.Rooms.{ports-near, few-ports}
 use Rattle.compare.proofs.outputs.differing_lanes.Statement.{statement}
 use Rattle.compare.proofs.outputs.differing_lanes.Tie as tie
 
--- the function's entry
-abbrev start : tie.After-outputs-at → tie.Start
-start c = c .before .before .before .before .before .before .before
-
-outputs-at-requires : tie.Need-outputs-at-requires
-outputs-at-requires c κs = search needs
-
 output-pair-requires : tie.Need-output-pair-requires
 output-pair-requires c κs =
-    let s = start c in
-    let whole = s .pre .0 .0 .our-whole in
-    (ports-near _ whole (c .outputs-at .ensures), few-ports _ whole (s .pre .0 .1), s .pre .1 .0)
-
-outputs-at-requires-2 : tie.Need-outputs-at-requires-2
-outputs-at-requires-2 c κs = search needs
+    let s = c .before .before .before in
+    output-there (s .args .ours .now) (s .pre .0 .our-whole) (s .pre .1) (c .outputs-at .ensures) (s .args .o) (s .pre .2)
 
 output-pair-requires-2 : tie.Need-output-pair-requires-2
 output-pair-requires-2 c κs =
-    let s = start (c .before .before) in
-    (ports-near _ (s .pre .0 .0 .their-whole) (c .outputs-at2 .ensures), few-ports _ (s .pre .0 .0 .our-whole) (s .pre .0 .1), s .pre .1 .1)
+    let s = c .before .before .before .before .before in
+    let p = s .pre .0 in
+    output-there (s .args .theirs .now) (p .their-whole) (s .pre .1 ∙ sym (p .inputs)) (c .outputs-at2 .ensures) (s .args .o) (rw (p .outputs) (s .pre .2))
 
 returns : tie.Need-returns
 unfolding differingWord differingIn portPair
@@ -35,10 +26,4 @@ returns c =
 
 pub differing-lanes-spec : {M : Type 1} → statement M
 differing-lanes-spec =
-    tie.close
-    (tie.spec
-    outputs-at-requires
-    output-pair-requires
-    outputs-at-requires-2
-    output-pair-requires-2
-    returns)
+    tie.close (tie.spec (λ c κs. search needs) output-pair-requires (λ c κs. search needs) output-pair-requires-2 returns)

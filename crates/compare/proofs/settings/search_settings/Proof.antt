@@ -1,5 +1,5 @@
 -- `compare::settings::search_settings` meets its contract: no setting of a batch passed disagrees. Assumes nothing.
-use mathlib.Core.Path.{_≡_, refl, sym, _∙_}
+use mathlib.Core.Path.{_≡_, sym, _∙_}
 use mathlib.Core.Bool.{false}
 use Prim.Native.Nat.{ℕ, _-_, _+_, _≤_, _<_}
 use native.Mathlib.Omega.{arith}
@@ -7,106 +7,110 @@ use denote.Ref.{now}
 use borrow.Author.Needs.{needs}
 use lib.ListN.{length, getD}
 use Rattle.laws.proofs.Least.{least-le}
-use Rattle.layout.specs.Nodes.{nodesOf}
 use Rattle.netlist.specs.Limits.{maxInputs}
 use Rattle.netlist.specs.StoredBlock.{decode}
 use Rattle.netlist.specs.Compare.{disagrees}
+use Rattle.encoding.proofs.Readers.{whole-parts}
 use Rattle.lanes.proofs.InputLaws.{lanesOf-most}
 use Rattle.lanes.specs.Words.{hasLane}
+use Rattle.lanes.specs.LaneWords.{laneSize}
 use Rattle.verdict.proofs.Counting.{few-settings}
 use Rattle.verdict.proofs.Batching.{Place, place-first, place-next, lanesOf-some}
+use Rattle.compare.specs.Ready.{BothJudged}
 use Rattle.compare.proofs.Differences.{marked-lowest, search-accepted, search-passed, search-marked}
-use Rattle.compare.proofs.Rooms.{compare-kept, lowest-few, setting-count}
+use Rattle.compare.proofs.Rooms.{lowest-few, setting-count}
 use Rattle.compare.proofs.settings.search_settings.Statement.{statement}
 use Rattle.compare.proofs.settings.search_settings.Tie as tie
 
 abbrev Inv-loop : tie.InvT-loop
-Inv-loop ours theirs order path zeros₀ ones₀ lows₀ highs₀ n used count lanes base₀ zeros ones lows highs base =
-    Place n base × ((i : ℕ) → i < base → disagrees (decode ours) (decode theirs) i ≡ false)
-    × (length zeros ≡ length zeros₀) × (length ones ≡ length ones₀) × (length lows ≡ length lows₀) × (length highs ≡ length highs₀)
+Inv-loop ours theirs graph order ends their-graph lanes₀ others₀ n count batch base₀ lanes others base =
+    Place n base × ((i : ℕ) → i < base → disagrees (decode ours) (decode theirs) i ≡ false) × (length lanes ≡ laneSize) × (length others ≡ laneSize)
 
 abbrev μ-loop : tie.MeasureT-loop
-μ-loop ours theirs order path zeros₀ ones₀ lows₀ highs₀ n used count lanes base₀ zeros ones lows highs base = count - base
+μ-loop ours theirs graph order ends their-graph lanes₀ others₀ n count batch base₀ lanes others base = count - base
 
--- the function's entry, the loop's head, and a batch looked at
-abbrev start : tie.After-inputs-of Inv-loop μ-loop → tie.Start Inv-loop μ-loop
-start c = c .before .before .before .before .before .before .before .before .before
-
+-- the number of inputs, from the loop's head, and the function's entry; the loop's head, from both blocks decided; these, from a batch looked at
 abbrev counts : tie.At-loop Inv-loop μ-loop → tie.After-inputs-of Inv-loop μ-loop
-counts l = l .before .before .before .before
+counts l = l .before .before .before
 
 abbrev entry : tie.At-loop Inv-loop μ-loop → tie.Start Inv-loop μ-loop
-entry l = start (counts l)
+entry l = counts l .before .before .before
 
-abbrev looked : tie.After-slice-known8 Inv-loop μ-loop → tie.After-disagreeing-lanes Inv-loop μ-loop
-looked c = c .before .before .before .before .before .before .before .before
+abbrev head : tie.After-judge-batch Inv-loop μ-loop → tie.At-loop Inv-loop μ-loop
+head d = d .before .before .before
 
-abbrev inside : tie.After-disagreeing-lanes Inv-loop μ-loop → tie.In-loop Inv-loop μ-loop
-inside d = d .before .before .before .before .before
+abbrev ours-of : tie.After-judge-straight Inv-loop μ-loop → tie.After-judge-batch Inv-loop μ-loop
+ours-of d = d .before .before
 
-abbrev head : tie.After-disagreeing-lanes Inv-loop μ-loop → tie.At-loop Inv-loop μ-loop
-head d = inside d .before
+abbrev looked : tie.After-disagreeing-lanes Inv-loop μ-loop → tie.After-judge-straight Inv-loop μ-loop
+looked d = d .before .before .before
 
--- the lowest output at the lowest lane that was found
 abbrev found : tie.After-lowest-differing Inv-loop μ-loop → tie.After-lowest-lane Inv-loop μ-loop
-found c = c .before .before .before .before .before
+found c = c .before .before .before
 
 -- few inputs, and where the next batch starts
 few : (l : tie.At-loop Inv-loop μ-loop) → counts l .inputs-of .result ≤ maxInputs
-unfolding nodesOf
-few l = omega (arith, counts l .inputs-of .ensures, entry l .pre .ready .fewInputs)
+few l =
+    let s = entry l in
+    omega (arith, counts l .inputs-of .ensures, whole-parts (s .args .ours .now) (s .pre .0 .plan .whole) .fewInputs)
 
-next : (d : tie.After-disagreeing-lanes Inv-loop μ-loop) → Place (counts (head d) .inputs-of .result) (head d .loop .base + head d .before .lane-count .result)
+next : (d : tie.After-judge-batch Inv-loop μ-loop) → let l = head d in Place (counts l .inputs-of .result) (l .loop .base + l .before .lane-count .result)
 next d =
     let l = head d in
-    place-next (l .before .lane-count .ensures) (l .before .before .setting-count .ensures) (l .loop .inv .0) (inside d .loop-test .taken)
+    place-next (l .before .lane-count .ensures) (l .before .before .setting-count .ensures) (l .loop .inv .0) (d .before .before .loop-test .taken)
 
-inputs-of-requires : tie.Need-inputs-of-requires Inv-loop μ-loop
-inputs-of-requires c κs = search needs
-
-used-lanes-requires : tie.Need-used-lanes-requires Inv-loop μ-loop
-used-lanes-requires c κs = search needs
+-- both blocks are decided
+both : (d : tie.After-judge-straight Inv-loop μ-loop) → let l = head (ours-of d) in let a = entry l .args in
+    BothJudged (a .ours .now) (a .theirs .now) (l .loop .base) (ours-of d .judge-batch .last .1 .1 .1 .1 .1 .0) (d .judge-straight .last .1 .1 .1 .0)
+both d =
+    let s = entry (head (ours-of d)) in
+    record {
+      pair = s .pre .0 .pair;
+      our-values = ours-of d .judge-batch .ensures;
+      their-values = rw (← s .pre .0 .pair .inputs) (d .judge-straight .ensures);
+    }
 
 setting-count-requires : tie.Need-setting-count-requires Inv-loop μ-loop
-unfolding nodesOf
-setting-count-requires c κs = omega (arith, c .before .inputs-of .ensures, start (c .before) .pre .ready .fewInputs)
-
-lane-count-requires : tie.Need-lane-count-requires Inv-loop μ-loop
-lane-count-requires c κs = search needs
+setting-count-requires c κs =
+    let s = c .before .before .before in
+    omega (arith, c .inputs-of .ensures, whole-parts (s .args .ours .now) (s .pre .0 .plan .whole) .fewInputs)
 
 loop-holds : tie.Need-loop-holds Inv-loop μ-loop
-loop-holds c = (place-first _, λ i l. absurd (omega arith), refl, refl, refl, refl)
+loop-holds c =
+    let s = c .before .before .before .before .before in
+    (place-first _, λ i l. absurd (omega arith), s .pre .1 .0, s .pre .1 .1)
 
-disagreeing-lanes-requires : tie.Need-disagreeing-lanes-requires Inv-loop μ-loop
-disagreeing-lanes-requires c κs =
-    let t = c .before .before .before .before in
+judge-batch-requires : tie.Need-judge-batch-requires Inv-loop μ-loop
+judge-batch-requires c κs =
+    let t = c .before in
     let l = t .before in
     let i = l .loop .inv in
-    (compare-kept (entry l .pre) (i .2) (i .3) (i .4) (i .5), i .0 .aligned (rw (← l .before .before .setting-count .ensures) (t .loop-test .taken)))
+    (entry l .pre .0 .plan, i .0 .aligned (omega (arith, l .before .before .setting-count .ensures, t .loop-test .taken)), i .2)
 
-lowest-lane-requires : tie.Need-lowest-lane-requires Inv-loop μ-loop
-lowest-lane-requires c κs = search needs
+judge-straight-requires : tie.Need-judge-straight-requires Inv-loop μ-loop
+judge-straight-requires c κs =
+    let d = c .before in
+    let l = head d in
+    (entry l .pre .0 .theirPlan, d .judge-batch .ensures .aligned, l .loop .inv .3)
 
 lowest-differing-requires : tie.Need-lowest-differing-requires Inv-loop μ-loop
 lowest-differing-requires c κs =
-    let f = c .before .before .before .before in
-    let d = looked (f .before .before) in
-    let m = d .disagreeing-lanes .ensures in
-    let p = m .judged .our-values .settled in
-    let q = m .judged .their-values .settled in
-    let n = getD (now (entry (head d) .args .ours)) 0 0 in
-    let low = marked-lowest n (m .tells) (f .before .if1 .taken) in
-    ((m .judged .pair, omega (arith, f .lowest-lane .ensures, low .0, lanesOf-most n)), (p .zerosLong ∙ sym (p .onesLong), q .zerosLong ∙ sym (q .onesLong)))
+    let f = c .before .before in
+    let d = f .before .before in
+    let l = head (ours-of (looked d)) in
+    let n = getD (now (entry l .args .ours)) 0 0 in
+    let low = marked-lowest n (d .disagreeing-lanes .ensures) (f .before .if1 .taken) in
+    (entry l .pre .0 .pair, counts l .inputs-of .ensures, omega (arith, f .lowest-lane .ensures, low .0, lanesOf-most n))
 
-add-t34 : tie.Need-add-t34 Inv-loop μ-loop
-add-t34 c =
-    let l = head (looked (found c .before .before)) in
-    omega (arith, lowest-few _ (entry l .pre .pair .our-whole) _ (c .lowest-differing .ensures))
+add-t24 : tie.Need-add-t24 Inv-loop μ-loop
+add-t24 c =
+    let l = head (ours-of (looked (found c .before .before))) in
+    omega (arith, lowest-few _ (entry l .pre .0 .plan .whole) _ (c .lowest-differing .ensures))
 
-add-t35 : tie.Need-add-t35 Inv-loop μ-loop
-add-t35 c =
-    let d = looked (found c .before .before) in
-    let l = head d in
+add-t25 : tie.Need-add-t25 Inv-loop μ-loop
+add-t25 c =
+    let d = found c .before .before in
+    let l = head (ours-of (looked d)) in
     omega (
       arith,
       found c .lowest-lane .ensures,
@@ -115,61 +119,38 @@ add-t35 c =
       few-settings (counts l .inputs-of .result) (few l),
     )
 
-same-length : tie.Need-same-length Inv-loop μ-loop
-same-length c = let d = looked (found c .before .before) in d .disagreeing-lanes .kept .1 .1 .1 .1 .1 .0 ∙ head d .loop .inv .2
-
-same-length-2 : tie.Need-same-length-2 Inv-loop μ-loop
-same-length-2 c = let d = looked (found c .before .before) in d .disagreeing-lanes .kept .1 .1 .1 .1 .1 .1 .0 ∙ head d .loop .inv .3
-
-same-length-3 : tie.Need-same-length-3 Inv-loop μ-loop
-same-length-3 c = let d = looked (found c .before .before) in d .disagreeing-lanes .kept .1 .1 .1 .1 .1 .1 .1 .0 ∙ head d .loop .inv .4
-
-same-length-4 : tie.Need-same-length-4 Inv-loop μ-loop
-same-length-4 c = let d = looked (found c .before .before) in d .disagreeing-lanes .kept .1 .1 .1 .1 .1 .1 .1 .1 .0 ∙ head d .loop .inv .5
-
 returns : tie.Need-returns Inv-loop μ-loop
 returns c =
     let f = found c in
-    let d = looked (f .before .before) in
-    let l = head d in
-    search-marked (d .disagreeing-lanes .ensures) (counts l .inputs-of .ensures) (l .loop .inv .1) (f .before .if1 .taken)
-    (l .before .before .setting-count .ensures) (l .before .before .before .used-lanes .ensures) (l .loop .inv .0) (inside d .loop-test .taken)
-    (f .lowest-lane .ensures) (c .lowest-differing .ensures)
+    let d = f .before .before in
+    let j = looked d in
+    let o = ours-of j in
+    let l = head o in
+    search-marked (both j) (d .disagreeing-lanes .ensures) (counts l .inputs-of .ensures) (l .loop .inv .1) (f .before .if1 .taken)
+    (l .before .before .setting-count .ensures) (l .loop .inv .0) (o .before .before .loop-test .taken) (f .lowest-lane .ensures)
+    (c .lowest-differing .ensures)
 
 add-base : tie.Need-add-base Inv-loop μ-loop
 add-base c =
-    let d = looked (c .before) in
+    let d = ours-of (looked (c .before)) in
     omega (arith, next d .within, few-settings (counts (head d) .inputs-of .result) (few (head d)))
 
 loop-less : tie.Need-loop-less Inv-loop μ-loop
 loop-less c =
-    let d = looked (c .before) in
-    omega (arith, head d .before .lane-count .ensures, lanesOf-some (counts (head d) .inputs-of .result), inside d .loop-test .taken)
+    let d = ours-of (looked (c .before)) in
+    omega (arith, head d .before .lane-count .ensures, lanesOf-some (counts (head d) .inputs-of .result), d .before .before .loop-test .taken)
 
 loop-again : tie.Need-loop-again Inv-loop μ-loop
 loop-again c =
-    let d = looked (c .before) in
-    let l = head d in
+    let d = c .before in
+    let j = looked d in
+    let l = head (ours-of j) in
     let i = l .loop .inv in (
-      next d,
-      search-passed (d .disagreeing-lanes .ensures) (counts l .inputs-of .ensures) (i .1) (l .before .lane-count .ensures) (c .if1 .left),
-      d .disagreeing-lanes .kept .1 .1 .1 .1 .1 .0 ∙ i .2,
-      d .disagreeing-lanes .kept .1 .1 .1 .1 .1 .1 .0 ∙ i .3,
-      d .disagreeing-lanes .kept .1 .1 .1 .1 .1 .1 .1 .0 ∙ i .4,
-      d .disagreeing-lanes .kept .1 .1 .1 .1 .1 .1 .1 .1 .0 ∙ i .5,
+      next (ours-of j),
+      search-passed (both j) (d .disagreeing-lanes .ensures) (counts l .inputs-of .ensures) (i .1) (l .before .lane-count .ensures) (c .if1 .left),
+      ours-of j .judge-batch .ensures .settled .filled .long,
+      j .judge-straight .ensures .settled .filled .long,
     )
-
-same-length-5 : tie.Need-same-length-5 Inv-loop μ-loop
-same-length-5 c = c .before .loop .inv .2
-
-same-length-6 : tie.Need-same-length-6 Inv-loop μ-loop
-same-length-6 c = c .before .loop .inv .3
-
-same-length-7 : tie.Need-same-length-7 Inv-loop μ-loop
-same-length-7 c = c .before .loop .inv .4
-
-same-length-8 : tie.Need-same-length-8 Inv-loop μ-loop
-same-length-8 c = c .before .loop .inv .5
 
 returns-2 : tie.Need-returns-2 Inv-loop μ-loop
 returns-2 c =
@@ -185,26 +166,19 @@ search-settings-spec =
     (tie.spec
     Inv-loop
     μ-loop
-    inputs-of-requires
-    used-lanes-requires
+    (λ c κs. search needs)
     setting-count-requires
-    lane-count-requires
+    (λ c κs. search needs)
     loop-holds
-    disagreeing-lanes-requires
-    lowest-lane-requires
+    judge-batch-requires
+    judge-straight-requires
+    (λ c κs. both (c .before .before))
+    (λ c κs. search needs)
     lowest-differing-requires
-    add-t34
-    add-t35
-    same-length
-    same-length-2
-    same-length-3
-    same-length-4
+    add-t24
+    add-t25
     returns
     add-base
     loop-less
     loop-again
-    same-length-5
-    same-length-6
-    same-length-7
-    same-length-8
     returns-2)

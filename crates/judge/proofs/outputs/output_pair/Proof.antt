@@ -1,30 +1,34 @@
 -- `judge::outputs::output_pair` meets its contract. Assumes nothing.
 use mathlib.Core.Path.{_∙_}
+use Prim.Native.Nat.{_+_, _*_}
+use native.Mathlib.Omega.{arith}
 use borrow.Author.Needs.{needs}
 use Rattle.judge.specs.Lanes.{outputPair}
 use Rattle.judge.proofs.outputs.output_pair.Statement.{statement}
 use Rattle.judge.proofs.outputs.output_pair.Tie as tie
 
-mul-word-at : tie.Need-mul-word-at
-mul-word-at c = search needs
+place-of-requires : tie.Need-place-of-requires
+place-of-requires c κs =
+    let s = c .before .before in
+    let a = s .args in
+    let fits = c .before .shared-slice-known .given (a .at + 5 * a .o + 4) in
+    (s .pre .fewInputs, omega (arith, c .word-at .ensures, fits))
 
-add-word-at : tie.Need-add-word-at
-add-word-at c = search needs
-
-add-word-at-2 : tie.Need-add-word-at-2
-add-word-at-2 c = search needs
-
-word-at-requires : tie.Need-word-at-requires
-word-at-requires c κs = search needs
-
-operand-pair-requires : tie.Need-operand-pair-requires
-operand-pair-requires c κs = search needs
+pair-at-requires : tie.Need-pair-at-requires
+pair-at-requires c κs = let d = c .before in rw (c .place-of .ensures, d .word-at .ensures) (d .before .before .pre .inside)
 
 returns : tie.Need-returns
 unfolding outputPair
-returns c = c .operand-pair .ensures ∙ rw (c .before .word-at .ensures)
+returns c = let p = c .before in c .pair-at .ensures ∙ rw (p .place-of .ensures, p .before .word-at .ensures)
 
 pub output-pair-spec : {M : Type 1} → statement M
 output-pair-spec =
     tie.close
-    (tie.spec mul-word-at add-word-at add-word-at-2 word-at-requires operand-pair-requires returns)
+    (tie.spec
+    (λ c. omega arith)
+    (λ c. omega arith)
+    (λ c. omega arith)
+    (λ c κs. search needs)
+    place-of-requires
+    pair-at-requires
+    returns)

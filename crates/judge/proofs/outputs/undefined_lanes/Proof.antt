@@ -4,12 +4,9 @@ use Rattle.judge.specs.Lanes.{undefinedIn, undefinedWord}
 use Rattle.judge.proofs.outputs.undefined_lanes.Statement.{statement}
 use Rattle.judge.proofs.outputs.undefined_lanes.Tie as tie
 
-output-pair-requires : tie.Need-output-pair-requires
-output-pair-requires c κs = search needs
-
 returns : tie.Need-returns
 unfolding undefinedWord undefinedIn
-returns c = rw (c .before .output-pair .ensures)
+returns c = let u = c .before in rw (u .used-lanes .ensures, u .before .output-pair .ensures)
 
 pub undefined-lanes-spec : {M : Type 1} → statement M
-undefined-lanes-spec = tie.close (tie.spec output-pair-requires returns)
+undefined-lanes-spec = tie.close (tie.spec (λ c κs. c .before .pre) (λ c κs. search needs) returns)

@@ -8,25 +8,17 @@ use Rattle.judge.proofs.outputs.unsettled_lanes.Statement.{statement}
 use Rattle.judge.proofs.outputs.unsettled_lanes.Tie as tie
 
 abbrev Inv-loop : tie.InvT-loop
-Inv-loop words at count used zeros ones unsettled₀ o₀ unsettled o = (o ≤ count) × (unsettled ≡ unsettledWord words at used zeros ones o)
+Inv-loop words at n count lanes unsettled₀ o₀ unsettled o = (o ≤ count) × (unsettled ≡ unsettledWord words at n lanes o)
 
 abbrev μ-loop : tie.MeasureT-loop
-μ-loop words at count used zeros ones unsettled₀ o₀ unsettled o = count - o
+μ-loop words at n count lanes unsettled₀ o₀ unsettled o = count - o
 
 loop-holds : tie.Need-loop-holds Inv-loop μ-loop
 unfolding unsettledWord
 loop-holds c = (omega arith, refl)
 
 undefined-lanes-requires : tie.Need-undefined-lanes-requires Inv-loop μ-loop
-undefined-lanes-requires c κs =
-    let p = c .before .before .before .before .before .pre in
-    (p .0, omega (arith, p .1), p .2)
-
-add-o : tie.Need-add-o Inv-loop μ-loop
-add-o c = omega arith
-
-loop-less : tie.Need-loop-less Inv-loop μ-loop
-loop-less c = omega arith
+undefined-lanes-requires c κs = let l = c .before in l .before .before .pre .each (l .loop .o) (c .loop-test .taken)
 
 loop-again : tie.Need-loop-again Inv-loop μ-loop
 unfolding unsettledWord
@@ -36,9 +28,9 @@ loop-again c =
 
 returns : tie.Need-returns Inv-loop μ-loop
 returns c =
-    let l = c .before .loop in
-    let e : l .o ≡ c .before .before .before .before .before .args .count = omega arith in
-    rw (← e) (l .inv .1)
+    let l = c .before in
+    let e : l .loop .o ≡ l .before .before .args .count = omega arith in
+    rw (← e) (l .loop .inv .1)
 
 pub unsettled-lanes-spec : {M : Type 1} → statement M
 unsettled-lanes-spec =
@@ -48,7 +40,7 @@ unsettled-lanes-spec =
     μ-loop
     loop-holds
     undefined-lanes-requires
-    add-o
-    loop-less
+    (λ c. omega arith)
+    (λ c. omega arith)
     loop-again
     returns)

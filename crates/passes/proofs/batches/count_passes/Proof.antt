@@ -9,7 +9,8 @@ use Rattle.netlist.specs.Limits.{maxCopies}
 use Rattle.netlist.specs.StoredBlock.{decode}
 use Rattle.netlist.specs.Rounds.{settingCount}
 use Rattle.verdict.proofs.Counting.{setting-count, few-settings}
-use Rattle.verdict.proofs.Batching.{Place, place-first, place-next, lanesOf-some, decidable-kept}
+use Rattle.batch.proofs.LegibleLaws.{decidable-kept}
+use Rattle.verdict.proofs.Batching.{Place, place-first, place-next, lanesOf-some}
 use Rattle.passes.specs.Counting.{Counting, SameRest}
 use Rattle.passes.proofs.CountLaws.{counting-first, counting-all, rest-none, rest-first, rest-then, rooms-kept}
 use Rattle.passes.proofs.batches.count_passes.Statement.{statement}

@@ -7,7 +7,7 @@ use lib.Seq.{length-take-le}
 use Rattle.layout.specs.declared.nodes.Nodes.{Nodes}
 use Rattle.layout.specs.Nodes.{nodesOf}
 use Rattle.encoding.proofs.Readers.{whole-parts}
-use Rattle.verdict.proofs.Batching.{whole-decidable}
+use Rattle.batch.proofs.LegibleLaws.{whole-decidable}
 use borrow.Author.Needs.{needs}
 use Rattle.render.proofs.steps.count_along.Statement.{statement}
 use Rattle.render.proofs.steps.count_along.Tie as tie

@@ -46,13 +46,13 @@ abbrev entry : tie.After-refuse-if → tie.Start
 entry c = start (numbering (counting c))
 
 abbrev searching : tie.After-find-unsettled → tie.After-enum-told
-searching c = c .before .before .before .before
+searching c = c .before
 
 abbrev settings-test : tie.After-enum-told3 → tie.After-find-unsettled
-settings-test c = let e = c .before .before .before .before in e .before .before .before .before
+settings-test c = c .before .before
 
 -- what passed the second test, before the words are written
-abbrev wrote : tie.After-slice-known26 → tie.After-enum-told3
+abbrev wrote : tie.After-slice-known23 → tie.After-enum-told3
 wrote c =
     let f = c .before .before .before .before .before .before in
     f .before .before .before .before .before .before
@@ -141,15 +141,7 @@ returns c =
     (c .before .before .match .keys2) (c .refusal .ensures)
 
 find-unsettled-requires : tie.Need-find-unsettled-requires
-find-unsettled-requires c κs =
-    let k = counting (copies-test (c .before .before .before)) .count-copies .kept in
-    let s = entry (copies-test (c .before .before .before)) in
-    record {
-      whole = s .pre .whole;
-      orderRoom = rw (k .1 .1 .1 .0) (few-gates (now (s .args .words)) (s .pre .whole) (s .pre .orderRoom));
-      zeroRoom = rw (k .1 .1 .1 .1 .1 .1 .1 .0) (s .pre .zeroRoom);
-      oneRoom = rw (k .1 .1 .1 .1 .1 .1 .1 .1 .0) (s .pre .oneRoom);
-    }
+find-unsettled-requires c κs = entry (copies-test c) .pre .whole
 
 enum-told-3 : tie.Need-enum-told-3
 enum-told-3 c = search needs
@@ -162,8 +154,7 @@ refusal-requires-2 c κs = search needs
 
 same-length-10 : tie.Need-same-length-10
 same-length-10 c =
-    let m = c .before .before .before .before .before in
-    let t = m .before .before .before .before in
+    let t = c .before .before .before in
     numbering (counting (copies-test (searching t))) .assign .kept .1 .0
 
 same-length-11 : tie.Need-same-length-11
@@ -193,7 +184,7 @@ same-length-18 c = search needs
 returns-2 : tie.Need-returns-2
 returns-2 c =
     let m = c .before .before in
-    let t = m .before .before .before .before .before .before .before in
+    let t = m .before in
     let w = searching t in
     failed (inRoom _) (keeps-room _) _ _ (NotSettled _) (behind-copies w) (t .find-unsettled .ensures) (now (entry (copies-test w) .args .rendered))
     (m .match2 .keys2) (c .refusal2 .ensures)
@@ -214,7 +205,7 @@ finish-requires c κs =
       totalIs = u .count-copies .ensures .totalIs (copies-fit w);
       fits = copies-fit w;
       settled = not-false _ (passed-false _ (NotSettled _) (t .find-unsettled .ensures) (p .enum-told3 .given .1));
-      orderRoom = rw (t .find-unsettled .kept .1 .0, u .count-copies .kept .1 .1 .1 .0) (s .pre .orderRoom);
+      orderRoom = rw (u .count-copies .kept .1 .1 .1 .0) (s .pre .orderRoom);
       tableRoom = s .pre .tableRoom;
     }
 
@@ -225,7 +216,7 @@ same-length-20 : tie.Need-same-length-20
 same-length-20 c =
     let f = c .before .before .before .before .before .before in
     let t = settings-test (wrote c) in
-    f .finish .kept .1 .1 .1 .1 .1 .0 ∙ t .find-unsettled .kept .1 .0 ∙ counting (copies-test (searching t)) .count-copies .kept .1 .1 .1 .0
+    f .finish .kept .1 .1 .1 .1 .1 .0 ∙ counting (copies-test (searching t)) .count-copies .kept .1 .1 .1 .0
 
 same-length-21 : tie.Need-same-length-21
 same-length-21 c = search needs

@@ -7,15 +7,14 @@ use Rattle.verdict.specs.Batches.{countedFrom}
 use Rattle.verdict.proofs.settings.count_held.Statement.{statement}
 use Rattle.verdict.proofs.settings.count_held.Tie as tie
 
-counted-lanes-requires : tie.Need-counted-lanes-requires
-counted-lanes-requires c κs = search needs
-
-count-lanes-requires : tie.Need-count-lanes-requires
-count-lanes-requires c κs = search needs
-
 returns : tie.Need-returns
 unfolding countedFrom
-returns c = c .count-lanes .ensures ∙ tells-count (lanesOf-most _) (c .before .counted-lanes .ensures)
+returns c =
+    let d = c .before in
+    let n = d .before in
+    c .count-lanes .ensures ∙ tells-count (lanesOf-most _) (rw (n .inputs-of .ensures) at (d .counted-lanes .ensures))
 
 pub count-held-spec : {M : Type 1} → statement M
-count-held-spec = tie.close (tie.spec counted-lanes-requires count-lanes-requires returns)
+count-held-spec =
+    tie.close
+    (tie.spec (λ c κs. search needs) (λ c κs. rw (c .inputs-of .ensures) (c .before .before .pre)) (λ c κs. search needs) returns)

@@ -1,117 +1,120 @@
 -- `verdict::settings::count_settled` meets its contract: `settled` counts the settled settings of the batches passed. Assumes nothing.
-use mathlib.Core.Path.{_≡_, refl, _∙_}
-use Prim.Native.Nat.{_-_, _+_, _^_, _≤_, _<_}
+use mathlib.Core.Path.{_≡_, refl, sym, ap, _∙_}
+use Prim.Native.Nat.{ℕ, _-_, _+_, _^_, _≤_, _<_}
 use native.Mathlib.Omega.{arith}
 use borrow.Author.Needs.{needs}
-use lib.ListN.{length}
+use lib.ListN.{length, getD}
 use Rattle.laws.specs.Lists.{countBelow}
 use Rattle.netlist.specs.StoredBlock.{decode}
 use Rattle.netlist.specs.Rounds.{isCounted}
+use Rattle.encoding.proofs.Decoded.{decode-inputCount}
+use Rattle.encoding.proofs.Readers.{whole-parts}
+use Rattle.lanes.specs.Batches.{lanesOf}
+use Rattle.lanes.specs.LaneWords.{laneSize}
 use Rattle.verdict.proofs.Counting.{setting-count, count-le, count-end, few-settings}
-use Rattle.verdict.proofs.Batching.{Place, place-first, place-next, lanesOf-some, decidable-kept, count-batch, reached}
+use Rattle.verdict.proofs.Batching.{Place, place-first, place-next, lanesOf-some, count-batch, reached}
 use Rattle.verdict.proofs.settings.count_settled.Statement.{statement}
 use Rattle.verdict.proofs.settings.count_settled.Tie as tie
 
 abbrev Inv-loop : tie.InvT-loop
-Inv-loop words nodes order first zeros₀ ones₀ count lanes settled₀ base₀ zeros ones settled base =
-    Place (nodes .inputs) base × (settled ≡ countBelow (isCounted (decode words)) base) × (length zeros ≡ length zeros₀) × (length ones ≡ length ones₀)
-    × (base ≤ first → (zeros ≡ zeros₀) × (ones ≡ ones₀))
+Inv-loop words graph order ends first lanes₀ n count batch settled₀ base₀ lanes settled base =
+    Place (getD words 0 0) base × (settled ≡ countBelow (isCounted (decode words)) base) × (length lanes ≡ laneSize) × (base ≤ first → lanes ≡ lanes₀)
 
 abbrev μ-loop : tie.MeasureT-loop
-μ-loop words nodes order first zeros₀ ones₀ count lanes settled₀ base₀ zeros ones settled base = count - base
+μ-loop words graph order ends first lanes₀ n count batch settled₀ base₀ lanes settled base = count - base
 
--- the function's entry from the loop's head, and that from a batch's count
+-- from the loop's head: the number of inputs, and the entry; and that head from a batch's count
+abbrev sized : tie.At-loop Inv-loop μ-loop → tie.After-inputs-of Inv-loop μ-loop
+sized l = l .before .before .before
+
 abbrev start : tie.At-loop Inv-loop μ-loop → tie.Start Inv-loop μ-loop
-start l = l .before .before .before .before .before .before .before
+start l = sized l .before .before
 
 abbrev head : tie.After-count-batch Inv-loop μ-loop → tie.At-loop Inv-loop μ-loop
-head f = f .before .before .before .before
+head f = f .before .before .before
+
+few : (s : tie.Start Inv-loop μ-loop) → getD (s .args .words .now) 0 0 ≤ 12
+few s = whole-parts (s .args .words .now) (s .pre .0 .whole) .fewInputs
+
+-- how many settings there are, and how many a batch has
+all-settings : (l : tie.At-loop Inv-loop μ-loop) → l .before .before .setting-count .result ≡ 2 ^ getD (start l .args .words .now) 0 0
+all-settings l = l .before .before .setting-count .ensures ∙ ap (λ (k : ℕ). 2 ^ k) (sized l .inputs-of .ensures)
+
+many : (l : tie.At-loop Inv-loop μ-loop) → l .before .lane-count .result ≡ lanesOf (getD (start l .args .words .now) 0 0)
+many l = l .before .lane-count .ensures ∙ ap lanesOf (sized l .inputs-of .ensures)
 
 -- one batch more, and all of it
 counted : (f : tie.After-count-batch Inv-loop μ-loop) → let l = head f in
     l .loop .settled + f .count-batch .result ≡ countBelow (isCounted (decode (start l .args .words .now))) (l .loop .base + l .before .lane-count .result)
 counted f =
     let l = head f in
-    count-batch (decode (start l .args .words .now)) (l .loop .base) (l .before .lane-count .ensures) (l .loop .inv .1) (f .count-batch .ensures .0)
+    count-batch (decode (start l .args .words .now)) (l .loop .base) (many l) (l .loop .inv .1)
+    (f .count-batch .ensures .0)
 
-next : (f : tie.After-count-batch Inv-loop μ-loop) → let l = head f in Place (start l .args .nodes .inputs) (l .loop .base + l .before .lane-count .result)
+next : (f : tie.After-count-batch Inv-loop μ-loop) → let l = head f in
+    Place (getD (start l .args .words .now) 0 0) (l .loop .base + l .before .lane-count .result)
 next f =
     let l = head f in
-    place-next (l .before .lane-count .ensures) (l .before .before .setting-count .ensures) (l .loop .inv .0) (f .before .before .before .loop-test .taken)
-
-setting-count-requires : tie.Need-setting-count-requires Inv-loop μ-loop
-setting-count-requires c κs = c .before .before .before .before .pre .0 .fewInputs
-
-lane-count-requires : tie.Need-lane-count-requires Inv-loop μ-loop
-lane-count-requires c κs = search needs
+    place-next (many l) (all-settings l) (l .loop .inv .0) (f .before .before .loop-test .taken)
 
 loop-holds : tie.Need-loop-holds Inv-loop μ-loop
-loop-holds c = (place-first (c .before .before .before .before .before .before .args .nodes .inputs), refl, refl, refl, λ h. (refl, refl))
+loop-holds c =
+    let s = c .before .before .before .before in
+    (place-first (getD (s .args .words .now) 0 0), refl, s .pre .1, λ h. refl)
 
 count-batch-requires : tie.Need-count-batch-requires Inv-loop μ-loop
 count-batch-requires c κs =
-    let l = c .before .before .before in
+    let l = c .before .before in
     let s = start l in
-    let inside : l .loop .base < 2 ^ s .args .nodes .inputs = omega (arith, l .before .before .setting-count .ensures, c .before .before .loop-test .taken) in (
+    let n = getD (s .args .words .now) 0 0 in
+    let inside : l .loop .base < 2 ^ n = omega (arith, all-settings l, c .before .loop-test .taken) in (
+      (s .pre .0, l .loop .inv .2),
       (
-        decidable-kept (s .pre .0) (l .loop .inv .2) (l .loop .inv .3),
         l .loop .inv .0 .aligned inside,
-        omega (arith, inside, few-settings (s .args .nodes .inputs) (s .pre .0 .fewInputs)),
+        omega (arith, inside, few-settings n (few s)),
+        reached (s .pre .2) inside (l .loop .inv .3),
       ),
-      reached (s .pre .1) inside (l .loop .inv .4),
     )
 
 add-settled : tie.Need-add-settled Inv-loop μ-loop
 add-settled c =
-    let f = c .before .before .before .before in
-    let l = head f in
+    let l = head c in
     let s = start l in
     let end = l .loop .base + l .before .lane-count .result in
-    omega (arith, counted f, count-le (decode (s .args .words .now)) end, next f .within, few-settings (s .args .nodes .inputs) (s .pre .0 .fewInputs))
+    omega
+    (arith, counted c, count-le (decode (s .args .words .now)) end, next c .within, few-settings (getD (s .args .words .now) 0 0) (few s))
 
 add-base : tie.Need-add-base Inv-loop μ-loop
 add-base c =
-    let f = c .before .before .before .before in
-    let s = start (head f) in
-    omega (arith, next f .within, few-settings (s .args .nodes .inputs) (s .pre .0 .fewInputs))
+    let s = start (head c) in
+    omega (arith, next c .within, few-settings (getD (s .args .words .now) 0 0) (few s))
 
 loop-less : tie.Need-loop-less Inv-loop μ-loop
 loop-less c =
-    let f = c .before .before .before .before in
-    let l = head f in
-    omega (arith, l .before .lane-count .ensures, lanesOf-some (start l .args .nodes .inputs), f .before .before .before .loop-test .taken)
+    let l = head c in
+    omega (arith, l .before .lane-count .ensures, lanesOf-some (sized l .inputs-of .result), c .before .before .loop-test .taken)
 
 loop-again : tie.Need-loop-again Inv-loop μ-loop
 loop-again c =
-    let f = c .before .before .before .before in
-    let h = head f in
+    let h = head c in
     let l = h .loop in
-    let e = f .count-batch in (
-      next f,
-      counted f,
-      e .kept .1 .1 .1 .1 .1 .0 ∙ l .inv .2,
-      e .kept .1 .1 .1 .1 .1 .1 .0 ∙ l .inv .3,
-      λ below.
-          let k = e .ensures .1 (omega (arith, below, h .before .lane-count .ensures)) in
-          let i = l .inv .4 (omega (arith, below)) in
-          (k .0 ∙ i .0, k .1 ∙ i .1),
+    let e = c .count-batch .ensures in (
+      next c,
+      counted c,
+      e .1 .1,
+      λ below. e .1 .0 (omega (arith, below, many h)) ∙ l .inv .3 (omega (arith, below)),
     )
-
-same-length : tie.Need-same-length Inv-loop μ-loop
-same-length c = c .before .loop .inv .2
-
-same-length-2 : tie.Need-same-length-2 Inv-loop μ-loop
-same-length-2 c = c .before .loop .inv .3
 
 returns : tie.Need-returns Inv-loop μ-loop
 returns c =
-    let s = start (c .before) in
-    let l = c .before .loop in
-    let count = c .before .before .before .setting-count in
-    let block = decode (s .args .words .now) in
-    let all : l .base ≡ count .result = omega (arith, l .inv .0 .within, count .ensures) in
-    l .inv .1 ∙ count-end block (l .base) (count .result) (setting-count block (s .args .nodes .inputs) (count .result) (s .pre .0 .legible .inputs)
-    (count .ensures)) all
+    let h = c .before in
+    let s = start h in
+    let l = h .loop in
+    let words = s .args .words .now in
+    let count = h .before .before .setting-count .result in
+    let all : l .base ≡ count = omega (arith, l .inv .0 .within, all-settings h, c .loop-test .left) in
+    l .inv .1
+    ∙ count-end (decode words) (l .base) count (setting-count (decode words) (getD words 0 0) count (sym (decode-inputCount words)) (all-settings h)) all
 
 pub count-settled-spec : {M : Type 1} → statement M
 count-settled-spec =
@@ -119,14 +122,13 @@ count-settled-spec =
     (tie.spec
     Inv-loop
     μ-loop
-    setting-count-requires
-    lane-count-requires
+    (λ c κs. search needs)
+    (λ c κs. rw (c .inputs-of .ensures) (few (c .before .before)))
+    (λ c κs. search needs)
     loop-holds
     count-batch-requires
     add-settled
     add-base
     loop-less
     loop-again
-    same-length
-    same-length-2
     returns)

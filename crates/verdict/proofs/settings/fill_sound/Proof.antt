@@ -1,123 +1,117 @@
 -- `verdict::settings::fill_sound` meets its contract: after a batch the first bytes are flags up to its end. Assumes nothing.
-use mathlib.Core.Path.{_≡_, refl, _∙_}
-use Prim.Native.Nat.{_+_, _-_, _^_, _≤_, _<_}
+use mathlib.Core.Path.{_≡_, refl, ap, _∙_}
+use Prim.Native.Nat.{ℕ, _+_, _-_, _^_, _≤_, _<_}
 use native.Mathlib.Omega.{arith}
 use borrow.Author.Needs.{needs}
-use lib.ListN.{length}
+use lib.ListN.{length, getD}
 use Rattle.laws.specs.Lists.{tab, placed}
 use Rattle.netlist.specs.StoredBlock.{decode}
+use Rattle.encoding.proofs.Readers.{whole-parts}
 use Rattle.lanes.specs.Batches.{lanesOf}
+use Rattle.lanes.specs.LaneWords.{laneSize}
 use Rattle.lanes.proofs.InputLaws.{lanesOf-most}
 use Rattle.verdict.specs.Flags.{soundFlag}
 use Rattle.verdict.proofs.Counting.{few-settings}
-use Rattle.verdict.proofs.Batching.{Place, place-first, place-next, lanesOf-some, judged, decidable-kept, flagged-placed}
+use Rattle.verdict.proofs.Batching.{Place, place-first, place-next, lanesOf-some, tells-from, flagged-placed}
 use Rattle.verdict.proofs.settings.fill_sound.Statement.{statement}
 use Rattle.verdict.proofs.settings.fill_sound.Tie as tie
 
 abbrev Inv-loop : tie.InvT-loop
-Inv-loop words nodes order zeros₀ ones₀ sound₀ count lanes base₀ zeros ones sound base =
-    Place (nodes .inputs) base × (sound ≡ placed (tab (soundFlag (decode words)) base) sound₀) × (length sound ≡ length sound₀) × (length zeros ≡ length zeros₀)
-    × (length ones ≡ length ones₀)
+Inv-loop words graph order ends lanes₀ sound₀ n count batch base₀ lanes sound base =
+    Place (getD words 0 0) base × (sound ≡ placed (tab (soundFlag (decode words)) base) sound₀) × (length sound ≡ length sound₀) × (length lanes ≡ laneSize)
 
 abbrev μ-loop : tie.MeasureT-loop
-μ-loop words nodes order zeros₀ ones₀ sound₀ count lanes base₀ zeros ones sound base = count - base
+μ-loop words graph order ends lanes₀ sound₀ n count batch base₀ lanes sound base = count - base
 
--- the function's entry from the loop's head, that head from a decided batch, and the batch from its flags
+-- from the loop's head: the number of inputs, and the entry; that head from a decided batch, and the batch from its flags
+abbrev sized : tie.At-loop Inv-loop μ-loop → tie.After-inputs-of Inv-loop μ-loop
+sized l = l .before .before .before
+
 abbrev start : tie.At-loop Inv-loop μ-loop → tie.Start Inv-loop μ-loop
-start l = l .before .before .before .before .before .before .before .before
+start l = sized l .before .before .before
 
-abbrev head : tie.After-decide-batch Inv-loop μ-loop → tie.At-loop Inv-loop μ-loop
-head d = d .before .before .before .before
+abbrev head : tie.After-judge-batch Inv-loop μ-loop → tie.At-loop Inv-loop μ-loop
+head d = d .before .before .before
 
-abbrev judging : tie.After-write-flags-arg Inv-loop μ-loop → tie.After-decide-batch Inv-loop μ-loop
-judging c = c .before .before .before .before .before .before .before .before
+abbrev decided : tie.After-write-flags-arg Inv-loop μ-loop → tie.After-judge-batch Inv-loop μ-loop
+decided c = c .before .before .before
 
-abbrev decided : tie.After-write-flags Inv-loop μ-loop → tie.After-decide-batch Inv-loop μ-loop
-decided w = judging (w .before)
+few : (s : tie.Start Inv-loop μ-loop) → getD (s .args .words .now) 0 0 ≤ 12
+few s = whole-parts (s .args .words .now) (s .pre .0 .whole) .fewInputs
+
+all-settings : (l : tie.At-loop Inv-loop μ-loop) → l .before .before .setting-count .result ≡ 2 ^ getD (start l .args .words .now) 0 0
+all-settings l = l .before .before .setting-count .ensures ∙ ap (λ (k : ℕ). 2 ^ k) (sized l .inputs-of .ensures)
+
+many : (l : tie.At-loop Inv-loop μ-loop) → l .before .lane-count .result ≡ lanesOf (getD (start l .args .words .now) 0 0)
+many l = l .before .lane-count .ensures ∙ ap lanesOf (sized l .inputs-of .ensures)
 
 -- this batch is one of the block's
-inside : (d : tie.After-decide-batch Inv-loop μ-loop) → head d .loop .base < 2 ^ start (head d) .args .nodes .inputs
-inside d = omega (arith, head d .before .before .setting-count .ensures, d .before .before .before .loop-test .taken)
+inside : (i : tie.In-loop Inv-loop μ-loop) → let l = i .before in l .loop .base < 2 ^ getD (start l .args .words .now) 0 0
+inside i = omega (arith, all-settings (i .before), i .loop-test .taken)
 
 -- it ends where there are bytes for it
-room : (d : tie.After-decide-batch Inv-loop μ-loop)
-    → (head d .loop .base + lanesOf (start (head d) .args .nodes .inputs) ≤ length (start (head d) .args .sound .now)) × (head d .loop .base < 4294967296)
+room : (d : tie.After-judge-batch Inv-loop μ-loop) → let l = head d in
+    (l .loop .base + lanesOf (getD (start l .args .words .now) 0 0) ≤ length (start l .args .sound .now)) × (l .loop .base < 4294967296)
 room d =
-    let s = start (head d) in
-    (omega (arith, head d .loop .inv .0 .whole (inside d), s .pre .1), omega (arith, inside d, few-settings (s .args .nodes .inputs) (s .pre .0 .fewInputs)))
+    let l = head d in
+    let s = start l in
+    let h = inside (d .before .before) in
+    (omega (arith, l .loop .inv .0 .whole h, s .pre .2), omega (arith, h, few-settings (getD (s .args .words .now) 0 0) (few s)))
 
-next : (d : tie.After-decide-batch Inv-loop μ-loop) → Place (start (head d) .args .nodes .inputs) (head d .loop .base + head d .before .lane-count .result)
-next d =
-    place-next (head d .before .lane-count .ensures) (head d .before .before .setting-count .ensures) (head d .loop .inv .0)
-    (d .before .before .before .loop-test .taken)
-
-setting-count-requires : tie.Need-setting-count-requires Inv-loop μ-loop
-setting-count-requires c κs = c .before .before .before .before .before .pre .0 .fewInputs
-
-lane-count-requires : tie.Need-lane-count-requires Inv-loop μ-loop
-lane-count-requires c κs = search needs
+next : (d : tie.After-judge-batch Inv-loop μ-loop) → let l = head d in
+    Place (getD (start l .args .words .now) 0 0) (l .loop .base + l .before .lane-count .result)
+next d = let l = head d in place-next (many l) (all-settings l) (l .loop .inv .0) (d .before .before .loop-test .taken)
 
 loop-holds : tie.Need-loop-holds Inv-loop μ-loop
-loop-holds c = (place-first (c .before .before .before .before .before .before .before .args .nodes .inputs), refl, refl, refl, refl)
+loop-holds c =
+    let s = c .before .before .before .before .before in
+    (place-first (getD (s .args .words .now) 0 0), refl, refl, s .pre .1)
 
-decide-batch-requires : tie.Need-decide-batch-requires Inv-loop μ-loop
-decide-batch-requires c κs =
-    let l = c .before .before .before in
-    let h : l .loop .base < 2 ^ start l .args .nodes .inputs = omega (arith, l .before .before .setting-count .ensures, c .before .before .loop-test .taken) in
-    (decidable-kept (start l .pre .0) (l .loop .inv .3) (l .loop .inv .4), l .loop .inv .0 .aligned h)
-
-sound-lanes-requires : tie.Need-sound-lanes-requires Inv-loop μ-loop
-sound-lanes-requires c κs =
-    let d = c .before .before .before .before .before .before in
-    judged (start (head d) .pre .0) (head d .loop .inv .0 .aligned (inside d)) (d .decide-batch .ensures)
+judge-batch-requires : tie.Need-judge-batch-requires Inv-loop μ-loop
+judge-batch-requires c κs =
+    let l = c .before .before in
+    (start l .pre .0, l .loop .inv .0 .aligned (inside (c .before)), l .loop .inv .3)
 
 write-flags-requires : tie.Need-write-flags-requires Inv-loop μ-loop
 write-flags-requires c κs =
-    let d = judging c in
+    let d = decided c in
+    let l = head d in
     let r = room d in
-    let e = head d .before .lane-count .ensures in
-    (omega (arith, e, lanesOf-most (start (head d) .args .nodes .inputs)), omega (arith, r .1), omega (arith, e, r .0, head d .loop .inv .2))
+    let e = many l in
+    (omega (arith, e, lanesOf-most (getD (start l .args .words .now) 0 0)), r .1, omega (arith, e, r .0, l .loop .inv .2))
 
 add-base : tie.Need-add-base Inv-loop μ-loop
 add-base c =
-    let d = decided (c .before .before) in
+    let d = decided (c .before .before .before) in
     let s = start (head d) in
-    omega (arith, next d .within, few-settings (s .args .nodes .inputs) (s .pre .0 .fewInputs))
+    omega (arith, next d .within, few-settings (getD (s .args .words .now) 0 0) (few s))
 
 loop-less : tie.Need-loop-less Inv-loop μ-loop
 loop-less c =
-    let d = decided (c .before .before) in
-    omega (arith, head d .before .lane-count .ensures, lanesOf-some (start (head d) .args .nodes .inputs), d .before .before .before .loop-test .taken)
+    let d = decided (c .before .before .before) in
+    let l = head d in
+    omega (arith, l .before .lane-count .ensures, lanesOf-some (sized l .inputs-of .result), d .before .before .loop-test .taken)
 
 loop-again : tie.Need-loop-again Inv-loop μ-loop
 loop-again c =
     let w = c .before .before in
-    let d = decided w in
-    let l = head d .loop in
-    let s = start (head d) in
-    let e = d .decide-batch in (
+    let d = decided (w .before) in
+    let h = head d in
+    let l = h .loop in
+    let s = start h in (
       next d,
       w .write-flags .ensures
-          ∙ flagged-placed (decode (s .args .words .now)) (s .args .sound .now) (head d .before .lane-count .ensures)
-          (w .before .before .sound-lanes .ensures) (room d .0) (l .inv .1),
+          ∙ flagged-placed (decode (s .args .words .now)) (s .args .sound .now) (many h)
+          (tells-from (sized h .inputs-of .ensures) (w .before .before .sound-lanes .ensures)) (room d .0) (l .inv .1),
       w .write-flags .kept .1 .1 .1 .0 ∙ l .inv .2,
-      e .kept .1 .1 .1 .1 .0 ∙ l .inv .3,
-      e .kept .1 .1 .1 .1 .1 .0 ∙ l .inv .4,
+      d .judge-batch .ensures .settled .filled .long,
     )
-
-same-length : tie.Need-same-length Inv-loop μ-loop
-same-length c = c .before .loop .inv .3
-
-same-length-2 : tie.Need-same-length-2 Inv-loop μ-loop
-same-length-2 c = c .before .loop .inv .4
-
-same-length-3 : tie.Need-same-length-3 Inv-loop μ-loop
-same-length-3 c = c .before .loop .inv .2
 
 returns : tie.Need-returns Inv-loop μ-loop
 returns c =
-    let l = c .before .loop in
-    let all : l .base ≡ 2 ^ start (c .before) .args .nodes .inputs = omega (arith, c .before .before .before .setting-count .ensures, l .inv .0 .within) in
+    let h = c .before in
+    let l = h .loop in
+    let all : l .base ≡ 2 ^ getD (start h .args .words .now) 0 0 = omega (arith, all-settings h, l .inv .0 .within, c .loop-test .left) in
     rw (← all) (l .inv .1)
 
 pub fill-sound-spec : {M : Type 1} → statement M
@@ -126,16 +120,15 @@ fill-sound-spec =
     (tie.spec
     Inv-loop
     μ-loop
-    setting-count-requires
-    lane-count-requires
+    (λ c κs. search needs)
+    (λ c κs. rw (c .inputs-of .ensures) (few (c .before .before .before)))
+    (λ c κs. search needs)
     loop-holds
-    decide-batch-requires
-    sound-lanes-requires
+    judge-batch-requires
+    (λ c κs. rw (sized (head (c .before)) .inputs-of .ensures) (c .before .judge-batch .ensures))
     write-flags-requires
     add-base
     loop-less
     loop-again
-    same-length
-    same-length-2
-    same-length-3
+    (λ c. c .before .loop .inv .2)
     returns)

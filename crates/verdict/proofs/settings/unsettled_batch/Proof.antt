@@ -1,191 +1,163 @@
 -- `verdict::settings::unsettled_batch` meets its contract: every batch passed is settled where it may come, and the one at which the loops are left is not.
 -- Assumes nothing.
-use mathlib.Core.Path.{_≡_, refl, sym, _∙_}
+use mathlib.Core.Path.{_≡_, ap, _∙_}
 use mathlib.Core.Bool.{true}
 use Prim.Native.Nat.{ℕ, _-_, _+_, _^_, _≤_, _<_}
 use native.Mathlib.Omega.{arith}
 use borrow.Author.Needs.{needs}
 use borrow.Author.Count.{below-more}
 use lib.Bits.{bitAnd}
-use lib.ListN.{length}
-use Rattle.netlist.specs.StoredBlock.{neversAt, gatesAt, outputsAt, decode}
+use lib.ListN.{length, getD}
+use Rattle.netlist.specs.StoredBlock.{decode}
 use Rattle.netlist.specs.Rounds.{isSoundAt}
+use Rattle.encoding.proofs.Readers.{whole-parts}
 use Rattle.lanes.specs.Batches.{lanesOf}
-use Rattle.judge.specs.Lanes.{Judged, undefinedWord}
+use Rattle.lanes.specs.LaneWords.{laneSize}
+use Rattle.judge.specs.Lanes.{undefinedWord}
+use Rattle.judge.proofs.OutputLaws.{output-there}
 use Rattle.verdict.proofs.Counting.{few-settings}
-use Rattle.verdict.proofs.Batching.{Place, place-first, place-next, lanesOf-some, judged, decidable-kept, passed-sound, found-unsound, batch-more}
+use Rattle.verdict.proofs.Batching.{Place, place-first, place-next, lanesOf-some, passed-sound, found-unsound, batch-more}
 use Rattle.verdict.proofs.settings.unsettled_batch.Statement.{statement}
 use Rattle.verdict.proofs.settings.unsettled_batch.Tie as tie
 
 abbrev Inv-loop : tie.InvT-loop
-Inv-loop words nodes order zeros ones count lanes used at outputs base coming o₀ o =
-    (o ≤ outputs) × ((k : ℕ) → k < o → bitAnd coming (undefinedWord words at used zeros ones k) ≡ 0)
+Inv-loop words graph order ends lanes n count batch at outputs base coming o₀ o =
+    (o ≤ outputs) × ((k : ℕ) → k < o → bitAnd coming (undefinedWord words at n lanes k) ≡ 0)
 
 abbrev μ-loop : tie.MeasureT-loop
-μ-loop words nodes order zeros ones count lanes used at outputs base coming o₀ o = outputs - o
+μ-loop words graph order ends lanes n count batch at outputs base coming o₀ o = outputs - o
 
 abbrev Inv-batches : tie.InvT-batches
-Inv-batches words nodes order zeros₀ ones₀ count lanes used at outputs base₀ zeros ones base =
-    Place (nodes .inputs) base × ((i : ℕ) → i < base → isSoundAt (decode words) i ≡ true) × (length zeros ≡ length zeros₀) × (length ones ≡ length ones₀)
+Inv-batches words graph order ends lanes₀ n count batch at outputs base₀ lanes base =
+    Place (getD words 0 0) base × ((i : ℕ) → i < base → isSoundAt (decode words) i ≡ true) × (length lanes ≡ laneSize)
 
 abbrev μ-batches : tie.MeasureT-batches
-μ-batches words nodes order zeros₀ ones₀ count lanes used at outputs base₀ zeros ones base = count - base
+μ-batches words graph order ends lanes₀ n count batch at outputs base₀ lanes base = count - base
 
--- the function's entry and the stage behind it, from the outer loop's head; that head from a decided batch, the batch from the inner loop's head, and
--- that from an output
-abbrev first : tie.After-outputs-of Inv-loop μ-loop Inv-batches μ-batches → tie.After-shared-slice-known Inv-loop μ-loop Inv-batches μ-batches
-first c = c .before .before .before .before .before .before .before .before
+-- from the outer loop's head: where the outputs stand, the number of lanes, that of inputs, and the entry; that head from a decided batch; the inner loop's
+-- head from an output
+abbrev ports : tie.At-batches Inv-loop μ-loop Inv-batches μ-batches → tie.After-outputs-at Inv-loop μ-loop Inv-batches μ-batches
+ports l = l .before .before
+
+abbrev laned : tie.At-batches Inv-loop μ-loop Inv-batches μ-batches → tie.After-lane-count Inv-loop μ-loop Inv-batches μ-batches
+laned l = ports l .before
+
+abbrev sized : tie.At-batches Inv-loop μ-loop Inv-batches μ-batches → tie.After-inputs-of Inv-loop μ-loop Inv-batches μ-batches
+sized l = laned l .before .before
 
 abbrev start : tie.At-batches Inv-loop μ-loop Inv-batches μ-batches → tie.Start Inv-loop μ-loop Inv-batches μ-batches
-start l = first (l .before) .before
+start l = sized l .before .before
 
-abbrev head : tie.After-decide-batch Inv-loop μ-loop Inv-batches μ-batches → tie.At-batches Inv-loop μ-loop Inv-batches μ-batches
-head d = d .before .before .before .before
+abbrev head : tie.After-judge-batch Inv-loop μ-loop Inv-batches μ-batches → tie.At-batches Inv-loop μ-loop Inv-batches μ-batches
+head d = d .before .before .before
 
-abbrev found : tie.At-loop Inv-loop μ-loop Inv-batches μ-batches → tie.After-decide-batch Inv-loop μ-loop Inv-batches μ-batches
-found l = l .before .before .before .before .before .before
+abbrev found : tie.At-loop Inv-loop μ-loop Inv-batches μ-batches → tie.After-judge-batch Inv-loop μ-loop Inv-batches μ-batches
+found l = l .before .before
 
 abbrev looked : tie.After-undefined-lanes Inv-loop μ-loop Inv-batches μ-batches → tie.At-loop Inv-loop μ-loop Inv-batches μ-batches
-looked u = u .before .before .before .before
+looked u = u .before .before .before
 
--- this batch is one of the block's
-inside : (d : tie.After-decide-batch Inv-loop μ-loop Inv-batches μ-batches) → head d .batches .base < 2 ^ start (head d) .args .nodes .inputs
-inside d = omega (arith, head d .before .before .before .before .before .setting-count .ensures, d .before .before .before .batches-test .taken)
+few : (s : tie.Start Inv-loop μ-loop Inv-batches μ-batches) → getD (s .args .words .now) 0 0 ≤ 12
+few s = whole-parts (s .args .words .now) (s .pre .0 .whole) .fewInputs
 
--- its values
-values : (d : tie.After-decide-batch Inv-loop μ-loop Inv-batches μ-batches) → let a = start (head d) .args in
-    Judged (a .words .now) (a .nodes .inputs) (head d .batches .base) (d .decide-batch .last .1 .1 .1 .1 .0) (d .decide-batch .last .1 .1 .1 .1 .1 .0)
-values d = judged (start (head d) .pre) (head d .batches .inv .0 .aligned (inside d)) (d .decide-batch .ensures)
+-- how many settings there are, and how many a batch has
+all-settings : (l : tie.At-batches Inv-loop μ-loop Inv-batches μ-batches)
+    → laned l .before .setting-count .result ≡ 2 ^ getD (start l .args .words .now) 0 0
+all-settings l = laned l .before .setting-count .ensures ∙ ap (λ (k : ℕ). 2 ^ k) (sized l .inputs-of .ensures)
 
-next : (d : tie.After-decide-batch Inv-loop μ-loop Inv-batches μ-batches)
-    → Place (start (head d) .args .nodes .inputs) (head d .batches .base + head d .before .before .before .before .lane-count .result)
+many : (l : tie.At-batches Inv-loop μ-loop Inv-batches μ-batches) → laned l .lane-count .result ≡ lanesOf (getD (start l .args .words .now) 0 0)
+many l = laned l .lane-count .ensures ∙ ap lanesOf (sized l .inputs-of .ensures)
+
+-- this batch is one of the block's, and so is the next one
+inside : (i : tie.In-batches Inv-loop μ-loop Inv-batches μ-batches) → let l = i .before in l .batches .base < 2 ^ getD (start l .args .words .now) 0 0
+inside i =
+    let l = i .before in
+    omega (arith, all-settings l, i .batches-test .taken)
+
+next : (d : tie.After-judge-batch Inv-loop μ-loop Inv-batches μ-batches) → let l = head d in
+    Place (getD (start l .args .words .now) 0 0) (l .batches .base + laned l .lane-count .result)
 next d =
-    let lanes = head d .before .before .before .before in
-    place-next (lanes .lane-count .ensures) (lanes .before .setting-count .ensures) (head d .batches .inv .0) (d .before .before .before .batches-test .taken)
-
-setting-count-requires : tie.Need-setting-count-requires Inv-loop μ-loop Inv-batches μ-batches
-setting-count-requires c κs = c .before .before .before .before .pre .fewInputs
-
-lane-count-requires : tie.Need-lane-count-requires Inv-loop μ-loop Inv-batches μ-batches
-lane-count-requires c κs = search needs
-
-used-lanes-requires : tie.Need-used-lanes-requires Inv-loop μ-loop Inv-batches μ-batches
-used-lanes-requires c κs = search needs
-
-outputs-at-requires : tie.Need-outputs-at-requires Inv-loop μ-loop Inv-batches μ-batches
-outputs-at-requires c κs = search needs
-
-outputs-of-requires : tie.Need-outputs-of-requires Inv-loop μ-loop Inv-batches μ-batches
-outputs-of-requires c κs = search needs
+    let l = head d in
+    place-next (many l) (all-settings l) (l .batches .inv .0) (d .before .before .batches-test .taken)
 
 batches-holds : tie.Need-batches-holds Inv-loop μ-loop Inv-batches μ-batches
 batches-holds c =
-    (place-first (first c .before .args .nodes .inputs), λ k l. absurd (omega arith), refl, refl)
+    let s = c .before .before .before .before .before .before in
+    (place-first (getD (s .args .words .now) 0 0), λ k l. absurd (omega arith), s .pre .1)
 
-decide-batch-requires : tie.Need-decide-batch-requires Inv-loop μ-loop Inv-batches μ-batches
-decide-batch-requires c κs =
-    let l = c .before .before .before in
-    let h : l .batches .base < 2 ^ start l .args .nodes .inputs =
-    omega (arith, l .before .before .before .before .before .setting-count .ensures, c .before .before .batches-test .taken) in
-    (decidable-kept (start l .pre) (l .batches .inv .2) (l .batches .inv .3), l .batches .inv .0 .aligned h)
+judge-batch-requires : tie.Need-judge-batch-requires Inv-loop μ-loop Inv-batches μ-batches
+judge-batch-requires c κs =
+    let l = c .before .before in
+    (start l .pre .0, l .batches .inv .0 .aligned (inside (c .before)), l .batches .inv .2)
 
 coming-lanes-requires : tie.Need-coming-lanes-requires Inv-loop μ-loop Inv-batches μ-batches
 coming-lanes-requires c κs =
-    let d = c .before .before .before .before in
-    let j = values d in
-    (j .fewInputs, j .aligned, j .inputs)
-
-loop-holds : tie.Need-loop-holds Inv-loop μ-loop Inv-batches μ-batches
-loop-holds c = (omega arith, λ k l. absurd (omega arith))
+    let l = head c in
+    let n = sized l .inputs-of .ensures in
+    let j = c .judge-batch .ensures in
+    (rw n (j .fewInputs), j .aligned, n)
 
 undefined-lanes-requires : tie.Need-undefined-lanes-requires Inv-loop μ-loop Inv-batches μ-batches
-unfolding outputsAt gatesAt neversAt
 undefined-lanes-requires c κs =
-    let l = c .before .before .before in
+    let l = c .before .before in
     let h = head (found l) in
-    let known = first (h .before) .shared-slice-known in
-    let s = found l .decide-batch .ensures in (
-      omega (arith, h .before .before .outputs-at .ensures, known .given 0, known .given 1, known .given 3, start h .pre .legible .near),
-      omega (arith, h .before .outputs-of .ensures, known .given 2, l .loop .inv .0),
-      s .zerosLong ∙ sym (s .onesLong),
-    )
-
-add-o : tie.Need-add-o Inv-loop μ-loop Inv-batches μ-batches
-add-o c = omega arith
-
-loop-less : tie.Need-loop-less Inv-loop μ-loop Inv-batches μ-batches
-loop-less c = omega arith
+    let s = start h in
+    output-there (s .args .words .now) (s .pre .0 .whole) (sized h .inputs-of .ensures) (ports h .outputs-at .ensures) (l .loop .o)
+    (omega (arith, h .before .outputs-of .ensures, c .before .loop-test .taken))
 
 loop-again : tie.Need-loop-again Inv-loop μ-loop Inv-batches μ-batches
 loop-again c =
-    let l = looked (c .before) in
+    let u = c .before in
+    let l = looked u in
     let h = head (found l) in
     let a = start h .args in (
       omega arith,
       below-more
           (λ k. bitAnd (l .before .coming-lanes .result)
-          (undefinedWord (a .words .now) (h .before .before .outputs-at .result) (h .before .before .before .used-lanes .result)
-          (found l .decide-batch .last .1 .1 .1 .1 .0)
-          (found l .decide-batch .last .1 .1 .1 .1 .1 .0) k) ≡ 0)
-          (l .loop .o) (l .loop .inv .1) (rw (← c .before .undefined-lanes .ensures) (c .if1 .left)),
+          (undefinedWord (a .words .now) (ports h .outputs-at .result) (sized h .inputs-of .result) (found l .judge-batch .last .1 .1 .1 .1 .1 .0) k) ≡ 0)
+          (l .loop .o) (l .loop .inv .1) (rw (← u .undefined-lanes .ensures) (c .if1 .left)),
     )
 
 add-base : tie.Need-add-base Inv-loop μ-loop Inv-batches μ-batches
 add-base c =
     let d = found (c .before) in
     let s = start (head d) in
-    omega (arith, next d .within, few-settings (s .args .nodes .inputs) (s .pre .fewInputs))
+    omega (arith, next d .within, few-settings (getD (s .args .words .now) 0 0) (few s))
 
 batches-less : tie.Need-batches-less Inv-loop μ-loop Inv-batches μ-batches
 batches-less c =
     let d = found (c .before) in
-    omega (
-      arith,
-      head d .before .before .before .before .lane-count .ensures,
-      lanesOf-some (start (head d) .args .nodes .inputs),
-      d .before .before .before .batches-test .taken,
-    )
+    let l = head d in
+    omega (arith, laned l .lane-count .ensures, lanesOf-some (sized l .inputs-of .result), d .before .before .batches-test .taken)
 
 batches-again : tie.Need-batches-again Inv-loop μ-loop Inv-batches μ-batches
 batches-again c =
     let d = found (c .before) in
     let h = head d in
-    let e = d .decide-batch in
-    let block = decode (start h .args .words .now) in
-    let all : (s : ℕ) → s < lanesOf (start h .args .nodes .inputs) → isSoundAt block (h .batches .base + s) ≡ true =
-    passed-sound (values d) (h .before .before .outputs-at .ensures) (h .before .before .before .used-lanes .ensures) (c .before .before .coming-lanes .ensures)
+    let n = sized h .inputs-of .ensures in
+    let j = d .judge-batch .ensures in
+    let words = start h .args .words .now in
+    let all : (s : ℕ) → s < lanesOf (getD words 0 0) → isSoundAt (decode words) (h .batches .base + s) ≡ true =
+    passed-sound j (ports h .outputs-at .ensures) n (c .before .before .coming-lanes .ensures)
     (λ o l. c .before .loop .inv .1 o (omega (arith, h .before .outputs-of .ensures))) in (
       next d,
-      batch-more (λ i. isSoundAt block i ≡ true) (h .before .before .before .before .lane-count .ensures) (h .batches .inv .1) all,
-      e .kept .1 .1 .1 .1 .0 ∙ h .batches .inv .2,
-      e .kept .1 .1 .1 .1 .1 .0 ∙ h .batches .inv .3,
+      batch-more (λ i. isSoundAt (decode words) i ≡ true) (many h) (h .batches .inv .1) all,
+      j .settled .filled .long,
     )
-
-same-length : tie.Need-same-length Inv-loop μ-loop Inv-batches μ-batches
-same-length c = c .before .batches .inv .2
-
-same-length-2 : tie.Need-same-length-2 Inv-loop μ-loop Inv-batches μ-batches
-same-length-2 c = c .before .batches .inv .3
 
 returns : tie.Need-returns Inv-loop μ-loop Inv-batches μ-batches
 returns c =
     let l = c .before in
-    let past : (l .batches .base < 2 ^ start l .args .nodes .inputs) → ⊥ =
-    λ h. omega (arith, l .before .before .before .before .before .setting-count .ensures) in
+    let past : (l .batches .base < 2 ^ getD (start l .args .words .now) 0 0) → ⊥ =
+    λ h. omega (arith, all-settings l, c .batches-test .left, h) in
     record {
       within = l .batches .inv .0 .within;
       before = l .batches .inv .1;
-      aligned = λ h. absurd (past h);
       whole = λ h. absurd (past h);
-      settled = λ h. absurd (past h);
+      judged = λ h. absurd (past h);
       some = λ h. absurd (past h);
+      long = l .batches .inv .2;
     }
-
-same-length-3 : tie.Need-same-length-3 Inv-loop μ-loop Inv-batches μ-batches
-same-length-3 c = let d = found (looked (c .before)) in d .decide-batch .kept .1 .1 .1 .1 .0 ∙ head d .batches .inv .2
-
-same-length-4 : tie.Need-same-length-4 Inv-loop μ-loop Inv-batches μ-batches
-same-length-4 c = let d = found (looked (c .before)) in d .decide-batch .kept .1 .1 .1 .1 .1 .0 ∙ head d .batches .inv .3
 
 returns-2 : tie.Need-returns-2 Inv-loop μ-loop Inv-batches μ-batches
 returns-2 c =
@@ -193,17 +165,18 @@ returns-2 c =
     let l = looked u in
     let d = found l in
     let h = head d in
+    let n = sized h .inputs-of .ensures in
+    let j = d .judge-batch .ensures in
     record {
       within = h .batches .inv .0 .within;
       before = h .batches .inv .1;
-      aligned = λ i. values d .aligned;
       whole = h .batches .inv .0 .whole;
-      settled = λ i. d .decide-batch .ensures;
+      judged = λ i. j;
       some = λ i.
-          found-unsound (values d) (h .before .before .outputs-at .ensures) (h .before .before .before .used-lanes .ensures)
-          (l .before .coming-lanes .ensures) (l .loop .o)
-          (omega (arith, h .before .outputs-of .ensures, u .before .before .before .loop-test .taken))
+          found-unsound j (ports h .outputs-at .ensures) n (l .before .coming-lanes .ensures) (l .loop .o)
+          (omega (arith, h .before .outputs-of .ensures, u .before .before .loop-test .taken))
           (λ z. c .if1 .taken (rw (u .undefined-lanes .ensures) z));
+      long = j .settled .filled .long;
     }
 
 pub unsettled-batch-spec : {M : Type 1} → statement M
@@ -214,25 +187,21 @@ unsettled-batch-spec =
     μ-loop
     Inv-batches
     μ-batches
-    setting-count-requires
-    lane-count-requires
-    used-lanes-requires
-    outputs-at-requires
-    outputs-of-requires
+    (λ c κs. search needs)
+    (λ c κs. rw (c .inputs-of .ensures) (few (c .before .before)))
+    (λ c κs. search needs)
+    (λ c κs. search needs)
+    (λ c κs. search needs)
     batches-holds
-    decide-batch-requires
+    judge-batch-requires
     coming-lanes-requires
-    loop-holds
+    (λ c. (omega arith, λ k l. absurd (omega arith)))
     undefined-lanes-requires
-    add-o
-    loop-less
+    (λ c. omega arith)
+    (λ c. omega arith)
     loop-again
     add-base
     batches-less
     batches-again
-    same-length
-    same-length-2
     returns
-    same-length-3
-    same-length-4
     returns-2)
