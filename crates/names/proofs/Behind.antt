@@ -1,5 +1,5 @@
--- The letters right behind the brackets of a printed tree: `i` stands behind those of inputs, `g` behind those of named gates, and neither behind
--- a gate's own. Assumes nothing.
+-- The letters right behind the brackets of a printed tree's lines of gates and outputs: `g` stands behind those of named gates, and not behind a
+-- gate's own. Assumes nothing.
 use Prim.Native.Nat.{ℕ, zero, suc, _+_, _-_, _*_, _≤_, _<_}
 use mathlib.Core.Path.{_≡_, refl, ap, _∙_}
 use mathlib.Core.Bool.{Bool, true, false, cond, _&&_, false≢true}
@@ -12,13 +12,14 @@ use lib.Dec.{eqb}
 use Rattle.laws.specs.Lists.{ascii, all}
 use Rattle.laws.proofs.Tests.{and-left, and-right}
 use Rattle.netlist.specs.Kinds.{isKind, keyword, signatureOf}
-use Rattle.netlist.specs.Netlist.{Name}
 use Rattle.netlist.specs.Names.{isPlainName, isNodeName}
-use Rattle.netlist.specs.Syntax.{Term, Terms, name, literal, apply, nil, cons, GateLine, OutputLine, Tree, printTerm, printTerms, printInput, printGate}
-use Rattle.netlist.specs.Syntax.{printOutput, printLines, print, isLegalTerm, isLegalTerms, isLegalGate, isLegalOutput}
+use Rattle.netlist.specs.Syntax.{Term, Terms, name, literal, apply, nil, cons, GateLine, OutputLine, Tree, printTerm, printTerms, printGate}
+use Rattle.netlist.specs.Syntax.{printOutput, printLines, isLegalTerm, isLegalTerms, isLegalGate, isLegalOutput}
 use Rattle.encoding.proofs.Gates.{by-kind}
 use Rattle.names.specs.Lines.{times, isFirst, timesBehind}
-use Rattle.names.specs.Results.{Prints}
+use Rattle.netlist.specs.Reading.{gateLinesAt}
+use Rattle.grammar.proofs.Places.{gates-at}
+use Rattle.names.specs.Trees.{TextOf}
 use Rattle.names.proofs.Scanning.{one-le}
 use Rattle.names.proofs.TreeLines.{times-name-bytes, times-name, keyword-bytes, kind-legal, legal-parts}
 
@@ -104,13 +105,6 @@ module _ (b : ℕ) (other : (k : ℕ) → isKind k ≡ true → (rest : List ℕ
         let f = behind-terms ts d rest (and-right (isLegalTerm t d) (isLegalTerms ts d) h) in
         omega arith
 
-  behind-input : (s : Name) (rest : List ℕ) → isPlainName s ≡ true
-      → timesBehind 40 b (printInput s rest) ≡ cond (eqb 105 b) 1 0 + timesBehind 40 b rest
-  unfolding printInput isPlainName
-  behind-input s rest h =
-      let e = behind-append 40 b s (ascii ")\n" ++ rest) (times-name 40 (omega arith) _ s h) in
-      omega arith
-
   behind-gate : (g : GateLine) (rest : List ℕ) → isLegalGate g ≡ true
       → timesBehind 40 b (printGate g rest) ≡ cond (eqb 103 b) 1 0 + timesBehind 40 b rest
   unfolding printGate isLegalGate isNodeName
@@ -143,34 +137,20 @@ module _ (b : ℕ) (other : (k : ℕ) → isKind k ≡ true → (rest : List ℕ
       let r = behind-lines legal line one f xs rest (and-right (legal x) (all legal xs) h) in
       rw (mul-suc one (length xs)) (omega arith)
 
-  behind-tree : {t : Tree} {text : List ℕ} → Prints t text
-      → timesBehind 40 b text
-      ≡ cond (eqb 105 b) 1 0 * length (t .inputs) + (cond (eqb 103 b) 1 0 * length (t .gates) + cond (eqb 111 b) 1 0 * length (t .outputs))
-  unfolding print printLines
+  behind-tree : {t : Tree} {text : List ℕ} → TextOf t text
+      → timesBehind 40 b (drop (gateLinesAt t) text) ≡ cond (eqb 103 b) 1 0 * length (t .gates) + cond (eqb 111 b) 1 0 * length (t .outputs)
   behind-tree {t} p =
       let q = legal-parts t (p .legal) in
       let outputs = printLines printOutput (t .outputs) [] in
-      let gates = printLines printGate (t .gates) outputs in
-      let x = behind-lines isPlainName printInput (cond (eqb 105 b) 1 0) behind-input (t .inputs) gates (q .inputs) in
       let y = behind-lines isLegalGate printGate (cond (eqb 103 b) 1 0) behind-gate (t .gates) outputs (q .gates) in
       let z = behind-lines isLegalOutput printOutput (cond (eqb 111 b) 1 0) behind-output (t .outputs) [] (q .outputs) in
-      rw (← (p .printed), p .bare) (omega arith)
-
-no-kind-i : (k : ℕ) → isKind k ≡ true → (rest : List ℕ) → isFirst 105 (keyword k ++ rest) ≡ false
-unfolding keyword signatureOf
-no-kind-i = by-kind (λ k. (rest : List ℕ) → isFirst 105 (keyword k ++ rest) ≡ false)
-    (λ r. refl) (λ r. refl) (λ r. refl) (λ r. refl) (λ r. refl) (λ r. refl) (λ r. refl)
+      rw (← (p .printed), gates-at t) (omega arith)
 
 no-kind-g : (k : ℕ) → isKind k ≡ true → (rest : List ℕ) → isFirst 103 (keyword k ++ rest) ≡ false
 unfolding keyword signatureOf
 no-kind-g = by-kind (λ k. (rest : List ℕ) → isFirst 103 (keyword k ++ rest) ≡ false)
     (λ r. refl) (λ r. refl) (λ r. refl) (λ r. refl) (λ r. refl) (λ r. refl) (λ r. refl)
 
-module _ {t : Tree} {text : List ℕ} (p : Prints t text) where
-  -- `(i` stands in the lines of inputs alone, once in each
-  pub inputs-are : timesBehind 40 105 text ≡ length (t .inputs)
-  inputs-are = let h = behind-tree 105 no-kind-i p in omega arith
-
-  -- and `(g` in those of gates
-  pub named-are : timesBehind 40 103 text ≡ length (t .gates)
-  named-are = let h = behind-tree 103 no-kind-g p in omega arith
+-- behind never lines `(g` stands in the lines of gates alone, once in each
+pub named-are : {t : Tree} {text : List ℕ} → TextOf t text → timesBehind 40 103 (drop (gateLinesAt t) text) ≡ length (t .gates)
+named-are p = let h = behind-tree 103 no-kind-g p in omega arith

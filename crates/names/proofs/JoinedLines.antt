@@ -1,13 +1,13 @@
--- A text that is lines one after the other: where line i starts, what follows there, and the lists that are read line by line.
+-- Lines one after the other at a place of a text: where line i starts, what follows there, and the lists that are read line by line.
 -- Assumes nothing.
 use Prim.Native.Nat.{ℕ, zero, suc, _+_, _-_, _≤_, _<_}
 use mathlib.Core.Path.{_≡_, refl, sym, ap, _∙_}
 use mathlib.Core.Bool.{Bool, true, false, cond, false≢true}
-use mathlib.Core.List.{List, [], _∷_, _++_, map, append-nil, map-append}
-use native.Mathlib.Nat.{add-zero, zero-add, add-assoc}
+use mathlib.Core.List.{List, [], _∷_, _++_, map, append-assoc, append-nil, map-append}
+use native.Mathlib.Nat.{add-zero, add-assoc}
 use native.Mathlib.Omega.{arith}
 use lib.ListN.{length, getD, take, drop, length-append, take-append-drop}
-use lib.Seq.{drop-at, take-suc, drop-cons}
+use lib.Seq.{drop-at, drop-drop, take-suc, drop-cons}
 use lib.Dec.{eqb}
 use borrow.Author.Tests.{eqb-true}
 use Rattle.laws.specs.Lists.{all, joined, sum, tab}
@@ -66,68 +66,73 @@ line-count (l ∷ ls) h =
     let s = line-count ls (and-right (isLine l) (all isLine ls) h) in
     rw (times-append 10 l (joined ls)) (omega arith)
 
-module _ (ls : List (List ℕ)) (lines : all isLine ls ≡ true) where
+-- lines stand at a place of a text, and then `rest`
+module _ (text : List ℕ) (from : ℕ) (ls : List (List ℕ)) (rest : List ℕ) (lines : all isLine ls ≡ true) (stand : drop from text ≡ joined ls ++ rest) where
   split-at-line : (i : ℕ) → joined (take i ls) ++ joined (drop i ls) ≡ joined ls
   split-at-line i = sym (joined-append (take i ls) (drop i ls)) ∙ ap joined (take-append-drop i ls)
 
-  behind : (i at : ℕ) → at ≡ length (joined (take i ls)) → drop at (joined ls) ≡ joined (drop i ls)
-  behind i at e = ap (drop at) (sym (split-at-line i)) ∙ drop-at (joined (take i ls)) (joined (drop i ls)) at (sym e)
+  behind : (i at : ℕ) → at ≡ from + length (joined (take i ls)) → drop at text ≡ joined (drop i ls) ++ rest
+  behind i at e =
+      let a = joined (take i ls) in
+      let b = joined (drop i ls) ++ rest in
+      let whole : drop from text ≡ a ++ b = stand ∙ rw (← split-at-line i, append-assoc) refl in
+      ap (λ k. drop k text) e ∙ sym (drop-drop (length a) from text) ∙ rw whole (drop-at a b (length a) refl)
 
-  line-at : (i : ℕ) → i < length ls → joined (drop i ls) ≡ getD ls i [] ++ joined (drop (suc i) ls)
-  line-at i l = ap joined (drop-cons ls i [] l)
+  line-at : (i : ℕ) → i < length ls → joined (drop i ls) ++ rest ≡ getD ls i [] ++ (joined (drop (suc i) ls) ++ rest)
+  line-at i l = rw (drop-cons ls i [] l, append-assoc)
 
   joined-suc : (i : ℕ) → i < length ls → length (joined (take (suc i) ls)) ≡ length (joined (take i ls)) + length (getD ls i [])
   joined-suc i l = rw (take-suc ls i [] l, joined-append (take i ls) (getD ls i [] ∷ []), append-nil, length-append)
 
-  at-line : (i : ℕ) → i < length ls → OneLine (getD ls i []) (joined (drop (suc i) ls))
-  at-line i l = one-line (getD ls i []) (joined (drop (suc i) ls)) (all-at isLine ls i [] lines l)
+  at-line : (i : ℕ) → i < length ls → OneLine (getD ls i []) (joined (drop (suc i) ls) ++ rest)
+  at-line i l = one-line (getD ls i []) (joined (drop (suc i) ls) ++ rest) (all-at isLine ls i [] lines l)
 
   -- line i starts behind the lines before it
-  pub start-is : (i : ℕ) → i ≤ length ls → lineOffset (joined ls) i ≡ length (joined (take i ls))
+  pub start-is : (i : ℕ) → i ≤ length ls → lineOffset text from i ≡ from + length (joined (take i ls))
   unfolding lineOffset
-  start-is zero l = refl
+  start-is zero l = omega arith
   start-is (suc i) l =
       let h = start-is i (omega arith) in
-      let d : drop (lineOffset (joined ls) i) (joined ls) ≡ getD ls i [] ++ joined (drop (suc i) ls) = behind i (lineOffset (joined ls) i) h
+      let d : drop (lineOffset text from i) text ≡ getD ls i [] ++ (joined (drop (suc i) ls) ++ rest) = behind i (lineOffset text from i) h
       ∙ line-at i (omega arith) in
       let s = at-line i (omega arith) .size in
       let j = joined-suc i (omega arith) in
       rw (d, s, h) (omega arith)
 
   -- and what follows there is the line and the lines behind it
-  pub rest-is : (i : ℕ) → i ≤ length ls → drop (lineOffset (joined ls) i) (joined ls) ≡ joined (drop i ls)
-  rest-is i l = behind i (lineOffset (joined ls) i) (start-is i l)
+  pub rest-is : (i : ℕ) → i ≤ length ls → drop (lineOffset text from i) text ≡ joined (drop i ls) ++ rest
+  rest-is i l = behind i (lineOffset text from i) (start-is i l)
 
   -- the gates in the first i lines
-  pub gates-are : (i : ℕ) → i ≤ length ls → gatesTo (joined ls) i ≡ sum (map innerOpens (take i ls))
+  pub gates-are : (i : ℕ) → i ≤ length ls → gatesTo text from i ≡ sum (map innerOpens (take i ls))
   unfolding gatesTo
   gates-are zero l = refl
   gates-are (suc i) l =
       let h = gates-are i (omega arith) in
-      let o : lineOpens (drop (lineOffset (joined ls) i) (joined ls)) ≡ times 40 (getD ls i []) = rw (rest-is i (omega arith), line-at i (omega arith))
+      let o : lineOpens (drop (lineOffset text from i) text) ≡ times 40 (getD ls i []) = rw (rest-is i (omega arith), line-at i (omega arith))
       (at-line i (omega arith) .opens) in
       let i′ : i < length ls = omega arith in
       rw (take-suc ls i [] i′, map-append innerOpens (take i ls) (getD ls i [] ∷ []), sum-append, o, h) (omega arith)
 
 -- ---- what is read at each line, from its start and from what follows there
 
-module _ {B : Type 0} (f : ℕ → List ℕ → B) where
+module _ {B : Type 0} (f : ℕ → List ℕ → B) (rest : List ℕ) where
   abbrev pub eachLine : ℕ → List (List ℕ) → List B
   eachLine at [] = []
-  eachLine at (l ∷ ls) = f at (l ++ joined ls) ∷ eachLine (at + length l) ls
+  eachLine at (l ∷ ls) = f at (l ++ (joined ls ++ rest)) ∷ eachLine (at + length l) ls
 
-  tab-each : (at : ℕ) (ls : List (List ℕ)) → tab (λ i. f (at + length (joined (take i ls))) (joined (drop i ls))) (length ls) ≡ eachLine at ls
+  tab-each : (at : ℕ) (ls : List (List ℕ)) → tab (λ i. f (at + length (joined (take i ls))) (joined (drop i ls) ++ rest)) (length ls) ≡ eachLine at ls
   tab-each at [] = refl
   tab-each at (l ∷ ls) =
-      tab-front (λ i. f (at + length (joined (take i (l ∷ ls)))) (joined (drop i (l ∷ ls)))) (length ls)
-      ∙ rw add-zero
-      (ap (λ (r : List B). f at (l ++ joined ls) ∷ r)
+      tab-front (λ i. f (at + length (joined (take i (l ∷ ls)))) (joined (drop i (l ∷ ls)) ++ rest)) (length ls)
+      ∙ rw (add-zero, append-assoc)
+      (ap (λ (r : List B). f at (l ++ (joined ls ++ rest)) ∷ r)
       (tab-ext _ _ (length ls) (λ i h. rw (length-append l (joined (take i ls)), add-assoc)) ∙ tab-each (at + length l) ls))
 
   -- a list that is read line by line, by the index of the line
-  pub tab-lines : (ls : List (List ℕ)) → all isLine ls ≡ true
-      → tab (λ i. f (lineOffset (joined ls) i) (drop (lineOffset (joined ls) i) (joined ls))) (length ls) ≡ eachLine 0 ls
-  tab-lines ls h =
+  pub tab-lines : (text : List ℕ) (from : ℕ) (ls : List (List ℕ)) → all isLine ls ≡ true → drop from text ≡ joined ls ++ rest
+      → tab (λ i. f (lineOffset text from i) (drop (lineOffset text from i) text)) (length ls) ≡ eachLine from ls
+  tab-lines text from ls h e =
       tab-ext _ _ (length ls)
-      (λ i l. let l′ : i ≤ length ls = omega arith in rw (rest-is ls h i l′, start-is ls h i l′, zero-add))
-      ∙ tab-each 0 ls
+      (λ i l. let l′ : i ≤ length ls = omega arith in rw (rest-is text from ls rest h e i l′, start-is text from ls rest h e i l′))
+      ∙ tab-each from ls

@@ -3,6 +3,7 @@ pub mod ListFacts
 pub mod Scanning
 pub mod Starts
 pub mod Filling
+pub mod FillSteps
 pub mod Packing
 pub mod JoinedLines
 pub mod TreeLines
@@ -14,5 +15,3 @@ pub mod Lookup
 pub mod Indexing
 pub mod Repeats
 pub mod TreeSearch
-pub mod PlainTree
-pub mod PlainPlaces

@@ -11,20 +11,20 @@ use borrow.Author.Tests.{ltb-true}
 use Rattle.names.specs.Lines.{times, lengthWithLf, lineOpens, lineOffset, gatesTo, nameOffset, lineWord}
 use Rattle.names.proofs.Scanning.{lineLength-le, lineOpens-le}
 
-pub start-le : (text : List ℕ) (i : ℕ) → lineOffset text i ≤ length text
+pub start-le : (text : List ℕ) (from : ℕ) → from ≤ length text → (i : ℕ) → lineOffset text from i ≤ length text
 unfolding lineOffset
-start-le text zero = omega arith
-start-le text (suc i) =
-    let h = start-le text i in
-    let g = lineLength-le (drop (lineOffset text i) text) in
-    omega (arith, length-drop (lineOffset text i) text)
+start-le text from l zero = l
+start-le text from l (suc i) =
+    let h = start-le text from l i in
+    let g = lineLength-le (drop (lineOffset text from i) text) in
+    omega (arith, length-drop (lineOffset text from i) text)
 
-pub gatesTo-le : (text : List ℕ) (i : ℕ) → gatesTo text i ≤ lineOffset text i
+pub gatesTo-le : (text : List ℕ) (from i : ℕ) → gatesTo text from i ≤ lineOffset text from i
 unfolding lineOffset gatesTo
-gatesTo-le text zero = omega arith
-gatesTo-le text (suc i) =
-    let h = gatesTo-le text i in
-    let g = lineOpens-le (drop (lineOffset text i) text) in
+gatesTo-le text from zero = omega arith
+gatesTo-le text from (suc i) =
+    let h = gatesTo-le text from i in
+    let g = lineOpens-le (drop (lineOffset text from i) text) in
     omega arith
 
 pub times-append : (b : ℕ) (xs ys : List ℕ) → times b (xs ++ ys) ≡ times b xs + times b ys
@@ -32,21 +32,21 @@ times-append b [] ys = omega arith
 times-append b (x ∷ xs) ys = omega (arith, times-append b xs ys)
 
 -- the next line's start, and the gates up to it, from those of the line
-module _ (text : List ℕ) (i at : ℕ) (here′ : at ≡ lineOffset text i) where
-  pub start-more : at + lengthWithLf (drop at text) ≡ lineOffset text (i + 1)
+module _ (text : List ℕ) (from i at : ℕ) (here′ : at ≡ lineOffset text from i) where
+  pub start-more : at + lengthWithLf (drop at text) ≡ lineOffset text from (i + 1)
   unfolding lineOffset
   start-more = rw (here′, add-one)
 
-  pub gates-more : (gates : ℕ) → gates ≡ gatesTo text i → gates + (lineOpens (drop at text) - 1) ≡ gatesTo text (i + 1)
+  pub gates-more : (gates : ℕ) → gates ≡ gatesTo text from i → gates + (lineOpens (drop at text) - 1) ≡ gatesTo text from (i + 1)
   unfolding gatesTo
   gates-more gates e = rw (e, here′, add-one)
 
   -- there are no more gates than bytes
-  pub gates-within : (gates more : ℕ) → gates ≡ gatesTo text i → more ≡ lineOpens (drop at text) - 1 → gates + more ≤ length text
-  gates-within gates more e f =
+  pub gates-within : from ≤ length text → (gates more : ℕ) → gates ≡ gatesTo text from i → more ≡ lineOpens (drop at text) - 1 → gates + more ≤ length text
+  gates-within l gates more e f =
       let h = gates-more gates e in
-      let g = gatesTo-le text (i + 1) in
-      let s = start-le text (i + 1) in
+      let g = gatesTo-le text from (i + 1) in
+      let s = start-le text from l (i + 1) in
       omega arith
 
 -- what stands before a declared name is at most 6 bytes

@@ -1,40 +1,39 @@
 -- The counts that the bytes of a tree's text give are the tree's, and so are the limits. Assumes nothing.
 use Prim.Native.Nat.{ℕ, _+_, _-_, _≤_}
-use mathlib.Core.Path.{_≡_, refl, sym, _∙_}
-use mathlib.Core.Bool.{Bool, true, false, not, _&&_}
+use mathlib.Core.Path.{_≡_, refl, ap, _∙_}
+use mathlib.Core.Bool.{Bool, true, false}
 use mathlib.Core.List.{List, [], _∷_, map, map-append}
 use native.Mathlib.Omega.{arith}
-use lib.ListN.{length, length-append, length-map}
-use lib.Dec.{leb}
-use Rattle.laws.specs.Lists.{all, joined, sum}
+use lib.ListN.{length, drop, length-append, length-map}
+use Rattle.laws.specs.Lists.{all, sum}
 use Rattle.laws.proofs.Tests.{and-left, and-right}
 use Rattle.laws.proofs.Lists.{sum-append}
 use Rattle.netlist.specs.Limits.{maxText, maxInputs, maxGates, maxOutputs}
-use Rattle.netlist.specs.Names.{isPlainName}
 use Rattle.netlist.specs.Syntax.{GateLine, Tree, isLegalGate, isLegalOutput}
-use Rattle.netlist.specs.Reading.{lineGates, isOverLimit}
+use Rattle.netlist.specs.Reading.{lineGates, gateLinesAt, outputLinesAt, isOverLimit}
 use Rattle.grammar.proofs.Limits.{limits-within}
-use Rattle.names.specs.Lines.{times}
-use Rattle.names.specs.Trees.{inputLineText, gateLineText, outputLineText, treeLines}
-use Rattle.names.specs.Results.{Prints, countsOf, treeCounts, isOver, TableRoom}
+use Rattle.grammar.proofs.Places.{print-measure}
+use Rattle.names.specs.Lines.{times, tableSize}
+use Rattle.names.specs.Trees.{inputLineText, gateLineText, outputLineText, inputLines, linesBehind, TextOf}
+use Rattle.names.specs.Results.{countsOf, treeCounts, isOver, TableRoom}
 use Rattle.names.specs.declared.Counts.{Counts}
 use Rattle.names.proofs.JoinedLines.{line-count, times-joined}
-use Rattle.names.proofs.TreeLines.{TreeLine, legal-parts, tree-lines, print-lines, input-line, gate-line, output-line}
-use Rattle.names.proofs.Behind.{inputs-are, named-are}
+use Rattle.names.proofs.TreeLines.{TreeLine, legal-parts, gate-line, output-line, behind-lines, behind-stand}
+use Rattle.names.proofs.Behind.{named-are}
 
--- the text of a tree is its lines
-pub text-is : {t : Tree} {text : List ℕ} → Prints t text → text ≡ joined (treeLines t)
-text-is {t} p = sym (p .printed) ∙ print-lines t (p .bare)
+pub inputs-total : (t : Tree) → length (inputLines t) ≡ length (t .inputs)
+unfolding inputLines
+inputs-total t = length-map (t .inputs) inputLineText
 
-pub line-total : (t : Tree) → length (treeLines t) ≡ length (t .inputs) + (length (t .gates) + length (t .outputs))
-unfolding treeLines
-line-total t = simp (length-append, length-map)
+pub behind-total : (t : Tree) → length (linesBehind t) ≡ length (t .gates) + length (t .outputs)
+unfolding linesBehind
+behind-total t = simp (length-append, length-map)
 
 -- ---- lines
 
-module _ {t : Tree} {text : List ℕ} (p : Prints t text) where
-  pub lines-are : times 10 text ≡ length (t .inputs) + (length (t .gates) + length (t .outputs))
-  lines-are = rw (text-is p) (line-count (treeLines t) (tree-lines t (p .legal)) ∙ line-total t)
+module _ {t : Tree} {text : List ℕ} (p : TextOf t text) where
+  lines-are : times 10 (drop (gateLinesAt t) text) ≡ length (t .gates) + length (t .outputs)
+  lines-are = rw (behind-stand p) (line-count (linesBehind t) (behind-lines p) ∙ behind-total t)
 
 -- ---- gates: each line has one bracket of its own, each gate one more
 
@@ -51,45 +50,35 @@ pub sum-none : {A : Type 0} (xs : List A) → sum (map (λ x. 0) xs) ≡ 0
 sum-none [] = refl
 sum-none (x ∷ xs) = let h = sum-none xs in omega arith
 
--- no never lines are not too many
-no-nevers : (a b c : Bool) → not (a && b && c) ≡ not (a && true && b && c)
-no-nevers true b c = refl
-no-nevers false b c = refl
+module _ {t : Tree} {text : List ℕ} (p : TextOf t text) where
+  abbrev rest : List ℕ
+  rest = drop (gateLinesAt t) text
 
-module _ {t : Tree} {text : List ℕ} (p : Prints t text) where
-  all-opens : times 40 text ≡ length (t .inputs) + ((length (t .gates) + sum (map lineGates (t .gates))) + length (t .outputs))
-  unfolding treeLines
+  all-opens : times 40 rest ≡ (length (t .gates) + sum (map lineGates (t .gates))) + length (t .outputs)
+  unfolding linesBehind
   all-opens =
       let q = legal-parts t (p .legal) in
-      let a = opens-are isPlainName inputLineText (λ x. 0) input-line (t .inputs) (q .inputs) in
       let b = opens-are isLegalGate gateLineText lineGates gate-line (t .gates) (q .gates) in
       let c = opens-are isLegalOutput outputLineText (λ x. 0) output-line (t .outputs) (q .outputs) in
-      let d = sum-none (t .inputs) in
       let e = sum-none (t .outputs) in
-      rw (
-        text-is p,
-        times-joined 40 (treeLines t),
-        map-append (times 40) (map inputLineText (t .inputs)),
-        map-append (times 40) (map gateLineText (t .gates)),
-        sum-append,
-        sum-append,
-      ) (omega arith)
+      rw (behind-stand p, times-joined 40 (linesBehind t), map-append (times 40) (map gateLineText (t .gates)), sum-append) (omega arith)
 
-  pub gates-are : times 40 text - times 10 text ≡ sum (map lineGates (t .gates))
+  gates-are : times 40 rest - times 10 rest ≡ sum (map lineGates (t .gates))
   gates-are = omega (arith, all-opens, lines-are p)
 
-  outputs-are : times 10 text - (length (t .inputs) + length (t .gates)) ≡ length (t .outputs)
+  outputs-are : times 10 rest - length (t .gates) ≡ length (t .outputs)
   outputs-are = omega (arith, lines-are p)
 
   -- The counts of the bytes are the counts of the tree.
-  pub counts-are : countsOf text ≡ treeCounts t
+  pub counts-are : (inputs nevers : ℕ) (s : List ℕ) → inputs ≡ length (t .inputs) → nevers ≡ length (t .nevers) → s ≡ rest
+      → countsOf inputs nevers s ≡ treeCounts t
   unfolding countsOf treeCounts
-  counts-are = rw (inputs-are p, named-are p, outputs-are, gates-are)
+  counts-are inputs nevers s e f g = rw (e, f, g, named-are p, outputs-are, gates-are)
 
 -- 3: the limits, from the counts
-pub limits-are : (t : Tree) → t .nevers ≡ [] → (c : Counts) → c ≡ treeCounts t → isOver c ≡ isOverLimit t
+pub limits-are : (t : Tree) → (c : Counts) → c ≡ treeCounts t → isOver c ≡ isOverLimit t
 unfolding isOver treeCounts isOverLimit
-limits-are t bare c e = rw (e, bare) (no-nevers (leb (length (t .inputs)) maxInputs) _ _)
+limits-are t c e = rw e refl
 
 -- ---- within the limits there is room
 
@@ -107,13 +96,23 @@ node-room t h c e =
     let g = named-le (t .gates) in
     rw e (omega arith)
 
--- Within the limits, tables of these lengths have room.
-pub table-room : {t : Tree} {text : List ℕ} → Prints t text → isOverLimit t ≡ false → (c : Counts) → c ≡ treeCounts t → (names places words : List ℕ)
-    → length text ≤ maxText → maxInputs + maxGates + maxOutputs ≤ length names → maxInputs + maxGates + maxOutputs ≤ length places
-    → maxInputs + maxGates + maxOutputs ≤ length words
-    → TableRoom c text names places words
-unfolding treeCounts
-table-room {t} p h c e names places words short a b d =
+-- Within the limits, the tables have room.
+pub table-room : {t : Tree} {text : List ℕ} → TextOf t text → isOverLimit t ≡ false → (c : Counts) → c ≡ treeCounts t → (end : ℕ) → end ≡ gateLinesAt t
+    → (names places words : List ℕ) → length text ≤ maxText → tableSize ≤ length names → tableSize ≤ length places → tableSize ≤ length words
+    → TableRoom c text end names places words
+unfolding treeCounts outputLinesAt
+table-room {t} {text} p h c e end f names places words short a b d =
     let w = limits-within t h in
     let g = named-le (t .gates) in
-    rw e (record { short = short; few = w .inputs; numberRoom = omega arith; placeRoom = omega arith; nodeRoom = omega arith })
+    let m = print-measure t in
+    let k = ap length (p .printed) in
+    rw e
+    (record {
+      short = short;
+      inside = omega arith;
+      few = w .inputs;
+      room = omega arith;
+      numberRoom = a;
+      placeRoom = b;
+      nodeRoom = d;
+    })

@@ -6,7 +6,7 @@ use mathlib.Core.Bool.{Bool, true, false, _&&_, false≢true}
 use mathlib.Core.List.{List, [], _∷_, _++_, map, append-assoc, append-nil}
 use native.Mathlib.Nat.{mul-zero, mul-suc, mul-add}
 use native.Mathlib.Omega.{arith}
-use lib.ListN.{length, getD}
+use lib.ListN.{length, getD, drop}
 use lib.Dec.{leb}
 use borrow.Author.Tests.{ne-eqb}
 use Rattle.laws.specs.Lists.{ascii, all, joined}
@@ -16,14 +16,14 @@ use Rattle.laws.proofs.Lists.{joined-append}
 use Rattle.netlist.specs.Kinds.{isKind, arityFits, keyword, signatureOf}
 use Rattle.netlist.specs.Netlist.{Name}
 use Rattle.netlist.specs.Names.{isLegalName, isLetter, isDigit, isUnderscore, isNameByte, isPlainName, isNodeName}
-use Rattle.netlist.specs.Syntax.{Term, Terms, name, literal, apply, nil, cons, GateLine, OutputLine, Tree, printTerm, printTerms, printInput, printGate}
+use Rattle.netlist.specs.Syntax.{Term, Terms, name, literal, apply, nil, cons, GateLine, OutputLine, Tree, printTerm, printTerms, printInput, printNever, printGate}
 use Rattle.netlist.specs.Syntax.{printOutput, printLines, print, termCount, isLegalTerm, isLegalTerms, isLegalNever, isLegalGate, isLegalOutput, isLegalTree}
-use Rattle.netlist.specs.Reading.{gatesIn, gatesInside, lineGates}
+use Rattle.netlist.specs.Reading.{gatesIn, gatesInside, lineGates, gateLinesAt}
 use Rattle.encoding.proofs.Gates.{by-kind}
 use Rattle.grammar.proofs.Shorter.{printTerm-append}
-use Rattle.grammar.proofs.Places.{printInput-split, printGate-split, printOutput-split}
+use Rattle.grammar.proofs.Places.{printInput-split, printGate-split, printOutput-split, gates-at}
 use Rattle.names.specs.Lines.{times}
-use Rattle.names.specs.Trees.{inputLineText, gateLineText, outputLineText, treeLines, isLine}
+use Rattle.names.specs.Trees.{inputLineText, gateLineText, outputLineText, inputLines, linesBehind, TextOf, isLine}
 use Rattle.names.proofs.Starts.{times-append}
 use Rattle.names.proofs.JoinedLines.{line-append}
 use Rattle.names.proofs.Packing.{name-byte-range}
@@ -155,17 +155,6 @@ unfolding printLines
 printed-lines line h [] rest = refl
 printed-lines line h (x ∷ xs) rest = h x (printLines line xs rest) ∙ rw (printed-lines line h xs rest, append-assoc)
 
--- the text of a tree without never lines is its lines one after the other
-pub print-lines : (t : Tree) → t .nevers ≡ [] → print t ≡ joined (treeLines t)
-unfolding print printLines treeLines inputLineText gateLineText outputLineText
-print-lines t bare =
-    rw bare
-    (printed-lines printInput printInput-split (t .inputs) _
-    ∙ rw (printed-lines printGate printGate-split (t .gates) _, printed-lines printOutput printOutput-split (t .outputs) [], append-nil)
-    (sym
-    (joined-append (map inputLineText (t .inputs)) (map gateLineText (t .gates) ++ map outputLineText (t .outputs))
-    ∙ ap (λ r. joined (map inputLineText (t .inputs)) ++ r) (joined-append (map gateLineText (t .gates)) (map outputLineText (t .outputs))))))
-
 pub all-lines : {A : Type 0} (legal : A → Bool) (line : A → List ℕ) → ((x : A) → legal x ≡ true → isLine (line x) ≡ true) → (xs : List A) → all legal xs ≡ true
     → all isLine (map line xs) ≡ true
 all-lines legal line f [] h = refl
@@ -193,15 +182,32 @@ legal-parts t h =
       outputs = and-right (front && all isLegalGate (t .gates)) (all isLegalOutput (t .outputs)) h;
     }
 
--- every line of a legal tree is a line
-pub tree-lines : (t : Tree) → isLegalTree t ≡ true → all isLine (treeLines t) ≡ true
-unfolding treeLines
-tree-lines t h =
-    let p = legal-parts t h in
-    all-append isLine (map inputLineText (t .inputs)) (map gateLineText (t .gates) ++ map outputLineText (t .outputs))
-    ∙ and-intro (all isLine (map inputLineText (t .inputs))) (all isLine (map gateLineText (t .gates) ++ map outputLineText (t .outputs)))
-    (all-lines isPlainName inputLineText (λ x l. input-line x l .line) (t .inputs) (p .inputs))
-    (all-append isLine (map gateLineText (t .gates)) (map outputLineText (t .outputs))
-    ∙ and-intro (all isLine (map gateLineText (t .gates))) (all isLine (map outputLineText (t .outputs)))
-    (all-lines isLegalGate gateLineText (λ x l. gate-line x l .line) (t .gates) (p .gates))
-    (all-lines isLegalOutput outputLineText (λ x l. output-line x l .line) (t .outputs) (p .outputs)))
+-- the lines of a legal tree are lines, and stand at their places
+module _ {t : Tree} {text : List ℕ} (is : TextOf t text) where
+  abbrev pub neversText : List ℕ
+  neversText = printLines printNever (t .nevers) (printLines printGate (t .gates) (printLines printOutput (t .outputs) []))
+
+  pub input-lines : all isLine (inputLines t) ≡ true
+  unfolding inputLines
+  input-lines = all-lines isPlainName inputLineText (λ x l. input-line x l .line) (t .inputs) (legal-parts t (is .legal) .inputs)
+
+  pub inputs-stand : drop 0 text ≡ joined (inputLines t) ++ neversText
+  unfolding print inputLines inputLineText
+  inputs-stand = sym (is .printed) ∙ printed-lines printInput printInput-split (t .inputs) neversText
+
+  pub behind-lines : all isLine (linesBehind t) ≡ true
+  unfolding linesBehind
+  behind-lines =
+      let p = legal-parts t (is .legal) in
+      all-append isLine (map gateLineText (t .gates)) (map outputLineText (t .outputs))
+      ∙ and-intro (all isLine (map gateLineText (t .gates))) (all isLine (map outputLineText (t .outputs)))
+      (all-lines isLegalGate gateLineText (λ x l. gate-line x l .line) (t .gates) (p .gates))
+      (all-lines isLegalOutput outputLineText (λ x l. output-line x l .line) (t .outputs) (p .outputs))
+
+  pub behind-stand : drop (gateLinesAt t) text ≡ joined (linesBehind t)
+  unfolding linesBehind gateLineText outputLineText
+  behind-stand =
+      rw (← is .printed, gates-at t)
+      (printed-lines printGate printGate-split (t .gates) _
+      ∙ rw (printed-lines printOutput printOutput-split (t .outputs) [], append-nil)
+      (sym (joined-append (map gateLineText (t .gates)) (map outputLineText (t .outputs)))))

@@ -17,12 +17,12 @@ use Rattle.netlist.specs.StoredBlock.{nodeWord}
 use Rattle.netlist.specs.Names.{isNameByte, isPlainName, isNodeName}
 use Rattle.netlist.specs.Syntax.{GateLine, OutputLine, Tree, apply, printInput, printGate, printOutput, isLegalTerm, isLegalGate, isLegalOutput}
 use Rattle.netlist.specs.Syntax.{isLegalTree}
-use Rattle.netlist.specs.Reading.{Mention, mentions, inputMention, gateMention, portMention, neverLinesAt, gateLinesAt, outputLinesAt, declaredNodes}
+use Rattle.netlist.specs.Reading.{Mention, mentions, inputMention, gateMention, portMention, gateLinesAt, outputLinesAt, declaredNodes}
 use Rattle.netlist.specs.Reading.{declaredPorts}
-use Rattle.netlist.specs.Reading.{firstRepeat, orElse, lesser, firstRepeatIn, firstDuplicate, Binding, inputBindings, gateBindings, bindings, lookup}
+use Rattle.netlist.specs.Reading.{firstRepeat, orElse, Binding, inputBindings, gateBindings, bindings, lookup}
 use Rattle.names.specs.Packed.{packed}
 use Rattle.names.specs.Search.{indexOf, repeatsAt}
-use Rattle.names.specs.Results.{treeCounts, declared, packedNames, namePlaces, nodeWords, NameTable, Declared}
+use Rattle.names.specs.Results.{treeCounts, declared, packedNames, namePlaces, nodeWords, NameTable, Declared, declaredTwice}
 use Rattle.names.specs.declared.Counts.{Counts}
 use Rattle.netlist.specs.declared.Refusal.the-variants.{DuplicateDeclaration}
 use Rattle.refusals.specs.declared.Test.the-variants.{Passed, Failed}
@@ -149,7 +149,7 @@ module _ (t : Tree) (f : Mention → ℕ) (xs : List ℕ) (held : take (length (
 
 -- ---- 4: the earliest repeated declaration
 
-module _ (t : Tree) (legal : isLegalTree t ≡ true) (bare : t .nevers ≡ []) (c : Counts) (counted : c ≡ treeCounts t) (names places : List ℕ)
+module _ (t : Tree) (legal : isLegalTree t ≡ true) (c : Counts) (counted : c ≡ treeCounts t) (names places : List ℕ)
     (table : NameTable t names places) (nameRoom : c .inputs + c .named + c .outputs ≤ length names)
     (placeRoom : c .inputs + c .named + c .outputs ≤ length places) where
   abbrev nodes : ℕ
@@ -193,11 +193,6 @@ module _ (t : Tree) (legal : isLegalTree t ≡ true) (bare : t .nevers ≡ []) (
         node-count,
       )
 
-  bare-duplicate : firstDuplicate t ≡ orElse (firstRepeat [] (declaredNodes t)) (firstRepeat [] (declaredPorts t))
-  unfolding firstDuplicate firstRepeatIn lesser
-  bare-duplicate =
-      ap (λ ns. lesser (firstRepeatIn ns (neverLinesAt t)) (orElse (firstRepeat [] (declaredNodes t)) (firstRepeat [] (declaredPorts t)))) bare
-
   -- the first repeat among the first names, and among the rest
   abbrev firstOf : List ℕ → ℕ
   firstOf keys = least (repeatsAt keys) (length keys)
@@ -210,11 +205,11 @@ module _ (t : Tree) (legal : isLegalTree t ≡ true) (bare : t .nevers ≡ []) (
     at-node : i ≡ least (repeatsAt (map (λ (d : Mention). packed (d .name)) (declaredNodes t))) (length (declaredNodes t))
     at-node = among (declaredNodes t) (take nodes names) i node-keys found
 
-    pub node-repeats : i < nodes → Failed (DuplicateDeclaration (getD places i 0)) ≡ testAt (firstDuplicate t) DuplicateDeclaration
-    unfolding orElse testAt
+    pub node-repeats : i < nodes → Failed (DuplicateDeclaration (getD places i 0)) ≡ testAt (declaredTwice t) DuplicateDeclaration
+    unfolding declaredTwice orElse testAt
     node-repeats l =
         let r = repeat-found (declaredNodes t) (node-bytes t legal) (rw (← at-node, ← node-count) l) in
-        rw (bare-duplicate, node-places i l, r, ← at-node)
+        rw (node-places i l, r, ← at-node)
 
     module _ (over : nodes ≤ i) (j : ℕ) (found-port : j ≡ firstOf (take (nodes + ports - nodes) (drop nodes names))) where
       no-node : firstRepeat [] (declaredNodes t) ≡ none
@@ -223,15 +218,15 @@ module _ (t : Tree) (legal : isLegalTree t ≡ true) (bare : t .nevers ≡ []) (
       at-port : j ≡ least (repeatsAt (map (λ (d : Mention). packed (d .name)) (declaredPorts t))) (length (declaredPorts t))
       at-port = among (declaredPorts t) (take (nodes + ports - nodes) (drop nodes names)) j port-keys found-port
 
-      pub port-repeats : j < ports → Failed (DuplicateDeclaration (getD places (nodes + j) 0)) ≡ testAt (firstDuplicate t) DuplicateDeclaration
-      unfolding orElse testAt
+      pub port-repeats : j < ports → Failed (DuplicateDeclaration (getD places (nodes + j) 0)) ≡ testAt (declaredTwice t) DuplicateDeclaration
+      unfolding declaredTwice orElse testAt
       port-repeats l =
           let r = repeat-found (declaredPorts t) (port-bytes t legal) (rw (← at-port, ← port-count) l) in
-          rw (bare-duplicate, port-places j l, no-node, r, ← at-port)
+          rw (port-places j l, no-node, r, ← at-port)
 
-      pub none-repeats : ports ≤ j → Passed ≡ testAt (firstDuplicate t) DuplicateDeclaration
-      unfolding orElse testAt
-      none-repeats l = rw (bare-duplicate, no-node, repeat-none (declaredPorts t) (port-bytes t legal) (rw (← at-port, ← port-count) l))
+      pub none-repeats : ports ≤ j → Passed ≡ testAt (declaredTwice t) DuplicateDeclaration
+      unfolding declaredTwice orElse testAt
+      none-repeats l = rw (no-node, repeat-none (declaredPorts t) (port-bytes t legal) (rw (← at-port, ← port-count) l))
 
 -- ---- a name and its node
 

@@ -4,7 +4,7 @@ use Prim.Native.Nat.{ℕ, zero, suc, _+_, _≤_}
 use mathlib.Core.Path.{_≡_, refl, sym, ap, _∙_}
 use mathlib.Core.Bool.{Bool, true, false, _&&_}
 use mathlib.Core.List.{List, [], _∷_, _++_, map, append-assoc, append-nil}
-use native.Mathlib.Nat.{add-zero, zero-add, add-assoc}
+use native.Mathlib.Nat.{add-zero, add-assoc}
 use native.Mathlib.Omega.{arith}
 use lib.ListN.{length, getD, drop}
 use lib.Dec.{leb}
@@ -13,16 +13,14 @@ use Rattle.laws.specs.Lists.{ascii, all, joined, sum, tab}
 use Rattle.laws.proofs.Tests.{and-left, and-right}
 use Rattle.netlist.specs.Netlist.{Name}
 use Rattle.netlist.specs.Names.{isLegalName, isLetter, isDigit, isUnderscore, isNameByte, isPlainName, isNodeName}
-use Rattle.netlist.specs.Syntax.{GateLine, OutputLine, Tree, apply, printInput, printGate, printOutput, isLegalTerm, isLegalGate, isLegalOutput, isLegalTree}
+use Rattle.netlist.specs.Syntax.{GateLine, OutputLine, Tree, apply, printInput, printGate, printOutput, isLegalTerm, isLegalGate, isLegalOutput}
 use Rattle.netlist.specs.Reading.{Mention, mentions, linesLength, neverLinesAt, gateLinesAt, outputLinesAt, inputMention, gateMention, portMention}
-use Rattle.netlist.specs.Reading.{declaredNodes}
 use Rattle.netlist.specs.Reading.{declaredPorts}
 use Rattle.names.specs.Lines.{lineOffset, nameOffset}
 use Rattle.names.specs.Packed.{packed, nameFront, nameFrom, packedAt}
-use Rattle.names.specs.Trees.{inputLineText, gateLineText, outputLineText, treeLines}
-use Rattle.names.specs.Results.{declared}
+use Rattle.names.specs.Trees.{inputLineText, gateLineText, outputLineText, inputLines, linesBehind, TextOf}
 use Rattle.names.proofs.JoinedLines.{eachLine, tab-lines}
-use Rattle.names.proofs.TreeLines.{legal-parts, tree-lines, name-bytes}
+use Rattle.names.proofs.TreeLines.{legal-parts, name-bytes, neversText, input-lines, inputs-stand, behind-lines, behind-stand}
 
 -- ---- lines of one form
 
@@ -35,38 +33,15 @@ size line xs = sum (map (λ x. length (line x)) xs)
 
 module _ {A B : Type 0} (line : A → List ℕ) (legal : A → Bool) (f : ℕ → List ℕ → B) (m : A → ℕ → B)
     (agrees : (x : A) (at : ℕ) (rest : List ℕ) → legal x ≡ true → f at (line x ++ rest) ≡ m x at) where
-  each-walk : (xs : List A) (ys : List (List ℕ)) (at : ℕ) → all legal xs ≡ true
-      → eachLine f at (map line xs ++ ys) ≡ walk line m xs at ++ eachLine f (at + size line xs) ys
-  each-walk [] ys at h = rw add-zero
-  each-walk (x ∷ xs) ys at h =
+  each-walk : (rest : List ℕ) (xs : List A) (ys : List (List ℕ)) (at : ℕ) → all legal xs ≡ true
+      → eachLine f rest at (map line xs ++ ys) ≡ walk line m xs at ++ eachLine f rest (at + size line xs) ys
+  each-walk rest [] ys at h = rw add-zero
+  each-walk rest (x ∷ xs) ys at h =
       rw (
-        agrees x at (joined (map line xs ++ ys)) (and-left (legal x) (all legal xs) h),
-        each-walk xs ys (at + length (line x)) (and-right (legal x) (all legal xs) h),
+        agrees x at (joined (map line xs ++ ys) ++ rest) (and-left (legal x) (all legal xs) h),
+        each-walk rest xs ys (at + length (line x)) (and-right (legal x) (all legal xs) h),
         add-assoc,
       )
-
--- the three forms of a tree, one after the other
-module _ {B : Type 0} (f : ℕ → List ℕ → B) (onInput : Name → ℕ → B) (onGate : GateLine → ℕ → B) (onOutput : OutputLine → ℕ → B)
-    (input-agrees : (x : Name) (at : ℕ) (rest : List ℕ) → isPlainName x ≡ true → f at (inputLineText x ++ rest) ≡ onInput x at)
-    (gate-agrees : (x : GateLine) (at : ℕ) (rest : List ℕ) → isLegalGate x ≡ true → f at (gateLineText x ++ rest) ≡ onGate x at)
-    (output-agrees : (x : OutputLine) (at : ℕ) (rest : List ℕ) → isLegalOutput x ≡ true → f at (outputLineText x ++ rest) ≡ onOutput x at) where
-  tree-walk : (t : Tree) → isLegalTree t ≡ true
-      → tab (λ i. f (lineOffset (joined (treeLines t)) i) (drop (lineOffset (joined (treeLines t)) i) (joined (treeLines t)))) (length (treeLines t))
-      ≡ walk inputLineText onInput (t .inputs) 0
-      ++ (walk gateLineText onGate (t .gates) (size inputLineText (t .inputs)) ++ walk outputLineText onOutput (t .outputs)
-      (size inputLineText (t .inputs) + size gateLineText (t .gates)))
-  unfolding treeLines
-  tree-walk t h =
-      let p = legal-parts t h in
-      let i = size inputLineText (t .inputs) in
-      let a = each-walk inputLineText isPlainName f onInput input-agrees (t .inputs)
-      (map gateLineText (t .gates) ++ map outputLineText (t .outputs)) 0 (p .inputs) in
-      let b = each-walk gateLineText isLegalGate f onGate gate-agrees (t .gates) (map outputLineText (t .outputs)) i (p .gates) in
-      let c = each-walk outputLineText isLegalOutput f onOutput output-agrees (t .outputs) [] (i + size gateLineText (t .gates)) (p .outputs) in
-      let c′ = rw (append-nil, append-nil) at c in
-      tab-lines f (treeLines t) (tree-lines t h) ∙ a
-      ∙ ap (λ (r : List B). walk inputLineText onInput (t .inputs) 0 ++ r)
-      (rw zero-add (b ∙ ap (λ (r : List B). walk gateLineText onGate (t .gates) i ++ r) c′))
 
 -- ---- the declared names
 
@@ -127,28 +102,48 @@ unfolding mentions
 mentions-walk printed inLine m e [] at = refl
 mentions-walk printed inLine m e (x ∷ xs) at = rw (e x at, mentions-walk printed inLine m e xs (at + length (printed x [])))
 
--- without never lines the gates' lines stand behind the inputs'
-bare-gates : (t : Tree) → t .nevers ≡ [] → gateLinesAt t ≡ size inputLineText (t .inputs)
-unfolding gateLinesAt neverLinesAt linesLength inputLineText
-bare-gates t bare = rw bare (add-zero _)
+-- the declaration in line i of those from a place on
+abbrev pub mentionIn : List ℕ → ℕ → ℕ → Mention
+mentionIn text from i = mentionAt (lineOffset text from i) (drop (lineOffset text from i) text)
 
--- line by line the text has the tree's declarations
-pub declared-walk : (t : Tree) → isLegalTree t ≡ true → t .nevers ≡ []
-    → tab (λ i. mentionAt (lineOffset (joined (treeLines t)) i) (drop (lineOffset (joined (treeLines t)) i) (joined (treeLines t)))) (length (treeLines t))
-    ≡ declared t
-unfolding declared declaredNodes declaredPorts outputLinesAt linesLength inputLineText gateLineText outputLineText inputMention gateMention portMention
-declared-walk t h bare =
-    let i = walk {B = Mention} inputLineText (λ s at. record { name = s; place = at + length (ascii "(in ") }) (t .inputs) 0 in
-    let a = size inputLineText (t .inputs) in
-    let b = a + size gateLineText (t .gates) in
-    let g = walk {B = Mention} gateLineText (λ x at. record { name = x .name; place = at + length (ascii "(gate ") }) (t .gates) a in
-    let o = walk {B = Mention} outputLineText (λ x at. record { name = x .port; place = at + length (ascii "(out ") }) (t .outputs) b in
-    tree-walk mentionAt _ _ _ (λ x at rest l. input-mention at rest x l) (λ x at rest l. gate-mention at rest x l) (λ x at rest l. port-mention at rest x l) t h
-    ∙ sym
-    (rw (
-      bare-gates t bare,
-      mentions-walk printInput inputMention _ (λ x at. refl) (t .inputs) 0,
-      mentions-walk printGate gateMention _ (λ x at. refl) (t .gates) a,
-      mentions-walk printOutput portMention _ (λ x at. refl) (t .outputs) b,
-    )
-    (append-assoc i g o))
+-- what each form of line declares
+abbrev inputDeclares : Name → ℕ → Mention
+inputDeclares s at = record { name = s; place = at + length (ascii "(in ") }
+
+abbrev gateDeclares : GateLine → ℕ → Mention
+gateDeclares g at = record { name = g .name; place = at + length (ascii "(gate ") }
+
+abbrev outputDeclares : OutputLine → ℕ → Mention
+outputDeclares o at = record { name = o .port; place = at + length (ascii "(out ") }
+
+-- line by line the text has the tree's declarations, those of inputs first, and behind never lines those of gates and outputs
+module _ {t : Tree} {text : List ℕ} (is : TextOf t text) where
+  pub input-walk : tab (mentionIn text 0) (length (inputLines t)) ≡ mentions printInput inputMention (t .inputs) 0
+  unfolding inputLines inputLineText inputMention
+  input-walk =
+      let rest = neversText is in
+      let w = each-walk inputLineText isPlainName mentionAt inputDeclares (λ x at rest l. input-mention at rest x l) rest (t .inputs) [] 0
+      (legal-parts t (is .legal) .inputs) in
+      tab-lines mentionAt rest text 0 (inputLines t) (input-lines is) (inputs-stand is)
+      ∙ ap (λ (ls : List (List ℕ)). eachLine mentionAt rest 0 ls) (sym (append-nil (map inputLineText (t .inputs))))
+      ∙ w ∙ append-nil (walk inputLineText inputDeclares (t .inputs) 0) ∙ sym (mentions-walk printInput inputMention inputDeclares (λ x at. refl) (t .inputs) 0)
+
+  pub behind-walk : tab (mentionIn text (gateLinesAt t)) (length (linesBehind t))
+      ≡ mentions printGate gateMention (t .gates) (gateLinesAt t) ++ declaredPorts t
+  unfolding linesBehind declaredPorts outputLinesAt linesLength gateLineText outputLineText gateMention portMention
+  behind-walk =
+      let p = legal-parts t (is .legal) in
+      let at = gateLinesAt t in
+      let to = at + size gateLineText (t .gates) in
+      let os = map outputLineText (t .outputs) in
+      let g = each-walk gateLineText isLegalGate mentionAt gateDeclares (λ x at rest l. gate-mention at rest x l) [] (t .gates) os at (p .gates) in
+      let o = each-walk outputLineText isLegalOutput mentionAt outputDeclares (λ x at rest l. port-mention at rest x l) [] (t .outputs) [] to (p .outputs) in
+      let o′ : eachLine mentionAt [] to os ≡ walk outputLineText outputDeclares (t .outputs) to =
+      ap (λ (ls : List (List ℕ)). eachLine mentionAt [] to ls) (sym (append-nil os)) ∙ o ∙ append-nil (walk outputLineText outputDeclares (t .outputs) to) in
+      tab-lines mentionAt [] text at (linesBehind t) (behind-lines is) (behind-stand is ∙ sym (append-nil (joined (linesBehind t))))
+      ∙ g ∙ ap (λ (r : List Mention). walk gateLineText gateDeclares (t .gates) at ++ r) o′
+      ∙ sym
+      (rw (
+        mentions-walk printGate gateMention gateDeclares (λ x at. refl) (t .gates) at,
+        mentions-walk printOutput portMention outputDeclares (λ x at. refl) (t .outputs) to,
+      ))

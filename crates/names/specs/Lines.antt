@@ -1,4 +1,4 @@
--- A text as lines, read from its bytes alone: where line i starts, where its declared name stands, and
+-- A text as lines, read from its bytes alone: where line i of those from a place on starts, where its declared name stands, and
 -- how many gates close up to its end. On the print of a legal tree these are the tree's own numbers (proofs/).
 use Prim.Native.Nat.{ℕ, zero, suc, _+_, _-_, _≤_}
 use mathlib.Core.Path.{_≡_}
@@ -6,8 +6,11 @@ use mathlib.Core.Bool.{Bool, false, cond, _&&_}
 use mathlib.Core.List.{List, [], _∷_}
 use lib.ListN.{length, getD, drop}
 use lib.Dec.{eqb, ltb}
+use lib.Seq.{sets}
 use Rattle.laws.specs.Lists.{tab, placed}
-use Rattle.netlist.specs.Limits.{maxText, maxInputs}
+use Rattle.netlist.specs.Limits.{maxText, maxInputs, maxGates, maxOutputs}
+use Rattle.names.specs.declared.Line.{Line}
+use Rattle.names.specs.Packed.{packedAt}
 
 -- how often a number stands in a list
 abbrev pub times : ℕ → List ℕ → ℕ
@@ -34,43 +37,71 @@ abbrev pub lineOpens : List ℕ → ℕ
 lineOpens [] = 0
 lineOpens (x ∷ xs) = cond (eqb x 10) 0 (cond (eqb x 40) 1 0 + lineOpens xs)
 
--- where line i starts
-unfoldable pub lineOffset : List ℕ → ℕ → ℕ
-lineOffset text zero = 0
-lineOffset text (suc i) = lineOffset text i + lengthWithLf (drop (lineOffset text i) text)
+-- where line i of those from a place on starts
+unfoldable pub lineOffset : List ℕ → ℕ → ℕ → ℕ
+lineOffset text from zero = from
+lineOffset text from (suc i) = lineOffset text from i + lengthWithLf (drop (lineOffset text from i) text)
 
--- the gates in the first i lines: a line has one bracket that is no gate's
-unfoldable pub gatesTo : List ℕ → ℕ → ℕ
-gatesTo text zero = 0
-gatesTo text (suc i) = gatesTo text i + (lineOpens (drop (lineOffset text i) text) - 1)
+-- the gates in the first i of them: a line has one bracket that is no gate's
+unfoldable pub gatesTo : List ℕ → ℕ → ℕ → ℕ
+gatesTo text from zero = 0
+gatesTo text from (suc i) = gatesTo text from i + (lineOpens (drop (lineOffset text from i) text) - 1)
 
 -- "(in ", "(gate " or "(out " stands before the name
 unfoldable pub nameOffset : ℕ → ℕ
 nameOffset letter = cond (eqb letter 105) 4 (cond (eqb letter 103) 6 5)
 
--- the place of the name that the line at `at` declares, and that line i does
+-- the place of the name that the line at `at` declares, and that line i of those from a place on does
 unfoldable pub declaredPlace : List ℕ → ℕ → ℕ
-declaredPlace text at = at + nameOffset (getD text (at + 1) 0)
+declaredPlace text at = at + nameOffset (getD (drop at text) 1 0)
 
-unfoldable pub placeAt : List ℕ → ℕ → ℕ
-placeAt text i = declaredPlace text (lineOffset text i)
+unfoldable pub placeAt : List ℕ → ℕ → ℕ → ℕ
+placeAt text from i = declaredPlace text (lineOffset text from i)
 
--- the node that line i declares, of a text of n inputs, when `gates` gates close up to its end
+-- the number of that name
+unfoldable pub numberAt : List ℕ → ℕ → ℕ → ℕ
+numberAt text from i = packedAt text (placeAt text from i)
+
+-- the node that the text's declaration i makes, of a text of n inputs, when `gates` gates close up to its end
 unfoldable pub lineWord : ℕ → ℕ → ℕ → ℕ
 lineWord n i gates = cond (ltb i n) i (n + (gates - 1))
 
-unfoldable pub wordAt : List ℕ → ℕ → ℕ → ℕ
-wordAt text n i = lineWord n i (gatesTo text (suc i))
+-- of line i of those from a place on, before which `first` declarations stand and no gate
+unfoldable pub wordAt : List ℕ → ℕ → ℕ → ℕ → ℕ → ℕ
+wordAt text from n first i = lineWord n (first + i) (gatesTo text from (suc i))
+
+-- the bytes of a line, the place of its name in it, and its gates
+pub record LineOf (s : List ℕ) (r : Line) : Type 0 where
+  pub length : r .length ≡ lengthWithLf s
+  pub name : r .name ≡ nameOffset (getD s 1 0)
+  pub gates : r .gates ≡ lineOpens s - 1
 
 -- ---- the tables of lines
 
-pub record FillReady (text : List ℕ) (n lines : ℕ) (places words : List ℕ) : Type 0 where
-  pub short : length text ≤ maxText
-  pub few : n ≤ maxInputs
-  pub placeRoom : lines ≤ length places
-  pub wordRoom : lines ≤ length words
+-- the entries of a table with one for each name that a text may declare
+abbrev pub tableSize : ℕ
+tableSize = maxInputs + maxGates + maxOutputs
 
--- the places and nodes of the first i lines are filled in
-pub record FilledTo (text : List ℕ) (n : ℕ) (places words : List ℕ) (i : ℕ) (places′ words′ : List ℕ) : Type 0 where
-  pub placesAre : places′ ≡ placed (tab (placeAt text) i) places
-  pub wordsAre : words′ ≡ placed (tab (wordAt text n) i) words
+pub record FillReady (text : List ℕ) (from n first lines : ℕ) : Type 0 where
+  pub short : length text ≤ maxText
+  pub inside : from ≤ length text
+  pub few : n ≤ maxInputs
+  pub room : first + lines ≤ tableSize
+
+-- the places and nodes of the first i lines from a place on stand behind `first` entries
+pub record FilledTo (text : List ℕ) (from n first : ℕ) (places words : List ℕ) (i : ℕ) (places′ words′ : List ℕ) : Type 0 where
+  pub placesAre : places′ ≡ sets places first (tab (placeAt text from) i)
+  pub wordsAre : words′ ≡ sets words first (tab (wordAt text from n first) i)
+
+-- in the middle of it: i lines are done
+pub record FillNow (text : List ℕ) (from n first lines : ℕ) (places words : List ℕ) (i at gates : ℕ) (places′ words′ : List ℕ) : Type 0 where
+  pub within : i ≤ lines
+  pub start : at ≡ lineOffset text from i
+  pub closed : gates ≡ gatesTo text from i
+  pub filled : FilledTo text from n first places words i places′ words′
+
+-- the numbers of the first i lines' names stand in a table
+pub record NamesNow (text : List ℕ) (n : ℕ) (inputs : List ℕ) (i at : ℕ) (inputs′ : List ℕ) : Type 0 where
+  pub within : i ≤ n
+  pub start : at ≡ lineOffset text 0 i
+  pub filled : inputs′ ≡ placed (tab (numberAt text 0) i) inputs

@@ -1,8 +1,9 @@
--- What the functions of src/ answer, in terms of the tree that a text prints. Texts here have no never lines: Read leaves those out.
+-- What the functions of src/ answer, in terms of the tree that a text prints.
 use Prim.Native.Nat.{ℕ, _+_, _-_, _≤_, _<_}
 use mathlib.Core.Path.{_≡_}
 use mathlib.Core.Bool.{Bool, true, not, _&&_}
 use mathlib.Core.List.{List, [], _++_, map}
+use mathlib.Core.Option.{Option}
 use lib.ListN.{length, getD, take}
 use lib.Dec.{leb}
 use Rattle.laws.specs.Lists.{sum}
@@ -10,30 +11,26 @@ use Rattle.netlist.specs.declared.Refusal.the-variants.{DuplicateDeclaration}
 use Rattle.refusals.specs.declared.Test.{Test}
 use Rattle.refusals.specs.declared.Test.the-variants.{Passed}
 use Rattle.refusals.specs.Tests.{testAt}
-use Rattle.netlist.specs.Limits.{maxText, maxInputs, maxGates, maxOutputs}
+use Rattle.netlist.specs.Limits.{maxText, maxInputs, maxNevers, maxGates, maxOutputs}
 use Rattle.netlist.specs.StoredBlock.{nodeWord}
-use Rattle.netlist.specs.Syntax.{Tree, isLegalTree, print}
-use Rattle.netlist.specs.Reading.{Mention, Binding, lineGates, declaredNodes, declaredPorts, bindings, firstDuplicate}
+use Rattle.netlist.specs.Syntax.{Tree, isLegalTree}
+use Rattle.netlist.specs.Reading.{Mention, Binding, lineGates, gateLinesAt, declaredNodes, declaredPorts, bindings, firstRepeat, orElse}
 use Rattle.names.specs.Packed.{packed}
-use Rattle.names.specs.Lines.{times, timesBehind}
+use Rattle.names.specs.Lines.{times, timesBehind, tableSize}
 use Rattle.names.specs.Index.{hashes, Indexed}
+use Rattle.names.specs.Trees.{TextOf}
 use Rattle.names.specs.declared.Counts.{Counts}
 
--- the text is this tree's, which is legal and has no never lines
-pub record Prints (t : Tree) (text : List ℕ) : Type 0 where
-  pub legal : isLegalTree t ≡ true
-  pub bare : t .nevers ≡ []
-  pub printed : print t ≡ text
-
--- the counts as the bytes give them: each line has one bracket of its own, each gate one more; `i` and `g` stand behind those of inputs and of named
--- gates alone
-unfoldable pub countsOf : List ℕ → Counts
-countsOf text =
+-- the counts as the bytes of the lines behind never lines give them: each line has one bracket of its own, each gate one more; `g` stands behind those
+-- of named gates alone. The lines before are counted already
+unfoldable pub countsOf : ℕ → ℕ → List ℕ → Counts
+countsOf inputs nevers rest =
     record {
-      inputs = timesBehind 40 105 text;
-      named = timesBehind 40 103 text;
-      outputs = times 10 text - (timesBehind 40 105 text + timesBehind 40 103 text);
-      gates = times 40 text - times 10 text;
+      inputs = inputs;
+      nevers = nevers;
+      named = timesBehind 40 103 rest;
+      outputs = times 10 rest - timesBehind 40 103 rest;
+      gates = times 40 rest - times 10 rest;
     }
 
 -- the counts as the tree gives them
@@ -41,6 +38,7 @@ unfoldable pub treeCounts : Tree → Counts
 treeCounts t =
     record {
       inputs = length (t .inputs);
+      nevers = length (t .nevers);
       named = length (t .gates);
       outputs = length (t .outputs);
       gates = sum (map lineGates (t .gates));
@@ -48,7 +46,8 @@ treeCounts t =
 
 -- 3, from the counts
 unfoldable pub isOver : Counts → Bool
-isOver c = not (leb (c .inputs) maxInputs && leb (c .gates) maxGates && leb (c .outputs) maxOutputs)
+isOver c =
+    not (leb (c .inputs) maxInputs && leb (c .nevers) maxNevers && leb (c .gates) maxGates && leb (c .outputs) maxOutputs)
 
 -- every declaration, in the order of the text: the nodes, then the ports
 unfoldable pub declared : Tree → List Mention
@@ -74,13 +73,27 @@ pub record Declared (t : Tree) (names places words : List ℕ) : Type 0 where
   pub table : NameTable t names places
   pub nodesAre : take (length (bindings t)) words ≡ nodeWords t
 
--- room for the tables of a text with these counts
-pub record TableRoom (c : Counts) (text names places words : List ℕ) : Type 0 where
+-- a table begins with the numbers of the names of n inputs
+pub record InputNames (text : List ℕ) (n : ℕ) (inputs : List ℕ) : Type 0 where
+  pub sized : length inputs ≡ maxInputs
+  pub numbers : (t : Tree) → TextOf t text → n ≡ length (t .inputs) → take n inputs ≡ map packed (t .inputs)
+
+-- room for the tables of a text with these counts, whose gate lines start there
+pub record TableRoom (c : Counts) (text : List ℕ) (end : ℕ) (names places words : List ℕ) : Type 0 where
   pub short : length text ≤ maxText
+  pub inside : end ≤ length text
   pub few : c .inputs ≤ maxInputs
-  pub numberRoom : c .inputs + c .named + c .outputs ≤ length names
-  pub placeRoom : c .inputs + c .named + c .outputs ≤ length places
-  pub nodeRoom : c .inputs + c .named + c .outputs ≤ length words
+  pub room : c .inputs + c .named + c .outputs ≤ tableSize
+  pub numberRoom : tableSize ≤ length names
+  pub placeRoom : tableSize ≤ length places
+  pub nodeRoom : tableSize ≤ length words
+
+-- the tables keep their lengths and are those of the tree
+pub record Filled (c : Counts) (text : List ℕ) (end : ℕ) (names places words names′ places′ words′ : List ℕ) : Type 0 where
+  pub nameSize : length names′ ≡ length names
+  pub placeSize : length places′ ≡ length places
+  pub nodeSize : length words′ ≡ length words
+  pub tables : (t : Tree) → TextOf t text → c ≡ treeCounts t → end ≡ gateLinesAt t → Declared t names′ places′ words′
 
 -- the index holds the names of the declared nodes
 abbrev pub NodesIndexed : Counts → List ℕ → List ℕ → Type 0
@@ -94,8 +107,11 @@ pub record IndexReady (c : Counts) (names places index : List ℕ) : Type 0 wher
   pub indexRoom : hashes + (maxInputs + maxGates) < length index
   pub empty : (j : ℕ) → getD index j 0 ≡ 0
 
--- the answer is 4's; where it passes, the index holds the names
+-- 4 outside never lines: every node is declared before every port
+unfoldable pub declaredTwice : Tree → Option ℕ
+declaredTwice t = orElse (firstRepeat [] (declaredNodes t)) (firstRepeat [] (declaredPorts t))
+
+-- the answer is that; where it passes, the index holds the names
 pub record Repeats (c : Counts) (names places index : List ℕ) (r : Test) : Type 0 where
-  pub answer : (t : Tree) → isLegalTree t ≡ true → t .nevers ≡ [] → c ≡ treeCounts t → NameTable t names places
-      → r ≡ testAt (firstDuplicate t) DuplicateDeclaration
+  pub answer : (t : Tree) → isLegalTree t ≡ true → c ≡ treeCounts t → NameTable t names places → r ≡ testAt (declaredTwice t) DuplicateDeclaration
   pub indexed : r ≡ Passed → NodesIndexed c names index

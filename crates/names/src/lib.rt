@@ -6,16 +6,18 @@ pub mod search;
 pub mod table;
 pub mod tally;
 
-// What a text has: input lines, lines of named gates, output lines, and gates, inner ones counted.
+// What a text has: input lines, never lines, lines of named gates, output lines, and gates, inner ones counted.
 pub struct Counts {
     pub inputs: usize,
+    pub nevers: usize,
     pub named: usize,
     pub outputs: usize,
     pub gates: usize,
 }
 
-// A line: where it ends, behind its LF, and its gates.
+// A line: its bytes with its LF, where in it the name stands that it declares, and its gates.
 pub struct Line {
-    pub end: usize,
+    pub length: usize,
+    pub name: usize,
     pub gates: usize,
 }

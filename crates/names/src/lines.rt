@@ -1,12 +1,13 @@
 // The lines of a text: where each starts, and what its bytes say of it.
 use crate::Line;
+use layout::bytes::byte_at;
 ghost use mathlib.Core.Path.{_≡_};
 ghost use mathlib.Core.Bool.{cond};
 ghost use Prim.Native.Nat.{_+_, _-_, _≤_};
 ghost use lib.Dec.{eqb};
 ghost use lib.ListN.{length, drop};
 ghost use Rattle.netlist.specs.Limits.{maxText};
-ghost use Rattle.names.specs.Lines.{times, timesBehind, lengthWithLf, lineOpens};
+ghost use Rattle.names.specs.Lines.{times, timesBehind, lengthWithLf, lineOpens, nameOffset, LineOf};
 
 // 1 where the bytes are the same.
 fn one_if(a: u8, b: u8) -> usize
@@ -88,27 +89,26 @@ pub fn opens(s: &[u8]) -> usize
     n
 }
 
-// The line at the front: its length with the LF, and the opening brackets before that.
-fn scan_line(s: &[u8]) -> Line
-    requires { ⌜ length (now s) ≤ maxText ⌝ }
-    ensures { λ r. ⌜ (r .end ≡ lengthWithLf (now (s .entry))) × (r .gates ≡ lineOpens (now (s .entry)) - 1) ⌝ }
+// `(in `, `(gate ` or `(out ` stands before the name that a line declares.
+fn name_offset(letter: u8) -> usize
+    ensures { λ r. ⌜ r ≡ nameOffset letter ⌝ }
 {
-    let end = line_length(s);
-    Line {
-        end,
-        gates: minus(count(&s[..end], b'('), 1),
+    if letter == b'i' {
+        return 4;
     }
+    if letter == b'g' { 6 } else { 5 }
 }
 
-// The line that starts at `at`: it has one bracket that is no gate's.
-pub fn line_at(text: &[u8], at: usize) -> Line
-    requires { ⌜ (at ≤ length (now text)) × (length (now text) ≤ maxText) ⌝ }
-    ensures { λ r. ⌜ (r .end ≡ at + lengthWithLf (drop at (now (text .entry))))
-        × (r .gates ≡ lineOpens (drop at (now (text .entry))) - 1) ⌝ }
+// The line at the front of the rest of a text: it has one bracket that is no gate's.
+pub fn line_of(s: &[u8]) -> Line
+    requires { ⌜ length (now s) ≤ maxText ⌝ }
+    ensures { λ r. ⌜ LineOf (now (s .entry)) r ⌝ }
 {
-    let line = scan_line(&text[at..]);
+    let length = line_length(s);
+    let name = name_offset(byte_at(s, 1));
     Line {
-        end: at + line.end,
-        gates: line.gates,
+        length,
+        name,
+        gates: minus(count(&s[..length], b'('), 1),
     }
 }

@@ -1,35 +1,21 @@
 // The table of declared names, in the order of the text: numbers of the names, their places, and the node numbers of inputs and gates.
 use crate::Counts;
-use crate::lines::line_at;
+use crate::lines::line_of;
 use crate::pack::pack_at;
-use layout::bytes::byte_at;
+use layout::limits::MAX_GATES;
+use layout::limits::MAX_INPUTS;
+use layout::limits::MAX_OUTPUTS;
 ghost use mathlib.Core.Path.{_≡_};
 ghost use Prim.Native.Nat.{_≤_};
 ghost use lib.ListN.{length};
 ghost use Rattle.laws.specs.Lists.{tab, placed};
 ghost use Rattle.netlist.specs.Limits.{maxText, maxInputs};
-ghost use Rattle.names.specs.Lines.{nameOffset, declaredPlace, lineWord, FillReady, FilledTo};
-ghost use Rattle.netlist.specs.Syntax.{Tree};
+ghost use Rattle.names.specs.Lines.{lineWord, FillReady, FilledTo};
 ghost use Rattle.names.specs.Packed.{packedThrough};
-ghost use Rattle.names.specs.Results.{Prints, treeCounts, TableRoom, Declared};
+ghost use Rattle.names.specs.Results.{InputNames, TableRoom, Filled};
 
-// `(in `, `(gate ` or `(out ` stands before the name that a line declares.
-fn name_offset(letter: u8) -> usize
-    ensures { λ r. ⌜ r ≡ nameOffset letter ⌝ }
-{
-    if letter == b'i' {
-        return 4;
-    }
-    if letter == b'g' { 6 } else { 5 }
-}
-
-// The place of the name that the line at `at` declares.
-fn declared_at(text: &[u8], at: usize) -> usize
-    requires { ⌜ at ≤ maxText ⌝ }
-    ensures { λ r. ⌜ r ≡ declaredPlace (now (text .entry)) at ⌝ }
-{
-    at + name_offset(byte_at(text, at + 1))
-}
+// The names that the largest text declares.
+pub const NAMES: usize = MAX_INPUTS + MAX_GATES + MAX_OUTPUTS;
 
 // The number of the name at each of these places.
 pub fn fill_names(text: &[u8], places: &[usize], lines: usize, names: &mut [u64])
@@ -54,32 +40,64 @@ fn line_word(n: usize, i: usize, gates: usize) -> usize
     if gates == 0 { n } else { n + (gates - 1) }
 }
 
-// The place of the name that each line declares, and the node.
-fn fill_lines(text: &[u8], n: usize, lines: usize, places: &mut [usize], words: &mut [u16])
-    requires { ⌜ FillReady (now text) n lines (now places) (now words) ⌝ }
-    ensures { λ r. ⌜ FilledTo (now (text .entry)) n (now (places .entry)) (now (words .entry)) lines (now (places .exit)) (now (words .exit)) ⌝ }
+// The place of the name that each line from a place on declares, and the node, into the tables behind `first` entries.
+fn fill_lines(
+    text: &[u8],
+    from: usize,
+    n: usize,
+    first: usize,
+    lines: usize,
+    places: &mut [usize; NAMES],
+    words: &mut [u16; NAMES],
+)
+    requires { ⌜ FillReady (now text) from n first lines ⌝ }
+    ensures { λ r. ⌜ FilledTo (now (text .entry)) from n first (now (places .entry)) (now (words .entry)) lines
+        (now (places .exit)) (now (words .exit)) ⌝ }
 {
     let mut gates = 0;
-    let mut at = 0;
+    let mut at = from;
     let mut i = 0;
     while i < lines {
-        let line = line_at(text, at);
+        let line = line_of(&text[at..]);
         gates += line.gates;
-        places[i] = declared_at(text, at);
-        words[i] = line_word(n, i, gates) as u16;
-        at = line.end;
+        places[first + i] = at + line.name;
+        words[first + i] = line_word(n, first + i, gates) as u16;
+        at += line.length;
         i += 1;
     }
 }
 
-// The tables of a text with these counts. Ports get a node that nobody asks for.
-pub fn declare(text: &[u8], c: Counts, names: &mut [u64], places: &mut [usize], words: &mut [u16])
-    requires { ⌜ TableRoom c (now text) (now names) (now places) (now words) ⌝ }
-    ensures { λ r. ⌜ ((t : Tree) → Prints t (now (text .entry)) → c ≡ treeCounts t
-        → Declared t (now (names .exit)) (now (places .exit)) (now (words .exit))) ⌝ }
+// The numbers of the names that the first n lines declare, which are those of the inputs.
+pub fn input_names(text: &[u8], n: usize, inputs: &mut [u64; MAX_INPUTS])
+    requires { ⌜ (length (now text) ≤ maxText) × (n ≤ maxInputs) × (length (now inputs) ≡ maxInputs) ⌝ }
+    ensures { λ r. ⌜ InputNames (now (text .entry)) n (now (inputs .exit)) ⌝ }
 {
-    let inputs = c.inputs;
-    let lines = inputs + c.named + c.outputs;
-    fill_lines(text, inputs, lines, places, words);
-    fill_names(text, places, lines, names);
+    let mut at = 0;
+    let mut i = 0;
+    while i < n {
+        let line = line_of(&text[at..]);
+        inputs[i] = pack_at(text, at + line.name);
+        at += line.length;
+        i += 1;
+    }
+}
+
+// The tables of a text with these counts, whose gate lines start at `end`. Ports get a node that nobody asks for.
+pub fn declare(
+    text: &[u8],
+    end: usize,
+    c: Counts,
+    names: &mut [u64; NAMES],
+    places: &mut [usize; NAMES],
+    words: &mut [u16; NAMES],
+)
+    requires { ⌜ TableRoom c (now text) end (now names) (now places) (now words) ⌝ }
+    ensures { λ r. ⌜ Filled c (now (text .entry)) end (now (names .entry)) (now (places .entry)) (now (words .entry))
+        (now (names .exit)) (now (places .exit)) (now (words .exit)) ⌝ }
+{
+    let n = c.inputs;
+    let behind = c.named + c.outputs;
+    fill_lines(text, 0, n, 0, n, places, words);
+    fill_lines(text, end, n, n, behind, places, words);
+    fill_names(text, places, n + behind, names);
 }

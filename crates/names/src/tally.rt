@@ -5,43 +5,46 @@ use crate::lines::count_behind;
 use crate::lines::minus;
 use layout::limits::MAX_GATES;
 use layout::limits::MAX_INPUTS;
+use layout::limits::MAX_NEVERS;
 use layout::limits::MAX_OUTPUTS;
 use netlist::Refusal;
 use refusals::Test;
 use refusals::refuse_if;
 ghost use mathlib.Core.Path.{_≡_};
-ghost use mathlib.Core.List.{[]};
-ghost use Prim.Native.Nat.{_≤_};
-ghost use lib.ListN.{length};
+ghost use mathlib.Core.List.{List};
+ghost use Prim.Native.Nat.{ℕ, _≤_};
+ghost use lib.ListN.{length, drop};
 ghost use Rattle.netlist.specs.Limits.{maxText};
 ghost use Rattle.netlist.specs.declared.Refusal.the-variants.{OverLimit};
 ghost use Rattle.refusals.specs.Tests.{testOf};
 ghost use Rattle.netlist.specs.Syntax.{Tree};
-ghost use Rattle.netlist.specs.Reading.{isOverLimit};
-ghost use Rattle.names.specs.Results.{Prints, countsOf, treeCounts, isOver};
+ghost use Rattle.netlist.specs.Reading.{gateLinesAt, isOverLimit};
+ghost use Rattle.names.specs.Trees.{TextOf};
+ghost use Rattle.names.specs.Results.{countsOf, treeCounts, isOver};
 
-// Each line has one bracket of its own, and each gate one more. `i` and `g` stand behind those of inputs and of named gates alone: no kind begins with them.
-fn count_bytes(text: &[u8]) -> Counts
-    requires { ⌜ length (now text) ≤ maxText ⌝ }
-    ensures { λ r. ⌜ r ≡ countsOf (now (text .entry)) ⌝ }
+// Each line has one bracket of its own, and each gate one more. `g` stands behind those of named gates alone: no kind begins with it.
+fn count_bytes(rest: &[u8], inputs: usize, nevers: usize) -> Counts
+    requires { ⌜ length (now rest) ≤ maxText ⌝ }
+    ensures { λ r. ⌜ r ≡ countsOf inputs nevers (now (rest .entry)) ⌝ }
 {
-    let lines = count(text, b'\n');
-    let inputs = count_behind(text, b'(', b'i');
-    let named = count_behind(text, b'(', b'g');
+    let lines = count(rest, b'\n');
+    let named = count_behind(rest, b'(', b'g');
     Counts {
         inputs,
+        nevers,
         named,
-        outputs: minus(lines, inputs + named),
-        gates: minus(count(text, b'('), lines),
+        outputs: minus(lines, named),
+        gates: minus(count(rest, b'('), lines),
     }
 }
 
-// What the tree that the text prints has.
-pub fn counts(text: &[u8]) -> Counts
-    requires { ⌜ length (now text) ≤ maxText ⌝ }
-    ensures { λ r. ⌜ ((t : Tree) → Prints t (now (text .entry)) → r ≡ treeCounts t) ⌝ }
+// What a text has whose gate lines begin with `rest`, behind so many inputs and never lines.
+pub fn counts(rest: &[u8], inputs: usize, nevers: usize) -> Counts
+    requires { ⌜ length (now rest) ≤ maxText ⌝ }
+    ensures { λ r. ⌜ ((t : Tree) (text : List ℕ) → TextOf t text → inputs ≡ length (t .inputs) → nevers ≡ length (t .nevers)
+        → now (rest .entry) ≡ drop (gateLinesAt t) text → r ≡ treeCounts t) ⌝ }
 {
-    count_bytes(text)
+    count_bytes(rest, inputs, nevers)
 }
 
 // 3, from the counts.
@@ -49,9 +52,13 @@ fn is_over(c: Counts) -> bool
     ensures { λ r. ⌜ r ≡ isOver c ⌝ }
 {
     let inputs = c.inputs;
+    let nevers = c.nevers;
     let gates = c.gates;
     let outputs = c.outputs;
     if MAX_INPUTS < inputs {
+        return true;
+    }
+    if MAX_NEVERS < nevers {
         return true;
     }
     if MAX_GATES < gates {
@@ -60,9 +67,9 @@ fn is_over(c: Counts) -> bool
     MAX_OUTPUTS < outputs
 }
 
-// 3: more inputs, gates (inner ones counted) or outputs than the limits allow.
+// 3: more inputs, never lines, gates (inner ones counted) or outputs than the limits allow.
 pub fn limits(c: Counts) -> Test
-    ensures { λ r. ⌜ ((t : Tree) → t .nevers ≡ [] → c ≡ treeCounts t → r ≡ testOf (isOverLimit t) OverLimit) ⌝ }
+    ensures { λ r. ⌜ ((t : Tree) → c ≡ treeCounts t → r ≡ testOf (isOverLimit t) OverLimit) ⌝ }
 {
     refuse_if(is_over(c), Refusal::OverLimit)
 }

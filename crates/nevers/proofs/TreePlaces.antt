@@ -18,12 +18,12 @@ use Rattle.netlist.specs.Reading.{linesLength, neverLinesAt, gateLinesAt}
 use Rattle.grammar.proofs.Places.{printInput-split, printNever-split, nevers-at}
 use Rattle.names.specs.Index.{maxPairs}
 use Rattle.names.specs.Packed.{packed}
-use Rattle.names.specs.Trees.{inputLineText}
+use Rattle.names.specs.Trees.{inputLineText, TextOf}
 use Rattle.names.proofs.TreeLines.{printed-lines, all-lines, legal-parts, input-line}
 use Rattle.pairs.specs.Tables.{InputsAre}
 use Rattle.pairs.proofs.TableLaws.{plain-bytes}
 use Rattle.nevers.specs.declared.NeverLines.{NeverLines}
-use Rattle.nevers.specs.Places.{TextOf, neverLines, NeversAt}
+use Rattle.nevers.specs.Places.{neverLines, NeversAt}
 use Rattle.nevers.specs.Ready.{NeversInForm, LinesReady}
 use Rattle.nevers.specs.Runs.{lettered, RunAt, Ran}
 use Rattle.nevers.proofs.NeverText.{never-line}
@@ -85,7 +85,7 @@ module _ {t : Tree} {text : List ℕ} (is : TextOf t text) where
   }
 
   -- the two runs that the code finds
-  pub runs-are : {at end inputs count : ℕ} → Ran 105 0 text at inputs → Ran 110 at text end count → record { at = at; end = end; count = count } ≡ neverLines t
+  pub runs-are : {at end inputs count : ℕ} → Ran 105 0 text at inputs → Ran 110 at text end count → record { inputs = inputs; at = at; count = count; end = end } ≡ neverLines t
   unfolding neverLines neverLinesAt gateLinesAt linesLength inputLineText
   runs-are {at} {end} {inputs} {count} r s =
       let j = joined-length inputLineText (t .inputs) in
@@ -94,7 +94,8 @@ module _ {t : Tree} {text : List ℕ} (is : TextOf t text) where
       let n : RunAt 110 at (map neverText (t .nevers)) text = rw a never-run in
       let e : end ≡ at + length (joined (map neverText (t .nevers))) = s .ends _ n in
       let c : count ≡ length (t .nevers) = s .counted _ n ∙ length-map (t .nevers) neverText in
-      rw (e, c, a, joined-length neverText (t .nevers))
+      let k : inputs ≡ length (t .inputs) = r .counted (map inputLineText (t .inputs)) input-run ∙ length-map (t .inputs) inputLineText in
+      rw (e, c, a, k, joined-length neverText (t .nevers))
 
   pub nevers-stand : {lines : NeverLines} → lines ≡ neverLines t → NeversAt (lines .at) (lines .count) (t .nevers) text
   unfolding neverLines

@@ -4,21 +4,19 @@ use mathlib.Core.Path.{_≡_}
 use mathlib.Core.Bool.{true}
 use mathlib.Core.List.{List, map}
 use lib.ListN.{length, drop}
-use Rattle.laws.specs.Lists.{all, joined}
+use Rattle.laws.specs.Lists.{all, joined, placed}
+use Rattle.netlist.specs.declared.Refusal.the-variants.{DuplicateDeclaration, UndeclaredName}
+use Rattle.refusals.specs.Tests.{testAt}
 use Rattle.netlist.specs.Netlist.{Name}
 use Rattle.netlist.specs.StoredBlock.{neverWords}
-use Rattle.netlist.specs.Syntax.{Pair, Tree, isLegalNever, isLegalTree, printLines, printNever, print}
-use Rattle.netlist.specs.Reading.{Mention, mentions, neverMentions, neverLinesAt, gateLinesAt, assignmentOf}
+use Rattle.netlist.specs.Syntax.{Pair, Tree, isLegalNever, printLines, printNever}
+use Rattle.netlist.specs.Reading.{Mention, mentions, neverMentions, neverLinesAt, gateLinesAt, assignmentOf, firstRepeatIn, firstOutside, excludedNames}
 use Rattle.nevers.specs.declared.NeverLines.{NeverLines}
+use Rattle.nevers.specs.declared.NeverTold.{NeverTold}
 
--- the text is this tree's, which is legal
-pub record TextOf (t : Tree) (text : List ℕ) : Type 0 where
-  pub legal : isLegalTree t ≡ true
-  pub printed : print t ≡ text
-
--- where its never lines stand
+-- where the never lines of its text stand
 unfoldable pub neverLines : Tree → NeverLines
-neverLines t = record { at = neverLinesAt t; end = gateLinesAt t; count = length (t .nevers) }
+neverLines t = record { inputs = length (t .inputs); at = neverLinesAt t; count = length (t .nevers); end = gateLinesAt t }
 
 -- a legal never line stands at this place
 pub record NeverAt (at : ℕ) (ps : List Pair) (text : List ℕ) : Type 0 where
@@ -40,3 +38,9 @@ linesMentions ns at = mentions printNever neverMentions ns at
 -- their words in a block of these inputs
 abbrev pub linesWords : List Name → List (List Pair) → List ℕ
 linesWords inputs ns = joined (map neverWords (map (assignmentOf inputs) ns))
+
+-- what they tell: 4 and 5 among them, and their words in the beginning of a slice
+pub record Told (t : Tree) (masks masks′ : List ℕ) (r : NeverTold) : Type 0 where
+  pub repeats : r .repeat ≡ testAt (firstRepeatIn (t .nevers) (neverLinesAt t)) DuplicateDeclaration
+  pub outsides : r .outside ≡ testAt (firstOutside (t .inputs) (excludedNames t)) UndeclaredName
+  pub words : masks′ ≡ placed (linesWords (t .inputs) (t .nevers)) masks

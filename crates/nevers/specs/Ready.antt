@@ -3,13 +3,14 @@ use Prim.Native.Nat.{ℕ, _≤_}
 use mathlib.Core.Path.{_≡_}
 use mathlib.Core.List.{List}
 use lib.ListN.{length}
-use Rattle.netlist.specs.Limits.{maxText, maxInputs}
+use Rattle.netlist.specs.Limits.{maxText, maxInputs, maxNevers}
 use Rattle.netlist.specs.Netlist.{Name}
 use Rattle.netlist.specs.Syntax.{Pair, Tree}
 use Rattle.names.specs.Index.{maxPairs}
+use Rattle.names.specs.Trees.{TextOf}
 use Rattle.pairs.specs.Tables.{InputsAre}
 use Rattle.nevers.specs.declared.NeverLines.{NeverLines}
-use Rattle.nevers.specs.Places.{TextOf, neverLines, NeverAt, NeversAt}
+use Rattle.nevers.specs.Places.{neverLines, NeverAt, NeversAt}
 
 pub record NeversInForm (text : List ℕ) (lines : NeverLines) : Type 0 where
   pub short : length text ≤ maxText
@@ -42,3 +43,9 @@ pub record InputsReady (n : ℕ) (inputs : List ℕ) : Type 0 where
 pub record ValueRoom (n : ℕ) (setting : List ℕ) : Type 0 where
   pub few : n ≤ maxInputs
   pub room : n ≤ length setting
+
+-- the text is in form and within the limits
+pub record NeversReady (text : List ℕ) (lines : NeverLines) : Type 0 where
+  pub form : NeversInForm text lines
+  pub fewInputs : lines .inputs ≤ maxInputs
+  pub fewLines : lines .count ≤ maxNevers

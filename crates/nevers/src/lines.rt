@@ -8,7 +8,8 @@ ghost use lib.ListN.{length};
 ghost use Rattle.netlist.specs.Limits.{maxText};
 ghost use Rattle.netlist.specs.Syntax.{Tree};
 ghost use Rattle.nevers.specs.Runs.{Ran};
-ghost use Rattle.nevers.specs.Places.{TextOf, neverLines};
+ghost use Rattle.names.specs.Trees.{TextOf};
+ghost use Rattle.nevers.specs.Places.{neverLines};
 
 // Lines with one letter, up to another line: the place behind them, and how many they are.
 struct Run {
@@ -35,10 +36,16 @@ pub fn never_lines(text: &[u8]) -> NeverLines
     requires { ⌜ length (now text) ≤ maxText ⌝ }
     ensures { λ r. ⌜ ((t : Tree) → TextOf t (now (text .entry)) → r ≡ neverLines t) ⌝ }
 {
-    let inputs = run_of(text, 0, b'i');
-    let at = inputs.end;
+    let before = run_of(text, 0, b'i');
+    let inputs = before.count;
+    let at = before.end;
     let nevers = run_of(text, at, b'n');
-    let end = nevers.end;
     let count = nevers.count;
-    NeverLines { at, end, count }
+    let end = nevers.end;
+    NeverLines {
+        inputs,
+        at,
+        count,
+        end,
+    }
 }

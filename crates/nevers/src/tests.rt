@@ -15,7 +15,8 @@ ghost use Rattle.netlist.specs.Netlist.{Name};
 ghost use Rattle.netlist.specs.Syntax.{Pair, Tree};
 ghost use Rattle.netlist.specs.Reading.{neverMentions, neverLinesAt, excludedNames, firstRepeat, firstRepeatIn, firstOutside};
 ghost use Rattle.pairs.specs.Tables.{InputsAre};
-ghost use Rattle.nevers.specs.Places.{TextOf, neverLines, NeverAt, NeversAt, linesMentions};
+ghost use Rattle.names.specs.Trees.{TextOf};
+ghost use Rattle.nevers.specs.Places.{neverLines, NeverAt, NeversAt, linesMentions};
 ghost use Rattle.nevers.specs.Ready.{NeversInForm, LineReady, LinesReady, InputsReady};
 
 // 4 in one line.

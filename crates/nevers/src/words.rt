@@ -1,11 +1,17 @@
 // The words of never lines in a stored block: two masks a line.
 use crate::NeverLines;
+use crate::NeverTold;
 use crate::PAIRS_AT;
+use crate::tests::test_outsiders;
+use crate::tests::test_repeats;
 use layout::gather::Masks;
 use layout::gather::masks_of;
 use layout::limits::MAX_INPUTS;
+use layout::limits::MAX_NEVERS;
+use layout::offsets::NEVER_SIZE;
 use names::lines::next_line;
 use names::search::MAX_PAIRS;
+use names::table::input_names;
 use pairs::given::fill_setting;
 use pairs::tables::fill_pairs;
 ghost use mathlib.Core.Path.{_≡_};
@@ -14,14 +20,19 @@ ghost use Prim.Native.Nat.{_*_, _≤_};
 ghost use lib.ListN.{length};
 ghost use lib.Seq.{sets};
 ghost use Rattle.laws.specs.Lists.{placed};
-ghost use Rattle.netlist.specs.Limits.{maxInputs};
+ghost use Rattle.netlist.specs.Limits.{maxInputs, maxNevers};
+ghost use Rattle.netlist.specs.StoredBlock.{neverSize};
 ghost use Rattle.netlist.specs.Netlist.{Name};
 ghost use Rattle.netlist.specs.Syntax.{Pair, Tree};
 ghost use Rattle.netlist.specs.Reading.{givenValue};
 ghost use Rattle.layout.specs.Masks.{masksOf};
 ghost use Rattle.pairs.specs.Tables.{InputsAre};
-ghost use Rattle.nevers.specs.Places.{TextOf, neverLines, NeverAt, NeversAt, linesWords};
-ghost use Rattle.nevers.specs.Ready.{NeversInForm, LineReady, LinesReady, InputsReady, ValueRoom};
+ghost use Rattle.names.specs.Trees.{TextOf};
+ghost use Rattle.nevers.specs.Places.{neverLines, NeverAt, NeversAt, linesWords, Told};
+ghost use Rattle.nevers.specs.Ready.{NeversInForm, NeversReady, LineReady, LinesReady, InputsReady, ValueRoom};
+
+// The words of the most lines that a block may have.
+pub const NEVER_WORDS: usize = NEVER_SIZE * MAX_NEVERS;
 
 // The masks of what one line gives the inputs.
 fn line_masks(
@@ -101,4 +112,18 @@ pub fn fill_masks(text: &[u8], lines: NeverLines, inputs: &[u64], n: usize, out:
         &mut setting,
         out,
     )
+}
+
+// 4 and 5 of all lines, and their words into the beginning of `masks`.
+pub fn read_nevers(text: &[u8], lines: NeverLines, masks: &mut [u16; NEVER_WORDS]) -> NeverTold
+    requires { ⌜ NeversReady (now text) lines × (length (now masks) ≡ neverSize * maxNevers) ⌝ }
+    ensures { λ r. ⌜ ((t : Tree) → TextOf t (now (text .entry)) → lines ≡ neverLines t → Told t (now (masks .entry)) (now (masks .exit)) r) ⌝ }
+{
+    let n = lines.inputs;
+    let mut inputs = [0u64; MAX_INPUTS];
+    input_names(text, n, &mut inputs);
+    let repeat = test_repeats(text, lines);
+    let outside = test_outsiders(text, lines, &inputs, n);
+    fill_masks(text, lines, &inputs, n, masks);
+    NeverTold { repeat, outside }
 }

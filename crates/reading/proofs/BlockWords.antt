@@ -22,11 +22,9 @@ use Rattle.encoding.proofs.Gates.{length-gateWords}
 use Rattle.encoding.proofs.Outputs.{length-outputWords}
 use Rattle.names.specs.declared.Counts.{Counts}
 use Rattle.names.specs.Packed.{packed}
-use Rattle.names.specs.Plain.{plain}
 use Rattle.names.specs.Results.{treeCounts, declared, packedNames}
 use Rattle.names.proofs.TreeLines.{name-bytes, legal-parts}
 use Rattle.names.proofs.TreeSearch.{nodes-length}
-use Rattle.names.proofs.PlainTree.{plain-legal}
 use Rattle.terms.specs.Ports.{portWords}
 use Rattle.terms.proofs.PortNames.{port-words}
 use Rattle.terms.proofs.Closings.{gates-count}
@@ -60,9 +58,9 @@ module _ (t : Tree) where
   unfolding blockOf
   block-nevers = length-map (t .nevers) _
 
-  pub block-length : (c : Counts) (lines : ℕ) → c ≡ treeCounts (plain t) → lines ≡ length (t .nevers) → length (encode (blockOf t)) ≡ wordCount c lines
-  unfolding wordCount treeCounts plain
-  block-length c lines e f = length-encode (blockOf t) ∙ rw (e, f, block-inputs, block-gates, block-outputs, block-nevers) refl
+  pub block-length : (c : Counts) → c ≡ treeCounts t → length (encode (blockOf t)) ≡ wordCount c
+  unfolding wordCount treeCounts
+  block-length c e = length-encode (blockOf t) ∙ rw (e, block-inputs, block-gates, block-outputs, block-nevers) refl
 
 -- ---- the names of the inputs
 
@@ -113,7 +111,7 @@ five-parts : {i g o l i′ g′ o′ l′ : ℕ} {N M G O N′ M′ G′ O′ : 
     → _≡_ {A = List ℕ} ((i ∷ g ∷ o ∷ l ∷ []) ++ N ++ M ++ G ++ O) ((i′ ∷ g′ ∷ o′ ∷ l′ ∷ []) ++ N′ ++ M′ ++ G′ ++ O′)
 five-parts p q r k x m y z = rw (p, q, r, k, x, m, y, z)
 
-module _ {text : List ℕ} {lines : ℕ} {c : Counts} {names masks gates outputs : List ℕ} (w : WriteReady text lines c names masks gates outputs) where
+module _ {text : List ℕ} {c : Counts} {names masks gates outputs : List ℕ} (w : WriteReady text c names masks gates outputs) where
   abbrev t : Tree
   t = w .tree
 
@@ -121,21 +119,22 @@ module _ {text : List ℕ} {lines : ℕ} {c : Counts} {names masks gates outputs
   n = length (t .inputs)
 
   inputs-are : c .inputs ≡ n
-  unfolding treeCounts plain
+  unfolding treeCounts
   inputs-are = ap (λ (d : Counts). d .inputs) (w .counted)
 
-  nevers-are : lines ≡ neverCount (blockOf t)
-  nevers-are = w .neverCount ∙ sym (block-nevers t)
+  nevers-are : c .nevers ≡ neverCount (blockOf t)
+  unfolding treeCounts
+  nevers-are = ap (λ (d : Counts). d .nevers) (w .counted) ∙ sym (block-nevers t)
 
   gates-are : c .gates ≡ gateCount (blockOf t)
-  unfolding treeCounts plain
+  unfolding treeCounts
   gates-are = ap (λ (d : Counts). d .gates) (w .counted) ∙ sym (block-gates t)
 
   outputs-are : c .outputs ≡ outputCount (blockOf t)
-  unfolding treeCounts plain
+  unfolding treeCounts
   outputs-are = ap (λ (d : Counts). d .outputs) (w .counted) ∙ sym (block-outputs t)
 
-  pub masks-length : length (joined (map neverWords (blockOf t .nevers))) ≡ 2 * lines
+  pub masks-length : length (joined (map neverWords (blockOf t .nevers))) ≡ 2 * c .nevers
   unfolding neverWords
   masks-length = length-joined neverWords 2 (λ _. refl) (blockOf t .nevers) ∙ ap (λ (k : ℕ). 2 * k) (sym nevers-are)
 
@@ -146,18 +145,17 @@ module _ {text : List ℕ} {lines : ℕ} {c : Counts} {names masks gates outputs
   outputs-length = length-joined (outputWords n) 5 (length-outputWords n) (blockOf t .outputs) ∙ ap (λ (k : ℕ). 5 * k) (sym outputs-are)
 
   input-names : tab (nameOf names) n ≡ map nameWords (t .inputs)
-  unfolding plain
-  input-names = input-words (plain t) (plain-legal t (w .is .legal)) names (w .numbersAre)
+  input-names = input-words t (w .is .legal) names (w .numbersAre)
 
   -- the words are the block's
-  pub words-are : treeBlockWords c lines names masks gates outputs ≡ encode (blockOf t)
+  pub words-are : treeBlockWords c names masks gates outputs ≡ encode (blockOf t)
   unfolding treeBlockWords encode wordOf blockOf
   words-are =
       five-parts inputs-are gates-are outputs-are nevers-are
       (ap (λ (k : ℕ). joined (tab (nameOf names) k)) inputs-are ∙ ap joined input-names)
-      (ap (λ (r : List ℕ). tab (wordOf r) (2 * lines)) (w .masksWritten) ∙ placed-front 0 _ (w .masks₀) (2 * lines) masks-length)
-      (ap (λ (r : List ℕ). tab (wordOf r) (5 * c .gates)) (w .written .gatesWritten) ∙ placed-front 0 _ (w .gates₀) (5 * c .gates) gates-length)
-      (ap (λ (r : List ℕ). tab (wordOf r) (5 * c .outputs)) (w .written .outputsWritten)
+      (ap (λ (r : List ℕ). tab (wordOf r) (2 * c .nevers)) (w .masksWritten) ∙ placed-front 0 _ (w .masks₀) (2 * c .nevers) masks-length)
+      (ap (λ (r : List ℕ). tab (wordOf r) (5 * c .gates)) (w .gatesWritten) ∙ placed-front 0 _ (w .gates₀) (5 * c .gates) gates-length)
+      (ap (λ (r : List ℕ). tab (wordOf r) (5 * c .outputs)) (w .outputsWritten)
       ∙ placed-front 0 _ (w .outputs₀) (5 * c .outputs) outputs-length)
 
 -- ---- writing the five parts
@@ -166,28 +164,28 @@ pub name-size : (names : List ℕ) (i : ℕ) → length (nameOf names i) ≡ 4
 unfolding nameOf portWords
 name-size names i = refl
 
-pub block-written : (c : Counts) (lines : ℕ) (names masks gates outputs block a b d e f : List ℕ)
-    → a ≡ sets block 0 (c .inputs ∷ c .gates ∷ c .outputs ∷ lines ∷ [])
+pub block-written : (c : Counts) (names masks gates outputs block a b d e f : List ℕ)
+    → a ≡ sets block 0 (c .inputs ∷ c .gates ∷ c .outputs ∷ c .nevers ∷ [])
     → b ≡ sets a inputsAt (joined (tab (nameOf names) (c .inputs)))
-    → d ≡ sets b (neversAt (c .inputs)) (tab (wordOf masks) (2 * lines))
-    → e ≡ sets d (gatesAt (c .inputs) lines) (tab (wordOf gates) (5 * c .gates))
-    → f ≡ sets e (outputsAt (c .inputs) lines (c .gates)) (tab (wordOf outputs) (5 * c .outputs))
-    → f ≡ sets block 0 (treeBlockWords c lines names masks gates outputs)
+    → d ≡ sets b (neversAt (c .inputs)) (tab (wordOf masks) (2 * c .nevers))
+    → e ≡ sets d (gatesAt (c .inputs) (c .nevers)) (tab (wordOf gates) (5 * c .gates))
+    → f ≡ sets e (outputsAt (c .inputs) (c .nevers) (c .gates)) (tab (wordOf outputs) (5 * c .outputs))
+    → f ≡ sets block 0 (treeBlockWords c names masks gates outputs)
 unfolding treeBlockWords neversAt gatesAt outputsAt
-block-written c lines names masks gates outputs block a b d e f p q m r s =
-    let head = c .inputs ∷ c .gates ∷ c .outputs ∷ lines ∷ [] in
+block-written c names masks gates outputs block a b d e f p q m r s =
+    let head = c .inputs ∷ c .gates ∷ c .outputs ∷ c .nevers ∷ [] in
     let ns = joined (tab (nameOf names) (c .inputs)) in
-    let ms = tab (wordOf masks) (2 * lines) in
+    let ms = tab (wordOf masks) (2 * c .nevers) in
     let gs = tab (wordOf gates) (5 * c .gates) in
     let os = tab (wordOf outputs) (5 * c .outputs) in
     let x : length (head ++ ns) ≡ 4 + 4 * c .inputs = omega
     (arith, length-append head ns, length-joined-tab (nameOf names) 4 (name-size names) (c .inputs)) in
-    let y : length (head ++ ns ++ ms) ≡ 4 + 4 * c .inputs + 2 * lines = omega
-    (arith, length-append (head ++ ns) ms, x, length-tab (wordOf masks) (2 * lines)) in
-    let z : length (head ++ ns ++ ms ++ gs) ≡ 4 + 4 * c .inputs + 2 * lines + 5 * c .gates = omega
+    let y : length (head ++ ns ++ ms) ≡ 4 + 4 * c .inputs + 2 * c .nevers = omega
+    (arith, length-append (head ++ ns) ms, x, length-tab (wordOf masks) (2 * c .nevers)) in
+    let z : length (head ++ ns ++ ms ++ gs) ≡ 4 + 4 * c .inputs + 2 * c .nevers + 5 * c .gates = omega
     (arith, length-append (head ++ ns ++ ms) gs, y, length-tab (wordOf gates) (5 * c .gates)) in
     let u : b ≡ sets block 0 (head ++ ns) = q ∙ rw p (sets-append head block 0 4 ns (omega arith)) in
     let v : d ≡ sets block 0 (head ++ ns ++ ms) = m ∙ rw u (sets-append (head ++ ns) block 0 (4 + 4 * c .inputs) ms (omega (arith, x))) in
     let w : e ≡ sets block 0 (head ++ ns ++ ms ++ gs) = r
-    ∙ rw v (sets-append (head ++ ns ++ ms) block 0 (4 + 4 * c .inputs + 2 * lines) gs (omega (arith, y))) in
-    s ∙ rw w (sets-append (head ++ ns ++ ms ++ gs) block 0 (4 + 4 * c .inputs + 2 * lines + 5 * c .gates) os (omega (arith, z)))
+    ∙ rw v (sets-append (head ++ ns ++ ms) block 0 (4 + 4 * c .inputs + 2 * c .nevers) gs (omega (arith, y))) in
+    s ∙ rw w (sets-append (head ++ ns ++ ms ++ gs) block 0 (4 + 4 * c .inputs + 2 * c .nevers + 5 * c .gates) os (omega (arith, z)))

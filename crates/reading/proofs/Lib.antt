@@ -1,8 +1,6 @@
 -- Laws that the proofs of this crate cite: lists, what Read answers by cases, the words it writes, what each step needs.
 pub mod ListFacts
 pub mod TestPlaces
-pub mod PlacesInside
 pub mod Outcomes
 pub mod BlockWords
-pub mod Splits
 pub mod Stages

@@ -26,25 +26,3 @@ module _ {A : Type 0} where
   placed-front z xs d n e =
       tab-ext (λ i. getD (placed xs d) i z) (λ i. getD xs i z) n (λ i l. List·getD-append xs (drop (length xs) d) z i (omega arith))
       ∙ tab-getD z xs n e
-
--- the front of a list and its end, copied one behind the other
-module _ (text room a b : List ℕ) (from to : ℕ) (h : from ≤ to) (k : to ≤ length text) (r : length text ≤ length room) where
-  abbrev both : List ℕ
-  both = take from text ++ drop to text
-
-  both-length : length both ≡ from + (length text - to)
-  both-length =
-      let l : from ≤ length text = omega arith in
-      omega (arith, length-append (take from text) (drop to text), length-take-le from text l, length-drop to text)
-
-  module _ (p : a ≡ sets room 0 (take from text)) (q : b ≡ sets a from (take (length text - to) (drop to text))) where
-    both-placed : b ≡ placed both room
-    both-placed =
-        let l : from ≤ length text = omega arith in
-        q ∙ rw (rest-is-drop text to, p)
-        (sets-append (take from text) room 0 from (drop to text) (omega (arith, length-take-le from text l))
-        ∙ sets-placed both room (omega (arith, both-length)))
-
-    pub both-copied : (from + (length text - to) ≤ length b) × (take (from + (length text - to)) b ≡ both)
-    both-copied =
-        (rw both-placed (placed-room both room both-length), rw both-placed (take-placed both room (from + (length text - to)) both-length))

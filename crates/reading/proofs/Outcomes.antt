@@ -22,7 +22,7 @@ use Rattle.netlist.specs.Answers.{Outcome, done, refused, refuseIf, refuseAt, i
 use Rattle.netlist.specs.Operations.{counted, readTree, readParsed, readText, read}
 use Rattle.grammar.proofs.Adequacy.{legal-parses, parsed-legal}
 use Rattle.form.specs.Scan.{badOf, firstBad}
-use Rattle.nevers.specs.Places.{TextOf}
+use Rattle.names.specs.Trees.{TextOf}
 use Rattle.refusals.proofs.Promised.{room-last}
 use Rattle.reading.specs.Steps.{TreeText}
 

@@ -1,7 +1,5 @@
--- Tests that tell a place: a place moved, and the lesser of two. Every such condition has the place as its detail.
---   repeat-tells, unknown-tells: the place is the detail
---   near: a test with a place inside the longest text is near
---   passed-moved, failed-moved: the test with its place moved
+-- Tests that tell a place, and the lesser of two. Every such condition has the place as its detail.
+--   repeat-tells: the place is the detail
 --   other-alone, one-alone, one-first, other-first: the test with the lesser place
 -- Assumes nothing.
 use Prim.Native.Nat.{ℕ, _≤_, _<_}
@@ -13,16 +11,13 @@ use types.Run.{OneOf, miss}
 use denote.Enum.Declared.{tagOf}
 use borrow.Author.Tests.{le-leb, lt-leb}
 use Rattle.netlist.specs.declared.Refusal.{Refusal}
-use Rattle.netlist.specs.declared.Refusal.the-variants.{DuplicateDeclaration, UndeclaredName}
+use Rattle.netlist.specs.declared.Refusal.the-variants.{DuplicateDeclaration}
 use Rattle.refusals.specs.declared.Test.{Test}
 use Rattle.refusals.proofs.Test.{the-type}
 use Rattle.refusals.specs.declared.Test.the-variants.{Passed, Failed}
-use Rattle.netlist.specs.Limits.{maxText}
 use Rattle.netlist.specs.Reading.{lesser}
 use Rattle.netlist.specs.Answers.{refusalDetail}
 use Rattle.refusals.specs.Tests.{testAt}
-use Rattle.names.specs.Plain.{movedPlace, moved}
-use Rattle.reading.specs.Places.{Near}
 
 -- the way behind `let Test::Failed(why) = t else`: t is not `Failed`, whose tag is 1
 abbrev IsPassed : Test → Type 0
@@ -31,14 +26,6 @@ IsPassed t = OneOf (0 ∷ []) (tagOf the-type t)
 pub repeat-tells : (q : ℕ) → refusalDetail (DuplicateDeclaration q) ≡ q
 unfolding refusalDetail
 repeat-tells q = refl
-
-pub unknown-tells : (q : ℕ) → refusalDetail (UndeclaredName q) ≡ q
-unfolding refusalDetail
-unknown-tells q = refl
-
--- a place, if there is one, is at most this
-abbrev pub Inside : ℕ → Option ℕ → Type 0
-Inside bound p = (q : ℕ) → p ≡ some q → q ≤ bound
 
 module _ (why : ℕ → Refusal) (tells : (q : ℕ) → refusalDetail (why q) ≡ q) where
   none-told : (p : Option ℕ) {t : Test} → t ≡ testAt p why → IsPassed t → p ≡ none
@@ -55,18 +42,6 @@ module _ (why : ℕ → Refusal) (tells : (q : ℕ) → refusalDetail (why q) �
   unfolding testAt
   why-told none e f = let z : _≡_ {A = ℕ} 0 1 = cc in absurd (omega arith)
   why-told (some q) {t} {r} e f = let z : why q ≡ r = cc in sym z ∙ ap why (sym (tells q) ∙ ap refusalDetail z)
-
-  -- ---- moved
-
-  module _ (from to : ℕ) {t : Test} where
-    pub passed-moved : IsPassed t → (p : Option ℕ) → t ≡ testAt p why → Passed ≡ testAt (moved from to p) why
-    unfolding testAt moved
-    passed-moved k p e = rw (none-told p e k)
-
-    pub failed-moved : {r : Refusal} {detail place : ℕ} → t ≡ Failed r → detail ≡ refusalDetail r → place ≡ movedPlace from to detail
-        → (p : Option ℕ) → t ≡ testAt p why → Failed (why place) ≡ testAt (moved from to p) why
-    unfolding testAt moved
-    failed-moved f d m p e = rw (some-told p e f, m, d)
 
   -- ---- the lesser
 
@@ -90,8 +65,3 @@ module _ (why : ℕ → Refusal) (tells : (q : ℕ) → refusalDetail (why q) �
       unfolding lesser testAt
       other-first l p q e f =
           rw (some-told p e first, some-told q f second, ← x, ← y, lt-leb a b l) (ap Failed (why-told q f second) ∙ rw y)
-
-  -- ---- near
-
-  pub near : (p : Option ℕ) {t : Test} → t ≡ testAt p why → Inside maxText p → Near t
-  near p e h = record { place = λ r f. h (refusalDetail r) (some-told p e f) }

@@ -15,25 +15,25 @@ nameOf names i = portWords (getD names i 0)
 unfoldable pub wordOf : List ℕ → ℕ → ℕ
 wordOf words i = getD words i 0
 
-unfoldable pub treeBlockWords : Counts → ℕ → List ℕ → List ℕ → List ℕ → List ℕ → List ℕ
-treeBlockWords c lines names masks gates outputs =
-    (c .inputs ∷ c .gates ∷ c .outputs ∷ lines ∷ [])
+unfoldable pub treeBlockWords : Counts → List ℕ → List ℕ → List ℕ → List ℕ → List ℕ
+treeBlockWords c names masks gates outputs =
+    (c .inputs ∷ c .gates ∷ c .outputs ∷ c .nevers ∷ [])
     ++ joined (tab (nameOf names) (c .inputs))
-    ++ tab (wordOf masks) (neverSize * lines)
+    ++ tab (wordOf masks) (neverSize * c .nevers)
     ++ tab (wordOf gates) (gateSize * c .gates)
     ++ tab (wordOf outputs) (outputSize * c .outputs)
 
--- the length of a block with these counts and so many never lines (SPECIFICATION 2.1)
-unfoldable pub wordCount : Counts → ℕ → ℕ
-wordCount c lines = outputsAt (c .inputs) lines (c .gates) + outputSize * c .outputs
+-- the length of a block with these counts (SPECIFICATION 2.1)
+unfoldable pub wordCount : Counts → ℕ
+wordCount c = outputsAt (c .inputs) (c .nevers) (c .gates) + outputSize * c .outputs
 
-pub record PutReady (c : Counts) (lines : ℕ) (names masks gates outputs block : List ℕ) : Type 0 where
+pub record PutReady (c : Counts) (names masks gates outputs block : List ℕ) : Type 0 where
   pub fewInputs : c .inputs ≤ maxInputs
-  pub fewNevers : lines ≤ maxNevers
+  pub fewNevers : c .nevers ≤ maxNevers
   pub fewGates : c .gates ≤ maxGates
   pub fewOutputs : c .outputs ≤ maxOutputs
   pub named : c .inputs ≤ length names
-  pub maskRoom : neverSize * lines ≤ length masks
+  pub maskRoom : neverSize * c .nevers ≤ length masks
   pub gateRoom : gateSize * c .gates ≤ length gates
   pub outputRoom : outputSize * c .outputs ≤ length outputs
-  pub room : wordCount c lines ≤ length block
+  pub room : wordCount c ≤ length block

@@ -20,14 +20,14 @@ ghost use Rattle.terms.specs.Ports.{portWords};
 ghost use Rattle.reading.specs.Words.{nameOf, wordOf, treeBlockWords, PutReady};
 
 // Writes the four counts.
-fn put_counts(c: Counts, lines: usize, block: &mut [u16])
-    requires { ⌜ (c .inputs ≤ maxInputs) × (c .gates ≤ maxGates) × (c .outputs ≤ maxOutputs) × (lines ≤ maxNevers) × (inputsAt ≤ length (now block)) ⌝ }
-    ensures { λ r. ⌜ now (block .exit) ≡ sets (now (block .entry)) 0 (c .inputs ∷ c .gates ∷ c .outputs ∷ lines ∷ []) ⌝ }
+fn put_counts(c: Counts, block: &mut [u16])
+    requires { ⌜ (c .inputs ≤ maxInputs) × (c .gates ≤ maxGates) × (c .outputs ≤ maxOutputs) × (c .nevers ≤ maxNevers) × (inputsAt ≤ length (now block)) ⌝ }
+    ensures { λ r. ⌜ now (block .exit) ≡ sets (now (block .entry)) 0 (c .inputs ∷ c .gates ∷ c .outputs ∷ c .nevers ∷ []) ⌝ }
 {
     block[0] = c.inputs as u16;
     block[1] = c.gates as u16;
     block[2] = c.outputs as u16;
-    block[3] = lines as u16;
+    block[3] = c.nevers as u16;
 }
 
 // Writes the four words of the name with this number.
@@ -65,23 +65,23 @@ fn put_words(words: &[u16], count: usize, block: &mut [u16], at: usize)
     }
 }
 
-// Writes a whole block with so many never lines.
+// Writes a whole block.
 pub fn put_block(
     c: Counts,
-    lines: usize,
     names: &[u64],
     masks: &[u16],
     gates: &[u16],
     outputs: &[u16],
     block: &mut [u16],
 )
-    requires { ⌜ PutReady c lines (now names) (now masks) (now gates) (now outputs) (now block) ⌝ }
+    requires { ⌜ PutReady c (now names) (now masks) (now gates) (now outputs) (now block) ⌝ }
     ensures { λ r. ⌜ now (block .exit) ≡ sets (now (block .entry)) 0
-        (treeBlockWords c lines (now (names .entry)) (now (masks .entry)) (now (gates .entry)) (now (outputs .entry))) ⌝ }
+        (treeBlockWords c (now (names .entry)) (now (masks .entry)) (now (gates .entry)) (now (outputs .entry))) ⌝ }
 {
     let n = c.inputs;
+    let lines = c.nevers;
     let m = c.gates;
-    put_counts(c, lines, block);
+    put_counts(c, block);
     put_names(names, n, block);
     put_words(masks, NEVER_SIZE * lines, block, nevers_at(n));
     put_words(gates, GATE_SIZE * m, block, gates_behind(n, lines));

@@ -15,7 +15,6 @@ use Rattle.netlist.specs.Parse.{Parsed, got, stuck, parse}
 use Rattle.netlist.specs.Reading.{isOverLimit, firstDuplicate, firstUndeclared, blockOf}
 use Rattle.netlist.specs.Answers.{Outcome, refused, refuseIf, refuseAt}
 use Rattle.netlist.specs.Operations.{counted, readTree, readParsed, readText}
-use Rattle.names.specs.Plain.{plain}
 use Rattle.names.specs.Results.{treeCounts}
 use Rattle.grammar.proofs.Limits.{limits-within}
 use Rattle.reading.specs.Words.{wordCount}
@@ -49,10 +48,10 @@ module _ (room : ℕ) where
 
   module _ (h : maxBlock ≤ room) where
     read-length : (t : Tree) → isOverLimit t ≡ false → length (encode (blockOf t)) ≤ room
-    unfolding wordCount treeCounts plain outputsAt gatesAt neversAt
+    unfolding wordCount treeCounts outputsAt gatesAt neversAt
     read-length t o =
         let l = limits-within t o in
-        omega (arith, h, block-length t (treeCounts (plain t)) (length (t .nevers)) refl refl, l .inputs, l .nevers, l .gates, l .outputs)
+        omega (arith, h, block-length t (treeCounts t) refl, l .inputs, l .nevers, l .gates, l .outputs)
 
     parsed-fits : (text : List ℕ) (p : Parsed Tree) → Fits room (readParsed text p)
     unfolding readParsed readTree

@@ -12,10 +12,10 @@ use Rattle.laws.proofs.Slices.{sets-placed}
 use Rattle.netlist.specs.Limits.{maxGates, maxOutputs}
 use Rattle.netlist.specs.Netlist.{Output}
 use Rattle.netlist.specs.StoredBlock.{gateWords, outputWords}
-use Rattle.netlist.specs.Syntax.{GateLine, OutputLine, Tree, apply, printNever, printGate, printOutput}
-use Rattle.netlist.specs.Reading.{Mention, mentions, declaredNodes, neverMentions, excludedNames, neverLinesAt, orElse, Binding, lineGates, bindings}
+use Rattle.netlist.specs.Syntax.{GateLine, OutputLine, Tree, apply, printGate, printOutput}
+use Rattle.netlist.specs.Reading.{Mention, mentions, declaredNodes, Binding, lineGates, bindings}
 use Rattle.netlist.specs.Reading.{gateLinesAt, outputLinesAt, operandMentions, shownMention, usedNames}
-use Rattle.netlist.specs.Reading.{firstOutside, firstUndeclared, lookup, termGates, linesGates, blockOf}
+use Rattle.netlist.specs.Reading.{firstOutside, lookup, termGates, linesGates, blockOf}
 use Rattle.grammar.proofs.Places.{printGate-split, printOutput-split, lines-measure, print-measure}
 use Rattle.names.specs.declared.Counts.{Counts}
 use Rattle.names.proofs.TreeSearch.{bound-names}
@@ -25,7 +25,7 @@ use Rattle.refusals.specs.declared.Test.the-variants.{Passed, Failed}
 use Rattle.terms.specs.Leaves.{earlier}
 use Rattle.terms.specs.Walk.{leftOf, declaredNames, unknownAfter, gatesWords}
 use Rattle.terms.specs.Lines.{LineForm, gateForm, outputForm, outputOf, linesWords, linesCost, LinesDone}
-use Rattle.terms.specs.Resolution.{TreeAt, TreeDone}
+use Rattle.terms.specs.Resolution.{TreeAt, firstUnknown, TreeDone}
 use Rattle.terms.proofs.ListFacts.{sum-ones}
 use Rattle.terms.proofs.Closings.{words-append, unknown-append}
 use Rattle.terms.proofs.LineSteps.{Lawful}
@@ -60,18 +60,18 @@ unfolding linesWords outputForm outputOf
 output-words n bs [] first = refl
 output-words n bs (o ∷ os) first = ap (λ (r : List ℕ). outputWords n (outputOf bs o) ++ r) (output-words n bs os (first + 1))
 
-module _ (t : Tree) (text : List ℕ) (c : Counts) (names words : List ℕ) (w : TreeAt t text c names words)
+module _ {t : Tree} {text : List ℕ} {end : ℕ} {c : Counts} {names words : List ℕ} (w : TreeAt t text end c names words)
     (gates gates′ outputs outputs′ : List ℕ) (walked last : Walked)
-    (d : LinesDone gateForm (c .inputs) (bindings t) (t .gates) (gateLinesAt t) (gatesText t text c names words w) (outputsText t text c names words w) 0 0
+    (d : LinesDone gateForm (c .inputs) (bindings t) (t .gates) (gateLinesAt t) (gatesText w) (outputsText w) 0 0
     gates gates′ walked)
-    (e : LinesDone outputForm (c .inputs) (bindings t) (t .outputs) (outputLinesAt t) (outputsText t text c names words w) [] 0 (walked .unknown) outputs
+    (e : LinesDone outputForm (c .inputs) (bindings t) (t .outputs) (outputLinesAt t) (outputsText w) [] 0 (walked .unknown) outputs
     outputs′ last) where
   gates-written : 5 * maxGates ≤ length gates → gates′ ≡ placed (joined (map (gateWords (length (t .inputs))) (blockOf t .gates))) gates
   unfolding blockOf gatesWords linesCost gateForm
   gates-written r =
-      let n = input-count t text c names words w in
+      let n = input-count w in
       let size = lines-sized gateForm gate-lawful (c .inputs) (bindings t) (t .gates) 0 in
-      let l = limits t text c names words w .gates in
+      let l = limits w .gates in
       d .words ∙ sets-placed (linesWords gateForm (c .inputs) (bindings t) (t .gates) 0) gates (omega arith)
       ∙ ap (λ (xs : List ℕ). placed xs gates)
       (gate-words (c .inputs) (bindings t) (t .gates) 0 ∙ ap (λ k. gatesWords k (linesGates (t .gates) (bindings t) 0)) n)
@@ -79,30 +79,23 @@ module _ (t : Tree) (text : List ℕ) (c : Counts) (names words : List ℕ) (w :
   outputs-written : 5 * maxOutputs ≤ length outputs → outputs′ ≡ placed (joined (map (outputWords (length (t .inputs))) (blockOf t .outputs))) outputs
   unfolding blockOf linesCost outputForm
   outputs-written r =
-      let n = input-count t text c names words w in
+      let n = input-count w in
       let os : List Output = map (λ (o : OutputLine). record { port = o .port; node = lookup (bindings t) (o .shown) }) (t .outputs) in
       let size = lines-sized outputForm output-lawful (c .inputs) (bindings t) (t .outputs) 0 in
-      let l = limits t text c names words w .outputs in
+      let l = limits w .outputs in
       let k = sum-ones (t .outputs) in
       e .words ∙ sets-placed (linesWords outputForm (c .inputs) (bindings t) (t .outputs) 0) outputs (omega arith)
       ∙ ap (λ (xs : List ℕ). placed xs outputs) (output-words (c .inputs) (bindings t) (t .outputs) 0 ∙ ap (λ k. joined (map (outputWords k) os)) n)
-
-  -- without never lines only uses can be undeclared
-  bare-undeclared : firstUndeclared t ≡ firstOutside (map (λ (d : Mention). d .name) (declaredNodes t)) (usedNames t)
-  unfolding firstUndeclared excludedNames mentions firstOutside orElse
-  bare-undeclared =
-      ap (λ ns. orElse (firstOutside (t .inputs) (mentions printNever neverMentions ns (neverLinesAt t)))
-      (firstOutside (map (λ (d : Mention). d .name) (declaredNodes t)) (usedNames t))) (w .prints .bare)
 
   found : last .unknown ≡ leftOf (length text) (firstOutside (map (λ (d : Mention). d .name) (declaredNodes t)) (usedNames t))
   unfolding usedNames unknownAfter earlier declaredNames gateForm outputForm outputLinesAt
   found =
       let a = lines-measure printOutput printOutput-split (t .outputs) [] in
-      let b = lines-measure printGate printGate-split (t .gates) (outputsText t text c names words w) in
+      let b = lines-measure printGate printGate-split (t .gates) (outputsText w) in
       let m = print-measure t in
-      let k = ap length (w .prints .printed) in
-      let total : gateLinesAt t + length (gatesText t text c names words w) ≡ length text = omega arith in
-      let total′ : outputLinesAt t + length (outputsText t text c names words w) ≡ length text = omega arith in
+      let k = ap length (w .is .printed) in
+      let total : gateLinesAt t + length (gatesText w) ≡ length text = omega arith in
+      let total′ : outputLinesAt t + length (outputsText w) ≡ length text = omega arith in
       let us = mentions printGate operandMentions (t .gates) (gateLinesAt t) in
       let vs = mentions printOutput shownMention (t .outputs) (outputLinesAt t) in
       let h : walked .unknown ≡ unknownAfter 0 (bindings t) us (length text) = rw total at (d .unknown) in
@@ -111,13 +104,14 @@ module _ (t : Tree) (text : List ℕ) (c : Counts) (names words : List ℕ) (w :
       ∙ ap (λ ds. leftOf (length text) (firstOutside ds (us ++ vs))) (bound-names t)
 
   placed-inside : all (inside (length text)) (usedNames t) ≡ true
-  placed-inside = rw (w .prints .printed) at (used-inside t)
+  placed-inside = rw (w .is .printed) at (used-inside t)
 
   -- every used name is declared
   pub known-done : last .unknown ≡ 0 → 5 * maxGates ≤ length gates → 5 * maxOutputs ≤ length outputs → TreeDone t gates gates′ outputs outputs′ Passed
+  unfolding firstUnknown
   known-done z r s =
       record {
-        answer = rw bare-undeclared (place-back (length text) _ (usedNames t) (last .unknown) placed-inside found .0 z);
+        answer = place-back (length text) _ (usedNames t) (last .unknown) placed-inside found .0 z;
         gatesWritten = gates-written r;
         outputsWritten = outputs-written s;
       }
@@ -125,9 +119,10 @@ module _ (t : Tree) (text : List ℕ) (c : Counts) (names words : List ℕ) (w :
   -- one is not
   pub undeclared-done : (last .unknown ≡ 0 → ⊥) → 5 * maxGates ≤ length gates → 5 * maxOutputs ≤ length outputs
       → TreeDone t gates gates′ outputs outputs′ (Failed (UndeclaredName (length text + 1 - last .unknown)))
+  unfolding firstUnknown
   undeclared-done z r s =
       record {
-        answer = rw bare-undeclared (place-back (length text) _ (usedNames t) (last .unknown) placed-inside found .1 z);
+        answer = place-back (length text) _ (usedNames t) (last .unknown) placed-inside found .1 z;
         gatesWritten = gates-written r;
         outputsWritten = outputs-written s;
       }

@@ -1,4 +1,4 @@
--- Input lines, gate lines and output lines: where their names and expressions stand, and what their readers have done. Assumes nothing.
+-- Gate lines and output lines: where their names and expressions stand, and what their readers have done. Assumes nothing.
 use mathlib.Core.Path.{_≡_, refl, ap, _∙_}
 use mathlib.Core.Bool.{Bool, true, false}
 use mathlib.Core.List.{List, [], _∷_, _++_, append-assoc}
@@ -10,17 +10,16 @@ use Rattle.laws.specs.Lists.{ascii, all}
 use Rattle.laws.proofs.Tests.{and-left, and-right}
 use Rattle.laws.proofs.Elements.{rest-is-drop}
 use Rattle.netlist.specs.Limits.{maxGates, maxDepth}
-use Rattle.netlist.specs.Netlist.{Name}
 use Rattle.netlist.specs.StoredBlock.{nameWords, nodeWord}
 use Rattle.netlist.specs.Names.{isLetter, isDigit, isUnderscore, isNameByte, isNameStart, isLegalName, isPlainName, isNodeName}
 use Rattle.netlist.specs.StoredBlock.{outputWords}
-use Rattle.netlist.specs.Syntax.{name, apply, GateLine, OutputLine, printTerm, printInput, printGate, printOutput, isLegalTerm, isLegalGate, isLegalOutput}
+use Rattle.netlist.specs.Syntax.{name, apply, GateLine, OutputLine, printTerm, printGate, printOutput, isLegalTerm, isLegalGate, isLegalOutput}
 use Rattle.netlist.specs.Reading.{Binding, gatesIn, lineGates, operandMentions, shownMention, termMentions, termNode, termGates, lookup}
-use Rattle.grammar.proofs.Places.{printInput-split, printGate-split, printOutput-split}
+use Rattle.grammar.proofs.Places.{printGate-split, printOutput-split}
 use Rattle.names.specs.Packed.{packed, nameFront}
 use Rattle.terms.specs.declared.Found.{Found}
 use Rattle.terms.specs.Walk.{Table, TermAt, TermHere, TermDone, TermRead}
-use Rattle.terms.specs.Lines.{inputForm, gateForm, outputForm, outputOf, LineAt, LineHere, LineRead}
+use Rattle.terms.specs.Lines.{gateForm, outputForm, outputOf, LineAt, LineHere, LineRead}
 use Rattle.terms.proofs.Lookups.{front-back}
 use Rattle.names.proofs.TreeLines.{name-bytes}
 use Rattle.terms.proofs.PortNames.{port-words}
@@ -29,10 +28,6 @@ use Rattle.terms.specs.Leaves.{nameHere}
 use Rattle.terms.specs.declared.Leaf.{Leaf}
 use Rattle.terms.proofs.Closings.{gates-count, words-length, name-done, unknown-none}
 use Rattle.terms.proofs.LineSteps.{Lawful}
-
-pub input-lawful : Lawful inputForm
-unfolding inputForm
-input-lawful = record { split = printInput-split; sized = λ n bs x first. refl }
 
 pub gate-lawful : Lawful gateForm
 unfolding gateForm lineGates gatesIn
@@ -67,40 +62,6 @@ module _ (w x r : List ℕ) (c : ℕ) where
       → nameFront 8 (take (length (w ++ (x ++ (c ∷ r))) - j) (drop j (w ++ (x ++ (c ∷ r))))) ≡ x
   name-behind start j e h f =
       rw (e, rest-is-drop (w ++ (x ++ (c ∷ r))) (length w), behind-word) (front-back start x (c ∷ r) h f)
-
--- ---- input lines
-
-pub record InputParts (s rest : List ℕ) (k : ℕ) : Type 0 where
-  pub long : 4 ≤ length s
-  pub measured : length s ≡ 6 + k + length rest
-
-input-parts-at : (x : Name) (rest : List ℕ) (k : ℕ) → isPlainName x ≡ true
-    → k ≡ length (nameFront 8 (take (length (printInput x rest) - 4) (drop 4 (printInput x rest)))) → InputParts (printInput x rest) rest k
-unfolding printInput isPlainName isNameByte isLetter isDigit isUnderscore
-input-parts-at x rest k h e =
-    let f : k ≡ length x = e ∙ ap length (name-behind (ascii "(in ") x (10 ∷ rest) 41 isLetter 4 refl h refl) in
-    let m = whole-length (ascii "(in ") x (10 ∷ rest) 41 in
-    record { long = omega arith; measured = omega arith }
-
-pub input-parts : (x : Name) (rest s : List ℕ) (k : ℕ) → LineAt inputForm x rest s → k ≡ length (nameFront 8 (take (length s - 4) (drop 4 s)))
-    → InputParts s rest k
-unfolding inputForm
-input-parts x rest s k w e = rw (← w .printed) (input-parts-at x rest k (w .legal) (rw (w .printed) e))
-
--- its reader writes nothing
-pub input-read : (s : List ℕ) (k : ℕ) → k ≡ length (nameFront 8 (take (length s - 4) (drop 4 s)))
-    → LineRead inputForm s 0 [] [] 0 0 [] [] (record { left = length s - (6 + k); number = 0; unknown = 0 })
-unfolding inputForm
-input-read s k e =
-    record {
-      done = λ bs x rest at t w.
-          record {
-            left = let m = input-parts x rest s k w e .measured in omega arith;
-            number = refl;
-            unknown = unknown-none 0 bs (at + length s);
-            words = refl;
-          };
-    }
 
 -- ---- gate lines
 

@@ -1,11 +1,11 @@
--- A whole text: where the readers of its inputs, gates and outputs start, the table that they are lent, and what they have done together.
+-- A whole text: where the readers of its gates and outputs start, the table that they are lent, and what they have done together.
 -- Assumes nothing.
 use mathlib.Core.Path.{_≡_, refl, sym, ap, _∙_}
 use mathlib.Core.Bool.{true}
-use mathlib.Core.List.{List, [], _∷_, _++_, map, append-assoc, map-append, map-map}
+use mathlib.Core.List.{List, [], _∷_, _++_, map, map-append, map-map}
 use Prim.Native.Nat.{ℕ, suc, _+_, _-_, _*_, _≤_}
 use native.Mathlib.Omega.{arith}
-use lib.ListN.{length, take, drop, length-map, length-append}
+use lib.ListN.{length, take, drop, length-map, length-append, take-append-drop}
 use lib.Seq.{take-take, take-at}
 use Rattle.laws.specs.Lists.{all}
 use Rattle.laws.proofs.Tests.{and-left, and-right, and-intro}
@@ -16,21 +16,21 @@ use Rattle.netlist.specs.Limits.{maxInputs, maxGates, maxOutputs, maxDepth}
 use Rattle.netlist.specs.Netlist.{Name}
 use Rattle.netlist.specs.StoredBlock.{nodeWord}
 use Rattle.netlist.specs.Names.{isPlainName, isNodeName}
-use Rattle.netlist.specs.Syntax.{GateLine, Tree, apply, printInput, printNever, printGate, printOutput, printLines, print, isLegalTerm, isLegalGate}
+use Rattle.netlist.specs.Syntax.{GateLine, Tree, apply, printGate, printOutput, printLines, isLegalTerm, isLegalGate}
 use Rattle.netlist.specs.Syntax.{isLegalTree}
 use Rattle.netlist.specs.Reading.{Mention, Binding, lineGates, inputBindings, gateBindings, bindings, declaredNodes, declaredPorts, gateLinesAt, outputLinesAt}
 use Rattle.grammar.proofs.Shorter.{Ending, ending}
-use Rattle.grammar.proofs.Places.{printInput-split, printGate-split, lines-split}
+use Rattle.grammar.proofs.Places.{gates-at, outputs-at, print-measure}
 use Rattle.names.specs.Packed.{packed}
 use Rattle.names.specs.declared.Counts.{Counts}
 use Rattle.names.specs.Results.{treeCounts, declared, packedNames, nodeWords}
 use Rattle.names.proofs.TreeLines.{legal-parts}
 use Rattle.grammar.proofs.Limits.{WithinLimits, limits-within}
-use Rattle.names.proofs.TreeCounts.{sum-none, named-le}
+use Rattle.names.proofs.TreeCounts.{named-le}
 use Rattle.names.proofs.TreeTable.{bindings-length}
 use Rattle.names.proofs.TreeSearch.{bound-names, nodes-length}
 use Rattle.terms.specs.Walk.{Table, declaredNames}
-use Rattle.terms.specs.Lines.{inputForm, gateForm, outputForm, linesCost, LinesAt, LinesHere, LinesDone, LinesRead}
+use Rattle.terms.specs.Lines.{gateForm, outputForm, linesCost, LinesAt, LinesHere, LinesDone, LinesRead}
 use Rattle.terms.specs.declared.Walked.{Walked}
 use Rattle.terms.proofs.ListFacts.{sum-ones}
 use Rattle.terms.specs.Resolution.{TreeAt}
@@ -63,7 +63,7 @@ nodes-named t h =
     (and-intro (all isNodeName (declaredNames (inputBindings (t .inputs) 0))) (all isNodeName (declaredNames (gateBindings (t .gates) 0)))
     (inputs-named (t .inputs) 0 (p .inputs)) (gates-named (t .gates) 0 (p .gates)))
 
-module _ (t : Tree) (text : List ℕ) (c : Counts) (names words : List ℕ) (w : TreeAt t text c names words) where
+module _ {t : Tree} {text : List ℕ} {end : ℕ} {c : Counts} {names words : List ℕ} (w : TreeAt t text end c names words) where
   node-count : c .inputs + c .named ≡ length (declaredNodes t)
   unfolding treeCounts
   node-count = rw (w .counted) (sym (nodes-length t))
@@ -96,14 +96,14 @@ module _ (t : Tree) (text : List ℕ) (c : Counts) (names words : List ℕ) (w :
   node-values : take (c .inputs + c .named) words ≡ map (λ (b : Binding). nodeWord (length (t .inputs)) (b .node)) (bindings t)
   unfolding nodeWords
   node-values =
-      let e : c .inputs + c .named ≡ length (bindings t) = omega (arith, input-count, gate-count, bindings-length (w .prints)) in
+      let e : c .inputs + c .named ≡ length (bindings t) = omega (arith, input-count, gate-count, bindings-length (w .is)) in
       rw e (w .nodesAre)
 
   -- the table that is lent
   pub node-table : Table (c .inputs) (bindings t) (take (c .inputs + c .named) names) (take (c .inputs + c .named) words)
   node-table =
       record {
-        legal = nodes-named t (w .prints .legal);
+        legal = nodes-named t (w .is .legal);
         packedNames = sym numbers;
         nodeWords = ap (λ k. map (λ (b : Binding). nodeWord k (b .node)) (bindings t)) input-count ∙ sym node-values;
       }
@@ -111,7 +111,7 @@ module _ (t : Tree) (text : List ℕ) (c : Counts) (names words : List ℕ) (w :
   -- as many numbers and node numbers as nodes
   pub numbers-length : c .inputs + c .named ≡ length (take (c .inputs + c .named) names)
   numbers-length =
-      omega (arith, input-count, gate-count, bindings-length (w .prints), ap length numbers, length-map (bindings t) (λ (b : Binding). packed (b .name)))
+      omega (arith, input-count, gate-count, bindings-length (w .is), ap length numbers, length-map (bindings t) (λ (b : Binding). packed (b .name)))
 
   pub values-length : c .inputs + c .named ≡ length (take (c .inputs + c .named) words)
   values-length =
@@ -119,7 +119,7 @@ module _ (t : Tree) (text : List ℕ) (c : Counts) (names words : List ℕ) (w :
         arith,
         input-count,
         gate-count,
-        bindings-length (w .prints),
+        bindings-length (w .is),
         ap length node-values,
         length-map (bindings t) (λ (b : Binding). nodeWord (length (t .inputs)) (b .node)),
       )
@@ -132,34 +132,31 @@ module _ (t : Tree) (text : List ℕ) (c : Counts) (names words : List ℕ) (w :
   abbrev pub gatesText : List ℕ
   gatesText = printLines printGate (t .gates) outputsText
 
-  printed-bare : printLines printInput (t .inputs) gatesText ≡ text
-  unfolding print printLines
-  printed-bare = ap (λ ns. printLines printInput (t .inputs) (printLines printNever ns gatesText)) (sym (w .prints .bare)) ∙ w .prints .printed
-
-  inputs-at : LinesAt inputForm (t .inputs) gatesText text
-  unfolding inputForm
-  inputs-at = record { legal = legal-parts t (w .prints .legal) .inputs; printed = printed-bare }
-
-  gates-at : LinesAt gateForm (t .gates) outputsText gatesText
+  gates-lines : LinesAt gateForm (t .gates) outputsText gatesText
   unfolding gateForm
-  gates-at = record { legal = legal-parts t (w .prints .legal) .gates; printed = refl }
+  gates-lines = record { legal = legal-parts t (w .is .legal) .gates; printed = refl }
 
-  outputs-at : LinesAt outputForm (t .outputs) [] outputsText
+  outputs-lines : LinesAt outputForm (t .outputs) [] outputsText
   unfolding outputForm
-  outputs-at = record { legal = legal-parts t (w .prints .legal) .outputs; printed = refl }
+  outputs-lines = record { legal = legal-parts t (w .is .legal) .outputs; printed = refl }
 
-  behind-inputs : printLines printInput (t .inputs) [] ++ gatesText ≡ text
-  behind-inputs = sym (lines-split printInput printInput-split (t .inputs) gatesText) ∙ printed-bare
+  -- the gate lines stand at their place
+  pub end-inside : end ≤ length text
+  unfolding outputLinesAt
+  end-inside = omega (arith, w .from, print-measure t, ap length (w .is .printed))
 
-  pub gates-end : Ending gatesText text
-  gates-end = ending (printLines printInput (t .inputs) []) gatesText text behind-inputs
+  abbrev pub restFrom : List ℕ
+  restFrom = take (length text - end) (drop end text)
 
+  gates-rest : restFrom ≡ gatesText
+  gates-rest = rest-is-drop text end ∙ rw (w .from, ← w .is .printed) (gates-at t)
+
+  -- and the output lines at the end
   pub outputs-end : Ending outputsText text
   outputs-end =
-      let a = printLines printInput (t .inputs) [] in
-      let b = printLines printGate (t .gates) [] in
-      ending (a ++ b) outputsText text
-      (append-assoc a b outputsText ∙ ap (λ (r : List ℕ). a ++ r) (sym (lines-split printGate printGate-split (t .gates) outputsText)) ∙ behind-inputs)
+      let front = take (outputLinesAt t) text in
+      ending front outputsText text
+      (ap (λ (r : List ℕ). front ++ r) (sym (rw (w .is .printed) at (outputs-at t))) ∙ take-append-drop (outputLinesAt t) text)
 
   pub limits : WithinLimits t
   limits = limits-within t (w .within)
@@ -168,25 +165,6 @@ module _ (t : Tree) (text : List ℕ) (c : Counts) (names words : List ℕ) (w :
   nodes-few = omega (arith, input-count, gate-count, limits .inputs, limits .gates, named-le (t .gates))
 
   -- ---- what the readers may assume
-
-  no-table : Table 0 [] [] []
-  unfolding declaredNames
-  no-table = record { legal = refl; packedNames = refl; nodeWords = refl }
-
-  pub inputs-here : LinesHere inputForm 0 (c .inputs) text 0 [] [] []
-  unfolding linesCost inputForm
-  inputs-here =
-      record {
-        bindings = [];
-        lines = t .inputs;
-        rest = gatesText;
-        table = no-table;
-        here = inputs-at;
-        counted = sym input-count;
-        few = omega (arith, sum-none (t .inputs));
-        inputs = omega arith;
-        room = omega arith;
-      }
 
   abbrev pub rest : ℕ → List ℕ
   rest left = take (length text - (length text - left)) (drop (length text - left) text)
@@ -197,16 +175,16 @@ module _ (t : Tree) (text : List ℕ) (c : Counts) (names words : List ℕ) (w :
   abbrev pub nodes : ℕ
   nodes = c .inputs + c .named
 
-  pub gates-here : (left : ℕ) (gates : List ℕ) → left ≡ length gatesText → 5 * maxGates ≤ length gates
-      → LinesHere gateForm maxGates (c .named) (rest left) (c .inputs) (take nodes names) (take nodes words) gates
+  pub gates-here : (gates : List ℕ) → 5 * maxGates ≤ length gates
+      → LinesHere gateForm maxGates (c .named) restFrom (c .inputs) (take nodes names) (take nodes words) gates
   unfolding linesCost gateForm
-  gates-here left gates e r =
+  gates-here gates r =
       record {
         bindings = bindings t;
         lines = t .gates;
         rest = outputsText;
         table = node-table;
-        here = rw (rest-is left gatesText e gates-end) gates-at;
+        here = rw gates-rest gates-lines;
         counted = sym gate-count;
         few = limits .gates;
         inputs = omega (arith, limits .inputs, input-count);
@@ -222,7 +200,7 @@ module _ (t : Tree) (text : List ℕ) (c : Counts) (names words : List ℕ) (w :
         lines = t .outputs;
         rest = [];
         table = node-table;
-        here = rw (rest-is left outputsText e outputs-end) outputs-at;
+        here = rw (rest-is left outputsText e outputs-end) outputs-lines;
         counted = sym output-count;
         few = omega (arith, sum-ones (t .outputs), limits .outputs);
         inputs = omega (arith, limits .inputs, input-count);
@@ -231,20 +209,16 @@ module _ (t : Tree) (text : List ℕ) (c : Counts) (names words : List ℕ) (w :
 
   -- ---- what they have done
 
-  pub inputs-left : (left : ℕ) → LinesRead inputForm (c .inputs) text 0 [] [] 0 [] [] (record { left = left; number = 0; unknown = 0 })
-      → left ≡ length gatesText
-  inputs-left left r = r .done [] (t .inputs) gatesText 0 no-table inputs-at (sym input-count) .left
-
-  pub gates-done : (left : ℕ) (gates gates′ : List ℕ) (walked : Walked) → left ≡ length gatesText
-      → LinesRead gateForm (c .named) (rest left) (c .inputs) (take nodes names) (take nodes words) 0 gates gates′ walked
+  pub gates-done : (gates gates′ : List ℕ) (walked : Walked)
+      → LinesRead gateForm (c .named) restFrom (c .inputs) (take nodes names) (take nodes words) 0 gates gates′ walked
       → LinesDone gateForm (c .inputs) (bindings t) (t .gates) (gateLinesAt t) gatesText outputsText 0 0 gates gates′ walked
-  gates-done left gates gates′ walked e r =
-      let r′ = rw (rest-is left gatesText e gates-end) at r in
-      r′ .done (bindings t) (t .gates) outputsText (gateLinesAt t) node-table gates-at (sym gate-count)
+  gates-done gates gates′ walked r =
+      let r′ = rw gates-rest at r in
+      r′ .done (bindings t) (t .gates) outputsText (gateLinesAt t) node-table gates-lines (sym gate-count)
 
   pub outputs-done : (left seen : ℕ) (outputs outputs′ : List ℕ) (last : Walked) → left ≡ length outputsText
       → LinesRead outputForm (c .outputs) (rest left) (c .inputs) (take nodes names) (take nodes words) seen outputs outputs′ last
       → LinesDone outputForm (c .inputs) (bindings t) (t .outputs) (outputLinesAt t) outputsText [] 0 seen outputs outputs′ last
   outputs-done left seen outputs outputs′ last e r =
       let r′ = rw (rest-is left outputsText e outputs-end) at r in
-      r′ .done (bindings t) (t .outputs) [] (outputLinesAt t) node-table outputs-at (sym output-count)
+      r′ .done (bindings t) (t .outputs) [] (outputLinesAt t) node-table outputs-lines (sym output-count)

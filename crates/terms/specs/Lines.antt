@@ -8,10 +8,9 @@ use lib.ListN.{length, drop}
 use lib.Seq.{sets}
 use Rattle.laws.specs.Lists.{all, sum}
 use Rattle.netlist.specs.Limits.{maxInputs}
-use Rattle.netlist.specs.Netlist.{Name, Output}
+use Rattle.netlist.specs.Netlist.{Output}
 use Rattle.netlist.specs.StoredBlock.{gateSize, outputWords}
-use Rattle.netlist.specs.Names.{isPlainName}
-use Rattle.netlist.specs.Syntax.{apply, GateLine, OutputLine, printInput, printGate, printOutput, printLines, isLegalGate, isLegalOutput}
+use Rattle.netlist.specs.Syntax.{apply, GateLine, OutputLine, printGate, printOutput, printLines, isLegalGate, isLegalOutput}
 use Rattle.netlist.specs.Reading.{Mention, Binding, lineGates, mentions, operandMentions, shownMention, lookup, termGates}
 use Rattle.terms.specs.declared.Walked.{Walked}
 use Rattle.terms.specs.Walk.{Table, unknownAfter, gatesWords}
@@ -28,9 +27,6 @@ pub record LineForm (A : Type 0) : Type 0 where
   pub cost : A → ℕ
   pub words : ℕ → List Binding → A → ℕ → List ℕ
   pub uses : A → ℕ → List Mention
-
-unfoldable pub inputForm : LineForm Name
-inputForm = record { printed = printInput; legal = isPlainName; cost = λ x. 0; words = λ n bs x first. []; uses = λ x at. [] }
 
 unfoldable pub gateForm : LineForm GateLine
 gateForm =

@@ -1,6 +1,6 @@
-// The operands of a text that is known to be the print of a tree: the first name that is not declared, and the words of gates and outputs.
+// The operands of a text that is known to be the print of a tree: the first name that is not declared, and the words of gates and outputs. Never
+// lines have none.
 use lines::gate_lines;
-use lines::input_lines;
 use lines::output_lines;
 use names::Counts;
 use netlist::Refusal;
@@ -43,10 +43,11 @@ pub struct Walked {
     pub unknown: usize,
 }
 
-// Fills in the words of gates and outputs of a text with these counts and these tables of its declared names and their nodes, whose
-// names the index holds. 5: the place of the first used name that is not declared.
+// Fills in the words of gates and outputs of a text with these counts, whose gate lines start at `end`, and these tables of its declared names and
+// their nodes, whose names the index holds. 5: the place of the first name that a gate or an output uses and that is not declared.
 pub fn resolve(
     text: &[u8],
+    end: usize,
     c: Counts,
     names: &[u64],
     words: &[u16],
@@ -54,17 +55,16 @@ pub fn resolve(
     gates: &mut [u16],
     outputs: &mut [u16],
 ) -> Test
-    requires { ⌜ ResolveReady (now text) c (now names) (now words) (now gates) (now outputs) ⌝ }
+    requires { ⌜ ResolveReady (now text) end c (now names) (now words) (now gates) (now outputs) ⌝ }
     requires { ⌜ NodesIndexed c (now names) (now index) ⌝ }
-    ensures { λ r. ⌜ Resolved (now (text .entry)) c (now (names .entry)) (now (words .entry)) (now (gates .entry)) (now (gates .exit))
+    ensures { λ r. ⌜ Resolved (now (text .entry)) end c (now (names .entry)) (now (words .entry)) (now (gates .entry)) (now (gates .exit))
         (now (outputs .entry)) (now (outputs .exit)) r ⌝ }
 {
     let length = text.len();
     let n = c.inputs;
     let nodes = n + c.named;
-    let left = input_lines(text, n);
     let walked = gate_lines(
-        &text[length - left..],
+        &text[end..],
         c.named,
         n,
         &names[..nodes],

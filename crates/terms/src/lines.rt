@@ -14,16 +14,8 @@ ghost use lib.Seq.{sets};
 ghost use Rattle.netlist.specs.StoredBlock.{outputSize};
 ghost use Rattle.netlist.specs.Limits.{maxGates, maxOutputs};
 ghost use Rattle.names.specs.Index.{Indexed};
-ghost use Rattle.terms.specs.Lines.{inputForm, gateForm, outputForm, LineHere, LineRead, LinesHere, LinesRead};
+ghost use Rattle.terms.specs.Lines.{gateForm, outputForm, LineHere, LineRead, LinesHere, LinesRead};
 ghost use Rattle.terms.specs.Ports.{portWords};
-
-// The bytes left behind `(in NAME)` and its LF.
-fn input_line(s: &[u8]) -> usize
-    requires { ⌜ LineHere inputForm 0 (now s) 0 [] [] 0 [] ⌝ }
-    ensures { λ r. ⌜ LineRead inputForm (now (s .entry)) 0 [] [] 0 0 [] [] (record { left = r; number = 0; unknown = 0 }) ⌝ }
-{
-    s.len() - (6 + name_length(&s[4..]))
-}
 
 // `(gate NAME EXPR)` and its LF.
 fn gate_line(
@@ -95,20 +87,6 @@ fn output_line(
         number: first + 1,
         unknown: shown.unknown,
     }
-}
-
-// The bytes left behind all input lines.
-pub fn input_lines(text: &[u8], lines: usize) -> usize
-    requires { ⌜ LinesHere inputForm 0 lines (now text) 0 [] [] [] ⌝ }
-    ensures { λ r. ⌜ LinesRead inputForm lines (now (text .entry)) 0 [] [] 0 [] [] (record { left = r; number = 0; unknown = 0 }) ⌝ }
-{
-    let mut left = text.len();
-    let mut i = 0;
-    while i < lines {
-        left = input_line(&text[text.len() - left..]);
-        i += 1;
-    }
-    left
 }
 
 // All gate lines.

@@ -1,8 +1,6 @@
--- `reading::read_legal` meets its contract: the text itself where it has no never lines, and else its copy without them. Assumes nothing.
-use mathlib.Core.Path.{sym}
+-- `reading::read_legal` meets its contract: 3 from the counts, what the never lines tell, and then the steps. Assumes nothing.
 use native.Mathlib.Omega.{arith}
-use lib.Seq.{length-take-le}
-use Rattle.reading.proofs.Splits.{split-same, copy-ready, split-copied}
+use Rattle.reading.proofs.Stages.{end-inside, rest-short, over, nevers-ready, tables-ready}
 use borrow.Author.Needs.{needs}
 use Rattle.reading.proofs.read_legal.Statement.{statement}
 use Rattle.reading.proofs.read_legal.Tie as tie
@@ -10,59 +8,55 @@ use Rattle.reading.proofs.read_legal.Tie as tie
 abbrev entry : tie.After-never-lines → tie.Start
 entry c = c .before .before .before
 
-never-lines-requires : tie.Need-never-lines-requires
-never-lines-requires c κs = search needs
+abbrev found : tie.After-limits → tie.After-never-lines
+found c = c .before .before .before
 
-read-split-requires : tie.Need-read-split-requires
-read-split-requires c κs =
-    let found = c .before .before .before in
-    split-same (entry found .pre) _ (found .never-lines .ensures) (c .before .if1 .taken)
+sub-counts : tie.Need-sub-counts
+sub-counts c = end-inside (entry c .pre) (c .never-lines .ensures)
 
-same-length : tie.Need-same-length
-same-length c = search needs
+part-counts-start : tie.Need-part-counts-start
+part-counts-start c = end-inside (entry c .pre) (c .never-lines .ensures)
+
+counts-requires : tie.Need-counts-requires
+counts-requires c κs = rest-short (entry (c .before) .pre) (c .before .never-lines .ensures)
 
 returns : tie.Need-returns
-returns c = search needs
+returns c =
+    let t = c .before .before .before in
+    let f = found t in
+    over (entry f .pre) (f .never-lines .ensures) (t .before .counts .ensures) (t .limits .ensures) (entry f .args .block .now)
+    (c .before .before .match .keys2) (c .refusal .ensures)
 
-slice-aggregate-copy-plain : tie.Need-slice-aggregate-copy-plain
-slice-aggregate-copy-plain c = search needs
+read-nevers-requires : tie.Need-read-nevers-requires
+read-nevers-requires c κs =
+    let t = c .before .before .before in
+    let f = found t in
+    (nevers-ready (entry f .pre) (f .never-lines .ensures) (t .before .counts .ensures) (t .limits .ensures) (c .before .enum-told .given .1), omega arith)
 
-copy-plain-requires : tie.Need-copy-plain-requires
-copy-plain-requires c κs =
-    let found = c .before .before .before in
-    let r = copy-ready (entry found .pre) _ (found .never-lines .ensures) in (omega (arith, r .0), omega (arith, r .0, r .1), omega (arith, r .2))
-
-array-share-prefix-copy : tie.Need-array-share-prefix-copy
-array-share-prefix-copy c = search needs
-
-slice-aggregate-read-split : tie.Need-slice-aggregate-read-split
-slice-aggregate-read-split c =
-    let copied = c .before .before in sym (length-take-le (copied .copy-plain .result) _ (copied .copy-plain .ensures .0))
-
-read-split-requires-2 : tie.Need-read-split-requires-2
-read-split-requires-2 c κs =
-    let copied = c .before .before .before in
-    let found = copied .before .before .before .before in
-    split-copied (entry found .pre) _ (found .never-lines .ensures) _ (copied .copy-plain .ensures .1)
-
-same-length-2 : tie.Need-same-length-2
-same-length-2 c = search needs
-
-returns-2 : tie.Need-returns-2
-returns-2 c = search needs
+read-tables-requires : tie.Need-read-tables-requires
+read-tables-requires c κs =
+    let told = c .before .before in
+    let within = told .before .before in
+    let t = within .before .before in
+    let f = found t in
+    tables-ready (entry f .pre) (f .never-lines .ensures) (t .before .counts .ensures) (t .limits .ensures) (within .enum-told .given .1)
+    (told .read-nevers .ensures)
 
 pub read-legal-spec : {M : Type 1} → statement M
 read-legal-spec =
     tie.close
     (tie.spec
-    never-lines-requires
-    read-split-requires
-    same-length
+    (λ c κs. search needs)
+    sub-counts
+    part-counts-start
+    (λ c. search needs)
+    counts-requires
+    (λ c κs. search needs)
+    (λ c. search needs)
+    (λ c. search needs)
+    (λ c κs. search needs)
     returns
-    slice-aggregate-copy-plain
-    copy-plain-requires
-    array-share-prefix-copy
-    slice-aggregate-read-split
-    read-split-requires-2
-    same-length-2
-    returns-2)
+    read-nevers-requires
+    read-tables-requires
+    (λ c. search needs)
+    (λ c. search needs))

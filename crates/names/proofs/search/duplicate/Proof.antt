@@ -42,7 +42,7 @@ returns c =
     let s = at-enter .before .before .before .before .before .before .before in
     record {
       answer =
-          λ t legal bare counted table. node-repeats t legal bare (s .args .c) counted (s .args .names .now) (s .args .places .now) table
+          λ t legal counted table. node-repeats t legal (s .args .c) counted (s .args .names .now) (s .args .places .now) table
           (s .pre .numberRoom) (s .pre .placeRoom) (at-enter .enter-all .result) (at-enter .enter-all .ensures .answer) (c .before .if1 .taken);
       indexed = λ e. failed-passed e;
     }
@@ -85,7 +85,7 @@ returns-2 c =
     let s = at-enter .before .before .before .before .before .before .before in
     record {
       answer =
-          λ t legal bare counted table. port-repeats t legal bare (s .args .c) counted (s .args .names .now) (s .args .places .now) table
+          λ t legal counted table. port-repeats t legal (s .args .c) counted (s .args .names .now) (s .args .places .now) table
           (s .pre .numberRoom) (s .pre .placeRoom) (at-enter .enter-all .result) (at-enter .enter-all .ensures .answer) (at-if1 .if1 .left)
           (at-port .first-repeat .result) (at-port .first-repeat .ensures) (c .before .if2 .taken);
       indexed = λ e. failed-passed e;
@@ -102,7 +102,7 @@ returns-3 c =
     let s = at-enter .before .before .before .before .before .before .before in
     record {
       answer =
-          λ t legal bare counted table. none-repeats t legal bare (s .args .c) counted (s .args .names .now) (s .args .places .now) table
+          λ t legal counted table. none-repeats t legal (s .args .c) counted (s .args .names .now) (s .args .places .now) table
           (s .pre .numberRoom) (s .pre .placeRoom) (at-enter .enter-all .result) (at-enter .enter-all .ensures .answer) (at-if1 .if1 .left)
           (at-port .first-repeat .result) (at-port .first-repeat .ensures) (c .if2 .left);
       indexed =

@@ -1,48 +1,37 @@
--- `names::table::declare` meets its contract, by the laws on what the loops fill in from a tree's text. Assumes nothing.
-use Rattle.names.proofs.TreeTable.{tables-are}
+-- `names::table::declare` meets its contract: the lines of inputs are filled in first, then those behind never lines, by the laws on what the loops fill in.
+-- Assumes nothing.
+use mathlib.Core.Path.{_∙_}
+use Rattle.names.proofs.FillSteps.{filled-sizes}
+use Rattle.names.proofs.TreeTable.{names-sized, tables-are}
 use borrow.Author.Needs.{needs}
 use Rattle.names.proofs.table.declare.Statement.{statement}
 use Rattle.names.proofs.table.declare.Tie as tie
 
-add-lines : tie.Need-add-lines
-add-lines c = search needs
-
-add-lines-2 : tie.Need-add-lines-2
-add-lines-2 c = search needs
-
-fill-lines-requires : tie.Need-fill-lines-requires
-fill-lines-requires c κs = search needs
-
-fill-names-requires : tie.Need-fill-names-requires
-fill-names-requires c κs = search needs
-
-same-length : tie.Need-same-length
-same-length c = search needs
-
-same-length-2 : tie.Need-same-length-2
-same-length-2 c = search needs
-
-same-length-3 : tie.Need-same-length-3
-same-length-3 c = search needs
-
 returns : tie.Need-returns
 returns c =
-    let at-fill-names = c .before .before in
-    let at-fill-lines = at-fill-names .before .before .before .before .before .before .before in
-    let s = at-fill-lines .before .before .before .before .before .before .before .before .before in
-    λ t p e.
-    tables-are p (s .args .c) _ _ _ (s .args .names .now) (s .args .places .now) (s .args .words .now) e (at-fill-lines .fill-lines .ensures)
-    (at-fill-names .fill-names .ensures)
+    let second = c .before .before .before .before in
+    let first = second .before .before .before in
+    let s = first .before .before .before .before .before in
+    let a = s .args in
+    let one = filled-sizes (first .fill-lines .ensures) in
+    let two = filled-sizes (second .fill-lines2 .ensures) in
+    record {
+      nameSize = names-sized (a .c) _ _ (a .names .now) (s .pre .room) (s .pre .numberRoom) (c .fill-names .ensures);
+      placeSize = two .0 ∙ one .0;
+      nodeSize = two .1 ∙ one .1;
+      tables =
+          λ t p e f.
+          tables-are p (a .c) (a .end) _ _ _ _ _ (a .names .now) (a .places .now) (a .words .now) e f (s .pre)
+          (first .fill-lines .ensures) (second .fill-lines2 .ensures) (c .fill-names .ensures);
+    }
 
 pub declare-spec : {M : Type 1} → statement M
 declare-spec =
     tie.close
     (tie.spec
-    add-lines
-    add-lines-2
-    fill-lines-requires
-    fill-names-requires
-    same-length
-    same-length-2
-    same-length-3
+    (λ c. search needs)
+    (λ c κs. search needs)
+    (λ c κs. search needs)
+    (λ c. search needs)
+    (λ c κs. search needs)
     returns)

@@ -1,79 +1,97 @@
--- `names::table::fill_lines` meets its contract: one line a turn. Assumes nothing.
-use Prim.Native.Nat.{_+_, _-_, _≤_}
-use mathlib.Core.Path.{_≡_, refl, ap, _∙_}
-use native.Mathlib.Numerals.{add-one}
+-- `names::table::fill_lines` meets its contract: one line a turn, read from the rest of the text. Assumes nothing.
+use Prim.Native.Nat.{_+_, _-_, _≤_, _<_}
+use mathlib.Core.Path.{refl}
 use native.Mathlib.Omega.{arith}
-use lib.ListN.{length, length-set}
-use Rattle.laws.proofs.Tab.{fill-next}
-use Rattle.names.specs.Lines.{lineOffset, gatesTo, declaredPlace, placeAt, lineWord, wordAt, FilledTo}
-use Rattle.names.proofs.Starts.{start-le, start-more, gates-more, gates-within, lineWord-le}
+use lib.ListN.{length}
+use Rattle.names.specs.Lines.{FillNow}
+use Rattle.names.proofs.FillSteps.{fill-start, line-start, rest-short, line-sizes, fill-next, fill-done}
+use Rattle.names.proofs.Starts.{lineWord-le}
 use Rattle.names.proofs.table.fill_lines.Statement.{statement}
 use Rattle.names.proofs.table.fill_lines.Tie as tie
 
 abbrev Inv-loop : tie.InvT-loop
-Inv-loop text n lines places₀ words₀ gates₀ at₀ i₀ places words gates at i =
-    (i ≤ lines) × (at ≡ lineOffset text i) × (gates ≡ gatesTo text i) × FilledTo text n places₀ words₀ i places words
-    × (length places ≡ length places₀) × (length words ≡ length words₀)
+Inv-loop text from n first lines places₀ words₀ gates₀ at₀ i₀ places words gates at i =
+    FillNow text from n first lines places₀ words₀ i at gates places words
 
 abbrev μ-loop : tie.MeasureT-loop
-μ-loop text n lines places₀ words₀ gates₀ at₀ i₀ places words gates at i = lines - i
+μ-loop text from n first lines places₀ words₀ gates₀ at₀ i₀ places words gates at i = lines - i
+
+abbrev entry : tie.At-loop Inv-loop μ-loop → tie.Start Inv-loop μ-loop
+entry c = c .before .before
+
+-- the turn's line, and what it adds
+abbrev turn : tie.After-line-of Inv-loop μ-loop → tie.At-loop Inv-loop μ-loop
+turn c = c .before .before .before
+
+sizes : (c : tie.After-line-of Inv-loop μ-loop) → let l = turn c .loop in
+    let line = c .line-of .result in
+    (l .at + line .length ≤ length (entry (turn c) .args .text .now)) × (l .gates + line .gates ≤ length (entry (turn c) .args .text .now))
+    × (line .name ≤ 6)
+sizes c = line-sizes (entry (turn c) .pre) (turn c .loop .inv) refl (c .line-of .ensures)
 
 loop-holds : tie.Need-loop-holds Inv-loop μ-loop
-unfolding lineOffset gatesTo
-loop-holds c = (omega arith, refl, refl, record { placesAre = refl; wordsAre = refl }, refl, refl)
+loop-holds c = fill-start _ _ _ _ _ _ _
 
-line-at-requires : tie.Need-line-at-requires Inv-loop μ-loop
-line-at-requires c κs =
-    let start = c .before .before .before .before .before in
-    let l = c .before .loop in
-    let h : l .at ≤ length (start .args .text .now) = omega (arith, start-le (start .args .text .now) (l .i)) in
-    (h, start .pre .short)
+sub-line-of : tie.Need-sub-line-of Inv-loop μ-loop
+sub-line-of c = line-start (entry (c .before) .pre) (c .before .loop .inv)
+
+part-line-of-start : tie.Need-part-line-of-start Inv-loop μ-loop
+part-line-of-start c = line-start (entry (c .before) .pre) (c .before .loop .inv)
+
+part-line-of-end : tie.Need-part-line-of-end Inv-loop μ-loop
+part-line-of-end c = omega (arith, line-start (entry (c .before) .pre) (c .before .loop .inv))
+
+line-of-requires : tie.Need-line-of-requires Inv-loop μ-loop
+line-of-requires c κs = let l = c .before .before in rest-short (entry l .pre) (l .loop .inv)
 
 add-gates : tie.Need-add-gates Inv-loop μ-loop
-add-gates c =
-    let a = c .before .before .before .before .before .before .before .args in
-    let l = c .before .before .before .loop in
-    let r = c .before .line-at in
-    let g = gates-within (a .text .now) (l .i) (l .at) (l .inv .1) (l .gates) (r .result .gates) (l .inv .2) (r .ensures .1) in
-    omega arith
+add-gates c = omega (arith, sizes (c .before), entry (turn (c .before)) .pre .short)
 
-declared-at-requires : tie.Need-declared-at-requires Inv-loop μ-loop
-declared-at-requires c κs =
-    let at-loop = c .before .before .before in
-    let a = at-loop .before .before .before .before .args in
-    omega (arith, start-le (a .text .now) (at-loop .loop .i))
+add-places : tie.Need-add-places Inv-loop μ-loop
+add-places c = omega (arith, sizes (c .before .before), entry (turn (c .before .before)) .pre .short)
+
+add-places-2 : tie.Need-add-places-2 Inv-loop μ-loop
+add-places-2 c = omega (arith, entry (turn (c .before .before)) .pre .room)
 
 mul-places : tie.Need-mul-places Inv-loop μ-loop
-mul-places c = omega arith
+mul-places c = omega (arith, entry (turn (c .before .before)) .pre .room)
 
-slice-write-places : tie.Need-slice-write-places Inv-loop μ-loop
-slice-write-places c = omega arith
+element-write-places : tie.Need-element-write-places Inv-loop μ-loop
+element-write-places c = omega (arith, entry (turn (c .before .before)) .pre .room)
+
+add-line-word : tie.Need-add-line-word Inv-loop μ-loop
+add-line-word c = omega (arith, entry (turn (c .before .before)) .pre .room)
 
 line-word-requires : tie.Need-line-word-requires Inv-loop μ-loop
 line-word-requires c κs =
-    let at-loop = c .before .before .before .before in
-    let start = at-loop .before .before .before .before in
-    let a = start .args in
-    let l = at-loop .loop in
-    let r = c .before .before .line-at in
-    let g = gates-within (a .text .now) (l .i) (l .at) (l .inv .1) (l .gates) (r .result .gates) (l .inv .2) (r .ensures .1) in
-    (start .pre .few, omega (arith, start .pre .short))
+    let s = entry (turn (c .before .before)) in
+    (s .pre .few, omega (arith, sizes (c .before .before), s .pre .short))
 
 cast-words : tie.Need-cast-words Inv-loop μ-loop
 cast-words c =
-    let at-loop = c .before .before .before .before .before in
-    let s = at-loop .before .before .before .before in
-    let a = s .args in
-    let l = at-loop .loop in
-    let r = c .before .before .before .line-at in
-    let g = gates-within (a .text .now) (l .i) (l .at) (l .inv .1) (l .gates) (r .result .gates) (l .inv .2) (r .ensures .1) in
-    omega (arith, c .line-word .ensures, lineWord-le (a .n) (l .i) (l .gates + r .result .gates), s .pre .short, s .pre .few)
+    let line = c .before .before .before in
+    let s = entry (turn line) in
+    let l = turn line .loop in
+    omega (
+      arith,
+      c .line-word .ensures,
+      lineWord-le (s .args .n) (s .args .first + l .i) (l .gates + line .line-of .result .gates),
+      sizes line,
+      s .pre .short,
+      s .pre .few,
+    )
+
+add-words : tie.Need-add-words Inv-loop μ-loop
+add-words c = omega (arith, entry (turn (c .before .before .before)) .pre .room)
 
 mul-words : tie.Need-mul-words Inv-loop μ-loop
-mul-words c = omega arith
+mul-words c = omega (arith, entry (turn (c .before .before .before)) .pre .room)
 
-slice-write-words : tie.Need-slice-write-words Inv-loop μ-loop
-slice-write-words c = omega arith
+element-write-words : tie.Need-element-write-words Inv-loop μ-loop
+element-write-words c = omega (arith, entry (turn (c .before .before .before)) .pre .room)
+
+add-at : tie.Need-add-at Inv-loop μ-loop
+add-at c = let line = c .before .before .before .before in omega (arith, sizes line, entry (turn line) .pre .short)
 
 add-i : tie.Need-add-i Inv-loop μ-loop
 add-i c = omega arith
@@ -82,37 +100,12 @@ loop-less : tie.Need-loop-less Inv-loop μ-loop
 loop-less c = omega arith
 
 loop-again : tie.Need-loop-again Inv-loop μ-loop
-unfolding placeAt wordAt
 loop-again c =
-    let at-loop = c .before .before .before .before .before in
-    let a = at-loop .before .before .before .before .args in
-    let text = a .text .now in
-    let l = at-loop .loop in
-    let r = c .before .before .before .line-at in
-    let g : l .gates + r .result .gates ≡ gatesTo text (l .i + 1) = rw (r .ensures .1) (gates-more text (l .i) (l .at) (l .inv .1) (l .gates) (l .inv .2)) in (
-      omega arith,
-      r .ensures .0 ∙ start-more text (l .i) (l .at) (l .inv .1),
-      g,
-      record {
-        placesAre =
-            fill-next (placeAt text) (l .i) (a .places .now) (l .places) (c .before .declared-at .result) (l .inv .3 .placesAre) (omega arith)
-            (c .before .declared-at .ensures ∙ ap (declaredPlace text) (l .inv .1));
-        wordsAre =
-            fill-next (wordAt text (a .n)) (l .i) (a .words .now) (l .words) (c .line-word .result) (l .inv .3 .wordsAre) (omega arith)
-            (c .line-word .ensures ∙ ap (lineWord (a .n) (l .i)) (rw (add-one (l .i)) at g));
-      },
-      length-set (l .places) (l .i) (c .before .declared-at .result) ∙ l .inv .4,
-      length-set (l .words) (l .i) (c .line-word .result) ∙ l .inv .5,
-    )
-
-same-length : tie.Need-same-length Inv-loop μ-loop
-same-length c = c .before .loop .inv .4
-
-same-length-2 : tie.Need-same-length-2 Inv-loop μ-loop
-same-length-2 c = c .before .loop .inv .5
+    let line = c .before .before .before .before in
+    fill-next (entry (turn line) .pre) (turn line .loop .inv) refl (line .line-of .ensures) (omega arith) refl (c .before .line-word .ensures)
 
 returns : tie.Need-returns Inv-loop μ-loop
-returns c = let l = c .before .loop in let e : l .i ≡ c .before .before .before .before .before .args .lines = omega arith in rw (← e) (l .inv .3)
+returns c = fill-done (entry (c .before) .pre) (c .before .loop .inv) (omega arith)
 
 pub fill-lines-spec : {M : Type 1} → statement M
 fill-lines-spec =
@@ -121,18 +114,23 @@ fill-lines-spec =
     Inv-loop
     μ-loop
     loop-holds
-    line-at-requires
+    sub-line-of
+    part-line-of-start
+    part-line-of-end
+    line-of-requires
     add-gates
-    declared-at-requires
+    add-places
+    add-places-2
     mul-places
-    slice-write-places
+    element-write-places
+    add-line-word
     line-word-requires
     cast-words
+    add-words
     mul-words
-    slice-write-words
+    element-write-words
+    add-at
     add-i
     loop-less
     loop-again
-    same-length
-    same-length-2
     returns)

@@ -1,8 +1,6 @@
 -- `names::tally::count_bytes` meets its contract. Assumes nothing.
-use native.Mathlib.Omega.{arith}
 use borrow.Author.Needs.{needs}
 use Rattle.names.specs.Results.{countsOf}
-use Rattle.names.proofs.Behind.{counted-le}
 use Rattle.names.proofs.tally.count_bytes.Statement.{statement}
 use Rattle.names.proofs.tally.count_bytes.Tie as tie
 
@@ -11,14 +9,6 @@ count-requires c κs = search needs
 
 count-behind-requires : tie.Need-count-behind-requires
 count-behind-requires c κs = search needs
-
-count-behind-requires-2 : tie.Need-count-behind-requires-2
-count-behind-requires-2 c κs = search needs
-
-add-minus : tie.Need-add-minus
-add-minus c =
-    let text = c .before .before .before .before .args .text .now in
-    omega (arith, counted-le _ _ text (c .before .count-behind .ensures), counted-le _ _ text (c .count-behind2 .ensures))
 
 minus-requires : tie.Need-minus-requires
 minus-requires c κs = search needs
@@ -33,25 +23,14 @@ returns : tie.Need-returns
 unfolding countsOf
 returns c =
     let named = c .before .before .before in
-    let inputs = named .before in
     rw (
       c .minus2 .ensures,
       c .before .count2 .ensures,
       c .before .before .minus .ensures,
-      named .count-behind2 .ensures,
-      inputs .count-behind .ensures,
-      inputs .before .count .ensures,
+      named .count-behind .ensures,
+      named .before .count .ensures,
     )
 
 pub count-bytes-spec : {M : Type 1} → statement M
 count-bytes-spec =
-    tie.close
-    (tie.spec
-    count-requires
-    count-behind-requires
-    count-behind-requires-2
-    add-minus
-    minus-requires
-    count-requires-2
-    minus-requires-2
-    returns)
+    tie.close (tie.spec count-requires count-behind-requires minus-requires count-requires-2 minus-requires-2 returns)

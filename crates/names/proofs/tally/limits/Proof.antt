@@ -15,8 +15,8 @@ refuse-if-requires c κs = search needs
 
 returns : tie.Need-returns
 returns c =
-    λ t bare counted.
-    c .refuse-if .ensures ∙ ap (λ b. testOf b OverLimit) (c .before .is-over .ensures ∙ limits-are t bare (c .before .before .args .c) counted)
+    λ t counted.
+    c .refuse-if .ensures ∙ ap (λ b. testOf b OverLimit) (c .before .is-over .ensures ∙ limits-are t (c .before .before .args .c) counted)
 
 pub limits-spec : {M : Type 1} → statement M
 limits-spec = tie.close (tie.spec is-over-requires refuse-if-requires returns)

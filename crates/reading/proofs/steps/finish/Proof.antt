@@ -7,11 +7,15 @@ use Rattle.reading.proofs.steps.finish.Statement.{statement}
 use Rattle.reading.proofs.steps.finish.Tie as tie
 
 abbrev entry : tie.After-struct-known → tie.Start
-entry c = c .before .before .before .before .before .before .before .before
+entry c = c .before .before .before .before
+
+-- where there is room
+abbrev told : tie.After-put-block-arg5 → tie.After-enum-told
+told c = c .before .before .before .before .before
 
 outputs-behind-requires : tie.Need-outputs-behind-requires
 outputs-behind-requires c κs =
-    let f = few (c .before .before .before .before .before .before .pre) in
+    let f = few (c .before .before .pre) in
     (omega (arith, f .inputs), (omega (arith, f .nevers), omega (arith, f .gates)))
 
 mul-count : tie.Need-mul-count
@@ -42,18 +46,19 @@ returns c =
 
 put-block-requires : tie.Need-put-block-requires
 put-block-requires c κs =
-    let t = c .before .before .before in
+    let e = told c in
+    let t = e .before .before in
     let s = entry (t .before) in
     put-ready (s .pre) (s .args .block .now)
     (fits (s .pre) (s .args .block .now) (all-words (s .pre) (t .before .before .outputs-behind .ensures)) (t .test-room .ensures)
-    (c .before .enum-told .given .1))
+    (e .enum-told .given .1))
 
 same-length : tie.Need-same-length
 same-length c = search needs
 
 returns-2 : tie.Need-returns-2
 returns-2 c =
-    let e = c .before .before .before .before in
+    let e = told (c .before .before .before) in
     let t = e .before .before in
     let s = entry (t .before) in
     all-written (s .pre) (s .args .block .now) (all-words (s .pre) (t .before .before .outputs-behind .ensures)) (t .test-room .ensures)

@@ -59,7 +59,7 @@ returns c =
     let at-put-counts = at-put-names .before .before .before .before in
     let start = at-put-counts .before .before .before .before .before .before .before in
     let a = start .args in
-    block-written (a .c) (a .lines) (a .names .now) (a .masks .now) (a .gates .now) (a .outputs .now) (a .block .now) _ _ _ _ _
+    block-written (a .c) (a .names .now) (a .masks .now) (a .gates .now) (a .outputs .now) (a .block .now) _ _ _ _ _
     (at-put-counts .put-counts .ensures) (at-put-names .put-names .ensures)
     (rw (at-nevers .nevers-at .ensures) at (at-put-words .put-words .ensures))
     (rw (at-gates .gates-behind .ensures) at (at-put-words2 .put-words2 .ensures))

@@ -1,9 +1,9 @@
--- `reading::plain::earlier_repeat` meets its contract. Assumes nothing.
+-- `reading::steps::earlier_repeat` meets its contract. Assumes nothing.
 use Rattle.netlist.specs.declared.Refusal.the-variants.{DuplicateDeclaration}
 use Rattle.reading.proofs.TestPlaces.{repeat-tells, other-alone, one-alone, one-first, other-first}
 use borrow.Author.Needs.{needs}
-use Rattle.reading.proofs.plain.earlier_repeat.Statement.{statement}
-use Rattle.reading.proofs.plain.earlier_repeat.Tie as tie
+use Rattle.reading.proofs.steps.earlier_repeat.Statement.{statement}
+use Rattle.reading.proofs.steps.earlier_repeat.Tie as tie
 
 enum-known-one : tie.Need-enum-known-one
 enum-known-one c = search needs

@@ -1,8 +1,8 @@
--- `names::table::name_offset` meets its contract. Assumes nothing.
+-- `names::lines::name_offset` meets its contract. Assumes nothing.
 use borrow.Author.Tests.{eq-eqb, ne-eqb}
 use Rattle.names.specs.Lines.{nameOffset}
-use Rattle.names.proofs.table.name_offset.Statement.{statement}
-use Rattle.names.proofs.table.name_offset.Tie as tie
+use Rattle.names.proofs.lines.name_offset.Statement.{statement}
+use Rattle.names.proofs.lines.name_offset.Tie as tie
 
 returns : tie.Need-returns
 unfolding nameOffset
