@@ -2,4 +2,5 @@
 pub mod NeverText
 pub mod RunLaws
 pub mod TreePlaces
+pub mod OneLine
 pub mod LineWalk

@@ -1,20 +1,23 @@
--- Passing never lines one by one: what is left of them, and what the lines passed have said. Assumes nothing.
+-- Reading never lines one by one: what is left of them, and what those that are read have told. Assumes nothing.
 --   Left, on-line, left-none: the lines that are left, the first of them, and none
---   ready-line: the first of them can be read
---   orElse-passed, orElse-failed: a test of the first line and one of the others
---   RepeatLeft, OutsideLeft, WordsLeft: what is still to be said, in the three loops, with their turns
+--   failed-first: the first of two tests
+--   Saying: what the lines read have told, and what is still to be told
+--   Reading, reading-start, line-ready, reading-next, reading-done: the turns of the loop
+--   none-told: no line tells nothing
 --   words-placed: the words stand in the beginning of the slice
 use Prim.Native.Nat.{ℕ, suc, _+_, _-_, _*_, _≤_, _<_}
-use mathlib.Core.Path.{_≡_, refl, sym, _∙_}
+use mathlib.Core.Path.{_≡_, refl, sym, ap, _∙_}
 use mathlib.Core.Bool.{Bool, true, false, cond}
 use mathlib.Core.List.{List, [], _∷_, _++_, map}
 use mathlib.Core.Option.{Option, none, some}
 use native.Mathlib.Omega.{arith}
 use types.Run.{miss}
-use lib.ListN.{length, set, drop}
+use lib.ListN.{length, set, take, drop, length-set, length-drop}
 use lib.Seq.{drop-at, drop-drop, sets, sets-eq}
 use Rattle.laws.specs.Lists.{all, memberList, placed}
 use Rattle.laws.proofs.Tests.{and-left, and-right}
+use Rattle.laws.proofs.Elements.{rest-is-drop}
+use Rattle.netlist.specs.Limits.{maxText}
 use Rattle.netlist.specs.declared.Refusal.{Refusal}
 use Rattle.netlist.specs.declared.Refusal.the-variants.{DuplicateDeclaration, UndeclaredName}
 use Rattle.refusals.specs.declared.Test.{Test}
@@ -22,20 +25,23 @@ use Rattle.refusals.specs.declared.Test.the-variants.{Passed}
 use Rattle.refusals.specs.Tests.{testAt}
 use Rattle.netlist.specs.Netlist.{Name}
 use Rattle.netlist.specs.StoredBlock.{neverWords}
-use Rattle.netlist.specs.Syntax.{Pair, isLegalNever, printLines, printNever}
-use Rattle.netlist.specs.Reading.{Mention, mentions, neverMentions, firstRepeat, orElse, firstRepeatIn, firstOutside, assignmentOf, givenValue}
-use Rattle.refusals.proofs.Promised.{IsFailed, passed-none}
+use Rattle.netlist.specs.Syntax.{Pair, Tree, isLegalNever, printLines, printNever}
+use Rattle.netlist.specs.Reading.{Mention, mentions, neverMentions, firstRepeat, orElse, firstRepeatIn, firstOutside, excludedNames, assignmentOf, givenValue}
+use Rattle.refusals.proofs.Promised.{IsFailed}
 use Rattle.grammar.proofs.Places.{printNever-split}
+use Rattle.names.specs.Index.{maxPairs}
 use Rattle.names.specs.Lines.{lengthWithLf}
 use Rattle.layout.specs.Masks.{masksOf}
-use Rattle.layout.specs.declared.gather.Masks.{Masks}
-use Rattle.nevers.specs.Places.{NeverAt, NeversAt, linesMentions, linesWords}
-use Rattle.nevers.specs.Ready.{NeversRoom, LineReady}
-use Rattle.nevers.proofs.NeverText.{line-size}
+use Rattle.pairs.specs.Tables.{InputsAre}
+use Rattle.nevers.specs.declared.NeverTold.{NeverTold}
+use Rattle.nevers.specs.declared.LineTold.{LineTold}
+use Rattle.nevers.specs.Places.{NeverAt, NeversAt, linesMentions, linesWords, Told}
+use Rattle.nevers.specs.Ready.{InputsReady, LineReady, LineRead, LinesReady, LinesSay, LinesRead}
+use Rattle.nevers.proofs.NeverText.{line-size, line-inside}
 
 -- ---- the lines that are left
 
--- of which `holds` says what is still to be said
+-- of which `holds` says what is still to be told
 pub record Left (text : List ℕ) (at left : ℕ) (S : List (List Pair) → Type 0) : Type 0 where
   pub lines : List (List Pair)
   pub is : NeversAt at left lines text
@@ -81,60 +87,23 @@ module _ {text : List ℕ} {at left : ℕ} {S : List (List Pair) → Type 0} (l 
       go [] a h = h
       go (ps ∷ more) a h = absurd (omega (arith, a .counted))
 
-  -- tables of the same lengths have the same room
-  pub ready-line : 0 < left → {names₀ places₀ codes₀ names places codes : List ℕ} → NeversRoom text names₀ places₀ codes₀
-      → length names ≡ length names₀ → length places ≡ length places₀ → length codes ≡ length codes₀
-      → LineReady at text names places codes
-  ready-line pos r e f g =
-      on-line pos λ ps more h _ _. record {
-        pairs = ps;
-        is = h;
-        room = record { short = r .short; nameRoom = rw e (r .nameRoom); placeRoom = rw f (r .placeRoom); codeRoom = rw g (r .codeRoom) };
-      }
+-- ---- what is told first
 
--- ---- a test of the first line, and one of the others
+orElse-assoc : (p q r : Option ℕ) → orElse p (orElse q r) ≡ orElse (orElse p q) r
+unfolding orElse
+orElse-assoc (some p) q r = refl
+orElse-assoc none q r = refl
 
-module _ (o other : Option ℕ) (why : ℕ → Refusal) {t : Test} (answer : t ≡ testAt o why) where
-  orElse-passed : t ≡ Passed → orElse o other ≡ other
-  unfolding orElse
-  orElse-passed f = rw (passed-none o why answer f)
+-- a test that fails is the first of two
+pub failed-first : (p q : Option ℕ) (why : ℕ → Refusal) {r : Test} → r ≡ testAt p why → IsFailed r → r ≡ testAt (orElse p q) why
+unfolding orElse testAt
+failed-first none q why e k = absurd (miss (1 ∷ []) 0 tt (rw e at k))
+failed-first (some x) q why e k = e
 
-  orElse-failed : IsFailed t → t ≡ testAt (orElse o other) why
-  unfolding orElse testAt
-  orElse-failed k = go o answer
-    where
-      go : (o : Option ℕ) → t ≡ testAt o why → t ≡ testAt (orElse o other) why
-      go (some p) e = e
-      go none e = absurd (miss (1 ∷ []) 0 tt (rw e at k))
-
--- ---- 4
-
-pub record RepeatLeft (ns : List (List Pair)) (from at : ℕ) (lines : List (List Pair)) : Type 0 where
-  pub same : firstRepeatIn ns from ≡ firstRepeatIn lines at
-
-module _ {ns : List (List Pair)} {from at left : ℕ} {text : List ℕ} (l : Left text at left (RepeatLeft ns from at)) (pos : 0 < left) {t : Test}
-    (told : (ps : List Pair) → NeverAt at ps text → t ≡ testAt (firstRepeat [] (neverMentions ps at)) DuplicateDeclaration) where
-  pub repeat-next : {next : ℕ} → next ≡ at + lengthWithLf (drop at text) → t ≡ Passed → Left text next (left - 1) (RepeatLeft ns from next)
-  unfolding firstRepeatIn
-  repeat-next e p =
-      rw e
-      (on-line l pos λ ps more h others s. record {
-        lines = more;
-        is = others;
-        holds = record { same = rw (line-size h) (s .same ∙ orElse-passed (firstRepeat [] (neverMentions ps at)) _ DuplicateDeclaration (told ps h) p) };
-      })
-
-  pub repeat-failed : IsFailed t → t ≡ testAt (firstRepeatIn ns from) DuplicateDeclaration
-  unfolding firstRepeatIn
-  repeat-failed k =
-      on-line l pos λ ps more h _ s. rw (s .same) (orElse-failed (firstRepeat [] (neverMentions ps at)) _ DuplicateDeclaration (told ps h) k)
-
-pub repeat-passed : {ns : List (List Pair)} {from at left : ℕ} {text : List ℕ} → Left text at left (RepeatLeft ns from at) → left ≤ 0
-    → Passed ≡ testAt (firstRepeatIn ns from) DuplicateDeclaration
-unfolding firstRepeatIn testAt
-repeat-passed l z = rw (left-none l z .same)
-
--- ---- 5
+orElse-none : (p : Option ℕ) → orElse p none ≡ p
+unfolding orElse
+orElse-none (some p) = refl
+orElse-none none = refl
 
 outside-append : (known : List Name) (ds es : List Mention) → firstOutside known (ds ++ es) ≡ orElse (firstOutside known ds) (firstOutside known es)
 unfolding firstOutside orElse
@@ -146,74 +115,137 @@ outside-append known (d ∷ ds) es = go (memberList (d .name) known) (outside-ap
     go true h = h
     go false h = refl
 
-pub record OutsideLeft (known : List Name) (ns : List (List Pair)) (from at : ℕ) (lines : List (List Pair)) : Type 0 where
-  pub same : firstOutside known (linesMentions ns from) ≡ firstOutside known (linesMentions lines at)
+first-outside : (known : List Name) (ps : List Pair) (more : List (List Pair)) (at : ℕ) → firstOutside known (linesMentions (ps ∷ more) at)
+    ≡ orElse (firstOutside known (neverMentions ps at)) (firstOutside known (linesMentions more (at + length (printNever ps []))))
+unfolding mentions
+first-outside known ps more at = outside-append known (neverMentions ps at) (linesMentions more (at + length (printNever ps [])))
 
-module _ {known : List Name} {ns : List (List Pair)} {from at left : ℕ} {text : List ℕ} (l : Left text at left (OutsideLeft known ns from at))
-    (pos : 0 < left) {t : Test}
-    (told : (ps : List Pair) → NeverAt at ps text → t ≡ testAt (firstOutside known (neverMentions ps at)) UndeclaredName) where
-  first-outside : (ps : List Pair) (more : List (List Pair)) → firstOutside known (linesMentions (ps ∷ more) at)
-      ≡ orElse (firstOutside known (neverMentions ps at)) (firstOutside known (linesMentions more (at + length (printNever ps []))))
-  unfolding mentions
-  first-outside ps more = outside-append known (neverMentions ps at) (linesMentions more (at + length (printNever ps [])))
+-- ---- what the lines read have told, and with `lines` all are told
 
-  pub outside-next : {next : ℕ} → next ≡ at + lengthWithLf (drop at text) → t ≡ Passed → Left text next (left - 1) (OutsideLeft known ns from next)
-  outside-next e p =
-      rw e
-      (on-line l pos λ ps more h others s. record {
-        lines = more;
-        is = others;
-        holds = record {
-          same =
-              rw (line-size h)
-              (s .same ∙ first-outside ps more ∙ orElse-passed (firstOutside known (neverMentions ps at)) _ UndeclaredName (told ps h) p);
-        };
-      })
+pub record Saying (ns : List (List Pair)) (known : List Name) (from : ℕ) (masks : List ℕ) (at i : ℕ) (repeat outside : Test) (masks′ : List ℕ)
+    (lines : List (List Pair)) : Type 0 where
+  pub p : Option ℕ
+  pub q : Option ℕ
+  pub repeatIs : repeat ≡ testAt p DuplicateDeclaration
+  pub outsideIs : outside ≡ testAt q UndeclaredName
+  pub repeats : firstRepeatIn ns from ≡ orElse p (firstRepeatIn lines at)
+  pub outsides : firstOutside known (linesMentions ns from) ≡ orElse q (firstOutside known (linesMentions lines at))
+  pub words : sets masks 0 (linesWords known ns) ≡ sets masks′ (2 * i) (linesWords known lines)
 
-  pub outside-failed : IsFailed t → t ≡ testAt (firstOutside known (linesMentions ns from)) UndeclaredName
-  outside-failed k =
-      on-line l pos λ ps more h _ s.
-      rw (s .same ∙ first-outside ps more) (orElse-failed (firstOutside known (neverMentions ps at)) _ UndeclaredName (told ps h) k)
+-- in the middle of the loop
+pub record Reading (text : List ℕ) (from count : ℕ) (inputs : List ℕ) (n : ℕ) (masks : List ℕ) (at i : ℕ) (repeat outside : Test)
+    (names masks′ : List ℕ) : Type 0 where
+  pub within : i ≤ count
+  pub nameRoom : length names ≡ maxPairs
+  pub maskRoom : length masks′ ≡ length masks
+  pub now′ : (ns : List (List Pair)) (known : List Name) → NeversAt from count ns text → InputsAre known n inputs
+      → Left text at (count - i) (Saying ns known from masks at i repeat outside masks′)
 
-pub outside-passed : {known : List Name} {ns : List (List Pair)} {from at left : ℕ} {text : List ℕ} → Left text at left (OutsideLeft known ns from at)
-    → left ≤ 0
-    → Passed ≡ testAt (firstOutside known (linesMentions ns from)) UndeclaredName
-unfolding mentions firstOutside testAt
-outside-passed l z = rw (left-none l z .same)
+-- a test and then another
+abbrev pub FirstOf : Test → Test → Test → Type 0
+FirstOf one other r = (p q : Option ℕ) (why : ℕ → Refusal) → one ≡ testAt p why → other ≡ testAt q why → r ≡ testAt (orElse p q) why
+
+module _ {text : List ℕ} {from count : ℕ} {inputs : List ℕ} {n : ℕ} {names masks : List ℕ}
+    (ready : LinesReady text from count inputs n names masks) where
+  pub reading-start : Reading text from count inputs n masks from 0 Passed Passed names masks
+  unfolding testAt orElse
+  reading-start =
+      record {
+        within = omega arith;
+        nameRoom = ready .nameRoom;
+        maskRoom = refl;
+        now′ =
+            λ ns known is are.
+            let e : count - 0 ≡ count = omega arith in
+            rw e (record {
+              lines = ns;
+              is = is;
+              holds = record { p = none; q = none; repeatIs = refl; outsideIs = refl; repeats = refl; outsides = refl; words = refl };
+            });
+      }
+
+  module _ {at i : ℕ} {repeat outside : Test} {names′ masks′ : List ℕ}
+      (r : Reading text from count inputs n masks at i repeat outside names′ masks′) where
+    here-left : Left text at (count - i) (Saying (ready .lines) (ready .inputsReady .known) from masks at i repeat outside masks′)
+    here-left = r .now′ (ready .lines) (ready .inputsReady .known) (ready .is) (ready .inputsReady .are)
+
+    -- a line is read from the rest of the text
+    rest-line : {ps : List Pair} → NeverAt at ps text → NeverAt 0 ps (take (length text - at) (drop at text))
+    rest-line h = record { legal = h .legal; rest = h .rest; stand = rest-is-drop text at ∙ h .stand }
+
+    module _ (more′ : i < count) where
+      pub line-there : at + 8 ≤ length text
+      line-there = on-line here-left (omega arith) λ ps more h _ _. line-inside h
+
+      pub line-ready : LineReady (take (length text - at) (drop at text)) at inputs n names′
+      line-ready =
+          let l = line-there in
+          on-line here-left (omega arith) λ ps more h _ _. record {
+            pairs = ps;
+            is = rest-line h;
+            short = rw (rest-is-drop text at, length-drop at text) (omega (arith, ready .short));
+            near = omega (arith, ready .short);
+            inputsReady = ready .inputsReady;
+            nameRoom = r .nameRoom;
+          }
+
+      pub reading-next : {names″ : List ℕ} {line : LineTold} → LineRead (take (length text - at) (drop at text)) at inputs n names″ line
+          → {repeat′ outside′ : Test} → FirstOf repeat (line .repeat) repeat′ → FirstOf outside (line .outside) outside′
+          → {next : ℕ} → next ≡ at + lengthWithLf (drop at text)
+          → Reading text from count inputs n masks next (i + 1) repeat′ outside′ names″
+          (set (set masks′ (2 * i) (line .defined)) (2 * i + 1) (line .ones))
+      unfolding firstRepeatIn neverWords assignmentOf masksOf
+      reading-next {names″} {line} read {repeat′} {outside′} f g {next} e =
+          record {
+            within = omega arith;
+            nameRoom = read .nameRoom;
+            maskRoom = length-set (set masks′ (2 * i) (line .defined)) (2 * i + 1) (line .ones) ∙ length-set masks′ (2 * i) (line .defined) ∙ r .maskRoom;
+            now′ =
+                λ ns known is are.
+                let less : count - (i + 1) ≡ count - i - 1 = omega arith in
+                rw (less, e)
+                (on-line (r .now′ ns known is are) (omega arith) λ ps more h others s.
+                let said = read .says ps known (rest-line h) are in
+                let x : 2 * (i + 1) ≡ suc (suc (2 * i)) = omega arith in
+                let y : 2 * i + 1 ≡ suc (2 * i) = omega arith in
+                record {
+                  lines = more;
+                  is = others;
+                  holds = record {
+                    p = orElse (s .p) (firstRepeat [] (neverMentions ps at));
+                    q = orElse (s .q) (firstOutside known (neverMentions ps at));
+                    repeatIs = f _ _ DuplicateDeclaration (s .repeatIs) (said .repeats);
+                    outsideIs = g _ _ UndeclaredName (s .outsideIs) (said .outsides);
+                    repeats = rw (line-size h) (s .repeats ∙ orElse-assoc (s .p) (firstRepeat [] (neverMentions ps at)) _);
+                    outsides =
+                        rw (line-size h)
+                        (s .outsides ∙ ap (orElse (s .q)) (first-outside known ps more at)
+                        ∙ orElse-assoc (s .q) (firstOutside known (neverMentions ps at)) _);
+                    words = s .words ∙ rw (said .defined, said .ones, x, y) refl;
+                  };
+                });
+          }
+
+    pub reading-done : count ≤ i → LinesRead text from count inputs n masks masks′ (record { repeat = repeat; outside = outside })
+    unfolding firstRepeatIn mentions firstOutside
+    reading-done l =
+        record {
+          say =
+              λ ns known is are.
+              let s = left-none (r .now′ ns known is are) (omega arith) in
+              record {
+                repeats = rw (s .repeats, orElse-none (s .p)) (s .repeatIs);
+                outsides = rw (s .outsides, orElse-none (s .q)) (s .outsideIs);
+                words = sym (s .words);
+              };
+        }
+
+-- no line tells nothing
+pub none-told : (t : Tree) (masks : List ℕ) → t .nevers ≡ [] → Told t masks masks (record { repeat = Passed; outside = Passed })
+unfolding firstRepeatIn excludedNames mentions firstOutside testAt
+none-told t masks e = record { repeats = rw e; outsides = rw e; words = rw e }
 
 -- ---- the words
-
-pub record WordsLeft (known : List Name) (ns : List (List Pair)) (entry out : List ℕ) (i : ℕ) (lines : List (List Pair)) : Type 0 where
-  pub same : sets entry 0 (linesWords known ns) ≡ sets out (2 * i) (linesWords known lines)
-
-module _ {known : List Name} {ns : List (List Pair)} {entry out : List ℕ} {i at left : ℕ} {text : List ℕ}
-    (l : Left text at left (WordsLeft known ns entry out i))
-    (pos : 0 < left) {m : Masks} (told : (ps : List Pair) → NeverAt at ps text → m ≡ masksOf (map (givenValue ps) known)) where
-  pub words-next : {next rest : ℕ} → next ≡ at + lengthWithLf (drop at text) → rest ≡ left - 1
-      → Left text next rest (WordsLeft known ns entry (set (set out (2 * i) (m .defined)) (2 * i + 1) (m .ones)) (i + 1))
-  unfolding neverWords assignmentOf masksOf
-  words-next e r =
-      rw (e, r)
-      (on-line l pos λ ps more h others s. record {
-        lines = more;
-        is = others;
-        holds = record {
-          same =
-              let p : 2 * (i + 1) ≡ suc (suc (2 * i)) = omega arith in
-              let q : 2 * i + 1 ≡ suc (2 * i) = omega arith in
-              s .same ∙ rw (told ps h, p, q);
-        };
-      })
-
-pub words-start : {known : List Name} {ns : List (List Pair)} {entry : List ℕ} {from count : ℕ} {text : List ℕ} → NeversAt from count ns text
-    → Left text from (count - 0) (WordsLeft known ns entry entry 0)
-words-start {known} {ns} {entry} {from} {count} is =
-    let e : count - 0 ≡ count = omega arith in rw e (record { lines = ns; is = is; holds = record { same = refl } })
-
-pub words-done : {known : List Name} {ns : List (List Pair)} {entry out : List ℕ} {i at left : ℕ} {text : List ℕ}
-    → Left text at left (WordsLeft known ns entry out i) → left ≤ 0
-    → out ≡ sets entry 0 (linesWords known ns)
-words-done l z = sym (left-none l z .same)
 
 words-length : (known : List Name) (ns : List (List Pair)) → length (linesWords known ns) ≡ 2 * length ns
 unfolding neverWords

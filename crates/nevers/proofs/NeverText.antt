@@ -2,7 +2,7 @@
 --   never-line: an LF stands at its end alone
 --   line-size: the bytes up to the LF are its own
 --   pairs-here: where its pairs stand
---   line-inside, pair-room, taken-few: the place of its pairs, and room for their tables and for what they give
+--   line-inside, pairs-few, taken-few: the place of its pairs, and room for their table and for what they give
 use Prim.Native.Nat.{ℕ, zero, suc, _+_, _*_, _≤_}
 use mathlib.Core.Path.{_≡_, refl, sym, _∙_}
 use mathlib.Core.Bool.{Bool, true, false}
@@ -13,7 +13,7 @@ use lib.Seq.{drop-drop}
 use lib.Dec.{leb}
 use Rattle.laws.specs.Lists.{ascii, all}
 use Rattle.laws.proofs.Tests.{and-left, and-right}
-use Rattle.netlist.specs.Limits.{maxInputs}
+use Rattle.netlist.specs.Limits.{maxText, maxInputs}
 use Rattle.netlist.specs.Values.{val}
 use Rattle.netlist.specs.Names.{isNameStart, isNodeName}
 use Rattle.netlist.specs.Syntax.{Pair, valueText, pairText, printPair, isLegalPair, isLegalNever, printLines, printNever}
@@ -23,10 +23,10 @@ use Rattle.names.specs.Lines.{lengthWithLf}
 use Rattle.names.specs.Trees.{isLine}
 use Rattle.names.proofs.JoinedLines.{line-append, one-line}
 use Rattle.names.proofs.TreeLines.{times-name}
-use Rattle.pairs.specs.Tables.{PairsAt, PairRoom}
-use Rattle.pairs.proofs.PairPlaces.{count-is, pairs-length}
+use Rattle.names.specs.Index.{maxPairs}
+use Rattle.pairs.specs.Tables.{PairsAt}
+use Rattle.pairs.proofs.PairPlaces.{pairs-length}
 use Rattle.nevers.specs.Places.{NeverAt}
-use Rattle.nevers.specs.Ready.{LineReady}
 
 -- ---- an LF stands at its end alone
 
@@ -78,20 +78,9 @@ module _ {at : ℕ} {ps : List Pair} {text : List ℕ} (is : NeverAt at ps text)
   pub line-inside : at + 8 ≤ length text
   line-inside = omega (arith, length-drop at text, behind-word)
 
-pub pair-room : {at : ℕ} {text names places codes : List ℕ} → LineReady at text names places codes → PairRoom text (at + 6) names places codes
-pair-room {at} {text} r =
-    let b = behind-word (r .is) in
-    let d = length-drop at text in
-    let i = line-inside (r .is) in
-    let c = count-is (pairs-here (r .is)) in
-    record {
-      inside = omega arith;
-      near = omega (arith, r .room .short);
-      few = omega (arith, r .room .short);
-      nameRoom = omega (arith, r .room .short, r .room .nameRoom);
-      placeRoom = omega (arith, r .room .short, r .room .placeRoom);
-      codeRoom = omega (arith, r .room .short, r .room .codeRoom);
-    }
+-- no line has more pairs than a table
+pub pairs-few : {ps : List Pair} {s : List ℕ} → NeverAt 0 ps s → length s ≤ maxText → length ps ≤ maxPairs
+pairs-few is short = omega (arith, behind-word is)
 
 -- the values of inputs are few enough for a mask
 pub taken-few : (n : ℕ) (xs : List ℕ) → n ≤ maxInputs → length (take n xs) ≤ maskBits

@@ -2,7 +2,6 @@
 --   input-run, never-run: the lines as runs
 --   nevers-stand: the never lines at their place
 --   inputs-are: a table of the inputs' numbers
---   lines-ready: a text in form can be read
 --   none-counted: no line
 use Prim.Native.Nat.{ℕ, _+_, _≤_}
 use mathlib.Core.Path.{_≡_, refl, sym, ap, _∙_}
@@ -16,7 +15,6 @@ use Rattle.netlist.specs.Names.{isPlainName}
 use Rattle.netlist.specs.Syntax.{Pair, Tree, isLegalNever, printInput, printNever, printGate, printOutput, printLines, print}
 use Rattle.netlist.specs.Reading.{linesLength, neverLinesAt, gateLinesAt}
 use Rattle.grammar.proofs.Places.{printInput-split, printNever-split, nevers-at}
-use Rattle.names.specs.Index.{maxPairs}
 use Rattle.names.specs.Packed.{packed}
 use Rattle.names.specs.Trees.{inputLineText, TextOf}
 use Rattle.names.proofs.TreeLines.{printed-lines, all-lines, legal-parts, input-line}
@@ -24,7 +22,6 @@ use Rattle.pairs.specs.Tables.{InputsAre}
 use Rattle.pairs.proofs.TableLaws.{plain-bytes}
 use Rattle.nevers.specs.declared.NeverLines.{NeverLines}
 use Rattle.nevers.specs.Places.{neverLines, NeversAt}
-use Rattle.nevers.specs.Ready.{NeversInForm, LinesReady}
 use Rattle.nevers.specs.Runs.{lettered, RunAt, Ran}
 use Rattle.nevers.proofs.NeverText.{never-line}
 
@@ -104,16 +101,6 @@ module _ {t : Tree} {text : List ℕ} (is : TextOf t text) where
   -- a table whose first numbers are those of the inputs
   pub inputs-are : {n : ℕ} {inputs : List ℕ} → n ≡ length (t .inputs) → take n inputs ≡ map packed (t .inputs) → InputsAre (t .inputs) n inputs
   inputs-are e h = record { counted = sym e; bytes = plain-bytes (t .inputs) (legal-parts t (is .legal) .inputs); numbers = h }
-
--- ---- the lines of a text in form can be read
-
-pub lines-ready : {text names places codes : List ℕ} {lines : NeverLines} → NeversInForm text lines → maxPairs ≤ length names → maxPairs ≤ length places
-    → maxPairs ≤ length codes → LinesReady (lines .at) (lines .count) text names places codes
-lines-ready f n p c = record {
-  lines = f .tree .nevers;
-  is = nevers-stand (f .is) (f .stand);
-  room = record { short = f .short; nameRoom = n; placeRoom = p; codeRoom = c };
-}
 
 -- no line is counted where there is none
 pub none-counted : (t : Tree) {lines : NeverLines} → lines ≡ neverLines t → lines .count ≡ 0 → t .nevers ≡ []

@@ -1,11 +1,10 @@
-// The never lines of a text in form (SPECIFICATION 1.3): where they stand, 4 and 5 among them, and their words in a stored block.
-// A line has no limit of pairs but the text's length, so each operation lends tables of MAX_PAIRS to what reads a line; with
-// no line to read it makes none.
+// The never lines of a text in form (SPECIFICATION 1.3): where they stand, and what they tell: 4 and 5 among them, and their words in a stored block.
+// A line has no limit of pairs but the text's length, so an operation lends a table of MAX_PAIRS names to what reads a line; with no line to read it
+// makes none.
 use refusals::Test;
 
 pub mod lines;
-pub mod tests;
-pub mod words;
+pub mod read;
 
 // Where the lines stand: how many inputs stand before, the place of the first, how many there are, and the place behind the last.
 pub struct NeverLines {
@@ -21,5 +20,10 @@ pub struct NeverTold {
     pub outside: Test,
 }
 
-// The bytes of `(never`, behind which the pairs stand.
-const PAIRS_AT: usize = 6;
+// What one line tells: 4 and 5 in it, and its words in a stored block.
+pub struct LineTold {
+    pub repeat: Test,
+    pub outside: Test,
+    pub defined: u16,
+    pub ones: u16,
+}

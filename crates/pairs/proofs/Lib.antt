@@ -3,3 +3,4 @@ pub mod PairPlaces
 pub mod NameTests
 pub mod GivenValues
 pub mod TableLaws
+pub mod NumberLaws

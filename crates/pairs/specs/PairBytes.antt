@@ -5,8 +5,9 @@ use mathlib.Core.Bool.{cond}
 use mathlib.Core.List.{List}
 use lib.ListN.{length, getD, drop}
 use lib.Dec.{eqb, ltb}
+use Rattle.laws.specs.Lists.{tab}
 use Rattle.netlist.specs.Limits.{maxName}
-use Rattle.names.specs.Packed.{nameFront, nameFrom}
+use Rattle.names.specs.Packed.{nameFront, nameFrom, packedAt}
 use Rattle.names.specs.Search.{indexOf}
 
 -- the first name stands behind " (", and between two stand a space, a value and ") ("
@@ -32,3 +33,16 @@ givenCode names values count name =
 -- that of input j of a table of inputs
 unfoldable pub inputCode : List ℕ → List ℕ → ℕ → List ℕ → ℕ → ℕ
 inputCode names values count inputs j = givenCode names values count (getD inputs j 0)
+
+-- ---- by the bytes alone, of pair i of those whose first space is at a place
+
+-- the number of its name, and its value
+unfoldable pub pairNumber : List ℕ → ℕ → ℕ → ℕ
+pairNumber s at i = packedAt s (pairPlace s at i)
+
+unfoldable pub pairCode : List ℕ → ℕ → ℕ → ℕ
+pairCode s at i = codeAt s (pairPlace s at i)
+
+-- the values of so many
+unfoldable pub pairCodes : List ℕ → ℕ → ℕ → List ℕ
+pairCodes s at count = tab (pairCode s at) count

@@ -14,6 +14,7 @@ use Rattle.netlist.specs.Syntax.{Pair, isLegalPair, printPair, printLines}
 use Rattle.netlist.specs.Reading.{Mention, mentions, pairMention}
 use Rattle.names.specs.Lines.{lineOpens}
 use Rattle.names.specs.Packed.{packed}
+use Rattle.names.specs.Index.{maxPairs}
 use Rattle.names.specs.Search.{indexOf}
 
 -- legal pairs stand at this place of a text, up to the end of their line
@@ -62,3 +63,10 @@ pub record InputsAre (known : List Name) (n : ℕ) (inputs : List ℕ) : Type 0 
   pub counted : length known ≡ n
   pub bytes : all (all isNameByte) known ≡ true
   pub numbers : take n inputs ≡ map packed known
+
+-- a table of numbers for so many pairs of a line that starts at this place
+pub record NumbersReady (at base count : ℕ) (names : List ℕ) : Type 0 where
+  pub near : at ≤ maxText
+  pub start : base ≤ maxText
+  pub few : count ≤ maxPairs
+  pub room : length names ≡ maxPairs

@@ -40,7 +40,7 @@ fn is_outside(names: &[u64], i: usize, inputs: &[u64], n: usize) -> bool
 }
 
 // The first name that is none of the inputs, or `count`.
-fn first_outside(names: &[u64], count: usize, inputs: &[u64], n: usize) -> usize
+pub fn first_outside(names: &[u64], count: usize, inputs: &[u64], n: usize) -> usize
     requires { ⌜ (count ≤ length (now names)) × (n ≤ length (now inputs)) ⌝ }
     ensures { λ r. ⌜ r ≡ least (isOutside (now (names .entry)) (now (inputs .entry)) n) count ⌝ }
 {

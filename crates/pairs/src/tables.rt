@@ -16,7 +16,7 @@ ghost use Rattle.pairs.specs.PairBytes.{pairPlace, codeFront, codeAt, co
 ghost use Rattle.pairs.specs.Tables.{PairsAt, PairRoom, PairsTabled};
 
 // Each pair has one opening bracket, up to the line's end.
-fn pair_count(text: &[u8], at: usize) -> usize
+pub fn pair_count(text: &[u8], at: usize) -> usize
     requires { ⌜ at ≤ length (now text) ⌝ }
     ensures { λ r. ⌜ r ≡ lineOpens (drop at (now (text .entry))) ⌝ }
 {
@@ -24,7 +24,7 @@ fn pair_count(text: &[u8], at: usize) -> usize
 }
 
 // The length of the name at a place.
-fn name_size(text: &[u8], at: usize) -> usize
+pub fn name_size(text: &[u8], at: usize) -> usize
     ensures { λ r. ⌜ r ≡ length (nameFrom (now (text .entry)) at) ⌝ }
 {
     if at < text.len() {
@@ -60,7 +60,7 @@ fn code_front(s: &[u8]) -> u8
 }
 
 // The value of the pair whose name stands at a place.
-fn code_at(text: &[u8], at: usize) -> u8
+pub fn code_at(text: &[u8], at: usize) -> u8
     ensures { λ r. ⌜ r ≡ codeAt (now (text .entry)) at ⌝ }
 {
     if at < text.len() {

@@ -1,8 +1,7 @@
 -- What each step of Read needs, from what the steps before it tell, and what it answers. Assumes nothing.
 use mathlib.Core.Path.{_≡_, refl, sym, ap, _∙_}
 use mathlib.Core.Bool.{true, false}
-use mathlib.Core.List.{List, [], _∷_, map}
-use types.Run.{miss}
+use mathlib.Core.List.{List, map}
 use mathlib.Core.Option.{Option, none, some}
 use Prim.Native.Nat.{ℕ, _+_, _-_, _*_, _≤_, _<_}
 use native.Mathlib.Omega.{arith}
@@ -15,7 +14,6 @@ use Rattle.laws.proofs.Elements.{rest-is-drop}
 use Rattle.laws.proofs.Slices.{sets-placed, placed-room}
 use Rattle.netlist.specs.declared.Answer.{Answer}
 use Rattle.netlist.specs.declared.Answer.the-variants.{Done}
-use Rattle.netlist.specs.declared.Refusal.{Refusal}
 use Rattle.netlist.specs.declared.Refusal.the-variants.{OverLimit, DuplicateDeclaration, UndeclaredName, NoRoom}
 use Rattle.refusals.specs.declared.Test.{Test}
 use Rattle.refusals.specs.declared.Test.the-variants.{Passed}
@@ -40,6 +38,7 @@ use Rattle.nevers.specs.declared.NeverLines.{NeverLines}
 use Rattle.nevers.specs.declared.NeverTold.{NeverTold}
 use Rattle.nevers.specs.Places.{neverLines, linesWords, Told}
 use Rattle.nevers.specs.Ready.{NeversReady}
+use Rattle.nevers.proofs.LineWalk.{failed-first}
 use Rattle.terms.specs.Resolution.{TreeAt, firstUnknown, ResolveReady, Resolved}
 use Rattle.refusals.proofs.Promised.{IsFailed, passed-none, passed-false, failed, failed-at, passed, keeps-room, bare, keeps-bare, finished}
 use Rattle.reading.specs.Words.{treeBlockWords, wordCount, PutReady}
@@ -102,7 +101,10 @@ module _ {text : List ℕ} (a : TreeText text) {lines : NeverLines} (stand : (t 
     nevers-ready e =
         let w = limits-within tree (limited e .within) in
         record {
-          form = record { short = a .short; tree = tree; is = a .is; stand = lines-are };
+          short = a .short;
+          tree = tree;
+          is = a .is;
+          stand = lines-are;
           fewInputs = omega (arith, inputs-is, w .inputs);
           fewLines = omega (arith, count-is, w .nevers);
         }
@@ -118,12 +120,6 @@ unfolding lesser
 lesser-none none q e = e
 lesser-none (some a) none e = refl
 lesser-none (some a) (some b) e = let z : _≡_ {A = ℕ} 0 1 = cc in absurd (omega arith)
-
--- a test that fails is the first of two
-failed-first : (p q : Option ℕ) (why : ℕ → Refusal) {r : Test} → r ≡ testAt p why → IsFailed r → r ≡ testAt (orElse p q) why
-unfolding orElse testAt
-failed-first none q why e k = absurd (miss (1 ∷ []) 0 tt (rw e at k))
-failed-first (some x) q why e k = e
 
 module _ {text : List ℕ} {end : ℕ} {c : Counts} {told : NeverTold} {masks : List ℕ} (a : TablesReady text end c told masks) where
   abbrev t : Tree

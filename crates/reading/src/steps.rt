@@ -12,7 +12,7 @@ use names::table::NAMES;
 use names::table::declare;
 use netlist::Answer;
 use nevers::NeverTold;
-use nevers::words::NEVER_WORDS;
+use nevers::read::NEVER_WORDS;
 use refusals::Test;
 use refusals::detail_of;
 use refusals::refusal;
