@@ -1,15 +1,15 @@
 -- The laws that the proofs of the functions cite, lower ones first. Assumes nothing.
 pub mod ListFacts
-mod Shortens
-mod Continues
-mod Chain
+pub mod Shortens
+pub mod Continues
+pub mod Chain
 mod First
 mod Words
 mod KindWords
 mod Operands
 mod OperandLists
-mod PairSteps
-mod LineSteps
+pub mod PairSteps
+pub mod LineSteps
 mod LineChoice
 mod Phases
 mod Reached

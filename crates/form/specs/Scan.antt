@@ -10,9 +10,8 @@ use Rattle.laws.specs.Lists.{ascii, is}
 use Rattle.netlist.specs.Names.{isLetter, isNameStart}
 use Rattle.netlist.specs.Limits.{maxDepth}
 use Rattle.netlist.specs.Syntax.{apply}
-use Rattle.netlist.specs.Parse.{Parsed, got, stuck, Reader, pure, stop, ifNext, expect, nothingBehind, bind, nameReader, exprReader, termReader, bitReader}
+use Rattle.netlist.specs.Parse.{Parsed, got, stuck, Reader, pure, stop, ifNext, expect, bind, nameReader, exprReader, termReader, bitReader}
 use Rattle.netlist.specs.Parse.{neverPairs, parse}
-use Rattle.netlist.specs.SetLine.{setLineReader}
 use Rattle.form.specs.declared.Scan.{Scan}
 use Rattle.form.specs.declared.Scan.the-variants.{Next, Bad as Stuck}
 use Rattle.form.specs.declared.Kind.{Kind}
@@ -26,10 +25,6 @@ badOf text (stuck left) = some (length text - left)
 -- 2: the first byte that no legal text has behind that beginning, or the length where the text is cut off
 unfoldable pub firstBad : List ℕ → Option ℕ
 firstBad text = badOf text (parse text)
-
--- the same of a set line of at most so many pairs
-unfoldable pub firstBadInSetLine : ℕ → List ℕ → Option ℕ
-firstBadInSetLine most line = badOf line (setLineReader most line)
 
 -- the bytes left of what a reader answers
 abbrev pub scanOf : {A : Type 0} → Parsed A → Scan
@@ -132,7 +127,3 @@ pairName = bind (nameReader (firstByte true)) (λ _. pairValue)
 
 unfoldable pub pairScan : Reader ℕ
 pairScan = expect (ascii " (") pairName
-
--- the LF that ends a set line
-unfoldable pub lineLast : Reader ℕ
-lineLast = expect (ascii "\n") (nothingBehind 0)

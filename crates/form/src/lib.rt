@@ -1,4 +1,4 @@
-// Does a text have the grammar's form, and where does it break (SPECIFICATION 1, and Read's 2 in 7.3). `pairs` asks it of set lines too.
+// Does a text have the grammar's form, and where does it break (SPECIFICATION 1, and Read's 2 in 7.3). `pairs` serves the bench's set lines too.
 // The readers take the rest of the text as their slice and answer how many bytes are left. Nothing is written.
 use layout::bytes::byte_at;
 use netlist::Refusal;
@@ -8,14 +8,14 @@ ghost use Rattle.netlist.specs.declared.Refusal.the-variants.{SyntaxError};
 ghost use Rattle.refusals.specs.Tests.{testAt};
 ghost use Rattle.form.specs.Scan.{firstBad};
 
-mod bytes;
+pub mod bytes;
 mod lines;
 mod names;
 pub mod pairs;
 mod terms;
 
 // What a reader answers: the bytes left behind what it read, or the bytes left from the bad one on.
-enum Scan {
+pub enum Scan {
     Next(usize),
     Bad(usize),
 }

@@ -5,8 +5,12 @@ use crate::names;
 use crate::pairs;
 use crate::terms;
 use layout::bytes::byte_at;
+use layout::limits::MAX_DEPTH;
 ghost use mathlib.Core.Path.{_≡_};
 ghost use Rattle.form.specs.Scan.{scanOf, inputReader, neverReader, gateReader, outputReader, lineReader, phaseOf};
+
+// The levels of expressions inside a line's own.
+const INNER_DEPTH: usize = MAX_DEPTH - 1;
 
 // `in NAME)` and its LF.
 fn input_line(s: &[u8]) -> Scan
@@ -61,7 +65,7 @@ fn gate_line(s: &[u8]) -> Scan
         return found;
     };
     let at = s.len() - left;
-    let found = terms::expression(&s[at..], 7);
+    let found = terms::expression(&s[at..], INNER_DEPTH);
     let Scan::Next(left) = found else {
         return found;
     };

@@ -4,9 +4,13 @@ use layout::bytes::byte_at;
 use layout::bytes::is_letter;
 use layout::bytes::is_name_byte;
 use layout::bytes::is_name_start;
+use layout::limits::MAX_NAME;
 ghost use mathlib.Core.Path.{_≡_};
 ghost use Rattle.netlist.specs.Parse.{nameBytes, nameReader};
 ghost use Rattle.form.specs.Scan.{scanOf, firstByte};
+
+// The bytes that a name may have behind its first.
+pub const BEHIND_FIRST: usize = MAX_NAME - 1;
 
 // The bytes left behind at most `most` name bytes.
 pub fn name_bytes(s: &[u8], most: usize) -> usize
@@ -34,7 +38,7 @@ fn starts(c: u8, underscore: bool) -> bool
     }
 }
 
-// A name of 1 to 8 bytes.
+// A name of at least one byte and at most MAX_NAME.
 pub fn name(s: &[u8], underscore: bool) -> Scan
     ensures { λ r. ⌜ r ≡ scanOf (nameReader (firstByte underscore) (now (s .entry))) ⌝ }
 {
@@ -42,5 +46,5 @@ pub fn name(s: &[u8], underscore: bool) -> Scan
     if !starts(c, underscore) {
         return Scan::Bad(s.len());
     }
-    Scan::Next(name_bytes(&s[1..], 7))
+    Scan::Next(name_bytes(&s[1..], BEHIND_FIRST))
 }

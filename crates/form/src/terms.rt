@@ -3,8 +3,13 @@ use crate::Kind;
 use crate::Scan;
 use crate::bytes;
 use crate::names;
+use crate::names::BEHIND_FIRST;
 use layout::bytes::byte_at;
 use layout::bytes::is_name_start;
+use layout::kinds::NOT;
+use layout::kinds::ROWS;
+use layout::kinds::XNOR;
+use layout::kinds::XOR;
 use layout::kinds::fewest_operands;
 use layout::kinds::most_operands;
 ghost use mathlib.Core.Path.{_≡_};
@@ -12,6 +17,37 @@ ghost use Prim.Native.Nat.{_-_};
 ghost use Rattle.netlist.specs.Syntax.{Term, apply};
 ghost use Rattle.netlist.specs.Parse.{kindReader, termReader, termsReader, exprReader};
 ghost use Rattle.form.specs.Scan.{scanOf, kindOf, kindWord, kindN, kindNo, kindX};
+
+// The bytes of the keywords, from the table of kinds: those that tell them apart, and what is left behind these.
+const AND_A: u8 = ROWS[0].keyword[0];
+
+const AND_ND: [u8; 2] = [ROWS[0].keyword[1], ROWS[0].keyword[2]];
+
+const OR_O: u8 = ROWS[1].keyword[0];
+
+const OR_R: [u8; 1] = [ROWS[1].keyword[1]];
+
+const NAND_N: u8 = ROWS[2].keyword[0];
+
+const NAND_A: u8 = ROWS[2].keyword[1];
+
+const NAND_ND: [u8; 2] = [ROWS[2].keyword[2], ROWS[2].keyword[3]];
+
+const NOR_O: u8 = ROWS[3].keyword[1];
+
+const NOR_R: u8 = ROWS[3].keyword[2];
+
+const NOT_T: u8 = NOT.keyword[2];
+
+const XOR_X: u8 = XOR.keyword[0];
+
+const XOR_O: u8 = XOR.keyword[1];
+
+const XOR_R: [u8; 1] = [XOR.keyword[2]];
+
+const XNOR_N: u8 = XNOR.keyword[1];
+
+const XNOR_OR: [u8; 2] = [XNOR.keyword[2], XNOR.keyword[3]];
 
 // The kind `kind`, behind the rest of its word.
 fn kind_word(s: &[u8], bytes: &[u8], kind: usize) -> Kind
@@ -28,13 +64,13 @@ fn kind_no(s: &[u8]) -> Kind
     ensures { λ r. ⌜ r ≡ kindOf (kindNo (now (s .entry))) ⌝ }
 {
     let c = byte_at(s, 0);
-    if c == b't' {
+    if c == NOT_T {
         return Kind::Is {
             kind: 0,
             left: s.len() - 1,
         };
     }
-    if c == b'r' {
+    if c == NOR_R {
         return Kind::Is {
             kind: 4,
             left: s.len() - 1,
@@ -48,10 +84,10 @@ fn kind_n(s: &[u8]) -> Kind
     ensures { λ r. ⌜ r ≡ kindOf (kindN (now (s .entry))) ⌝ }
 {
     let c = byte_at(s, 0);
-    if c == b'a' {
-        return kind_word(&s[1..], b"nd", 3);
+    if c == NAND_A {
+        return kind_word(&s[1..], &NAND_ND, 3);
     }
-    if c == b'o' {
+    if c == NOR_O {
         return kind_no(&s[1..]);
     }
     Kind::Bad(s.len())
@@ -62,11 +98,11 @@ fn kind_x(s: &[u8]) -> Kind
     ensures { λ r. ⌜ r ≡ kindOf (kindX (now (s .entry))) ⌝ }
 {
     let c = byte_at(s, 0);
-    if c == b'o' {
-        return kind_word(&s[1..], b"r", 5);
+    if c == XOR_O {
+        return kind_word(&s[1..], &XOR_R, 5);
     }
-    if c == b'n' {
-        return kind_word(&s[1..], b"or", 6);
+    if c == XNOR_N {
+        return kind_word(&s[1..], &XNOR_OR, 6);
     }
     Kind::Bad(s.len())
 }
@@ -76,16 +112,16 @@ fn kind(s: &[u8]) -> Kind
     ensures { λ r. ⌜ r ≡ kindOf (kindReader (now (s .entry))) ⌝ }
 {
     let c = byte_at(s, 0);
-    if c == b'a' {
-        return kind_word(&s[1..], b"nd", 1);
+    if c == AND_A {
+        return kind_word(&s[1..], &AND_ND, 1);
     }
-    if c == b'o' {
-        return kind_word(&s[1..], b"r", 2);
+    if c == OR_O {
+        return kind_word(&s[1..], &OR_R, 2);
     }
-    if c == b'n' {
+    if c == NAND_N {
         return kind_n(&s[1..]);
     }
-    if c == b'x' {
+    if c == XOR_X {
         return kind_x(&s[1..]);
     }
     Kind::Bad(s.len())
@@ -145,7 +181,7 @@ fn operand(s: &[u8], depth: usize) -> Scan
 {
     let c = byte_at(s, 0);
     if is_name_start(c) {
-        return Scan::Next(names::name_bytes(&s[1..], 7));
+        return Scan::Next(names::name_bytes(&s[1..], BEHIND_FIRST));
     }
     if c == b'0' {
         return Scan::Next(s.len() - 1);

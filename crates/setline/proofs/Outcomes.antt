@@ -19,7 +19,8 @@ use Rattle.netlist.specs.SetLine.{setLineReader}
 use Rattle.netlist.specs.Bench.{givenNames, givenValues, showLine, pairsOutcome, parsedOutcome, lineOutcome, answerLine}
 use Rattle.encoding.proofs.Decoded.{decode-inputCount}
 use Rattle.grammar.proofs.SetLines.{setLine-sound}
-use Rattle.form.specs.Scan.{badOf, firstBadInSetLine}
+use Rattle.form.specs.Scan.{badOf}
+use Rattle.setform.specs.Line.{firstBadInSetLine}
 use Rattle.setline.specs.Tables.{LineFor}
 
 -- what comes behind the form

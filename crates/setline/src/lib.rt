@@ -1,6 +1,5 @@
 // The answer to one line of the bench: the show line of a set line, or a refusal (6, 2, 4, 5, 11).
 use block::check_words;
-use form::pairs::test_set_line;
 use inputs::fill_inputs;
 use layout::limits::MAX_INPUTS;
 use layout::offsets::inputs_of;
@@ -11,6 +10,7 @@ use pairs::given::test_repeat;
 use pairs::tables::fill_pairs;
 use refusals::Test;
 use refusals::refusal;
+use setform::test_set_line;
 use show::show;
 ghost use mathlib.Core.List.{List};
 ghost use lib.ListN.{length};

@@ -1,6 +1,9 @@
 // What stands at the front of a text: a kind's word, a name, a constant.
 use crate::Leaf;
 use layout::bytes::byte_at;
+use layout::kinds::NOT;
+use layout::kinds::ROWS;
+use layout::kinds::XOR;
 use layout::kinds::signature_of;
 use layout::nodes::CONSTANT_0;
 use layout::nodes::CONSTANT_1;
@@ -18,11 +21,24 @@ const ZERO: u16 = CONSTANT_0 as u16;
 
 const ONE: u16 = CONSTANT_1 as u16;
 
+// The bytes that tell the keywords apart, from the table of kinds.
+const AND_A: u8 = ROWS[0].keyword[0];
+
+const OR_O: u8 = ROWS[1].keyword[0];
+
+const NAND_A: u8 = ROWS[2].keyword[1];
+
+const NOT_T: u8 = NOT.keyword[2];
+
+const XOR_X: u8 = XOR.keyword[0];
+
+const XOR_O: u8 = XOR.keyword[1];
+
 // The kind of a word of `x` and this byte.
 fn kind_behind_x(c: u8) -> usize
     ensures { λ r. ⌜ r ≡ kindBehindX c ⌝ }
 {
-    if c == b'o' { 5 } else { 6 }
+    if c == XOR_O { 5 } else { 6 }
 }
 
 // The kind whose word stands here.
@@ -30,19 +46,19 @@ pub fn kind_here(s: &[u8]) -> usize
     ensures { λ r. ⌜ r ≡ kindHere (now (s .entry)) ⌝ }
 {
     let c = byte_at(s, 0);
-    if c == b'a' {
+    if c == AND_A {
         return 1;
     }
-    if c == b'o' {
+    if c == OR_O {
         return 2;
     }
-    if c == b'x' {
+    if c == XOR_X {
         return kind_behind_x(byte_at(s, 1));
     }
-    if byte_at(s, 1) == b'a' {
+    if byte_at(s, 1) == NAND_A {
         return 3;
     }
-    if byte_at(s, 2) == b't' { 0 } else { 4 }
+    if byte_at(s, 2) == NOT_T { 0 } else { 4 }
 }
 
 // The bytes of a kind's word.

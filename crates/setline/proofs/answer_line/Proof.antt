@@ -11,7 +11,7 @@ use Rattle.netlist.specs.Answers.{refuseAt, inRoom}
 use Rattle.refusals.specs.Tests.{testAt}
 use Rattle.netlist.specs.SetLine.{setLineReader}
 use Rattle.netlist.specs.Bench.{answerLine}
-use Rattle.form.specs.Scan.{firstBadInSetLine}
+use Rattle.setform.specs.Line.{firstBadInSetLine}
 use Rattle.refusals.proofs.Promised.{passed, passed-false, passed-none, passed-at, failed, failed-at, keeps-room}
 use Rattle.setline.proofs.Outcomes.{behindForm, line-chain, Found, in-form}
 

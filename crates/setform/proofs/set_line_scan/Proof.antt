@@ -1,14 +1,15 @@
--- `form::pairs::set_line_scan` meets its contract: a chain of calls, each on what the one before left.
+-- `setform::set_line_scan` meets its contract: a chain of calls, each on what the one before left.
 -- Assumes nothing.
 use borrow.Author.Needs.{needs}
-use Rattle.form.proofs.pairs.set_line_scan.Statement.{statement}
-use Rattle.form.proofs.pairs.set_line_scan.Tie as tie
+use Rattle.setform.proofs.set_line_scan.Statement.{statement}
+use Rattle.setform.proofs.set_line_scan.Tie as tie
 use Rattle.laws.specs.Lists.{ascii}
 use Rattle.netlist.specs.SetLine.{setLineReader}
-use Rattle.form.specs.Scan.{lineLast}
+use Rattle.setform.specs.Line.{lineLast}
 use Rattle.form.proofs.Chain.{Behind, first-bad, first-next, then-bad, then-next, then-last}
 use Rattle.form.proofs.LineSteps.{shortens-word}
-use Rattle.form.proofs.PairSteps.{setPairs, set-word, set-pairs, shortens-pairs}
+use Rattle.form.proofs.PairSteps.{shortens-pairs}
+use Rattle.setform.proofs.LineSteps.{setPairs, set-word, set-pairs}
 
 -- the function's entry, from behind the word; and the stage behind the word, from behind the pairs
 abbrev start : tie.After-known-told → tie.Start

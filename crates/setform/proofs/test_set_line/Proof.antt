@@ -1,11 +1,11 @@
--- `form::pairs::test_set_line` meets its contract.
+-- `setform::test_set_line` meets its contract.
 -- Assumes nothing.
 use borrow.Author.Needs.{needs}
-use Rattle.form.proofs.pairs.test_set_line.Statement.{statement}
-use Rattle.form.proofs.pairs.test_set_line.Tie as tie
+use Rattle.setform.proofs.test_set_line.Statement.{statement}
+use Rattle.setform.proofs.test_set_line.Tie as tie
 use mathlib.Core.Path.{sym, _∙_}
 use Rattle.form.proofs.Continues.{stuck-short}
-use Rattle.form.proofs.PairSteps.{line-passed, line-failed, shortens-set-line}
+use Rattle.setform.proofs.LineSteps.{line-passed, line-failed, shortens-set-line}
 
 set-line-scan-requires : tie.Need-set-line-scan-requires
 set-line-scan-requires c κs = search needs

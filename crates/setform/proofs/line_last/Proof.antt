@@ -1,18 +1,18 @@
--- `form::pairs::line_last` meets its contract.
+-- `setform::line_last` meets its contract.
 -- Assumes nothing.
 use borrow.Author.Needs.{needs}
-use Rattle.form.proofs.pairs.line_last.Statement.{statement}
-use Rattle.form.proofs.pairs.line_last.Tie as tie
+use Rattle.setform.proofs.line_last.Statement.{statement}
+use Rattle.setform.proofs.line_last.Tie as tie
 use mathlib.Core.Path.{sym, _∙_}
 use mathlib.Core.List.{List}
 use Prim.Native.Nat.{ℕ}
 use Rattle.laws.specs.Lists.{ascii}
 use Rattle.netlist.specs.Parse.{nothingBehind}
-use Rattle.form.specs.Scan.{lineLast}
+use Rattle.setform.specs.Line.{lineLast}
 use Rattle.form.proofs.ListFacts.{lastOnes, length-last}
 use Rattle.form.proofs.Chain.{Behind, first-bad, first-next}
 use Rattle.form.proofs.LineSteps.{shortens-word}
-use Rattle.form.proofs.PairSteps.{last-word, nothing-left, something-left}
+use Rattle.setform.proofs.LineSteps.{last-word, nothing-left, something-left}
 
 abbrev text : tie.After-known-told → List ℕ
 text c = c .before .before .before .before .before .before .args .s .now

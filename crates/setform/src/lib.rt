@@ -1,0 +1,53 @@
+// The form of the bench's set lines: `(set`, pairs as never lines have them, and LF.
+use form::Scan;
+use form::bytes::word;
+use form::pairs::pairs;
+use netlist::Refusal;
+use refusals::Test;
+ghost use mathlib.Core.Path.{_≡_};
+ghost use Rattle.netlist.specs.declared.Refusal.the-variants.{SyntaxError};
+ghost use Rattle.refusals.specs.Tests.{testAt};
+ghost use Rattle.netlist.specs.SetLine.{setLineReader};
+ghost use Rattle.form.specs.Scan.{scanOf};
+ghost use Rattle.setform.specs.Line.{lineLast, firstBadInSetLine};
+
+// The LF of a set line, and nothing behind it.
+fn line_last(s: &[u8]) -> Scan
+    ensures { λ r. ⌜ r ≡ scanOf (lineLast (now (s .entry))) ⌝ }
+{
+    let found = word(s, b"\n");
+    let Scan::Next(left) = found else {
+        return found;
+    };
+    if left == 0 {
+        return Scan::Next(0);
+    }
+    Scan::Bad(left)
+}
+
+// `(set`, pairs and LF.
+fn set_line_scan(line: &[u8], most: usize) -> Scan
+    ensures { λ r. ⌜ r ≡ scanOf (setLineReader most (now (line .entry))) ⌝ }
+{
+    let found = word(line, b"(set");
+    let Scan::Next(left) = found else {
+        return found;
+    };
+    let at = line.len() - left;
+    let found = pairs(&line[at..], most, 0);
+    let Scan::Next(left) = found else {
+        return found;
+    };
+    let at = line.len() - left;
+    line_last(&line[at..])
+}
+
+// 2: is the line in form, with at most `most` pairs?
+pub fn test_set_line(line: &[u8], most: usize) -> Test
+    ensures { λ r. ⌜ r ≡ testAt (firstBadInSetLine most (now (line .entry))) SyntaxError ⌝ }
+{
+    match set_line_scan(line, most) {
+        Scan::Next(_) => Test::Passed,
+        Scan::Bad(left) => Test::Failed(Refusal::SyntaxError(line.len() - left)),
+    }
+}
