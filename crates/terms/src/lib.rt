@@ -28,6 +28,14 @@ pub struct Found {
     pub unknown: usize,
 }
 
+// What stands before an operand: the inputs of the text, the operands of its list, the gates that have closed, and `unknown` as in `Found`.
+pub struct Past {
+    pub inputs: usize,
+    pub count: usize,
+    pub gates: usize,
+    pub unknown: usize,
+}
+
 // An operand list behind its closing bracket: as `Found`, and the number of operands.
 pub struct Listed {
     pub left: usize,

@@ -1,4 +1,5 @@
 // The walk over lines. Each line's reader gets the rest of the text.
+use crate::Past;
 use crate::Walked;
 use crate::leaves::name_here;
 use crate::walk::operand;
@@ -33,17 +34,13 @@ fn gate_line(
     ensures { λ r. ⌜ LineRead gateForm (now (s .entry)) n (now (names .entry)) (now (words .entry)) first unknown (now (gates .entry)) (now (gates .exit)) r ⌝ }
 {
     let at = 7 + name_length(&s[6..]);
-    let one = operand(
-        &s[at..],
-        MAX_DEPTH,
-        n,
-        names,
-        words,
-        index,
-        first,
+    let before = Past {
+        inputs: n,
+        count: 0,
+        gates: first,
         unknown,
-        gates,
-    );
+    };
+    let one = operand(&s[at..], MAX_DEPTH, before, names, words, index, gates);
     Walked {
         left: one.left - 2,
         number: one.gates,

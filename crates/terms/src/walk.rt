@@ -1,6 +1,7 @@
 // The walk over expressions. The readers of an operand and of an operand list call each other; depth left and bytes left fall.
 use crate::Found;
 use crate::Listed;
+use crate::Past;
 use crate::leaves::kind_here;
 use crate::leaves::leaf_here;
 use crate::leaves::word_length;
@@ -31,22 +32,23 @@ fn put_gate(gates: &mut [u16], number: usize, kind: usize, count: usize, slots: 
     gates[at + 4] = slots[3];
 }
 
-// An operand, with `depth` levels of expressions left, when `first` gates have closed.
+// An operand, with `depth` levels of expressions left.
 pub fn operand(
     s: &[u8],
     depth: usize,
-    n: usize,
+    past: Past,
     names: &[u64],
     words: &[u16],
     index: &[u16],
-    first: usize,
-    unknown: usize,
     gates: &mut [u16],
 ) -> Found
-    requires { ⌜ TermHere (now s) depth n (now names) (now words) first (now gates) ⌝ }
+    requires { ⌜ TermHere (now s) depth (past .inputs) (now names) (now words) (past .gates) (now gates) ⌝ }
     requires { ⌜ Indexed (now names) (length (now names)) (now index) ⌝ }
-    ensures { λ r. ⌜ TermRead (now (s .entry)) depth n (now (names .entry)) (now (words .entry)) first unknown (now (gates .entry)) (now (gates .exit)) r ⌝ }
+    ensures { λ r. ⌜ TermRead (now (s .entry)) depth (past .inputs) (now (names .entry)) (now (words .entry)) (past .gates) (past .unknown)
+        (now (gates .entry)) (now (gates .exit)) r ⌝ }
 {
+    let first = past.gates;
+    let unknown = past.unknown;
     if byte_at(s, 0) != b'(' {
         let leaf = leaf_here(s, names, words, index, unknown);
         return Found {
@@ -56,19 +58,23 @@ pub fn operand(
             unknown: leaf.unknown,
         };
     }
+    let n = past.inputs;
     let kind = kind_here(&s[1..]);
     let at = 1 + word_length(kind);
     let mut slots = [0u16; OPERAND_WORDS];
+    let inside = Past {
+        inputs: n,
+        count: 0,
+        gates: first,
+        unknown,
+    };
     let list = operands(
         &s[at..],
         depth - 1,
-        n,
+        inside,
         names,
         words,
         index,
-        first,
-        unknown,
-        0,
         gates,
         &mut slots,
     );
@@ -81,58 +87,41 @@ pub fn operand(
     }
 }
 
-// The operands from here to the closing bracket, of which i stand before; their words go into `slots`.
+// The operands from here to the closing bracket; the words of all go into `slots`.
 fn operands(
     s: &[u8],
     depth: usize,
-    n: usize,
+    past: Past,
     names: &[u64],
     words: &[u16],
     index: &[u16],
-    first: usize,
-    unknown: usize,
-    i: usize,
     gates: &mut [u16],
     slots: &mut [u16],
 ) -> Listed
-    requires { ⌜ TermsHere (now s) depth n (now names) (now words) first i (now gates) (now slots) ⌝ }
+    requires { ⌜ TermsHere (now s) depth (past .inputs) (now names) (now words) (past .gates) (past .count) (now gates) (now slots) ⌝ }
     requires { ⌜ Indexed (now names) (length (now names)) (now index) ⌝ }
-    ensures { λ r. ⌜ TermsRead (now (s .entry)) depth n (now (names .entry)) (now (words .entry)) first unknown i (now (gates .entry))
+    ensures { λ r. ⌜ TermsRead (now (s .entry)) depth (past .inputs) (now (names .entry)) (now (words .entry)) (past .gates) (past .unknown)
+        (past .count) (now (gates .entry))
         (now (gates .exit)) (now (slots .entry)) (now (slots .exit)) r ⌝ }
 {
     let length = s.len();
+    let i = past.count;
     if byte_at(s, 0) == b')' {
         return Listed {
             left: length - 1,
             count: i,
-            gates: first,
-            unknown,
+            gates: past.gates,
+            unknown: past.unknown,
         };
     }
-    let one = operand(
-        &s[1..],
-        depth,
-        n,
-        names,
-        words,
-        index,
-        first,
-        unknown,
-        gates,
-    );
+    let one = operand(&s[1..], depth, past, names, words, index, gates);
     slots[i] = one.word;
     let at = length - one.left;
-    operands(
-        &s[at..],
-        depth,
-        n,
-        names,
-        words,
-        index,
-        one.gates,
-        one.unknown,
-        i + 1,
-        gates,
-        slots,
-    )
+    let behind = Past {
+        inputs: past.inputs,
+        count: i + 1,
+        gates: one.gates,
+        unknown: one.unknown,
+    };
+    operands(&s[at..], depth, behind, names, words, index, gates, slots)
 }

@@ -53,13 +53,13 @@ operand-requires c κs =
       b .before .before .before .before .before .before .before .pre .1,
     )
 
-sub-t13 : tie.Need-sub-t13
-sub-t13 c =
+sub-t14 : tie.Need-sub-t14
+sub-t14 c =
     let at-operand = c .before .before .before in
     let stage = at-operand .before .before .before in
     let b = stage in let a = b .before .before .before .before .before .before .before .args in
     gate-left (a .s .now) (b .name-length .result) (b .name-length .ensures) (a .n) (a .names .now) (a .words .now) (a .first) (a .gates .now)
-    (a .unknown) (at-operand .operand .last .1 .1 .1 .1 .1 .1 .1 .1 .0) (at-operand .operand .result) (at-operand .operand .ensures)
+    (a .unknown) (at-operand .operand .last .1 .1 .1 .1 .1 .1 .0) (at-operand .operand .result) (at-operand .operand .ensures)
     (b .before .before .before .before .before .before .before .pre .0)
 
 same-length : tie.Need-same-length
@@ -71,7 +71,7 @@ returns c =
     let stage = at-operand .before .before .before in
     let b = stage in let a = b .before .before .before .before .before .before .before .args in
     gate-read (a .s .now) (b .name-length .result) (b .name-length .ensures) (a .n) (a .names .now) (a .words .now) (a .first) (a .gates .now)
-    (a .unknown) (at-operand .operand .last .1 .1 .1 .1 .1 .1 .1 .1 .0) (at-operand .operand .result) (at-operand .operand .ensures)
+    (a .unknown) (at-operand .operand .last .1 .1 .1 .1 .1 .1 .0) (at-operand .operand .result) (at-operand .operand .ensures)
 
 pub gate-line-spec : {M : Type 1} → statement M
 gate-line-spec =
@@ -86,6 +86,6 @@ gate-line-spec =
     part-operand-start
     part-operand-end
     operand-requires
-    sub-t13
+    sub-t14
     same-length
     returns)

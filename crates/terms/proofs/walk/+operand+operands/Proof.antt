@@ -113,13 +113,13 @@ operand-byte-at-requires t c κs = search needs
 operand-leaf-here-requires : (t : ℕ) → operand-lts.Need-leaf-here-requires (operand-claims t) (operand-at t) operand.Post
 operand-leaf-here-requires t c κs =
     let start = c .before .before .before .before .before .before .before in
-    let p = start .pre .1 .0 in let a = start .args in (table-lengths (a .n) (p .bindings) (a .names .now) (a .words .now) (p .table), start .pre .1 .1)
+    let p = start .pre .1 .0 in let a = start .args in (table-lengths (a .past .inputs) (p .bindings) (a .names .now) (a .words .now) (p .table), start .pre .1 .1)
 
 operand-returns : (t : ℕ) → operand-lts.Need-returns (operand-claims t) (operand-at t) operand.Post
 operand-returns t c =
     let at-byte-at = c .before .before in
     let start = at-byte-at .before .before .before .before .before .before in
-    let a = start .args in leaf-read (a .s .now) (a .depth) (a .n) (a .names .now) (a .words .now) (a .first) (a .gates .now) (a .unknown)
+    let a = start .args in leaf-read (a .s .now) (a .depth) (a .past .inputs) (a .names .now) (a .words .now) (a .past .gates) (a .gates .now) (a .past .unknown)
     (c .leaf-here .result) (c .leaf-here .ensures) (λ e. c .before .if1 .taken (at-byte-at .byte-at .ensures ∙ e))
 
 operand-sub-kind-here : (t : ℕ) → operand-lts.Need-sub-kind-here (operand-claims t) (operand-at t) operand.Post
@@ -143,7 +143,7 @@ operand-add-at t c =
     let start = at-byte-at .before .before .before .before .before .before in
     let a = start .args in let p = start .pre .1 .0 in omega (
       arith,
-      inner-within (a .s .now) (a .depth) (a .n) (a .names .now) (a .words .now) (a .first) (a .gates .now) (c .before .kind-here .result)
+      inner-within (a .s .now) (a .depth) (a .past .inputs) (a .names .now) (a .words .now) (a .past .gates) (a .gates .now) (c .before .kind-here .result)
           (c .word-length .result) (p .term) (p .rest) (operand-inside-here t c),
       start .good,
     )
@@ -152,14 +152,14 @@ operand-sub-operands : (t : ℕ) → operand-lts.Need-sub-operands (operand-clai
 operand-sub-operands t c =
     let at-byte-at = c .before .before .before .before in
     let start = at-byte-at .before .before .before .before .before .before in
-    let a = start .args in let p = start .pre .1 .0 in inner-within (a .s .now) (a .depth) (a .n) (a .names .now) (a .words .now) (a .first) (a .gates .now)
+    let a = start .args in let p = start .pre .1 .0 in inner-within (a .s .now) (a .depth) (a .past .inputs) (a .names .now) (a .words .now) (a .past .gates) (a .gates .now)
     (c .before .kind-here .result) (c .word-length .result) (p .term) (p .rest) (operand-inside-here t c)
 
 operand-part-operands-start : (t : ℕ) → operand-lts.Need-part-operands-start (operand-claims t) (operand-at t) operand.Post
 operand-part-operands-start t c =
     let at-byte-at = c .before .before .before .before in
     let start = at-byte-at .before .before .before .before .before .before in
-    let a = start .args in let p = start .pre .1 .0 in inner-within (a .s .now) (a .depth) (a .n) (a .names .now) (a .words .now) (a .first) (a .gates .now)
+    let a = start .args in let p = start .pre .1 .0 in inner-within (a .s .now) (a .depth) (a .past .inputs) (a .names .now) (a .words .now) (a .past .gates) (a .gates .now)
     (c .before .kind-here .result) (c .word-length .result) (p .term) (p .rest) (operand-inside-here t c)
 
 operand-part-operands-end : (t : ℕ) → operand-lts.Need-part-operands-end (operand-claims t) (operand-at t) operand.Post
@@ -183,12 +183,12 @@ operand-operands-requires t c κs =
     let wide = at-word-length .word-length .result in (
       omega (
         arith,
-        inner-shorter (a .s .now) (a .depth) (a .n) (a .names .now) (a .words .now) (a .first) (a .gates .now) k wide (p .term) (p .rest)
+        inner-shorter (a .s .now) (a .depth) (a .past .inputs) (a .names .now) (a .words .now) (a .past .gates) (a .gates .now) k wide (p .term) (p .rest)
             (operand-inside-here t at-word-length),
         start .pre .0,
       ),
       (
-        list-here (a .s .now) (a .depth) (a .n) (a .names .now) (a .words .now) (a .first) (a .gates .now) k wide p (operand-inside-here t at-word-length),
+        list-here (a .s .now) (a .depth) (a .past .inputs) (a .names .now) (a .words .now) (a .past .gates) (a .gates .now) k wide p (operand-inside-here t at-word-length),
         start .pre .1 .1,
       ),
     )
@@ -197,47 +197,47 @@ operand-operands-requires t c κs =
 operand-bounded : (t : ℕ) (c : operand-lts.After-operands (operand-claims t) (operand-at t) operand.Post)
     → Bounded (operand-entry t (c .before .before .before .before .before .before .before) .args .s .now)
     (operand-entry t (c .before .before .before .before .before .before .before) .args .depth)
-    (operand-entry t (c .before .before .before .before .before .before .before) .args .n)
+    (operand-entry t (c .before .before .before .before .before .before .before) .args .past .inputs)
     (operand-entry t (c .before .before .before .before .before .before .before) .args .names .now)
     (operand-entry t (c .before .before .before .before .before .before .before) .args .words .now)
-    (operand-entry t (c .before .before .before .before .before .before .before) .args .first)
+    (operand-entry t (c .before .before .before .before .before .before .before) .args .past .gates)
     (operand-entry t (c .before .before .before .before .before .before .before) .args .gates .now)
     (c .before .before .before .before .before .kind-here .result) (c .before .before .before .before .word-length .result)
-    (c .operands .last .1 .1 .1 .1 .1 .1 .1 .1 .1 .0) (c .operands .last .1 .1 .1 .1 .1 .1 .1 .1 .1 .1 .0) (c .operands .result)
+    (c .operands .last .1 .1 .1 .1 .1 .1 .0) (c .operands .last .1 .1 .1 .1 .1 .1 .1 .0) (c .operands .result)
 operand-bounded t c =
     let at-word-length = c .before .before .before .before in
     let at-kind-here = at-word-length .before in
     let at-byte-at = at-kind-here .before .before .before in
     let start = at-byte-at .before .before .before .before .before .before in
     let a = start .args in
-    bounded (a .s .now) (a .depth) (a .n) (a .names .now) (a .words .now) (a .first) (a .gates .now) (at-kind-here .kind-here .result)
-    (at-word-length .word-length .result) (a .unknown) (c .operands .last .1 .1 .1 .1 .1 .1 .1 .1 .1 .0) (c .operands .last .1 .1 .1 .1 .1 .1 .1 .1 .1 .1 .0)
+    bounded (a .s .now) (a .depth) (a .past .inputs) (a .names .now) (a .words .now) (a .past .gates) (a .gates .now) (at-kind-here .kind-here .result)
+    (at-word-length .word-length .result) (a .past .unknown) (c .operands .last .1 .1 .1 .1 .1 .1 .0) (c .operands .last .1 .1 .1 .1 .1 .1 .1 .0)
     (c .operands .result) (start .pre .1 .0)
     (operand-inside-here t at-word-length) (c .operands .ensures)
 
 operand-slice-aggregate-put-gate : (t : ℕ) → operand-lts.Need-slice-aggregate-put-gate (operand-claims t) (operand-at t) operand.Post
-operand-slice-aggregate-put-gate t c = sym (c .before .before .before .before .before .operands .kept .1 .1 .1 .1 .1 .1 .1 .1 .1 .1 .0)
+operand-slice-aggregate-put-gate t c = sym (c .before .before .before .before .before .operands .kept .1 .1 .1 .1 .1 .1 .1 .0)
 
 operand-put-gate-requires : (t : ℕ) → operand-lts.Need-put-gate-requires (operand-claims t) (operand-at t) operand.Post
 operand-put-gate-requires t c κs =
     let at-operands = c .before .before .before .before .before in
     let b = operand-bounded t at-operands
-    in (omega (arith, b .number, b .behind, b .room), ((b .kind, b .count), at-operands .operands .kept .1 .1 .1 .1 .1 .1 .1 .1 .1 .1 .0))
+    in (omega (arith, b .number, b .behind, b .room), ((b .kind, b .count), at-operands .operands .kept .1 .1 .1 .1 .1 .1 .1 .0))
 
-operand-add-t18 : (t : ℕ) → operand-lts.Need-add-t18 (operand-claims t) (operand-at t) operand.Post
-operand-add-t18 t c =
+operand-add-t20 : (t : ℕ) → operand-lts.Need-add-t20 (operand-claims t) (operand-at t) operand.Post
+operand-add-t20 t c =
     let at-slots2 = c .before .before .before .before .before .before in
     let at-operands = at-slots2 .before .before .before in
     let b = operand-bounded t at-operands in omega (arith, b .number, b .inputs)
 
-operand-cast-t34 : (t : ℕ) → operand-lts.Need-cast-t34 (operand-claims t) (operand-at t) operand.Post
-operand-cast-t34 t c =
+operand-cast-t36 : (t : ℕ) → operand-lts.Need-cast-t36 (operand-claims t) (operand-at t) operand.Post
+operand-cast-t36 t c =
     let at-slots2 = c .before .before .before .before .before .before in
     let at-operands = at-slots2 .before .before .before in
     let b = operand-bounded t at-operands in omega (arith, b .number, b .inputs)
 
-operand-add-t24 : (t : ℕ) → operand-lts.Need-add-t24 (operand-claims t) (operand-at t) operand.Post
-operand-add-t24 t c =
+operand-add-t26 : (t : ℕ) → operand-lts.Need-add-t26 (operand-claims t) (operand-at t) operand.Post
+operand-add-t26 t c =
     let at-slots2 = c .before .before .before .before .before .before .before in
     let at-operands = at-slots2 .before .before .before in
     let b = operand-bounded t at-operands in omega (arith, b .number, b .inputs)
@@ -246,7 +246,7 @@ operand-same-length : (t : ℕ) → operand-lts.Need-same-length (operand-claims
 operand-same-length t c =
     let at-put-gate = c .before .before .before .before in
     let at-operands = at-put-gate .before .before .before .before .before .before in
-    at-put-gate .put-gate .kept .0 ∙ at-operands .operands .kept .1 .1 .1 .1 .1 .1 .1 .1 .1 .0
+    at-put-gate .put-gate .kept .0 ∙ at-operands .operands .kept .1 .1 .1 .1 .1 .1 .0
 
 operand-returns-2 : (t : ℕ) → operand-lts.Need-returns-2 (operand-claims t) (operand-at t) operand.Post
 operand-returns-2 t c =
@@ -257,9 +257,9 @@ operand-returns-2 t c =
     let at-byte-at = at-kind-here .before .before .before in
     let start = at-byte-at .before .before .before .before .before .before in
     let a = start .args in
-    expression-read (a .s .now) (a .depth) (a .n) (a .names .now) (a .words .now) (a .first) (a .gates .now)
-    (at-kind-here .kind-here .result) (at-word-length .word-length .result) (a .unknown)
-    (at-operands .operands .last .1 .1 .1 .1 .1 .1 .1 .1 .1 .0) (at-put-gate .put-gate .last .0) (at-operands .operands .last .1 .1 .1 .1 .1 .1 .1 .1 .1 .1 .0)
+    expression-read (a .s .now) (a .depth) (a .past .inputs) (a .names .now) (a .words .now) (a .past .gates) (a .gates .now)
+    (at-kind-here .kind-here .result) (at-word-length .word-length .result) (a .past .unknown)
+    (at-operands .operands .last .1 .1 .1 .1 .1 .1 .0) (at-put-gate .put-gate .last .0) (at-operands .operands .last .1 .1 .1 .1 .1 .1 .1 .0)
     (at-operands .operands .result) (operand-inside t at-word-length) (at-operands .operands .ensures) (at-put-gate .put-gate .ensures)
 
 -- another operand stands here
@@ -272,7 +272,7 @@ another-there : (t : ℕ) (c : operands-lts.Else1 (operands-claims t) (operands-
 another-there t c =
     let at-byte-at = c .before in
     let start = at-byte-at .before .before .before .before .before .before .before in
-    let a = start .args in more-there (a .s .now) (a .depth) (a .n) (a .names .now) (a .words .now) (a .first) (a .i) (a .gates .now) (a .slots .now)
+    let a = start .args in more-there (a .s .now) (a .depth) (a .past .inputs) (a .names .now) (a .words .now) (a .past .gates) (a .past .count) (a .gates .now) (a .slots .now)
     (start .pre .1 .0) (another t c)
 
 another-left : (t : ℕ) (c : operands-lts.After-operand (operands-claims t) (operands-at t) operands.Post)
@@ -282,14 +282,14 @@ another-left t c =
     let at-byte-at = past-if1 .before in
     let start = at-byte-at .before .before .before .before .before .before .before in
     let a = start .args in
-    left-shorter (a .s .now) (a .depth) (a .n) (a .names .now) (a .words .now) (a .first) (a .i) (a .gates .now) (a .slots .now) (start .pre .1 .0)
-    (another t past-if1) (a .unknown) (c .operand .last .1 .1 .1 .1 .1 .1 .1 .1 .0) (c .operand .result) (c .operand .ensures)
+    left-shorter (a .s .now) (a .depth) (a .past .inputs) (a .names .now) (a .words .now) (a .past .gates) (a .past .count) (a .gates .now) (a .slots .now) (start .pre .1 .0)
+    (another t past-if1) (a .past .unknown) (c .operand .last .1 .1 .1 .1 .1 .1 .0) (c .operand .result) (c .operand .ensures)
 
 operands-byte-at-requires : (t : ℕ) → operands-lts.Need-byte-at-requires (operands-claims t) (operands-at t) operands.Post
 operands-byte-at-requires t c κs = search needs
 
-operands-sub-t17 : (t : ℕ) → operands-lts.Need-sub-t17 (operands-claims t) (operands-at t) operands.Post
-operands-sub-t17 t c =
+operands-sub-t16 : (t : ℕ) → operands-lts.Need-sub-t16 (operands-claims t) (operands-at t) operands.Post
+operands-sub-t16 t c =
     let at-byte-at = c .before in
     let start = at-byte-at .before .before .before .before .before .before .before in
     byte-there (start .args .s .now) (at-byte-at .byte-at .ensures) (c .if1 .taken) (omega arith)
@@ -298,8 +298,8 @@ operands-returns : (t : ℕ) → operands-lts.Need-returns (operands-claims t) (
 operands-returns t c =
     let at-byte-at = c .before in
     let start = at-byte-at .before .before .before .before .before .before .before in
-    let a = start .args in nil-read (a .s .now) (a .depth) (a .n) (a .names .now) (a .words .now) (a .first) (a .i) (a .gates .now) (a .slots .now)
-    (a .unknown) (sym (at-byte-at .byte-at .ensures) ∙ c .if1 .taken)
+    let a = start .args in nil-read (a .s .now) (a .depth) (a .past .inputs) (a .names .now) (a .words .now) (a .past .gates) (a .past .count) (a .gates .now) (a .slots .now)
+    (a .past .unknown) (sym (at-byte-at .byte-at .ensures) ∙ c .if1 .taken)
 
 operands-sub-operand : (t : ℕ) → operands-lts.Need-sub-operand (operands-claims t) (operands-at t) operands.Post
 operands-sub-operand t c = another-there t c
@@ -317,7 +317,7 @@ operands-operand-requires t c κs =
     let a = start .args in (
       omega (arith, rest-length (a .s .now) 1, another-there t (c .before .before), start .pre .0),
       (
-        operand-here (a .s .now) (a .depth) (a .n) (a .names .now) (a .words .now) (a .first) (a .i) (a .gates .now) (a .slots .now)
+        operand-here (a .s .now) (a .depth) (a .past .inputs) (a .names .now) (a .words .now) (a .past .gates) (a .past .count) (a .gates .now) (a .slots .now)
             (start .pre .1 .0) (another t (c .before .before)),
         start .pre .1 .1,
       ),
@@ -331,7 +331,7 @@ operands-mul-slots t c =
     let a = start .args in
     omega (
       arith,
-      slot-there (a .s .now) (a .depth) (a .n) (a .names .now) (a .words .now) (a .first) (a .i) (a .gates .now) (a .slots .now)
+      slot-there (a .s .now) (a .depth) (a .past .inputs) (a .names .now) (a .words .now) (a .past .gates) (a .past .count) (a .gates .now) (a .slots .now)
           (start .pre .1 .0) (another t past-if1),
       start .good,
     )
@@ -342,7 +342,7 @@ operands-slice-write-slots t c =
     let at-byte-at = past-if1 .before in
     let start = at-byte-at .before .before .before .before .before .before .before in
     let a = start .args in
-    slot-there (a .s .now) (a .depth) (a .n) (a .names .now) (a .words .now) (a .first) (a .i) (a .gates .now) (a .slots .now)
+    slot-there (a .s .now) (a .depth) (a .past .inputs) (a .names .now) (a .words .now) (a .past .gates) (a .past .count) (a .gates .now) (a .slots .now)
     (start .pre .1 .0) (another t past-if1)
 
 operands-sub-at : (t : ℕ) → operands-lts.Need-sub-at (operands-claims t) (operands-at t) operands.Post
@@ -359,13 +359,13 @@ operands-part-operands-end t c = search needs
 
 operands-add-operands : (t : ℕ) → operands-lts.Need-add-operands (operands-claims t) (operands-at t) operands.Post
 operands-add-operands t c =
-    let past-if1 = c .before .before .before .before .before .before .before in
+    let past-if1 = c .before .before .before .before .before .before in
     let at-byte-at = past-if1 .before in
     let start = at-byte-at .before .before .before .before .before .before .before in
     let a = start .args in
     omega (
       arith,
-      slot-there (a .s .now) (a .depth) (a .n) (a .names .now) (a .words .now) (a .first) (a .i) (a .gates .now) (a .slots .now)
+      slot-there (a .s .now) (a .depth) (a .past .inputs) (a .names .now) (a .words .now) (a .past .gates) (a .past .count) (a .gates .now) (a .slots .now)
           (start .pre .1 .0) (another t past-if1),
       start .good,
     )
@@ -385,9 +385,9 @@ operands-operands-requires t c κs =
         start .pre .0,
       ),
       (
-        others-here (a .s .now) (a .depth) (a .n) (a .names .now) (a .words .now) (a .first) (a .i) (a .gates .now) (a .slots .now)
-            (start .pre .1 .0) (another t past-if1) (a .unknown)
-            (at-operand .operand .last .1 .1 .1 .1 .1 .1 .1 .1 .0) (at-operand .operand .result) (at-operand .operand .ensures),
+        others-here (a .s .now) (a .depth) (a .past .inputs) (a .names .now) (a .words .now) (a .past .gates) (a .past .count) (a .gates .now) (a .slots .now)
+            (start .pre .1 .0) (another t past-if1) (a .past .unknown)
+            (at-operand .operand .last .1 .1 .1 .1 .1 .1 .0) (at-operand .operand .result) (at-operand .operand .ensures),
         start .pre .1 .1,
       ),
     )
@@ -396,7 +396,7 @@ operands-same-length : (t : ℕ) → operands-lts.Need-same-length (operands-cla
 operands-same-length t c =
     let at-operands = c .before .before .before .before in
     let at-operand = at-operands .before .before .before .before .before .before .before in
-    at-operands .operands .kept .1 .1 .1 .1 .1 .1 .1 .1 .1 .0 ∙ at-operand .operand .kept .1 .1 .1 .1 .1 .1 .1 .1 .0
+    at-operands .operands .kept .1 .1 .1 .1 .1 .1 .0 ∙ at-operand .operand .kept .1 .1 .1 .1 .1 .1 .0
 
 operands-same-length-2 : (t : ℕ) → operands-lts.Need-same-length-2 (operands-claims t) (operands-at t) operands.Post
 operands-same-length-2 t c =
@@ -404,7 +404,7 @@ operands-same-length-2 t c =
     let at-operand = at-operands .before .before .before .before .before .before .before in
     let at-byte-at = at-operand .before .before .before .before in
     let start = at-byte-at .before .before .before .before .before .before .before in
-    let a = start .args in at-operands .operands .kept .1 .1 .1 .1 .1 .1 .1 .1 .1 .1 .0 ∙ length-set (a .slots .now) (a .i) (at-operand .operand .result .word)
+    let a = start .args in at-operands .operands .kept .1 .1 .1 .1 .1 .1 .1 .0 ∙ length-set (a .slots .now) (a .past .count) (at-operand .operand .result .word)
 
 operands-returns-2 : (t : ℕ) → operands-lts.Need-returns-2 (operands-claims t) (operands-at t) operands.Post
 operands-returns-2 t c =
@@ -414,9 +414,9 @@ operands-returns-2 t c =
     let at-byte-at = past-if1 .before in
     let start = at-byte-at .before .before .before .before .before .before .before in
     let a = start .args in
-    list-read (a .s .now) (a .depth) (a .n) (a .names .now) (a .words .now) (a .first) (a .i) (a .gates .now) (a .slots .now) (a .unknown)
-    (at-operand .operand .last .1 .1 .1 .1 .1 .1 .1 .1 .0) (at-operands .operands .last .1 .1 .1 .1 .1 .1 .1 .1 .1 .0)
-    (at-operands .operands .last .1 .1 .1 .1 .1 .1 .1 .1 .1 .1 .0) (at-operand .operand .result) (at-operands .operands .result)
+    list-read (a .s .now) (a .depth) (a .past .inputs) (a .names .now) (a .words .now) (a .past .gates) (a .past .count) (a .gates .now) (a .slots .now) (a .past .unknown)
+    (at-operand .operand .last .1 .1 .1 .1 .1 .1 .0) (at-operands .operands .last .1 .1 .1 .1 .1 .1 .0)
+    (at-operands .operands .last .1 .1 .1 .1 .1 .1 .1 .0) (at-operand .operand .result) (at-operands .operands .result)
     (another t past-if1) (at-operand .operand .ensures) (at-operands .operands .ensures)
 
 pub +operand+operands-spec : {M : Type 1} → statement M
@@ -440,16 +440,16 @@ pub +operand+operands-spec : {M : Type 1} → statement M
     (operand-operands-requires t)
     (operand-slice-aggregate-put-gate t)
     (operand-put-gate-requires t)
-    (operand-add-t18 t)
-    (operand-cast-t34 t)
-    (operand-add-t24 t)
+    (operand-add-t20 t)
+    (operand-cast-t36 t)
+    (operand-add-t26 t)
     (operand-same-length t)
     (operand-returns-2 t))
     λ t. operands-lts.spec (operands-claims t)
     (operands-at t)
     operands.Post
     (operands-byte-at-requires t)
-    (operands-sub-t17 t)
+    (operands-sub-t16 t)
     (operands-returns t)
     (operands-sub-operand t)
     (operands-part-operand-start t)
@@ -458,10 +458,10 @@ pub +operand+operands-spec : {M : Type 1} → statement M
     (operands-mul-slots t)
     (operands-slice-write-slots t)
     (operands-sub-at t)
+    (operands-add-operands t)
     (operands-sub-operands t)
     (operands-part-operands-start t)
     (operands-part-operands-end t)
-    (operands-add-operands t)
     (operands-operands-requires t)
     (operands-same-length t)
     (operands-same-length-2 t)
