@@ -45,7 +45,7 @@ fn of_words(words: &[u16]) -> Vec<Told> {
     ]
 }
 
-/// Render, and Compare, Cells and Run on what it made.
+/// Render, and Compare, Cells, Run and CompareCells on what it made.
 fn of_rendering(words: &[u16]) -> Vec<Told> {
     let setting = ones(words);
     let rendered = lent(BLOCK_WORDS, |room| raw::render(words, room));
@@ -55,7 +55,12 @@ fn of_rendering(words: &[u16]) -> Vec<Told> {
     let made = &cells.1[..cells.0.count];
     let run = |room: &mut [u8]| raw::run(setting.len(), made, &setting, room);
     let run = lent(GATES, run);
-    vec![rendered, compared, cells, run]
+    let outputs = words.get(2).map_or(0, |&outputs| outputs.into());
+    let table = (
+        raw::compare_cells(words, made, &vec![0; outputs]),
+        Vec::new(),
+    );
+    vec![rendered, compared, cells, run, table]
 }
 
 /// Gather, and Scatter on what it made.

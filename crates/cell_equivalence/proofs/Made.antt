@@ -103,7 +103,8 @@ module _ (ws out cells : List ℕ) (whole : isMalformed ws ≡ false) (r : Rende
   unfolding isCounted
   made-accepts s l t o k =
       let below : o < length (there .outputs) = omega (arith, same-outputs) in
-      let comes : isExcluded (decode ws) s ≡ false = not-true (isExcluded (decode ws) s) (and-left (not (isExcluded (decode ws) s)) (isSettled (decode ws) s) t) in
+      let comes : isExcluded (decode ws) s ≡ false =
+      not-true (isExcluded (decode ws) s) (and-left (not (isExcluded (decode ws) s)) (isSettled (decode ws) s) t) in
       let shows : map (shownByte (bytes s) (cellValues n cells (bytes s))) (there .outputs) ≡ map code (outputsUnder (decode ws) s) =
       whole-way ws out cells r c .shows s l comes .outputs in
       let many : length (outputsUnder (decode ws) s) ≡ outputCount (decode ws) =

@@ -128,8 +128,10 @@ module _ {n : ℕ} {cells : List ℕ} (legal : LegalParts n cells) where
     cell-is : (j : ℕ) → j < cellCount cells → cellIn table j ≡ cellAt n cells (cellSize * j)
     unfolding cellIn cellAt
     cell-is j l =
-        let operands : tab (λ i. operandAt (getD table (cellSize * j + i) 0)) operandWords ≡ tab (λ i. operandOf n (getD cells (cellSize * j + i) 0)) operandWords =
-        tab-ext (λ i. operandAt (getD table (cellSize * j + i) 0)) (λ i. operandOf n (getD cells (cellSize * j + i) 0)) operandWords
+        let decoded : ℕ → Operand = λ i. operandAt (getD table (cellSize * j + i) 0) in
+        let stored : ℕ → Operand = λ i. operandOf n (getD cells (cellSize * j + i) 0) in
+        let operands : tab decoded operandWords ≡ tab stored operandWords =
+        tab-ext decoded stored operandWords
         (λ i k. rw (table-operand j i l k) (operandAt-word n _ (legal .fewInputs) (word-small j _ (omega (arith, few-cells)) (operand-word j i l k)))) in
         rw (operands, table-truth j l) refl
 

@@ -168,7 +168,11 @@ module _ (n base : ℕ) (table : List ℕ) (places : EarlierPlaces table) where
     cell-bit : (t : ℕ) → placeBit n cs (firstGate + j) t
         ≡ bit (getD table (cellSize * j + operandWords) 0)
         (numberOfBits
-        (placeBit n cs (placeOfOperand 0) t ∷ placeBit n cs (placeOfOperand 1) t ∷ placeBit n cs (placeOfOperand 2) t ∷ placeBit n cs (placeOfOperand 3) t ∷ []))
+        (placeBit n cs (placeOfOperand 0) t
+        ∷ placeBit n cs (placeOfOperand 1) t
+        ∷ placeBit n cs (placeOfOperand 2) t
+        ∷ placeBit n cs (placeOfOperand 3) t
+        ∷ []))
     unfolding placeBit operandBit tableCells cellIn cellValue ran
     cell-bit t =
         rw (operandAt-gate j)

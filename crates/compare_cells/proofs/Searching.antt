@@ -93,7 +93,8 @@ module _ {ws shown table : List ℕ} {n base : ℕ} {nodes : List ℕ} {word : �
           let there′ : lane < lanesOf n = rw e there in
           let room : base + lanesOf n ≤ 2 ^ n = place .whole (rw (← many) below) in
           search-found (decode ws) cells shown (base + lane) count (setting-count ws e many)
-          (batch-more (λ i. cellsDisagree (decode ws) cells shown i ≡ false) refl (a .none cells t) (λ i k. f .2 i (rw (← is) k))) o (omega arith) (rw is (f .1))
+          (batch-more (λ i. cellsDisagree (decode ws) cells shown i ≡ false) refl (a .none cells t) (λ i k. f .2 i (rw (← is) k)))
+          o (omega arith) (rw is (f .1))
           (lowest-there ws shown j cells (few cells t) (listed cells t) (cells-evaluated cells t) there lowest)
 
 -- a table that was made for the number of inputs that was read

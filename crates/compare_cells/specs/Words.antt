@@ -49,5 +49,6 @@ Listed ws shown cells = (o : ℕ) → o < getD ws 2 0 → getD shown o 0 < getD 
 -- whichever cells `nodes` has the words of in the batch at `base`
 pub record Marks (ws shown : List ℕ) (base : ℕ) (nodes : List ℕ) (word : ℕ) : Type 0 where
   pub within : word < 2 ^ 64
-  pub tells : (cells : List ℕ) → cellCount cells ≤ maxGates → Listed ws shown cells → Evaluated (getD ws 0 0) base (cellsIn (getD ws 0 0) cells) (cellCount cells) nodes
+  pub tells : (cells : List ℕ) → cellCount cells ≤ maxGates → Listed ws shown cells
+      → Evaluated (getD ws 0 0) base (cellsIn (getD ws 0 0) cells) (cellCount cells) nodes
       → Tells (lanesOf (getD ws 0 0)) base (cellsDisagree (decode ws) cells shown) word

@@ -1,5 +1,5 @@
-// Where a block's outputs and the listed nodes show other values, in a batch: `lanes` holds two words for each place of the block, `nodes` one for each place of
-// the cells.
+// Where a block's outputs and the listed nodes show other values, in a batch: `lanes` holds two words for each place of the block, `nodes` one for
+// each place of the cells.
 use cell_lanes::choice::choose;
 use graph::PLACES;
 use graph::place_of;

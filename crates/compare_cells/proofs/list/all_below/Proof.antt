@@ -30,7 +30,9 @@ above c =
     let a = l .before .args in
     let s = now (a .shown) in
     sym (not-true-false (all (isBelow (a .nodes)) s)
-    (λ h. not-both (all-at (isBelow (a .nodes)) s (l .loop .o) 0 h (c .before .before .loop-test .taken)) (le-ltb (getD s (l .loop .o) 0) (a .nodes) (c .if1 .taken))))
+    (λ h.
+    not-both (all-at (isBelow (a .nodes)) s (l .loop .o) 0 h (c .before .before .loop-test .taken))
+    (le-ltb (getD s (l .loop .o) 0) (a .nodes) (c .if1 .taken))))
 
 loop-again : tie.Need-loop-again Inv-loop μ-loop
 unfolding isBelow

@@ -23,7 +23,8 @@ place-of-requires : tie.Need-place-of-requires
 place-of-requires c κs =
     let k = c .before in
     let s = start k in
-    (omega (arith, c .inputs-of .ensures, whole-parts (now (s .args .words)) (s .pre .0 .whole) .fewInputs), omega (arith, k .shared-slice-known3 .given (s .args .o)))
+    let few = whole-parts (now (s .args .words)) (s .pre .0 .whole) .fewInputs in
+    (omega (arith, c .inputs-of .ensures, few), omega (arith, k .shared-slice-known3 .given (s .args .o)))
 
 -- the place is there
 inside : (c : tie.After-place-of) → c .place-of .result < placeCount

@@ -79,7 +79,9 @@ differing c =
     let low = found-lane c in
     let d = marked low in
     let a = entry (head d) .args in
-    differsAt (now (a .words)) (now (a .shown)) (judged (evaluated d) .judge-batch .last .1 .1 .1 .1 .1 .0) (evaluated d .evaluate-cells .last .1 .1 .1 .0) (low .lowest-lane .result)
+    let lanes = judged (evaluated d) .judge-batch .last .1 .1 .1 .1 .1 .0 in
+    let nodes = evaluated d .evaluate-cells .last .1 .1 .1 .0 in
+    differsAt (now (a .words)) (now (a .shown)) lanes nodes (low .lowest-lane .result)
 
 setting-count-requires : tie.Need-setting-count-requires Inv-loop μ-loop
 setting-count-requires c κs =
@@ -88,7 +90,8 @@ setting-count-requires c κs =
 
 loop-holds : tie.Need-loop-holds Inv-loop μ-loop
 loop-holds c =
-    let s = c .before .before .before .before .before in
+    let known = c .before .before in
+    let s = known .before .before .before in
     (place-first _, agreed-none _ _ _, s .pre .1 .0, s .pre .1 .1)
 
 judge-batch-requires : tie.Need-judge-batch-requires Inv-loop μ-loop
@@ -119,7 +122,9 @@ add-output : tie.Need-add-t24 Inv-loop μ-loop
 add-output c =
     let d = marked (found-lane c) in
     let s = entry (head d) in
-    omega (arith, c .lowest-differing .ensures, least-le (differing c) (getD (now (s .args .words)) 2 0), whole-parts (now (s .args .words)) (s .pre .0 .0 .whole) .fewOutputs)
+    let words = now (s .args .words) in
+    let few = whole-parts words (s .pre .0 .0 .whole) .fewOutputs in
+    omega (arith, c .lowest-differing .ensures, least-le (differing c) (getD words 2 0), few)
 
 add-lane : tie.Need-add-t25 Inv-loop μ-loop
 add-lane c =
