@@ -2,6 +2,7 @@
 pub mod Appending
 pub mod DecimalLaws
 pub mod NameLaws
+pub mod TrimLaws
 pub mod OperandLaws
 pub mod NeverLaws
 pub mod WrittenText

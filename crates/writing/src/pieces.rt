@@ -44,13 +44,30 @@ pub fn put_all(text: &mut [u8], at: usize, bytes: &[u8]) -> usize
     end
 }
 
-// The bytes without the zeros at the end.
-fn put_trimmed(text: &mut [u8], at: usize, bytes: &[u8]) -> usize
+// The bytes without the zeros at the end, found from the end.
+fn put_without_zeros(text: &mut [u8], at: usize, bytes: &[u8]) -> usize
     requires { ⌜ Short (trimmed (now bytes)) at ⌝ }
     ensures { λ r. ⌜ Appended (trimmed (now (bytes .entry))) (now (text .entry)) at (now (text .exit)) r ⌝ }
 {
     let count = trimmed_length(bytes);
     put_all(text, at, &bytes[..count])
+}
+
+// The same, found from the start: the first zero is mostly the first of those at the end.
+fn put_trimmed(text: &mut [u8], at: usize, bytes: &[u8]) -> usize
+    requires { ⌜ Short (trimmed (now bytes)) at ⌝ }
+    ensures { λ r. ⌜ Appended (trimmed (now (bytes .entry))) (now (text .entry)) at (now (text .exit)) r ⌝ }
+{
+    let mut end = at;
+    let mut i = 0;
+    while i < bytes.len() {
+        if bytes[i] == 0 {
+            return put_without_zeros(text, end, &bytes[i..]);
+        }
+        end = put(text, end, bytes[i]);
+        i += 1;
+    }
+    end
 }
 
 // The eight bytes of the name at `from`: a word has two, the lower one first (SPECIFICATION 2.2).

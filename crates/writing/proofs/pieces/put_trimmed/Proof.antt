@@ -1,28 +1,83 @@
--- `writing::pieces::put_trimmed` meets its contract: the bytes up to the trimmed length are the trimmed bytes. Assumes nothing.
-use mathlib.Core.Path.{sym}
-use lib.Seq.{length-take-le}
+-- `writing::pieces::put_trimmed` meets its contract: the bytes before the first zero stay, and what is behind it is trimmed from the end.
+-- Assumes nothing.
+use mathlib.Core.Path.{_≡_, sym, _∙_}
+use Prim.Native.Nat.{_-_}
+use native.Mathlib.Omega.{arith}
 use borrow.Author.Needs.{needs}
+use lib.ListN.{length}
+use Rattle.laws.proofs.Elements.{rest-is-drop}
+use Rattle.writing.proofs.Appending.{appended-length}
+use Rattle.writing.proofs.TrimLaws.{TrimmedPut, trim-none, trim-short, trim-more, rest-short, rest-put, trim-every}
 use Rattle.writing.proofs.pieces.put_trimmed.Statement.{statement}
 use Rattle.writing.proofs.pieces.put_trimmed.Tie as tie
 
-trimmed-length-requires : tie.Need-trimmed-length-requires
-trimmed-length-requires c κs = search needs
+abbrev Inv-loop : tie.InvT-loop
+Inv-loop text₀ at bytes end₀ i₀ text end i = TrimmedPut bytes text₀ at text end i
 
-slice-aggregate-put-all : tie.Need-slice-aggregate-put-all
-slice-aggregate-put-all c =
-    let r = c .before .before .trimmed-length in
-    sym (length-take-le (r .result) (c .before .before .before .before .before .args .bytes .now) (r .ensures .0))
+abbrev μ-loop : tie.MeasureT-loop
+μ-loop text₀ at bytes end₀ i₀ text end i = length bytes - i
 
-put-all-requires : tie.Need-put-all-requires
-put-all-requires c κs = rw (c .before .before .trimmed-length .ensures .1) (c .before .before .before .before .before .pre)
+-- the function's entry, from the loop's head
+abbrev start : tie.At-loop Inv-loop μ-loop → tie.Start Inv-loop μ-loop
+start l = l .before .before .before
 
-same-length : tie.Need-same-length
-same-length c = search needs
+loop-holds : tie.Need-loop-holds Inv-loop μ-loop
+loop-holds c = let a = c .before .before .args in trim-none (a .bytes .now) (a .text .now) (a .at)
 
-returns : tie.Need-returns
-returns c = rw (← c .before .before .before .before .before .trimmed-length .ensures .1) (c .before .before .put-all .ensures)
+put-without-zeros-requires : tie.Need-put-without-zeros-requires Inv-loop μ-loop
+put-without-zeros-requires c κs =
+    let l = c .before .before .before .before .before in
+    rw (rest-is-drop (start l .args .bytes .now) (l .loop .i)) (rest-short (l .loop .inv) (start l .pre))
+
+same-length : tie.Need-same-length Inv-loop μ-loop
+same-length c =
+    let put = c .before .before in
+    let l = put .before .before .before .before .before .before in
+    appended-length (put .put-without-zeros .ensures) ∙ appended-length (l .loop .inv .there)
+
+returns : tie.Need-returns Inv-loop μ-loop
+returns c =
+    let put = c .before .before in
+    let l = put .before .before .before .before .before .before in
+    rest-put (l .loop .inv) (rw (rest-is-drop (start l .args .bytes .now) (l .loop .i)) at (put .put-without-zeros .ensures))
+
+put-requires : tie.Need-put-requires Inv-loop μ-loop
+put-requires c κs =
+    let tested = c .before .before in
+    let l = tested .before .before .before in
+    trim-short (l .loop .inv) (tested .before .before .loop-test .taken) (tested .if1 .left) (start l .pre)
+
+loop-again : tie.Need-loop-again Inv-loop μ-loop
+loop-again c =
+    let put = c .before .before in
+    let tested = put .before .before .before in
+    let l = tested .before .before .before in
+    trim-more (l .loop .inv) (tested .before .before .loop-test .taken) (tested .if1 .left) (put .put .ensures)
+
+same-length-2 : tie.Need-same-length-2 Inv-loop μ-loop
+same-length-2 c = appended-length (c .before .loop .inv .there)
+
+returns-2 : tie.Need-returns-2 Inv-loop μ-loop
+returns-2 c = trim-every (c .before .loop .inv) (c .loop-test .left)
 
 pub put-trimmed-spec : {M : Type 1} → statement M
 put-trimmed-spec =
     tie.close
-    (tie.spec trimmed-length-requires slice-aggregate-put-all put-all-requires same-length returns)
+    (tie.spec
+    Inv-loop
+    μ-loop
+    loop-holds
+    (λ c. omega arith)
+    (λ c. omega arith)
+    (λ c. omega arith)
+    (λ c. omega arith)
+    put-without-zeros-requires
+    same-length
+    returns
+    (λ c. omega arith)
+    put-requires
+    (λ c. omega arith)
+    (λ c. omega arith)
+    loop-again
+    same-length-2
+    returns-2)
