@@ -11,14 +11,17 @@ use Rattle.netlist.specs.Netlist.{Operand, Output}
 use Rattle.netlist.specs.StoredBlock.{decode, isMalformed}
 use Rattle.netlist.specs.Assignments.{areMasks}
 use Rattle.netlist.specs.Rounds.{operandValue, outputValue, settled}
+use Rattle.netlist.specs.Rendering.{isStraight}
 use Rattle.netlist.specs.Answers.{done, refuseIf, answerOf}
 use Rattle.netlist.specs.Sheet.{settingBytes, isBadMasks, outputValues, showing, settledOutputs, refusedRecord, recordOf, sheet}
 use Rattle.encoding.proofs.Decoded.{decode-inputCount}
+use Rattle.rounds.proofs.Sweep.{sweep-settled}
 use Rattle.graph.specs.Graph.{Decoded}
 use Rattle.ternary.specs.State.{inputsIn, stateIn}
-use Rattle.simulate.specs.Rounded.{Starting, SettledIn}
+use Rattle.simulate.specs.Rounded.{Starting, SettledIn, SweptIn}
 use Rattle.simulate.proofs.Rounds.{operands-same, starting-inputs, settled-of}
-use Rattle.sheet.specs.Shown.{settledRecord, shownIn}
+use Rattle.simulate.proofs.Sweeps.{sweep-of}
+use Rattle.sheet.specs.Shown.{BlockSettled, shownIn}
 
 -- ---- the call
 
@@ -43,25 +46,45 @@ pub bad-as : (ws : List ℕ) (fixed ones : ℕ) {n : ℕ} {r t : Bool} → n ≡
 unfolding isBadMasks
 bad-as ws fixed ones e p q = ap (λ (k : ℕ). not (areMasks k fixed ones)) (sym e) ∙ ap not (sym p) ∙ q
 
-module _ (ws : List ℕ) (fixed ones : ℕ) where
-  pub record-refused : isBadMasks (getD ws 0 0) fixed ones ≡ true → refusedRecord fixed ones ≡ recordOf (decode ws) fixed ones
-  unfolding recordOf
-  record-refused h = rw (decode-inputCount ws, h)
+pub record-refused : (ws : List ℕ) (fixed ones : ℕ) → isBadMasks (getD ws 0 0) fixed ones ≡ true
+    → refusedRecord fixed ones ≡ recordOf (decode ws) fixed ones
+unfolding recordOf
+record-refused ws fixed ones h = rw (decode-inputCount ws, h)
 
-  pub record-settled : isBadMasks (getD ws 0 0) fixed ones ≡ false → settledRecord ws fixed ones ≡ recordOf (decode ws) fixed ones
-  unfolding recordOf settledRecord
-  record-settled h = rw (decode-inputCount ws, h)
+-- the settled values of a block from those of its graph: by rounds, and by one sweep if it is straight
+module _ (ws : List ℕ) {graph start values : List ℕ} (d : Decoded (decode ws) (getD ws 1 0) graph) {m : ℕ}
+    (e : m ≡ getD ws 1 0) where
+  pub settled-rounds : {count : ℕ} → SettledIn m graph start values count → BlockSettled ws start values
+  settled-rounds {count} r =
+      let t : SettledIn (getD ws 1 0) graph start values count = rw e at r in
+      record { coded = t .coded; inputs = t .inputs; state = λ x s. t .state ∙ settled-of d s }
+
+  pub settled-sweep : not (isStraight (decode ws)) ≡ false → SweptIn m graph start values
+      → BlockSettled ws start values
+  settled-sweep h r =
+      let t : SweptIn (getD ws 1 0) graph start values = rw e at r in
+      let straight : isStraight (decode ws) ≡ true = not-false-true (isStraight (decode ws)) h in
+      record {
+        coded = t .coded;
+        inputs = t .inputs;
+        state = λ x s. t .state ∙ sweep-of d s ∙ sweep-settled (decode ws) x straight;
+      }
+    where
+      not-false-true : (b : Bool) → not b ≡ false → b ≡ true
+      not-false-true true n = refl
+      not-false-true false n = sym n
 
 -- what the outputs show under the settled values of the masks' setting
-pub settled-record : (ws : List ℕ) (fixed ones : ℕ) {graph start values : List ℕ} {m count : ℕ} → Decoded (decode ws) (getD ws 1 0) graph
-    → Starting (map valueOf (settingBytes (getD ws 0 0) fixed ones)) start → m ≡ getD ws 1 0 → SettledIn m graph start values count
-    → showing fixed ones (shownIn ws values) ≡ settledRecord ws fixed ones
-unfolding settledRecord settledOutputs shownIn outputValues outputValue
-settled-record ws fixed ones {graph} {start} {values} {m} {count} d s e r =
+pub settled-record : (ws : List ℕ) (fixed ones : ℕ) {start values : List ℕ}
+    → isBadMasks (getD ws 0 0) fixed ones ≡ false
+    → Starting (map valueOf (settingBytes (getD ws 0 0) fixed ones)) start → BlockSettled ws start values
+    → showing fixed ones (shownIn ws values) ≡ recordOf (decode ws) fixed ones
+unfolding recordOf settledOutputs shownIn outputValues outputValue
+settled-record ws fixed ones {start} {values} h s t =
     let x : List Value = map valueOf (settingBytes (getD ws 0 0) fixed ones) in
-    let t : SettledIn (getD ws 1 0) graph start values count = rw e at r in
-    let found : stateIn (getD ws 1 0) values ≡ settled (decode ws) x = t .state ∙ settled-of d s in
+    let found : stateIn (getD ws 1 0) values ≡ settled (decode ws) x = t .state x s in
     let same : operandValue (inputsIn values) (settled (decode ws) x) ≡ operandValue x (settled (decode ws) x) =
     rw (t .inputs) (operands-same (inputsIn start) x (starting-inputs s) (settled (decode ws) x) (settled (decode ws) x) (λ j. refl)) in
-    ap (λ (f : Operand → Value). showing fixed ones (map (λ (o : Output). f (o .node)) (decode ws .outputs)))
-    (ap (operandValue (inputsIn values)) found ∙ same)
+    rw (decode-inputCount ws, h)
+    (ap (λ (f : Operand → Value). showing fixed ones (map (λ (o : Output). f (o .node)) (decode ws .outputs)))
+    (ap (operandValue (inputsIn values)) found ∙ same))

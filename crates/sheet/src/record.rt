@@ -1,25 +1,31 @@
 // The answer of one record, from its two masks of inputs.
 use crate::masks::put_masks;
 use crate::outputs::show_outputs;
+use block::check_straight;
 use graph::GRAPH_WORDS;
 use graph::PLACES;
+use graph::decode_gates;
 use graph::fanout::FANOUT_WORDS;
+use graph::fanout::link_slots;
 use layout::masks::are_masks;
 use layout::offsets::gates_of;
 use layout::offsets::inputs_of;
 use netlist::Record;
 use netlist::Refusal;
+use refusals::Test;
 use refusals::number_of;
 use simulate::round::UNDEFINED;
-use simulate::round::prepare;
 use simulate::round::settle_prepared;
+use simulate::sweep::sweep_gates;
 use ternary::table::gate_table;
 ghost use mathlib.Core.Path.{_≡_};
 ghost use mathlib.Core.Bool.{false};
 ghost use Rattle.netlist.specs.StoredBlock.{decode, isMalformed};
+ghost use Rattle.netlist.specs.GateTable.{gateTable};
 ghost use Rattle.netlist.specs.Sheet.{refusedRecord, recordOf};
-ghost use Rattle.simulate.specs.Rounded.{Blank};
-ghost use Rattle.sheet.specs.Shown.{RecordReady, settledRecord};
+ghost use Rattle.graph.specs.Graph.{Graph};
+ghost use Rattle.simulate.specs.Rounded.{Unsettled, SettledIn};
+ghost use Rattle.sheet.specs.Shown.{BlockSettled};
 
 // 7, with two zero masks.
 fn refuse(fixed: u16, ones: u16) -> Record
@@ -34,51 +40,50 @@ fn refuse(fixed: u16, ones: u16) -> Record
     }
 }
 
-// The outputs under the settled values, from two masks that are legal; `values` is room for what stands at each place.
-fn settle_masks(
-    words: &[u16],
+// The settled values by rounds, from the graph of a block that may have loops; how many rounds change something. The
+// fan-out is made for this record.
+fn settle_rounds(
     table: &[u8; 1792],
     graph: &[u16; GRAPH_WORDS],
-    fanout: &[u16; FANOUT_WORDS],
-    fixed: u16,
-    ones: u16,
+    m: usize,
     values: &mut [u8; PLACES],
-) -> Record
-    requires { ⌜ RecordReady (now words) (now table) (now graph) (now fanout) × Blank (now values) ⌝ }
-    ensures { λ r. ⌜ r ≡ settledRecord (now (words .entry)) fixed ones ⌝ }
+) -> usize
+    requires { ⌜ (now table ≡ gateTable) × Graph m (now graph) × Unsettled (now values) ⌝ }
+    ensures { λ r. ⌜ SettledIn m (now (graph .entry)) (now (values .entry)) (now (values .exit)) r ⌝ }
 {
-    put_masks(inputs_of(words), fixed as usize, ones as usize, values);
-    settle_prepared(table, graph, fanout, gates_of(words), values);
-    show_outputs(words, fixed, ones, values)
+    let mut fanout = [0u16; FANOUT_WORDS];
+    link_slots(graph, m, &mut fanout);
+    settle_prepared(table, graph, &fanout, m, values)
 }
 
-// The record of two masks of inputs, of a block that is prepared.
-pub fn answer_prepared(
-    words: &[u16],
-    table: &[u8; 1792],
-    graph: &[u16; GRAPH_WORDS],
-    fanout: &[u16; FANOUT_WORDS],
-    fixed: u16,
-    ones: u16,
-) -> Record
-    requires { ⌜ RecordReady (now words) (now table) (now graph) (now fanout) ⌝ }
-    ensures { λ r. ⌜ r ≡ recordOf (decode (now (words .entry))) fixed ones ⌝ }
+// The settled values of a block that is not malformed, in place: at first the inputs have their values, and no gate has
+// one. In a straight block one sweep finds them: neither the fan-out nor rounds are needed.
+fn settle_values(words: &[u16], values: &mut [u8; PLACES])
+    requires { ⌜ (isMalformed (now words) ≡ false) × Unsettled (now values) ⌝ }
+    ensures { λ r. ⌜ BlockSettled (now (words .entry)) (now (values .entry)) (now (values .exit)) ⌝ }
 {
-    if !are_masks(inputs_of(words), fixed as usize, ones as usize) {
-        return refuse(fixed, ones);
-    }
-    let mut values = [UNDEFINED; PLACES];
-    settle_masks(words, table, graph, fanout, fixed, ones, &mut values)
+    let table = gate_table();
+    let mut graph = [0u16; GRAPH_WORDS];
+    decode_gates(words, &mut graph);
+    let m = gates_of(words);
+    let Test::Passed = check_straight(words) else {
+        settle_rounds(&table, &graph, m, values);
+        return;
+    };
+    sweep_gates(&table, &graph, m, values);
 }
 
-// The same of a block that is not malformed: the graph, the fan-out and the table are made for this record.
+// The record of two masks of inputs, of a block that is not malformed.
 pub fn answer_masks(words: &[u16], fixed: u16, ones: u16) -> Record
     requires { ⌜ isMalformed (now words) ≡ false ⌝ }
     ensures { λ r. ⌜ r ≡ recordOf (decode (now (words .entry))) fixed ones ⌝ }
 {
-    let table = gate_table();
-    let mut graph = [0u16; GRAPH_WORDS];
-    let mut fanout = [0u16; FANOUT_WORDS];
-    prepare(words, &mut graph, &mut fanout);
-    answer_prepared(words, &table, &graph, &fanout, fixed, ones)
+    let n = inputs_of(words);
+    if !are_masks(n, fixed as usize, ones as usize) {
+        return refuse(fixed, ones);
+    }
+    let mut values = [UNDEFINED; PLACES];
+    put_masks(n, fixed as usize, ones as usize, &mut values);
+    settle_values(words, &mut values);
+    show_outputs(words, fixed, ones, &values)
 }

@@ -117,6 +117,7 @@ module _ {m : ℕ} {graph : List ℕ} (start : List ℕ) (g : Graph m graph) whe
   sweeping-end {values} h l =
       record {
         coded = h .coded;
+        inputs = inputs-same values start (h .low);
         state =
             ext-getD undefined (stateIn m values) s (length-stateIn m values ∙ sym long)
             (λ k kl. let below : k < m = rw (length-stateIn m values) at kl in

@@ -71,6 +71,7 @@ pub record SettledIn (m : ℕ) (graph values values′ : List ℕ) (count : ℕ)
 -- the same of one sweep
 pub record SweptIn (m : ℕ) (graph values values′ : List ℕ) : Type 0 where
   pub coded : Coded values′
+  pub inputs : inputsIn values′ ≡ inputsIn values
   pub state : stateIn m values′ ≡ sweep (network m graph) (inputsIn values)
 
 -- the settled values in the first bytes of a slice, and the number of rounds

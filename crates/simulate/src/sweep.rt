@@ -20,7 +20,12 @@ ghost use Rattle.graph.specs.Graph.{Graph};
 ghost use Rattle.simulate.specs.Rounded.{Unsettled, Bytes, SweptIn, sweepCodes};
 
 // Each gate once, in ascending order, from the inputs and the values that this sweep has found so far.
-fn sweep_gates(table: &[u8; 1792], graph: &[u16; GRAPH_WORDS], m: usize, values: &mut [u8; PLACES])
+pub fn sweep_gates(
+    table: &[u8; 1792],
+    graph: &[u16; GRAPH_WORDS],
+    m: usize,
+    values: &mut [u8; PLACES],
+)
     requires { ⌜ (now table ≡ gateTable) × Graph m (now graph) × Unsettled (now values) ⌝ }
     ensures { λ r. ⌜ SweptIn m (now (graph .entry)) (now (values .entry)) (now (values .exit)) ⌝ }
 {
