@@ -1,7 +1,7 @@
 //! A block as a Verilog module: a gate is one of Verilog's own gates, whose meaning with undefined values (x) is ours too.
 
-use crate::export::{never_comments, Nets};
-use crate::{Block, ModuleName};
+use crate::export::Nets;
+use crate::{Block, Labels, Operand};
 
 /// The words of Verilog and SystemVerilog that a netlist's name or a module's may be, those of small letters, and Icarus's own (`bool`,
 /// `wone`, `wreal`); sorted.
@@ -31,49 +31,55 @@ const KEYWORDS: &str = "accept_on alias always always_comb always_ff always_latc
 /// assert_eq!(verilog(&block, &module_name("m")), module);
 /// # Ok::<(), Refusal>(())
 /// ```
-pub fn verilog(block: &Block, module: &ModuleName) -> String {
-    let nets = Nets::of(block);
-    let net = |operand| escaped(&nets.net(operand, ["1'b0", "1'b1"]));
+pub fn verilog(block: &Block, labels: impl Into<Labels>) -> String {
+    let labels = labels.into();
+    let nets = Nets::of(block, &labels);
+    let constants = ["1'b0", "1'b1"];
+    let net = |operand| match (operand, nets.net(operand, constants)) {
+        (Operand::Constant(_), constant) => constant,
+        (_, net) => escaped(&net),
+    };
     let listed = |names: &[String]| {
         let names: Vec<String> = names.iter().map(|name| escaped(name)).collect();
         names.join(", ")
     };
     let ports = [&nets.inputs[..], &nets.ports].concat();
-    let wires: Vec<String> = (0..block.gates()).map(|gate| format!("_{gate}")).collect();
-    let mut lines: Vec<String> = never_comments(block)
-        .iter()
-        .map(|line| format!("// {line}"))
-        .collect();
-    let module = escaped(module.as_str());
+    let wires = nets.gates.iter().filter(|gate| !nets.ports.contains(gate));
+    let wires: Vec<String> = wires.cloned().collect();
+    let comments = labels.comments(block).into_iter();
+    let mut lines: Vec<String> = comments.map(|line| format!("// {line}")).collect();
+    let module = escaped(labels.module.as_str());
     lines.push(format!("module {module} ({});", listed(&ports)));
-    for (word, names) in [
+    let declared = [
         ("input", &nets.inputs),
         ("output", &nets.ports),
         ("wire", &wires),
-    ] {
-        if !names.is_empty() {
-            lines.push(format!("  {word} {};", listed(names)));
-        }
+    ];
+    for (word, names) in declared.into_iter().filter(|(_, names)| !names.is_empty()) {
+        lines.push(format!("  {word} {};", listed(names)));
     }
     for (number, gate) in block.gate_list().iter().enumerate() {
-        let operands: Vec<String> = gate.operands.iter().map(|&operand| net(operand)).collect();
-        lines.push(format!(
-            "  {} (_{number}, {});",
-            gate.kind.word(),
-            operands.join(", ")
-        ));
+        let pins = [Operand::Gate(number)].into_iter();
+        let pins = pins.chain(gate.operands.iter().copied());
+        let pins: Vec<String> = pins.map(net).collect();
+        lines.push(format!("  {} ({});", gate.kind.word(), pins.join(", ")));
     }
     for (port, node) in nets.ports.iter().zip(block.outputs_show()) {
-        lines.push(format!("  assign {} = {};", escaped(port), net(node)));
+        if !nets.is_gate(port) {
+            lines.push(format!("  assign {} = {};", escaped(port), net(node)));
+        }
     }
     lines.push("endmodule\n".to_string());
     lines.join("\n")
 }
 
-/// A name that is a keyword is escaped: a backslash before it, a space behind it.
+/// A name that is a keyword, or that Verilog wouldn't take for one name, is escaped: a backslash before it, a space behind it.
 fn escaped(name: &str) -> String {
-    match KEYWORDS.split_whitespace().any(|keyword| keyword == name) {
-        true => format!("\\{name} "),
-        false => name.to_string(),
+    let is_keyword = || KEYWORDS.split_whitespace().any(|keyword| keyword == name);
+    let plain = |byte: u8| byte.is_ascii_alphanumeric() || byte == b'_';
+    let digit = name.starts_with(|first: char| first.is_ascii_digit());
+    match name.bytes().all(plain) && !digit && !is_keyword() {
+        true => name.to_string(),
+        false => format!("\\{name} "),
     }
 }

@@ -7,6 +7,7 @@ mod check;
 mod described;
 mod export;
 mod folder;
+mod from_blif;
 mod options;
 mod output;
 mod page;
@@ -19,7 +20,7 @@ mod sheet;
 mod source;
 mod tally;
 
-use options::{Asked, Export, Request};
+use options::{Asked, Request};
 use output::{put, Stopped};
 use program::Program;
 use run::Run;
@@ -65,12 +66,8 @@ fn answered(request: Request, program: Program) -> ExitCode {
             check::run(Source::of(theirs), Source::of(ours), json)
         }
         Request::Audit { folder, json } => audit::run(&folder, json),
-        Request::Export(Export {
-            form,
-            original,
-            files,
-        }) => Ok(export::run(form, original, &sources(files))),
-        Request::FromBlif(file) => export::from_blif(file.map_or(Source::Input, Source::of)),
+        Request::Export(export) => export::run(export),
+        Request::FromBlif(asked) => from_blif::run(asked),
         Request::Page(target, files) => page::run(&target, files),
     };
     done.unwrap_or_else(|reason| failed(&reason))
