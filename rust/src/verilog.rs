@@ -2,6 +2,7 @@
 
 use crate::export::Nets;
 use crate::{Block, Labels, Operand};
+use std::collections::HashMap;
 
 /// The words of Verilog and SystemVerilog that a netlist's name or a module's may be, those of small letters, and Icarus's own (`bool`,
 /// `wone`, `wreal`); sorted.
@@ -34,29 +35,22 @@ const KEYWORDS: &str = "accept_on alias always always_comb always_ff always_latc
 pub fn verilog(block: &Block, labels: impl Into<Labels>) -> String {
     let labels = labels.into();
     let nets = Nets::of(block, &labels);
+    let (inputs, outputs) = (ports(&nets.inputs, &nets), ports(&nets.ports, &nets));
+    let called = called(inputs.iter().chain(&outputs));
     let constants = ["1'b0", "1'b1"];
     let net = |operand| match (operand, nets.net(operand, constants)) {
         (Operand::Constant(_), constant) => constant,
-        (_, net) => escaped(&net),
+        (_, net) => called.get(&net).cloned().unwrap_or_else(|| escaped(&net)),
     };
-    let listed = |names: &[String]| {
-        let names: Vec<String> = names.iter().map(|name| escaped(name)).collect();
-        names.join(", ")
-    };
-    let ports = [&nets.inputs[..], &nets.ports].concat();
     let wires = nets.gates.iter().filter(|gate| !nets.ports.contains(gate));
-    let wires: Vec<String> = wires.cloned().collect();
+    let wires: Vec<Port> = wires.map(|gate| Port::Net(gate)).collect();
     let comments = labels.comments(block).into_iter();
     let mut lines: Vec<String> = comments.map(|line| format!("// {line}")).collect();
+    let listed: Vec<String> = inputs.iter().chain(&outputs).map(Port::name).collect();
     let module = escaped(labels.module.as_str());
-    lines.push(format!("module {module} ({});", listed(&ports)));
-    let declared = [
-        ("input", &nets.inputs),
-        ("output", &nets.ports),
-        ("wire", &wires),
-    ];
-    for (word, names) in declared.into_iter().filter(|(_, names)| !names.is_empty()) {
-        lines.push(format!("  {word} {};", listed(names)));
+    lines.push(format!("module {module} ({});", listed.join(", ")));
+    for (word, ports) in [("input", &inputs), ("output", &outputs), ("wire", &wires)] {
+        lines.extend(declared(word, ports));
     }
     for (number, gate) in block.gate_list().iter().enumerate() {
         let pins = [Operand::Gate(number)].into_iter();
@@ -66,11 +60,87 @@ pub fn verilog(block: &Block, labels: impl Into<Labels>) -> String {
     }
     for (port, node) in nets.ports.iter().zip(block.outputs_show()) {
         if !nets.is_gate(port) {
-            lines.push(format!("  assign {} = {};", escaped(port), net(node)));
+            let port = called.get(port).cloned().unwrap_or_else(|| escaped(port));
+            lines.push(format!("  assign {port} = {};", net(node)));
         }
     }
     lines.push("endmodule\n".to_string());
     lines.join("\n")
+}
+
+/// A port of a module, or a wire.
+enum Port<'a> {
+    Net(&'a str),
+    /// The nets NAME[0], NAME[1] and so on, so many.
+    Vector(&'a str, usize),
+}
+
+impl Port<'_> {
+    fn name(&self) -> String {
+        match self {
+            Port::Net(name) | Port::Vector(name, _) => escaped(name),
+        }
+    }
+}
+
+/// The ports of nets in their order: those of a vector that stand behind each other are one port, where no other net has its name.
+fn ports<'a>(names: &'a [String], nets: &Nets) -> Vec<Port<'a>> {
+    let all = || nets.inputs.iter().chain(&nets.ports).chain(&nets.gates);
+    let vector = |names: &'a [String]| {
+        let base = names[0]
+            .strip_suffix("[0]")
+            .filter(|base| !base.is_empty())?;
+        let numbered = names.iter().zip(0..);
+        let run = numbered.take_while(|(name, index)| **name == format!("{base}[{index}]"));
+        let (width, begins) = (run.count(), format!("{base}["));
+        // An output that is a gate's net is among the ports and the gates.
+        let others = all().filter(|net| !names[..width].contains(net));
+        let mut others = others.filter(|net| **net == base || net.starts_with(&begins));
+        others.next().is_none().then_some(Port::Vector(base, width))
+    };
+    let (mut found, mut rest) = (Vec::new(), names);
+    while let Some(first) = rest.first() {
+        let port = vector(rest).unwrap_or(Port::Net(first));
+        rest = match port {
+            Port::Net(_) => &rest[1..],
+            Port::Vector(_, width) => &rest[width..],
+        };
+        found.push(port);
+    }
+    found
+}
+
+/// How the nets of vectors are written.
+fn called<'a>(ports: impl Iterator<Item = &'a Port<'a>>) -> HashMap<String, String> {
+    let vectors = ports.filter_map(|port| match port {
+        Port::Net(_) => None,
+        Port::Vector(name, width) => Some((*name, *width)),
+    });
+    let nets = vectors.flat_map(|(name, width)| (0..width).map(move |index| (name, index)));
+    let written = |(name, index)| {
+        (
+            format!("{name}[{index}]"),
+            format!("{}[{index}]", escaped(name)),
+        )
+    };
+    nets.map(written).collect()
+}
+
+/// The lines that declare ports or wires: one for all nets, and one for each vector.
+fn declared(word: &str, ports: &[Port]) -> Vec<String> {
+    let (mut nets, mut lines) = (Vec::new(), Vec::new());
+    for port in ports {
+        match port {
+            Port::Net(_) => nets.push(port.name()),
+            Port::Vector(_, width) => {
+                lines.push(format!("  {word} [{}:0] {};", width - 1, port.name()));
+            }
+        }
+    }
+    if !nets.is_empty() {
+        lines.insert(0, format!("  {word} {};", nets.join(", ")));
+    }
+    lines
 }
 
 /// A name that is a keyword, or that Verilog wouldn't take for one name, is escaped: a backslash before it, a space behind it.

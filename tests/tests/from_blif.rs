@@ -418,3 +418,23 @@ fn names_that_do_not_fit() {
         told(run(&scratch, words), 2, "", &format!("unloop: {error}\n"));
     }
 }
+
+/// Nets of a vector, from 0 on and one behind the other, are one port of a module, as they were; others are escaped.
+#[test]
+fn vectors_come_back() {
+    let text = ".model m\n.inputs a[0] a[1] b[1] reg[0]\n.outputs y[0] y[1]\n.names a[0] y[0]\n0 1\n.names a[1] b[1] reg[0] y[1]\n111 1\n.end\n";
+    let scratch = with(&[("m.blif", text)]);
+    told(
+        run(
+            &scratch,
+            &["--from-blif", "m.blif", "--names", "names", "-o", "m.net"],
+        ),
+        0,
+        "",
+        "",
+    );
+    let module = "// original of m.net, by unloop\nmodule m (a, \\b[1] , \\reg , y);\n  input \\b[1] ;\n  input [1:0] a;\n  \
+                  input [0:0] \\reg ;\n  output [1:0] y;\n  not (y[0], a[0]);\n  and (y[1], a[1], \\b[1] , \\reg [0]);\nendmodule\n";
+    let words = ["--verilog", "--original", "--names", "names", "m.net"];
+    told(run(&scratch, &words), 0, module, "");
+}
