@@ -329,6 +329,75 @@ fn models_that_are_too_large() {
     assert_eq!(told.netlist.lines().count(), 2 + 16);
 }
 
+/// A row of buffers, however long, is passed once.
+#[test]
+fn a_long_row_of_buffers() {
+    let count = 300_000;
+    let mut text = ".model m\n.inputs b0\n.outputs y\n".to_string();
+    for buffer in (0..count).rev() {
+        text += &format!(".names b{buffer} b{}\n1 1\n", buffer + 1);
+    }
+    text += &format!(".names b{count} y\n0 1\n.end\n");
+    let netlist = unloop::from_blif(&text, None).expect("a model").netlist;
+    assert_eq!(netlist, "(in b0)\n(gate y (not b0))\n(out y y)\n");
+}
+
+/// Whatever is done to a model's words and lines, it is refused, or what is made of it is a netlist.
+#[test]
+fn spoiled_models() {
+    let (mut read, mut refused) = (0, 0);
+    for seed in 0..20_000 {
+        let mut random = Random::new(seed);
+        let (text, _) = model(&mut random);
+        let mut words: Vec<&str> = text.split_inclusive(|c: char| c.is_whitespace()).collect();
+        for _ in 0..random.between(1, 3) {
+            let (one, other) = (random.below(words.len()), random.below(words.len()));
+            match random.below(5) {
+                0 => drop(words.remove(one)),
+                1 => words.insert(one, words[other]),
+                2 => words.swap(one, other),
+                3 => words.insert(one, random.pick(&SPOILING)),
+                _ => words[one] = random.pick(&SPOILING),
+            }
+            if words.is_empty() {
+                break;
+            }
+        }
+        let text = words.concat();
+        let _report = Report(|| format!("seed {seed}\n{text}"));
+        match unloop::from_blif(&text, None) {
+            Ok(made) => {
+                read += 1;
+                let names: unloop::Names = made.names.to_string().parse().expect("names");
+                assert_eq!(names, made.names);
+                unloop::Block::read(&made.netlist).expect("a netlist");
+            }
+            Err(error) => {
+                refused += 1;
+                assert!(error.line <= text.lines().count().max(1), "{error}");
+            }
+        }
+    }
+    assert!(read > 1_000 && refused > 8_000, "{read} {refused}");
+}
+
+const SPOILING: [&str; 14] = [
+    "\n.model b\n",
+    "\n.end\n",
+    "\n.names ",
+    "\n.subckt a.b ",
+    "\n.subckt not a=x ",
+    "\n.latch ",
+    "\n.exdc\n",
+    "\n.gate and2 a=x b=x O=x\n",
+    "\n.inputs x ",
+    "\n.outputs x ",
+    "=",
+    "\\\n",
+    "#",
+    "é ",
+];
+
 #[test]
 fn from_blif_as_a_command() {
     let scratch = with(&[

@@ -18,6 +18,8 @@ pub struct Drivers {
     pub lines: Vec<Driver>,
     /// By net, the place of its line.
     by_net: Vec<Option<usize>>,
+    /// By net, the constant, or the input or gate's net, that it is through buffers.
+    sources: Vec<Expression>,
 }
 
 impl Drivers {
@@ -72,28 +74,24 @@ impl Drivers {
             let operands = vec![ring, Expression::Constant(true)];
             lines[place].computed = Expression::Gate(Kind::And, operands);
         }
-        let mut drivers = Drivers { lines, by_net };
-        let replaced: Vec<Expression> = (0..nets).map(|net| drivers.source(net)).collect();
-        for driver in &mut drivers.lines {
+        let sources = sources(&lines, &by_net);
+        for driver in &mut lines {
             let is_gate = matches!(driver.computed, Expression::Gate(..));
             if is_gate {
                 let held = std::mem::replace(&mut driver.computed, Expression::Constant(false));
-                driver.computed = held.over(&|net| replaced[net].clone());
+                driver.computed = held.over(&|net| sources[net].clone());
             }
         }
-        drivers
+        Drivers {
+            lines,
+            by_net,
+            sources,
+        }
     }
 
     /// The constant, or the input or gate's net, that a net is through buffers.
-    pub fn source(&self, net: Net) -> Expression {
-        let mut net = net;
-        loop {
-            match self.by_net[net].map(|place| &self.lines[place].computed) {
-                Some(Expression::Net(read)) => net = *read,
-                Some(Expression::Constant(value)) => return Expression::Constant(*value),
-                _ => return Expression::Net(net),
-            }
-        }
+    pub fn source(&self, net: Net) -> &Expression {
+        &self.sources[net]
     }
 
     /// The places of the lines that are gates, each behind those that it reads as far as that can be, and otherwise as they stand.
@@ -126,6 +124,30 @@ impl Drivers {
         order.extend(gates.into_iter().filter(|&place| waits[place] > 0));
         order
     }
+}
+
+/// What each net is through buffers, of which no ring is left; however long a row of them is, each is passed once.
+fn sources(lines: &[Driver], by_net: &[Option<usize>]) -> Vec<Expression> {
+    let mut sources: Vec<Option<Expression>> = vec![None; by_net.len()];
+    for start in 0..by_net.len() {
+        let (mut net, mut passed) = (start, Vec::new());
+        let source = loop {
+            if let Some(known) = &sources[net] {
+                break known.clone();
+            }
+            passed.push(net);
+            match by_net[net].map(|place| &lines[place].computed) {
+                Some(Expression::Net(read)) => net = *read,
+                Some(Expression::Constant(value)) => break Expression::Constant(*value),
+                _ => break Expression::Net(net),
+            }
+        };
+        for net in passed {
+            sources[net] = Some(source.clone());
+        }
+    }
+    let net = |(net, source): (Net, Option<Expression>)| source.unwrap_or(Expression::Net(net));
+    sources.into_iter().enumerate().map(net).collect()
 }
 
 /// The place of the first line of each ring of buffers.

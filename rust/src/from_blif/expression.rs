@@ -160,19 +160,19 @@ pub fn computed(table: &Table) -> Expression {
 /// `xor` or `xnor`, where the rows are all settings with an odd number of ones, or all with an even one. Each row wants something of every
 /// input, so with an undefined one no row agrees and some may, as with the gate.
 fn parity(table: &Table) -> Option<Kind> {
-    let count = table.inputs.len();
-    let all = u32::try_from(count)
-        .ok()
-        .filter(|&count| (2..32).contains(&count))
-        .is_some_and(|count| table.rows.len() == 1 << (count - 1));
+    let (rows, count) = (&table.rows, table.inputs.len());
     let full = |row: &Vec<Option<bool>>| row.iter().all(Option::is_some);
     let odd =
         |row: &Vec<Option<bool>>| row.iter().filter(|&&bit| bit == Some(true)).count() % 2 == 1;
-    let first = table.rows.first().map(odd)?;
-    let same = table.rows.iter().all(|row| full(row) && odd(row) == first);
-    let distinct: HashSet<&Vec<Option<bool>>> = table.rows.iter().collect();
-    (all && same && distinct.len() == table.rows.len()).then_some(match first == table.shown {
+    let first = odd(rows.first()?);
+    let all = (2..32).contains(&count) && rows.len() == 1 << (count - 1);
+    if !all || !rows.iter().all(|row| full(row) && odd(row) == first) {
+        return None;
+    }
+    let distinct: HashSet<&Vec<Option<bool>>> = rows.iter().collect();
+    let kind = match first == table.shown {
         true => Kind::Xor,
         false => Kind::Xnor,
-    })
+    };
+    (distinct.len() == rows.len()).then_some(kind)
 }

@@ -16,7 +16,8 @@ pub fn written(model: &Model) -> Result<(String, Names), BlifError> {
         return Err(BlifError::at(model.line, reason));
     }
     let drivers = Drivers::of(model)?;
-    let gates = gates(model, &drivers);
+    let constants = constants(model, &drivers);
+    let gates = gates(&drivers, constants);
     fits(model, &gates)?;
     let nets: Vec<Net> = gates.iter().map(|(net, _)| *net).collect();
     let mut naming = Naming::of(model, &nets);
@@ -31,7 +32,13 @@ pub fn written(model: &Model) -> Result<(String, Names), BlifError> {
         text += &format!("(gate {} {expression})\n", naming.node(*net));
     }
     for (&net, port) in model.outputs.iter().zip(&naming.ports) {
-        let node = node_shown(model, &drivers, net);
+        let node = match drivers.source(net) {
+            Expression::Net(source) => *source,
+            constant => {
+                let value = *constant == Expression::Constant(true);
+                constants[usize::from(value)].unwrap_or(net)
+            }
+        };
         text += &format!("(out {port} {})\n", naming.node(node));
     }
     match text.len() <= TEXT_BYTES {
@@ -44,36 +51,25 @@ pub fn written(model: &Model) -> Result<(String, Names), BlifError> {
     }
 }
 
-/// The net of the input or gate that an output shows; a constant's is the first output that shows it.
-fn node_shown(model: &Model, drivers: &Drivers, output: Net) -> Net {
-    match drivers.source(output) {
-        Expression::Net(net) => net,
-        constant => {
-            let mut outputs = model.outputs.iter().copied();
-            let first = outputs.find(|&net| drivers.source(net) == constant);
-            first.unwrap_or(output)
-        }
-    }
+/// The first outputs that show the constants 0 and 1, which get a gate for that.
+fn constants(model: &Model, drivers: &Drivers) -> [Option<Net>; 2] {
+    [false, true].map(|value| {
+        let mut outputs = model.outputs.iter().copied();
+        outputs.find(|&net| *drivers.source(net) == Expression::Constant(value))
+    })
 }
 
 /// The gates with their nets, and one for each constant that an output shows.
-fn gates(model: &Model, drivers: &Drivers) -> Vec<(Net, Expression)> {
+fn gates(drivers: &Drivers, constants: [Option<Net>; 2]) -> Vec<(Net, Expression)> {
     let order = drivers.order().into_iter();
-    let mut gates: Vec<(Net, Expression)> = order
-        .map(|place| &drivers.lines[place])
-        .map(|driver| (driver.net, driver.computed.clone()))
-        .collect();
-    for &net in &model.outputs {
-        let constant = drivers.source(net);
-        if let (true, Expression::Constant(value)) =
-            (node_shown(model, drivers, net) == net, constant)
-        {
-            let kind = if value { Kind::Or } else { Kind::And };
-            let operands = [false, true].map(Expression::Constant);
-            gates.push((net, Expression::gate(kind, operands)));
-        }
-    }
-    gates
+    let gates = order.map(|place| &drivers.lines[place]);
+    let gates = gates.map(|driver| (driver.net, driver.computed.clone()));
+    let shown = constants.into_iter().zip([Kind::And, Kind::Or]);
+    let shown = shown.filter_map(|(net, kind)| {
+        let operands = [false, true].map(Expression::Constant);
+        Some((net?, Expression::gate(kind, operands)))
+    });
+    gates.chain(shown).collect()
 }
 
 /// Whether a netlist has room for a model.
