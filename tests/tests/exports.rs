@@ -21,6 +21,22 @@ fn names(list: &str) -> Vec<String> {
     names.filter(|name| !name.is_empty()).collect()
 }
 
+/// The ports of a declaration with their nets: `a, b`, or `[1:0] a`, whose nets are `a[0]` and `a[1]`.
+fn declared(rest: &str) -> impl Iterator<Item = (String, Vec<String>)> {
+    let vector = rest
+        .strip_prefix('[')
+        .and_then(|rest| rest.split_once(":0] "));
+    let (last, list) = vector.unwrap_or(("", rest));
+    let last: Option<usize> = last.parse().ok();
+    names(list).into_iter().map(move |name| {
+        let nets = match last {
+            Some(last) => (0..=last).map(|index| format!("{name}[{index}]")).collect(),
+            None => vec![name.clone()],
+        };
+        (name, nets)
+    })
+}
+
 /// A module's inputs, outputs, and its nets with what drives each: a word and operands; `assign` is the word of a port.
 #[derive(Default)]
 struct Module<'a> {
@@ -32,30 +48,16 @@ struct Module<'a> {
 impl Module<'_> {
     fn of(text: &str) -> Module<'_> {
         let mut module = Module::default();
-        let mut nets: HashMap<String, (&str, Vec<String>)> = HashMap::new();
+        let mut ports: HashMap<String, (&str, Vec<String>)> = HashMap::new();
         for line in text.lines().filter(|line| line.starts_with("  ")) {
             let (word, rest) = line.trim().split_once(' ').expect("a word");
             let rest = rest.strip_suffix(';').expect("an end");
-            match (
-                word,
-                rest.strip_prefix('[')
-                    .and_then(|rest| rest.split_once(":0] ")),
-            ) {
-                ("input" | "output", Some((last, name))) => {
-                    let (last, name): (usize, _) =
-                        (last.parse().expect("a number"), &names(name)[0]);
-                    let bits = (0..=last).map(|index| format!("{name}[{index}]"));
-                    nets.insert(name.clone(), (word, bits.collect()));
+            match word {
+                "input" | "output" => {
+                    ports.extend(declared(rest).map(|(name, nets)| (name, (word, nets))));
                 }
-                ("input" | "output", None) => {
-                    nets.extend(
-                        names(rest)
-                            .into_iter()
-                            .map(|name| (name.clone(), (word, vec![name]))),
-                    );
-                }
-                ("wire", _) => {}
-                ("assign", _) => {
+                "wire" => {}
+                "assign" => {
                     let (port, node) = rest.split_once(" = ").expect("an assignment");
                     module
                         .drivers
@@ -70,16 +72,13 @@ impl Module<'_> {
                 }
             }
         }
-        let head = text
-            .lines()
-            .find(|line| line.starts_with("module "))
-            .expect("a head");
-        let (_, ports) = head.split_once(" (").expect("ports");
-        for port in names(ports.strip_suffix(");").expect("an end")) {
-            let (word, bits) = nets.remove(&port).expect("a declaration");
-            match word {
-                "input" => module.inputs.extend(bits),
-                _ => module.outputs.extend(bits),
+        let mut lines = text.lines();
+        let head = lines.find(|line| line.starts_with("module "));
+        let (_, listed) = head.and_then(|head| head.split_once(" (")).expect("ports");
+        for port in names(listed.strip_suffix(");").expect("an end")) {
+            match ports.remove(&port).expect("a declaration") {
+                ("input", nets) => module.inputs.extend(nets),
+                (_, nets) => module.outputs.extend(nets),
             }
         }
         module
@@ -299,43 +298,42 @@ fn cells_show_what_the_rendering_shows() {
     });
 }
 
+/// Names of every kind for some pins and ports of a block, in order now and then, so that there are vectors.
+fn other_names(random: &mut Random, block: &Block) -> unloop::Names {
+    let other = [
+        "a[0]", "a[1]", "reg[0]", "_0", "_zero", "reg", "1GAT", "x.y", "_1",
+    ];
+    let order = match random.chance(50) {
+        true => random.permutation(other.len()),
+        false => (0..other.len()).collect(),
+    };
+    let mut names = unloop::Names::default();
+    for (place, &name) in order.iter().zip(&other) {
+        let name = name.to_string();
+        match (block.inputs.get(*place), block.outputs.get(*place)) {
+            (Some(input), _) if random.chance(50) => names.inputs.push((input.clone(), name)),
+            (_, Some(output)) => names.ports.push((output.port.clone(), name)),
+            _ => {}
+        }
+    }
+    names
+}
+
 /// With the gates' own names, which may be those of ports, and with pins of any name, a module and a model show what the block shows.
 #[test]
 fn labelled_originals_show_what_the_block_shows() {
+    let mut vectors = 0;
     for_texts(0..600, Size::SMALL, |random, text, block| {
-        let other = [
-            "a[0]",
-            "_0",
-            "_zero",
-            "reg",
-            "1GAT",
-            "x.y",
-            "_1",
-            "y__output",
-        ];
-        let mut names = unloop::Names::default();
-        let order = match random.chance(50) {
-            true => random.permutation(other.len()),
-            false => (0..other.len()).collect(),
-        };
-        for (place, &name) in order.iter().zip(&other) {
-            match (block.inputs.get(*place), block.outputs.get(*place)) {
-                (Some(input), _) if random.chance(50) => {
-                    names.inputs.push((input.clone(), name.to_string()))
-                }
-                (_, Some(output)) => names.ports.push((output.port.clone(), name.to_string())),
-                _ => {}
-            }
-        }
         let labels = unloop::Labels {
             gates: unloop::declarations::gate_names(text),
-            names,
+            names: other_names(random, block),
             ..unloop::Labels::from(&unloop::module_name("m"))
         };
         let read = unloop::Block::read(text).expect("a netlist");
         let module = unloop::verilog(&read, labels.clone());
         let model = unloop::blif(&read, labels);
         let _report = Report(|| format!("{module}{model}"));
+        vectors += usize::from(module.contains("[1:0] a;"));
         let (network, blif) = (Network::new(block), Blif::of(&model));
         let module = Module::of(&module);
         for setting in settings(random, block.inputs.len()) {
@@ -344,6 +342,7 @@ fn labelled_originals_show_what_the_block_shows() {
             assert_eq!(blif.shown(&setting), shown, "{setting:?}");
         }
     });
+    assert!(vectors > 20, "{vectors}");
 }
 
 /// Gates by their own names: one that a port shows under its name, one whose name another port has, one within another, and one with a number.
@@ -353,7 +352,8 @@ fn names_of_gates() {
                    (out q q)\n(out n q)\n(out x _2)\n";
     let scratch = with(&[("latch.net", netlist)]);
     let module = "// original of latch.net, by unloop\nmodule latch (s, q, n, x);\n  input s;\n  output q, n, x;\n  \
-                  wire __1, n__gate, _2;\n  nor (q, s, n__gate);\n  not (__1, s);\n  nor (n__gate, __1, q);\n  not (_2, n__gate);\n  assign n = q;\n  assign x = _2;\n\
+                  wire __1, n__gate, _2;\n  nor (q, s, n__gate);\n  not (__1, s);\n  nor (n__gate, __1, q);\n  not (_2, n__gate);\n  \
+                  assign n = q;\n  assign x = _2;\n\
                   endmodule\n";
     told(
         run(&scratch, &["--verilog", "--original", "latch.net"]),

@@ -118,6 +118,9 @@ fn written_models_come_back() {
             let back = unloop::from_blif(&model, None).expect("a model");
             let told = compared(words, &block_of(&back.netlist).to_words());
             assert_eq!((told.number, told.count), (0, 0), "{model}");
+            let (ours, theirs) = (unloop::Block::from_words(words), &back.netlist);
+            let theirs = unloop::Block::read(theirs).expect("a netlist");
+            assert_eq!(ours.expect("a block").compare(&theirs), Ok(None), "{model}");
         }
     };
     for_blocks(0..600, Size::SMALL, &mut check);
@@ -168,46 +171,49 @@ fn body(lines: &str) -> String {
     gates.trim_end().replace('\n', " ")
 }
 
+/// Lines, and the gates and the output that are made of them.
+const AS_GATES: &[(&str, &str)] = &[
+    (".names y", "(gate y (and 0 1)) (out y y)"),
+    (".names y\n1", "(gate y (or 0 1)) (out y y)"),
+    (".names y\n 0", "(gate y (and 0 1)) (out y y)"),
+    (".names s t y\n-- 0", "(gate y (and 0 1)) (out y y)"),
+    (".names s y\n1 1", "(out y s)"),
+    (".names s y\n0 0", "(out y s)"),
+    (".conn s y", "(out y s)"),
+    (".names s y\n1 0", "(gate y (not s)) (out y y)"),
+    (".names s t y\n1- 1\n-1 1", "(gate y (or s t)) (out y y)"),
+    (".names s t y\n0- 1\n-0 1", "(gate y (nand s t)) (out y y)"),
+    (".names s t y\n00 0", "(gate y (or s t)) (out y y)"),
+    (".names s t y\n01 1\n10 1", "(gate y (xor s t)) (out y y)"),
+    (".names s t y\n01 0\n10 0", "(gate y (xnor s t)) (out y y)"),
+    (".names s t y\n10 1", "(gate y (and s (not t))) (out y y)"),
+    (".names s y\n0 1\n1 1", "(gate y (or s (not s))) (out y y)"),
+    (
+        ".names z\n1\n.names s z y\n11 1",
+        "(gate y (and s 1)) (out y y)",
+    ),
+    (
+        ".names z y\n1 1\n.names y z\n1 1",
+        "(gate y (and y 1)) (out y y)",
+    ),
+    (
+        ".names s n y\n00 1\n.names t y n\n00 1",
+        "(gate y (nor s n)) (gate n (nor t y)) (out y y)",
+    ),
+    (
+        ".names s t s t s y\n11111 1",
+        "(gate y (and (and s t) s t s)) (out y y)",
+    ),
+    (
+        ".area 3\n.subckt nand2 a=s b=t O=y\n.cname u1",
+        "(gate y (nand s t)) (out y y)",
+    ),
+];
+
 #[test]
 fn tables_as_gates() {
-    for (lines, gates) in [
-        (".names y", "(gate y (and 0 1)) (out y y)"),
-        (".names y\n1", "(gate y (or 0 1)) (out y y)"),
-        (".names y\n 0", "(gate y (and 0 1)) (out y y)"),
-        (".names s t y\n-- 0", "(gate y (and 0 1)) (out y y)"),
-        (".names s y\n1 1", "(out y s)"),
-        (".names s y\n0 0", "(out y s)"),
-        (".conn s y", "(out y s)"),
-        (".names s y\n1 0", "(gate y (not s)) (out y y)"),
-        (".names s t y\n1- 1\n-1 1", "(gate y (or s t)) (out y y)"),
-        (".names s t y\n0- 1\n-0 1", "(gate y (nand s t)) (out y y)"),
-        (".names s t y\n00 0", "(gate y (or s t)) (out y y)"),
-        (".names s t y\n01 1\n10 1", "(gate y (xor s t)) (out y y)"),
-        (".names s t y\n01 0\n10 0", "(gate y (xnor s t)) (out y y)"),
-        (".names s t y\n10 1", "(gate y (and s (not t))) (out y y)"),
-        (".names s y\n0 1\n1 1", "(gate y (or s (not s))) (out y y)"),
-        (
-            ".names z\n1\n.names s z y\n11 1",
-            "(gate y (and s 1)) (out y y)",
-        ),
-        (
-            ".names z y\n1 1\n.names y z\n1 1",
-            "(gate y (and y 1)) (out y y)",
-        ),
-        (
-            ".names s n y\n00 1\n.names t y n\n00 1",
-            "(gate y (nor s n)) (gate n (nor t y)) (out y y)",
-        ),
-        (
-            ".names s t s t s y\n11111 1",
-            "(gate y (and (and s t) s t s)) (out y y)",
-        ),
-        (
-            ".area 3\n.subckt nand2 a=s b=t O=y\n.cname u1",
-            "(gate y (nand s t)) (out y y)",
-        ),
-    ] {
-        assert_eq!(body(lines), gates, "{lines}");
+    for (lines, gates) in AS_GATES {
+        assert_eq!(&body(lines), gates, "{lines}");
     }
 }
 
@@ -242,9 +248,8 @@ fn subcircuits_in_place() {
     );
 }
 
-#[test]
-fn models_that_are_not_read() {
-    for (body, error) in [
+/// Lines between `.outputs y` and `.end`, and what is told of them.
+const NOT_READ: &[(&str, &str)] = &[
         (".gate and2 a=s b=s O=y\n.gate buf a=s O=y", "5: y is driven twice"),
         (".names s\n", "4: s is driven twice"),
         (".gate and5 a=s b=s O=y", "4: and5 is no cell of the library"),
@@ -272,10 +277,18 @@ fn models_that_are_not_read() {
         (".subckt n\n.end\n.model n\n.inputs q", "4: the pin q of n is missing"),
         (".end\n.model m", "5: a second model m"),
         (".model n", "4: m has no .end"),
-    ] {
+];
+
+#[test]
+fn models_that_are_not_read() {
+    for (body, error) in NOT_READ {
         let model = format!(".model m\n.inputs s\n.outputs y\n{body}\n.end\n");
         let told = unloop::from_blif(&model, None).map_err(|error| error.to_string());
-        assert_eq!(told.map(|read| read.netlist), Err(error.to_string()), "{model}");
+        assert_eq!(
+            told.map(|read| read.netlist),
+            Err(error.to_string()),
+            "{model}"
+        );
     }
     for (model, error) in [
         ("", "1: no model: .model to .end"),
@@ -407,6 +420,15 @@ fn from_blif_as_a_command() {
     ]);
     let text = "(in s)\n(gate z (or 0 1))\n(out y s)\n(out z z)\n(out s z)\n";
     told(run(&scratch, &["--from-blif", "a.blif"]), 0, text, "");
+    let error = "unloop: c.blif:2: .latch: b keeps a value, and a netlist has no latches\n";
+    told(run(&scratch, &["--from-blif", "c.blif"]), 2, "", error);
+}
+
+/// Names are told, or written to a file, with which a model and a module have them again.
+#[test]
+fn names_as_a_file() {
+    let model = ".model m\n.inputs S a[1]\n.outputs sample_rate_select\n.gate and2 a=S b=a[1] O=sample_rate_select\n.end\n";
+    let scratch = with(&[("b.blif", model)]);
     let text = "(in s)\n(in a_1)\n(gate sample_r (and s a_1))\n(out sample_r sample_r)\n";
     let note =
         "b.blif: s is S, a_1 is a[1], sample_r is sample_rate_select (--names NAMES keeps that)\n";
@@ -442,8 +464,6 @@ fn from_blif_as_a_command() {
         module,
         "",
     );
-    let error = "unloop: c.blif:2: .latch: b keeps a value, and a netlist has no latches\n";
-    told(run(&scratch, &["--from-blif", "c.blif"]), 2, "", error);
 }
 
 #[test]

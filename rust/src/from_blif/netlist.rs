@@ -34,10 +34,7 @@ pub fn written(model: &Model) -> Result<(String, Names), BlifError> {
     for (&net, port) in model.outputs.iter().zip(&naming.ports) {
         let node = match drivers.source(net) {
             Expression::Net(source) => *source,
-            constant => {
-                let value = *constant == Expression::Constant(true);
-                constants[usize::from(value)].unwrap_or(net)
-            }
+            constant => first_shown(constants, constant).unwrap_or(net),
         };
         text += &format!("(out {port} {})\n", naming.node(node));
     }
@@ -57,6 +54,11 @@ fn constants(model: &Model, drivers: &Drivers) -> [Option<Net>; 2] {
         let mut outputs = model.outputs.iter().copied();
         outputs.find(|&net| *drivers.source(net) == Expression::Constant(value))
     })
+}
+
+/// The output whose gate a constant is.
+fn first_shown(constants: [Option<Net>; 2], constant: &Expression) -> Option<Net> {
+    constants[usize::from(*constant == Expression::Constant(true))]
 }
 
 /// The gates with their nets, and one for each constant that an output shows.
