@@ -16,7 +16,7 @@ read_options() {
 # Fails where an option is unknown or lacks what it needs, or where what is to be read is not there, and answers --help and --version. Sets
 # `only` to the FILE, or - for standard input, where one rendering is all that is asked for.
 look_at() {
-  local word option value attached needs path readable=() files=() options=0
+  local word option value attached needs path readable=() files=() options=0 given=files
   read_options
   while (($#)); do
     word=$1
@@ -33,7 +33,10 @@ look_at() {
     needs=${needed[$option]-unknown}
     case $needs in
       unknown) fail "unknown option $word (see --help)" ;;
-      '') [[ -z $attached ]] || fail "$option takes no value (see --help)" ;;
+      '')
+        [[ -z $attached || $option == --audit ]] || fail "$option takes no value (see --help)"
+        if [[ -n $attached ]]; then files+=("$value"); fi
+        ;;
       *)
         [[ -n $attached || $# -gt 0 ]] || fail "$option needs $needs (see --help)"
         if [[ -z $attached ]]; then value=$1 && shift; fi
@@ -43,10 +46,22 @@ look_at() {
       -h | --help) exec cat "$usage" ;;
       -V | --version) exec sed -n 's/^version = "\(.*\)"/unloop \1/p' "$root/rust/Cargo.toml" ;;
       --sheet | --run-cells | --check) [[ $value == all && $option != --check ]] || readable+=("$value") ;;
-      --audit) [[ -d $value ]] || fail "$value: No such file or directory" ;;
+      --audit) given=entries ;;
+      --store)
+        [[ -d $value ]] || fail "$value: No such file or directory"
+        given=names
+        ;;
     esac
   done
-  for path in "${readable[@]}" "${files[@]}"; do look_at_path "$path"; done
+  for path in "${readable[@]}"; do look_at_path "$path"; done
+  for path in "${files[@]}"; do
+    case $given in
+      files) look_at_path "$path" ;;
+      entries) # folders too, and files of an entry that are gone
+        [[ -e $path || $path == *.@(net|out|cover) ]] || fail "$path: No such file or directory"
+        ;;
+    esac
+  done
   only=
   if ((options == 0 && ${#files[@]} < 2)); then only=${files[0]--}; fi
 }

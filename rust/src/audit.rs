@@ -1,8 +1,16 @@
 //! An entry of a catalogue: an original, and three facts that are stored beside it: its rendering (or its refusal), its never lines and its
 //! cover. Do they still hold? Judged by Read, Render, Compare and Cover; only the lines of the stored cover are read here.
+//!
+//! A table of cells may stand beside them too. It is no fact yet: what CompareCells says of it belongs into [`Audit`] and [`audit`].
+
+mod names;
+mod stored;
 
 use crate::{Assignment, Block, Disagreement, Refusal};
-use std::collections::HashSet;
+pub use names::Names;
+use std::collections::{BTreeSet, HashSet};
+pub use stored::{cover_text, entry_lines};
+use stored::{Lines, Pins};
 
 /// What became of a stored rendering.
 #[derive(Debug, Clone, PartialEq, Eq)]
@@ -14,7 +22,7 @@ pub enum Rendering {
     Differs(Disagreement),
     /// Its text can't be read.
     Illegible(Refusal),
-    /// It has a loop, or other pins or ports than the original.
+    /// It has a loop, or other pins or ports than the original; [`Audit`] says which.
     Incomparable(Refusal),
     /// It says what the original says, but has never lines, and they are not the original's. One without any is as good as one with them.
     Never(Changes),
@@ -52,22 +60,32 @@ pub struct Changes {
     pub gone: Vec<Assignment>,
     /// Those that were not there.
     pub new: Vec<Assignment>,
+    /// Those before that name a pin which is gone, as they are written.
+    pub gone_with_pins: Vec<String>,
     /// Whether they exclude the settings that were excluded before, and no others.
     pub same_settings: bool,
+    /// Whether they exclude a setting that was not excluded before.
+    pub more_settings: bool,
 }
 
 impl Changes {
     /// From the lines before to those now, in a block with so many inputs; none where they are the same.
-    fn between(before: &[Assignment], now: &[Assignment], inputs: usize) -> Option<Changes> {
+    fn between(before: Lines, now: &[Assignment], inputs: usize) -> Option<Changes> {
         let excluded =
             |lines: &[Assignment], setting| lines.iter().any(|line| line.agrees(setting));
         let mut settings = 0..1 << inputs;
+        let both = |setting| (excluded(&before.read, setting), excluded(now, setting));
+        let same = settings.clone().all(|s| both(s).0 == both(s).1);
         let changes = Changes {
-            gone: beyond(before, now),
-            new: beyond(now, before),
-            same_settings: settings.all(|s| excluded(before, s) == excluded(now, s)),
+            gone: beyond(&before.read, now),
+            new: beyond(now, &before.read),
+            same_settings: same && before.gone.is_empty(),
+            more_settings: settings.any(|s| both(s) == (false, true)),
+            gone_with_pins: before.gone,
         };
-        let changed = !changes.gone.is_empty() || !changes.new.is_empty();
+        let changed = !changes.gone.is_empty()
+            || !changes.new.is_empty()
+            || !changes.gone_with_pins.is_empty();
         changed.then_some(changes)
     }
 }
@@ -103,13 +121,18 @@ pub enum Cover {
     Gained {
         setting: usize,
     },
+    /// The same settings, but it names pins that are gone.
+    Pins,
     /// The same settings, told by other entries than the minimal ones.
     Entries,
 }
 
-/// All three.
+/// All three, and how the pins and ports are others than those that are stored.
 #[derive(Debug, Clone, PartialEq, Eq)]
 pub struct Audit {
+    /// Against the stored rendering's; where none is stored, those that the stored cover names and that are gone.
+    pub pins: Names,
+    pub ports: Names,
     pub rendering: Rendering,
     pub never: Never,
     pub cover: Cover,
@@ -126,11 +149,11 @@ impl Audit {
 /// Audits an entry from its texts: the original, NAME.out and NAME.cover where they are there.
 ///
 /// ```
-/// # use unloop::audit::{audit, Audit, Cover, Never, Rendering};
+/// # use unloop::audit::{audit, Cover, Never, Rendering};
 /// let original = b"(in a)\n(in b)\n(gate p (and a q))\n(gate q (or b p))\n(out y q)\n";
 /// let made = b"(in a)\n(in b)\n(out y b)\n";
 /// let told = audit(original, Some(made), Some(b"always\n"));
-/// assert_eq!(told, Audit { rendering: Rendering::Holds, never: Never::Holds, cover: Cover::Lost { setting: 1 } });
+/// assert_eq!((told.rendering, told.never, told.cover), (Rendering::Holds, Never::Holds, Cover::Lost { setting: 1 }));
 /// assert!(audit(original, Some(made), Some(b"a = 0\nb = 1\n")).holds());
 /// let promised = b"(in a)\n(in b)\n(never (a 1))\n(gate p (and a q))\n(gate q (or b p))\n(out y q)\n";
 /// let told = audit(promised, Some(made), Some(b"always\n"));
@@ -146,16 +169,48 @@ pub fn audit(original: &[u8], out: Option<&[u8]>, cover: Option<&[u8]>) -> Audit
             None => compared(&block, out),
         },
     };
-    let (never, cover) = match (&block, cover) {
-        (Err(_), None) => (Never::Holds, Cover::Holds),
-        (Err(refusal), Some(_)) => (Never::Original(*refusal), Cover::Original(*refusal)),
-        (Ok(_), None) => (Never::Missing, Cover::Missing),
-        (Ok(block), Some(stored)) => (promised(block, stored), covered(block, stored)),
-    };
-    Audit {
+    let mut found = Audit {
+        pins: Names::default(),
+        ports: Names::default(),
         rendering,
-        never,
-        cover,
+        never: Never::Holds,
+        cover: Cover::Holds,
+    };
+    match (&block, cover) {
+        (Err(_), None) => {}
+        (Err(refusal), Some(_)) => {
+            (found.never, found.cover) = (Never::Original(*refusal), Cover::Original(*refusal));
+        }
+        (Ok(block), cover) => found.read(block, out, cover),
+    }
+    found
+}
+
+impl Audit {
+    /// The pins, the ports, the never lines and the cover of a block, against what is stored.
+    fn read(&mut self, block: &Block, out: Option<&[u8]>, cover: Option<&[u8]>) {
+        let today = block.input_names();
+        let theirs = out.and_then(|out| Block::read(out).ok());
+        if let Some(theirs) = &theirs {
+            self.pins = Names::between(&theirs.input_names(), &today);
+            self.ports = Names::between(&theirs.output_names(), &block.output_names());
+        }
+        let Some(stored) = cover else {
+            (self.never, self.cover) = (Never::Missing, Cover::Missing);
+            return;
+        };
+        let pins = Pins {
+            today: &today,
+            changes: theirs.as_ref().map(|_| &self.pins),
+        };
+        let (never, unsaid) = promised(block, stored, &pins);
+        let (cover, unnamed) = covered(block, stored, &pins);
+        if theirs.is_none() {
+            let gone = unsaid.into_iter().chain(unnamed);
+            let gone: BTreeSet<String> = gone.collect();
+            self.pins.gone.extend(gone);
+        }
+        (self.never, self.cover) = (never, cover);
     }
 }
 
@@ -194,38 +249,48 @@ fn own_promises(ours: &Block, theirs: &Block) -> Option<Changes> {
     let lines = theirs.never_lines();
     match lines.is_empty() {
         true => None,
-        false => Changes::between(&ours.never_lines(), &lines, ours.inputs()),
+        false => Changes::between(Lines::of(ours.never_lines()), &lines, ours.inputs()),
     }
 }
 
-fn promised(block: &Block, stored: &[u8]) -> Never {
-    let stored = match stored_nevers(stored, &block.input_names()) {
+/// The never lines, and the pins that are gone and that the stored ones name.
+fn promised(block: &Block, stored: &[u8], pins: &Pins) -> (Never, Vec<String>) {
+    let mut stored = match stored::nevers(stored, pins) {
         Ok(stored) => stored,
-        Err((line, reason)) => return Never::Illegible { line, reason },
+        Err((line, reason)) => return (Never::Illegible { line, reason }, Vec::new()),
     };
-    match Changes::between(&stored, &block.never_lines(), block.inputs()) {
-        Some(changes) => Never::Changed(changes),
-        None => Never::Holds,
-    }
+    let gone = std::mem::take(&mut stored.gone_pins);
+    let changes = Changes::between(stored, &block.never_lines(), block.inputs());
+    (changes.map_or(Never::Holds, Never::Changed), gone)
 }
 
-fn covered(block: &Block, stored: &[u8]) -> Cover {
-    let stored = match stored_cover(stored, &block.input_names()) {
+/// The cover, and the pins that are gone and that the stored one names.
+fn covered(block: &Block, stored: &[u8], pins: &Pins) -> (Cover, Vec<String>) {
+    let Lines {
+        read, gone_pins, ..
+    } = match stored::entries(stored, pins) {
         Ok(stored) => stored,
-        Err((line, reason)) => return Cover::Illegible { line, reason },
+        Err((line, reason)) => return (Cover::Illegible { line, reason }, Vec::new()),
     };
+    let cover = match (settled_as(block, &read), gone_pins.is_empty()) {
+        (Cover::Holds | Cover::Entries, false) => Cover::Pins,
+        (cover, _) => cover,
+    };
+    (cover, gone_pins)
+}
+
+fn settled_as(block: &Block, stored: &[Assignment]) -> Cover {
     let today = block.cover();
     let has =
         |cover: &[Assignment], setting: usize| cover.iter().any(|entry| entry.agrees(setting));
     let mut settings = 0..1 << block.inputs();
     if let Some(setting) = settings
         .clone()
-        .find(|&setting| has(&stored, setting) && !has(&today, setting))
+        .find(|&setting| has(stored, setting) && !has(&today, setting))
     {
         return Cover::Lost { setting };
     }
-    if let Some(setting) = settings.find(|&setting| has(&today, setting) && !has(&stored, setting))
-    {
+    if let Some(setting) = settings.find(|&setting| has(&today, setting) && !has(stored, setting)) {
         return Cover::Gained { setting };
     }
     let distinct: HashSet<&Assignment> = stored.iter().collect();
@@ -234,43 +299,6 @@ fn covered(block: &Block, stored: &[u8]) -> Cover {
         true => Cover::Holds,
         false => Cover::Entries,
     }
-}
-
-/// The never lines that a stored cover begins with, each as `never a = 1, b = 1`.
-pub fn stored_nevers(text: &[u8], names: &[String]) -> Result<Vec<Assignment>, (usize, String)> {
-    let text = String::from_utf8_lossy(text);
-    let lines = text.lines().map_while(never_pins).zip(1..);
-    let never = |(pins, number): (&str, usize)| match Assignment::from_pins(pins, names) {
-        Ok(Assignment { fixed: 0, .. }) => Err((number, "it names no pin".to_string())),
-        Ok(never) => Ok(never),
-        Err(why) => Err((number, why.to_string())),
-    };
-    lines.map(never).collect()
-}
-
-/// The entries of a stored cover behind its never lines, one a line; `always` fixes nothing.
-pub fn stored_cover(text: &[u8], names: &[String]) -> Result<Vec<Assignment>, (usize, String)> {
-    let text = String::from_utf8_lossy(text);
-    let entry = |(line, number): (&str, usize)| match line.trim() {
-        "always" => Ok(Assignment { fixed: 0, ones: 0 }),
-        "" => Err((number, "the line is empty".to_string())),
-        line if never_pins(line).is_some() => {
-            let why = "a never line stands before all entries";
-            Err((number, why.to_string()))
-        }
-        line => Assignment::from_pins(line, names).map_err(|why| (number, why.to_string())),
-    };
-    let lines = text.lines().zip(1..);
-    let entries = lines.skip_while(|(line, _)| never_pins(line).is_some());
-    entries.map(entry).collect()
-}
-
-/// What stands behind `never` in a line that begins with this word; `never = 1` is an entry, of an input that is called so.
-fn never_pins(line: &str) -> Option<&str> {
-    let behind = line.trim().strip_prefix("never")?;
-    let pins = behind.trim_start();
-    let is_word = behind.is_empty() || behind.starts_with(char::is_whitespace);
-    (is_word && !pins.starts_with('=')).then_some(pins)
 }
 
 impl Refusal {

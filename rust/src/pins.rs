@@ -57,12 +57,22 @@ impl Assignment {
     /// assert_eq!(unknown.to_string(), "no input is named c");
     /// ```
     pub fn from_pins(line: &str, names: &[String]) -> Result<Assignment, PinsError> {
-        let mut found = Assignment::default();
         if names.len() > INPUTS {
             return Err(PinsError::TooManyNames(names.len()));
         }
+        let place = |pin: &str| names.iter().position(|name| name == pin).map(Some);
+        let (found, _) = Assignment::placed(line, place)?;
+        Ok(found)
+    }
+
+    /// The same where a name may be that of a pin which is gone (`Some(None)`), and these names.
+    pub(crate) fn placed(
+        line: &str,
+        place: impl Fn(&str) -> Option<Option<usize>>,
+    ) -> Result<(Assignment, Vec<&str>), PinsError> {
+        let (mut found, mut gone) = (Assignment::default(), Vec::new());
         if line.trim().is_empty() {
-            return Ok(found);
+            return Ok((found, gone));
         }
         for part in line.split(',') {
             let wrong = || PinsError::NotAPair(part.trim().to_string());
@@ -73,14 +83,17 @@ impl Assignment {
                 "1" => 1,
                 _ => return Err(wrong()),
             };
-            let input = names.iter().position(|name| name == pin);
-            let input = input.ok_or_else(|| PinsError::UnknownPin(pin.to_string()))?;
-            if found.value(input).is_some() {
-                return Err(PinsError::Twice(pin.to_string()));
+            let twice = || PinsError::Twice(pin.to_string());
+            match place(pin).ok_or_else(|| PinsError::UnknownPin(pin.to_string()))? {
+                None if gone.contains(&pin) => return Err(twice()),
+                None => gone.push(pin),
+                Some(input) if found.value(input).is_some() => return Err(twice()),
+                Some(input) => {
+                    found.fixed |= 1 << input;
+                    found.ones |= value << input;
+                }
             }
-            found.fixed |= 1 << input;
-            found.ones |= value << input;
         }
-        Ok(found)
+        Ok((found, gone))
     }
 }

@@ -12,6 +12,7 @@ use simulator::limits::TEXT_BYTES;
 use simulator::render::copied;
 use simulator::{cover, write};
 use std::fs;
+use std::os::unix::fs::symlink;
 use unloop::audit::{audit, Changes, Cover, Never, Rendering};
 use unloop::{Assignment, Disagreement};
 
@@ -50,7 +51,7 @@ fn rate_block() {
         ("d/rate.cover", "always\n"),
     ]);
     let cover = "  cover: stored as settled, but not settled with sample = 0, mute = 0, k44 = 0, k48 = 1: y undefined\n";
-    let summary = "1 entry: 0 hold, 1 lost\n";
+    let summary = "  to store it anew: unloop --store d rate --force\n1 entry: 0 hold, 1 lost\n";
     scratch.put("d/rate.out", catalogue("rate-all-passes.net"));
     let output = format!("d/rate.net: lost\n{cover}{summary}");
     told(run(&scratch, &["--audit", "d"]), 1, &output, "");
@@ -79,13 +80,15 @@ fn promise_that_appears() {
     scratch.put("d/rate.net", catalogue("rate-never-48.net"));
     let why = "never k48 = 1 is new: 8 of 16 settings are promised never to come";
     let excluding = "  settled settings: 8 of 8, 8 excluded\n";
-    let output =
-        format!("d/rate.net: lost\n  never lines: {why}\n{excluding}1 entry: 0 hold, 1 lost\n");
+    let anew = "  to store it anew: unloop --store d rate --force\n";
+    let output = format!(
+        "d/rate.net: lost\n  never lines: {why}\n{excluding}{anew}1 entry: 0 hold, 1 lost\n"
+    );
     told(run(&scratch, &["--audit", "d"]), 1, &output, "");
     let object = format!(
         "{{\"file\":\"d/rate.net\",\"holds\":false,\"rendering\":{{\"state\":\"holds\"}},\
          \"never\":{{\"state\":\"changed\",\"gone\":[],\"new\":[{{\"k48\":1}}],\"why\":\"{why}\"}},\
-         \"cover\":{{\"state\":\"holds\"}},\"excluded\":8}}\n"
+         \"cover\":{{\"state\":\"holds\"}},\"excluded\":8,\"weaker\":true}}\n"
     );
     told(run(&scratch, &["--json", "--audit", "d"]), 1, &object, "");
     scratch.put("d/rate.cover", catalogue("rate-never-48.cover"));
@@ -255,10 +258,10 @@ fn widest_stored_cover() {
     let audited = || String::from_utf8(run(&scratch, &["--audit", "."]).stdout).unwrap();
     let output = audited();
     assert!(output.starts_with("./x.net: all hold"), "{output}");
-    scratch.put("x.cover", stored.clone() + "none = 1\n");
+    scratch.put("x.cover", stored.clone() + "NONE = 1\n");
     let line = stored.lines().count() + 1;
     let output = audited();
-    let expected = format!("  cover: line {line}: no input is named none\n");
+    let expected = format!("  cover: line {line}: no input is named NONE\n");
     assert!(output.contains(&expected), "{output}");
 }
 
@@ -275,7 +278,7 @@ fn files_that_cannot_be_read() {
     let errors = "unloop: ./a.net: Is a directory\nunloop: ./c.cover: Is a directory\n";
     let output =
         "./b.net: all hold\n./d.net: lost\n  rendering: no ./d.out\n  cover: no ./d.cover\n\
-                  4 entries: 1 hold, 1 lost, 2 errors\n";
+                  \x20 to store it anew: unloop --store . d\n4 entries: 1 hold, 1 lost, 2 errors\n";
     told(run(&scratch, &["--audit", "."]), 2, output, errors);
     let ended = run(&scratch, &["--json", "--audit", "."]);
     let output = String::from_utf8(ended.stdout).unwrap();
@@ -300,7 +303,12 @@ fn what_else_is_lost() {
     let (net, rendered) = (catalogue("smallest.net"), catalogue("smallest.out"));
     let lost = |files: &[(&str, &str)], lines: &str| {
         let scratch = with(files);
-        let output = format!("./x.net: lost\n{lines}1 entry: 0 hold, 1 lost\n");
+        let anew = match (lines, lines.contains("original can't be read")) {
+            ("  no original\n", _) => "",
+            (_, false) => "  to store it anew: unloop --store . x\n",
+            _ => "  to store it anew: unloop --store . x --force\n",
+        };
+        let output = format!("./x.net: lost\n{lines}{anew}1 entry: 0 hold, 1 lost\n");
         told(run(&scratch, &["--audit", "."]), 1, &output, "");
     };
     let always = ("x.cover", "always\n");
@@ -326,7 +334,7 @@ fn what_else_is_lost() {
         "always\n",
         "  rendering: some gate reads itself or a gate behind it\n",
     );
-    let strangers = "  rendering: it has pins t; ports y, but must be pins s; ports y\n";
+    let strangers = "  rendering: pin t became s\n";
     all("(in t)\n(out y t)\n", "always\n", strangers);
     all(
         "(refused 9 0)\n",
@@ -376,8 +384,158 @@ fn json_and_errors() {
     let error = "unloop: d: no NAME.net, NAME.out or NAME.cover is in it\n";
     scratch.put("d/x", "");
     told(run(&scratch, &["--audit", "d"]), 2, "", error);
-    let error = "unloop: --audit DIR takes no FILE (see --help)\n";
-    told(run(&scratch, &["--audit", ".", "x.net"]), 2, "", error);
+    let error = "unloop: --audit needs a PATH: standard input has no name (see --help)\n";
+    told(run(&scratch, &["--audit", ".", "-"]), 2, "", error);
+    told(run(&scratch, &["--audit"]), 2, "", error);
+    for words in [&["--audit", "--json", "."][..], &["--json", "--audit=."]] {
+        told(run(&scratch, words), 0, object, "");
+    }
+}
+
+/// Folders and files, any number; an entry is told once, by any of its files, and where all but one are gone too.
+#[test]
+fn folders_and_files() {
+    let whole = "(in a)\n(out y a)\n";
+    let entry = |scratch: &Scratch, name: &str| {
+        ["net", "out"]
+            .iter()
+            .for_each(|ending| scratch.put(&format!("{name}.{ending}"), whole));
+        scratch.put(&format!("{name}.cover"), "always\n");
+    };
+    let scratch = with(&[("a/lost.out", whole), ("x", whole), ("e/x", "")]);
+    for name in ["a/one", "b/two", "b/below/three", "b/below/four"] {
+        entry(&scratch, name);
+    }
+    let audit = |words: &[&str], status: i32, output: &str, errors: &str| {
+        told(run(&scratch, words), status, output, errors);
+    };
+    let (one, two) = ("a/one.net: all hold\n", "b/two.net: all hold\n");
+    let lost = "a/lost.net: lost\n  no original\n";
+    let output = format!("{lost}{one}{two}3 entries: 2 hold, 1 lost\n");
+    audit(&["--audit", "a", "b"], 1, &output, "");
+    audit(&["--audit", "a", "b", "a", "b/two.cover"], 1, &output, "");
+    let output = format!("{one}{two}2 entries: 2 hold, 0 lost\n");
+    audit(&["--audit", "b", "a/one.net", "a/one.out"], 0, &output, "");
+    let below = "b/below/four.net: all hold\nb/below/three.net: all hold\n";
+    let output = format!("{below}{two}3 entries: 3 hold, 0 lost\n");
+    audit(&["--audit", "b", "--recursive"], 0, &output, "");
+    // A link to a folder above leads nowhere new.
+    symlink("..", scratch.path("b/below/up")).unwrap();
+    audit(&["--recursive", "--audit", "b"], 0, &output, "");
+    // What was removed is lost, as long as something of the entry is left.
+    let output = format!("{lost}1 entry: 0 hold, 1 lost\n");
+    audit(&["--audit", "a/lost.net"], 1, &output, "");
+    let errors = "unloop: c.net: No such file or directory\nunloop: e: no NAME.net, NAME.out or NAME.cover is in it\n\
+                  unloop: x: it is no NAME.net, NAME.out or NAME.cover\n";
+    let output = format!("{one}1 entry: 1 hold, 0 lost, 3 errors\n");
+    audit(
+        &["--audit", "c.net", "a/one.net", "e", "x"],
+        2,
+        &output,
+        errors,
+    );
+}
+
+/// Only what is lost, and the summary.
+#[test]
+fn quiet() {
+    let whole = "(in a)\n(never (a 1))\n(out y a)\n";
+    let scratch = with(&[
+        ("a.net", whole),
+        ("a.out", whole),
+        ("a.cover", "never a = 1\nalways\n"),
+        ("b c.net", whole),
+        ("b c.out", whole),
+        ("b c.cover", "never a = 0\nalways\n"),
+    ]);
+    let lost = "./b c.net: lost\n  never lines: never a = 0 became never a = 1: 1 of 2 settings is promised never to come\n\
+                \x20 settled settings: 1 of 1, 1 excluded\n  to store it anew: unloop --store . 'b c' --force\n";
+    let output = format!("{lost}2 entries: 1 hold, 1 lost\n");
+    told(run(&scratch, &["--quiet", "--audit", "."]), 1, &output, "");
+    let ended = run(&scratch, &["--quiet", "--audit", ".", "--json"]);
+    let output = String::from_utf8(ended.stdout).unwrap();
+    assert!(
+        output.starts_with("{\"file\":\"./b c.net\",\"holds\":false,"),
+        "{output}"
+    );
+    assert_eq!(output.lines().count(), 1);
+    let output = "1 entry: 1 hold, 0 lost\n";
+    told(
+        run(&scratch, &["--audit", "a.net", "--quiet"]),
+        0,
+        output,
+        "",
+    );
+}
+
+/// Pins and ports that are new, gone or called otherwise are told as such, in words and by names.
+#[test]
+fn pins_that_change() {
+    let netlist = |pins: &str, port: &str| {
+        let pins = pins.split(' ').map(|pin| format!("(in {pin})\n"));
+        format!("{}(out {port} a)\n", pins.collect::<String>())
+    };
+    let found = |stored: (&str, &str), now: (&str, &str), told: &str, json: &str| {
+        let scratch = with(&[
+            ("x.net", &netlist(now.0, now.1)),
+            ("x.out", &netlist(stored.0, stored.1)),
+            ("x.cover", "always\n"),
+        ]);
+        let output = String::from_utf8(run(&scratch, &["--audit", "."]).stdout).unwrap();
+        let line = format!("  rendering: {told}");
+        assert_eq!(output.lines().nth(1), Some(&line[..]));
+        let ended = run(&scratch, &["--audit", ".", "--json"]);
+        let output = String::from_utf8(ended.stdout).unwrap();
+        let fields = format!("\"rendering\":{{\"state\":\"strangers\",{json},\"why\":\"{told}\"}}");
+        assert!(output.contains(&fields), "{output}");
+    };
+    found(
+        ("a b", "y"),
+        ("a b k48", "y"),
+        "pin k48 is new",
+        "\"pins\":{\"new\":[\"k48\"]},\"ports\":{}",
+    );
+    found(
+        ("a b c", "y"),
+        ("a c", "z"),
+        "pin b is gone; port y became z",
+        "\"pins\":{\"gone\":[\"b\"]},\"ports\":{\"renamed\":{\"y\":\"z\"}}",
+    );
+    found(
+        ("a b c", "y"),
+        ("a c b", "y"),
+        "the pins stand in another order",
+        "\"pins\":{\"reordered\":true},\"ports\":{}",
+    );
+}
+
+/// A refusal has no pins: what the stored cover or its never lines name, and no input is called, is gone.
+#[test]
+fn pins_that_only_a_cover_names() {
+    let net = "(in a)\n(gate p (and a p))\n(out y p)\n";
+    let scratch = with(&[
+        ("x.net", net),
+        ("x.out", "(refused 9 1)\n"),
+        ("x.cover", "a = 0, k48 = 0\n"),
+    ]);
+    let lost = |lines: &str| {
+        let output = format!(
+            "./x.net: lost\n{lines}  to store it anew: unloop --store . x\n1 entry: 0 hold, 1 lost\n"
+        );
+        told(run(&scratch, &["--audit", "."]), 1, &output, "");
+    };
+    lost("  cover: pin k48 is gone\n");
+    scratch.put("x.cover", "never k48 = 1\na = 0\n");
+    lost("  never lines: never k48 = 1 is gone: 0 of 2 settings are promised never to come\n");
+    scratch.put("x.cover", "k48 = 0\n");
+    let output = String::from_utf8(run(&scratch, &["--audit", "."]).stdout).unwrap();
+    let both =
+        "  cover: pin k48 is gone; stored as settled, but not settled with a = 1: y undefined\n";
+    assert!(output.contains(both), "{output}");
+    scratch.put("x.cover", "a = 0, a_name_that_is_none = 0\n");
+    let output = String::from_utf8(run(&scratch, &["--audit", "."]).stdout).unwrap();
+    let illegible = "  cover: line 1: no input is named a_name_that_is_none\n";
+    assert!(output.contains(illegible), "{output}");
 }
 
 /// What is told where the first never line is not stored.
@@ -390,7 +548,9 @@ fn first_is_new(block: &Block) -> Changes {
             fixed: first.fixed,
             ones: first.ones,
         }],
+        gone_with_pins: Vec::new(),
         same_settings: stored.excluded_settings() == block.excluded_settings(),
+        more_settings: stored.excluded_settings() < block.excluded_settings(),
     }
 }
 

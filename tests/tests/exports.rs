@@ -375,7 +375,7 @@ fn some_netlists() -> Scratch {
 #[test]
 fn into_a_folder() {
     let scratch = some_netlists();
-    let report = "ring.net: undecided\n  not settled: y undefined\n  settles under no setting\n";
+    let report = "ring.net: undecided\n  not settled: y undefined\n  p waits for itself\n  settles under no setting\n";
     let made = "rendering of a.net, by unloop\n";
     for (option, ending, first) in [
         ("--verilog", "v", format!("// {made}module a (a, y);\n")),
@@ -452,7 +452,7 @@ fn originals_and_refusals() {
         module,
         "",
     );
-    let report = "ring.net: undecided\n  not settled: y undefined\n  settles under no setting\n";
+    let report = "ring.net: undecided\n  not settled: y undefined\n  p waits for itself\n  settles under no setting\n";
     told(run(&scratch, &["--verilog", "ring.net"]), 1, "", report);
     let words = ["--original", "--blif", "ring.net", "d/ring.net"];
     let model = "# original of ring.net, by unloop\n.model ring\n.inputs\n.outputs y\n.names p p\n0 1\n.names p y\n1 1\n.end\n";

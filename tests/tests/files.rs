@@ -18,7 +18,7 @@ const INVERTED: &str = "(in a)\n(gate _0 (not a))\n(out y _0)\n";
 const LATCH: &str =
     "(in s)\n(in r)\n(gate q (nor r n))\n(gate n (nor s q))\n(out q q)\n(out n n)\n";
 const LATCH_REPORT: &str =
-    ": undecided\n  not settled with s = 0, r = 0: q, n undefined\n  settles with s = 1\n  settles with r = 1\n";
+    ": undecided\n  not settled with s = 0, r = 0: q, n undefined\n  q waits for n, n waits for q\n  settles with s = 1\n  settles with r = 1\n";
 
 #[test]
 fn one_file_to_standard_output() {
@@ -309,7 +309,10 @@ fn bad_usage() {
             &["--into", "out"],
             "--into needs a FILE: standard input has no name",
         ),
-        (&["--force", "a"], "--force needs --into DIR or --page DIR"),
+        (
+            &["--force", "a"],
+            "--force needs --into DIR, --page DIR or --store DIR",
+        ),
     ] {
         let errors = format!("unloop: {line} (see --help)\n");
         told(run(&scratch, words), 2, "", &errors);

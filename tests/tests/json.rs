@@ -190,6 +190,8 @@ fn same_setting(object: &Json, words: &[u16], setting: usize) {
         object.field("undefined"),
         Some(&Json::List(undefined.collect()))
     );
+    let waits = object.field("waits");
+    assert!(matches!(waits, Some(Json::List(gates)) if !gates.is_empty()));
 }
 
 #[test]
@@ -262,7 +264,7 @@ fn unsettled_and_excluded() {
     same_setting(&objects[0], &words, 0);
     same_block(&objects[0], &words);
     assert_eq!(
-        (objects[1].field("setting"), objects[1].field("undefined")),
+        (objects[1].field("setting"), objects[1].field("waits")),
         (None, None)
     );
     assert_eq!(

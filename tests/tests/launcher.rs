@@ -87,6 +87,21 @@ fn builds_what_is_missing_once() {
     assert_eq!(String::from_utf8_lossy(&ended.stdout), output);
 }
 
+/// What `--audit` and `--store` are given may be a folder, a name, or a file that is gone: the driver knows.
+#[test]
+fn folders_and_names() {
+    for words in [
+        &["--store", "/", "name"][..],
+        &["--audit", "/", "/", "gone.net"],
+        &["--audit=gone.cover"],
+    ] {
+        let scratch = repository();
+        let ended = run(&scratch, words);
+        let building = [WHY, PROGRAM, LIBRARY, DRIVER].concat();
+        told(&scratch, &ended, 7, &building, ALL_BUILT);
+    }
+}
+
 /// A repository where all is built, an hour ago, of sources of two hours ago; no stamp tells of a later build.
 fn built_an_hour_ago() -> Scratch {
     let scratch = repository();
@@ -318,6 +333,8 @@ fn arguments_are_looked_at_first() {
         &["--sheet", "all", "none.net"],
         &["--check=none", "a.net"],
         &["--audit=none"],
+        &["--audit", "none"],
+        &["--store=none"],
         &["a\n\x1b.net"],
     ] {
         let mut command = Command::new(scratch.path("bin/unloop"));

@@ -292,11 +292,11 @@ fn drawings_of_our_own() {
             gates - looped
         );
         for (number, members) in loops.iter().enumerate() {
-            assert_eq!(
-                page.matches(&format!("<g class=\"node gate loop{number}\">"))
-                    .count(),
-                members.len()
-            );
+            let class = format!("<g class=\"node gate loop{number}");
+            let behind = page.split(&class[..]).skip(1);
+            let drawn =
+                behind.filter(|rest| rest.starts_with("\">") || rest.starts_with(" waits\">"));
+            assert_eq!(drawn.count(), members.len());
         }
         assert_eq!(
             page.contains("class=\"wire inloop back\""),
@@ -502,7 +502,8 @@ fn swollen_and_not_settled() {
         panic!("{page}")
     };
     assert!(lines.starts_with("x.net: swollen: "), "{lines}");
-    let unsettled = "\n  not settled with a = 1: z undefined\n  settles with a = 0";
+    let unsettled =
+        "\n  not settled with a = 1: z undefined\n  q waits for itself\n  settles with a = 0";
     assert_eq!(lines.matches(unsettled).count(), 1, "{lines}");
     let block = Block::from_words(&read(text.as_bytes(), usize::MAX).1);
     sheet_is_right(&page, &block, 1);
@@ -539,4 +540,130 @@ fn notes_of_the_sheet() {
         page.contains("It has no pins.") && page.contains("under its only setting "),
         "{page}"
     );
+}
+
+/// Entries in a folder `d`: two whose facts hold, and the rate block beside the facts of the mended one.
+fn with_a_lost_entry() -> Scratch {
+    let catalogue = |name: String| fs::read(root().join("catalogue").join(name)).unwrap();
+    let scratch = Scratch::new();
+    for (name, facts) in [
+        ("arbiter", "arbiter"),
+        ("rate", "rate-mended"),
+        ("smallest", "smallest"),
+    ] {
+        let original = catalogue(format!("{name}.net"));
+        scratch.put(&format!("d/{name}.net"), original);
+        for ending in ["out", "cover"] {
+            let text = catalogue(format!("{facts}.{ending}"));
+            scratch.put(&format!("d/{name}.{ending}"), text);
+        }
+    }
+    scratch
+}
+
+/// The page of a catalogue's entries: a badge for each, those that have lost a fact first, and on its page what the audit says, with the
+/// stored cover beside today's.
+#[test]
+fn audited() {
+    let scratch = with_a_lost_entry();
+    scratch.put("d/gone.out", "");
+    let errors = "unloop: d/gone.net: no original\n\
+                  out/index.html: 4 netlists: 2 rendered, 1 refused, 1 error; 2 hold, 1 lost\n";
+    let ended = run(&scratch, &["--page", "out", "--audit", "d"]);
+    told(ended, 2, "", errors);
+    fs::remove_file(scratch.path("d/gone.out")).unwrap();
+    let words = ["--audit", "d/rate.net", "--page", "out", "--force", "d"];
+    let errors = "out/index.html: 3 netlists: 2 rendered, 1 refused; 2 hold, 1 lost\n";
+    told(run(&scratch, &words), 0, "", errors);
+    let index = scratch.get("out/index.html");
+    let rows = between(&index, "<tr><th scope=\"row\"><a href=\"", "\"");
+    assert_eq!(rows, ["rate.html", "arbiter.html", "smallest.html"]);
+    let states = between(&index, "<td data-label=\"State\" data-value=\"", "</td>");
+    let held = "rendered\"><span class=\"state rendered\">rendered</span> <span class=\"state held\">all hold</span>";
+    let lost = "lost undecided\"><span class=\"state undecided\">undecided</span> <span class=\"state lost\">lost</span>";
+    assert_eq!(states, [lost, held, held]);
+    lost_facts(&scratch.get("out/rate.html"));
+    let page = scratch.get("out/smallest.html");
+    let [facts] = between(&page, "<section id=\"facts\">", "</section>")[..] else {
+        panic!("{page}")
+    };
+    let held = "<span class=\"state held\">holds</span>";
+    assert_eq!(facts.matches(held).count(), 3);
+    let others = facts.contains("cover</h3>") || facts.contains("--store");
+    assert!(!others, "{facts}");
+}
+
+/// The rate block's page, beside the facts of the mended one.
+fn lost_facts(page: &str) {
+    let [facts] = between(page, "<section id=\"facts\">", "</section>")[..] else {
+        panic!("{page}")
+    };
+    let rows = between(facts, "<tr><th scope=\"row\">", "</tr>");
+    let held = "</th><td><span class=\"state held\">holds</span></td><td></td>";
+    let why = "stored as settled, but not settled with sample = 0, mute = 0, k44 = 0, k48 = 1: y undefined";
+    let lost = format!("cover</th><td><span class=\"state lost\">lost</span></td><td>{why}</td>");
+    let expected = [
+        format!("rendering{held}"),
+        format!("never lines{held}"),
+        lost,
+    ];
+    assert_eq!(rows, expected);
+    let [stored, today] = between(facts, "<ol class=\"text\">\n", "</ol>")[..] else {
+        panic!("{facts}")
+    };
+    let marked = |lines: &[&str]| {
+        let lines = lines.iter();
+        let line = |line| format!("<li><code><mark>{line}</mark></code></li>\n");
+        lines.map(line).collect::<String>()
+    };
+    assert_eq!(stored, marked(&["always"]));
+    assert_eq!(today, marked(&["mute = 1", "k44 = 1", "k48 = 0"]));
+    let anew = "<code>unloop --store d rate --force</code>. Some get weaker.";
+    assert!(facts.contains(anew), "{facts}");
+}
+
+/// What goes with neither, and that a page of files has no facts.
+#[test]
+fn audited_alone() {
+    let scratch = with(&[("d/a.net", "(in a)\n"), ("d/a.cover", "always\n")]);
+    let why = "--page DIR with --audit goes with --force and --recursive alone (see --help)";
+    for other in ["--quiet", "--json", "--original"] {
+        let ended = run(&scratch, &["--page", "out", other, "--audit", "d"]);
+        told(ended, 2, "", &format!("unloop: {why}\n"));
+    }
+    let ended = run(&scratch, &["-o", "x", "--page", "out", "--audit", "d"]);
+    assert_eq!(ended.status.code(), Some(2));
+    assert_eq!(scratch.names("."), ["d"]);
+    assert!(run(&scratch, &["--page", "out", "d/a.net"])
+        .status
+        .success());
+    assert!(!scratch.get("out/a.html").contains("id=\"facts\""));
+    assert!(!scratch.get("out/index.html").contains("state held"));
+    let ended = run(&scratch, &["--recursive", "--page", "all", "--audit", "."]);
+    let errors = "all/index.html: 1 netlist: 1 rendered, 0 refused; 0 hold, 1 lost\n";
+    told(ended, 0, "", errors);
+    let page = scratch.get("all/a.html");
+    assert!(page.contains("<td>no ./d/a.out</td>"), "{page}");
+}
+
+/// The gates that wait for each other are outlined in the drawing, whoever made it, and told beside it; those of a block that settles are not.
+#[test]
+fn gates_that_wait() {
+    for dot in [true, false] {
+        let scratch = pages(dot);
+        let page = scratch.get("out/rate.html");
+        let [drawing] = between(&page, "<section id=\"drawing\">", "</section>")[..] else {
+            panic!("{page}")
+        };
+        let told = "<li><span class=\"swatch waits\"></span> up waits for filter, filter waits for up</li>";
+        assert!(drawing.contains(told), "{drawing}");
+        let nodes = drawing.split("<g ").skip(1);
+        let nodes = nodes.filter(|node| node.contains(" waits\""));
+        let nodes: Vec<&str> = nodes.collect();
+        assert_eq!(nodes.len(), 2, "{drawing}");
+        for name in [">up<", ">filter<"] {
+            assert!(nodes.iter().any(|node| node.contains(name)), "{name}");
+        }
+        assert!(!scratch.get("out/scaler.html").contains("waits"));
+    }
 }

@@ -99,10 +99,10 @@ fn never_lines() {
     // The lowest setting that may come, and what settles or never comes.
     let text = b"(in a)\n(in b)\n(never (a 0) (b 0))\n(gate p (or a p))\n(out y p)\n";
     let report = "x.net: undecided\n  not settled with a = 0, b = 1: y undefined\n\
-                  \x20 settles with a = 1\n  settles with b = 0\n  settled settings: 2 of 3, 1 excluded\n";
+                  \x20 p waits for itself\n  settles with a = 1\n  settles with b = 0\n  settled settings: 2 of 3, 1 excluded\n";
     at_a_place(text, "(refused 9 2)\n", report);
     let report = "x.net: undecided\n  not settled with a = 0, b = 0: y undefined\n\
-                  \x20 never comes with a = 1, b = 1\n  settles under no setting\n\
+                  \x20 p waits for itself\n  never comes with a = 1, b = 1\n  settles under no setting\n\
                   \x20 settled settings: 0 of 3, 1 excluded\n";
     let text = simulator::specimens::NEVER_BOTH.as_bytes();
     at_a_place(text, "(refused 9 0)\n", report);
@@ -153,7 +153,8 @@ fn refusals_without_a_place() {
         &format!(" {} more", copies - GATES),
         &format!(" {} more", copies + 1 - GATES),
     );
-    let report = report + "  not settled with a = 0: z undefined\n  settles with a = 1\n";
+    let report = report
+        + "  not settled with a = 0: z undefined\n  p waits for itself\n  settles with a = 1\n";
     at_a_place(unsettled.as_bytes(), "(refused 8 0)\n", &report);
     let promised = unsettled.replace("(in a)\n", "(in a)\n(never (a 0))\n");
     let (first, _) = report.split_once('\n').unwrap();
@@ -190,18 +191,18 @@ fn longest_texts() {
 #[test]
 fn undecided() {
     let text = b"(gate p (or p (not p)))\n(out y p)\n";
-    let report = "x.net: undecided\n  not settled: y undefined\n  settles under no setting\n";
+    let report = "x.net: undecided\n  not settled: y undefined\n  p waits for itself\n  settles under no setting\n";
     at_a_place(text, "(refused 9 0)\n", report);
     let text = b"(in a)\n(in eight_88)\n(gate p (not p))\n(gate q (not a))\n\
                  (out x a)\n(out y p)\n(out q q)\n(out z p)\n";
     let report =
-        "x.net: undecided\n  not settled with a = 0, eight_88 = 0: y, z undefined\n  settles under no setting\n";
+        "x.net: undecided\n  not settled with a = 0, eight_88 = 0: y, z undefined\n  p waits for itself\n  settles under no setting\n";
     at_a_place(text, "(refused 9 0)\n", report);
     // Two pins of three in each entry.
     let text = b"(in s)\n(in a)\n(in b)\n(gate h (and s a))\n(gate k (and (not s) b))\n\
                  (gate p (or h k q))\n(gate q (or h k p))\n(out y q)\n";
     let report =
-        "x.net: undecided\n  not settled with s = 0, a = 0, b = 0: y undefined\n  settles with s = 1, a = 1\n\
+        "x.net: undecided\n  not settled with s = 0, a = 0, b = 0: y undefined\n  p waits for q, q waits for p\n  settles with s = 1, a = 1\n\
                   \x20 settles with s = 0, b = 1\n  settles with a = 1, b = 1\n";
     at_a_place(text, "(refused 9 0)\n", report);
 }
@@ -214,13 +215,24 @@ fn open_by_any(pins: usize) -> String {
     inputs.chain(gates).chain(output).collect()
 }
 
+/// Each gate waits for the next one; of more than eight the first are told, and how many there are.
+fn round(gates: usize) -> String {
+    let waits = (0..gates.min(8)).map(|i| format!("g{i} waits for g{}", (i + 1) % gates));
+    let more = match gates {
+        ..=8 => String::new(),
+        _ => format!(", and so on: {gates} gates in a circle"),
+    };
+    format!("  {}{more}\n", waits.collect::<Vec<_>>().join(", "))
+}
+
 #[test]
 fn long_covers() {
     for (pins, more) in [(8, ""), (9, "  and 1 more\n"), (10, "  and 2 more\n")] {
         let all: Vec<String> = (0..pins).map(|i| format!("a{i} = 0")).collect();
         let mut report = format!(
-            "x.net: undecided\n  not settled with {}: y undefined\n",
-            all.join(", ")
+            "x.net: undecided\n  not settled with {}: y undefined\n{}",
+            all.join(", "),
+            round(pins)
         );
         (0..8).for_each(|i| report += &format!("  settles with a{i} = 1\n"));
         report += more;

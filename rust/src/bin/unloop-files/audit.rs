@@ -1,32 +1,26 @@
-//! `--audit DIR`: do the rendering, the never lines and the cover that are stored beside each original still hold?
+//! `--audit PATH ...`: do the rendering, the never lines and the cover that are stored beside each original still hold?
 
 mod fact;
 mod promises;
+mod weaker;
 
+use crate::catalogue::{original, read, Entry, Found};
 use crate::described::{excluded, object, unreadable};
+use crate::options::Audited;
 use crate::parallel::in_order;
 use crate::report::exclusions;
 use crate::screen::Screen;
-use crate::source::{reason, shown, Source};
+use crate::source::shown;
 use crate::{put, tally, Stopped};
-use fact::Fact;
-use std::collections::BTreeSet;
-use std::fs;
-use std::io::{self, ErrorKind};
+pub use fact::{refused_now, refused_with, Fact};
+pub use promises::lines as promised_lines;
 use std::ops::ControlFlow;
 use std::path::{Path, PathBuf};
 use std::process::ExitCode;
 use unloop::audit::audit;
 use unloop::json::Json;
 use unloop::{Block, Refusal};
-
-/// The files of an entry; what is not there is none.
-struct Entry {
-    name: String,
-    original: Option<Vec<u8>>,
-    out: Option<Vec<u8>>,
-    cover: Option<Vec<u8>>,
-}
+pub use weaker::{becomes_refusal, weaker};
 
 /// What is told of an entry.
 struct Told {
@@ -50,43 +44,46 @@ struct Counts {
     hold: usize,
     lost: usize,
     errors: usize,
+    /// What was given and has no entry.
+    nothing: usize,
 }
 
 impl Counts {
     /// Counts an entry and writes what is told of it; an entry with a file that can't be read is an error and no more.
-    fn tell(&mut self, base: &Path, told: Result<Told, String>, json: bool) -> Result<(), Stopped> {
-        match told {
+    fn tell(
+        &mut self,
+        base: &Path,
+        told: Result<Told, String>,
+        quiet: bool,
+        json: bool,
+    ) -> Result<(), Stopped> {
+        let written = match told {
             Ok(told) => {
                 self.hold += usize::from(told.holds);
                 self.lost += usize::from(!told.holds);
-                put(told.written(json).as_bytes())
+                let silent = quiet && told.holds;
+                (!silent).then(|| told.written(json))
             }
             Err(reason) => {
                 self.errors += 1;
                 Screen::plain().say(&[format!("unloop: {reason}")]);
                 let object = unreadable(&original(&shown(base)), &reason);
-                let written = json.then(|| format!("{object}\n"));
-                put(written.unwrap_or_default().as_bytes())
+                json.then(|| format!("{object}\n"))
             }
-        }
+        };
+        put(written.unwrap_or_default().as_bytes())
     }
 
     /// As `3 entries: 1 hold, 1 lost, 1 error`.
     fn summary(&self) -> String {
-        let Counts { hold, lost, errors } = self;
-        let entries = match hold + lost + errors {
-            1 => "1 entry".to_string(),
-            entries => format!("{entries} entries"),
-        };
-        let errors = match errors {
-            0 => String::new(),
-            _ => format!(", {}", tally::counted(*errors, "error")),
-        };
+        let Counts { hold, lost, .. } = self;
+        let entries = tally::entries(hold + lost + self.errors);
+        let errors = tally::and_errors(self.errors + self.nothing);
         format!("{entries}: {hold} hold, {lost} lost{errors}\n")
     }
 
     fn status(&self) -> u8 {
-        match (self.errors, self.lost) {
+        match (self.errors + self.nothing, self.lost) {
             (0, 0) => 0,
             (0, _) => tally::REFUSED,
             _ => tally::ERROR,
@@ -94,75 +91,69 @@ impl Counts {
     }
 }
 
-/// Audits each entry of a folder and tells; an error is a folder that can't be read, or has none.
-pub fn run(folder: &Path, json: bool) -> Result<ExitCode, String> {
-    let bases = bases(folder)?;
-    if bases.is_empty() {
-        let folder = shown(folder);
-        return Err(format!(
-            "{folder}: no NAME.net, NAME.out or NAME.cover is in it"
-        ));
-    }
-    let mut counts = Counts::default();
+/// Audits each entry and tells; what has none is told as an error, and the others are done.
+pub fn run(asked: &Audited, json: bool) -> ExitCode {
+    let Found { bases, errors } = Found::of(&asked.paths, asked.recursive);
+    Screen::plain().say(
+        &errors
+            .iter()
+            .map(|why| format!("unloop: {why}"))
+            .collect::<Vec<_>>(),
+    );
+    let bases: Vec<PathBuf> = bases.into_iter().collect();
+    let mut counts = Counts {
+        nothing: errors.len(),
+        ..Counts::default()
+    };
     let ended = in_order(
         &bases,
-        |base| read(base).map(|entry| told(&entry)),
+        |base| read(base).map(|entry| told(base, &entry)),
         |_| {},
-        |index, told| match counts.tell(&bases[index], told, json) {
+        |index, told| match counts.tell(&bases[index], told, asked.quiet, json) {
             Ok(()) => ControlFlow::Continue(()),
             Err(Stopped) => ControlFlow::Break(()),
         },
     );
-    let stopped = ended.is_break() || !json && put(counts.summary().as_bytes()).is_err();
-    Ok(ExitCode::from(match stopped {
+    let summary = if json || bases.is_empty() {
+        String::new()
+    } else {
+        counts.summary()
+    };
+    let stopped = ended.is_break() || put(summary.as_bytes()).is_err();
+    ExitCode::from(match stopped {
         true => tally::ERROR,
         false => counts.status(),
-    }))
-}
-
-/// The paths of a folder's entries without their ending, sorted.
-fn bases(folder: &Path) -> Result<Vec<PathBuf>, String> {
-    let failed = |error: std::io::Error| format!("{}: {}", shown(folder), reason(&error));
-    let mut bases = BTreeSet::new();
-    for found in fs::read_dir(folder).map_err(failed)? {
-        let path = found.map_err(failed)?.path();
-        let ending = path.extension().and_then(|ending| ending.to_str());
-        if ending.is_some_and(|ending| ["net", "out", "cover"].contains(&ending)) {
-            bases.insert(path.with_extension(""));
-        }
-    }
-    Ok(bases.into_iter().collect())
-}
-
-fn read(base: &Path) -> Result<Entry, String> {
-    type Bytes = io::Result<Vec<u8>>;
-    let file = |ending: &str, bytes: fn(&Source) -> Bytes| {
-        // A name may have dots of its own.
-        let mut path = base.as_os_str().to_owned();
-        path.push(".");
-        path.push(ending);
-        let source = Source::File(path.into());
-        match bytes(&source) {
-            Ok(text) => Ok(Some(text)),
-            Err(error) if error.kind() == ErrorKind::NotFound => Ok(None),
-            Err(error) => Err(format!("{}: {}", source.name(), reason(&error))),
-        }
-    };
-    Ok(Entry {
-        name: shown(base),
-        original: file("net", Source::text)?,
-        out: file("out", Source::text)?,
-        // A cover may be longer than any netlist.
-        cover: file("cover", Source::whole_text)?,
     })
 }
 
-/// How the original of an entry is named.
-fn original(entry: &str) -> String {
-    format!("{entry}.net")
+/// What is found of an entry that has an original.
+pub struct Judged {
+    pub holds: bool,
+    /// In a few words.
+    pub state: String,
+    /// Each with the word that its line begins with.
+    pub facts: [(&'static str, Fact); 3],
+    /// Where some are lost: the command that stores today's, and whether they get weaker.
+    pub anew: Option<(String, bool)>,
+    pub block: Option<Block>,
 }
 
-fn told(entry: &Entry) -> Told {
+/// Judges an entry by its files; `original` is the original's text.
+pub fn judged(base: &Path, entry: &Entry, original: &[u8]) -> Judged {
+    let found = audit(original, entry.out.as_deref(), entry.cover.as_deref());
+    let block = Block::read(original);
+    let weaker = !weaker(&found, entry, &block).is_empty();
+    let (holds, block) = (found.holds(), block.ok());
+    Judged {
+        holds,
+        state: state(holds, entry, block.as_ref()),
+        facts: Fact::all(&found, entry, block.as_ref()),
+        anew: (!holds).then(|| (anew(base, weaker), weaker)),
+        block,
+    }
+}
+
+fn told(base: &Path, entry: &Entry) -> Told {
     let name = original(&entry.name);
     let file = ("file", Json::text(&name));
     let Some(original) = &entry.original else {
@@ -173,33 +164,52 @@ fn told(entry: &Entry) -> Told {
             json: Json::Object(object([file, ("holds", Json::Bool(false)), why])),
         };
     };
-    let found = audit(original, entry.out.as_deref(), entry.cover.as_deref());
-    let block = Block::read(original).ok();
-    let facts = [
-        (
-            "rendering",
-            Fact::of_rendering(&found.rendering, entry, block.as_ref()),
-        ),
-        ("never lines", Fact::of_never(&found.never, block.as_ref())),
-        ("cover", Fact::of_cover(&found.cover, entry, block.as_ref())),
-    ];
-    let holds = found.holds();
-    let mut lines = vec![format!("{name}: {}", state(holds, entry, block.as_ref()))];
+    let Judged {
+        holds,
+        state,
+        facts,
+        anew,
+        block,
+    } = judged(base, entry, original);
+    let mut lines = vec![format!("{name}: {state}")];
     lines.extend(facts.iter().filter_map(|(what, fact)| fact.line(what)));
     let exclusions = block.as_ref().map(exclusions).unwrap_or_default();
     lines.extend(exclusions.iter().map(|line| format!("  {line}")));
-    let [rendering, never, cover] = facts.map(|(_, fact)| fact.json());
     let mut fields = object([file, ("holds", Json::Bool(holds))]);
-    fields.extend(object([
-        ("rendering", rendering),
-        ("never", never),
-        ("cover", cover),
-    ]));
+    let facts = facts.map(|(_, fact)| fact.json());
+    let facts = ["rendering", "never", "cover"].into_iter().zip(facts);
+    fields.extend(facts.map(|(name, fact)| (name.to_string(), fact)));
     fields.extend(block.as_ref().map(excluded).unwrap_or_default());
+    if let Some((command, weaker)) = anew {
+        lines.push(format!("  to store it anew: {command}"));
+        fields.extend(object([("weaker", Json::Bool(weaker))]));
+    }
     Told {
         holds,
         lines,
         json: Json::Object(fields),
+    }
+}
+
+/// The command that stores today's facts of an entry.
+fn anew(base: &Path, weaker: bool) -> String {
+    let folder = base.parent().filter(|folder| *folder != Path::new(""));
+    let folder = quoted(folder.unwrap_or(Path::new(".")));
+    let name = base.file_name().map(|name| quoted(Path::new(name)));
+    let force = if weaker { " --force" } else { "" };
+    format!(
+        "unloop --store {folder} {}{force}",
+        name.unwrap_or_default()
+    )
+}
+
+/// A path as a shell takes it.
+fn quoted(path: &Path) -> String {
+    let path = shown(path);
+    let plain = |c: char| c.is_alphanumeric() || "-_./+,:@%".contains(c);
+    match path.chars().all(plain) && !path.starts_with('-') {
+        true => path,
+        false => format!("'{}'", path.replace('\'', "'\\''")),
     }
 }
 
@@ -209,10 +219,7 @@ fn state(holds: bool, entry: &Entry, block: Option<&Block>) -> String {
     let sound = block.is_none_or(|block| block.verdict().is_sound());
     match refused {
         _ if !holds => "lost".to_string(),
-        Some(refusal) => {
-            let (number, word) = (refusal.number(), refusal.word());
-            format!("all hold, refused with {number} {word}")
-        }
+        Some(refusal) => format!("all hold, {}", refused_with(refusal)),
         None if sound => "all hold".to_string(),
         None => "all hold, but it settles under some settings only".to_string(),
     }

@@ -2,7 +2,7 @@
 
 use crate::report::{undefined, unsettled, warning};
 use unloop::json::Json;
-use unloop::{hint, Assignment, Block, Location, Refusal};
+use unloop::{circle, hint, Assignment, Block, Location, Refusal};
 
 /// An object by its fields.
 pub fn object<const N: usize>(fields: [(&str, Json); N]) -> Vec<(String, Json)> {
@@ -71,6 +71,7 @@ fn refused(refusal: Refusal, text: &[u8]) -> Vec<(String, Json)> {
                 ),
             ),
             ("undefined", Json::texts(undefined(&block, setting))),
+            ("waits", Json::texts(circle(text, setting))),
         ]));
     }
     fields.extend(hint(refusal, text).map(|hint| ("hint".to_string(), Json::Text(hint))));

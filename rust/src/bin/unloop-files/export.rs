@@ -109,13 +109,8 @@ impl Writer {
 
     /// What a file's parts are called: an original's gates as in its text, pins and ports as the names tell. These must be the file's.
     fn labels(&self, source: &Source, text: &[u8], block: &Block) -> Result<Labels, String> {
-        let what = if self.original {
-            "original"
-        } else {
-            "rendering"
-        };
         let mut labels = Labels {
-            made_from: Some(format!("{what} of {}, by unloop", source.last_part())),
+            made_from: Some(made_from(self.original, &source.last_part())),
             ..Labels::from(&self.module(source))
         };
         if self.original {
@@ -136,6 +131,12 @@ impl Writer {
             .and_then(|(_, names)| names.model.as_ref());
         told.map_or_else(|| module_name(&source.stem()), |model| module_name(model))
     }
+}
+
+/// The comment that a file of another form begins with: what was written, and of which file.
+pub fn made_from(original: bool, file: &str) -> String {
+    let what = if original { "original" } else { "rendering" };
+    format!("{what} of {file}, by unloop")
 }
 
 /// Whether names are those of a block's pins and ports; gates are a rendering's own.

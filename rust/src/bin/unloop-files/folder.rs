@@ -1,4 +1,4 @@
-//! The folder of `--into`: each rendering appears there whole or not at all.
+//! Files that appear whole or not at all: in the folder of `--into` and `--page`, and beside the originals of `--store`.
 
 use crate::source::{reason, shown};
 use std::collections::HashSet;
@@ -67,6 +67,28 @@ impl Folder {
             false => fs::hard_link(&held.0, target),
         }
     }
+}
+
+/// Puts each content into its file, in the place of what is there, or removes the file. All are made ready before the first is moved.
+pub fn replace(files: &[(PathBuf, Option<Vec<u8>>)]) -> Result<(), String> {
+    let failed = |path: &Path, error: io::Error| about(path, &reason(&error));
+    let mut ready = Vec::new();
+    for (path, content) in files {
+        let folder = path.parent().filter(|folder| *folder != Path::new(""));
+        let made = content.as_ref().map(|content| {
+            let (held, mut file) = Temporary::new(folder.unwrap_or(Path::new(".")))?;
+            file.write_all(content).map(|()| held)
+        });
+        ready.push((path, made.transpose().map_err(|error| failed(path, error))?));
+    }
+    for (path, made) in ready {
+        let moved = match made {
+            Some(held) => fs::rename(&held.0, path),
+            None => fs::remove_file(path),
+        };
+        moved.map_err(|error| failed(path, error))?;
+    }
+    Ok(())
 }
 
 fn about(path: &Path, what: &str) -> String {

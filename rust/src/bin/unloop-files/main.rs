@@ -2,8 +2,10 @@
 //! What it does is in usage.txt.
 
 mod audit;
+mod catalogue;
 mod cells;
 mod check;
+mod cover;
 mod described;
 mod export;
 mod folder;
@@ -18,6 +20,7 @@ mod run;
 mod screen;
 mod sheet;
 mod source;
+mod store;
 mod tally;
 
 use options::{Asked, Request};
@@ -65,10 +68,13 @@ fn answered(request: Request, program: Program) -> ExitCode {
         Request::Check { theirs, ours, json } => {
             check::run(Source::of(theirs), Source::of(ours), json)
         }
-        Request::Audit { folder, json } => audit::run(&folder, json),
+        Request::Audit(audited, json) => Ok(audit::run(&audited, json)),
+        Request::Store(store) => store::run(&program, &store),
+        Request::Cover(files) => Ok(cover::run(&sources(files))),
         Request::Export(export) => export::run(export),
         Request::FromBlif(asked) => from_blif::run(asked),
         Request::Page(target, files) => page::run(&target, files),
+        Request::AuditedPage(target, audited) => page::run_audited(&target, &audited),
     };
     done.unwrap_or_else(|reason| failed(&reason))
 }

@@ -2,6 +2,7 @@
 
 use crate::sheet::ALL;
 use crate::source::{is_input, shown};
+use crate::store::Store;
 use crate::USAGE;
 use std::ffi::{OsStr, OsString};
 use std::os::unix::ffi::OsStrExt;
@@ -39,13 +40,23 @@ pub enum Request {
         ours: PathBuf,
         json: bool,
     },
-    Audit {
-        folder: PathBuf,
-        json: bool,
-    },
+    Audit(Audited, bool),
+    Store(Store),
+    Cover(Vec<PathBuf>),
     Export(Export),
     FromBlif(FromBlif),
     Page(Target, Vec<PathBuf>),
+    AuditedPage(Target, Audited),
+}
+
+/// Entries of catalogues: those of folders, and of files.
+#[derive(Debug)]
+pub struct Audited {
+    pub paths: Vec<PathBuf>,
+    /// Those of the folders below too.
+    pub recursive: bool,
+    /// Only what is lost is told.
+    pub quiet: bool,
 }
 
 /// Files that are written in another form: their renderings, or they themselves.
@@ -93,7 +104,9 @@ enum Task {
     Sheet(PathBuf),
     RunCells(PathBuf),
     Check(PathBuf),
-    Audit(PathBuf),
+    Audit,
+    Store(PathBuf),
+    Cover,
     Export(Form),
     FromBlif,
     Page(PathBuf),
@@ -107,7 +120,9 @@ impl Task {
             Task::Sheet(_) => "--sheet SETTINGS",
             Task::RunCells(_) => "--run-cells SETTINGS",
             Task::Check(_) => "--check THEIRS",
-            Task::Audit(_) => "--audit DIR",
+            Task::Audit => "--audit",
+            Task::Store(_) => "--store DIR",
+            Task::Cover => "--cover",
             Task::Export(Form::Verilog) => "--verilog",
             Task::Export(Form::Blif) => "--blif",
             Task::Export(Form::Cells) => "--cells",
@@ -128,6 +143,8 @@ struct Given {
     original: bool,
     names: Option<PathBuf>,
     model: Option<PathBuf>,
+    recursive: bool,
+    quiet: bool,
     /// Asked for instead of all else.
     about: Option<Request>,
 }
@@ -177,7 +194,7 @@ fn reads(given: &Given) -> Result<Vec<PathBuf>, String> {
 fn written(request: Request) -> Result<Request, String> {
     let silent = "writes nothing to standard output, so -o has no use";
     match request {
-        Request::Page(..) => Err(format!("--page DIR {silent}")),
+        Request::Page(..) | Request::AuditedPage(..) => Err(format!("--page DIR {silent}")),
         Request::Render {
             into: Some(_),
             json: false,
@@ -240,6 +257,11 @@ fn given(mut words: impl Iterator<Item = OsString>) -> Result<Given, String> {
         let unknown = || format!("unknown option {}", shown(word.as_ref()));
         let Listed { name, needs } = given_as.to_str().and_then(listed).ok_or_else(unknown)?;
         let operand = match (needs, value) {
+            // As if it stood behind it.
+            (None, Some(path)) if name == "--audit" => {
+                given.files.push(path.into());
+                PathBuf::new()
+            }
             (None, Some(_)) => return Err(format!("{} takes no value", shown(given_as.as_ref()))),
             (None, None) => PathBuf::new(),
             (Some(_), Some(value)) => value.into(),
@@ -280,12 +302,16 @@ impl Given {
             "--original" => self.original = true,
             "--names" => self.names = Some(operand),
             "--model" => self.model = Some(operand),
+            "--recursive" => self.recursive = true,
+            "--quiet" => self.quiet = true,
             _ => self.tasks.push(match name {
                 "--into" => Task::Into(operand),
                 "--sheet" => Task::Sheet(operand),
                 "--run-cells" => Task::RunCells(operand),
                 "--check" => Task::Check(operand),
-                "--audit" => Task::Audit(operand),
+                "--audit" => Task::Audit,
+                "--store" => Task::Store(operand),
+                "--cover" => Task::Cover,
                 "--page" => Task::Page(operand),
                 "--verilog" => Task::Export(Form::Verilog),
                 "--blif" => Task::Export(Form::Blif),
@@ -299,20 +325,23 @@ impl Given {
 }
 
 fn request(mut given: Given) -> Result<Request, String> {
+    if let Some(folder) = page_of_an_audit(&given.tasks) {
+        return audited_page(folder, given);
+    }
     let into = given.export_folder();
     let mut tasks = given.tasks.drain(..);
     let task = tasks.next().unwrap_or_default();
     let other = tasks.next();
     drop(tasks);
-    let writes = into.is_some() || matches!(task, Task::Into(_) | Task::Page(_));
+    let writes = into.is_some() || matches!(task, Task::Into(_) | Task::Page(_) | Task::Store(_));
     let reports = matches!(
         task,
-        Task::Render | Task::Into(_) | Task::Check(_) | Task::Audit(_)
+        Task::Render | Task::Into(_) | Task::Check(_) | Task::Audit
     );
     let fits = (writes || !given.force) && (reports || !given.json);
     match task {
         Task::Render if given.force => {
-            return Err("--force needs --into DIR or --page DIR".to_string())
+            return Err("--force needs --into DIR, --page DIR or --store DIR".to_string())
         }
         Task::Sheet(_) | Task::Check(_) => {}
         _ => {
@@ -331,6 +360,7 @@ fn request(mut given: Given) -> Result<Request, String> {
             }
         }
     }
+    modified(&task, &given)?;
     named_models(&task, &given)?;
     match task {
         Task::Export(form) => exported(form, into, given),
@@ -338,12 +368,9 @@ fn request(mut given: Given) -> Result<Request, String> {
     }
 }
 
-/// What `--original`, `--names` and `--model` need to have a meaning.
+/// What `--names` and `--model` need to have a meaning.
 fn named_models(task: &Task, given: &Given) -> Result<(), String> {
     let wrong = |what: &str| Err(what.to_string());
-    if given.original && !matches!(task, Task::Export(_)) {
-        return wrong("--original needs --verilog, --blif or --cells");
-    }
     let one = given.files.len() < 2;
     match task {
         Task::FromBlif => Ok(()),
@@ -373,19 +400,86 @@ fn exported(form: Form, into: Option<PathBuf>, given: Given) -> Result<Request, 
     }))
 }
 
+/// The folder of the page, where it is asked for with an audit: the two tasks that go together.
+fn page_of_an_audit(tasks: &[Task]) -> Option<PathBuf> {
+    match tasks {
+        [Task::Page(folder), Task::Audit] | [Task::Audit, Task::Page(folder)] => {
+            Some(folder.clone())
+        }
+        _ => None,
+    }
+}
+
+/// The page of what an audit finds.
+fn audited_page(folder: PathBuf, given: Given) -> Result<Request, String> {
+    if given.json || given.quiet || given.original {
+        let what = "--page DIR with --audit goes with --force and --recursive alone";
+        return Err(what.to_string());
+    }
+    let target = Target {
+        folder,
+        force: given.force,
+    };
+    Ok(Request::AuditedPage(target, audited(given)?))
+}
+
+fn audited(given: Given) -> Result<Audited, String> {
+    Ok(Audited {
+        paths: named(given.files, "--audit")?,
+        recursive: given.recursive,
+        quiet: given.quiet,
+    })
+}
+
+/// What some options need to have a meaning.
+fn modified(task: &Task, given: &Given) -> Result<(), String> {
+    let wrong = |what: &str| Err(what.to_string());
+    match task {
+        Task::Export(_) => {}
+        _ if given.original => return wrong("--original needs --verilog, --blif or --cells"),
+        _ => {}
+    }
+    match task {
+        Task::Audit => Ok(()),
+        _ if given.quiet => wrong("--quiet needs --audit"),
+        Task::Store(_) if given.files.is_empty() => Ok(()),
+        Task::Store(_) if given.recursive => wrong("--recursive goes with no NAME"),
+        _ if given.recursive => wrong("--recursive needs --audit or --store DIR"),
+        _ => Ok(()),
+    }
+}
+
 /// The request of a task; `fits`: no other option stands in its way.
-fn made(task: Task, fits: bool, mut given: Given) -> Result<Request, String> {
+fn made(task: Task, fits: bool, given: Given) -> Result<Request, String> {
     let (force, json) = (given.force, given.json);
-    let files = std::mem::take(&mut given.files);
+    let target = |folder| Target { folder, force };
+    Ok(match task {
+        Task::Render => rendered(given.files, None, json),
+        Task::Into(folder) => rendered(named(given.files, "--into")?, Some(target(folder)), json),
+        Task::Audit => Request::Audit(audited(given)?, json),
+        Task::Store(folder) => Request::Store(Store {
+            folder,
+            names: given.files,
+            recursive: given.recursive,
+            force,
+        }),
+        Task::Cover => Request::Cover(given.files),
+        Task::Export(form) => return exported(form, None, given),
+        Task::FromBlif if given.files.len() < 2 => Request::FromBlif(FromBlif {
+            file: given.files.into_iter().next(),
+            model: given.model.map(|name| name.to_string_lossy().into_owned()),
+            names: given.names,
+        }),
+        Task::Page(folder) => Request::Page(target(folder), named(given.files, "--page")?),
+        task => return of_one_file(task, fits, given.files, json),
+    })
+}
+
+/// The request of a task that takes one file.
+fn of_one_file(task: Task, fits: bool, files: Vec<PathBuf>, json: bool) -> Result<Request, String> {
     let one = |files: Vec<PathBuf>| <[PathBuf; 1]>::try_from(files).ok();
     let wrong = |what: &str| Err(what.to_string());
     Ok(match task {
-        Task::Render => rendered(files, None, json),
-        Task::Into(folder) => rendered(
-            named(files, "--into")?,
-            Some(Target { folder, force }),
-            json,
-        ),
         Task::Sheet(_) if !fits => return wrong("--sheet SETTINGS goes with no other option"),
         Task::Sheet(settings) => match one(files) {
             Some([file]) => Request::Sheet { settings, file },
@@ -399,16 +493,7 @@ fn made(task: Task, fits: bool, mut given: Given) -> Result<Request, String> {
             Some([ours]) if fits => Request::Check { theirs, ours, json },
             _ => return wrong("--check THEIRS needs one FILE and no other option"),
         },
-        Task::Audit(folder) if files.is_empty() => Request::Audit { folder, json },
-        Task::Audit(_) => return wrong("--audit DIR takes no FILE"),
-        Task::Export(form) => return exported(form, None, given),
-        Task::FromBlif if files.len() < 2 => Request::FromBlif(FromBlif {
-            file: files.into_iter().next(),
-            model: given.model.map(|name| name.to_string_lossy().into_owned()),
-            names: given.names,
-        }),
-        Task::FromBlif => return wrong("--from-blif takes one FILE"),
-        Task::Page(folder) => Request::Page(Target { folder, force }, named(files, "--page")?),
+        _ => return wrong("--from-blif takes one FILE"),
     })
 }
 
@@ -418,8 +503,11 @@ fn rendered(files: Vec<PathBuf>, into: Option<Target>, json: bool) -> Request {
 
 /// The files, of which there must be one at least.
 fn named(files: Vec<PathBuf>, option: &str) -> Result<Vec<PathBuf>, String> {
+    let what = if option == "--audit" { "PATH" } else { "FILE" };
     match files.is_empty() || files.iter().any(|file| is_input(file)) {
-        true => Err(format!("{option} needs a FILE: standard input has no name")),
+        true => Err(format!(
+            "{option} needs a {what}: standard input has no name"
+        )),
         false => Ok(files),
     }
 }

@@ -1,20 +1,24 @@
 //! `--page DIR`: a page on netlists that a browser opens from disk. index.html is an overview; each file has a page of its own. All that is
 //! told comes from the library's operations and the never lines; what the browser does (sorting, searching, looking values up) is in page.js.
+//! With `--audit` the netlists are those of a catalogue's entries, and their pages have what the audit says of them.
 
 mod drawn;
 mod entry;
 mod excluded;
+mod facts;
 mod html;
 mod overview;
 mod sheet;
 mod svg;
 
+use crate::catalogue::{beside, original, read, Found, ORIGINAL};
 use crate::folder::Folder;
-use crate::options::Target;
+use crate::options::{Audited, Target};
 use crate::parallel::in_order;
 use crate::source::{reason, shown, Source};
 use crate::{tally, Screen};
 use entry::Entry;
+use facts::Facts;
 use std::collections::HashSet;
 use std::ops::ControlFlow;
 use std::path::{Path, PathBuf};
@@ -23,15 +27,69 @@ use std::process::ExitCode;
 const STYLE: &str = include_str!("page/page.css");
 const SCRIPT: &str = include_str!("page/page.js");
 
+/// A netlist that is on the page: where it is from, its text, and what is stored beside it where that is asked for.
+type Read = (Source, Vec<u8>, Option<Facts>);
+
 /// Writes the page. A file that can't be read, or whose page can't be written, is told, and the others are done; an error is a folder that
 /// takes no page at all.
 pub fn run(target: &Target, files: Vec<PathBuf>) -> Result<ExitCode, String> {
-    let (entries, mut errors) = entries(&files);
+    let (mut netlists, mut errors) = (Vec::new(), Vec::new());
+    for source in files.iter().cloned().map(Source::File) {
+        match source.text() {
+            Ok(text) => netlists.push((source, text, None)),
+            Err(error) => errors.push(told(format!("{}: {}", source.name(), reason(&error)))),
+        }
+    }
+    write(target, &files, netlists, errors)
+}
+
+/// Writes the page of a catalogue's entries: those that have lost a fact first.
+pub fn run_audited(target: &Target, audited: &Audited) -> Result<ExitCode, String> {
+    let Found { bases, errors } = Found::of(&audited.paths, audited.recursive);
+    let mut errors: Vec<String> = errors.into_iter().map(told).collect();
+    let bases: Vec<PathBuf> = bases.into_iter().collect();
+    let mut netlists = Vec::new();
+    let _ = in_order(
+        &bases,
+        |base| facts(base),
+        |_| {},
+        |_, read| {
+            match read {
+                Ok(read) => netlists.push(read),
+                Err(reason) => errors.push(told(reason)),
+            }
+            ControlFlow::Continue(())
+        },
+    );
+    netlists.sort_by_key(|(_, _, facts)| facts.as_ref().is_some_and(Facts::hold));
+    let originals = bases.iter().map(|base| beside(base, ORIGINAL));
+    write(target, &originals.collect::<Vec<_>>(), netlists, errors)
+}
+
+/// The original of an entry, and its facts.
+fn facts(base: &Path) -> Result<Read, String> {
+    let entry = read(base)?;
+    let Some(text) = &entry.original else {
+        return Err(format!("{}: no original", original(&entry.name)));
+    };
+    let facts = Facts::of(base, &entry, text);
+    let source = Source::File(beside(base, ORIGINAL));
+    Ok((source, text.clone(), Some(facts)))
+}
+
+/// Writes the page of the netlists of these files that can be read; `errors`: what is told of the others.
+fn write(
+    target: &Target,
+    files: &[PathBuf],
+    netlists: Vec<Read>,
+    mut errors: Vec<String>,
+) -> Result<ExitCode, String> {
+    let entries = entries(netlists);
     if entries.is_empty() {
         return Ok(ExitCode::from(tally::ERROR));
     }
     // The index is first: where a page stands already, nothing else is written.
-    let folder = Folder::open(target.folder.clone(), target.force, &files)?;
+    let folder = Folder::open(target.folder.clone(), target.force, files)?;
     let put = |name: &str, content: &str| folder.put(Path::new(name), content.as_bytes());
     put("index.html", &overview::page(&entries, &errors))?;
     put("page.css", STYLE)?;
@@ -65,19 +123,13 @@ fn told(reason: String) -> String {
     reason
 }
 
-/// The netlists that can be read, and why each of the others can't, which is told.
-fn entries(files: &[PathBuf]) -> (Vec<Entry>, Vec<String>) {
-    let (mut read, mut errors) = (Vec::new(), Vec::new());
-    for source in files.iter().cloned().map(Source::File) {
-        match source.text() {
-            Ok(text) => read.push((source, text)),
-            Err(error) => errors.push(told(format!("{}: {}", source.name(), reason(&error)))),
-        }
-    }
-    let pages = page_names(read.iter().map(|(source, _)| source));
-    let entries = read.into_iter().zip(pages);
-    let entries = entries.map(|((source, text), page)| Entry::new(&source, page, text));
-    (entries.collect(), errors)
+/// The netlists with the names of their pages.
+fn entries(netlists: Vec<Read>) -> Vec<Entry> {
+    let pages = page_names(netlists.iter().map(|(source, _, _)| source));
+    let entries = netlists.into_iter().zip(pages);
+    let entries =
+        entries.map(|((source, text, facts), page)| Entry::new(&source, page, text, facts));
+    entries.collect()
 }
 
 /// The name of each file's page: of its stem, with a number behind it where that is taken.

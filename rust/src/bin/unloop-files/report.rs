@@ -1,9 +1,9 @@
 //! How a refusal is told: as compilers do, with the line and a caret where there is a place.
 
-use unloop::{hint, visible, Assignment, Block, Location, Refusal, Value};
+use unloop::{circle, hint, visible, Assignment, Block, Location, Refusal, Value};
 
 /// The entries of a cover that are told.
-const ENTRIES_TOLD: usize = 8;
+pub const ENTRIES_TOLD: usize = 8;
 
 /// The refusal that the program's output is, if it is one. No rendering begins so.
 pub fn refusal_in(output: &[u8]) -> Result<Option<Refusal>, String> {
@@ -32,7 +32,7 @@ pub fn report(refusal: Refusal, name: &str, text: &[u8]) -> Vec<String> {
     let mut lines = vec![format!("{name}: {word}")];
     if let Ok(block) = Block::read(text) {
         let setting = unsettled(refusal, &block);
-        lines.extend(setting.map_or_else(Vec::new, |setting| settings_told(&block, setting)));
+        lines.extend(setting.map_or_else(Vec::new, |setting| settings_told(&block, setting, text)));
         let exclusions = exclusions(&block).into_iter();
         lines.extend(exclusions.map(|line| format!("  {line}")));
     }
@@ -73,8 +73,9 @@ pub fn warning(block: &Block) -> Option<String> {
     })
 }
 
-/// The setting that isn't settled, the outputs undefined under it, and what settles, by the names of the pins.
-fn settings_told(block: &Block, setting: usize) -> Vec<String> {
+/// The setting that isn't settled, the outputs undefined under it, the gates that wait for each other, and what settles, by the names of
+/// the pins.
+fn settings_told(block: &Block, setting: usize, text: &[u8]) -> Vec<String> {
     let pins = block.input_names();
     let under = match pins.is_empty() {
         true => String::new(),
@@ -84,6 +85,7 @@ fn settings_told(block: &Block, setting: usize) -> Vec<String> {
         "  not settled{under}: {} undefined",
         undefined(block, setting).join(", ")
     )];
+    lines.extend(waiting(&circle(text, setting)).map(|circle| format!("  {circle}")));
     let cover = block.cover();
     let told = cover.iter().take(ENTRIES_TOLD);
     lines.extend(told.map(|&entry| {
@@ -100,6 +102,24 @@ fn settings_told(block: &Block, setting: usize) -> Vec<String> {
         lines.push("  settles under no setting".to_string());
     }
     lines
+}
+
+/// As `up waits for filter, filter waits for up`; of a long circle its first gates and how many there are.
+pub fn waiting(circle: &[String]) -> Option<String> {
+    let (first, count) = (circle.first()?, circle.len());
+    if count == 1 {
+        return Some(format!("{first} waits for itself"));
+    }
+    let next = circle.iter().cycle().skip(1);
+    let waits = circle.iter().zip(next).take(ENTRIES_TOLD);
+    let told: Vec<String> = waits
+        .map(|(gate, next)| format!("{gate} waits for {next}"))
+        .collect();
+    let more = match count > ENTRIES_TOLD {
+        true => format!(", and so on: {count} gates in a circle"),
+        false => String::new(),
+    };
+    Some(told.join(", ") + &more)
 }
 
 /// Whether some setting that agrees with an assignment is not excluded by a never line.

@@ -79,10 +79,7 @@ impl Tally {
         if !refused.is_empty() {
             line += &format!(" ({})", refused.join(", "));
         }
-        if self.errors > 0 {
-            line += &format!(", {}", counted(self.errors, "error"));
-        }
-        line
+        line + &and_errors(self.errors)
     }
 
     pub fn status(&self) -> u8 {
@@ -98,4 +95,20 @@ impl Tally {
 pub fn counted(count: usize, what: &str) -> String {
     let plural = if count == 1 { "" } else { "s" };
     format!("{count} {what}{plural}")
+}
+
+/// As `1 entry` and `2 entries`.
+pub fn entries(count: usize) -> String {
+    match count {
+        1 => "1 entry".to_string(),
+        _ => format!("{count} entries"),
+    }
+}
+
+/// What a summary ends with: `, 1 error`, or nothing where there is none.
+pub fn and_errors(errors: usize) -> String {
+    match errors {
+        0 => String::new(),
+        _ => format!(", {}", counted(errors, "error")),
+    }
 }

@@ -1,10 +1,10 @@
 //! What became of one of the three facts of an entry, in words and as JSON.
 
 use super::{promises, Entry};
-use crate::check::{interface, Differs};
+use crate::check::Differs;
 use crate::described::{object, pins};
 use crate::report::{pins_of, undefined};
-use unloop::audit::{Cover, Never, Rendering};
+use unloop::audit::{Audit, Cover, Names, Never, Rendering};
 use unloop::json::Json;
 use unloop::{Block, Location, Refusal};
 
@@ -46,6 +46,16 @@ impl Fact {
         why.map(|why| format!("  {what}: {why}"))
     }
 
+    /// In a word: `holds`, or how it is lost.
+    pub fn state(&self) -> &'static str {
+        self.state
+    }
+
+    /// Why it is lost, in words.
+    pub fn why(&self) -> Option<&str> {
+        self.why.as_deref()
+    }
+
     pub fn json(self) -> Json {
         let mut fields = object([("state", Json::text(self.state))]);
         fields.extend(self.fields);
@@ -53,11 +63,20 @@ impl Fact {
         Json::Object(fields)
     }
 
-    pub fn of_rendering(found: &Rendering, entry: &Entry, block: Option<&Block>) -> Fact {
+    /// All three, each with the word that its line begins with.
+    pub fn all(found: &Audit, entry: &Entry, block: Option<&Block>) -> [(&'static str, Fact); 3] {
+        [
+            ("rendering", Fact::of_rendering(found, entry, block)),
+            ("never lines", Fact::of_never(&found.never, block)),
+            ("cover", Fact::of_cover(found, entry, block)),
+        ]
+    }
+
+    fn of_rendering(found: &Audit, entry: &Entry, block: Option<&Block>) -> Fact {
         let out = entry.out.as_deref();
         let theirs = out.and_then(|out| Block::read(out).ok());
         let plain = |state, why| Fact::lost(state, why, Vec::new());
-        match found {
+        match &found.rendering {
             Rendering::Holds => Fact::holds(),
             Rendering::Missing => plain("missing", format!("no {}.out", entry.name)),
             Rendering::Illegible(refusal) => {
@@ -66,10 +85,13 @@ impl Fact {
             }
             Rendering::Original(refusal) => plain("original", original(*refusal, entry)),
             Rendering::Answer { stored, today } => plain("answer", answers(*stored, *today)),
-            Rendering::Incomparable(refusal) => {
-                let why = incomparable(*refusal, block.zip(theirs.as_ref()));
-                plain(refusal.word(), why)
+            Rendering::Incomparable(Refusal::InterfaceMismatch) => {
+                let told = [found.pins.in_words("pin"), found.ports.in_words("port")];
+                let why = told.concat().join("; ");
+                let fields = [("pins", names(&found.pins)), ("ports", names(&found.ports))];
+                Fact::lost(Refusal::InterfaceMismatch.word(), why, object(fields))
             }
+            Rendering::Incomparable(refusal) => plain(refusal.word(), refusal.to_string()),
             Rendering::Never(changes) => {
                 let blocks = block.zip(theirs.as_ref());
                 let told =
@@ -87,7 +109,7 @@ impl Fact {
         }
     }
 
-    pub fn of_never(found: &Never, block: Option<&Block>) -> Fact {
+    fn of_never(found: &Never, block: Option<&Block>) -> Fact {
         match found {
             Never::Holds => Fact::holds(),
             Never::Missing => Fact::lost_with_the_cover("missing"),
@@ -103,61 +125,91 @@ impl Fact {
         }
     }
 
-    pub fn of_cover(found: &Cover, entry: &Entry, block: Option<&Block>) -> Fact {
+    fn of_cover(found: &Audit, entry: &Entry, block: Option<&Block>) -> Fact {
         let plain = |state, why| Fact::lost(state, why, Vec::new());
-        match (found, block) {
+        // The rendering tells of other pins than its own.
+        let told = found.rendering == Rendering::Incomparable(Refusal::InterfaceMismatch);
+        let pins = if told {
+            Vec::new()
+        } else {
+            found.pins.in_words("pin")
+        };
+        let pins: String = pins.iter().map(|pin| format!("{pin}; ")).collect();
+        match (&found.cover, block) {
             (Cover::Holds, _) => Fact::holds(),
             (Cover::Missing, _) => plain("missing", format!("no {}.cover", entry.name)),
             (Cover::Illegible { line, reason }, _) => {
                 plain("illegible", format!("line {line}: {reason}"))
             }
             (Cover::Original(refusal), _) => plain("original", original(*refusal, entry)),
-            (Cover::Lost { setting }, Some(block)) => {
-                let (ports, with) = (undefined(block, *setting), with(block, *setting));
-                let why = format!(
-                    "stored as settled, but not settled{with}: {} undefined",
-                    ports.join(", ")
-                );
-                let told = ("undefined", Json::texts(ports));
-                Fact::lost(
-                    "lost",
-                    why,
-                    object([("setting", of_setting(block, *setting)), told]),
-                )
-            }
+            (Cover::Lost { setting }, Some(block)) => Fact::of_lost(*setting, &pins, block),
             (Cover::Gained { setting }, Some(block)) => {
-                let why = format!("not stored as settled{}, but it is", with(block, *setting));
-                Fact::lost(
-                    "gained",
-                    why,
-                    object([("setting", of_setting(block, *setting))]),
-                )
+                let with = with(block, *setting);
+                let why = format!("{pins}not stored as settled{with}, but it is");
+                let setting = ("setting", of_setting(block, *setting));
+                Fact::lost("gained", why, object([setting]))
             }
+            (Cover::Pins, _) => plain("pins", found.pins.in_words("pin").join("; ")),
             _ => plain(
                 "entries",
                 "the same settings by other entries than the minimal ones".to_string(),
             ),
         }
     }
-}
 
-fn incomparable(refusal: Refusal, blocks: Option<(&Block, &Block)>) -> String {
-    match (refusal, blocks) {
-        (Refusal::InterfaceMismatch, Some((ours, theirs))) => {
-            let (has, must_be) = (interface(theirs), interface(ours));
-            format!("it has {has}, but must be {must_be}")
-        }
-        _ => refusal.to_string(),
+    /// A cover that has a setting which isn't settled; `pins`: what is told of the pins before it.
+    fn of_lost(setting: usize, pins: &str, block: &Block) -> Fact {
+        let (ports, with) = (undefined(block, setting), with(block, setting));
+        let undefined = ports.join(", ");
+        let why = format!("{pins}stored as settled, but not settled{with}: {undefined} undefined");
+        let fields = [
+            ("setting", of_setting(block, setting)),
+            ("undefined", Json::texts(ports)),
+        ];
+        Fact::lost("lost", why, object(fields))
     }
 }
 
-fn answers(stored: Refusal, today: Option<Refusal>) -> String {
-    let told = |refusal: Refusal| format!("refused with {} {}", refusal.number(), refusal.word());
-    let today = today.map_or("rendered".to_string(), told);
-    format!("stored as {}, and now {today}", told(stored))
+/// Names that are others than before; those of a list that is empty are left out.
+fn names(changes: &Names) -> Json {
+    let pairs = changes.renamed.iter();
+    let renamed = pairs.map(|(old, new)| (old.clone(), Json::text(new)));
+    let mut fields = object([
+        ("gone", Json::texts(&changes.gone)),
+        ("new", Json::texts(&changes.new)),
+        ("renamed", Json::Object(renamed.collect())),
+        ("reordered", Json::Bool(changes.reordered)),
+    ]);
+    fields.retain(|(_, value)| match value {
+        Json::List(list) => !list.is_empty(),
+        Json::Object(fields) => !fields.is_empty(),
+        value => *value == Json::Bool(true),
+    });
+    Json::Object(fields)
 }
 
-fn with(block: &Block, setting: usize) -> String {
+fn answers(stored: Refusal, today: Option<Refusal>) -> String {
+    let today = today.map_or("rendered".to_string(), |today| refused_now(stored, today));
+    format!("stored as {}, and now {today}", refused_with(stored))
+}
+
+/// A refusal of today; of one with the number of the stored one that its setting or its place is another.
+pub fn refused_now(stored: Refusal, today: Refusal) -> String {
+    let elsewhere = match (today.number() == stored.number(), today.place()) {
+        (false, _) => "",
+        (_, Some(_)) => " at another place",
+        (_, None) => " at another setting",
+    };
+    format!("{}{elsewhere}", refused_with(today))
+}
+
+/// As `refused with 9 undecided`.
+pub fn refused_with(refusal: Refusal) -> String {
+    format!("refused with {} {}", refusal.number(), refusal.word())
+}
+
+/// As ` with a = 1`; nothing where there are no pins.
+pub fn with(block: &Block, setting: usize) -> String {
     match block.inputs() {
         0 => String::new(),
         _ => format!(" with {}", pins_of(block, setting)),

@@ -7,8 +7,15 @@ use unloop::{Assignment, Block};
 
 type Told = (String, Vec<(String, Json)>);
 
-/// The original's lines, held to the stored ones. Of those that are gone and new the first are one line that changed, and so on.
+/// The original's lines, held to the stored ones.
 pub fn in_original(changes: &Changes, original: &Block) -> Told {
+    let told = lines(changes, original).into_iter();
+    let names = original.input_names();
+    (counted(told, changes, original), fields(changes, &names))
+}
+
+/// The differences, one by one. Of the lines that are gone and new the first are one line that changed, and so on.
+pub fn lines(changes: &Changes, original: &Block) -> Vec<String> {
     let (names, lines) = (original.input_names(), original.never_lines());
     let times = |lines: &[Assignment], line| lines.iter().filter(|&&other| other == line).count();
     let Changes { gone, new, .. } = changes;
@@ -27,7 +34,9 @@ pub fn in_original(changes: &Changes, original: &Block) -> Told {
             (None, None) => return None,
         })
     });
-    (counted(told, changes, original), fields(changes, &names))
+    let with_pins = changes.gone_with_pins.iter();
+    told.chain(with_pins.map(|line| format!("{line} is gone")))
+        .collect()
 }
 
 /// The lines of a stored rendering that has some, held to the original's.
@@ -59,8 +68,13 @@ fn counted(told: impl Iterator<Item = String>, changes: &Changes, block: &Block)
 fn fields(changes: &Changes, names: &[String]) -> Vec<(String, Json)> {
     let listed =
         |lines: &[Assignment]| Json::List(lines.iter().map(|&line| pins(line, names)).collect());
-    object([
+    let mut fields = object([
         ("gone", listed(&changes.gone)),
         ("new", listed(&changes.new)),
-    ])
+    ]);
+    if !changes.gone_with_pins.is_empty() {
+        let lines = Json::texts(&changes.gone_with_pins);
+        fields.extend(object([("gone_with_pins", lines)]));
+    }
+    fields
 }

@@ -1,12 +1,14 @@
-//! The drawing of a block, its loops in colour: by Graphviz where `dot` is installed and the block not too large, otherwise by svg.rs.
+//! The drawing of a block, its loops in colour and gates that wait for each other outlined: by Graphviz where `dot` is installed and the block
+//! not too large, otherwise by svg.rs.
 
 use super::html::escaped;
 use super::svg;
+use crate::report::waiting;
 use std::io::Write;
 use std::process::{Command, Stdio};
 use unloop::declarations::gate_names;
 use unloop::drawing::{Drawing, Node};
-use unloop::{Block, Operand};
+use unloop::{circle, Block, Operand};
 
 /// Graphviz takes long on more.
 const GATES_FOR_DOT: usize = 150;
@@ -23,10 +25,12 @@ pub struct Labels {
     pub gates: Vec<(String, String)>,
     /// The loop that a gate is in.
     pub loops: Vec<Option<usize>>,
+    /// The gates that wait for each other, by name, where a setting isn't settled.
+    waiting: Vec<String>,
 }
 
 impl Labels {
-    fn of(block: &Block, text: &[u8]) -> Labels {
+    fn of(block: &Block, text: &[u8], unsettled: Option<usize>) -> Labels {
         let names = gate_names(text);
         let kind = |gate: &unloop::Gate| {
             let constants = gate.operands.iter().filter_map(|operand| match operand {
@@ -52,6 +56,7 @@ impl Labels {
                 .map(|(number, gate)| (name(number), kind(gate)))
                 .collect(),
             loops,
+            waiting: unsettled.map_or(Vec::new(), |setting| circle(text, setting)),
         }
     }
 
@@ -60,16 +65,22 @@ impl Labels {
         match node {
             Node::Input(_) => "input".to_string(),
             Node::Output(_) => "output".to_string(),
-            Node::Gate(gate) => match self.loops[gate] {
-                Some(number) => format!("gate loop{}", number % COLOURS),
-                None => "gate".to_string(),
-            },
+            Node::Gate(gate) => {
+                let waits = self.waiting.contains(&self.gates[gate].0);
+                let waits = if waits { " waits" } else { "" };
+                match self.loops[gate] {
+                    Some(number) => format!("gate loop{}{waits}", number % COLOURS),
+                    None => "gate".to_string(),
+                }
+            }
         }
     }
 }
 
-pub fn drawing(block: &Block, text: &[u8]) -> String {
-    let (labels, drawing) = (Labels::of(block, text), Drawing::of(block));
+/// `unsettled`: the lowest setting that isn't settled, if there is one.
+pub fn drawing(block: &Block, text: &[u8], unsettled: Option<usize>) -> String {
+    let labels = Labels::of(block, text, unsettled);
+    let drawing = Drawing::of(block);
     let by_dot = (block.gates() <= GATES_FOR_DOT)
         .then(|| dot(&drawing, &labels))
         .flatten();
@@ -108,9 +119,14 @@ fn legend(labels: &Labels) -> String {
             named.join(", ")
         )
     };
+    let waiting = waiting(&labels.waiting).map(|waiting| {
+        let waiting = escaped(&waiting);
+        format!("<li><span class=\"swatch waits\"></span> {waiting}</li>\n")
+    });
     format!(
-        "<ul class=\"legend\">\n{}</ul>\n",
-        (0..count).map(item).collect::<String>()
+        "<ul class=\"legend\">\n{}{}</ul>\n",
+        (0..count).map(item).collect::<String>(),
+        waiting.unwrap_or_default()
     )
 }
 

@@ -1,5 +1,6 @@
 //! A netlist's own page: its state, text, drawing, cover, sheet, and its rendering beside it.
 
+use super::facts::Facts;
 use super::html::{counted, escaped, framed};
 use super::{drawn, excluded, sheet};
 use crate::report;
@@ -20,12 +21,14 @@ pub struct Entry {
     pub text: Vec<u8>,
     pub block: Result<Block, Refusal>,
     pub rendering: Result<Block, Refusal>,
+    /// What is stored beside it, where that is asked for.
+    pub facts: Option<Facts>,
     /// The lowest setting that may come and isn't settled, whatever the block is refused for.
     unsettled: Option<usize>,
 }
 
 impl Entry {
-    pub fn new(source: &Source, page: String, text: Vec<u8>) -> Entry {
+    pub fn new(source: &Source, page: String, text: Vec<u8>, facts: Option<Facts>) -> Entry {
         let block = Block::read(&text);
         let rendering = block.clone().and_then(|block| block.render());
         let verdict = block.as_ref().map(Block::verdict);
@@ -37,6 +40,7 @@ impl Entry {
             unsettled: verdict.ok().and_then(|verdict| verdict.lowest_unsettled),
             block,
             rendering,
+            facts,
         }
     }
 
@@ -62,6 +66,12 @@ impl Entry {
             (Refusal::NotSettled { .. }, _) => ("undecided", refusal.word().to_string()),
             _ => ("illegible", refusal.word().to_string()),
         }
+    }
+
+    /// Behind the state, whether the stored facts hold, where that is asked for.
+    pub fn badge(&self) -> String {
+        let badge = |facts: &Facts| format!(" {}", facts.badge());
+        self.facts.as_ref().map_or(String::new(), badge)
     }
 
     /// The state of a block that was rendered: another one where never lines exclude settings.
@@ -90,9 +100,8 @@ impl Entry {
     }
 }
 
-pub fn page(entries: &[Entry], index: usize) -> String {
-    let entry = &entries[index];
-    let (class, state) = entry.state();
+/// The links to the entry before, the overview and the entry behind.
+fn nav(entries: &[Entry], index: usize) -> String {
     let link = |other: Option<&Entry>, word: &str| match other {
         Some(other) => format!(
             "<a rel=\"{word}\" href=\"{}\">{}</a>",
@@ -102,11 +111,16 @@ pub fn page(entries: &[Entry], index: usize) -> String {
         None => "<span></span>".to_string(),
     };
     let before = index.checked_sub(1).map(|before| &entries[before]);
-    let nav = format!(
+    format!(
         "<nav>{} <a href=\"index.html\">All netlists</a> {}</nav>",
         link(before, "prev"),
         link(entries.get(index + 1), "next")
-    );
+    )
+}
+
+pub fn page(entries: &[Entry], index: usize) -> String {
+    let (entry, nav) = (&entries[index], nav(entries, index));
+    let (class, state) = entry.state();
     let told = entry
         .told()
         .iter()
@@ -114,14 +128,21 @@ pub fn page(entries: &[Entry], index: usize) -> String {
         .collect::<Vec<_>>()
         .join("\n");
     let mut body = format!(
-        "<header>\n{nav}\n<h1>{}</h1>\n<p><span class=\"state {class}\">{}</span></p>\n<pre class=\"told\">{told}</pre>\n{}</header>\n<main>\n",
+        "<header>\n{nav}\n<h1>{}</h1>\n<p><span class=\"state {class}\">{}</span>{}</p>\n<pre class=\"told\">{told}</pre>\n{}</header>\n<main>\n",
         escaped(&entry.title),
         escaped(&state),
+        entry.badge(),
         entry.block.as_ref().map_or(String::new(), excluded::paragraph)
     );
+    if let Some(facts) = &entry.facts {
+        body += &section("Facts", &facts.content());
+    }
     if let Ok(block) = &entry.block {
         body += &section("Sheet", &sheet::sheet(block, entry.unsettled));
-        body += &section("Drawing", &drawn::drawing(block, &entry.text));
+        body += &section(
+            "Drawing",
+            &drawn::drawing(block, &entry.text, entry.unsettled),
+        );
         body += &section("Cover", &cover(block));
     }
     body += &texts(entry);

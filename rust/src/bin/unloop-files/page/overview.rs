@@ -1,10 +1,11 @@
 //! index.html: a row for each netlist, which page.js sorts and searches.
 
 use super::entry::Entry;
+use super::facts::Facts;
 use super::html::{counted, escaped, framed};
 use unloop::Block;
 
-/// As `24 netlists: 14 rendered (2 with settings excluded), 9 refused, 1 error`.
+/// As `24 netlists: 14 rendered (2 with settings excluded), 9 refused, 1 error`, and of audited ones `; 22 hold, 1 lost` behind it.
 pub fn summary(entries: &[&Entry], errors: usize) -> String {
     let rendered = entries.iter().filter(|entry| entry.rendering.is_ok());
     let blocks = rendered.flat_map(|entry| &entry.block);
@@ -20,8 +21,17 @@ pub fn summary(entries: &[&Entry], errors: usize) -> String {
         0 => String::new(),
         errors => format!(", {}", counted(errors, "error")),
     };
+    let facts: Vec<&Facts> = entries
+        .iter()
+        .filter_map(|entry| entry.facts.as_ref())
+        .collect();
+    let hold = facts.iter().filter(|facts| facts.hold()).count();
+    let audited = match facts.len() {
+        0 => String::new(),
+        all => format!("; {hold} hold, {} lost", all - hold),
+    };
     format!(
-        "{}: {rendered} rendered{limited}, {} refused{errors_told}",
+        "{}: {rendered} rendered{limited}, {} refused{errors_told}{audited}",
         counted(entries.len() + errors, "netlist"),
         entries.len() - rendered
     )
@@ -71,17 +81,33 @@ fn row(entry: &Entry) -> String {
         let settled = block.verdict().settled * 1_000_000;
         settled.checked_div(block.settings_that_come()).unwrap_or(0)
     });
-    let (class, state) = entry.state();
     format!(
-        "<tr><th scope=\"row\"><a href=\"{}\">{}</a></th>\
-         <td data-label=\"State\" data-value=\"{}\"><span class=\"state {class}\">{}</span></td>{}{}{}{}</tr>\n",
+        "<tr><th scope=\"row\"><a href=\"{}\">{}</a></th>{}{}{}{}{}</tr>\n",
         escaped(&entry.page),
         escaped(&entry.title),
-        escaped(&state),
-        escaped(&state),
+        state(entry),
         number("Gates", block.map(|block| block.gates())),
         number("Loops", block.map(|block| block.loops().len())),
-        number("Rendering", entry.rendering.as_ref().ok().map(|block| block.gates())),
-        cell("Settled", share, block.map_or("–".to_string(), Block::settled_in_words)),
+        number(
+            "Rendering",
+            entry.rendering.as_ref().ok().map(|block| block.gates())
+        ),
+        cell(
+            "Settled",
+            share,
+            block.map_or("–".to_string(), Block::settled_in_words)
+        ),
+    )
+}
+
+/// The cell of the state, and whether the stored facts hold; those that are lost are sorted together.
+fn state(entry: &Entry) -> String {
+    let (class, state) = entry.state();
+    let state = escaped(&state);
+    let lost = entry.facts.as_ref().is_some_and(|facts| !facts.hold());
+    let sorted = if lost { "lost " } else { "" };
+    format!(
+        "<td data-label=\"State\" data-value=\"{sorted}{state}\"><span class=\"state {class}\">{state}</span>{}</td>",
+        entry.badge()
     )
 }
