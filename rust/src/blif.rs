@@ -1,10 +1,7 @@
 //! A block as a BLIF model: a gate is a `.names` table of the rows where it is 1, or of those where it is 0 if they are fewer.
 
-use crate::export::{never_comments, Nets};
-use crate::{Block, Gate, ModuleName, Operand};
-
-/// The nets of the constants, which no gate, input or port is called.
-const CONSTANTS: [&str; 2] = ["_zero", "_one"];
+use crate::export::{Nets, CONSTANTS};
+use crate::{Block, Gate, Labels, Operand};
 
 /// The model of a block, straight or looped.
 ///
@@ -15,41 +12,34 @@ const CONSTANTS: [&str; 2] = ["_zero", "_one"];
 /// assert_eq!(blif(&block, &module_name("m")), model);
 /// # Ok::<(), Refusal>(())
 /// ```
-pub fn blif(block: &Block, model: &ModuleName) -> String {
-    let (nets, gates) = (Nets::of(block), block.gate_list());
-    let mut lines: Vec<String> = never_comments(block)
-        .iter()
-        .map(|line| format!("# {line}"))
-        .collect();
-    lines.push(format!(".model {model}"));
-    lines.push(
-        format!(".inputs {}", nets.inputs.join(" "))
-            .trim_end()
-            .to_string(),
-    );
-    lines.push(
-        format!(".outputs {}", nets.ports.join(" "))
-            .trim_end()
-            .to_string(),
-    );
+pub fn blif(block: &Block, labels: impl Into<Labels>) -> String {
+    let (labels, gates) = (labels.into(), block.gate_list());
+    let nets = Nets::of(block, &labels);
+    let constants = CONSTANTS.map(|word| format!("{}{word}", nets.prefix));
+    let constants = [&constants[0][..], &constants[1]];
+    let comments = labels.comments(block).into_iter();
+    let mut lines: Vec<String> = comments.map(|line| format!("# {line}")).collect();
+    lines.push(format!(".model {}", labels.module));
+    for (word, names) in [(".inputs", &nets.inputs), (".outputs", &nets.ports)] {
+        lines.push([&[word.to_string()], &names[..]].concat().join(" "));
+    }
     for value in [false, true] {
         let read = |gate: &Gate| gate.operands.contains(&Operand::Constant(value));
         if gates.iter().any(read) {
-            lines.push(format!(".names {}", CONSTANTS[usize::from(value)]));
+            lines.push(format!(".names {}", constants[usize::from(value)]));
             lines.extend(value.then(|| "1".to_string()));
         }
     }
-    for (number, gate) in gates.iter().enumerate() {
-        let operands: Vec<String> = gate
-            .operands
-            .iter()
-            .map(|&operand| nets.net(operand, CONSTANTS))
-            .collect();
-        lines.push(format!(".names {} _{number}", operands.join(" ")));
+    for (gate, net) in gates.iter().zip(&nets.gates) {
+        let operands = gate.operands.iter();
+        let operands: Vec<String> = operands.map(|&node| nets.net(node, constants)).collect();
+        lines.push(format!(".names {} {net}", operands.join(" ")));
         lines.extend(rows(gate));
     }
     for (port, &node) in nets.ports.iter().zip(&block.outputs_show()) {
-        lines.push(format!(".names {} {port}\n1 1", nets.net(node, CONSTANTS)));
+        if !nets.is_gate(port) {
+            lines.push(format!(".names {} {port}\n1 1", nets.net(node, constants)));
+        }
     }
     lines.push(".end\n".to_string());
     lines.join("\n")

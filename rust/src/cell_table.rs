@@ -1,14 +1,14 @@
 //! Cells as a table of decimal words for a board's filler, and back. What stands behind a `#` is a comment to a filler; some comments
 //! tell the names here: `# inputs N NAME ...` at the head, `# outputs N` and `# output PORT NODE` at the end; before each cell stands its gate.
 
-use crate::export::never_comments;
 use crate::limits::{CELL_WORDS, INPUTS};
-use crate::{Block, Cells, ModuleName, Refusal};
+use crate::{Block, Cells, Labels, Names, Refusal};
 use std::fmt;
 
 const INPUTS_WORD: &str = "inputs";
 const OUTPUTS_WORD: &str = "outputs";
 const OUTPUT_WORD: &str = "output";
+const WORDS: [&str; 3] = [INPUTS_WORD, OUTPUTS_WORD, OUTPUT_WORD];
 
 /// A table of cells: what a written one says. Each port's node is an input or a cell.
 #[derive(Debug, Clone, PartialEq, Eq)]
@@ -75,7 +75,8 @@ impl fmt::Display for RowError {
 
 impl std::error::Error for RowError {}
 
-/// The table of a block in which no gate reads itself or a gate behind it; `name` is put at its head.
+/// The table of a block in which no gate reads itself or a gate behind it; the module's name is put at its head. Pins and ports keep the
+/// block's names.
 ///
 /// ```
 /// # use unloop::{cell_table, module_name, Block, CellTable, Refusal};
@@ -86,17 +87,22 @@ impl std::error::Error for RowError {}
 /// assert_eq!(table.shown(&[false, false])?, [true, false]);
 /// # Ok::<(), Refusal>(())
 /// ```
-pub fn cell_table(block: &Block, name: &ModuleName) -> Result<String, Refusal> {
+pub fn cell_table(block: &Block, labels: impl Into<Labels>) -> Result<String, Refusal> {
+    let mut labels = labels.into();
+    labels.names = Names::default();
     let cells = block.cells()?;
     let inputs = [vec![cells.inputs().to_string()], block.input_names()].concat();
-    let mut lines = vec![format!("# cells {name} {}", block.gates())];
-    let nevers = never_comments(block);
-    lines.extend(nevers.iter().map(|line| format!("# {line}")));
+    let mut lines = vec![format!("# cells {} {}", labels.module, block.gates())];
+    let comments = labels.comments(block).into_iter();
+    lines.extend(comments.map(|line| format!("# {line}")));
     lines.push(format!("# {INPUTS_WORD} {}", inputs.join(" ")));
     let gates = block.gate_list();
     for (number, words) in cells.words().chunks(CELL_WORDS).enumerate() {
         let decimal: Vec<String> = words.iter().map(u16::to_string).collect();
-        lines.push(format!("# _{number} {}", gates[number].kind.word()));
+        // A gate that is called as a line which tells names would be taken for one.
+        let own = labels.gate(number).filter(|name| !WORDS.contains(name));
+        let name = own.map_or_else(|| format!("_{number}"), str::to_string);
+        lines.push(format!("# {name} {}", gates[number].kind.word()));
         lines.push(decimal.join(" "));
     }
     lines.push(format!("# {OUTPUTS_WORD} {}", block.outputs()));

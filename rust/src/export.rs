@@ -1,46 +1,141 @@
 //! What a block's names become in Verilog and BLIF, whose ports and inputs share one set of names.
 
-use crate::limits::NAME_WORDS;
-use crate::{Block, Operand};
+use crate::{Block, Names, Operand};
+use std::collections::HashSet;
 use std::fmt;
+
+/// What the nets of the constants are called behind a prefix.
+pub(crate) const CONSTANTS: [&str; 2] = ["zero", "one"];
 
 /// What is put behind a port that has an input's name. The longer name is no netlist's, whose names have at most eight bytes.
 pub const OUTPUT_SUFFIX: &str = "__output";
 
-/// The names of a block's nets.
-pub(crate) struct Nets {
-    pub inputs: Vec<String>,
-    /// The ports; one with an input's name has [`OUTPUT_SUFFIX`] behind it.
-    pub ports: Vec<String>,
+/// What is put behind a gate that has the name of a port which shows something else.
+const GATE_SUFFIX: &str = "__gate";
+
+/// What a file that is written for other tools calls a block and its parts, where that is not what the block calls them.
+#[derive(Debug, Clone, PartialEq, Eq)]
+pub struct Labels {
+    /// The module's, model's or table's name.
+    pub module: ModuleName,
+    /// What the block was made from, for a comment at the beginning.
+    pub made_from: Option<String>,
+    /// The name of each gate, by number; one without a name is called by its number, and so is each behind the end of the list.
+    pub gates: Vec<Option<String>>,
+    /// What pins, ports and gates were called elsewhere.
+    pub names: Names,
 }
 
-impl Nets {
-    pub fn of(block: &Block) -> Nets {
-        let inputs = block.input_names();
-        let named = |port: String| match inputs.contains(&port) {
-            true => port + OUTPUT_SUFFIX,
-            false => port,
-        };
-        let ports = block.output_names().into_iter().map(named).collect();
-        Nets { inputs, ports }
-    }
-
-    /// The net of an operand; gates are called as in a written netlist text, and begin as no input and no port does.
-    pub fn net(&self, operand: Operand, constants: [&str; 2]) -> String {
-        match operand {
-            Operand::Constant(value) => constants[usize::from(value)].to_string(),
-            Operand::Input(input) => self.inputs[input].clone(),
-            Operand::Gate(gate) => format!("_{gate}"),
+impl From<&ModuleName> for Labels {
+    fn from(module: &ModuleName) -> Labels {
+        Labels {
+            module: module.clone(),
+            made_from: None,
+            gates: Vec::new(),
+            names: Names::default(),
         }
     }
 }
 
-/// The netlist's name of a port that a tool gives back.
-pub(crate) fn port_of(name: &str) -> &str {
-    match name.strip_suffix(OUTPUT_SUFFIX) {
-        Some(port) if !port.is_empty() && name.len() > 2 * NAME_WORDS => port,
-        _ => name,
+impl Labels {
+    /// A gate's own name.
+    pub(crate) fn gate(&self, gate: usize) -> Option<&str> {
+        self.gates.get(gate)?.as_deref()
     }
+
+    /// The lines that a file begins with: what it was made from, and the pins that never lines exclude.
+    pub(crate) fn comments(&self, block: &Block) -> Vec<String> {
+        let pins: Vec<String> = block.input_names();
+        let pins = pins.into_iter().map(|pin| match self.names.input(&pin) {
+            Some(other) => other.to_string(),
+            None => pin,
+        });
+        let pins: Vec<String> = pins.collect();
+        let nevers = block.never_lines().into_iter();
+        let nevers = nevers.map(|line| line.never_line(&pins));
+        self.made_from.iter().cloned().chain(nevers).collect()
+    }
+}
+
+/// The names of a block's nets, no two the same.
+pub(crate) struct Nets {
+    pub inputs: Vec<String>,
+    /// The ports; one with an input's name has [`OUTPUT_SUFFIX`] behind it.
+    pub ports: Vec<String>,
+    pub gates: Vec<String>,
+    /// What every name that is made up begins with.
+    pub prefix: String,
+}
+
+impl Nets {
+    pub fn of(block: &Block, labels: &Labels) -> Nets {
+        let names = &labels.names;
+        let inputs = block.input_names().into_iter();
+        let inputs = inputs.map(|name| names.input(&name).map_or(name.clone(), str::to_string));
+        let inputs: Vec<String> = inputs.collect();
+        let mut taken: HashSet<String> = inputs.iter().cloned().collect();
+        let mut ports = Vec::new();
+        for port in block.output_names() {
+            let mut port = names.port(&port).map_or(port.clone(), str::to_string);
+            while !taken.insert(port.clone()) {
+                port += OUTPUT_SUFFIX;
+            }
+            ports.push(port);
+        }
+        let shown = block.outputs_show();
+        let mut named = |gate: usize| {
+            let own = labels.gate(gate)?;
+            let name = names.gate(own).unwrap_or(own);
+            let port = ports.iter().position(|port| port == name);
+            let name = match port.map(|port| shown[port] == Operand::Gate(gate)) {
+                Some(true) => return Some(name.to_string()),
+                Some(false) => format!("{name}{GATE_SUFFIX}"),
+                None => name.to_string(),
+            };
+            taken.insert(name.clone()).then_some(name)
+        };
+        let gates: Vec<Option<String>> = (0..block.gates()).map(&mut named).collect();
+        let prefix = free_prefix(&taken);
+        let numbered = |(gate, name): (usize, Option<String>)| {
+            name.unwrap_or_else(|| format!("{prefix}{gate}"))
+        };
+        Nets {
+            gates: gates.into_iter().enumerate().map(numbered).collect(),
+            inputs,
+            ports,
+            prefix,
+        }
+    }
+
+    /// The net of an operand.
+    pub fn net(&self, operand: Operand, constants: [&str; 2]) -> String {
+        match operand {
+            Operand::Constant(value) => constants[usize::from(value)].to_string(),
+            Operand::Input(input) => self.inputs[input].clone(),
+            Operand::Gate(gate) => self.gates[gate].clone(),
+        }
+    }
+
+    /// Whether a port is the net of a gate, so that nothing more is to be connected.
+    pub fn is_gate(&self, port: &String) -> bool {
+        self.gates.contains(port)
+    }
+}
+
+/// `_`, or so many more of them that no name begins so and goes on as one that is made up: with a number, or as a constant.
+fn free_prefix(taken: &HashSet<String>) -> String {
+    let made_up = |rest: &str| {
+        let number = rest.bytes().all(|byte| byte.is_ascii_digit());
+        number || CONSTANTS.contains(&rest)
+    };
+    let is_free = |prefix: &String| {
+        let mut rests = taken
+            .iter()
+            .filter_map(|name| name.strip_prefix(&prefix[..]));
+        !rests.any(made_up)
+    };
+    let mut prefixes = (1..).map(|count| "_".repeat(count));
+    prefixes.find(is_free).unwrap_or_default()
 }
 
 /// The name of a module, a model or a table: letters, digits and `_`, no digit first. [`module_name`] makes it.
@@ -75,11 +170,4 @@ pub fn module_name(stem: &str) -> ModuleName {
         Some(first) if !first.is_ascii_digit() => name,
         _ => format!("_{name}"),
     })
-}
-
-/// The pins that never lines exclude, one line each, for comments.
-pub(crate) fn never_comments(block: &Block) -> Vec<String> {
-    let pins = block.input_names();
-    let lines = block.never_lines().into_iter();
-    lines.map(|line| line.never_line(&pins)).collect()
 }

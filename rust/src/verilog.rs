@@ -1,7 +1,8 @@
 //! A block as a Verilog module: a gate is one of Verilog's own gates, whose meaning with undefined values (x) is ours too.
 
-use crate::export::{never_comments, Nets};
-use crate::{Block, ModuleName};
+use crate::export::Nets;
+use crate::{Block, Labels, Operand};
+use std::collections::HashMap;
 
 /// The words of Verilog and SystemVerilog that a netlist's name or a module's may be, those of small letters, and Icarus's own (`bool`,
 /// `wone`, `wreal`); sorted.
@@ -31,49 +32,124 @@ const KEYWORDS: &str = "accept_on alias always always_comb always_ff always_latc
 /// assert_eq!(verilog(&block, &module_name("m")), module);
 /// # Ok::<(), Refusal>(())
 /// ```
-pub fn verilog(block: &Block, module: &ModuleName) -> String {
-    let nets = Nets::of(block);
-    let net = |operand| escaped(&nets.net(operand, ["1'b0", "1'b1"]));
-    let listed = |names: &[String]| {
-        let names: Vec<String> = names.iter().map(|name| escaped(name)).collect();
-        names.join(", ")
+pub fn verilog(block: &Block, labels: impl Into<Labels>) -> String {
+    let labels = labels.into();
+    let nets = Nets::of(block, &labels);
+    let (inputs, outputs) = (ports(&nets.inputs, &nets), ports(&nets.ports, &nets));
+    let called = called(inputs.iter().chain(&outputs));
+    let constants = ["1'b0", "1'b1"];
+    let net = |operand| match (operand, nets.net(operand, constants)) {
+        (Operand::Constant(_), constant) => constant,
+        (_, net) => called.get(&net).cloned().unwrap_or_else(|| escaped(&net)),
     };
-    let ports = [&nets.inputs[..], &nets.ports].concat();
-    let wires: Vec<String> = (0..block.gates()).map(|gate| format!("_{gate}")).collect();
-    let mut lines: Vec<String> = never_comments(block)
-        .iter()
-        .map(|line| format!("// {line}"))
-        .collect();
-    let module = escaped(module.as_str());
-    lines.push(format!("module {module} ({});", listed(&ports)));
-    for (word, names) in [
-        ("input", &nets.inputs),
-        ("output", &nets.ports),
-        ("wire", &wires),
-    ] {
-        if !names.is_empty() {
-            lines.push(format!("  {word} {};", listed(names)));
-        }
+    let wires = nets.gates.iter().filter(|gate| !nets.ports.contains(gate));
+    let wires: Vec<Port> = wires.map(|gate| Port::Net(gate)).collect();
+    let comments = labels.comments(block).into_iter();
+    let mut lines: Vec<String> = comments.map(|line| format!("// {line}")).collect();
+    let listed: Vec<String> = inputs.iter().chain(&outputs).map(Port::name).collect();
+    let module = escaped(labels.module.as_str());
+    lines.push(format!("module {module} ({});", listed.join(", ")));
+    for (word, ports) in [("input", &inputs), ("output", &outputs), ("wire", &wires)] {
+        lines.extend(declared(word, ports));
     }
     for (number, gate) in block.gate_list().iter().enumerate() {
-        let operands: Vec<String> = gate.operands.iter().map(|&operand| net(operand)).collect();
-        lines.push(format!(
-            "  {} (_{number}, {});",
-            gate.kind.word(),
-            operands.join(", ")
-        ));
+        let pins = [Operand::Gate(number)].into_iter();
+        let pins = pins.chain(gate.operands.iter().copied());
+        let pins: Vec<String> = pins.map(net).collect();
+        lines.push(format!("  {} ({});", gate.kind.word(), pins.join(", ")));
     }
     for (port, node) in nets.ports.iter().zip(block.outputs_show()) {
-        lines.push(format!("  assign {} = {};", escaped(port), net(node)));
+        if !nets.is_gate(port) {
+            let port = called.get(port).cloned().unwrap_or_else(|| escaped(port));
+            lines.push(format!("  assign {port} = {};", net(node)));
+        }
     }
     lines.push("endmodule\n".to_string());
     lines.join("\n")
 }
 
-/// A name that is a keyword is escaped: a backslash before it, a space behind it.
+/// A port of a module, or a wire.
+enum Port<'a> {
+    Net(&'a str),
+    /// The nets NAME[0], NAME[1] and so on, so many.
+    Vector(&'a str, usize),
+}
+
+impl Port<'_> {
+    fn name(&self) -> String {
+        match self {
+            Port::Net(name) | Port::Vector(name, _) => escaped(name),
+        }
+    }
+}
+
+/// The ports of nets in their order: those of a vector that stand behind each other are one port, where no other net has its name.
+fn ports<'a>(names: &'a [String], nets: &Nets) -> Vec<Port<'a>> {
+    let all = || nets.inputs.iter().chain(&nets.ports).chain(&nets.gates);
+    let vector = |names: &'a [String]| {
+        let base = names[0]
+            .strip_suffix("[0]")
+            .filter(|base| !base.is_empty())?;
+        let numbered = names.iter().zip(0..);
+        let run = numbered.take_while(|(name, index)| **name == format!("{base}[{index}]"));
+        let (width, begins) = (run.count(), format!("{base}["));
+        // An output that is a gate's net is among the ports and the gates.
+        let others = all().filter(|net| !names[..width].contains(net));
+        let mut others = others.filter(|net| **net == base || net.starts_with(&begins));
+        others.next().is_none().then_some(Port::Vector(base, width))
+    };
+    let (mut found, mut rest) = (Vec::new(), names);
+    while let Some(first) = rest.first() {
+        let port = vector(rest).unwrap_or(Port::Net(first));
+        rest = match port {
+            Port::Net(_) => &rest[1..],
+            Port::Vector(_, width) => &rest[width..],
+        };
+        found.push(port);
+    }
+    found
+}
+
+/// How the nets of vectors are written.
+fn called<'a>(ports: impl Iterator<Item = &'a Port<'a>>) -> HashMap<String, String> {
+    let vectors = ports.filter_map(|port| match port {
+        Port::Net(_) => None,
+        Port::Vector(name, width) => Some((*name, *width)),
+    });
+    let nets = vectors.flat_map(|(name, width)| (0..width).map(move |index| (name, index)));
+    let written = |(name, index)| {
+        (
+            format!("{name}[{index}]"),
+            format!("{}[{index}]", escaped(name)),
+        )
+    };
+    nets.map(written).collect()
+}
+
+/// The lines that declare ports or wires: one for all nets, and one for each vector.
+fn declared(word: &str, ports: &[Port]) -> Vec<String> {
+    let (mut nets, mut lines) = (Vec::new(), Vec::new());
+    for port in ports {
+        match port {
+            Port::Net(_) => nets.push(port.name()),
+            Port::Vector(_, width) => {
+                lines.push(format!("  {word} [{}:0] {};", width - 1, port.name()));
+            }
+        }
+    }
+    if !nets.is_empty() {
+        lines.insert(0, format!("  {word} {};", nets.join(", ")));
+    }
+    lines
+}
+
+/// A name that is a keyword, or that Verilog wouldn't take for one name, is escaped: a backslash before it, a space behind it.
 fn escaped(name: &str) -> String {
-    match KEYWORDS.split_whitespace().any(|keyword| keyword == name) {
-        true => format!("\\{name} "),
-        false => name.to_string(),
+    let is_keyword = || KEYWORDS.split_whitespace().any(|keyword| keyword == name);
+    let plain = |byte: u8| byte.is_ascii_alphanumeric() || byte == b'_';
+    let digit = name.starts_with(|first: char| first.is_ascii_digit());
+    match name.bytes().all(plain) && !digit && !is_keyword() {
+        true => name.to_string(),
+        false => format!("\\{name} "),
     }
 }

@@ -6,6 +6,7 @@
 pub mod answer;
 pub mod any_order;
 pub mod bench;
+pub mod blif;
 pub mod block;
 pub mod bring;
 pub mod catalogue;

@@ -138,9 +138,24 @@ fn a_table_as_it_is_written() {
     told(
         run(&scratch, &["--cells", "--original", "straight.net"]),
         0,
-        &TABLE.replace("cells n", "cells straight"),
+        &TABLE
+            .replace(
+                "cells n 2\n",
+                "cells straight 2\n# original of straight.net, by unloop\n",
+            )
+            .replace("# _0 ", "# p ")
+            .replace("# _1 ", "# q "),
         "",
     );
+    // Gates that are called as a line which tells names is.
+    let netlist = "(in a)\n(gate inputs (not a))\n(gate outputs (not a))\n(gate output (not outputs))\n(out y inputs)\n";
+    let block = unloop::Block::read(netlist).unwrap();
+    let labels = unloop::Labels {
+        gates: unloop::declarations::gate_names(netlist.as_bytes()),
+        ..unloop::Labels::from(&unloop::module_name("m"))
+    };
+    let table = unloop::CellTable::read(&unloop::cell_table(&block, labels).unwrap()).unwrap();
+    assert_eq!((table.inputs().len(), table.outputs().len()), (1, 1));
     let report = "m.net:1:8: unknown\n(out y z)\n       ^\n";
     told(run(&scratch, &["--cells", "m.net"]), 1, "", report);
     told(

@@ -1,58 +1,84 @@
-//! Verilog and BLIF as they are written, evaluated by small readers of this file, and mapped BLIF as it is read back.
+//! Verilog, BLIF and tables of cells as they are written, evaluated by second readers, and mapped BLIF as it is read back. What is written as
+//! BLIF is held to its reader in from_blif.rs.
 
 mod session;
 
 use session::{run, told, with};
+use simulator::blif::Blif;
 use simulator::block::{Block, Kind, Source};
+use simulator::executed::Scratch;
 use simulator::foreign::compared;
-use simulator::generate::{for_blocks, for_typical_blocks, Random, Report, Size};
+use simulator::generate::{for_blocks, for_texts, for_typical_blocks, Random, Report, Size};
 use simulator::render::copied;
 use simulator::values::{gate_value, setting_bytes, Network, UNDEFINED};
 use std::collections::HashMap;
+use std::fs;
 
-type Values<'a> = HashMap<&'a str, u8>;
-
-/// The names of a port list, `a, \reg , b`.
-fn names(list: &str) -> Vec<&str> {
-    let names = list
-        .split(',')
-        .map(|name| name.trim().trim_start_matches('\\'));
+/// The names of a port list, `a, \reg , b`, and of `\reg [0]`.
+fn names(list: &str) -> Vec<String> {
+    let names = list.split(',').map(|name| name.trim());
+    let names = names.map(|name| name.trim_start_matches('\\').replace(' ', ""));
     names.filter(|name| !name.is_empty()).collect()
 }
 
+/// The ports of a declaration with their nets: `a, b`, or `[1:0] a`, whose nets are `a[0]` and `a[1]`.
+fn declared(rest: &str) -> impl Iterator<Item = (String, Vec<String>)> {
+    let vector = rest
+        .strip_prefix('[')
+        .and_then(|rest| rest.split_once(":0] "));
+    let (last, list) = vector.unwrap_or(("", rest));
+    let last: Option<usize> = last.parse().ok();
+    names(list).into_iter().map(move |name| {
+        let nets = match last {
+            Some(last) => (0..=last).map(|index| format!("{name}[{index}]")).collect(),
+            None => vec![name.clone()],
+        };
+        (name, nets)
+    })
+}
+
 /// A module's inputs, outputs, and its nets with what drives each: a word and operands; `assign` is the word of a port.
+#[derive(Default)]
 struct Module<'a> {
-    inputs: Vec<&'a str>,
-    outputs: Vec<&'a str>,
-    drivers: Vec<(&'a str, &'a str, Vec<&'a str>)>,
+    inputs: Vec<String>,
+    outputs: Vec<String>,
+    drivers: Vec<(String, &'a str, Vec<String>)>,
 }
 
 impl Module<'_> {
     fn of(text: &str) -> Module<'_> {
-        let mut module = Module {
-            inputs: Vec::new(),
-            outputs: Vec::new(),
-            drivers: Vec::new(),
-        };
+        let mut module = Module::default();
+        let mut ports: HashMap<String, (&str, Vec<String>)> = HashMap::new();
         for line in text.lines().filter(|line| line.starts_with("  ")) {
             let (word, rest) = line.trim().split_once(' ').expect("a word");
             let rest = rest.strip_suffix(';').expect("an end");
             match word {
-                "input" => module.inputs = names(rest),
-                "output" => module.outputs = names(rest),
+                "input" | "output" => {
+                    ports.extend(declared(rest).map(|(name, nets)| (name, (word, nets))));
+                }
                 "wire" => {}
                 "assign" => {
                     let (port, node) = rest.split_once(" = ").expect("an assignment");
-                    module.drivers.push((names(port)[0], word, names(node)));
+                    module
+                        .drivers
+                        .push((names(port).remove(0), word, names(node)));
                 }
                 _ => {
-                    let mut nets = names(
-                        rest.strip_prefix('(')
-                            .and_then(|rest| rest.strip_suffix(')'))
-                            .expect("pins"),
-                    );
-                    module.drivers.push((nets.remove(0), word, nets));
+                    let pins = rest
+                        .strip_prefix('(')
+                        .and_then(|rest| rest.strip_suffix(')'));
+                    let mut pins = names(pins.expect("pins"));
+                    module.drivers.push((pins.remove(0), word, pins));
                 }
+            }
+        }
+        let mut lines = text.lines();
+        let head = lines.find(|line| line.starts_with("module "));
+        let (_, listed) = head.and_then(|head| head.split_once(" (")).expect("ports");
+        for port in names(listed.strip_suffix(");").expect("an end")) {
+            match ports.remove(&port).expect("a declaration") {
+                ("input", nets) => module.inputs.extend(nets),
+                (_, nets) => module.outputs.extend(nets),
             }
         }
         module
@@ -60,19 +86,14 @@ impl Module<'_> {
 
     /// What the outputs settle to: every net is evaluated until nothing changes.
     fn shown(&self, setting: &[u8]) -> Vec<u8> {
-        let mut values: Values = self
-            .inputs
-            .iter()
-            .copied()
-            .zip(setting.iter().copied())
-            .collect();
+        let inputs = self.inputs.iter().map(|name| &name[..]);
+        let mut values: HashMap<&str, u8> = inputs.zip(setting.iter().copied()).collect();
         values.extend([("1'b0", 0), ("1'b1", 1)]);
         loop {
             let mut changed = false;
             for (net, word, operands) in &self.drivers {
-                let mut read = operands
-                    .iter()
-                    .map(|net| values.get(net).copied().unwrap_or(UNDEFINED));
+                let value = |net: &String| values.get(&net[..]).copied().unwrap_or(UNDEFINED);
+                let mut read = operands.iter().map(value);
                 let value = match Kind::ALL.into_iter().find(|kind| kind.keyword() == *word) {
                     Some(kind) => gate_value(kind, read),
                     None => read.next_back().expect("a node"),
@@ -80,39 +101,10 @@ impl Module<'_> {
                 changed |= values.insert(net, value) != Some(value) && value != UNDEFINED;
             }
             if !changed {
-                return self.outputs.iter().map(|port| values[port]).collect();
+                return self.outputs.iter().map(|port| values[&port[..]]).collect();
             }
         }
     }
-}
-
-/// What a BLIF model's outputs show, its tables evaluated in their order.
-fn shown_by_blif(text: &str, setting: &[u8]) -> Vec<u8> {
-    let after = |word: &str| {
-        text.lines()
-            .find_map(|line| line.strip_prefix(word))
-            .expect("a line")
-    };
-    let mut values: Values = after(".inputs")
-        .split_whitespace()
-        .zip(setting.iter().copied())
-        .collect();
-    for table in text.split(".names ").skip(1) {
-        let mut lines = table.lines();
-        let mut nets: Vec<&str> = lines.next().expect("nets").split(' ').collect();
-        let output = nets.pop().expect("an output");
-        let rows: Vec<&str> = lines.take_while(|line| !line.starts_with('.')).collect();
-        let digits: String = nets.iter().map(|net| values[net].to_string()).collect();
-        let told = rows.first().map_or(1, |row| row.ends_with('1').into());
-        let is_row = rows
-            .iter()
-            .any(|row| row[..row.len() - 1].trim_end() == digits);
-        values.insert(output, if is_row { told } else { 1 - told });
-    }
-    after(".outputs")
-        .split_whitespace()
-        .map(|port| values[port])
-        .collect()
 }
 
 fn block_of(words: &[u16]) -> unloop::Block {
@@ -136,25 +128,6 @@ fn verilog_shows_what_the_block_shows() {
         for setting in settings(random, block.inputs.len()) {
             assert_eq!(
                 module.shown(&setting),
-                network.shown(&setting),
-                "{setting:?}"
-            );
-        }
-    });
-}
-
-#[test]
-fn blif_shows_what_the_rendering_shows() {
-    for_blocks(0..300, Size::SMALL, |random, block, _| {
-        let rendering = copied(block);
-        let text = unloop::blif(&block_of(&rendering.to_words()), &unloop::module_name("m"));
-        let _report = Report(|| text.clone());
-        let network = Network::new(&rendering);
-        for _ in 0..4 {
-            let n = block.inputs.len();
-            let setting = setting_bytes(random.below(1 << n), n);
-            assert_eq!(
-                shown_by_blif(&text, &setting),
                 network.shown(&setting),
                 "{setting:?}"
             );
@@ -226,7 +199,7 @@ fn mapped_blif_comes_back() {
         }
         let model = mapped(random, &rendering);
         let _report = Report(|| model.clone());
-        let text = unloop::from_blif(&model).expect("a model");
+        let text = unloop::from_blif(&model, None).expect("a model").netlist;
         let back = unloop::Block::read(&text).expect("a netlist");
         let told = compared(words, back.words());
         assert_eq!((told.number, told.count), (0, 0), "{text}");
@@ -241,12 +214,12 @@ fn names_that_other_tools_would_misread() {
         "4-in.net",
         "(in reg)\n(in b)\n(in begin)\n(gate p (xnor reg b begin 0))\n(out b p)\n(out wire b)\n",
     )]);
-    let module = "module _4_in (\\reg , b, \\begin , b__output, \\wire );\n  input \\reg , b, \\begin ;\n  output b__output, \\wire ;\n  \
+    let module = "// rendering of 4-in.net, by unloop\nmodule _4_in (\\reg , b, \\begin , b__output, \\wire );\n  input \\reg , b, \\begin ;\n  output b__output, \\wire ;\n  \
                   wire _0;\n  xnor (_0, \\reg , b, \\begin , 1'b0);\n  assign b__output = _0;\n  assign \\wire  = b;\nendmodule\n";
     told(run(&scratch, &["--verilog", "4-in.net"]), 0, module, "");
     let rows = "0000 1\n0011 1\n0101 1\n0110 1\n1001 1\n1010 1\n1100 1\n1111 1\n";
     let model = format!(
-        ".model _4_in\n.inputs reg b begin\n.outputs b__output wire\n.names _zero\n.names reg b begin _zero _0\n{rows}\
+        "# rendering of 4-in.net, by unloop\n.model _4_in\n.inputs reg b begin\n.outputs b__output wire\n.names _zero\n.names reg b begin _zero _0\n{rows}\
          .names _0 b__output\n1 1\n.names b wire\n1 1\n.end\n"
     );
     told(run(&scratch, &["--blif", "4-in.net"]), 0, &model, "");
@@ -283,6 +256,180 @@ fn names_of_modules() {
     }
 }
 
+/// A table of cells by a second reader: every line without a `#` is a cell, and the comments tell which nodes the ports show.
+fn shown_by_cells(text: &str, setting: &[u8]) -> Vec<u8> {
+    let mut nodes = setting.to_vec();
+    let (comments, cells): (Vec<&str>, Vec<&str>) =
+        text.lines().partition(|line| line.starts_with('#'));
+    for cell in cells {
+        let words: Vec<usize> = cell.split(' ').map(|word| word.parse().unwrap()).collect();
+        let bit = |word: usize| match word {
+            65_534 => 0,
+            65_535 => 1,
+            node => usize::from(nodes[node]),
+        };
+        let row: usize = (0..4).map(|place| bit(words[place]) << place).sum();
+        nodes.push((words[4] >> row & 1) as u8);
+    }
+    let ports = comments
+        .into_iter()
+        .filter_map(|line| line.strip_prefix("# output "));
+    ports
+        .map(|port| nodes[port.rsplit(' ').next().unwrap().parse::<usize>().unwrap()])
+        .collect()
+}
+
+#[test]
+fn cells_show_what_the_rendering_shows() {
+    for_blocks(0..600, Size::SMALL, |random, block, _| {
+        let rendering = copied(block);
+        let made = block_of(&rendering.to_words());
+        let text = unloop::cell_table(&made, &unloop::module_name("m")).expect("straight");
+        let _report = Report(|| text.clone());
+        let (network, n) = (Network::new(&rendering), block.inputs.len());
+        for _ in 0..4 {
+            let setting = setting_bytes(random.below(1 << n), n);
+            assert_eq!(
+                shown_by_cells(&text, &setting),
+                network.shown(&setting),
+                "{setting:?}"
+            );
+        }
+    });
+}
+
+/// Names of every kind for some pins and ports of a block, in order now and then, so that there are vectors.
+fn other_names(random: &mut Random, block: &Block) -> unloop::Names {
+    let other = [
+        "a[0]", "a[1]", "reg[0]", "_0", "_zero", "reg", "1GAT", "x.y", "_1",
+    ];
+    let order = match random.chance(50) {
+        true => random.permutation(other.len()),
+        false => (0..other.len()).collect(),
+    };
+    let mut names = unloop::Names::default();
+    for (place, &name) in order.iter().zip(&other) {
+        let name = name.to_string();
+        match (block.inputs.get(*place), block.outputs.get(*place)) {
+            (Some(input), _) if random.chance(50) => names.inputs.push((input.clone(), name)),
+            (_, Some(output)) => names.ports.push((output.port.clone(), name)),
+            _ => {}
+        }
+    }
+    names
+}
+
+/// With the gates' own names, which may be those of ports, and with pins of any name, a module and a model show what the block shows.
+#[test]
+fn labelled_originals_show_what_the_block_shows() {
+    let mut vectors = 0;
+    for_texts(0..600, Size::SMALL, |random, text, block| {
+        let labels = unloop::Labels {
+            gates: unloop::declarations::gate_names(text),
+            names: other_names(random, block),
+            ..unloop::Labels::from(&unloop::module_name("m"))
+        };
+        let read = unloop::Block::read(text).expect("a netlist");
+        let module = unloop::verilog(&read, labels.clone());
+        let model = unloop::blif(&read, labels);
+        let _report = Report(|| format!("{module}{model}"));
+        vectors += usize::from(module.contains("[1:0] a;"));
+        let (network, blif) = (Network::new(block), Blif::of(&model));
+        let module = Module::of(&module);
+        for setting in settings(random, block.inputs.len()) {
+            let shown = network.shown(&setting);
+            assert_eq!(module.shown(&setting), shown, "{setting:?}");
+            assert_eq!(blif.shown(&setting), shown, "{setting:?}");
+        }
+    });
+    assert!(vectors > 20, "{vectors}");
+}
+
+/// Gates by their own names: one that a port shows under its name, one whose name another port has, one within another, and one with a number.
+#[test]
+fn names_of_gates() {
+    let netlist = "(in s)\n(gate q (nor s n))\n(gate n (nor (not s) q))\n(gate _2 (not n))\n\
+                   (out q q)\n(out n q)\n(out x _2)\n";
+    let scratch = with(&[("latch.net", netlist)]);
+    let module = "// original of latch.net, by unloop\nmodule latch (s, q, n, x);\n  input s;\n  output q, n, x;\n  \
+                  wire __1, n__gate, _2;\n  nor (q, s, n__gate);\n  not (__1, s);\n  nor (n__gate, __1, q);\n  not (_2, n__gate);\n  \
+                  assign n = q;\n  assign x = _2;\n\
+                  endmodule\n";
+    told(
+        run(&scratch, &["--verilog", "--original", "latch.net"]),
+        0,
+        module,
+        "",
+    );
+}
+
+/// Some netlists, one of them refused.
+fn some_netlists() -> Scratch {
+    with(&[
+        ("a.net", "(in a)\n(gate p (not a))\n(out y p)\n"),
+        ("b.net", "(in b)\n(out y b)\n"),
+        ("ring.net", "(gate p (not p))\n(out y p)\n"),
+    ])
+}
+
+#[test]
+fn into_a_folder() {
+    let scratch = some_netlists();
+    let report = "ring.net: undecided\n  not settled: y undefined\n  p waits for itself\n  settles under no setting\n";
+    let made = "rendering of a.net, by unloop\n";
+    for (option, ending, first) in [
+        ("--verilog", "v", format!("// {made}module a (a, y);\n")),
+        ("--blif", "blif", format!("# {made}.model a\n")),
+        ("--cells", "cells", format!("# cells a 1\n# {made}")),
+    ] {
+        let words = [option, "--into", "d", "a.net", "ring.net", "b.net"];
+        told(run(&scratch, &words), 1, "", report);
+        let path = |name: &str| scratch.path(&format!("d/{name}.{ending}"));
+        let written = fs::read_to_string(path("a")).unwrap();
+        assert!(written.starts_with(&first), "{written}");
+        assert!(path("b").exists() && !path("ring").exists());
+        let there = format!("unloop: d/a.{ending}: exists already (--force replaces it)\n");
+        told(
+            run(&scratch, &["--into", "d", option, "a.net"]),
+            2,
+            "",
+            &there,
+        );
+        fs::write(path("a"), "old").unwrap();
+        told(
+            run(&scratch, &["--force", "--into=d", option, "a.net"]),
+            0,
+            "",
+            "",
+        );
+        assert_eq!(fs::read_to_string(path("a")).unwrap(), written);
+    }
+}
+
+#[test]
+fn what_goes_with_a_folder() {
+    let scratch = some_netlists();
+    let silent = "--into DIR writes nothing to standard output, so -o has no use";
+    for (words, error) in [
+        (
+            &["--blif", "--into", "d"][..],
+            "--into needs a FILE: standard input has no name",
+        ),
+        (&["--blif", "--into", "d", "-o", "x", "a.net"], silent),
+        (
+            &["--blif", "--force", "a.net"],
+            "--blif doesn't go with --force or --json",
+        ),
+    ] {
+        told(
+            run(&scratch, words),
+            2,
+            "",
+            &format!("unloop: {error} (see --help)\n"),
+        );
+    }
+}
+
 #[test]
 fn originals_and_refusals() {
     let scratch = with(&[
@@ -293,8 +440,9 @@ fn originals_and_refusals() {
         ("ring.net", "(gate p (not p))\n(out y p)\n"),
         ("d/ring.net", "(in a)\n"),
     ]);
-    let module = "// never s = 1\nmodule latch (s, q);\n  input s;\n  output q;\n  wire _0, _1;\n  nor (_0, s, _1);\n  nor (_1, 1'b1, _0);\n  \
-                  assign q = _0;\nendmodule\nmodule ring (y);\n  output y;\n  wire _0;\n  not (_0, _0);\n  assign y = _0;\nendmodule\n";
+    let module = "// original of latch.net, by unloop\n// never s = 1\nmodule latch (s, q);\n  input s;\n  output q;\n  wire n;\n  \
+                  nor (q, s, n);\n  nor (n, 1'b1, q);\nendmodule\n// original of ring.net, by unloop\nmodule ring (y);\n  output y;\n  \
+                  wire p;\n  not (p, p);\n  assign y = p;\nendmodule\n";
     told(
         run(
             &scratch,
@@ -307,7 +455,7 @@ fn originals_and_refusals() {
     let report = "ring.net: undecided\n  not settled: y undefined\n  p waits for itself\n  settles under no setting\n";
     told(run(&scratch, &["--verilog", "ring.net"]), 1, "", report);
     let words = ["--original", "--blif", "ring.net", "d/ring.net"];
-    let model = ".model ring\n.inputs\n.outputs y\n.names _0 _0\n0 1\n.names _0 y\n1 1\n.end\n";
+    let model = "# original of ring.net, by unloop\n.model ring\n.inputs\n.outputs y\n.names p p\n0 1\n.names p y\n1 1\n.end\n";
     told(
         run(&scratch, &words),
         2,
@@ -335,71 +483,4 @@ fn originals_and_refusals() {
             &format!("unloop: {error} (see --help)\n"),
         );
     }
-}
-
-#[test]
-fn models_that_are_not_read() {
-    for (body, error) in [
-        (
-            ".gate and2 a=s b=s O=y\n.gate buf a=s O=y",
-            "5: y is driven twice",
-        ),
-        (
-            ".gate and5 a=s b=s O=y",
-            "4: and5 is no cell of the library",
-        ),
-        (
-            ".gate and2 a=s O=y",
-            "4: and2 has a pin b, which is missing",
-        ),
-        (".gate not a=s b=s O=y", "4: not has 2 pins, not 3"),
-        (".gate not a O=y", "4: a is not PIN=NET"),
-        (".gate not a=t O=y", "5: nothing drives t"),
-        (
-            ".gate buf a=z O=y\n.gate buf a=y O=z",
-            "6: y is a ring of buffers",
-        ),
-        (
-            ".names s y\n1 1",
-            "4: .names: a mapped model has .inputs, .outputs and .gate lines only",
-        ),
-        (
-            ".latch s y",
-            "4: .latch: a mapped model has .inputs, .outputs and .gate lines only",
-        ),
-        (".end\n.model n", "5: a second .model"),
-    ] {
-        let model = format!(".model m\n.inputs s\n.outputs y\n{body}\n.end\n");
-        let told = unloop::from_blif(&model).map_err(|error| error.to_string());
-        assert_eq!(told, Err(error.to_string()), "{model}");
-    }
-    for (model, error) in [
-        ("", "1: no whole model: .model to .end"),
-        (".model m\n.inputs a\n", "2: no whole model: .model to .end"),
-    ] {
-        assert_eq!(
-            unloop::from_blif(model).map_err(|error| error.to_string()),
-            Err(error.to_string())
-        );
-    }
-    // A loop of gates is written all the same; Compare refuses it with 10.
-    let text = unloop::from_blif(".model m\n.outputs y\n.gate not a=y O=y\n.end").unwrap();
-    assert_eq!(text, "(gate y (not y))\n(out y y)\n");
-}
-
-/// Through a file, and what is refused of it as a netlist.
-#[test]
-fn from_blif_as_a_command() {
-    let scratch = with(&[
-        ("a.blif", ".model m\n.inputs s\n.outputs y z s__output\n.gate one O=z\n.gate buf a=s O=y\n.gate buf a=z O=s__output\n.end\n"),
-        ("b.blif", ".model m\n.inputs S\n.outputs y\n.gate buf a=S O=y\n.end\n"),
-        ("c.blif", ".model m\n.latch\n"),
-    ]);
-    let text = "(in s)\n(gate z (or 0 1))\n(out y s)\n(out z z)\n(out s z)\n";
-    told(run(&scratch, &["--from-blif", "a.blif"]), 0, text, "");
-    let report = "b.blif as a netlist:1:5: form: lower case letters only\n(in S)\n    ^\n";
-    told(run(&scratch, &["--from-blif", "b.blif"]), 1, "", report);
-    let error =
-        "unloop: c.blif:2: .latch: a mapped model has .inputs, .outputs and .gate lines only\n";
-    told(run(&scratch, &["--from-blif", "c.blif"]), 2, "", error);
 }

@@ -416,7 +416,7 @@ fn output_in_a_file() {
     assert!(run(&scratch, &["-o", "out", "--verilog", "a"])
         .status
         .success());
-    assert!(scratch.get("out").starts_with("module "));
+    assert!(scratch.get("out").starts_with("// rendering of "));
     for (out, why) in [
         ("a", "is one of the FILEs, and isn't overwritten"),
         ("linked", "is one of the FILEs, and isn't overwritten"),

@@ -330,6 +330,7 @@ fn arguments_are_looked_at_first() {
         &["."],
         &["--verilog", "none.net"],
         &["--sheet", "none", "a.net"],
+        &["--sheet", "all", "none.net"],
         &["--check=none", "a.net"],
         &["--audit=none"],
         &["--audit", "none"],

@@ -23,6 +23,30 @@ a key | lamp z
     told(run(&scratch, &["n", "--sheet", "settings"]), 0, table, "");
 }
 
+/// `all` is every setting, in the order of their numbers; a file of that name is given as ./all.
+#[test]
+fn the_whole_table() {
+    let table = "a key | lamp z\n0 0   | 0    0\n1 0   | ?    1\n0 1   | 1    0\n1 1   | 1    1\n";
+    let scratch = with(&[("n", NETLIST), ("all", "a = 1\n"), ("empty", "")]);
+    told(run(&scratch, &["--sheet", "all", "n"]), 0, table, "");
+    let row = "a key | lamp z\n1 -   | ?    1\n";
+    told(run(&scratch, &["--sheet", "./all", "n"]), 0, row, "");
+    told(run(&scratch, &["--sheet=all", "empty"]), 0, " |\n |\n", "");
+    let cells = "# inputs 1 a\n0 65534 65534 65534 21845\n";
+    scratch.put("cells", cells);
+    let table = "a | _0\n0 | 1\n1 | 0\n";
+    told(
+        run(&scratch, &["--run-cells", "all", "cells"]),
+        0,
+        table,
+        "",
+    );
+    let pins: String = (0..12).map(|pin| format!("(in p{pin})\n")).collect();
+    scratch.put("wide", &pins);
+    let wide = run(&scratch, &["--sheet", "all", "wide"]).stdout;
+    assert_eq!(wide.split(|&byte| byte == b'\n').count(), 4_096 + 2);
+}
+
 #[test]
 fn no_settings_no_inputs_no_outputs() {
     let files = [("n", NETLIST), ("none", ""), ("free", "\n"), ("empty", "")];

@@ -1,168 +1,132 @@
-//! The netlist text of a mapped model.
+//! The netlist text of a model without subcircuits.
 
-use super::model::{Cell, Instance, Model};
-use super::BlifError;
-use crate::declarations::name_at;
-use crate::export::port_of;
-use crate::limits::NAME_WORDS;
-use std::collections::{BTreeMap, BTreeSet, HashMap, HashSet};
+use super::drivers::Drivers;
+use super::expression::Expression;
+use super::naming::Naming;
+use crate::blif_model::{BlifError, Model, Net};
+use crate::limits::{DEPTH, GATES, INPUTS, OUTPUTS, TEXT_BYTES};
+use crate::{Kind, Names};
+use std::collections::HashSet;
 
-/// What drives a net.
-#[derive(Clone, Copy)]
-enum Driver {
-    Input,
-    /// By its place in the model.
-    Instance(usize),
-}
-
-struct Nets<'a> {
-    model: &'a Model<'a>,
-    drivers: HashMap<&'a str, Driver>,
-}
-
-pub fn written(model: &Model) -> Result<String, BlifError> {
-    let nets = Nets::new(model)?;
-    let order = nets.order()?;
-    let names = nets.names(&order);
-    let mut text: String = model
-        .inputs
-        .iter()
-        .map(|name| format!("(in {name})\n"))
-        .collect();
-    for &index in &order {
-        let Instance {
-            cell,
-            operands,
-            output,
-            ..
-        } = &model.instances[index];
-        let expression = match cell {
-            Cell::Constant(false) => "(and 0 1)".to_string(),
-            Cell::Constant(true) => "(or 0 1)".to_string(),
-            Cell::Gate(kind) => {
-                let nodes = operands.iter().map(|net| nets.name(net, &names));
-                format!(
-                    "({} {})",
-                    kind.word(),
-                    nodes.collect::<Result<Vec<_>, _>>()?.join(" ")
-                )
-            }
-            Cell::Buffer => continue,
+/// The text, and the names that are not the model's.
+pub fn written(model: &Model) -> Result<(String, Names), BlifError> {
+    let mut seen = HashSet::new();
+    if let Some(&net) = model.outputs.iter().find(|&net| !seen.insert(net)) {
+        let reason = format!("{} is an output twice", model.nets[net]);
+        return Err(BlifError::at(model.line, reason));
+    }
+    let drivers = Drivers::of(model)?;
+    let constants = constants(model, &drivers);
+    let gates = gates(&drivers, constants);
+    fits(model, &gates)?;
+    let nets: Vec<Net> = gates.iter().map(|(net, _)| *net).collect();
+    let mut naming = Naming::of(model, &nets);
+    let mut text = String::new();
+    for &net in &model.inputs {
+        text += &format!("(in {})\n", naming.node(net));
+    }
+    for (net, computed) in &gates {
+        let mut further = Vec::new();
+        let (expression, _) = nested(computed, &mut naming, &mut further);
+        text += &further.concat();
+        text += &format!("(gate {} {expression})\n", naming.node(*net));
+    }
+    for (&net, port) in model.outputs.iter().zip(&naming.ports) {
+        let node = match drivers.source(net) {
+            Expression::Net(source) => *source,
+            constant => first_shown(constants, constant).unwrap_or(net),
         };
-        text += &format!("(gate {} {expression})\n", names[output]);
+        text += &format!("(out {port} {})\n", naming.node(node));
     }
-    for net in &model.outputs {
-        text += &format!("(out {} {})\n", port_of(net), nets.name(net, &names)?);
-    }
-    Ok(text)
-}
-
-impl<'a> Nets<'a> {
-    fn new(model: &'a Model<'a>) -> Result<Nets<'a>, BlifError> {
-        let mut drivers = HashMap::new();
-        let inputs = model.inputs.iter().map(|&name| (name, Driver::Input, 1));
-        let instances = model.instances.iter().enumerate();
-        let driven =
-            instances.map(|(index, found)| (found.output, Driver::Instance(index), found.line));
-        for (net, driver, line) in inputs.chain(driven) {
-            if drivers.insert(net, driver).is_some() {
-                let reason = format!("{net} is driven twice");
-                return Err(BlifError { line, reason });
-            }
+    match text.len() <= TEXT_BYTES {
+        true => Ok((text, naming.changed)),
+        false => {
+            let bytes = text.len();
+            let reason = format!("its netlist text has {bytes} bytes, and may have {TEXT_BYTES}");
+            Err(too_large(model, &reason))
         }
-        Ok(Nets { model, drivers })
-    }
-
-    /// The net itself, or through buffers the net that they read; a ring of buffers has none.
-    fn source(&self, net: &'a str) -> Result<&'a str, BlifError> {
-        let (mut net, line) = (net, self.model.end);
-        for _ in 0..=self.model.instances.len() {
-            match self.drivers.get(net) {
-                None => {
-                    return Err(BlifError {
-                        line,
-                        reason: format!("nothing drives {net}"),
-                    })
-                }
-                Some(Driver::Instance(index))
-                    if self.model.instances[*index].cell == Cell::Buffer =>
-                {
-                    net = self.model.instances[*index].operands[0];
-                }
-                Some(_) => return Ok(net),
-            }
-        }
-        Err(BlifError {
-            line,
-            reason: format!("{net} is a ring of buffers"),
-        })
-    }
-
-    fn name<'n>(
-        &self,
-        net: &'a str,
-        names: &'n BTreeMap<&'a str, String>,
-    ) -> Result<&'n str, BlifError>
-    where
-        'a: 'n,
-    {
-        let source = self.source(net)?;
-        Ok(names.get(source).map_or(source, |name| name))
-    }
-
-    /// The instances, each behind those that it reads as far as that can be, and otherwise as they stand in the model.
-    fn order(&self) -> Result<Vec<usize>, BlifError> {
-        let instances = &self.model.instances;
-        let (mut readers, mut waits) =
-            (vec![Vec::new(); instances.len()], vec![0; instances.len()]);
-        for (index, found) in instances.iter().enumerate() {
-            for net in &found.operands {
-                if let Some(Driver::Instance(read)) = self.drivers.get(self.source(net)?) {
-                    readers[*read].push(index);
-                    waits[index] += 1;
-                }
-            }
-        }
-        let mut ready: BTreeSet<usize> = (0..instances.len())
-            .filter(|&index| waits[index] == 0)
-            .collect();
-        let mut order = Vec::with_capacity(instances.len());
-        while let Some(index) = ready.pop_first() {
-            order.push(index);
-            for &reader in &readers[index] {
-                waits[reader] -= 1;
-                if waits[reader] == 0 {
-                    ready.insert(reader);
-                }
-            }
-        }
-        order.extend((0..instances.len()).filter(|&index| waits[index] > 0));
-        Ok(order)
-    }
-
-    /// A gate's name by its net: the net's own where a netlist may have it, otherwise `_0`, `_1` and so on.
-    fn names(&self, order: &[usize]) -> BTreeMap<&'a str, String> {
-        let instances = order.iter().map(|&index| &self.model.instances[index]);
-        let gates: Vec<&str> = instances
-            .filter(|found| found.cell != Cell::Buffer)
-            .map(|found| found.output)
-            .collect();
-        let kept: HashSet<&str> = gates.iter().copied().filter(|net| is_name(net)).collect();
-        let taken = |name: &String| kept.contains(name.as_str());
-        let mut fresh = (0..)
-            .map(|number| format!("_{number}"))
-            .filter(|name| !taken(name));
-        let mut named = |net: &'a str| match kept.contains(net) {
-            true => net.to_string(),
-            false => fresh.next().unwrap_or_default(),
-        };
-        gates.into_iter().map(|net| (net, named(net))).collect()
     }
 }
 
-fn is_name(net: &str) -> bool {
-    let legal = name_at(net.as_bytes(), 0).len() == net.len();
-    legal
-        && (1..=2 * NAME_WORDS).contains(&net.len())
-        && !net.starts_with(|c: char| c.is_ascii_digit())
+/// The first outputs that show the constants 0 and 1, which get a gate for that.
+fn constants(model: &Model, drivers: &Drivers) -> [Option<Net>; 2] {
+    [false, true].map(|value| {
+        let mut outputs = model.outputs.iter().copied();
+        outputs.find(|&net| *drivers.source(net) == Expression::Constant(value))
+    })
+}
+
+/// The output whose gate a constant is.
+fn first_shown(constants: [Option<Net>; 2], constant: &Expression) -> Option<Net> {
+    constants[usize::from(*constant == Expression::Constant(true))]
+}
+
+/// The gates with their nets, and one for each constant that an output shows.
+fn gates(drivers: &Drivers, constants: [Option<Net>; 2]) -> Vec<(Net, Expression)> {
+    let order = drivers.order().into_iter();
+    let gates = order.map(|place| &drivers.lines[place]);
+    let gates = gates.map(|driver| (driver.net, driver.computed.clone()));
+    let shown = constants.into_iter().zip([Kind::And, Kind::Or]);
+    let shown = shown.filter_map(|(net, kind)| {
+        let operands = [false, true].map(Expression::Constant);
+        Some((net?, Expression::gate(kind, operands)))
+    });
+    gates.chain(shown).collect()
+}
+
+/// Whether a netlist has room for a model.
+fn fits(model: &Model, gates: &[(Net, Expression)]) -> Result<(), BlifError> {
+    let gates = gates.iter().map(|(_, computed)| computed.gates()).sum();
+    let counts = [
+        ("inputs", model.inputs.len(), INPUTS),
+        ("outputs", model.outputs.len(), OUTPUTS),
+        ("gates", gates, GATES),
+    ];
+    let over = counts.into_iter().filter(|(_, count, most)| count > most);
+    let over = over.map(|(word, count, most)| format!("{count} {word}, and may have {most}"));
+    let over: Vec<String> = over.collect();
+    match over.is_empty() {
+        true => Ok(()),
+        false => Err(too_large(
+            model,
+            &format!("it has {}", over.join("; it has ")),
+        )),
+    }
+}
+
+fn too_large(model: &Model, why: &str) -> BlifError {
+    let reason = format!("{} is too large for a netlist: {why}", model.name);
+    BlifError {
+        too_large: true,
+        ..BlifError::at(model.line, reason)
+    }
+}
+
+/// An expression's text and how deep it is; what would stand too deep is put on lines of its own.
+fn nested(
+    expression: &Expression,
+    naming: &mut Naming,
+    further: &mut Vec<String>,
+) -> (String, usize) {
+    let (kind, operands) = match expression {
+        Expression::Constant(value) => return (u8::from(*value).to_string(), 0),
+        Expression::Net(net) => return (naming.node(*net).to_string(), 0),
+        Expression::Gate(kind, operands) => (kind, operands),
+    };
+    let (mut text, mut depth) = (format!("({}", kind.word()), 0);
+    for operand in operands {
+        let (inner, below) = nested(operand, naming, further);
+        match below < DEPTH {
+            true => {
+                text += &format!(" {inner}");
+                depth = depth.max(below);
+            }
+            false => {
+                let name = naming.fresh();
+                further.push(format!("(gate {name} {inner})\n"));
+                text += &format!(" {name}");
+            }
+        }
+    }
+    (text + ")", depth + 1)
 }

@@ -40,7 +40,7 @@ impl Folder {
         }
     }
 
-    /// Puts the rendering of a file here.
+    /// Puts the rendering of a file here, under the last part of its path.
     pub fn put(&self, file: &Path, rendering: &[u8]) -> Result<(), String> {
         let target = self.path.join(file.file_name().unwrap_or(OsStr::new("")));
         let there = fs::metadata(&target);

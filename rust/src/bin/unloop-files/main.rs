@@ -9,6 +9,7 @@ mod cover;
 mod described;
 mod export;
 mod folder;
+mod from_blif;
 mod options;
 mod output;
 mod page;
@@ -22,7 +23,7 @@ mod source;
 mod store;
 mod tally;
 
-use options::{Asked, Export, Request};
+use options::{Asked, Request};
 use output::{put, Stopped};
 use program::Program;
 use run::Run;
@@ -70,12 +71,8 @@ fn answered(request: Request, program: Program) -> ExitCode {
         Request::Audit(audited, json) => Ok(audit::run(&audited, json)),
         Request::Store(store) => store::run(&program, &store),
         Request::Cover(files) => Ok(cover::run(&sources(files))),
-        Request::Export(Export {
-            form,
-            original,
-            files,
-        }) => Ok(export::run(form, original, &sources(files))),
-        Request::FromBlif(file) => export::from_blif(file.map_or(Source::Input, Source::of)),
+        Request::Export(export) => export::run(export),
+        Request::FromBlif(asked) => from_blif::run(asked),
         Request::Page(target, files) => page::run(&target, files),
         Request::AuditedPage(target, audited) => page::run_audited(&target, &audited),
     };

@@ -1,5 +1,6 @@
 //! The words of the command line. The options are those that usage.txt lists, which bin/unloop reads too, before this is built.
 
+use crate::sheet::ALL;
 use crate::source::{is_input, shown};
 use crate::store::Store;
 use crate::USAGE;
@@ -43,7 +44,7 @@ pub enum Request {
     Store(Store),
     Cover(Vec<PathBuf>),
     Export(Export),
-    FromBlif(Option<PathBuf>),
+    FromBlif(FromBlif),
     Page(Target, Vec<PathBuf>),
     AuditedPage(Target, Audited),
 }
@@ -64,6 +65,19 @@ pub struct Export {
     pub form: Form,
     pub original: bool,
     pub files: Vec<PathBuf>,
+    /// Where they go instead of standard output.
+    pub into: Option<Target>,
+    /// The file of names that they had elsewhere.
+    pub names: Option<PathBuf>,
+}
+
+/// A model that is written as a netlist.
+#[derive(Debug)]
+pub struct FromBlif {
+    pub file: Option<PathBuf>,
+    pub model: Option<String>,
+    /// Where names that were changed go.
+    pub names: Option<PathBuf>,
 }
 
 /// A folder that is written to.
@@ -127,6 +141,8 @@ struct Given {
     force: bool,
     json: bool,
     original: bool,
+    names: Option<PathBuf>,
+    model: Option<PathBuf>,
     recursive: bool,
     quiet: bool,
     /// Asked for instead of all else.
@@ -157,10 +173,14 @@ fn asked(words: impl Iterator<Item = OsString>) -> Result<Asked, String> {
 /// The files that are read; standard input, which is no file, at most once.
 fn reads(given: &Given) -> Result<Vec<PathBuf>, String> {
     let lists = given.tasks.iter().filter_map(|task| match task {
+        Task::Sheet(list) | Task::RunCells(list) if list.as_os_str() == ALL => None,
         Task::Sheet(list) | Task::RunCells(list) | Task::Check(list) => Some(list),
         _ => None,
     });
+    let reads_names = given.tasks.iter().any(|task| *task != Task::FromBlif);
+    let names = given.names.as_ref().filter(|_| reads_names);
     let (input, files): (Vec<_>, Vec<_>) = lists
+        .chain(names)
         .chain(&given.files)
         .cloned()
         .partition(|path| is_input(path));
@@ -180,6 +200,7 @@ fn written(request: Request) -> Result<Request, String> {
             json: false,
             ..
         } => Err(format!("--into DIR without --json {silent}")),
+        Request::Export(Export { into: Some(_), .. }) => Err(format!("--into DIR {silent}")),
         request => Ok(request),
     }
 }
@@ -258,6 +279,18 @@ fn given(mut words: impl Iterator<Item = OsString>) -> Result<Given, String> {
 }
 
 impl Given {
+    /// The folder that files in another form go to: `--into` beside one of those options, whose task alone is left.
+    fn export_folder(&mut self) -> Option<PathBuf> {
+        match &mut self.tasks[..] {
+            [Task::Into(folder), Task::Export(_)] | [Task::Export(_), Task::Into(folder)] => {
+                let folder = std::mem::take(folder);
+                self.tasks.retain(|task| matches!(task, Task::Export(_)));
+                Some(folder)
+            }
+            _ => None,
+        }
+    }
+
     /// Takes an option and what it needs; nothing where this has no such option.
     fn take(&mut self, name: &str, operand: PathBuf) -> Option<()> {
         match name {
@@ -267,6 +300,8 @@ impl Given {
             "--force" => self.force = true,
             "--json" => self.json = true,
             "--original" => self.original = true,
+            "--names" => self.names = Some(operand),
+            "--model" => self.model = Some(operand),
             "--recursive" => self.recursive = true,
             "--quiet" => self.quiet = true,
             _ => self.tasks.push(match name {
@@ -293,11 +328,12 @@ fn request(mut given: Given) -> Result<Request, String> {
     if let Some(folder) = page_of_an_audit(&given.tasks) {
         return audited_page(folder, given);
     }
+    let into = given.export_folder();
     let mut tasks = given.tasks.drain(..);
     let task = tasks.next().unwrap_or_default();
     let other = tasks.next();
     drop(tasks);
-    let writes = matches!(task, Task::Into(_) | Task::Page(_) | Task::Store(_));
+    let writes = into.is_some() || matches!(task, Task::Into(_) | Task::Page(_) | Task::Store(_));
     let reports = matches!(
         task,
         Task::Render | Task::Into(_) | Task::Check(_) | Task::Audit
@@ -325,7 +361,43 @@ fn request(mut given: Given) -> Result<Request, String> {
         }
     }
     modified(&task, &given)?;
-    made(task, other.is_none() && fits, given)
+    named_models(&task, &given)?;
+    match task {
+        Task::Export(form) => exported(form, into, given),
+        task => made(task, other.is_none() && fits, given),
+    }
+}
+
+/// What `--names` and `--model` need to have a meaning.
+fn named_models(task: &Task, given: &Given) -> Result<(), String> {
+    let wrong = |what: &str| Err(what.to_string());
+    let one = given.files.len() < 2;
+    match task {
+        Task::FromBlif => Ok(()),
+        _ if given.model.is_some() => wrong("--model NAME needs --from-blif"),
+        Task::Export(Form::Verilog | Form::Blif) if given.names.is_some() && !one => {
+            wrong("--names NAMES goes with one FILE")
+        }
+        Task::Export(Form::Verilog | Form::Blif) => Ok(()),
+        _ if given.names.is_some() => wrong("--names NAMES needs --from-blif, --verilog or --blif"),
+        _ => Ok(()),
+    }
+}
+
+/// The request of files in another form; those for a folder must have names.
+fn exported(form: Form, into: Option<PathBuf>, given: Given) -> Result<Request, String> {
+    let files = match into {
+        Some(_) => named(given.files, "--into")?,
+        None => given.files,
+    };
+    let force = given.force;
+    Ok(Request::Export(Export {
+        form,
+        original: given.original,
+        files,
+        into: into.map(|folder| Target { folder, force }),
+        names: given.names,
+    }))
 }
 
 /// The folder of the page, where it is asked for with an audit: the two tasks that go together.
@@ -392,10 +464,11 @@ fn made(task: Task, fits: bool, given: Given) -> Result<Request, String> {
             force,
         }),
         Task::Cover => Request::Cover(given.files),
-        Task::Export(form) => Request::Export(Export {
-            form,
-            original: given.original,
-            files: given.files,
+        Task::Export(form) => return exported(form, None, given),
+        Task::FromBlif if given.files.len() < 2 => Request::FromBlif(FromBlif {
+            file: given.files.into_iter().next(),
+            model: given.model.map(|name| name.to_string_lossy().into_owned()),
+            names: given.names,
         }),
         Task::Page(folder) => Request::Page(target(folder), named(given.files, "--page")?),
         task => return of_one_file(task, fits, given.files, json),
@@ -420,7 +493,6 @@ fn of_one_file(task: Task, fits: bool, files: Vec<PathBuf>, json: bool) -> Resul
             Some([ours]) if fits => Request::Check { theirs, ours, json },
             _ => return wrong("--check THEIRS needs one FILE and no other option"),
         },
-        Task::FromBlif if files.len() < 2 => Request::FromBlif(files.into_iter().next()),
         _ => return wrong("--from-blif takes one FILE"),
     })
 }

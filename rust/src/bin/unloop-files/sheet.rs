@@ -37,8 +37,16 @@ impl Sheet {
     }
 }
 
-/// The settings of a list, one a line.
+/// The word that stands for every setting, in the place of a list.
+pub const ALL: &str = "all";
+
+/// The settings of a list, one a line, or every setting by its number, where each pin is fixed.
 pub fn settings(path: &Path, pins: &[String]) -> Result<Vec<Assignment>, String> {
+    if path == Path::new(ALL) {
+        let fixed = (1 << pins.len()) - 1;
+        let setting = |ones: u16| Assignment { fixed, ones };
+        return Ok((0..=fixed).map(setting).collect());
+    }
     let source = Source::of(path.to_path_buf());
     let name = source.name();
     let bytes = source

@@ -2,6 +2,7 @@
 
 use crate::audit::{becomes_refusal, promised_lines, refused_now, refused_with, weaker, Fact};
 use crate::catalogue::{beside, read, Entry, Found, CELLS, COVER, ORIGINAL, OUT};
+use crate::export::made_from;
 use crate::folder::replace;
 use crate::parallel::in_order;
 use crate::program::Program;
@@ -14,7 +15,7 @@ use std::ops::ControlFlow;
 use std::path::{Path, PathBuf};
 use std::process::ExitCode;
 use unloop::audit::{audit, cover_text, entry_lines, Audit, Cover, Never, Rendering};
-use unloop::{cell_table, module_name, Block, Refusal};
+use unloop::{cell_table, module_name, Block, Labels, Refusal};
 
 /// What is to be stored.
 #[derive(Debug)]
@@ -201,7 +202,11 @@ fn cells(
     let stored = entry.cells.as_ref()?;
     let stem = base.file_name().unwrap_or_default().to_string_lossy();
     let rendering = block.as_ref().ok().and_then(|block| block.render().ok());
-    let table = rendering.and_then(|block| cell_table(&block, &module_name(&stem)).ok());
+    let labels = Labels {
+        made_from: Some(made_from(false, &format!("{stem}.net"))),
+        ..Labels::from(&module_name(&stem))
+    };
+    let table = rendering.and_then(|block| cell_table(&block, labels).ok());
     match table.map(String::into_bytes) {
         None => Some(("cells are gone".to_string(), None)),
         Some(today) if cells_hold(stored, &today) => None,
