@@ -21,9 +21,6 @@ abbrev μ-loop : tie.MeasureT-loop
 loop-holds : tie.Need-loop-holds Inv-loop μ-loop
 loop-holds c = (omega arith, refl, refl)
 
-brought-count-requires : tie.Need-brought-count-requires Inv-loop μ-loop
-brought-count-requires c κs = search needs
-
 loop-again : tie.Need-loop-again Inv-loop μ-loop
 loop-again c =
     let l = c .before .before .loop in
@@ -50,7 +47,7 @@ put-counts-spec =
     Inv-loop
     μ-loop
     loop-holds
-    brought-count-requires
+    (λ c κs. search needs)
     (λ c. search needs)
     (λ c. search needs)
     (λ c. omega arith)

@@ -48,9 +48,6 @@ read : (c : tie.After-read-pairs) → let f = found (in-order c) in
     LineRead (start (form-test (in-order c)) .args .words .now) (f .pairs) (c .read-pairs .result) (c .read-pairs .last .1 .1 .0)
 read c = let f = found (in-order c) in c .read-pairs .ensures (f .pairs) (f .for)
 
-enum-told : tie.Need-enum-told
-enum-told c = search needs
-
 returns : tie.Need-returns
 returns c =
     let t = c .before .before .before in
@@ -91,7 +88,7 @@ answer-with-spec =
     (tie.spec
     (λ c κs. search needs)
     (λ c κs. search needs)
-    enum-told
+    (λ c. search needs)
     (λ c. search needs)
     (λ c κs. search needs)
     returns

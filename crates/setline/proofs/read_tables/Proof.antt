@@ -42,9 +42,6 @@ outside-told c ps f =
 test-repeat-requires : tie.Need-test-repeat-requires
 test-repeat-requires c κs = let f = c .before .before .before .before .before .before .pre .0 .for in (names-room (f .tabled), places-room (f .tabled))
 
-enum-told : tie.Need-enum-told
-enum-told c = search needs
-
 returns : tie.Need-returns
 returns c =
     λ ps f. let t = c .before .before in repeat-read _ ps _ (repeat-told t ps f) (c .before .match .keys2)
@@ -100,7 +97,7 @@ read-tables-spec =
     (tie.spec
     (λ c κs. search needs)
     test-repeat-requires
-    enum-told
+    (λ c. search needs)
     (λ c. search needs)
     returns
     test-outside-requires

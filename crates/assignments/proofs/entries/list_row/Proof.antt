@@ -41,9 +41,6 @@ room c =
 small : (c : tie.Then1 Inv-loop μ-loop) → 2 ^ (start c .args .n) ≤ 2 ^ maxInputs
 small c = two-fits {i = start c .args .n} {n = start c .args .n} (omega arith) (start c .pre .0 .0 .weighed .few)
 
-shl-end : tie.Need-shl-end Inv-loop μ-loop
-shl-end c = search needs
-
 loop-holds : tie.Need-loop-holds Inv-loop μ-loop
 loop-holds c =
     let start = c .before .before .before in
@@ -145,7 +142,7 @@ list-row-spec =
     (tie.spec
     Inv-loop
     μ-loop
-    shl-end
+    (λ c. search needs)
     loop-holds
     is-left-requires
     cast-out

@@ -37,9 +37,6 @@ facts c =
       omega (arith, h, weight-from-half n (loop .mask) l, weight-lt n (loop .mask), three),
     )
 
-shl-count : tie.Need-shl-count Inv-loop μ-loop
-shl-count c = search needs
-
 slice-write-weights : tie.Need-slice-write-weights Inv-loop μ-loop
 slice-write-weights c = omega (arith, pow-pos (c .args .n), c .pre .1)
 
@@ -74,12 +71,6 @@ mul-weights-3 c = omega (arith, facts (c .before))
 slice-write-weights-2 : tie.Need-slice-write-weights-2 Inv-loop μ-loop
 slice-write-weights-2 c = omega (arith, facts (c .before))
 
-add-mask : tie.Need-add-mask Inv-loop μ-loop
-add-mask c = search needs
-
-loop-less : tie.Need-loop-less Inv-loop μ-loop
-loop-less c = search needs
-
 loop-again : tie.Need-loop-again Inv-loop μ-loop
 loop-again c =
     let loop = c .before .before .loop in
@@ -111,7 +102,7 @@ fill-weights-spec =
     (tie.spec
     Inv-loop
     μ-loop
-    shl-count
+    (λ c. search needs)
     slice-write-weights
     loop-holds
     mul-weights
@@ -121,8 +112,8 @@ fill-weights-spec =
     add-weights
     mul-weights-3
     slice-write-weights-2
-    add-mask
-    loop-less
+    (λ c. search needs)
+    (λ c. search needs)
     loop-again
     same-length
     returns)

@@ -41,12 +41,6 @@ returns c =
       indexed = λ h. absurd (omega arith);
     }
 
-add-i : tie.Need-add-i Inv-loop μ-loop
-add-i c = omega arith
-
-loop-less : tie.Need-loop-less Inv-loop μ-loop
-loop-less c = omega arith
-
 loop-again : tie.Need-loop-again Inv-loop μ-loop
 loop-again c =
     let at-enter = c .before .before .before in
@@ -82,8 +76,8 @@ enter-all-spec =
     enter-requires
     same-length
     returns
-    add-i
-    loop-less
+    (λ c. omega arith)
+    (λ c. omega arith)
     loop-again
     same-length-2
     returns-2)

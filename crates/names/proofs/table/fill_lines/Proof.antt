@@ -93,12 +93,6 @@ element-write-words c = omega (arith, entry (turn (c .before .before .before)) .
 add-at : tie.Need-add-at Inv-loop μ-loop
 add-at c = let line = c .before .before .before .before in omega (arith, sizes line, entry (turn line) .pre .short)
 
-add-i : tie.Need-add-i Inv-loop μ-loop
-add-i c = omega arith
-
-loop-less : tie.Need-loop-less Inv-loop μ-loop
-loop-less c = omega arith
-
 loop-again : tie.Need-loop-again Inv-loop μ-loop
 loop-again c =
     let line = c .before .before .before .before in
@@ -130,7 +124,7 @@ fill-lines-spec =
     mul-words
     element-write-words
     add-at
-    add-i
-    loop-less
+    (λ c. omega arith)
+    (λ c. omega arith)
     loop-again
     returns)

@@ -18,12 +18,6 @@ part-name-length-start c =
     let start = c .before .before .before .before .before in
     let p = start .pre .0 .1 in omega (arith, output-parts (start .args .s .now) _ refl (p .line) (p .rest) (p .here) .long)
 
-part-name-length-end : tie.Need-part-name-length-end
-part-name-length-end c = search needs
-
-name-length-requires : tie.Need-name-length-requires
-name-length-requires c κs = search needs
-
 add-at : tie.Need-add-at
 add-at c =
     let start = c .before .before .before .before .before .before .before in
@@ -41,9 +35,6 @@ part-name-here-start c =
     let start = c .before .before .before .before .before .before .before in
     let a = start .args in let p = start .pre .0 .1 in output-parts (a .s .now) (c .name-length .result) (c .name-length .ensures) (p .line) (p .rest)
     (p .here) .long
-
-part-name-here-end : tie.Need-part-name-here-end
-part-name-here-end c = search needs
 
 name-here-requires : tie.Need-name-here-requires
 name-here-requires c κs =
@@ -63,12 +54,6 @@ part-pack-start c =
     let start = earlier .before .before .before in
     let p = start .pre .0 .1 in omega (arith, output-parts (start .args .s .now) _ refl (p .line) (p .rest) (p .here) .long)
 
-part-pack-end : tie.Need-part-pack-end
-part-pack-end c = search needs
-
-pack-requires : tie.Need-pack-requires
-pack-requires c κs = search needs
-
 put-output-requires : tie.Need-put-output-requires
 unfolding outputForm
 put-output-requires c κs =
@@ -87,12 +72,6 @@ sub-t10 c =
     output-left (s .args .s .now) (b .name-length .result) (b .name-length .ensures) (s .pre .0 .0) (s .args .names .now) (s .args .words .now)
     (s .args .first) (s .args .unknown) (s .args .outputs .now) (l .name-here .result) (l .name-here .ensures) (p .bindings) (p .line) (p .rest)
     (p .table) (p .here)
-
-add-t12 : tie.Need-add-t12
-add-t12 c = search needs
-
-same-length : tie.Need-same-length
-same-length c = search needs
 
 returns : tie.Need-returns
 returns c =
@@ -114,19 +93,19 @@ output-line-spec =
     (tie.spec
     sub-name-length
     part-name-length-start
-    part-name-length-end
-    name-length-requires
+    (λ c. search needs)
+    (λ c κs. search needs)
     add-at
     sub-name-here
     part-name-here-start
-    part-name-here-end
+    (λ c. search needs)
     name-here-requires
     sub-pack
     part-pack-start
-    part-pack-end
-    pack-requires
+    (λ c. search needs)
+    (λ c κs. search needs)
     put-output-requires
     sub-t10
-    add-t12
-    same-length
+    (λ c. search needs)
+    (λ c. search needs)
     returns)

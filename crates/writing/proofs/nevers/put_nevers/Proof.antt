@@ -35,9 +35,6 @@ put-never-requires c κs =
 add-i : tie.Need-add-i Inv-loop μ-loop
 add-i c = omega (arith, start (c .before .before .before .before .before) .pre .0)
 
-loop-less : tie.Need-loop-less Inv-loop μ-loop
-loop-less c = omega arith
-
 loop-again : tie.Need-loop-again Inv-loop μ-loop
 unfolding neverLineText
 loop-again c =
@@ -61,7 +58,7 @@ put-nevers-spec =
     add-put-never
     put-never-requires
     add-i
-    loop-less
+    (λ c. omega arith)
     loop-again
     same-length
     returns)
