@@ -16,6 +16,7 @@ use Rattle.netlist.specs.Netlist.{Block}
 use Rattle.netlist.specs.StoredBlock.{decode}
 use Rattle.netlist.specs.Groups.{groups}
 use Rattle.netlist.specs.Passes.{passCount, copyCount}
+use Rattle.netlist.specs.Answers.{refuseIf}
 use Rattle.netlist.specs.Operations.{renderBlock, verdict}
 use Rattle.netlist.specs.Bring.{brought, isMalformedBefore}
 use Rattle.agreement.proofs.PassCount.{passCount-most}
@@ -38,7 +39,7 @@ module _ (b : Block) where
       (λ t l. mul-le-mul-left (length (getD (groups b) t [])) (passCount-most b t l))
 
   pub fewer-copies : FewerCopies b
-  unfolding renderBlock
+  unfolding renderBlock refuseIf
   fewer-copies =
       record {
         fewer = copies-fewer;
@@ -47,7 +48,7 @@ module _ (b : Block) where
       }
 
 pub brought-answers : (ws : List ℕ) → isMalformedBefore ws ≡ false → BroughtAnswers ws
-unfolding verdict
+unfolding verdict refuseIf
 brought-answers ws h =
     let back = brought-back ws h in
     let b = decode (brought ws) in
