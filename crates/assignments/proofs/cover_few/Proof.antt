@@ -20,8 +20,4 @@ pub cover-few-spec : {M : Type 1} → statement M
 cover-few-spec =
     tie.close
     (tie.spec
-    (λ c. search needs)
-    (λ c. search needs)
-    cover-within-requires
-    (λ c. search needs)
-    (λ c. search needs))
+    (λ c. search needs) (λ c. search needs) cover-within-requires (λ c. search needs) (λ c. search needs))

@@ -36,11 +36,5 @@ pub cover-within-spec : {M : Type 1} → statement M
 cover-within-spec =
     tie.close
     (tie.spec
-    (λ c κs. search needs)
-    (λ c κs. search needs)
-    keep-minimal-requires
-    write-entries-requires
-    (λ c. search needs)
-    (λ c. search needs)
-    (λ c. search needs)
-    returns)
+    (λ c κs. search needs) (λ c κs. search needs) keep-minimal-requires write-entries-requires (λ c. search needs)
+    (λ c. search needs) (λ c. search needs) returns)

@@ -67,15 +67,5 @@ pub parts-fit-spec : {M : Type 1} → statement M
 parts-fit-spec =
     tie.close
     (tie.spec
-    (λ c κs. search needs)
-    (λ c κs. search needs)
-    returns
-    (λ c. search needs)
-    (λ c κs. search needs)
-    fit-requires
-    returns-2
-    fit-requires-2
-    returns-3
-    (λ c. search needs)
-    fit-requires-3
-    returns-4)
+    (λ c κs. search needs) (λ c κs. search needs) returns (λ c. search needs) (λ c κs. search needs) fit-requires
+    returns-2 fit-requires-2 returns-3 (λ c. search needs) fit-requires-3 returns-4)

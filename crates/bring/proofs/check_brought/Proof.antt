@@ -35,10 +35,5 @@ pub check-brought-spec : {M : Type 1} → statement M
 check-brought-spec =
     tie.close
     (tie.spec
-    (λ c κs. search needs)
-    (λ c. search needs)
-    (λ c. search needs)
-    slice-aggregate-check-words
-    (λ c κs. search needs)
-    (λ c. search needs)
-    returns)
+    (λ c κs. search needs) (λ c. search needs) (λ c. search needs) slice-aggregate-check-words (λ c κs. search needs)
+    (λ c. search needs) returns)

@@ -80,20 +80,6 @@ pub form-spec : {M : Type 1} → statement M
 form-spec =
     tie.close
     (tie.spec
-    Inv-loop
-    μ-loop
-    loop-holds
-    sub-rest
-    part-rest-start
-    (λ c. search needs)
-    (λ c κs. search needs)
-    (λ c. search needs)
-    (λ c κs. search needs)
-    (λ c κs. search needs)
-    sub-at
-    loop-less
-    loop-again
-    (λ c. search needs)
-    sub-t15
-    returns
+    Inv-loop μ-loop loop-holds sub-rest part-rest-start (λ c. search needs) (λ c κs. search needs) (λ c. search needs)
+    (λ c κs. search needs) (λ c κs. search needs) sub-at loop-less loop-again (λ c. search needs) sub-t15 returns
     returns-2)

@@ -15,10 +15,5 @@ pub gather-block-spec : {M : Type 1} → statement M
 gather-block-spec =
     tie.close
     (tie.spec
-    (λ c. search needs)
-    (λ c. search needs)
-    (λ c. search needs)
-    write-gathered-requires
-    (λ c. search needs)
-    (λ c. search needs)
-    (λ c. search needs))
+    (λ c. search needs) (λ c. search needs) (λ c. search needs) write-gathered-requires (λ c. search needs)
+    (λ c. search needs) (λ c. search needs))

@@ -22,11 +22,5 @@ pub scatter-spec : {M : Type 1} → statement M
 scatter-spec =
     tie.close
     (tie.spec
-    (λ c κs. search needs)
-    (λ c. search needs)
-    (λ c. search needs)
-    (λ c κs. search needs)
-    returns
-    scatter-block-requires
-    (λ c. search needs)
-    (λ c. search needs))
+    (λ c κs. search needs) (λ c. search needs) (λ c. search needs) (λ c κs. search needs) returns
+    scatter-block-requires (λ c. search needs) (λ c. search needs))

@@ -15,8 +15,4 @@ pub scatter-block-spec : {M : Type 1} → statement M
 scatter-block-spec =
     tie.close
     (tie.spec
-    (λ c. search needs)
-    (λ c. search needs)
-    scatter-with-requires
-    (λ c. search needs)
-    (λ c. search needs))
+    (λ c. search needs) (λ c. search needs) scatter-with-requires (λ c. search needs) (λ c. search needs))

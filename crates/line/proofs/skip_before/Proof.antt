@@ -37,11 +37,4 @@ pub skip-before-spec : {M : Type 1} → statement M
 skip-before-spec =
     tie.close
     (tie.spec
-    Inv-loop
-    μ-loop
-    loop-holds
-    (λ c κs. omega arith)
-    returns
-    (λ c. omega arith)
-    loop-again
-    returns-2)
+    Inv-loop μ-loop loop-holds (λ c κs. omega arith) returns (λ c. omega arith) loop-again returns-2)

@@ -40,17 +40,6 @@ pub feed-byte-spec : {M : Type 1} → statement M
 feed-byte-spec =
     tie.close
     (tie.spec
-    (λ c. search needs)
-    netlist-byte-requires
-    (λ c. search needs)
-    line-byte-requires
-    (λ c. search needs)
-    (λ c. search needs)
-    (λ c. search needs)
-    (λ c. search needs)
-    returns
-    (λ c. search needs)
-    (λ c. search needs)
-    (λ c. search needs)
-    returns-2
-    returns-3)
+    (λ c. search needs) netlist-byte-requires (λ c. search needs) line-byte-requires (λ c. search needs)
+    (λ c. search needs) (λ c. search needs) (λ c. search needs) returns (λ c. search needs) (λ c. search needs)
+    (λ c. search needs) returns-2 returns-3)

@@ -86,17 +86,6 @@ pub answer-with-spec : {M : Type 1} → statement M
 answer-with-spec =
     tie.close
     (tie.spec
-    (λ c κs. search needs)
-    (λ c κs. search needs)
-    (λ c. search needs)
-    (λ c. search needs)
-    (λ c κs. search needs)
-    returns
-    read-pairs-requires
-    (λ c. search needs)
-    (λ c. search needs)
-    (λ c κs. search needs)
-    returns-2
-    show-requires
-    (λ c. search needs)
-    returns-3)
+    (λ c κs. search needs) (λ c κs. search needs) (λ c. search needs) (λ c. search needs) (λ c κs. search needs)
+    returns read-pairs-requires (λ c. search needs) (λ c. search needs) (λ c κs. search needs) returns-2 show-requires
+    (λ c. search needs) returns-3)

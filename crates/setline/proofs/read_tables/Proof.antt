@@ -95,18 +95,6 @@ pub read-tables-spec : {M : Type 1} → statement M
 read-tables-spec =
     tie.close
     (tie.spec
-    (λ c κs. search needs)
-    test-repeat-requires
-    (λ c. search needs)
-    (λ c. search needs)
-    returns
-    test-outside-requires
-    (λ c. search needs)
-    (λ c. search needs)
-    returns-2
-    (λ c. search needs)
-    fill-setting-requires
-    array-share-prefix-setting
-    slice-aggregate-put-setting
-    put-setting-requires
-    returns-3)
+    (λ c κs. search needs) test-repeat-requires (λ c. search needs) (λ c. search needs) returns test-outside-requires
+    (λ c. search needs) (λ c. search needs) returns-2 (λ c. search needs) fill-setting-requires
+    array-share-prefix-setting slice-aggregate-put-setting put-setting-requires returns-3)

@@ -76,15 +76,6 @@ pub tell-spec : {M : Type 1} → statement M
 tell-spec =
     tie.close
     (tie.spec
-    (λ c κs. search needs)
-    (λ c κs. search needs)
-    (λ c. search needs)
-    (λ c κs. search needs)
-    put-decimal-requires
-    (λ c. search needs)
-    put-all-requires-2
-    put-decimal-requires-2
-    (λ c. search needs)
-    put-all-requires-3
-    (λ c. search needs)
-    returns)
+    (λ c κs. search needs) (λ c κs. search needs) (λ c. search needs) (λ c κs. search needs) put-decimal-requires
+    (λ c. search needs) put-all-requires-2 put-decimal-requires-2 (λ c. search needs) put-all-requires-3
+    (λ c. search needs) returns)

@@ -28,9 +28,4 @@ pub is-left-spec : {M : Type 1} → statement M
 is-left-spec =
     tie.close
     (tie.spec
-    (λ c. search needs)
-    (λ c. search needs)
-    cast-result
-    add-result
-    shared-slice-read-result-2
-    returns)
+    (λ c. search needs) (λ c. search needs) cast-result add-result shared-slice-read-result-2 returns)

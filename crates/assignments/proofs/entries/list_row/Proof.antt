@@ -140,23 +140,6 @@ pub list-row-spec : {M : Type 1} → statement M
 list-row-spec =
     tie.close
     (tie.spec
-    Inv-loop
-    μ-loop
-    (λ c. search needs)
-    loop-holds
-    is-left-requires
-    cast-out
-    mul-out
-    mul-out-2
-    slice-write-out
-    cast-out-2
-    mul-out-3
-    add-out
-    mul-out-4
-    slice-write-out-2
-    add-count
-    next-ones-requires
-    loop-less
-    loop-again
-    same-length
-    returns)
+    Inv-loop μ-loop (λ c. search needs) loop-holds is-left-requires cast-out mul-out mul-out-2 slice-write-out
+    cast-out-2 mul-out-3 add-out mul-out-4 slice-write-out-2 add-count next-ones-requires loop-less loop-again
+    same-length returns)

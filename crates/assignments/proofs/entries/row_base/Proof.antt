@@ -39,10 +39,4 @@ pub row-base-spec : {M : Type 1} → statement M
 row-base-spec =
     tie.close
     (tie.spec
-    sub-result
-    (λ c. search needs)
-    (λ c. search needs)
-    cast-result
-    mul-result-2
-    sub-result-2
-    returns)
+    sub-result (λ c. search needs) (λ c. search needs) cast-result mul-result-2 sub-result-2 returns)

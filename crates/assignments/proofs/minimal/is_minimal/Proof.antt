@@ -64,16 +64,5 @@ pub is-minimal-spec : {M : Type 1} → statement M
 is-minimal-spec =
     tie.close
     (tie.spec
-    Inv-loop
-    μ-loop
-    loop-holds
-    (λ c. search needs)
-    mul-if2
-    add-if2
-    shared-slice-read-if2
-    returns
-    mul-power
-    (λ c. search needs)
-    (λ c. search needs)
-    loop-again
-    returns-2)
+    Inv-loop μ-loop loop-holds (λ c. search needs) mul-if2 add-if2 shared-slice-read-if2 returns mul-power
+    (λ c. search needs) (λ c. search needs) loop-again returns-2)

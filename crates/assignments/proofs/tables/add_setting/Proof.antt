@@ -79,18 +79,5 @@ pub add-setting-spec : {M : Type 1} → statement M
 add-setting-spec =
     tie.close
     (tie.spec
-    Inv-loop
-    μ-loop
-    shared-slice-read-if1
-    slice-write-sound
-    add-end
-    loop-holds
-    (λ c. search needs)
-    join-halves-requires
-    add-end-2
-    mul-power
-    (λ c. search needs)
-    loop-less
-    loop-again
-    same-length
-    returns)
+    Inv-loop μ-loop shared-slice-read-if1 slice-write-sound add-end loop-holds (λ c. search needs) join-halves-requires
+    add-end-2 mul-power (λ c. search needs) loop-less loop-again same-length returns)

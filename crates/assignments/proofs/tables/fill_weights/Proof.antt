@@ -100,20 +100,6 @@ pub fill-weights-spec : {M : Type 1} → statement M
 fill-weights-spec =
     tie.close
     (tie.spec
-    Inv-loop
-    μ-loop
-    (λ c. search needs)
-    slice-write-weights
-    loop-holds
-    mul-weights
-    slice-read-weights
-    mul-weights-2
-    cast-weights
-    add-weights
-    mul-weights-3
-    slice-write-weights-2
-    (λ c. search needs)
-    (λ c. search needs)
-    loop-again
-    same-length
-    returns)
+    Inv-loop μ-loop (λ c. search needs) slice-write-weights loop-holds mul-weights slice-read-weights mul-weights-2
+    cast-weights add-weights mul-weights-3 slice-write-weights-2 (λ c. search needs) (λ c. search needs) loop-again
+    same-length returns)

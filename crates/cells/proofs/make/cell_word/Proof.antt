@@ -35,13 +35,5 @@ pub cell-word-spec : {M : Type 1} → statement M
 cell-word-spec =
     tie.close
     (tie.spec
-    (λ c κs. search needs)
-    truth-word-requires
-    returns
-    (λ c. search needs)
-    (λ c. search needs)
-    (λ c. search needs)
-    (λ c. search needs)
-    returns-2
-    (λ c. search needs)
-    returns-3)
+    (λ c κs. search needs) truth-word-requires returns (λ c. search needs) (λ c. search needs) (λ c. search needs)
+    (λ c. search needs) returns-2 (λ c. search needs) returns-3)

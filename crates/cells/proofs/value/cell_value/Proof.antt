@@ -66,18 +66,6 @@ pub cell-value-spec : {M : Type 1} → statement M
 cell-value-spec =
     tie.close
     (tie.spec
-    (λ c κs. search needs)
-    (λ c κs. search needs)
-    (λ c κs. search needs)
-    (λ c κs. search needs)
-    mul-place
-    add-place
-    mul-place-2
-    add-place-2
-    mul-place-3
-    add-place-3
-    (λ c. search needs)
-    (λ c κs. search needs)
-    shr-result
-    (λ c. search needs)
-    returns)
+    (λ c κs. search needs) (λ c κs. search needs) (λ c κs. search needs) (λ c κs. search needs) mul-place add-place
+    mul-place-2 add-place-2 mul-place-3 add-place-3 (λ c. search needs) (λ c κs. search needs) shr-result
+    (λ c. search needs) returns)

@@ -81,16 +81,5 @@ pub are-same-spec : {M : Type 1} → statement M
 are-same-spec =
     tie.close
     (tie.spec
-    Inv-loop
-    μ-loop
-    loop-holds
-    mul-is-same
-    add-is-same
-    mul-is-same-2
-    add-is-same-2
-    is-same-requires
-    returns
-    (λ c. search needs)
-    (λ c. search needs)
-    loop-again
-    returns-2)
+    Inv-loop μ-loop loop-holds mul-is-same add-is-same mul-is-same-2 add-is-same-2 is-same-requires returns
+    (λ c. search needs) (λ c. search needs) loop-again returns-2)

@@ -96,15 +96,5 @@ pub has-interface-spec : {M : Type 1} → statement M
 has-interface-spec =
     tie.close
     (tie.spec
-    (λ c κs. search needs)
-    (λ c κs. search needs)
-    (λ c κs. search needs)
-    returns
-    (λ c κs. search needs)
-    returns-2
-    are-same-requires
-    returns-3
-    (λ c κs. search needs)
-    (λ c κs. search needs)
-    are-same-requires-2
-    returns-4)
+    (λ c κs. search needs) (λ c κs. search needs) (λ c κs. search needs) returns (λ c κs. search needs) returns-2
+    are-same-requires returns-3 (λ c κs. search needs) (λ c κs. search needs) are-same-requires-2 returns-4)

@@ -63,16 +63,5 @@ pub copy-gates-spec : {M : Type 1} → statement M
 copy-gates-spec =
     tie.close
     (tie.spec
-    Inv-loop
-    μ-loop
-    loop-holds
-    (λ c. omega arith)
-    (λ c. omega arith)
-    cast-copy-gate
-    copy-gate-requires
-    (λ c. omega arith)
-    (λ c. omega arith)
-    loop-again
-    same-length
-    same-length-2
-    returns)
+    Inv-loop μ-loop loop-holds (λ c. omega arith) (λ c. omega arith) cast-copy-gate copy-gate-requires
+    (λ c. omega arith) (λ c. omega arith) loop-again same-length same-length-2 returns)

@@ -109,18 +109,6 @@ pub write-rendering-spec : {M : Type 1} → statement M
 write-rendering-spec =
     tie.close
     (tie.spec
-    (λ c κs. search needs)
-    (λ c κs. search needs)
-    (λ c κs. search needs)
-    write-header-requires
-    sub-copy-words
-    copy-words-requires
-    (λ c. search needs)
-    fill-words-requires
-    copy-gates-requires
-    mul-copy-outputs
-    add-copy-outputs
-    copy-outputs-requires
-    (λ c. search needs)
-    (λ c. search needs)
-    returns)
+    (λ c κs. search needs) (λ c κs. search needs) (λ c κs. search needs) write-header-requires sub-copy-words
+    copy-words-requires (λ c. search needs) fill-words-requires copy-gates-requires mul-copy-outputs add-copy-outputs
+    copy-outputs-requires (λ c. search needs) (λ c. search needs) returns)

@@ -57,17 +57,5 @@ pub word-spec : {M : Type 1} → statement M
 word-spec =
     tie.close
     (tie.spec
-    Inv-loop
-    μ-loop
-    loop-holds
-    sub-t7
-    returns
-    (λ c. omega arith)
-    (λ c. omega arith)
-    sub-t13
-    returns-2
-    (λ c. omega arith)
-    (λ c. omega arith)
-    loop-again
-    sub-t15
-    returns-3)
+    Inv-loop μ-loop loop-holds sub-t7 returns (λ c. omega arith) (λ c. omega arith) sub-t13 returns-2
+    (λ c. omega arith) (λ c. omega arith) loop-again sub-t15 returns-3)

@@ -107,26 +107,7 @@ pub line-spec : {M : Type 1} → statement M
 line-spec =
     tie.close
     (tie.spec
-    (λ c κs. search needs)
-    returns
-    (λ c κs. search needs)
-    sub-input-line
-    part-input-line-start
-    (λ c. search needs)
-    (λ c κs. search needs)
-    returns-2
-    sub-never-line
-    part-never-line-start
-    (λ c. search needs)
-    (λ c κs. search needs)
-    returns-3
-    sub-gate-line
-    part-gate-line-start
-    (λ c. search needs)
-    (λ c κs. search needs)
-    returns-4
-    sub-output-line
-    part-output-line-start
-    (λ c. search needs)
-    (λ c κs. search needs)
-    returns-5)
+    (λ c κs. search needs) returns (λ c κs. search needs) sub-input-line part-input-line-start (λ c. search needs)
+    (λ c κs. search needs) returns-2 sub-never-line part-never-line-start (λ c. search needs) (λ c κs. search needs)
+    returns-3 sub-gate-line part-gate-line-start (λ c. search needs) (λ c κs. search needs) returns-4 sub-output-line
+    part-output-line-start (λ c. search needs) (λ c κs. search needs) returns-5)

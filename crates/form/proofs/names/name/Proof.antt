@@ -40,11 +40,5 @@ pub name-spec : {M : Type 1} → statement M
 name-spec =
     tie.close
     (tie.spec
-    (λ c κs. search needs)
-    (λ c κs. search needs)
-    returns
-    sub-name-bytes
-    part-name-bytes-start
-    (λ c. search needs)
-    (λ c κs. search needs)
-    returns-2)
+    (λ c κs. search needs) (λ c κs. search needs) returns sub-name-bytes part-name-bytes-start (λ c. search needs)
+    (λ c κs. search needs) returns-2)

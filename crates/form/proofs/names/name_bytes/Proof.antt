@@ -68,15 +68,5 @@ pub name-bytes-spec : {M : Type 1} → statement M
 name-bytes-spec =
     tie.close
     (tie.spec
-    Inv-loop
-    μ-loop
-    loop-holds
-    (λ c κs. tt)
-    (λ c κs. tt)
-    sub-result
-    returns
-    add-i
-    (λ c. omega arith)
-    loop-again
-    sub-result-2
-    returns-2)
+    Inv-loop μ-loop loop-holds (λ c κs. tt) (λ c κs. tt) sub-result returns add-i (λ c. omega arith) loop-again
+    sub-result-2 returns-2)

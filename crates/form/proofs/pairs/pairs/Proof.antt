@@ -95,28 +95,7 @@ pub pairs-spec : {M : Type 1} → statement M
 pairs-spec =
     tie.close
     (tie.spec
-    Inv-loop
-    μ-loop
-    loop-holds
-    sub-rest
-    (λ c. omega arith)
-    (λ c. omega arith)
-    (λ c. omega arith)
-    (λ c κs. omega arith)
-    returns
-    sub-t19
-    returns-2
-    (λ c κs. omega arith)
-    (λ c. omega arith)
-    (λ c. omega arith)
-    returns-3
-    (λ c. omega arith)
-    (λ c. omega arith)
-    loop-again
-    sub-word
-    (λ c. omega arith)
-    (λ c. omega arith)
-    (λ c. omega arith)
-    (λ c. omega arith)
-    (λ c κs. omega arith)
-    returns-4)
+    Inv-loop μ-loop loop-holds sub-rest (λ c. omega arith) (λ c. omega arith) (λ c. omega arith) (λ c κs. omega arith)
+    returns sub-t19 returns-2 (λ c κs. omega arith) (λ c. omega arith) (λ c. omega arith) returns-3 (λ c. omega arith)
+    (λ c. omega arith) loop-again sub-word (λ c. omega arith) (λ c. omega arith) (λ c. omega arith) (λ c. omega arith)
+    (λ c κs. omega arith) returns-4)

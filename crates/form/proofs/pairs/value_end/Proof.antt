@@ -42,17 +42,6 @@ pub value-end-spec : {M : Type 1} → statement M
 value-end-spec =
     tie.close
     (tie.spec
-    (λ c κs. search needs)
-    sub-word
-    part-word-start
-    (λ c. search needs)
-    (λ c. search needs)
-    (λ c κs. search needs)
-    returns
-    sub-word-2
-    part-word-start-2
-    (λ c. search needs)
-    (λ c. search needs)
-    (λ c κs. search needs)
-    returns-2
+    (λ c κs. search needs) sub-word part-word-start (λ c. search needs) (λ c. search needs) (λ c κs. search needs)
+    returns sub-word-2 part-word-start-2 (λ c. search needs) (λ c. search needs) (λ c κs. search needs) returns-2
     returns-3)

@@ -97,27 +97,7 @@ pub kind-spec : {M : Type 1} → statement M
 kind-spec =
     tie.close
     (tie.spec
-    (λ c κs. search needs)
-    sub-kind-word
-    part-kind-word-start
-    (λ c. search needs)
-    (λ c. search needs)
-    (λ c κs. search needs)
-    returns
-    sub-kind-word-2
-    part-kind-word-start-2
-    (λ c. search needs)
-    (λ c. search needs)
-    (λ c κs. search needs)
-    returns-2
-    sub-kind-n
-    part-kind-n-start
-    (λ c. search needs)
-    (λ c κs. search needs)
-    returns-3
-    sub-kind-x
-    part-kind-x-start
-    (λ c. search needs)
-    (λ c κs. search needs)
-    returns-4
-    returns-5)
+    (λ c κs. search needs) sub-kind-word part-kind-word-start (λ c. search needs) (λ c. search needs)
+    (λ c κs. search needs) returns sub-kind-word-2 part-kind-word-start-2 (λ c. search needs) (λ c. search needs)
+    (λ c κs. search needs) returns-2 sub-kind-n part-kind-n-start (λ c. search needs) (λ c κs. search needs) returns-3
+    sub-kind-x part-kind-x-start (λ c. search needs) (λ c κs. search needs) returns-4 returns-5)

@@ -48,16 +48,6 @@ pub kind-n-spec : {M : Type 1} → statement M
 kind-n-spec =
     tie.close
     (tie.spec
-    (λ c κs. search needs)
-    sub-kind-word
-    part-kind-word-start
-    (λ c. search needs)
-    (λ c. search needs)
-    (λ c κs. search needs)
-    returns
-    sub-kind-no
-    part-kind-no-start
-    (λ c. search needs)
-    (λ c κs. search needs)
-    returns-2
+    (λ c κs. search needs) sub-kind-word part-kind-word-start (λ c. search needs) (λ c. search needs)
+    (λ c κs. search needs) returns sub-kind-no part-kind-no-start (λ c. search needs) (λ c κs. search needs) returns-2
     returns-3)

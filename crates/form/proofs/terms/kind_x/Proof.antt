@@ -51,17 +51,6 @@ pub kind-x-spec : {M : Type 1} → statement M
 kind-x-spec =
     tie.close
     (tie.spec
-    (λ c κs. search needs)
-    sub-kind-word
-    part-kind-word-start
-    (λ c. search needs)
-    (λ c. search needs)
-    (λ c κs. search needs)
-    returns
-    sub-kind-word-2
-    part-kind-word-start-2
-    (λ c. search needs)
-    (λ c. search needs)
-    (λ c κs. search needs)
-    returns-2
-    returns-3)
+    (λ c κs. search needs) sub-kind-word part-kind-word-start (λ c. search needs) (λ c. search needs)
+    (λ c κs. search needs) returns sub-kind-word-2 part-kind-word-start-2 (λ c. search needs) (λ c. search needs)
+    (λ c κs. search needs) returns-2 returns-3)

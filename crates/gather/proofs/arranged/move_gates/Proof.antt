@@ -54,15 +54,5 @@ pub move-gates-spec : {M : Type 1} → statement M
 move-gates-spec =
     tie.close
     (tie.spec
-    Inv-loop
-    μ-loop
-    loop-holds
-    (λ c. omega arith)
-    (λ c. omega arith)
-    cast-write-gate
-    write-gate-requires
-    (λ c. omega arith)
-    (λ c. omega arith)
-    loop-again
-    same-length
-    returns)
+    Inv-loop μ-loop loop-holds (λ c. omega arith) (λ c. omega arith) cast-write-gate write-gate-requires
+    (λ c. omega arith) (λ c. omega arith) loop-again same-length returns)

@@ -88,14 +88,5 @@ pub write-arranged-spec : {M : Type 1} → statement M
 write-arranged-spec =
     tie.close
     (tie.spec
-    (λ c κs. search needs)
-    mul-outputs
-    add-outputs
-    fill-table-requires
-    copy-words-requires
-    move-gates-requires
-    (λ c κs. search needs)
-    copy-outputs-requires
-    (λ c. search needs)
-    (λ c. search needs)
-    returns)
+    (λ c κs. search needs) mul-outputs add-outputs fill-table-requires copy-words-requires move-gates-requires
+    (λ c κs. search needs) copy-outputs-requires (λ c. search needs) (λ c. search needs) returns)

@@ -18,9 +18,4 @@ pub find-places-spec : {M : Type 1} → statement M
 find-places-spec =
     tie.close
     (tie.spec
-    returns
-    (λ c. search needs)
-    (λ c κs. search needs)
-    mark-places-requires
-    (λ c. search needs)
-    (λ c. search needs))
+    returns (λ c. search needs) (λ c κs. search needs) mark-places-requires (λ c. search needs) (λ c. search needs))

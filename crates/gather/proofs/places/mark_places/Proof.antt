@@ -65,24 +65,6 @@ pub mark-places-spec : {M : Type 1} → statement M
 mark-places-spec =
     tie.close
     (tie.spec
-    Inv-loop
-    μ-loop
-    loop-holds
-    (λ c. omega arith)
-    (λ c. omega arith)
-    cast-j
-    same-length
-    returns
-    (λ c. omega arith)
-    (λ c. omega arith)
-    cast-if2
-    same-length-2
-    returns-2
-    (λ c. omega arith)
-    (λ c. omega arith)
-    (λ c. omega arith)
-    (λ c. omega arith)
-    (λ c. omega arith)
-    loop-again
-    same-length-3
-    returns-3)
+    Inv-loop μ-loop loop-holds (λ c. omega arith) (λ c. omega arith) cast-j same-length returns (λ c. omega arith)
+    (λ c. omega arith) cast-if2 same-length-2 returns-2 (λ c. omega arith) (λ c. omega arith) (λ c. omega arith)
+    (λ c. omega arith) (λ c. omega arith) loop-again same-length-3 returns-3)

@@ -101,16 +101,6 @@ pub write-gathered-spec : {M : Type 1} → statement M
 write-gathered-spec =
     tie.close
     (tie.spec
-    (λ c κs. search needs)
-    (λ c κs. search needs)
-    list-members-requires
-    (λ c. search needs)
-    slice-aggregate-find-places
-    find-places-requires
-    write-arranged-requires
-    (λ c. search needs)
-    (λ c. search needs)
-    (λ c. search needs)
-    (λ c. search needs)
-    (λ c. search needs)
-    returns)
+    (λ c κs. search needs) (λ c κs. search needs) list-members-requires (λ c. search needs) slice-aggregate-find-places
+    find-places-requires write-arranged-requires (λ c. search needs) (λ c. search needs) (λ c. search needs)
+    (λ c. search needs) (λ c. search needs) returns)

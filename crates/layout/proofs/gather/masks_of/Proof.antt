@@ -63,17 +63,5 @@ pub masks-of-spec : {M : Type 1} → statement M
 masks-of-spec =
     tie.close
     (tie.spec
-    Inv-loop
-    μ-loop
-    loop-holds
-    (λ c. omega arith)
-    shared-slice-read-v
-    mul-defined
-    (λ c κs. search needs)
-    add-defined
-    mul-ones
-    (λ c κs. search needs)
-    add-ones
-    (λ c. omega arith)
-    loop-again
-    returns)
+    Inv-loop μ-loop loop-holds (λ c. omega arith) shared-slice-read-v mul-defined (λ c κs. search needs) add-defined
+    mul-ones (λ c κs. search needs) add-ones (λ c. omega arith) loop-again returns)

@@ -18,8 +18,4 @@ pub outputs-at-spec : {M : Type 1} → statement M
 outputs-at-spec =
     tie.close
     (tie.spec
-    (λ c κs. search needs)
-    (λ c κs. search needs)
-    (λ c κs. search needs)
-    outputs-behind-requires
-    returns)
+    (λ c κs. search needs) (λ c κs. search needs) (λ c κs. search needs) outputs-behind-requires returns)

@@ -65,16 +65,5 @@ pub enter-spec : {M : Type 1} → statement M
 enter-spec =
     tie.close
     (tie.spec
-    (λ c. search needs)
-    (λ c. search needs)
-    walk-requires
-    mul-if1
-    slice-read-if1
-    (λ c. search needs)
-    returns
-    (λ c. search needs)
-    (λ c. search needs)
-    mul-index
-    slice-write-index
-    (λ c. search needs)
-    returns-2)
+    (λ c. search needs) (λ c. search needs) walk-requires mul-if1 slice-read-if1 (λ c. search needs) returns
+    (λ c. search needs) (λ c. search needs) mul-index slice-write-index (λ c. search needs) returns-2)

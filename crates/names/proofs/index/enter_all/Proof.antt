@@ -70,14 +70,5 @@ pub enter-all-spec : {M : Type 1} → statement M
 enter-all-spec =
     tie.close
     (tie.spec
-    Inv-loop
-    μ-loop
-    loop-holds
-    enter-requires
-    same-length
-    returns
-    (λ c. omega arith)
-    (λ c. omega arith)
-    loop-again
-    same-length-2
-    returns-2)
+    Inv-loop μ-loop loop-holds enter-requires same-length returns (λ c. omega arith) (λ c. omega arith) loop-again
+    same-length-2 returns-2)

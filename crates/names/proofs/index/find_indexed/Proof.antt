@@ -41,10 +41,4 @@ pub find-indexed-spec : {M : Type 1} → statement M
 find-indexed-spec =
     tie.close
     (tie.spec
-    (λ c κs. search needs)
-    mul-found
-    shared-slice-read-found
-    cast-found
-    returns
-    (λ c. search needs)
-    returns-2)
+    (λ c κs. search needs) mul-found shared-slice-read-found cast-found returns (λ c. search needs) returns-2)

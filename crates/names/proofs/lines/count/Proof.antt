@@ -51,15 +51,5 @@ pub count-spec : {M : Type 1} → statement M
 count-spec =
     tie.close
     (tie.spec
-    Inv-loop
-    μ-loop
-    loop-holds
-    (λ c. omega arith)
-    (λ c κs. search needs)
-    cast-n
-    add-n
-    (λ c. omega arith)
-    (λ c. omega arith)
-    loop-again
-    cast-result
-    returns)
+    Inv-loop μ-loop loop-holds (λ c. omega arith) (λ c κs. search needs) cast-n add-n (λ c. omega arith)
+    (λ c. omega arith) loop-again cast-result returns)

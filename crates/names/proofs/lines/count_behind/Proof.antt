@@ -73,19 +73,5 @@ pub count-behind-spec : {M : Type 1} → statement M
 count-behind-spec =
     tie.close
     (tie.spec
-    Inv-loop
-    μ-loop
-    loop-holds
-    (λ c. omega arith)
-    (λ c. omega arith)
-    (λ c κs. search needs)
-    (λ c. omega arith)
-    (λ c κs. search needs)
-    mul-n
-    cast-n
-    add-n
-    (λ c. omega arith)
-    (λ c. omega arith)
-    loop-again
-    cast-result
-    returns)
+    Inv-loop μ-loop loop-holds (λ c. omega arith) (λ c. omega arith) (λ c κs. search needs) (λ c. omega arith)
+    (λ c κs. search needs) mul-n cast-n add-n (λ c. omega arith) (λ c. omega arith) loop-again cast-result returns)

@@ -51,14 +51,5 @@ pub pack-first-spec : {M : Type 1} → statement M
 pack-first-spec =
     tie.close
     (tie.spec
-    Inv-loop
-    μ-loop
-    loop-holds
-    (λ c. omega arith)
-    shared-slice-read-r
-    cast-r
-    mul-r
-    add-r
-    (λ c. omega arith)
-    loop-again
+    Inv-loop μ-loop loop-holds (λ c. omega arith) shared-slice-read-r cast-r mul-r add-r (λ c. omega arith) loop-again
     returns)

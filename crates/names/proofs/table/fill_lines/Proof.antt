@@ -105,26 +105,6 @@ pub fill-lines-spec : {M : Type 1} → statement M
 fill-lines-spec =
     tie.close
     (tie.spec
-    Inv-loop
-    μ-loop
-    loop-holds
-    sub-line-of
-    part-line-of-start
-    part-line-of-end
-    line-of-requires
-    add-gates
-    add-places
-    add-places-2
-    mul-places
-    element-write-places
-    add-line-word
-    line-word-requires
-    cast-words
-    add-words
-    mul-words
-    element-write-words
-    add-at
-    (λ c. omega arith)
-    (λ c. omega arith)
-    loop-again
-    returns)
+    Inv-loop μ-loop loop-holds sub-line-of part-line-of-start part-line-of-end line-of-requires add-gates add-places
+    add-places-2 mul-places element-write-places add-line-word line-word-requires cast-words add-words mul-words
+    element-write-words add-at (λ c. omega arith) (λ c. omega arith) loop-again returns)

@@ -45,15 +45,5 @@ pub fill-setting-spec : {M : Type 1} → statement M
 fill-setting-spec =
     tie.close
     (tie.spec
-    Inv-loop
-    μ-loop
-    loop-holds
-    (λ c. omega arith)
-    (λ c. omega arith)
-    given-code-requires
-    (λ c. omega arith)
-    (λ c. omega arith)
-    (λ c. omega arith)
-    loop-again
-    same-length
-    returns)
+    Inv-loop μ-loop loop-holds (λ c. omega arith) (λ c. omega arith) given-code-requires (λ c. omega arith)
+    (λ c. omega arith) (λ c. omega arith) loop-again same-length returns)

@@ -24,9 +24,4 @@ pub test-repeat-spec : {M : Type 1} → statement M
 test-repeat-spec =
     tie.close
     (tie.spec
-    slice-aggregate-first-repeat
-    (λ c κs. search needs)
-    (λ c. search needs)
-    (λ c. search needs)
-    returns
-    returns-2)
+    slice-aggregate-first-repeat (λ c κs. search needs) (λ c. search needs) (λ c. search needs) returns returns-2)

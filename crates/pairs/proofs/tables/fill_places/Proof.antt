@@ -53,17 +53,5 @@ pub fill-places-spec : {M : Type 1} → statement M
 fill-places-spec =
     tie.close
     (tie.spec
-    Inv-loop
-    μ-loop
-    (λ c. omega arith)
-    loop-holds
-    (λ c. omega arith)
-    (λ c. omega arith)
-    (λ c κs. search needs)
-    add-place-2
-    add-place-3
-    (λ c. omega arith)
-    (λ c. omega arith)
-    loop-again
-    same-length
-    returns)
+    Inv-loop μ-loop (λ c. omega arith) loop-holds (λ c. omega arith) (λ c. omega arith) (λ c κs. search needs)
+    add-place-2 add-place-3 (λ c. omega arith) (λ c. omega arith) loop-again same-length returns)

@@ -53,14 +53,5 @@ pub finish-spec : {M : Type 1} → statement M
 finish-spec =
     tie.close
     (tie.spec
-    outputs-behind-requires
-    mul-count
-    add-count
-    (λ c κs. search needs)
-    (λ c. search needs)
-    (λ c. search needs)
-    (λ c κs. search needs)
-    returns
-    put-block-requires
-    (λ c. search needs)
-    returns-2)
+    outputs-behind-requires mul-count add-count (λ c κs. search needs) (λ c. search needs) (λ c. search needs)
+    (λ c κs. search needs) returns put-block-requires (λ c. search needs) returns-2)

@@ -48,16 +48,6 @@ pub put-block-spec : {M : Type 1} → statement M
 put-block-spec =
     tie.close
     (tie.spec
-    put-counts-requires
-    put-names-requires
-    (λ c. search needs)
-    (λ c κs. search needs)
-    put-words-requires
-    (λ c. search needs)
-    (λ c κs. search needs)
-    put-words-requires-2
-    (λ c. search needs)
-    (λ c κs. search needs)
-    put-words-requires-3
-    (λ c. search needs)
-    returns)
+    put-counts-requires put-names-requires (λ c. search needs) (λ c κs. search needs) put-words-requires
+    (λ c. search needs) (λ c κs. search needs) put-words-requires-2 (λ c. search needs) (λ c κs. search needs)
+    put-words-requires-3 (λ c. search needs) returns)

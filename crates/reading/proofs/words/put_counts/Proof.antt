@@ -18,13 +18,5 @@ pub put-counts-spec : {M : Type 1} → statement M
 put-counts-spec =
     tie.close
     (tie.spec
-    (λ c. search needs)
-    (λ c. search needs)
-    (λ c. search needs)
-    slice-write-block-2
-    (λ c. search needs)
-    slice-write-block-3
-    (λ c. search needs)
-    slice-write-block-4
-    (λ c. search needs)
-    (λ c. search needs))
+    (λ c. search needs) (λ c. search needs) (λ c. search needs) slice-write-block-2 (λ c. search needs)
+    slice-write-block-3 (λ c. search needs) slice-write-block-4 (λ c. search needs) (λ c. search needs))

@@ -27,20 +27,7 @@ pub put-name-spec : {M : Type 1} → statement M
 put-name-spec =
     tie.close
     (tie.spec
-    (λ c. search needs)
-    (λ c. search needs)
-    (λ c. search needs)
-    (λ c. search needs)
-    (λ c. search needs)
-    (λ c. search needs)
-    slice-write-block-2
-    (λ c. search needs)
-    (λ c. search needs)
-    (λ c. search needs)
-    slice-write-block-3
-    (λ c. search needs)
-    (λ c. search needs)
-    (λ c. search needs)
-    slice-write-block-4
-    (λ c. search needs)
-    returns)
+    (λ c. search needs) (λ c. search needs) (λ c. search needs) (λ c. search needs) (λ c. search needs)
+    (λ c. search needs) slice-write-block-2 (λ c. search needs) (λ c. search needs) (λ c. search needs)
+    slice-write-block-3 (λ c. search needs) (λ c. search needs) (λ c. search needs) slice-write-block-4
+    (λ c. search needs) returns)

@@ -50,13 +50,5 @@ pub show-settled-spec : {M : Type 1} → statement M
 show-settled-spec =
     tie.close
     (tie.spec
-    (λ c. search needs)
-    put-show-requires
-    (λ c κs. search needs)
-    (λ c. search needs)
-    (λ c. search needs)
-    (λ c κs. search needs)
-    returns
-    put-show-requires-2
-    (λ c. search needs)
-    returns-2)
+    (λ c. search needs) put-show-requires (λ c κs. search needs) (λ c. search needs) (λ c. search needs)
+    (λ c κs. search needs) returns put-show-requires-2 (λ c. search needs) returns-2)

@@ -52,13 +52,5 @@ pub settle-values-spec : {M : Type 1} → statement M
 settle-values-spec =
     tie.close
     (tie.spec
-    (λ c κs. search needs)
-    (λ c κs. search needs)
-    (λ c κs. search needs)
-    (λ c κs. search needs)
-    (λ c. search needs)
-    (λ c. search needs)
-    settle-rounds-requires
-    returns
-    sweep-gates-requires
-    returns-2)
+    (λ c κs. search needs) (λ c κs. search needs) (λ c κs. search needs) (λ c κs. search needs) (λ c. search needs)
+    (λ c. search needs) settle-rounds-requires returns sweep-gates-requires returns-2)

@@ -44,11 +44,5 @@ pub settle-into-spec : {M : Type 1} → statement M
 settle-into-spec =
     tie.close
     (tie.spec
-    (λ c κs. search needs)
-    prepare-requires
-    put-setting-requires
-    (λ c κs. search needs)
-    settle-prepared-requires
-    (λ c κs. search needs)
-    (λ c. search needs)
-    returns)
+    (λ c κs. search needs) prepare-requires put-setting-requires (λ c κs. search needs) settle-prepared-requires
+    (λ c κs. search needs) (λ c. search needs) returns)

@@ -30,14 +30,5 @@ pub name-here-spec : {M : Type 1} → statement M
 name-here-spec =
     tie.close
     (tie.spec
-    (λ c κs. search needs)
-    sub-left
-    (λ c κs. search needs)
-    (λ c κs. search needs)
-    (λ c. search needs)
-    (λ c. search needs)
-    (λ c κs. search needs)
-    returns
-    (λ c. search needs)
-    (λ c κs. search needs)
-    returns-2)
+    (λ c κs. search needs) sub-left (λ c κs. search needs) (λ c κs. search needs) (λ c. search needs)
+    (λ c. search needs) (λ c κs. search needs) returns (λ c. search needs) (λ c κs. search needs) returns-2)

@@ -65,15 +65,5 @@ pub gate-line-spec : {M : Type 1} → statement M
 gate-line-spec =
     tie.close
     (tie.spec
-    sub-name-length
-    part-name-length-start
-    (λ c. search needs)
-    (λ c κs. search needs)
-    add-at
-    sub-operand
-    part-operand-start
-    (λ c. search needs)
-    operand-requires
-    sub-t14
-    (λ c. search needs)
-    returns)
+    sub-name-length part-name-length-start (λ c. search needs) (λ c κs. search needs) add-at sub-operand
+    part-operand-start (λ c. search needs) operand-requires sub-t14 (λ c. search needs) returns)

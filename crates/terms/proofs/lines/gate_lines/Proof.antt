@@ -71,16 +71,5 @@ pub gate-lines-spec : {M : Type 1} → statement M
 gate-lines-spec =
     tie.close
     (tie.spec
-    Inv-loop
-    μ-loop
-    loop-holds
-    sub-gate-line
-    (λ c. omega arith)
-    (λ c. omega arith)
-    (λ c. search needs)
-    gate-line-requires
-    add-i
-    loop-less
-    loop-again
-    same-length
-    returns)
+    Inv-loop μ-loop loop-holds sub-gate-line (λ c. omega arith) (λ c. omega arith) (λ c. search needs)
+    gate-line-requires add-i loop-less loop-again same-length returns)

@@ -91,21 +91,6 @@ pub output-line-spec : {M : Type 1} → statement M
 output-line-spec =
     tie.close
     (tie.spec
-    sub-name-length
-    part-name-length-start
-    (λ c. search needs)
-    (λ c κs. search needs)
-    add-at
-    sub-name-here
-    part-name-here-start
-    (λ c. search needs)
-    name-here-requires
-    sub-pack
-    part-pack-start
-    (λ c. search needs)
-    (λ c κs. search needs)
-    put-output-requires
-    sub-t10
-    (λ c. search needs)
-    (λ c. search needs)
-    returns)
+    sub-name-length part-name-length-start (λ c. search needs) (λ c κs. search needs) add-at sub-name-here
+    part-name-here-start (λ c. search needs) name-here-requires sub-pack part-pack-start (λ c. search needs)
+    (λ c κs. search needs) put-output-requires sub-t10 (λ c. search needs) (λ c. search needs) returns)

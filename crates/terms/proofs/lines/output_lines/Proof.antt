@@ -79,16 +79,5 @@ pub output-lines-spec : {M : Type 1} → statement M
 output-lines-spec =
     tie.close
     (tie.spec
-    Inv-loop
-    μ-loop
-    loop-holds
-    sub-output-line
-    (λ c. omega arith)
-    (λ c. omega arith)
-    (λ c. search needs)
-    output-line-requires
-    add-i
-    loop-less
-    loop-again
-    same-length
-    returns)
+    Inv-loop μ-loop loop-holds sub-output-line (λ c. omega arith) (λ c. omega arith) (λ c. search needs)
+    output-line-requires add-i loop-less loop-again same-length returns)

@@ -32,24 +32,7 @@ pub put-output-spec : {M : Type 1} → statement M
 put-output-spec =
     tie.close
     (tie.spec
-    (λ c. search needs)
-    (λ c. search needs)
-    (λ c. search needs)
-    (λ c. search needs)
-    (λ c. search needs)
-    (λ c. search needs)
-    (λ c. search needs)
-    slice-write-outputs-2
-    (λ c. search needs)
-    (λ c. search needs)
-    (λ c. search needs)
-    slice-write-outputs-3
-    (λ c. search needs)
-    (λ c. search needs)
-    (λ c. search needs)
-    slice-write-outputs-4
-    (λ c. search needs)
-    (λ c. search needs)
-    slice-write-outputs-5
-    (λ c. search needs)
-    returns)
+    (λ c. search needs) (λ c. search needs) (λ c. search needs) (λ c. search needs) (λ c. search needs)
+    (λ c. search needs) (λ c. search needs) slice-write-outputs-2 (λ c. search needs) (λ c. search needs)
+    (λ c. search needs) slice-write-outputs-3 (λ c. search needs) (λ c. search needs) (λ c. search needs)
+    slice-write-outputs-4 (λ c. search needs) (λ c. search needs) slice-write-outputs-5 (λ c. search needs) returns)

@@ -28,27 +28,8 @@ pub put-gate-spec : {M : Type 1} → statement M
 put-gate-spec =
     tie.close
     (tie.spec
-    (λ c. search needs)
-    (λ c. search needs)
-    (λ c. search needs)
-    (λ c. search needs)
-    (λ c. search needs)
-    (λ c. search needs)
-    (λ c. search needs)
-    (λ c. search needs)
-    (λ c. search needs)
-    slice-write-gates-2
-    (λ c. search needs)
-    (λ c. search needs)
-    (λ c. search needs)
-    slice-write-gates-3
-    (λ c. search needs)
-    (λ c. search needs)
-    (λ c. search needs)
-    slice-write-gates-4
-    (λ c. search needs)
-    (λ c. search needs)
-    (λ c. search needs)
-    slice-write-gates-5
-    (λ c. search needs)
-    returns)
+    (λ c. search needs) (λ c. search needs) (λ c. search needs) (λ c. search needs) (λ c. search needs)
+    (λ c. search needs) (λ c. search needs) (λ c. search needs) (λ c. search needs) slice-write-gates-2
+    (λ c. search needs) (λ c. search needs) (λ c. search needs) slice-write-gates-3 (λ c. search needs)
+    (λ c. search needs) (λ c. search needs) slice-write-gates-4 (λ c. search needs) (λ c. search needs)
+    (λ c. search needs) slice-write-gates-5 (λ c. search needs) returns)

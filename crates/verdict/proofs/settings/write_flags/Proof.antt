@@ -47,15 +47,5 @@ pub write-flags-spec : {M : Type 1} → statement M
 write-flags-spec =
     tie.close
     (tie.spec
-    Inv-loop
-    μ-loop
-    loop-holds
-    shr-flags
-    (λ c. omega arith)
-    add-flags
-    slice-write-flags
-    (λ c. omega arith)
-    (λ c. omega arith)
-    loop-again
-    same-length
-    returns)
+    Inv-loop μ-loop loop-holds shr-flags (λ c. omega arith) add-flags slice-write-flags (λ c. omega arith)
+    (λ c. omega arith) loop-again same-length returns)

@@ -120,16 +120,6 @@ pub put-block-spec : {M : Type 1} → statement M
 put-block-spec =
     tie.close
     (tie.spec
-    (λ c κs. search needs)
-    put-inputs-requires
-    nevers-at-requires
-    (λ c κs. search needs)
-    put-nevers-requires
-    (λ c κs. search needs)
-    (λ c κs. search needs)
-    put-gates-requires
-    (λ c κs. search needs)
-    (λ c κs. search needs)
-    put-outputs-requires
-    (λ c. search needs)
-    returns)
+    (λ c κs. search needs) put-inputs-requires nevers-at-requires (λ c κs. search needs) put-nevers-requires
+    (λ c κs. search needs) (λ c κs. search needs) put-gates-requires (λ c κs. search needs) (λ c κs. search needs)
+    put-outputs-requires (λ c. search needs) returns)

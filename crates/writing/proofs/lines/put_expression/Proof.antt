@@ -66,10 +66,5 @@ pub put-expression-spec : {M : Type 1} → statement M
 put-expression-spec =
     tie.close
     (tie.spec
-    (λ c κs. search needs)
-    put-requires
-    put-keyword-requires
-    put-items-requires
-    put-requires-2
-    (λ c. search needs)
+    (λ c κs. search needs) put-requires put-keyword-requires put-items-requires put-requires-2 (λ c. search needs)
     returns)

@@ -63,14 +63,5 @@ pub put-gate-spec : {M : Type 1} → statement M
 put-gate-spec =
     tie.close
     (tie.spec
-    (λ c. search needs)
-    put-all-requires
-    put-gate-name-requires
-    put-requires
-    (λ c. search needs)
-    (λ c. search needs)
-    put-expression-requires
-    (λ c. search needs)
-    put-all-requires-2
-    (λ c. search needs)
-    returns)
+    (λ c. search needs) put-all-requires put-gate-name-requires put-requires (λ c. search needs) (λ c. search needs)
+    put-expression-requires (λ c. search needs) put-all-requires-2 (λ c. search needs) returns)

@@ -43,12 +43,4 @@ pub put-gates-spec : {M : Type 1} → statement M
 put-gates-spec =
     tie.close
     (tie.spec
-    Inv-loop
-    μ-loop
-    loop-holds
-    put-gate-requires
-    add-j
-    (λ c. omega arith)
-    loop-again
-    same-length
-    returns)
+    Inv-loop μ-loop loop-holds put-gate-requires add-j (λ c. omega arith) loop-again same-length returns)

@@ -36,12 +36,5 @@ pub put-input-spec : {M : Type 1} → statement M
 put-input-spec =
     tie.close
     (tie.spec
-    (λ c. search needs)
-    put-all-requires
-    (λ c. search needs)
-    (λ c. search needs)
-    put-name-requires
-    (λ c. search needs)
-    put-all-requires-2
-    (λ c. search needs)
-    returns)
+    (λ c. search needs) put-all-requires (λ c. search needs) (λ c. search needs) put-name-requires (λ c. search needs)
+    put-all-requires-2 (λ c. search needs) returns)

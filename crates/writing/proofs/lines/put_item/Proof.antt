@@ -23,9 +23,4 @@ pub put-item-spec : {M : Type 1} → statement M
 put-item-spec =
     tie.close
     (tie.spec
-    put-requires
-    (λ c. search needs)
-    (λ c. search needs)
-    put-operand-requires
-    (λ c. search needs)
-    returns)
+    put-requires (λ c. search needs) (λ c. search needs) put-operand-requires (λ c. search needs) returns)

@@ -63,15 +63,5 @@ pub put-output-spec : {M : Type 1} → statement M
 put-output-spec =
     tie.close
     (tie.spec
-    (λ c. search needs)
-    (λ c. search needs)
-    (λ c. search needs)
-    put-all-requires
-    put-name-requires
-    put-requires
-    (λ c. search needs)
-    put-operand-requires
-    (λ c. search needs)
-    put-all-requires-2
-    (λ c. search needs)
-    returns)
+    (λ c. search needs) (λ c. search needs) (λ c. search needs) put-all-requires put-name-requires put-requires
+    (λ c. search needs) put-operand-requires (λ c. search needs) put-all-requires-2 (λ c. search needs) returns)

@@ -43,12 +43,4 @@ pub put-outputs-spec : {M : Type 1} → statement M
 put-outputs-spec =
     tie.close
     (tie.spec
-    Inv-loop
-    μ-loop
-    loop-holds
-    put-output-requires
-    add-o
-    (λ c. omega arith)
-    loop-again
-    same-length
-    returns)
+    Inv-loop μ-loop loop-holds put-output-requires add-o (λ c. omega arith) loop-again same-length returns)

@@ -55,14 +55,5 @@ pub put-never-spec : {M : Type 1} → statement M
 put-never-spec =
     tie.close
     (tie.spec
-    (λ c κs. search needs)
-    (λ c. search needs)
-    (λ c κs. search needs)
-    (λ c. search needs)
-    put-all-requires
-    (λ c κs. search needs)
-    put-pairs-requires
-    (λ c. search needs)
-    put-all-requires-2
-    (λ c. search needs)
-    returns)
+    (λ c κs. search needs) (λ c. search needs) (λ c κs. search needs) (λ c. search needs) put-all-requires
+    (λ c κs. search needs) put-pairs-requires (λ c. search needs) put-all-requires-2 (λ c. search needs) returns)

@@ -51,14 +51,5 @@ pub put-nevers-spec : {M : Type 1} → statement M
 put-nevers-spec =
     tie.close
     (tie.spec
-    Inv-loop
-    μ-loop
-    loop-holds
-    mul-put-never
-    add-put-never
-    put-never-requires
-    add-i
-    (λ c. omega arith)
-    loop-again
-    same-length
-    returns)
+    Inv-loop μ-loop loop-holds mul-put-never add-put-never put-never-requires add-i (λ c. omega arith) loop-again
+    same-length returns)

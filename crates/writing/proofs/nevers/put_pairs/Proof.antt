@@ -43,12 +43,4 @@ pub put-pairs-spec : {M : Type 1} → statement M
 put-pairs-spec =
     tie.close
     (tie.spec
-    Inv-loop
-    μ-loop
-    loop-holds
-    put-fixed-requires
-    add-i
-    (λ c. omega arith)
-    loop-again
-    same-length
-    returns)
+    Inv-loop μ-loop loop-holds put-fixed-requires add-i (λ c. omega arith) loop-again same-length returns)

@@ -31,19 +31,6 @@ pub name-bytes-spec : {M : Type 1} → statement M
 name-bytes-spec =
     tie.close
     (tie.spec
-    (λ c κs. search needs)
-    (λ c. search needs)
-    (λ c κs. search needs)
-    (λ c. search needs)
-    (λ c κs. search needs)
-    (λ c. search needs)
-    (λ c κs. search needs)
-    (λ c. search needs)
-    cast-t10
-    (λ c. search needs)
-    cast-t14
-    (λ c. search needs)
-    cast-t18
-    (λ c. search needs)
-    cast-t22
-    returns)
+    (λ c κs. search needs) (λ c. search needs) (λ c κs. search needs) (λ c. search needs) (λ c κs. search needs)
+    (λ c. search needs) (λ c κs. search needs) (λ c. search needs) cast-t10 (λ c. search needs) cast-t14
+    (λ c. search needs) cast-t18 (λ c. search needs) cast-t22 returns)

@@ -18,8 +18,4 @@ pub put-keyword-spec : {M : Type 1} → statement M
 put-keyword-spec =
     tie.close
     (tie.spec
-    (λ c κs. search needs)
-    (λ c. search needs)
-    put-trimmed-requires
-    (λ c. search needs)
-    returns)
+    (λ c κs. search needs) (λ c. search needs) put-trimmed-requires (λ c. search needs) returns)

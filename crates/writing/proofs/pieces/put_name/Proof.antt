@@ -16,8 +16,4 @@ pub put-name-spec : {M : Type 1} → statement M
 put-name-spec =
     tie.close
     (tie.spec
-    (λ c κs. search needs)
-    (λ c. search needs)
-    put-trimmed-requires
-    (λ c. search needs)
-    returns)
+    (λ c κs. search needs) (λ c. search needs) put-trimmed-requires (λ c. search needs) returns)

@@ -103,19 +103,6 @@ pub put-operand-spec : {M : Type 1} → statement M
 put-operand-spec =
     tie.close
     (tie.spec
-    (λ c κs. search needs)
-    (λ c κs. search needs)
-    mul-put-name
-    add-put-name
-    put-name-requires
-    (λ c. search needs)
-    returns
-    put-requires
-    put-requires-2
-    put-gate-name-requires
-    (λ c. search needs)
-    returns-2
-    (λ c. search needs)
-    returns-3
-    (λ c. search needs)
-    returns-4)
+    (λ c κs. search needs) (λ c κs. search needs) mul-put-name add-put-name put-name-requires (λ c. search needs)
+    returns put-requires put-requires-2 put-gate-name-requires (λ c. search needs) returns-2 (λ c. search needs)
+    returns-3 (λ c. search needs) returns-4)

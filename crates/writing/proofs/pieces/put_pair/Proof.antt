@@ -66,11 +66,5 @@ pub put-pair-spec : {M : Type 1} → statement M
 put-pair-spec =
     tie.close
     (tie.spec
-    (λ c. search needs)
-    put-all-requires
-    put-name-requires
-    put-requires
-    put-requires-2
-    put-requires-3
-    (λ c. search needs)
-    returns)
+    (λ c. search needs) put-all-requires put-name-requires put-requires put-requires-2 put-requires-3
+    (λ c. search needs) returns)
