@@ -11,6 +11,7 @@ ghost use Rattle.laws.specs.Lists.{all, upTo};
 ghost use Rattle.netlist.specs.Limits.{maxInputs, maxGates};
 ghost use Rattle.netlist.specs.Kinds.{isKind, arityFits};
 ghost use Rattle.netlist.specs.StoredBlock.{gateSize, operandWords};
+ghost use Rattle.layout.specs.Bounds.{nodeRoom, placeRoom};
 ghost use Rattle.encoding.specs.Rules.{nodeRule, operandRule, gateRule};
 ghost use Rattle.block.specs.Steps.{slotRule, gateRuleAt, gatesRule, lowerRule};
 
@@ -50,7 +51,7 @@ pub fn is_operand(nodes: usize, word: usize) -> bool
 
 // An operand word, by one comparison: the constants are the two highest words, so that two further on they are 0 and 1 again.
 fn is_operand_word(nodes: usize, word: u16) -> bool
-    requires { ⌜ nodes ≤ 65534 ⌝ }
+    requires { ⌜ nodes ≤ nodeRoom ⌝ }
     ensures { λ r. ⌜ r ≡ operandRule nodes word ⌝ }
 {
     (word as usize + 2) % 65536 < nodes + 2
@@ -58,7 +59,7 @@ fn is_operand_word(nodes: usize, word: u16) -> bool
 
 // The four operand words of the gate at `at`: operands below the count, 0 from there on. All of a gate's are tested before the one branch.
 fn slots_fit(words: &[u16], nodes: usize, at: usize, count: usize) -> bool
-    requires { ⌜ (at + operandWords < length (now words)) × (nodes ≤ 65534) × (1 ≤ count) ⌝ }
+    requires { ⌜ (at + operandWords < length (now words)) × (nodes ≤ nodeRoom) × (1 ≤ count) ⌝ }
     ensures { λ r. ⌜ r ≡ all (slotRule (now (words .entry)) nodes at count) (upTo operandWords) ⌝ }
 {
     let first = is_operand_word(nodes, words[at + 1]);
@@ -78,7 +79,7 @@ fn slots_fit(words: &[u16], nodes: usize, at: usize, count: usize) -> bool
 
 // The gate whose first word is at `at`.
 fn fits(words: &[u16], nodes: usize, at: usize) -> bool
-    requires { ⌜ (at + operandWords < length (now words)) × (nodes ≤ 65534) ⌝ }
+    requires { ⌜ (at + operandWords < length (now words)) × (nodes ≤ nodeRoom) ⌝ }
     ensures { λ r. ⌜ r ≡ gateRule (now (words .entry)) nodes at ⌝ }
 {
     let head = word_in(words, at);
@@ -87,7 +88,7 @@ fn fits(words: &[u16], nodes: usize, at: usize) -> bool
 
 // Gate j of those from `at` on.
 fn fits_at(words: &[u16], nodes: usize, at: usize, j: usize) -> bool
-    requires { ⌜ (at ≤ 8192) × (j ≤ maxGates) × (nodes ≤ 65534) ⌝ }
+    requires { ⌜ (at ≤ placeRoom) × (j ≤ maxGates) × (nodes ≤ nodeRoom) ⌝ }
     requires { ⌜ at + gateSize * j + operandWords < length (now words) ⌝ }
     ensures { λ r. ⌜ r ≡ gateRuleAt (now (words .entry)) nodes at j ⌝ }
 {
@@ -96,7 +97,7 @@ fn fits_at(words: &[u16], nodes: usize, at: usize, j: usize) -> bool
 
 // All m gates.
 pub fn fit(words: &[u16], nodes: usize, at: usize, m: usize) -> bool
-    requires { ⌜ (at ≤ 8192) × (m ≤ maxGates) × (nodes ≤ 65534) ⌝ }
+    requires { ⌜ (at ≤ placeRoom) × (m ≤ maxGates) × (nodes ≤ nodeRoom) ⌝ }
     requires { ⌜ at + gateSize * m ≤ length (now words) ⌝ }
     ensures { λ r. ⌜ r ≡ gatesRule (now (words .entry)) nodes at m ⌝ }
 {
@@ -112,7 +113,7 @@ pub fn fit(words: &[u16], nodes: usize, at: usize, m: usize) -> bool
 
 // Does each gate keep its rule with only the inputs and the lower gates as nodes?
 pub fn read_lower(words: &[u16], n: usize, at: usize, m: usize) -> bool
-    requires { ⌜ (n ≤ maxInputs) × (at ≤ 8192) × (m ≤ maxGates) ⌝ }
+    requires { ⌜ (n ≤ maxInputs) × (at ≤ placeRoom) × (m ≤ maxGates) ⌝ }
     requires { ⌜ at + gateSize * m ≤ length (now words) ⌝ }
     ensures { λ r. ⌜ r ≡ lowerRule (now (words .entry)) n at m ⌝ }
 {

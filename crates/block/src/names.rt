@@ -11,12 +11,13 @@ ghost use Prim.Native.Nat.{_≤_, _<_, _+_, _*_};
 ghost use lib.ListN.{getD};
 ghost use Rattle.netlist.specs.Limits.{maxName, maxGates};
 ghost use Rattle.netlist.specs.StoredBlock.{bytesAt};
+ghost use Rattle.layout.specs.Bounds.{maxWord, placeRoom};
 ghost use Rattle.encoding.specs.Rules.{padded, nameRule, namesRule};
 ghost use Rattle.block.specs.Steps.{zerosFrom, otherName, othersBefore, newName};
 
 // Byte i of the eight bytes of the name whose words start at `at`.
 fn byte_at(words: &[u16], at: usize, i: usize) -> u8
-    requires { ⌜ at ≤ 65535 ⌝ }
+    requires { ⌜ at ≤ maxWord ⌝ }
     requires { ⌜ i < maxName ⌝ }
     ensures { λ r. ⌜ r ≡ getD (bytesAt (now (words .entry)) at) i 0 ⌝ }
 {
@@ -30,7 +31,7 @@ fn byte_at(words: &[u16], at: usize, i: usize) -> u8
 
 // Are the bytes from i on all zero?
 fn only_zeros(words: &[u16], at: usize, i: usize) -> bool
-    requires { ⌜ at ≤ 65535 ⌝ }
+    requires { ⌜ at ≤ maxWord ⌝ }
     requires { ⌜ i ≤ maxName ⌝ }
     ensures { λ r. ⌜ r ≡ zerosFrom (bytesAt (now (words .entry)) at) i ⌝ }
 {
@@ -46,7 +47,7 @@ fn only_zeros(words: &[u16], at: usize, i: usize) -> bool
 
 // Name bytes, and then only zeros?
 fn is_padded(words: &[u16], at: usize) -> bool
-    requires { ⌜ at ≤ 65535 ⌝ }
+    requires { ⌜ at ≤ maxWord ⌝ }
     ensures { λ r. ⌜ r ≡ padded (bytesAt (now (words .entry)) at) ⌝ }
 {
     let mut i = 0;
@@ -65,7 +66,7 @@ fn is_padded(words: &[u16], at: usize) -> bool
 
 // Is the name at `at` legal?
 fn is_legal(words: &[u16], at: usize) -> bool
-    requires { ⌜ at ≤ 65535 ⌝ }
+    requires { ⌜ at ≤ maxWord ⌝ }
     ensures { λ r. ⌜ r ≡ nameRule (now (words .entry)) at ⌝ }
 {
     is_letter(byte_at(words, at, 0)) && is_padded(words, at)
@@ -73,7 +74,7 @@ fn is_legal(words: &[u16], at: usize) -> bool
 
 // Of names `size` words apart from `at` on: do numbers i and j differ?
 fn differ(words: &[u16], at: usize, size: usize, j: usize, i: usize) -> bool
-    requires { ⌜ at ≤ 8192 ⌝ }
+    requires { ⌜ at ≤ placeRoom ⌝ }
     requires { ⌜ size ≤ 5 ⌝ }
     requires { ⌜ j ≤ maxGates ⌝ }
     requires { ⌜ i ≤ maxGates ⌝ }
@@ -84,7 +85,7 @@ fn differ(words: &[u16], at: usize, size: usize, j: usize, i: usize) -> bool
 
 // Does name j differ from all before it?
 fn is_new(words: &[u16], at: usize, size: usize, j: usize) -> bool
-    requires { ⌜ at ≤ 8192 ⌝ }
+    requires { ⌜ at ≤ placeRoom ⌝ }
     requires { ⌜ size ≤ 5 ⌝ }
     requires { ⌜ j ≤ maxGates ⌝ }
     ensures { λ r. ⌜ r ≡ othersBefore (now (words .entry)) at size j ⌝ }
@@ -101,7 +102,7 @@ fn is_new(words: &[u16], at: usize, size: usize, j: usize) -> bool
 
 // Is name j legal, and not one of those before it?
 fn is_legal_and_new(words: &[u16], at: usize, size: usize, j: usize) -> bool
-    requires { ⌜ at ≤ 8192 ⌝ }
+    requires { ⌜ at ≤ placeRoom ⌝ }
     requires { ⌜ size ≤ 5 ⌝ }
     requires { ⌜ j ≤ maxGates ⌝ }
     ensures { λ r. ⌜ r ≡ newName (now (words .entry)) at size j ⌝ }
@@ -111,7 +112,7 @@ fn is_legal_and_new(words: &[u16], at: usize, size: usize, j: usize) -> bool
 
 // Are all legal, and none twice: `count` names from `at` on, `size` words apart.
 pub fn fit(words: &[u16], at: usize, size: usize, count: usize) -> bool
-    requires { ⌜ at ≤ 8192 ⌝ }
+    requires { ⌜ at ≤ placeRoom ⌝ }
     requires { ⌜ size ≤ 5 ⌝ }
     requires { ⌜ count ≤ maxGates ⌝ }
     ensures { λ r. ⌜ r ≡ namesRule (now (words .entry)) at size count ⌝ }

@@ -5,13 +5,14 @@ use layout::read::word_at;
 ghost use mathlib.Core.Path.{_≡_};
 ghost use Prim.Native.Nat.{_≤_};
 ghost use Rattle.netlist.specs.Limits.{maxInputs, maxNevers};
+ghost use Rattle.layout.specs.Bounds.{maxWord, placeRoom};
 ghost use Rattle.encoding.specs.Rules.{neverRule};
 ghost use Rattle.block.specs.Steps.{neverRuleAt, neversRule};
 
 // The line whose two masks are at `at`.
 fn fits(words: &[u16], n: usize, at: usize) -> bool
     requires { ⌜ n ≤ maxInputs ⌝ }
-    requires { ⌜ at ≤ 65535 ⌝ }
+    requires { ⌜ at ≤ maxWord ⌝ }
     ensures { λ r. ⌜ r ≡ neverRule (now (words .entry)) n at ⌝ }
 {
     let fixed = word_at(words, at);
@@ -21,7 +22,7 @@ fn fits(words: &[u16], n: usize, at: usize) -> bool
 // Line i of those from `at` on.
 fn fits_at(words: &[u16], n: usize, at: usize, i: usize) -> bool
     requires { ⌜ n ≤ maxInputs ⌝ }
-    requires { ⌜ at ≤ 8192 ⌝ }
+    requires { ⌜ at ≤ placeRoom ⌝ }
     requires { ⌜ i ≤ maxNevers ⌝ }
     ensures { λ r. ⌜ r ≡ neverRuleAt (now (words .entry)) n at i ⌝ }
 {
@@ -31,7 +32,7 @@ fn fits_at(words: &[u16], n: usize, at: usize, i: usize) -> bool
 // All l lines.
 pub fn fit(words: &[u16], n: usize, at: usize, l: usize) -> bool
     requires { ⌜ n ≤ maxInputs ⌝ }
-    requires { ⌜ at ≤ 8192 ⌝ }
+    requires { ⌜ at ≤ placeRoom ⌝ }
     requires { ⌜ l ≤ maxNevers ⌝ }
     ensures { λ r. ⌜ r ≡ neversRule (now (words .entry)) n at l ⌝ }
 {

@@ -6,11 +6,12 @@ use layout::read::word_at;
 ghost use mathlib.Core.Path.{_≡_};
 ghost use Prim.Native.Nat.{_≤_};
 ghost use Rattle.netlist.specs.Limits.{maxOutputs};
+ghost use Rattle.layout.specs.Bounds.{placeRoom};
 ghost use Rattle.block.specs.Steps.{shownRule, shownRules};
 
 // Does output o, of those from `at` on, show a node?
 fn fits(words: &[u16], nodes: usize, at: usize, o: usize) -> bool
-    requires { ⌜ at ≤ 8192 ⌝ }
+    requires { ⌜ at ≤ placeRoom ⌝ }
     requires { ⌜ o ≤ maxOutputs ⌝ }
     ensures { λ r. ⌜ r ≡ shownRule (now (words .entry)) nodes at o ⌝ }
 {
@@ -19,7 +20,7 @@ fn fits(words: &[u16], nodes: usize, at: usize, o: usize) -> bool
 
 // All k outputs.
 pub fn fit(words: &[u16], nodes: usize, at: usize, k: usize) -> bool
-    requires { ⌜ at ≤ 8192 ⌝ }
+    requires { ⌜ at ≤ placeRoom ⌝ }
     requires { ⌜ k ≤ maxOutputs ⌝ }
     ensures { λ r. ⌜ r ≡ shownRules (now (words .entry)) nodes at k ⌝ }
 {

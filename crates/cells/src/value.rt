@@ -5,10 +5,11 @@ use layout::nodes::CONSTANT_1;
 use layout::offsets::OPERAND_WORDS;
 use layout::read::word_at;
 ghost use mathlib.Core.Path.{_≡_};
-ghost use Prim.Native.Nat.{_<_, _+_, _^_};
+ghost use Prim.Native.Nat.{_<_, _+_};
 ghost use lib.ListN.{getD};
 ghost use Rattle.netlist.specs.StoredBlock.{operandWords, operandOf};
 ghost use Rattle.netlist.specs.Cells.{cellAt, operandBit, cellValue};
+ghost use Rattle.layout.specs.Bounds.{countRoom};
 ghost use Rattle.cells.specs.Runs.{ReadsBits};
 
 // The bit of the operand that `word` stands for among n inputs.
@@ -27,7 +28,7 @@ fn operand_bit(word: usize, n: usize, setting: &[u8], found: &[u8]) -> u8
 
 // The same of operand `place` of the cell at `at`.
 fn bit_at(cells: &[u16], n: usize, at: usize, place: usize, setting: &[u8], found: &[u8]) -> usize
-    requires { ⌜ (at < 2 ^ 32) × (place < operandWords) ⌝ }
+    requires { ⌜ (at < countRoom) × (place < operandWords) ⌝ }
     ensures { λ r. ⌜ r ≡ operandBit (now (setting .entry)) (now (found .entry)) (operandOf n (getD (now (cells .entry)) (at + place) 0)) ⌝ }
 {
     operand_bit(word_at(cells, at + place), n, setting, found) as usize
@@ -35,7 +36,7 @@ fn bit_at(cells: &[u16], n: usize, at: usize, place: usize, setting: &[u8], foun
 
 // The value of the cell at `at`, from the setting and the values found before it.
 pub fn cell_value(cells: &[u16], n: usize, at: usize, setting: &[u8], found: &[u8]) -> u8
-    requires { ⌜ at < 2 ^ 32 ⌝ }
+    requires { ⌜ at < countRoom ⌝ }
     requires { ⌜ ReadsBits (now setting) (now found) ⌝ }
     ensures { λ r. ⌜ r ≡ cellValue (now (setting .entry)) (now (found .entry)) (cellAt n (now (cells .entry)) at) ⌝ }
 {

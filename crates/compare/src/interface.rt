@@ -18,6 +18,7 @@ ghost use Rattle.netlist.specs.declared.Refusal.the-variants.{InterfaceMismatch
 ghost use Rattle.refusals.specs.Tests.{testOf};
 ghost use Rattle.netlist.specs.StoredBlock.{isMalformed, decode};
 ghost use Rattle.netlist.specs.Compare.{sameInterface};
+ghost use Rattle.layout.specs.Bounds.{placeRoom};
 ghost use Rattle.compare.specs.Names.{sameNameAt};
 
 // Names `size` words apart: are the first `count` of ours those of theirs, one by one?
@@ -29,8 +30,8 @@ fn are_same(
     size: usize,
     count: usize,
 ) -> bool
-    requires { ⌜ at ≤ 8192 ⌝ }
-    requires { ⌜ other ≤ 8192 ⌝ }
+    requires { ⌜ at ≤ placeRoom ⌝ }
+    requires { ⌜ other ≤ placeRoom ⌝ }
     requires { ⌜ size ≤ 5 ⌝ }
     requires { ⌜ count ≤ maxGates ⌝ }
     ensures { λ r. ⌜ r ≡ all (sameNameAt (now (ours .entry)) at (now (theirs .entry)) other size) (upTo count) ⌝ }

@@ -12,6 +12,7 @@ use Rattle.layout.specs.Nodes.{gateNamed}
 use Rattle.netlist.specs.Limits.{maxCopies}
 use Rattle.netlist.specs.StoredBlock.{outputSize, gateSize, decode, encode, isMalformed}
 use Rattle.netlist.specs.Rendering.{schedule, rendering}
+use Rattle.layout.specs.Bounds.{nodeRoom, maxWord}
 use Rattle.copying.specs.declared.entry.Entry.{Entry}
 
 -- a gate's word gives its entry in the table, any other word itself
@@ -57,15 +58,15 @@ shownAt ws nodes newest o = entryWords ws nodes (outputEntry (nodes .start + gat
 
 -- what copying `count` times five words asks of the slices
 pub record EntryRoom (ws : List ℕ) (nodes : Nodes) (from : ℕ) (newest out : List ℕ) (to count : ℕ) : Type 0 where
-  pub few : nodes .inputs + nodes .gates ≤ 65534
+  pub few : nodes .inputs + nodes .gates ≤ nodeRoom
   pub words : from + outputSize * count ≤ length ws
   pub table : nodes .gates ≤ length newest
   pub room : to + outputSize * count ≤ length out
 
 -- what copying `total` gates asks
 pub record GateRoom (ws : List ℕ) (nodes : Nodes) (total : ℕ) (newest out : List ℕ) : Type 0 where
-  pub few : nodes .inputs + nodes .gates ≤ 65534
-  pub copies : nodes .inputs + total ≤ 65535
+  pub few : nodes .inputs + nodes .gates ≤ nodeRoom
+  pub copies : nodes .inputs + total ≤ maxWord
   pub words : nodes .start + gateSize * nodes .gates ≤ length ws
   pub table : nodes .gates ≤ length newest
   pub room : nodes .start + gateSize * total ≤ length out

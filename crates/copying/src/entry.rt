@@ -7,6 +7,7 @@ ghost use Prim.Native.Nat.{_+_, _*_, _≤_, _<_};
 ghost use lib.ListN.{length};
 ghost use lib.Seq.{sets};
 ghost use Rattle.netlist.specs.StoredBlock.{gateSize};
+ghost use Rattle.layout.specs.Bounds.{nodeRoom};
 ghost use Rattle.laws.specs.Lists.{tab};
 ghost use Rattle.copying.specs.Words.{mappedWord, entryWord, entryWords, copyWords, wordFrom, EntryRoom, GateRoom};
 
@@ -19,7 +20,7 @@ pub struct Entry {
 
 // What stands now for what a word stands for: a gate's newest copy, or the same input or constant.
 fn mapped(w: u16, nodes: Nodes, newest: &[u16]) -> u16
-    requires { ⌜ (nodes .inputs + nodes .gates ≤ 65534) × (nodes .gates ≤ length (now newest)) ⌝ }
+    requires { ⌜ (nodes .inputs + nodes .gates ≤ nodeRoom) × (nodes .gates ≤ length (now newest)) ⌝ }
     ensures { λ r. ⌜ r ≡ mappedWord nodes (now (newest .entry)) w ⌝ }
 {
     let k = gate_named(w as usize, nodes.inputs, nodes.gates);
@@ -31,7 +32,7 @@ fn mapped(w: u16, nodes: Nodes, newest: &[u16]) -> u16
 
 // Word `i` of the five.
 fn entry_word(words: &[u16], nodes: Nodes, entry: Entry, newest: &[u16], i: usize) -> u16
-    requires { ⌜ (entry .from + i < length (now words)) × (nodes .inputs + nodes .gates ≤ 65534) × (nodes .gates ≤ length (now newest)) ⌝ }
+    requires { ⌜ (entry .from + i < length (now words)) × (nodes .inputs + nodes .gates ≤ nodeRoom) × (nodes .gates ≤ length (now newest)) ⌝ }
     ensures { λ r. ⌜ r ≡ entryWord (now (words .entry)) nodes entry (now (newest .entry)) i ⌝ }
 {
     let w = words[entry.from + i];

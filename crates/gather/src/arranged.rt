@@ -12,12 +12,13 @@ ghost use lib.ListN.{length};
 ghost use lib.Seq.{sets};
 ghost use Rattle.laws.specs.Lists.{tab, joined, placed};
 ghost use Rattle.netlist.specs.StoredBlock.{encode};
+ghost use Rattle.layout.specs.Bounds.{nodeRoom};
 ghost use Rattle.copying.specs.Words.{GateRoom, Order};
 ghost use Rattle.gather.specs.Arranging.{newWord, movedAt, arrangement, ArrangeReady};
 
 // The word that stands for each gate under its new number.
 fn fill_table(nodes: Nodes, numbers: &[u16], table: &mut [u16])
-    requires { ⌜ (nodes .inputs + nodes .gates ≤ 65534) × Order (nodes .gates) (nodes .gates) (now numbers) × (nodes .gates ≤ length (now table)) ⌝ }
+    requires { ⌜ (nodes .inputs + nodes .gates ≤ nodeRoom) × Order (nodes .gates) (nodes .gates) (now numbers) × (nodes .gates ≤ length (now table)) ⌝ }
     ensures { λ r. ⌜ now (table .exit) ≡ placed (tab (newWord (nodes .inputs) (now (numbers .entry))) (nodes .gates)) (now (table .entry)) ⌝ }
 {
     let mut j = 0;

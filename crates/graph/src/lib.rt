@@ -19,6 +19,7 @@ ghost use lib.Seq.{sets};
 ghost use Rattle.netlist.specs.Limits.{maxInputs};
 ghost use Rattle.netlist.specs.Kinds.{isKind};
 ghost use Rattle.netlist.specs.StoredBlock.{operandOf, decode, isMalformed};
+ghost use Rattle.layout.specs.Bounds.{maxWord};
 ghost use Rattle.graph.specs.Places.{placeOf};
 ghost use Rattle.graph.specs.Graph.{graphSize, controllingOf, forcedOf, Decoded};
 ghost use Rattle.graph.specs.Decoding.{WordsOf, wordPlace, nodeWords};
@@ -79,7 +80,7 @@ pub fn rule_of(kind: usize) -> Rule
 
 // The place of what an operand word stands for in a block of n inputs.
 pub fn place_of(word: usize, n: usize) -> usize
-    requires { ⌜ (n ≤ maxInputs) × (word ≤ 65535) ⌝ }
+    requires { ⌜ (n ≤ maxInputs) × (word ≤ maxWord) ⌝ }
     ensures { λ r. ⌜ r ≡ placeOf (operandOf n word) ⌝ }
 {
     if word < n {

@@ -5,12 +5,13 @@ ghost use mathlib.Core.Path.{_≡_};
 ghost use Prim.Native.Nat.{_≤_};
 ghost use Rattle.laws.specs.Lists.{all, upTo};
 ghost use Rattle.netlist.specs.StoredBlock.{nameSize};
+ghost use Rattle.layout.specs.Bounds.{maxWord};
 ghost use Rattle.layout.specs.Names.{sameWordAt};
 
 // Do the two places hold the same name?
 pub fn is_same(ours: &[u16], at: usize, theirs: &[u16], other: usize) -> bool
-    requires { ⌜ at ≤ 65535 ⌝ }
-    requires { ⌜ other ≤ 65535 ⌝ }
+    requires { ⌜ at ≤ maxWord ⌝ }
+    requires { ⌜ other ≤ maxWord ⌝ }
     ensures { λ r. ⌜ r ≡ all (sameWordAt (now (ours .entry)) at (now (theirs .entry)) other) (upTo nameSize) ⌝ }
 {
     let mut i = 0;

@@ -4,6 +4,7 @@ use crate::offsets::gates_of;
 use crate::offsets::inputs_of;
 ghost use mathlib.Core.Path.{_≡_};
 ghost use Prim.Native.Nat.{_≤_};
+ghost use Rattle.layout.specs.Bounds.{maxWord};
 ghost use Rattle.layout.specs.Nodes.{gateNamed, nodesOf};
 
 // What every search and sweep of a block goes by: how many inputs and gates it has, and where the first gate's words start.
@@ -22,8 +23,8 @@ pub const NONE: usize = 65535;
 
 // The gate that a word names in a block of n inputs and m gates, or m where it names none.
 pub fn gate_named(word: usize, n: usize, m: usize) -> usize
-    requires { ⌜ n ≤ 65535 ⌝ }
-    requires { ⌜ m ≤ 65535 ⌝ }
+    requires { ⌜ n ≤ maxWord ⌝ }
+    requires { ⌜ m ≤ maxWord ⌝ }
     ensures { λ r. ⌜ r ≡ gateNamed n m word ⌝ }
 {
     if word < n {

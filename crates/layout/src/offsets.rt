@@ -5,6 +5,7 @@ ghost use mathlib.Core.Path.{_≡_};
 ghost use Prim.Native.Nat.{_≤_};
 ghost use lib.ListN.{getD};
 ghost use Rattle.netlist.specs.StoredBlock.{neversAt, gatesAt, outputsAt};
+ghost use Rattle.layout.specs.Bounds.{maxWord};
 
 // The first input's name, behind the head.
 pub const INPUTS_AT: usize = 4;
@@ -50,7 +51,7 @@ pub fn nevers_of(words: &[u16]) -> usize
 
 // Behind the names of n inputs: the first never line's first word.
 pub fn nevers_at(n: usize) -> usize
-    requires { ⌜ n ≤ 65535 ⌝ }
+    requires { ⌜ n ≤ maxWord ⌝ }
     ensures { λ r. ⌜ r ≡ neversAt n ⌝ }
 {
     INPUTS_AT + NAME_SIZE * n
@@ -58,8 +59,8 @@ pub fn nevers_at(n: usize) -> usize
 
 // Behind n names and l never lines: the first gate's first word.
 pub fn gates_behind(n: usize, l: usize) -> usize
-    requires { ⌜ n ≤ 65535 ⌝ }
-    requires { ⌜ l ≤ 65535 ⌝ }
+    requires { ⌜ n ≤ maxWord ⌝ }
+    requires { ⌜ l ≤ maxWord ⌝ }
     ensures { λ r. ⌜ r ≡ gatesAt n l ⌝ }
 {
     nevers_at(n) + NEVER_SIZE * l
@@ -67,9 +68,9 @@ pub fn gates_behind(n: usize, l: usize) -> usize
 
 // Behind n names, l never lines and m gates: the first output's first word.
 pub fn outputs_behind(n: usize, l: usize, m: usize) -> usize
-    requires { ⌜ n ≤ 65535 ⌝ }
-    requires { ⌜ l ≤ 65535 ⌝ }
-    requires { ⌜ m ≤ 65535 ⌝ }
+    requires { ⌜ n ≤ maxWord ⌝ }
+    requires { ⌜ l ≤ maxWord ⌝ }
+    requires { ⌜ m ≤ maxWord ⌝ }
     ensures { λ r. ⌜ r ≡ outputsAt n l m ⌝ }
 {
     gates_behind(n, l) + GATE_SIZE * m

@@ -16,6 +16,7 @@ use Rattle.laws.specs.Lists.{least}
 use Rattle.netlist.specs.Limits.{maxGates}
 use Rattle.netlist.specs.Netlist.{Block, gateCount}
 use Rattle.netlist.specs.Groups.{reads, sameGroup}
+use Rattle.layout.specs.Bounds.{maxWord}
 use Rattle.graph.specs.Graph.{network, Graph}
 use Rattle.scc.specs.Search.{LayerStep}
 
@@ -94,6 +95,6 @@ pub record LeadingOn (b : Block) (m : ℕ) (key : ℕ → ℕ) (k : ℕ) (firsts
 
 -- what `first_of` does: the first gate with a key, noted or found
 pub record FirstOf (key k : ℕ) (firsts firsts′ : List ℕ) (r : ℕ) : Type 0 where
-  pub small : r ≤ 65535
+  pub small : r ≤ maxWord
   pub cases : ((getD firsts key 0 ≡ noGate) × (firsts′ ≡ set firsts key k) × (r ≡ k))
       ⊎ ((getD firsts key 0 ≡ noGate → ⊥) × (firsts′ ≡ firsts) × (r ≡ getD firsts key 0))

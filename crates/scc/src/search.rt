@@ -22,6 +22,7 @@ ghost use mathlib.Core.Path.{_≡_};
 ghost use mathlib.Core.Bool.{true};
 ghost use Prim.Native.Nat.{_+_, _*_, _%_, _≤_, _<_};
 ghost use Rattle.netlist.specs.Limits.{maxGates};
+ghost use Rattle.layout.specs.Bounds.{maxWord};
 ghost use Rattle.graph.specs.Graph.{slots};
 ghost use Rattle.scc.specs.Search.{clockEnd, StandingReady, LeftOne, SameRooms};
 
@@ -38,7 +39,7 @@ struct Standing {
 
 // Enters gate k from a slot.
 fn enter(k: usize, caller: usize, time: usize, notes: &mut [u16; NOTES])
-    requires { ⌜ (k < maxGates) × (caller ≤ 65535) × (time ≤ clockEnd) ⌝ }
+    requires { ⌜ (k < maxGates) × (caller ≤ maxWord) × (time ≤ clockEnd) ⌝ }
 {
     let at = NOTE_SIZE * k;
     notes[at + ENTERED] = time as u16;
@@ -103,7 +104,7 @@ fn write_gate(
     order: &mut [u16; MAX_GATES],
     ends: &mut [u16; MAX_GATES],
 )
-    requires { ⌜ (end ≤ 65535) × (k ≤ 65535) ⌝ }
+    requires { ⌜ (end ≤ maxWord) × (k ≤ maxWord) ⌝ }
     ensures { λ r. ⌜ SameRooms (now (order .entry)) (now (ends .entry)) (now (order .exit)) (now (ends .exit)) ⌝ }
 {
     if k < MAX_GATES && at < MAX_GATES {
@@ -123,7 +124,7 @@ fn write_group(
     order: &mut [u16; MAX_GATES],
     ends: &mut [u16; MAX_GATES],
 )
-    requires { ⌜ (start ≤ standing .top) × (standing .top ≤ maxGates) × (standing .count ≤ clockEnd) × (end ≤ 65535) ⌝ }
+    requires { ⌜ (start ≤ standing .top) × (standing .top ≤ maxGates) × (standing .count ≤ clockEnd) × (end ≤ maxWord) ⌝ }
     ensures { λ r. ⌜ SameRooms (now (order .entry)) (now (ends .entry)) (now (order .exit)) (now (ends .exit)) ⌝ }
 {
     let mut i = start;

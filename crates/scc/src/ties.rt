@@ -19,6 +19,7 @@ ghost use Prim.Native.Nat.{_≤_, _<_};
 ghost use lib.ListN.{getD};
 ghost use Rattle.netlist.specs.Limits.{maxGates};
 ghost use Rattle.netlist.specs.Groups.{reads};
+ghost use Rattle.layout.specs.Bounds.{maxWord};
 ghost use Rattle.graph.specs.Graph.{network, Graph};
 ghost use Rattle.scc.specs.Leaders.{lastOf, distanceAt, Layered, Called, SlotPosition, Leaving, Tied, Certified};
 
@@ -28,7 +29,7 @@ const WORD_VALUES: usize = 65536;
 // The last position of position i's layer.
 pub fn last_of(ends: &[u16; MAX_GATES], i: usize) -> usize
     requires { ⌜ i < maxGates ⌝ }
-    ensures { λ r. ⌜ (r ≡ lastOf (now (ends .entry)) i) × (r ≤ 65535) ⌝ }
+    ensures { λ r. ⌜ (r ≡ lastOf (now (ends .entry)) i) × (r ≤ maxWord) ⌝ }
 {
     let end = word_of(ends, i) as usize;
     if end == i {

@@ -6,12 +6,13 @@ use writing::pieces::name_bytes;
 ghost use mathlib.Core.Path.{_≡_};
 ghost use Prim.Native.Nat.{_≤_};
 ghost use lib.ListN.{length};
+ghost use Rattle.layout.specs.Bounds.{maxWord};
 ghost use Rattle.laws.specs.Lists.{tab, placed};
 ghost use Rattle.setline.specs.Tables.{inputKey};
 
 // The number of each input's name.
 pub fn fill_inputs(words: &[u16], n: usize, inputs: &mut [u64])
-    requires { ⌜ (n ≤ 65535) × (n ≤ length (now inputs)) ⌝ }
+    requires { ⌜ (n ≤ maxWord) × (n ≤ length (now inputs)) ⌝ }
     ensures { λ r. ⌜ now (inputs .exit) ≡ placed (tab (inputKey (now (words .entry))) n) (now (inputs .entry)) ⌝ }
 {
     let mut i = 0;

@@ -16,6 +16,7 @@ use setform::test_set_line;
 use show::show;
 use simulate::round::UNDEFINED;
 use simulate::values::put_setting;
+use ternary::table::GATE_ENTRIES;
 ghost use mathlib.Core.List.{List};
 ghost use lib.ListN.{length};
 ghost use Rattle.netlist.specs.Answers.{Promise};
@@ -103,7 +104,7 @@ fn read_pairs(words: &[u16], line: &[u8], values: &mut [u8; PLACES]) -> Test
 // The answer to a line, with its LF, for a block that is prepared; `values` is room for what stands at each place. Count: bytes of the show line.
 fn answer_with(
     words: &[u16],
-    table: &[u8; 1792],
+    table: &[u8; GATE_ENTRIES],
     graph: &[u16; GRAPH_WORDS],
     fanout: &[u16; FANOUT_WORDS],
     line: &[u8],
@@ -127,7 +128,7 @@ fn answer_with(
 // The same in an array of its own.
 pub fn answer_line(
     words: &[u16],
-    table: &[u8; 1792],
+    table: &[u8; GATE_ENTRIES],
     graph: &[u16; GRAPH_WORDS],
     fanout: &[u16; FANOUT_WORDS],
     line: &[u8],

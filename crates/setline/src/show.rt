@@ -13,6 +13,7 @@ use refusals::refusal;
 use refusals::test_room;
 use simulate::round::settle_prepared;
 use ternary::output::shown_value;
+use ternary::table::GATE_ENTRIES;
 use writing::pieces::put;
 use writing::pieces::put_all;
 use writing::pieces::put_name;
@@ -115,7 +116,7 @@ fn show_settled(words: &[u16], values: &[u8; PLACES], out: &mut [u8]) -> Answer
 // The show line of a prepared block, whose inputs have their values: 11, or its bytes; count: bytes.
 pub fn show(
     words: &[u16],
-    table: &[u8; 1792],
+    table: &[u8; GATE_ENTRIES],
     graph: &[u16; GRAPH_WORDS],
     fanout: &[u16; FANOUT_WORDS],
     values: &mut [u8; PLACES],

@@ -17,6 +17,7 @@ use refusals::number_of;
 use simulate::round::UNDEFINED;
 use simulate::round::settle_prepared;
 use simulate::sweep::sweep_gates;
+use ternary::table::GATE_ENTRIES;
 use ternary::table::gate_table;
 ghost use mathlib.Core.Path.{_≡_};
 ghost use mathlib.Core.Bool.{false};
@@ -43,7 +44,7 @@ fn refuse(fixed: u16, ones: u16) -> Record
 // The settled values by rounds, from the graph of a block that may have loops; how many rounds change something. The
 // fan-out is made for this record.
 fn settle_rounds(
-    table: &[u8; 1792],
+    table: &[u8; GATE_ENTRIES],
     graph: &[u16; GRAPH_WORDS],
     m: usize,
     values: &mut [u8; PLACES],

@@ -9,6 +9,7 @@ use graph::fanout::FANOUT_WORDS;
 use graph::fanout::NEXT_AT;
 use layout::limits::MAX_GATES;
 use ternary::gate::gate_value;
+use ternary::table::GATE_ENTRIES;
 ghost use mathlib.Core.Path.{_≡_};
 ghost use Prim.Native.Nat.{_*_, _≤_, _<_};
 ghost use Rattle.netlist.specs.GateTable.{gateTable};
@@ -31,7 +32,7 @@ struct Readers {
 
 // Evaluates gate `j`, if it has no value, and queues it if it gets one; the queue's new end.
 fn update(
-    table: &[u8; 1792],
+    table: &[u8; GATE_ENTRIES],
     graph: &[u16; GRAPH_WORDS],
     m: usize,
     j: usize,
@@ -59,7 +60,7 @@ fn update(
 
 // The same for every gate.
 pub fn update_all(
-    table: &[u8; 1792],
+    table: &[u8; GATE_ENTRIES],
     graph: &[u16; GRAPH_WORDS],
     m: usize,
     values: &[u8; PLACES],
@@ -82,7 +83,7 @@ pub fn update_all(
 
 // The same for the readers of a gate.
 fn update_readers(
-    table: &[u8; 1792],
+    table: &[u8; GATE_ENTRIES],
     graph: &[u16; GRAPH_WORDS],
     fanout: &[u16; FANOUT_WORDS],
     readers: Readers,
@@ -119,7 +120,7 @@ fn update_readers(
 
 // The same for the readers of the gates that the round before changed.
 fn update_changed(
-    table: &[u8; 1792],
+    table: &[u8; GATE_ENTRIES],
     graph: &[u16; GRAPH_WORDS],
     fanout: &[u16; FANOUT_WORDS],
     m: usize,
@@ -171,7 +172,7 @@ fn copy_changed(
 
 // One round more, from what the round before changed; the end of the gates that it changed itself, which are queued behind those.
 pub fn next_round(
-    table: &[u8; 1792],
+    table: &[u8; GATE_ENTRIES],
     graph: &[u16; GRAPH_WORDS],
     fanout: &[u16; FANOUT_WORDS],
     m: usize,

@@ -9,6 +9,7 @@ use graph::fanout::FANOUT_WORDS;
 use graph::fanout::link_slots;
 use layout::limits::MAX_GATES;
 use layout::offsets::gates_of;
+use ternary::table::GATE_ENTRIES;
 ghost use mathlib.Core.Path.{_≡_};
 ghost use mathlib.Core.Bool.{false};
 ghost use lib.ListN.{length};
@@ -32,7 +33,7 @@ pub fn prepare(words: &[u16], graph: &mut [u16; GRAPH_WORDS], fanout: &mut [u16;
 // Rounds from all gates undefined until one changes nothing; how many changed something. In the queue stand the gates that a round changed: from `head` to
 // `tail` those of the last one. `found` and `queue` are room for what a round finds and for the gates that it changed.
 fn settle_with(
-    table: &[u8; 1792],
+    table: &[u8; GATE_ENTRIES],
     graph: &[u16; GRAPH_WORDS],
     fanout: &[u16; FANOUT_WORDS],
     m: usize,
@@ -67,7 +68,7 @@ fn settle_with(
 // The settled values of a prepared block of m gates, in place: at first the inputs have their values, and no gate has one. How many rounds change
 // something.
 pub fn settle_prepared(
-    table: &[u8; 1792],
+    table: &[u8; GATE_ENTRIES],
     graph: &[u16; GRAPH_WORDS],
     fanout: &[u16; FANOUT_WORDS],
     m: usize,

@@ -8,6 +8,7 @@ use graph::PLACES;
 use graph::decode_gates;
 use layout::offsets::gates_of;
 use ternary::gate::gate_value;
+use ternary::table::GATE_ENTRIES;
 use ternary::table::gate_table;
 ghost use mathlib.Core.Path.{_≡_};
 ghost use mathlib.Core.Bool.{false};
@@ -21,7 +22,7 @@ ghost use Rattle.simulate.specs.Rounded.{Unsettled, Bytes, SweptIn, swee
 
 // Each gate once, in ascending order, from the inputs and the values that this sweep has found so far.
 pub fn sweep_gates(
-    table: &[u8; 1792],
+    table: &[u8; GATE_ENTRIES],
     graph: &[u16; GRAPH_WORDS],
     m: usize,
     values: &mut [u8; PLACES],

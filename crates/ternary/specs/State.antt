@@ -13,6 +13,7 @@ use Rattle.netlist.specs.Limits.{maxInputs, maxGates}
 use Rattle.netlist.specs.Values.{Value, code, valueOf}
 use Rattle.netlist.specs.Kinds.{isKind, arityFits, gateValue}
 use Rattle.netlist.specs.StoredBlock.{nameSize, operandOf}
+use Rattle.layout.specs.Bounds.{maxWord}
 use Rattle.graph.specs.Places.{firstInput, firstGate, placeCount, placeOf}
 use Rattle.graph.specs.Graph.{nodeSize, slots, kindAt, countAt, placeAt, Graph}
 
@@ -35,7 +36,7 @@ pub record LegalGate (graph : List ℕ) (j : ℕ) : Type 0 where
   pub kind : isKind (kindAt graph j) ≡ true
   pub count : arityFits (kindAt graph j) (countAt graph j) ≡ true
   pub inside : (i : ℕ) → i < slots → placeAt graph j i < placeCount
-  pub small : getD graph (nodeSize * j) 0 ≤ 65535
+  pub small : getD graph (nodeSize * j) 0 ≤ maxWord
 
 -- the value that slot i of gate j reads
 unfoldable pub slotValue : List ℕ → List ℕ → ℕ → ℕ → Value
@@ -47,7 +48,7 @@ gateCode graph values j = code (gateValue (kindAt graph j) (tab (slotValue graph
 
 -- the word behind the port at `port` names what stands at a place
 pub record ShownAt (words : List ℕ) (n port : ℕ) : Type 0 where
-  pub near : port ≤ 65535
+  pub near : port ≤ maxWord
   pub few : n ≤ maxInputs
-  pub word : getD words (port + nameSize) 0 ≤ 65535
+  pub word : getD words (port + nameSize) 0 ≤ maxWord
   pub inside : placeOf (operandOf n (getD words (port + nameSize) 0)) < placeCount

@@ -1,6 +1,7 @@
 // One gate's value from a graph and the values of what stands at each place: its operands' codes, and one read of the table of all gates.
 // It is found once for each gate, round and setting.
 use crate::table::ABSENT;
+use crate::table::GATE_ENTRIES;
 use graph::GRAPH_WORDS;
 use graph::NODE_SIZE;
 use graph::PLACES;
@@ -32,7 +33,7 @@ fn operand_code(
 
 // The value of gate `j`: its operands' codes, and one read of the table.
 pub fn gate_value(
-    table: &[u8; 1792],
+    table: &[u8; GATE_ENTRIES],
     graph: &[u16; GRAPH_WORDS],
     j: usize,
     values: &[u8; PLACES],

@@ -8,10 +8,13 @@
 ghost use mathlib.Core.Path.{_≡_};
 ghost use Rattle.netlist.specs.GateTable.{gateTable};
 
+// How many entries the table has: 4^4 for each of 7 kinds.
+pub const GATE_ENTRIES: usize = 7 * 256;
+
 // The code of an operand that is absent.
 pub const ABSENT: usize = 3;
 
-const ENTRIES: [u8; 1792] = *b"\
+const ENTRIES: [u8; GATE_ENTRIES] = *b"\
     \x03\x03\x03\x03\x03\x03\x03\x03\x03\x03\x03\x03\x03\x03\x03\x03\
     \x03\x03\x03\x03\x03\x03\x03\x03\x03\x03\x03\x03\x03\x03\x03\x03\
     \x03\x03\x03\x03\x03\x03\x03\x03\x03\x03\x03\x03\x03\x03\x03\x03\
@@ -132,7 +135,7 @@ const ENTRIES: [u8; 1792] = *b"\
     \x01\x00\x02\x03\x00\x01\x02\x03\x02\x02\x02\x03\x03\x03\x03\x03";
 
 // The table, for a caller to lend to each evaluation: a constant that is read where it stands is written to the stack anew at each read.
-pub fn gate_table() -> [u8; 1792]
+pub fn gate_table() -> [u8; GATE_ENTRIES]
     ensures { λ r. ⌜ r ≡ gateTable ⌝ }
 {
     ENTRIES

@@ -24,6 +24,7 @@ ghost use Rattle.netlist.specs.Limits.{maxInputs};
 ghost use Rattle.netlist.specs.declared.Answer.the-variants.{Done};
 ghost use Rattle.netlist.specs.StoredBlock.{decode, isMalformed};
 ghost use Rattle.netlist.specs.Rounds.{settledSettings, lowestUnsettled};
+ghost use Rattle.layout.specs.Bounds.{countRoom};
 ghost use Rattle.lanes.specs.Batches.{lanesOf};
 ghost use Rattle.lanes.specs.LaneWords.{laneSize};
 ghost use Rattle.batch.specs.Layered.{Planned};
@@ -119,7 +120,7 @@ fn count_batch(
     lanes: &mut [u64; LANE_WORDS],
 ) -> usize
     requires { ⌜ Planned (now words) (now graph) (now order) (now ends) × (length (now lanes) ≡ laneSize) ⌝ }
-    requires { ⌜ (base % 64 ≡ 0) × (base < 2 ^ 32) × FirstReached (now words) first base (now lanes) ⌝ }
+    requires { ⌜ (base % 64 ≡ 0) × (base < countRoom) × FirstReached (now words) first base (now lanes) ⌝ }
     ensures counted { λ r. ⌜ r ≡ countBelow (countedFrom (decode (now (words .entry))) base) (lanesOf (getD (now (words .entry)) 0 0)) ⌝ }
     ensures kept { λ r. ⌜ (base + lanesOf (getD (now (words .entry)) 0 0) ≤ first → now (lanes .exit) ≡ now (lanes .entry)) ⌝ }
     ensures long { λ r. ⌜ length (now (lanes .exit)) ≡ laneSize ⌝ }
@@ -161,7 +162,7 @@ fn count_settled(
 
 // A byte for each of the first `lanes` bits of a word, from `base` on.
 fn write_flags(word: u64, base: usize, lanes: usize, flags: &mut [u8])
-    requires { ⌜ (lanes ≤ 64) × (base < 2 ^ 32) × (base + lanes ≤ length (now flags)) ⌝ }
+    requires { ⌜ (lanes ≤ 64) × (base < countRoom) × (base + lanes ≤ length (now flags)) ⌝ }
     ensures { λ r. ⌜ now (flags .exit) ≡ flagged word base lanes (now (flags .entry)) ⌝ }
 {
     let mut s = 0;

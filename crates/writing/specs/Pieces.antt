@@ -13,6 +13,7 @@ use Rattle.netlist.specs.Kinds.{keyword}
 use Rattle.netlist.specs.StoredBlock.{nameSize, neverSize, gateSize, outputSize, inputsAt, neversAt, gatesAt, outputsAt, nameAt, operandOf, decode}
 use Rattle.netlist.specs.Syntax.{printTerm}
 use Rattle.netlist.specs.Writing.{gateName, termOf}
+use Rattle.layout.specs.Bounds.{maxWord}
 
 -- A text and its end after a piece was appended at `at`. What does not fit is left out, and counted all the same.
 pub record Appended (piece text : List ℕ) (at : ℕ) (text′ : List ℕ) (end : ℕ) : Type 0 where
@@ -21,7 +22,7 @@ pub record Appended (piece text : List ℕ) (at : ℕ) (text′ : List ℕ) (end
 
 -- the end stays a small number
 pub record Short (piece : List ℕ) (at : ℕ) : Type 0 where
-  pub small : at + length piece ≤ 65535
+  pub small : at + length piece ≤ maxWord
 
 -- f 0, f 1, .., f (count - 1), one after the other
 unfoldable pub pieces : (ℕ → List ℕ) → ℕ → List ℕ

@@ -21,11 +21,12 @@ use layout::read::word_at;
 ghost use Prim.Native.Nat.{_≤_};
 ghost use lib.ListN.{getD};
 ghost use Rattle.netlist.specs.Limits.{maxInputs};
+ghost use Rattle.layout.specs.Bounds.{maxWord, writtenRoom, lineRoom};
 ghost use Rattle.writing.specs.Pieces.{Appended, Short, pieces, itemText, expressionText, inputText, gateText, outputText, blockText};
 
 // A space and operand i of the gate whose first word is at `from`.
 fn put_item(text: &mut [u8], at: usize, words: &[u16], from: usize, i: usize) -> usize
-    requires { ⌜ (from ≤ 1000000) × (i ≤ 65535) ⌝ }
+    requires { ⌜ (from ≤ writtenRoom) × (i ≤ maxWord) ⌝ }
     requires { ⌜ Short (itemText (now words) from i) at ⌝ }
     ensures { λ r. ⌜ Appended (itemText (now (words .entry)) from i) (now (text .entry)) at (now (text .exit)) r ⌝ }
 {
@@ -34,7 +35,7 @@ fn put_item(text: &mut [u8], at: usize, words: &[u16], from: usize, i: usize) ->
 }
 
 fn put_items(text: &mut [u8], at: usize, words: &[u16], from: usize, count: usize) -> usize
-    requires { ⌜ (from ≤ 1000000) × (count ≤ 65535) ⌝ }
+    requires { ⌜ (from ≤ writtenRoom) × (count ≤ maxWord) ⌝ }
     requires { ⌜ Short (pieces (itemText (now words) from) count) at ⌝ }
     ensures { λ r. ⌜ Appended (pieces (itemText (now (words .entry)) from) count) (now (text .entry)) at (now (text .exit)) r ⌝ }
 {
@@ -49,7 +50,7 @@ fn put_items(text: &mut [u8], at: usize, words: &[u16], from: usize, count: usiz
 
 // `(KIND OPERAND ...)`: the expression of the gate whose first word is at `from`.
 fn put_expression(text: &mut [u8], at: usize, words: &[u16], from: usize) -> usize
-    requires { ⌜ from ≤ 1000000 ⌝ }
+    requires { ⌜ from ≤ writtenRoom ⌝ }
     requires { ⌜ Short (expressionText (now words) from) at ⌝ }
     ensures { λ r. ⌜ Appended (expressionText (now (words .entry)) from) (now (text .entry)) at (now (text .exit)) r ⌝ }
 {
@@ -62,7 +63,7 @@ fn put_expression(text: &mut [u8], at: usize, words: &[u16], from: usize) -> usi
 
 // `(gate NAME EXPR)` and its LF: gate j of those from `from` on.
 fn put_gate(text: &mut [u8], at: usize, words: &[u16], from: usize, j: usize) -> usize
-    requires { ⌜ (from ≤ 600000) × (j ≤ 65535) ⌝ }
+    requires { ⌜ (from ≤ lineRoom) × (j ≤ maxWord) ⌝ }
     requires { ⌜ Short (gateText (now words) from j) at ⌝ }
     ensures { λ r. ⌜ Appended (gateText (now (words .entry)) from j) (now (text .entry)) at (now (text .exit)) r ⌝ }
 {
@@ -74,7 +75,7 @@ fn put_gate(text: &mut [u8], at: usize, words: &[u16], from: usize, j: usize) ->
 }
 
 fn put_gates(text: &mut [u8], at: usize, words: &[u16], from: usize, m: usize) -> usize
-    requires { ⌜ (from ≤ 600000) × (m ≤ 65535) ⌝ }
+    requires { ⌜ (from ≤ lineRoom) × (m ≤ maxWord) ⌝ }
     requires { ⌜ Short (pieces (gateText (now words) from) m) at ⌝ }
     ensures { λ r. ⌜ Appended (pieces (gateText (now (words .entry)) from) m) (now (text .entry)) at (now (text .exit)) r ⌝ }
 {
@@ -89,7 +90,7 @@ fn put_gates(text: &mut [u8], at: usize, words: &[u16], from: usize, m: usize) -
 
 // `(in NAME)` and its LF.
 fn put_input(text: &mut [u8], at: usize, words: &[u16], i: usize) -> usize
-    requires { ⌜ i ≤ 65535 ⌝ }
+    requires { ⌜ i ≤ maxWord ⌝ }
     requires { ⌜ Short (inputText (now words) i) at ⌝ }
     ensures { λ r. ⌜ Appended (inputText (now (words .entry)) i) (now (text .entry)) at (now (text .exit)) r ⌝ }
 {
@@ -99,7 +100,7 @@ fn put_input(text: &mut [u8], at: usize, words: &[u16], i: usize) -> usize
 }
 
 fn put_inputs(text: &mut [u8], at: usize, words: &[u16], n: usize) -> usize
-    requires { ⌜ n ≤ 65535 ⌝ }
+    requires { ⌜ n ≤ maxWord ⌝ }
     requires { ⌜ Short (pieces (inputText (now words)) n) at ⌝ }
     ensures { λ r. ⌜ Appended (pieces (inputText (now (words .entry))) n) (now (text .entry)) at (now (text .exit)) r ⌝ }
 {
@@ -114,7 +115,7 @@ fn put_inputs(text: &mut [u8], at: usize, words: &[u16], n: usize) -> usize
 
 // `(out PORT NAME)` and its LF: output o of those from `from` on.
 fn put_output(text: &mut [u8], at: usize, words: &[u16], from: usize, o: usize) -> usize
-    requires { ⌜ (from ≤ 600000) × (o ≤ 65535) ⌝ }
+    requires { ⌜ (from ≤ lineRoom) × (o ≤ maxWord) ⌝ }
     requires { ⌜ Short (outputText (now words) from o) at ⌝ }
     ensures { λ r. ⌜ Appended (outputText (now (words .entry)) from o) (now (text .entry)) at (now (text .exit)) r ⌝ }
 {
@@ -127,7 +128,7 @@ fn put_output(text: &mut [u8], at: usize, words: &[u16], from: usize, o: usize) 
 }
 
 fn put_outputs(text: &mut [u8], at: usize, words: &[u16], from: usize, k: usize) -> usize
-    requires { ⌜ (from ≤ 600000) × (k ≤ 65535) ⌝ }
+    requires { ⌜ (from ≤ lineRoom) × (k ≤ maxWord) ⌝ }
     requires { ⌜ Short (pieces (outputText (now words) from) k) at ⌝ }
     ensures { λ r. ⌜ Appended (pieces (outputText (now (words .entry)) from) k) (now (text .entry)) at (now (text .exit)) r ⌝ }
 {

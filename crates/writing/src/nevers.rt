@@ -9,6 +9,7 @@ use layout::read::word_at;
 ghost use Prim.Native.Nat.{_≤_};
 ghost use lib.ListN.{getD};
 ghost use Rattle.netlist.specs.Limits.{maxInputs};
+ghost use Rattle.layout.specs.Bounds.{writtenRoom, maxWord, lineRoom};
 ghost use Rattle.writing.specs.Pieces.{Appended, Short, pieces, fixedText, neverText, neverLineText};
 
 // The pair of input i, where the mask `fixed` has it.
@@ -55,7 +56,7 @@ fn put_pairs(
 
 // `(never`, pairs, and `)` with its LF: the line whose masks are at `from`.
 fn put_never(text: &mut [u8], at: usize, words: &[u16], from: usize) -> usize
-    requires { ⌜ (getD (now words) 0 0 ≤ maxInputs) × (from ≤ 1000000) ⌝ }
+    requires { ⌜ (getD (now words) 0 0 ≤ maxInputs) × (from ≤ writtenRoom) ⌝ }
     requires { ⌜ Short (neverText (now words) from) at ⌝ }
     ensures { λ r. ⌜ Appended (neverText (now (words .entry)) from) (now (text .entry)) at (now (text .exit)) r ⌝ }
 {
@@ -68,7 +69,7 @@ fn put_never(text: &mut [u8], at: usize, words: &[u16], from: usize) -> usize
 
 // All lines: `count` of them, from `from` on.
 pub fn put_nevers(text: &mut [u8], at: usize, words: &[u16], from: usize, count: usize) -> usize
-    requires { ⌜ (getD (now words) 0 0 ≤ maxInputs) × (from ≤ 600000) × (count ≤ 65535) ⌝ }
+    requires { ⌜ (getD (now words) 0 0 ≤ maxInputs) × (from ≤ lineRoom) × (count ≤ maxWord) ⌝ }
     requires { ⌜ Short (pieces (neverLineText (now words) from) count) at ⌝ }
     ensures { λ r. ⌜ Appended (pieces (neverLineText (now (words .entry)) from) count) (now (text .entry)) at (now (text .exit)) r ⌝ }
 {

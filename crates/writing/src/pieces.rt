@@ -16,6 +16,7 @@ ghost use Rattle.laws.specs.Lists.{trimmed};
 ghost use Rattle.netlist.specs.Kinds.{keyword};
 ghost use Rattle.netlist.specs.StoredBlock.{bytesAt, nameAt};
 ghost use Rattle.netlist.specs.Writing.{decimal, gateName};
+ghost use Rattle.layout.specs.Bounds.{writtenRoom};
 ghost use Rattle.writing.specs.Pieces.{Appended, Short, pairPiece, digitAt, operandText};
 
 // One byte.
@@ -72,7 +73,7 @@ fn put_trimmed(text: &mut [u8], at: usize, bytes: &[u8]) -> usize
 
 // The eight bytes of the name at `from`: a word has two, the lower one first (SPECIFICATION 2.2).
 pub fn name_bytes(words: &[u16], from: usize) -> [u8; MAX_NAME]
-    requires { ⌜ from ≤ 1000000 ⌝ }
+    requires { ⌜ from ≤ writtenRoom ⌝ }
     ensures { λ r. ⌜ r ≡ bytesAt (now (words .entry)) from ⌝ }
 {
     let a = word_at(words, from);
@@ -93,7 +94,7 @@ pub fn name_bytes(words: &[u16], from: usize) -> [u8; MAX_NAME]
 
 // The name whose words start at `from`.
 pub fn put_name(text: &mut [u8], at: usize, words: &[u16], from: usize) -> usize
-    requires { ⌜ from ≤ 1000000 ⌝ }
+    requires { ⌜ from ≤ writtenRoom ⌝ }
     requires { ⌜ Short (nameAt (now words) from) at ⌝ }
     ensures { λ r. ⌜ Appended (nameAt (now (words .entry)) from) (now (text .entry)) at (now (text .exit)) r ⌝ }
 {
@@ -103,7 +104,7 @@ pub fn put_name(text: &mut [u8], at: usize, words: &[u16], from: usize) -> usize
 
 // ` (NAME VALUE)`: the name whose words start at `from`, and the byte of its value.
 pub fn put_pair(text: &mut [u8], at: usize, words: &[u16], from: usize, byte: u8) -> usize
-    requires { ⌜ from ≤ 1000000 ⌝ }
+    requires { ⌜ from ≤ writtenRoom ⌝ }
     requires { ⌜ Short (pairPiece (now words) from byte) at ⌝ }
     ensures { λ r. ⌜ Appended (pairPiece (now (words .entry)) from byte) (now (text .entry)) at (now (text .exit)) r ⌝ }
 {

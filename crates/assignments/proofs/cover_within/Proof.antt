@@ -7,12 +7,6 @@ use borrow.Author.Needs.{needs}
 use Rattle.assignments.proofs.cover_within.Statement.{statement}
 use Rattle.assignments.proofs.cover_within.Tie as tie
 
-fill-weights-requires : tie.Need-fill-weights-requires
-fill-weights-requires c κs = search needs
-
-fill-sound-requires : tie.Need-fill-sound-requires
-fill-sound-requires c κs = search needs
-
 keep-minimal-requires : tie.Need-keep-minimal-requires
 keep-minimal-requires c κs =
     let sounded = c .before .before .before in
@@ -31,15 +25,6 @@ write-entries-requires c κs =
       minimal-counted (minimal .keep-minimal .ensures),
     )
 
-same-length : tie.Need-same-length
-same-length c = search needs
-
-same-length-2 : tie.Need-same-length-2
-same-length-2 c = search needs
-
-same-length-3 : tie.Need-same-length-3
-same-length-3 c = search needs
-
 returns : tie.Need-returns
 returns c =
     let written = c .before .before in
@@ -51,11 +36,5 @@ pub cover-within-spec : {M : Type 1} → statement M
 cover-within-spec =
     tie.close
     (tie.spec
-    fill-weights-requires
-    fill-sound-requires
-    keep-minimal-requires
-    write-entries-requires
-    same-length
-    same-length-2
-    same-length-3
-    returns)
+    (λ c κs. search needs) (λ c κs. search needs) keep-minimal-requires write-entries-requires (λ c. search needs)
+    (λ c. search needs) (λ c. search needs) returns)

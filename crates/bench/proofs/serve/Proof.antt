@@ -45,20 +45,6 @@ pub serve-spec : {M : Type 1} → statement M
 serve-spec =
     tie.close
     (tie.spec
-    Inv-loop
-    μ-loop
-    (λ c κs. search needs)
-    loop-holds
-    serve-some-requires
-    (λ c. omega arith)
-    (λ c. omega arith)
-    loop-again
-    finish-requires
-    slice-reshare-prefix-write-all
-    slice-aggregate-write-all
-    (λ c κs. search needs)
-    (λ c. omega arith)
-    (λ c. omega arith)
-    (λ c. omega arith)
-    (λ c. omega arith)
-    (λ c. search needs))
+    Inv-loop μ-loop (λ c κs. search needs) loop-holds serve-some-requires (λ c. omega arith) (λ c. omega arith)
+    loop-again finish-requires slice-reshare-prefix-write-all slice-aggregate-write-all (λ c κs. search needs)
+    (λ c. omega arith) (λ c. omega arith) (λ c. omega arith) (λ c. omega arith) (λ c. search needs))

@@ -8,15 +8,6 @@ use Rattle.block.proofs.StraightLaws.{straight-is}
 use Rattle.block.proofs.check_straight.Statement.{statement}
 use Rattle.block.proofs.check_straight.Tie as tie
 
-inputs-of-requires : tie.Need-inputs-of-requires
-inputs-of-requires c κs = search needs
-
-gates-of-requires : tie.Need-gates-of-requires
-gates-of-requires c κs = search needs
-
-gates-at-requires : tie.Need-gates-at-requires
-gates-at-requires c κs = search needs
-
 read-lower-requires : tie.Need-read-lower-requires
 unfolding outputsAt gatesAt neversAt
 read-lower-requires c κs =
@@ -24,9 +15,6 @@ read-lower-requires c κs =
     let w = whole-parts (s .args .words .now) (s .pre) in
     rw (c .before .before .inputs-of .ensures, c .before .gates-of .ensures, c .gates-at .ensures)
     ((w .fewInputs, omega (arith, w .fewInputs, w .fewNevers), w .fewGates), omega (arith, w .sized))
-
-refuse-if-requires : tie.Need-refuse-if-requires
-refuse-if-requires c κs = search needs
 
 returns : tie.Need-returns
 returns c =
@@ -42,4 +30,4 @@ returns c =
 
 pub check-straight-spec : {M : Type 1} → statement M
 check-straight-spec =
-    tie.close (tie.spec inputs-of-requires gates-of-requires gates-at-requires read-lower-requires refuse-if-requires returns)
+    tie.close (tie.spec (λ c κs. search needs) (λ c κs. search needs) (λ c κs. search needs) read-lower-requires (λ c κs. search needs) returns)

@@ -4,14 +4,8 @@ use Rattle.encoding.proofs.Intact.{intact-torn}
 use Rattle.block.proofs.check_words.Statement.{statement}
 use Rattle.block.proofs.check_words.Tie as tie
 
-is-intact-requires : tie.Need-is-intact-requires
-is-intact-requires c κs = search needs
-
-refuse-if-requires : tie.Need-refuse-if-requires
-refuse-if-requires c κs = search needs
-
 returns : tie.Need-returns
 returns c = rw (intact-torn (c .before .before .before .args .words .now), ← c .before .is-intact .ensures) (c .refuse-if .ensures)
 
 pub check-words-spec : {M : Type 1} → statement M
-check-words-spec = tie.close (tie.spec is-intact-requires refuse-if-requires returns)
+check-words-spec = tie.close (tie.spec (λ c κs. search needs) (λ c κs. search needs) returns)

@@ -7,14 +7,8 @@ use Rattle.netlist.specs.StoredBlock.{neversAt}
 use Rattle.block.proofs.front_fits.Statement.{statement}
 use Rattle.block.proofs.front_fits.Tie as tie
 
-fit-requires : tie.Need-fit-requires
-fit-requires c κs = search needs
-
 returns : tie.Need-returns
 returns c = rw (sym (c .before .fit .ensures) ∙ not-true _ (c .if1 .taken))
-
-nevers-at-requires : tie.Need-nevers-at-requires
-nevers-at-requires c κs = search needs
 
 fit-requires-2 : tie.Need-fit-requires-2
 unfolding neversAt
@@ -26,4 +20,4 @@ returns-2 c =
 
 pub front-fits-spec : {M : Type 1} → statement M
 front-fits-spec =
-    tie.close (tie.spec fit-requires returns nevers-at-requires fit-requires-2 returns-2)
+    tie.close (tie.spec (λ c κs. search needs) returns (λ c κs. search needs) fit-requires-2 returns-2)

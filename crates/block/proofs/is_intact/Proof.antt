@@ -8,24 +8,9 @@ use Rattle.block.proofs.HeaderLaws.{Limits, header-limits, header-lengt
 use Rattle.block.proofs.is_intact.Statement.{statement}
 use Rattle.block.proofs.is_intact.Tie as tie
 
-fits-requires : tie.Need-fits-requires
-fits-requires c κs = search needs
-
 returns : tie.Need-returns
 unfolding intact
 returns c = rw (sym (c .before .fits2 .ensures) ∙ not-true _ (c .if1 .taken))
-
-inputs-of-requires : tie.Need-inputs-of-requires
-inputs-of-requires c κs = search needs
-
-gates-of-requires : tie.Need-gates-of-requires
-gates-of-requires c κs = search needs
-
-outputs-of-requires : tie.Need-outputs-of-requires
-outputs-of-requires c κs = search needs
-
-nevers-of-requires : tie.Need-nevers-of-requires
-nevers-of-requires c κs = search needs
 
 parts-fit-requires : tie.Need-parts-fit-requires
 parts-fit-requires c κs =
@@ -51,11 +36,5 @@ pub is-intact-spec : {M : Type 1} → statement M
 is-intact-spec =
     tie.close
     (tie.spec
-    fits-requires
-    returns
-    inputs-of-requires
-    gates-of-requires
-    outputs-of-requires
-    nevers-of-requires
-    parts-fit-requires
-    returns-2)
+    (λ c κs. search needs) returns (λ c κs. search needs) (λ c κs. search needs) (λ c κs. search needs)
+    (λ c κs. search needs) parts-fit-requires returns-2)

@@ -7,20 +7,8 @@ use Rattle.netlist.specs.StoredBlock.{neversAt, gatesAt, outputsAt}
 use Rattle.block.proofs.parts_fit.Statement.{statement}
 use Rattle.block.proofs.parts_fit.Tie as tie
 
-outputs-behind-requires : tie.Need-outputs-behind-requires
-outputs-behind-requires c κs = search needs
-
-front-fits-requires : tie.Need-front-fits-requires
-front-fits-requires c κs = search needs
-
 returns : tie.Need-returns
 returns c = rw (sym (c .before .front-fits .ensures) ∙ not-true _ (c .if1 .taken))
-
-add-fit : tie.Need-add-fit
-add-fit c = search needs
-
-gates-behind-requires : tie.Need-gates-behind-requires
-gates-behind-requires c κs = search needs
 
 fit-requires : tie.Need-fit-requires
 unfolding neversAt gatesAt outputsAt
@@ -53,9 +41,6 @@ returns-3 c =
       sym (c .before .fit2 .ensures) ∙ not-true _ (c .if3 .taken),
     )
 
-add-fit-2 : tie.Need-add-fit-2
-add-fit-2 c = search needs
-
 fit-requires-3 : tie.Need-fit-requires-3
 unfolding neversAt gatesAt outputsAt
 fit-requires-3 c κs =
@@ -82,15 +67,5 @@ pub parts-fit-spec : {M : Type 1} → statement M
 parts-fit-spec =
     tie.close
     (tie.spec
-    outputs-behind-requires
-    front-fits-requires
-    returns
-    add-fit
-    gates-behind-requires
-    fit-requires
-    returns-2
-    fit-requires-2
-    returns-3
-    add-fit-2
-    fit-requires-3
-    returns-4)
+    (λ c κs. search needs) (λ c κs. search needs) returns (λ c. search needs) (λ c κs. search needs) fit-requires
+    returns-2 fit-requires-2 returns-3 (λ c. search needs) fit-requires-3 returns-4)

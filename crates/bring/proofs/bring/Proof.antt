@@ -37,38 +37,11 @@ room-told c =
     c .test-room .ensures
     ∙ ap (λ (n : ℕ). testOf (ltb (length (a .block .now)) n) NoRoom) (sym (length-brought (a .old .now) (whole-long (a .old .now) (whole (passed-words c)))))
 
-check-before-requires : tie.Need-check-before-requires
-check-before-requires c κs = search needs
-
-enum-told : tie.Need-enum-told
-enum-told c = search needs
-
-enum-told-2 : tie.Need-enum-told-2
-enum-told-2 c = search needs
-
-refusal-requires : tie.Need-refusal-requires
-refusal-requires c κs = search needs
-
 returns : tie.Need-returns
 returns c =
     let t = c .before .before .before in
     failed (inRoom _) (keeps-room _) _ _ MalformedBlock (bring-start _ _) (t .check-before .ensures) (start t .args .block .now)
     (c .before .before .match .keys2) (c .refusal .ensures)
-
-add-count : tie.Need-add-count
-add-count c = search needs
-
-test-room-requires : tie.Need-test-room-requires
-test-room-requires c κs = search needs
-
-enum-told-3 : tie.Need-enum-told-3
-enum-told-3 c = search needs
-
-enum-told-4 : tie.Need-enum-told-4
-enum-told-4 c = search needs
-
-refusal-requires-2 : tie.Need-refusal-requires-2
-refusal-requires-2 c κs = search needs
 
 returns-2 : tie.Need-returns-2
 returns-2 c =
@@ -89,9 +62,6 @@ put-brought-requires c κs =
     let room = ltb-false (length (a .block .now)) (length (brought old)) (passed-false _ NoRoom (room-told t) (e .enum-told3 .given .1)) in
     (long, omega (arith, room, length-brought old long))
 
-same-length : tie.Need-same-length
-same-length c = search needs
-
 returns-3 : tie.Need-returns-3
 returns-3 c =
     let put = c .before .before in
@@ -107,17 +77,6 @@ pub bring-spec : {M : Type 1} → statement M
 bring-spec =
     tie.close
     (tie.spec
-    check-before-requires
-    enum-told
-    enum-told-2
-    refusal-requires
-    returns
-    add-count
-    test-room-requires
-    enum-told-3
-    enum-told-4
-    refusal-requires-2
-    returns-2
-    put-brought-requires
-    same-length
-    returns-3)
+    (λ c κs. search needs) (λ c. search needs) (λ c. search needs) (λ c κs. search needs) returns (λ c. search needs)
+    (λ c κs. search needs) (λ c. search needs) (λ c. search needs) (λ c κs. search needs) returns-2
+    put-brought-requires (λ c. search needs) returns-3)

@@ -15,26 +15,11 @@ use Rattle.bring.proofs.Words.{length-brought, torn-brought}
 use Rattle.bring.proofs.check_brought.Statement.{statement}
 use Rattle.bring.proofs.check_brought.Tie as tie
 
-put-brought-requires : tie.Need-put-brought-requires
-put-brought-requires c κs = search needs
-
-add-check-words : tie.Need-add-check-words
-add-check-words c = search needs
-
-slice-reshare-prefix-check-words : tie.Need-slice-reshare-prefix-check-words
-slice-reshare-prefix-check-words c = search needs
-
 slice-aggregate-check-words : tie.Need-slice-aggregate-check-words
 slice-aggregate-check-words c =
     let put = c .before .before .before in
     let s = put .before .before .before .before in
     sym (length-take-le _ _ (omega (arith, put .put-brought .kept .1 .0, s .pre .0 .1)))
-
-check-words-requires : tie.Need-check-words-requires
-check-words-requires c κs = search needs
-
-same-length : tie.Need-same-length
-same-length c = search needs
 
 returns : tie.Need-returns
 returns c =
@@ -50,10 +35,5 @@ pub check-brought-spec : {M : Type 1} → statement M
 check-brought-spec =
     tie.close
     (tie.spec
-    put-brought-requires
-    add-check-words
-    slice-reshare-prefix-check-words
-    slice-aggregate-check-words
-    check-words-requires
-    same-length
-    returns)
+    (λ c κs. search needs) (λ c. search needs) (λ c. search needs) slice-aggregate-check-words (λ c κs. search needs)
+    (λ c. search needs) returns)

@@ -19,9 +19,6 @@ Inv-loop old block₀ count p₀ block p =
 abbrev μ-loop : tie.MeasureT-loop
 μ-loop old block₀ count p₀ block p = count - p
 
-put-counts-requires : tie.Need-put-counts-requires Inv-loop μ-loop
-put-counts-requires c κs = search needs
-
 loop-holds : tie.Need-loop-holds Inv-loop μ-loop
 loop-holds c =
     let put = c .before .before in
@@ -62,19 +59,6 @@ pub put-brought-spec : {M : Type 1} → statement M
 put-brought-spec =
     tie.close
     (tie.spec
-    Inv-loop
-    μ-loop
-    put-counts-requires
-    (λ c. search needs)
-    (λ c. search needs)
-    loop-holds
-    (λ c. omega arith)
-    (λ c. search needs)
-    (λ c. omega arith)
-    (λ c. search needs)
-    (λ c. omega arith)
-    (λ c. omega arith)
-    (λ c. omega arith)
-    loop-again
-    same-length
-    returns)
+    Inv-loop μ-loop (λ c κs. search needs) (λ c. search needs) (λ c. search needs) loop-holds (λ c. omega arith)
+    (λ c. search needs) (λ c. omega arith) (λ c. search needs) (λ c. omega arith) (λ c. omega arith) (λ c. omega arith)
+    loop-again same-length returns)

@@ -71,35 +71,11 @@ behind-straight : (c : tie.After-enum-told5) → let a = entry5 c .args in
 behind-straight c =
     passed bare keeps-bare _ _ NotStraight (behind-theirs (straight-test c .before)) (straight-test c .check-straight .ensures) (c .enum-told5 .given .1)
 
-check-words-requires : tie.Need-check-words-requires
-check-words-requires c κs = search needs
-
-enum-told : tie.Need-enum-told
-enum-told c = search needs
-
-enum-told-2 : tie.Need-enum-told-2
-enum-told-2 c = search needs
-
-refusal-requires : tie.Need-refusal-requires
-refusal-requires c κs = search needs
-
 returns : tie.Need-returns
 returns c =
     let t = c .before .before .before in
     failed bare keeps-bare _ _ MalformedBlock (compare-chain _ _) (t .check-words .ensures) []
     (c .before .before .match .keys2) (c .refusal .ensures) .told
-
-check-words-requires-2 : tie.Need-check-words-requires-2
-check-words-requires-2 c κs = search needs
-
-enum-told-3 : tie.Need-enum-told-3
-enum-told-3 c = search needs
-
-enum-told-4 : tie.Need-enum-told-4
-enum-told-4 c = search needs
-
-refusal-requires-2 : tie.Need-refusal-requires-2
-refusal-requires-2 c κs = search needs
 
 returns-2 : tie.Need-returns-2
 returns-2 c =
@@ -110,15 +86,6 @@ returns-2 c =
 check-straight-requires : tie.Need-check-straight-requires
 check-straight-requires c κs = theirs-whole c
 
-enum-told-5 : tie.Need-enum-told-5
-enum-told-5 c = search needs
-
-enum-told-6 : tie.Need-enum-told-6
-enum-told-6 c = search needs
-
-refusal-requires-3 : tie.Need-refusal-requires-3
-refusal-requires-3 c κs = search needs
-
 returns-3 : tie.Need-returns-3
 returns-3 c =
     let t = c .before .before .before in
@@ -127,15 +94,6 @@ returns-3 c =
 
 check-interface-requires : tie.Need-check-interface-requires
 check-interface-requires c κs = let t = straight-test c .before in (ours-whole (theirs-test t .before), theirs-whole t)
-
-enum-told-7 : tie.Need-enum-told-7
-enum-told-7 c = search needs
-
-enum-told-8 : tie.Need-enum-told-8
-enum-told-8 c = search needs
-
-refusal-requires-4 : tie.Need-refusal-requires-4
-refusal-requires-4 c κs = search needs
 
 returns-4 : tie.Need-returns-4
 returns-4 c =
@@ -164,25 +122,8 @@ pub compare-spec : {M : Type 1} → statement M
 compare-spec =
     tie.close
     (tie.spec
-    check-words-requires
-    enum-told
-    enum-told-2
-    refusal-requires
-    returns
-    check-words-requires-2
-    enum-told-3
-    enum-told-4
-    refusal-requires-2
-    returns-2
-    check-straight-requires
-    enum-told-5
-    enum-told-6
-    refusal-requires-3
-    returns-3
-    check-interface-requires
-    enum-told-7
-    enum-told-8
-    refusal-requires-4
-    returns-4
-    compare-pair-requires
-    returns-5)
+    (λ c κs. search needs) (λ c. search needs) (λ c. search needs) (λ c κs. search needs) returns
+    (λ c κs. search needs) (λ c. search needs) (λ c. search needs) (λ c κs. search needs) returns-2
+    check-straight-requires (λ c. search needs) (λ c. search needs) (λ c κs. search needs) returns-3
+    check-interface-requires (λ c. search needs) (λ c. search needs) (λ c κs. search needs) returns-4
+    compare-pair-requires returns-5)

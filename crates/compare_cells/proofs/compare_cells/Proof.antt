@@ -134,26 +134,8 @@ pub compare-cells-spec : {M : Type 1} → statement M
 compare-cells-spec =
     tie.close
     (tie.spec
-    (λ c κs. search needs)
-    (λ c. search needs)
-    (λ c. search needs)
-    (λ c κs. search needs)
-    returns
-    (λ c κs. search needs)
-    (λ c κs. search needs)
-    (λ c. search needs)
-    (λ c. search needs)
-    (λ c κs. search needs)
-    returns-2
-    (λ c κs. whole (whole-told (cells-test c)))
-    (λ c. search needs)
-    (λ c. search needs)
-    (λ c κs. search needs)
-    returns-3
-    check-listed-requires
-    (λ c. search needs)
-    (λ c. search needs)
-    (λ c κs. search needs)
-    returns-4
-    compare-passed-requires
-    returns-5)
+    (λ c κs. search needs) (λ c. search needs) (λ c. search needs) (λ c κs. search needs) returns
+    (λ c κs. search needs) (λ c κs. search needs) (λ c. search needs) (λ c. search needs) (λ c κs. search needs)
+    returns-2 (λ c κs. whole (whole-told (cells-test c))) (λ c. search needs) (λ c. search needs)
+    (λ c κs. search needs) returns-3 check-listed-requires (λ c. search needs) (λ c. search needs)
+    (λ c κs. search needs) returns-4 compare-passed-requires returns-5)

@@ -26,21 +26,6 @@ sub-rest c = c .before .loop .inv .within
 part-rest-start : tie.Need-part-rest-start Inv-loop μ-loop
 part-rest-start c = c .before .loop .inv .within
 
-part-rest-end : tie.Need-part-rest-end Inv-loop μ-loop
-part-rest-end c = search needs
-
-line-requires : tie.Need-line-requires Inv-loop μ-loop
-line-requires c κs = search needs
-
-enum-known-found : tie.Need-enum-known-found Inv-loop μ-loop
-enum-known-found c = search needs
-
-byte-at-requires : tie.Need-byte-at-requires Inv-loop μ-loop
-byte-at-requires c κs = search needs
-
-phase-of-requires : tie.Need-phase-of-requires Inv-loop μ-loop
-phase-of-requires c κs = search needs
-
 -- a line that was read leaves less
 less : (c : tie.After-phase-of Inv-loop μ-loop) →
     let at-found = c .before .before .before in
@@ -71,9 +56,6 @@ loop-again c =
     (reached-next (i .before .before .before .args .text .now) (i .before .loop .phase) (i .before .loop .at) (i .before .loop .inv) (i .loop-test .taken)
     (at-line .line .ensures) (at-found .found .given .1))
 
-enum-known-found-2 : tie.Need-enum-known-found-2 Inv-loop μ-loop
-enum-known-found-2 c = search needs
-
 sub-t15 : tie.Need-sub-t15 Inv-loop μ-loop
 sub-t15 c =
     let at-line = c .before .before .before in
@@ -98,20 +80,6 @@ pub form-spec : {M : Type 1} → statement M
 form-spec =
     tie.close
     (tie.spec
-    Inv-loop
-    μ-loop
-    loop-holds
-    sub-rest
-    part-rest-start
-    part-rest-end
-    line-requires
-    enum-known-found
-    byte-at-requires
-    phase-of-requires
-    sub-at
-    loop-less
-    loop-again
-    enum-known-found-2
-    sub-t15
-    returns
+    Inv-loop μ-loop loop-holds sub-rest part-rest-start (λ c. search needs) (λ c κs. search needs) (λ c. search needs)
+    (λ c κs. search needs) (λ c κs. search needs) sub-at loop-less loop-again (λ c. search needs) sub-t15 returns
     returns-2)

@@ -35,18 +35,6 @@ entry c = start (words-test (passed-words c))
 whole : (c : tie.After-check-rooms) → isMalformed (now (entry c .args .words)) ≡ false
 whole c = let e = passed-words c in passed-false _ MalformedBlock (words-test e .check-words .ensures) (e .enum-told .given .1)
 
-check-words-requires : tie.Need-check-words-requires
-check-words-requires c κs = search needs
-
-enum-told : tie.Need-enum-told
-enum-told c = search needs
-
-enum-told-2 : tie.Need-enum-told-2
-enum-told-2 c = search needs
-
-refusal-requires : tie.Need-refusal-requires
-refusal-requires c κs = search needs
-
 returns : tie.Need-returns
 unfolding gather gatherList
 returns c =
@@ -60,21 +48,6 @@ returns c =
           failed bare keeps-bare _ _ MalformedBlock (gather-chain _ _ _ gatheredOrder) (t .check-words .ensures) (a .order .now)
           (c .before .before .match .keys2) (c .refusal .ensures) .leaves;
     }
-
-gates-of-requires : tie.Need-gates-of-requires
-gates-of-requires c κs = search needs
-
-check-rooms-requires : tie.Need-check-rooms-requires
-check-rooms-requires c κs = search needs
-
-enum-told-3 : tie.Need-enum-told-3
-enum-told-3 c = search needs
-
-enum-told-4 : tie.Need-enum-told-4
-enum-told-4 c = search needs
-
-refusal-requires-2 : tie.Need-refusal-requires-2
-refusal-requires-2 c κs = search needs
 
 returns-2 : tie.Need-returns-2
 unfolding gather gatherList
@@ -97,12 +70,6 @@ gather-block-requires c κs =
     let fits = or-neither _ _ (passed-false _ NoRoom (t .check-rooms .ensures) (e .enum-told3 .given .1)) in
     let list : t .before .gates-of .result ≤ length (entry t .args .order .now) = ltb-false _ _ (fits .1) in
     record { whole = whole t; room = ltb-false _ _ (fits .0); listRoom = omega (arith, t .before .gates-of .ensures) }
-
-same-length : tie.Need-same-length
-same-length c = search needs
-
-same-length-2 : tie.Need-same-length-2
-same-length-2 c = search needs
 
 returns-3 : tie.Need-returns-3
 unfolding gather gatherList
@@ -127,18 +94,6 @@ pub gather-spec : {M : Type 1} → statement M
 gather-spec =
     tie.close
     (tie.spec
-    check-words-requires
-    enum-told
-    enum-told-2
-    refusal-requires
-    returns
-    gates-of-requires
-    check-rooms-requires
-    enum-told-3
-    enum-told-4
-    refusal-requires-2
-    returns-2
-    gather-block-requires
-    same-length
-    same-length-2
-    returns-3)
+    (λ c κs. search needs) (λ c. search needs) (λ c. search needs) (λ c κs. search needs) returns
+    (λ c κs. search needs) (λ c κs. search needs) (λ c. search needs) (λ c. search needs) (λ c κs. search needs)
+    returns-2 gather-block-requires (λ c. search needs) (λ c. search needs) returns-3)

@@ -8,18 +8,6 @@ use borrow.Author.Needs.{needs}
 use Rattle.gather.proofs.scatter.Statement.{statement}
 use Rattle.gather.proofs.scatter.Tie as tie
 
-check-words-requires : tie.Need-check-words-requires
-check-words-requires c κs = search needs
-
-enum-told : tie.Need-enum-told
-enum-told c = search needs
-
-enum-told-2 : tie.Need-enum-told-2
-enum-told-2 c = search needs
-
-refusal-requires : tie.Need-refusal-requires
-refusal-requires c κs = search needs
-
 returns : tie.Need-returns
 returns c =
     let t = c .before .before .before in
@@ -30,21 +18,9 @@ returns c =
 scatter-block-requires : tie.Need-scatter-block-requires
 scatter-block-requires c κs = let e = c .before in passed-false _ MalformedBlock (e .before .before .check-words .ensures) (e .enum-told .given .1)
 
-same-length : tie.Need-same-length
-same-length c = search needs
-
-returns-2 : tie.Need-returns-2
-returns-2 c = search needs
-
 pub scatter-spec : {M : Type 1} → statement M
 scatter-spec =
     tie.close
     (tie.spec
-    check-words-requires
-    enum-told
-    enum-told-2
-    refusal-requires
-    returns
-    scatter-block-requires
-    same-length
-    returns-2)
+    (λ c κs. search needs) (λ c. search needs) (λ c. search needs) (λ c κs. search needs) returns
+    scatter-block-requires (λ c. search needs) (λ c. search needs))

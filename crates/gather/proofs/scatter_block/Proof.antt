@@ -5,30 +5,14 @@ use borrow.Author.Needs.{needs}
 use Rattle.gather.proofs.scatter_block.Statement.{statement}
 use Rattle.gather.proofs.scatter_block.Tie as tie
 
-slice-aggregate-scatter-with : tie.Need-slice-aggregate-scatter-with
-slice-aggregate-scatter-with c = search needs
-
-slice-aggregate-scatter-with-2 : tie.Need-slice-aggregate-scatter-with-2
-slice-aggregate-scatter-with-2 c = search needs
-
 scatter-with-requires : tie.Need-scatter-with-requires
 scatter-with-requires c κs =
     let s = c .before .before .before .before .before .before in
     let p = whole-parts (now (s .args .words)) (s .pre) in
     record { whole = s .pre; placeRoom = p .fewGates; tableRoom = p .fewGates }
 
-same-length : tie.Need-same-length
-same-length c = search needs
-
-returns : tie.Need-returns
-returns c = search needs
-
 pub scatter-block-spec : {M : Type 1} → statement M
 scatter-block-spec =
     tie.close
     (tie.spec
-    slice-aggregate-scatter-with
-    slice-aggregate-scatter-with-2
-    scatter-with-requires
-    same-length
-    returns)
+    (λ c. search needs) (λ c. search needs) scatter-with-requires (λ c. search needs) (λ c. search needs))

@@ -16,9 +16,6 @@ Inv-loop words graph₀ nodes j₀ graph j = (j ≤ nodes .gates) × Putting wor
 abbrev μ-loop : tie.MeasureT-loop
 μ-loop words graph₀ nodes j₀ graph j = nodes .gates - j
 
-nodes-of-requires : tie.Need-nodes-of-requires Inv-loop μ-loop
-nodes-of-requires c κs = search needs
-
 loop-holds : tie.Need-loop-holds Inv-loop μ-loop
 loop-holds c = (omega arith, putting-none _ _ _ (c .before .before .pre .1))
 
@@ -27,12 +24,6 @@ put-node-requires c κs =
     let turn = c .before .before .before in
     let s = turn .before .before .before in
     (rw (turn .before .nodes-of .ensures) (words-of (s .args .words .now) (s .pre .0)), omega arith)
-
-add-j : tie.Need-add-j Inv-loop μ-loop
-add-j c = search needs
-
-loop-less : tie.Need-loop-less Inv-loop μ-loop
-loop-less c = omega arith
 
 loop-again : tie.Need-loop-again Inv-loop μ-loop
 loop-again c =
@@ -54,4 +45,4 @@ returns c =
 
 pub decode-gates-spec : {M : Type 1} → statement M
 decode-gates-spec =
-    tie.close (tie.spec Inv-loop μ-loop nodes-of-requires loop-holds put-node-requires add-j loop-less loop-again returns)
+    tie.close (tie.spec Inv-loop μ-loop (λ c κs. search needs) loop-holds put-node-requires (λ c. search needs) (λ c. omega arith) loop-again returns)

@@ -77,37 +77,9 @@ pub put-node-spec : {M : Type 1} → statement M
 put-node-spec =
     tie.close
     (tie.spec
-    (λ c. search needs)
-    (λ c. search needs)
-    (λ c κs. search needs)
-    rule-of-requires
-    (λ c. search needs)
-    (λ c. search needs)
-    (λ c. search needs)
-    head-sum
-    (λ c. search needs)
-    whole-sum
-    word-fits
-    (λ c. search needs)
-    (λ c. search needs)
-    (λ c κs. search needs)
-    first-fits
-    (λ c. search needs)
-    (λ c. search needs)
-    (λ c. search needs)
-    (λ c κs. search needs)
-    second-fits
-    (λ c. search needs)
-    (λ c. search needs)
-    (λ c. search needs)
-    (λ c κs. search needs)
-    third-fits
-    (λ c. search needs)
-    (λ c. search needs)
-    (λ c. search needs)
-    (λ c κs. search needs)
-    fourth-fits
-    (λ c. search needs)
-    (λ c. search needs)
-    (λ c. search needs)
-    returns)
+    (λ c. search needs) (λ c. search needs) (λ c κs. search needs) rule-of-requires (λ c. search needs)
+    (λ c. search needs) (λ c. search needs) head-sum (λ c. search needs) whole-sum word-fits (λ c. search needs)
+    (λ c. search needs) (λ c κs. search needs) first-fits (λ c. search needs) (λ c. search needs) (λ c. search needs)
+    (λ c κs. search needs) second-fits (λ c. search needs) (λ c. search needs) (λ c. search needs)
+    (λ c κs. search needs) third-fits (λ c. search needs) (λ c. search needs) (λ c. search needs)
+    (λ c κs. search needs) fourth-fits (λ c. search needs) (λ c. search needs) (λ c. search needs) returns)

@@ -40,12 +40,5 @@ pub slot-place-spec : {M : Type 1} → statement M
 slot-place-spec =
     tie.close
     (tie.spec
-    (λ c κs. search needs)
-    (λ c. search needs)
-    (λ c. search needs)
-    (λ c. search needs)
-    (λ c. search needs)
-    cast-word
-    place-of-requires
-    operand
-    absent)
+    (λ c κs. search needs) (λ c. search needs) (λ c. search needs) (λ c. search needs) (λ c. search needs) cast-word
+    place-of-requires operand absent)

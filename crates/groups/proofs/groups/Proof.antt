@@ -36,9 +36,6 @@ behind-words c =
     passed (inRoom _) (keeps-room _) _ _ MalformedBlock (groups-chain _ _) (words-test c .check-words .ensures) (c .enum-told .given .1)
     ∙ groups-room (now (a .words)) _
 
-enum-told : tie.Need-enum-told
-enum-told c = search needs
-
 returns : tie.Need-returns
 returns c =
     let t = c .before .before .before in
@@ -75,17 +72,6 @@ pub groups-spec : {M : Type 1} → statement M
 groups-spec =
     tie.close
     (tie.spec
-    (λ c κs. search needs)
-    enum-told
-    (λ c. search needs)
-    (λ c κs. search needs)
-    returns
-    (λ c κs. search needs)
-    (λ c κs. search needs)
-    (λ c. search needs)
-    (λ c. search needs)
-    (λ c κs. search needs)
-    returns-2
-    assign-requires
-    (λ c. search needs)
-    returns-3)
+    (λ c κs. search needs) (λ c. search needs) (λ c. search needs) (λ c κs. search needs) returns
+    (λ c κs. search needs) (λ c κs. search needs) (λ c. search needs) (λ c. search needs) (λ c κs. search needs)
+    returns-2 assign-requires (λ c. search needs) returns-3)

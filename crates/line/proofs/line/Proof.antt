@@ -8,12 +8,6 @@ use mathlib.Core.Path.{refl}
 use Rattle.netlist.specs.Line.{lineLength, lineAt}
 use Rattle.line.proofs.Ends.{ends-in-order, end-inside}
 
-line-start-requires : tie.Need-line-start-requires
-line-start-requires c κs = search needs
-
-line-end-requires : tie.Need-line-end-requires
-line-end-requires c κs = search needs
-
 sub-result : tie.Need-sub-result
 sub-result c = let a = c .before .before .before .args in
     omega (arith, ends-in-order (a .text .now) (a .place), c .before .line-start .ensures, c .line-end .ensures)
@@ -36,9 +30,4 @@ pub line-spec : {M : Type 1} → statement M
 line-spec =
     tie.close
     (tie.spec
-    line-start-requires
-    line-end-requires
-    sub-result
-    part-result-start
-    part-result-end
-    returns)
+    (λ c κs. search needs) (λ c κs. search needs) sub-result part-result-start part-result-end returns)

@@ -16,9 +16,6 @@ Inv-loop text place at₀ at = (at ≤ length text) × (lineEnd text place ≡ a
 abbrev μ-loop : tie.MeasureT-loop
 μ-loop text place at₀ at = length text - at
 
-clamp-requires : tie.Need-clamp-requires Inv-loop μ-loop
-clamp-requires c κs = tt
-
 skip-behind-requires : tie.Need-skip-behind-requires Inv-loop μ-loop
 skip-behind-requires c κs = let a = c .before .before .args in rw (c .clamp .ensures) (clamped-le (a .text .now) (a .place))
 
@@ -29,18 +26,9 @@ loop-holds c =
     let text = c .before .before .before .args .text .now in
     (skip .0, ap (λ (at : ℕ). at + untilLf (drop at text)) (sym (c .before .clamp .ensures)) ∙ skip .1)
 
-shared-slice-read-if1 : tie.Need-shared-slice-read-if1 Inv-loop μ-loop
-shared-slice-read-if1 c = omega arith
-
 returns : tie.Need-returns Inv-loop μ-loop
 returns c = let l = c .before .before .before in
     end-at (l .before .before .before .before .args .text .now) (l .loop .at) (c .before .before .loop-test .taken) (c .if1 .taken) ∙ sym (l .loop .inv .1)
-
-add-at : tie.Need-add-at Inv-loop μ-loop
-add-at c = omega arith
-
-loop-less : tie.Need-loop-less Inv-loop μ-loop
-loop-less c = omega arith
 
 loop-again : tie.Need-loop-again Inv-loop μ-loop
 loop-again c = let l = c .before .before .before in
@@ -55,14 +43,5 @@ pub line-end-spec : {M : Type 1} → statement M
 line-end-spec =
     tie.close
     (tie.spec
-    Inv-loop
-    μ-loop
-    clamp-requires
-    skip-behind-requires
-    loop-holds
-    shared-slice-read-if1
-    returns
-    add-at
-    loop-less
-    loop-again
-    returns-2)
+    Inv-loop μ-loop (λ c κs. tt) skip-behind-requires loop-holds (λ c. omega arith) returns (λ c. omega arith)
+    (λ c. omega arith) loop-again returns-2)

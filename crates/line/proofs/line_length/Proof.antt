@@ -7,9 +7,6 @@ use native.Mathlib.Omega.{arith}
 use Rattle.netlist.specs.Line.{lineLength}
 use Rattle.line.proofs.Ends.{ends-in-order}
 
-line-end-requires : tie.Need-line-end-requires
-line-end-requires c κs = search needs
-
 sub-result : tie.Need-sub-result
 sub-result c = let s = c .before .before in omega (arith, ends-in-order (s .args .text .now) (s .args .place), c .line-end .ensures, s .pre)
 
@@ -18,4 +15,4 @@ unfolding lineLength
 returns c = rw (c .line-end .ensures, c .before .before .pre)
 
 pub line-length-spec : {M : Type 1} → statement M
-line-length-spec = tie.close (tie.spec line-end-requires sub-result returns)
+line-length-spec = tie.close (tie.spec (λ c κs. search needs) sub-result returns)

@@ -15,9 +15,6 @@ Inv-loop text place at₀ at = (at ≤ length text) × (lineStart text place ≡
 abbrev μ-loop : tie.MeasureT-loop
 μ-loop text place at₀ at = at
 
-clamp-requires : tie.Need-clamp-requires Inv-loop μ-loop
-clamp-requires c κs = tt
-
 skip-before-requires : tie.Need-skip-before-requires Inv-loop μ-loop
 skip-before-requires c κs = let a = c .before .before .args in rw (c .clamp .ensures) (clamped-le (a .text .now) (a .place))
 
@@ -28,21 +25,9 @@ loop-holds c =
     let text = c .before .before .before .args .text .now in
     (skip .0, ap (startBefore text) (sym (c .before .clamp .ensures)) ∙ skip .1)
 
-sub-if1 : tie.Need-sub-if1 Inv-loop μ-loop
-sub-if1 c = omega arith
-
-shared-slice-read-if1 : tie.Need-shared-slice-read-if1 Inv-loop μ-loop
-shared-slice-read-if1 c = omega arith
-
 returns : tie.Need-returns Inv-loop μ-loop
 returns c = let l = c .before .before .before in
     sym (l .loop .inv .1 ∙ start-at (l .before .before .before .before .args .text .now) (l .loop .at) (c .before .before .loop-test .taken) (c .if1 .taken))
-
-sub-at : tie.Need-sub-at Inv-loop μ-loop
-sub-at c = omega arith
-
-loop-less : tie.Need-loop-less Inv-loop μ-loop
-loop-less c = omega arith
 
 loop-again : tie.Need-loop-again Inv-loop μ-loop
 loop-again c = let l = c .before .before .before in (
@@ -60,15 +45,5 @@ pub line-start-spec : {M : Type 1} → statement M
 line-start-spec =
     tie.close
     (tie.spec
-    Inv-loop
-    μ-loop
-    clamp-requires
-    skip-before-requires
-    loop-holds
-    sub-if1
-    shared-slice-read-if1
-    returns
-    sub-at
-    loop-less
-    loop-again
-    returns-2)
+    Inv-loop μ-loop (λ c κs. tt) skip-before-requires loop-holds (λ c. omega arith) (λ c. omega arith) returns
+    (λ c. omega arith) (λ c. omega arith) loop-again returns-2)

@@ -29,35 +29,11 @@ behind-length : (c : tie.After-enum-told) → let a = start (length-test c) .arg
 behind-length c =
     read-form _ _ (passed (inRoom _) (keeps-room _) _ _ TextTooLong (read-start _ _) (length-test c .refuse-if .ensures) (c .enum-told .given .1))
 
-refuse-if-requires : tie.Need-refuse-if-requires
-refuse-if-requires c κs = search needs
-
-enum-told : tie.Need-enum-told
-enum-told c = search needs
-
-enum-told-2 : tie.Need-enum-told-2
-enum-told-2 c = search needs
-
-refusal-requires : tie.Need-refusal-requires
-refusal-requires c κs = search needs
-
 returns : tie.Need-returns
 returns c =
     let t = c .before .before .before in
     failed (inRoom _) (keeps-room _) _ _ TextTooLong (read-start _ _) (t .refuse-if .ensures) (start t .args .block .now)
     (c .before .before .match .keys2) (c .refusal .ensures)
-
-form-requires : tie.Need-form-requires
-form-requires c κs = search needs
-
-enum-told-3 : tie.Need-enum-told-3
-enum-told-3 c = search needs
-
-enum-told-4 : tie.Need-enum-told-4
-enum-told-4 c = search needs
-
-refusal-requires-2 : tie.Need-refusal-requires-2
-refusal-requires-2 c κs = search needs
 
 returns-2 : tie.Need-returns-2
 returns-2 c =
@@ -72,26 +48,10 @@ read-legal-requires c κs =
     in-form (start l .args .text .now) (ltb-false _ _ (passed-false _ TextTooLong (l .refuse-if .ensures) (t .before .enum-told .given .1)))
     (passed-none _ SyntaxError (t .form .ensures) (c .before .enum-told3 .given .1))
 
-same-length : tie.Need-same-length
-same-length c = search needs
-
-returns-3 : tie.Need-returns-3
-returns-3 c = search needs
-
 pub read-spec : {M : Type 1} → statement M
 read-spec =
     tie.close
     (tie.spec
-    refuse-if-requires
-    enum-told
-    enum-told-2
-    refusal-requires
-    returns
-    form-requires
-    enum-told-3
-    enum-told-4
-    refusal-requires-2
-    returns-2
-    read-legal-requires
-    same-length
-    returns-3)
+    (λ c κs. search needs) (λ c. search needs) (λ c. search needs) (λ c κs. search needs) returns
+    (λ c κs. search needs) (λ c. search needs) (λ c. search needs) (λ c κs. search needs) returns-2 read-legal-requires
+    (λ c. search needs) (λ c. search needs))

@@ -46,17 +46,6 @@ pub read-legal-spec : {M : Type 1} → statement M
 read-legal-spec =
     tie.close
     (tie.spec
-    (λ c κs. search needs)
-    sub-counts
-    part-counts-start
-    (λ c. search needs)
-    counts-requires
-    (λ c κs. search needs)
-    (λ c. search needs)
-    (λ c. search needs)
-    (λ c κs. search needs)
-    returns
-    read-nevers-requires
-    read-tables-requires
-    (λ c. search needs)
-    (λ c. search needs))
+    (λ c κs. search needs) sub-counts part-counts-start (λ c. search needs) counts-requires (λ c κs. search needs)
+    (λ c. search needs) (λ c. search needs) (λ c κs. search needs) returns read-nevers-requires read-tables-requires
+    (λ c. search needs) (λ c. search needs))

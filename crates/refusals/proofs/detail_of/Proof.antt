@@ -6,18 +6,6 @@ use Rattle.refusals.proofs.detail_of.Tie as tie
 use Rattle.netlist.specs.Answers.{refusalDetail}
 use Rattle.refusals.proofs.Plain.{detail-none}
 
-enum-known-why : tie.Need-enum-known-why
-enum-known-why c = search needs
-
-enum-known-why-2 : tie.Need-enum-known-why-2
-enum-known-why-2 c = search needs
-
-enum-known-why-3 : tie.Need-enum-known-why-3
-enum-known-why-3 c = search needs
-
-enum-known-why-4 : tie.Need-enum-known-why-4
-enum-known-why-4 c = search needs
-
 returns : tie.Need-returns
 unfolding refusalDetail
 returns c = sym (ap refusalDetail (c .before .why .given .1))
@@ -41,12 +29,5 @@ pub detail-of-spec : {M : Type 1} → statement M
 detail-of-spec =
     tie.close
     (tie.spec
-    enum-known-why
-    enum-known-why-2
-    enum-known-why-3
-    enum-known-why-4
-    returns
-    returns-2
-    returns-3
-    returns-4
-    returns-5)
+    (λ c. search needs) (λ c. search needs) (λ c. search needs) (λ c. search needs) returns returns-2 returns-3
+    returns-4 returns-5)

@@ -5,12 +5,6 @@ use Rattle.refusals.specs.Tests.{refusalOf}
 use Rattle.refusals.proofs.refusal.Statement.{statement}
 use Rattle.refusals.proofs.refusal.Tie as tie
 
-enum-known-test : tie.Need-enum-known-test
-enum-known-test c = search needs
-
-enum-told : tie.Need-enum-told
-enum-told c = search needs
-
 returns : tie.Need-returns
 unfolding refusalOf
 returns c = sym (ap refusalOf (c .before .test .given .1))
@@ -20,4 +14,4 @@ unfolding refusalOf
 returns-2 c = sym (ap refusalOf (c .enum-told .given .1))
 
 pub refusal-spec : {M : Type 1} → statement M
-refusal-spec = tie.close (tie.spec enum-known-test enum-told returns returns-2)
+refusal-spec = tie.close (tie.spec (λ c. search needs) (λ c. search needs) returns returns-2)

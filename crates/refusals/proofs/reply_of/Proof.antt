@@ -5,15 +5,6 @@ use borrow.Author.Needs.{needs}
 use Rattle.refusals.proofs.reply_of.Statement.{statement}
 use Rattle.refusals.proofs.reply_of.Tie as tie
 
-enum-known-answer : tie.Need-enum-known-answer
-enum-known-answer c = search needs
-
-enum-known-answer-2 : tie.Need-enum-known-answer-2
-enum-known-answer-2 c = search needs
-
-reply-of-refusal-requires : tie.Need-reply-of-refusal-requires
-reply-of-refusal-requires c κs = search needs
-
 returns : tie.Need-returns
 returns c = shows-done (c .before .answer .given .1)
 
@@ -23,4 +14,4 @@ returns-2 c = shows-same (sym (c .before .before .answer2 .given .1)) (c .reply-
 pub reply-of-spec : {M : Type 1} → statement M
 reply-of-spec =
     tie.close
-    (tie.spec enum-known-answer enum-known-answer-2 reply-of-refusal-requires returns returns-2)
+    (tie.spec (λ c. search needs) (λ c. search needs) (λ c κs. search needs) returns returns-2)

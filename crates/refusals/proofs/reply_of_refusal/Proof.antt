@@ -4,14 +4,8 @@ use Rattle.refusals.proofs.Shown.{shows-refusal}
 use Rattle.refusals.proofs.reply_of_refusal.Statement.{statement}
 use Rattle.refusals.proofs.reply_of_refusal.Tie as tie
 
-number-of-requires : tie.Need-number-of-requires
-number-of-requires c κs = search needs
-
-detail-of-requires : tie.Need-detail-of-requires
-detail-of-requires c κs = search needs
-
 returns : tie.Need-returns
 returns c = shows-refusal (c .before .before .args .refusal) (c .before .number-of .ensures) (c .detail-of .ensures)
 
 pub reply-of-refusal-spec : {M : Type 1} → statement M
-reply-of-refusal-spec = tie.close (tie.spec number-of-requires detail-of-requires returns)
+reply-of-refusal-spec = tie.close (tie.spec (λ c κs. search needs) (λ c κs. search needs) returns)

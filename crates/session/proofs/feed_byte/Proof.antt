@@ -17,9 +17,6 @@ line-byte-requires c κs =
     let at-state2 = c .before .before .before .before .before .before in
     line-ready (at-state2 .before .before .before .before .before .before .pre) (at-state2 .state2 .given .1)
 
-enum-told : tie.Need-enum-told
-enum-told c = search needs
-
 returns : tie.Need-returns
 returns c =
     let b = c .before .before .before .before .before .before in
@@ -43,17 +40,6 @@ pub feed-byte-spec : {M : Type 1} → statement M
 feed-byte-spec =
     tie.close
     (tie.spec
-    (λ c. search needs)
-    netlist-byte-requires
-    (λ c. search needs)
-    line-byte-requires
-    enum-told
-    (λ c. search needs)
-    (λ c. search needs)
-    (λ c. search needs)
-    returns
-    (λ c. search needs)
-    (λ c. search needs)
-    (λ c. search needs)
-    returns-2
-    returns-3)
+    (λ c. search needs) netlist-byte-requires (λ c. search needs) line-byte-requires (λ c. search needs)
+    (λ c. search needs) (λ c. search needs) (λ c. search needs) returns (λ c. search needs) (λ c. search needs)
+    (λ c. search needs) returns-2 returns-3)

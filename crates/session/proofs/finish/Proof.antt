@@ -18,9 +18,6 @@ end-line-requires c κs =
     let at-state2 = c .before .before .before .before .before in
     line-ready (at-state2 .before .before .before .before .before .before .pre) (at-state2 .state2 .given .1)
 
-enum-told : tie.Need-enum-told
-enum-told c = search needs
-
 returns : tie.Need-returns
 returns c =
     let e = c .before .before .before .before in
@@ -43,15 +40,5 @@ pub finish-spec : {M : Type 1} → statement M
 finish-spec =
     tie.close
     (tie.spec
-    (λ c. search needs)
-    end-netlist-requires
-    (λ c. search needs)
-    end-line-requires
-    enum-told
-    (λ c. search needs)
-    (λ c. search needs)
-    returns
-    (λ c. search needs)
-    (λ c. search needs)
-    returns-2
-    returns-3)
+    (λ c. search needs) end-netlist-requires (λ c. search needs) end-line-requires (λ c. search needs)
+    (λ c. search needs) (λ c. search needs) returns (λ c. search needs) (λ c. search needs) returns-2 returns-3)

@@ -19,9 +19,6 @@ not-ended (Netlist kept fresh) k = refl
 not-ended (Lines count kept) k = refl
 not-ended Ended k = absurd (miss (0 ∷ 1 ∷ []) 2 tt k)
 
-enum-told : tie.Need-enum-told
-enum-told c = search needs
-
 returns : tie.Need-returns
 unfolding hasEnded
 returns c = rw (c .enum-told .given .1) refl
@@ -30,4 +27,4 @@ returns-2 : tie.Need-returns-2
 returns-2 c = not-ended (c .before .args .state) (c .match .keys2)
 
 pub is-over-spec : {M : Type 1} → statement M
-is-over-spec = tie.close (tie.spec enum-told returns returns-2)
+is-over-spec = tie.close (tie.spec (λ c. search needs) returns returns-2)

@@ -21,18 +21,6 @@ text c = c .before .before .before .before .before .before .args .s .now
 behind : (c : tie.After-known-told) → Behind {B = ℕ} lineLast (text c) (c .before .found .given .0 .0) (nothingBehind 0)
 behind c = first-next last-word (shortens-word (ascii "\n")) (text c) (c .before .before .before .word .ensures) (c .before .found .given .1)
 
-slice-aggregate-word : tie.Need-slice-aggregate-word
-slice-aggregate-word c = search needs
-
-word-requires : tie.Need-word-requires
-word-requires c κs = search needs
-
-enum-known-found : tie.Need-enum-known-found
-enum-known-found c = search needs
-
-enum-told : tie.Need-enum-told
-enum-told c = search needs
-
 returns : tie.Need-returns
 returns c = first-bad last-word (c .before .before .before .before .before .args .s .now) (c .before .before .word .ensures) (c .enum-told .given .1)
 
@@ -54,10 +42,4 @@ pub line-last-spec : {M : Type 1} → statement M
 line-last-spec =
     tie.close
     (tie.spec
-    slice-aggregate-word
-    word-requires
-    enum-known-found
-    enum-told
-    returns
-    returns-2
-    returns-3)
+    (λ c. search needs) (λ c κs. search needs) (λ c. search needs) (λ c. search needs) returns returns-2 returns-3)

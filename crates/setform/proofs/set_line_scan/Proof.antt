@@ -31,18 +31,6 @@ left-2 c =
     let most = start (first c) .args .most in
     then-next (set-pairs most) (shortens-pairs most 0) (left-1 (first c)) (c .before .before .before .pairs .ensures) (c .before .found2 .given .1)
 
-slice-aggregate-word : tie.Need-slice-aggregate-word
-slice-aggregate-word c = search needs
-
-word-requires : tie.Need-word-requires
-word-requires c κs = search needs
-
-enum-known-found : tie.Need-enum-known-found
-enum-known-found c = search needs
-
-enum-told : tie.Need-enum-told
-enum-told c = search needs
-
 returns : tie.Need-returns
 returns c =
     first-bad (set-word (c .before .before .before .before .before .args .most)) (c .before .before .before .before .before .args .line .now)
@@ -50,24 +38,6 @@ returns c =
 
 sub-at : tie.Need-sub-at
 sub-at c = left-1 c .within
-
-sub-pairs : tie.Need-sub-pairs
-sub-pairs c = search needs
-
-part-pairs-start : tie.Need-part-pairs-start
-part-pairs-start c = search needs
-
-part-pairs-end : tie.Need-part-pairs-end
-part-pairs-end c = search needs
-
-pairs-requires : tie.Need-pairs-requires
-pairs-requires c κs = search needs
-
-enum-known-found-2 : tie.Need-enum-known-found-2
-enum-known-found-2 c = search needs
-
-enum-told-2 : tie.Need-enum-told-2
-enum-told-2 c = search needs
 
 returns-2 : tie.Need-returns-2
 returns-2 c =
@@ -77,18 +47,6 @@ returns-2 c =
 sub-at-2 : tie.Need-sub-at-2
 sub-at-2 c = left-2 c .within
 
-sub-line-last : tie.Need-sub-line-last
-sub-line-last c = search needs
-
-part-line-last-start : tie.Need-part-line-last-start
-part-line-last-start c = search needs
-
-part-line-last-end : tie.Need-part-line-last-end
-part-line-last-end c = search needs
-
-line-last-requires : tie.Need-line-last-requires
-line-last-requires c κs = search needs
-
 returns-3 : tie.Need-returns-3
 returns-3 c = then-last lineLast (left-2 (c .before .before)) (c .line-last .ensures)
 
@@ -96,22 +54,7 @@ pub set-line-scan-spec : {M : Type 1} → statement M
 set-line-scan-spec =
     tie.close
     (tie.spec
-    slice-aggregate-word
-    word-requires
-    enum-known-found
-    enum-told
-    returns
-    sub-at
-    sub-pairs
-    part-pairs-start
-    part-pairs-end
-    pairs-requires
-    enum-known-found-2
-    enum-told-2
-    returns-2
-    sub-at-2
-    sub-line-last
-    part-line-last-start
-    part-line-last-end
-    line-last-requires
-    returns-3)
+    (λ c. search needs) (λ c κs. search needs) (λ c. search needs) (λ c. search needs) returns sub-at
+    (λ c. search needs) (λ c. search needs) (λ c. search needs) (λ c κs. search needs) (λ c. search needs)
+    (λ c. search needs) returns-2 sub-at-2 (λ c. search needs) (λ c. search needs) (λ c. search needs)
+    (λ c κs. search needs) returns-3)

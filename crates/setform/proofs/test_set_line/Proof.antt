@@ -7,15 +7,6 @@ use mathlib.Core.Path.{sym, _∙_}
 use Rattle.form.proofs.Continues.{stuck-short}
 use Rattle.setform.proofs.LineSteps.{line-passed, line-failed, shortens-set-line}
 
-set-line-scan-requires : tie.Need-set-line-scan-requires
-set-line-scan-requires c κs = search needs
-
-enum-told : tie.Need-enum-told
-enum-told c = search needs
-
-enum-known-left : tie.Need-enum-known-left
-enum-known-left c = search needs
-
 sub-t7 : tie.Need-sub-t7
 sub-t7 c =
     let g = c .before .before .before .before .before .args in
@@ -33,4 +24,4 @@ returns-2 c =
 
 pub test-set-line-spec : {M : Type 1} → statement M
 test-set-line-spec =
-    tie.close (tie.spec set-line-scan-requires enum-told enum-known-left sub-t7 returns returns-2)
+    tie.close (tie.spec (λ c κs. search needs) (λ c. search needs) (λ c. search needs) sub-t7 returns returns-2)

@@ -48,9 +48,6 @@ read : (c : tie.After-read-pairs) → let f = found (in-order c) in
     LineRead (start (form-test (in-order c)) .args .words .now) (f .pairs) (c .read-pairs .result) (c .read-pairs .last .1 .1 .0)
 read c = let f = found (in-order c) in c .read-pairs .ensures (f .pairs) (f .for)
 
-enum-told : tie.Need-enum-told
-enum-told c = search needs
-
 returns : tie.Need-returns
 returns c =
     let t = c .before .before .before in
@@ -89,17 +86,6 @@ pub answer-with-spec : {M : Type 1} → statement M
 answer-with-spec =
     tie.close
     (tie.spec
-    (λ c κs. search needs)
-    (λ c κs. search needs)
-    enum-told
-    (λ c. search needs)
-    (λ c κs. search needs)
-    returns
-    read-pairs-requires
-    (λ c. search needs)
-    (λ c. search needs)
-    (λ c κs. search needs)
-    returns-2
-    show-requires
-    (λ c. search needs)
-    returns-3)
+    (λ c κs. search needs) (λ c κs. search needs) (λ c. search needs) (λ c. search needs) (λ c κs. search needs)
+    returns read-pairs-requires (λ c. search needs) (λ c. search needs) (λ c κs. search needs) returns-2 show-requires
+    (λ c. search needs) returns-3)

@@ -42,9 +42,6 @@ outside-told c ps f =
 test-repeat-requires : tie.Need-test-repeat-requires
 test-repeat-requires c κs = let f = c .before .before .before .before .before .before .pre .0 .for in (names-room (f .tabled), places-room (f .tabled))
 
-enum-told : tie.Need-enum-told
-enum-told c = search needs
-
 returns : tie.Need-returns
 returns c =
     λ ps f. let t = c .before .before in repeat-read _ ps _ (repeat-told t ps f) (c .before .match .keys2)
@@ -98,18 +95,6 @@ pub read-tables-spec : {M : Type 1} → statement M
 read-tables-spec =
     tie.close
     (tie.spec
-    (λ c κs. search needs)
-    test-repeat-requires
-    enum-told
-    (λ c. search needs)
-    returns
-    test-outside-requires
-    (λ c. search needs)
-    (λ c. search needs)
-    returns-2
-    (λ c. search needs)
-    fill-setting-requires
-    array-share-prefix-setting
-    slice-aggregate-put-setting
-    put-setting-requires
-    returns-3)
+    (λ c κs. search needs) test-repeat-requires (λ c. search needs) (λ c. search needs) returns test-outside-requires
+    (λ c. search needs) (λ c. search needs) returns-2 (λ c. search needs) fill-setting-requires
+    array-share-prefix-setting slice-aggregate-put-setting put-setting-requires returns-3)

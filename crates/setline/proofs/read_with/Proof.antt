@@ -47,12 +47,5 @@ pub read-with-spec : {M : Type 1} → statement M
 read-with-spec =
     tie.close
     (tie.spec
-    fill-pairs-requires
-    (λ c κs. search needs)
-    fill-inputs-requires
-    read-tables-requires
-    (λ c. search needs)
-    (λ c. search needs)
-    (λ c. search needs)
-    (λ c. search needs)
-    returns)
+    fill-pairs-requires (λ c κs. search needs) fill-inputs-requires read-tables-requires (λ c. search needs)
+    (λ c. search needs) (λ c. search needs) (λ c. search needs) returns)

@@ -10,9 +10,6 @@ use Rattle.sheet.proofs.RecordLaws.{sheet-chain, sheet-done}
 use Rattle.sheet.proofs.reply_to_sheet.Statement.{statement}
 use Rattle.sheet.proofs.reply_to_sheet.Tie as tie
 
-enum-told : tie.Need-enum-told
-enum-told c = search needs
-
 returns : tie.Need-returns
 returns c =
     let t = c .before .before .before in
@@ -31,11 +28,5 @@ pub reply-to-sheet-spec : {M : Type 1} → statement M
 reply-to-sheet-spec =
     tie.close
     (tie.spec
-    (λ c κs. search needs)
-    enum-told
-    (λ c. search needs)
-    (λ c κs. search needs)
-    (λ c κs. search needs)
-    returns
-    (λ c κs. search needs)
-    returns-2)
+    (λ c κs. search needs) (λ c. search needs) (λ c. search needs) (λ c κs. search needs) (λ c κs. search needs)
+    returns (λ c κs. search needs) returns-2)

@@ -29,26 +29,11 @@ fourth f = f .before .before .before .before .before
 digits : (c : tie.After-detail-of) → (length (decimal (c .before .number-of .result)) ≤ 20) × (length (decimal (c .detail-of .result)) ≤ 20)
 digits c = (number-short (c .before .number-of .result) (c .before .number-of .ok), number-short (c .detail-of .result) (c .detail-of .ok))
 
-number-of-requires : tie.Need-number-of-requires
-number-of-requires c κs = search needs
-
-detail-of-requires : tie.Need-detail-of-requires
-detail-of-requires c κs = search needs
-
-slice-aggregate-put-all : tie.Need-slice-aggregate-put-all
-slice-aggregate-put-all c = search needs
-
-put-all-requires : tie.Need-put-all-requires
-put-all-requires c κs = search needs
-
 put-decimal-requires : tie.Need-put-decimal-requires
 put-decimal-requires c κs =
     let f = c .before .before .before in
     let few = digits (numbers f) in
     record { small = omega (arith, few .0, few .1, f .put-all .ensures .endIs) }
-
-slice-aggregate-put-all-2 : tie.Need-slice-aggregate-put-all-2
-slice-aggregate-put-all-2 c = search needs
 
 put-all-requires-2 : tie.Need-put-all-requires-2
 put-all-requires-2 c κs =
@@ -64,9 +49,6 @@ put-decimal-requires-2 c κs =
     let e = first s .put-all .ensures .endIs in
     record { small = omega (arith, few .0, few .1, e, s .put-decimal .ensures .endIs, t .put-all2 .ensures .endIs) }
 
-slice-aggregate-put-all-3 : tie.Need-slice-aggregate-put-all-3
-slice-aggregate-put-all-3 c = search needs
-
 put-all-requires-3 : tie.Need-put-all-requires-3
 put-all-requires-3 c κs =
     let d = c .before .before .before .before in
@@ -76,9 +58,6 @@ put-all-requires-3 c κs =
     let e = first s .put-all .ensures .endIs in
     let e₂ = s .put-decimal .ensures .endIs in
     record { small = omega (arith, few .0, few .1, e, e₂, t .put-all2 .ensures .endIs, d .put-decimal2 .ensures .endIs) }
-
-same-length : tie.Need-same-length
-same-length c = search needs
 
 returns : tie.Need-returns
 unfolding toldLine
@@ -97,15 +76,6 @@ pub tell-spec : {M : Type 1} → statement M
 tell-spec =
     tie.close
     (tie.spec
-    number-of-requires
-    detail-of-requires
-    slice-aggregate-put-all
-    put-all-requires
-    put-decimal-requires
-    slice-aggregate-put-all-2
-    put-all-requires-2
-    put-decimal-requires-2
-    slice-aggregate-put-all-3
-    put-all-requires-3
-    same-length
-    returns)
+    (λ c κs. search needs) (λ c κs. search needs) (λ c. search needs) (λ c κs. search needs) put-decimal-requires
+    (λ c. search needs) put-all-requires-2 put-decimal-requires-2 (λ c. search needs) put-all-requires-3
+    (λ c. search needs) returns)

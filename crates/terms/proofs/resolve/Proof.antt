@@ -140,25 +140,8 @@ pub resolve-spec : {M : Type 1} → statement M
 resolve-spec =
     tie.close
     (tie.spec
-    add-nodes
-    sub-gate-lines
-    part-gate-lines-start
-    (λ c. search needs)
-    slice-aggregate-gate-lines
-    slice-aggregate-gate-lines-2
-    gate-lines-requires
-    sub-output-lines
-    (λ c. search needs)
-    (λ c. search needs)
-    (λ c. search needs)
-    slice-aggregate-output-lines
-    slice-aggregate-output-lines-2
-    output-lines-requires
-    (λ c. search needs)
-    (λ c. search needs)
-    returns
-    add-length
-    sub-unknown
-    (λ c. search needs)
-    (λ c. search needs)
+    add-nodes sub-gate-lines part-gate-lines-start (λ c. search needs) slice-aggregate-gate-lines
+    slice-aggregate-gate-lines-2 gate-lines-requires sub-output-lines (λ c. search needs) (λ c. search needs)
+    (λ c. search needs) slice-aggregate-output-lines slice-aggregate-output-lines-2 output-lines-requires
+    (λ c. search needs) (λ c. search needs) returns add-length sub-unknown (λ c. search needs) (λ c. search needs)
     returns-2)

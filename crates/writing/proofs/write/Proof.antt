@@ -31,18 +31,6 @@ whole-block c = c .before
 whole : (c : tie.After-enum-told) → isMalformed (start (words-test c) .args .words .now) ≡ false
 whole c = passed-false _ MalformedBlock (words-test c .check-words .ensures) (c .enum-told .given .1)
 
-check-words-requires : tie.Need-check-words-requires
-check-words-requires c κs = search needs
-
-enum-told : tie.Need-enum-told
-enum-told c = search needs
-
-enum-told-2 : tie.Need-enum-told-2
-enum-told-2 c = search needs
-
-refusal-requires : tie.Need-refusal-requires
-refusal-requires c κs = search needs
-
 returns : tie.Need-returns
 returns c =
     let t = c .before .before .before in
@@ -51,15 +39,6 @@ returns c =
 
 check-room-requires : tie.Need-check-room-requires
 check-room-requires c κs = whole c
-
-enum-told-3 : tie.Need-enum-told-3
-enum-told-3 c = search needs
-
-enum-told-4 : tie.Need-enum-told-4
-enum-told-4 c = search needs
-
-refusal-requires-2 : tie.Need-refusal-requires-2
-refusal-requires-2 c κs = search needs
 
 returns-2 : tie.Need-returns-2
 returns-2 c =
@@ -74,9 +53,6 @@ put-block-requires c κs =
     let w = whole-block (c .before .before .before) in
     let ws = start (words-test w) .args .words .now in
     (few-inputs ws (whole w), block-short ws (whole w))
-
-same-length : tie.Need-same-length
-same-length c = search needs
 
 returns-3 : tie.Need-returns-3
 returns-3 c =
@@ -96,16 +72,6 @@ pub write-spec : {M : Type 1} → statement M
 write-spec =
     tie.close
     (tie.spec
-    check-words-requires
-    enum-told
-    enum-told-2
-    refusal-requires
-    returns
-    check-room-requires
-    enum-told-3
-    enum-told-4
-    refusal-requires-2
-    returns-2
-    put-block-requires
-    same-length
+    (λ c κs. search needs) (λ c. search needs) (λ c. search needs) (λ c κs. search needs) returns check-room-requires
+    (λ c. search needs) (λ c. search needs) (λ c κs. search needs) returns-2 put-block-requires (λ c. search needs)
     returns-3)

@@ -12,12 +12,6 @@ small : (c : tie.Start)
     → (c .args .first .base + getD (c .args .weights .now) (c .args .ones) 0 < 3 ^ (c .args .n)) × (3 ^ (c .args .n) ≤ 3 ^ maxInputs)
 small c = number-below (c .pre .0) (c .pre .1) (c .pre .2)
 
-mul-result : tie.Need-mul-result
-mul-result c = search needs
-
-shared-slice-read-result : tie.Need-shared-slice-read-result
-shared-slice-read-result c = search needs
-
 cast-result : tie.Need-cast-result
 cast-result c = omega (arith, small (c .before))
 
@@ -34,9 +28,4 @@ pub is-left-spec : {M : Type 1} → statement M
 is-left-spec =
     tie.close
     (tie.spec
-    mul-result
-    shared-slice-read-result
-    cast-result
-    add-result
-    shared-slice-read-result-2
-    returns)
+    (λ c. search needs) (λ c. search needs) cast-result add-result shared-slice-read-result-2 returns)

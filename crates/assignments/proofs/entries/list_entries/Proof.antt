@@ -75,13 +75,4 @@ pub list-entries-spec : {M : Type 1} → statement M
 list-entries-spec =
     tie.close
     (tie.spec
-    Inv-loop
-    μ-loop
-    loop-holds
-    row-base-requires
-    list-row-requires
-    add-fixed
-    loop-less
-    loop-again
-    same-length
-    returns)
+    Inv-loop μ-loop loop-holds row-base-requires list-row-requires add-fixed loop-less loop-again same-length returns)

@@ -41,9 +41,6 @@ room c =
 small : (c : tie.Then1 Inv-loop μ-loop) → 2 ^ (start c .args .n) ≤ 2 ^ maxInputs
 small c = two-fits {i = start c .args .n} {n = start c .args .n} (omega arith) (start c .pre .0 .0 .weighed .few)
 
-shl-end : tie.Need-shl-end Inv-loop μ-loop
-shl-end c = search needs
-
 loop-holds : tie.Need-loop-holds Inv-loop μ-loop
 loop-holds c =
     let start = c .before .before .before in
@@ -143,23 +140,6 @@ pub list-row-spec : {M : Type 1} → statement M
 list-row-spec =
     tie.close
     (tie.spec
-    Inv-loop
-    μ-loop
-    shl-end
-    loop-holds
-    is-left-requires
-    cast-out
-    mul-out
-    mul-out-2
-    slice-write-out
-    cast-out-2
-    mul-out-3
-    add-out
-    mul-out-4
-    slice-write-out-2
-    add-count
-    next-ones-requires
-    loop-less
-    loop-again
-    same-length
-    returns)
+    Inv-loop μ-loop (λ c. search needs) loop-holds is-left-requires cast-out mul-out mul-out-2 slice-write-out
+    cast-out-2 mul-out-3 add-out mul-out-4 slice-write-out-2 add-count next-ones-requires loop-less loop-again
+    same-length returns)

@@ -23,12 +23,6 @@ fits c = (
 sub-result : tie.Need-sub-result
 sub-result c = omega (arith, fits c)
 
-mul-result : tie.Need-mul-result
-mul-result c = search needs
-
-shared-slice-read-result : tie.Need-shared-slice-read-result
-shared-slice-read-result c = search needs
-
 cast-result : tie.Need-cast-result
 cast-result c = omega (arith, fits (c .before))
 
@@ -45,10 +39,4 @@ pub row-base-spec : {M : Type 1} → statement M
 row-base-spec =
     tie.close
     (tie.spec
-    sub-result
-    mul-result
-    shared-slice-read-result
-    cast-result
-    mul-result-2
-    sub-result-2
-    returns)
+    sub-result (λ c. search needs) (λ c. search needs) cast-result mul-result-2 sub-result-2 returns)

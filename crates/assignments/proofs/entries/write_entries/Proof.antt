@@ -18,12 +18,6 @@ mul-if1 c =
     let g : 2 ^ (args .n) * 2 ^ (args .n) ≤ 2 ^ (2 * maxInputs) = pairs-fit (start .pre .0 .few) in
     omega (arith, start .pre .3)
 
-list-entries-requires : tie.Need-list-entries-requires
-list-entries-requires c κs = search needs
-
-same-length : tie.Need-same-length
-same-length c = search needs
-
 returns : tie.Need-returns
 returns c =
     let tested = c .before .before .before .before in
@@ -35,4 +29,4 @@ returns-2 c = without-room (c .before .before .before .before .pre .3) (c .if1 .
 pub write-entries-spec : {M : Type 1} → statement M
 write-entries-spec =
     tie.close
-    (tie.spec mul-if1 list-entries-requires same-length returns returns-2)
+    (tie.spec mul-if1 (λ c κs. search needs) (λ c. search needs) returns returns-2)

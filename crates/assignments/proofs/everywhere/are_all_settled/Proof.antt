@@ -19,14 +19,8 @@ Inv-loop settled n count setting₀ setting = (setting ≤ 2 ^ n) × (count ≡ 
 abbrev μ-loop : tie.MeasureT-loop
 μ-loop settled n count setting₀ setting = 2 ^ n - setting
 
-shl-count : tie.Need-shl-count Inv-loop μ-loop
-shl-count c = search needs
-
 loop-holds : tie.Need-loop-holds Inv-loop μ-loop
 loop-holds c = (omega arith, shifted (c .pre .0), refl)
-
-shared-slice-read-if1 : tie.Need-shared-slice-read-if1 Inv-loop μ-loop
-shared-slice-read-if1 c = search needs
 
 returns : tie.Need-returns Inv-loop μ-loop
 unfolding settledBy
@@ -36,12 +30,6 @@ returns c =
     let settled = args .settled .now in
     let e = ne-eqb (getD settled (loop .setting) 0) 1 (c .if1 .taken) in
     sym (all-not (settledBy settled) (2 ^ (args .n)) (loop .setting) (omega (arith, loop .inv .1, c .before .before .loop-test .taken)) e)
-
-add-setting : tie.Need-add-setting Inv-loop μ-loop
-add-setting c = search needs
-
-loop-less : tie.Need-loop-less Inv-loop μ-loop
-loop-less c = search needs
 
 loop-again : tie.Need-loop-again Inv-loop μ-loop
 unfolding settledBy
@@ -63,13 +51,5 @@ pub are-all-settled-spec : {M : Type 1} → statement M
 are-all-settled-spec =
     tie.close
     (tie.spec
-    Inv-loop
-    μ-loop
-    shl-count
-    loop-holds
-    shared-slice-read-if1
-    returns
-    add-setting
-    loop-less
-    loop-again
-    returns-2)
+    Inv-loop μ-loop (λ c. search needs) loop-holds (λ c. search needs) returns (λ c. search needs) (λ c. search needs)
+    loop-again returns-2)

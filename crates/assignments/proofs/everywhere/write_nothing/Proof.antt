@@ -4,15 +4,6 @@ use borrow.Author.Needs.{needs}
 use Rattle.assignments.proofs.everywhere.write_nothing.Statement.{statement}
 use Rattle.assignments.proofs.everywhere.write_nothing.Tie as tie
 
-slice-write-out : tie.Need-slice-write-out
-slice-write-out c = search needs
-
-slice-write-out-2 : tie.Need-slice-write-out-2
-slice-write-out-2 c = search needs
-
-same-length : tie.Need-same-length
-same-length c = search needs
-
 returns : tie.Need-returns
 returns c = nothing-written _ (c .if1 .taken)
 
@@ -21,4 +12,4 @@ returns-2 c = nothing-kept _ (c .if1 .left)
 
 pub write-nothing-spec : {M : Type 1} → statement M
 write-nothing-spec =
-    tie.close (tie.spec slice-write-out slice-write-out-2 same-length returns returns-2)
+    tie.close (tie.spec (λ c. search needs) (λ c. search needs) (λ c. search needs) returns returns-2)

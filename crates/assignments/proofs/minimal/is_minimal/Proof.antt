@@ -31,9 +31,6 @@ in-table c =
 loop-holds : tie.Need-loop-holds Inv-loop μ-loop
 loop-holds c = scan-start (c .args .sound .now) (c .args .n) (c .args .k)
 
-sub-if2 : tie.Need-sub-if2 Inv-loop μ-loop
-sub-if2 c = search needs
-
 mul-if2 : tie.Need-mul-if2 Inv-loop μ-loop
 mul-if2 c = omega (arith, in-table c)
 
@@ -54,12 +51,6 @@ mul-power c =
     let f : 3 ^ (c .before .before .loop .i) ≤ 3 ^ maxInputs = three-fits (c .before .before .loop .inv .within) (start .pre .0) in
     omega arith
 
-add-i : tie.Need-add-i Inv-loop μ-loop
-add-i c = search needs
-
-loop-less : tie.Need-loop-less Inv-loop μ-loop
-loop-less c = search needs
-
 loop-again : tie.Need-loop-again Inv-loop μ-loop
 loop-again c =
     let s = c .before .before .loop .inv in
@@ -73,16 +64,5 @@ pub is-minimal-spec : {M : Type 1} → statement M
 is-minimal-spec =
     tie.close
     (tie.spec
-    Inv-loop
-    μ-loop
-    loop-holds
-    sub-if2
-    mul-if2
-    add-if2
-    shared-slice-read-if2
-    returns
-    mul-power
-    add-i
-    loop-less
-    loop-again
-    returns-2)
+    Inv-loop μ-loop loop-holds (λ c. search needs) mul-if2 add-if2 shared-slice-read-if2 returns mul-power
+    (λ c. search needs) (λ c. search needs) loop-again returns-2)

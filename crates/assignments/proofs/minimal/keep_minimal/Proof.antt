@@ -19,24 +19,6 @@ abbrev μ-loop : tie.MeasureT-loop
 loop-holds : tie.Need-loop-holds Inv-loop μ-loop
 loop-holds c = (omega arith, omega arith, refl, minimal-none _ _)
 
-slice-read-if1 : tie.Need-slice-read-if1 Inv-loop μ-loop
-slice-read-if1 c = search needs
-
-is-minimal-requires : tie.Need-is-minimal-requires Inv-loop μ-loop
-is-minimal-requires c κs = search needs
-
-add-count : tie.Need-add-count Inv-loop μ-loop
-add-count c = search needs
-
-slice-write-sound : tie.Need-slice-write-sound Inv-loop μ-loop
-slice-write-sound c = search needs
-
-add-k : tie.Need-add-k Inv-loop μ-loop
-add-k c = search needs
-
-loop-less : tie.Need-loop-less Inv-loop μ-loop
-loop-less c = search needs
-
 loop-again : tie.Need-loop-again Inv-loop μ-loop
 loop-again c =
     let loop = c .before .before .before .loop in
@@ -62,9 +44,6 @@ loop-again c =
     (λ w. rw (w .1, w .2) (omega arith, omega (arith, loop .inv .1), loop .inv .2, minimal-unsound (loop .inv .3) (w .0 .left))))
     (c .if1 .came)
 
-same-length : tie.Need-same-length Inv-loop μ-loop
-same-length c = search needs
-
 returns : tie.Need-returns Inv-loop μ-loop
 returns c =
     let e : c .before .loop .k ≡ 3 ^ (c .before .before .before .args .n) = omega arith in
@@ -74,15 +53,5 @@ pub keep-minimal-spec : {M : Type 1} → statement M
 keep-minimal-spec =
     tie.close
     (tie.spec
-    Inv-loop
-    μ-loop
-    loop-holds
-    slice-read-if1
-    is-minimal-requires
-    add-count
-    slice-write-sound
-    add-k
-    loop-less
-    loop-again
-    same-length
-    returns)
+    Inv-loop μ-loop loop-holds (λ c. search needs) (λ c κs. search needs) (λ c. search needs) (λ c. search needs)
+    (λ c. search needs) (λ c. search needs) loop-again (λ c. search needs) returns)

@@ -16,9 +16,6 @@ count-is c = shifted (c .pre .0)
 masks-fit : (c : tie.Start) → 2 ^ (c .args .n) ≤ 2 ^ maxInputs
 masks-fit c = two-fits {i = c .args .n} {n = c .args .n} (omega arith) (c .pre .0)
 
-shl-count : tie.Need-shl-count
-shl-count c = search needs
-
 returns : tie.Need-returns
 returns c =
     let pre = c .before .pre in
@@ -38,4 +35,4 @@ returns-2 c =
     (omega (arith, seen, pre .1), next-in-row (pre .1) (pre .2) (pre .3) (count-is (c .before)) (c .if1 .left))
 
 pub next-ones-spec : {M : Type 1} → statement M
-next-ones-spec = tie.close (tie.spec shl-count returns add-result sub-result returns-2)
+next-ones-spec = tie.close (tie.spec (λ c. search needs) returns add-result sub-result returns-2)

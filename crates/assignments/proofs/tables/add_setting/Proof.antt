@@ -42,9 +42,6 @@ loop-holds c =
     ⊎-elim (λ w. w .1 ∙ sym (byte-one settled s (w .0 .taken))) (λ w. w .1 ∙ sym (byte-none settled s (w .0 .left))) (c .if1 .came) in
     (refl, joining-start (start .pre .0) (start .pre .1) v)
 
-shr-loop : tie.Need-shr-loop Inv-loop μ-loop
-shr-loop c = search needs
-
 join-halves-requires : tie.Need-join-halves-requires Inv-loop μ-loop
 join-halves-requires c κs =
     let inv = c .before .before .loop .inv .1 in
@@ -62,9 +59,6 @@ mul-power c =
     let inv = c .before .before .before .before .before .loop .inv .1 in
     let n = c .before .before .before .before .before .before .before .before .before .before .args .n in
     omega (arith, joining-room inv (c .before .before .before .before .loop-test .taken), three-fits {i = n} {n = n} (omega arith) (inv .few))
-
-add-i : tie.Need-add-i Inv-loop μ-loop
-add-i c = search needs
 
 loop-less : tie.Need-loop-less Inv-loop μ-loop
 loop-less c = omega (arith, joining-in (c .before .before .before .before .before .loop .inv .1) (c .before .before .before .before .loop-test .taken))
@@ -85,18 +79,5 @@ pub add-setting-spec : {M : Type 1} → statement M
 add-setting-spec =
     tie.close
     (tie.spec
-    Inv-loop
-    μ-loop
-    shared-slice-read-if1
-    slice-write-sound
-    add-end
-    loop-holds
-    shr-loop
-    join-halves-requires
-    add-end-2
-    mul-power
-    add-i
-    loop-less
-    loop-again
-    same-length
-    returns)
+    Inv-loop μ-loop shared-slice-read-if1 slice-write-sound add-end loop-holds (λ c. search needs) join-halves-requires
+    add-end-2 mul-power (λ c. search needs) loop-less loop-again same-length returns)

@@ -17,32 +17,17 @@ Inv-loop settled n sound₀ count k₀ setting₀ sound k setting =
 abbrev μ-loop : tie.MeasureT-loop
 μ-loop settled n sound₀ count k₀ setting₀ sound k setting = 2 ^ n - setting
 
-shl-count : tie.Need-shl-count Inv-loop μ-loop
-shl-count c = search needs
-
 loop-holds : tie.Need-loop-holds Inv-loop μ-loop
 loop-holds c =
     let start = c .before .before in
     let args = start .args in
     (omega arith, shifted (start .pre .0), refl, filled-none (args .settled .now) (args .sound .now) (args .n) (start .pre .0) (start .pre .1) (start .pre .2))
 
-add-setting-requires : tie.Need-add-setting-requires Inv-loop μ-loop
-add-setting-requires c κs = search needs
-
-add-setting : tie.Need-add-setting Inv-loop μ-loop
-add-setting c = search needs
-
-loop-less : tie.Need-loop-less Inv-loop μ-loop
-loop-less c = search needs
-
 loop-again : tie.Need-loop-again Inv-loop μ-loop
 loop-again c =
     let loop = c .before .before .before .before .before .loop in
     let added = c .before .before .add-setting in
     (omega arith, loop .inv .1, omega (arith, loop .inv .2, added .kept .1 .1 .1 .1 .0), added .ensures)
-
-same-length : tie.Need-same-length Inv-loop μ-loop
-same-length c = search needs
 
 returns : tie.Need-returns Inv-loop μ-loop
 returns c =
@@ -53,13 +38,5 @@ pub fill-sound-spec : {M : Type 1} → statement M
 fill-sound-spec =
     tie.close
     (tie.spec
-    Inv-loop
-    μ-loop
-    shl-count
-    loop-holds
-    add-setting-requires
-    add-setting
-    loop-less
-    loop-again
-    same-length
-    returns)
+    Inv-loop μ-loop (λ c. search needs) loop-holds (λ c κs. search needs) (λ c. search needs) (λ c. search needs)
+    loop-again (λ c. search needs) returns)

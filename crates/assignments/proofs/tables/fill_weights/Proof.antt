@@ -37,9 +37,6 @@ facts c =
       omega (arith, h, weight-from-half n (loop .mask) l, weight-lt n (loop .mask), three),
     )
 
-shl-count : tie.Need-shl-count Inv-loop μ-loop
-shl-count c = search needs
-
 slice-write-weights : tie.Need-slice-write-weights Inv-loop μ-loop
 slice-write-weights c = omega (arith, pow-pos (c .args .n), c .pre .1)
 
@@ -74,12 +71,6 @@ mul-weights-3 c = omega (arith, facts (c .before))
 slice-write-weights-2 : tie.Need-slice-write-weights-2 Inv-loop μ-loop
 slice-write-weights-2 c = omega (arith, facts (c .before))
 
-add-mask : tie.Need-add-mask Inv-loop μ-loop
-add-mask c = search needs
-
-loop-less : tie.Need-loop-less Inv-loop μ-loop
-loop-less c = search needs
-
 loop-again : tie.Need-loop-again Inv-loop μ-loop
 loop-again c =
     let loop = c .before .before .loop in
@@ -109,20 +100,6 @@ pub fill-weights-spec : {M : Type 1} → statement M
 fill-weights-spec =
     tie.close
     (tie.spec
-    Inv-loop
-    μ-loop
-    shl-count
-    slice-write-weights
-    loop-holds
-    mul-weights
-    slice-read-weights
-    mul-weights-2
-    cast-weights
-    add-weights
-    mul-weights-3
-    slice-write-weights-2
-    add-mask
-    loop-less
-    loop-again
-    same-length
-    returns)
+    Inv-loop μ-loop (λ c. search needs) slice-write-weights loop-holds mul-weights slice-read-weights mul-weights-2
+    cast-weights add-weights mul-weights-3 slice-write-weights-2 (λ c. search needs) (λ c. search needs) loop-again
+    same-length returns)

@@ -17,47 +17,11 @@ abbrev μ-loop : tie.MeasureT-loop
 loop-holds : tie.Need-loop-holds Inv-loop μ-loop
 loop-holds c = (omega arith, joined-none (c .args .sound .now) (c .args .k) (c .args .power))
 
-sub-sound : tie.Need-sub-sound Inv-loop μ-loop
-sub-sound c = search needs
-
-add-sound : tie.Need-add-sound Inv-loop μ-loop
-add-sound c = search needs
-
-slice-read-sound : tie.Need-slice-read-sound Inv-loop μ-loop
-slice-read-sound c = search needs
-
-mul-sound : tie.Need-mul-sound Inv-loop μ-loop
-mul-sound c = search needs
-
-sub-sound-2 : tie.Need-sub-sound-2 Inv-loop μ-loop
-sub-sound-2 c = search needs
-
-add-sound-2 : tie.Need-add-sound-2 Inv-loop μ-loop
-add-sound-2 c = search needs
-
-slice-read-sound-2 : tie.Need-slice-read-sound-2 Inv-loop μ-loop
-slice-read-sound-2 c = search needs
-
-add-sound-3 : tie.Need-add-sound-3 Inv-loop μ-loop
-add-sound-3 c = search needs
-
-slice-write-sound : tie.Need-slice-write-sound Inv-loop μ-loop
-slice-write-sound c = search needs
-
-add-j : tie.Need-add-j Inv-loop μ-loop
-add-j c = search needs
-
-loop-less : tie.Need-loop-less Inv-loop μ-loop
-loop-less c = search needs
-
 loop-again : tie.Need-loop-again Inv-loop μ-loop
 loop-again c =
     let loop = c .before .before .before .loop in
     let pre = c .before .before .before .before .pre in
     (omega arith, joined-next (loop .inv .1) (pre .0) (omega (arith, loop .inv .1 .same-length, pre .1)) (omega arith))
-
-same-length : tie.Need-same-length Inv-loop μ-loop
-same-length c = search needs
 
 returns : tie.Need-returns Inv-loop μ-loop
 returns c =
@@ -68,20 +32,6 @@ pub join-halves-spec : {M : Type 1} → statement M
 join-halves-spec =
     tie.close
     (tie.spec
-    Inv-loop
-    μ-loop
-    loop-holds
-    sub-sound
-    add-sound
-    slice-read-sound
-    mul-sound
-    sub-sound-2
-    add-sound-2
-    slice-read-sound-2
-    add-sound-3
-    slice-write-sound
-    add-j
-    loop-less
-    loop-again
-    same-length
-    returns)
+    Inv-loop μ-loop loop-holds (λ c. search needs) (λ c. search needs) (λ c. search needs) (λ c. search needs)
+    (λ c. search needs) (λ c. search needs) (λ c. search needs) (λ c. search needs) (λ c. search needs)
+    (λ c. search needs) (λ c. search needs) loop-again (λ c. search needs) returns)

@@ -18,20 +18,11 @@ abbrev μ-loop : tie.MeasureT-loop
 loop-holds : tie.Need-loop-holds Inv-loop μ-loop
 loop-holds c = (search needs, refl)
 
-fits-at-requires : tie.Need-fits-at-requires Inv-loop μ-loop
-fits-at-requires c κs = search needs
-
 returns : tie.Need-returns Inv-loop μ-loop
 returns c =
     let a = c .before .before .before .before .before .args in
     let l = c .before .before .before .loop in
     fails (gateRuleAt (a .words .now) (a .nodes) (a .at)) (a .m) (l .j) (search needs) (c .before .fits-at .ensures) (c .if1 .taken)
-
-add-j : tie.Need-add-j Inv-loop μ-loop
-add-j c = search needs
-
-loop-less : tie.Need-loop-less Inv-loop μ-loop
-loop-less c = search needs
 
 loop-again : tie.Need-loop-again Inv-loop μ-loop
 loop-again c =
@@ -49,12 +40,5 @@ pub fit-spec : {M : Type 1} → statement M
 fit-spec =
     tie.close
     (tie.spec
-    Inv-loop
-    μ-loop
-    loop-holds
-    fits-at-requires
-    returns
-    add-j
-    loop-less
-    loop-again
+    Inv-loop μ-loop loop-holds (λ c κs. search needs) returns (λ c. search needs) (λ c. search needs) loop-again
     returns-2)

@@ -4,17 +4,5 @@ use native.Mathlib.Omega.{arith}
 use Rattle.block.proofs.gates.fits_at.Statement.{statement}
 use Rattle.block.proofs.gates.fits_at.Tie as tie
 
-mul-fits : tie.Need-mul-fits
-mul-fits c = search needs
-
-add-fits : tie.Need-add-fits
-add-fits c = omega arith
-
-fits-requires : tie.Need-fits-requires
-fits-requires c κs = omega arith
-
-returns : tie.Need-returns
-returns c = search needs
-
 pub fits-at-spec : {M : Type 1} → statement M
-fits-at-spec = tie.close (tie.spec mul-fits add-fits fits-requires returns)
+fits-at-spec = tie.close (tie.spec (λ c. search needs) (λ c. omega arith) (λ c κs. omega arith) (λ c. search needs))

@@ -6,9 +6,6 @@ use Rattle.encoding.specs.Rules.{operandRule}
 use Rattle.block.proofs.gates.is_operand.Statement.{statement}
 use Rattle.block.proofs.gates.is_operand.Tie as tie
 
-is-node-requires : tie.Need-is-node-requires
-is-node-requires c κs = search needs
-
 returns : tie.Need-returns
 unfolding operandRule
 returns c = rw (sym (c .before .is-node .ensures) ∙ c .if1 .taken)
@@ -22,4 +19,4 @@ unfolding operandRule
 returns-3 c = rw (sym (c .before .before .is-node .ensures) ∙ c .before .if1 .left, ne-eqb _ 65534 (c .if2 .left))
 
 pub is-operand-spec : {M : Type 1} → statement M
-is-operand-spec = tie.close (tie.spec is-node-requires returns returns-2 returns-3)
+is-operand-spec = tie.close (tie.spec (λ c κs. search needs) returns returns-2 returns-3)

@@ -8,18 +8,6 @@ use Rattle.encoding.specs.Rules.{headerRule}
 use Rattle.block.proofs.header.fits.Statement.{statement}
 use Rattle.block.proofs.header.fits.Tie as tie
 
-inputs-of-requires : tie.Need-inputs-of-requires
-inputs-of-requires c κs = search needs
-
-gates-of-requires : tie.Need-gates-of-requires
-gates-of-requires c κs = search needs
-
-outputs-of-requires : tie.Need-outputs-of-requires
-outputs-of-requires c κs = search needs
-
-nevers-of-requires : tie.Need-nevers-of-requires
-nevers-of-requires c κs = search needs
-
 returns : tie.Need-returns
 unfolding headerRule
 returns c = rw (lt-leb inputsAt _ (c .if1 .taken))
@@ -68,12 +56,6 @@ returns-5 c =
       lt-leb _ maxNevers (c .if5 .taken),
     )
 
-outputs-behind-requires : tie.Need-outputs-behind-requires
-outputs-behind-requires c κs = search needs
-
-mul-result : tie.Need-mul-result
-mul-result c = search needs
-
 add-result : tie.Need-add-result
 unfolding neversAt gatesAt outputsAt
 add-result c = omega arith
@@ -98,16 +80,5 @@ pub fits-spec : {M : Type 1} → statement M
 fits-spec =
     tie.close
     (tie.spec
-    inputs-of-requires
-    gates-of-requires
-    outputs-of-requires
-    nevers-of-requires
-    returns
-    returns-2
-    returns-3
-    returns-4
-    returns-5
-    outputs-behind-requires
-    mul-result
-    add-result
-    returns-6)
+    (λ c κs. search needs) (λ c κs. search needs) (λ c κs. search needs) (λ c κs. search needs) returns returns-2
+    returns-3 returns-4 returns-5 (λ c κs. search needs) (λ c. search needs) add-result returns-6)

@@ -7,15 +7,6 @@ use Rattle.block.proofs.NameLaws.{byte-is}
 use Rattle.block.proofs.names.byte_at.Statement.{statement}
 use Rattle.block.proofs.names.byte_at.Tie as tie
 
-add-word-at : tie.Need-add-word-at
-add-word-at c = search needs
-
-word-at-requires : tie.Need-word-at-requires
-word-at-requires c κs = search needs
-
-cast-result : tie.Need-cast-result
-cast-result c = search needs
-
 cast-result-2 : tie.Need-cast-result-2
 cast-result-2 c =
     let known = c .before .before in
@@ -32,4 +23,4 @@ returns-2 c =
     (← byte-is (a .words .now) (a .at) (a .i) (search needs), ne-eqb _ 0 (c .if1 .left), c .before .word-at .ensures)
 
 pub byte-at-spec : {M : Type 1} → statement M
-byte-at-spec = tie.close (tie.spec add-word-at word-at-requires cast-result cast-result-2 returns returns-2)
+byte-at-spec = tie.close (tie.spec (λ c. search needs) (λ c κs. search needs) (λ c. search needs) cast-result-2 returns returns-2)

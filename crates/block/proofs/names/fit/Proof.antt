@@ -19,21 +19,12 @@ abbrev μ-loop : tie.MeasureT-loop
 loop-holds : tie.Need-loop-holds Inv-loop μ-loop
 loop-holds c = (search needs, refl)
 
-is-legal-and-new-requires : tie.Need-is-legal-and-new-requires Inv-loop μ-loop
-is-legal-and-new-requires c κs = search needs
-
 returns : tie.Need-returns Inv-loop μ-loop
 unfolding namesRule
 returns c =
     let a = c .before .before .before .before .before .args in
     let l = c .before .before .before .loop in
     fails (newName (a .words .now) (a .at) (a .size)) (a .count) (l .j) (search needs) (c .before .is-legal-and-new .ensures) (c .if1 .taken)
-
-add-j : tie.Need-add-j Inv-loop μ-loop
-add-j c = search needs
-
-loop-less : tie.Need-loop-less Inv-loop μ-loop
-loop-less c = search needs
 
 loop-again : tie.Need-loop-again Inv-loop μ-loop
 loop-again c =
@@ -52,12 +43,5 @@ pub fit-spec : {M : Type 1} → statement M
 fit-spec =
     tie.close
     (tie.spec
-    Inv-loop
-    μ-loop
-    loop-holds
-    is-legal-and-new-requires
-    returns
-    add-j
-    loop-less
-    loop-again
+    Inv-loop μ-loop loop-holds (λ c κs. search needs) returns (λ c. search needs) (λ c. search needs) loop-again
     returns-2)

@@ -5,15 +5,6 @@ use Rattle.encoding.specs.Rules.{nameRule}
 use Rattle.block.proofs.names.is_legal.Statement.{statement}
 use Rattle.block.proofs.names.is_legal.Tie as tie
 
-byte-at-requires : tie.Need-byte-at-requires
-byte-at-requires c κs = search needs
-
-is-letter-requires : tie.Need-is-letter-requires
-is-letter-requires c κs = search needs
-
-is-padded-requires : tie.Need-is-padded-requires
-is-padded-requires c κs = search needs
-
 returns : tie.Need-returns
 unfolding nameRule
 returns c = rw (← c .before .before .before .byte-at .ensures, sym (c .before .before .is-letter .ensures) ∙ c .before .if1 .taken) (c .is-padded .ensures)
@@ -24,4 +15,4 @@ returns-2 c = rw (← c .before .before .byte-at .ensures, ← c .before .is-let
 
 pub is-legal-spec : {M : Type 1} → statement M
 is-legal-spec =
-    tie.close (tie.spec byte-at-requires is-letter-requires is-padded-requires returns returns-2)
+    tie.close (tie.spec (λ c κs. search needs) (λ c κs. search needs) (λ c κs. search needs) returns returns-2)

@@ -25,9 +25,6 @@ is-legal-requires c κs =
     let h : a .at + a .size * a .j ≤ 65535 = place-le (a .at) (a .size) (a .j) (search needs) (search needs) (search needs) in
     omega arith
 
-is-new-requires : tie.Need-is-new-requires
-is-new-requires c κs = search needs
-
 returns : tie.Need-returns
 returns c = rw (sym (c .before .before .is-legal .ensures) ∙ c .before .if1 .taken) (c .is-new .ensures)
 
@@ -37,4 +34,4 @@ returns-2 c = rw (← c .before .is-legal .ensures, c .if1 .left)
 pub is-legal-and-new-spec : {M : Type 1} → statement M
 is-legal-and-new-spec =
     tie.close
-    (tie.spec mul-is-legal add-is-legal is-legal-requires is-new-requires returns returns-2)
+    (tie.spec mul-is-legal add-is-legal is-legal-requires (λ c κs. search needs) returns returns-2)

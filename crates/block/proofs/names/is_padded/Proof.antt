@@ -19,15 +19,6 @@ abbrev μ-loop : tie.MeasureT-loop
 loop-holds : tie.Need-loop-holds Inv-loop μ-loop
 loop-holds c = (search needs, refl)
 
-byte-at-requires : tie.Need-byte-at-requires Inv-loop μ-loop
-byte-at-requires c κs = search needs
-
-add-only-zeros : tie.Need-add-only-zeros Inv-loop μ-loop
-add-only-zeros c = search needs
-
-only-zeros-requires : tie.Need-only-zeros-requires Inv-loop μ-loop
-only-zeros-requires c κs = search needs
-
 returns : tie.Need-returns Inv-loop μ-loop
 returns c =
     let a = c .before .before .before .before .before .before .args in
@@ -36,9 +27,6 @@ returns c =
     (l .inv .1 ∙ padded-zero (a .words .now) (a .at) (l .i) _ (c .before .before .before .loop-test .taken) (c .before .before .byte-at .ensures)
     (c .before .if1 .taken))
 
-is-name-byte-requires : tie.Need-is-name-byte-requires Inv-loop μ-loop
-is-name-byte-requires c κs = search needs
-
 returns-2 : tie.Need-returns-2 Inv-loop μ-loop
 returns-2 c =
     let a = c .before .before .before .before .before .before .before .args in
@@ -46,12 +34,6 @@ returns-2 c =
     sym (l .inv .1 ∙ padded-fails (a .words .now) (a .at) (l .i) _ (c .before .before .before .before .loop-test .taken)
     (c .before .before .before .byte-at .ensures) (c .before .before .if1 .left)
     (sym (c .before .is-name-byte .ensures) ∙ not-true _ (c .if2 .taken)))
-
-add-i : tie.Need-add-i Inv-loop μ-loop
-add-i c = search needs
-
-loop-less : tie.Need-loop-less Inv-loop μ-loop
-loop-less c = search needs
 
 loop-again : tie.Need-loop-again Inv-loop μ-loop
 loop-again c =
@@ -74,16 +56,5 @@ pub is-padded-spec : {M : Type 1} → statement M
 is-padded-spec =
     tie.close
     (tie.spec
-    Inv-loop
-    μ-loop
-    loop-holds
-    byte-at-requires
-    add-only-zeros
-    only-zeros-requires
-    returns
-    is-name-byte-requires
-    returns-2
-    add-i
-    loop-less
-    loop-again
-    returns-3)
+    Inv-loop μ-loop loop-holds (λ c κs. search needs) (λ c. search needs) (λ c κs. search needs) returns
+    (λ c κs. search needs) returns-2 (λ c. search needs) (λ c. search needs) loop-again returns-3)

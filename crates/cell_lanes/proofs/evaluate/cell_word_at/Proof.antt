@@ -41,17 +41,6 @@ pub cell-word-at-spec : {M : Type 1} → statement M
 cell-word-at-spec =
     tie.close
     (tie.spec
-    (λ c. search needs)
-    first-place
-    (λ c. search needs)
-    second-place
-    (λ c. search needs)
-    third-place
-    (λ c. search needs)
-    fourth-place
-    (λ c. search needs)
-    (λ c. search needs)
-    (λ c. search needs)
-    cast-truth
-    (λ c κs. search needs)
-    returns)
+    (λ c. search needs) first-place (λ c. search needs) second-place (λ c. search needs) third-place
+    (λ c. search needs) fourth-place (λ c. search needs) (λ c. search needs) (λ c. search needs) cast-truth
+    (λ c κs. search needs) returns)

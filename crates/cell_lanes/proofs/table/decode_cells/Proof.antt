@@ -51,15 +51,5 @@ pub decode-cells-spec : {M : Type 1} → statement M
 decode-cells-spec =
     tie.close
     (tie.spec
-    Inv-loop
-    μ-loop
-    loop-holds
-    (λ c κs. search needs)
-    mul-table
-    element-write-table
-    (λ c. omega arith)
-    (λ c. omega arith)
-    loop-again
-    cast-count
-    (λ c. search needs)
-    returns)
+    Inv-loop μ-loop loop-holds (λ c κs. search needs) mul-table element-write-table (λ c. omega arith)
+    (λ c. omega arith) loop-again cast-count (λ c. search needs) returns)

@@ -46,10 +46,4 @@ pub table-word-spec : {M : Type 1} → statement M
 table-word-spec =
     tie.close
     (tie.spec
-    (λ c. search needs)
-    (λ c. search needs)
-    truth
-    cast-place-of
-    place-of-requires
-    cast-result
-    operand)
+    (λ c. search needs) (λ c. search needs) truth cast-place-of place-of-requires cast-result operand)

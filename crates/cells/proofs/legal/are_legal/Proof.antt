@@ -11,17 +11,11 @@ use Rattle.cells.proofs.legal.are_legal.Tie as tie
 returns : tie.Need-returns
 returns c = let a = c .before .before .args in sym (many-inputs (a .inputs) (now (a .cells)) (c .if1 .taken))
 
-mul-if2 : tie.Need-mul-if2
-mul-if2 c = search needs
-
 returns-2 : tie.Need-returns-2
 returns-2 c = let a = c .before .before .before .args in sym (many-cells (a .inputs) (now (a .cells)) (omega arith) (omega arith))
 
 returns-3 : tie.Need-returns-3
 returns-3 c = let a = c .before .before .before .before .args in sym (cut-off (a .inputs) (now (a .cells)) (omega arith) (omega arith) (c .if3 .taken))
-
-all-read-earlier-requires : tie.Need-all-read-earlier-requires
-all-read-earlier-requires c κs = search needs
 
 returns-4 : tie.Need-returns-4
 unfolding cellCount
@@ -30,4 +24,4 @@ returns-4 c =
     c .all-read-earlier .ensures ∙ sym (all-earlier (a .inputs) (now (a .cells)) (omega arith) (omega arith) (c .before .if3 .left))
 
 pub are-legal-spec : {M : Type 1} → statement M
-are-legal-spec = tie.close (tie.spec returns mul-if2 returns-2 returns-3 all-read-earlier-requires returns-4)
+are-legal-spec = tie.close (tie.spec returns (λ c. search needs) returns-2 returns-3 (λ c κs. search needs) returns-4)

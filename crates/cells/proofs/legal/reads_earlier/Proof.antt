@@ -16,23 +16,8 @@ Inv-loop inputs cells j at i₀ i = (i ≤ 4) × (all (wordRule inputs cells j) 
 abbrev μ-loop : tie.MeasureT-loop
 μ-loop inputs cells j at i₀ i = 4 - i
 
-mul-at : tie.Need-mul-at Inv-loop μ-loop
-mul-at c = search needs
-
 loop-holds : tie.Need-loop-holds Inv-loop μ-loop
 loop-holds c = (search needs, refl)
-
-add-is-operand : tie.Need-add-is-operand Inv-loop μ-loop
-add-is-operand c = search needs
-
-add-word-at : tie.Need-add-word-at Inv-loop μ-loop
-add-word-at c = search needs
-
-word-at-requires : tie.Need-word-at-requires Inv-loop μ-loop
-word-at-requires c κs = search needs
-
-is-operand-requires : tie.Need-is-operand-requires Inv-loop μ-loop
-is-operand-requires c κs = search needs
 
 returns : tie.Need-returns Inv-loop μ-loop
 returns c =
@@ -42,12 +27,6 @@ returns c =
     fails (wordRule (a .inputs) (now (a .cells)) (a .j)) 4 (l .i) (search needs)
     (word-told (a .inputs) (now (a .cells)) (a .j) (l .i) (t .before .word-at .ensures) (t .is-operand .ensures)) (c .if1 .taken)
     ∙ sym (reads-rule (a .inputs) (now (a .cells)) (a .j))
-
-add-i : tie.Need-add-i Inv-loop μ-loop
-add-i c = search needs
-
-loop-less : tie.Need-loop-less Inv-loop μ-loop
-loop-less c = search needs
 
 loop-again : tie.Need-loop-again Inv-loop μ-loop
 loop-again c =
@@ -70,16 +49,5 @@ pub reads-earlier-spec : {M : Type 1} → statement M
 reads-earlier-spec =
     tie.close
     (tie.spec
-    Inv-loop
-    μ-loop
-    mul-at
-    loop-holds
-    add-is-operand
-    add-word-at
-    word-at-requires
-    is-operand-requires
-    returns
-    add-i
-    loop-less
-    loop-again
-    returns-2)
+    Inv-loop μ-loop (λ c. search needs) loop-holds (λ c. search needs) (λ c. search needs) (λ c κs. search needs)
+    (λ c κs. search needs) returns (λ c. search needs) (λ c. search needs) loop-again returns-2)

@@ -13,12 +13,6 @@ use Rattle.cells.proofs.Made.{made-word}
 use Rattle.cells.proofs.make.made_word.Statement.{statement}
 use Rattle.cells.proofs.make.made_word.Tie as tie
 
-gates-at-requires : tie.Need-gates-at-requires
-gates-at-requires c κs = search needs
-
-mul-cell-word : tie.Need-mul-cell-word
-mul-cell-word c = search needs
-
 -- the gate's words are there
 inside : (c : tie.After-gates-at) → let s = c .before .before in
     c .gates-at .result + gateSize * (s .args .p / cellSize) + operandWords < length (now (s .args .words))
@@ -43,4 +37,4 @@ returns c =
     c .cell-word .ensures ∙ rw (g .gates-at .ensures) (made-word (now (a .words)) (a .p) (g .before .before .pre .1))
 
 pub made-word-spec : {M : Type 1} → statement M
-made-word-spec = tie.close (tie.spec gates-at-requires mul-cell-word add-cell-word cell-word-requires returns)
+made-word-spec = tie.close (tie.spec (λ c κs. search needs) (λ c. search needs) add-cell-word cell-word-requires returns)

@@ -59,18 +59,6 @@ room-told : (c : tie.After-test-room) → let a = start (words-test (straight-te
     c .test-room .result ≡ testOf (ltb (length (now (a .cells))) (cellSize * getD (now (a .words)) 1 0)) NoRoom
 room-told c = rw (← c .before .gates-of .ensures) (c .test-room .ensures)
 
-check-words-requires : tie.Need-check-words-requires
-check-words-requires c κs = search needs
-
-enum-told : tie.Need-enum-told
-enum-told c = search needs
-
-enum-told-2 : tie.Need-enum-told-2
-enum-told-2 c = search needs
-
-refusal-requires : tie.Need-refusal-requires
-refusal-requires c κs = search needs
-
 returns : tie.Need-returns
 returns c =
     let t = c .before .before .before in
@@ -81,15 +69,6 @@ returns c =
 check-straight-requires : tie.Need-check-straight-requires
 check-straight-requires c κs = whole c
 
-enum-told-3 : tie.Need-enum-told-3
-enum-told-3 c = search needs
-
-enum-told-4 : tie.Need-enum-told-4
-enum-told-4 c = search needs
-
-refusal-requires-2 : tie.Need-refusal-requires-2
-refusal-requires-2 c κs = search needs
-
 returns-2 : tie.Need-returns-2
 returns-2 c =
     let t = c .before .before .before in
@@ -98,25 +77,10 @@ returns-2 c =
     (now (start (words-test (t .before)) .args .cells))
     (c .before .before .match2 .keys2) (c .refusal2 .ensures))
 
-gates-of-requires : tie.Need-gates-of-requires
-gates-of-requires c κs = search needs
-
 mul-count : tie.Need-mul-count
 mul-count c =
     let w = straight-test (c .before) .before in
     omega (arith, c .gates-of .ensures, whole-parts (now (start (words-test w) .args .words)) (whole w) .fewGates)
-
-test-room-requires : tie.Need-test-room-requires
-test-room-requires c κs = search needs
-
-enum-told-5 : tie.Need-enum-told-5
-enum-told-5 c = search needs
-
-enum-told-6 : tie.Need-enum-told-6
-enum-told-6 c = search needs
-
-refusal-requires-3 : tie.Need-refusal-requires-3
-refusal-requires-3 c κs = search needs
 
 returns-3 : tie.Need-returns-3
 returns-3 c =
@@ -133,9 +97,6 @@ put-cells-requires c κs =
     let room = ltb-false _ _ (passed-false _ NoRoom (r .test-room .ensures) (c .before .enum-told5 .given .1)) in
     (whole (straight-test (g .before) .before), (ap (λ (m : ℕ). cellSize * m) (g .gates-of .ensures), room))
 
-same-length : tie.Need-same-length
-same-length c = search needs
-
 returns-4 : tie.Need-returns-4
 returns-4 c =
     let e = c .before .before .before .before in
@@ -148,23 +109,7 @@ pub make-cells-spec : {M : Type 1} → statement M
 make-cells-spec =
     tie.close
     (tie.spec
-    check-words-requires
-    enum-told
-    enum-told-2
-    refusal-requires
-    returns
-    check-straight-requires
-    enum-told-3
-    enum-told-4
-    refusal-requires-2
-    returns-2
-    gates-of-requires
-    mul-count
-    test-room-requires
-    enum-told-5
-    enum-told-6
-    refusal-requires-3
-    returns-3
-    put-cells-requires
-    same-length
-    returns-4)
+    (λ c κs. search needs) (λ c. search needs) (λ c. search needs) (λ c κs. search needs) returns
+    check-straight-requires (λ c. search needs) (λ c. search needs) (λ c κs. search needs) returns-2
+    (λ c κs. search needs) mul-count (λ c κs. search needs) (λ c. search needs) (λ c. search needs)
+    (λ c κs. search needs) returns-3 put-cells-requires (λ c. search needs) returns-4)

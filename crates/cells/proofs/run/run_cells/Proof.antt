@@ -46,53 +46,17 @@ behind-bytes : (c : tie.After-enum-told3) → let a = start (cells-test (bytes-t
 behind-bytes c =
     let t = bytes-test c in passed bare keeps-bare _ _ BadSetting (behind-cells (t .before)) (t .test-bytes .ensures) (c .enum-told3 .given .1)
 
-check-cells-requires : tie.Need-check-cells-requires
-check-cells-requires c κs = search needs
-
-enum-told : tie.Need-enum-told
-enum-told c = search needs
-
-enum-told-2 : tie.Need-enum-told-2
-enum-told-2 c = search needs
-
-refusal-requires : tie.Need-refusal-requires
-refusal-requires c κs = search needs
-
 returns : tie.Need-returns
 returns c =
     let t = c .before .before .before in
     failed bare keeps-bare _ _ MalformedBlock (run-chain _ _ _ _) (t .check-cells .ensures) (now (start t .args .values))
     (c .before .before .match .keys2) (c .refusal .ensures)
 
-test-bytes-requires : tie.Need-test-bytes-requires
-test-bytes-requires c κs = search needs
-
-enum-told-3 : tie.Need-enum-told-3
-enum-told-3 c = search needs
-
-enum-told-4 : tie.Need-enum-told-4
-enum-told-4 c = search needs
-
-refusal-requires-2 : tie.Need-refusal-requires-2
-refusal-requires-2 c κs = search needs
-
 returns-2 : tie.Need-returns-2
 returns-2 c =
     let t = c .before .before .before in
     failed bare keeps-bare _ _ BadSetting (behind-cells (t .before)) (t .test-bytes .ensures) (now (start (cells-test (t .before)) .args .values))
     (c .before .before .match2 .keys2) (c .refusal2 .ensures)
-
-test-room-requires : tie.Need-test-room-requires
-test-room-requires c κs = search needs
-
-enum-told-5 : tie.Need-enum-told-5
-enum-told-5 c = search needs
-
-enum-told-6 : tie.Need-enum-told-6
-enum-told-6 c = search needs
-
-refusal-requires-3 : tie.Need-refusal-requires-3
-refusal-requires-3 c κs = search needs
 
 returns-3 : tie.Need-returns-3
 returns-3 c =
@@ -116,9 +80,6 @@ run-each-requires c κs =
       good-bits (a .inputs) (now (a .setting)) (passed-false _ BadSetting (y .test-bytes .ensures) (r .before .enum-told3 .given .1)),
     )
 
-same-length : tie.Need-same-length
-same-length c = search needs
-
 returns-4 : tie.Need-returns-4
 returns-4 c =
     let e = c .before .before .before .before in
@@ -130,21 +91,7 @@ pub run-cells-spec : {M : Type 1} → statement M
 run-cells-spec =
     tie.close
     (tie.spec
-    check-cells-requires
-    enum-told
-    enum-told-2
-    refusal-requires
-    returns
-    test-bytes-requires
-    enum-told-3
-    enum-told-4
-    refusal-requires-2
-    returns-2
-    test-room-requires
-    enum-told-5
-    enum-told-6
-    refusal-requires-3
-    returns-3
-    run-each-requires
-    same-length
-    returns-4)
+    (λ c κs. search needs) (λ c. search needs) (λ c. search needs) (λ c κs. search needs) returns
+    (λ c κs. search needs) (λ c. search needs) (λ c. search needs) (λ c κs. search needs) returns-2
+    (λ c κs. search needs) (λ c. search needs) (λ c. search needs) (λ c κs. search needs) returns-3 run-each-requires
+    (λ c. search needs) returns-4)

@@ -19,12 +19,6 @@ abbrev μ-loop : tie.MeasureT-loop
 loop-holds : tie.Need-loop-holds Inv-loop μ-loop
 loop-holds c = (omega arith, rw ran-none (filling-none _))
 
-mul-cell-value : tie.Need-mul-cell-value Inv-loop μ-loop
-mul-cell-value c = omega arith
-
-slice-reshare-prefix-cell-value : tie.Need-slice-reshare-prefix-cell-value Inv-loop μ-loop
-slice-reshare-prefix-cell-value c = omega arith
-
 slice-aggregate-cell-value : tie.Need-slice-aggregate-cell-value Inv-loop μ-loop
 slice-aggregate-cell-value c = sym (length-take-le _ (c .before .before .loop .values) (omega arith))
 
@@ -33,15 +27,6 @@ cell-value-requires c κs =
     let s = c .before .before .before .before .before .before in
     let t = c .before .before .loop in
     (omega arith, record { ofSetting = s .pre .1; ofFound = found-bits _ _ _ (now (s .args .values)) (t .values) (t .j) (t .inv .1) })
-
-slice-write-values : tie.Need-slice-write-values Inv-loop μ-loop
-slice-write-values c = omega arith
-
-add-j : tie.Need-add-j Inv-loop μ-loop
-add-j c = omega arith
-
-loop-less : tie.Need-loop-less Inv-loop μ-loop
-loop-less c = omega arith
 
 loop-again : tie.Need-loop-again Inv-loop μ-loop
 loop-again c =
@@ -66,16 +51,5 @@ pub run-each-spec : {M : Type 1} → statement M
 run-each-spec =
     tie.close
     (tie.spec
-    Inv-loop
-    μ-loop
-    loop-holds
-    mul-cell-value
-    slice-reshare-prefix-cell-value
-    slice-aggregate-cell-value
-    cell-value-requires
-    slice-write-values
-    add-j
-    loop-less
-    loop-again
-    same-length
-    returns)
+    Inv-loop μ-loop loop-holds (λ c. omega arith) (λ c. omega arith) slice-aggregate-cell-value cell-value-requires
+    (λ c. omega arith) (λ c. omega arith) (λ c. omega arith) loop-again same-length returns)

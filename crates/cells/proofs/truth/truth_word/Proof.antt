@@ -5,9 +5,6 @@ use Rattle.cells.proofs.TruthWords.{head-low, truth-entry}
 use Rattle.cells.proofs.truth.truth_word.Statement.{statement}
 use Rattle.cells.proofs.truth.truth_word.Tie as tie
 
-truth-words-requires : tie.Need-truth-words-requires
-truth-words-requires c κs = search needs
-
 mul-result : tie.Need-mul-result
 mul-result c = omega (arith, head-low (c .before .args .head) (c .before .pre))
 
@@ -18,4 +15,4 @@ returns : tie.Need-returns
 returns c = rw (c .truth-words .ensures) (truth-entry (c .before .args .head) (c .before .pre))
 
 pub truth-word-spec : {M : Type 1} → statement M
-truth-word-spec = tie.close (tie.spec truth-words-requires mul-result array-read-result returns)
+truth-word-spec = tie.close (tie.spec (λ c κs. search needs) mul-result array-read-result returns)

@@ -34,18 +34,6 @@ bits c =
       few _ _ _ p (c .bit-at4 .ensures),
     )
 
-bit-at-requires : tie.Need-bit-at-requires
-bit-at-requires c κs = search needs
-
-bit-at-requires-2 : tie.Need-bit-at-requires-2
-bit-at-requires-2 c κs = search needs
-
-bit-at-requires-3 : tie.Need-bit-at-requires-3
-bit-at-requires-3 c κs = search needs
-
-bit-at-requires-4 : tie.Need-bit-at-requires-4
-bit-at-requires-4 c κs = search needs
-
 mul-place : tie.Need-mul-place
 mul-place c = let few = bits c in omega arith
 
@@ -64,17 +52,8 @@ mul-place-3 c = let few = bits c in omega arith
 add-place-3 : tie.Need-add-place-3
 add-place-3 c = let few = bits c in omega arith
 
-add-word-at : tie.Need-add-word-at
-add-word-at c = search needs
-
-word-at-requires : tie.Need-word-at-requires
-word-at-requires c κs = search needs
-
 shr-result : tie.Need-shr-result
 shr-result c = let few = bits (c .before) in omega arith
-
-cast-result : tie.Need-cast-result
-cast-result c = search needs
 
 returns : tie.Need-returns
 returns c =
@@ -87,18 +66,6 @@ pub cell-value-spec : {M : Type 1} → statement M
 cell-value-spec =
     tie.close
     (tie.spec
-    bit-at-requires
-    bit-at-requires-2
-    bit-at-requires-3
-    bit-at-requires-4
-    mul-place
-    add-place
-    mul-place-2
-    add-place-2
-    mul-place-3
-    add-place-3
-    add-word-at
-    word-at-requires
-    shr-result
-    cast-result
-    returns)
+    (λ c κs. search needs) (λ c κs. search needs) (λ c κs. search needs) (λ c κs. search needs) mul-place add-place
+    mul-place-2 add-place-2 mul-place-3 add-place-3 (λ c. search needs) (λ c κs. search needs) shr-result
+    (λ c. search needs) returns)

@@ -7,16 +7,10 @@ use Rattle.cells.proofs.Running.{input-bit, zero-bit, one-bit, cell-bit
 use Rattle.cells.proofs.value.operand_bit.Statement.{statement}
 use Rattle.cells.proofs.value.operand_bit.Tie as tie
 
-byte-at-requires : tie.Need-byte-at-requires
-byte-at-requires c κs = search needs
-
 returns : tie.Need-returns
 returns c =
     let a = c .before .before .before .before .args in
     c .byte-at .ensures ∙ sym (input-bit (a .n) (now (a .setting)) (now (a .found)) (a .word) (omega arith))
-
-byte-at-requires-2 : tie.Need-byte-at-requires-2
-byte-at-requires-2 c κs = search needs
 
 returns-2 : tie.Need-returns-2
 returns-2 c =
@@ -34,4 +28,4 @@ returns-4 c =
     c .byte-at2 .ensures ∙ sym (cell-bit (a .n) (now (a .setting)) (now (a .found)) (a .word) (omega arith) (omega arith) (omega arith))
 
 pub operand-bit-spec : {M : Type 1} → statement M
-operand-bit-spec = tie.close (tie.spec byte-at-requires returns byte-at-requires-2 returns-2 returns-3 returns-4)
+operand-bit-spec = tie.close (tie.spec (λ c κs. search needs) returns (λ c κs. search needs) returns-2 returns-3 returns-4)

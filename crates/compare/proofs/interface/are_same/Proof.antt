@@ -61,12 +61,6 @@ returns c =
     fails (sameNameAt (a .ours .now) (a .at) (a .theirs .now) (a .other) (a .size)) (a .count) (l .loop .i) (search needs)
     (c .before .is-same .ensures) (c .if1 .taken)
 
-add-i : tie.Need-add-i Inv-loop μ-loop
-add-i c = search needs
-
-loop-less : tie.Need-loop-less Inv-loop μ-loop
-loop-less c = search needs
-
 loop-again : tie.Need-loop-again Inv-loop μ-loop
 loop-again c =
     let l = c .before .before .before in
@@ -87,16 +81,5 @@ pub are-same-spec : {M : Type 1} → statement M
 are-same-spec =
     tie.close
     (tie.spec
-    Inv-loop
-    μ-loop
-    loop-holds
-    mul-is-same
-    add-is-same
-    mul-is-same-2
-    add-is-same-2
-    is-same-requires
-    returns
-    add-i
-    loop-less
-    loop-again
-    returns-2)
+    Inv-loop μ-loop loop-holds mul-is-same add-is-same mul-is-same-2 add-is-same-2 is-same-requires returns
+    (λ c. search needs) (λ c. search needs) loop-again returns-2)

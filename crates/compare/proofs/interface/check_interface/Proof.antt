@@ -7,14 +7,8 @@ use Rattle.refusals.specs.Tests.{testOf}
 use Rattle.compare.proofs.interface.check_interface.Statement.{statement}
 use Rattle.compare.proofs.interface.check_interface.Tie as tie
 
-has-interface-requires : tie.Need-has-interface-requires
-has-interface-requires c κs = search needs
-
-refuse-if-requires : tie.Need-refuse-if-requires
-refuse-if-requires c κs = search needs
-
 returns : tie.Need-returns
 returns c = c .refuse-if .ensures ∙ ap (λ (b : Bool). testOf (not b) InterfaceMismatch) (c .before .has-interface .ensures)
 
 pub check-interface-spec : {M : Type 1} → statement M
-check-interface-spec = tie.close (tie.spec has-interface-requires refuse-if-requires returns)
+check-interface-spec = tie.close (tie.spec (λ c κs. search needs) (λ c κs. search needs) returns)

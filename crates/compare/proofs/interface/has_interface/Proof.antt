@@ -50,22 +50,10 @@ abbrev names-told : (c : tie.After-are-same) → let a = entry (inputs-test (out
     c .are-same .result ≡ all (sameNameAt (now (a .ours)) inputsAt (now (a .theirs)) inputsAt nameSize) (upTo (getD (now (a .ours)) 0 0))
 names-told c = rw (counts (inputs-test (outputs-test c)) .before .inputs-of .ensures) at (c .are-same .ensures)
 
-inputs-of-requires : tie.Need-inputs-of-requires
-inputs-of-requires c κs = search needs
-
-outputs-of-requires : tie.Need-outputs-of-requires
-outputs-of-requires c κs = search needs
-
-inputs-of-requires-2 : tie.Need-inputs-of-requires-2
-inputs-of-requires-2 c κs = search needs
-
 returns : tie.Need-returns
 returns c =
     let t = c .before in
     other-inputs _ _ (λ e. c .if1 .taken (t .inputs-of2 .ensures ∙ e ∙ sym (counts t .before .inputs-of .ensures)))
-
-outputs-of-requires-2 : tie.Need-outputs-of-requires-2
-outputs-of-requires-2 c κs = search needs
 
 returns-2 : tie.Need-returns-2
 returns-2 c =
@@ -81,12 +69,6 @@ returns-3 : tie.Need-returns-3
 returns-3 c =
     let t = c .before in
     other-names _ _ (as-many-inputs (outputs-test t .before)) (names-told t) (c .if3 .taken)
-
-outputs-at-requires : tie.Need-outputs-at-requires
-outputs-at-requires c κs = search needs
-
-outputs-at-requires-2 : tie.Need-outputs-at-requires-2
-outputs-at-requires-2 c κs = search needs
 
 are-same-requires-2 : tie.Need-are-same-requires-2
 unfolding outputsAt gatesAt neversAt
@@ -114,15 +96,5 @@ pub has-interface-spec : {M : Type 1} → statement M
 has-interface-spec =
     tie.close
     (tie.spec
-    inputs-of-requires
-    outputs-of-requires
-    inputs-of-requires-2
-    returns
-    outputs-of-requires-2
-    returns-2
-    are-same-requires
-    returns-3
-    outputs-at-requires
-    outputs-at-requires-2
-    are-same-requires-2
-    returns-4)
+    (λ c κs. search needs) (λ c κs. search needs) (λ c κs. search needs) returns (λ c κs. search needs) returns-2
+    are-same-requires returns-3 (λ c κs. search needs) (λ c κs. search needs) are-same-requires-2 returns-4)

@@ -20,7 +20,5 @@ pub disagreeing-lanes-spec : {M : Type 1} → statement M
 disagreeing-lanes-spec =
     tie.close
     (tie.spec
-    (λ c κs. search needs)
-    (λ c κs. rw (c .inputs-of .ensures) (start c .pre .our-values))
-    (λ c κs. let n = c .before in (start n .pre .pair, n .inputs-of .ensures))
-    returns)
+    (λ c κs. search needs) (λ c κs. rw (c .inputs-of .ensures) (start c .pre .our-values))
+    (λ c κs. let n = c .before in (start n .pre .pair, n .inputs-of .ensures)) returns)

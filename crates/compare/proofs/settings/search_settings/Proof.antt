@@ -164,21 +164,6 @@ pub search-settings-spec : {M : Type 1} → statement M
 search-settings-spec =
     tie.close
     (tie.spec
-    Inv-loop
-    μ-loop
-    (λ c κs. search needs)
-    setting-count-requires
-    (λ c κs. search needs)
-    loop-holds
-    judge-batch-requires
-    judge-straight-requires
-    (λ c κs. both (c .before .before))
-    (λ c κs. search needs)
-    lowest-differing-requires
-    add-t24
-    add-t25
-    returns
-    add-base
-    loop-less
-    loop-again
-    returns-2)
+    Inv-loop μ-loop (λ c κs. search needs) setting-count-requires (λ c κs. search needs) loop-holds
+    judge-batch-requires judge-straight-requires (λ c κs. both (c .before .before)) (λ c κs. search needs)
+    lowest-differing-requires add-t24 add-t25 returns add-base loop-less loop-again returns-2)

@@ -48,14 +48,5 @@ pub all-below-spec : {M : Type 1} → statement M
 all-below-spec =
     tie.close
     (tie.spec
-    Inv-loop
-    μ-loop
-    (λ c. (omega arith, λ k h. absurd (omega arith)))
-    (λ c. omega arith)
-    (λ c. omega arith)
-    cast-word
-    above
-    (λ c. omega arith)
-    (λ c. omega arith)
-    loop-again
-    below)
+    Inv-loop μ-loop (λ c. (omega arith, λ k h. absurd (omega arith))) (λ c. omega arith) (λ c. omega arith) cast-word
+    above (λ c. omega arith) (λ c. omega arith) loop-again below)

@@ -33,10 +33,5 @@ pub differing-lanes-spec : {M : Type 1} → statement M
 differing-lanes-spec =
     tie.close
     (tie.spec
-    (λ c κs. search needs)
-    (λ c κs. search needs)
-    output-pair-requires
-    (λ c κs. search needs)
-    (λ c κs. search needs)
-    (λ c κs. search needs)
-    returns)
+    (λ c κs. search needs) (λ c κs. search needs) output-pair-requires (λ c κs. search needs) (λ c κs. search needs)
+    (λ c κs. search needs) returns)

@@ -41,11 +41,5 @@ pub shown-word-spec : {M : Type 1} → statement M
 shown-word-spec =
     tie.close
     (tie.spec
-    (λ c. let s = c .before .before in omega (arith, s .pre .0 .long, s .pre .1))
-    read-word
-    cast-word
-    (λ c κs. search needs)
-    place-of-requires
-    (λ c. omega (arith, inside c))
-    (λ c. omega (arith, inside c))
-    returns)
+    (λ c. let s = c .before .before in omega (arith, s .pre .0 .long, s .pre .1)) read-word cast-word
+    (λ c κs. search needs) place-of-requires (λ c. omega (arith, inside c)) (λ c. omega (arith, inside c)) returns)

@@ -172,21 +172,6 @@ pub search-settings-spec : {M : Type 1} → statement M
 search-settings-spec =
     tie.close
     (tie.spec
-    Inv-loop
-    μ-loop
-    (λ c κs. search needs)
-    setting-count-requires
-    (λ c κs. search needs)
-    loop-holds
-    judge-batch-requires
-    evaluate-cells-requires
-    disagreeing-lanes-requires
-    (λ c κs. search needs)
-    lowest-differing-requires
-    add-output
-    add-lane
-    found
-    add-base
-    loop-less
-    loop-again
-    accepted)
+    Inv-loop μ-loop (λ c κs. search needs) setting-count-requires (λ c κs. search needs) loop-holds
+    judge-batch-requires evaluate-cells-requires disagreeing-lanes-requires (λ c κs. search needs)
+    lowest-differing-requires add-output add-lane found add-base loop-less loop-again accepted)

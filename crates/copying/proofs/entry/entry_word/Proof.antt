@@ -7,18 +7,6 @@ use borrow.Author.Needs.{needs}
 use Rattle.copying.proofs.entry.entry_word.Statement.{statement}
 use Rattle.copying.proofs.entry.entry_word.Tie as tie
 
-add-w : tie.Need-add-w
-add-w c = search needs
-
-mul-w : tie.Need-mul-w
-mul-w c = search needs
-
-shared-slice-read-w : tie.Need-shared-slice-read-w
-shared-slice-read-w c = search needs
-
-mapped-requires : tie.Need-mapped-requires
-mapped-requires c κs = search needs
-
 returns : tie.Need-returns
 returns c =
     let a = c .before .before .before .before .before .before .before .before .before .args in
@@ -38,4 +26,4 @@ returns-3 c =
 pub entry-word-spec : {M : Type 1} → statement M
 entry-word-spec =
     tie.close
-    (tie.spec add-w mul-w shared-slice-read-w mapped-requires returns returns-2 returns-3)
+    (tie.spec (λ c. search needs) (λ c. search needs) (λ c. search needs) (λ c κs. search needs) returns returns-2 returns-3)

@@ -9,15 +9,6 @@ use Rattle.copying.proofs.entry.mapped.Tie as tie
 abbrev start : tie.After-gate-named → tie.Start
 start c = c .before .before
 
-gate-named-requires : tie.Need-gate-named-requires
-gate-named-requires c κs = search needs
-
-mul-result : tie.Need-mul-result
-mul-result c = search needs
-
-shared-slice-read-result : tie.Need-shared-slice-read-result
-shared-slice-read-result c = search needs
-
 returns : tie.Need-returns
 returns c =
     let named = c .before .before .before in
@@ -31,4 +22,4 @@ returns-2 c =
     sym (mapped-none (a .nodes) (a .newest .now) (a .w) (named .gate-named .ensures) (c .if1 .left))
 
 pub mapped-spec : {M : Type 1} → statement M
-mapped-spec = tie.close (tie.spec gate-named-requires mul-result shared-slice-read-result returns returns-2)
+mapped-spec = tie.close (tie.spec (λ c κs. search needs) (λ c. search needs) (λ c. search needs) returns returns-2)

@@ -23,12 +23,6 @@ loop-holds : tie.Need-loop-holds Inv-loop μ-loop
 unfolding tableAfter
 loop-holds c = (omega arith, refl, refl, refl, refl)
 
-mul-copy-gate : tie.Need-mul-copy-gate Inv-loop μ-loop
-mul-copy-gate c = omega arith
-
-shared-slice-read-copy-gate : tie.Need-shared-slice-read-copy-gate Inv-loop μ-loop
-shared-slice-read-copy-gate c = omega arith
-
 cast-copy-gate : tie.Need-cast-copy-gate Inv-loop μ-loop
 cast-copy-gate c = omega (arith, c .shared-slice-known3 .given (c .before .before .loop .t))
 
@@ -37,12 +31,6 @@ copy-gate-requires c κs =
     let at-loop = c .before .before .before .before in
     let at-start = at-loop .before .before .before .before .before in
     (at-start .pre .0 .inside (at-loop .loop .t) (omega arith), omega arith)
-
-add-t : tie.Need-add-t Inv-loop μ-loop
-add-t c = omega arith
-
-loop-less : tie.Need-loop-less Inv-loop μ-loop
-loop-less c = omega arith
 
 loop-again : tie.Need-loop-again Inv-loop μ-loop
 loop-again c =
@@ -75,16 +63,5 @@ pub copy-gates-spec : {M : Type 1} → statement M
 copy-gates-spec =
     tie.close
     (tie.spec
-    Inv-loop
-    μ-loop
-    loop-holds
-    mul-copy-gate
-    shared-slice-read-copy-gate
-    cast-copy-gate
-    copy-gate-requires
-    add-t
-    loop-less
-    loop-again
-    same-length
-    same-length-2
-    returns)
+    Inv-loop μ-loop loop-holds (λ c. omega arith) (λ c. omega arith) cast-copy-gate copy-gate-requires
+    (λ c. omega arith) (λ c. omega arith) loop-again same-length same-length-2 returns)

@@ -17,35 +17,8 @@ Inv-loop words nodes k newest out₀ to from o₀ out o =
 abbrev μ-loop : tie.MeasureT-loop
 μ-loop words nodes k newest out₀ to from o₀ out o = k - o
 
-mul-from : tie.Need-mul-from Inv-loop μ-loop
-mul-from c = omega arith
-
-add-from : tie.Need-add-from Inv-loop μ-loop
-add-from c = omega arith
-
 loop-holds : tie.Need-loop-holds Inv-loop μ-loop
 loop-holds c = (omega arith, refl, refl)
-
-mul-at : tie.Need-mul-at Inv-loop μ-loop
-mul-at c = omega arith
-
-add-at : tie.Need-add-at Inv-loop μ-loop
-add-at c = omega arith
-
-mul-copy-entry : tie.Need-mul-copy-entry Inv-loop μ-loop
-mul-copy-entry c = omega arith
-
-add-copy-entry : tie.Need-add-copy-entry Inv-loop μ-loop
-add-copy-entry c = omega arith
-
-copy-entry-requires : tie.Need-copy-entry-requires Inv-loop μ-loop
-copy-entry-requires c κs = omega arith
-
-add-o : tie.Need-add-o Inv-loop μ-loop
-add-o c = omega arith
-
-loop-less : tie.Need-loop-less Inv-loop μ-loop
-loop-less c = omega arith
 
 loop-again : tie.Need-loop-again Inv-loop μ-loop
 loop-again c =
@@ -73,18 +46,6 @@ pub copy-outputs-spec : {M : Type 1} → statement M
 copy-outputs-spec =
     tie.close
     (tie.spec
-    Inv-loop
-    μ-loop
-    mul-from
-    add-from
-    loop-holds
-    mul-at
-    add-at
-    mul-copy-entry
-    add-copy-entry
-    copy-entry-requires
-    add-o
-    loop-less
-    loop-again
-    same-length
-    returns)
+    Inv-loop μ-loop (λ c. omega arith) (λ c. omega arith) loop-holds (λ c. omega arith) (λ c. omega arith)
+    (λ c. omega arith) (λ c. omega arith) (λ c κs. omega arith) (λ c. omega arith) (λ c. omega arith) loop-again
+    same-length returns)

@@ -28,15 +28,6 @@ known p =
     let s = start p in
     sizes (s .args .words .now) (s .args .order .now) (s .args .total) (s .args .newest .now) (s .args .out .now) (s .pre) (p .nodes-of .ensures)
 
-nodes-of-requires : tie.Need-nodes-of-requires
-nodes-of-requires c κs = search needs
-
-outputs-of-requires : tie.Need-outputs-of-requires
-outputs-of-requires c κs = search needs
-
-nevers-of-requires : tie.Need-nevers-of-requires
-nevers-of-requires c κs = search needs
-
 write-header-requires : tie.Need-write-header-requires
 write-header-requires c κs =
     let lines = c .before in
@@ -50,9 +41,6 @@ copy-words-requires : tie.Need-copy-words-requires
 copy-words-requires c κs =
     let h = c .before .before .before .before in
     omega (arith, known (placing h), h .write-header .kept .1 .1 .1 .1 .0)
-
-cast-fill-words : tie.Need-cast-fill-words
-cast-fill-words c = search needs
 
 fill-words-requires : tie.Need-fill-words-requires
 fill-words-requires c κs =
@@ -105,12 +93,6 @@ copy-outputs-requires c κs =
       heading w .write-header .kept .1 .1 .1 .1 .0,
     )
 
-same-length : tie.Need-same-length
-same-length c = search needs
-
-same-length-2 : tie.Need-same-length-2
-same-length-2 c = search needs
-
 returns : tie.Need-returns
 returns c =
     let out = c .before .before in
@@ -127,18 +109,6 @@ pub write-rendering-spec : {M : Type 1} → statement M
 write-rendering-spec =
     tie.close
     (tie.spec
-    nodes-of-requires
-    outputs-of-requires
-    nevers-of-requires
-    write-header-requires
-    sub-copy-words
-    copy-words-requires
-    cast-fill-words
-    fill-words-requires
-    copy-gates-requires
-    mul-copy-outputs
-    add-copy-outputs
-    copy-outputs-requires
-    same-length
-    same-length-2
-    returns)
+    (λ c κs. search needs) (λ c κs. search needs) (λ c κs. search needs) write-header-requires sub-copy-words
+    copy-words-requires (λ c. search needs) fill-words-requires copy-gates-requires mul-copy-outputs add-copy-outputs
+    copy-outputs-requires (λ c. search needs) (λ c. search needs) returns)

@@ -26,12 +26,6 @@ returns c =
     sym (c .before .before .loop .inv .2 ∙ word-short (c .before .before .before .args .bytes .now) (c .before .before .before .args .s .now)
     (c .before .before .loop .i) (c .before .loop-test .taken) (c .if1 .taken))
 
-shared-slice-read-if2 : tie.Need-shared-slice-read-if2 Inv-loop μ-loop
-shared-slice-read-if2 c = omega arith
-
-shared-slice-read-if2-2 : tie.Need-shared-slice-read-if2-2 Inv-loop μ-loop
-shared-slice-read-if2-2 c = omega arith
-
 sub-t13 : tie.Need-sub-t13 Inv-loop μ-loop
 sub-t13 c = c .before .before .before .before .before .loop .inv .1
 
@@ -42,12 +36,6 @@ returns-2 c =
     let b = stage in
     let a = b .before .before .args in
     sym (b .before .loop .inv .2 ∙ word-other (a .bytes .now) (a .s .now) (b .before .loop .i) (b .loop-test .taken) (at-if1 .if1 .left) (c .if2 .taken))
-
-add-i : tie.Need-add-i Inv-loop μ-loop
-add-i c = omega arith
-
-loop-less : tie.Need-loop-less Inv-loop μ-loop
-loop-less c = omega arith
 
 loop-again : tie.Need-loop-again Inv-loop μ-loop
 loop-again c =
@@ -69,17 +57,5 @@ pub word-spec : {M : Type 1} → statement M
 word-spec =
     tie.close
     (tie.spec
-    Inv-loop
-    μ-loop
-    loop-holds
-    sub-t7
-    returns
-    shared-slice-read-if2
-    shared-slice-read-if2-2
-    sub-t13
-    returns-2
-    add-i
-    loop-less
-    loop-again
-    sub-t15
-    returns-3)
+    Inv-loop μ-loop loop-holds sub-t7 returns (λ c. omega arith) (λ c. omega arith) sub-t13 returns-2
+    (λ c. omega arith) (λ c. omega arith) loop-again sub-t15 returns-3)

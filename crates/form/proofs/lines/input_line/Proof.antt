@@ -26,62 +26,17 @@ left-1 c = first-next input-word (shortens-word (ascii "in ")) (text c) (c .befo
 left-2 : (c : tie.After-known-told2) → Behind inputReader (text (first c)) (c .before .found2 .given .0 .0) closing
 left-2 c = then-next input-name (shortens-name (firstByte false)) (left-1 (first c)) (c .before .before .before .name .ensures) (c .before .found2 .given .1)
 
-slice-aggregate-word : tie.Need-slice-aggregate-word
-slice-aggregate-word c = search needs
-
-word-requires : tie.Need-word-requires
-word-requires c κs = search needs
-
-enum-known-found : tie.Need-enum-known-found
-enum-known-found c = search needs
-
-enum-told : tie.Need-enum-told
-enum-told c = search needs
-
 returns : tie.Need-returns
 returns c = first-bad input-word (c .before .before .before .before .before .args .s .now) (c .before .before .word .ensures) (c .enum-told .given .1)
 
 sub-at : tie.Need-sub-at
 sub-at c = left-1 c .within
 
-sub-name : tie.Need-sub-name
-sub-name c = search needs
-
-part-name-start : tie.Need-part-name-start
-part-name-start c = search needs
-
-part-name-end : tie.Need-part-name-end
-part-name-end c = search needs
-
-name-requires : tie.Need-name-requires
-name-requires c κs = search needs
-
-enum-known-found-2 : tie.Need-enum-known-found-2
-enum-known-found-2 c = search needs
-
-enum-told-2 : tie.Need-enum-told-2
-enum-told-2 c = search needs
-
 returns-2 : tie.Need-returns-2
 returns-2 c = then-bad input-name (left-1 (c .before .before .before .before)) (c .before .before .name .ensures) (c .enum-told2 .given .1)
 
 sub-at-2 : tie.Need-sub-at-2
 sub-at-2 c = left-2 c .within
-
-sub-word : tie.Need-sub-word
-sub-word c = search needs
-
-part-word-start : tie.Need-part-word-start
-part-word-start c = search needs
-
-part-word-end : tie.Need-part-word-end
-part-word-end c = search needs
-
-slice-aggregate-word-2 : tie.Need-slice-aggregate-word-2
-slice-aggregate-word-2 c = search needs
-
-word-requires-2 : tie.Need-word-requires-2
-word-requires-2 c κs = search needs
 
 returns-3 : tie.Need-returns-3
 returns-3 c = then-last closing (left-2 (c .before .before .before)) (c .word2 .ensures)
@@ -90,23 +45,7 @@ pub input-line-spec : {M : Type 1} → statement M
 input-line-spec =
     tie.close
     (tie.spec
-    slice-aggregate-word
-    word-requires
-    enum-known-found
-    enum-told
-    returns
-    sub-at
-    sub-name
-    part-name-start
-    part-name-end
-    name-requires
-    enum-known-found-2
-    enum-told-2
-    returns-2
-    sub-at-2
-    sub-word
-    part-word-start
-    part-word-end
-    slice-aggregate-word-2
-    word-requires-2
-    returns-3)
+    (λ c. search needs) (λ c κs. search needs) (λ c. search needs) (λ c. search needs) returns sub-at
+    (λ c. search needs) (λ c. search needs) (λ c. search needs) (λ c κs. search needs) (λ c. search needs)
+    (λ c. search needs) returns-2 sub-at-2 (λ c. search needs) (λ c. search needs) (λ c. search needs)
+    (λ c. search needs) (λ c κs. search needs) returns-3)

@@ -34,27 +34,15 @@ no-gate : (c : tie.Joined6) → c .before .before .before .byte-at2 .result ≡ 
     → c .before .before .before .before .before .before .before .args .phase ≤ 2 → ⊥
 no-gate c = ⊎-elim (λ w _ p. let h = w .1 .left in omega arith) (λ w g _. w .left g) (c .if6 .came)
 
-byte-at-requires : tie.Need-byte-at-requires
-byte-at-requires c κs = search needs
-
 returns : tie.Need-returns
 returns c =
     sym (ap scanOf (line-none (c .before .before .before .args .phase) (c .before .before .before .args .s .now) (c .before .byte-at .ensures) (c .if1 .taken)))
-
-byte-at-requires-2 : tie.Need-byte-at-requires-2
-byte-at-requires-2 c κs = search needs
 
 sub-input-line : tie.Need-sub-input-line
 sub-input-line c = bracket-there (c .before .before .before)
 
 part-input-line-start : tie.Need-part-input-line-start
 part-input-line-start c = bracket-there (c .before .before .before)
-
-part-input-line-end : tie.Need-part-input-line-end
-part-input-line-end c = search needs
-
-input-line-requires : tie.Need-input-line-requires
-input-line-requires c κs = search needs
 
 returns-2 : tie.Need-returns-2
 returns-2 c =
@@ -70,12 +58,6 @@ sub-never-line c = bracket-there (c .before .before .before .before)
 
 part-never-line-start : tie.Need-part-never-line-start
 part-never-line-start c = bracket-there (c .before .before .before .before)
-
-part-never-line-end : tie.Need-part-never-line-end
-part-never-line-end c = search needs
-
-never-line-requires : tie.Need-never-line-requires
-never-line-requires c κs = search needs
 
 returns-3 : tie.Need-returns-3
 returns-3 c =
@@ -93,12 +75,6 @@ sub-gate-line c = bracket-there (c .before .before .before .before .before)
 
 part-gate-line-start : tie.Need-part-gate-line-start
 part-gate-line-start c = bracket-there (c .before .before .before .before .before)
-
-part-gate-line-end : tie.Need-part-gate-line-end
-part-gate-line-end c = search needs
-
-gate-line-requires : tie.Need-gate-line-requires
-gate-line-requires c κs = search needs
 
 returns-4 : tie.Need-returns-4
 returns-4 c =
@@ -118,12 +94,6 @@ sub-output-line c = bracket-there (c .before .before .before .before)
 part-output-line-start : tie.Need-part-output-line-start
 part-output-line-start c = bracket-there (c .before .before .before .before)
 
-part-output-line-end : tie.Need-part-output-line-end
-part-output-line-end c = search needs
-
-output-line-requires : tie.Need-output-line-requires
-output-line-requires c κs = search needs
-
 returns-5 : tie.Need-returns-5
 returns-5 c = let l = c .before .before in
     let k = l .before in
@@ -137,26 +107,7 @@ pub line-spec : {M : Type 1} → statement M
 line-spec =
     tie.close
     (tie.spec
-    byte-at-requires
-    returns
-    byte-at-requires-2
-    sub-input-line
-    part-input-line-start
-    part-input-line-end
-    input-line-requires
-    returns-2
-    sub-never-line
-    part-never-line-start
-    part-never-line-end
-    never-line-requires
-    returns-3
-    sub-gate-line
-    part-gate-line-start
-    part-gate-line-end
-    gate-line-requires
-    returns-4
-    sub-output-line
-    part-output-line-start
-    part-output-line-end
-    output-line-requires
-    returns-5)
+    (λ c κs. search needs) returns (λ c κs. search needs) sub-input-line part-input-line-start (λ c. search needs)
+    (λ c κs. search needs) returns-2 sub-never-line part-never-line-start (λ c. search needs) (λ c κs. search needs)
+    returns-3 sub-gate-line part-gate-line-start (λ c. search needs) (λ c κs. search needs) returns-4 sub-output-line
+    part-output-line-start (λ c. search needs) (λ c κs. search needs) returns-5)

@@ -31,18 +31,6 @@ left-2 c =
     let e = never-bound _ (first c .before .found .given .0 .0) (lent-is (first c)) (c .before .before .before .pairs .ensures) in
     then-next never-pairs shortens-never-pairs (left-1 (first c)) e (c .before .found2 .given .1)
 
-slice-aggregate-word : tie.Need-slice-aggregate-word
-slice-aggregate-word c = search needs
-
-word-requires : tie.Need-word-requires
-word-requires c κs = search needs
-
-enum-known-found : tie.Need-enum-known-found
-enum-known-found c = search needs
-
-enum-told : tie.Need-enum-told
-enum-told c = search needs
-
 returns : tie.Need-returns
 returns c =
     first-bad never-word (c .before .before .before .before .before .args .s .now)
@@ -50,24 +38,6 @@ returns c =
 
 sub-at : tie.Need-sub-at
 sub-at c = left-1 c .within
-
-sub-pairs : tie.Need-sub-pairs
-sub-pairs c = search needs
-
-part-pairs-start : tie.Need-part-pairs-start
-part-pairs-start c = search needs
-
-part-pairs-end : tie.Need-part-pairs-end
-part-pairs-end c = search needs
-
-pairs-requires : tie.Need-pairs-requires
-pairs-requires c κs = search needs
-
-enum-known-found-2 : tie.Need-enum-known-found-2
-enum-known-found-2 c = search needs
-
-enum-told-2 : tie.Need-enum-told-2
-enum-told-2 c = search needs
 
 returns-2 : tie.Need-returns-2
 returns-2 c =
@@ -78,21 +48,6 @@ returns-2 c =
 sub-at-2 : tie.Need-sub-at-2
 sub-at-2 c = left-2 c .within
 
-sub-word : tie.Need-sub-word
-sub-word c = search needs
-
-part-word-start : tie.Need-part-word-start
-part-word-start c = search needs
-
-part-word-end : tie.Need-part-word-end
-part-word-end c = search needs
-
-slice-aggregate-word-2 : tie.Need-slice-aggregate-word-2
-slice-aggregate-word-2 c = search needs
-
-word-requires-2 : tie.Need-word-requires-2
-word-requires-2 c κs = search needs
-
 returns-3 : tie.Need-returns-3
 returns-3 c = then-last (wordReader (ascii "\n")) (left-2 (c .before .before .before)) (c .word2 .ensures)
 
@@ -100,23 +55,7 @@ pub never-line-spec : {M : Type 1} → statement M
 never-line-spec =
     tie.close
     (tie.spec
-    slice-aggregate-word
-    word-requires
-    enum-known-found
-    enum-told
-    returns
-    sub-at
-    sub-pairs
-    part-pairs-start
-    part-pairs-end
-    pairs-requires
-    enum-known-found-2
-    enum-told-2
-    returns-2
-    sub-at-2
-    sub-word
-    part-word-start
-    part-word-end
-    slice-aggregate-word-2
-    word-requires-2
-    returns-3)
+    (λ c. search needs) (λ c κs. search needs) (λ c. search needs) (λ c. search needs) returns sub-at
+    (λ c. search needs) (λ c. search needs) (λ c. search needs) (λ c κs. search needs) (λ c. search needs)
+    (λ c. search needs) returns-2 sub-at-2 (λ c. search needs) (λ c. search needs) (λ c. search needs)
+    (λ c. search needs) (λ c κs. search needs) returns-3)

@@ -21,12 +21,6 @@ starts-at : (c : tie.Else1) → firstByte (c .before .before .before .before .ar
     ≡ true
 starts-at c = sym (starts-is (c .before)) ∙ not-false (c .before .starts .result) (c .if1 .left)
 
-byte-at-requires : tie.Need-byte-at-requires
-byte-at-requires c κs = search needs
-
-starts-requires : tie.Need-starts-requires
-starts-requires c κs = search needs
-
 returns : tie.Need-returns
 returns c = let a = c .before .before .before .before .args in
     sym (name-none (a .underscore) (a .s .now) (sym (starts-is (c .before)) ∙ not-true (c .before .starts .result) (c .if1 .taken)))
@@ -37,12 +31,6 @@ sub-name-bytes c = name-there (c .before .before .before .before .args .undersco
 part-name-bytes-start : tie.Need-part-name-bytes-start
 part-name-bytes-start c = name-there (c .before .before .before .before .args .underscore) (c .before .before .before .before .args .s .now) (starts-at c)
 
-part-name-bytes-end : tie.Need-part-name-bytes-end
-part-name-bytes-end c = search needs
-
-name-bytes-requires : tie.Need-name-bytes-requires
-name-bytes-requires c κs = search needs
-
 returns-2 : tie.Need-returns-2
 returns-2 c = let b = c .before .before in
     let a = b .before .before .before .before .args in
@@ -52,11 +40,5 @@ pub name-spec : {M : Type 1} → statement M
 name-spec =
     tie.close
     (tie.spec
-    byte-at-requires
-    starts-requires
-    returns
-    sub-name-bytes
-    part-name-bytes-start
-    part-name-bytes-end
-    name-bytes-requires
-    returns-2)
+    (λ c κs. search needs) (λ c κs. search needs) returns sub-name-bytes part-name-bytes-start (λ c. search needs)
+    (λ c κs. search needs) returns-2)

@@ -34,41 +34,11 @@ left-2 c =
 left-3 : (c : tie.After-known-told3) → Behind pairScan (text (first (second c))) (c .before .found3 .given .0 .0) bitEnd
 left-3 c = then-next pair-value (shortens-word (ascii " ")) (left-2 (second c)) (c .before .before .before .word2 .ensures) (c .before .found3 .given .1)
 
-slice-aggregate-word : tie.Need-slice-aggregate-word
-slice-aggregate-word c = search needs
-
-word-requires : tie.Need-word-requires
-word-requires c κs = search needs
-
-enum-known-found : tie.Need-enum-known-found
-enum-known-found c = search needs
-
-enum-told : tie.Need-enum-told
-enum-told c = search needs
-
 returns : tie.Need-returns
 returns c = first-bad pair-word (c .before .before .before .before .before .args .s .now) (c .before .before .word .ensures) (c .enum-told .given .1)
 
 sub-at : tie.Need-sub-at
 sub-at c = left-1 c .within
-
-sub-name : tie.Need-sub-name
-sub-name c = search needs
-
-part-name-start : tie.Need-part-name-start
-part-name-start c = search needs
-
-part-name-end : tie.Need-part-name-end
-part-name-end c = search needs
-
-name-requires : tie.Need-name-requires
-name-requires c κs = search needs
-
-enum-known-found-2 : tie.Need-enum-known-found-2
-enum-known-found-2 c = search needs
-
-enum-told-2 : tie.Need-enum-told-2
-enum-told-2 c = search needs
 
 returns-2 : tie.Need-returns-2
 returns-2 c = then-bad pair-name (left-1 (c .before .before .before .before)) (c .before .before .name .ensures) (c .enum-told2 .given .1)
@@ -76,44 +46,11 @@ returns-2 c = then-bad pair-name (left-1 (c .before .before .before .before)) (c
 sub-at-2 : tie.Need-sub-at-2
 sub-at-2 c = left-2 c .within
 
-sub-word : tie.Need-sub-word
-sub-word c = search needs
-
-part-word-start : tie.Need-part-word-start
-part-word-start c = search needs
-
-part-word-end : tie.Need-part-word-end
-part-word-end c = search needs
-
-slice-aggregate-word-2 : tie.Need-slice-aggregate-word-2
-slice-aggregate-word-2 c = search needs
-
-word-requires-2 : tie.Need-word-requires-2
-word-requires-2 c κs = search needs
-
-enum-known-found-3 : tie.Need-enum-known-found-3
-enum-known-found-3 c = search needs
-
-enum-told-3 : tie.Need-enum-told-3
-enum-told-3 c = search needs
-
 returns-3 : tie.Need-returns-3
 returns-3 c = then-bad pair-value (left-2 (c .before .before .before .before .before)) (c .before .before .word2 .ensures) (c .enum-told3 .given .1)
 
 sub-at-3 : tie.Need-sub-at-3
 sub-at-3 c = left-3 c .within
-
-sub-value-end : tie.Need-sub-value-end
-sub-value-end c = search needs
-
-part-value-end-start : tie.Need-part-value-end-start
-part-value-end-start c = search needs
-
-part-value-end-end : tie.Need-part-value-end-end
-part-value-end-end c = search needs
-
-value-end-requires : tie.Need-value-end-requires
-value-end-requires c κs = search needs
 
 returns-4 : tie.Need-returns-4
 returns-4 c = then-last bitEnd (left-3 (c .before .before)) (c .value-end .ensures)
@@ -122,31 +59,8 @@ pub pair-spec : {M : Type 1} → statement M
 pair-spec =
     tie.close
     (tie.spec
-    slice-aggregate-word
-    word-requires
-    enum-known-found
-    enum-told
-    returns
-    sub-at
-    sub-name
-    part-name-start
-    part-name-end
-    name-requires
-    enum-known-found-2
-    enum-told-2
-    returns-2
-    sub-at-2
-    sub-word
-    part-word-start
-    part-word-end
-    slice-aggregate-word-2
-    word-requires-2
-    enum-known-found-3
-    enum-told-3
-    returns-3
-    sub-at-3
-    sub-value-end
-    part-value-end-start
-    part-value-end-end
-    value-end-requires
-    returns-4)
+    (λ c. search needs) (λ c κs. search needs) (λ c. search needs) (λ c. search needs) returns sub-at
+    (λ c. search needs) (λ c. search needs) (λ c. search needs) (λ c κs. search needs) (λ c. search needs)
+    (λ c. search needs) returns-2 sub-at-2 (λ c. search needs) (λ c. search needs) (λ c. search needs)
+    (λ c. search needs) (λ c κs. search needs) (λ c. search needs) (λ c. search needs) returns-3 sub-at-3
+    (λ c. search needs) (λ c. search needs) (λ c. search needs) (λ c κs. search needs) returns-4)

@@ -41,18 +41,6 @@ loop-holds c = pairs-start (c .before .args .s .now) (c .before .args .most) (c 
 sub-rest : tie.Need-sub-rest Inv-loop μ-loop
 sub-rest c = c .before .loop .inv .within
 
-sub-rest-2 : tie.Need-sub-rest-2 Inv-loop μ-loop
-sub-rest-2 c = omega arith
-
-part-rest-start : tie.Need-part-rest-start Inv-loop μ-loop
-part-rest-start c = omega arith
-
-part-rest-end : tie.Need-part-rest-end Inv-loop μ-loop
-part-rest-end c = omega arith
-
-byte-at-requires : tie.Need-byte-at-requires Inv-loop μ-loop
-byte-at-requires c κs = omega arith
-
 returns : tie.Need-returns Inv-loop μ-loop
 returns c =
     let a = c .before .before in
@@ -77,15 +65,6 @@ returns-2 c =
     left-closed (text a) (g .most) (g .needed) (l .i) (l .left) (l .inv) (rest a) (lent a) (a .before .before .loop-test .taken)
     (a .byte-at .ensures) (c .before .if1 .taken) (c .if2 .left)
 
-pair-requires : tie.Need-pair-requires Inv-loop μ-loop
-pair-requires c κs = omega arith
-
-enum-known-found : tie.Need-enum-known-found Inv-loop μ-loop
-enum-known-found c = omega arith
-
-enum-known-found-2 : tie.Need-enum-known-found-2 Inv-loop μ-loop
-enum-known-found-2 c = omega arith
-
 returns-3 : tie.Need-returns-3 Inv-loop μ-loop
 returns-3 c =
     let a = c .before .before .before .before .before in
@@ -93,12 +72,6 @@ returns-3 c =
     let l = turn a .loop in
     left-bad (text a) (g .most) (g .needed) (l .i) (l .left) (l .inv) (rest a) (lent a) (a .before .before .loop-test .taken)
     (a .byte-at .ensures) (c .before .before .before .before .if1 .left) (c .before .before .before .pair .ensures) (c .before .found2 .given .1)
-
-add-i : tie.Need-add-i Inv-loop μ-loop
-add-i c = omega arith
-
-loop-less : tie.Need-loop-less Inv-loop μ-loop
-loop-less c = omega arith
 
 loop-again : tie.Need-loop-again Inv-loop μ-loop
 loop-again c =
@@ -111,21 +84,6 @@ loop-again c =
 sub-word : tie.Need-sub-word Inv-loop μ-loop
 sub-word c = c .before .loop .inv .within
 
-sub-word-2 : tie.Need-sub-word-2 Inv-loop μ-loop
-sub-word-2 c = omega arith
-
-part-word-start : tie.Need-part-word-start Inv-loop μ-loop
-part-word-start c = omega arith
-
-part-word-end : tie.Need-part-word-end Inv-loop μ-loop
-part-word-end c = omega arith
-
-slice-aggregate-word : tie.Need-slice-aggregate-word Inv-loop μ-loop
-slice-aggregate-word c = omega arith
-
-word-requires : tie.Need-word-requires Inv-loop μ-loop
-word-requires c κs = omega arith
-
 returns-4 : tie.Need-returns-4 Inv-loop μ-loop
 returns-4 c =
     let l = c .before .before .before .before .loop in
@@ -137,28 +95,7 @@ pub pairs-spec : {M : Type 1} → statement M
 pairs-spec =
     tie.close
     (tie.spec
-    Inv-loop
-    μ-loop
-    loop-holds
-    sub-rest
-    sub-rest-2
-    part-rest-start
-    part-rest-end
-    byte-at-requires
-    returns
-    sub-t19
-    returns-2
-    pair-requires
-    enum-known-found
-    enum-known-found-2
-    returns-3
-    add-i
-    loop-less
-    loop-again
-    sub-word
-    sub-word-2
-    part-word-start
-    part-word-end
-    slice-aggregate-word
-    word-requires
-    returns-4)
+    Inv-loop μ-loop loop-holds sub-rest (λ c. omega arith) (λ c. omega arith) (λ c. omega arith) (λ c κs. omega arith)
+    returns sub-t19 returns-2 (λ c κs. omega arith) (λ c. omega arith) (λ c. omega arith) returns-3 (λ c. omega arith)
+    (λ c. omega arith) loop-again sub-word (λ c. omega arith) (λ c. omega arith) (λ c. omega arith) (λ c. omega arith)
+    (λ c κs. omega arith) returns-4)

@@ -10,23 +10,11 @@ use Rattle.laws.proofs.Elements.{rest-is-drop, byte-there}
 use Rattle.form.specs.Scan.{scanOf, wordReader}
 use Rattle.form.proofs.PairSteps.{value-0, value-1, value-none}
 
-byte-at-requires : tie.Need-byte-at-requires
-byte-at-requires c κs = search needs
-
 sub-word : tie.Need-sub-word
 sub-word c = omega (arith, byte-there (c .before .before .before .args .s .now) (c .before .byte-at .ensures) (c .if1 .taken) (omega arith))
 
 part-word-start : tie.Need-part-word-start
 part-word-start c = omega (arith, byte-there (c .before .before .before .args .s .now) (c .before .byte-at .ensures) (c .if1 .taken) (omega arith))
-
-part-word-end : tie.Need-part-word-end
-part-word-end c = search needs
-
-slice-aggregate-word : tie.Need-slice-aggregate-word
-slice-aggregate-word c = search needs
-
-word-requires : tie.Need-word-requires
-word-requires c κs = search needs
 
 returns : tie.Need-returns
 returns c =
@@ -41,15 +29,6 @@ part-word-start-2 : tie.Need-part-word-start-2
 part-word-start-2 c =
     omega (arith, byte-there (c .before .before .before .before .args .s .now) (c .before .before .byte-at .ensures) (c .if2 .taken) (omega arith))
 
-part-word-end-2 : tie.Need-part-word-end-2
-part-word-end-2 c = search needs
-
-slice-aggregate-word-2 : tie.Need-slice-aggregate-word-2
-slice-aggregate-word-2 c = search needs
-
-word-requires-2 : tie.Need-word-requires-2
-word-requires-2 c κs = search needs
-
 returns-2 : tie.Need-returns-2
 returns-2 c =
     let b = c .before .before .before in
@@ -63,17 +42,6 @@ pub value-end-spec : {M : Type 1} → statement M
 value-end-spec =
     tie.close
     (tie.spec
-    byte-at-requires
-    sub-word
-    part-word-start
-    part-word-end
-    slice-aggregate-word
-    word-requires
-    returns
-    sub-word-2
-    part-word-start-2
-    part-word-end-2
-    slice-aggregate-word-2
-    word-requires-2
-    returns-2
+    (λ c κs. search needs) sub-word part-word-start (λ c. search needs) (λ c. search needs) (λ c κs. search needs)
+    returns sub-word-2 part-word-start-2 (λ c. search needs) (λ c. search needs) (λ c κs. search needs) returns-2
     returns-3)

@@ -11,23 +11,11 @@ use Rattle.laws.proofs.Elements.{rest-is-drop, byte-there}
 use Rattle.netlist.specs.Parse.{stop, kindReader}
 use Rattle.form.specs.Scan.{kindOf, kindWord, kindX, kindNo, kindN}
 
-byte-at-requires : tie.Need-byte-at-requires
-byte-at-requires c κs = search needs
-
 sub-kind-word : tie.Need-sub-kind-word
 sub-kind-word c = byte-there (c .before .before .before .args .s .now) (c .before .byte-at .ensures) (c .if1 .taken) (omega arith)
 
 part-kind-word-start : tie.Need-part-kind-word-start
 part-kind-word-start c = byte-there (c .before .before .before .args .s .now) (c .before .byte-at .ensures) (c .if1 .taken) (omega arith)
-
-part-kind-word-end : tie.Need-part-kind-word-end
-part-kind-word-end c = search needs
-
-slice-aggregate-kind-word : tie.Need-slice-aggregate-kind-word
-slice-aggregate-kind-word c = search needs
-
-kind-word-requires : tie.Need-kind-word-requires
-kind-word-requires c κs = search needs
 
 returns : tie.Need-returns
 unfolding kindReader kindWord
@@ -41,15 +29,6 @@ sub-kind-word-2 c = byte-there (c .before .before .before .before .args .s .now)
 
 part-kind-word-start-2 : tie.Need-part-kind-word-start-2
 part-kind-word-start-2 c = byte-there (c .before .before .before .before .args .s .now) (c .before .before .byte-at .ensures) (c .if2 .taken) (omega arith)
-
-part-kind-word-end-2 : tie.Need-part-kind-word-end-2
-part-kind-word-end-2 c = search needs
-
-slice-aggregate-kind-word-2 : tie.Need-slice-aggregate-kind-word-2
-slice-aggregate-kind-word-2 c = search needs
-
-kind-word-requires-2 : tie.Need-kind-word-requires-2
-kind-word-requires-2 c κs = search needs
 
 returns-2 : tie.Need-returns-2
 unfolding kindReader kindWord
@@ -65,12 +44,6 @@ sub-kind-n c = byte-there (c .before .before .before .before .before .args .s .n
 part-kind-n-start : tie.Need-part-kind-n-start
 part-kind-n-start c =
     byte-there (c .before .before .before .before .before .args .s .now) (c .before .before .before .byte-at .ensures) (c .if3 .taken) (omega arith)
-
-part-kind-n-end : tie.Need-part-kind-n-end
-part-kind-n-end c = search needs
-
-kind-n-requires : tie.Need-kind-n-requires
-kind-n-requires c κs = search needs
 
 returns-3 : tie.Need-returns-3
 unfolding kindReader kindWord kindN kindNo
@@ -89,12 +62,6 @@ sub-kind-x c =
 part-kind-x-start : tie.Need-part-kind-x-start
 part-kind-x-start c =
     let read = c .before .before .before .before in byte-there (read .before .before .args .s .now) (read .byte-at .ensures) (c .if4 .taken) (omega arith)
-
-part-kind-x-end : tie.Need-part-kind-x-end
-part-kind-x-end c = search needs
-
-kind-x-requires : tie.Need-kind-x-requires
-kind-x-requires c κs = search needs
 
 returns-4 : tie.Need-returns-4
 unfolding kindReader kindWord kindN kindNo kindX
@@ -130,27 +97,7 @@ pub kind-spec : {M : Type 1} → statement M
 kind-spec =
     tie.close
     (tie.spec
-    byte-at-requires
-    sub-kind-word
-    part-kind-word-start
-    part-kind-word-end
-    slice-aggregate-kind-word
-    kind-word-requires
-    returns
-    sub-kind-word-2
-    part-kind-word-start-2
-    part-kind-word-end-2
-    slice-aggregate-kind-word-2
-    kind-word-requires-2
-    returns-2
-    sub-kind-n
-    part-kind-n-start
-    part-kind-n-end
-    kind-n-requires
-    returns-3
-    sub-kind-x
-    part-kind-x-start
-    part-kind-x-end
-    kind-x-requires
-    returns-4
-    returns-5)
+    (λ c κs. search needs) sub-kind-word part-kind-word-start (λ c. search needs) (λ c. search needs)
+    (λ c κs. search needs) returns sub-kind-word-2 part-kind-word-start-2 (λ c. search needs) (λ c. search needs)
+    (λ c κs. search needs) returns-2 sub-kind-n part-kind-n-start (λ c. search needs) (λ c κs. search needs) returns-3
+    sub-kind-x part-kind-x-start (λ c. search needs) (λ c κs. search needs) returns-4 returns-5)

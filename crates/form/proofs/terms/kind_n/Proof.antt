@@ -11,23 +11,11 @@ use Rattle.laws.proofs.Elements.{rest-is-drop, byte-there}
 use Rattle.netlist.specs.Parse.{stop}
 use Rattle.form.specs.Scan.{kindOf, kindWord, kindNo, kindN}
 
-byte-at-requires : tie.Need-byte-at-requires
-byte-at-requires c κs = search needs
-
 sub-kind-word : tie.Need-sub-kind-word
 sub-kind-word c = byte-there (c .before .before .before .args .s .now) (c .before .byte-at .ensures) (c .if1 .taken) (omega arith)
 
 part-kind-word-start : tie.Need-part-kind-word-start
 part-kind-word-start c = byte-there (c .before .before .before .args .s .now) (c .before .byte-at .ensures) (c .if1 .taken) (omega arith)
-
-part-kind-word-end : tie.Need-part-kind-word-end
-part-kind-word-end c = search needs
-
-slice-aggregate-kind-word : tie.Need-slice-aggregate-kind-word
-slice-aggregate-kind-word c = search needs
-
-kind-word-requires : tie.Need-kind-word-requires
-kind-word-requires c κs = search needs
 
 returns : tie.Need-returns
 unfolding kindN
@@ -41,12 +29,6 @@ sub-kind-no c = byte-there (c .before .before .before .before .args .s .now) (c 
 
 part-kind-no-start : tie.Need-part-kind-no-start
 part-kind-no-start c = byte-there (c .before .before .before .before .args .s .now) (c .before .before .byte-at .ensures) (c .if2 .taken) (omega arith)
-
-part-kind-no-end : tie.Need-part-kind-no-end
-part-kind-no-end c = search needs
-
-kind-no-requires : tie.Need-kind-no-requires
-kind-no-requires c κs = search needs
 
 returns-2 : tie.Need-returns-2
 unfolding kindN
@@ -66,16 +48,6 @@ pub kind-n-spec : {M : Type 1} → statement M
 kind-n-spec =
     tie.close
     (tie.spec
-    byte-at-requires
-    sub-kind-word
-    part-kind-word-start
-    part-kind-word-end
-    slice-aggregate-kind-word
-    kind-word-requires
-    returns
-    sub-kind-no
-    part-kind-no-start
-    part-kind-no-end
-    kind-no-requires
-    returns-2
+    (λ c κs. search needs) sub-kind-word part-kind-word-start (λ c. search needs) (λ c. search needs)
+    (λ c κs. search needs) returns sub-kind-no part-kind-no-start (λ c. search needs) (λ c κs. search needs) returns-2
     returns-3)

@@ -12,9 +12,6 @@ use Rattle.netlist.specs.Parse.{pure, stop}
 use Rattle.form.specs.declared.Kind.the-variants.{Is}
 use Rattle.form.specs.Scan.{kindOf, kindNo}
 
-byte-at-requires : tie.Need-byte-at-requires
-byte-at-requires c κs = search needs
-
 sub-t5 : tie.Need-sub-t5
 sub-t5 c = byte-there (c .before .before .before .args .s .now) (c .before .byte-at .ensures) (c .if1 .taken) (omega arith)
 
@@ -40,4 +37,4 @@ returns-3 c = let s = c .before .before .before .before .args .s .now in
     sym (ap kindOf (byte-left _ _ s 116 e (c .before .if1 .left) ∙ byte-left _ _ s 114 e (c .if2 .left)))
 
 pub kind-no-spec : {M : Type 1} → statement M
-kind-no-spec = tie.close (tie.spec byte-at-requires sub-t5 returns sub-t7 returns-2 returns-3)
+kind-no-spec = tie.close (tie.spec (λ c κs. search needs) sub-t5 returns sub-t7 returns-2 returns-3)

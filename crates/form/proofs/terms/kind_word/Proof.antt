@@ -6,15 +6,6 @@ use Rattle.form.proofs.terms.kind_word.Tie as tie
 use mathlib.Core.Path.{sym, ap, _∙_}
 use Rattle.form.proofs.KindWords.{kindFrom, kind-word-is}
 
-word-requires : tie.Need-word-requires
-word-requires c κs = search needs
-
-enum-known-left : tie.Need-enum-known-left
-enum-known-left c = search needs
-
-enum-known-left-2 : tie.Need-enum-known-left-2
-enum-known-left-2 c = search needs
-
 returns : tie.Need-returns
 returns c = let a = c .before .before .before .before .before .before .args in
     sym (kind-word-is (a .kind) (a .bytes .now) (a .s .now)
@@ -27,4 +18,4 @@ returns-2 c = let a = c .before .before .before .before .before .before .args in
 
 pub kind-word-spec : {M : Type 1} → statement M
 kind-word-spec =
-    tie.close (tie.spec word-requires enum-known-left enum-known-left-2 returns returns-2)
+    tie.close (tie.spec (λ c κs. search needs) (λ c. search needs) (λ c. search needs) returns returns-2)

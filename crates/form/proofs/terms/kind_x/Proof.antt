@@ -11,23 +11,11 @@ use Rattle.laws.proofs.Elements.{rest-is-drop, byte-there}
 use Rattle.netlist.specs.Parse.{stop}
 use Rattle.form.specs.Scan.{kindOf, kindWord, kindX}
 
-byte-at-requires : tie.Need-byte-at-requires
-byte-at-requires c κs = search needs
-
 sub-kind-word : tie.Need-sub-kind-word
 sub-kind-word c = byte-there (c .before .before .before .args .s .now) (c .before .byte-at .ensures) (c .if1 .taken) (omega arith)
 
 part-kind-word-start : tie.Need-part-kind-word-start
 part-kind-word-start c = byte-there (c .before .before .before .args .s .now) (c .before .byte-at .ensures) (c .if1 .taken) (omega arith)
-
-part-kind-word-end : tie.Need-part-kind-word-end
-part-kind-word-end c = search needs
-
-slice-aggregate-kind-word : tie.Need-slice-aggregate-kind-word
-slice-aggregate-kind-word c = search needs
-
-kind-word-requires : tie.Need-kind-word-requires
-kind-word-requires c κs = search needs
 
 returns : tie.Need-returns
 unfolding kindX
@@ -42,15 +30,6 @@ sub-kind-word-2 c = byte-there (c .before .before .before .before .args .s .now)
 
 part-kind-word-start-2 : tie.Need-part-kind-word-start-2
 part-kind-word-start-2 c = byte-there (c .before .before .before .before .args .s .now) (c .before .before .byte-at .ensures) (c .if2 .taken) (omega arith)
-
-part-kind-word-end-2 : tie.Need-part-kind-word-end-2
-part-kind-word-end-2 c = search needs
-
-slice-aggregate-kind-word-2 : tie.Need-slice-aggregate-kind-word-2
-slice-aggregate-kind-word-2 c = search needs
-
-kind-word-requires-2 : tie.Need-kind-word-requires-2
-kind-word-requires-2 c κs = search needs
 
 returns-2 : tie.Need-returns-2
 unfolding kindX
@@ -72,17 +51,6 @@ pub kind-x-spec : {M : Type 1} → statement M
 kind-x-spec =
     tie.close
     (tie.spec
-    byte-at-requires
-    sub-kind-word
-    part-kind-word-start
-    part-kind-word-end
-    slice-aggregate-kind-word
-    kind-word-requires
-    returns
-    sub-kind-word-2
-    part-kind-word-start-2
-    part-kind-word-end-2
-    slice-aggregate-kind-word-2
-    kind-word-requires-2
-    returns-2
-    returns-3)
+    (λ c κs. search needs) sub-kind-word part-kind-word-start (λ c. search needs) (λ c. search needs)
+    (λ c κs. search needs) returns sub-kind-word-2 part-kind-word-start-2 (λ c. search needs) (λ c. search needs)
+    (λ c κs. search needs) returns-2 returns-3)

@@ -24,12 +24,6 @@ number-below c = c .before .before .before .pre .1 .inside (c .before .before .l
 loop-holds : tie.Need-loop-holds Inv-loop μ-loop
 loop-holds c = (omega arith, filling-none _)
 
-mul-table : tie.Need-mul-table Inv-loop μ-loop
-mul-table c = omega arith
-
-shared-slice-read-table : tie.Need-shared-slice-read-table Inv-loop μ-loop
-shared-slice-read-table c = omega arith
-
 cast-table : tie.Need-cast-table Inv-loop μ-loop
 cast-table c = omega (arith, c .shared-slice-known .given (c .before .before .before .loop .j))
 
@@ -38,18 +32,6 @@ add-table c = omega (arith, number-below (c .before .before))
 
 cast-table-2 : tie.Need-cast-table-2 Inv-loop μ-loop
 cast-table-2 c = omega (arith, number-below (c .before .before))
-
-mul-table-2 : tie.Need-mul-table-2 Inv-loop μ-loop
-mul-table-2 c = omega arith
-
-slice-write-table : tie.Need-slice-write-table Inv-loop μ-loop
-slice-write-table c = omega arith
-
-add-j : tie.Need-add-j Inv-loop μ-loop
-add-j c = omega arith
-
-loop-less : tie.Need-loop-less Inv-loop μ-loop
-loop-less c = omega arith
 
 loop-again : tie.Need-loop-again Inv-loop μ-loop
 unfolding newWord
@@ -68,18 +50,5 @@ pub fill-table-spec : {M : Type 1} → statement M
 fill-table-spec =
     tie.close
     (tie.spec
-    Inv-loop
-    μ-loop
-    loop-holds
-    mul-table
-    shared-slice-read-table
-    cast-table
-    add-table
-    cast-table-2
-    mul-table-2
-    slice-write-table
-    add-j
-    loop-less
-    loop-again
-    same-length
-    returns)
+    Inv-loop μ-loop loop-holds (λ c. omega arith) (λ c. omega arith) cast-table add-table cast-table-2
+    (λ c. omega arith) (λ c. omega arith) (λ c. omega arith) (λ c. omega arith) loop-again same-length returns)

@@ -20,12 +20,6 @@ abbrev μ-loop : tie.MeasureT-loop
 loop-holds : tie.Need-loop-holds Inv-loop μ-loop
 loop-holds c = (omega arith, refl, refl)
 
-mul-write-gate : tie.Need-mul-write-gate Inv-loop μ-loop
-mul-write-gate c = omega arith
-
-shared-slice-read-write-gate : tie.Need-shared-slice-read-write-gate Inv-loop μ-loop
-shared-slice-read-write-gate c = omega arith
-
 cast-write-gate : tie.Need-cast-write-gate Inv-loop μ-loop
 cast-write-gate c = omega (arith, c .shared-slice-known4 .given (c .before .before .before .loop .t))
 
@@ -34,12 +28,6 @@ write-gate-requires c κs =
     let at-loop = c .before .before .before .before in
     let at-start = at-loop .before .before .before .before .before in
     (at-start .pre .0 .inside (at-loop .loop .t) (omega arith), omega arith)
-
-add-t : tie.Need-add-t Inv-loop μ-loop
-add-t c = omega arith
-
-loop-less : tie.Need-loop-less Inv-loop μ-loop
-loop-less c = omega arith
 
 loop-again : tie.Need-loop-again Inv-loop μ-loop
 loop-again c =
@@ -66,15 +54,5 @@ pub move-gates-spec : {M : Type 1} → statement M
 move-gates-spec =
     tie.close
     (tie.spec
-    Inv-loop
-    μ-loop
-    loop-holds
-    mul-write-gate
-    shared-slice-read-write-gate
-    cast-write-gate
-    write-gate-requires
-    add-t
-    loop-less
-    loop-again
-    same-length
-    returns)
+    Inv-loop μ-loop loop-holds (λ c. omega arith) (λ c. omega arith) cast-write-gate write-gate-requires
+    (λ c. omega arith) (λ c. omega arith) loop-again same-length returns)

@@ -26,9 +26,6 @@ moving c = c .before .before .before
 known : (p : tie.After-nodes-of) → Sizes (start p .args .words .now) (p .nodes-of .result)
 known p = sizes (start p .args .words .now) (start p .pre .whole) (p .nodes-of .ensures)
 
-nodes-of-requires : tie.Need-nodes-of-requires
-nodes-of-requires c κs = search needs
-
 mul-outputs : tie.Need-mul-outputs
 mul-outputs c = omega (arith, known (c .before))
 
@@ -60,9 +57,6 @@ move-gates-requires c κs =
       ),
     )
 
-outputs-of-requires : tie.Need-outputs-of-requires
-outputs-of-requires c κs = search needs
-
 copy-outputs-requires : tie.Need-copy-outputs-requires
 copy-outputs-requires c κs =
     let o = c .before .before in
@@ -79,12 +73,6 @@ copy-outputs-requires c κs =
       moving o .move-gates .kept .1 .1 .1 .1 .0,
     )
 
-same-length : tie.Need-same-length
-same-length c = search needs
-
-same-length-2 : tie.Need-same-length-2
-same-length-2 c = search needs
-
 returns : tie.Need-returns
 returns c =
     let out = c .before .before in
@@ -100,14 +88,5 @@ pub write-arranged-spec : {M : Type 1} → statement M
 write-arranged-spec =
     tie.close
     (tie.spec
-    nodes-of-requires
-    mul-outputs
-    add-outputs
-    fill-table-requires
-    copy-words-requires
-    move-gates-requires
-    outputs-of-requires
-    copy-outputs-requires
-    same-length
-    same-length-2
-    returns)
+    (λ c κs. search needs) mul-outputs add-outputs fill-table-requires copy-words-requires move-gates-requires
+    (λ c κs. search needs) copy-outputs-requires (λ c. search needs) (λ c. search needs) returns)

@@ -7,12 +7,6 @@ use Rattle.gather.proofs.places.find_places.Tie as tie
 returns : tie.Need-returns
 returns c = places-length _ _ _ (c .if1 .taken)
 
-cast-fill-words : tie.Need-cast-fill-words
-cast-fill-words c = search needs
-
-fill-words-requires : tie.Need-fill-words-requires
-fill-words-requires c κs = search needs
-
 mark-places-requires : tie.Need-mark-places-requires
 mark-places-requires c κs =
     let fill = c .before .before .before in
@@ -20,19 +14,8 @@ mark-places-requires c κs =
     let s = else .before .before .before in
     record { few = s .pre .0; lengthIs = else .if1 .left; none = rw (fill .fill-words .ensures) (marked-none _ _ (s .args .places .now)) }
 
-same-length : tie.Need-same-length
-same-length c = search needs
-
-returns-2 : tie.Need-returns-2
-returns-2 c = search needs
-
 pub find-places-spec : {M : Type 1} → statement M
 find-places-spec =
     tie.close
     (tie.spec
-    returns
-    cast-fill-words
-    fill-words-requires
-    mark-places-requires
-    same-length
-    returns-2)
+    returns (λ c. search needs) (λ c κs. search needs) mark-places-requires (λ c. search needs) (λ c. search needs))

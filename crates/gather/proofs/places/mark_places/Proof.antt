@@ -18,12 +18,6 @@ abbrev μ-loop : tie.MeasureT-loop
 loop-holds : tie.Need-loop-holds Inv-loop μ-loop
 loop-holds c = (omega arith, c .pre .none, refl)
 
-mul-j : tie.Need-mul-j Inv-loop μ-loop
-mul-j c = omega arith
-
-shared-slice-read-j : tie.Need-shared-slice-read-j Inv-loop μ-loop
-shared-slice-read-j c = omega arith
-
 cast-j : tie.Need-cast-j Inv-loop μ-loop
 cast-j c = omega (arith, c .shared-slice-known .given (c .before .before .loop .t))
 
@@ -34,12 +28,6 @@ returns : tie.Need-returns Inv-loop μ-loop
 returns c =
     let l = c .before .before .before .loop in
     places-high _ _ (l .t) (l .places) (l .inv .1) (c .before .before .loop-test .taken) (c .if1 .taken)
-
-mul-if2 : tie.Need-mul-if2 Inv-loop μ-loop
-mul-if2 c = omega arith
-
-slice-read-if2 : tie.Need-slice-read-if2 Inv-loop μ-loop
-slice-read-if2 c = omega arith
 
 cast-if2 : tie.Need-cast-if2 Inv-loop μ-loop
 cast-if2 c =
@@ -54,21 +42,6 @@ returns-2 c =
     let e = c .before .before in
     let l = e .before .before .before .loop in
     places-again _ _ (l .t) (l .places) (l .inv .1) (e .before .before .loop-test .taken) (e .if1 .left) (c .if2 .taken)
-
-cast-places : tie.Need-cast-places Inv-loop μ-loop
-cast-places c = omega arith
-
-mul-places : tie.Need-mul-places Inv-loop μ-loop
-mul-places c = omega arith
-
-slice-write-places : tie.Need-slice-write-places Inv-loop μ-loop
-slice-write-places c = omega arith
-
-add-t : tie.Need-add-t Inv-loop μ-loop
-add-t c = omega arith
-
-loop-less : tie.Need-loop-less Inv-loop μ-loop
-loop-less c = omega arith
 
 loop-again : tie.Need-loop-again Inv-loop μ-loop
 loop-again c =
@@ -92,24 +65,6 @@ pub mark-places-spec : {M : Type 1} → statement M
 mark-places-spec =
     tie.close
     (tie.spec
-    Inv-loop
-    μ-loop
-    loop-holds
-    mul-j
-    shared-slice-read-j
-    cast-j
-    same-length
-    returns
-    mul-if2
-    slice-read-if2
-    cast-if2
-    same-length-2
-    returns-2
-    cast-places
-    mul-places
-    slice-write-places
-    add-t
-    loop-less
-    loop-again
-    same-length-3
-    returns-3)
+    Inv-loop μ-loop loop-holds (λ c. omega arith) (λ c. omega arith) cast-j same-length returns (λ c. omega arith)
+    (λ c. omega arith) cast-if2 same-length-2 returns-2 (λ c. omega arith) (λ c. omega arith) (λ c. omega arith)
+    (λ c. omega arith) (λ c. omega arith) loop-again same-length-3 returns-3)

@@ -44,29 +44,11 @@ passes : (c : tie.After-enum-told)
     → isPermutation (counting (listing (order-test c)) .gates-of .result) (now (entry (listing (order-test c)) .args .order)) ≡ true
 passes c = not-false _ (passed-false _ NotAPermutation (order-told (order-test c)) (c .enum-told .given .1))
 
-gates-of-requires : tie.Need-gates-of-requires
-gates-of-requires c κs = search needs
-
 find-places-requires : tie.Need-find-places-requires
 find-places-requires c κs =
     let g = c .before in
     let s = start g in
     (omega (arith, g .gates-of .ensures, whole-parts (now (s .args .words)) (s .pre .whole) .fewGates), omega (arith, g .gates-of .ensures, s .pre .placeRoom))
-
-refuse-if-requires : tie.Need-refuse-if-requires
-refuse-if-requires c κs = search needs
-
-enum-told : tie.Need-enum-told
-enum-told c = search needs
-
-enum-told-2 : tie.Need-enum-told-2
-enum-told-2 c = search needs
-
-refusal-requires : tie.Need-refusal-requires
-refusal-requires c κs = search needs
-
-same-length : tie.Need-same-length
-same-length c = search needs
 
 returns : tie.Need-returns
 returns c =
@@ -75,21 +57,6 @@ returns c =
     let s = entry f in
     failed (inRoom _) (keeps-room _) _ _ NotAPermutation (scatter-order (now (s .args .words)) _ _ (s .pre .whole) (counting f .gates-of .ensures))
     (order-told t) (s .args .original .now) (c .before .before .match .keys2) (c .refusal .ensures)
-
-test-room-requires : tie.Need-test-room-requires
-test-room-requires c κs = search needs
-
-enum-told-3 : tie.Need-enum-told-3
-enum-told-3 c = search needs
-
-enum-told-4 : tie.Need-enum-told-4
-enum-told-4 c = search needs
-
-refusal-requires-2 : tie.Need-refusal-requires-2
-refusal-requires-2 c κs = search needs
-
-same-length-2 : tie.Need-same-length-2
-same-length-2 c = search needs
 
 returns-2 : tie.Need-returns-2
 returns-2 c =
@@ -115,15 +82,6 @@ write-arranged-requires c κs =
       room = ltb-false _ _ (passed-false _ NoRoom (t .test-room .ensures) (e .enum-told3 .given .1));
     }
 
-same-length-3 : tie.Need-same-length-3
-same-length-3 c = search needs
-
-same-length-4 : tie.Need-same-length-4
-same-length-4 c = search needs
-
-same-length-5 : tie.Need-same-length-5
-same-length-5 c = search needs
-
 returns-3 : tie.Need-returns-3
 returns-3 c =
     let w = c .before .before .before .before in
@@ -143,22 +101,7 @@ pub scatter-with-spec : {M : Type 1} → statement M
 scatter-with-spec =
     tie.close
     (tie.spec
-    gates-of-requires
-    find-places-requires
-    refuse-if-requires
-    enum-told
-    enum-told-2
-    refusal-requires
-    same-length
-    returns
-    test-room-requires
-    enum-told-3
-    enum-told-4
-    refusal-requires-2
-    same-length-2
-    returns-2
-    write-arranged-requires
-    same-length-3
-    same-length-4
-    same-length-5
-    returns-3)
+    (λ c κs. search needs) find-places-requires (λ c κs. search needs) (λ c. search needs) (λ c. search needs)
+    (λ c κs. search needs) (λ c. search needs) returns (λ c κs. search needs) (λ c. search needs) (λ c. search needs)
+    (λ c κs. search needs) (λ c. search needs) returns-2 write-arranged-requires (λ c. search needs)
+    (λ c. search needs) (λ c. search needs) returns-3)

@@ -41,12 +41,6 @@ listed c =
     listed-by-group _ (s .pre .block .whole) _ (g .gates-of .ensures) numbers (c .list-members .ensures)
     (omega (arith, g .gates-of .ensures, s .pre .block .listRoom))
 
-gates-of-requires : tie.Need-gates-of-requires
-gates-of-requires c κs = search needs
-
-assign-requires : tie.Need-assign-requires
-assign-requires c κs = search needs
-
 list-members-requires : tie.Need-list-members-requires
 list-members-requires c κs =
     let a = c .before .before .before .before in
@@ -60,9 +54,6 @@ list-members-requires c κs =
       fewMembers = omega (arith, long, numbers .few);
       memberRoom = omega (arith, long, s .pre .block .listRoom, g .gates-of .ensures);
     }
-
-slice-reshare-prefix-find-places : tie.Need-slice-reshare-prefix-find-places
-slice-reshare-prefix-find-places c = search needs
 
 slice-aggregate-find-places : tie.Need-slice-aggregate-find-places
 slice-aggregate-find-places c =
@@ -93,21 +84,6 @@ write-arranged-requires c κs =
       room = s .pre .block .room;
     }
 
-same-length : tie.Need-same-length
-same-length c = search needs
-
-same-length-2 : tie.Need-same-length-2
-same-length-2 c = search needs
-
-same-length-3 : tie.Need-same-length-3
-same-length-3 c = search needs
-
-same-length-4 : tie.Need-same-length-4
-same-length-4 c = search needs
-
-same-length-5 : tie.Need-same-length-5
-same-length-5 c = search needs
-
 returns : tie.Need-returns
 returns c =
     let w = c .before .before .before .before in
@@ -125,16 +101,6 @@ pub write-gathered-spec : {M : Type 1} → statement M
 write-gathered-spec =
     tie.close
     (tie.spec
-    gates-of-requires
-    assign-requires
-    list-members-requires
-    slice-reshare-prefix-find-places
-    slice-aggregate-find-places
-    find-places-requires
-    write-arranged-requires
-    same-length
-    same-length-2
-    same-length-3
-    same-length-4
-    same-length-5
-    returns)
+    (λ c κs. search needs) (λ c κs. search needs) list-members-requires (λ c. search needs) slice-aggregate-find-places
+    find-places-requires write-arranged-requires (λ c. search needs) (λ c. search needs) (λ c. search needs)
+    (λ c. search needs) (λ c. search needs) returns)

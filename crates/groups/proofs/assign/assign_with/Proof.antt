@@ -23,9 +23,5 @@ pub assign-with-spec : {M : Type 1} → statement M
 assign-with-spec =
     tie.close
     (tie.spec
-    (λ c κs. search needs)
-    (λ c κs. search needs)
-    number-groups-requires
-    (λ c κs. search needs)
-    (λ c. search needs)
+    (λ c κs. search needs) (λ c κs. search needs) number-groups-requires (λ c κs. search needs) (λ c. search needs)
     returns)

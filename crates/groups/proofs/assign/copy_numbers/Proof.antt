@@ -46,14 +46,5 @@ pub copy-numbers-spec : {M : Type 1} → statement M
 copy-numbers-spec =
     tie.close
     (tie.spec
-    Inv-loop
-    μ-loop
-    loop-holds
-    (λ c κs. search needs)
-    mul-numbers
-    slice-write-numbers
-    (λ c. search needs)
-    (λ c. search needs)
-    loop-again
-    same-length
-    returns)
+    Inv-loop μ-loop loop-holds (λ c κs. search needs) mul-numbers slice-write-numbers (λ c. search needs)
+    (λ c. search needs) loop-again same-length returns)

@@ -90,13 +90,4 @@ pub number-all-spec : {M : Type 1} → statement M
 number-all-spec =
     tie.close
     (tie.spec
-    Inv-loop
-    μ-loop
-    loop-holds
-    lowest-requires
-    returns
-    number-group-requires
-    add-g
-    loop-less
-    loop-again
-    returns-2)
+    Inv-loop μ-loop loop-holds lowest-requires returns number-group-requires add-g loop-less loop-again returns-2)

@@ -73,16 +73,5 @@ pub number-group-spec : {M : Type 1} → statement M
 number-group-spec =
     tie.close
     (tie.spec
-    Inv-loop
-    μ-loop
-    remove-requires
-    loop-holds
-    cast-numbers
-    mul-numbers
-    element-write-numbers
-    wake-requires
-    word-of-requires
-    (λ c. search needs)
-    loop-less
-    loop-again
-    returns)
+    Inv-loop μ-loop remove-requires loop-holds cast-numbers mul-numbers element-write-numbers wake-requires
+    word-of-requires (λ c. search needs) loop-less loop-again returns)

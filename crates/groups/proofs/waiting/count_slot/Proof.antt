@@ -76,20 +76,6 @@ pub count-slot-spec : {M : Type 1} → statement M
 count-slot-spec =
     tie.close
     (tie.spec
-    (λ c. search needs)
-    (λ c. search needs)
-    (λ c κs. search needs)
-    (λ c. search needs)
-    returns
-    (λ c κs. search needs)
-    (λ c. search needs)
-    word-of-requires-2
-    (λ c. search needs)
-    returns-2
-    word-of-requires-3
-    (λ c. search needs)
-    (λ c. search needs)
-    cast-counts-2
-    (λ c. search needs)
-    element-write-counts
-    returns-3)
+    (λ c. search needs) (λ c. search needs) (λ c κs. search needs) (λ c. search needs) returns (λ c κs. search needs)
+    (λ c. search needs) word-of-requires-2 (λ c. search needs) returns-2 word-of-requires-3 (λ c. search needs)
+    (λ c. search needs) cast-counts-2 (λ c. search needs) element-write-counts returns-3)

@@ -39,12 +39,4 @@ pub count-slots-spec : {M : Type 1} → statement M
 count-slots-spec =
     tie.close
     (tie.spec
-    Inv-loop
-    μ-loop
-    loop-holds
-    mul-loop
-    count-slot-requires
-    add-e
-    (λ c. search needs)
-    loop-again
-    returns)
+    Inv-loop μ-loop loop-holds mul-loop count-slot-requires add-e (λ c. search needs) loop-again returns)

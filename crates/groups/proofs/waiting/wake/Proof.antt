@@ -81,16 +81,5 @@ pub wake-spec : {M : Type 1} → statement M
 wake-spec =
     tie.close
     (tie.spec
-    Inv-loop
-    μ-loop
-    fanout-word-requires
-    (λ c. search needs)
-    loop-holds
-    (λ c. search needs)
-    wake-slot-requires
-    add-fanout-word
-    fanout-word-requires-2
-    (λ c. search needs)
-    loop-less
-    loop-again
-    returns)
+    Inv-loop μ-loop fanout-word-requires (λ c. search needs) loop-holds (λ c. search needs) wake-slot-requires
+    add-fanout-word fanout-word-requires-2 (λ c. search needs) loop-less loop-again returns)

@@ -59,17 +59,6 @@ pub wake-slot-spec : {M : Type 1} → statement M
 wake-slot-spec =
     tie.close
     (tie.spec
-    (λ c κs. search needs)
-    (λ c. search needs)
-    (λ c κs. search needs)
-    (λ c. search needs)
-    returns
-    word-of-requires-3
-    (λ c. search needs)
-    sub-left
-    (λ c. search needs)
-    (λ c. search needs)
-    element-write-counts
-    add-requires
-    returns-2
+    (λ c κs. search needs) (λ c. search needs) (λ c κs. search needs) (λ c. search needs) returns word-of-requires-3
+    (λ c. search needs) sub-left (λ c. search needs) (λ c. search needs) element-write-counts add-requires returns-2
     returns-3)

@@ -16,12 +16,6 @@ or-without : (a b c : Bool) → b ≡ false → a || b || c ≡ a || c
 or-without true b c h = refl
 or-without false b c h = rw h
 
-is-digit-requires : tie.Need-is-digit-requires
-is-digit-requires c κs = search needs
-
-is-name-start-requires : tie.Need-is-name-start-requires
-is-name-start-requires c κs = search needs
-
 returns : tie.Need-returns
 unfolding isNameByte
 returns c = let x = c .before .before .args .c in
@@ -33,4 +27,4 @@ returns-2 c = let x = c .before .before .before .args .c in
     c .is-name-start .ensures ∙ sym (or-without (isLetter x) (isDigit x) (isUnderscore x) (sym (c .before .before .is-digit .ensures) ∙ c .before .if1 .left))
 
 pub is-name-byte-spec : {M : Type 1} → statement M
-is-name-byte-spec = tie.close (tie.spec is-digit-requires is-name-start-requires returns returns-2)
+is-name-byte-spec = tie.close (tie.spec (λ c κs. search needs) (λ c κs. search needs) returns returns-2)

@@ -6,9 +6,6 @@ use Rattle.layout.proofs.bytes.is_name_start.Tie as tie
 use mathlib.Core.Path.{sym, _∙_}
 use Rattle.netlist.specs.Names.{isNameStart, isUnderscore}
 
-is-letter-requires : tie.Need-is-letter-requires
-is-letter-requires c κs = search needs
-
 returns : tie.Need-returns
 unfolding isNameStart
 returns c = rw (sym (c .before .is-letter .ensures) ∙ c .if1 .taken)
@@ -18,4 +15,4 @@ unfolding isNameStart isUnderscore
 returns-2 c = rw (sym (c .before .is-letter .ensures) ∙ c .if1 .left)
 
 pub is-name-start-spec : {M : Type 1} → statement M
-is-name-start-spec = tie.close (tie.spec is-letter-requires returns returns-2)
+is-name-start-spec = tie.close (tie.spec (λ c κs. search needs) returns returns-2)

@@ -16,18 +16,6 @@ abbrev μ-loop : tie.MeasureT-loop
 loop-holds : tie.Need-loop-holds Inv-loop μ-loop
 loop-holds c = (omega arith, filling-none _)
 
-mul-words : tie.Need-mul-words Inv-loop μ-loop
-mul-words c = omega arith
-
-slice-write-words : tie.Need-slice-write-words Inv-loop μ-loop
-slice-write-words c = omega arith
-
-add-i : tie.Need-add-i Inv-loop μ-loop
-add-i c = omega arith
-
-loop-less : tie.Need-loop-less Inv-loop μ-loop
-loop-less c = omega arith
-
 loop-again : tie.Need-loop-again Inv-loop μ-loop
 loop-again c = (omega arith, filling-same _ (c .before .loop .inv .1) (omega arith))
 
@@ -40,4 +28,4 @@ returns c =
     rw (← e) (c .before .loop .inv .1 .holds)
 
 pub fill-words-spec : {M : Type 1} → statement M
-fill-words-spec = tie.close (tie.spec Inv-loop μ-loop loop-holds mul-words slice-write-words add-i loop-less loop-again same-length returns)
+fill-words-spec = tie.close (tie.spec Inv-loop μ-loop loop-holds (λ c. omega arith) (λ c. omega arith) (λ c. omega arith) (λ c. omega arith) loop-again same-length returns)

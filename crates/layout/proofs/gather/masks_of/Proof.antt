@@ -27,17 +27,11 @@ loop-holds c =
 there : (c : tie.In-loop Inv-loop μ-loop) → c .before .loop .i - 1 < length (c .before .before .before .args .values .now)
 there c = let e = length-map (c .before .before .before .args .values .now) valueOf in omega (arith, e, c .before .loop .inv .below)
 
-sub-i : tie.Need-sub-i Inv-loop μ-loop
-sub-i c = omega arith
-
 shared-slice-read-v : tie.Need-shared-slice-read-v Inv-loop μ-loop
 shared-slice-read-v c = there (c .before)
 
 mul-defined : tie.Need-mul-defined Inv-loop μ-loop
 mul-defined c = record { fits = defined-half (c .before .before .loop .inv) (omega arith) }
-
-defined-bit-requires : tie.Need-defined-bit-requires Inv-loop μ-loop
-defined-bit-requires c κs = search needs
 
 -- the bits that a turn adds
 defined-is : (c : tie.After-defined-bit Inv-loop μ-loop) → let t = c .before .before in
@@ -56,14 +50,8 @@ add-defined c = record { fits = defined-fits (c .before .before .before .loop .i
 mul-ones : tie.Need-mul-ones Inv-loop μ-loop
 mul-ones c = record { fits = one-half (c .before .before .before .loop .inv) (omega arith) }
 
-one-bit-requires : tie.Need-one-bit-requires Inv-loop μ-loop
-one-bit-requires c κs = search needs
-
 add-ones : tie.Need-add-ones Inv-loop μ-loop
 add-ones c = record { fits = one-fits (c .before .before .before .before .loop .inv) (omega arith) (one-is c) }
-
-loop-less : tie.Need-loop-less Inv-loop μ-loop
-loop-less c = omega arith
 
 loop-again : tie.Need-loop-again Inv-loop μ-loop
 loop-again c = gathered-next (c .before .before .before .before .loop .inv) (omega arith) (defined-is (c .before)) (one-is c)
@@ -75,17 +63,5 @@ pub masks-of-spec : {M : Type 1} → statement M
 masks-of-spec =
     tie.close
     (tie.spec
-    Inv-loop
-    μ-loop
-    loop-holds
-    sub-i
-    shared-slice-read-v
-    mul-defined
-    defined-bit-requires
-    add-defined
-    mul-ones
-    one-bit-requires
-    add-ones
-    loop-less
-    loop-again
-    returns)
+    Inv-loop μ-loop loop-holds (λ c. omega arith) shared-slice-read-v mul-defined (λ c κs. search needs) add-defined
+    mul-ones (λ c κs. search needs) add-ones (λ c. omega arith) loop-again returns)

@@ -6,12 +6,9 @@ use Rattle.netlist.specs.Kinds.{fewestOperands}
 use Rattle.layout.proofs.kinds.fewest_operands.Statement.{statement}
 use Rattle.layout.proofs.kinds.fewest_operands.Tie as tie
 
-signature-of-requires : tie.Need-signature-of-requires
-signature-of-requires c κs = search needs
-
 returns : tie.Need-returns
 unfolding fewestOperands
 returns c = ap (λ (s : Signature). s .fewest) (c .signature-of .ensures)
 
 pub fewest-operands-spec : {M : Type 1} → statement M
-fewest-operands-spec = tie.close (tie.spec signature-of-requires returns)
+fewest-operands-spec = tie.close (tie.spec (λ c κs. search needs) returns)

@@ -6,12 +6,9 @@ use Rattle.netlist.specs.Kinds.{mostOperands}
 use Rattle.layout.proofs.kinds.most_operands.Statement.{statement}
 use Rattle.layout.proofs.kinds.most_operands.Tie as tie
 
-signature-of-requires : tie.Need-signature-of-requires
-signature-of-requires c κs = search needs
-
 returns : tie.Need-returns
 unfolding mostOperands
 returns c = ap (λ (s : Signature). s .most) (c .signature-of .ensures)
 
 pub most-operands-spec : {M : Type 1} → statement M
-most-operands-spec = tie.close (tie.spec signature-of-requires returns)
+most-operands-spec = tie.close (tie.spec (λ c κs. search needs) returns)

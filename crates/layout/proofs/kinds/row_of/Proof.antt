@@ -9,12 +9,6 @@ use Rattle.netlist.specs.Kinds.{row, rows, rowOf}
 use Rattle.layout.proofs.kinds.row_of.Statement.{statement}
 use Rattle.layout.proofs.kinds.row_of.Tie as tie
 
-mul-result : tie.Need-mul-result
-mul-result c = search needs
-
-array-copy-out-result : tie.Need-array-copy-out-result
-array-copy-out-result c = search needs
-
 returns : tie.Need-returns
 unfolding row rows rowOf
 returns c h = getD-defaults rows (c .before .before .before .args .kind - 1) _ _ (omega arith)
@@ -27,4 +21,4 @@ unfolding row rows rowOf
 returns-3 c h = sym (List·getD-eq-default rows _ {n = c .before .before .args .kind - 1} (omega arith))
 
 pub row-of-spec : {M : Type 1} → statement M
-row-of-spec = tie.close (tie.spec mul-result array-copy-out-result returns returns-2 returns-3)
+row-of-spec = tie.close (tie.spec (λ c. search needs) (λ c. search needs) returns returns-2 returns-3)

@@ -18,9 +18,6 @@ returns-3 : tie.Need-returns-3
 unfolding signature
 returns-3 c = signature-xnor (c .before .before .before .args .kind) (c .if3 .taken)
 
-row-of-requires : tie.Need-row-of-requires
-row-of-requires c κs = search needs
-
 returns-4 : tie.Need-returns-4
 unfolding signatureIn
 returns-4 c =
@@ -31,4 +28,4 @@ returns-4 c =
     ap signatureIn (read .row-of .ensures low) ∙ signature-row kind low (asked .before .if2 .left) (asked .if3 .left)
 
 pub signature-of-spec : {M : Type 1} → statement M
-signature-of-spec = tie.close (tie.spec returns returns-2 returns-3 row-of-requires returns-4)
+signature-of-spec = tie.close (tie.spec returns returns-2 returns-3 (λ c κs. search needs) returns-4)

@@ -6,9 +6,6 @@ use Rattle.layout.proofs.MaskLaws.{shifted, masks-fixed, masks-ones, ma
 use Rattle.layout.proofs.masks.are_masks.Statement.{statement}
 use Rattle.layout.proofs.masks.are_masks.Tie as tie
 
-shl-limit : tie.Need-shl-limit
-shl-limit c = search needs
-
 returns : tie.Need-returns
 returns c =
     let a = c .before .args in
@@ -21,9 +18,6 @@ returns-2 c =
     let s = shifted (c .before .before .pre) in
     sym (masks-ones (a .n) (a .fixed) (a .ones) (omega (arith, s, c .before .if1 .left)) (omega (arith, s, c .if2 .taken)))
 
-is-within-requires : tie.Need-is-within-requires
-is-within-requires c κs = search needs
-
 returns-3 : tie.Need-returns-3
 returns-3 c =
     let a = c .before .before .before .args in
@@ -32,4 +26,4 @@ returns-3 c =
     ∙ sym (masks-within (a .n) (a .fixed) (a .ones) (omega (arith, s, c .before .before .if1 .left)) (omega (arith, s, c .before .if2 .left)))
 
 pub are-masks-spec : {M : Type 1} → statement M
-are-masks-spec = tie.close (tie.spec shl-limit returns returns-2 is-within-requires returns-3)
+are-masks-spec = tie.close (tie.spec (λ c. search needs) returns returns-2 (λ c κs. search needs) returns-3)

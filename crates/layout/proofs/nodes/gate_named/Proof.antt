@@ -9,9 +9,6 @@ returns : tie.Need-returns
 unfolding gateNamed
 returns c = rw (lt-ltb _ _ (c .if1 .taken))
 
-add-if2 : tie.Need-add-if2
-add-if2 c = search needs
-
 returns-2 : tie.Need-returns-2
 unfolding gateNamed
 returns-2 c = rw (le-ltb _ _ (c .before .if1 .left), lt-ltb _ _ (c .if2 .taken))
@@ -21,4 +18,4 @@ unfolding gateNamed
 returns-3 c = rw (le-ltb _ _ (c .before .if1 .left), le-ltb _ _ (c .if2 .left))
 
 pub gate-named-spec : {M : Type 1} → statement M
-gate-named-spec = tie.close (tie.spec returns add-if2 returns-2 returns-3)
+gate-named-spec = tie.close (tie.spec returns (λ c. search needs) returns-2 returns-3)

@@ -5,12 +5,6 @@ use Rattle.netlist.specs.StoredBlock.{neversAt, gatesAt}
 use Rattle.layout.proofs.offsets.gates_at.Statement.{statement}
 use Rattle.layout.proofs.offsets.gates_at.Tie as tie
 
-inputs-of-requires : tie.Need-inputs-of-requires
-inputs-of-requires c κs = search needs
-
-nevers-of-requires : tie.Need-nevers-of-requires
-nevers-of-requires c κs = search needs
-
 gates-behind-requires : tie.Need-gates-behind-requires
 gates-behind-requires c κs = let known = c .before .before .shared-slice-known in (omega (arith, known .given 0), omega (arith, known .given 3))
 
@@ -20,4 +14,4 @@ returns c = search needs
 
 pub gates-at-spec : {M : Type 1} → statement M
 gates-at-spec =
-    tie.close (tie.spec inputs-of-requires nevers-of-requires gates-behind-requires returns)
+    tie.close (tie.spec (λ c κs. search needs) (λ c κs. search needs) gates-behind-requires returns)

@@ -5,12 +5,6 @@ use Rattle.netlist.specs.StoredBlock.{neversAt, gatesAt}
 use Rattle.layout.proofs.offsets.gates_behind.Statement.{statement}
 use Rattle.layout.proofs.offsets.gates_behind.Tie as tie
 
-nevers-at-requires : tie.Need-nevers-at-requires
-nevers-at-requires c κs = search needs
-
-mul-result : tie.Need-mul-result
-mul-result c = search needs
-
 add-result : tie.Need-add-result
 unfolding neversAt
 add-result c = omega arith
@@ -20,4 +14,4 @@ unfolding gatesAt
 returns c = omega arith
 
 pub gates-behind-spec : {M : Type 1} → statement M
-gates-behind-spec = tie.close (tie.spec nevers-at-requires mul-result add-result returns)
+gates-behind-spec = tie.close (tie.spec (λ c κs. search needs) (λ c. search needs) add-result returns)

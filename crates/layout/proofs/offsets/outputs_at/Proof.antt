@@ -5,15 +5,6 @@ use Rattle.netlist.specs.StoredBlock.{neversAt, gatesAt, outputsAt}
 use Rattle.layout.proofs.offsets.outputs_at.Statement.{statement}
 use Rattle.layout.proofs.offsets.outputs_at.Tie as tie
 
-inputs-of-requires : tie.Need-inputs-of-requires
-inputs-of-requires c κs = search needs
-
-nevers-of-requires : tie.Need-nevers-of-requires
-nevers-of-requires c κs = search needs
-
-gates-of-requires : tie.Need-gates-of-requires
-gates-of-requires c κs = search needs
-
 outputs-behind-requires : tie.Need-outputs-behind-requires
 outputs-behind-requires c κs =
     let known = c .before .before .before .shared-slice-known in
@@ -27,8 +18,4 @@ pub outputs-at-spec : {M : Type 1} → statement M
 outputs-at-spec =
     tie.close
     (tie.spec
-    inputs-of-requires
-    nevers-of-requires
-    gates-of-requires
-    outputs-behind-requires
-    returns)
+    (λ c κs. search needs) (λ c κs. search needs) (λ c κs. search needs) outputs-behind-requires returns)

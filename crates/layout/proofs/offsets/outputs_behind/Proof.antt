@@ -5,12 +5,6 @@ use Rattle.netlist.specs.StoredBlock.{neversAt, gatesAt, outputsAt}
 use Rattle.layout.proofs.offsets.outputs_behind.Statement.{statement}
 use Rattle.layout.proofs.offsets.outputs_behind.Tie as tie
 
-gates-behind-requires : tie.Need-gates-behind-requires
-gates-behind-requires c κs = search needs
-
-mul-result : tie.Need-mul-result
-mul-result c = search needs
-
 add-result : tie.Need-add-result
 unfolding gatesAt neversAt
 add-result c = omega arith
@@ -20,4 +14,4 @@ unfolding outputsAt
 returns c = omega arith
 
 pub outputs-behind-spec : {M : Type 1} → statement M
-outputs-behind-spec = tie.close (tie.spec gates-behind-requires mul-result add-result returns)
+outputs-behind-spec = tie.close (tie.spec (λ c κs. search needs) (λ c. search needs) add-result returns)

@@ -7,9 +7,6 @@ use Rattle.laws.proofs.Elements.{getD-defaults}
 use Rattle.layout.proofs.read.value_at.Statement.{statement}
 use Rattle.layout.proofs.read.value_at.Tie as tie
 
-shared-slice-read-result : tie.Need-shared-slice-read-result
-shared-slice-read-result c = search needs
-
 returns : tie.Need-returns
 returns c = getD-defaults (c .before .before .args .values .now) (c .before .before .args .i) 0 2 (search needs)
 
@@ -17,4 +14,4 @@ returns-2 : tie.Need-returns-2
 returns-2 c = sym (List·getD-eq-default (c .before .args .values .now) 2 (search needs))
 
 pub value-at-spec : {M : Type 1} → statement M
-value-at-spec = tie.close (tie.spec shared-slice-read-result returns returns-2)
+value-at-spec = tie.close (tie.spec (λ c. search needs) returns returns-2)

@@ -7,12 +7,6 @@ use Rattle.names.proofs.Indexing.{ends-near, ends-inside, repeats-hit, 
 use Rattle.names.proofs.index.enter.Statement.{statement}
 use Rattle.names.proofs.index.enter.Tie as tie
 
-mul-walk : tie.Need-mul-walk
-mul-walk c = search needs
-
-shared-slice-read-walk : tie.Need-shared-slice-read-walk
-shared-slice-read-walk c = search needs
-
 walk-requires : tie.Need-walk-requires
 walk-requires c κs =
     let s = c .before .before .before .before in
@@ -31,9 +25,6 @@ slice-read-if1 c =
     ends-inside (s .args .names .now) (s .args .index .now) (getD (s .args .names .now) (s .args .i) 0) (s .args .i) (c .before .walk .result) (s .pre .0)
     (c .before .walk .ensures)
 
-same-length : tie.Need-same-length
-same-length c = search needs
-
 returns : tie.Need-returns
 returns c =
     let at-walk = c .before .before in
@@ -43,12 +34,6 @@ returns c =
           repeats-hit (s .args .names .now) (s .args .index .now) (s .args .i) (at-walk .walk .result) (s .pre .0) (at-walk .walk .ensures) (c .if1 .taken);
       stored = λ e. absurd (true≢false e);
     }
-
-add-index : tie.Need-add-index
-add-index c = search needs
-
-cast-index : tie.Need-cast-index
-cast-index c = search needs
 
 mul-index : tie.Need-mul-index
 mul-index c =
@@ -65,9 +50,6 @@ slice-write-index c =
     ends-inside (s .args .names .now) (s .args .index .now) (getD (s .args .names .now) (s .args .i) 0) (s .args .i) (at-walk .walk .result) (s .pre .0)
     (at-walk .walk .ensures)
 
-same-length-2 : tie.Need-same-length-2
-same-length-2 c = search needs
-
 returns-2 : tie.Need-returns-2
 returns-2 c =
     let at-walk = c .before .before in
@@ -83,16 +65,5 @@ pub enter-spec : {M : Type 1} → statement M
 enter-spec =
     tie.close
     (tie.spec
-    mul-walk
-    shared-slice-read-walk
-    walk-requires
-    mul-if1
-    slice-read-if1
-    same-length
-    returns
-    add-index
-    cast-index
-    mul-index
-    slice-write-index
-    same-length-2
-    returns-2)
+    (λ c. search needs) (λ c. search needs) walk-requires mul-if1 slice-read-if1 (λ c. search needs) returns
+    (λ c. search needs) (λ c. search needs) mul-index slice-write-index (λ c. search needs) returns-2)

@@ -41,12 +41,6 @@ returns c =
       indexed = λ h. absurd (omega arith);
     }
 
-add-i : tie.Need-add-i Inv-loop μ-loop
-add-i c = omega arith
-
-loop-less : tie.Need-loop-less Inv-loop μ-loop
-loop-less c = omega arith
-
 loop-again : tie.Need-loop-again Inv-loop μ-loop
 loop-again c =
     let at-enter = c .before .before .before in
@@ -76,14 +70,5 @@ pub enter-all-spec : {M : Type 1} → statement M
 enter-all-spec =
     tie.close
     (tie.spec
-    Inv-loop
-    μ-loop
-    loop-holds
-    enter-requires
-    same-length
-    returns
-    add-i
-    loop-less
-    loop-again
-    same-length-2
-    returns-2)
+    Inv-loop μ-loop loop-holds enter-requires same-length returns (λ c. omega arith) (λ c. omega arith) loop-again
+    same-length-2 returns-2)

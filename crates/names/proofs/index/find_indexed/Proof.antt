@@ -7,9 +7,6 @@ use Rattle.names.proofs.Indexing.{ends-near, ends-inside, index-hit, in
 use Rattle.names.proofs.index.find_indexed.Statement.{statement}
 use Rattle.names.proofs.index.find_indexed.Tie as tie
 
-walk-requires : tie.Need-walk-requires
-walk-requires c κs = search needs
-
 mul-found : tie.Need-mul-found
 mul-found c =
     let s = c .before .before .before in
@@ -33,9 +30,6 @@ returns c =
     index-miss (s .args .names .now) (s .args .index .now) (length (s .args .names .now)) (s .args .name) (at-walk .walk .result) (s .pre)
     (at-walk .walk .ensures) (c .if1 .taken)
 
-sub-result : tie.Need-sub-result
-sub-result c = search needs
-
 returns-2 : tie.Need-returns-2
 returns-2 c =
     let at-walk = c .before .before in
@@ -47,10 +41,4 @@ pub find-indexed-spec : {M : Type 1} → statement M
 find-indexed-spec =
     tie.close
     (tie.spec
-    walk-requires
-    mul-found
-    shared-slice-read-found
-    cast-found
-    returns
-    sub-result
-    returns-2)
+    (λ c κs. search needs) mul-found shared-slice-read-found cast-found returns (λ c. search needs) returns-2)

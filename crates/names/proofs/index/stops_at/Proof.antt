@@ -9,18 +9,9 @@ returns : tie.Need-returns
 unfolding stopsAt
 returns c = search needs
 
-sub-result : tie.Need-sub-result
-sub-result c = search needs
-
-mul-result : tie.Need-mul-result
-mul-result c = search needs
-
-shared-slice-read-result : tie.Need-shared-slice-read-result
-shared-slice-read-result c = search needs
-
 returns-2 : tie.Need-returns-2
 returns-2 c = let s = c .before .before in stops-entry (s .args .names .now) (s .args .name) (s .args .entry) (c .before .if1 .left)
 
 pub stops-at-spec : {M : Type 1} → statement M
 stops-at-spec =
-    tie.close (tie.spec returns sub-result mul-result shared-slice-read-result returns-2)
+    tie.close (tie.spec returns (λ c. search needs) (λ c. search needs) (λ c. search needs) returns-2)

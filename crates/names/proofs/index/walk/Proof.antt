@@ -17,17 +17,8 @@ Inv-loop names index name at₀ at =
 abbrev μ-loop : tie.MeasureT-loop
 μ-loop names index name at₀ at = length index - at
 
-hash-requires : tie.Need-hash-requires Inv-loop μ-loop
-hash-requires c κs = search needs
-
 loop-holds : tie.Need-loop-holds Inv-loop μ-loop
 loop-holds c = (omega arith, λ j a b. absurd (omega arith))
-
-mul-stops-at : tie.Need-mul-stops-at Inv-loop μ-loop
-mul-stops-at c = omega arith
-
-shared-slice-read-stops-at : tie.Need-shared-slice-read-stops-at Inv-loop μ-loop
-shared-slice-read-stops-at c = omega arith
 
 cast-stops-at : tie.Need-cast-stops-at Inv-loop μ-loop
 cast-stops-at c = search (needs, c .shared-slice-known3 .given (c .before .before .loop .at))
@@ -39,12 +30,6 @@ returns : tie.Need-returns Inv-loop μ-loop
 returns c =
     let at-loop = c .before .before .before .before in
     record { from = at-loop .loop .inv .0; passed = at-loop .loop .inv .1; stops = sym (c .before .stops-at .ensures) ∙ c .if1 .taken }
-
-add-at : tie.Need-add-at Inv-loop μ-loop
-add-at c = omega arith
-
-loop-less : tie.Need-loop-less Inv-loop μ-loop
-loop-less c = omega arith
 
 loop-again : tie.Need-loop-again Inv-loop μ-loop
 loop-again c =
@@ -64,16 +49,5 @@ pub walk-spec : {M : Type 1} → statement M
 walk-spec =
     tie.close
     (tie.spec
-    Inv-loop
-    μ-loop
-    hash-requires
-    loop-holds
-    mul-stops-at
-    shared-slice-read-stops-at
-    cast-stops-at
-    stops-at-requires
-    returns
-    add-at
-    loop-less
-    loop-again
-    returns-2)
+    Inv-loop μ-loop (λ c κs. search needs) loop-holds (λ c. omega arith) (λ c. omega arith) cast-stops-at
+    stops-at-requires returns (λ c. omega arith) (λ c. omega arith) loop-again returns-2)

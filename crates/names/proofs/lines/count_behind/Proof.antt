@@ -19,21 +19,6 @@ abbrev μ-loop : tie.MeasureT-loop
 loop-holds : tie.Need-loop-holds Inv-loop μ-loop
 loop-holds c = (omega arith, omega arith)
 
-sub-one-if : tie.Need-sub-one-if Inv-loop μ-loop
-sub-one-if c = omega arith
-
-shared-slice-read-one-if : tie.Need-shared-slice-read-one-if Inv-loop μ-loop
-shared-slice-read-one-if c = omega arith
-
-one-if-requires : tie.Need-one-if-requires Inv-loop μ-loop
-one-if-requires c κs = search needs
-
-shared-slice-read-one-if-2 : tie.Need-shared-slice-read-one-if-2 Inv-loop μ-loop
-shared-slice-read-one-if-2 c = omega arith
-
-one-if-requires-2 : tie.Need-one-if-requires-2 Inv-loop μ-loop
-one-if-requires-2 c κs = search needs
-
 mul-n : tie.Need-mul-n Inv-loop μ-loop
 mul-n c =
     let at-one = c .before .before in
@@ -60,12 +45,6 @@ add-n c =
     let l = at-loop .loop in
     let h = behind-more (a .s .now) (l .i) (omega arith) (omega arith) (a .a) (a .b) (l .n) _ _ (l .inv .1) (at-one .one-if .ensures) (c .one-if2 .ensures) in
     omega (arith, behind-le (a .a) (a .b) (a .s .now))
-
-add-i : tie.Need-add-i Inv-loop μ-loop
-add-i c = omega arith
-
-loop-less : tie.Need-loop-less Inv-loop μ-loop
-loop-less c = omega arith
 
 loop-again : tie.Need-loop-again Inv-loop μ-loop
 loop-again c =
@@ -94,19 +73,5 @@ pub count-behind-spec : {M : Type 1} → statement M
 count-behind-spec =
     tie.close
     (tie.spec
-    Inv-loop
-    μ-loop
-    loop-holds
-    sub-one-if
-    shared-slice-read-one-if
-    one-if-requires
-    shared-slice-read-one-if-2
-    one-if-requires-2
-    mul-n
-    cast-n
-    add-n
-    add-i
-    loop-less
-    loop-again
-    cast-result
-    returns)
+    Inv-loop μ-loop loop-holds (λ c. omega arith) (λ c. omega arith) (λ c κs. search needs) (λ c. omega arith)
+    (λ c κs. search needs) mul-n cast-n add-n (λ c. omega arith) (λ c. omega arith) loop-again cast-result returns)

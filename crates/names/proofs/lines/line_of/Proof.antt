@@ -7,15 +7,6 @@ use Rattle.names.proofs.Scanning.{lineLength-le, line-part, opens-withi
 use Rattle.names.proofs.lines.line_of.Statement.{statement}
 use Rattle.names.proofs.lines.line_of.Tie as tie
 
-line-length-requires : tie.Need-line-length-requires
-line-length-requires c κs = search needs
-
-byte-at-requires : tie.Need-byte-at-requires
-byte-at-requires c κs = search needs
-
-name-offset-requires : tie.Need-name-offset-requires
-name-offset-requires c κs = search needs
-
 slice-aggregate-count : tie.Need-slice-aggregate-count
 slice-aggregate-count c =
     let line = c .before .before .before in line-part (line .before .before .args .s .now) (line .line-length .ensures)
@@ -26,9 +17,6 @@ count-requires c κs =
     let s = line .before .before .args .s .now in
     let e = line .line-length .ensures in
     omega (arith, lineLength-le s, line-part s e)
-
-minus-requires : tie.Need-minus-requires
-minus-requires c κs = search needs
 
 returns : tie.Need-returns
 returns c =
@@ -47,10 +35,5 @@ pub line-of-spec : {M : Type 1} → statement M
 line-of-spec =
     tie.close
     (tie.spec
-    line-length-requires
-    byte-at-requires
-    name-offset-requires
-    slice-aggregate-count
-    count-requires
-    minus-requires
-    returns)
+    (λ c κs. search needs) (λ c κs. search needs) (λ c κs. search needs) slice-aggregate-count count-requires
+    (λ c κs. search needs) returns)

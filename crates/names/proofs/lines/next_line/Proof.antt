@@ -9,18 +9,6 @@ use Rattle.names.proofs.Scanning.{lineLength-le}
 use Rattle.names.proofs.lines.next_line.Statement.{statement}
 use Rattle.names.proofs.lines.next_line.Tie as tie
 
-sub-line-length : tie.Need-sub-line-length
-sub-line-length c = search needs
-
-part-line-length-start : tie.Need-part-line-length-start
-part-line-length-start c = search needs
-
-part-line-length-end : tie.Need-part-line-length-end
-part-line-length-end c = search needs
-
-line-length-requires : tie.Need-line-length-requires
-line-length-requires c κs = search needs
-
 add-result : tie.Need-add-result
 add-result c =
     let a = c .before .before .before .args in
@@ -37,9 +25,4 @@ pub next-line-spec : {M : Type 1} → statement M
 next-line-spec =
     tie.close
     (tie.spec
-    sub-line-length
-    part-line-length-start
-    part-line-length-end
-    line-length-requires
-    add-result
-    returns)
+    (λ c. search needs) (λ c. search needs) (λ c. search needs) (λ c κs. search needs) add-result returns)

@@ -22,24 +22,12 @@ loop-holds c = (omega arith, omega arith, front-start _ 8 0)
 returns : tie.Need-returns Inv-loop μ-loop
 returns c = let l = c .before .before .loop in front-ends (c .before .before .before .before .args .s .now) 8 (l .i) (c .if1 .taken) (l .inv .2)
 
-shared-slice-read-is-name-byte : tie.Need-shared-slice-read-is-name-byte Inv-loop μ-loop
-shared-slice-read-is-name-byte c = omega arith
-
-is-name-byte-requires : tie.Need-is-name-byte-requires Inv-loop μ-loop
-is-name-byte-requires c κs = search needs
-
 returns-2 : tie.Need-returns-2 Inv-loop μ-loop
 returns-2 c =
     let at-loop = c .before .before .before .before .before in
     let start = at-loop .before .before in
     let l = at-loop .loop in
     front-stops (start .args .s .now) 8 (l .i) (omega arith) (omega arith) (sym (c .before .is-name-byte .ensures) ∙ not-true _ (c .if2 .taken)) (l .inv .2)
-
-add-i : tie.Need-add-i Inv-loop μ-loop
-add-i c = omega arith
-
-loop-less : tie.Need-loop-less Inv-loop μ-loop
-loop-less c = omega arith
 
 loop-again : tie.Need-loop-again Inv-loop μ-loop
 loop-again c =
@@ -59,14 +47,5 @@ pub name-length-spec : {M : Type 1} → statement M
 name-length-spec =
     tie.close
     (tie.spec
-    Inv-loop
-    μ-loop
-    loop-holds
-    returns
-    shared-slice-read-is-name-byte
-    is-name-byte-requires
-    returns-2
-    add-i
-    loop-less
-    loop-again
-    returns-3)
+    Inv-loop μ-loop loop-holds returns (λ c. omega arith) (λ c κs. search needs) returns-2 (λ c. omega arith)
+    (λ c. omega arith) loop-again returns-3)

@@ -6,18 +6,6 @@ use Rattle.names.specs.Packed.{nameFront, nameFrom, packedAt}
 use Rattle.names.proofs.pack.pack_at.Statement.{statement}
 use Rattle.names.proofs.pack.pack_at.Tie as tie
 
-sub-pack : tie.Need-sub-pack
-sub-pack c = search needs
-
-part-pack-start : tie.Need-part-pack-start
-part-pack-start c = search needs
-
-part-pack-end : tie.Need-part-pack-end
-part-pack-end c = search needs
-
-pack-requires : tie.Need-pack-requires
-pack-requires c κs = search needs
-
 returns : tie.Need-returns
 unfolding nameFront nameFrom packedAt
 returns c = let a = c .before .before .before .before .args in rw (rest-is-drop (a .text .now) (a .at)) at (c .pack .ensures)
@@ -28,4 +16,4 @@ returns-2 c = let a = c .before .before .args in rw (drop-of-length-le (a .text 
 
 pub pack-at-spec : {M : Type 1} → statement M
 pack-at-spec =
-    tie.close (tie.spec sub-pack part-pack-start part-pack-end pack-requires returns returns-2)
+    tie.close (tie.spec (λ c. search needs) (λ c. search needs) (λ c. search needs) (λ c κs. search needs) returns returns-2)

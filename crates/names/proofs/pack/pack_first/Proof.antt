@@ -21,9 +21,6 @@ loop-holds c =
     let e : c .args .n ≡ length f = c .pre in
     (omega arith, rw (e, drop-length f))
 
-sub-i : tie.Need-sub-i Inv-loop μ-loop
-sub-i c = omega arith
-
 shared-slice-read-r : tie.Need-shared-slice-read-r Inv-loop μ-loop
 shared-slice-read-r c = let l = c .before .before .loop in omega (arith, front-shorter 8 (c .before .before .before .args .s .now), l .inv .0)
 
@@ -42,9 +39,6 @@ add-r c =
     let start = c .before .before .before in
     let l = c .before .before .loop in omega (arith, packed-more-fits (start .args .s .now) (l .i) (l .r) (omega arith) (l .inv .0) (l .inv .1))
 
-loop-less : tie.Need-loop-less Inv-loop μ-loop
-loop-less c = omega arith
-
 loop-again : tie.Need-loop-again Inv-loop μ-loop
 loop-again c =
     let start = c .before .before .before in
@@ -57,14 +51,5 @@ pub pack-first-spec : {M : Type 1} → statement M
 pack-first-spec =
     tie.close
     (tie.spec
-    Inv-loop
-    μ-loop
-    loop-holds
-    sub-i
-    shared-slice-read-r
-    cast-r
-    mul-r
-    add-r
-    loop-less
-    loop-again
+    Inv-loop μ-loop loop-holds (λ c. omega arith) shared-slice-read-r cast-r mul-r add-r (λ c. omega arith) loop-again
     returns)

@@ -14,9 +14,6 @@ use Rattle.names.proofs.search.duplicate.Tie as tie
 failed-passed : {A : Type 0} {why : Refusal} → Failed why ≡ Passed → A
 failed-passed e = let z : _≡_ {A = ℕ} 0 1 = cc in absurd (omega arith)
 
-add-nodes : tie.Need-add-nodes
-add-nodes c = search needs
-
 slice-aggregate-enter-all : tie.Need-slice-aggregate-enter-all
 slice-aggregate-enter-all c =
     let s = c .before .before .before .before .before in
@@ -26,15 +23,6 @@ enter-all-requires : tie.Need-enter-all-requires
 enter-all-requires c κs =
     let s = c .before .before .before .before .before .before in
     nodes-none (s .args .c) (s .args .names .now) (s .args .places .now) (s .args .index .now) (s .pre)
-
-mul-place : tie.Need-mul-place
-mul-place c = search needs
-
-shared-slice-read-place : tie.Need-shared-slice-read-place
-shared-slice-read-place c = search needs
-
-same-length : tie.Need-same-length
-same-length c = search needs
 
 returns : tie.Need-returns
 returns c =
@@ -46,36 +34,6 @@ returns c =
           (s .pre .numberRoom) (s .pre .placeRoom) (at-enter .enter-all .result) (at-enter .enter-all .ensures .answer) (c .before .if1 .taken);
       indexed = λ e. failed-passed e;
     }
-
-add-first-repeat : tie.Need-add-first-repeat
-add-first-repeat c = search needs
-
-mul-first-repeat : tie.Need-mul-first-repeat
-mul-first-repeat c = search needs
-
-sub-first-repeat : tie.Need-sub-first-repeat
-sub-first-repeat c = search needs
-
-part-first-repeat-start : tie.Need-part-first-repeat-start
-part-first-repeat-start c = search needs
-
-part-first-repeat-end : tie.Need-part-first-repeat-end
-part-first-repeat-end c = search needs
-
-first-repeat-requires : tie.Need-first-repeat-requires
-first-repeat-requires c κs = search needs
-
-add-place : tie.Need-add-place
-add-place c = search needs
-
-mul-place-2 : tie.Need-mul-place-2
-mul-place-2 c = search needs
-
-shared-slice-read-place-2 : tie.Need-shared-slice-read-place-2
-shared-slice-read-place-2 c = search needs
-
-same-length-2 : tie.Need-same-length-2
-same-length-2 c = search needs
 
 returns-2 : tie.Need-returns-2
 returns-2 c =
@@ -90,9 +48,6 @@ returns-2 c =
           (at-port .first-repeat .result) (at-port .first-repeat .ensures) (c .before .if2 .taken);
       indexed = λ e. failed-passed e;
     }
-
-same-length-3 : tie.Need-same-length-3
-same-length-3 c = search needs
 
 returns-3 : tie.Need-returns-3
 returns-3 c =
@@ -114,23 +69,7 @@ pub duplicate-spec : {M : Type 1} → statement M
 duplicate-spec =
     tie.close
     (tie.spec
-    add-nodes
-    slice-aggregate-enter-all
-    enter-all-requires
-    mul-place
-    shared-slice-read-place
-    same-length
-    returns
-    add-first-repeat
-    mul-first-repeat
-    sub-first-repeat
-    part-first-repeat-start
-    part-first-repeat-end
-    first-repeat-requires
-    add-place
-    mul-place-2
-    shared-slice-read-place-2
-    same-length-2
-    returns-2
-    same-length-3
-    returns-3)
+    (λ c. search needs) slice-aggregate-enter-all enter-all-requires (λ c. search needs) (λ c. search needs)
+    (λ c. search needs) returns (λ c. search needs) (λ c. search needs) (λ c. search needs) (λ c. search needs)
+    (λ c. search needs) (λ c κs. search needs) (λ c. search needs) (λ c. search needs) (λ c. search needs)
+    (λ c. search needs) returns-2 (λ c. search needs) returns-3)

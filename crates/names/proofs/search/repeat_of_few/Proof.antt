@@ -18,21 +18,12 @@ abbrev μ-loop : tie.MeasureT-loop
 loop-holds : tie.Need-loop-holds Inv-loop μ-loop
 loop-holds c = (omega arith, none-before (repeatsAt (c .before .args .names .now)))
 
-repeats-requires : tie.Need-repeats-requires Inv-loop μ-loop
-repeats-requires c κs = omega arith
-
 returns : tie.Need-returns Inv-loop μ-loop
 returns c =
     let at-loop = c .before .before .before in
     let start = at-loop .before .before in
     let l = at-loop .loop in first-found (repeatsAt (start .args .names .now)) (length (start .args .names .now)) (l .i) (l .inv .1) (omega arith)
     (sym (c .before .repeats .ensures) ∙ c .if1 .taken)
-
-add-i : tie.Need-add-i Inv-loop μ-loop
-add-i c = omega arith
-
-loop-less : tie.Need-loop-less Inv-loop μ-loop
-loop-less c = omega arith
 
 loop-again : tie.Need-loop-again Inv-loop μ-loop
 loop-again c =
@@ -54,12 +45,5 @@ pub repeat-of-few-spec : {M : Type 1} → statement M
 repeat-of-few-spec =
     tie.close
     (tie.spec
-    Inv-loop
-    μ-loop
-    loop-holds
-    repeats-requires
-    returns
-    add-i
-    loop-less
-    loop-again
+    Inv-loop μ-loop loop-holds (λ c κs. omega arith) returns (λ c. omega arith) (λ c. omega arith) loop-again
     returns-2)

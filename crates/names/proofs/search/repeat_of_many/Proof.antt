@@ -7,15 +7,9 @@ use borrow.Author.Needs.{needs}
 use Rattle.names.proofs.search.repeat_of_many.Statement.{statement}
 use Rattle.names.proofs.search.repeat_of_many.Tie as tie
 
-slice-aggregate-enter-all : tie.Need-slice-aggregate-enter-all
-slice-aggregate-enter-all c = search needs
-
 enter-all-requires : tie.Need-enter-all-requires
 enter-all-requires c κs =
     let s = c .before .before in index-new (s .args .names .now) (hashes + maxPairs + 1) (omega arith) (omega arith)
 
-returns : tie.Need-returns
-returns c = search needs
-
 pub repeat-of-many-spec : {M : Type 1} → statement M
-repeat-of-many-spec = tie.close (tie.spec slice-aggregate-enter-all enter-all-requires returns)
+repeat-of-many-spec = tie.close (tie.spec (λ c. search needs) enter-all-requires (λ c. search needs))

@@ -93,12 +93,6 @@ element-write-words c = omega (arith, entry (turn (c .before .before .before)) .
 add-at : tie.Need-add-at Inv-loop μ-loop
 add-at c = let line = c .before .before .before .before in omega (arith, sizes line, entry (turn line) .pre .short)
 
-add-i : tie.Need-add-i Inv-loop μ-loop
-add-i c = omega arith
-
-loop-less : tie.Need-loop-less Inv-loop μ-loop
-loop-less c = omega arith
-
 loop-again : tie.Need-loop-again Inv-loop μ-loop
 loop-again c =
     let line = c .before .before .before .before in
@@ -111,26 +105,6 @@ pub fill-lines-spec : {M : Type 1} → statement M
 fill-lines-spec =
     tie.close
     (tie.spec
-    Inv-loop
-    μ-loop
-    loop-holds
-    sub-line-of
-    part-line-of-start
-    part-line-of-end
-    line-of-requires
-    add-gates
-    add-places
-    add-places-2
-    mul-places
-    element-write-places
-    add-line-word
-    line-word-requires
-    cast-words
-    add-words
-    mul-words
-    element-write-words
-    add-at
-    add-i
-    loop-less
-    loop-again
-    returns)
+    Inv-loop μ-loop loop-holds sub-line-of part-line-of-start part-line-of-end line-of-requires add-gates add-places
+    add-places-2 mul-places element-write-places add-line-word line-word-requires cast-words add-words mul-words
+    element-write-words add-at (λ c. omega arith) (λ c. omega arith) loop-again returns)

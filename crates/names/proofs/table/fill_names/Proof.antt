@@ -19,27 +19,6 @@ abbrev μ-loop : tie.MeasureT-loop
 loop-holds : tie.Need-loop-holds Inv-loop μ-loop
 loop-holds c = (omega arith, refl, refl)
 
-mul-pack-at : tie.Need-mul-pack-at Inv-loop μ-loop
-mul-pack-at c = omega arith
-
-shared-slice-read-pack-at : tie.Need-shared-slice-read-pack-at Inv-loop μ-loop
-shared-slice-read-pack-at c = omega arith
-
-pack-at-requires : tie.Need-pack-at-requires Inv-loop μ-loop
-pack-at-requires c κs = search needs
-
-mul-names : tie.Need-mul-names Inv-loop μ-loop
-mul-names c = omega arith
-
-slice-write-names : tie.Need-slice-write-names Inv-loop μ-loop
-slice-write-names c = omega arith
-
-add-i : tie.Need-add-i Inv-loop μ-loop
-add-i c = omega arith
-
-loop-less : tie.Need-loop-less Inv-loop μ-loop
-loop-less c = omega arith
-
 loop-again : tie.Need-loop-again Inv-loop μ-loop
 unfolding packedThrough
 loop-again c =
@@ -63,16 +42,5 @@ pub fill-names-spec : {M : Type 1} → statement M
 fill-names-spec =
     tie.close
     (tie.spec
-    Inv-loop
-    μ-loop
-    loop-holds
-    mul-pack-at
-    shared-slice-read-pack-at
-    pack-at-requires
-    mul-names
-    slice-write-names
-    add-i
-    loop-less
-    loop-again
-    same-length
-    returns)
+    Inv-loop μ-loop loop-holds (λ c. omega arith) (λ c. omega arith) (λ c κs. search needs) (λ c. omega arith)
+    (λ c. omega arith) (λ c. omega arith) (λ c. omega arith) loop-again same-length returns)

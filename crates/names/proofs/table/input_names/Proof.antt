@@ -70,19 +70,6 @@ pub input-names-spec : {M : Type 1} → statement M
 input-names-spec =
     tie.close
     (tie.spec
-    Inv-loop
-    μ-loop
-    loop-holds
-    sub-line-of
-    part-line-of-start
-    part-line-of-end
-    line-of-requires
-    add-pack-at
-    (λ c κs. search needs)
-    (λ c. omega arith)
-    element-write-inputs
-    add-at
-    (λ c. omega arith)
-    (λ c. omega arith)
-    loop-again
-    returns)
+    Inv-loop μ-loop loop-holds sub-line-of part-line-of-start part-line-of-end line-of-requires add-pack-at
+    (λ c κs. search needs) (λ c. omega arith) element-write-inputs add-at (λ c. omega arith) (λ c. omega arith)
+    loop-again returns)

@@ -11,12 +11,6 @@ returns : tie.Need-returns
 unfolding lineWord
 returns c = rw (lt-ltb _ _ (c .if1 .taken))
 
-sub-result : tie.Need-sub-result
-sub-result c = search needs
-
-add-result : tie.Need-add-result
-add-result c = search needs
-
 returns-2 : tie.Need-returns-2
 unfolding lineWord
 returns-2 c = let z : c .before .before .args .gates ≡ 0 = c .if2 .taken in rw (le-ltb _ _ (c .before .if1 .left), z) (omega arith)
@@ -26,4 +20,4 @@ unfolding lineWord
 returns-3 c = rw (le-ltb _ _ (c .before .if1 .left))
 
 pub line-word-spec : {M : Type 1} → statement M
-line-word-spec = tie.close (tie.spec returns sub-result add-result returns-2 returns-3)
+line-word-spec = tie.close (tie.spec returns (λ c. search needs) (λ c. search needs) returns-2 returns-3)

@@ -5,11 +5,8 @@ use Rattle.names.proofs.TreeCounts.{counts-are}
 use Rattle.names.proofs.tally.counts.Statement.{statement}
 use Rattle.names.proofs.tally.counts.Tie as tie
 
-count-bytes-requires : tie.Need-count-bytes-requires
-count-bytes-requires c κs = search needs
-
 returns : tie.Need-returns
 returns c = λ t text p e f g. c .count-bytes .ensures ∙ counts-are p _ _ _ e f g
 
 pub counts-spec : {M : Type 1} → statement M
-counts-spec = tie.close (tie.spec count-bytes-requires returns)
+counts-spec = tie.close (tie.spec (λ c κs. search needs) returns)

@@ -22,12 +22,6 @@ abbrev μ-loop : tie.MeasureT-loop
 loop-holds : tie.Need-loop-holds Inv-loop μ-loop
 loop-holds c = (c .before .pre .1, omega arith, λ ls r. run-start r)
 
-add-byte-at : tie.Need-add-byte-at Inv-loop μ-loop
-add-byte-at c = omega arith
-
-byte-at-requires : tie.Need-byte-at-requires Inv-loop μ-loop
-byte-at-requires c κs = search needs
-
 -- a line with the letter stands at the place of a turn
 there : (c : tie.Then1 Inv-loop μ-loop) → let l = c .before .before in
     lettered (l .before .before .args .letter) (drop (l .loop .end) (l .before .before .args .text .now)) ≡ true
@@ -35,9 +29,6 @@ there c =
     let l = c .before .before in
     let s = l .before .before in
     letter-there (s .args .letter) (s .args .text .now) (l .loop .end) (s .pre .2) (c .before .byte-at .ensures) (c .if1 .taken)
-
-next-line-requires : tie.Need-next-line-requires Inv-loop μ-loop
-next-line-requires c κs = omega arith
 
 -- the place of the next line
 module _ (c : tie.After-next-line Inv-loop μ-loop) where
@@ -52,9 +43,6 @@ module _ (c : tie.After-next-line Inv-loop μ-loop) where
 
   next-behind : loop .loop .end + 1 ≤ c .next-line .result
   next-behind = omega (arith, c .next-line .ensures, next-further (start .args .letter) (start .args .text .now) (loop .loop .end) (there (c .before)))
-
-add-count : tie.Need-add-count Inv-loop μ-loop
-add-count c = omega arith
 
 loop-less : tie.Need-loop-less Inv-loop μ-loop
 loop-less c = omega (arith, next-within c, next-behind c)
@@ -81,13 +69,5 @@ pub run-of-spec : {M : Type 1} → statement M
 run-of-spec =
     tie.close
     (tie.spec
-    Inv-loop
-    μ-loop
-    loop-holds
-    add-byte-at
-    byte-at-requires
-    next-line-requires
-    add-count
-    loop-less
-    loop-again
-    returns)
+    Inv-loop μ-loop loop-holds (λ c. omega arith) (λ c κs. search needs) (λ c κs. omega arith) (λ c. omega arith)
+    loop-less loop-again returns)

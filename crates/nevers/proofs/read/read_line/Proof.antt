@@ -77,12 +77,5 @@ pub read-line-spec : {M : Type 1} → statement M
 read-line-spec =
     tie.close
     (tie.spec
-    pair-count-requires
-    fill-numbers-requires
-    find-repeat-requires
-    find-outside-requires
-    fill-values-requires
-    array-share-prefix-setting
-    slice-aggregate-masks-of
-    masks-of-requires
-    returns)
+    pair-count-requires fill-numbers-requires find-repeat-requires find-outside-requires fill-values-requires
+    array-share-prefix-setting slice-aggregate-masks-of masks-of-requires returns)

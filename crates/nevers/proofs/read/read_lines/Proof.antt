@@ -48,15 +48,8 @@ pub read-lines-spec : {M : Type 1} → statement M
 read-lines-spec =
     tie.close
     (tie.spec
-    Inv-loop
-    μ-loop
-    loop-holds
-    (λ c. omega (arith, there c))
-    (λ c. omega (arith, there c))
-    (λ c. omega (arith, there c))
-    read-line-requires
-    (λ c κs. search needs)
-    (λ c κs. search needs)
+    Inv-loop μ-loop loop-holds (λ c. omega (arith, there c)) (λ c. omega (arith, there c))
+    (λ c. omega (arith, there c)) read-line-requires (λ c κs. search needs) (λ c κs. search needs)
     (λ c. omega (arith, entry (turn (c .before .before) .before) .pre .few))
     (λ c. omega (arith, entry (turn (c .before .before) .before) .pre .few))
     (λ c. omega (arith, entry (turn (c .before .before) .before) .pre .few))
@@ -65,7 +58,5 @@ read-lines-spec =
     (λ c. omega (arith, entry (turn (c .before .before) .before) .pre .few))
     (λ c. omega (arith, entry (turn (c .before .before) .before) .pre .few))
     (λ c κs. omega (arith, there (turn (c .before .before))))
-    (λ c. omega (arith, entry (turn (c .before .before .before) .before) .pre .few))
-    (λ c. omega arith)
-    loop-again
+    (λ c. omega (arith, entry (turn (c .before .before .before) .before) .pre .few)) (λ c. omega arith) loop-again
     returns)

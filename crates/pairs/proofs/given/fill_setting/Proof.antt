@@ -19,23 +19,8 @@ abbrev μ-loop : tie.MeasureT-loop
 loop-holds : tie.Need-loop-holds Inv-loop μ-loop
 loop-holds c = (omega arith, refl, refl)
 
-mul-given-code : tie.Need-mul-given-code Inv-loop μ-loop
-mul-given-code c = omega arith
-
-shared-slice-read-given-code : tie.Need-shared-slice-read-given-code Inv-loop μ-loop
-shared-slice-read-given-code c = omega arith
-
 given-code-requires : tie.Need-given-code-requires Inv-loop μ-loop
 given-code-requires c κs = let p = c .before .before .before .before .before .before .before .pre in (p .0, p .1)
-
-slice-write-setting : tie.Need-slice-write-setting Inv-loop μ-loop
-slice-write-setting c = omega arith
-
-add-j : tie.Need-add-j Inv-loop μ-loop
-add-j c = omega arith
-
-loop-less : tie.Need-loop-less Inv-loop μ-loop
-loop-less c = omega arith
 
 loop-again : tie.Need-loop-again Inv-loop μ-loop
 unfolding inputCode
@@ -60,15 +45,5 @@ pub fill-setting-spec : {M : Type 1} → statement M
 fill-setting-spec =
     tie.close
     (tie.spec
-    Inv-loop
-    μ-loop
-    loop-holds
-    mul-given-code
-    shared-slice-read-given-code
-    given-code-requires
-    slice-write-setting
-    add-j
-    loop-less
-    loop-again
-    same-length
-    returns)
+    Inv-loop μ-loop loop-holds (λ c. omega arith) (λ c. omega arith) given-code-requires (λ c. omega arith)
+    (λ c. omega arith) (λ c. omega arith) loop-again same-length returns)

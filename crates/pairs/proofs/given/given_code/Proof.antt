@@ -5,12 +5,6 @@ use Rattle.pairs.proofs.given.given_code.Tie as tie
 use borrow.Author.Tests.{lt-ltb, le-ltb}
 use Rattle.pairs.specs.PairBytes.{givenCode}
 
-find-requires : tie.Need-find-requires
-find-requires c κs = search needs
-
-shared-slice-read-result : tie.Need-shared-slice-read-result
-shared-slice-read-result c = search needs
-
 returns : tie.Need-returns
 unfolding givenCode
 returns c = rw (← c .before .before .find .ensures, lt-ltb _ _ (c .before .if1 .taken))
@@ -20,4 +14,4 @@ unfolding givenCode
 returns-2 c = rw (← c .before .find .ensures, le-ltb _ _ (c .if1 .left))
 
 pub given-code-spec : {M : Type 1} → statement M
-given-code-spec = tie.close (tie.spec find-requires shared-slice-read-result returns returns-2)
+given-code-spec = tie.close (tie.spec (λ c κs. search needs) (λ c. search needs) returns returns-2)

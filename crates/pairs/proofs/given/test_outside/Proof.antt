@@ -4,15 +4,6 @@ use Rattle.pairs.proofs.given.test_outside.Statement.{statement}
 use Rattle.pairs.proofs.given.test_outside.Tie as tie
 use Rattle.pairs.proofs.NameTests.{outside-failed, outside-passed}
 
-first-outside-requires : tie.Need-first-outside-requires
-first-outside-requires c κs = search needs
-
-mul-place : tie.Need-mul-place
-mul-place c = search needs
-
-shared-slice-read-place : tie.Need-shared-slice-read-place
-shared-slice-read-place c = search needs
-
 returns : tie.Need-returns
 returns c =
     λ ps at known legal counted named placed inputs.
@@ -25,4 +16,4 @@ returns-2 c =
 
 pub test-outside-spec : {M : Type 1} → statement M
 test-outside-spec =
-    tie.close (tie.spec first-outside-requires mul-place shared-slice-read-place returns returns-2)
+    tie.close (tie.spec (λ c κs. search needs) (λ c. search needs) (λ c. search needs) returns returns-2)

@@ -10,15 +10,6 @@ use Rattle.pairs.proofs.NameTests.{repeat-failed, repeat-passed}
 slice-aggregate-first-repeat : tie.Need-slice-aggregate-first-repeat
 slice-aggregate-first-repeat c = let s = c .before .before .before in sym (length-take-le (s .args .count) (s .args .names .now) (omega arith))
 
-first-repeat-requires : tie.Need-first-repeat-requires
-first-repeat-requires c κs = search needs
-
-mul-place : tie.Need-mul-place
-mul-place c = search needs
-
-shared-slice-read-place : tie.Need-shared-slice-read-place
-shared-slice-read-place c = search needs
-
 returns : tie.Need-returns
 returns c =
     λ ps at legal counted named placed.
@@ -33,9 +24,4 @@ pub test-repeat-spec : {M : Type 1} → statement M
 test-repeat-spec =
     tie.close
     (tie.spec
-    slice-aggregate-first-repeat
-    first-repeat-requires
-    mul-place
-    shared-slice-read-place
-    returns
-    returns-2)
+    slice-aggregate-first-repeat (λ c κs. search needs) (λ c. search needs) (λ c. search needs) returns returns-2)

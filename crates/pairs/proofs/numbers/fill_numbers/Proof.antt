@@ -67,17 +67,6 @@ pub fill-numbers-spec : {M : Type 1} → statement M
 fill-numbers-spec =
     tie.close
     (tie.spec
-    Inv-loop
-    μ-loop
-    (λ c. omega arith)
-    loop-holds
-    (λ c κs. search needs)
-    (λ c. omega (arith, entry (c .before .before) .pre .1))
-    element-write-names
-    (λ c κs. search needs)
-    add-place-2
-    add-place-3
-    (λ c. omega arith)
-    (λ c. omega arith)
-    loop-again
-    returns)
+    Inv-loop μ-loop (λ c. omega arith) loop-holds (λ c κs. search needs)
+    (λ c. omega (arith, entry (c .before .before) .pre .1)) element-write-names (λ c κs. search needs) add-place-2
+    add-place-3 (λ c. omega arith) (λ c. omega arith) loop-again returns)

@@ -47,14 +47,5 @@ pub fill-values-spec : {M : Type 1} → statement M
 fill-values-spec =
     tie.close
     (tie.spec
-    Inv-loop
-    μ-loop
-    loop-holds
-    (λ c. omega arith)
-    (λ c. omega (arith, entry (c .before .before) .pre))
-    value-given-requires
-    element-write-setting
-    (λ c. omega arith)
-    (λ c. omega arith)
-    loop-again
-    returns)
+    Inv-loop μ-loop loop-holds (λ c. omega arith) (λ c. omega (arith, entry (c .before .before) .pre))
+    value-given-requires element-write-setting (λ c. omega arith) (λ c. omega arith) loop-again returns)

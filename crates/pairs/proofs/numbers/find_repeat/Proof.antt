@@ -46,9 +46,4 @@ pub find-repeat-spec : {M : Type 1} → statement M
 find-repeat-spec =
     tie.close
     (tie.spec
-    slice-aggregate-first-repeat
-    (λ c κs. search needs)
-    pair-place-requires
-    add-place
-    returns
-    returns-2)
+    slice-aggregate-first-repeat (λ c κs. search needs) pair-place-requires add-place returns returns-2)

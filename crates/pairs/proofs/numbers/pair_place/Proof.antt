@@ -52,14 +52,5 @@ pub pair-place-spec : {M : Type 1} → statement M
 pair-place-spec =
     tie.close
     (tie.spec
-    Inv-loop
-    μ-loop
-    (λ c. omega arith)
-    loop-holds
-    (λ c κs. search needs)
-    add-place-2
-    add-place-3
-    (λ c. omega arith)
-    (λ c. omega arith)
-    loop-again
-    returns)
+    Inv-loop μ-loop (λ c. omega arith) loop-holds (λ c κs. search needs) add-place-2 add-place-3 (λ c. omega arith)
+    (λ c. omega arith) loop-again returns)

@@ -7,18 +7,6 @@ use Rattle.laws.proofs.Elements.{rest-is-drop}
 use Rattle.pairs.specs.PairBytes.{codeAt}
 use Rattle.pairs.proofs.PairPlaces.{code-none}
 
-sub-code-front : tie.Need-sub-code-front
-sub-code-front c = search needs
-
-part-code-front-start : tie.Need-part-code-front-start
-part-code-front-start c = search needs
-
-part-code-front-end : tie.Need-part-code-front-end
-part-code-front-end c = search needs
-
-code-front-requires : tie.Need-code-front-requires
-code-front-requires c κs = search needs
-
 returns : tie.Need-returns
 unfolding codeAt
 returns c = let a = c .before .before .before .before .args in rw (rest-is-drop (a .text .now) (a .at)) at (c .code-front .ensures)
@@ -31,9 +19,4 @@ pub code-at-spec : {M : Type 1} → statement M
 code-at-spec =
     tie.close
     (tie.spec
-    sub-code-front
-    part-code-front-start
-    part-code-front-end
-    code-front-requires
-    returns
-    returns-2)
+    (λ c. search needs) (λ c. search needs) (λ c. search needs) (λ c κs. search needs) returns returns-2)

@@ -7,14 +7,8 @@ use borrow.Author.Tests.{eq-eqb, ne-eqb}
 use Rattle.names.proofs.Packing.{front-length}
 use Rattle.pairs.specs.PairBytes.{codeFront}
 
-name-length-requires : tie.Need-name-length-requires
-name-length-requires c κs = search needs
-
 add-byte-at : tie.Need-add-byte-at
 add-byte-at c = omega (arith, front-length 8 (c .before .before .args .s .now), c .name-length .ensures)
-
-byte-at-requires : tie.Need-byte-at-requires
-byte-at-requires c κs = search needs
 
 returns : tie.Need-returns
 unfolding codeFront
@@ -26,4 +20,4 @@ returns-2 c = rw (← c .before .before .name-length .ensures, ← c .before .by
 
 pub code-front-spec : {M : Type 1} → statement M
 code-front-spec =
-    tie.close (tie.spec name-length-requires add-byte-at byte-at-requires returns returns-2)
+    tie.close (tie.spec (λ c κs. search needs) add-byte-at (λ c κs. search needs) returns returns-2)

@@ -19,24 +19,6 @@ abbrev μ-loop : tie.MeasureT-loop
 loop-holds : tie.Need-loop-holds Inv-loop μ-loop
 loop-holds c = (omega arith, refl, refl)
 
-mul-code-at : tie.Need-mul-code-at Inv-loop μ-loop
-mul-code-at c = omega arith
-
-shared-slice-read-code-at : tie.Need-shared-slice-read-code-at Inv-loop μ-loop
-shared-slice-read-code-at c = omega arith
-
-code-at-requires : tie.Need-code-at-requires Inv-loop μ-loop
-code-at-requires c κs = search needs
-
-slice-write-codes : tie.Need-slice-write-codes Inv-loop μ-loop
-slice-write-codes c = omega arith
-
-add-i : tie.Need-add-i Inv-loop μ-loop
-add-i c = omega arith
-
-loop-less : tie.Need-loop-less Inv-loop μ-loop
-loop-less c = omega arith
-
 loop-again : tie.Need-loop-again Inv-loop μ-loop
 unfolding codeThrough
 loop-again c =
@@ -58,15 +40,5 @@ pub fill-codes-spec : {M : Type 1} → statement M
 fill-codes-spec =
     tie.close
     (tie.spec
-    Inv-loop
-    μ-loop
-    loop-holds
-    mul-code-at
-    shared-slice-read-code-at
-    code-at-requires
-    slice-write-codes
-    add-i
-    loop-less
-    loop-again
-    same-length
-    returns)
+    Inv-loop μ-loop loop-holds (λ c. omega arith) (λ c. omega arith) (λ c κs. search needs) (λ c. omega arith)
+    (λ c. omega arith) (λ c. omega arith) loop-again same-length returns)

@@ -19,21 +19,9 @@ Inv-loop text at count places₀ place₀ i₀ places place i =
 abbrev μ-loop : tie.MeasureT-loop
 μ-loop text at count places₀ place₀ i₀ places place i = count - i
 
-add-place : tie.Need-add-place Inv-loop μ-loop
-add-place c = omega arith
-
 loop-holds : tie.Need-loop-holds Inv-loop μ-loop
 unfolding pairPlace
 loop-holds c = (omega arith, refl, omega arith, refl, refl)
-
-mul-places : tie.Need-mul-places Inv-loop μ-loop
-mul-places c = omega arith
-
-slice-write-places : tie.Need-slice-write-places Inv-loop μ-loop
-slice-write-places c = omega arith
-
-name-size-requires : tie.Need-name-size-requires Inv-loop μ-loop
-name-size-requires c κs = search needs
 
 add-place-2 : tie.Need-add-place-2 Inv-loop μ-loop
 add-place-2 c =
@@ -42,12 +30,6 @@ add-place-2 c =
 add-place-3 : tie.Need-add-place-3 Inv-loop μ-loop
 add-place-3 c =
     omega (arith, here-short (c .before .before .before .before .before .args .text .now) (c .before .before .loop .place), c .name-size .ensures)
-
-add-i : tie.Need-add-i Inv-loop μ-loop
-add-i c = omega arith
-
-loop-less : tie.Need-loop-less Inv-loop μ-loop
-loop-less c = omega arith
 
 loop-again : tie.Need-loop-again Inv-loop μ-loop
 loop-again c =
@@ -71,17 +53,5 @@ pub fill-places-spec : {M : Type 1} → statement M
 fill-places-spec =
     tie.close
     (tie.spec
-    Inv-loop
-    μ-loop
-    add-place
-    loop-holds
-    mul-places
-    slice-write-places
-    name-size-requires
-    add-place-2
-    add-place-3
-    add-i
-    loop-less
-    loop-again
-    same-length
-    returns)
+    Inv-loop μ-loop (λ c. omega arith) loop-holds (λ c. omega arith) (λ c. omega arith) (λ c κs. search needs)
+    add-place-2 add-place-3 (λ c. omega arith) (λ c. omega arith) loop-again same-length returns)

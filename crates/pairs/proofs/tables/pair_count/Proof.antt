@@ -4,21 +4,9 @@ use Rattle.pairs.proofs.tables.pair_count.Statement.{statement}
 use Rattle.pairs.proofs.tables.pair_count.Tie as tie
 use Rattle.laws.proofs.Elements.{rest-is-drop}
 
-sub-opens : tie.Need-sub-opens
-sub-opens c = search needs
-
-part-opens-start : tie.Need-part-opens-start
-part-opens-start c = search needs
-
-part-opens-end : tie.Need-part-opens-end
-part-opens-end c = search needs
-
-opens-requires : tie.Need-opens-requires
-opens-requires c κs = search needs
-
 returns : tie.Need-returns
 returns c = let a = c .before .before .before .args in rw (rest-is-drop (a .text .now) (a .at)) at (c .opens .ensures)
 
 pub pair-count-spec : {M : Type 1} → statement M
 pair-count-spec =
-    tie.close (tie.spec sub-opens part-opens-start part-opens-end opens-requires returns)
+    tie.close (tie.spec (λ c. search needs) (λ c. search needs) (λ c. search needs) (λ c κs. search needs) returns)

@@ -25,18 +25,6 @@ add-count : tie.Need-add-count
 unfolding outputsAt gatesAt neversAt
 add-count c = omega (arith, few (entry c .pre), c .before .outputs-behind .ensures)
 
-test-room-requires : tie.Need-test-room-requires
-test-room-requires c κs = search needs
-
-enum-told : tie.Need-enum-told
-enum-told c = search needs
-
-enum-told-2 : tie.Need-enum-told-2
-enum-told-2 c = search needs
-
-refusal-requires : tie.Need-refusal-requires
-refusal-requires c κs = search needs
-
 returns : tie.Need-returns
 returns c =
     let t = c .before .before .before in
@@ -53,9 +41,6 @@ put-block-requires c κs =
     (fits (s .pre) (s .args .block .now) (all-words (s .pre) (t .before .before .outputs-behind .ensures)) (t .test-room .ensures)
     (e .enum-told .given .1))
 
-same-length : tie.Need-same-length
-same-length c = search needs
-
 returns-2 : tie.Need-returns-2
 returns-2 c =
     let e = told (c .before .before .before) in
@@ -68,14 +53,5 @@ pub finish-spec : {M : Type 1} → statement M
 finish-spec =
     tie.close
     (tie.spec
-    outputs-behind-requires
-    mul-count
-    add-count
-    test-room-requires
-    enum-told
-    enum-told-2
-    refusal-requires
-    returns
-    put-block-requires
-    same-length
-    returns-2)
+    outputs-behind-requires mul-count add-count (λ c κs. search needs) (λ c. search needs) (λ c. search needs)
+    (λ c κs. search needs) returns put-block-requires (λ c. search needs) returns-2)

@@ -69,20 +69,6 @@ pub read-tables-spec : {M : Type 1} → statement M
 read-tables-spec =
     tie.close
     (tie.spec
-    declare-requires
-    slice-aggregate-duplicate
-    slice-aggregate-duplicate-2
-    (λ c. search needs)
-    duplicate-requires
-    (λ c κs. search needs)
-    (λ c. search needs)
-    (λ c. search needs)
-    (λ c κs. search needs)
-    returns
-    (λ c. search needs)
-    (λ c. search needs)
-    (λ c κs. search needs)
-    returns-2
-    read-terms-requires
-    (λ c. search needs)
-    (λ c. search needs))
+    declare-requires slice-aggregate-duplicate slice-aggregate-duplicate-2 (λ c. search needs) duplicate-requires
+    (λ c κs. search needs) (λ c. search needs) (λ c. search needs) (λ c κs. search needs) returns (λ c. search needs)
+    (λ c. search needs) (λ c κs. search needs) returns-2 read-terms-requires (λ c. search needs) (λ c. search needs))

@@ -28,13 +28,5 @@ pub read-terms-spec : {M : Type 1} → statement M
 read-terms-spec =
     tie.close
     (tie.spec
-    (λ c. search needs)
-    (λ c. search needs)
-    resolve-requires
-    (λ c. search needs)
-    (λ c. search needs)
-    (λ c κs. search needs)
-    returns
-    finish-requires
-    (λ c. search needs)
-    (λ c. search needs))
+    (λ c. search needs) (λ c. search needs) resolve-requires (λ c. search needs) (λ c. search needs)
+    (λ c κs. search needs) returns finish-requires (λ c. search needs) (λ c. search needs))

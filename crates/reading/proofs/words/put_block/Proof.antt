@@ -14,38 +14,17 @@ put-names-requires : tie.Need-put-names-requires
 unfolding wordCount outputsAt gatesAt neversAt
 put-names-requires c κs = search needs
 
-mul-put-words : tie.Need-mul-put-words
-mul-put-words c = search needs
-
-nevers-at-requires : tie.Need-nevers-at-requires
-nevers-at-requires c κs = search needs
-
 put-words-requires : tie.Need-put-words-requires
 unfolding wordCount outputsAt gatesAt neversAt
 put-words-requires c κs = search needs
-
-mul-put-words-2 : tie.Need-mul-put-words-2
-mul-put-words-2 c = search needs
-
-gates-behind-requires : tie.Need-gates-behind-requires
-gates-behind-requires c κs = search needs
 
 put-words-requires-2 : tie.Need-put-words-requires-2
 unfolding wordCount outputsAt gatesAt neversAt
 put-words-requires-2 c κs = search needs
 
-mul-put-words-3 : tie.Need-mul-put-words-3
-mul-put-words-3 c = search needs
-
-outputs-behind-requires : tie.Need-outputs-behind-requires
-outputs-behind-requires c κs = search needs
-
 put-words-requires-3 : tie.Need-put-words-requires-3
 unfolding wordCount outputsAt gatesAt neversAt
 put-words-requires-3 c κs = search needs
-
-same-length : tie.Need-same-length
-same-length c = search needs
 
 returns : tie.Need-returns
 returns c =
@@ -69,16 +48,6 @@ pub put-block-spec : {M : Type 1} → statement M
 put-block-spec =
     tie.close
     (tie.spec
-    put-counts-requires
-    put-names-requires
-    mul-put-words
-    nevers-at-requires
-    put-words-requires
-    mul-put-words-2
-    gates-behind-requires
-    put-words-requires-2
-    mul-put-words-3
-    outputs-behind-requires
-    put-words-requires-3
-    same-length
-    returns)
+    put-counts-requires put-names-requires (λ c. search needs) (λ c κs. search needs) put-words-requires
+    (λ c. search needs) (λ c κs. search needs) put-words-requires-2 (λ c. search needs) (λ c κs. search needs)
+    put-words-requires-3 (λ c. search needs) returns)

@@ -33,13 +33,5 @@ pub passes-spec : {M : Type 1} → statement M
 passes-spec =
     tie.close
     (tie.spec
-    (λ c κs. search needs)
-    returns
-    (λ c κs. search needs)
-    returns-2
-    (λ c κs. search needs)
-    (λ c. search needs)
-    (λ c κs. search needs)
-    (λ c. search needs)
-    reads-before-requires
-    returns-3)
+    (λ c κs. search needs) returns (λ c κs. search needs) returns-2 (λ c κs. search needs) (λ c. search needs)
+    (λ c κs. search needs) (λ c. search needs) reads-before-requires returns-3)

@@ -52,13 +52,5 @@ pub slot-target-spec : {M : Type 1} → statement M
 slot-target-spec =
     tie.close
     (tie.spec
-    (λ c. search needs)
-    (λ c. search needs)
-    (λ c. search needs)
-    (λ c κs. search needs)
-    (λ c. search needs)
-    returns
-    added-requires
-    returns-2
-    added-requires-2
-    returns-3)
+    (λ c. search needs) (λ c. search needs) (λ c. search needs) (λ c κs. search needs) (λ c. search needs) returns
+    added-requires returns-2 added-requires-2 returns-3)

@@ -16,10 +16,5 @@ pub lead-with-spec : {M : Type 1} → statement M
 lead-with-spec =
     tie.close
     (tie.spec
-    (λ c κs. search needs)
-    (λ c κs. search needs)
-    (λ c κs. search needs)
-    lead-layers-requires
-    (λ c. search needs)
-    (λ c κs. search needs)
-    (λ c. search needs))
+    (λ c κs. search needs) (λ c κs. search needs) (λ c κs. search needs) lead-layers-requires (λ c. search needs)
+    (λ c κs. search needs) (λ c. search needs))

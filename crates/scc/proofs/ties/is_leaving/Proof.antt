@@ -55,17 +55,6 @@ pub is-leaving-spec : {M : Type 1} → statement M
 is-leaving-spec =
     tie.close
     (tie.spec
-    (λ c κs. search needs)
-    (λ c. search needs)
-    (λ c. search needs)
-    (λ c. search needs)
-    note-of-requires
-    (λ c. search needs)
-    slot-position-requires
-    returns
-    (λ c κs. search needs)
-    (λ c κs. search needs)
-    returns-2
-    distance-at-requires
-    distance-at-requires-2
-    returns-3)
+    (λ c κs. search needs) (λ c. search needs) (λ c. search needs) (λ c. search needs) note-of-requires
+    (λ c. search needs) slot-position-requires returns (λ c κs. search needs) (λ c κs. search needs) returns-2
+    distance-at-requires distance-at-requires-2 returns-3)

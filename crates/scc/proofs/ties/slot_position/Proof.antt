@@ -43,13 +43,5 @@ pub slot-position-spec : {M : Type 1} → statement M
 slot-position-spec =
     tie.close
     (tie.spec
-    returns
-    (λ c. search needs)
-    (λ c. search needs)
-    (λ c. search needs)
-    (λ c κs. search needs)
-    (λ c. search needs)
-    returns-2
-    word-of-requires
-    (λ c. search needs)
-    returns-3)
+    returns (λ c. search needs) (λ c. search needs) (λ c. search needs) (λ c κs. search needs) (λ c. search needs)
+    returns-2 word-of-requires (λ c. search needs) returns-3)

@@ -56,16 +56,6 @@ pub open-spec : {M : Type 1} → statement M
 open-spec =
     tie.close
     (tie.spec
-    slice-aggregate-read
-    (λ c κs. search needs)
-    (λ c. search needs)
-    (λ c κs. search needs)
-    (λ c. search needs)
-    slice-reshare-prefix-prepare
-    slice-aggregate-prepare
-    prepare-requires
-    (λ c. search needs)
-    (λ c. search needs)
-    returns
-    (λ c. search needs)
-    returns-2)
+    slice-aggregate-read (λ c κs. search needs) (λ c. search needs) (λ c κs. search needs) (λ c. search needs)
+    slice-reshare-prefix-prepare slice-aggregate-prepare prepare-requires (λ c. search needs) (λ c. search needs)
+    returns (λ c. search needs) returns-2)

@@ -31,9 +31,4 @@ pub end-line-spec : {M : Type 1} → statement M
 end-line-spec =
     tie.close
     (tie.spec
-    returns
-    slice-aggregate-answer
-    slice-aggregate-answer-2
-    (λ c κs. search needs)
-    (λ c. search needs)
-    returns-2)
+    returns slice-aggregate-answer slice-aggregate-answer-2 (λ c κs. search needs) (λ c. search needs) returns-2)

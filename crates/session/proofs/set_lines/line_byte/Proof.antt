@@ -36,13 +36,5 @@ pub line-byte-spec : {M : Type 1} → statement M
 line-byte-spec =
     tie.close
     (tie.spec
-    (λ c κs. search needs)
-    (λ c. search needs)
-    returns
-    slice-aggregate-answer
-    (λ c. search needs)
-    slice-aggregate-answer-2
-    (λ c κs. search needs)
-    (λ c. search needs)
-    (λ c. search needs)
-    returns-2)
+    (λ c κs. search needs) (λ c. search needs) returns slice-aggregate-answer (λ c. search needs)
+    slice-aggregate-answer-2 (λ c κs. search needs) (λ c. search needs) (λ c. search needs) returns-2)

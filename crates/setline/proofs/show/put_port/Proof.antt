@@ -109,16 +109,5 @@ pub put-port-spec : {M : Type 1} → statement M
 put-port-spec =
     tie.close
     (tie.spec
-    mul-port
-    add-port
-    (λ c κs. search needs)
-    shown-value-requires
-    (λ c. search needs)
-    put-all-requires
-    put-name-requires
-    put-requires
-    (λ c κs. search needs)
-    put-requires-2
-    put-requires-3
-    (λ c. search needs)
-    returns)
+    mul-port add-port (λ c κs. search needs) shown-value-requires (λ c. search needs) put-all-requires
+    put-name-requires put-requires (λ c κs. search needs) put-requires-2 put-requires-3 (λ c. search needs) returns)

@@ -47,12 +47,4 @@ pub put-ports-spec : {M : Type 1} → statement M
 put-ports-spec =
     tie.close
     (tie.spec
-    Inv-loop
-    μ-loop
-    loop-holds
-    put-port-requires
-    add-o
-    (λ c. omega arith)
-    loop-again
-    same-length
-    returns)
+    Inv-loop μ-loop loop-holds put-port-requires add-o (λ c. omega arith) loop-again same-length returns)

@@ -53,12 +53,5 @@ pub put-show-spec : {M : Type 1} → statement M
 put-show-spec =
     tie.close
     (tie.spec
-    (λ c κs. search needs)
-    (λ c κs. search needs)
-    (λ c. search needs)
-    (λ c κs. search needs)
-    put-ports-requires
-    (λ c. search needs)
-    put-all-requires-2
-    (λ c. search needs)
-    returns)
+    (λ c κs. search needs) (λ c κs. search needs) (λ c. search needs) (λ c κs. search needs) put-ports-requires
+    (λ c. search needs) put-all-requires-2 (λ c. search needs) returns)

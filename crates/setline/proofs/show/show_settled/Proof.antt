@@ -28,9 +28,6 @@ measured c = omega (arith, c .before .before .put-show .ensures .endIs)
 put-show-requires : tie.Need-put-show-requires
 put-show-requires c κs = c .before .before .before .pre
 
-enum-told : tie.Need-enum-told
-enum-told c = search needs
-
 returns : tie.Need-returns
 returns c =
     let t = c .before .before .before in
@@ -53,13 +50,5 @@ pub show-settled-spec : {M : Type 1} → statement M
 show-settled-spec =
     tie.close
     (tie.spec
-    (λ c. search needs)
-    put-show-requires
-    (λ c κs. search needs)
-    enum-told
-    (λ c. search needs)
-    (λ c κs. search needs)
-    returns
-    put-show-requires-2
-    (λ c. search needs)
-    returns-2)
+    (λ c. search needs) put-show-requires (λ c κs. search needs) (λ c. search needs) (λ c. search needs)
+    (λ c κs. search needs) returns put-show-requires-2 (λ c. search needs) returns-2)

@@ -55,14 +55,5 @@ pub put-masks-spec : {M : Type 1} → statement M
 put-masks-spec =
     tie.close
     (tie.spec
-    Inv-loop
-    μ-loop
-    put-constants-requires
-    loop-holds
-    (λ c κs. omega arith)
-    (λ c. omega arith)
-    element-write-values
-    (λ c. omega arith)
-    (λ c. omega arith)
-    loop-again
-    returns)
+    Inv-loop μ-loop put-constants-requires loop-holds (λ c κs. omega arith) (λ c. omega arith) element-write-values
+    (λ c. omega arith) (λ c. omega arith) loop-again returns)

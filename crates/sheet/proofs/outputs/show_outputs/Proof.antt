@@ -85,19 +85,6 @@ pub show-outputs-spec : {M : Type 1} → statement M
 show-outputs-spec =
     tie.close
     (tie.spec
-    Inv-loop
-    μ-loop
-    (λ c κs. search needs)
-    (λ c κs. search needs)
-    loop-holds
-    (λ c. omega arith)
-    output-value-requires
-    mul-defined
-    (λ c κs. search needs)
-    add-defined
-    mul-shown
-    (λ c κs. search needs)
-    add-shown
-    (λ c. omega arith)
-    loop-again
-    returns)
+    Inv-loop μ-loop (λ c κs. search needs) (λ c κs. search needs) loop-holds (λ c. omega arith) output-value-requires
+    mul-defined (λ c κs. search needs) add-defined mul-shown (λ c κs. search needs) add-shown (λ c. omega arith)
+    loop-again returns)

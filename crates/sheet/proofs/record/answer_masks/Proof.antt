@@ -48,11 +48,5 @@ pub answer-masks-spec : {M : Type 1} → statement M
 answer-masks-spec =
     tie.close
     (tie.spec
-    (λ c κs. search needs)
-    are-masks-requires
-    (λ c κs. search needs)
-    returns
-    put-masks-requires
-    (λ c κs. search needs)
-    (λ c κs. search needs)
-    returns-2)
+    (λ c κs. search needs) are-masks-requires (λ c κs. search needs) returns put-masks-requires (λ c κs. search needs)
+    (λ c κs. search needs) returns-2)

@@ -18,9 +18,6 @@ tabled m = decoded m .before .before
 abbrev start : tie.After-gates-of → tie.Start
 start m = tabled m .before .before
 
-enum-told : tie.Need-enum-told
-enum-told c = search needs
-
 settle-rounds-requires : tie.Need-settle-rounds-requires
 settle-rounds-requires c κs =
     let looped = c .before .before .before in
@@ -55,13 +52,5 @@ pub settle-values-spec : {M : Type 1} → statement M
 settle-values-spec =
     tie.close
     (tie.spec
-    (λ c κs. search needs)
-    (λ c κs. search needs)
-    (λ c κs. search needs)
-    (λ c κs. search needs)
-    enum-told
-    (λ c. search needs)
-    settle-rounds-requires
-    returns
-    sweep-gates-requires
-    returns-2)
+    (λ c κs. search needs) (λ c κs. search needs) (λ c κs. search needs) (λ c κs. search needs) (λ c. search needs)
+    (λ c. search needs) settle-rounds-requires returns sweep-gates-requires returns-2)

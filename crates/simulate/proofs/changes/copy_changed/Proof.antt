@@ -61,16 +61,5 @@ pub copy-changed-spec : {M : Type 1} → statement M
 copy-changed-spec =
     tie.close
     (tie.spec
-    Inv-loop
-    μ-loop
-    loop-holds
-    mul-k
-    element-copy-out-k
-    cast-k
-    element-copy-out-values
-    add-values
-    element-write-values
-    (λ c. omega arith)
-    (λ c. omega arith)
-    loop-again
-    returns)
+    Inv-loop μ-loop loop-holds mul-k element-copy-out-k cast-k element-copy-out-values add-values element-write-values
+    (λ c. omega arith) (λ c. omega arith) loop-again returns)

@@ -45,13 +45,5 @@ pub update-spec : {M : Type 1} → statement M
 update-spec =
     tie.close
     (tie.spec
-    (λ c. search needs)
-    returns
-    gate-value-requires
-    returns-2
-    (λ c. search needs)
-    (λ c. search needs)
-    mul-queue
-    element-write-queue
-    add-result
-    returns-3)
+    (λ c. search needs) returns gate-value-requires returns-2 (λ c. search needs) (λ c. search needs) mul-queue
+    element-write-queue add-result returns-3)

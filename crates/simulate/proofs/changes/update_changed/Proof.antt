@@ -87,17 +87,5 @@ pub update-changed-spec : {M : Type 1} → statement M
 update-changed-spec =
     tie.close
     (tie.spec
-    Inv-loop
-    μ-loop
-    loop-holds
-    mul-k
-    element-copy-out-k
-    cast-k
-    mul-t14
-    element-copy-out-t17
-    cast-t20
-    update-readers-requires
-    (λ c. omega arith)
-    (λ c. omega arith)
-    loop-again
-    returns)
+    Inv-loop μ-loop loop-holds mul-k element-copy-out-k cast-k mul-t14 element-copy-out-t17 cast-t20
+    update-readers-requires (λ c. omega arith) (λ c. omega arith) loop-again returns)

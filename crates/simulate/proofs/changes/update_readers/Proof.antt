@@ -73,15 +73,5 @@ pub update-readers-spec : {M : Type 1} → statement M
 update-readers-spec =
     tie.close
     (tie.spec
-    Inv-loop
-    μ-loop
-    loop-holds
-    (λ c. omega arith)
-    update-requires
-    add-p
-    mul-p
-    element-copy-out-p
-    cast-p
-    loop-less
-    loop-again
-    returns)
+    Inv-loop μ-loop loop-holds (λ c. omega arith) update-requires add-p mul-p element-copy-out-p cast-p loop-less
+    loop-again returns)

@@ -77,12 +77,4 @@ pub settle-with-spec : {M : Type 1} → statement M
 settle-with-spec =
     tie.close
     (tie.spec
-    Inv-loop
-    μ-loop
-    update-all-requires
-    loop-holds
-    next-round-requires
-    add-count
-    loop-less
-    loop-again
-    returns)
+    Inv-loop μ-loop update-all-requires loop-holds next-round-requires add-count loop-less loop-again returns)

@@ -13,9 +13,6 @@ returns : tie.Need-returns
 unfolding testOf
 returns c = let a = c .before .before .args in rw (bad-length (a .n) (a .most) (now (a .setting)) (c .if1 .taken))
 
-refuse-if-requires : tie.Need-refuse-if-requires
-refuse-if-requires c κs = search needs
-
 -- once the length fits, the bytes decide
 bytes : (c : tie.After-none-above) → let a = c .before .before .before .args in
     isBadBytes (a .n) (a .most) (now (a .setting)) ≡ not (c .none-above .result)
@@ -27,4 +24,4 @@ returns-2 : tie.Need-returns-2
 returns-2 c = rw (bytes (c .before)) (c .refuse-if .ensures)
 
 pub test-bytes-spec : {M : Type 1} → statement M
-test-bytes-spec = tie.close (tie.spec returns (λ c κs. search needs) refuse-if-requires returns-2)
+test-bytes-spec = tie.close (tie.spec returns (λ c κs. search needs) (λ c κs. search needs) returns-2)

@@ -13,9 +13,6 @@ prepare-requires c κs = (c .before .before .before .before .before .before .pre
 put-setting-requires : tie.Need-put-setting-requires
 put-setting-requires c κs = (blank, c .before .before .before .before .before .before .before .before .pre .1)
 
-gates-of-requires : tie.Need-gates-of-requires
-gates-of-requires c κs = search needs
-
 -- the inputs' values, and what was prepared before them
 abbrev put : tie.After-values2 → tie.After-put-setting
 put c = c .before .before .before .before .before
@@ -47,11 +44,5 @@ pub settle-into-spec : {M : Type 1} → statement M
 settle-into-spec =
     tie.close
     (tie.spec
-    (λ c κs. search needs)
-    prepare-requires
-    put-setting-requires
-    gates-of-requires
-    settle-prepared-requires
-    (λ c κs. search needs)
-    (λ c. search needs)
-    returns)
+    (λ c κs. search needs) prepare-requires put-setting-requires (λ c κs. search needs) settle-prepared-requires
+    (λ c κs. search needs) (λ c. search needs) returns)

@@ -36,13 +36,5 @@ pub sweep-gates-spec : {M : Type 1} → statement M
 sweep-gates-spec =
     tie.close
     (tie.spec
-    Inv-loop
-    μ-loop
-    loop-holds
-    gate-value-requires
-    (λ c. omega arith)
-    element-write-values
-    (λ c. omega arith)
-    (λ c. omega arith)
-    loop-again
-    returns)
+    Inv-loop μ-loop loop-holds gate-value-requires (λ c. omega arith) element-write-values (λ c. omega arith)
+    (λ c. omega arith) loop-again returns)

@@ -36,11 +36,5 @@ pub sweep-into-spec : {M : Type 1} → statement M
 sweep-into-spec =
     tie.close
     (tie.spec
-    (λ c κs. search needs)
-    (λ c κs. search needs)
-    put-setting-requires
-    (λ c κs. search needs)
-    sweep-gates-requires
-    (λ c κs. search needs)
-    (λ c. search needs)
-    returns)
+    (λ c κs. search needs) (λ c κs. search needs) put-setting-requires (λ c κs. search needs) sweep-gates-requires
+    (λ c κs. search needs) (λ c. search needs) returns)

@@ -50,14 +50,5 @@ pub put-setting-spec : {M : Type 1} → statement M
 put-setting-spec =
     tie.close
     (tie.spec
-    Inv-loop
-    μ-loop
-    put-constants-requires
-    loop-holds
-    (λ c. omega arith)
-    (λ c. omega arith)
-    element-write-values
-    (λ c. omega arith)
-    (λ c. omega arith)
-    loop-again
-    returns)
+    Inv-loop μ-loop put-constants-requires loop-holds (λ c. omega arith) (λ c. omega arith) element-write-values
+    (λ c. omega arith) (λ c. omega arith) loop-again returns)

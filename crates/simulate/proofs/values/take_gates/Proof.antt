@@ -52,14 +52,5 @@ pub take-gates-spec : {M : Type 1} → statement M
 take-gates-spec =
     tie.close
     (tie.spec
-    Inv-loop
-    μ-loop
-    loop-holds
-    add-out
-    element-copy-out-out
-    slice-write-out
-    (λ c. omega arith)
-    (λ c. omega arith)
-    loop-again
-    same-length
-    returns)
+    Inv-loop μ-loop loop-holds add-out element-copy-out-out slice-write-out (λ c. omega arith) (λ c. omega arith)
+    loop-again same-length returns)

@@ -6,20 +6,11 @@ use borrow.Author.Needs.{needs}
 use Rattle.terms.proofs.leaves.kind_here.Statement.{statement}
 use Rattle.terms.proofs.leaves.kind_here.Tie as tie
 
-byte-at-requires : tie.Need-byte-at-requires
-byte-at-requires c κs = search needs
-
 returns : tie.Need-returns
 returns c = let read = c .before in kind-and (read .before .before .args .s .now) (sym (read .byte-at .ensures) ∙ c .if1 .taken)
 
 returns-2 : tie.Need-returns-2
 returns-2 c = let read = c .before .before in kind-or (read .before .before .args .s .now) (sym (read .byte-at .ensures) ∙ c .if2 .taken)
-
-byte-at-requires-2 : tie.Need-byte-at-requires-2
-byte-at-requires-2 c κs = search needs
-
-kind-behind-x-requires : tie.Need-kind-behind-x-requires
-kind-behind-x-requires c κs = search needs
 
 returns-3 : tie.Need-returns-3
 returns-3 c =
@@ -29,9 +20,6 @@ returns-3 c =
     ∙ ap kindBehindX (c .before .byte-at2 .ensures)
     ∙ kind-x (read .before .before .args .s .now) (sym (read .byte-at .ensures) ∙ asked .if3 .taken)
 
-byte-at-requires-3 : tie.Need-byte-at-requires-3
-byte-at-requires-3 c κs = search needs
-
 returns-4 : tie.Need-returns-4
 returns-4 c =
     let asked = c .before .before in
@@ -39,9 +27,6 @@ returns-4 c =
     let e = read .byte-at .ensures in
     kind-nand (read .before .before .args .s .now) (λ z. asked .before .before .if1 .left (e ∙ z)) (λ z. asked .before .if2 .left (e ∙ z))
     (λ z. asked .if3 .left (e ∙ z)) (sym (c .before .byte-at3 .ensures) ∙ c .if4 .taken)
-
-byte-at-requires-4 : tie.Need-byte-at-requires-4
-byte-at-requires-4 c κs = search needs
 
 returns-5 : tie.Need-returns-5
 returns-5 c =
@@ -65,14 +50,5 @@ pub kind-here-spec : {M : Type 1} → statement M
 kind-here-spec =
     tie.close
     (tie.spec
-    byte-at-requires
-    returns
-    returns-2
-    byte-at-requires-2
-    kind-behind-x-requires
-    returns-3
-    byte-at-requires-3
-    returns-4
-    byte-at-requires-4
-    returns-5
-    returns-6)
+    (λ c κs. search needs) returns returns-2 (λ c κs. search needs) (λ c κs. search needs) returns-3
+    (λ c κs. search needs) returns-4 (λ c κs. search needs) returns-5 returns-6)

@@ -8,9 +8,6 @@ use Rattle.laws.proofs.Elements.{byte-there}
 use Rattle.terms.proofs.leaves.leaf_here.Statement.{statement}
 use Rattle.terms.proofs.leaves.leaf_here.Tie as tie
 
-byte-at-requires : tie.Need-byte-at-requires
-byte-at-requires c κs = search needs
-
 sub-t9 : tie.Need-sub-t9
 sub-t9 c = byte-there (c .before .before .before .before .before .before .args .s .now) (c .before .byte-at .ensures) (c .if1 .taken) (omega arith)
 
@@ -31,9 +28,6 @@ returns-2 c =
     let start = c .before .before .before .before .before .before .before in
     let a = start .args in leaf-1 (a .s .now) (a .names .now) (a .words .now) (a .unknown) (sym (c .before .before .byte-at .ensures) ∙ c .if2 .taken)
 
-name-here-requires : tie.Need-name-here-requires
-name-here-requires c κs = search needs
-
 returns-3 : tie.Need-returns-3
 returns-3 c =
     let at-byte-at = c .before .before .before in
@@ -44,4 +38,4 @@ returns-3 c =
 pub leaf-here-spec : {M : Type 1} → statement M
 leaf-here-spec =
     tie.close
-    (tie.spec byte-at-requires sub-t9 returns sub-t10 returns-2 name-here-requires returns-3)
+    (tie.spec (λ c κs. search needs) sub-t9 returns sub-t10 returns-2 (λ c κs. search needs) returns-3)

@@ -6,26 +6,8 @@ use borrow.Author.Needs.{needs}
 use Rattle.terms.proofs.leaves.name_here.Statement.{statement}
 use Rattle.terms.proofs.leaves.name_here.Tie as tie
 
-name-length-requires : tie.Need-name-length-requires
-name-length-requires c κs = search needs
-
 sub-left : tie.Need-sub-left
 sub-left c = omega (arith, c .name-length .ensures, front-shorter 8 (c .before .before .before .before .before .args .s .now))
-
-pack-first-requires : tie.Need-pack-first-requires
-pack-first-requires c κs = search needs
-
-find-indexed-requires : tie.Need-find-indexed-requires
-find-indexed-requires c κs = search needs
-
-mul-word : tie.Need-mul-word
-mul-word c = search needs
-
-shared-slice-read-word : tie.Need-shared-slice-read-word
-shared-slice-read-word c = search needs
-
-earlier-requires : tie.Need-earlier-requires
-earlier-requires c κs = search needs
 
 returns : tie.Need-returns
 returns c =
@@ -35,12 +17,6 @@ returns c =
     let start = at-name-length .before .before .before .before .before in
     let a = start .args in name-found (a .s .now) (a .names .now) (a .words .now) (a .unknown) (at-name-length .name-length .ensures)
     (at-pack .pack-first .ensures) (at-find .find-indexed .ensures) (c .before .before .if1 .taken) (c .earlier .ensures)
-
-add-earlier : tie.Need-add-earlier
-add-earlier c = search needs
-
-earlier-requires-2 : tie.Need-earlier-requires-2
-earlier-requires-2 c κs = search needs
 
 returns-2 : tie.Need-returns-2
 returns-2 c =
@@ -54,14 +30,5 @@ pub name-here-spec : {M : Type 1} → statement M
 name-here-spec =
     tie.close
     (tie.spec
-    name-length-requires
-    sub-left
-    pack-first-requires
-    find-indexed-requires
-    mul-word
-    shared-slice-read-word
-    earlier-requires
-    returns
-    add-earlier
-    earlier-requires-2
-    returns-2)
+    (λ c κs. search needs) sub-left (λ c κs. search needs) (λ c κs. search needs) (λ c. search needs)
+    (λ c. search needs) (λ c κs. search needs) returns (λ c. search needs) (λ c κs. search needs) returns-2)

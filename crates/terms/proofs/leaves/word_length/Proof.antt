@@ -6,15 +6,6 @@ use Rattle.terms.proofs.Fronts.{word-read}
 use Rattle.terms.proofs.leaves.word_length.Statement.{statement}
 use Rattle.terms.proofs.leaves.word_length.Tie as tie
 
-signature-of-requires : tie.Need-signature-of-requires
-signature-of-requires c κs = search needs
-
-slice-aggregate-trimmed-length : tie.Need-slice-aggregate-trimmed-length
-slice-aggregate-trimmed-length c = search needs
-
-trimmed-length-requires : tie.Need-trimmed-length-requires
-trimmed-length-requires c κs = search needs
-
 returns : tie.Need-returns
 returns c =
     let r = c .trimmed-length in
@@ -24,4 +15,4 @@ returns c =
 pub word-length-spec : {M : Type 1} → statement M
 word-length-spec =
     tie.close
-    (tie.spec signature-of-requires slice-aggregate-trimmed-length trimmed-length-requires returns)
+    (tie.spec (λ c κs. search needs) (λ c. search needs) (λ c κs. search needs) returns)

@@ -16,12 +16,6 @@ part-name-length-start c =
     let start = c .before .before .before .before .before in
     let p = start .pre .0 in omega (arith, gate-parts (start .args .s .now) _ refl (p .line) (p .rest) (p .here) .long)
 
-part-name-length-end : tie.Need-part-name-length-end
-part-name-length-end c = search needs
-
-name-length-requires : tie.Need-name-length-requires
-name-length-requires c κs = search needs
-
 add-at : tie.Need-add-at
 add-at c =
     let start = c .before .before .before .before .before .before .before in
@@ -42,9 +36,6 @@ part-operand-start c =
     let p = start .pre .0 in
     gate-parts (a .s .now) (c .name-length .result) (c .name-length .ensures) (p .line) (p .rest) (p .here) .long
 
-part-operand-end : tie.Need-part-operand-end
-part-operand-end c = search needs
-
 operand-requires : tie.Need-operand-requires
 operand-requires c κs =
     let b = c .before .before in let a = b .before .before .before .before .before .before .before .args in (
@@ -62,9 +53,6 @@ sub-t14 c =
     (a .unknown) (at-operand .operand .last .1 .1 .1 .1 .1 .1 .0) (at-operand .operand .result) (at-operand .operand .ensures)
     (b .before .before .before .before .before .before .before .pre .0)
 
-same-length : tie.Need-same-length
-same-length c = search needs
-
 returns : tie.Need-returns
 returns c =
     let at-operand = c .before .before .before in
@@ -77,15 +65,5 @@ pub gate-line-spec : {M : Type 1} → statement M
 gate-line-spec =
     tie.close
     (tie.spec
-    sub-name-length
-    part-name-length-start
-    part-name-length-end
-    name-length-requires
-    add-at
-    sub-operand
-    part-operand-start
-    part-operand-end
-    operand-requires
-    sub-t14
-    same-length
-    returns)
+    sub-name-length part-name-length-start (λ c. search needs) (λ c κs. search needs) add-at sub-operand
+    part-operand-start (λ c. search needs) operand-requires sub-t14 (λ c. search needs) returns)

@@ -24,15 +24,6 @@ loop-holds c =
 sub-gate-line : tie.Need-sub-gate-line Inv-loop μ-loop
 sub-gate-line c = omega (arith, c .before .loop .inv .within)
 
-sub-gate-line-2 : tie.Need-sub-gate-line-2 Inv-loop μ-loop
-sub-gate-line-2 c = omega arith
-
-part-gate-line-start : tie.Need-part-gate-line-start Inv-loop μ-loop
-part-gate-line-start c = omega arith
-
-part-gate-line-end : tie.Need-part-gate-line-end Inv-loop μ-loop
-part-gate-line-end c = search needs
-
 gate-line-requires : tie.Need-gate-line-requires Inv-loop μ-loop
 gate-line-requires c κs = let b = c .before .before in
     let a = b .before .before .before .before .before .before .before .args in
@@ -80,16 +71,5 @@ pub gate-lines-spec : {M : Type 1} → statement M
 gate-lines-spec =
     tie.close
     (tie.spec
-    Inv-loop
-    μ-loop
-    loop-holds
-    sub-gate-line
-    sub-gate-line-2
-    part-gate-line-start
-    part-gate-line-end
-    gate-line-requires
-    add-i
-    loop-less
-    loop-again
-    same-length
-    returns)
+    Inv-loop μ-loop loop-holds sub-gate-line (λ c. omega arith) (λ c. omega arith) (λ c. search needs)
+    gate-line-requires add-i loop-less loop-again same-length returns)

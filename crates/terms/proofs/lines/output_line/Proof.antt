@@ -18,12 +18,6 @@ part-name-length-start c =
     let start = c .before .before .before .before .before in
     let p = start .pre .0 .1 in omega (arith, output-parts (start .args .s .now) _ refl (p .line) (p .rest) (p .here) .long)
 
-part-name-length-end : tie.Need-part-name-length-end
-part-name-length-end c = search needs
-
-name-length-requires : tie.Need-name-length-requires
-name-length-requires c κs = search needs
-
 add-at : tie.Need-add-at
 add-at c =
     let start = c .before .before .before .before .before .before .before in
@@ -42,9 +36,6 @@ part-name-here-start c =
     let a = start .args in let p = start .pre .0 .1 in output-parts (a .s .now) (c .name-length .result) (c .name-length .ensures) (p .line) (p .rest)
     (p .here) .long
 
-part-name-here-end : tie.Need-part-name-here-end
-part-name-here-end c = search needs
-
 name-here-requires : tie.Need-name-here-requires
 name-here-requires c κs =
     let stage = c .before .before .before .before .before .before .before in
@@ -62,12 +53,6 @@ part-pack-start c =
     let earlier = c .before .before .before .before .before .before .before in
     let start = earlier .before .before .before in
     let p = start .pre .0 .1 in omega (arith, output-parts (start .args .s .now) _ refl (p .line) (p .rest) (p .here) .long)
-
-part-pack-end : tie.Need-part-pack-end
-part-pack-end c = search needs
-
-pack-requires : tie.Need-pack-requires
-pack-requires c κs = search needs
 
 put-output-requires : tie.Need-put-output-requires
 unfolding outputForm
@@ -88,12 +73,6 @@ sub-t10 c =
     (s .args .first) (s .args .unknown) (s .args .outputs .now) (l .name-here .result) (l .name-here .ensures) (p .bindings) (p .line) (p .rest)
     (p .table) (p .here)
 
-add-t12 : tie.Need-add-t12
-add-t12 c = search needs
-
-same-length : tie.Need-same-length
-same-length c = search needs
-
 returns : tie.Need-returns
 returns c =
     let at-put-output = c .before .before .before in
@@ -112,21 +91,6 @@ pub output-line-spec : {M : Type 1} → statement M
 output-line-spec =
     tie.close
     (tie.spec
-    sub-name-length
-    part-name-length-start
-    part-name-length-end
-    name-length-requires
-    add-at
-    sub-name-here
-    part-name-here-start
-    part-name-here-end
-    name-here-requires
-    sub-pack
-    part-pack-start
-    part-pack-end
-    pack-requires
-    put-output-requires
-    sub-t10
-    add-t12
-    same-length
-    returns)
+    sub-name-length part-name-length-start (λ c. search needs) (λ c κs. search needs) add-at sub-name-here
+    part-name-here-start (λ c. search needs) name-here-requires sub-pack part-pack-start (λ c. search needs)
+    (λ c κs. search needs) put-output-requires sub-t10 (λ c. search needs) (λ c. search needs) returns)

@@ -24,15 +24,6 @@ loop-holds c =
 sub-output-line : tie.Need-sub-output-line Inv-loop μ-loop
 sub-output-line c = omega (arith, c .before .loop .inv 0 .within)
 
-sub-output-line-2 : tie.Need-sub-output-line-2 Inv-loop μ-loop
-sub-output-line-2 c = omega arith
-
-part-output-line-start : tie.Need-part-output-line-start Inv-loop μ-loop
-part-output-line-start c = omega arith
-
-part-output-line-end : tie.Need-part-output-line-end Inv-loop μ-loop
-part-output-line-end c = search needs
-
 output-line-requires : tie.Need-output-line-requires Inv-loop μ-loop
 output-line-requires c κs = let b = c .before .before in
     let a = b .before .before .before .before .before .before .before .args in
@@ -88,16 +79,5 @@ pub output-lines-spec : {M : Type 1} → statement M
 output-lines-spec =
     tie.close
     (tie.spec
-    Inv-loop
-    μ-loop
-    loop-holds
-    sub-output-line
-    sub-output-line-2
-    part-output-line-start
-    part-output-line-end
-    output-line-requires
-    add-i
-    loop-less
-    loop-again
-    same-length
-    returns)
+    Inv-loop μ-loop loop-holds sub-output-line (λ c. omega arith) (λ c. omega arith) (λ c. search needs)
+    output-line-requires add-i loop-less loop-again same-length returns)

@@ -45,13 +45,5 @@ pub operand-code-spec : {M : Type 1} → statement M
 operand-code-spec =
     tie.close
     (tie.spec
-    (λ c. search needs)
-    (λ c. search needs)
-    (λ c. search needs)
-    (λ c. search needs)
-    (λ c. search needs)
-    cast-place
-    element-copy-out-result
-    cast-result
-    returns
-    returns-2)
+    (λ c. search needs) (λ c. search needs) (λ c. search needs) (λ c. search needs) (λ c. search needs) cast-place
+    element-copy-out-result cast-result returns returns-2)

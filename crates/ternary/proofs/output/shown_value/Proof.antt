@@ -9,9 +9,6 @@ use borrow.Author.Needs.{needs}
 use Rattle.ternary.proofs.output.shown_value.Statement.{statement}
 use Rattle.ternary.proofs.output.shown_value.Tie as tie
 
-place-of-requires : tie.Need-place-of-requires
-place-of-requires c κs = search needs
-
 -- the place is that of the node whose word stands behind the port
 place-is : (c : tie.After-place-of) →
     let a = c .before .before .before .args in
@@ -27,4 +24,4 @@ returns c = ap (λ (p : ℕ). getD (now (c .before .before .before .before .args
 pub shown-value-spec : {M : Type 1} → statement M
 shown-value-spec =
     tie.close
-    (tie.spec (λ c. search needs) (λ c κs. search needs) place-of-requires element-copy-out-result returns)
+    (tie.spec (λ c. search needs) (λ c κs. search needs) (λ c κs. search needs) element-copy-out-result returns)

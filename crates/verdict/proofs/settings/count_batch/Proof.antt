@@ -61,14 +61,5 @@ pub count-batch-spec : {M : Type 1} → statement M
 count-batch-spec =
     tie.close
     (tie.spec
-    (λ c κs. search needs)
-    (λ c κs. search needs)
-    add-if1
-    coming-lanes-requires
-    (λ c κs. search needs)
-    returns
-    count-held-requires
-    returns-2
-    judge-batch-requires
-    (λ c κs. c .before .judge-batch .ensures)
-    returns-3)
+    (λ c κs. search needs) (λ c κs. search needs) add-if1 coming-lanes-requires (λ c κs. search needs) returns
+    count-held-requires returns-2 judge-batch-requires (λ c κs. c .before .judge-batch .ensures) returns-3)

@@ -120,15 +120,5 @@ pub count-settled-spec : {M : Type 1} → statement M
 count-settled-spec =
     tie.close
     (tie.spec
-    Inv-loop
-    μ-loop
-    (λ c κs. search needs)
-    (λ c κs. rw (c .inputs-of .ensures) (few (c .before .before)))
-    (λ c κs. search needs)
-    loop-holds
-    count-batch-requires
-    add-settled
-    add-base
-    loop-less
-    loop-again
-    returns)
+    Inv-loop μ-loop (λ c κs. search needs) (λ c κs. rw (c .inputs-of .ensures) (few (c .before .before)))
+    (λ c κs. search needs) loop-holds count-batch-requires add-settled add-base loop-less loop-again returns)

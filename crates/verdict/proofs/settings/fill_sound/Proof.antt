@@ -118,17 +118,7 @@ pub fill-sound-spec : {M : Type 1} → statement M
 fill-sound-spec =
     tie.close
     (tie.spec
-    Inv-loop
-    μ-loop
-    (λ c κs. search needs)
-    (λ c κs. rw (c .inputs-of .ensures) (few (c .before .before .before)))
-    (λ c κs. search needs)
-    loop-holds
-    judge-batch-requires
-    (λ c κs. rw (sized (head (c .before)) .inputs-of .ensures) (c .before .judge-batch .ensures))
-    write-flags-requires
-    add-base
-    loop-less
-    loop-again
-    (λ c. c .before .loop .inv .2)
-    returns)
+    Inv-loop μ-loop (λ c κs. search needs) (λ c κs. rw (c .inputs-of .ensures) (few (c .before .before .before)))
+    (λ c κs. search needs) loop-holds judge-batch-requires
+    (λ c κs. rw (sized (head (c .before)) .inputs-of .ensures) (c .before .judge-batch .ensures)) write-flags-requires
+    add-base loop-less loop-again (λ c. c .before .loop .inv .2) returns)

@@ -57,10 +57,5 @@ pub lowest-in-spec : {M : Type 1} → statement M
 lowest-in-spec =
     tie.close
     (tie.spec
-    (λ c κs. search needs)
-    (λ c κs. rw (c .inputs-of .ensures) (few (c .before .before)))
-    unsound-lanes-requires
-    (λ c κs. search needs)
-    add-result
-    returns
-    returns-2)
+    (λ c κs. search needs) (λ c κs. rw (c .inputs-of .ensures) (few (c .before .before))) unsound-lanes-requires
+    (λ c κs. search needs) add-result returns returns-2)

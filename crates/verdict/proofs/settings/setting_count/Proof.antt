@@ -8,13 +8,10 @@ use borrow.Author.Needs.{needs}
 use Rattle.verdict.proofs.settings.setting_count.Statement.{statement}
 use Rattle.verdict.proofs.settings.setting_count.Tie as tie
 
-shl-result : tie.Need-shl-result
-shl-result c = search needs
-
 returns : tie.Need-returns
 returns c =
     let e : 1 * 2 ^ (c .args .n) ≡ 2 ^ (c .args .n) = omega arith in
     shl-exact 1 (c .args .n) 64 (lit< tt) (omega arith) ∙ e
 
 pub setting-count-spec : {M : Type 1} → statement M
-setting-count-spec = tie.close (tie.spec shl-result returns)
+setting-count-spec = tie.close (tie.spec (λ c. search needs) returns)

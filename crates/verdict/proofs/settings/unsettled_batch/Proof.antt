@@ -183,25 +183,8 @@ pub unsettled-batch-spec : {M : Type 1} → statement M
 unsettled-batch-spec =
     tie.close
     (tie.spec
-    Inv-loop
-    μ-loop
-    Inv-batches
-    μ-batches
-    (λ c κs. search needs)
-    (λ c κs. rw (c .inputs-of .ensures) (few (c .before .before)))
-    (λ c κs. search needs)
-    (λ c κs. search needs)
-    (λ c κs. search needs)
-    batches-holds
-    judge-batch-requires
-    coming-lanes-requires
-    (λ c. (omega arith, λ k l. absurd (omega arith)))
-    undefined-lanes-requires
-    (λ c. omega arith)
-    (λ c. omega arith)
-    loop-again
-    add-base
-    batches-less
-    batches-again
-    returns
-    returns-2)
+    Inv-loop μ-loop Inv-batches μ-batches (λ c κs. search needs)
+    (λ c κs. rw (c .inputs-of .ensures) (few (c .before .before))) (λ c κs. search needs) (λ c κs. search needs)
+    (λ c κs. search needs) batches-holds judge-batch-requires coming-lanes-requires
+    (λ c. (omega arith, λ k l. absurd (omega arith))) undefined-lanes-requires (λ c. omega arith) (λ c. omega arith)
+    loop-again add-base batches-less batches-again returns returns-2)

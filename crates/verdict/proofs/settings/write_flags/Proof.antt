@@ -22,20 +22,11 @@ loop-holds c = (omega arith, refl, refl)
 shr-flags : tie.Need-shr-flags Inv-loop μ-loop
 shr-flags c = omega (arith, c .before .before .pre .0)
 
-cast-flags : tie.Need-cast-flags Inv-loop μ-loop
-cast-flags c = omega arith
-
 add-flags : tie.Need-add-flags Inv-loop μ-loop
 add-flags c = let s = c .before .before in omega (arith, s .pre .0, s .pre .1)
 
 slice-write-flags : tie.Need-slice-write-flags Inv-loop μ-loop
 slice-write-flags c = let s = c .before .before in omega (arith, s .pre .2, c .before .loop .inv .2)
-
-add-s : tie.Need-add-s Inv-loop μ-loop
-add-s c = omega arith
-
-loop-less : tie.Need-loop-less Inv-loop μ-loop
-loop-less c = omega arith
 
 loop-again : tie.Need-loop-again Inv-loop μ-loop
 unfolding flagged bit
@@ -56,15 +47,5 @@ pub write-flags-spec : {M : Type 1} → statement M
 write-flags-spec =
     tie.close
     (tie.spec
-    Inv-loop
-    μ-loop
-    loop-holds
-    shr-flags
-    cast-flags
-    add-flags
-    slice-write-flags
-    add-s
-    loop-less
-    loop-again
-    same-length
-    returns)
+    Inv-loop μ-loop loop-holds shr-flags (λ c. omega arith) add-flags slice-write-flags (λ c. omega arith)
+    (λ c. omega arith) loop-again same-length returns)

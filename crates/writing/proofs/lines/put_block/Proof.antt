@@ -57,9 +57,6 @@ outputs-are c =
     outputs-part (start (counted (first (second (third c .before) .before))) .args .words .now) (c .before .outputs-at .result) (c .outputs-of .result)
     (c .before .outputs-at .ensures) (c .outputs-of .ensures)
 
-inputs-of-requires : tie.Need-inputs-of-requires
-inputs-of-requires c κs = search needs
-
 put-inputs-requires : tie.Need-put-inputs-requires
 unfolding blockText
 put-inputs-requires c κs =
@@ -71,9 +68,6 @@ nevers-at-requires c κs =
     let n = c .before .before .before .before .before in
     omega (arith, start n .pre .0, n .inputs-of .ensures)
 
-nevers-of-requires : tie.Need-nevers-of-requires
-nevers-of-requires c κs = search needs
-
 put-nevers-requires : tie.Need-put-nevers-requires
 unfolding blockText neversAt
 put-nevers-requires c κs =
@@ -83,12 +77,6 @@ put-nevers-requires c κs =
       (start n .pre .0, omega (arith, start n .pre .0, n .inputs-of .ensures, c .before .nevers-at .ensures), omega (arith, word 3, c .nevers-of .ensures)),
       rw (nevers-are c) (short-first _ a),
     )
-
-gates-at-requires : tie.Need-gates-at-requires
-gates-at-requires c κs = search needs
-
-gates-of-requires : tie.Need-gates-of-requires
-gates-of-requires c κs = search needs
 
 put-gates-requires : tie.Need-put-gates-requires
 unfolding blockText neversAt gatesAt
@@ -101,12 +89,6 @@ put-gates-requires c κs =
       (omega (arith, start n .pre .0, word 3, c .before .gates-at .ensures), omega (arith, word 1, c .gates-of .ensures)),
       rw (gates-are c) (short-first _ b),
     )
-
-outputs-at-requires : tie.Need-outputs-at-requires
-outputs-at-requires c κs = search needs
-
-outputs-of-requires : tie.Need-outputs-of-requires
-outputs-of-requires c κs = search needs
 
 put-outputs-requires : tie.Need-put-outputs-requires
 unfolding blockText neversAt gatesAt outputsAt
@@ -121,9 +103,6 @@ put-outputs-requires c κs =
       (omega (arith, start n .pre .0, word 1, word 3, c .before .outputs-at .ensures), omega (arith, word 2, c .outputs-of .ensures)),
       rw (outputs-are c) d,
     )
-
-same-length : tie.Need-same-length
-same-length c = search needs
 
 returns : tie.Need-returns
 unfolding blockText
@@ -141,16 +120,6 @@ pub put-block-spec : {M : Type 1} → statement M
 put-block-spec =
     tie.close
     (tie.spec
-    inputs-of-requires
-    put-inputs-requires
-    nevers-at-requires
-    nevers-of-requires
-    put-nevers-requires
-    gates-at-requires
-    gates-of-requires
-    put-gates-requires
-    outputs-at-requires
-    outputs-of-requires
-    put-outputs-requires
-    same-length
-    returns)
+    (λ c κs. search needs) put-inputs-requires nevers-at-requires (λ c κs. search needs) put-nevers-requires
+    (λ c κs. search needs) (λ c κs. search needs) put-gates-requires (λ c κs. search needs) (λ c κs. search needs)
+    put-outputs-requires (λ c. search needs) returns)

@@ -12,9 +12,6 @@ use Rattle.writing.proofs.Appending.{appended-then, short-first, short-
 use Rattle.writing.proofs.lines.put_expression.Statement.{statement}
 use Rattle.writing.proofs.lines.put_expression.Tie as tie
 
-word-at-requires : tie.Need-word-at-requires
-word-at-requires c κs = search needs
-
 -- the four pieces, from the head word that was read
 parts : (c : tie.After-word-at) → expressionText (c .before .before .before .args .words .now) (c .before .before .before .args .from)
     ≡ ascii "("
@@ -55,9 +52,6 @@ put-requires-2 c κs =
     let b = short-rest _ a (named .put-keyword .ensures) in
     short-rest _ b (filled .put-items .ensures)
 
-same-length : tie.Need-same-length
-same-length c = search needs
-
 returns : tie.Need-returns
 returns c =
     let closed = c .before .before in
@@ -72,10 +66,5 @@ pub put-expression-spec : {M : Type 1} → statement M
 put-expression-spec =
     tie.close
     (tie.spec
-    word-at-requires
-    put-requires
-    put-keyword-requires
-    put-items-requires
-    put-requires-2
-    same-length
+    (λ c κs. search needs) put-requires put-keyword-requires put-items-requires put-requires-2 (λ c. search needs)
     returns)

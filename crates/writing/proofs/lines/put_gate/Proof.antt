@@ -7,9 +7,6 @@ use Rattle.writing.proofs.Appending.{appended-then, short-first, short-
 use Rattle.writing.proofs.lines.put_gate.Statement.{statement}
 use Rattle.writing.proofs.lines.put_gate.Tie as tie
 
-slice-aggregate-put-all : tie.Need-slice-aggregate-put-all
-slice-aggregate-put-all c = search needs
-
 put-all-requires : tie.Need-put-all-requires
 unfolding gateText
 put-all-requires c κs = short-first {xs = ascii "(gate "} _ (c .before .before .before .before .pre .1)
@@ -28,12 +25,6 @@ put-requires c κs =
     let a = short-rest _ (opened .before .before .before .before .before .pre .1) (opened .put-all .ensures) in
     short-first {xs = ascii " "} _ (short-rest _ a (named .put-gate-name .ensures))
 
-mul-put-expression : tie.Need-mul-put-expression
-mul-put-expression c = search needs
-
-add-put-expression : tie.Need-add-put-expression
-add-put-expression c = search needs
-
 put-expression-requires : tie.Need-put-expression-requires
 unfolding gateText
 put-expression-requires c κs =
@@ -43,9 +34,6 @@ put-expression-requires c κs =
     let a = short-rest _ (opened .before .before .before .before .before .pre .1) (opened .put-all .ensures) in
     let b = short-rest _ a (named .put-gate-name .ensures) in
     (omega arith, short-first _ (short-rest {xs = ascii " "} _ b (spaced .put .ensures)))
-
-slice-aggregate-put-all-2 : tie.Need-slice-aggregate-put-all-2
-slice-aggregate-put-all-2 c = search needs
 
 put-all-requires-2 : tie.Need-put-all-requires-2
 unfolding gateText
@@ -58,9 +46,6 @@ put-all-requires-2 c κs =
     let b = short-rest _ a (named .put-gate-name .ensures) in
     let d = short-rest {xs = ascii " "} _ b (spaced .put .ensures) in
     short-rest _ d (filled .put-expression .ensures)
-
-same-length : tie.Need-same-length
-same-length c = search needs
 
 returns : tie.Need-returns
 unfolding gateText
@@ -78,14 +63,5 @@ pub put-gate-spec : {M : Type 1} → statement M
 put-gate-spec =
     tie.close
     (tie.spec
-    slice-aggregate-put-all
-    put-all-requires
-    put-gate-name-requires
-    put-requires
-    mul-put-expression
-    add-put-expression
-    put-expression-requires
-    slice-aggregate-put-all-2
-    put-all-requires-2
-    same-length
-    returns)
+    (λ c. search needs) put-all-requires put-gate-name-requires put-requires (λ c. search needs) (λ c. search needs)
+    put-expression-requires (λ c. search needs) put-all-requires-2 (λ c. search needs) returns)

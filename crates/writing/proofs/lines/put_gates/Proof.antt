@@ -28,9 +28,6 @@ put-gate-requires c κs =
 add-j : tie.Need-add-j Inv-loop μ-loop
 add-j c = omega (arith, start (c .before .before .before .before .before) .pre .0)
 
-loop-less : tie.Need-loop-less Inv-loop μ-loop
-loop-less c = omega arith
-
 loop-again : tie.Need-loop-again Inv-loop μ-loop
 loop-again c =
     let t = c .before .before .before .before in
@@ -46,12 +43,4 @@ pub put-gates-spec : {M : Type 1} → statement M
 put-gates-spec =
     tie.close
     (tie.spec
-    Inv-loop
-    μ-loop
-    loop-holds
-    put-gate-requires
-    add-j
-    loop-less
-    loop-again
-    same-length
-    returns)
+    Inv-loop μ-loop loop-holds put-gate-requires add-j (λ c. omega arith) loop-again same-length returns)

@@ -10,19 +10,10 @@ put-requires : tie.Need-put-requires
 unfolding itemText
 put-requires c κs = short-first {xs = ascii " "} _ (c .before .before .before .pre .1)
 
-add-put-operand : tie.Need-add-put-operand
-add-put-operand c = search needs
-
-add-put-operand-2 : tie.Need-add-put-operand-2
-add-put-operand-2 c = search needs
-
 put-operand-requires : tie.Need-put-operand-requires
 unfolding itemText
 put-operand-requires c κs =
     short-rest {xs = ascii " "} _ (c .before .before .before .before .before .before .before .pre .1) (c .before .before .before .put .ensures)
-
-same-length : tie.Need-same-length
-same-length c = search needs
 
 returns : tie.Need-returns
 unfolding itemText
@@ -32,9 +23,4 @@ pub put-item-spec : {M : Type 1} → statement M
 put-item-spec =
     tie.close
     (tie.spec
-    put-requires
-    add-put-operand
-    add-put-operand-2
-    put-operand-requires
-    same-length
-    returns)
+    put-requires (λ c. search needs) (λ c. search needs) put-operand-requires (λ c. search needs) returns)

@@ -7,15 +7,6 @@ use Rattle.writing.proofs.Appending.{appended-then, short-first, short-
 use Rattle.writing.proofs.lines.put_output.Statement.{statement}
 use Rattle.writing.proofs.lines.put_output.Tie as tie
 
-mul-port : tie.Need-mul-port
-mul-port c = search needs
-
-add-port : tie.Need-add-port
-add-port c = search needs
-
-slice-aggregate-put-all : tie.Need-slice-aggregate-put-all
-slice-aggregate-put-all c = search needs
-
 put-all-requires : tie.Need-put-all-requires
 unfolding outputText
 put-all-requires c κs = short-first {xs = ascii "(out "} _ (c .before .before .before .before .pre .1)
@@ -34,9 +25,6 @@ put-requires c κs =
     let a = short-rest _ (opened .before .before .before .before .before .pre .1) (opened .put-all .ensures) in
     short-first {xs = ascii " "} _ (short-rest _ a (named .put-name .ensures))
 
-add-put-operand : tie.Need-add-put-operand
-add-put-operand c = search needs
-
 put-operand-requires : tie.Need-put-operand-requires
 unfolding outputText
 put-operand-requires c κs =
@@ -46,9 +34,6 @@ put-operand-requires c κs =
     let a = short-rest _ (opened .before .before .before .before .before .pre .1) (opened .put-all .ensures) in
     let b = short-rest _ a (named .put-name .ensures) in
     short-first _ (short-rest {xs = ascii " "} _ b (spaced .put .ensures))
-
-slice-aggregate-put-all-2 : tie.Need-slice-aggregate-put-all-2
-slice-aggregate-put-all-2 c = search needs
 
 put-all-requires-2 : tie.Need-put-all-requires-2
 unfolding outputText
@@ -61,9 +46,6 @@ put-all-requires-2 c κs =
     let b = short-rest _ a (named .put-name .ensures) in
     let d = short-rest {xs = ascii " "} _ b (spaced .put .ensures) in
     short-rest _ d (filled .put-operand .ensures)
-
-same-length : tie.Need-same-length
-same-length c = search needs
 
 returns : tie.Need-returns
 unfolding outputText
@@ -81,15 +63,5 @@ pub put-output-spec : {M : Type 1} → statement M
 put-output-spec =
     tie.close
     (tie.spec
-    mul-port
-    add-port
-    slice-aggregate-put-all
-    put-all-requires
-    put-name-requires
-    put-requires
-    add-put-operand
-    put-operand-requires
-    slice-aggregate-put-all-2
-    put-all-requires-2
-    same-length
-    returns)
+    (λ c. search needs) (λ c. search needs) (λ c. search needs) put-all-requires put-name-requires put-requires
+    (λ c. search needs) put-operand-requires (λ c. search needs) put-all-requires-2 (λ c. search needs) returns)

@@ -7,29 +7,11 @@ use Rattle.writing.proofs.NeverLaws.{fixed-none, fixed-some}
 use Rattle.writing.proofs.nevers.put_fixed.Statement.{statement}
 use Rattle.writing.proofs.nevers.put_fixed.Tie as tie
 
-shr-if1 : tie.Need-shr-if1
-shr-if1 c = search needs
-
 returns : tie.Need-returns
 unfolding bit
 returns c =
     let a = c .before .before .before .args in
     rw (fixed-none (a .words .now) (a .fixed) (a .ones) (a .i) (c .if1 .taken)) (appended-none (a .text .now) (a .at))
-
-shr-byte : tie.Need-shr-byte
-shr-byte c = search needs
-
-add-byte : tie.Need-add-byte
-add-byte c = search needs
-
-mul-put-pair : tie.Need-mul-put-pair
-mul-put-pair c = search needs
-
-add-put-pair : tie.Need-add-put-pair
-add-put-pair c = search needs
-
-cast-put-pair : tie.Need-cast-put-pair
-cast-put-pair c = search needs
 
 put-pair-requires : tie.Need-put-pair-requires
 unfolding bit
@@ -37,9 +19,6 @@ put-pair-requires c κs =
     let start = c .before .before .before .before in
     let a = start .args in
     (omega (arith, start .pre .0), rw (fixed-some (a .words .now) (a .fixed) (a .ones) (a .i) (c .before .if1 .left)) at (start .pre .1))
-
-same-length : tie.Need-same-length
-same-length c = search needs
 
 returns-2 : tie.Need-returns-2
 unfolding bit
@@ -52,13 +31,5 @@ pub put-fixed-spec : {M : Type 1} → statement M
 put-fixed-spec =
     tie.close
     (tie.spec
-    shr-if1
-    returns
-    shr-byte
-    add-byte
-    mul-put-pair
-    add-put-pair
-    cast-put-pair
-    put-pair-requires
-    same-length
-    returns-2)
+    (λ c. search needs) returns (λ c. search needs) (λ c. search needs) (λ c. search needs) (λ c. search needs)
+    (λ c. search needs) put-pair-requires (λ c. search needs) returns-2)

@@ -28,41 +28,20 @@ parts c =
     never-of (a .words .now) (a .from) (ones .before .word-at .result) (ones .word-at2 .result) (c .inputs-of .result)
     (ones .before .word-at .ensures) (ones .word-at2 .ensures) (c .inputs-of .ensures)
 
-word-at-requires : tie.Need-word-at-requires
-word-at-requires c κs = search needs
-
-add-word-at : tie.Need-add-word-at
-add-word-at c = search needs
-
-word-at-requires-2 : tie.Need-word-at-requires-2
-word-at-requires-2 c κs = search needs
-
-slice-aggregate-put-all : tie.Need-slice-aggregate-put-all
-slice-aggregate-put-all c = search needs
-
 put-all-requires : tie.Need-put-all-requires
 unfolding neverText
 put-all-requires c κs = short-first {xs = ascii "(never"} _ (c .before .before .before .before .before .before .pre .1)
-
-inputs-of-requires : tie.Need-inputs-of-requires
-inputs-of-requires c κs = search needs
 
 put-pairs-requires : tie.Need-put-pairs-requires
 put-pairs-requires c κs =
     let p = start (opened c) .pre in
     (rw (c .inputs-of .ensures) (p .0 .0), short-first _ (short-rest _ (rw (parts c) at (p .1)) (opened c .put-all .ensures)))
 
-slice-aggregate-put-all-2 : tie.Need-slice-aggregate-put-all-2
-slice-aggregate-put-all-2 c = search needs
-
 put-all-requires-2 : tie.Need-put-all-requires-2
 put-all-requires-2 c κs =
     let filled = c .before .before .before .before in
     let head = filled .before in
     short-rest _ (short-rest _ (rw (parts head) at (start (opened head) .pre .1)) (opened head .put-all .ensures)) (filled .put-pairs .ensures)
-
-same-length : tie.Need-same-length
-same-length c = search needs
 
 returns : tie.Need-returns
 returns c =
@@ -76,14 +55,5 @@ pub put-never-spec : {M : Type 1} → statement M
 put-never-spec =
     tie.close
     (tie.spec
-    word-at-requires
-    add-word-at
-    word-at-requires-2
-    slice-aggregate-put-all
-    put-all-requires
-    inputs-of-requires
-    put-pairs-requires
-    slice-aggregate-put-all-2
-    put-all-requires-2
-    same-length
-    returns)
+    (λ c κs. search needs) (λ c. search needs) (λ c κs. search needs) (λ c. search needs) put-all-requires
+    (λ c κs. search needs) put-pairs-requires (λ c. search needs) put-all-requires-2 (λ c. search needs) returns)

@@ -35,9 +35,6 @@ put-never-requires c κs =
 add-i : tie.Need-add-i Inv-loop μ-loop
 add-i c = omega (arith, start (c .before .before .before .before .before) .pre .0)
 
-loop-less : tie.Need-loop-less Inv-loop μ-loop
-loop-less c = omega arith
-
 loop-again : tie.Need-loop-again Inv-loop μ-loop
 unfolding neverLineText
 loop-again c =
@@ -54,14 +51,5 @@ pub put-nevers-spec : {M : Type 1} → statement M
 put-nevers-spec =
     tie.close
     (tie.spec
-    Inv-loop
-    μ-loop
-    loop-holds
-    mul-put-never
-    add-put-never
-    put-never-requires
-    add-i
-    loop-less
-    loop-again
-    same-length
-    returns)
+    Inv-loop μ-loop loop-holds mul-put-never add-put-never put-never-requires add-i (λ c. omega arith) loop-again
+    same-length returns)

@@ -8,17 +8,8 @@ use Rattle.writing.proofs.pieces.put.Tie as tie
 add-end : tie.Need-add-end
 add-end c = omega (arith, c .pre .small)
 
-slice-write-text : tie.Need-slice-write-text
-slice-write-text c = search needs
-
-same-length : tie.Need-same-length
-same-length c = search needs
-
-returns : tie.Need-returns
-returns c = search needs
-
 returns-2 : tie.Need-returns-2
 returns-2 c = let a = c .before .args in appended-out (a .byte) (a .text .now) (a .at) (c .if1 .left)
 
 pub put-spec : {M : Type 1} → statement M
-put-spec = tie.close (tie.spec add-end slice-write-text same-length returns returns-2)
+put-spec = tie.close (tie.spec add-end (λ c. search needs) (λ c. search needs) (λ c. search needs) returns-2)

@@ -18,12 +18,9 @@ put-number-requires c κs =
     let opened = c .before .before .before in
     short-smaller (omega arith) (short-rest (decimal (opened .before .before .before .args .j)) (opened .before .before .before .pre) (opened .put .ensures))
 
-same-length : tie.Need-same-length
-same-length c = search needs
-
 returns : tie.Need-returns
 unfolding gateName
 returns c = appended-then (c .before .before .before .before .before .before .put .ensures) (c .before .before .put-number .ensures)
 
 pub put-gate-name-spec : {M : Type 1} → statement M
-put-gate-name-spec = tie.close (tie.spec put-requires put-number-requires same-length returns)
+put-gate-name-spec = tie.close (tie.spec put-requires put-number-requires (λ c. search needs) returns)

@@ -4,18 +4,9 @@ use Rattle.netlist.specs.Kinds.{keyword}
 use Rattle.writing.proofs.pieces.put_keyword.Statement.{statement}
 use Rattle.writing.proofs.pieces.put_keyword.Tie as tie
 
-signature-of-requires : tie.Need-signature-of-requires
-signature-of-requires c κs = search needs
-
-slice-aggregate-put-trimmed : tie.Need-slice-aggregate-put-trimmed
-slice-aggregate-put-trimmed c = search needs
-
 put-trimmed-requires : tie.Need-put-trimmed-requires
 unfolding keyword
 put-trimmed-requires c κs = let read = c .before .before .before in rw (read .signature-of .ensures) (read .before .before .pre)
-
-same-length : tie.Need-same-length
-same-length c = search needs
 
 returns : tie.Need-returns
 unfolding keyword
@@ -27,8 +18,4 @@ pub put-keyword-spec : {M : Type 1} → statement M
 put-keyword-spec =
     tie.close
     (tie.spec
-    signature-of-requires
-    slice-aggregate-put-trimmed
-    put-trimmed-requires
-    same-length
-    returns)
+    (λ c κs. search needs) (λ c. search needs) put-trimmed-requires (λ c. search needs) returns)

@@ -61,14 +61,5 @@ pub put-number-spec : {M : Type 1} → statement M
 put-number-spec =
     tie.close
     (tie.spec
-    (λ c κs. search needs)
-    (λ c. search needs)
-    (λ c. search needs)
-    put-digit-requires
-    put-digit-requires-2
-    put-digit-requires-3
-    (λ c. search needs)
-    (λ c. search needs)
-    put-requires
-    (λ c. search needs)
-    returns-2)
+    (λ c κs. search needs) (λ c. search needs) (λ c. search needs) put-digit-requires put-digit-requires-2
+    put-digit-requires-3 (λ c. search needs) (λ c. search needs) put-requires (λ c. search needs) returns-2)

@@ -7,12 +7,6 @@ use Rattle.writing.proofs.OperandLaws.{operand-input, operand-zero, ope
 use Rattle.writing.proofs.pieces.put_operand.Statement.{statement}
 use Rattle.writing.proofs.pieces.put_operand.Tie as tie
 
-inputs-of-requires : tie.Need-inputs-of-requires
-inputs-of-requires c κs = search needs
-
-word-at-requires : tie.Need-word-at-requires
-word-at-requires c κs = search needs
-
 mul-put-name : tie.Need-mul-put-name
 mul-put-name c = omega (arith, c .before .before .before .before .shared-slice-known .given (c .before .before .before .before .before .before .args .from))
 
@@ -30,9 +24,6 @@ put-name-requires c κs =
       omega (arith, at-shared-slice-known .shared-slice-known .given (a .from)),
       rw (operand-input (a .words .now) (a .from) (w .result) (w .ensures) l) at (start .pre),
     )
-
-same-length : tie.Need-same-length
-same-length c = search needs
 
 returns : tie.Need-returns
 returns c =
@@ -75,9 +66,6 @@ put-gate-name-requires c κs =
     let l : getD (a .words .now) 0 0 ≤ w .result = omega arith in
     rw (at-inputs-of .inputs-of .ensures) (rw (operand-gate (a .words .now) (a .from) (w .result) (w .ensures) l (others .0 .1) (others .1)) at (start .pre))
 
-same-length-2 : tie.Need-same-length-2
-same-length-2 c = search needs
-
 returns-2 : tie.Need-returns-2
 returns-2 c =
     let at-match = c .before .before .before .before in
@@ -88,9 +76,6 @@ returns-2 c =
     let l : getD (a .words .now) 0 0 ≤ w .result = omega arith in
     rw (operand-zero (a .words .now) (a .from) (w .result) (w .ensures) l (at-match .match .keys1)) (c .before .before .put .ensures)
 
-same-length-3 : tie.Need-same-length-3
-same-length-3 c = search needs
-
 returns-3 : tie.Need-returns-3
 returns-3 c =
     let at-match = c .before .before .before .before in
@@ -100,9 +85,6 @@ returns-3 c =
     let w = at-word-at .word-at in
     let l : getD (a .words .now) 0 0 ≤ w .result = omega arith in
     rw (operand-one (a .words .now) (a .from) (w .result) (w .ensures) l (at-match .match .keys2)) (c .before .before .put2 .ensures)
-
-same-length-4 : tie.Need-same-length-4
-same-length-4 c = search needs
 
 returns-4 : tie.Need-returns-4
 returns-4 c =
@@ -121,19 +103,6 @@ pub put-operand-spec : {M : Type 1} → statement M
 put-operand-spec =
     tie.close
     (tie.spec
-    inputs-of-requires
-    word-at-requires
-    mul-put-name
-    add-put-name
-    put-name-requires
-    same-length
-    returns
-    put-requires
-    put-requires-2
-    put-gate-name-requires
-    same-length-2
-    returns-2
-    same-length-3
-    returns-3
-    same-length-4
-    returns-4)
+    (λ c κs. search needs) (λ c κs. search needs) mul-put-name add-put-name put-name-requires (λ c. search needs)
+    returns put-requires put-requires-2 put-gate-name-requires (λ c. search needs) returns-2 (λ c. search needs)
+    returns-3 (λ c. search needs) returns-4)

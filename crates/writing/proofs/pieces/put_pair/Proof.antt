@@ -7,9 +7,6 @@ use Rattle.writing.proofs.Appending.{appended-then, short-first, short-
 use Rattle.writing.proofs.pieces.put_pair.Statement.{statement}
 use Rattle.writing.proofs.pieces.put_pair.Tie as tie
 
-slice-aggregate-put-all : tie.Need-slice-aggregate-put-all
-slice-aggregate-put-all c = search needs
-
 put-all-requires : tie.Need-put-all-requires
 unfolding pairPiece
 put-all-requires c κs = short-first {xs = ascii " ("} _ (c .before .before .before .before .pre .1)
@@ -53,9 +50,6 @@ put-requires-3 c κs =
     let d = short-rest {xs = ascii " "} _ b (spaced .put .ensures) in
     short-rest {xs = start .args .byte ∷ []} _ d (filled .put2 .ensures)
 
-same-length : tie.Need-same-length
-same-length c = search needs
-
 returns : tie.Need-returns
 unfolding pairPiece
 returns c =
@@ -72,11 +66,5 @@ pub put-pair-spec : {M : Type 1} → statement M
 put-pair-spec =
     tie.close
     (tie.spec
-    slice-aggregate-put-all
-    put-all-requires
-    put-name-requires
-    put-requires
-    put-requires-2
-    put-requires-3
-    same-length
-    returns)
+    (λ c. search needs) put-all-requires put-name-requires put-requires put-requires-2 put-requires-3
+    (λ c. search needs) returns)

@@ -64,20 +64,6 @@ pub put-trimmed-spec : {M : Type 1} → statement M
 put-trimmed-spec =
     tie.close
     (tie.spec
-    Inv-loop
-    μ-loop
-    loop-holds
-    (λ c. omega arith)
-    (λ c. omega arith)
-    (λ c. omega arith)
-    (λ c. omega arith)
-    put-without-zeros-requires
-    same-length
-    returns
-    (λ c. omega arith)
-    put-requires
-    (λ c. omega arith)
-    (λ c. omega arith)
-    loop-again
-    same-length-2
-    returns-2)
+    Inv-loop μ-loop loop-holds (λ c. omega arith) (λ c. omega arith) (λ c. omega arith) (λ c. omega arith)
+    put-without-zeros-requires same-length returns (λ c. omega arith) put-requires (λ c. omega arith)
+    (λ c. omega arith) loop-again same-length-2 returns-2)

@@ -5,9 +5,6 @@ use borrow.Author.Needs.{needs}
 use Rattle.writing.proofs.pieces.put_without_zeros.Statement.{statement}
 use Rattle.writing.proofs.pieces.put_without_zeros.Tie as tie
 
-trimmed-length-requires : tie.Need-trimmed-length-requires
-trimmed-length-requires c κs = search needs
-
 slice-aggregate-put-all : tie.Need-slice-aggregate-put-all
 slice-aggregate-put-all c =
     let r = c .before .before .trimmed-length in
@@ -16,13 +13,10 @@ slice-aggregate-put-all c =
 put-all-requires : tie.Need-put-all-requires
 put-all-requires c κs = rw (c .before .before .trimmed-length .ensures .1) (c .before .before .before .before .before .pre)
 
-same-length : tie.Need-same-length
-same-length c = search needs
-
 returns : tie.Need-returns
 returns c = rw (← c .before .before .before .before .before .trimmed-length .ensures .1) (c .before .before .put-all .ensures)
 
 pub put-without-zeros-spec : {M : Type 1} → statement M
 put-without-zeros-spec =
     tie.close
-    (tie.spec trimmed-length-requires slice-aggregate-put-all put-all-requires same-length returns)
+    (tie.spec (λ c κs. search needs) slice-aggregate-put-all put-all-requires (λ c. search needs) returns)
