@@ -1,4 +1,5 @@
--- What stands for the gates while a rendering is made. The laws of this crate are stated with these. Assumes nothing.
+-- What stands for the gates while a rendering is made, which is an unrolling: each loop's gates are copied several
+-- times. The laws of this crate are stated with these. Assumes nothing.
 use Prim.Native.Nat.{ℕ, _<_}
 use mathlib.Core.Path.{_≡_}
 use mathlib.Core.Bool.{false}
@@ -17,11 +18,11 @@ IsCopy t (input i) = ⊥
 IsCopy t (gate c) = c < t
 IsCopy t (constant c) = c ≡ false
 
--- the same of all gates
+-- AreCopies: every gate of a list is stood for by one of t copies, or by constant 0
 abbrev pub AreCopies : ℕ → List Operand → Type 0
 AreCopies t newest = (j : ℕ) → IsCopy t (getD newest j (constant false))
 
--- the values of what stands for the gates
+-- the values of the copies that stand for the gates
 unfoldable pub valuesOf : List Value → List Value → List Operand → List Value
 valuesOf x state newest = map (operandValue x state) newest
 
@@ -37,6 +38,6 @@ groupAt b t = getD (groups b) t []
 abbrev pub gatesBefore : Block → ℕ → List ℕ
 gatesBefore b t = joined (take t (groups b))
 
--- what stands for the gates when copy i is made
+-- what stands for each gate at the moment when copy i is made
 unfoldable pub newestAt : Block → ℕ → List Operand
 newestAt b i = newestAfter (noCopies b) 0 (take i (schedule b))

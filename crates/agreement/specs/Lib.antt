@@ -1,3 +1,3 @@
--- What the laws of rendering speak of.
+-- What the laws of unrolling (rendering) speak of.
 pub mod Copies
 pub mod Minimal

@@ -1,4 +1,5 @@
--- What shows that a number of passes over a group is too small. The theorem of minimality is stated with it. Assumes nothing.
+-- What shows that a number of passes over a group is too small. The theorem of minimality is stated with it. Assumes
+-- nothing.
 use Prim.Native.Nat.{ℕ, _<_}
 use mathlib.Core.Path.{_≡_}
 use mathlib.Core.Bool.{true, false}

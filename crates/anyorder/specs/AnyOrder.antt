@@ -1,10 +1,12 @@
--- SPECIFICATION 3.5: what is claimed of gates that are evaluated one at a time, in whatever order a queue yields. `any-order` in
--- proofs/Shown.antt shows the claim for every block, every setting and every finite sequence. Assumes nothing.
+-- SPECIFICATION 3.5, chaotic iteration (Chazan and Miranker, "Chaotic relaxation", 1969): what is claimed of gates that
+-- are evaluated one at a time, in whatever order a queue yields. `any-order` in proofs/Shown.antt shows the claim for
+-- every block, every setting and every finite sequence. Assumes nothing.
 --
--- b        any block: gates of all seven kinds, with loops or without; never lines play no part
--- x        the inputs' values, one each, 0, 1 or undefined
--- gates    gate numbers, in the order in which the gates are evaluated: a gate may stand there often, or not at all, and the list may be empty
--- settled  the settled values of 3.3, which rounds of all gates at once reach from all undefined
+--   b        any block: gates of all seven kinds, with loops or without; never lines play no part
+--   x        the inputs' values, one each, 0, 1 or undefined
+--   gates    gate numbers, in the order in which the gates are evaluated: a gate may stand there often, or not at all,
+--            and the list may be empty
+--   settled  the settled values of 3.3, which rounds of all gates at once reach from all undefined
 use Prim.Native.Nat.{ℕ, _<_}
 use mathlib.Core.Path.{_≡_}
 use mathlib.Core.Bool.{Bool}

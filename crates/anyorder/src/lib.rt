@@ -1,1 +1,2 @@
-// No code: gates evaluated one at a time, in any order (SPECIFICATION 3.5).
+// No code: chaotic iteration, gates evaluated one at a time in any order, comes to rest at the same fixpoint
+// (SPECIFICATION 3.5).

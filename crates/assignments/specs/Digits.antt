@@ -1,4 +1,4 @@
--- Numbers by their digits in a base. Assumes nothing.
+-- Numbers by their digits in a base, for numbering partial assignments in base 3. Assumes nothing.
 use Prim.Native.Nat.{ℕ, zero, suc, _+_, _*_, _/_, _%_, _^_}
 
 -- digit i of k in base b, the lowest being digit 0

@@ -1,4 +1,4 @@
--- The cover over any test of settings, and the tables that the code of this crate keeps.
+-- The cover (prime implicants) over any test of settings, and the tables that the code of this crate keeps.
 pub mod Over
 pub mod Digits
 pub mod Tables

@@ -1,5 +1,6 @@
--- The cover (SPECIFICATION 4) over any test p of the settings of n inputs: `netlist`'s definitions with p for "is settled" and n for the
--- block's inputs. Cited by the contracts of this crate and by the operation Cover. Assumes nothing.
+-- The cover (SPECIFICATION 4) over any test p of the settings of n inputs: the definitions of `netlist` with p for "is
+-- settled" and n for the block's inputs. In the field's words these are the prime implicants of p (Quine 1952,
+-- McCluskey 1956). Cited by the contracts of this crate and by the operation Cover. Assumes nothing.
 use Prim.Native.Nat.{ℕ, _^_, _<_}
 use mathlib.Core.Path.{_≡_}
 use mathlib.Core.Logic.{_⊎_}
@@ -9,11 +10,11 @@ use Rattle.laws.specs.Lists.{all, upTo, keep, joined}
 use Rattle.netlist.specs.Assignments.{Assignment, fixes, agrees, isWithin}
 use Rattle.netlist.specs.Cover.{without, assignments}
 
--- every setting that agrees with the assignment passes
+-- every setting that agrees with the assignment passes the test: it is an implicant
 unfoldable pub soundOver : (ℕ → Bool) → ℕ → Assignment → Bool
 soundOver p n a = all (λ s. not (agrees n a s) || p s) (upTo (2 ^ n))
 
--- no single fixed input can be dropped with the rest still sound
+-- minimal, that is prime: no single fixed input can be dropped with the rest still sound
 unfoldable pub minimalOver : (ℕ → Bool) → ℕ → Assignment → Bool
 minimalOver p n a = all (λ i. not (fixes a i) || not (soundOver p n (without a i))) (upTo n)
 
@@ -21,7 +22,7 @@ minimalOver p n a = all (λ i. not (fixes a i) || not (soundOver p n (without a 
 unfoldable pub coverOver : (ℕ → Bool) → ℕ → List Assignment
 coverOver p n = keep (λ a. soundOver p n a && minimalOver p n a) (assignments n)
 
--- two words an entry
+-- the words of a list of assignments: two masks each
 unfoldable pub assignmentWords : List Assignment → List ℕ
 assignmentWords entries = joined (map (λ (a : Assignment). a .fixed ∷ a .ones ∷ []) entries)
 
@@ -44,6 +45,6 @@ pub record EntriesListed (p : ℕ → Bool) (n : ℕ) (a : Assignment) : Type 0 
   pub sound : soundOver p n a ≡ true
   pub minimal : minimalOver p n a ≡ true
 
--- by first mask, then second
+-- the order of a cover's entries: by first mask, then by second
 abbrev pub Before : Assignment → Assignment → Type 0
 Before a b = (a .fixed < b .fixed) ⊎ ((a .fixed ≡ b .fixed) × (a .ones < b .ones))

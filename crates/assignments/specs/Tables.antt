@@ -1,4 +1,5 @@
--- The tables that Cover's code keeps: which settings are settled, and which of the 3^n assignments are sound. Assumes nothing.
+-- The tables that Cover's code keeps: which settings are settled, and which of the 3^n assignments are sound. Assumes
+-- nothing.
 use Prim.Native.Nat.{ℕ, _+_, _-_, _*_, _^_, _≤_, _<_}
 use mathlib.Core.Path.{_≡_}
 use mathlib.Core.Bool.{Bool, cond, not, _||_}
@@ -12,7 +13,7 @@ use Rattle.netlist.specs.Assignments.{bit}
 use Rattle.netlist.specs.Assignments.{Assignment, fixes}
 use Rattle.assignments.specs.Digits.{ternaryDigit, numeral}
 
--- up to so many inputs the tables are kept small
+-- up to this number of inputs the tables are kept small
 abbrev pub fewInputs : ℕ
 fewInputs = 8
 
@@ -20,7 +21,7 @@ fewInputs = 8
 unfoldable pub settledBy : List ℕ → ℕ → Bool
 settledBy table s = eqb (getD table s 0) 1
 
--- an assignment as ternary digits: the value of a fixed input, 2 for a free one
+-- digit i of an assignment in base 3: the value of a fixed input, 2 for a free one
 unfoldable pub digitOf : Assignment → ℕ → ℕ
 digitOf a i = cond (fixes a i) (bit (a .ones) i) 2
 
@@ -41,7 +42,7 @@ byteOf b = cond b 1 0
 unfoldable pub soundByte : (ℕ → Bool) → ℕ → ℕ → ℕ
 soundByte p n k = byteOf (soundDigits p n (ternaryDigit 3 k))
 
--- a mask's bits read as ternary digits
+-- the number whose ternary digits are the bits of a mask
 unfoldable pub weightOf : ℕ → ℕ → ℕ
 weightOf n m = numeral 3 (bit m) n
 
@@ -51,7 +52,7 @@ pub record Weighed (weights : List ℕ) (n : ℕ) : Type 0 where
   pub room : 2 ^ n ≤ length weights
   pub right : (m : ℕ) → m < 2 ^ n → getD weights m 0 ≡ weightOf n m
 
--- where the byte of setting s goes, and right bytes below it
+-- the table of soundness while it is filled: the bytes below k are right, and the byte of setting s goes to k
 pub record Filled (settled sound : List ℕ) (n s k : ℕ) : Type 0 where
   pub few : n ≤ maxInputs
   pub settings : 2 ^ n ≤ length settled

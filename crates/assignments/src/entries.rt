@@ -1,4 +1,5 @@
-// The entries of the cover: the pairs of masks whose assignments are left in the table, in ascending order.
+// The entries of the cover, the prime implicants: the pairs of masks whose assignments are left in the table, in
+// ascending order.
 use crate::pairs::next_ones;
 ghost use mathlib.Core.Path.{_≡_};
 ghost use Prim.Native.Nat.{_+_, _*_, _^_, _≤_, _<_};
@@ -23,7 +24,8 @@ fn row_base(weights: &[u32], n: usize, size: usize, fixed: usize) -> usize
     size - 1 - 2 * weights[fixed] as usize
 }
 
-// Whether an assignment with this first mask is left: an input at 1 in place of 0 makes the number greater by its weight.
+// Whether an assignment with this first mask is left: an input at 1 in place of 0 makes the number greater by its
+// weight.
 fn is_left(marks: &[u8], weights: &[u32], n: usize, first: FirstMask, ones: usize) -> bool
     requires { ⌜ Row (now marks) (now weights) n (first .base) (first .fixed) × (ones < 2 ^ n) × PairBelow n (first .fixed * 2 ^ n + ones) ⌝ }
     ensures { λ r. ⌜ r ≡ entryBy (now (marks .entry)) n (first .fixed * 2 ^ n + ones) ⌝ }
@@ -31,7 +33,8 @@ fn is_left(marks: &[u8], weights: &[u32], n: usize, first: FirstMask, ones: usiz
     marks[first.base + weights[ones] as usize] == 1
 }
 
-// The words of the entries with this first mask, behind those of the entries before it; how many entries these are together.
+// The words of the entries with this first mask, behind those of the entries before it; how many entries these are
+// together.
 fn list_row(
     marks: &[u8],
     weights: &[u32],

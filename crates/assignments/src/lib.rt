@@ -1,5 +1,7 @@
-// Cover's core (SPECIFICATION 4), over a table that says which settings are settled: the sound and minimal partial assignments of n inputs, in order.
-// The operation Cover simulates each setting once, and then calls `cover_entries`.
+// Cover's core (SPECIFICATION 4), over a table that says which settings are settled: the sound and minimal partial
+// assignments of n inputs, in order. These are the prime implicants of the table; as in Quine's and McCluskey's method,
+// an assignment with a free input is sound where both halves are. The operation Cover decides each setting once, and
+// then calls `cover_entries`.
 use entries::write_entries;
 use everywhere::are_all_settled;
 use everywhere::write_nothing;
@@ -21,15 +23,15 @@ mod minimal;
 mod pairs;
 mod tables;
 
-// Up to so many inputs the tables are small: what is made is also cleared.
+// Up to this number of inputs the tables are small: what is made is also cleared, so small tables save time.
 const FEW_INPUTS: usize = 8;
 
 const FEW_SETTINGS: usize = 1 << FEW_INPUTS;
 
 const FEW_ASSIGNMENTS: usize = 6561;
 
-// The number of entries; their words, two an entry, where `out` has room for all of them. `settled` has a 1 for each settled setting.
-// There are as many masks as settings.
+// The number of entries; their words, two an entry, where `out` has room for all of them. `settled` has a 1 for each
+// settled setting. There are as many masks as settings.
 pub fn cover_entries(settled: &[u8], n: usize, out: &mut [u16]) -> usize
     requires { ⌜ (n ≤ maxInputs) × (2 ^ n ≤ length (now settled)) ⌝ }
     ensures { λ r. ⌜ EntriesWritten (coverOver (settledBy (now (settled .entry))) n) (now (out .entry)) (now (out .exit)) r ⌝ }
@@ -45,8 +47,8 @@ pub fn cover_entries(settled: &[u8], n: usize, out: &mut [u16]) -> usize
     cover_many(settled, n, &mut sound, &mut weights, out)
 }
 
-// The same with tables for the most inputs. It stands between the function that makes them and the one on slices, so that no proof computes the length
-// of half a million elements.
+// `cover_entries` with tables for the most inputs. It stands between the function that makes them and the one on
+// slices, so that no proof computes the length of half a million elements.
 fn cover_many(
     settled: &[u8],
     n: usize,
@@ -60,7 +62,7 @@ fn cover_many(
     cover_within(settled, n, sound, weights, out)
 }
 
-// The same for few inputs.
+// `cover_entries` for few inputs, with small tables.
 fn cover_few(settled: &[u8], n: usize, out: &mut [u16]) -> usize
     requires { ⌜ (n ≤ fewInputs) × (2 ^ n ≤ length (now settled)) ⌝ }
     ensures { λ r. ⌜ EntriesWritten (coverOver (settledBy (now (settled .entry))) n) (now (out .entry)) (now (out .exit)) r ⌝ }
@@ -70,7 +72,7 @@ fn cover_few(settled: &[u8], n: usize, out: &mut [u16]) -> usize
     cover_within(settled, n, &mut sound, &mut weights, out)
 }
 
-// The same, with the two tables lent.
+// `cover_entries` with the tables of soundness and of weights lent.
 fn cover_within(
     settled: &[u8],
     n: usize,

@@ -1,4 +1,5 @@
-// The tables of Cover's core: a byte for each of the 3^n assignments of n inputs, and the ternary weight of each mask of n bits.
+// The tables of Cover's core: a byte for each of the 3^n assignments of n inputs, and the ternary weight of each mask
+// of n bits.
 ghost use Prim.Native.Nat.{_+_, _*_, _^_, _≤_, _<_};
 ghost use lib.ListN.{length};
 ghost use Rattle.netlist.specs.Limits.{maxInputs};
@@ -18,7 +19,8 @@ pub fn fill_weights(n: usize, weights: &mut [u32])
     }
 }
 
-// The assignments with one more free input, behind those with this input at 0 and those with it at 1: sound where both are.
+// The assignments with one more free input, behind those with this input at 0 and those with it at 1: sound where both
+// are.
 fn join_halves(sound: &mut [u8], k: usize, power: usize)
     requires { ⌜ (2 * power ≤ k) × (k + power ≤ length (now sound)) ⌝ }
     ensures { λ _. ⌜ HalvesJoined (now (sound .entry)) (now (sound .exit)) k power power ⌝ }
@@ -30,8 +32,8 @@ fn join_halves(sound: &mut [u8], k: usize, power: usize)
     }
 }
 
-// The byte of a setting at its number k, and those of the assignments with free inputs up to the number of the next setting: where its lowest inputs are
-// at 1, both halves are there for each of them. Gives that number.
+// Puts the byte of a setting at its number k, and those of the assignments with free inputs up to the number of the
+// next setting: where its lowest inputs are at 1, both halves are there for each of them. Gives that next number.
 fn add_setting(settled: &[u8], n: usize, setting: usize, k: usize, sound: &mut [u8]) -> usize
     requires { ⌜ Filled (now settled) (now sound) n setting k × (setting < 2 ^ n) ⌝ }
     ensures { λ r. ⌜ Filled (now (settled .entry)) (now (sound .exit)) n (setting + 1) r ⌝ }

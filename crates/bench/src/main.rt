@@ -1,6 +1,6 @@
-// The program `bench`: moves bytes from standard input to `session`, and the answers to standard output. What is there is read and answered
-// at once, so that it serves a terminal and a pipe. A proved loop has to end, and nothing says that the input does: the loop over reads
-// counts down from a number that no run uses up.
+// The program `bench`: moves bytes from standard input to `session`, and the answers to standard output. What is there
+// is read and answered at once, so that it serves a terminal and a pipe. A proved loop has to end, and nothing says
+// that the input does: the loop over reads counts down from a number that no run uses up.
 use graph::GRAPH_WORDS;
 use graph::fanout::FANOUT_WORDS;
 use layout::limits::BLOCK_WORDS;
@@ -14,13 +14,13 @@ use session::is_over;
 use session::start;
 ghost use Rattle.session.specs.Session.{Unprepared, SessionReady, SessionRoom};
 
-// The state behind what was read, and whether to read on.
+// What serving some input came to: the state after it, and whether to read on.
 struct Served {
     state: State,
     more: bool,
 }
 
-// Feeds a piece of input and writes each answer in it; the state behind it.
+// Feeds a piece of input and writes each answer in it; gives the state after the piece.
 fn serve_piece(
     state: State,
     piece: &[u8],
@@ -45,7 +45,7 @@ fn serve_piece(
     state
 }
 
-// Reads what is there and answers it.
+// Reads the input that is there now, and answers it.
 fn serve_some(
     state: State,
     text: &mut [u8],

@@ -1,4 +1,5 @@
--- The rules of the stored block as the loops of src/ step through them: names for the tests under each "all" of the rules in `encoding`.
+-- The rules of the stored block as the loops of src/ step through them: names for the tests under each "all" of the
+-- rules in crates/encoding.
 use Prim.Native.Nat.{ℕ, _+_, _*_}
 use mathlib.Core.Bool.{Bool, cond, not, _&&_}
 use mathlib.Core.List.{List}
@@ -12,7 +13,7 @@ use Rattle.encoding.specs.Rules.{nameRule, sameName, namesRule, neverRule, node
 abbrev pub zerosFrom : List ℕ → ℕ → Bool
 zerosFrom bytes i = all (eqb 0) (drop i bytes)
 
--- of names `size` words apart from `at` on, i is not j
+-- names i and j differ, of names that stand `size` words apart from `at` on
 abbrev pub otherName : List ℕ → ℕ → ℕ → ℕ → ℕ → Bool
 otherName ws at size j i = not (sameName ws (at + size * i) (at + size * j))
 
@@ -22,32 +23,32 @@ othersBefore ws at size j = all (otherName ws at size j) (upTo j)
 abbrev pub newName : List ℕ → ℕ → ℕ → ℕ → Bool
 newName ws at size j = nameRule ws (at + size * j) && othersBefore ws at size j
 
--- never line i of those from `at` on, in a block of n inputs
+-- the rule of never line i, of those from `at` on, in a block of n inputs
 abbrev pub neverRuleAt : List ℕ → ℕ → ℕ → ℕ → Bool
 neverRuleAt ws n at i = neverRule ws n (at + neverSize * i)
 
 abbrev pub neversRule : List ℕ → ℕ → ℕ → ℕ → Bool
 neversRule ws n at lines = all (neverRuleAt ws n at) (upTo lines)
 
--- operand word i of the gate at `at`
+-- the rule of operand word i of the gate at `at`
 abbrev pub slotRule : List ℕ → ℕ → ℕ → ℕ → ℕ → Bool
 slotRule ws nodes at count i = cond (ltb i count) (operandRule nodes (getD ws (at + 1 + i) 0)) (eqb (getD ws (at + 1 + i) 0) 0)
 
--- gate j of those from `at` on
+-- the rule of gate j, of those from `at` on
 abbrev pub gateRuleAt : List ℕ → ℕ → ℕ → ℕ → Bool
 gateRuleAt ws nodes at j = gateRule ws nodes (at + gateSize * j)
 
 abbrev pub gatesRule : List ℕ → ℕ → ℕ → ℕ → Bool
 gatesRule ws nodes at m = all (gateRuleAt ws nodes at) (upTo m)
 
--- gate j with the inputs and the gates below it as nodes
+-- the rule of gate j when its nodes are the inputs and the gates below it, so that it closes no loop
 abbrev pub lowerRuleAt : List ℕ → ℕ → ℕ → ℕ → Bool
 lowerRuleAt ws n at j = gateRuleAt ws (n + j) at j
 
 abbrev pub lowerRule : List ℕ → ℕ → ℕ → ℕ → Bool
 lowerRule ws n at m = all (lowerRuleAt ws n at) (upTo m)
 
--- output o of those from `at` on
+-- the rule of output o, of those from `at` on
 abbrev pub shownRule : List ℕ → ℕ → ℕ → ℕ → Bool
 shownRule ws nodes at o = nodeRule nodes (getD ws (at + outputSize * o + nameSize) 0)
 
@@ -58,7 +59,7 @@ shownRules ws nodes at k = all (shownRule ws nodes at) (upTo k)
 abbrev pub frontRule : List ℕ → ℕ → ℕ → Bool
 frontRule ws n lines = namesRule ws inputsAt nameSize n && neversRule ws n (neversAt n) lines
 
--- all parts, of a header of m gates and k outputs as well
+-- the rules of all parts behind a header with these four counts
 abbrev pub partsRule : List ℕ → ℕ → ℕ → ℕ → ℕ → Bool
 partsRule ws n lines m k =
     frontRule ws n lines

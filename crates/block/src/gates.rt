@@ -15,7 +15,7 @@ ghost use Rattle.layout.specs.Bounds.{nodeRoom, placeRoom};
 ghost use Rattle.encoding.specs.Rules.{nodeRule, operandRule, gateRule};
 ghost use Rattle.block.specs.Steps.{slotRule, gateRuleAt, gatesRule, lowerRule};
 
-// Is it a kind, and may it have so many operands?
+// Is `kind` a kind of gate, and may it have `count` operands?
 pub fn has_arity(kind: usize, count: usize) -> bool
     ensures { λ r. ⌜ r ≡ isKind kind && arityFits kind count ⌝ }
 {
@@ -32,14 +32,14 @@ pub fn has_arity(kind: usize, count: usize) -> bool
     }
 }
 
-// An input or a gate: `nodes` is how many there are.
+// Does the word name an input or a gate? `nodes` is how many there are.
 pub fn is_node(nodes: usize, word: usize) -> bool
     ensures { λ r. ⌜ r ≡ nodeRule nodes word ⌝ }
 {
     word < nodes
 }
 
-// An operand word: a node number or a constant.
+// Is the word an operand: an input, a gate or a constant?
 pub fn is_operand(nodes: usize, word: usize) -> bool
     ensures { λ r. ⌜ r ≡ operandRule nodes word ⌝ }
 {
@@ -49,7 +49,8 @@ pub fn is_operand(nodes: usize, word: usize) -> bool
     word == CONSTANT_0 || word == CONSTANT_1
 }
 
-// An operand word, by one comparison: the constants are the two highest words, so that two further on they are 0 and 1 again.
+// Is the word an operand, by one comparison: the constants are the two highest words, so that two further on they are 0
+// and 1 again.
 fn is_operand_word(nodes: usize, word: u16) -> bool
     requires { ⌜ nodes ≤ nodeRoom ⌝ }
     ensures { λ r. ⌜ r ≡ operandRule nodes word ⌝ }
@@ -57,7 +58,8 @@ fn is_operand_word(nodes: usize, word: u16) -> bool
     (word as usize + 2) % 65536 < nodes + 2
 }
 
-// The four operand words of the gate at `at`: operands below the count, 0 from there on. All of a gate's are tested before the one branch.
+// Do the four operand words of the gate at `at` fit: operands below the count, 0 from there on? All four are tested
+// before the one branch.
 fn slots_fit(words: &[u16], nodes: usize, at: usize, count: usize) -> bool
     requires { ⌜ (at + operandWords < length (now words)) × (nodes ≤ nodeRoom) × (1 ≤ count) ⌝ }
     ensures { λ r. ⌜ r ≡ all (slotRule (now (words .entry)) nodes at count) (upTo operandWords) ⌝ }
@@ -77,7 +79,7 @@ fn slots_fit(words: &[u16], nodes: usize, at: usize, count: usize) -> bool
     }
 }
 
-// The gate whose first word is at `at`.
+// Does the gate whose first word is at `at` keep the rules?
 fn fits(words: &[u16], nodes: usize, at: usize) -> bool
     requires { ⌜ (at + operandWords < length (now words)) × (nodes ≤ nodeRoom) ⌝ }
     ensures { λ r. ⌜ r ≡ gateRule (now (words .entry)) nodes at ⌝ }
@@ -86,7 +88,7 @@ fn fits(words: &[u16], nodes: usize, at: usize) -> bool
     has_arity(head % 8, head / 8) && slots_fit(words, nodes, at, head / 8)
 }
 
-// Gate j of those from `at` on.
+// Does gate j, of those from `at` on, keep the rules?
 fn fits_at(words: &[u16], nodes: usize, at: usize, j: usize) -> bool
     requires { ⌜ (at ≤ placeRoom) × (j ≤ maxGates) × (nodes ≤ nodeRoom) ⌝ }
     requires { ⌜ at + gateSize * j + operandWords < length (now words) ⌝ }
@@ -95,7 +97,7 @@ fn fits_at(words: &[u16], nodes: usize, at: usize, j: usize) -> bool
     fits(words, nodes, at + GATE_SIZE * j)
 }
 
-// All m gates.
+// Do all m gates, from `at` on, keep the rules?
 pub fn fit(words: &[u16], nodes: usize, at: usize, m: usize) -> bool
     requires { ⌜ (at ≤ placeRoom) × (m ≤ maxGates) × (nodes ≤ nodeRoom) ⌝ }
     requires { ⌜ at + gateSize * m ≤ length (now words) ⌝ }
@@ -111,7 +113,7 @@ pub fn fit(words: &[u16], nodes: usize, at: usize, m: usize) -> bool
     true
 }
 
-// Does each gate keep its rule with only the inputs and the lower gates as nodes?
+// Is the block straight: does each gate keep its rule with only the inputs and the lower gates as nodes?
 pub fn read_lower(words: &[u16], n: usize, at: usize, m: usize) -> bool
     requires { ⌜ (n ≤ maxInputs) × (at ≤ placeRoom) × (m ≤ maxGates) ⌝ }
     requires { ⌜ at + gateSize * m ≤ length (now words) ⌝ }

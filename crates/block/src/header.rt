@@ -13,7 +13,7 @@ use layout::offsets::outputs_of;
 ghost use mathlib.Core.Path.{_≡_};
 ghost use Rattle.encoding.specs.Rules.{headerRule};
 
-// Exactly as long as the counts say, and within the limits.
+// Are the words exactly as many as the counts say, and the counts within the limits?
 pub fn fits(words: &[u16]) -> bool
     ensures { λ r. ⌜ r ≡ headerRule (now (words .entry)) ⌝ }
 {

@@ -22,7 +22,7 @@ mod names;
 mod nevers;
 mod outputs;
 
-// The rules of the names and the never lines behind a header of n inputs and l lines.
+// Do the names and the never lines keep their rules, behind a header of n inputs and l lines?
 fn front_fits(words: &[u16], n: usize, l: usize) -> bool
     requires { ⌜ n ≤ maxInputs ⌝ }
     requires { ⌜ l ≤ maxNevers ⌝ }
@@ -34,7 +34,7 @@ fn front_fits(words: &[u16], n: usize, l: usize) -> bool
     nevers::fit(words, n, offsets::nevers_at(n), l)
 }
 
-// The rules of all parts, behind a header of m gates and k outputs as well.
+// Do all parts keep their rules, behind a header of n inputs, l never lines, m gates and k outputs?
 fn parts_fit(words: &[u16], n: usize, l: usize, m: usize, k: usize) -> bool
     requires { ⌜ n ≤ maxInputs ⌝ }
     requires { ⌜ l ≤ maxNevers ⌝ }
@@ -70,7 +70,7 @@ fn is_intact(words: &[u16]) -> bool
     parts_fit(words, n, l, m, k)
 }
 
-// Refusal 6: a slice of any length and content.
+// Refusal 6, of a slice of any length and content: is it a stored block?
 pub fn check_words(words: &[u16]) -> Test
     ensures { λ r. ⌜ r ≡ testOf (isMalformed (now (words .entry))) MalformedBlock ⌝ }
 {

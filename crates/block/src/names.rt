@@ -45,7 +45,7 @@ fn only_zeros(words: &[u16], at: usize, i: usize) -> bool
     true
 }
 
-// Name bytes, and then only zeros?
+// Do name bytes stand at the front, and only zeros behind them?
 fn is_padded(words: &[u16], at: usize) -> bool
     requires { ⌜ at ≤ maxWord ⌝ }
     ensures { λ r. ⌜ r ≡ padded (bytesAt (now (words .entry)) at) ⌝ }
@@ -72,7 +72,7 @@ fn is_legal(words: &[u16], at: usize) -> bool
     is_letter(byte_at(words, at, 0)) && is_padded(words, at)
 }
 
-// Of names `size` words apart from `at` on: do numbers i and j differ?
+// Of names that stand `size` words apart from `at` on: do numbers i and j differ?
 fn differ(words: &[u16], at: usize, size: usize, j: usize, i: usize) -> bool
     requires { ⌜ at ≤ placeRoom ⌝ }
     requires { ⌜ size ≤ 5 ⌝ }
@@ -110,7 +110,7 @@ fn is_legal_and_new(words: &[u16], at: usize, size: usize, j: usize) -> bool
     is_legal(words, at + size * j) && is_new(words, at, size, j)
 }
 
-// Are all legal, and none twice: `count` names from `at` on, `size` words apart.
+// Are `count` names from `at` on, `size` words apart, all legal and no two the same?
 pub fn fit(words: &[u16], at: usize, size: usize, count: usize) -> bool
     requires { ⌜ at ≤ placeRoom ⌝ }
     requires { ⌜ size ≤ 5 ⌝ }

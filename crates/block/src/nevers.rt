@@ -9,7 +9,7 @@ ghost use Rattle.layout.specs.Bounds.{maxWord, placeRoom};
 ghost use Rattle.encoding.specs.Rules.{neverRule};
 ghost use Rattle.block.specs.Steps.{neverRuleAt, neversRule};
 
-// The line whose two masks are at `at`.
+// Does the never line whose two masks are at `at` keep its rule?
 fn fits(words: &[u16], n: usize, at: usize) -> bool
     requires { ⌜ n ≤ maxInputs ⌝ }
     requires { ⌜ at ≤ maxWord ⌝ }
@@ -19,7 +19,7 @@ fn fits(words: &[u16], n: usize, at: usize) -> bool
     0 < fixed && are_masks(n, fixed, word_at(words, at + 1))
 }
 
-// Line i of those from `at` on.
+// Does never line i, of those from `at` on, keep its rule?
 fn fits_at(words: &[u16], n: usize, at: usize, i: usize) -> bool
     requires { ⌜ n ≤ maxInputs ⌝ }
     requires { ⌜ at ≤ placeRoom ⌝ }
@@ -29,7 +29,7 @@ fn fits_at(words: &[u16], n: usize, at: usize, i: usize) -> bool
     fits(words, n, at + NEVER_SIZE * i)
 }
 
-// All l lines.
+// Do all l never lines, from `at` on, keep their rule?
 pub fn fit(words: &[u16], n: usize, at: usize, l: usize) -> bool
     requires { ⌜ n ≤ maxInputs ⌝ }
     requires { ⌜ at ≤ placeRoom ⌝ }

@@ -18,7 +18,7 @@ fn fits(words: &[u16], nodes: usize, at: usize, o: usize) -> bool
     is_node(nodes, word_at(words, at + OUTPUT_SIZE * o + NAME_SIZE))
 }
 
-// All k outputs.
+// Do all k outputs, from `at` on, show a node?
 pub fn fit(words: &[u16], nodes: usize, at: usize, k: usize) -> bool
     requires { ⌜ at ≤ placeRoom ⌝ }
     requires { ⌜ k ≤ maxOutputs ⌝ }

@@ -1,5 +1,6 @@
--- The whole way to the lookup-cell board (SPECIFICATION 7.16), as one statement: a block is rendered, its rendering is made into cells, the
--- cells are run, and the outputs show what the original's show. `whole-way` in proofs/Driven.antt shows it of every block that Render renders.
+-- The whole way to the lookup-cell board (SPECIFICATION 7.16), as one statement: a block is rendered, its rendering is
+-- made into cells, the cells are run, and the outputs show what the original's show. `whole-way` in proofs/Driven.antt
+-- shows it of every block that Render renders.
 use Prim.Native.Nat.{ℕ, _≤_, _<_}
 use mathlib.Core.Path.{_≡_}
 use mathlib.Core.Bool.{true, false}
@@ -20,16 +21,16 @@ bytesOfSetting n s = map code (settingOf n s)
 unfoldable pub shownByte : List ℕ → List ℕ → Output → ℕ
 shownByte setting values o = operandBit setting values (o .node)
 
--- Under setting number s of the block of `ws`: a run of the cells is done, and its values, read through the output nodes of the block of `out`,
--- are the values of the settled original's outputs, output by output.
+-- Under setting number s of the block of `ws`: a run of the cells is done, and its values, read through the output
+-- nodes of the block of `out`, are the values of the settled original's outputs, output by output.
 pub record ShowsAt (ws out cells : List ℕ) (s : ℕ) : Type 0 where
   pub runs : (room : ℕ) → cellCount cells ≤ room → let n = inputCount (decode ws) in
       runCells n cells (bytesOfSetting n s) room ≡ done (cellValues n cells (bytesOfSetting n s)) (cellCount cells) 0
   pub outputs : let n = inputCount (decode ws) in
       map (shownByte (bytesOfSetting n s) (cellValues n cells (bytesOfSetting n s))) (decode out .outputs) ≡ map code (outputsUnder (decode ws) s)
 
--- The original's words `ws`, its rendering's words `out`, and the `cells` made of these: the inputs and the ports are the original's, a run
--- takes the cells, and every setting that isn't excluded shows the original's outputs.
+-- The original's words `ws`, its rendering's words `out`, and the `cells` made of these: the inputs and the ports are
+-- the original's, a run takes the cells, and every setting that isn't excluded shows the original's outputs.
 pub record Drives (ws out cells : List ℕ) : Type 0 where
   pub sameInputs : decode out .inputs ≡ decode ws .inputs
   pub samePorts : map portOf (decode out .outputs) ≡ map portOf (decode ws .outputs)

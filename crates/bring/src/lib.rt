@@ -16,12 +16,12 @@ ghost use Rattle.netlist.specs.Answers.{Promise};
 ghost use Rattle.refusals.specs.Tests.{testOf};
 ghost use Rattle.netlist.specs.Bring.{maxInputsBefore, brought, isMalformedBefore, bring as bringOf};
 
-// The counts at the head of such a block, and the most inputs that it had.
+// How many counts stood at the head of a block before there were never lines, and the most inputs that it had.
 const COUNTS_BEFORE: usize = 3;
 
 const MAX_INPUTS_BEFORE: usize = 10;
 
-// Word p of the four counts of the block of today.
+// Word p of the four counts that the block of today begins with.
 fn brought_count(old: &[u16], p: usize) -> u16
     requires { ⌜ (3 ≤ length (now old)) × (p ≤ 3) ⌝ }
     ensures { λ r. ⌜ r ≡ getD (brought (now (old .entry))) p 0 ⌝ }
@@ -29,7 +29,7 @@ fn brought_count(old: &[u16], p: usize) -> u16
     if p < COUNTS_BEFORE { old[p] } else { 0 }
 }
 
-// The four counts.
+// Writes the four counts of the block of today.
 fn put_counts(old: &[u16], block: &mut [u16])
     requires { ⌜ (3 ≤ length (now old)) × (length (now old) < length (now block)) ⌝ }
     ensures { λ r. ⌜ now (block .exit) ≡ placed (tab (λ p. getD (brought (now (old .entry))) p 0) 4) (now (block .entry)) ⌝ }
@@ -41,7 +41,8 @@ fn put_counts(old: &[u16], block: &mut [u16])
     }
 }
 
-// All words. Behind the counts they are the old ones, each a place further on: a loop of its own, which moves many at a time.
+// Writes all words of the block of today. Behind the counts they are the old ones, each one place further on: a loop of
+// its own, which moves many at a time.
 fn put_brought(old: &[u16], block: &mut [u16])
     requires { ⌜ (3 ≤ length (now old)) × (length (now old) < length (now block)) ⌝ }
     ensures { λ r. ⌜ now (block .exit) ≡ placed (brought (now (old .entry))) (now (block .entry)) ⌝ }
@@ -55,7 +56,7 @@ fn put_brought(old: &[u16], block: &mut [u16])
     }
 }
 
-// 6 of words that fit, by the rules of today for the words of today.
+// Refusal 6 for words that have room in a block: the words of today that they become keep the rules of today.
 fn check_brought(old: &[u16], words: &mut [u16]) -> Test
     requires { ⌜ (3 ≤ length (now old)) × (length (now old) < length (now words)) ⌝ }
     requires { ⌜ getD (now old) 0 0 ≤ maxInputsBefore ⌝ }
@@ -65,7 +66,7 @@ fn check_brought(old: &[u16], words: &mut [u16]) -> Test
     check_words(&words[..old.len() + 1])
 }
 
-// 6, by the rules that held before.
+// Refusal 6 by the rules that held before there were never lines.
 fn check_before(old: &[u16]) -> Test
     ensures { λ r. ⌜ r ≡ testOf (isMalformedBefore (now (old .entry))) MalformedBlock ⌝ }
 {
@@ -82,7 +83,7 @@ fn check_before(old: &[u16]) -> Test
     check_brought(old, &mut words)
 }
 
-// Bring (6, 11): the words with a fourth count, 0; count: words.
+// Bring, a migration (6, 11): the words with a fourth count, 0, put in; count: words.
 pub fn bring(old: &[u16], block: &mut [u16]) -> Answer
     ensures { λ r. ⌜ Promise (bringOf (now (old .entry)) (length (now (block .entry)))) (now (block .entry)) r (now (block .exit)) ⌝ }
 {

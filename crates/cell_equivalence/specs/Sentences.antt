@@ -1,7 +1,9 @@
--- What an answer of CompareCells (SPECIFICATION 7.19) says of a block's words, of cells, and of the list of the nodes that show its outputs, as sentences over
--- settings and outputs. proofs/ shows each of them of every list of words, with no condition on who made the cells.
+-- What an answer of CompareCells (SPECIFICATION 7.19) says of a block's words, of cells, and of the list of the nodes
+-- that show its outputs, as sentences over settings and outputs. proofs/ shows each of them of every list of words,
+-- with no condition on who made the cells.
 --   Fits              no condition of refusal holds
---   AnswersBy         accepted exactly where all outputs agree; another answer is the lowest disagreement, and exactly that
+--   AnswersBy         accepted exactly where all outputs agree; another answer is the lowest disagreement, and exactly
+--                     that
 --   listOf            a rendering's own list: the nodes that its outputs show
 --   MadeIsAccepted    what Cells makes of what Render makes is accepted, with that list
 --   AgreeWith         two tables show the same under every setting that counts
@@ -25,10 +27,12 @@ pub record Fits (ws cells shown : List ℕ) : Type 0 where
   pub listed : (o : ℕ) → o < length shown → getD shown o 0 < inputCount (decode ws) + cellCount cells
 
 pub record AnswersBy (ws cells shown : List ℕ) : Type 0 where
-  -- accepted exactly where nothing is refused and under every setting that counts each listed node shows its output's value
+  -- accepted exactly where nothing is refused and under every setting that counts each listed node shows its output's
+  -- value
   pub accepted : Fits ws cells shown → AcceptsCells (decode ws) cells shown → compareCells ws cells shown ≡ done [] 0 0
   pub says : compareCells ws cells shown ≡ done [] 0 0 → Fits ws cells shown × AcceptsCells (decode ws) cells shown
-  -- any other count and detail are the lowest setting and there the lowest output, counted from 1, and these are always told
+  -- any other count and detail are the lowest setting and there the lowest output, counted from 1, and these are always
+  -- told
   pub lowest : (s o : ℕ) → compareCells ws cells shown ≡ done [] (o + 1) s → Fits ws cells shown × CellDisagreement (decode ws) cells shown s o
   pub told : (s o : ℕ) → Fits ws cells shown → CellDisagreement (decode ws) cells shown s o → compareCells ws cells shown ≡ done [] (o + 1) s
 

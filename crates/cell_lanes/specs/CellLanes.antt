@@ -1,4 +1,5 @@
--- The words of all places in a batch of settings. Cited by whoever evaluates cells. Assumes nothing.
+-- The words of all places in a batch of settings: bit-parallel simulation of lookup tables. Cited by whoever evaluates
+-- cells. Assumes nothing.
 --   Carries        a word with the bits of a value under each setting
 --   placeBit       the bit of what stands at a place, in a run of the cells
 --   inputWord, cellWordAt   the word of an input, and of a cell from those of its operands
@@ -19,12 +20,13 @@ use Rattle.lanes.specs.Batches.{lanesOf, pattern}
 use Rattle.graph.specs.Places.{firstInput, firstGate, placeCount, operandAt}
 use Rattle.cell_lanes.specs.Choices.{cellWord}
 
--- of a batch of so many settings from number `base` on: bit s is the value under setting base + s, and no bit stands past the last lane
+-- bit s of the word is the value under setting base + s, for a batch of so many settings from number `base` on, and no
+-- bit stands past the last lane
 pub record Carries (lanes base : ℕ) (value : ℕ → ℕ) (word : ℕ) : Type 0 where
   pub within : word < 2 ^ lanes
   pub each : (s : ℕ) → s < lanes → bit word s ≡ value (base + s)
 
--- under setting number t of n inputs
+-- the bit of what stands at a place under setting number t of n inputs, in a run of the cells
 unfoldable pub placeBit : ℕ → List Cell → ℕ → ℕ → ℕ
 placeBit n cs p t = operandBit (settingBits n t) (runFrom (settingBits n t) [] cs) (operandAt p)
 

@@ -1,6 +1,8 @@
--- A choice among the bits of a truth word, at each lane of a batch. Cited by the contracts of `choice`. Assumes nothing.
+-- A choice among the bits of a truth word, at each lane of a batch. Cited by the contracts of `choice`. Assumes
+-- nothing.
 --   choiceWord    at each lane one of two words' bits
---   twoWord, fourWord, cellWord   of two, of four and of all sixteen bits the one that one, two and four operands choose
+--   twoWord, fourWord, cellWord   of two, of four and of all sixteen bits the one that one, two and four operands
+--                                 choose
 use Prim.Native.Nat.{ℕ, _+_, _/_, _%_, _^_}
 use mathlib.Core.List.{[], _∷_}
 use lib.Bits.{bitAnd, bitXor}
@@ -9,7 +11,8 @@ use lib.ListN.{getD}
 unfoldable pub choiceWord : ℕ → ℕ → ℕ → ℕ
 choiceWord low high by = bitXor low (bitAnd (bitXor low high) by)
 
--- by the two bits at `at`: none, the lower, the upper, both; `used` has a bit at each lane in use
+-- the word of two truth bits, at `at` and behind it, of which `a` chooses at each lane: none, the lower, the upper,
+-- both; `used` has a bit at each lane in use
 unfoldable pub twoWord : ℕ → ℕ → ℕ → ℕ → ℕ
 twoWord used truth a at = getD (0 ∷ bitXor used a ∷ a ∷ used ∷ []) (truth / 2 ^ at % 4) 0
 

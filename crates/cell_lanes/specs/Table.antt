@@ -1,8 +1,9 @@
--- Cells decoded once: five words a cell, the places of its operands and its truth word, and behind them all the number of cells. Cited by whoever evaluates
--- cells. Assumes nothing.
+-- Cells decoded once: five words a cell, the places of its operands and its truth word, and behind them all the number
+-- of cells. Cited by whoever evaluates cells. Assumes nothing.
 --   tableWord, countIn          a word of the table, from the cells' words; how many cells it holds
 --   cellIn, tableCells          the cells that a table holds
---   CellPlaces, EarlierPlaces   the places of a cell's operands are below a number; each cell reads earlier places alone
+--   CellPlaces, EarlierPlaces   the places of a cell's operands are below a number; each cell reads earlier places
+--                               alone
 --   Tabled, CellTable           the first words of a table of legal cells; all of it
 use Prim.Native.Nat.{ℕ, _+_, _*_, _%_, _≤_, _<_}
 use mathlib.Core.Path.{_≡_}

@@ -1,5 +1,5 @@
-// One cell under a batch of settings: of the sixteen bits of its truth word, at each lane the one that its operands choose. `used` has a bit at each lane in
-// use.
+// One cell under a batch of settings, as a tree of multiplexers: of the sixteen bits of its truth word, at each lane
+// the one that its operands choose (Shannon's expansion). `used` has a bit at each lane in use.
 ghost use mathlib.Core.Path.{_≡_};
 ghost use Prim.Native.Nat.{_≤_};
 ghost use Rattle.cell_lanes.specs.Choices.{choiceWord, twoWord, fourWord, cellWord};
@@ -20,7 +20,7 @@ fn choose_of_two(used: u64, truth: usize, a: u64, at: usize) -> u64
     words[(truth >> at) % 4]
 }
 
-// Of the four bits from `at` on the one that `a` and `b` choose.
+// Of the truth word's four bits from `at` on the one that `a` and `b` choose.
 fn choose_of_four(used: u64, truth: usize, a: u64, b: u64, at: usize) -> u64
     requires { ⌜ at ≤ 12 ⌝ }
     ensures { λ r. ⌜ r ≡ fourWord used truth a b at ⌝ }
@@ -32,7 +32,7 @@ fn choose_of_four(used: u64, truth: usize, a: u64, b: u64, at: usize) -> u64
     )
 }
 
-// Of all sixteen the one that the four operands choose.
+// Of all sixteen bits of the truth word the one that the four operands choose.
 pub fn cell_word(used: u64, truth: usize, a: u64, b: u64, c: u64, d: u64) -> u64
     ensures { λ r. ⌜ r ≡ cellWord used truth a b c d ⌝ }
 {

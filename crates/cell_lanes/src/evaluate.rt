@@ -20,7 +20,7 @@ ghost use Rattle.graph.specs.Places.{placeCount};
 ghost use Rattle.cell_lanes.specs.Table.{tableSize, countIn, CellPlaces, EarlierPlaces, tableCells};
 ghost use Rattle.cell_lanes.specs.CellLanes.{inputWord, cellWordAt, InputsIn, Evaluated};
 
-// The word of input `i` of n; 0 behind the last.
+// The word of input `i` of n under the settings from `base` on; 0 behind the last input.
 fn input_word(n: usize, base: usize, i: usize) -> u64
     requires { ⌜ i < maxInputs ⌝ }
     ensures { λ r. ⌜ r ≡ inputWord n base i ⌝ }
@@ -31,7 +31,7 @@ fn input_word(n: usize, base: usize, i: usize) -> u64
     0
 }
 
-// The constants and the inputs.
+// Writes the words of the constants and of the inputs at their places.
 fn put_inputs(n: usize, base: usize, nodes: &mut [u64; PLACES])
     requires { ⌜ (n ≤ maxInputs) × (base % 64 ≡ 0) × (length (now nodes) ≡ placeCount) ⌝ }
     ensures { λ r. ⌜ InputsIn n base (now (nodes .exit)) ⌝ }
@@ -66,7 +66,7 @@ fn cell_word_at(used: u64, table: &[u16; TABLE_WORDS], j: usize, nodes: &[u64; P
     cell_word(used, table[at + OPERAND_WORDS] as usize, a, b, c, d)
 }
 
-// All of them: the table's cells under the settings from `base` on.
+// Writes the word of every place: the constants, the inputs, and the table's cells under the settings from `base` on.
 pub fn evaluate_cells(n: usize, base: usize, table: &[u16; TABLE_WORDS], nodes: &mut [u64; PLACES])
     requires { ⌜ (n ≤ maxInputs) × (base % 64 ≡ 0) × EarlierPlaces (now table) ⌝ }
     requires { ⌜ length (now nodes) ≡ placeCount ⌝ }

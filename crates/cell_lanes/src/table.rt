@@ -1,5 +1,5 @@
-// Cells decoded once: five words a cell, the places of its four operands (crates/graph/specs/Places.antt) and its truth word, and behind them all the number
-// of cells.
+// Cells decoded once: five words a cell, the places of its four operands (crates/graph/specs/Places.antt) and its truth
+// word, and behind them all the number of cells.
 use cells::CELL_SIZE;
 use graph::place_of;
 use layout::limits::MAX_GATES;

@@ -9,7 +9,7 @@ use Rattle.netlist.specs.Kinds.{isKind, arityFits}
 use Rattle.netlist.specs.StoredBlock.{gateAt}
 use Rattle.netlist.specs.Cells.{truthWord, cellWords}
 
--- a gate's first word: a kind, and a count that the kind allows
+-- a gate's first word holds a kind, and a count that the kind allows
 pub record GateHead (head : ℕ) : Type 0 where
   pub kind : isKind (head % 8) ≡ true
   pub count : arityFits (head % 8) (head / 8) ≡ true

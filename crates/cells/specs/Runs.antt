@@ -3,11 +3,11 @@ use mathlib.Core.List.{List}
 use Prim.Native.Nat.{ℕ, _≤_}
 use lib.ListN.{getD}
 
--- no number is above 1; past the end there are zeros
+-- a list of bits: no number is above 1; past the end there are zeros
 abbrev pub Bits : List ℕ → Type 0
 Bits vs = (i : ℕ) → getD vs i 0 ≤ 1
 
--- of the setting, and of the values found so far
+-- the setting and the values found so far are lists of bits
 pub record ReadsBits (setting found : List ℕ) : Type 0 where
   pub ofSetting : Bits setting
   pub ofFound : Bits found

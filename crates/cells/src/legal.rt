@@ -33,7 +33,7 @@ fn reads_earlier(inputs: usize, cells: &[u16], j: usize) -> bool
     true
 }
 
-// Each of the first `count` cells.
+// Does each of the first `count` cells read only inputs, constants and earlier cells?
 fn all_read_earlier(inputs: usize, cells: &[u16], count: usize) -> bool
     requires { ⌜ (inputs ≤ maxInputs) × (count ≤ maxGates) ⌝ }
     ensures { λ r. ⌜ r ≡ all (readsEarlier inputs (now (cells .entry))) (upTo count) ⌝ }
@@ -48,7 +48,7 @@ fn all_read_earlier(inputs: usize, cells: &[u16], count: usize) -> bool
     true
 }
 
-// Few enough inputs and cells, none of them cut off, and no operand that is not there yet?
+// Are these legal cells: few enough inputs and cells, none of them cut off, and no operand that is not there yet?
 fn are_legal(inputs: usize, cells: &[u16]) -> bool
     ensures { λ r. ⌜ r ≡ areLegalCells inputs (now (cells .entry)) ⌝ }
 {
@@ -65,7 +65,7 @@ fn are_legal(inputs: usize, cells: &[u16]) -> bool
     all_read_earlier(inputs, cells, length / CELL_SIZE)
 }
 
-// Refusal 6: any number of inputs, and a slice of any length and content.
+// Refusal 6 of a run, of any number of inputs and a slice of any length and content: are these cells?
 pub fn check_cells(inputs: usize, cells: &[u16]) -> Test
     ensures { λ r. ⌜ r ≡ testOf (not (areLegalCells inputs (now (cells .entry)))) MalformedBlock ⌝ }
 {

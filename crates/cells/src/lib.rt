@@ -1,4 +1,5 @@
-// Lookup cells (SPECIFICATION 7.15, 7.16): making cells from a straight block, and running cells, which may have been made elsewhere.
+// Lookup cells, the field's lookup tables (LUTs) of four operands (SPECIFICATION 7.15, 7.16): making cells from a
+// straight block, and running cells, which may have been made elsewhere.
 use layout::offsets::OPERAND_WORDS;
 
 pub mod legal;

@@ -1,4 +1,4 @@
-// Cells (SPECIFICATION 7.15).
+// Cells (SPECIFICATION 7.15): a straight block's gates as lookup cells, one each.
 use crate::CELL_SIZE;
 use crate::truth::truth_word;
 use block::check_straight;
@@ -24,7 +24,8 @@ ghost use Rattle.ternary.specs.Legal.{LegalHead};
 ghost use Rattle.cells.specs.Made.{cellWordAt};
 ghost use Rattle.cells.specs.Promise.{CellsPromise};
 
-// Word i of the cell of the gate whose words start at `at`: an operand as in the block, constant 0 where there is none, or the truth word.
+// Word i of the cell of the gate whose words start at `at`: an operand as in the block, constant 0 where there is none,
+// or the truth word.
 fn cell_word(words: &[u16], at: usize, i: usize) -> u16
     requires { ⌜ LegalHead (now words) at ⌝ }
     requires { ⌜ (at + operandWords < length (now words)) × (i < cellSize) ⌝ }
@@ -40,7 +41,7 @@ fn cell_word(words: &[u16], at: usize, i: usize) -> u16
     CONSTANT_0 as u16
 }
 
-// Word p of all cells.
+// Word p of the cells of all gates, one cell after the other.
 fn made_word(words: &[u16], p: usize) -> u16
     requires { ⌜ isMalformed (now words) ≡ false ⌝ }
     requires { ⌜ p < cellSize * getD (now words) 1 0 ⌝ }
@@ -53,7 +54,7 @@ fn made_word(words: &[u16], p: usize) -> u16
     )
 }
 
-// All of them into the first words of `cells`.
+// Writes the first `count` words of the block's cells into `cells`.
 fn put_cells(words: &[u16], count: usize, cells: &mut [u16])
     requires { ⌜ isMalformed (now words) ≡ false ⌝ }
     requires { ⌜ (count ≡ cellSize * getD (now words) 1 0) × (count ≤ length (now cells)) ⌝ }
@@ -66,7 +67,8 @@ fn put_cells(words: &[u16], count: usize, cells: &mut [u16])
     }
 }
 
-// Cells (6, 10, 11): a cell for each gate of a straight block, in the same order; count: words. A run of them gives Pass's values.
+// Cells (6, 10, 11): a cell for each gate of a straight block, in the same order; count: words. A run of them gives
+// Pass's values.
 pub fn make_cells(words: &[u16], cells: &mut [u16]) -> Answer
     ensures { λ r. ⌜ CellsPromise (now (words .entry)) (now (cells .entry)) r (now (cells .exit)) ⌝ }
 {

@@ -1,4 +1,4 @@
-// Run (SPECIFICATION 7.16).
+// Run (SPECIFICATION 7.16): lookup cells evaluated once each, in order.
 use crate::CELL_SIZE;
 use crate::legal::check_cells;
 use crate::value::cell_value;
@@ -19,7 +19,7 @@ ghost use Rattle.cells.specs.Runs.{Bits};
 // The highest byte of a setting: a cell has two values.
 const MOST: u8 = 1;
 
-// Each cell once, in order, from the setting and the values that this run has found so far.
+// Evaluates each cell once, in order, from the setting and the values that this run has found so far.
 fn run_each(inputs: usize, cells: &[u16], count: usize, setting: &[u8], values: &mut [u8])
     requires { ⌜ (count ≡ cellCount (now cells)) × (count ≤ maxGates) × (count ≤ length (now values)) ⌝ }
     requires { ⌜ Bits (now setting) ⌝ }

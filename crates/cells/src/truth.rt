@@ -1,5 +1,5 @@
-// The truth words of all kinds and operand counts. Bit b of a word is what the kind gives when operand i is bit i of b; the bits behind the last
-// operand play no part.
+// The truth words of all kinds and operand counts. Bit b of a word is what the kind gives when operand i is bit i of b;
+// the bits behind the last operand play no part.
 ghost use mathlib.Core.Path.{_≡_};
 ghost use Prim.Native.Nat.{_/_, _%_};
 ghost use Rattle.netlist.specs.Cells.{truthWord};
@@ -48,7 +48,7 @@ const TRUTH_WORDS: [u16; 39] = [
     0x9669, // xnor of 4
 ];
 
-// The table, as one value.
+// The table of truth words, as one value: an array constant is read through a function.
 fn truth_words() -> [u16; 39]
     ensures { λ r. ⌜ r ≡ truthWords ⌝ }
 {

@@ -12,7 +12,7 @@ ghost use Rattle.netlist.specs.Cells.{cellAt, operandBit, cellValue};
 ghost use Rattle.layout.specs.Bounds.{countRoom};
 ghost use Rattle.cells.specs.Runs.{ReadsBits};
 
-// The bit of the operand that `word` stands for among n inputs.
+// The bit of the operand that `word` stands for, among n inputs, from the setting and the values found so far.
 fn operand_bit(word: usize, n: usize, setting: &[u8], found: &[u8]) -> u8
     ensures { λ r. ⌜ r ≡ operandBit (now (setting .entry)) (now (found .entry)) (operandOf n word) ⌝ }
 {
@@ -26,7 +26,7 @@ fn operand_bit(word: usize, n: usize, setting: &[u8], found: &[u8]) -> u8
     }
 }
 
-// The same of operand `place` of the cell at `at`.
+// The bit of operand `place` of the cell at `at`.
 fn bit_at(cells: &[u16], n: usize, at: usize, place: usize, setting: &[u8], found: &[u8]) -> usize
     requires { ⌜ (at < countRoom) × (place < operandWords) ⌝ }
     ensures { λ r. ⌜ r ≡ operandBit (now (setting .entry)) (now (found .entry)) (operandOf n (getD (now (cells .entry)) (at + place) 0)) ⌝ }

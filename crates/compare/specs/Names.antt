@@ -6,6 +6,6 @@ use Rattle.laws.specs.Lists.{all, upTo}
 use Rattle.netlist.specs.StoredBlock.{nameSize}
 use Rattle.layout.specs.Names.{sameWordAt}
 
--- all words of names number i, `size` words apart, are the same
+-- names number i of both blocks, which stand `size` words apart, are the same in all their words
 abbrev pub sameNameAt : List ℕ → ℕ → List ℕ → ℕ → ℕ → ℕ → Bool
 sameNameAt ws at vs other size i = all (sameWordAt ws (at + size * i) vs (other + size * i)) (upTo nameSize)

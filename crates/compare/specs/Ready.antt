@@ -1,4 +1,5 @@
--- What comparing asks of two blocks, and what a batch of settings holds. Cited by the contracts of this crate. Assumes nothing.
+-- What comparing asks of two blocks, and what a batch of settings holds. Ours is the original and may have loops;
+-- theirs is straight. Cited by the contracts of this crate. Assumes nothing.
 use Prim.Native.Nat.{ℕ}
 use mathlib.Core.Path.{_≡_}
 use mathlib.Core.Bool.{true, false}
@@ -17,13 +18,13 @@ pub record BlockPair (ours theirs : List ℕ) : Type 0 where
   pub inputs : getD theirs 0 0 ≡ getD ours 0 0
   pub outputs : getD theirs 2 0 ≡ getD ours 2 0
 
--- ours is planned, and theirs decoded
+-- the plan of our block (graph and layers) and the graph of theirs are made
 pub record CompareReady (ours theirs graph order ends theirGraph : List ℕ) : Type 0 where
   pub pair : BlockPair ours theirs
   pub plan : Planned ours graph order ends
   pub theirPlan : StraightPlanned theirs theirGraph
 
--- the lanes hold the settled values of both in the batch at `base`
+-- the lanes hold the settled values of both blocks in the batch at `base`
 pub record BothJudged (ours theirs : List ℕ) (base : ℕ) (w others : List ℕ) : Type 0 where
   pub pair : BlockPair ours theirs
   pub our-values : Judged ours (getD ours 0 0) base w

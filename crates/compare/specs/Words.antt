@@ -1,4 +1,5 @@
--- Where two blocks show other values, as words with a bit at each lane of a batch. Cited by the contracts of `outputs`. Assumes nothing.
+-- Where two blocks show other values, as words with a bit at each lane of a batch. Cited by the contracts of `outputs`.
+-- Assumes nothing.
 --   differingIn                       a bit in one of two pairs alone
 --   differingWord, differingWords     at an output; at one of the first outputs
 --   differsAt                         the output's bit of one lane
@@ -17,7 +18,7 @@ differingIn p q = bitOr (bitXor (p .zeros) (q .zeros)) (bitXor (p .ones) (q .one
 
 -- the words of ours and of theirs, both of n inputs, and the pairs of both blocks' inputs and gates
 module _ (ours theirs : List ℕ) (n : ℕ) (w others : List ℕ) where
-  -- the pair of output o
+  -- the pair of words, a bit at 0 and a bit at 1, of what output o shows
   unfoldable pub portPair : List ℕ → List ℕ → ℕ → Pair
   portPair ws v o = outputPair ws (outputsAt (getD ws 0 0) (getD ws 3 0) (getD ws 1 0)) n v o
 

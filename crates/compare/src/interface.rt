@@ -1,4 +1,5 @@
-// Refusal 12: do two blocks have the same input names and the same ports, in the same order? Names are compared word by word.
+// Refusal 12, the interface: do two blocks have the same input names and the same ports, in the same order? Names are
+// compared word by word.
 use layout::names::is_same;
 use layout::offsets::INPUTS_AT;
 use layout::offsets::NAME_SIZE;
@@ -21,7 +22,7 @@ ghost use Rattle.netlist.specs.Compare.{sameInterface};
 ghost use Rattle.layout.specs.Bounds.{placeRoom};
 ghost use Rattle.compare.specs.Names.{sameNameAt};
 
-// Names `size` words apart: are the first `count` of ours those of theirs, one by one?
+// Are the first `count` names of ours those of theirs, one by one? Names stand `size` words apart.
 fn are_same(
     ours: &[u16],
     at: usize,
@@ -46,7 +47,7 @@ fn are_same(
     true
 }
 
-// The same number of inputs and of outputs, and the same names?
+// Do two blocks have the same number of inputs and of outputs, and the same names?
 fn has_interface(ours: &[u16], theirs: &[u16]) -> bool
     requires { ⌜ isMalformed (now ours) ≡ false ⌝ }
     requires { ⌜ isMalformed (now theirs) ≡ false ⌝ }

@@ -1,4 +1,5 @@
-// Compare (SPECIFICATION 7.13): is a loop-free block that was made elsewhere as good as the original?
+// Compare (SPECIFICATION 7.13), an equivalence check by exhaustive simulation: is a loop-free block that was made
+// elsewhere as good as the original?
 use block::check_straight;
 use block::check_words;
 use graph::GRAPH_WORDS;
@@ -17,7 +18,8 @@ pub mod interface;
 pub mod outputs;
 pub mod settings;
 
-// Both blocks passed the tests: room for a plan of ours, a graph of theirs, and two words a place of each.
+// Compare of two blocks that passed the tests: makes room for a plan of ours, a graph of theirs, and two words a place
+// of each.
 fn compare_pair(ours: &[u16], theirs: &[u16]) -> Answer
     requires { ⌜ BlockPair (now ours) (now theirs) ⌝ }
     ensures { λ r. ⌜ r ≡ answerOf (compareBlocks (decode (now (ours .entry))) (decode (now (theirs .entry)))) ⌝ }
@@ -40,8 +42,8 @@ fn compare_pair(ours: &[u16], theirs: &[u16]) -> Answer
     )
 }
 
-// Compare (6, 10, 12): accepted with count and detail 0, or the lowest settled setting with another value at an output, and the lowest such
-// output plus 1.
+// Compare (6, 10, 12): accepted with count and detail 0, or the lowest settled setting with another value at an output,
+// and the lowest such output plus 1.
 pub fn compare(ours: &[u16], theirs: &[u16]) -> Answer
     ensures { λ r. ⌜ Told (compareOf (now (ours .entry)) (now (theirs .entry))) r ⌝ }
 {

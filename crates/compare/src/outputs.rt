@@ -1,4 +1,5 @@
-// Where the outputs of two blocks of n inputs differ, from the pairs of each block in a batch: `lanes` of ours, `others` of theirs.
+// Where the outputs of two blocks of n inputs differ, from the pairs of each block in a batch: `lanes` of ours,
+// `others` of theirs.
 use judge::outputs::output_pair;
 use lanes::LANE_WORDS;
 use layout::offsets::outputs_at;
@@ -10,7 +11,7 @@ ghost use Rattle.laws.specs.Lists.{least};
 ghost use Rattle.compare.specs.Ready.{BlockPair};
 ghost use Rattle.compare.specs.Words.{differingWord, differingWords, differsAt};
 
-// Where output `o` shows another value in theirs.
+// The lanes at which output `o` shows another value in theirs.
 fn differing_lanes(
     ours: &[u16],
     theirs: &[u16],
@@ -27,7 +28,7 @@ fn differing_lanes(
     (shown.zeros ^ other.zeros) | (shown.ones ^ other.ones)
 }
 
-// Where some output does.
+// The lanes at which some output shows another value in theirs.
 pub fn any_differing(
     ours: &[u16],
     theirs: &[u16],

@@ -1,5 +1,5 @@
-// The search for the lowest setting under which two blocks disagree, a batch of up to 64 at a time. Ours is decided by its plan in `lanes`, theirs, which is
-// straight, gate by gate in `others`.
+// The search for the lowest setting under which two blocks disagree, a batch of up to 64 at a time. Ours is decided by
+// its plan in `lanes`, theirs, which is straight, gate by gate in `others`.
 use crate::outputs::any_differing;
 use crate::outputs::lowest_differing;
 use batch::plan::plan_block;
@@ -44,7 +44,7 @@ fn disagreeing_lanes(
     counted_lanes(ours, n, base, lanes) & any_differing(ours, theirs, n, lanes, others)
 }
 
-// The batches in ascending order, up to the first disagreement: the lowest lane, and there the lowest output.
+// Goes over the batches in ascending order, up to the first disagreement: its lowest lane, and there the lowest output.
 fn search_settings(
     ours: &[u16],
     theirs: &[u16],
@@ -83,7 +83,7 @@ fn search_settings(
     }
 }
 
-// The same, with room for a plan of ours, a graph of theirs, and two words a place of each.
+// The search over all settings, with room lent for a plan of ours, a graph of theirs, and two words a place of each.
 pub fn compare_with(
     ours: &[u16],
     theirs: &[u16],

@@ -1,4 +1,5 @@
--- What the search over all settings tells, whichever cells the table is of. Cited by `settings`. Assumes nothing.
+-- What the search over all settings tells, whichever cells the table is of. Cited by
+-- crates/compare_cells/src/settings.rt. Assumes nothing.
 --   Agreed      no setting below a number disagrees
 --   Found       the answer
 use mathlib.Core.Path.{_≡_}

@@ -1,10 +1,11 @@
--- Where a block and the listed nodes show other values, as words with a bit at each lane of a batch. Cited by the contracts of `outputs` and `settings`.
--- Assumes nothing.
+-- Where a block and the listed nodes show other values, as words with a bit at each lane of a batch. Cited by the
+-- contracts of `outputs` and `settings`. Assumes nothing.
 --   shownWord                        the word of the node listed for an output
 --   differingIn                      a pair's lanes at which it has not the value of a word's bit
 --   differingWord, differingWords    at an output; at one of the first outputs
 --   differsAt                        the output's bit of one lane
---   Listed, Marks                    cells that have the listed nodes; a word that marks the lanes at which they disagree
+--   Listed, Marks                    cells that have the listed nodes; a word that marks the lanes at which they
+--                                    disagree
 use Prim.Native.Nat.{ℕ, zero, suc, _+_, _^_, _≤_, _<_}
 use mathlib.Core.Bool.{Bool}
 use mathlib.Core.List.{List}
@@ -46,7 +47,8 @@ module _ (ws shown lanes nodes : List ℕ) where
 abbrev pub Listed : List ℕ → List ℕ → List ℕ → Type 0
 Listed ws shown cells = (o : ℕ) → o < getD ws 2 0 → getD shown o 0 < getD ws 0 0 + cellCount cells
 
--- whichever cells `nodes` has the words of in the batch at `base`
+-- a word that marks the lanes at which the block and the cells disagree, whichever cells `nodes` has the words of in
+-- the batch at `base`
 pub record Marks (ws shown : List ℕ) (base : ℕ) (nodes : List ℕ) (word : ℕ) : Type 0 where
   pub within : word < 2 ^ 64
   pub tells : (cells : List ℕ) → cellCount cells ≤ maxGates → Listed ws shown cells

@@ -1,4 +1,5 @@
-// CompareCells (SPECIFICATION 7.19): are lookup cells that were made elsewhere as good as the original block?
+// CompareCells (SPECIFICATION 7.19), an equivalence check by exhaustive simulation: are lookup cells that were made
+// elsewhere as good as the original block?
 use batch::plan::plan_block;
 use block::check_words;
 use cell_lanes::table::TABLE_WORDS;
@@ -23,7 +24,8 @@ pub mod list;
 pub mod outputs;
 pub mod settings;
 
-// The block is planned: room for the cells' table, for two words a place of the block, and for one a place of the cells.
+// CompareCells of a block whose plan is made: room for the cells' table, for two words a place of the block, and for
+// one a place of the cells.
 fn compare_planned(
     words: &[u16],
     cells: &[u16],
@@ -51,7 +53,7 @@ fn compare_planned(
     )
 }
 
-// All tests were passed: room for the block's plan.
+// CompareCells when all tests were passed: makes room for the block's plan.
 fn compare_passed(words: &[u16], cells: &[u16], shown: &[u16]) -> Answer
     requires { ⌜ Comparable (now words) (now cells) (now shown) ⌝ }
     ensures { λ r. ⌜ r ≡ answerOf (compareBlockCells (decode (now (words .entry))) (now (cells .entry)) (now (shown .entry))) ⌝ }
@@ -63,8 +65,8 @@ fn compare_passed(words: &[u16], cells: &[u16], shown: &[u16]) -> Answer
     compare_planned(words, cells, shown, &graph, &order, &ends)
 }
 
-// CompareCells (6, 6, 12, 6): accepted with count and detail 0, or the lowest setting that counts with another value at an output, and the lowest such output
-// plus 1.
+// CompareCells (6, 6, 12, 6): accepted with count and detail 0, or the lowest setting that counts with another value at
+// an output, and the lowest such output plus 1.
 pub fn compare_cells(words: &[u16], cells: &[u16], shown: &[u16]) -> Answer
     ensures { λ r. ⌜ Told (compareCells (now (words .entry)) (now (cells .entry)) (now (shown .entry))) r ⌝ }
 {

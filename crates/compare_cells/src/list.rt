@@ -18,7 +18,7 @@ ghost use Rattle.netlist.specs.CompareCells.{isListed};
 ghost use Rattle.refusals.specs.Tests.{testOf};
 ghost use Rattle.compare_cells.specs.Ready.{isBelow};
 
-// Refusal 12: a word for each output?
+// Refusal 12: does the list have a word for each output?
 pub fn check_length(words: &[u16], shown: &[u16]) -> Test
     requires { ⌜ isMalformed (now words) ≡ false ⌝ }
     ensures { λ r. ⌜ r ≡ testOf (not (eqb (length (now (shown .entry))) (outputCount (decode (now (words .entry)))))) InterfaceMismatch ⌝ }

@@ -1,5 +1,5 @@
-// Where a block's outputs and the listed nodes show other values, in a batch: `lanes` holds two words for each place of the block, `nodes` one for
-// each place of the cells.
+// Where a block's outputs and the listed nodes show other values, in a batch: `lanes` holds two words for each place of
+// the block, `nodes` one for each place of the cells.
 use cell_lanes::choice::choose;
 use graph::PLACES;
 use graph::place_of;
@@ -24,7 +24,7 @@ fn shown_word(words: &[u16], shown: &[u16], o: usize, nodes: &[u64; PLACES]) -> 
     nodes[place_of(shown[o] as usize, inputs_of(words))]
 }
 
-// Where output `o` shows another value: at a lane at which the node is 1 the output has to be 1, at another 0.
+// The lanes at which output `o` shows another value: where the node is 1 the output has to be 1, and elsewhere 0.
 fn differing_lanes(
     words: &[u16],
     shown: &[u16],
@@ -41,7 +41,7 @@ fn differing_lanes(
     used_lanes(n) ^ choose(pair.zeros, pair.ones, word)
 }
 
-// Where some output does.
+// The lanes at which some output shows another value than its listed node.
 pub fn any_differing(
     words: &[u16],
     shown: &[u16],

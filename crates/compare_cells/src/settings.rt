@@ -40,7 +40,7 @@ fn disagreeing_lanes(
     counted_lanes(words, n, base, lanes) & any_differing(words, shown, lanes, nodes)
 }
 
-// The batches in ascending order, up to the first disagreement: the lowest lane, and there the lowest output.
+// Goes over the batches in ascending order, up to the first disagreement: its lowest lane, and there the lowest output.
 pub fn search_settings(
     words: &[u16],
     shown: &[u16],

@@ -1,5 +1,5 @@
--- Words copied while a rendering is written: which are mapped through the table of newest copies, and what copying asks of its slices.
--- The contracts of this crate cite it. Assumes nothing.
+-- Words copied while a rendering is written: which are mapped through the table of newest copies, and what copying asks
+-- of its slices. The contracts of this crate cite it. Assumes nothing.
 use Prim.Native.Nat.{ℕ, zero, suc, _+_, _*_, _/_, _≤_, _<_}
 use mathlib.Core.Path.{_≡_}
 use mathlib.Core.Bool.{false, cond, _&&_}
@@ -20,7 +20,7 @@ unfoldable pub mappedWord : Nodes → List ℕ → ℕ → ℕ
 mappedWord nodes newest w =
     cond (ltb (gateNamed (nodes .inputs) (nodes .gates) w) (nodes .gates)) (getD newest (gateNamed (nodes .inputs) (nodes .gates) w) 0) w
 
--- word i of five: mapped from `first` on and below `last`, else kept
+-- word i of the five words of an entry, a gate or an output: mapped from `first` on and below `last`, else kept
 unfoldable pub entryWord : List ℕ → Nodes → Entry → List ℕ → ℕ → ℕ
 entryWord ws nodes e newest i =
     cond (leb (e .first) i && ltb i (e .last)) (mappedWord nodes newest (getD ws (e .from + i) 0)) (getD ws (e .from + i) 0)
@@ -28,7 +28,7 @@ entryWord ws nodes e newest i =
 unfoldable pub entryWords : List ℕ → Nodes → Entry → List ℕ → List ℕ
 entryWords ws nodes e newest = tab (entryWord ws nodes e newest) 5
 
--- of a gate at `at` the operands are mapped, of an output the node behind its name
+-- the entry of the gate at `at`, whose operands are mapped; and of an output, whose node behind its name is
 abbrev pub gateEntry : List ℕ → ℕ → Entry
 gateEntry ws at = record { from = at; first = 1; last = 1 + getD ws at 0 / 8 }
 
@@ -39,7 +39,7 @@ outputEntry at = record { from = at; first = 4; last = 5 }
 unfoldable pub wordFrom : List ℕ → ℕ → ℕ → ℕ
 wordFrom ws from i = getD ws (from + i) 0
 
--- the table after t copies
+-- the table of newest copies after t copies
 unfoldable pub tableAfter : ℕ → List ℕ → List ℕ → ℕ → List ℕ
 tableAfter n order newest zero = newest
 tableAfter n order newest (suc t) = set (tableAfter n order newest t) (getD order t 0) (n + t)
@@ -56,14 +56,14 @@ copyAt ws nodes order newest t = copyWords ws nodes (getD order t 0) (tableAfter
 unfoldable pub shownAt : List ℕ → Nodes → List ℕ → ℕ → List ℕ
 shownAt ws nodes newest o = entryWords ws nodes (outputEntry (nodes .start + gateSize * nodes .gates + outputSize * o)) newest
 
--- what copying `count` times five words asks of the slices
+-- what copying `count` entries of five words asks of the slices
 pub record EntryRoom (ws : List ℕ) (nodes : Nodes) (from : ℕ) (newest out : List ℕ) (to count : ℕ) : Type 0 where
   pub few : nodes .inputs + nodes .gates ≤ nodeRoom
   pub words : from + outputSize * count ≤ length ws
   pub table : nodes .gates ≤ length newest
   pub room : to + outputSize * count ≤ length out
 
--- what copying `total` gates asks
+-- what writing the copies of `total` gates asks of the slices
 pub record GateRoom (ws : List ℕ) (nodes : Nodes) (total : ℕ) (newest out : List ℕ) : Type 0 where
   pub few : nodes .inputs + nodes .gates ≤ nodeRoom
   pub copies : nodes .inputs + total ≤ maxWord
@@ -71,12 +71,12 @@ pub record GateRoom (ws : List ℕ) (nodes : Nodes) (total : ℕ) (newest out : 
   pub table : nodes .gates ≤ length newest
   pub room : nodes .start + gateSize * total ≤ length out
 
--- the gates to copy are there
+-- the gates that are to be copied are there
 pub record Order (m total : ℕ) (order : List ℕ) : Type 0 where
   pub listed : total ≤ length order
   pub inside : (t : ℕ) → t < total → getD order t 0 < m
 
--- what writing the rendering asks: whole words, the schedule, and room for the table and the result
+-- what writing the rendering asks: whole words, the schedule, and room for the table of newest copies and the result
 pub record CopyReady (ws order : List ℕ) (total : ℕ) (newest out : List ℕ) : Type 0 where
   pub whole : isMalformed ws ≡ false
   pub totalIs : total ≡ length (schedule (decode ws))

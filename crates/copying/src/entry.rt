@@ -11,14 +11,15 @@ ghost use Rattle.layout.specs.Bounds.{nodeRoom};
 ghost use Rattle.laws.specs.Lists.{tab};
 ghost use Rattle.copying.specs.Words.{mappedWord, entryWord, entryWords, copyWords, wordFrom, EntryRoom, GateRoom};
 
-// The five words of a gate or an output: where they stand, and which of them are mapped, from `first` on and below `last`.
+// The five words of a gate or an output: where they stand, and which of them are mapped, from `first` on and below
+// `last`.
 pub struct Entry {
     pub from: usize,
     pub first: usize,
     pub last: usize,
 }
 
-// What stands now for what a word stands for: a gate's newest copy, or the same input or constant.
+// The word of what stands now for what `w` names: a gate's newest copy, or the same input or constant.
 fn mapped(w: u16, nodes: Nodes, newest: &[u16]) -> u16
     requires { ⌜ (nodes .inputs + nodes .gates ≤ nodeRoom) × (nodes .gates ≤ length (now newest)) ⌝ }
     ensures { λ r. ⌜ r ≡ mappedWord nodes (now (newest .entry)) w ⌝ }
@@ -30,7 +31,7 @@ fn mapped(w: u16, nodes: Nodes, newest: &[u16]) -> u16
     w
 }
 
-// Word `i` of the five.
+// Word `i` of the five words of a gate's or an output's entry, mapped where it names a node.
 fn entry_word(words: &[u16], nodes: Nodes, entry: Entry, newest: &[u16], i: usize) -> u16
     requires { ⌜ (entry .from + i < length (now words)) × (nodes .inputs + nodes .gates ≤ nodeRoom) × (nodes .gates ≤ length (now newest)) ⌝ }
     ensures { λ r. ⌜ r ≡ entryWord (now (words .entry)) nodes entry (now (newest .entry)) i ⌝ }
@@ -44,7 +45,7 @@ fn entry_word(words: &[u16], nodes: Nodes, entry: Entry, newest: &[u16], i: usiz
     w
 }
 
-// Copies the five words to `to`.
+// Copies the five words of an entry to place `to`.
 pub fn copy_entry(
     words: &[u16],
     nodes: Nodes,

@@ -1,4 +1,5 @@
-// The rendering's words (SPECIFICATION 6): head, input names and never lines, a copy of each scheduled gate, outputs at last copies.
+// The rendering's words (SPECIFICATION 6), the unrolled block: head, input names and never lines, a copy of each
+// scheduled gate, outputs at last copies.
 use crate::entry::Entry;
 use crate::entry::copy_entry;
 use crate::entry::copy_words;

@@ -1,5 +1,5 @@
--- The arrays that Cover lends to its inner functions, and the table of settings that never come or are settled. Cited by the contracts of this crate.
--- Assumes nothing.
+-- The arrays that Cover lends to its inner functions, and the table of settings that never come or are settled. Cited
+-- by the contracts of this crate. Assumes nothing.
 use mathlib.Core.Path.{_≡_}
 use mathlib.Core.List.{List}
 use Prim.Native.Nat.{ℕ, _^_, _≤_, _<_}

@@ -1,4 +1,5 @@
-// Cover (SPECIFICATION 4, 7.7): the sound partial assignments from which no single fixed input can be dropped.
+// Cover (SPECIFICATION 4, 7.7): the sound partial assignments from which no single fixed input can be dropped. They are
+// the prime implicants of "settled or never comes", where settings that never come are don't-cares.
 use assignments::cover_entries;
 use block::check_words;
 use graph::GRAPH_WORDS;
@@ -21,8 +22,8 @@ ghost use Rattle.cover.specs.Table.{CoverRoom};
 
 mod table;
 
-// Cover of a block that is not torn, with arrays for its graph, its gates in layers, two words a place, and a byte a setting.
-// `cover_entries` alters nothing where the entries' words, two an entry, do not fit.
+// Cover of a block that is not torn, with arrays for its graph, its gates in layers, two words a place, and a byte a
+// setting. `cover_entries` alters nothing where the entries' words, two an entry, do not fit.
 fn whole_cover(
     words: &[u16],
     graph: &mut [u16; GRAPH_WORDS],

@@ -1,4 +1,4 @@
-// Which settings never come or are settled: they are decided up to 64 at a time, by the block's plan.
+// The table of the settings that never come or are settled: they are decided up to 64 at a time, by the block's plan.
 use batch::plan::plan_block;
 use graph::GRAPH_WORDS;
 use lanes::LANE_WORDS;

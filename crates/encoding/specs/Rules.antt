@@ -1,4 +1,5 @@
--- The rules of the stored block, one by one on the words, as the code tests them. proofs/ shows that together they say "not torn".
+-- The rules of the stored block, one by one on the words, as the code tests them. proofs/ shows that together they say
+-- "not malformed".
 use Prim.Native.Nat.{ℕ, _+_, _*_, _/_, _%_}
 use mathlib.Core.Bool.{Bool, true, cond, not, _&&_, _||_}
 use mathlib.Core.List.{List, [], _∷_}
@@ -17,7 +18,7 @@ unfoldable pub padded : List ℕ → Bool
 padded [] = true
 padded (c ∷ cs) = cond (eqb c 0) (all (eqb 0) cs) (isNameByte c && padded cs)
 
--- the eight bytes of an input's name or a port
+-- the rule of an input's name or a port: its eight bytes
 unfoldable pub nameRule : List ℕ → ℕ → Bool
 nameRule ws at = isLetter (getD (bytesAt ws at) 0 0) && padded (bytesAt ws at)
 
@@ -29,24 +30,24 @@ unfoldable pub namesRule : List ℕ → ℕ → ℕ → ℕ → Bool
 namesRule ws at size count =
     all (λ j. nameRule ws (at + size * j) && all (λ i. not (sameName ws (at + size * i) (at + size * j))) (upTo j)) (upTo count)
 
--- the never line whose two masks are at `at`, in a block of n inputs
+-- the rule of the never line whose two masks are at `at`, in a block of n inputs
 unfoldable pub neverRule : List ℕ → ℕ → ℕ → Bool
 neverRule ws n at = ltb 0 (getD ws at 0) && areMasks n (getD ws at 0) (getD ws (at + 1) 0)
 
--- an input or a gate; `nodes` is n + m
+-- the rule of a node's word: an input or a gate; `nodes` is n + m
 unfoldable pub nodeRule : ℕ → ℕ → Bool
 nodeRule nodes w = ltb w nodes
 
 unfoldable pub operandRule : ℕ → ℕ → Bool
 operandRule nodes w = nodeRule nodes w || eqb w 65534 || eqb w 65535
 
--- the gate whose first word is at `at`
+-- the rule of the gate whose first word is at `at`
 unfoldable pub gateRule : List ℕ → ℕ → ℕ → Bool
 gateRule ws nodes at =
     isKind (getD ws at 0 % 8) && arityFits (getD ws at 0 % 8) (getD ws at 0 / 8)
     && all (λ i. cond (ltb i (getD ws at 0 / 8)) (operandRule nodes (getD ws (at + 1 + i) 0)) (eqb (getD ws (at + 1 + i) 0) 0)) (upTo operandWords)
 
--- the length that the counts give, and the limits
+-- the rule of the head: the length that the counts give, and the limits
 unfoldable pub headerRule : List ℕ → Bool
 headerRule ws =
     leb inputsAt (length ws)

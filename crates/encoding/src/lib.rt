@@ -1,1 +1,2 @@
-// The theory of the stored block: encode and decode undo each other, and torn, rule by rule on the words. No code.
+// No code: the theory of the stored block. Encode and decode undo each other, and "malformed" is said rule by rule on
+// the words.

@@ -1,5 +1,5 @@
-// The operations as C functions (SPECIFICATION 7), for programs in other languages: include/unloop.h declares them. Each has its operation's
-// promise and no condition. A slice is a pointer and a length.
+// The operations as C functions (SPECIFICATION 7), for programs in other languages: include/unloop.h declares them.
+// Each has its operation's promise and no condition. A slice is a pointer and a length.
 use netlist::Record;
 use netlist::Reply;
 use refusals::reply_of;
@@ -68,7 +68,8 @@ pub extern "C" fn unloop_pass(block: &[u16], setting: &[u8], values: &mut [u8]) 
     reply_of(simulate::pass::pass(block, setting, values))
 }
 
-// Sheet: each record's answer from its two masks of inputs; count: the records. A slice of structs is walked by hand: hence one loop, no branch.
+// Sheet: each record's answer from its two masks of inputs; count: the records. A function on a slice of structs is
+// proved step by step by hand: hence one loop and no branch.
 #[no_mangle]
 pub extern "C" fn unloop_sheet(block: &[u16], records: &mut [Record]) -> Reply
     ensures answers { λ r. ⌜ Shows (answerOf (sheet (now (block .entry)) (length (now (records .entry))))) r ⌝ }
@@ -160,8 +161,8 @@ pub extern "C" fn unloop_compare(ours: &[u16], theirs: &[u16]) -> Reply
     reply_of(compare::compare(ours, theirs))
 }
 
-// CompareCells: are cells made elsewhere as good as the block, each output shown by the node that the list has for it? Accepted: count and detail 0; else the
-// lowest output that differs, counted from 1, and the lowest setting.
+// CompareCells: are cells made elsewhere as good as the block, each output shown by the node that the list has for it?
+// Accepted: count and detail 0; else the lowest output that differs, counted from 1, and the lowest setting.
 #[no_mangle]
 pub extern "C" fn unloop_compare_cells(block: &[u16], cells: &[u16], shown: &[u16]) -> Reply
     ensures { λ r. ⌜ Shows (answerOf (compareCells (now (block .entry)) (now (cells .entry)) (now (shown .entry)))) r ⌝ }

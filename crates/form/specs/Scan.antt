@@ -1,5 +1,5 @@
--- What `form` answers, and what its readers answer of netlist's readers: bytes left, and no tree. Read's crate cites `firstBad`.
--- Assumes nothing: these are definitions.
+-- What the recogniser answers, and what its readers answer of the readers in `netlist`: bytes left, and no tree. Read's
+-- crate cites `firstBad`. Assumes nothing: these are definitions.
 use Prim.Native.Nat.{ℕ, _-_}
 use mathlib.Core.Bool.{Bool, true, false, cond, _&&_}
 use mathlib.Core.List.{List}
@@ -17,12 +17,12 @@ use Rattle.form.specs.declared.Scan.the-variants.{Next, Bad as Stuck}
 use Rattle.form.specs.declared.Kind.{Kind}
 use Rattle.form.specs.declared.Kind.the-variants.{Is, Bad as NoKind}
 
--- the place is the number of bytes before the bad one
+-- the place that a reader tells of a bad text: the number of bytes before the bad one
 abbrev pub badOf : {A : Type 0} → List ℕ → Parsed A → Option ℕ
 badOf text (got t rest) = none
 badOf text (stuck left) = some (length text - left)
 
--- 2: the first byte that no legal text has behind that beginning, or the length where the text is cut off
+-- refusal 2: the first byte that no legal text has behind that beginning, or the length where the text is cut off
 unfoldable pub firstBad : List ℕ → Option ℕ
 firstBad text = badOf text (parse text)
 
@@ -37,27 +37,27 @@ kindOf (stuck left) = NoKind left
 
 -- ---- parts of netlist's readers that are functions of their own in the code
 
--- these bytes
+-- a reader of exactly these bytes
 unfoldable pub wordReader : List ℕ → Reader ℕ
 wordReader w = expect w (pure 0)
 
--- the first byte of a name, where `_` may stand or not
+-- may this byte begin a name, where `_` is allowed or not?
 unfoldable pub firstByte : Bool → ℕ → Bool
 firstByte true = isNameStart
 firstByte false = isLetter
 
--- a kind behind the rest of its word
+-- the reader of a kind whose word goes on with these bytes
 unfoldable pub kindWord : List ℕ → ℕ → Reader ℕ
 kindWord w k = expect w (pure k)
 
--- behind `no`, and behind `n`
+-- the readers of a kind behind `no` and behind `n`
 unfoldable pub kindNo : Reader ℕ
 kindNo = ifNext (is "t") (λ _. pure 0) (ifNext (is "r") (λ _. pure 4) stop)
 
 unfoldable pub kindN : Reader ℕ
 kindN = ifNext (is "a") (λ _. kindWord (ascii "nd") 3) (ifNext (is "o") (λ _. kindNo) stop)
 
--- behind `x`
+-- the reader of a kind behind `x`
 unfoldable pub kindX : Reader ℕ
 kindX = ifNext (is "o") (λ _. kindWord (ascii "r") 5) (ifNext (is "n") (λ _. kindWord (ascii "or") 6) stop)
 

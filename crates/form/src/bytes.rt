@@ -1,9 +1,9 @@
-// Words that must stand in a text.
+// The bytes of fixed words in a text, such as keywords.
 use crate::Scan;
 ghost use mathlib.Core.Path.{_≡_};
 ghost use Rattle.form.specs.Scan.{scanOf, wordReader};
 
-// These bytes.
+// Reads exactly these bytes.
 pub fn word(s: &[u8], bytes: &[u8]) -> Scan
     ensures { λ r. ⌜ r ≡ scanOf (wordReader (now (bytes .entry)) (now (s .entry))) ⌝ }
 {

@@ -1,5 +1,7 @@
-// Does a text have the grammar's form, and where does it break (SPECIFICATION 1, and Read's 2 in 7.3). `pairs` serves the bench's set lines too.
-// The readers take the rest of the text as their slice and answer how many bytes are left. Nothing is written.
+// The recogniser: does a text have the grammar's form, and where does it break (SPECIFICATION 1, and Read's refusal 2
+// in 7.3)? It goes by recursive descent with one byte of look-ahead, and tells the first byte with which no legal text
+// goes on. `pairs` serves the bench's set lines too. Each reader takes the rest of the text as its slice and answers
+// how many bytes are left. Nothing is written.
 use layout::bytes::byte_at;
 use netlist::Refusal;
 use refusals::Test;
@@ -20,13 +22,15 @@ pub enum Scan {
     Bad(usize),
 }
 
-// What the reader of a kind answers: the kind's number and the bytes left behind its word, or the bytes left from the bad one on.
+// What the reader of a kind answers: the kind's number and the bytes left behind its word, or the bytes left from the
+// bad one on.
 enum Kind {
     Is { kind: usize, left: usize },
     Bad(usize),
 }
 
-// 2: the place of the first byte that no legal text has there. The loop lends each line's reader the rest of the text; `phase` says which lines may still come.
+// Refusal 2: the place of the first byte that no legal text has there. The loop lends each line's reader the rest of
+// the text; `phase` says which lines may still come.
 pub fn form(text: &[u8]) -> Test
     ensures { λ r. ⌜ r ≡ testAt (firstBad (now (text .entry))) SyntaxError ⌝ }
 {

@@ -1,4 +1,4 @@
-// Lines. Each reader gets the rest of the text behind a line's opening bracket.
+// The readers of lines. Each gets the rest of the text behind a line's opening bracket.
 use crate::Scan;
 use crate::bytes;
 use crate::names;
@@ -9,10 +9,10 @@ use layout::limits::MAX_DEPTH;
 ghost use mathlib.Core.Path.{_≡_};
 ghost use Rattle.form.specs.Scan.{scanOf, inputReader, neverReader, gateReader, outputReader, lineReader, phaseOf};
 
-// The levels of expressions inside a line's own.
+// The levels of expressions that may stand inside the expression of a line.
 const INNER_DEPTH: usize = MAX_DEPTH - 1;
 
-// `in NAME)` and its LF.
+// Reads `in NAME)` and its LF.
 fn input_line(s: &[u8]) -> Scan
     ensures { λ r. ⌜ r ≡ scanOf (inputReader (now (s .entry))) ⌝ }
 {
@@ -29,7 +29,7 @@ fn input_line(s: &[u8]) -> Scan
     bytes::word(&s[at..], b")\n")
 }
 
-// `never`, at least one pair, and `)` with its LF. No more pairs stand there than bytes are left.
+// Reads `never`, at least one pair, and `)` with its LF. No more pairs stand there than bytes are left.
 fn never_line(s: &[u8]) -> Scan
     ensures { λ r. ⌜ r ≡ scanOf (neverReader (now (s .entry))) ⌝ }
 {
@@ -46,7 +46,7 @@ fn never_line(s: &[u8]) -> Scan
     bytes::word(&s[at..], b"\n")
 }
 
-// `gate NAME EXPR)` and its LF.
+// Reads `gate NAME EXPR)` and its LF.
 fn gate_line(s: &[u8]) -> Scan
     ensures { λ r. ⌜ r ≡ scanOf (gateReader (now (s .entry))) ⌝ }
 {
@@ -73,7 +73,7 @@ fn gate_line(s: &[u8]) -> Scan
     bytes::word(&s[at..], b")\n")
 }
 
-// `out PORT NAME)` and its LF.
+// Reads `out PORT NAME)` and its LF.
 fn output_line(s: &[u8]) -> Scan
     ensures { λ r. ⌜ r ≡ scanOf (outputReader (now (s .entry))) ⌝ }
 {
@@ -116,7 +116,7 @@ pub fn phase_of(letter: u8) -> usize
     3
 }
 
-// One line, of those that may come in this phase.
+// Reads one line, of those that may come in this phase.
 pub fn line(s: &[u8], phase: usize) -> Scan
     ensures { λ r. ⌜ r ≡ scanOf (lineReader phase (now (s .entry))) ⌝ }
 {

@@ -1,4 +1,4 @@
-// Names and ports.
+// The readers of names and ports.
 use crate::Scan;
 use layout::bytes::byte_at;
 use layout::bytes::is_letter;
@@ -12,7 +12,7 @@ ghost use Rattle.form.specs.Scan.{scanOf, firstByte};
 // The bytes that a name may have behind its first.
 pub const BEHIND_FIRST: usize = MAX_NAME - 1;
 
-// The bytes left behind at most `most` name bytes.
+// Reads at most `most` name bytes; gives the bytes left behind them.
 pub fn name_bytes(s: &[u8], most: usize) -> usize
     ensures { λ r. ⌜ Scan.Next r ≡ scanOf (nameBytes most (now (s .entry))) ⌝ }
 {
@@ -27,7 +27,7 @@ pub fn name_bytes(s: &[u8], most: usize) -> usize
     s.len() - i
 }
 
-// The first byte of a name: a letter, or also `_`.
+// May this byte begin a name: a letter, or also `_`?
 fn starts(c: u8, underscore: bool) -> bool
     ensures { λ r. ⌜ r ≡ firstByte underscore c ⌝ }
 {
@@ -38,7 +38,7 @@ fn starts(c: u8, underscore: bool) -> bool
     }
 }
 
-// A name of at least one byte and at most MAX_NAME.
+// Reads a name of at least one byte and at most MAX_NAME.
 pub fn name(s: &[u8], underscore: bool) -> Scan
     ensures { λ r. ⌜ r ≡ scanOf (nameReader (firstByte underscore) (now (s .entry))) ⌝ }
 {

@@ -1,4 +1,4 @@
-// Pairs: one behind its space, and pairs up to their closing bracket.
+// The readers of pairs: one pair behind its space, and pairs up to their closing bracket.
 use crate::Scan;
 use crate::bytes;
 use crate::names;
@@ -7,7 +7,7 @@ ghost use mathlib.Core.Path.{_≡_};
 ghost use Rattle.netlist.specs.Parse.{pairsReader};
 ghost use Rattle.form.specs.Scan.{scanOf, bitEnd, pairScan};
 
-// A pair's value, 0 or 1, and its closing bracket.
+// Reads a pair's value, 0 or 1, and its closing bracket.
 fn value_end(s: &[u8]) -> Scan
     ensures { λ r. ⌜ r ≡ scanOf (bitEnd (now (s .entry))) ⌝ }
 {
@@ -21,7 +21,7 @@ fn value_end(s: &[u8]) -> Scan
     Scan::Bad(s.len())
 }
 
-// ` (NAME VALUE)`.
+// Reads ` (NAME VALUE)`.
 fn pair(s: &[u8]) -> Scan
     ensures { λ r. ⌜ r ≡ scanOf (pairScan (now (s .entry))) ⌝ }
 {
@@ -43,7 +43,7 @@ fn pair(s: &[u8]) -> Scan
     value_end(&s[at..])
 }
 
-// At most `most` pairs, of which `needed` are needed, and the closing bracket.
+// Reads at most `most` pairs, of which `needed` are needed, and the closing bracket.
 pub fn pairs(s: &[u8], most: usize, needed: usize) -> Scan
     ensures { λ r. ⌜ r ≡ scanOf (pairsReader most needed (now (s .entry))) ⌝ }
 {

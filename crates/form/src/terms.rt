@@ -1,4 +1,5 @@
-// Expressions. The readers of an expression, of an operand and of an operand list call each other; depth left and bytes left fall.
+// The readers of expressions, by recursive descent: those of an expression, of an operand and of an operand list call
+// each other; depth left and bytes left fall.
 use crate::Kind;
 use crate::Scan;
 use crate::bytes;
@@ -49,7 +50,7 @@ const XNOR_N: u8 = XNOR.keyword[1];
 
 const XNOR_OR: [u8; 2] = [XNOR.keyword[2], XNOR.keyword[3]];
 
-// The kind `kind`, behind the rest of its word.
+// Reads the rest of the keyword of kind `kind`.
 fn kind_word(s: &[u8], bytes: &[u8], kind: usize) -> Kind
     ensures { λ r. ⌜ r ≡ kindOf (kindWord (now (bytes .entry)) kind (now (s .entry))) ⌝ }
 {
@@ -59,7 +60,7 @@ fn kind_word(s: &[u8], bytes: &[u8], kind: usize) -> Kind
     }
 }
 
-// Behind `no`: `t` or `r`.
+// Reads a kind behind `no`: `t` or `r` follows.
 fn kind_no(s: &[u8]) -> Kind
     ensures { λ r. ⌜ r ≡ kindOf (kindNo (now (s .entry))) ⌝ }
 {
@@ -79,7 +80,7 @@ fn kind_no(s: &[u8]) -> Kind
     Kind::Bad(s.len())
 }
 
-// Behind `n`: `and`, or `o` and the rest.
+// Reads a kind behind `n`: `and`, or `o` and the rest.
 fn kind_n(s: &[u8]) -> Kind
     ensures { λ r. ⌜ r ≡ kindOf (kindN (now (s .entry))) ⌝ }
 {
@@ -93,7 +94,7 @@ fn kind_n(s: &[u8]) -> Kind
     Kind::Bad(s.len())
 }
 
-// Behind `x`: `or`, or `nor`.
+// Reads a kind behind `x`: `or`, or `nor`.
 fn kind_x(s: &[u8]) -> Kind
     ensures { λ r. ⌜ r ≡ kindOf (kindX (now (s .entry))) ⌝ }
 {
@@ -107,7 +108,7 @@ fn kind_x(s: &[u8]) -> Kind
     Kind::Bad(s.len())
 }
 
-// The number of a kind; words go by common beginnings.
+// Reads a kind's keyword and gives its number; keywords go by common beginnings.
 fn kind(s: &[u8]) -> Kind
     ensures { λ r. ⌜ r ≡ kindOf (kindReader (now (s .entry))) ⌝ }
 {
@@ -127,7 +128,7 @@ fn kind(s: &[u8]) -> Kind
     Kind::Bad(s.len())
 }
 
-// An expression behind its opening bracket, whose operands have `depth` levels left.
+// Reads an expression behind its opening bracket, whose operands have `depth` levels left.
 pub fn expression(s: &[u8], depth: usize) -> Scan
     ensures { λ r. ⌜ r ≡ scanOf (exprReader {A = Term} (termReader depth) apply (now (s .entry))) ⌝ }
 {
@@ -142,14 +143,14 @@ pub fn expression(s: &[u8], depth: usize) -> Scan
     }
 }
 
-// One less, or 0.
+// One less than n, or 0 where n is 0.
 fn one_less(n: usize) -> usize
     ensures { λ r. ⌜ r ≡ n - 1 ⌝ }
 {
     if n == 0 { 0 } else { n - 1 }
 }
 
-// At most `most` operands, of which `needed` are needed, and the closing bracket.
+// Reads at most `most` operands, of which `needed` are needed, and the closing bracket.
 fn operands(s: &[u8], depth: usize, most: usize, needed: usize) -> Scan
     ensures { λ r. ⌜ r ≡ scanOf (termsReader (termReader depth) most needed (now (s .entry))) ⌝ }
 {
@@ -175,7 +176,7 @@ fn operands(s: &[u8], depth: usize, most: usize, needed: usize) -> Scan
     operands(&s[at..], depth, most - 1, still)
 }
 
-// An operand, with `depth` levels of expressions left.
+// Reads an operand, with `depth` levels of expressions left.
 fn operand(s: &[u8], depth: usize) -> Scan
     ensures { λ r. ⌜ r ≡ scanOf (termReader depth (now (s .entry))) ⌝ }
 {

@@ -1,4 +1,5 @@
--- A block written with its gates in another order: the words of each part, and what writing asks of its slices. Assumes nothing.
+-- A block written with its gates in another order: the words of each part, and what writing asks of its slices. Assumes
+-- nothing.
 use Prim.Native.Nat.{ℕ, _+_, _≤_}
 use mathlib.Core.Path.{_≡_}
 use mathlib.Core.Bool.{false}
@@ -18,7 +19,7 @@ newWord n numbers j = n + getD numbers j 0
 unfoldable pub movedAt : List ℕ → Nodes → List ℕ → List ℕ → ℕ → List ℕ
 movedAt ws nodes order table t = copyWords ws nodes (getD order t 0) table
 
--- the block of the words, its gates as the first numbers of `order` say, and numbered by `numbers`
+-- the block of the words with its gates in the order of the first numbers of `order`, and numbered by `numbers`
 unfoldable pub arrangement : List ℕ → List ℕ → List ℕ → Block
 arrangement ws order numbers = arranged (take (getD ws 1 0) order) (numberAt numbers) (decode ws)
 

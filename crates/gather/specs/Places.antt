@@ -8,12 +8,13 @@ use lib.ListN.{length, getD}
 use Rattle.netlist.specs.Limits.{maxGates}
 use Rattle.netlist.specs.Gather.{placeIn, isPermutation}
 
--- is the list each number below m once, and where each stands if it is
+-- whether the list is each number below m once, and where each number stands if it is
 pub record Places (m : ℕ) (order : List ℕ) (r : Bool) (places : List ℕ) : Type 0 where
   pub told : r ≡ isPermutation m order
   pub stand : isPermutation m order ≡ true → (j : ℕ) → j < m → getD places j 0 ≡ placeIn order j
 
--- The first t numbers are marked: each is below m, and has its place; any other number below m has m, which is no place.
+-- The first t numbers are marked: each is below m, and has its place; any other number below m has m, which is no
+-- place.
 pub record PlacesMarked (m : ℕ) (order : List ℕ) (t : ℕ) (places : List ℕ) : Type 0 where
   pub long : m ≤ length places
   pub listed : (u : ℕ) → u < t → getD order u 0 < m

@@ -1,5 +1,5 @@
-// Gather and Scatter (SPECIFICATION 7.17, 7.18): gates numbered afresh, so that those of a group lie side by side, and the way back.
-// specs/Promise.antt has Gather's promise, which is on two slices.
+// Gather and Scatter (SPECIFICATION 7.17, 7.18): gates numbered afresh, so that those of a strongly connected group lie
+// side by side, and the way back. specs/Promise.antt has Gather's promise, which is on two slices.
 use block::check_words;
 use layout::limits::MAX_GATES;
 use layout::offsets::gates_of;
@@ -19,7 +19,7 @@ pub mod arranged;
 pub mod places;
 pub mod steps;
 
-// The gathered words and their list, into slices that have room: with arrays for any block.
+// Writes the gathered words and their list into slices that have room; makes the arrays that this needs.
 fn gather_block(words: &[u16], gathered: &mut [u16], order: &mut [u16])
     requires { ⌜ BlockRoom (now words) (now gathered) (now order) ⌝ }
     ensures { λ r. ⌜ now (gathered .exit) ≡ placed (gatheredWords (decode (now (words .entry)))) (now (gathered .entry)) ⌝ }
@@ -57,7 +57,7 @@ pub fn gather(words: &[u16], gathered: &mut [u16], order: &mut [u16]) -> Answer
     }
 }
 
-// Scatter of a block that is not torn: with arrays for any block.
+// Scatter of a block that is not malformed; makes the arrays that this needs.
 fn scatter_block(words: &[u16], order: &[u16], original: &mut [u16]) -> Answer
     requires { ⌜ isMalformed (now words) ≡ false ⌝ }
     ensures { λ r. ⌜
@@ -69,7 +69,8 @@ fn scatter_block(words: &[u16], order: &[u16], original: &mut [u16]) -> Answer
     steps::scatter_with(words, order, &mut places, &mut table, original)
 }
 
-// Scatter (6, 13, 11): the block with its gates back in their old order, from the list of their old numbers; count: words.
+// Scatter (6, 13, 11): the block with its gates back in their old order, from the list of their old numbers; count:
+// words.
 pub fn scatter(words: &[u16], order: &[u16], original: &mut [u16]) -> Answer
     ensures { λ r. ⌜
         Promise (scatterOf (now (words .entry)) (now (order .entry)) (length (now (original .entry)))) (now (original .entry)) r (now (original .exit))

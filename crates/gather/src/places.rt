@@ -1,4 +1,5 @@
-// Where each number stands in a list that is each number below m once, and whether a list is that.
+// The inverse of a permutation: where each number stands in a list that is each number below m once, and whether a list
+// is that.
 use layout::fill::fill_words;
 ghost use Prim.Native.Nat.{_≤_};
 ghost use lib.ListN.{length};

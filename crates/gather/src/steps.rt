@@ -22,7 +22,7 @@ ghost use Rattle.refusals.specs.Tests.{testOf};
 ghost use Rattle.netlist.specs.Gather.{gatheredWords, gatheredOrder, scatter};
 ghost use Rattle.gather.specs.Promise.{GatherReady, ScatterReady};
 
-// 11: is the slice for the block or the one for the list too small?
+// Refusal 11 of Gather: is the slice for the block or the one for the list too small?
 pub fn check_rooms(room: usize, needed: usize, list: usize, gates: usize) -> Test
     ensures { λ r. ⌜ r ≡ testOf (ltb room needed || ltb list gates) NoRoom ⌝ }
 {
@@ -52,7 +52,7 @@ pub fn write_gathered(
     write_arranged(words, order, places, table, gathered);
 }
 
-// The list's condition and the room's, and then the block.
+// Scatter's tests of the list and of the room, and then the block.
 pub fn scatter_with(
     words: &[u16],
     order: &[u16],

@@ -48,7 +48,7 @@ nodeWords ws nodes j =
     ∷ wordPlace ws n at (absentPlace ws at) 3
     ∷ []
 
--- word i of gate k stands in the graph, for every gate below j
+-- the gates below j are put: each of their words stands in the graph
 pub record Putting (ws : List ℕ) (nodes : Nodes) (j : ℕ) (graph : List ℕ) : Type 0 where
   pub long : length graph ≡ graphSize
   pub put : (k i : ℕ) → k < j → i < nodeSize → getD graph (nodeSize * k + i) 0 ≡ getD (nodeWords ws nodes k) i 0

@@ -1,10 +1,11 @@
--- The fan-out of a graph: the slots that read each gate, as linked lists in one array. Slot i of gate j has number 4 j + i; word k has the first slot of
--- gate k's list, and word maxGates + e the one behind slot e. A number stands there plus 1, and 0 ends a list. Cited by the contracts of this crate,
--- of `simulate` and of the groups. Assumes nothing.
+-- The fan-out of a graph: the slots that read each gate, as linked lists in one array. Slot i of gate j has number 4 j
+-- + i; word k has the first slot of gate k's list, and word maxGates + e the one behind slot e. A number stands there
+-- plus 1, and 0 ends a list. Cited by the contracts of this crate, of crates/simulate and of crates/groups. Assumes
+-- nothing.
 --   slotPlace   the place that a slot reads
 --   Chain       a slot is in the list that starts at another
 --   Fanout      what is promised: a gate's list has the slots that read it and no others, and lists descend
---   Linking     the same of the slots below a number
+--   Linking     the slots below a number are in their lists
 use Prim.Native.Nat.{ℕ, suc, _+_, _-_, _*_, _/_, _≤_, _<_}
 use mathlib.Core.Path.{_≡_}
 use mathlib.Core.Bool.{cond}
@@ -15,15 +16,15 @@ use Rattle.netlist.specs.Limits.{maxGates}
 use Rattle.graph.specs.Places.{firstGate}
 use Rattle.graph.specs.Graph.{slots}
 
--- words for every gate and every slot
+-- the words of a fan-out: one for every gate and one for every slot
 abbrev pub fanoutSize : ℕ
 fanoutSize = maxGates + slots * maxGates
 
--- what slot e reads: four slots behind each operation
+-- the place that slot e reads; four slots stand behind each operation
 unfoldable pub slotPlace : List ℕ → ℕ → ℕ
 slotPlace graph e = getD graph (e + e / slots + 1) 0
 
--- p is in the list that starts at an index
+-- slot p is in the list that starts at an index
 pub data Chain (fanout : List ℕ) (p : ℕ) : ℕ → Type 0 where
   at : Chain fanout p p
   behind : {q : ℕ} → Chain fanout p (getD fanout (maxGates + q) 0) → Chain fanout p (suc q)
@@ -32,7 +33,7 @@ pub data Chain (fanout : List ℕ) (p : ℕ) : ℕ → Type 0 where
 abbrev pub Descends : List ℕ → Type 0
 Descends fanout = (e : ℕ) → getD fanout (maxGates + e) 0 ≤ e
 
--- a list for each of m gates
+-- the fan-out of m gates: a list for each of them
 pub record Fanout (m : ℕ) (graph fanout : List ℕ) : Type 0 where
   pub long : length fanout ≡ fanoutSize
   pub descends : Descends fanout
@@ -40,7 +41,7 @@ pub record Fanout (m : ℕ) (graph fanout : List ℕ) : Type 0 where
   pub found : (e k : ℕ) → e < slots * m → k < maxGates → slotPlace graph e ≡ firstGate + k → Chain fanout (suc e) (getD fanout k 0)
   pub only : (e k : ℕ) → k < maxGates → Chain fanout (suc e) (getD fanout k 0) → slotPlace graph e ≡ firstGate + k
 
--- nothing but zeros
+-- a fan-out in which no slot is in a list yet: nothing but zeros
 pub record Empty (fanout : List ℕ) : Type 0 where
   pub long : length fanout ≡ fanoutSize
   pub zeros : (k : ℕ) → getD fanout k 0 ≡ 0

@@ -1,6 +1,7 @@
--- A block's gates as a graph: five words a gate, its operation and the places of four operands. Cited by every crate that searches, orders, evaluates or
--- copies gates. Assumes nothing.
---   controllingOf, forcedOf   by kind: the row of the table, which `not` shares with `nand`, and what stands for it in `xor` and `xnor`
+-- A block's gates as a graph: five words a gate, its operation and the places of four operands. Cited by every crate
+-- that searches, orders, evaluates or copies gates. Assumes nothing.
+--   controllingOf, forcedOf   by kind: the row of the table, which `not` shares with `nand`, and what stands for it in
+--                             `xor` and `xnor`
 --   operationWord             kind + 8 × operand count + 64 × controlling + 128 × forced
 --   operandPlace              operand i's place; behind the last operand the constant that changes nothing
 --   kindAt, countAt, gateAt, gatesIn, network   what a graph holds, as numbers, gates and a block without names
@@ -58,13 +59,15 @@ gateAt graph j = record { kind = kindAt graph j; operands = tab (λ i. operandAt
 unfoldable pub gatesIn : ℕ → List ℕ → List Gate
 gatesIn m graph = tab (gateAt graph) m
 
--- the first m gates as a block without names, never lines and outputs: rounds, reads and groups ask nothing else of a block
+-- the first m gates as a block without names, never lines and outputs: rounds, reads and groups ask nothing else of a
+-- block
 unfoldable pub network : ℕ → List ℕ → Block
 network m graph = record { inputs = []; nevers = []; gates = gatesIn m graph; outputs = [] }
 
 -- ---- legal graphs
 
--- gate j of m: its kind and its operand count are legal, the row's values stand in its operation, and every slot has a place that is there
+-- gate j of m: its kind and its operand count are legal, the row's values stand in its operation, and every slot has a
+-- place that is there
 pub record Node (m : ℕ) (graph : List ℕ) (j : ℕ) : Type 0 where
   pub kind : isKind (kindAt graph j) ≡ true
   pub count : arityFits (kindAt graph j) (countAt graph j) ≡ true

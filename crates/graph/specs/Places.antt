@@ -1,5 +1,6 @@
--- Places: one number for everything that a gate can read, the same in every block. Place 0 is constant 0, place 1 constant 1; then come as many places as a
--- block may have inputs, and then the gates. Cited by every crate that works on a graph. Assumes nothing.
+-- Places: one number for everything that a gate can read, the same in every block. Place 0 is constant 0, place 1
+-- constant 1; then come as many places as a block may have inputs, and then the gates. Cited by every crate that works
+-- on a graph. Assumes nothing.
 --   operandAt, placeOf    what stands at a place, and the place of an operand
 --   isGatePlace           a gate stands there
 use Prim.Native.Nat.{ℕ, _+_, _-_}

@@ -1,5 +1,6 @@
-// The fan-out of a graph: which slots read each gate. Slot i of gate j has number 4 j + i. The slots that read a gate form a linked list that goes down:
-// word k has the first slot of gate k's list, and word 1,024 + e the one behind slot e. A slot's number stands there plus 1; 0 ends a list.
+// The fan-out of a graph: which slots read each gate. Slot i of gate j has number 4 j + i. The slots that read a gate
+// form a linked list that goes down: word k has the first slot of gate k's list, and word 1,024 + e the one behind slot
+// e. A slot's number stands there plus 1; 0 ends a list.
 use crate::FIRST_GATE;
 use crate::GRAPH_WORDS;
 use crate::SLOTS;
@@ -7,7 +8,7 @@ use layout::limits::MAX_GATES;
 ghost use Rattle.graph.specs.Graph.{Graph};
 ghost use Rattle.graph.specs.Fanout.{slotPlace, LinkReady, Linked, Empty, Fanout};
 
-// Where the slots behind each other stand, and all words.
+// Where the links from slot to slot begin, and the number of all words.
 pub const NEXT_AT: usize = MAX_GATES;
 
 pub const FANOUT_WORDS: usize = NEXT_AT + SLOTS * MAX_GATES;

@@ -1,5 +1,5 @@
-// A block's gates as a graph, decoded once: five words a gate, its operation and the places of its four operands (specs/Graph.antt). Searches, orders,
-// evaluation and copies read a gate here and know nothing of the stored format.
+// A block's gates as a graph, decoded once: five words a gate, its operation and the places of its four operands
+// (specs/Graph.antt). Searches, orders, evaluation and copies read a gate here and know nothing of the stored format.
 pub mod fanout;
 
 use layout::kinds::row_of;
@@ -38,19 +38,20 @@ pub const SLOTS: usize = 4;
 
 pub const GRAPH_WORDS: usize = NODE_SIZE * MAX_GATES;
 
-// What stands behind the kind and the operand count in an operation.
+// The weights of the controlling and of the forced value in an operation, above the kind and the operand count.
 const CONTROLLING: usize = 64;
 
 const FORCED: usize = 128;
 
-// The controlling value of a kind and what it forces. `not` is a `nand` of one operand; `xor` and `xnor` have no controlling value: of theirs the first number
-// says that an absent operand is 0, and the second whether the parity is inverted.
+// The controlling value of a kind and what it forces. `not` is a `nand` of one operand; `xor` and `xnor` have no
+// controlling value: of theirs the first number says that an absent operand is 0, and the second whether the parity is
+// inverted.
 pub struct Rule {
     pub controlling: usize,
     pub forced: usize,
 }
 
-// By the kind's number.
+// The rule of a kind, by the kind's number.
 pub fn rule_of(kind: usize) -> Rule
     requires { ⌜ kind ≤ 6 ⌝ }
     ensures { λ r. ⌜ (r .controlling ≡ controllingOf kind) × (r .forced ≡ forcedOf kind) × (r .controlling ≤ 1) × (r .forced ≤ 1) ⌝ }
@@ -123,7 +124,7 @@ fn put_node(words: &[u16], nodes: Nodes, j: usize, graph: &mut [u16; GRAPH_WORDS
     graph[to + 4] = slot_place(words, n, at, 3, absent) as u16;
 }
 
-// The graph of a block.
+// Writes the graph of a block.
 pub fn decode_gates(words: &[u16], graph: &mut [u16; GRAPH_WORDS])
     requires { ⌜ (isMalformed (now words) ≡ false) × (length (now graph) ≡ graphSize) ⌝ }
     ensures { λ r. ⌜ Decoded (decode (now (words .entry))) (getD (now (words .entry)) 1 0) (now (graph .exit)) ⌝ }

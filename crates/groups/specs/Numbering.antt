@@ -1,8 +1,9 @@
--- Numbering groups one by one, on arrays: a gate's number, or the mark of none, and each gate's leader, the lowest gate of its group.
+-- Numbering groups one by one, on arrays, in topological order: a gate's number, or the mark of none, and each gate's
+-- leader, the lowest gate of its strongly connected group.
 --   NumberReady       a graph and its leaders
 --   NumberedUpTo      the numbers when the first g groups have theirs
---   NumbersOf         all of them
---   GroupsNumbered    the same in a slice, for a block
+--   NumbersOf         the numbers of all groups
+--   GroupsNumbered    the numbers of all groups in a slice, for a block
 use Prim.Native.Nat.{ℕ, _≤_, _<_}
 use mathlib.Core.Path.{_≡_}
 use mathlib.Core.Bool.{Bool, cond, not, _&&_}
@@ -43,7 +44,7 @@ pub record NumberedUpTo (m : ℕ) (graph : List ℕ) (g : ℕ) (numbers : List �
   pub room : length numbers ≡ maxGates
   pub each : (j : ℕ) → j < m → getD numbers j 0 ≡ numberUpTo (network m graph) g j
 
--- the end of numbering
+-- every gate has the number of its group: the end of numbering
 pub record NumbersOf (b : Block) (m : ℕ) (numbers : List ℕ) (count : ℕ) : Type 0 where
   pub each : (j : ℕ) → j < m → getD numbers j 0 ≡ groupNumber b j
   pub countIs : count ≡ length (groups b)

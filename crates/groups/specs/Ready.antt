@@ -10,7 +10,7 @@ use Rattle.lanes.specs.Words.{hasLane}
 unfoldable pub inSet : List ℕ → ℕ → Bool
 inSet ready l = hasLane (getD ready (l / 64) 0) (l % 64)
 
--- the set with gate l, and without it
+-- the set with gate l added, and the set without it
 abbrev pub Added : ℕ → List ℕ → List ℕ → Type 0
 Added l ready ready′ = (i : ℕ) → inSet ready′ i ≡ inSet ready i || eqb i l
 

@@ -1,5 +1,5 @@
--- Groups that wait: each counts the slots of its gates that read a gate of another group without a number. A group whose count is 0 may be next (Kahn's
--- algorithm on groups).
+-- Groups that wait (Kahn's algorithm on strongly connected groups): each counts the slots of its gates that read a gate
+-- of another group without a number. A group whose count is 0 may be next.
 --   crosses       a slot reads a gate of another group
 --   isOpen        a slot that its group waits for: the gate has no number, or has it and the slot was not woken yet
 --   countOf       the slots that a group waits for
@@ -31,15 +31,16 @@ slotGate graph e = slotPlace graph e - firstGate
 unfoldable pub crosses : List ℕ → List ℕ → ℕ → Bool
 crosses graph leaders e = leb firstGate (slotPlace graph e) && not (eqb (getD leaders (slotGate graph e) 0) (getD leaders (e / slots) 0))
 
--- gate k has its number, and of its readers those with numbers below `at` are to be woken
+-- slot e is waited for, at the moment when gate k has its number and, of the slots that read k, those with numbers
+-- below `at` are still to be woken
 unfoldable pub isOpen : List ℕ → List ℕ → List ℕ → ℕ → ℕ → ℕ → Bool
 isOpen graph leaders numbers k at e = crosses graph leaders e && (unnumbered numbers (slotGate graph e) || (eqb (slotGate graph e) k && ltb e at))
 
--- no reader is to be woken
+-- slot e is waited for, when no slot is to be woken: it reads a gate of another group that has no number
 unfoldable pub allOpen : List ℕ → List ℕ → List ℕ → ℕ → Bool
 allOpen graph leaders numbers e = crosses graph leaders e && unnumbered numbers (slotGate graph e)
 
--- of the first n slots
+-- how many of the first n slots a group waits for
 unfoldable pub countOf : List ℕ → (ℕ → Bool) → ℕ → ℕ → ℕ
 countOf leaders held l n = countBelow (λ e. eqb (getD leaders (e / slots) 0) l && held e) n
 
@@ -51,7 +52,7 @@ pub record IsReady (m h : ℕ) (leaders numbers counts : List ℕ) (l : ℕ) : T
   pub bare : unnumbered numbers l ≡ true
   pub zero : getD counts l 0 ≡ 0
 
--- h's group is taken out of the set, and gets its number
+-- the state between two groups: h's group is taken out of the set of ready ones, and gets its number
 pub record Waiting (m : ℕ) (leaders numbers : List ℕ) (h : ℕ) (held : ℕ → Bool) (counts ready : List ℕ) : Type 0 where
   pub countRoom : length counts ≡ maxGates
   pub readyRoom : length ready ≡ readyWords
@@ -61,7 +62,7 @@ pub record Waiting (m : ℕ) (leaders numbers : List ℕ) (h : ℕ) (held : ℕ 
   pub sound : (l : ℕ) → inSet ready l ≡ true → IsReady m h leaders numbers counts l
   pub complete : (l : ℕ) → IsReady m h leaders numbers counts l → inSet ready l ≡ true
 
--- ---- the first counts
+-- ---- the counts at first, when no group has a number
 
 pub record Counting (m : ℕ) (graph leaders : List ℕ) (e : ℕ) (counts : List ℕ) : Type 0 where
   pub prepared : NumberReady m graph leaders
@@ -74,7 +75,7 @@ pub record ReadyBelow (l : ℕ) (leaders counts ready : List ℕ) : Type 0 where
   pub sound : (i : ℕ) → inSet ready i ≡ true → (i < l) × (getD leaders i 0 ≡ i) × (getD counts i 0 ≡ 0)
   pub complete : (i : ℕ) → i < l → getD leaders i 0 ≡ i → getD counts i 0 ≡ 0 → inSet ready i ≡ true
 
--- ---- readers
+-- ---- the fan-out: slots are woken when the gate that they read gets its number
 
 -- slot e reads gate k, which has its number; slots above it were woken
 pub record WakeReady (m : ℕ) (graph : List ℕ) (e k : ℕ) (leaders numbers counts ready : List ℕ) : Type 0 where
@@ -92,9 +93,9 @@ pub record WakeAllReady (m : ℕ) (graph : List ℕ) (k : ℕ) (leaders numbers 
   pub numbered : unnumbered numbers k ≡ false
   pub waiting : Waiting m leaders numbers (getD leaders k 0) (isOpen graph leaders numbers k (getD fanout k 0)) counts ready
 
--- ---- groups
+-- ---- the gates of a group
 
--- behind each gate the next one of its group
+-- word j is the next gate of gate j's group behind it
 abbrev pub NextsAre : List ℕ → ℕ → List ℕ → Type 0
 NextsAre leaders m nexts = (j : ℕ) → j < m → FirstFrom leaders (getD leaders j 0) m (j + 1) (getD nexts j 0)
 
@@ -118,13 +119,13 @@ pub record GroupNumbered (m leader g : ℕ) (graph leaders numbers numbers′ co
   pub each : (j : ℕ) → j < m → getD numbers′ j 0 ≡ cond (eqb (getD leaders j 0) leader) g (getD numbers j 0)
   pub waiting : Waiting m leaders numbers′ m (allOpen graph leaders numbers′) counts′ ready′
 
--- no group has its number
+-- the state in which numbering starts: no group has its number
 pub record AllReady (m : ℕ) (graph leaders nexts fanout numbers counts ready : List ℕ) : Type 0 where
   pub linked : AllLinked m graph leaders nexts fanout
   pub numbersAre : NumberedUpTo m graph 0 numbers
   pub waiting : Waiting m leaders numbers m (allOpen graph leaders numbers) counts ready
 
--- room for each array, empty lists and an empty set
+-- room for each array, with empty lists and an empty set
 pub record NumberRooms (m : ℕ) (graph leaders nexts fanout numbers counts ready : List ℕ) : Type 0 where
   pub legal : Graph m graph
   pub leaderRoom : length leaders ≡ maxGates

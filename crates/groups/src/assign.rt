@@ -1,4 +1,4 @@
-// The groups' numbers of a whole block's words.
+// The groups' numbers of a block, from its stored words.
 use crate::numbering::number_groups;
 use graph::GRAPH_WORDS;
 use graph::decode_gates;
@@ -15,7 +15,7 @@ ghost use Rattle.netlist.specs.StoredBlock.{decode, isMalformed};
 ghost use Rattle.graph.specs.Graph.{graphSize};
 ghost use Rattle.groups.specs.Numbering.{numberAt, GroupsNumbered};
 
-// Writes the first m numbers.
+// Writes the first m of the numbers that were found.
 fn copy_numbers(m: usize, found: &[u16; MAX_GATES], numbers: &mut [u16])
     requires { ⌜ (m ≤ maxGates) × (m ≤ length (now numbers)) ⌝ }
     ensures { λ r. ⌜ now (numbers .exit) ≡ placed (tab (numberAt (now (found .entry))) m) (now (numbers .entry)) ⌝ }
@@ -27,7 +27,7 @@ fn copy_numbers(m: usize, found: &[u16; MAX_GATES], numbers: &mut [u16])
     }
 }
 
-// With room for the graph and the numbers.
+// Numbers the groups of a block, with room lent for its graph and the numbers.
 fn assign_with(
     words: &[u16],
     graph: &mut [u16; GRAPH_WORDS],

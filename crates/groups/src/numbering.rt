@@ -1,4 +1,5 @@
-// Groups are numbered one by one: of those that read no gate without a number outside themselves, the one with the lowest gate is next.
+// Topological order of the strongly connected groups by Kahn's algorithm ("Topological sorting of large networks",
+// 1962): of the groups that read no gate without a number outside themselves, the one with the lowest gate is next.
 use crate::ready::READY_WORDS;
 use crate::ready::lowest;
 use crate::ready::remove;
@@ -21,7 +22,7 @@ ghost use Rattle.graph.specs.Graph.{network, Graph};
 ghost use Rattle.groups.specs.Numbering.{NumbersOf};
 ghost use Rattle.groups.specs.Waiting.{NumberGroupReady, GroupNumbered, AllReady, NumberRooms};
 
-// A turn: of so many gates, one leads the group that gets the number.
+// A turn of numbering: the number of gates, the gate that leads the group, and the number that the group gets.
 struct Turn {
     gates: usize,
     leader: usize,
@@ -97,7 +98,8 @@ fn number_all(
     g
 }
 
-// The leaders, the lists of each group's gates and of each gate's readers, what each group waits for, and the groups that are ready.
+// Prepares numbering: the leaders, the lists of each group's gates and of each gate's fan-out, the count of slots that
+// each group waits for, and the set of groups that are ready.
 fn prepare(
     graph: &[u16; GRAPH_WORDS],
     m: usize,
@@ -116,7 +118,7 @@ fn prepare(
 {
     lead(graph, m, leaders);
     link_slots(graph, m, fanout);
-    // The counts' array holds the first gate of each group in between.
+    // The array of counts holds the first gate of each group for this one call.
     link(leaders, m, m, counts, nexts);
     fill_words(numbers, m, NONE as u16);
     fill_words(counts, m, 0);
@@ -124,7 +126,7 @@ fn prepare(
     add_all_ready(m, leaders, counts, ready);
 }
 
-// With room for what is prepared.
+// Numbers the groups, with room lent for what is prepared.
 fn number_with(
     graph: &[u16; GRAPH_WORDS],
     m: usize,

@@ -1,4 +1,4 @@
-// A set of gates: a bit for each, 64 to a word.
+// A set of gates as words of bits, 64 gates to a word; Kahn's ready set is one.
 use lanes::words::lowest_lane;
 use layout::limits::MAX_GATES;
 ghost use mathlib.Core.Path.{_≡_};
@@ -11,10 +11,10 @@ ghost use Rattle.groups.specs.Ready.{inSet, Added, Removed};
 
 const WORD_BITS: usize = 64;
 
-// A bit for each gate.
+// The words that have a bit for each gate.
 pub const READY_WORDS: usize = MAX_GATES / WORD_BITS;
 
-// Adds gate l.
+// Adds gate l to the set.
 pub fn add(l: usize, ready: &mut [u64])
     requires { ⌜ l < 64 * length (now ready) ⌝ }
     ensures { λ r. ⌜ Added l (now (ready .entry)) (now (ready .exit)) ⌝ }
@@ -23,7 +23,7 @@ pub fn add(l: usize, ready: &mut [u64])
     ready[at] = ready[at] | 1u64 << (l % WORD_BITS);
 }
 
-// Takes gate l, which is in it, out.
+// Takes gate l, which is in the set, out of it.
 pub fn remove(l: usize, ready: &mut [u64])
     requires { ⌜ (l < 64 * length (now ready)) × (inSet (now ready) l ≡ true) ⌝ }
     ensures { λ r. ⌜ Removed l (now (ready .entry)) (now (ready .exit)) ⌝ }
@@ -32,7 +32,7 @@ pub fn remove(l: usize, ready: &mut [u64])
     ready[at] = ready[at] ^ 1u64 << (l % WORD_BITS);
 }
 
-// The lowest gate in it; 64 for each word where it is empty.
+// The lowest gate in the set; where it is empty, 64 for each word.
 pub fn lowest(ready: &[u64]) -> usize
     requires { ⌜ length (now ready) ≤ maxGates ⌝ }
     ensures { λ r. ⌜ r ≡ least (inSet (now (ready .entry))) (64 * length (now (ready .entry))) ⌝ }

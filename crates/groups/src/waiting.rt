@@ -1,5 +1,6 @@
-// Each group counts the slots of its gates that read a gate of another group without a number, and is ready where none does. Where a gate gets its number,
-// each of its readers' groups counts one slot less.
+// The counts of Kahn's algorithm: each group counts the slots of its gates that read a gate of another group without a
+// number, and is ready where there is none. When a gate gets its number, the group of each slot in its fan-out counts
+// one less.
 use crate::ready::READY_WORDS;
 use crate::ready::add;
 use graph::FIRST_GATE;
@@ -18,7 +19,7 @@ ghost use Rattle.graph.specs.Graph.{slots};
 ghost use Rattle.graph.specs.Fanout.{fanoutSize};
 ghost use Rattle.groups.specs.Waiting.{isOpen, allOpen, Waiting, Counting, ReadyBelow, WakeReady, WakeAllReady};
 
-// A word of the fan-out.
+// Word i of the fan-out.
 fn fanout_word(fanout: &[u16; FANOUT_WORDS], i: usize) -> u16
     requires { ⌜ i < fanoutSize ⌝ }
     ensures { λ r. ⌜ r ≡ getD (now (fanout .entry)) i 0 ⌝ }
@@ -26,7 +27,7 @@ fn fanout_word(fanout: &[u16; FANOUT_WORDS], i: usize) -> u16
     fanout[i]
 }
 
-// The group of slot e's gate waits for it, if it reads a gate of another group.
+// Counts slot e for its gate's group, if it reads a gate of another group.
 fn count_slot(
     graph: &[u16; GRAPH_WORDS],
     m: usize,
@@ -48,7 +49,7 @@ fn count_slot(
     counts[leader] = (word_of(counts, leader) as usize + 1) as u16;
 }
 
-// What each group waits for while no gate has a number.
+// Counts for each group the slots that it waits for while no gate has a number.
 pub fn count_slots(
     graph: &[u16; GRAPH_WORDS],
     m: usize,
@@ -65,7 +66,7 @@ pub fn count_slots(
     }
 }
 
-// Gate l, if it leads a group that waits for nothing, is added.
+// Adds gate l to the ready set, if it leads a group that waits for nothing.
 fn add_ready(
     l: usize,
     leaders: &[u16; MAX_GATES],
@@ -84,7 +85,7 @@ fn add_ready(
     add(l, ready);
 }
 
-// The groups that wait for nothing.
+// Adds all groups that wait for nothing to the ready set.
 pub fn add_all_ready(
     m: usize,
     leaders: &[u16; MAX_GATES],
@@ -101,7 +102,7 @@ pub fn add_all_ready(
     }
 }
 
-// Gate k, which slot e reads, got its number: the slot's group waits for it no more.
+// Gate k, which slot e reads, got its number: the group of the slot's gate waits for that slot no more.
 fn wake_slot(
     graph: &[u16; GRAPH_WORDS],
     m: usize,

@@ -1,8 +1,10 @@
--- Paper 8 raised the limit of inputs from 10 to 12. Here the limit is a parameter: with 12 the definitions are those of `netlist`, with 10 those of the
--- program just before. The words and the texts themselves never ask for the limit, so only malformed blocks and refusal 3 do.
+-- Paper 8 raised the limit of inputs from 10 to 12. Here the limit is a parameter: with 12 the definitions are those of
+-- `netlist`, with 10 those of the program just before. The words and the texts themselves never ask for the limit, so
+-- only malformed blocks and refusal 3 do.
 --   isWellFormedUpTo, isMalformedUpTo   SPECIFICATION 2.4, with the limit of inputs as a parameter
 --   isOverLimitUpTo, readUpTo           SPECIFICATION 7.3, likewise
---   LimitKept                           the theorem of proofs/InputLimit.antt: what stayed, and what is refused by the earlier program
+--   LimitKept                           the theorem of proofs/InputLimit.antt: what stayed, and what is refused by the
+--                                       earlier program
 use Prim.Native.Nat.{ℕ, _-_, _≤_, _<_}
 use mathlib.Core.Path.{_≡_}
 use mathlib.Core.Bool.{Bool, true, false, not, _&&_}
@@ -62,14 +64,14 @@ unfoldable pub inputsOf : Parsed Tree → ℕ
 inputsOf (stuck left) = 0
 inputsOf (got t rest) = length (t .inputs)
 
--- Of a limit of at most 12.
+-- What stays when the limit of inputs is raised from `limit`, which is at most 12.
 pub record LimitKept (limit : ℕ) : Type 0 where
   -- a block of up to so many inputs keeps its words: it is whole now exactly if it was
   pub blocksKept : (ws : List ℕ) → getD ws 0 0 ≤ limit → isMalformedUpTo limit ws ≡ isMalformed ws
-  -- one with more is torn to the earlier program
+  -- a block with more inputs was malformed to the earlier program
   pub blocksTorn : (ws : List ℕ) → limit < getD ws 0 0 → isMalformedUpTo limit ws ≡ true
   -- a text of up to so many inputs keeps every answer of Read
   pub textsKept : (text : List ℕ) → inputsOf (parse text) ≤ limit → (room : ℕ) → readUpTo limit text room ≡ read text room
-  -- one with more, which is of the grammar and not overlong, is crowded to the earlier program
+  -- a text with more inputs, of the grammar and not overlong, was refused with 3 by the earlier program
   pub textsCrowded : (text : List ℕ) → limit < inputsOf (parse text) → length text ≤ maxText → (room : ℕ)
       → readUpTo limit text room ≡ refused OverLimit

@@ -1,5 +1,6 @@
--- A block at every limit: 12 inputs with names of eight bytes, 8 never lines that name them all, 1,024 gates of four operands and 16 outputs. Its words and
--- its written text are as long as any can be: 5,268 words and 58,098 bytes (proofs/Largest.antt).
+-- A block at every limit: 12 inputs with names of eight bytes, 8 never lines that name them all, 1,024 gates of four
+-- operands and 16 outputs. Its words and its written text are as long as any can be: 5,268 words and 58,098 bytes
+-- (proofs/Largest.antt).
 use Prim.Native.Nat.{ℕ, _+_}
 use mathlib.Core.List.{List, [], _∷_, _++_}
 use lib.ListN.{replicate}

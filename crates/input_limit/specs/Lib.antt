@@ -1,3 +1,3 @@
--- What Paper 8 says of the program just before it.
+-- What raising the limit of inputs changed (Paper 8).
 pub mod InputLimit
 pub mod Largest

@@ -1,5 +1,5 @@
--- Tests and searches over lists and numbers, as functions that compute. The toolchain's own are over another ℕ or do not unfold.
--- Every crate above cites these. Assumes nothing.
+-- Tests and searches over lists and numbers, as functions that compute. The toolchain's own are over another ℕ or do
+-- not unfold. Every crate above cites these. Assumes nothing.
 use Prim.Native.Nat.{ℕ, zero, suc, _+_}
 use mathlib.Core.Bool.{Bool, true, false, cond, _&&_, _||_}
 use mathlib.Core.List.{List, [], _∷_, _++_}
@@ -91,7 +91,8 @@ abbrev pub distinct : List (List ℕ) → Bool
 distinct [] = true
 distinct (x ∷ xs) = cond (memberList x xs) false (distinct xs)
 
--- without the zeros at the end
+-- a number in front of a list that has no zero at its end, such that the result has none either; `trimmed` drops all
+-- zeros at a list's end
 abbrev pub onto : ℕ → List ℕ → List ℕ
 onto x [] = cond (eqb x 0) [] (x ∷ [])
 onto x (y ∷ ys) = x ∷ y ∷ ys

@@ -1,11 +1,11 @@
--- The masks of values in a row, as `gather` answers them. Assumes nothing.
+-- The masks of values in a row, as crates/layout/src/gather.rt answers them. Assumes nothing.
 use Prim.Native.Nat.{ℕ}
 use mathlib.Core.List.{List}
 use Rattle.netlist.specs.Values.{Value, isDefined}
 use Rattle.netlist.specs.Assignments.{maskOf, isOne}
 use Rattle.layout.specs.declared.gather.Masks.{Masks}
 
--- a mask is a word
+-- a mask has as many bits as a word
 abbrev pub maskBits : ℕ
 maskBits = 16
 

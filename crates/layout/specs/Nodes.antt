@@ -7,7 +7,8 @@ use lib.Dec.{ltb}
 use Rattle.netlist.specs.StoredBlock.{gatesAt}
 use Rattle.layout.specs.declared.nodes.Nodes.{Nodes}
 
--- in a block of n inputs and m gates: the gate's number, or m where the word names an input, a constant or nothing
+-- the number of the gate that a word names in a block of n inputs and m gates, or m where the word names an input, a
+-- constant or nothing
 unfoldable pub gateNamed : ℕ → ℕ → ℕ → ℕ
 gateNamed n m word = cond (ltb word n) m (cond (ltb word (n + m)) (word - n) m)
 

@@ -1,4 +1,4 @@
-// One value in the first elements of a slice.
+// Filling: one value in the first elements of a slice.
 ghost use mathlib.Core.Path.{_≡_};
 ghost use Prim.Native.Nat.{_≤_};
 ghost use lib.ListN.{length, replicate};

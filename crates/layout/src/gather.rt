@@ -8,7 +8,7 @@ ghost use Rattle.netlist.specs.Values.{valueOf, isDefined};
 ghost use Rattle.netlist.specs.Assignments.{isOne};
 ghost use Rattle.layout.specs.Masks.{maskBits, masksOf};
 
-// Bit i of each mask is of value i.
+// Two masks of values: bit i of each is of value i.
 pub struct Masks {
     pub defined: u16,
     pub ones: u16,
@@ -25,7 +25,7 @@ pub fn defined_bit(v: u8) -> u16
     }
 }
 
-// Its bit in the mask of those at 1.
+// The bit of a value in the mask of those at 1.
 pub fn one_bit(v: u8) -> u16
     ensures { λ r. ⌜ r ≡ cond (isOne (valueOf v)) 1 0 ⌝ }
 {
@@ -35,7 +35,7 @@ pub fn one_bit(v: u8) -> u16
     }
 }
 
-// The masks of at most 16 values, the last one first.
+// The masks of at most 16 values, made from the last value to the first.
 pub fn masks_of(values: &[u8]) -> Masks
     requires { ⌜ length (now values) ≤ maskBits ⌝ }
     ensures { λ r. ⌜ r ≡ masksOf (map valueOf (now (values .entry))) ⌝ }

@@ -1,4 +1,5 @@
-// The kinds (SPECIFICATION 3.2): the table of controlling values, and every kind's operand counts and keyword. Code reads them here.
+// The kinds (SPECIFICATION 3.2): the table of controlling values, and every kind's operand counts and keyword. Code
+// reads them here.
 use netlist::Row;
 use netlist::Signature;
 ghost use mathlib.Core.Path.{_≡_};
@@ -56,7 +57,7 @@ pub const XNOR: Signature = Signature {
     keyword: [b'x', b'n', b'o', b'r'],
 };
 
-// The row of a kind other than `not`; all zero where it has none.
+// The row of a kind other than `not`; all zero where the kind has none.
 pub fn row_of(kind: usize) -> Row
     ensures { λ r. ⌜ (1 ≤ kind → r ≡ rowOf kind) ⌝ }
 {

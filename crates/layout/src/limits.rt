@@ -1,4 +1,5 @@
-// The limits (SPECIFICATION 1.5); the definitions have them in netlist/specs/Limits.antt. Every array and comparison reads them here.
+// The limits (SPECIFICATION 1.5); the definitions have them in netlist/specs/Limits.antt. Every array and comparison
+// reads them here.
 use crate::offsets::GATE_SIZE;
 use crate::offsets::INPUTS_AT;
 use crate::offsets::NAME_SIZE;
@@ -23,7 +24,7 @@ pub const MAX_NAME: usize = 8;
 // The levels of an expression.
 pub const MAX_DEPTH: usize = 8;
 
-// What follows from them.
+// Numbers that follow from the limits above.
 
 // The settings of MAX_INPUTS inputs.
 pub const MAX_SETTINGS: usize = 1 << MAX_INPUTS;

@@ -1,4 +1,5 @@
-// A block's nodes, operand words that name them or constants (SPECIFICATION 2.3), and the mark of an empty entry in a table of gates.
+// A block's nodes, operand words that name them or constants (SPECIFICATION 2.3), and the mark of an empty entry in a
+// table of gates.
 use crate::offsets::gates_at;
 use crate::offsets::gates_of;
 use crate::offsets::inputs_of;
@@ -7,7 +8,8 @@ ghost use Prim.Native.Nat.{_≤_};
 ghost use Rattle.layout.specs.Bounds.{maxWord};
 ghost use Rattle.layout.specs.Nodes.{gateNamed, nodesOf};
 
-// What every search and sweep of a block goes by: how many inputs and gates it has, and where the first gate's words start.
+// What every search and sweep of a block goes by: how many inputs and gates it has, and where the first gate's words
+// start.
 pub struct Nodes {
     pub inputs: usize,
     pub gates: usize,

@@ -1,5 +1,5 @@
-// Where the parts of a stored block stand (SPECIFICATION 2.1): the head's four counts, the inputs' names, the never lines, the gates, the
-// outputs. Callers read counts and offsets here and nowhere else.
+// Where the parts of a stored block stand (SPECIFICATION 2.1): the head's four counts, the inputs' names, the never
+// lines, the gates, the outputs. Callers read counts and offsets here and nowhere else.
 use crate::read::word_at;
 ghost use mathlib.Core.Path.{_≡_};
 ghost use Prim.Native.Nat.{_≤_};
@@ -21,21 +21,21 @@ pub const OPERAND_WORDS: usize = 4;
 
 pub const OUTPUT_SIZE: usize = 5;
 
-// n
+// The number of inputs, n.
 pub fn inputs_of(words: &[u16]) -> usize
     ensures { λ r. ⌜ r ≡ getD (now (words .entry)) 0 0 ⌝ }
 {
     word_at(words, 0)
 }
 
-// m
+// The number of gates, m.
 pub fn gates_of(words: &[u16]) -> usize
     ensures { λ r. ⌜ r ≡ getD (now (words .entry)) 1 0 ⌝ }
 {
     word_at(words, 1)
 }
 
-// k
+// The number of outputs, k.
 pub fn outputs_of(words: &[u16]) -> usize
     ensures { λ r. ⌜ r ≡ getD (now (words .entry)) 2 0 ⌝ }
 {

@@ -1,4 +1,5 @@
-// Words and bytes of a slice, read with a default past the end, as the definitions read them; and words that are known to be there.
+// Words and bytes of a slice, read with a default past the end, as the definitions read them; and words that are known
+// to be there.
 ghost use mathlib.Core.Path.{_≡_};
 ghost use Prim.Native.Nat.{_<_};
 ghost use lib.ListN.{length, getD};

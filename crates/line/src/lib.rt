@@ -1,5 +1,6 @@
-// Line (SPECIFICATION 7.4): the line of the text that holds a given place, as the part of the caller's own text, without its LF. Never refuses.
-// `line_start` and `line_length` are its two ends for callers who cannot be handed a part: the C export.
+// Line (SPECIFICATION 7.4): the line of the text that holds a given place, as the part of the caller's own text,
+// without its LF. Never refuses. `line_start` and `line_length` are its two ends for callers who cannot be handed a
+// part: the C export.
 ghost use mathlib.Core.Path.{_≡_};
 ghost use mathlib.Core.Bool.{false};
 ghost use Prim.Native.Nat.{ℕ, _+_, _<_, _≤_};
@@ -9,7 +10,7 @@ ghost use Rattle.netlist.specs.Line.{lf, clamped, startBefore, untilLf, lineSta
 // The bytes that are looked at together, so that a processor compares many at a time.
 const PART: usize = 64;
 
-// The place, or the end where it is past it.
+// The place, or the text's end where the place is past it.
 fn clamp(text: &[u8], place: usize) -> usize
     ensures { λ r. ⌜ r ≡ clamped (now (text .entry)) place ⌝ }
 {
@@ -20,7 +21,7 @@ fn clamp(text: &[u8], place: usize) -> usize
     }
 }
 
-// Does an LF stand in the part from `at` on? No byte of it ends the search.
+// Does an LF stand in the part from `at` on? Every byte of the part is looked at, so that no byte ends the loop early.
 fn has_lf(text: &[u8], at: usize) -> bool
     requires { ⌜ at + 64 ≤ length (now text) ⌝ }
     ensures { λ r. ⌜ (r ≡ false → (k : ℕ) → k < 64 → getD (now (text .entry)) (at + k) 0 ≡ lf → ⊥) ⌝ }
@@ -34,7 +35,7 @@ fn has_lf(text: &[u8], at: usize) -> bool
     found
 }
 
-// Backwards over the parts without an LF.
+// Goes back over whole parts without an LF.
 fn skip_before(text: &[u8], at: usize) -> usize
     requires { ⌜ at ≤ length (now text) ⌝ }
     ensures { λ r. ⌜ (r ≤ length (now (text .entry))) × (startBefore (now (text .entry)) at ≡ startBefore (now (text .entry)) r) ⌝ }
@@ -49,7 +50,7 @@ fn skip_before(text: &[u8], at: usize) -> usize
     start
 }
 
-// Onwards over the parts without an LF.
+// Goes on over whole parts without an LF.
 fn skip_behind(text: &[u8], at: usize) -> usize
     requires { ⌜ at ≤ length (now text) ⌝ }
     ensures { λ r. ⌜ (r ≤ length (now (text .entry))) × (at + untilLf (drop at (now (text .entry))) ≡ r + untilLf (drop r (now (text .entry)))) ⌝ }
@@ -100,7 +101,8 @@ pub fn line_length(text: &[u8], place: usize, start: usize) -> usize
     line_end(text, place) - start
 }
 
-// The line: its bytes, and that it is the caller's own part, from the line's start on.
+// The line that holds a place. Its promise: the line's bytes, and that they are the caller's own text from the line's
+// start on.
 pub fn line(text: &[u8], place: usize) -> &[u8]
     ensures holds { λ r. ⌜ now r ≡ lineAt (now (text .entry)) place ⌝ }
     ensures stands { λ r. ⌜ (r .ptr .0 ≡ text .entry .ptr .0) × (r .ptr .1 ≡ text .entry .ptr .1 + lineStart (now (text .entry)) place) ⌝ }

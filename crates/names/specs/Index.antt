@@ -1,5 +1,6 @@
--- The index of a table of names: a hash table by open addressing. An entry is 0, or one more than the number of a name of the table. The walk
--- of a name begins at its hash and goes on by one to the first entry that is 0 or that name's own. Assumes nothing.
+-- The index of a table of names: a hash table by open addressing with linear probing (Knuth, The Art of Computer
+-- Programming 3, 6.4). An entry is 0, or one more than the number of a name of the table. The walk of a name begins at
+-- its hash and goes on by one to the first entry that is 0 or that name's own. Assumes nothing.
 use Prim.Native.Nat.{ℕ, zero, suc, _+_, _%_, _≤_, _<_}
 use mathlib.Core.Path.{_≡_}
 use mathlib.Core.Bool.{Bool, true, false}
@@ -36,7 +37,8 @@ pub record Stored (names index : List ℕ) (i : ℕ) : Type 0 where
   pub ends : WalkEnds names index (getD names i 0) at
   pub entry : getD index at 0 ≡ suc i
 
--- the index holds the first `count` names, of which none repeats another. No entry stands further behind the last hash than there are names
+-- the index holds the first `count` names, of which none repeats another. No entry stands further behind the last hash
+-- than there are names
 pub record Indexed (names : List ℕ) (count : ℕ) (index : List ℕ) : Type 0 where
   pub few : length names < 65536
   pub room : hashes + length names < length index
@@ -50,7 +52,7 @@ pub record NameEntered (names : List ℕ) (i : ℕ) (after : List ℕ) (r : Bool
   pub answer : r ≡ repeatsAt names i
   pub stored : r ≡ false → Indexed names (i + 1) after
 
--- the first name that repeats one before it is told, or all are in the index
+-- the first name that repeats one before it is told by r, or all names are in the index
 pub record AllEntered (names after : List ℕ) (r : ℕ) : Type 0 where
   pub answer : r ≡ least (repeatsAt names) (length names)
   pub indexed : length names ≤ r → Indexed names (length names) after

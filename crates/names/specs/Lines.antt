@@ -1,5 +1,6 @@
--- A text as lines, read from its bytes alone: where line i of those from a place on starts, where its declared name stands, and
--- how many gates close up to its end. On the print of a legal tree these are the tree's own numbers (proofs/).
+-- A text as lines, read from its bytes alone: where line i of those from a place on starts, where its declared name
+-- stands, and how many gates close up to its end. On the print of a legal tree these are the tree's own numbers
+-- (proofs/).
 use Prim.Native.Nat.{ℕ, zero, suc, _+_, _-_, _≤_}
 use mathlib.Core.Path.{_≡_}
 use mathlib.Core.Bool.{Bool, false, cond, _&&_}
@@ -42,23 +43,23 @@ unfoldable pub lineOffset : List ℕ → ℕ → ℕ → ℕ
 lineOffset text from zero = from
 lineOffset text from (suc i) = lineOffset text from i + lengthWithLf (drop (lineOffset text from i) text)
 
--- the gates in the first i of them: a line has one bracket that is no gate's
+-- how many gates close in the first i lines from a place on: a line has one bracket that is no gate's
 unfoldable pub gatesTo : List ℕ → ℕ → ℕ → ℕ
 gatesTo text from zero = 0
 gatesTo text from (suc i) = gatesTo text from i + (lineOpens (drop (lineOffset text from i) text) - 1)
 
--- "(in ", "(gate " or "(out " stands before the name
+-- how many bytes stand before the declared name, by the line's letter: "(in ", "(gate " or "(out "
 unfoldable pub nameOffset : ℕ → ℕ
 nameOffset letter = cond (eqb letter 105) 4 (cond (eqb letter 103) 6 5)
 
--- the place of the name that the line at `at` declares, and that line i of those from a place on does
+-- the place of the name that the line at `at` declares; and of the name that line i, of those from a place on, declares
 unfoldable pub declaredPlace : List ℕ → ℕ → ℕ
 declaredPlace text at = at + nameOffset (getD (drop at text) 1 0)
 
 unfoldable pub placeAt : List ℕ → ℕ → ℕ → ℕ
 placeAt text from i = declaredPlace text (lineOffset text from i)
 
--- the number of that name
+-- the name that line i, of those from a place on, declares, as a number
 unfoldable pub numberAt : List ℕ → ℕ → ℕ → ℕ
 numberAt text from i = packedAt text (placeAt text from i)
 
@@ -66,11 +67,11 @@ numberAt text from i = packedAt text (placeAt text from i)
 unfoldable pub lineWord : ℕ → ℕ → ℕ → ℕ
 lineWord n i gates = cond (ltb i n) i (n + (gates - 1))
 
--- of line i of those from a place on, before which `first` declarations stand and no gate
+-- the node that line i, of those from a place on, declares, when `first` declarations and no gate stand before
 unfoldable pub wordAt : List ℕ → ℕ → ℕ → ℕ → ℕ → ℕ
 wordAt text from n first i = lineWord n (first + i) (gatesTo text from (suc i))
 
--- the bytes of a line, the place of its name in it, and its gates
+-- what is told of the line at the front of s: its bytes, the place of its name in it, and its gates
 pub record LineOf (s : List ℕ) (r : Line) : Type 0 where
   pub length : r .length ≡ lengthWithLf s
   pub name : r .name ≡ nameOffset (getD s 1 0)
@@ -93,7 +94,7 @@ pub record FilledTo (text : List ℕ) (from n first : ℕ) (places words : List 
   pub placesAre : places′ ≡ sets places first (tab (placeAt text from) i)
   pub wordsAre : words′ ≡ sets words first (tab (wordAt text from n first) i)
 
--- in the middle of it: i lines are done
+-- the tables while they are filled: i lines are done
 pub record FillNow (text : List ℕ) (from n first lines : ℕ) (places words : List ℕ) (i at gates : ℕ) (places′ words′ : List ℕ) : Type 0 where
   pub within : i ≤ lines
   pub start : at ≡ lineOffset text from i

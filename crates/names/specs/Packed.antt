@@ -16,7 +16,7 @@ nameFront zero xs = []
 nameFront (suc most) [] = []
 nameFront (suc most) (x ∷ xs) = cond (isNameByte x) (x ∷ nameFront most xs) []
 
--- the name that stands at a place of a text, and its number
+-- the name that stands at a place of a text, and that name as a number
 unfoldable pub nameFrom : List ℕ → ℕ → List ℕ
 nameFrom text at = nameFront maxName (drop at text)
 

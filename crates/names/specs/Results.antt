@@ -21,8 +21,8 @@ use Rattle.names.specs.Index.{hashes, Indexed}
 use Rattle.names.specs.Trees.{TextOf}
 use Rattle.names.specs.declared.Counts.{Counts}
 
--- the counts as the bytes of the lines behind never lines give them: each line has one bracket of its own, each gate one more; `g` stands behind those
--- of named gates alone. The lines before are counted already
+-- the counts as the bytes of the lines behind never lines give them: each line has one bracket of its own, each gate
+-- one more; `g` stands behind those of named gates alone. The lines before are counted already
 unfoldable pub countsOf : ℕ → ℕ → List ℕ → Counts
 countsOf inputs nevers rest =
     record {
@@ -44,7 +44,7 @@ treeCounts t =
       gates = sum (map lineGates (t .gates));
     }
 
--- 3, from the counts
+-- refusal 3, from the counts
 unfoldable pub isOver : Counts → Bool
 isOver c =
     not (leb (c .inputs) maxInputs && leb (c .nevers) maxNevers && leb (c .gates) maxGates && leb (c .outputs) maxOutputs)
@@ -68,7 +68,7 @@ pub record NameTable (t : Tree) (names places : List ℕ) : Type 0 where
   pub numbersAre : take (length (declared t)) names ≡ packedNames t
   pub placesAre : take (length (declared t)) places ≡ namePlaces t
 
--- and the numbers of the declared nodes
+-- the tables hold the tree's declared names, their places, and the nodes that they declare
 pub record Declared (t : Tree) (names places words : List ℕ) : Type 0 where
   pub table : NameTable t names places
   pub nodesAre : take (length (bindings t)) words ≡ nodeWords t
@@ -107,11 +107,11 @@ pub record IndexReady (c : Counts) (names places index : List ℕ) : Type 0 wher
   pub indexRoom : hashes + (maxInputs + maxGates) < length index
   pub empty : (j : ℕ) → getD index j 0 ≡ 0
 
--- 4 outside never lines: every node is declared before every port
+-- refusal 4 outside never lines: every node is declared before every port
 unfoldable pub declaredTwice : Tree → Option ℕ
 declaredTwice t = orElse (firstRepeat [] (declaredNodes t)) (firstRepeat [] (declaredPorts t))
 
--- the answer is that; where it passes, the index holds the names
+-- the answer of refusal 4 outside never lines; where it passes, the index holds the names
 pub record Repeats (c : Counts) (names places index : List ℕ) (r : Test) : Type 0 where
   pub answer : (t : Tree) → isLegalTree t ≡ true → c ≡ treeCounts t → NameTable t names places → r ≡ testAt (declaredTwice t) DuplicateDeclaration
   pub indexed : r ≡ Passed → NodesIndexed c names index

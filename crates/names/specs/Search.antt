@@ -1,4 +1,4 @@
--- Searches in a table of numbers.
+-- Linear searches in a table of names as numbers.
 use Prim.Native.Nat.{ℕ}
 use mathlib.Core.Bool.{Bool}
 use mathlib.Core.List.{List}

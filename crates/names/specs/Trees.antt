@@ -1,4 +1,5 @@
--- The text of a tree, and its lines but the never lines: those of inputs, and behind never lines those of gates and outputs.
+-- The text of a tree, and its lines but the never lines: those of inputs, and behind never lines those of gates and
+-- outputs.
 use Prim.Native.Nat.{ℕ}
 use mathlib.Core.Path.{_≡_}
 use mathlib.Core.Bool.{Bool, true, false, cond}
@@ -27,7 +28,7 @@ pub record TextOf (t : Tree) (text : List ℕ) : Type 0 where
   pub legal : isLegalTree t ≡ true
   pub printed : print t ≡ text
 
--- an LF stands at the end, and nowhere before
+-- a list is empty; and a list is one line: an LF stands at its end, and nowhere before
 abbrev pub isEmpty : List ℕ → Bool
 isEmpty [] = true
 isEmpty (x ∷ xs) = false

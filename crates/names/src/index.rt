@@ -1,4 +1,5 @@
-// The index of a table of names: a hash table by open addressing, so that a name is found without going through all of them.
+// The symbol table's index: a hash table by open addressing with linear probing (Knuth, The Art of Computer Programming
+// 3, 6.4), so that a name is found without going through all of them.
 use layout::limits::MAX_GATES;
 use layout::limits::MAX_INPUTS;
 ghost use mathlib.Core.Path.{_≡_};
@@ -49,7 +50,7 @@ fn walk(names: &[u64], index: &[u16], name: u64) -> usize
     at
 }
 
-// The number of the name that is this one, or how many names there are.
+// The number of the table's name that is equal to this one, or how many names there are.
 pub fn find_indexed(names: &[u64], index: &[u16], name: u64) -> usize
     requires { ⌜ Indexed (now names) (length (now names)) (now index) ⌝ }
     ensures { λ r. ⌜ r ≡ indexOf (now (names .entry)) (length (now (names .entry))) name ⌝ }
@@ -62,7 +63,7 @@ pub fn find_indexed(names: &[u64], index: &[u16], name: u64) -> usize
     found - 1
 }
 
-// Enters name i behind those before it, or tells that it is one of them.
+// Enters name i behind those before it; tells whether it is one of them already.
 fn enter(names: &[u64], i: usize, index: &mut [u16]) -> bool
     requires { ⌜ Indexed (now names) i (now index) × (i < length (now names)) ⌝ }
     ensures { λ r. ⌜ NameEntered (now (names .entry)) i (now (index .exit)) r ⌝ }
@@ -75,7 +76,8 @@ fn enter(names: &[u64], i: usize, index: &mut [u16]) -> bool
     false
 }
 
-// Enters the names into an empty index up to the first that is one of those before it, and tells its number, or how many names there are.
+// Enters the names into an empty index up to the first that is one of those before it, and tells its number, or how
+// many names there are.
 pub fn enter_all(names: &[u64], index: &mut [u16]) -> usize
     requires { ⌜ Indexed (now names) 0 (now index) ⌝ }
     ensures { λ r. ⌜ AllEntered (now (names .entry)) (now (index .exit)) r ⌝ }

@@ -1,4 +1,5 @@
-// What a text in form declares: counts and limits, its names with their places and node numbers, repeats, and the search for a name.
+// The symbol table of a text in form: counts and limits, its names with their places and node numbers, repeated
+// declarations, and the search for a name.
 pub mod index;
 pub mod lines;
 pub mod pack;

@@ -9,14 +9,14 @@ ghost use lib.ListN.{length, drop};
 ghost use Rattle.netlist.specs.Limits.{maxText};
 ghost use Rattle.names.specs.Lines.{times, timesBehind, lengthWithLf, lineOpens, nameOffset, LineOf};
 
-// 1 where the bytes are the same.
+// 1 where the bytes are the same, else 0.
 fn one_if(a: u8, b: u8) -> usize
     ensures { λ r. ⌜ r ≡ cond (eqb a b) 1 0 ⌝ }
 {
     if a == b { 1 } else { 0 }
 }
 
-// The difference, or 0.
+// The difference of two numbers, or 0 where it would be below 0.
 pub fn minus(a: usize, b: usize) -> usize
     ensures { λ r. ⌜ r ≡ a - b ⌝ }
 {
@@ -37,7 +37,7 @@ pub fn count(s: &[u8], b: u8) -> usize
     n as usize
 }
 
-// How often `b` stands right behind `a` in `s`; counted likewise.
+// How often `b` stands right behind `a` in `s`. The count has 16 bits, so that a processor adds many at a time.
 pub fn count_behind(s: &[u8], a: u8, b: u8) -> usize
     requires { ⌜ length (now s) ≤ maxText ⌝ }
     ensures { λ r. ⌜ r ≡ timesBehind a b (now (s .entry)) ⌝ }

@@ -1,4 +1,4 @@
-// Names as numbers: a name has at most MAX_NAME bytes.
+// Names as numbers: the bytes of a name, at most MAX_NAME, in one 64-bit number.
 use layout::bytes::is_name_byte;
 use layout::limits::MAX_NAME;
 ghost use mathlib.Core.Path.{_≡_};
@@ -23,7 +23,7 @@ pub fn name_length(s: &[u8]) -> usize
     i
 }
 
-// The number of the name at the front of `s`, which has n bytes.
+// The name of n bytes at the front of `s`, as a number.
 pub fn pack_first(s: &[u8], n: usize) -> u64
     requires { ⌜ n ≡ length (nameFront maxName (now s)) ⌝ }
     ensures { λ r. ⌜ r ≡ packed (nameFront maxName (now (s .entry))) ⌝ }
@@ -37,14 +37,14 @@ pub fn pack_first(s: &[u8], n: usize) -> u64
     r
 }
 
-// The number of the name at the front of `s`.
+// The name at the front of `s`, as a number.
 pub fn pack(s: &[u8]) -> u64
     ensures { λ r. ⌜ r ≡ packed (nameFront maxName (now (s .entry))) ⌝ }
 {
     pack_first(s, name_length(s))
 }
 
-// The number of the name at a place of the text.
+// The name at a place of the text, as a number.
 pub fn pack_at(text: &[u8], at: usize) -> u64
     ensures { λ r. ⌜ r ≡ packedAt (now (text .entry)) at ⌝ }
 {

@@ -14,7 +14,8 @@ ghost use Rattle.names.specs.Results.{IndexReady, Repeats};
 ghost use Rattle.names.specs.Index.{maxPairs};
 ghost use Rattle.names.specs.Search.{indexOf, repeatsAt};
 
-// So many names are compared with each other: ports, and the pairs of a never line that a text can have.
+// Up to this many names are compared with each other, without an index: a block's ports, and the pairs of a usual never
+// line.
 const FEW: usize = MAX_OUTPUTS;
 
 // The most pairs of a line: a pair ` (a 0)` has at least 6 bytes.
@@ -43,7 +44,7 @@ fn repeats(names: &[u64], i: usize) -> bool
     find(names, i, names[i]) < i
 }
 
-// The index of the first name that is one of those before it, or the length; each is compared with those before it.
+// The index of the first name that repeats one before it, or the length; each is compared with those before it.
 fn repeat_of_few(names: &[u64]) -> usize
     ensures { λ r. ⌜ r ≡ least (repeatsAt (now (names .entry))) (length (now (names .entry))) ⌝ }
 {
@@ -57,7 +58,7 @@ fn repeat_of_few(names: &[u64]) -> usize
     i
 }
 
-// The same; each is entered into an index.
+// The index of the first name that repeats one before it, or the length; each is entered into an index.
 fn repeat_of_many(names: &[u64]) -> usize
     requires { ⌜ length (now names) ≤ maxPairs ⌝ }
     ensures { λ r. ⌜ r ≡ least (repeatsAt (now (names .entry))) (length (now (names .entry))) ⌝ }
@@ -66,7 +67,7 @@ fn repeat_of_many(names: &[u64]) -> usize
     enter_all(names, &mut index)
 }
 
-// The index of the first name that is one of those before it, or the length.
+// The index of the first name that repeats one before it, or the length.
 pub fn first_repeat(names: &[u64]) -> usize
     ensures { λ r. ⌜ r ≡ least (repeatsAt (now (names .entry))) (length (now (names .entry))) ⌝ }
 {
@@ -79,8 +80,9 @@ pub fn first_repeat(names: &[u64]) -> usize
     repeat_of_few(names)
 }
 
-// 4: the place of the earliest declaration that repeats another. Inputs and gates share one set of names, ports have another (SPECIFICATION 1.4).
-// Enters the names of inputs and gates into the index; ports are few, and are compared with each other.
+// Refusal 4: the place of the earliest declaration that repeats another. Inputs and gates share one set of names, ports
+// have another (SPECIFICATION 1.4). Enters the names of inputs and gates into the index; ports are few, and are
+// compared with each other.
 pub fn duplicate(c: Counts, names: &[u64], places: &[usize], index: &mut [u16]) -> Test
     requires { ⌜ IndexReady c (now names) (now places) (now index) ⌝ }
     ensures { λ r. ⌜ Repeats c (now (names .entry)) (now (places .entry)) (now (index .exit)) r ⌝ }

@@ -1,4 +1,5 @@
-// The table of declared names, in the order of the text: numbers of the names, their places, and the node numbers of inputs and gates.
+// The table of declared names, in the order of the text: numbers of the names, their places, and the node numbers of
+// inputs and gates.
 use crate::Counts;
 use crate::lines::line_of;
 use crate::pack::pack_at;
@@ -40,7 +41,7 @@ fn line_word(n: usize, i: usize, gates: usize) -> usize
     if gates == 0 { n } else { n + (gates - 1) }
 }
 
-// The place of the name that each line from a place on declares, and the node, into the tables behind `first` entries.
+// Fills the tables behind `first` entries: the place of the name that each line from a place on declares, and its node.
 fn fill_lines(
     text: &[u8],
     from: usize,

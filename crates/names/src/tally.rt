@@ -1,4 +1,4 @@
-// What a text has of each kind, and whether that is within the limits.
+// How many lines and gates a text has, and whether that is within the limits.
 use crate::Counts;
 use crate::lines::count;
 use crate::lines::count_behind;
@@ -22,7 +22,8 @@ ghost use Rattle.netlist.specs.Reading.{gateLinesAt, isOverLimit};
 ghost use Rattle.names.specs.Trees.{TextOf};
 ghost use Rattle.names.specs.Results.{countsOf, treeCounts, isOver};
 
-// Each line has one bracket of its own, and each gate one more. `g` stands behind those of named gates alone: no kind begins with it.
+// Counts by bytes: each line has one bracket of its own, and each gate one more. `g` stands behind those of named gates
+// alone, as no kind begins with it.
 fn count_bytes(rest: &[u8], inputs: usize, nevers: usize) -> Counts
     requires { ⌜ length (now rest) ≤ maxText ⌝ }
     ensures { λ r. ⌜ r ≡ countsOf inputs nevers (now (rest .entry)) ⌝ }
@@ -38,7 +39,7 @@ fn count_bytes(rest: &[u8], inputs: usize, nevers: usize) -> Counts
     }
 }
 
-// What a text has whose gate lines begin with `rest`, behind so many inputs and never lines.
+// The counts of a text whose gate lines begin with `rest`, behind so many inputs and never lines.
 pub fn counts(rest: &[u8], inputs: usize, nevers: usize) -> Counts
     requires { ⌜ length (now rest) ≤ maxText ⌝ }
     ensures { λ r. ⌜ ((t : Tree) (text : List ℕ) → TextOf t text → inputs ≡ length (t .inputs) → nevers ≡ length (t .nevers)
@@ -47,7 +48,7 @@ pub fn counts(rest: &[u8], inputs: usize, nevers: usize) -> Counts
     count_bytes(rest, inputs, nevers)
 }
 
-// 3, from the counts.
+// Refusal 3, from the counts.
 fn is_over(c: Counts) -> bool
     ensures { λ r. ⌜ r ≡ isOver c ⌝ }
 {
@@ -67,7 +68,7 @@ fn is_over(c: Counts) -> bool
     MAX_OUTPUTS < outputs
 }
 
-// 3: more inputs, never lines, gates (inner ones counted) or outputs than the limits allow.
+// Refusal 3: more inputs, never lines, gates (inner ones counted) or outputs than the limits allow.
 pub fn limits(c: Counts) -> Test
     ensures { λ r. ⌜ ((t : Tree) → c ≡ treeCounts t → r ≡ testOf (isOverLimit t) OverLimit) ⌝ }
 {

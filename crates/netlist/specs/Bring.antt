@@ -1,4 +1,5 @@
--- SPECIFICATION 7.14: Bring. Blocks stored before there were never lines have three counts at their head; a fourth, 0, makes them blocks of today.
+-- SPECIFICATION 7.14: Bring. Blocks stored before there were never lines have three counts at their head; a fourth, 0,
+-- makes them blocks of today.
 use Prim.Native.Nat.{ℕ}
 use mathlib.Core.Bool.{Bool, not, _&&_}
 use mathlib.Core.List.{List, _∷_, _++_, map}
@@ -27,7 +28,7 @@ encodeBefore b =
 unfoldable pub brought : List ℕ → List ℕ
 brought ws = take 3 ws ++ (0 ∷ drop 3 ws)
 
--- by the rules that held before: not the words, as they were, of any well-formed block of so many inputs
+-- malformed by the rules that held before: not the words, as they were, of any well-formed block of so many inputs
 unfoldable pub isMalformedBefore : List ℕ → Bool
 isMalformedBefore ws =
     not

@@ -1,4 +1,5 @@
--- SPECIFICATION 1.2: which names are legal: one to eight letters, digits and `_`, no digit in front; an input's name and a port begin with a letter.
+-- SPECIFICATION 1.2: which names are legal: one to eight letters, digits and `_`, no digit in front; an input's name
+-- and a port begin with a letter.
 use Prim.Native.Nat.{ℕ}
 use mathlib.Core.Bool.{Bool, _&&_, _||_}
 use lib.ListN.{length, getD}

@@ -1,5 +1,5 @@
--- The bench: a set line `(set (NAME VALUE) ...)` with its LF; its tree is the list of its pairs. What it looks like, which are
--- legal for a number of inputs, and the reader.
+-- The bench: a set line `(set (NAME VALUE) ...)` with its LF; its tree is the list of its pairs. What it looks like,
+-- which are legal for a number of inputs, and the reader.
 use Prim.Native.Nat.{ℕ}
 use mathlib.Core.Bool.{Bool, _&&_}
 use mathlib.Core.List.{List, _++_}
@@ -12,7 +12,7 @@ use Rattle.netlist.specs.Parse.{Reader, expect, bind, nothingBehind, pai
 unfoldable pub printSetLine : List Pair → List ℕ
 printSetLine ps = ascii "(set" ++ printLines printPair ps (ascii ")\n")
 
--- at most as many pairs as inputs
+-- at most as many pairs stand in a set line as there are inputs
 unfoldable pub isLegalSetLine : ℕ → List Pair → Bool
 isLegalSetLine n ps = leb (length ps) n && all isLegalPair ps
 

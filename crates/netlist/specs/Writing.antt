@@ -24,7 +24,7 @@ decimal v = digits (suc v) v
 unfoldable pub gateName : ℕ → Name
 gateName j = ascii "_" ++ decimal j
 
--- the name of a node; an output shows no constant
+-- the name of the node that an operand is; an output shows no constant
 unfoldable pub nodeNameOf : Block → Operand → Name
 nodeNameOf b (input i) = getD (b .inputs) i []
 nodeNameOf b (gate j) = gateName j

@@ -14,7 +14,7 @@ use Rattle.netlist.specs.Reading.{Mention, mentions, neverMentions, neverLinesA
 use Rattle.nevers.specs.declared.NeverLines.{NeverLines}
 use Rattle.nevers.specs.declared.NeverTold.{NeverTold}
 
--- where the never lines of its text stand
+-- where the never lines of a tree's text stand
 unfoldable pub neverLines : Tree → NeverLines
 neverLines t = record { inputs = length (t .inputs); at = neverLinesAt t; count = length (t .nevers); end = gateLinesAt t }
 
@@ -24,22 +24,22 @@ pub record NeverAt (at : ℕ) (ps : List Pair) (text : List ℕ) : Type 0 where
   pub rest : List ℕ
   pub stand : drop at text ≡ printNever ps rest
 
--- and so many of them one behind the other
+-- so many legal never lines stand one behind the other, the first at this place
 pub record NeversAt (at count : ℕ) (ns : List (List Pair)) (text : List ℕ) : Type 0 where
   pub counted : count ≡ length ns
   pub legal : all isLegalNever ns ≡ true
   pub rest : List ℕ
   pub stand : drop at text ≡ printLines printNever ns rest
 
--- their names with their places
+-- the names in these never lines, with their places
 abbrev pub linesMentions : List (List Pair) → ℕ → List Mention
 linesMentions ns at = mentions printNever neverMentions ns at
 
--- their words in a block of these inputs
+-- the words of these never lines in a block with these inputs
 abbrev pub linesWords : List Name → List (List Pair) → List ℕ
 linesWords inputs ns = joined (map neverWords (map (assignmentOf inputs) ns))
 
--- what they tell: 4 and 5 among them, and their words in the beginning of a slice
+-- what reading the never lines tells: refusals 4 and 5 among them, and their words in the beginning of a slice
 pub record Told (t : Tree) (masks masks′ : List ℕ) (r : NeverTold) : Type 0 where
   pub repeats : r .repeat ≡ testAt (firstRepeatIn (t .nevers) (neverLinesAt t)) DuplicateDeclaration
   pub outsides : r .outside ≡ testAt (firstOutside (t .inputs) (excludedNames t)) UndeclaredName

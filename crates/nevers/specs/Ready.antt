@@ -1,4 +1,5 @@
--- What the functions of src/ need, and what they leave: a text in form, and tables that have room for the pairs of any of its lines. Assumes nothing.
+-- What the functions of src/ need, and what they leave: a text in form, and tables that have room for the pairs of any
+-- of its lines. Assumes nothing.
 use Prim.Native.Nat.{ℕ, _*_, _≤_}
 use mathlib.Core.Path.{_≡_}
 use mathlib.Core.List.{List, [], map}
@@ -45,7 +46,7 @@ pub record LineReady (s : List ℕ) (at : ℕ) (inputs : List ℕ) (n : ℕ) (na
   pub inputsReady : InputsReady n inputs
   pub nameRoom : length names ≡ maxPairs
 
--- what it tells
+-- what reading one never line tells: refusals 4 and 5 in it, and its two masks
 pub record LineSays (ps : List Pair) (known : List Name) (at : ℕ) (r : LineTold) : Type 0 where
   pub repeats : r .repeat ≡ testAt (firstRepeat [] (neverMentions ps at)) DuplicateDeclaration
   pub outsides : r .outside ≡ testAt (firstOutside known (neverMentions ps at)) UndeclaredName

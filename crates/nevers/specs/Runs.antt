@@ -8,7 +8,7 @@ use lib.Dec.{eqb}
 use Rattle.laws.specs.Lists.{all, joined}
 use Rattle.names.specs.Trees.{isLine}
 
--- the second byte is this letter
+-- the line's second byte, behind its bracket, is this letter
 abbrev pub lettered : ℕ → List ℕ → Bool
 lettered letter [] = false
 lettered letter (x ∷ []) = false
@@ -22,7 +22,7 @@ pub record RunAt (letter at : ℕ) (ls : List (List ℕ)) (text : List ℕ) : Ty
   pub stand : drop at text ≡ joined ls ++ rest
   pub ended : lettered letter rest ≡ false
 
--- the place behind them, and how many they are
+-- what is told of the lines with one letter: the place behind them, and how many they are
 pub record Ran (letter from : ℕ) (text : List ℕ) (end count : ℕ) : Type 0 where
   pub inside : end ≤ length text
   pub ends : (ls : List (List ℕ)) → RunAt letter from ls text → end ≡ from + length (joined ls)

@@ -17,7 +17,7 @@ struct Run {
     count: usize,
 }
 
-// The lines from `from` on that begin with this letter.
+// Walks over the lines from `from` on that begin with this letter.
 fn run_of(text: &[u8], from: usize, letter: u8) -> Run
     requires { ⌜ (length (now text) ≤ maxText) × (from ≤ length (now text)) × (0 < letter) ⌝ }
     ensures { λ r. ⌜ Ran letter from (now (text .entry)) (r .end) (r .count) ⌝ }
@@ -31,7 +31,7 @@ fn run_of(text: &[u8], from: usize, letter: u8) -> Run
     Run { end, count }
 }
 
-// They stand behind the lines of inputs.
+// Finds the never lines, which stand behind the lines of inputs.
 pub fn never_lines(text: &[u8]) -> NeverLines
     requires { ⌜ length (now text) ≤ maxText ⌝ }
     ensures { λ r. ⌜ ((t : Tree) → TextOf t (now (text .entry)) → r ≡ neverLines t) ⌝ }

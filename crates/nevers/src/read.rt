@@ -45,7 +45,7 @@ fn first_failed(one: Test, other: Test) -> Test
     other
 }
 
-// The line at the front of the rest of a text, which starts at place `at`.
+// Reads the never line at the front of the rest of a text; the line starts at place `at` of the text.
 fn read_line(
     s: &[u8],
     at: usize,
@@ -71,7 +71,8 @@ fn read_line(
     }
 }
 
-// So many lines from a place on: 4, where a name may stand in two lines, 5, and their words into the beginning of `masks`.
+// Reads so many never lines from a place on: refusal 4, where a name may stand in two lines, refusal 5, and their words
+// into the beginning of `masks`.
 fn read_lines(
     text: &[u8],
     from: usize,
@@ -102,7 +103,7 @@ fn read_lines(
     NeverTold { repeat, outside }
 }
 
-// 4 and 5 of all lines, and their words into the beginning of `masks`.
+// Reads all never lines: refusals 4 and 5, and their words into the beginning of `masks`.
 pub fn read_nevers(text: &[u8], lines: NeverLines, masks: &mut [u16; NEVER_WORDS]) -> NeverTold
     requires { ⌜ NeversReady (now text) lines × (length (now masks) ≡ neverSize * maxNevers) ⌝ }
     ensures { λ r. ⌜ ((t : Tree) → TextOf t (now (text .entry)) → lines ≡ neverLines t → Told t (now (masks .entry)) (now (masks .exit)) r) ⌝ }

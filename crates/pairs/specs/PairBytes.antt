@@ -1,5 +1,5 @@
--- Pairs of a text in form, read from its bytes alone: where the name of each stands, and its value. On the print of legal pairs these are the
--- pairs' own (proofs/). Assumes nothing.
+-- Pairs of a text in form, read from its bytes alone: where the name of each stands, and its value. On the print of
+-- legal pairs these are the pairs' own (proofs/). Assumes nothing.
 use Prim.Native.Nat.{ℕ, zero, suc, _+_}
 use mathlib.Core.Bool.{cond}
 use mathlib.Core.List.{List}
@@ -10,12 +10,13 @@ use Rattle.netlist.specs.Limits.{maxName}
 use Rattle.names.specs.Packed.{nameFront, nameFrom, packedAt}
 use Rattle.names.specs.Search.{indexOf}
 
--- the first name stands behind " (", and between two stand a space, a value and ") ("
+-- the place of the name of pair i: the first name stands behind " (", and between two stand a space, a value and ") ("
 unfoldable pub pairPlace : List ℕ → ℕ → ℕ → ℕ
 pairPlace text at zero = at + 2
 pairPlace text at (suc i) = pairPlace text at i + length (nameFrom text (pairPlace text at i)) + 5
 
--- the code of the value behind the name at the front of a text, of the name at a place, and of that at place i of these places
+-- the code of the value behind the name at the front of a text; behind the name at a place; and behind the name at
+-- place i of a list of places
 unfoldable pub codeFront : List ℕ → ℕ
 codeFront s = cond (eqb (getD s (length (nameFront maxName s) + 1) 0) 49) 1 0
 
@@ -30,19 +31,19 @@ unfoldable pub givenCode : List ℕ → List ℕ → ℕ → ℕ → ℕ
 givenCode names values count name =
     cond (ltb (indexOf names count name) count) (getD values (indexOf names count name) 0) 2
 
--- that of input j of a table of inputs
+-- the code that the pairs give input j of a table of inputs
 unfoldable pub inputCode : List ℕ → List ℕ → ℕ → List ℕ → ℕ → ℕ
 inputCode names values count inputs j = givenCode names values count (getD inputs j 0)
 
--- ---- by the bytes alone, of pair i of those whose first space is at a place
+-- ---- pair i by its bytes alone, of the pairs whose first space is at a place
 
--- the number of its name, and its value
+-- the name of pair i as a number, and the code of its value
 unfoldable pub pairNumber : List ℕ → ℕ → ℕ → ℕ
 pairNumber s at i = packedAt s (pairPlace s at i)
 
 unfoldable pub pairCode : List ℕ → ℕ → ℕ → ℕ
 pairCode s at i = codeAt s (pairPlace s at i)
 
--- the values of so many
+-- the codes of the values of so many pairs
 unfoldable pub pairCodes : List ℕ → ℕ → ℕ → List ℕ
 pairCodes s at count = tab (pairCode s at) count

@@ -23,7 +23,7 @@ pub record PairsAt (at : ℕ) (ps : List Pair) (text : List ℕ) : Type 0 where
   pub rest : List ℕ
   pub stand : drop at text ≡ printLines printPair ps (ascii ")\n" ++ rest)
 
--- their names with their places
+-- the names of pairs with their places, when the first pair's space is at a place
 abbrev pub pairMentions : List Pair → ℕ → List Mention
 pairMentions ps at = mentions printPair pairMention ps at
 

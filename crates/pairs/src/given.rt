@@ -1,4 +1,4 @@
-// The names of pairs against the inputs of a block: 4 and 5, and the value that each input is given.
+// The names of pairs against the inputs of a block: refusals 4 and 5, and the value that each input is given.
 use names::search::find;
 use names::search::first_repeat;
 use netlist::Refusal;
@@ -17,7 +17,7 @@ ghost use Rattle.netlist.specs.Syntax.{Pair, isLegalPair};
 ghost use Rattle.pairs.specs.PairBytes.{givenCode, inputCode};
 ghost use Rattle.pairs.specs.Tables.{pairMentions, isOutside, NamesAre, PlacesAre, InputsAre};
 
-// 4: the place of the first name that is one of those before it.
+// Refusal 4: the place of the first name that is one of those before it.
 pub fn test_repeat(names: &[u64], places: &[usize], count: usize) -> Test
     requires { ⌜ (count ≤ length (now names)) × (count ≤ length (now places)) ⌝ }
     ensures { λ r. ⌜ ((ps : List Pair) (at : ℕ) → all isLegalPair ps ≡ true → count ≡ length ps → NamesAre ps (now (names .entry))
@@ -54,7 +54,7 @@ pub fn first_outside(names: &[u64], count: usize, inputs: &[u64], n: usize) -> u
     i
 }
 
-// 5: the place of the first name that is none of the inputs.
+// Refusal 5: the place of the first name that is none of the inputs.
 pub fn test_outside(names: &[u64], places: &[usize], count: usize, inputs: &[u64], n: usize) -> Test
     requires { ⌜ (count ≤ length (now names)) × (count ≤ length (now places)) × (n ≤ length (now inputs)) ⌝ }
     ensures { λ r. ⌜ ((ps : List Pair) (at : ℕ) (known : List Name) → all isLegalPair ps ≡ true → count ≡ length ps → NamesAre ps (now (names .entry))

@@ -1,5 +1,5 @@
-// Pairs of a line by one table, of their names as numbers: where a pair stands and what it gives is read again where it is asked. So a line may have as
-// many pairs as a text has room for.
+// Pairs of a line by one table, of their names as numbers: where a pair stands and what it gives is read again where it
+// is asked. So a line may have as many pairs as a text has room for.
 use crate::given::first_outside;
 use crate::tables::code_at;
 use crate::tables::name_size;
@@ -53,7 +53,8 @@ fn pair_place(s: &[u8], at: usize, i: usize) -> usize
     place
 }
 
-// 4: the place of the first name that is one of those before it, where the line starts at place `base` of its text.
+// Refusal 4: the place of the first name that is one of those before it, where the line starts at place `base` of its
+// text.
 pub fn find_repeat(s: &[u8], at: usize, base: usize, names: &[u64], count: usize) -> Test
     requires { ⌜ NumbersReady at base count (now names) ⌝ }
     ensures { λ r. ⌜ ((ps : List Pair) → PairsAt at ps (now (s .entry)) → count ≡ length ps → NamesAre ps (now (names .entry))
@@ -67,7 +68,7 @@ pub fn find_repeat(s: &[u8], at: usize, base: usize, names: &[u64], count: usize
     Test::Passed
 }
 
-// 5: the place of the first name that is none of the inputs.
+// Refusal 5: the place of the first name that is none of the inputs, where the line starts at place `base` of its text.
 pub fn find_outside(
     s: &[u8],
     at: usize,

@@ -1,4 +1,5 @@
-// How many pairs stand at a place of a text, and tables of their names' places, their names as numbers, and their values.
+// How many pairs stand at a place of a text, and tables of their names' places, their names as numbers, and their
+// values.
 use layout::bytes::byte_at;
 use names::lines::opens;
 use names::pack::name_length;
@@ -15,7 +16,7 @@ ghost use Rattle.names.specs.Packed.{nameFrom};
 ghost use Rattle.pairs.specs.PairBytes.{pairPlace, codeFront, codeAt, codeThrough};
 ghost use Rattle.pairs.specs.Tables.{PairsAt, PairRoom, PairsTabled};
 
-// Each pair has one opening bracket, up to the line's end.
+// How many pairs stand from a place on to the line's end: each has one opening bracket.
 pub fn pair_count(text: &[u8], at: usize) -> usize
     requires { ⌜ at ≤ length (now text) ⌝ }
     ensures { λ r. ⌜ r ≡ lineOpens (drop at (now (text .entry))) ⌝ }

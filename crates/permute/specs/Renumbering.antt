@@ -1,11 +1,12 @@
--- Lists of numbers that are each number below m once, and the two ways of such a list: from places to numbers and back. Assumes nothing.
+-- Lists of numbers that are each number below m once, and the two ways of such a list: from places to numbers and back.
+-- Assumes nothing.
 use Prim.Native.Nat.{ℕ, _<_}
 use mathlib.Core.Path.{_≡_}
 use mathlib.Core.List.{List}
 use lib.ListN.{length}
 use Rattle.netlist.specs.Gather.{numberAt}
 
--- m numbers, all below m, none twice
+-- a permutation of the numbers below m: m numbers, all below m, none twice
 pub record EachOnce (m : ℕ) (order : List ℕ) : Type 0 where
   pub lengthIs : length order ≡ m
   pub below : (t : ℕ) → t < m → numberAt order t < m

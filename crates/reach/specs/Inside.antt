@@ -6,11 +6,11 @@ use mathlib.Core.List.{List}
 use Rattle.netlist.specs.Netlist.{Block, gateCount}
 use Rattle.netlist.specs.Groups.{reads, has, sameGroup}
 
--- the gates that gates read are there
+-- every gate that a gate reads is there
 abbrev pub Inside : Block → Type 0
 Inside b = (i k : ℕ) → reads b i k ≡ true → k < gateCount b
 
--- with a gate, the set has the gates that it reads
+-- a set is closed under reads: with a gate, it has the gates that the gate reads
 abbrev pub Closed : Block → List Bool → Type 0
 Closed b set = (i j : ℕ) → i < gateCount b → j < gateCount b → has set i ≡ true → reads b i j ≡ true → has set j ≡ true
 

@@ -1,4 +1,5 @@
--- Groups numbered one by one: what holds of the gates numbered so far, and the lists of groups that the rule builds. Assumes nothing.
+-- Groups numbered one by one: what holds of the gates numbered so far, and the lists of groups that the rule builds.
+-- Assumes nothing.
 use Prim.Native.Nat.{ℕ, _<_}
 use mathlib.Core.Path.{_≡_}
 use mathlib.Core.Bool.{true}

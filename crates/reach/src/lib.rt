@@ -1,1 +1,1 @@
-// Groups: reach, the strongly connected groups and their order. Laws only; nothing here runs.
+// No code: the theory of strongly connected groups: reach, the groups, and their topological order.

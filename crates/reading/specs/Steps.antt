@@ -23,7 +23,7 @@ pub record TreeText (text : List ℕ) : Type 0 where
   pub is : TextOf tree text
   pub short : length text ≤ maxText
 
--- the tree is within the limits, these are its counts, and its gate lines start there
+-- the tree is within the limits, c are its counts, and its gate lines start at `end`
 pub record Limited (t : Tree) (text : List ℕ) (end : ℕ) (c : Counts) : Type 0 where
   pub is : TextOf t text
   pub short : length text ≤ maxText
@@ -31,14 +31,14 @@ pub record Limited (t : Tree) (text : List ℕ) (end : ℕ) (c : Counts) : Type 
   pub from : end ≡ gateLinesAt t
   pub counted : c ≡ treeCounts t
 
--- its never lines are read
+-- what Read's step with tables asks: the text's never lines are read
 pub record TablesReady (text : List ℕ) (end : ℕ) (c : Counts) (told : NeverTold) (masks : List ℕ) : Type 0 where
   pub tree : Tree
   pub limited : Limited tree text end c
   pub masks₀ : List ℕ
   pub nevers : Told tree masks₀ masks told
 
--- the tables stand, nothing repeats, and never lines name inputs alone
+-- what Read's step over expressions asks: the tables stand, nothing repeats, and never lines name inputs alone
 pub record TermsReady (text : List ℕ) (end : ℕ) (c : Counts) (names nodes index masks : List ℕ) : Type 0 where
   pub tree : Tree
   pub limited : Limited tree text end c
@@ -49,7 +49,7 @@ pub record TermsReady (text : List ℕ) (end : ℕ) (c : Counts) (names nodes in
   pub masks₀ : List ℕ
   pub masksWritten : masks ≡ placed (joined (map neverWords (blockOf tree .nevers))) masks₀
 
--- nothing is unknown, and the words of never lines, gates and outputs stand
+-- what Read's last step asks: no name is undeclared, and the words of never lines, gates and outputs stand
 pub record WriteReady (text : List ℕ) (c : Counts) (names masks gates outputs : List ℕ) : Type 0 where
   pub tree : Tree
   pub is : TextOf tree text

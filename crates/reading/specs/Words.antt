@@ -1,4 +1,5 @@
--- The words that Read writes, from the counts, the table of names and the words of never lines, gates and outputs. Assumes nothing.
+-- The words that Read writes, from the counts, the table of names and the words of never lines, gates and outputs.
+-- Assumes nothing.
 use Prim.Native.Nat.{ℕ, _+_, _*_, _≤_}
 use mathlib.Core.List.{List, [], _∷_, _++_}
 use lib.ListN.{length, getD}

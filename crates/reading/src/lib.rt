@@ -1,5 +1,5 @@
-// Read (SPECIFICATION 7.3). The length, the form, and then the steps, which know that the text is a tree's: 3 from the counts, 4 and 5 from the tables
-// of names.
+// Read (SPECIFICATION 7.3), in passes over the text: its length, its form by the recogniser, and then steps that know
+// that the text is a tree's: refusal 3 from the counts, 4 and 5 from the symbol table.
 use form::form;
 use layout::limits::MAX_TEXT;
 use names::tally::counts;
@@ -21,7 +21,7 @@ ghost use Rattle.reading.specs.Steps.{TreeText};
 mod steps;
 mod words;
 
-// 3, and what the never lines tell; their tables are gone before the others are made.
+// Read of a text in form: refusal 3, and what the never lines tell; their tables are gone before the others are made.
 fn read_legal(text: &[u8], block: &mut [u16]) -> Answer
     requires { ⌜ TreeText (now text) ⌝ }
     ensures { λ r. ⌜ Promise (read (now (text .entry)) (length (now (block .entry)))) (now (block .entry)) r (now (block .exit)) ⌝ }

@@ -1,4 +1,5 @@
-// The steps of Read on a text that is a legal tree's and within the limits: declare, look for repeats, resolve, write.
+// The steps of Read on a text that is a legal tree's and within the limits: declare names, look for repeats, resolve
+// uses, write words.
 use crate::words::put_block;
 use layout::limits::MAX_GATES;
 use layout::limits::MAX_OUTPUTS;
@@ -29,7 +30,7 @@ ghost use Rattle.refusals.specs.Tests.{testAt};
 ghost use Rattle.netlist.specs.Operations.{read};
 ghost use Rattle.reading.specs.Steps.{TablesReady, TermsReady, WriteReady};
 
-// Of two answers of 4, the one with the lesser place.
+// Of two answers of refusal 4, the one with the lesser place; a test that passed is no refusal.
 fn earlier_repeat(one: Test, other: Test) -> Test
     ensures { λ r. ⌜ ((p q : Option ℕ) → one ≡ testAt p DuplicateDeclaration → other ≡ testAt q DuplicateDeclaration
         → r ≡ testAt (lesser p q) DuplicateDeclaration) ⌝ }
@@ -49,7 +50,7 @@ fn earlier_repeat(one: Test, other: Test) -> Test
     }
 }
 
-// 11, and the block's words.
+// The last step of Read: refusal 11, and then the block's words.
 fn finish(
     text: &[u8],
     c: Counts,
@@ -71,7 +72,7 @@ fn finish(
     Answer::Done { count, detail: 0 }
 }
 
-// 5 behind never lines, then the rest.
+// Read from the expressions on: refusal 5 behind never lines, then the words.
 fn read_terms(
     text: &[u8],
     end: usize,
@@ -94,7 +95,7 @@ fn read_terms(
     finish(text, c, names, masks, &gates, &outputs, block)
 }
 
-// 4 in never lines and elsewhere, 5 in never lines, then the rest.
+// Read from the tables on: refusal 4 in never lines and elsewhere, 5 in never lines, then the rest.
 pub fn read_tables(
     text: &[u8],
     end: usize,

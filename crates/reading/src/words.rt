@@ -1,4 +1,5 @@
-// The block's words: the counts, the names of the inputs, and the words of never lines, gates and outputs that are there already.
+// The block's words: the counts, the names of the inputs, and the words of never lines, gates and outputs that are
+// there already.
 use layout::offsets::GATE_SIZE;
 use layout::offsets::INPUTS_AT;
 use layout::offsets::NAME_SIZE;
@@ -53,7 +54,7 @@ fn put_names(names: &[u64], n: usize, block: &mut [u16])
     }
 }
 
-// Copies the first words to `at`.
+// Copies the first `count` words to place `at` of the block.
 fn put_words(words: &[u16], count: usize, block: &mut [u16], at: usize)
     requires { ⌜ (count ≤ length (now words)) × (at + count ≤ length (now block)) ⌝ }
     ensures { λ r. ⌜ now (block .exit) ≡ sets (now (block .entry)) at (tab (wordOf (now (words .entry))) count) ⌝ }

@@ -1,4 +1,5 @@
--- What the test of one condition answers. No operation's promise cites these; the contracts of inner functions do. Assumes nothing.
+-- What the test of one condition answers. No operation's promise cites these; the contracts of inner functions do.
+-- Assumes nothing.
 use Prim.Native.Nat.{ℕ}
 use mathlib.Core.Bool.{Bool, true, false}
 use mathlib.Core.Option.{Option, none, some}
@@ -8,12 +9,12 @@ use Rattle.netlist.specs.declared.Answer.the-variants.{Done, Refused}
 use Rattle.refusals.specs.declared.Test.{Test}
 use Rattle.refusals.specs.declared.Test.the-variants.{Passed, Failed}
 
--- a condition that holds refuses
+-- the test of a condition: it refuses where the condition holds
 unfoldable pub testOf : Bool → Refusal → Test
 testOf true r = Failed r
 testOf false r = Passed
 
--- a condition that tells a place
+-- the test of a condition that tells a place
 unfoldable pub testAt : Option ℕ → (ℕ → Refusal) → Test
 testAt (some place) r = Failed (r place)
 testAt none r = Passed

@@ -1,5 +1,5 @@
-// Refusals: the test of a condition and what an operation answers when it fails, the numbers and details of the table of refusals, and an
-// answer's three numbers for callers in other languages (SPECIFICATION 7.1, 7.2).
+// Refusals: the test of a condition and what an operation answers when it fails, the numbers and details of the table
+// of refusals, and an answer's three numbers for callers in other languages (SPECIFICATION 7.1, 7.2).
 use netlist::Answer;
 use netlist::Refusal;
 use netlist::Reply;
@@ -16,7 +16,7 @@ pub enum Test {
     Failed(Refusal),
 }
 
-// A condition that holds refuses.
+// The test of a condition: refuses where it holds.
 pub fn refuse_if(holds: bool, why: Refusal) -> Test
     ensures { λ r. ⌜ r ≡ testOf holds why ⌝ }
 {
@@ -27,7 +27,7 @@ pub fn refuse_if(holds: bool, why: Refusal) -> Test
     }
 }
 
-// 11: does a slice of `room` elements hold a result of `needed`?
+// Refusal 11: does a slice of `room` elements hold a result of `needed`?
 pub fn test_room(room: usize, needed: usize) -> Test
     ensures { λ r. ⌜ r ≡ testOf (ltb room needed) NoRoom ⌝ }
 {
@@ -47,7 +47,7 @@ pub fn refusal(test: Test) -> Answer
     }
 }
 
-// Its number in the table of refusals.
+// A refusal's number in the table of refusals.
 pub fn number_of(why: Refusal) -> usize
     ensures { λ r. ⌜ r ≡ refusalNumber why ⌝ }
 {
@@ -68,7 +68,7 @@ pub fn number_of(why: Refusal) -> usize
     }
 }
 
-// The place or the setting that it tells, or 0.
+// The place or the setting that a refusal tells, or 0.
 pub fn detail_of(why: Refusal) -> usize
     ensures { λ r. ⌜ r ≡ refusalDetail why ⌝ }
 {
@@ -81,7 +81,7 @@ pub fn detail_of(why: Refusal) -> usize
     }
 }
 
-// A refusal's three numbers: it counts nothing.
+// The three numbers of a refusal; it counts nothing.
 fn reply_of_refusal(refusal: Refusal) -> Reply
     ensures { λ r. ⌜ Shows (Refused refusal) r ⌝ }
 {

@@ -81,7 +81,7 @@ ReplacedUnderOneSetting =
     → (x : List Value)
     → shownUnder own (netValues b x (cut .nets)) ≡ shownUnder new (netValues b x (cut .nets)) → SameValues b cut new x
 
--- Any gates, with their own block as it is defined.
+-- Any gates may be replaced, with their own block as `ownBlock` defines it.
 abbrev pub ReplacedGates : Type 0
 ReplacedGates =
     (b : Block) (group : List ℕ) (inputNames portNames : List Name) (nevers : List Assignment) (new : Block)

@@ -58,7 +58,7 @@ boundary b group = firstOnes (keep (isOutsideNet group) (operandsOf b group))
 unfoldable pub isShown : Block → ℕ → Bool
 isShown b j = any (λ (o : Output). member j (gateOperand (o .node))) (b .outputs)
 
--- a gate outside the group reads it
+-- a gate outside the group reads gate j
 unfoldable pub isReadOutside : Block → List ℕ → ℕ → Bool
 isReadOutside b group j = any (λ i. not (member i group) && reads b i j) (upTo (gateCount b))
 

@@ -86,7 +86,7 @@ unfoldable pub areDifferent : Block → List ℕ → Bool
 areDifferent b [] = true
 areDifferent b (j ∷ js) = not (any (sameGroup b j) js) && areDifferent b js
 
--- it has the group's inputs and outputs, and agrees with it wherever the never lines allow
+-- the new block has the group's inputs and outputs, and agrees with it wherever the never lines allow
 pub record AgreesWithGroup (b : Block) (g : GroupPiece) : Type 0 where
   pub there : g .gate < gateCount b
   pub complete : isComplete (g .new) ≡ true

@@ -1,5 +1,6 @@
--- The information order on values and states, and the sets of gates that it is asked on. The laws of this crate, and the crates that
--- cite them, are stated with these. Assumes nothing.
+-- The information order on values and states, in which undefined is below 0 and 1, and the sets of gates that it is
+-- asked on. In it gates are monotone, so that rounds rise to a least fixpoint (Kleene's and Tarski's theorem). The laws
+-- of this crate, and the crates that cite them, are stated with these. Assumes nothing.
 use Prim.Native.Nat.{ℕ, _+_, _<_}
 use mathlib.Core.Path.{_≡_}
 use mathlib.Core.Logic.{_⊎_}
@@ -16,16 +17,16 @@ use Rattle.netlist.specs.Groups.{reads}
 abbrev pub Below : Value → Value → Type 0
 Below v w = (b : Bool) → v ≡ val b → w ≡ val b
 
--- the same of two lists of operand values, one by one
+-- one list of operand values says no more than another, value by value
 pub data BelowEach : List Value → List Value → Type 0 where
   none : BelowEach [] []
   more : {v w : Value} {vs ws : List Value} → Below v w → BelowEach vs ws → BelowEach (v ∷ vs) (w ∷ ws)
 
--- the same of two states, on a set of gates
+-- one state says no more than another, on a set of gates
 abbrev pub BelowOn : (ℕ → Type 0) → List Value → List Value → Type 0
 BelowOn S v w = (j : ℕ) → S j → Below (getD v j undefined) (getD w j undefined)
 
--- the same of two states, at every gate
+-- one state says no more than another, at every gate
 abbrev pub BelowAll : List Value → List Value → Type 0
 BelowAll v w = (j : ℕ) → Below (getD v j undefined) (getD w j undefined)
 

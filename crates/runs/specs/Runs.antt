@@ -1,5 +1,6 @@
--- The bench as a run over the bytes of its input, in bounded memory: where it stands, what one byte makes of that, what a piece of input
--- makes of it, and what it writes at the input's end. That this is `bench` of the whole input is a theorem (proofs/Pieces.antt).
+-- The bench as a stream transducer: a run over the bytes of its input, in bounded memory. Where it stands, what one
+-- byte makes of that, what a piece of input makes of it, and what it writes at the input's end. That this is `bench` of
+-- the whole input is a theorem (proofs/Pieces.antt).
 use Prim.Native.Nat.{ℕ, suc, _+_, _*_}
 use mathlib.Core.Bool.{Bool, true, cond, _&&_}
 use mathlib.Core.List.{List, [], _∷_, _++_}
@@ -19,7 +20,7 @@ use Rattle.netlist.specs.Bench.{lineAnswer, lineAnswers, lastLine, benchAfter}
 abbrev pub maxSetLine : ℕ
 maxSetLine = 4 + (maxName + 5) * maxInputs + 2
 
--- of a longer line no more is held than shows that it is longer
+-- the most bytes of a line that are held: of a longer line no more than shows that it is longer
 abbrev pub heldBytes : ℕ
 heldBytes = suc maxSetLine
 
@@ -32,7 +33,7 @@ pub data Run : Type 0 where
 abbrev pub start : Run
 start = inNetlist true []
 
--- where it stands then, and what it writes
+-- one turn of a run: where it stands then, and what it writes
 pub record Turn : Type 0 where
   pub next : Run
   pub output : List ℕ
@@ -47,12 +48,12 @@ ended r = record { next = over; output = refusalLine r }
 abbrev pub heldFront : List ℕ → ℕ → List ℕ
 heldFront line c = take heldBytes (line ++ (c ∷ []))
 
--- what Read makes of the netlist
+-- the turn in which the netlist ends: what Read makes of it
 unfoldable pub opened : Outcome → Turn
 opened (done ws count detail) = silent (inLines ws [])
 opened (refused r) = ended r
 
--- what one byte makes of it: a netlist that gets too long is refused at once, and a refused netlist ends the run
+-- the turn that one byte makes: a netlist that gets too long is refused at once, and a refused netlist ends the run
 unfoldable pub turn : Run → ℕ → Turn
 turn (inNetlist fresh text) c =
     cond (fresh && eqb c lf) (opened (readText text))
@@ -61,7 +62,7 @@ turn (inLines ws line) c =
     cond (eqb c lf) (record { next = inLines ws []; output = lineAnswer (decode ws) (heldFront line c) }) (silent (inLines ws (heldFront line c)))
 turn over c = silent over
 
--- what a piece of input makes of it
+-- where a run stands after a piece of input
 unfoldable pub after : Run → List ℕ → Run
 after r [] = r
 after r (c ∷ s) = after (turn r c .next) s
@@ -70,13 +71,13 @@ unfoldable pub outputs : Run → List ℕ → List ℕ
 outputs r [] = []
 outputs r (c ∷ s) = turn r c .output ++ outputs (turn r c .next) s
 
--- what it writes at the end of the input
+-- what a run writes at the end of its input
 unfoldable pub ending : Run → List ℕ
 ending (inNetlist fresh text) = benchAfter (readText text) []
 ending (inLines ws line) = lineAnswers (decode ws) (lastLine line)
 ending over = []
 
--- the pieces one after the other
+-- where a run stands after pieces of input, one after the other
 unfoldable pub afterAll : Run → List (List ℕ) → Run
 afterAll r [] = r
 afterAll r (p ∷ ps) = afterAll (after r p) ps

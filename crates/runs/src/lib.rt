@@ -1,1 +1,1 @@
-// Theory only: the bench byte by byte.
+// No code: the bench taken byte by byte is the bench of the whole input.

@@ -1,5 +1,6 @@
--- The simplest way to a group: the gates that a gate reaches, and those that reach it, each set grown gate by gate as long as a gate can be added. Cited by
--- the contracts of this crate alone. Assumes nothing.
+-- The simplest way to a strongly connected group, by transitive closure: the gates that a gate reaches, and those that
+-- reach it, each set grown gate by gate as long as a gate can be added. Cited by the contracts of this crate alone.
+-- Assumes nothing.
 --   Walk, Edge      a path of reads, and a single read, in one of the two directions
 --   Open            a gate that can be added
 --   Target          one, or that there is none
@@ -50,12 +51,12 @@ pub record SlotTarget (m : ℕ) (graph : List ℕ) (back : Bool) (flags : List �
   pub found : r < m → Open (network m graph) m back flags r
   pub none : m ≤ r → (j : ℕ) → placeAt graph k s ≡ firstGate + j → Shut back flags k j
 
--- the same of gate k's reads
+-- r is a gate that some read by gate k adds, or none does
 pub record GateTarget (m : ℕ) (graph : List ℕ) (back : Bool) (flags : List ℕ) (k r : ℕ) : Type 0 where
   pub found : r < m → Open (network m graph) m back flags r
   pub none : m ≤ r → (j : ℕ) → reads (network m graph) k j ≡ true → Shut back flags k j
 
--- and of all reads
+-- r is a gate that some read adds, or none does
 pub record Target (m : ℕ) (graph : List ℕ) (back : Bool) (flags : List ℕ) (r : ℕ) : Type 0 where
   pub found : r < m → Open (network m graph) m back flags r
   pub none : m ≤ r → (k j : ℕ) → k < m → reads (network m graph) k j ≡ true → Shut back flags k j
@@ -86,7 +87,7 @@ pub record LowestOfBoth (m : ℕ) (ahead behind : List ℕ) (r : ℕ) : Type 0 w
   pub passed : (i : ℕ) → i < r → getD ahead i 0 ≡ 1 → getD behind i 0 ≡ 1 → ⊥
   pub found : r < m → (getD ahead r 0 ≡ 1) × (getD behind r 0 ≡ 1)
 
--- the leader of gate j, and the lengths of the sets
+-- r is the leader of gate j, and the arrays of the two sets keep their lengths
 pub record LeaderFound (m : ℕ) (graph : List ℕ) (j : ℕ) (ahead behind : List ℕ) (r : ℕ) : Type 0 where
   pub aheadRoom : length ahead ≡ maxGates
   pub behindRoom : length behind ≡ maxGates

@@ -1,6 +1,6 @@
--- Layers: the gates in an order, where a gate that lies on no loop reads only gates before it, and the gates of a loop lie side by side and read no gate behind
--- their loop. Whoever evaluates along it goes once over a gate of the first sort, and over a loop until nothing in it changes. Cited by whoever evaluates
--- gates. Assumes nothing.
+-- Layers: the gates in an order, where a gate that lies on no loop reads only gates before it, and the gates of a loop
+-- lie side by side and read no gate behind their loop. Whoever evaluates along it goes once over a gate of the first
+-- sort, and over a loop until nothing in it changes. Cited by whoever evaluates gates. Assumes nothing.
 --   LoopEnd     a position whose layer is a loop, and where the loop ends
 --   LayerEnd    the end of a position's layer
 --   Layers      an order of all gates, in layers
@@ -18,7 +18,8 @@ pub record LoopEnd (m : ℕ) (ends : List ℕ) (i : ℕ) : Type 0 where
   pub within : getD ends i 0 ≤ m
   pub same : (k : ℕ) → i ≤ k → k < getD ends i 0 → getD ends k 0 ≡ getD ends i 0
 
--- the end of position i's layer: i itself for a gate that reads only gates before it, else the end of the loop that it lies in
+-- the end of position i's layer: i itself for a gate that reads only gates before it, else the end of the loop that it
+-- lies in
 pub record LayerEnd (m : ℕ) (ends : List ℕ) (i : ℕ) : Type 0 where
   pub cases : (getD ends i 0 ≡ i) ⊎ LoopEnd m ends i
 

@@ -1,4 +1,6 @@
--- The leader of a strongly connected group is its lowest gate. Cited by the contracts of this crate and of `groups`. Assumes nothing.
+-- The leader of a strongly connected group is its lowest gate; and the certificate by which a cheap check shows that
+-- layers are groups (McConnell, Mehlhorn, Näher and Schweitzer, "Certifying algorithms", 2011). Cited by the contracts
+-- of this crate and of crates/groups. Assumes nothing.
 --   leaderOf              the lowest gate of a gate's group
 --   Leads                 a table of leaders
 --   lastOf                the last position of a position's layer
@@ -36,18 +38,19 @@ pub record Layered (m : ℕ) (graph order ends positions : List ℕ) : Type 0 wh
   pub legal : Graph m graph
   pub steps : (i : ℕ) → i < m → LayerStep m graph order ends positions i
 
--- a gate behind position i, in its layer, reads its gate
+-- a gate behind position i, in the same layer, reads the gate at position i
 pub record Called (m : ℕ) (graph order ends : List ℕ) (i : ℕ) : Type 0 where
   pub from : ℕ
   pub behind : i < from
   pub within : from ≤ lastOf ends i
   pub reading : reads (network m graph) (getD order from 0) (getD order i 0) ≡ true
 
--- how far position i is from its layer's last gate: how low the search found its gate to get, and then when it left it
+-- how far position i is from its layer's last gate, as the search noted it: how early a gate its gate was found to
+-- reach, and then when the search left it
 unfoldable pub distanceAt : List ℕ → List ℕ → ℕ → ℕ
 distanceAt order notes i = 65536 * (getD notes (4 * getD order i 0 + 1) 0 / 8) + i
 
--- position i's gate reads one of its layer that is nearer
+-- the gate at position i reads a gate of its layer that is nearer to the layer's last
 pub record Leaving (m : ℕ) (graph order ends notes : List ℕ) (i : ℕ) : Type 0 where
   pub to : ℕ
   pub below : to < m

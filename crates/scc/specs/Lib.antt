@@ -1,4 +1,4 @@
--- What the contracts of this crate add to the definitions of `netlist` and `graph`.
+-- What the contracts of this crate add to the definitions of `netlist` and of crates/graph.
 pub mod Layers
 pub mod Search
 pub mod Leaders

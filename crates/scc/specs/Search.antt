@@ -1,4 +1,5 @@
--- The search's clock, and what the check of its answer finds position by position. Cited by the contracts of this crate alone. Assumes nothing.
+-- The search's clock, and what the check of its answer finds position by position. Cited by the contracts of this crate
+-- alone. Assumes nothing.
 --   clockEnd     the last time of a search
 --   StandingReady, LeftOne   the numbers of a search
 --   SameRooms    the lengths of its arrays

@@ -1,5 +1,5 @@
-// The check of layers, position by position: the order is one of all gates, each gate reads only gates before the end of its layer, and the positions of a loop
-// have the same end.
+// The check of layers, position by position and in linear time: the order is one of all gates, each gate reads only
+// gates before the end of its layer, and the positions of a loop have the same end.
 use crate::words::graph_word;
 use crate::words::word_of;
 use graph::FIRST_GATE;
@@ -28,7 +28,7 @@ pub fn find_positions(m: usize, order: &[u16; MAX_GATES], positions: &mut [u16; 
     }
 }
 
-// Slot `s` of gate j reads no gate, or one that stands before `end`.
+// Does slot `s` of gate j read no gate, or one that stands before `end`?
 fn slot_before(
     graph: &[u16; GRAPH_WORDS],
     m: usize,
@@ -47,7 +47,7 @@ fn slot_before(
     (word_of(positions, place - FIRST_GATE) as usize) < end
 }
 
-// Every gate that gate j reads stands before `end`.
+// Does every gate that gate j reads stand before `end`?
 fn reads_before(
     graph: &[u16; GRAPH_WORDS],
     m: usize,
@@ -70,7 +70,7 @@ fn reads_before(
     slot_before(graph, m, j, 3, end, positions)
 }
 
-// Position i has an end that fits the position behind it.
+// Does position i have an end that fits the position behind it?
 fn is_end(m: usize, i: usize, ends: &[u16; MAX_GATES]) -> bool
     requires { ⌜ (i < m) × (m ≤ maxGates) ⌝ }
     ensures { λ r. ⌜ (r ≡ true → EndStep m (now (ends .entry)) i) ⌝ }
@@ -91,7 +91,7 @@ fn is_end(m: usize, i: usize, ends: &[u16; MAX_GATES]) -> bool
     word_of(ends, i + 1) as usize == end
 }
 
-// Gate order[i] stands at i, and gate i where `positions` says.
+// Does gate order[i] stand at i, and gate i where `positions` says?
 fn is_listed(m: usize, i: usize, order: &[u16; MAX_GATES], positions: &[u16; MAX_GATES]) -> bool
     requires { ⌜ (i < m) × (m ≤ maxGates) ⌝ }
     ensures { λ r. ⌜ (r ≡ true → Listed m (now (order .entry)) (now (positions .entry)) i) ⌝ }
@@ -110,7 +110,7 @@ fn is_listed(m: usize, i: usize, order: &[u16; MAX_GATES], positions: &[u16; MAX
     word_of(order, p) as usize == i
 }
 
-// All of it of position i.
+// Does position i pass: it is listed, its end fits, and its gate reads only what stands before that end?
 fn passes(
     graph: &[u16; GRAPH_WORDS],
     m: usize,
@@ -137,7 +137,7 @@ fn passes(
     )
 }
 
-// All of it of every position, so that these are layers.
+// Does every position pass, so that these are layers?
 pub fn are_layers(
     graph: &[u16; GRAPH_WORDS],
     m: usize,

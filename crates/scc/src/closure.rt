@@ -1,5 +1,5 @@
-// Leaders without a certificate: of each gate the gates that it reaches and those that reach it, each set grown gate by gate as long as a gate can be added. No
-// graph is known for which this is needed.
+// The transitive closure, for leaders without a certificate: of each gate the gates that it reaches and those that
+// reach it, each set grown gate by gate as long as a gate can be added. No graph is known for which this is needed.
 use crate::words::graph_word;
 use crate::words::word_of;
 use graph::FIRST_GATE;
@@ -15,7 +15,7 @@ ghost use Rattle.graph.specs.Graph.{slots, network, Graph};
 ghost use Rattle.scc.specs.Leaders.{leaderOf, Leads};
 ghost use Rattle.scc.specs.Closure.{Added, SlotTarget, GateTarget, Target, Growing, Reached, InBoth, LowestOfBoth, LeaderFound};
 
-// Gate `to`, if gate `from` is in the set and it is not; else m.
+// Gate `to`, if gate `from` is in the set and gate `to` is not; else m.
 fn added(m: usize, from: usize, to: usize, flags: &[u16; MAX_GATES]) -> usize
     requires { ⌜ (from < maxGates) × (to < maxGates) ⌝ }
     ensures { λ r. ⌜ Added m (now (flags .entry)) from to r ⌝ }
@@ -127,7 +127,7 @@ fn reach_from(
     grow(graph, m, start, back, flags);
 }
 
-// Gate i is in both sets.
+// Is gate i in both sets?
 fn is_in_both(i: usize, ahead: &[u16; MAX_GATES], behind: &[u16; MAX_GATES]) -> bool
     requires { ⌜ i < maxGates ⌝ }
     ensures { λ r. ⌜ InBoth (now (ahead .entry)) (now (behind .entry)) i r ⌝ }
@@ -153,7 +153,7 @@ fn lowest_of_both(m: usize, ahead: &[u16; MAX_GATES], behind: &[u16; MAX_GATES])
     i
 }
 
-// The leader of gate j.
+// The leader of gate j: the lowest gate that it reaches and that reaches it.
 fn leader_of(
     graph: &[u16; GRAPH_WORDS],
     m: usize,
@@ -169,7 +169,7 @@ fn leader_of(
     lowest_of_both(m, ahead, behind)
 }
 
-// With room for both sets.
+// Finds the leader of each gate, with room lent for both sets.
 fn lead_each(
     graph: &[u16; GRAPH_WORDS],
     m: usize,
@@ -187,7 +187,7 @@ fn lead_each(
     }
 }
 
-// The leader of every gate.
+// Finds the leader of every gate by closure; makes room for the sets.
 pub fn lead_slowly(graph: &[u16; GRAPH_WORDS], m: usize, leaders: &mut [u16; MAX_GATES])
     requires { ⌜ Graph m (now graph) × (length (now leaders) ≡ maxGates) ⌝ }
     ensures { λ r. ⌜ Leads (network m (now (graph .entry))) m (now (leaders .exit)) ⌝ }

@@ -13,7 +13,7 @@ ghost use Rattle.graph.specs.Graph.{Graph};
 ghost use Rattle.scc.specs.Layers.{Layers};
 ghost use Rattle.scc.specs.Search.{OneLayer};
 
-// All gates as they come, as one loop: layers of any graph.
+// Writes all gates as they come, as one loop: these are layers of any graph.
 fn write_one_layer(m: usize, order: &mut [u16; MAX_GATES], ends: &mut [u16; MAX_GATES])
     requires { ⌜ (m ≤ maxGates) × (length (now order) ≡ maxGates) × (length (now ends) ≡ maxGates) ⌝ }
     ensures { λ r. ⌜ OneLayer m m (now (order .exit)) (now (ends .exit)) ⌝ }
@@ -26,7 +26,7 @@ fn write_one_layer(m: usize, order: &mut [u16; MAX_GATES], ends: &mut [u16; MAX_
     }
 }
 
-// With room for what the search notes.
+// Finds the layers, with room lent for what the search notes.
 fn layer_with(
     graph: &[u16; GRAPH_WORDS],
     m: usize,
@@ -39,7 +39,7 @@ fn layer_with(
     ensures { λ r. ⌜ Layers m (now (graph .entry)) (now (order .exit)) (now (ends .exit)) ⌝ }
 {
     find_layers(graph, m, stack, notes, order, ends);
-    // The search needs its stack no more.
+    // The search is over, so its stack is room for the positions.
     find_positions(m, order, stack);
     if !are_layers(graph, m, order, ends, stack) {
         write_one_layer(m, order, ends);

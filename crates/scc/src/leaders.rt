@@ -1,5 +1,6 @@
-// The lowest gate of each gate's strongly connected group, its leader. The search writes layers; where the check shows that they are the groups, the first gate
-// of each is found in one walk over the gates. Else `closure` finds the leaders.
+// The lowest gate of each gate's strongly connected group, its leader. Tarjan's search writes layers; where the check
+// shows that they are the groups, the first gate of each is found in one walk over the gates. Else `closure` finds the
+// leaders.
 use crate::check::are_layers;
 use crate::check::find_positions;
 use crate::closure::lead_slowly;
@@ -19,10 +20,10 @@ ghost use Rattle.netlist.specs.Limits.{maxGates};
 ghost use Rattle.graph.specs.Graph.{network, Graph};
 ghost use Rattle.scc.specs.Leaders.{Leads, Certified, FirstOf};
 
-// No gate.
+// The mark of no gate.
 const NONE: usize = 65535;
 
-// The first gate that had this key; gate k, if none had.
+// The first gate that had this key, which is gate k, if none had it before.
 fn first_of(key: usize, k: usize, firsts: &mut [u16; MAX_GATES]) -> usize
     requires { ⌜ (key < maxGates) × (k < maxGates) ⌝ }
     ensures { λ r. ⌜ FirstOf key k (now (firsts .entry)) (now (firsts .exit)) r ⌝ }
@@ -61,7 +62,7 @@ fn lead_layers(
     }
 }
 
-// The layers are certain to be the groups.
+// Does the certificate hold: are the layers the strongly connected groups?
 fn is_certified(
     graph: &[u16; GRAPH_WORDS],
     m: usize,
@@ -81,7 +82,7 @@ fn is_certified(
     are_tied(graph, m, order, ends, positions, notes)
 }
 
-// With room for the search.
+// Finds the leaders, with room lent for the search.
 fn lead_with(
     graph: &[u16; GRAPH_WORDS],
     m: usize,
@@ -96,7 +97,7 @@ fn lead_with(
     ensures { λ r. ⌜ Leads (network m (now (graph .entry))) m (now (leaders .exit)) ⌝ }
 {
     find_layers(graph, m, stack, notes, order, ends);
-    // The search needs its stack no more.
+    // The search is over, so its stack is room for the positions.
     find_positions(m, order, stack);
     if is_certified(graph, m, order, ends, stack, notes) {
         lead_layers(graph, m, order, ends, stack, notes, firsts, leaders);

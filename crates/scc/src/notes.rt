@@ -1,4 +1,5 @@
-// What the search notes of a gate: four words side by side. A time is one of the search's clock. A cursor is a slot of a gate: CURSORS * gate + slot.
+// What Tarjan's search notes of a gate: four words side by side. A time is one of the search's clock. A cursor is a
+// slot of a gate: CURSORS * gate + slot.
 use layout::limits::MAX_GATES;
 
 pub const NOTE_SIZE: usize = 4;
@@ -8,7 +9,8 @@ pub const NOTES: usize = NOTE_SIZE * MAX_GATES;
 // The time at which the search entered the gate; 0: not yet; CLOSED: its group is written.
 pub const ENTERED: usize = 0;
 
-// CURSORS * the lowest time of its group that it was found to get to + the slot of the operand that leads there.
+// Tarjan's low link: CURSORS * the lowest time of its group that it was found to reach + the slot of the operand that
+// leads there.
 pub const LOWEST: usize = 1;
 
 // The cursor from which it was entered; NOWHERE for the gate where a search began.
@@ -18,5 +20,5 @@ pub const CLOSED: usize = 65535;
 
 pub const NOWHERE: usize = 65535;
 
-// More than a gate's slots.
+// The weight of a gate in a cursor: more than a gate has slots.
 pub const CURSORS: usize = 8;

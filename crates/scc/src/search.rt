@@ -1,6 +1,7 @@
-// Tarjan's depth-first search along operands, each turn of which takes one slot or leaves one gate. It writes the gates group after group, a group behind the
-// groups that it reads, and the gates of a group as the search left them. Nothing is promised of what it writes but that it ends in bounds: `check` tells
-// whether it is right.
+// Tarjan's depth-first search along operands ("Depth-first search and linear graph algorithms", 1972), without
+// recursion: each turn takes one slot or leaves one gate. It writes the gates group after group, a group behind the
+// groups that it reads, and the gates of a group as the search left them. Nothing is promised of what it writes but
+// that it ends in bounds: `check` tells whether it is right.
 use crate::notes::CALLER;
 use crate::notes::CLOSED;
 use crate::notes::CURSORS;
@@ -26,10 +27,12 @@ ghost use Rattle.layout.specs.Bounds.{maxWord};
 ghost use Rattle.graph.specs.Graph.{slots};
 ghost use Rattle.scc.specs.Search.{clockEnd, StandingReady, LeftOne, SameRooms};
 
-// The clock's end, above the number of turns: four slots and a leaving a gate, and an entering. CURSORS * CLOCK is a word.
+// The clock's end, above the number of turns: four slots and a leaving a gate, and an entering. CURSORS * CLOCK is a
+// word.
 const CLOCK: usize = 8191;
 
-// Where the search stands: the clock's time, the slot that it is at, how many gates wait on the stack, and how many are written.
+// Where the search stands: the clock's time, the slot that it is at, how many gates wait on the stack, and how many are
+// written.
 struct Standing {
     time: usize,
     cursor: usize,
@@ -47,7 +50,7 @@ fn enter(k: usize, caller: usize, time: usize, notes: &mut [u16; NOTES])
     notes[at + CALLER] = caller as u16;
 }
 
-// The cursor's gate gets to a time through the cursor's slot.
+// Notes that the cursor's gate reaches a time through the cursor's slot.
 fn lower(cursor: usize, time: usize, notes: &mut [u16; NOTES]) {
     let k = cursor / CURSORS;
     if k < MAX_GATES {
@@ -58,7 +61,7 @@ fn lower(cursor: usize, time: usize, notes: &mut [u16; NOTES]) {
     }
 }
 
-// Gate k reads itself.
+// Does gate k read itself?
 fn is_own_operand(graph: &[u16; GRAPH_WORDS], k: usize) -> bool
     requires { ⌜ k < maxGates ⌝ }
 {
@@ -148,7 +151,8 @@ fn layer_end(graph: &[u16; GRAPH_WORDS], k: usize, alone: bool, last: usize) -> 
     last + 1
 }
 
-// Gate k gets to no gate that was entered before it: its group is what was entered after it and waits on the stack, and then it.
+// Gate k reaches no gate that was entered before it: its group is what was entered after it and waits on the stack, and
+// then gate k itself.
 fn close_group(
     graph: &[u16; GRAPH_WORDS],
     k: usize,
@@ -182,7 +186,7 @@ fn close_group(
     }
 }
 
-// Gate k waits on the stack until its group is whole.
+// Puts gate k on the stack, where it waits until its group is whole.
 fn push(k: usize, standing: Standing, stack: &mut [u16; MAX_GATES]) -> Standing
     requires { ⌜ (k < maxGates) × (standing .top ≤ maxGates) ⌝ }
     ensures { λ r. ⌜ LeftOne (standing .top) (standing .count) (r .top) (r .count) ⌝ }
@@ -200,7 +204,7 @@ fn push(k: usize, standing: Standing, stack: &mut [u16; MAX_GATES]) -> Standing
     }
 }
 
-// Leaves gate k: its group is whole, or its caller gets where it does.
+// Leaves gate k: its group is whole, or its caller reaches what gate k reaches.
 fn leave(
     graph: &[u16; GRAPH_WORDS],
     k: usize,
@@ -223,7 +227,7 @@ fn leave(
     push(k, standing, stack)
 }
 
-// Takes a slot: enters the gate that it reads, or notes when that was entered. The next slot to take.
+// Takes a slot: enters the gate that it reads, or notes when that gate was entered. Gives the next slot to take.
 fn take_slot(
     graph: &[u16; GRAPH_WORDS],
     cursor: usize,

@@ -1,5 +1,6 @@
-// The check that layers are strongly connected groups: of every position but a layer's last, a gate behind it in its layer reads its gate, and its gate reads
-// one of its layer that is nearer to the layer's last.
+// The certificate that layers are strongly connected groups, checked in linear time: of every position but a layer's
+// last, a gate behind it in its layer reads its gate, and its gate reads one of its layer that is nearer to the layer's
+// last. So the last gate reaches every gate of its layer, and is reached by it.
 use crate::notes::CALLER;
 use crate::notes::CURSORS;
 use crate::notes::LOWEST;
@@ -23,7 +24,7 @@ ghost use Rattle.layout.specs.Bounds.{maxWord};
 ghost use Rattle.graph.specs.Graph.{network, Graph};
 ghost use Rattle.scc.specs.Leaders.{lastOf, distanceAt, Layered, Called, SlotPosition, Leaving, Tied, Certified};
 
-// More than a word.
+// The number of values that a word has.
 const WORD_VALUES: usize = 65536;
 
 // The last position of position i's layer.
@@ -41,7 +42,7 @@ pub fn last_of(ends: &[u16; MAX_GATES], i: usize) -> usize
     end - 1
 }
 
-// How far position i is from its layer's last.
+// How far position i is from its layer's last, as the search noted it.
 fn distance_at(m: usize, i: usize, order: &[u16; MAX_GATES], notes: &[u16; NOTES]) -> usize
     requires { ⌜ (m ≤ maxGates) × (i < m) × (getD (now order) i 0 < m) ⌝ }
     ensures { λ r. ⌜ r ≡ distanceAt (now (order .entry)) (now (notes .entry)) i ⌝ }
@@ -50,7 +51,7 @@ fn distance_at(m: usize, i: usize, order: &[u16; MAX_GATES], notes: &[u16; NOTES
     WORD_VALUES * (note_of(notes, NOTE_SIZE * k + LOWEST) as usize / CURSORS) + i
 }
 
-// Gate `from` reads gate `to` by a slot.
+// Does gate `from` read gate `to` by some slot?
 fn has_slot(graph: &[u16; GRAPH_WORDS], m: usize, from: usize, slot: usize, to: usize) -> bool
     requires { ⌜ Graph m (now graph) × (from < m) × (to < m) ⌝ }
     ensures { λ r. ⌜ (r ≡ true → reads (network m (now (graph .entry))) from to ≡ true) ⌝ }
@@ -61,7 +62,7 @@ fn has_slot(graph: &[u16; GRAPH_WORDS], m: usize, from: usize, slot: usize, to: 
     graph_word(graph, NODE_SIZE * from + 1 + slot) as usize == FIRST_GATE + to
 }
 
-// A gate behind position i, in its layer, reads its gate.
+// Does a gate behind position i, in the same layer, read the gate at position i?
 fn is_called(
     graph: &[u16; GRAPH_WORDS],
     m: usize,
@@ -111,7 +112,7 @@ fn slot_position(
     word_of(positions, place - FIRST_GATE) as usize
 }
 
-// Position i's gate reads one of its layer that is nearer.
+// Does the gate at position i read a gate of its layer that is nearer to the layer's last?
 fn is_leaving(
     graph: &[u16; GRAPH_WORDS],
     m: usize,
@@ -136,7 +137,7 @@ fn is_leaving(
     distance_at(m, to, order, notes) < distance_at(m, i, order, notes)
 }
 
-// Position i is its layer's last, or both.
+// Is position i tied to its layer: the layer's last, or both called from behind and leaving towards the last?
 fn is_tied(
     graph: &[u16; GRAPH_WORDS],
     m: usize,
@@ -158,7 +159,7 @@ fn is_tied(
     is_leaving(graph, m, i, order, ends, positions, notes)
 }
 
-// All of it of every position, so that the layers are the groups.
+// Is every position tied to its layer, so that the layers are the groups?
 pub fn are_tied(
     graph: &[u16; GRAPH_WORDS],
     m: usize,

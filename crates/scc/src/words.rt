@@ -1,4 +1,4 @@
-// Words of the arrays, read as words: a result is known to be one.
+// Words of the arrays, read through functions whose contracts say that the result is a word.
 use crate::notes::NOTES;
 use graph::GRAPH_WORDS;
 use layout::limits::MAX_GATES;
@@ -9,7 +9,7 @@ ghost use Rattle.netlist.specs.Limits.{maxGates};
 ghost use Rattle.graph.specs.Graph.{graphSize};
 ghost use Rattle.scc.specs.Search.{noteRoom};
 
-// Of an array with a word a gate.
+// Word i of an array with a word for each gate.
 pub fn word_of(table: &[u16; MAX_GATES], i: usize) -> u16
     requires { ⌜ i < maxGates ⌝ }
     ensures { λ r. ⌜ r ≡ getD (now (table .entry)) i 0 ⌝ }
@@ -17,7 +17,7 @@ pub fn word_of(table: &[u16; MAX_GATES], i: usize) -> u16
     table[i]
 }
 
-// Of the search's notes.
+// Word i of the search's notes.
 pub fn note_of(notes: &[u16; NOTES], i: usize) -> u16
     requires { ⌜ i < noteRoom ⌝ }
     ensures { λ r. ⌜ r ≡ getD (now (notes .entry)) i 0 ⌝ }
@@ -25,7 +25,7 @@ pub fn note_of(notes: &[u16; NOTES], i: usize) -> u16
     notes[i]
 }
 
-// Of a graph.
+// Word i of a graph.
 pub fn graph_word(graph: &[u16; GRAPH_WORDS], i: usize) -> u16
     requires { ⌜ i < graphSize ⌝ }
     ensures { λ r. ⌜ r ≡ getD (now (graph .entry)) i 0 ⌝ }

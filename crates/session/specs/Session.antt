@@ -1,5 +1,5 @@
--- Which run a state and the lent buffers stand for, what must hold of them, and what the functions give: in terms of the run of
--- crates/runs, which is the bench. Assumes nothing.
+-- Which run a state and the lent buffers stand for, what must hold of them, and what the functions give: in terms of
+-- the run of crates/runs, which is the bench. Assumes nothing.
 use Prim.Native.Nat.{ℕ, _+_, _*_, _≤_, _<_}
 use mathlib.Core.Path.{_≡_}
 use mathlib.Core.Bool.{Bool, true, false}
@@ -30,14 +30,14 @@ pub record Unprepared (graph fanout : List ℕ) : Type 0 where
   pub long : length graph ≡ graphSize
   pub empty : Empty fanout
 
--- what is held is there, and the block is not malformed and prepared
+-- a state is sound: what it holds is in the buffers, and its block is not malformed and prepared
 unfoldable pub Sound : State → List ℕ → List ℕ → List ℕ → Type 0
 Sound (Netlist kept fresh) words graph fanout = (kept ≤ maxText) × Unprepared graph fanout
 Sound (Lines count kept) words graph fanout =
     (kept ≤ heldBytes) × (count ≤ length words) × (isMalformed (take count words) ≡ false) × PreparedFor (take count words) graph fanout
 Sound Ended words graph fanout = Unit {0}
 
--- behind a refused netlist
+-- a state behind a refused netlist
 unfoldable pub hasEnded : State → Bool
 hasEnded (Netlist kept fresh) = false
 hasEnded (Lines count kept) = false
@@ -79,14 +79,15 @@ pub record Progressed (r : Run) (piece : List ℕ) (state : State) (text words g
   pub next : runOf state text words line ≡ after r (take taken piece)
   pub output : AnswerWritten (outputs r (take taken piece)) out written
 
--- The same, and something is taken of a piece that isn't empty: all of it, or up to a byte that is answered. Left free: what stands in `out` behind the
--- answer, in `text` and `line` behind the bytes that are held, and in `words` behind the block's.
+-- Advanced is Progressed, and something is taken of a piece that isn't empty: all of it, or up to a byte that is
+-- answered. Left free: what stands in `out` behind the answer, in `text` and `line` behind the bytes that are held, and
+-- in `words` behind the block's.
 pub record Advanced (r : Run) (piece : List ℕ) (state : State) (text words graph fanout line out : List ℕ) (taken written : ℕ) : Type 0 where
   pub progress : Progressed r piece state text words graph fanout line out taken written
   pub moves : 0 < length piece → 0 < taken
   pub stops : (length piece ≤ taken) ⊎ (written ≡ 0 → ⊥)
 
--- a line that holds these bytes, and a byte more as far as it is held
+-- the buffer of a line holds these bytes, and one byte more as far as it is held
 pub record TextHeld (before : List ℕ) (c : ℕ) (line : List ℕ) (r : ℕ) : Type 0 where
   pub bytesAre : take r line ≡ heldFront before c
   pub few : r ≤ heldBytes

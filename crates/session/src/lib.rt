@@ -1,7 +1,7 @@
-// The bench in pieces of its input: the state goes in by value and comes back, the buffers are lent. `start` gives the first state, `feed`
-// takes a piece of input up to the first answer in it, `finish` answers what is left at the input's end. A block is tested and prepared once, when it
-// is read: `graph` and `fanout` are room for what is prepared. Whatever the pieces, what is
-// written is the bench's output (`pieces-bench` in crates/runs).
+// The bench in pieces of its input: the state goes in by value and comes back, the buffers are lent. `start` gives the
+// first state, `feed` takes a piece of input up to the first answer in it, `finish` answers what is left at the input's
+// end. A block is tested and prepared once, when it is read: `graph` and `fanout` are room for what is prepared.
+// Whatever the pieces, what is written is the bench's output (`pieces-bench` in crates/runs).
 use graph::GRAPH_WORDS;
 use graph::fanout::FANOUT_WORDS;
 use layout::limits::MAX_INPUTS;
@@ -19,8 +19,8 @@ ghost use Rattle.session.specs.Session.{runOf, hasEnded, SessionReady, F
 mod netlist_part;
 mod set_lines;
 
-// The bytes of a line that are held: `(set`, a pair for each input, `)`, LF, and one more, which shows that the line is longer. Room for the
-// buffer `line`.
+// The bytes of a line that are held: `(set`, a pair for each input, `)`, LF, and one more, which shows that the line is
+// longer. Room for the buffer `line`.
 pub const LINE_BYTES: usize = 4 + (MAX_NAME + 5) * MAX_INPUTS + 2 + 1;
 
 // The bytes of the longest answer: `(show`, a pair for each output, `)` and LF. Room for the buffer `out`.
@@ -42,7 +42,7 @@ pub struct Fed {
     pub written: usize,
 }
 
-// The same, with how many bytes of the piece were taken.
+// The next state, how many bytes of an answer stand in the buffer, and how many bytes of the piece were taken.
 pub struct Progress {
     pub state: State,
     pub taken: usize,
@@ -70,7 +70,7 @@ pub fn is_over(state: State) -> bool
     }
 }
 
-// One byte.
+// Feeds one byte of input.
 fn feed_byte(
     state: State,
     byte: u8,
@@ -100,7 +100,8 @@ fn feed_byte(
     }
 }
 
-// A piece of input, up to the first byte that is answered: how many bytes of it were taken, and the answer's bytes at the start of `out`.
+// Feeds a piece of input, up to the first byte that is answered: how many bytes of it were taken, and the answer's
+// bytes at the start of `out`.
 pub fn feed(
     state: State,
     piece: &[u8],
@@ -131,7 +132,7 @@ pub fn feed(
     }
 }
 
-// The end of the input: the answer's bytes at the start of `out`, and how many they are.
+// Ends the input: the answer's bytes at the start of `out`, and how many they are.
 pub fn finish(
     state: State,
     text: &[u8],

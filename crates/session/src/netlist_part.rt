@@ -53,7 +53,7 @@ fn open(
     }
 }
 
-// One byte of the netlist: an empty line ends it; of a text that gets too long no more is held.
+// Takes one byte of the netlist: an empty line ends it; of a text that gets too long no more is held.
 pub fn netlist_byte(
     held: usize,
     fresh: bool,
@@ -90,7 +90,7 @@ pub fn netlist_byte(
     }
 }
 
-// The input ends in the netlist: a refusal is told, and a good netlist gives nothing.
+// Ends the input inside the netlist: a refusal is told, and a good netlist gives nothing.
 pub fn end_netlist(
     held: usize,
     text: &[u8],

@@ -1,5 +1,5 @@
-// The set lines of the bench's input: the bytes of a line are held, no more of them than tell that it is out of form, and at its LF the
-// line is answered.
+// The set lines of the bench's input: the bytes of a line are held, no more of them than tell that it is out of form,
+// and at its LF the line is answered.
 use crate::Fed;
 use crate::LINE_BYTES;
 use crate::State;
@@ -20,7 +20,7 @@ ghost use Rattle.simulate.specs.Rounded.{PreparedFor};
 ghost use Rattle.runs.specs.Runs.{heldBytes, inLines, turn};
 ghost use Rattle.session.specs.Session.{maxAnswer, TextHeld, LineRoom, SessionStepped, AnswerWritten};
 
-// The answer to a line.
+// Answers the line that is held.
 fn answer(
     words: &[u16],
     graph: &[u16; GRAPH_WORDS],
@@ -38,7 +38,7 @@ fn answer(
     }
 }
 
-// Holds a byte more where there is room for it; how many are held then.
+// Holds one byte more where there is room for it; gives how many are held then.
 fn hold(line: &mut [u8], held: usize, byte: u8) -> usize
     requires { ⌜ (held ≤ heldBytes) × (heldBytes ≤ length (now line)) ⌝ }
     ensures { λ r. ⌜ TextHeld (take held (now (line .entry))) byte (now (line .exit)) r ⌝ }
@@ -50,7 +50,7 @@ fn hold(line: &mut [u8], held: usize, byte: u8) -> usize
     held
 }
 
-// One byte of a line.
+// Takes one byte of a line.
 pub fn line_byte(
     count: usize,
     held: usize,
@@ -86,7 +86,7 @@ pub fn line_byte(
     }
 }
 
-// The input ends in a line: it is answered unless it is empty.
+// Ends the input inside a line: it is answered unless it is empty.
 pub fn end_line(
     count: usize,
     held: usize,

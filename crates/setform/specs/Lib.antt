@@ -1,2 +1,2 @@
--- What the contracts of this crate add to the definitions of `netlist` and of `form`.
+-- What the contracts of this crate add to the definitions of `netlist` and of crates/form.
 pub mod Line

@@ -11,7 +11,7 @@ ghost use Rattle.netlist.specs.SetLine.{setLineReader};
 ghost use Rattle.form.specs.Scan.{scanOf};
 ghost use Rattle.setform.specs.Line.{lineLast, firstBadInSetLine};
 
-// The LF of a set line, and nothing behind it.
+// Reads the LF of a set line, with nothing behind it.
 fn line_last(s: &[u8]) -> Scan
     ensures { λ r. ⌜ r ≡ scanOf (lineLast (now (s .entry))) ⌝ }
 {
@@ -25,7 +25,7 @@ fn line_last(s: &[u8]) -> Scan
     Scan::Bad(left)
 }
 
-// `(set`, pairs and LF.
+// Reads `(set`, pairs and LF.
 fn set_line_scan(line: &[u8], most: usize) -> Scan
     ensures { λ r. ⌜ r ≡ scanOf (setLineReader most (now (line .entry))) ⌝ }
 {
@@ -42,7 +42,7 @@ fn set_line_scan(line: &[u8], most: usize) -> Scan
     line_last(&line[at..])
 }
 
-// 2: is the line in form, with at most `most` pairs?
+// Refusal 2 of a set line: is it in form, with at most `most` pairs?
 pub fn test_set_line(line: &[u8], most: usize) -> Test
     ensures { λ r. ⌜ r ≡ testAt (firstBadInSetLine most (now (line .entry))) SyntaxError ⌝ }
 {

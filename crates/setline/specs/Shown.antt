@@ -1,5 +1,5 @@
--- The show line as the words of the block give it, from the values of what stands at each place. proofs/ShowLaws.antt shows that it is the definition's.
--- Assumes nothing.
+-- The show line as the words of the block give it, from the values of what stands at each place. proofs/ShowLaws.antt
+-- shows that it is the definition's. Assumes nothing.
 use Prim.Native.Nat.{ℕ, _+_, _*_, _<_}
 use mathlib.Core.Path.{_≡_}
 use mathlib.Core.Bool.{false}
@@ -26,13 +26,13 @@ pub record PortOf (ws : List ℕ) (from o : ℕ) : Type 0 where
   pub start : from ≡ outputsAt (getD ws 0 0) (getD ws 3 0) (getD ws 1 0)
   pub below : o < getD ws 2 0
 
--- the first k of them
+-- the first k outputs of a block that is not malformed, whose outputs' words start at `from`
 pub record PortsOf (ws : List ℕ) (from k : ℕ) : Type 0 where
   pub whole : isMalformed ws ≡ false
   pub start : from ≡ outputsAt (getD ws 0 0) (getD ws 3 0) (getD ws 1 0)
   pub many : k ≡ getD ws 2 0
 
--- output o of those whose words start at `from`
+-- the piece of the show line for output o, of those whose words start at `from`
 unfoldable pub portPiece : List ℕ → ℕ → List ℕ → ℕ → List ℕ
 portPiece ws from values o =
     pairText (nameAt ws (from + outputSize * o))

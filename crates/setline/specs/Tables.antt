@@ -1,4 +1,5 @@
--- What the tables of a set line's pairs and of a block's inputs hold, and what the functions of src/ need of them. Assumes nothing.
+-- What the tables of a set line's pairs and of a block's inputs hold, and what the functions of src/ need of them.
+-- Assumes nothing.
 use Prim.Native.Nat.{ℕ, _+_, _*_, _≤_}
 use mathlib.Core.Path.{_≡_}
 use mathlib.Core.Bool.{true, false}
@@ -66,17 +67,17 @@ pub record SetTablesReady (ws names places codes : List ℕ) (count : ℕ) (inpu
 
 -- ---- what reading a line comes to
 
--- a second test, unless the first fails
+-- the first of two tests that fails, or that both pass
 unfoldable pub thenTest : Test → Test → Test
 thenTest Passed t = t
 thenTest (Failed why) t = Failed why
 
--- 4 before 5
+-- refusals 4 and 5 of a set line's pairs, 4 before 5
 unfoldable pub pairsTest : Block → List Pair → Test
 pairsTest b ps =
     thenTest (testAt (firstRepeat [] (givenNames ps)) DuplicateDeclaration) (testAt (firstOutside (b .inputs) (givenNames ps)) UndeclaredName)
 
--- where both pass, the inputs have what the line gives them
+-- what reading a set line gives: the test's answer, and where it passes the values that the line gives the inputs
 pub record LineRead (ws : List ℕ) (ps : List Pair) (r : Test) (values : List ℕ) : Type 0 where
   pub told : r ≡ pairsTest (decode ws) ps
   pub given : r ≡ Passed → Starting (givenValues (decode ws) ps) values

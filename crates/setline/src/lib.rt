@@ -1,4 +1,5 @@
-// The answer to one line of the bench, for a block that is prepared: the show line of a set line, or a refusal (2, 4, 5, 11).
+// The answer to one line of the bench, for a block that is prepared: the show line of a set line, or a refusal (2, 4,
+// 5, 11).
 use graph::GRAPH_WORDS;
 use graph::PLACES;
 use graph::fanout::FANOUT_WORDS;
@@ -32,7 +33,8 @@ mod show;
 // The bytes of `(set`, behind which the pairs stand.
 const PAIRS_AT: usize = 4;
 
-// 4 and 5, and then what the line gives the inputs, in an array of values where nothing has one.
+// Refusals 4 and 5 of a line's tables, and then what the line gives the inputs, in an array of values where nothing has
+// one.
 fn read_tables(
     words: &[u16],
     names: &[u64],
@@ -62,7 +64,7 @@ fn read_tables(
     Test::Passed
 }
 
-// The tables, and then the tests and the setting.
+// Fills the tables of a line's pairs, and then tests them and sets the inputs.
 fn read_with(
     words: &[u16],
     line: &[u8],
@@ -81,7 +83,7 @@ fn read_with(
     read_tables(words, names, places, codes, count, inputs, values)
 }
 
-// A line in form: room for the tables of at most MAX_INPUTS pairs.
+// Reads the pairs of a line in form: makes room for the tables of at most MAX_INPUTS pairs.
 fn read_pairs(words: &[u16], line: &[u8], values: &mut [u8; PLACES]) -> Test
     requires { ⌜ InForm (now words) (now line) × Blank (now values) ⌝ }
     ensures { λ r. ⌜ ((ps : List Pair) → LineFor (now (words .entry)) ps (now (line .entry)) → LineRead (now (words .entry)) ps r (now (values .exit))) ⌝ }
@@ -101,7 +103,8 @@ fn read_pairs(words: &[u16], line: &[u8], values: &mut [u8; PLACES]) -> Test
     )
 }
 
-// The answer to a line, with its LF, for a block that is prepared; `values` is room for what stands at each place. Count: bytes of the show line.
+// The answer to a line, with its LF, for a block that is prepared; `values` is room for what stands at each place.
+// Count: bytes of the show line.
 fn answer_with(
     words: &[u16],
     table: &[u8; GATE_ENTRIES],
@@ -125,7 +128,8 @@ fn answer_with(
     show(words, table, graph, fanout, values, out)
 }
 
-// The same in an array of its own.
+// The answer to a line, with its LF, for a block that is prepared; makes the array of values. Count: bytes of the show
+// line.
 pub fn answer_line(
     words: &[u16],
     table: &[u8; GATE_ENTRIES],

@@ -1,4 +1,4 @@
-// The show line of a block under a setting of its inputs, appended as in `writing::pieces`.
+// The show line of a block under a setting of its inputs, appended piece by piece as Write does (`writing::pieces`).
 use graph::GRAPH_WORDS;
 use graph::PLACES;
 use graph::fanout::FANOUT_WORDS;
@@ -42,7 +42,7 @@ fn value_byte(v: u8) -> u8
     }
 }
 
-// A port and its value: output o of those from `from` on.
+// Appends a port and its value: output o of those from `from` on.
 fn put_port(
     text: &mut [u8],
     at: usize,
@@ -85,7 +85,7 @@ fn put_ports(
     end
 }
 
-// `(show`, the ports and LF.
+// Appends `(show`, the ports and LF.
 fn put_show(text: &mut [u8], words: &[u16], values: &[u8; PLACES]) -> usize
     requires { ⌜ isMalformed (now words) ≡ false ⌝ }
     ensures { λ r. ⌜ Appended (showText (now (words .entry)) (now (values .entry))) (now (text .entry)) 0 (now (text .exit)) r ⌝ }
@@ -97,7 +97,7 @@ fn put_show(text: &mut [u8], words: &[u16], values: &[u8; PLACES]) -> usize
     put_all(text, filled, b")\n")
 }
 
-// 11, and the line. The first pass is over a text of one byte, and only measures.
+// Refusal 11, and the show line. The first pass is over a text of one byte, and only measures.
 fn show_settled(words: &[u16], values: &[u8; PLACES], out: &mut [u8]) -> Answer
     requires { ⌜ isMalformed (now words) ≡ false ⌝ }
     ensures { λ r. ⌜ Promise (inRoom (length (now (out .entry))) (counted (showText (now (words .entry)) (now (values .entry)))))
@@ -113,7 +113,7 @@ fn show_settled(words: &[u16], values: &[u8; PLACES], out: &mut [u8]) -> Answer
     Answer::Done { count, detail: 0 }
 }
 
-// The show line of a prepared block, whose inputs have their values: 11, or its bytes; count: bytes.
+// The show line of a prepared block, whose inputs have their values: refusal 11, or its bytes; count: bytes.
 pub fn show(
     words: &[u16],
     table: &[u8; GATE_ENTRIES],

@@ -18,7 +18,7 @@ pub record OfBlock (ws : List ℕ) (n o : ℕ) : Type 0 where
   pub inputs : n ≡ getD ws 0 0
   pub below : o < getD ws 2 0
 
--- past the end of the outputs
+-- the output that is read past the end of the outputs
 abbrev pub noOutput : Output
 noOutput = record { port = []; node = constant false }
 

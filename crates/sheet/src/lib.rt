@@ -1,5 +1,5 @@
-// A sheet of settings in one call: the call's reply, and the answer of one record, on numbers and slices. The function over the caller's
-// records, a walk by hand, is the C function in `exports`.
+// A sheet of settings in one call: the call's reply, and the answer of one record, on numbers and slices. The function
+// over the caller's records is the C function in crates/exports, whose proof goes step by step by hand.
 mod masks;
 mod outputs;
 pub mod record;
@@ -13,7 +13,7 @@ use refusals::reply_of;
 ghost use Rattle.netlist.specs.Answers.{answerOf, Shows};
 ghost use Rattle.netlist.specs.Sheet.{sheet};
 
-// The call's reply. Its count is also how many records are to be answered: none with 6.
+// The reply of the call. Its count is also how many records are to be answered: none with refusal 6.
 pub fn reply_to_sheet(words: &[u16], count: usize) -> Reply
     ensures { λ r. ⌜ Shows (answerOf (sheet (now (words .entry)) count)) r ⌝ }
 {

@@ -10,7 +10,7 @@ ghost use Rattle.netlist.specs.Values.{valueOf};
 ghost use Rattle.netlist.specs.Sheet.{inputByte, settingBytes};
 ghost use Rattle.simulate.specs.Rounded.{Blank, Starting};
 
-// 0 or 1 for an input that is fixed, 2 for any other.
+// The byte of input i in the setting of two masks: 0 or 1 where it is fixed, 2 where it is not.
 fn input_byte(fixed: usize, ones: usize, i: usize) -> u8
     requires { ⌜ i < maxInputs ⌝ }
     ensures { λ r. ⌜ r ≡ inputByte fixed ones i ⌝ }
@@ -22,7 +22,7 @@ fn input_byte(fixed: usize, ones: usize, i: usize) -> u8
     }
 }
 
-// The constants and the inputs of a setting of n inputs, in an array of values where nothing has one.
+// Writes the constants and the inputs of a setting of n inputs, into an array of values where nothing has one.
 pub fn put_masks(n: usize, fixed: usize, ones: usize, values: &mut [u8; PLACES])
     requires { ⌜ (n ≤ maxInputs) × Blank (now values) ⌝ }
     ensures { λ _. ⌜ Starting (map valueOf (settingBytes n fixed ones)) (now (values .exit)) ⌝ }

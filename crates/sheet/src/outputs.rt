@@ -24,7 +24,7 @@ fn output_value(words: &[u16], n: usize, o: usize, values: &[u8; PLACES]) -> u8
     shown_value(words, n, port, values)
 }
 
-// The record that shows the outputs, the last one first.
+// The record that shows the outputs; its masks are made from the last output to the first.
 pub fn show_outputs(words: &[u16], fixed: u16, ones: u16, values: &[u8; PLACES]) -> Record
     requires { ⌜ (isMalformed (now words) ≡ false) × Coded (now values) ⌝ }
     ensures { λ r. ⌜ r ≡ showing fixed ones (shownIn (now (words .entry)) (now (values .entry))) ⌝ }

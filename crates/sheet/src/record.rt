@@ -28,7 +28,7 @@ ghost use Rattle.graph.specs.Graph.{Graph};
 ghost use Rattle.simulate.specs.Rounded.{Unsettled, SettledIn};
 ghost use Rattle.sheet.specs.Shown.{BlockSettled};
 
-// 7, with two zero masks.
+// A record with refusal 7 and two zero masks of outputs.
 fn refuse(fixed: u16, ones: u16) -> Record
     ensures { λ r. ⌜ r ≡ refusedRecord fixed ones ⌝ }
 {

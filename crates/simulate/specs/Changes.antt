@@ -1,6 +1,6 @@
--- A round that evaluates only gates that read a gate that changed in the round before. `values` has the codes of the state before the round, by place,
--- `found` those of the gates behind it, and the queue the gates that changed, in the order in which they did. Cited by the contracts of this crate.
--- Assumes nothing.
+-- Event-driven simulation: a round that evaluates only gates that read a gate that changed in the round before.
+-- `values` has the codes of the state before the round, by place, `found` those of the gates behind it, and the queue
+-- the gates that changed, in the order in which they did. Cited by the contracts of this crate. Assumes nothing.
 --   Done, Steady, UpdateReady   what is asked of the values
 --   Updated                     what evaluating some gates does
 --   Round, Turned               between two rounds, and from one to the next
@@ -33,7 +33,7 @@ QueuedIn queue head tail k = (q : ℕ) × (head ≤ q) × (q < tail) × (getD qu
 abbrev pub Done : List ℕ → List ℕ → List ℕ → ℕ → Type 0
 Done graph values found j = getD found j 0 ≡ gateCode graph values j
 
--- each gate that is 0 or 1 has that value: it need not be evaluated
+-- each gate that is 0 or 1 has the value that is evaluated from `values`: it need not be evaluated
 abbrev pub Steady : ℕ → List ℕ → List ℕ → List ℕ → Type 0
 Steady m graph values found = (j : ℕ) → j < m → (getD found j 0 ≡ 2) ⊎ Done graph values found j
 
@@ -56,38 +56,39 @@ pub record Updated (m : ℕ) (graph values found queue : List ℕ) (end : ℕ) (
   pub ordered : end ≤ end′
   pub counted : end′ + definedFrom 0 found m ≡ end + definedFrom 0 found′ m
 
--- a list of readers that are gates of the graph
+-- a list of the fan-out whose slots are those of gates of the graph
 pub record ListReady (m : ℕ) (fanout : List ℕ) (from : ℕ) : Type 0 where
   pub descends : Descends fanout
   pub starts : from ≤ slots * m
 
--- gate j was
+-- gate j was evaluated, and queued if it changed
 pub record UpdatedOne (m : ℕ) (graph values found queue : List ℕ) (end j : ℕ) (found′ queue′ : List ℕ) (end′ : ℕ) : Type 0 where
   pub updated : Updated m graph values found queue end found′ queue′ end′
   pub done : Done graph values found′ j
 
--- the gates in a list of readers were
+-- the gates in a list of the fan-out were evaluated, and queued where they changed
 pub record UpdatedList (m : ℕ) (graph fanout values found queue : List ℕ) (end from : ℕ) (found′ queue′ : List ℕ) (end′ : ℕ) : Type 0 where
   pub updated : Updated m graph values found queue end found′ queue′ end′
   pub done : (e : ℕ) → Chain fanout (suc e) from → Done graph values found′ (e / slots)
 
--- all gates have their values
+-- all gates were evaluated, and queued where they changed
 pub record UpdatedAll (m : ℕ) (graph values found queue : List ℕ) (end : ℕ) (found′ queue′ : List ℕ) (end′ : ℕ) : Type 0 where
   pub updated : Updated m graph values found queue end found′ queue′ end′
   pub done : (j : ℕ) → j < m → Done graph values found′ j
 
--- a gate has its value, or reads a gate that is queued
+-- gate j has the value that is evaluated from `values`, or reads a gate that is queued
 abbrev pub Awake : ℕ → List ℕ → List ℕ → List ℕ → List ℕ → ℕ → ℕ → Type 0
 Awake m graph values found queue head tail =
     (j : ℕ) → j < m → Done graph values found j ⊎ ((k : ℕ) × (reads (network m graph) j k ≡ true) × QueuedIn queue head tail k)
 
--- the queued gates are there
+-- the queued gates are gates of the graph, and there is room for their values
 pub record CopyReady (queue : List ℕ) (tail : ℕ) (values : List ℕ) : Type 0 where
   pub long : firstGate + maxGates ≡ length values
   pub queued : tail ≤ maxGates
   pub inside : (q : ℕ) → q < tail → getD queue q 0 < maxGates
 
--- the queued gates have their new values at their places, and the others the old ones; what stands below the gates is as it was
+-- the queued gates have their new values at their places, and the others the old ones; what stands below the gates is
+-- as it was
 pub record Copied (found queue : List ℕ) (head tail : ℕ) (values values′ : List ℕ) : Type 0 where
   pub long : length values′ ≡ length values
   pub low : (p : ℕ) → p < firstGate → getD values′ p 0 ≡ getD values p 0
@@ -107,7 +108,7 @@ pub record Round (m : ℕ) (graph values found queue : List ℕ) (head tail : �
   pub before : head ≡ definedFrom firstGate values m
   pub counted : tail ≡ definedFrom 0 found m
 
--- one round more: `values` has what was found
+-- one round more than before: `values` has what was found
 pub record Turned (m : ℕ) (graph values values′ found′ queue′ : List ℕ) (tail end : ℕ) : Type 0 where
   pub made : Round m graph values′ found′ queue′ tail end
   pub inputs : inputsIn values′ ≡ inputsIn values

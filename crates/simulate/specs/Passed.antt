@@ -1,4 +1,5 @@
--- Pass's promise: its own outcome, and whenever it answers 0, the slice holds what Settle would leave there. Assumes nothing.
+-- Pass's promise: its own outcome, and whenever it answers 0, the slice holds what Settle would leave there. Assumes
+-- nothing.
 use mathlib.Core.Path.{_≡_}
 use mathlib.Core.List.{List}
 use Prim.Native.Nat.{ℕ}

@@ -1,5 +1,5 @@
--- What settling asks of what is prepared, and what it leaves in the array of values. Cited by the contracts of this crate, of `sheet`, `setline` and
--- `session`. Assumes nothing.
+-- What settling asks of what is prepared, and what it leaves in the array of values. Cited by the contracts of this
+-- crate, of crates/sheet, crates/setline and crates/session. Assumes nothing.
 --   PreparedFor   the graph and the fan-out of a block's gates
 --   Bytes, Blank  a setting's bytes, and an array in which nothing has a value
 --   Starting      an array with the inputs' values, in which no gate has a value
@@ -23,13 +23,13 @@ use Rattle.graph.specs.Graph.{network, Graph, Decoded}
 use Rattle.graph.specs.Fanout.{Fanout}
 use Rattle.ternary.specs.State.{Coded, inputsIn, stateIn}
 
--- the table, a graph of m gates and its fan-out
+-- prepared for settling: the table of all gates, a graph of m gates and its fan-out
 pub record Prepared (m : ℕ) (table graph fanout : List ℕ) : Type 0 where
   pub tabled : table ≡ gateTable
   pub legal : Graph m graph
   pub linked : Fanout m graph fanout
 
--- of the block that these words hold
+-- prepared for the block that these words hold: its graph and its fan-out
 pub record PreparedFor (ws graph fanout : List ℕ) : Type 0 where
   pub decoded : Decoded (decode ws) (getD ws 1 0) graph
   pub linked : Fanout (getD ws 1 0) graph fanout
@@ -39,17 +39,17 @@ pub record Bytes (setting : List ℕ) : Type 0 where
   pub few : length setting ≤ maxInputs
   pub most : (i : ℕ) → getD setting i 0 ≤ 2
 
--- nothing has a value yet
+-- an array of values in which nothing has a value yet
 pub record Blank (values : List ℕ) : Type 0 where
   pub long : length values ≡ placeCount
   pub all : (p : ℕ) → p < placeCount → getD values p 0 ≡ 2
 
--- no gate has a value
+-- an array of values in which no gate has a value
 pub record Unsettled (values : List ℕ) : Type 0 where
   pub coded : Coded values
   pub none : (j : ℕ) → j < maxGates → getD values (firstGate + j) 0 ≡ 2
 
--- and the inputs have these
+-- an array of values in which the inputs have these values and no gate has one
 pub record Starting (x : List Value) (values : List ℕ) : Type 0 where
   pub unsettled : Unsettled values
   pub few : length x ≤ maxInputs
@@ -68,7 +68,7 @@ pub record SettledIn (m : ℕ) (graph values values′ : List ℕ) (count : ℕ)
   pub state : stateIn m values′ ≡ settled (network m graph) (inputsIn values)
   pub reported : count ≡ rounds (network m graph) (inputsIn values)
 
--- the same of one sweep
+-- the inputs are as they were, and the gates have the values of one sweep
 pub record SweptIn (m : ℕ) (graph values values′ : List ℕ) : Type 0 where
   pub coded : Coded values′
   pub inputs : inputsIn values′ ≡ inputsIn values

@@ -1,5 +1,7 @@
-// One round from the gates that changed in the round before: only their readers can change. `values` has the codes before the round, by place, `found`
-// gets those of the gates behind it, and every gate that changes is put in the queue. A gate that is 0 or 1 stays so, and is not evaluated again.
+// Event-driven simulation (Ulrich, "Exclusive simulation of activity in digital networks", 1969): one round from the
+// gates that changed in the round before, as only gates that read these can change. `values` has the codes before the
+// round, by place, `found` gets those of the gates behind it, and every gate that changes is put in the queue. A gate
+// that is 0 or 1 stays so, and is not evaluated again.
 use crate::round::UNDEFINED;
 use graph::FIRST_GATE;
 use graph::GRAPH_WORDS;
@@ -24,13 +26,13 @@ pub struct Stretch {
     pub tail: usize,
 }
 
-// The readers of a gate: the start of its list, in the fan-out of so many gates.
+// The gates that read a gate: where its list starts in the fan-out of so many gates.
 struct Readers {
     gates: usize,
     from: usize,
 }
 
-// Evaluates gate `j`, if it has no value, and queues it if it gets one; the queue's new end.
+// Evaluates gate `j`, if it has no value, and queues it if it gets one; gives the queue's new end.
 fn update(
     table: &[u8; GATE_ENTRIES],
     graph: &[u16; GRAPH_WORDS],
@@ -58,7 +60,7 @@ fn update(
     end + 1
 }
 
-// The same for every gate.
+// Evaluates every gate without a value, and queues those that get one; gives the queue's new end.
 pub fn update_all(
     table: &[u8; GATE_ENTRIES],
     graph: &[u16; GRAPH_WORDS],
@@ -81,7 +83,7 @@ pub fn update_all(
     end
 }
 
-// The same for the readers of a gate.
+// Evaluates the gates that read a gate, and queues those that get a value; gives the queue's new end.
 fn update_readers(
     table: &[u8; GATE_ENTRIES],
     graph: &[u16; GRAPH_WORDS],
@@ -118,7 +120,8 @@ fn update_readers(
     end
 }
 
-// The same for the readers of the gates that the round before changed.
+// Evaluates the gates that read what the round before changed, and queues those that get a value; gives the queue's new
+// end.
 fn update_changed(
     table: &[u8; GATE_ENTRIES],
     graph: &[u16; GRAPH_WORDS],
@@ -170,7 +173,8 @@ fn copy_changed(
     }
 }
 
-// One round more, from what the round before changed; the end of the gates that it changed itself, which are queued behind those.
+// One round more, from what the round before changed; gives the end of the gates that this round changed, which are
+// queued behind those.
 pub fn next_round(
     table: &[u8; GATE_ENTRIES],
     graph: &[u16; GRAPH_WORDS],

@@ -1,4 +1,5 @@
-// Settle and Pass, each in a file of its own, with the tests before them, the array of values, and the rounds and the sweep below them.
+// Settle and Pass, each in a file of its own, with the tests before them, the array of values, the event-driven rounds
+// and the sweep below them.
 mod changes;
 pub mod pass;
 pub mod round;

@@ -1,4 +1,4 @@
-// Pass (SPECIFICATION 7.10).
+// Pass (SPECIFICATION 7.10): a straight block's values in one sweep.
 use crate::setting::test_setting;
 use crate::sweep::sweep_into;
 use block::check_straight;

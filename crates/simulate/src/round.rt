@@ -1,4 +1,5 @@
-// Rounds of a prepared block: in the first all gates are evaluated, in a later one those that read a gate that the one before changed.
+// Settling a prepared block by event-driven rounds up to the fixpoint: in the first round all gates are evaluated, in a
+// later one those that read a gate that the one before changed.
 use crate::changes::Stretch;
 use crate::changes::next_round;
 use crate::changes::update_all;
@@ -21,7 +22,7 @@ ghost use Rattle.simulate.specs.Rounded.{Prepared, PreparedFor, Unsettle
 // The byte of a gate that has no value.
 pub const UNDEFINED: u8 = 2;
 
-// The graph and the fan-out of a block, into arrays of zeros.
+// Prepares a block for settling: its graph and its fan-out, into arrays of zeros.
 pub fn prepare(words: &[u16], graph: &mut [u16; GRAPH_WORDS], fanout: &mut [u16; FANOUT_WORDS])
     requires { ⌜ (isMalformed (now words) ≡ false) × (length (now graph) ≡ graphSize) × Empty (now fanout) ⌝ }
     ensures { λ r. ⌜ PreparedFor (now (words .entry)) (now (graph .exit)) (now (fanout .exit)) ⌝ }
@@ -30,8 +31,9 @@ pub fn prepare(words: &[u16], graph: &mut [u16; GRAPH_WORDS], fanout: &mut [u16;
     link_slots(graph, gates_of(words), fanout);
 }
 
-// Rounds from all gates undefined until one changes nothing; how many changed something. In the queue stand the gates that a round changed: from `head` to
-// `tail` those of the last one. `found` and `queue` are room for what a round finds and for the gates that it changed.
+// Runs rounds from all gates undefined until one changes nothing; gives how many changed something. In the queue stand
+// the gates that a round changed: from `head` to `tail` those of the last one. `found` and `queue` are room for what a
+// round finds and for the gates that it changed.
 fn settle_with(
     table: &[u8; GATE_ENTRIES],
     graph: &[u16; GRAPH_WORDS],
@@ -65,8 +67,8 @@ fn settle_with(
     count
 }
 
-// The settled values of a prepared block of m gates, in place: at first the inputs have their values, and no gate has one. How many rounds change
-// something.
+// Settles a prepared block of m gates in place: at first the inputs have their values, and no gate has one. Gives how
+// many rounds change something.
 pub fn settle_prepared(
     table: &[u8; GATE_ENTRIES],
     graph: &[u16; GRAPH_WORDS],

@@ -14,7 +14,7 @@ ghost use Rattle.simulate.specs.Tests.{atMost, isBadBytes};
 // The highest byte of a setting: undefined.
 const MOST: u8 = 2;
 
-// Is no byte above `most`?
+// Is no byte of the setting above `most`?
 fn none_above(bytes: &[u8], most: u8) -> bool
     ensures { λ r. ⌜ r ≡ all (atMost most) (now (bytes .entry)) ⌝ }
 {
@@ -28,7 +28,7 @@ fn none_above(bytes: &[u8], most: u8) -> bool
     true
 }
 
-// Refusal 7: one byte for each of n inputs, and none above `most`?
+// Refusal 7: has a setting one byte for each of n inputs, and none above `most`?
 pub fn test_bytes(n: usize, most: u8, setting: &[u8]) -> Test
     ensures { λ r. ⌜ r ≡ testOf (isBadBytes n most (now (setting .entry))) BadSetting ⌝ }
 {
@@ -38,7 +38,7 @@ pub fn test_bytes(n: usize, most: u8, setting: &[u8]) -> Test
     refuse_if(!none_above(setting, most), Refusal::BadSetting)
 }
 
-// The same of a block's inputs, each 0, 1 or undefined.
+// Refusal 7 of a setting for a block's inputs, each 0, 1 or undefined.
 pub fn test_setting(words: &[u16], setting: &[u8]) -> Test
     ensures { λ r. ⌜ r ≡ testOf (isBadSetting (decode (now (words .entry))) (now (setting .entry))) BadSetting ⌝ }
 {

@@ -1,4 +1,4 @@
-// Settle (SPECIFICATION 7.5).
+// Settle (SPECIFICATION 7.5): the least fixpoint of a block under one setting, by event-driven simulation.
 use crate::round::UNDEFINED;
 use crate::round::prepare;
 use crate::round::settle_prepared;
@@ -24,7 +24,7 @@ ghost use Rattle.netlist.specs.Answers.{Promise};
 ghost use Rattle.netlist.specs.Operations.{settle};
 ghost use Rattle.simulate.specs.Rounded.{Bytes, Settled};
 
-// The settled values into the first bytes of `out`; how many rounds change something.
+// Writes the settled values into the first bytes of `out`; gives how many rounds change something.
 fn settle_into(words: &[u16], setting: &[u8], out: &mut [u8]) -> usize
     requires { ⌜ (isMalformed (now words) ≡ false) × Bytes (now setting) × (getD (now words) 1 0 ≤ length (now out)) ⌝ }
     ensures { λ r. ⌜ Settled (now (words .entry)) (now (setting .entry)) (now (out .entry)) (now (out .exit)) r ⌝ }

@@ -1,4 +1,5 @@
-// One sweep of a block that is not malformed.
+// One sweep of a block that is not malformed: in a straight block, which is in topological order, it finds the settled
+// values.
 use crate::round::UNDEFINED;
 use crate::values::put_setting;
 use crate::values::take_gates;
@@ -20,7 +21,7 @@ ghost use Rattle.netlist.specs.GateTable.{gateTable};
 ghost use Rattle.graph.specs.Graph.{Graph};
 ghost use Rattle.simulate.specs.Rounded.{Unsettled, Bytes, SweptIn, sweepCodes};
 
-// Each gate once, in ascending order, from the inputs and the values that this sweep has found so far.
+// Evaluates each gate once, in ascending order, from the inputs and the values that this sweep has found so far.
 pub fn sweep_gates(
     table: &[u8; GATE_ENTRIES],
     graph: &[u16; GRAPH_WORDS],
@@ -38,7 +39,7 @@ pub fn sweep_gates(
     }
 }
 
-// The values of one sweep into the first bytes of `out`; how many gates there are.
+// Writes the values of one sweep into the first bytes of `out`; gives how many gates there are.
 pub fn sweep_into(words: &[u16], setting: &[u8], out: &mut [u8]) -> usize
     requires { ⌜ (isMalformed (now words) ≡ false) × Bytes (now setting) × (getD (now words) 1 0 ≤ length (now out)) ⌝ }
     ensures { λ r. ⌜ now (out .exit) ≡ placed (sweepCodes (now (words .entry)) (now (setting .entry))) (now (out .entry)) ⌝ }

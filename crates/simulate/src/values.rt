@@ -1,4 +1,5 @@
-// The values of what stands at each place (`graph`), a byte each: from a setting's bytes, and the gates' bytes out of them.
+// The array of values, a byte for what stands at each place of crates/graph: made from a setting's bytes, and the
+// gates' bytes taken out of it.
 use graph::FIRST_GATE;
 use graph::FIRST_INPUT;
 use graph::PLACES;
@@ -12,7 +13,7 @@ ghost use Rattle.netlist.specs.Values.{valueOf};
 ghost use Rattle.graph.specs.Places.{firstGate};
 ghost use Rattle.simulate.specs.Rounded.{Blank, Starting, Bytes};
 
-// The constants, in an array where nothing has a value.
+// Writes the constants into an array where nothing has a value.
 pub fn put_constants(values: &mut [u8; PLACES])
     requires { ⌜ Blank (now values) ⌝ }
     ensures { λ r. ⌜ Starting [] (now (values .exit)) ⌝ }
@@ -21,7 +22,7 @@ pub fn put_constants(values: &mut [u8; PLACES])
     values[1] = 1;
 }
 
-// The constants and the inputs.
+// Writes the constants and the inputs' values into an array where nothing has a value.
 pub fn put_setting(setting: &[u8], values: &mut [u8; PLACES])
     requires { ⌜ Blank (now values) × Bytes (now setting) ⌝ }
     ensures { λ r. ⌜ Starting (map valueOf (now (setting .entry))) (now (values .exit)) ⌝ }
@@ -34,7 +35,7 @@ pub fn put_setting(setting: &[u8], values: &mut [u8; PLACES])
     }
 }
 
-// The bytes of m gates, into the first bytes of `out`.
+// Copies the bytes of m gates into the first bytes of `out`.
 pub fn take_gates(values: &[u8; PLACES], m: usize, out: &mut [u8])
     requires { ⌜ (m ≤ maxGates) × (m ≤ length (now out)) ⌝ }
     ensures { λ r. ⌜ now (out .exit) ≡ placed (tab (λ j. getD (now (values .entry)) (firstGate + j) 0) m) (now (out .entry)) ⌝ }

@@ -1,5 +1,6 @@
--- What stands at the front of a text, by its bytes alone: the kind of an expression, and an operand that is a name or a constant, looked up in
--- a table of names. On the print of a tree these are the tree's own (proofs/Leaves). Assumes nothing.
+-- What stands at the front of a text, by its bytes alone: the kind of an expression, and an operand that is a name or a
+-- constant, looked up in a table of names. On the print of a tree these are the tree's own (proofs/Leaves). Assumes
+-- nothing.
 use Prim.Native.Nat.{ℕ, zero, suc, _+_, _-_}
 use mathlib.Core.Bool.{cond}
 use mathlib.Core.List.{List}
@@ -35,12 +36,12 @@ nameLength s = length (nameFront 8 s)
 unfoldable pub indexHere : List ℕ → List ℕ → ℕ
 indexHere s names = indexOf names (length names) (packed (nameFront 8 s))
 
--- the first of two that is not 0
+-- the first of two numbers that is not 0
 unfoldable pub earlier : ℕ → ℕ → ℕ
 earlier zero later = later
 earlier (suc first) later = suc first
 
--- a name: its node's word, or 65534 and this place where the table does not have it
+-- what a name at the front stands for: its node's word, or 65534 and this place where the table does not have it
 unfoldable pub nameHere : List ℕ → List ℕ → List ℕ → ℕ → Leaf
 nameHere s names words unknown =
     let i = indexHere s names in
@@ -53,7 +54,7 @@ nameHere s names words unknown =
 unfoldable pub constantHere : List ℕ → ℕ → ℕ → Leaf
 constantHere s word unknown = record { left = length s - 1; word = word; unknown = unknown }
 
--- an operand that is no expression: a name, `0` or `1`
+-- what an operand at the front stands for that is no expression: a name, `0` or `1`
 unfoldable pub leafHere : List ℕ → List ℕ → List ℕ → ℕ → Leaf
 leafHere s names words unknown =
     cond (eqb (getD s 0 0) 48) (constantHere s 65534 unknown)

@@ -1,5 +1,5 @@
--- What the walk over lines has to show, once for every form of line: a line's legal print, its words, and the names that it uses. Assumes
--- nothing.
+-- What the walk over lines has to show, once for every form of line: a line's legal print, its words, and the names
+-- that it uses. Assumes nothing.
 use Prim.Native.Nat.{ℕ, _+_, _-_, _*_, _≤_}
 use mathlib.Core.Path.{_≡_}
 use mathlib.Core.Bool.{Bool, true}
@@ -55,12 +55,12 @@ outputForm =
 module _ {A : Type 0} (F : LineForm A) where
   -- ---- one line
 
-  -- a line stands here, and then `rest`
+  -- a line of the form stands at the front of s, and then `rest`
   pub record LineAt (x : A) (rest s : List ℕ) : Type 0 where
     pub legal : F .legal x ≡ true
     pub printed : F .printed x rest ≡ s
 
-  -- what the walk may assume: some line stands here, and its entries have room
+  -- what the walk may assume of a line: some line of the form stands here, and its entries have room
   pub record LineHere (most : ℕ) (s : List ℕ) (n : ℕ) (names words : List ℕ) (first : ℕ) (array : List ℕ) : Type 0 where
     pub bindings : List Binding
     pub line : A
@@ -117,7 +117,7 @@ module _ {A : Type 0} (F : LineForm A) where
     pub done : (bs : List Binding) (xs : List A) (rest : List ℕ) (at : ℕ) → Table n bs names words → LinesAt xs rest s → length xs ≡ count
         → LinesDone n bs xs at s rest 0 seen before after r
 
-  -- ---- in the middle of them: `i` lines are done, `left` bytes are left
+  -- ---- the walk in the middle of the lines: `i` lines are done, `left` bytes are left
 
   pub record LinesNow (count : ℕ) (s : List ℕ) (seen : ℕ) (before : List ℕ) (n : ℕ) (bs : List Binding) (xs : List A) (rest : List ℕ)
       (at i left first unknown : ℕ) (array : List ℕ) : Type 0 where

@@ -1,5 +1,5 @@
--- What `resolve` needs of a text and its table of names, and what it answers and writes: Read's 5 (SPECIFICATION 7.3) and the words of gates
--- and outputs. Assumes nothing.
+-- What `resolve` needs of a text and its table of names, and what it answers and writes: Read's 5 (SPECIFICATION 7.3)
+-- and the words of gates and outputs. Assumes nothing.
 use Prim.Native.Nat.{ℕ, _*_, _≤_}
 use mathlib.Core.Path.{_≡_}
 use mathlib.Core.Bool.{false}
@@ -18,7 +18,8 @@ use Rattle.names.specs.declared.Counts.{Counts}
 use Rattle.names.specs.Trees.{TextOf}
 use Rattle.names.specs.Results.{treeCounts, declared, packedNames, nodeWords}
 
--- the text is this tree's, within the limits, its gate lines start there, these are its counts, and the tables hold its declared names and their nodes
+-- the text is this tree's, within the limits, its gate lines start there, these are its counts, and the tables hold its
+-- declared names and their nodes
 pub record TreeAt (t : Tree) (text : List ℕ) (end : ℕ) (c : Counts) (names words : List ℕ) : Type 0 where
   pub is : TextOf t text
   pub from : end ≡ gateLinesAt t
@@ -33,7 +34,7 @@ pub record ResolveReady (text : List ℕ) (end : ℕ) (c : Counts) (names words 
   pub gateRoom : gateSize * maxGates ≤ length gates
   pub outputRoom : outputSize * maxOutputs ≤ length outputs
 
--- 5 behind never lines: the first use of a name that no input or gate declares
+-- refusal 5 behind never lines: the first use of a name that no input or gate declares
 unfoldable pub firstUnknown : Tree → Option ℕ
 firstUnknown t = firstOutside (map (λ (d : Mention). d .name) (declaredNodes t)) (usedNames t)
 
@@ -42,6 +43,6 @@ pub record TreeDone (t : Tree) (gates gates′ outputs outputs′ : List ℕ) (r
   pub gatesWritten : gates′ ≡ placed (joined (map (gateWords (length (t .inputs))) (blockOf t .gates))) gates
   pub outputsWritten : outputs′ ≡ placed (joined (map (outputWords (length (t .inputs))) (blockOf t .outputs))) outputs
 
--- of whatever tree it is
+-- what `resolve` answers and writes, of whatever tree the text is
 pub record Resolved (text : List ℕ) (end : ℕ) (c : Counts) (names words gates gates′ outputs outputs′ : List ℕ) (r : Test) : Type 0 where
   pub done : (t : Tree) → TreeAt t text end c names words → TreeDone t gates gates′ outputs outputs′ r

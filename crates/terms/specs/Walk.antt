@@ -1,5 +1,6 @@
--- What the walk over the operands of a text that is known to be a print has to show of each term, each operand list, each line and all
--- lines. "Bytes left" say places: they do not change when the rest of a text is lent. Assumes nothing.
+-- What the walk over the operands of a text that is known to be a print has to show of each term, each operand list,
+-- each line and all lines. "Bytes left" say places: they do not change when the rest of a text is lent. Assumes
+-- nothing.
 use Prim.Native.Nat.{ℕ, suc, _+_, _-_, _*_, _≤_}
 use mathlib.Core.Path.{_≡_}
 use mathlib.Core.Bool.{true, false}
@@ -49,13 +50,13 @@ abbrev pub Ends : List ℕ → Type 0
 Ends [] = ⊥
 Ends (c ∷ rest) = isNameByte c ≡ false
 
--- a term stands here, and then `rest`
+-- a legal term stands at the front of s, and then `rest`
 pub record TermAt (o : Term) (depth : ℕ) (rest s : List ℕ) : Type 0 where
   pub legal : isLegalTerm o depth ≡ true
   pub printed : printTerm o rest ≡ s
   pub ends : Ends rest
 
--- what the walk may assume: some term stands here, and its gates have room
+-- what the walk may assume of a term: some term stands here, and its gates have room
 pub record TermHere (s : List ℕ) (depth n : ℕ) (names words : List ℕ) (first : ℕ) (gates : List ℕ) : Type 0 where
   pub bindings : List Binding
   pub term : Term
@@ -74,7 +75,7 @@ pub record TermDone (n : ℕ) (bs : List Binding) (o : Term) (at : ℕ) (s rest 
   pub unknown : r .unknown ≡ unknownAfter seen bs (termMentions o at) (at + length s)
   pub words : after ≡ sets before (gateSize * first) (gatesWords n (termGates o bs first))
 
--- of whatever term and bindings it is
+-- what reading a term gives, of whatever term and bindings it is
 pub record TermRead (s : List ℕ) (depth n : ℕ) (names words : List ℕ) (first unknown : ℕ) (before after : List ℕ) (r : Found) : Type 0 where
   pub done : (bs : List Binding) (o : Term) (rest : List ℕ) (at : ℕ) → Table n bs names words → TermAt o depth rest s
       → TermDone n bs o at s rest first unknown before after r

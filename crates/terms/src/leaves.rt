@@ -70,7 +70,7 @@ pub fn word_length(kind: usize) -> usize
     trimmed_length(&bytes)
 }
 
-// The first of two that is not 0.
+// The first of two numbers that is not 0.
 fn earlier(first: usize, later: usize) -> usize
     ensures { λ r. ⌜ r ≡ earlier first later ⌝ }
 {
@@ -103,7 +103,7 @@ pub fn name_here(s: &[u8], names: &[u64], words: &[u16], index: &[u16], unknown:
     }
 }
 
-// An operand that is no expression.
+// What an operand stands for that is no expression: a name, `0` or `1`.
 pub fn leaf_here(s: &[u8], names: &[u64], words: &[u16], index: &[u16], unknown: usize) -> Leaf
     requires { ⌜ length (now words) ≡ length (now names) ⌝ }
     requires { ⌜ Indexed (now names) (length (now names)) (now index) ⌝ }

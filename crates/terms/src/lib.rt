@@ -1,5 +1,5 @@
-// The operands of a text that is known to be the print of a tree: the first name that is not declared, and the words of gates and outputs. Never
-// lines have none.
+// Resolving the expressions of a text that is known to be the print of a tree, in one walk: the first name that is not
+// declared, and the words of gates and outputs. Never lines have no expressions.
 use lines::gate_lines;
 use lines::output_lines;
 use names::Counts;
@@ -19,8 +19,9 @@ pub struct Leaf {
     pub unknown: usize,
 }
 
-// An operand: the bytes left behind it, its node's word, the gates that have closed, and one more than the bytes left from the first
-// undeclared name on, or 0. The word stands between the last two: side by side, they are read back in one piece, which waits for both stores.
+// An operand: the bytes left behind it, its node's word, the gates that have closed, and one more than the bytes left
+// from the first undeclared name on, or 0. The word stands between the last two: side by side, they are read back in
+// one piece, which waits for both stores.
 pub struct Found {
     pub left: usize,
     pub gates: usize,
@@ -28,7 +29,8 @@ pub struct Found {
     pub unknown: usize,
 }
 
-// What stands before an operand: the inputs of the text, the operands of its list, the gates that have closed, and `unknown` as in `Found`.
+// What stands before an operand: the inputs of the text, the operands of its list, the gates that have closed, and
+// `unknown` as in `Found`.
 pub struct Past {
     pub inputs: usize,
     pub count: usize,
@@ -51,8 +53,9 @@ pub struct Walked {
     pub unknown: usize,
 }
 
-// Fills in the words of gates and outputs of a text with these counts, whose gate lines start at `end`, and these tables of its declared names and
-// their nodes, whose names the index holds. 5: the place of the first name that a gate or an output uses and that is not declared.
+// Fills in the words of gates and outputs of a text with these counts, whose gate lines start at `end`, and these
+// tables of its declared names and their nodes, whose names the index holds. 5: the place of the first name that a gate
+// or an output uses and that is not declared.
 pub fn resolve(
     text: &[u8],
     end: usize,

@@ -1,4 +1,4 @@
-// The walk over lines. Each line's reader gets the rest of the text.
+// The walk over the lines of gates and outputs. Each line's reader gets the rest of the text.
 use crate::Past;
 use crate::Walked;
 use crate::leaves::name_here;
@@ -18,7 +18,7 @@ ghost use Rattle.names.specs.Index.{Indexed};
 ghost use Rattle.terms.specs.Lines.{gateForm, outputForm, LineHere, LineRead, LinesHere, LinesRead};
 ghost use Rattle.terms.specs.Ports.{portWords};
 
-// `(gate NAME EXPR)` and its LF.
+// Reads `(gate NAME EXPR)` and its LF, and writes the gates in it.
 fn gate_line(
     s: &[u8],
     n: usize,
@@ -61,7 +61,7 @@ fn put_output(outputs: &mut [u16], number: usize, port: u64, word: u16)
     outputs[at + 4] = word;
 }
 
-// `(out PORT NAME)` and its LF.
+// Reads `(out PORT NAME)` and its LF, and writes the output.
 fn output_line(
     s: &[u8],
     names: &[u64],
@@ -86,7 +86,7 @@ fn output_line(
     }
 }
 
-// All gate lines.
+// Reads all gate lines.
 pub fn gate_lines(
     text: &[u8],
     lines: usize,
@@ -127,7 +127,7 @@ pub fn gate_lines(
     }
 }
 
-// All output lines.
+// Reads all output lines.
 pub fn output_lines(
     text: &[u8],
     lines: usize,

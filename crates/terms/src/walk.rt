@@ -1,4 +1,6 @@
-// The walk over expressions. The readers of an operand and of an operand list call each other; depth left and bytes left fall.
+// The walk over expressions, by recursive descent: the readers of an operand and of an operand list call each other;
+// depth left and bytes left fall. A gate is written when its bracket closes (postorder), so that it is numbered behind
+// its inner gates.
 use crate::Found;
 use crate::Listed;
 use crate::Past;
@@ -32,7 +34,7 @@ fn put_gate(gates: &mut [u16], number: usize, kind: usize, count: usize, slots: 
     gates[at + 4] = slots[3];
 }
 
-// An operand, with `depth` levels of expressions left.
+// Reads an operand, with `depth` levels of expressions left, and writes the gates in it.
 pub fn operand(
     s: &[u8],
     depth: usize,
@@ -87,7 +89,7 @@ pub fn operand(
     }
 }
 
-// The operands from here to the closing bracket; the words of all go into `slots`.
+// Reads the operands from here to the closing bracket; the words of all go into `slots`.
 fn operands(
     s: &[u8],
     depth: usize,

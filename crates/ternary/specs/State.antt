@@ -1,4 +1,5 @@
--- The values of what stands at each place, a code for each: constants, inputs and gates. Cited by whoever evaluates a gate of a graph. Assumes nothing.
+-- The values of what stands at each place, a code for each: constants, inputs and gates. Cited by whoever evaluates a
+-- gate of a graph. Assumes nothing.
 --   Coded               an array of codes that has the constants at their places
 --   inputsIn, stateIn   the values of the inputs and of the gates in it
 --   LegalGate           a gate whose operands can be read
@@ -42,7 +43,7 @@ pub record LegalGate (graph : List ℕ) (j : ℕ) : Type 0 where
 unfoldable pub slotValue : List ℕ → List ℕ → ℕ → ℕ → Value
 slotValue graph values j i = valueOf (getD values (placeAt graph j i) 0)
 
--- the gate's own
+-- the code of gate j's own value
 unfoldable pub gateCode : List ℕ → List ℕ → ℕ → ℕ
 gateCode graph values j = code (gateValue (kindAt graph j) (tab (slotValue graph values j) (countAt graph j)))
 

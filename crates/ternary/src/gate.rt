@@ -1,5 +1,5 @@
-// One gate's value from a graph and the values of what stands at each place: its operands' codes, and one read of the table of all gates.
-// It is found once for each gate, round and setting.
+// One gate's value (three-valued, by table lookup) from a graph and the values of what stands at each place: its
+// operands' codes, and one read of the table of all gates. It is found once for each gate, round and setting.
 use crate::table::ABSENT;
 use crate::table::GATE_ENTRIES;
 use graph::GRAPH_WORDS;

@@ -10,7 +10,8 @@ ghost use Rattle.netlist.specs.StoredBlock.{nameSize, operandOf};
 ghost use Rattle.graph.specs.Places.{placeOf};
 ghost use Rattle.ternary.specs.State.{ShownAt};
 
-// The value of the output whose words start at `port`, in a block of n inputs: what stands at the place of the node whose word is behind the port.
+// The value of the output whose words start at `port`, in a block of n inputs: what stands at the place of the node
+// whose word is behind the port.
 pub fn shown_value(words: &[u16], n: usize, port: usize, values: &[u8; PLACES]) -> u8
     requires { ⌜ ShownAt (now words) n port ⌝ }
     ensures { λ r. ⌜ r ≡ getD (now (values .entry)) (placeOf (operandOf n (getD (now (words .entry)) (port + nameSize) 0))) 0 ⌝ }

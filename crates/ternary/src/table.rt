@@ -1,8 +1,10 @@
-// The table of all gates (SPECIFICATION 3.2): 256 entries for each of 7 kinds, one for every four operands that are 0, 1, undefined (2) or
-// absent (3). An entry that no gate of the kind has is 3. `tests/src/bin/gate_table.rs` prints the rows from its own statement of the rule.
+// The table of all gates (SPECIFICATION 3.2): 256 entries for each of 7 kinds, one for every four operands that are 0,
+// 1, undefined (2) or absent (3). An entry that no gate of the kind has is 3. `tests/src/bin/gate_table.rs` prints the
+// rows from its own statement of the rule.
 //
-// To find an entry: the parts stand in the order of the kinds, not, and, or, nand, nor, xor, xnor, with an empty line between two. A part has
-// sixteen rows, named here by the third and the fourth operand, from the top, with `-` for absent:
+// To find an entry: the parts stand in the order of the kinds, not, and, or, nand, nor, xor, xnor, with an empty line
+// between two. A part has sixteen rows, named here by the third and the fourth operand, from the top, with `-` for
+// absent:
 //   00 10 20 -0   01 11 21 -1   02 12 22 -2   0- 1- 2- --
 // and a row sixteen entries, named by the first and the second operand in the same order.
 ghost use mathlib.Core.Path.{_≡_};
@@ -134,7 +136,8 @@ const ENTRIES: [u8; GATE_ENTRIES] = *b"\
     \x02\x02\x02\x03\x02\x02\x02\x03\x02\x02\x02\x03\x03\x03\x03\x03\
     \x01\x00\x02\x03\x00\x01\x02\x03\x02\x02\x02\x03\x03\x03\x03\x03";
 
-// The table, for a caller to lend to each evaluation: a constant that is read where it stands is written to the stack anew at each read.
+// The table, for a caller to lend to each evaluation: a constant that is read where it stands is written to the stack
+// anew at each read.
 pub fn gate_table() -> [u8; GATE_ENTRIES]
     ensures { λ r. ⌜ r ≡ gateTable ⌝ }
 {

@@ -1,5 +1,5 @@
-// The program `unloop` (SPECIFICATION 8): reads a text on standard input and writes the rendered text, or the refusal's line. One byte more
-// than the longest text is read, so that a longer one is refused.
+// The program `unloop` (SPECIFICATION 8): reads a text on standard input and writes the rendered text, or the refusal's
+// line. One byte more than the longest text is read, so that a longer one is refused.
 use layout::limits::MAX_TEXT;
 use layout::limits::WRITTEN_BYTES;
 

@@ -12,8 +12,8 @@ use Rattle.lanes.specs.Batches.{lanesOf}
 use Rattle.lanes.specs.LaneWords.{laneSize}
 use Rattle.judge.specs.Lanes.{Judged}
 
--- r is the first setting of the first batch that has one which may come and is not settled, and the lanes hold that batch's settled values; or it
--- is 2^n, where there is none
+-- r is the first setting of the first batch that has one which may come and is not settled, and the lanes hold that
+-- batch's settled values; or it is 2^n, where there is none
 pub record FirstBatch (ws : List ℕ) (r : ℕ) (w : List ℕ) : Type 0 where
   pub within : r ≤ 2 ^ getD ws 0 0
   pub before : (i : ℕ) → i < r → isSoundAt (decode ws) i ≡ true
@@ -22,7 +22,8 @@ pub record FirstBatch (ws : List ℕ) (r : ℕ) (w : List ℕ) : Type 0 where
   pub some : r < 2 ^ getD ws 0 0 → (s : ℕ) × (s < lanesOf (getD ws 0 0)) × (isSoundAt (decode ws) (r + s) ≡ false)
   pub long : length w ≡ laneSize
 
--- no setting below `first` may come and is not settled, and where the batch at `base` is the one at `first`, the lanes hold its settled values
+-- no setting below `first` may come and is not settled, and where the batch at `base` is the one at `first`, the lanes
+-- hold its settled values
 pub record FirstReached (ws : List ℕ) (first base : ℕ) (w : List ℕ) : Type 0 where
   pub before : (i : ℕ) → i < first → isSoundAt (decode ws) i ≡ true
   pub held : base ≡ first → Judged ws (getD ws 0 0) base w
@@ -31,7 +32,7 @@ pub record FirstReached (ws : List ℕ) (first base : ℕ) (w : List ℕ) : Type
 unfoldable pub countedFrom : Block → ℕ → ℕ → Bool
 countedFrom b base s = isCounted b (base + s)
 
--- the first bits of a word, a byte each, from `base` on
+-- a row of bytes that has, from `base` on, the first bits of a word, a byte each
 unfoldable pub flagged : ℕ → ℕ → ℕ → List ℕ → List ℕ
 flagged word base zero flags = flags
 flagged word base (suc s) flags = set (flagged word base s flags) (base + s) (bit word s)

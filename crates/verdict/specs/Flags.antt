@@ -1,4 +1,5 @@
--- Whether a setting is settled or never comes, as a number. Cited by the contracts of this crate and of `cover`. Assumes nothing.
+-- Whether a setting is settled or never comes, as a number. Cited by the contracts of this crate and of `cover`.
+-- Assumes nothing.
 use Prim.Native.Nat.{ℕ}
 use mathlib.Core.Bool.{cond}
 use Rattle.netlist.specs.Netlist.{Block}

@@ -1,4 +1,4 @@
-// Verdict (SPECIFICATION 7.6).
+// Verdict (SPECIFICATION 7.6): under how many settings a block settles, by exhaustive bit-parallel simulation.
 use batch::plan::plan_block;
 use block::check_words;
 use graph::GRAPH_WORDS;
@@ -18,7 +18,7 @@ ghost use Rattle.batch.specs.Layered.{PlanRoom};
 
 pub mod settings;
 
-// Verdict of a block that is not torn, with room for its graph, its gates in layers, and two words a place.
+// Verdict of a block that is not malformed, with room lent for its graph, its gates in layers, and two words a place.
 fn whole_verdict(
     words: &[u16],
     graph: &mut [u16; GRAPH_WORDS],
@@ -34,7 +34,8 @@ fn whole_verdict(
     settings::search_settings(words, graph, order, ends, lanes)
 }
 
-// Verdict (6): how many settings that may come are settled; detail: the lowest other of them, or 2^n where there is none.
+// Verdict (6): how many settings that may come are settled; detail: the lowest other of them, or 2^n where there is
+// none.
 pub fn verdict(words: &[u16]) -> Answer
     ensures { λ r. ⌜ Told (verdictOf (now (words .entry))) r ⌝ }
 {

@@ -1,4 +1,5 @@
-// Which settings are settled and which never come, a batch of up to 64 at a time, by a block's plan: its graph and its gates in layers (crates/batch).
+// Which settings are settled and which never come, a batch of up to 64 at a time, by a block's plan: its graph and its
+// gates in layers (crates/batch).
 use graph::GRAPH_WORDS;
 use judge::decided::judge_batch;
 use judge::nevers::coming_lanes;
@@ -72,8 +73,8 @@ fn unsettled_batch(
     base
 }
 
-// The lowest setting that may come and has an undefined output, or 2^n, when `base` is the first batch with such a setting and `lanes` holds its settled
-// values: the lowest lane at which any output is undefined.
+// The lowest setting that may come and has an undefined output, or 2^n, when `base` is the first batch with such a
+// setting and `lanes` holds its settled values: the lowest lane at which any output is undefined.
 fn lowest_in(words: &[u16], base: usize, lanes: &[u64; LANE_WORDS]) -> usize
     requires { ⌜ (isMalformed (now words) ≡ false) × FirstBatch (now words) base (now lanes) ⌝ }
     ensures { λ r. ⌜ r ≡ lowestUnsettled (decode (now (words .entry))) ⌝ }
@@ -85,7 +86,7 @@ fn lowest_in(words: &[u16], base: usize, lanes: &[u64; LANE_WORDS]) -> usize
     base
 }
 
-// The same, from all batches.
+// The lowest setting that may come and has an undefined output, or 2^n, from all batches.
 pub fn lowest_unsettled(
     words: &[u16],
     graph: &[u16; GRAPH_WORDS],
@@ -108,8 +109,8 @@ fn count_held(words: &[u16], base: usize, lanes: &[u64; LANE_WORDS]) -> usize
     count_lanes(counted_lanes(words, inputs_of(words), base, lanes))
 }
 
-// How many settings of the batch at `base` may come and are settled, when `first` is the first batch with another: below it none is decided, and at it
-// `lanes` holds the settled values.
+// How many settings of the batch at `base` may come and are settled, when `first` is the first batch with another:
+// below it none is decided, and at it `lanes` holds the settled values.
 fn count_batch(
     words: &[u16],
     graph: &[u16; GRAPH_WORDS],
@@ -198,7 +199,7 @@ pub fn fill_sound(
     }
 }
 
-// The count and the lowest other.
+// Verdict's two numbers: how many settings that may come are settled, and the lowest other.
 pub fn search_settings(
     words: &[u16],
     graph: &[u16; GRAPH_WORDS],

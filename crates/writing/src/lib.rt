@@ -1,4 +1,5 @@
-// Write (SPECIFICATION 7.11): block to text, each gate on a line of its own and named by `_` and its number; count: bytes.
+// Write (SPECIFICATION 7.11): block to text, each gate on a line of its own and named by `_` and its number; count:
+// bytes.
 use block::check_words;
 use layout::limits::WRITTEN_BYTES;
 use lines::put_block;
@@ -21,7 +22,8 @@ mod lines;
 mod nevers;
 pub mod pieces;
 
-// 11, of a block that is not torn. Where there is room for the longest text nothing is measured; else a pass over a text of one byte does.
+// Refusal 11, of a block that is not malformed. Where there is room for the longest text nothing is measured; else a
+// pass over a text of one byte does.
 fn check_room(words: &[u16], room: usize) -> Test
     requires { ⌜ isMalformed (now words) ≡ false ⌝ }
     ensures { λ r. ⌜ r ≡ testOf (ltb room (length (blockText (now (words .entry))))) NoRoom ⌝ }
@@ -33,7 +35,7 @@ fn check_room(words: &[u16], room: usize) -> Test
     test_room(room, put_block(&mut small, 0, words))
 }
 
-// Write (6, 11).
+// Write (6, 11): the text of a block; count: bytes.
 pub fn write(words: &[u16], text: &mut [u8]) -> Answer
     ensures { λ r. ⌜ Promise (write (now (words .entry)) (length (now (text .entry)))) (now (text .entry)) r (now (text .exit)) ⌝ }
 {

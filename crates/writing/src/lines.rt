@@ -1,4 +1,5 @@
-// The lines of a text, those of inputs, gates and outputs, appended as in `pieces`, and the whole of it (SPECIFICATION 1).
+// The lines of a text, those of inputs, gates and outputs, appended as in `pieces`, and the whole of it (SPECIFICATION
+// 1).
 use crate::nevers::put_nevers;
 use crate::pieces::put;
 use crate::pieces::put_all;
@@ -24,7 +25,7 @@ ghost use Rattle.netlist.specs.Limits.{maxInputs};
 ghost use Rattle.layout.specs.Bounds.{maxWord, writtenRoom, lineRoom};
 ghost use Rattle.writing.specs.Pieces.{Appended, Short, pieces, itemText, expressionText, inputText, gateText, outputText, blockText};
 
-// A space and operand i of the gate whose first word is at `from`.
+// Appends a space and operand i of the gate whose first word is at `from`.
 fn put_item(text: &mut [u8], at: usize, words: &[u16], from: usize, i: usize) -> usize
     requires { ⌜ (from ≤ writtenRoom) × (i ≤ maxWord) ⌝ }
     requires { ⌜ Short (itemText (now words) from i) at ⌝ }
@@ -48,7 +49,7 @@ fn put_items(text: &mut [u8], at: usize, words: &[u16], from: usize, count: usiz
     end
 }
 
-// `(KIND OPERAND ...)`: the expression of the gate whose first word is at `from`.
+// Appends `(KIND OPERAND ...)`: the expression of the gate whose first word is at `from`.
 fn put_expression(text: &mut [u8], at: usize, words: &[u16], from: usize) -> usize
     requires { ⌜ from ≤ writtenRoom ⌝ }
     requires { ⌜ Short (expressionText (now words) from) at ⌝ }
@@ -61,7 +62,7 @@ fn put_expression(text: &mut [u8], at: usize, words: &[u16], from: usize) -> usi
     put(text, filled, b')')
 }
 
-// `(gate NAME EXPR)` and its LF: gate j of those from `from` on.
+// Appends `(gate NAME EXPR)` and its LF: gate j of those from `from` on.
 fn put_gate(text: &mut [u8], at: usize, words: &[u16], from: usize, j: usize) -> usize
     requires { ⌜ (from ≤ lineRoom) × (j ≤ maxWord) ⌝ }
     requires { ⌜ Short (gateText (now words) from j) at ⌝ }
@@ -88,7 +89,7 @@ fn put_gates(text: &mut [u8], at: usize, words: &[u16], from: usize, m: usize) -
     end
 }
 
-// `(in NAME)` and its LF.
+// Appends `(in NAME)` and its LF.
 fn put_input(text: &mut [u8], at: usize, words: &[u16], i: usize) -> usize
     requires { ⌜ i ≤ maxWord ⌝ }
     requires { ⌜ Short (inputText (now words) i) at ⌝ }
@@ -113,7 +114,7 @@ fn put_inputs(text: &mut [u8], at: usize, words: &[u16], n: usize) -> usize
     end
 }
 
-// `(out PORT NAME)` and its LF: output o of those from `from` on.
+// Appends `(out PORT NAME)` and its LF: output o of those from `from` on.
 fn put_output(text: &mut [u8], at: usize, words: &[u16], from: usize, o: usize) -> usize
     requires { ⌜ (from ≤ lineRoom) × (o ≤ maxWord) ⌝ }
     requires { ⌜ Short (outputText (now words) from o) at ⌝ }
@@ -141,7 +142,7 @@ fn put_outputs(text: &mut [u8], at: usize, words: &[u16], from: usize, k: usize)
     end
 }
 
-// All inputs, all never lines, all gates, all outputs.
+// Appends the lines of all inputs, never lines, gates and outputs.
 pub fn put_block(text: &mut [u8], at: usize, words: &[u16]) -> usize
     requires { ⌜ getD (now words) 0 0 ≤ maxInputs ⌝ }
     requires { ⌜ Short (blockText (now words)) at ⌝ }

@@ -1,4 +1,5 @@
-// Never lines, appended as in `pieces`: a pair for each input that a line fixes, by ascending input (SPECIFICATION 1.3, 7.11).
+// Never lines, appended as in `pieces`: a pair for each input that a line fixes, by ascending input (SPECIFICATION 1.3,
+// 7.11).
 use crate::pieces::put_all;
 use crate::pieces::put_pair;
 use layout::offsets::INPUTS_AT;
@@ -12,7 +13,7 @@ ghost use Rattle.netlist.specs.Limits.{maxInputs};
 ghost use Rattle.layout.specs.Bounds.{writtenRoom, maxWord, lineRoom};
 ghost use Rattle.writing.specs.Pieces.{Appended, Short, pieces, fixedText, neverText, neverLineText};
 
-// The pair of input i, where the mask `fixed` has it.
+// Appends the pair of input i, where the mask `fixed` has it.
 fn put_fixed(
     text: &mut [u8],
     at: usize,
@@ -32,7 +33,7 @@ fn put_fixed(
     put_pair(text, at, words, INPUTS_AT + NAME_SIZE * i, byte as u8)
 }
 
-// The pairs of n inputs.
+// Appends the pairs of the first n inputs, where the mask `fixed` has them.
 fn put_pairs(
     text: &mut [u8],
     at: usize,
@@ -54,7 +55,7 @@ fn put_pairs(
     end
 }
 
-// `(never`, pairs, and `)` with its LF: the line whose masks are at `from`.
+// Appends `(never`, pairs, and `)` with its LF: the line whose masks are at `from`.
 fn put_never(text: &mut [u8], at: usize, words: &[u16], from: usize) -> usize
     requires { ⌜ (getD (now words) 0 0 ≤ maxInputs) × (from ≤ writtenRoom) ⌝ }
     requires { ⌜ Short (neverText (now words) from) at ⌝ }
@@ -67,7 +68,7 @@ fn put_never(text: &mut [u8], at: usize, words: &[u16], from: usize) -> usize
     put_all(text, filled, b")\n")
 }
 
-// All lines: `count` of them, from `from` on.
+// Appends `count` never lines, the masks of which stand from `from` on.
 pub fn put_nevers(text: &mut [u8], at: usize, words: &[u16], from: usize, count: usize) -> usize
     requires { ⌜ (getD (now words) 0 0 ≤ maxInputs) × (from ≤ lineRoom) × (count ≤ maxWord) ⌝ }
     requires { ⌜ Short (pieces (neverLineText (now words) from) count) at ⌝ }

@@ -1,5 +1,5 @@
-// Bytes, names, numbers and operands, each appended to a text at `at`. Each function answers the new end. What does not fit into the
-// text is left out, and counted all the same.
+// Bytes, names, numbers and operands, each appended to a text at `at`. Each function answers the new end. What does not
+// fit into the text is left out, and counted all the same.
 use layout::kinds::signature_of;
 use layout::limits::MAX_NAME;
 use layout::nodes::CONSTANT_0;
@@ -19,7 +19,7 @@ ghost use Rattle.netlist.specs.Writing.{decimal, gateName};
 ghost use Rattle.layout.specs.Bounds.{writtenRoom};
 ghost use Rattle.writing.specs.Pieces.{Appended, Short, pairPiece, digitAt, operandText};
 
-// One byte.
+// Appends one byte.
 pub fn put(text: &mut [u8], at: usize, byte: u8) -> usize
     requires { ⌜ Short (byte ∷ []) at ⌝ }
     ensures { λ r. ⌜ Appended (byte ∷ []) (now (text .entry)) at (now (text .exit)) r ⌝ }
@@ -31,7 +31,7 @@ pub fn put(text: &mut [u8], at: usize, byte: u8) -> usize
     end
 }
 
-// All bytes of a slice.
+// Appends all bytes of a slice.
 pub fn put_all(text: &mut [u8], at: usize, bytes: &[u8]) -> usize
     requires { ⌜ Short (now bytes) at ⌝ }
     ensures { λ r. ⌜ Appended (now (bytes .entry)) (now (text .entry)) at (now (text .exit)) r ⌝ }
@@ -45,7 +45,7 @@ pub fn put_all(text: &mut [u8], at: usize, bytes: &[u8]) -> usize
     end
 }
 
-// The bytes without the zeros at the end, found from the end.
+// Appends the bytes without the zeros at the end, which are looked for from the end.
 fn put_without_zeros(text: &mut [u8], at: usize, bytes: &[u8]) -> usize
     requires { ⌜ Short (trimmed (now bytes)) at ⌝ }
     ensures { λ r. ⌜ Appended (trimmed (now (bytes .entry))) (now (text .entry)) at (now (text .exit)) r ⌝ }
@@ -54,7 +54,8 @@ fn put_without_zeros(text: &mut [u8], at: usize, bytes: &[u8]) -> usize
     put_all(text, at, &bytes[..count])
 }
 
-// The same, found from the start: the first zero is mostly the first of those at the end.
+// Appends the bytes without the zeros at the end, looked for from the start: the first zero is mostly the first of
+// those at the end.
 fn put_trimmed(text: &mut [u8], at: usize, bytes: &[u8]) -> usize
     requires { ⌜ Short (trimmed (now bytes)) at ⌝ }
     ensures { λ r. ⌜ Appended (trimmed (now (bytes .entry))) (now (text .entry)) at (now (text .exit)) r ⌝ }
@@ -92,7 +93,7 @@ pub fn name_bytes(words: &[u16], from: usize) -> [u8; MAX_NAME]
     ]
 }
 
-// The name whose words start at `from`.
+// Appends the name whose words start at `from`.
 pub fn put_name(text: &mut [u8], at: usize, words: &[u16], from: usize) -> usize
     requires { ⌜ from ≤ writtenRoom ⌝ }
     requires { ⌜ Short (nameAt (now words) from) at ⌝ }
@@ -102,7 +103,7 @@ pub fn put_name(text: &mut [u8], at: usize, words: &[u16], from: usize) -> usize
     put_trimmed(text, at, &bytes)
 }
 
-// ` (NAME VALUE)`: the name whose words start at `from`, and the byte of its value.
+// Appends ` (NAME VALUE)`: the name whose words start at `from`, and the byte of its value.
 pub fn put_pair(text: &mut [u8], at: usize, words: &[u16], from: usize, byte: u8) -> usize
     requires { ⌜ from ≤ writtenRoom ⌝ }
     requires { ⌜ Short (pairPiece (now words) from byte) at ⌝ }
@@ -115,7 +116,7 @@ pub fn put_pair(text: &mut [u8], at: usize, words: &[u16], from: usize, byte: u8
     put(text, filled, b')')
 }
 
-// The decimal digits of a number.
+// Appends the decimal digits of a number.
 pub fn put_decimal(text: &mut [u8], at: usize, v: usize) -> usize
     requires { ⌜ Short (decimal v) at ⌝ }
     ensures { λ r. ⌜ Appended (decimal v) (now (text .entry)) at (now (text .exit)) r ⌝ }
@@ -127,7 +128,7 @@ pub fn put_decimal(text: &mut [u8], at: usize, v: usize) -> usize
     put(text, end, (48 + v % 10) as u8)
 }
 
-// The digit of so many units, where the number has one.
+// Appends the digit of v that counts `unit`s, where v has one.
 fn put_digit(text: &mut [u8], at: usize, v: usize, unit: usize) -> usize
     requires { ⌜ 1 ≤ unit ⌝ }
     requires { ⌜ Short (digitAt v unit) at ⌝ }
@@ -139,7 +140,7 @@ fn put_digit(text: &mut [u8], at: usize, v: usize, unit: usize) -> usize
     put(text, at, (48 + v / unit % 10) as u8)
 }
 
-// The decimal digits of a number, which is mostly a gate's: one after the other, without a call for each.
+// Appends the decimal digits of a number, which is mostly a gate's: one after the other, without a call for each.
 fn put_number(text: &mut [u8], at: usize, v: usize) -> usize
     requires { ⌜ Short (decimal v) at ⌝ }
     ensures { λ r. ⌜ Appended (decimal v) (now (text .entry)) at (now (text .exit)) r ⌝ }
@@ -153,7 +154,7 @@ fn put_number(text: &mut [u8], at: usize, v: usize) -> usize
     put(text, tens, (48 + v % 10) as u8)
 }
 
-// The name of gate j: `_` and its number.
+// Appends the name of gate j: `_` and its number.
 pub fn put_gate_name(text: &mut [u8], at: usize, j: usize) -> usize
     requires { ⌜ Short (gateName j) at ⌝ }
     ensures { λ r. ⌜ Appended (gateName j) (now (text .entry)) at (now (text .exit)) r ⌝ }
@@ -162,7 +163,7 @@ pub fn put_gate_name(text: &mut [u8], at: usize, j: usize) -> usize
     put_number(text, end, j)
 }
 
-// The keyword of a kind.
+// Appends the keyword of a kind.
 pub fn put_keyword(text: &mut [u8], at: usize, kind: usize) -> usize
     requires { ⌜ Short (keyword kind) at ⌝ }
     ensures { λ r. ⌜ Appended (keyword kind) (now (text .entry)) at (now (text .exit)) r ⌝ }
@@ -172,7 +173,7 @@ pub fn put_keyword(text: &mut [u8], at: usize, kind: usize) -> usize
     put_trimmed(text, at, &bytes)
 }
 
-// The operand whose word is at `from`: an input's name, a gate's name, `0` or `1`.
+// Appends the operand whose word is at `from`: an input's name, a gate's name, `0` or `1`.
 pub fn put_operand(text: &mut [u8], at: usize, words: &[u16], from: usize) -> usize
     requires { ⌜ Short (operandText (now words) from) at ⌝ }
     ensures { λ r. ⌜ Appended (operandText (now (words .entry)) from) (now (text .entry)) at (now (text .exit)) r ⌝ }
