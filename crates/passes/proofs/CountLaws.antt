@@ -36,7 +36,6 @@ use Rattle.agreement.proofs.PassCount.{passes-keep-from, at-enough, enough-from
 use Rattle.lanes.specs.Batches.{lanesOf}
 use Rattle.lanes.specs.LaneWords.{laneSize}
 use Rattle.lanes.specs.Words.{hasLane, Tells}
-use Rattle.lanes.proofs.InputLaws.{lanesOf-most}
 use Rattle.lanes.proofs.WordLaws.{tells-no-lane, tells-some, tells-lowest}
 use Rattle.batch.proofs.Layering.{among-part}
 use Rattle.judge.specs.Lanes.{isUnsound}

@@ -36,11 +36,11 @@ use Rattle.lanes.specs.declared.Pair.{Pair}
 use Rattle.lanes.specs.Pairs.{lane, Proper, full, noLanes}
 use Rattle.lanes.specs.PairRounds.{evaluatedPair, LegalGate, AllProper}
 use Rattle.lanes.specs.Batches.{lanesOf}
-use Rattle.lanes.specs.LaneWords.{laneSize, pairAt, putPair, inputsIn, gatesIn, Filled, gatePairIn}
+use Rattle.lanes.specs.LaneWords.{pairAt, inputsIn, gatesIn, gatePairIn}
 use Rattle.lanes.proofs.LaneLaws.{nothing-lane, nothing-proper}
 use Rattle.lanes.proofs.RoundLaws.{getD-lane, evaluatedPair-lane, evaluatedPair-proper}
 use Rattle.lanes.proofs.LaneWordLaws.{node-legal, gatePairIn-evaluated, put-inputs, put-gates, put-filled, put-other}
-use Rattle.batch.specs.Layered.{GateEvaluated, GatesEvaluated, noGate, gateMore, Part, OrderPart, part, startInputs, LanesSettled}
+use Rattle.batch.specs.Layered.{GateEvaluated, GatesEvaluated, noGate, gateMore, Part, OrderPart, startInputs, LanesSettled}
 use Rattle.batch.proofs.Sweeping.{set-proper}
 use Rattle.batch.proofs.Layering.{network-gate, part-nodes, part-among}
 use Rattle.batch.proofs.Inputs.{run-inputs, startInputs-lane}

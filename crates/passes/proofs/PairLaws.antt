@@ -40,7 +40,7 @@ use Rattle.batch.specs.Batch.{placeOf}
 use Rattle.batch.specs.Layered.{part}
 use Rattle.judge.specs.Lanes.{mayCome}
 use Rattle.lanes.proofs.WordLaws.{tells-and, tells-or, tells-none, tells-as, tells-no-lane, tells-some}
-use Rattle.passes.specs.Pairs.{Put, differenceOf, ProperAt, agreeAt, differAt, Differs, Lacks}
+use Rattle.passes.specs.Pairs.{Put, differenceOf, agreeAt, differAt, Differs, Lacks}
 
 -- ---- positions of a group's gates
 

@@ -1,5 +1,6 @@
 -- Passes counted for one group and the settings of one batch.
---   batch-inputs, -few, -aligned   the inputs of a batch
+--   batch-inputs, batch-few        the inputs of a batch
+--   ready-passes                   a group put aside, cleared, and with so many passes made
 --   sofar-small                    the passes are few
 --   Passing, passing-first, -more, -done   further passes while a gate lacks its settled value
 --   put-back                       the settled pairs, put aside and back
@@ -28,7 +29,7 @@ use Rattle.batch.specs.Layered.{GatesEvaluated, LanesSettled}
 use Rattle.passes.specs.declared.Turn.{Turn}
 use Rattle.passes.specs.declared.Counted.{Counted}
 use Rattle.passes.specs.Pairs.{groupOf, Apart, Put, Lacks}
-use Rattle.passes.specs.Counting.{Ran, Stepped, Least, Passed, Kept, GroupBatch, SoFar, PassReady, MorePasses, GroupReady}
+use Rattle.passes.specs.Counting.{Ran, Stepped, Least, Passed, Kept, GroupBatch, SoFar, PassReady, MorePasses}
 use Rattle.passes.proofs.GroupLaws.{
   group-there,
   group-long,

@@ -147,11 +147,7 @@ fn count_batch(
 }
 
 // Has every group as many passes as gates?
-fn are_full(
-    count: usize,
-    starts: &[u16; MAX_GATES + 1],
-    passes: &[u16; MAX_GATES],
-) -> bool
+fn are_full(count: usize, starts: &[u16; MAX_GATES + 1], passes: &[u16; MAX_GATES]) -> bool
     requires { ⌜ (count ≤ maxGates) × StartsFew count (now starts) ⌝ }
     ensures { λ r. ⌜ (r ≡ true → Full count (now (starts .entry)) (now (passes .entry))) ⌝ }
 {
@@ -205,7 +201,14 @@ pub fn walk_batches(
             lowest: found.lowest,
         };
         found = count_batch(
-            words, graph, members, starts, batch, passes, &mut lanes, &mut kept,
+            words,
+            graph,
+            members,
+            starts,
+            batch,
+            passes,
+            &mut lanes,
+            &mut kept,
         );
         base += step;
     }

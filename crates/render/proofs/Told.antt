@@ -16,7 +16,7 @@ use Rattle.laws.proofs.Tests.{lt-or-le, not-both}
 use Rattle.laws.proofs.Least.{least-le}
 use Rattle.refusals.specs.declared.Test.{Test}
 use Rattle.netlist.specs.declared.Refusal.the-variants.{NotSettled}
-use Rattle.netlist.specs.Limits.{maxGates, maxCopies}
+use Rattle.netlist.specs.Limits.{maxGates}
 use Rattle.netlist.specs.Netlist.{Block}
 use Rattle.netlist.specs.StoredBlock.{outputsAt, encode, decode}
 use Rattle.netlist.specs.Rounds.{settingCount, isSoundAt, lowestUnsettled}

@@ -1,5 +1,5 @@
 -- `passes::pairs::clear_pairs` meets its contract: after each turn the gates passed are undefined. Assumes nothing.
-use mathlib.Core.Path.{_≡_, refl}
+use mathlib.Core.Path.{refl}
 use mathlib.Core.List.{[]}
 use mathlib.Core.Bool.{false}
 use Prim.Native.Nat.{_-_, _≤_, _<_}

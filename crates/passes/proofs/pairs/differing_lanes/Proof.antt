@@ -1,5 +1,4 @@
 -- `passes::pairs::differing_lanes` meets its contract: after each turn the lanes of the gates passed are marked. Assumes nothing.
-use mathlib.Core.Path.{_≡_}
 use mathlib.Core.Bool.{false}
 use Prim.Native.Nat.{_-_, _≤_, _<_}
 use native.Mathlib.Omega.{arith}

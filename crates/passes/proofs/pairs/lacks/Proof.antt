@@ -1,5 +1,4 @@
 -- `passes::pairs::lacks` meets its contract. Assumes nothing.
-use mathlib.Core.Path.{_≡_}
 use borrow.Author.Needs.{needs}
 use lib.ListN.{getD}
 use Rattle.netlist.specs.StoredBlock.{decode}

@@ -1,5 +1,4 @@
 -- `passes::pairs::put_pairs` meets its contract: after each turn the pairs of the gates passed are put. Assumes nothing.
-use mathlib.Core.Path.{_≡_}
 use mathlib.Core.Bool.{false}
 use Prim.Native.Nat.{_-_, _≤_, _<_}
 use native.Mathlib.Omega.{arith}

@@ -1,5 +1,5 @@
 -- `passes::walk::count_at` meets its contract: as many passes as gates are enough, and a group that has fewer is counted. Assumes nothing.
-use mathlib.Core.Path.{_≡_, refl, _∙_}
+use mathlib.Core.Path.{refl, _∙_}
 use Prim.Native.Nat.{_+_, _≤_, _<_}
 use native.Mathlib.Omega.{arith}
 use lib.ListN.{length, getD}

@@ -6,7 +6,6 @@ use borrow.Author.Needs.{needs}
 use borrow.Author.Tests.{leb-false}
 use lib.ListN.{length, getD}
 use Rattle.netlist.specs.Limits.{maxCopies}
-use Rattle.netlist.specs.Netlist.{gateCount}
 use Rattle.netlist.specs.StoredBlock.{decode}
 use Rattle.netlist.specs.Rounds.{settingCount}
 use Rattle.encoding.proofs.Readers.{whole-parts}

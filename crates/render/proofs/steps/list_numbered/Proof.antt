@@ -1,5 +1,4 @@
 -- `render::steps::list_numbered` meets its contract: the numbers of the graph's groups are the block's, and list them. Assumes nothing.
-use mathlib.Core.Path.{_≡_}
 use borrow.Author.Needs.{needs}
 use lib.ListN.{getD}
 use Rattle.netlist.specs.StoredBlock.{decode}

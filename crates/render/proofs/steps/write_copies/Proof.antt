@@ -1,5 +1,4 @@
 -- `render::steps::write_copies` meets its contract: the parts one behind the other are the schedule. Assumes nothing.
-use mathlib.Core.Path.{_≡_}
 use native.Mathlib.Omega.{arith}
 use borrow.Author.Needs.{needs}
 use Rattle.encoding.proofs.Readers.{whole-parts}
