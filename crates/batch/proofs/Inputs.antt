@@ -1,11 +1,11 @@
 -- The settled values ask the inputs' values alone: what stands behind the last input and is undefined changes nothing.
---   settled-inputs            inputs that are the same one by one give the same settled values
+--   settled-inputs, run-inputs   inputs that are the same one by one give the same settled values, and the same values after single steps
 --   startInputs-lane          the inputs' pairs of a batch are, at a lane, its setting
 -- Assumes nothing.
 use mathlib.Core.Path.{_≡_, refl, sym, ap, _∙_, fun-ext}
 use mathlib.Core.Logic.{⊎-elim}
 use mathlib.Core.Bool.{cond}
-use mathlib.Core.List.{List, map}
+use mathlib.Core.List.{List, [], _∷_, map}
 use Prim.Native.Nat.{ℕ, zero, suc, _+_, _%_, _≤_, _<_}
 use native.Mathlib.Omega.{arith}
 use borrow.Author.Tests.{lt-ltb, le-ltb}
@@ -18,6 +18,7 @@ use Rattle.netlist.specs.Limits.{maxInputs}
 use Rattle.netlist.specs.Values.{Value, undefined}
 use Rattle.netlist.specs.Kinds.{gateValue}
 use Rattle.netlist.specs.Netlist.{Operand, input, gate, constant, Block, gateCount}
+use Rattle.netlist.specs.Steps.{stepAt, run}
 use Rattle.netlist.specs.Rounds.{operandValue, evaluated, round, afterRounds, isStable, rounds, settled, settingOf}
 use Rattle.lanes.specs.declared.Pair.{Pair}
 use Rattle.lanes.specs.Pairs.{lane, noLanes}
@@ -58,6 +59,11 @@ module _ (x y : List Value) (e : (i : ℕ) → getD x i undefined ≡ getD y i u
   pub settled-inputs : (b : Block) → settled b x ≡ settled b y
   unfolding settled
   settled-inputs b = rw (rounds-inputs b) (afterRounds-inputs b (rounds b y))
+
+  pub run-inputs : (b : Block) (js : List ℕ) (state : List Value) → run b x js state ≡ run b y js state
+  unfolding run stepAt
+  run-inputs b [] state = refl
+  run-inputs b (j ∷ js) state = rw (evaluated-inputs state) (run-inputs b js (stepAt b y j state))
 
 module _ (n base : ℕ) (few : n ≤ maxInputs) where
   -- past the block's own inputs nothing is said

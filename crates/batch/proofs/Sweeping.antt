@@ -1,8 +1,7 @@
--- Sweeps over pairs of words: one gate, a gate more, and what a sweep that changes nothing shows, lane by lane.
+-- Sweeps over pairs of words: one gate, a gate more, and that a sweep stays on the way.
 --   swept-none, swept-one, swept-then   no gate, one gate, a gate more
 --   swept-underway                      a sweep stays on the way
---   swept-settled                       a sweep over all gates that changes nothing leaves the settled values at every lane
---   defined-settled                     so do pairs of which no lane is undefined
+--   lane-defined                        a lane that is 0 or 1
 -- Assumes nothing.
 use mathlib.Core.Path.{_≡_, refl, sym, ap, _∙_}
 use mathlib.Core.Logic.{⊎-elim}
@@ -12,21 +11,17 @@ use Prim.Native.Nat.{ℕ, zero, suc, _+_, _-_, _*_, _^_, _≤_, _<_, max}
 use native.Mathlib.Nat.{not-suc-le-zero, le-of-suc-le-suc, le-refl}
 use native.Mathlib.Omega.{arith}
 use lib.Bits.{bitOr}
-use lib.ListN.{length, getD, set, length-set, length-map}
-use lib.Seq.{ext-getD}
+use lib.ListN.{length, getD, set, length-set}
 use Rattle.laws.proofs.Tests.{or-neither, or-cases, eq-or-ne}
 use Rattle.laws.proofs.Lists.{map-set}
-use Rattle.netlist.specs.Values.{Value, undefined, val}
+use Rattle.netlist.specs.Values.{val}
 use Rattle.netlist.specs.Assignments.{bit}
 use Rattle.netlist.specs.Netlist.{Block, gateCount, gateOf}
-use Rattle.netlist.specs.Rounds.{evaluated, settled}
+use Rattle.netlist.specs.Rounds.{evaluated}
 use Rattle.netlist.specs.Steps.{stepAt, run}
-use Rattle.rounds.proofs.Values.{below-of-eq}
-use Rattle.rounds.proofs.Rounds.{length-settled}
-use Rattle.rounds.proofs.AnyOrder.{run-append, run-below-settled, fixed-settled}
-use Rattle.rounds.proofs.InPlace.{run-rising, run-fixed}
+use Rattle.rounds.proofs.AnyOrder.{run-append, run-below-settled}
+use Rattle.rounds.proofs.InPlace.{run-rising}
 use Rattle.rounds.proofs.ListFacts.{AfterSet, new, old, after-set}
-use Rattle.visiting.specs.Visits.{Visits}
 use Rattle.lanes.specs.declared.Pair.{Pair}
 use Rattle.lanes.specs.Pairs.{markedLanes, lane, Proper, full, noLanes}
 use Rattle.lanes.specs.PairRounds.{evaluatedPair, LegalGate, AllProper}
@@ -153,27 +148,3 @@ module _ {b : Block} {lanes : ℕ} {x : List Pair} where
         less = λ e. ⊎-elim (λ h. omega (arith, g .less h, f .most)) (λ h. omega (arith, f .less h, g .most)) (or-cases s r e);
         most = omega (arith, g .most, f .most);
       }
-
-  -- A sweep over all gates that changes nothing leaves the settled values at every lane.
-  pub swept-settled : {order : List ℕ} {state after : List Pair} {changed : Bool} → Visits (gateCount b) order → Underway b lanes x state
-      → Swept b lanes x order state after changed → changed ≡ false → (i : ℕ) → i < lanes → map (lane i) after ≡ settled b (map (lane i) x)
-  swept-settled {order} {state} {after} v u s none i l =
-      let values = map (lane i) state in
-      let kept : map (lane i) after ≡ values = ap (map (lane i)) (s .still none) in
-      let fixed : run b (map (lane i) x) order values ≡ values = sym (s .lanewise i l) ∙ kept in
-      let long : length values ≡ gateCount b = length-map state (lane i) ∙ u .long in
-      kept
-      ∙ fixed-settled b (map (lane i) x) values long (u .below i l)
-      (λ j h. run-fixed b (map (lane i) x) order values (u .rising i l)
-      (λ k. below-of-eq (ap (λ (w : List Value). getD w k undefined) fixed)) j (v .every j h) (rw long h))
-
-  -- a lane that is 0 or 1 stays so: where all are, these are the settled values
-  pub defined-settled : {state : List Pair} → Underway b lanes x state
-      → ((j : ℕ) → j < gateCount b → let p = getD state j noLanes in bitOr (p .zeros) (p .ones) ≡ full lanes)
-      → (i : ℕ) → i < lanes → map (lane i) state ≡ settled b (map (lane i) x)
-  defined-settled {state} u each i l =
-      let long : length (map (lane i) state) ≡ gateCount b = length-map state (lane i) ∙ u .long in
-      ext-getD undefined (map (lane i) state) (settled b (map (lane i) x)) (long ∙ sym (length-settled b (map (lane i) x)))
-      (λ j h. let (c, v) = lane-defined lanes (getD state j noLanes) (each j (rw (← long) h)) i l in
-      let is : getD (map (lane i) state) j undefined ≡ val c = getD-lane i state j ∙ v in
-      is ∙ sym (u .below i l j c is))

@@ -1,4 +1,3 @@
-// Up to 64 settings decided at once: gates are evaluated in place along an order, there and back, until a sweep changes nothing or every lane is decided.
-pub mod in_place;
+// Up to 64 settings decided at once, by a plan of the block's gates that is made once.
 pub mod layered;
 pub mod plan;

@@ -4,7 +4,5 @@ pub mod Folding
 pub mod LaneLaws
 pub mod RoundLaws
 pub mod InputLaws
-pub mod KindTests
-pub mod NodeLaws
 pub mod WordLaws
 pub mod LaneWordLaws

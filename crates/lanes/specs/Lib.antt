@@ -2,6 +2,5 @@
 pub mod Pairs
 pub mod PairRounds
 pub mod Batches
-pub mod Nodes
 pub mod Words
 pub mod LaneWords

@@ -2,7 +2,6 @@
 use graph::PLACES;
 
 pub mod evaluate;
-pub mod gate;
 pub mod inputs;
 pub mod words;
 

@@ -1,32 +1,32 @@
 -- The passes of all groups, group by group and batch by batch.
---   group-bounds, -size, -part     where a group stands
+--   group-size, starts-few         where a group stands
 --   group-batch, -ready            a group that can be counted
---   rooms-kept, -counted, held-kept   slices of the same lengths
+--   listing-counted, counting-counted   the number of groups
 --   counting-first, -next, -known, -end, -start, -full   one group more, and all of them
 --   rest-none, -one, -then         words that did not change
 --   counting-all                   all settings
+--   lowest-first, -known, -none, -some, -all   the lowest setting that is not settled, batch after batch
 -- Assumes nothing.
 use mathlib.Core.Path.{_≡_, refl, sym, ap, _∙_}
 use mathlib.Core.Logic.{_⊎_, inl, inr, ⊎-elim}
-use mathlib.Core.Bool.{false}
+use mathlib.Core.Bool.{Bool, true, false, not}
 use mathlib.Core.List.{List, [], _∷_, map}
 use Prim.Native.Nat.{ℕ, zero, suc, _+_, _-_, _*_, _≤_, _<_}
 use native.Mathlib.Nat.{mul-one, mul-le-mul-left, add-zero}
 use native.Mathlib.Omega.{arith}
 use borrow.Author.Tests.{lt-ltb}
 use lib.Dec.{ltb}
-use lib.ListN.{length, getD, set, replicate, length-set, take, drop, length-take, length-drop, length-replicate, getD-replicate, List·getD-append}
+use lib.ListN.{length, getD, set, replicate, length-set, drop, length-replicate, getD-replicate, List·getD-append}
 use lib.Seq.{ext-getD, getD-set-same, getD-set-other}
-use Rattle.laws.specs.Lists.{sum, tab, placed}
+use Rattle.laws.specs.Lists.{sum, tab, placed, least}
 use Rattle.laws.proofs.Tests.{lt-or-le, eq-or-ne, not-both}
 use Rattle.laws.proofs.Tab.{length-tab, getD-tab, tab-ext, tab-getD, map-tab, placed-tab}
 use Rattle.laws.proofs.Slices.{length-placed, getD-past}
 use Rattle.laws.proofs.Lists.{sum-append}
-use Rattle.layout.specs.declared.nodes.Nodes.{Nodes}
-use Rattle.netlist.specs.Limits.{maxGates, maxCopies}
-use Rattle.netlist.specs.Netlist.{Block}
+use Rattle.netlist.specs.Limits.{maxCopies}
+use Rattle.netlist.specs.Netlist.{Block, gateCount}
 use Rattle.netlist.specs.StoredBlock.{decode}
-use Rattle.netlist.specs.Rounds.{settingCount}
+use Rattle.netlist.specs.Rounds.{settingCount, isSoundAt, lowestUnsettled}
 use Rattle.netlist.specs.Groups.{groups}
 use Rattle.netlist.specs.Passes.{areEnough, passCount, copyCount}
 use Rattle.reach.proofs.Order.{groups-not-empty, groups-below}
@@ -34,9 +34,18 @@ use Rattle.reach.proofs.ListFacts.{sum-at}
 use Rattle.agreement.specs.Copies.{groupAt}
 use Rattle.agreement.proofs.PassCount.{passes-keep-from, at-enough, enough-from, size-settled, passCount-some, passCount-enough, passCount-from}
 use Rattle.lanes.specs.Batches.{lanesOf}
+use Rattle.lanes.specs.LaneWords.{laneSize}
+use Rattle.lanes.specs.Words.{hasLane, Tells}
+use Rattle.lanes.proofs.WordLaws.{tells-no-lane, tells-some, tells-lowest}
+use Rattle.batch.proofs.Layering.{among-part}
+use Rattle.judge.specs.Lanes.{isUnsound}
+use Rattle.verdict.proofs.Counting.{lowest-found}
+use Rattle.passes.specs.declared.Turn.{Turn}
 use Rattle.passes.specs.declared.Counted.{Counted}
+use Rattle.passes.specs.Pairs.{groupOf}
 use Rattle.passes.specs.Counting.{Least, GroupBatch, GroupCounted, GroupReady}
-use Rattle.passes.specs.Counting.{Listing, copiesOf, EnoughBelow, Full, Counting, SameRest, Rooms, BatchHeld, AllCounted}
+use Rattle.passes.specs.Counting.{Listing, copiesOf, EnoughBelow, StartsFew, Full, Counting, SameRest, BatchHeld, AllCounted, LowestBelow}
+use Rattle.passes.proofs.PairLaws.{part-long}
 
 -- ---- sums over the groups
 
@@ -99,76 +108,64 @@ module _ {b : Block} {count : ℕ} {members starts : List ℕ} (listing : Listin
   pub group-there : g < length (groups b)
   group-there = rw (← listing .countIs) l
 
-  pub group-few : length (groupAt b g) ≤ maxGates
-  group-few =
-      let e = ap length (sym (listing .part g l)) in
-      omega (arith, simp (length-take, length-drop) at e, listing .few)
-
-  pub group-bounds : (from to : ℕ) → from ≡ getD starts g 0 → to ≡ getD starts (g + 1) 0 → (from ≤ to) × (to ≤ length members)
-  group-bounds from to e f = rw (e, f) (listing .ordered g l, listing .within g l)
-
   pub group-size : length (groupAt b g) ≡ getD starts (g + 1) 0 - getD starts g 0
-  group-size =
-      let e = ap length (sym (listing .part g l)) in
-      omega (arith, simp (length-take, length-drop) at e, listing .within g l)
+  group-size = rw (← listing .groupIs g l) (part-long members (getD starts g 0) (getD starts (g + 1) 0))
 
-  pub group-part : (from to : ℕ) → from ≡ getD starts g 0 → to ≡ getD starts (g + 1) 0 → take (to - from) (drop from members) ≡ groupAt b g
-  group-part from to e f = rw (e, f) (listing .part g l)
+pub starts-few : {b : Block} {count : ℕ} {members starts : List ℕ} → Listing b count members starts → StartsFew count starts
+starts-few listing g l = let few = listing .few in let within = listing .within g l in (omega (arith, listing .ordered g l), omega arith)
 
-module _ {ws : List ℕ} {nodes : Nodes} {base count : ℕ} {members starts passes zeros ones settledZeros settledOnes : List ℕ}
-    (h : BatchHeld ws nodes base zeros ones) (rooms : Rooms (decode ws) count members starts passes zeros ones settledZeros settledOnes) where
-  pub group-batch : (g : ℕ) → g < count → GroupBatch ws nodes base (groupAt (decode ws) g)
-  group-batch g l =
-      record {
-        evaluable = record { legible = h .legible; fewInputs = h .fewInputs; there = λ j m. groups-below (decode ws) j g m };
-        aligned = h .aligned;
-        whole = h .whole;
-        sizeSome = groups-not-empty (decode ws) g (group-there (rooms .listing) g l);
-        sizeFew = group-few (rooms .listing) g l;
-      }
+module _ {ws graph : List ℕ} {base count : ℕ} {members starts w : List ℕ} (h : BatchHeld ws graph base w) (listing : Listing (decode ws) count members starts)
+    (g : ℕ) (l : g < count) (turn : Turn) (from : turn .from ≡ getD starts g 0) (end : turn .end ≡ getD starts (g + 1) 0) (at : turn .base ≡ base) where
+  pub turn-group : groupOf members turn ≡ groupAt (decode ws) g
+  turn-group = rw (from, end) (listing .groupIs g l)
 
   -- a group that can be counted
-  pub group-ready : {done next total : ℕ} → Counting (decode ws) count base done next passes total → (g : ℕ) → g < count → total ≤ maxCopies
-      → GroupReady ws nodes base (groupAt (decode ws) g) (getD passes g 0) total zeros ones settledZeros settledOnes
+  pub group-batch : GroupBatch ws graph members turn
+  group-batch =
+      let some : 0 < length (groupAt (decode ws) g) = groups-not-empty (decode ws) g (group-there listing g l) in
+      let size = group-size listing g l in
+      record {
+        whole = h .judged .whole;
+        decoded = h .decoded;
+        aligned = rw at (h .judged .aligned);
+        settings = rw at (h .settings);
+        positions =
+            record {
+              ordered = rw (from, end) (listing .ordered g l);
+              within = rw end (listing .within g l);
+              inside = λ i a c.
+                  groups-below (decode ws) (getD members i 0) g (rw turn-group at (among-part false members (turn .from) (turn .end) i a c));
+            };
+        some = omega (arith, from, end, listing .ordered g l);
+      }
+
+  pub group-ready : {done next : ℕ} {passes kept : List ℕ} {c : Counted} → Counting (decode ws) count base done next passes (c .total)
+      → c .passes ≡ getD passes g 0 → c .total ≤ maxCopies → length kept ≡ laneSize → GroupReady ws graph members turn c w kept
   unfolding copiesOf
-  group-ready c g l few =
+  group-ready {passes = passes} {c = c} k made few room =
       let copies : ℕ → ℕ = λ i. length (groupAt (decode ws) i) * getD passes i 0 in
       let part : copies g ≤ sum (tab copies count) = rw (getD-tab copies count g 0 l) at (sum-at (tab copies count) g) in
       record {
-        batch = group-batch g l;
-        soFar = record { least = c .least g l; part = rw (c .totalIs) part; most = omega arith };
-        settled = h .settled;
-        zerosRoom = rooms .zerosRoom;
-        onesRoom = rooms .onesRoom;
+        batch = group-batch;
+        soFar = rw turn-group (record { least = rw made (k .least g l); copies = rw (made, k .totalIs) part; most = omega arith });
+        settled = rw at (h .judged .settled);
+        room = room;
       }
-
--- slices of the same lengths; the number of groups
-pub rooms-kept : {b : Block} {count : ℕ} {members starts passes zeros ones settledZeros settledOnes passes′ zeros′ ones′ settledZeros′ settledOnes′ : List ℕ}
-    → Rooms b count members starts passes zeros ones settledZeros settledOnes → length passes′ ≡ length passes → length zeros′ ≡ length zeros
-    → length ones′ ≡ length ones → length settledZeros′ ≡ length settledZeros → length settledOnes′ ≡ length settledOnes
-    → Rooms b count members starts passes′ zeros′ ones′ settledZeros′ settledOnes′
-rooms-kept r p z o sz so =
-    record {
-      listing = r .listing;
-      passesRoom = rw p (r .passesRoom);
-      zerosRoom = sz ∙ r .zerosRoom ∙ sym z;
-      onesRoom = so ∙ r .onesRoom ∙ sym o;
-    }
-
-pub rooms-counted : {b : Block} {count : ℕ} {members starts passes zeros ones settledZeros settledOnes : List ℕ}
-    → Rooms b count members starts passes zeros ones settledZeros settledOnes
-    → Rooms b (length (groups b)) members starts passes zeros ones settledZeros settledOnes
-rooms-counted r = rw (r .listing .countIs) at r
-
-pub held-kept : {ws : List ℕ} {nodes : Nodes} {base : ℕ} {zeros ones zeros′ ones′ : List ℕ} → BatchHeld ws nodes base zeros ones → zeros′ ≡ zeros → ones′ ≡ ones
-    → BatchHeld ws nodes base zeros′ ones′
-held-kept h e f = rw (e, f) h
 
 -- ---- all groups
 
+-- so many groups as the block has
+pub listing-counted : {b : Block} {count : ℕ} {members starts : List ℕ} → Listing b count members starts → Listing b (length (groups b)) members starts
+listing-counted r = rw (r .countIs) at r
+
+pub counting-counted : {b : Block} {count base done next total : ℕ} {passes : List ℕ} → count ≡ length (groups b)
+    → Counting b count base done next passes total → Counting b (length (groups b)) base done next passes total
+counting-counted e c = rw e at c
+
 -- one group more
 module _ {b : Block} {n base count g total : ℕ} {passes : List ℕ} {r : Counted} (c : Counting b count base g (base + lanesOf n) passes total)
-    (l : g < count) (room : count ≤ length passes) (few : total ≤ maxCopies) (e : GroupCounted b n base (groupAt b g) (getD passes g 0) total r) where
+    (l : g < count) (room : count ≤ length passes) (few : total ≤ maxCopies)
+    (e : GroupCounted b n base (groupAt b g) (record { passes = getD passes g 0; total = total }) r) where
   here : (h : ℕ) → h ≡ g → getD (set passes g (r .passes)) h 0 ≡ r .passes
   here h i = rw i (getD-set-same passes g (r .passes) 0 (omega arith))
 
@@ -248,17 +245,17 @@ module _ {b : Block} {count : ℕ} {members starts : List ℕ} (listing : Listin
   unfolding firsts
   first-each g l = rw are (List·getD-append firsts (drop (length firsts) entry) 0 g (rw firsts-long l) ∙ getD-replicate {A = ℕ} count g each 0 l)
 
-  pub counting-first : each ≡ 1 → Counting b count 0 0 0 passes (length members)
+  pub counting-first : {total : ℕ} → each ≡ 1 → total ≡ gateCount b → Counting b count 0 0 0 passes total
   unfolding copiesOf
-  counting-first one =
+  counting-first one all =
       record {
         least = λ g l. rw (first-each g l, one) (record { some = omega arith; fewer = inl refl });
         totalIs =
-            listing .membersLong
+            all ∙ listing .membersLong
             ∙ ap sum
             (groups-tab b length count (listing .countIs)
             ∙ tab-ext _ _ count (λ g l. rw (first-each g l, one) (sym (mul-one (length (groupAt b g))))));
-        most = omega (arith, listing .few);
+        most = omega (arith, all, listing .few);
         before = λ few g l s m. absurd (omega arith);
         inside = λ few g l. absurd (omega arith);
       }
@@ -328,3 +325,67 @@ module _ {b : Block} {count base done next total : ℕ} {passes : List ℕ} (c :
 
   pub counting-all : {entry : List ℕ} → count ≤ length entry → SameRest count entry passes → AllCounted b entry passes total
   counting-all room same = record { tells = told; totalIs = exact-total; passesAre = exact-passes room same }
+
+-- ---- the lowest setting that may come and is not settled
+
+not-false-true : (a : Bool) → not a ≡ false → a ≡ true
+not-false-true true h = refl
+not-false-true false h = sym h
+
+not-true-is-false : (a : Bool) → not a ≡ true → a ≡ false
+not-true-is-false true h = sym h
+not-true-is-false false h = refl
+
+module _ {b : Block} where
+  -- nothing was looked at yet
+  pub lowest-first : {count : ℕ} → count ≡ settingCount b → LowestBelow b 0 count
+  lowest-first e =
+      record { within = omega (arith, e); known = λ l. absurd (omega (arith, e)); before = λ i l. absurd (omega arith); found = λ l. absurd (omega (arith, e)) }
+
+  -- it is known
+  pub lowest-known : {base lowest : ℕ} (step : ℕ) → LowestBelow b base lowest → lowest < settingCount b → LowestBelow b (base + step) lowest
+  lowest-known step h l =
+      let k = h .known l in
+      record { within = h .within; known = λ m. omega arith; before = λ i m f. h .before i (omega arith) f; found = h .found }
+
+  module _ {base lanes lowest word : ℕ} (h : LowestBelow b base lowest) (unknown : settingCount b ≤ lowest) (t : Tells lanes base (isUnsound b) word)
+      (most : lanes ≤ 64) (fits : base + lanes ≤ settingCount b) where
+    -- the settings of the batch up to a lane are sound
+    up-to : (r : ℕ) → ((s : ℕ) → s < r → isSoundAt b (base + s) ≡ true) → (i : ℕ) → i < base + r → isSoundAt b i ≡ true
+    up-to r inside i l =
+        ⊎-elim (λ k. h .before i k (omega arith)) (λ k. let e : base + (i - base) ≡ i = omega arith in rw e at (inside (i - base) (omega arith))) (lt-or-le i base)
+
+    -- there is none in the batch
+    pub lowest-none : word ≡ 0 → LowestBelow b (base + lanes) lowest
+    unfolding isUnsound
+    lowest-none e =
+        record {
+          within = h .within;
+          known = λ l. absurd (omega arith);
+          before = λ i l f. up-to lanes (λ s m. not-false-true (isSoundAt b (base + s)) (tells-no-lane t e s m)) i l;
+          found = h .found;
+        }
+
+    -- there is one
+    pub lowest-some : (word ≡ 0 → ⊥) → LowestBelow b (base + lanes) (base + least (hasLane word) 64)
+    unfolding isUnsound
+    lowest-some d =
+        let w = tells-some t d in
+        let lo = tells-lowest t most (w .0) (w .1) (w .2) in
+        let k = least (hasLane word) 64 in
+        record {
+          within = omega (arith, lo .0);
+          known = λ l. omega (arith, lo .0);
+          before = λ i l f. up-to k (λ s m. not-false-true (isSoundAt b (base + s)) (lo .2 s m)) i f;
+          found = λ l. not-true-is-false (isSoundAt b (base + k)) (lo .1);
+        }
+
+  -- all settings were looked at, or it is known
+  pub lowest-all : {base lowest : ℕ} → LowestBelow b base lowest → (settingCount b ≤ lowest → settingCount b ≤ base) → lowest ≡ lowestUnsettled b
+  lowest-all {base} {lowest} h all =
+      let w = h .within in
+      lowest-found b lowest (settingCount b) refl w (λ i l. h .before i (reached i l) l) (h .found)
+    where
+      reached : (i : ℕ) → i < lowest → i < base
+      reached i l =
+          ⊎-elim (λ k. let m = h .known k in omega arith) (λ k. let m = all k in let w = h .within in omega arith) (lt-or-le lowest (settingCount b))

@@ -1,271 +1,317 @@
 -- One group's gates evaluated, pass after pass, on pairs of words.
---   stepped-none, -one, -then, walked-stepped    gates evaluated one after the other
---   settled-held, kept-put               the settled pairs, and those of the group put aside
+--   ran-none, ran-then, ran-stepped      gates evaluated one after the other
+--   group-there, -nodes, -few, -long     the gates of a group
+--   kept-put                             the settled pairs of the group put aside
 --   cleared-passed, passed-run, -more    no pass yet, so many, one more
 --   agree-settled                        the pairs agree at a lane exactly where the group is settled
 --   restored                             the settled pairs put back
 -- Assumes nothing.
 use mathlib.Core.Path.{_≡_, refl, sym, ap, _∙_}
 use mathlib.Core.Logic.{_⊎_, inl, inr, ⊎-elim}
-use mathlib.Core.Bool.{Bool, true, false, cond}
-use mathlib.Core.List.{List, [], _∷_, _++_, map}
-use Prim.Native.Nat.{ℕ, _+_, _-_, _≤_, _<_}
+use mathlib.Core.Bool.{Bool, true, false, cond, _||_}
+use mathlib.Core.List.{List, [], _∷_, _++_, map, append-assoc, append-nil}
+use Prim.Native.Nat.{ℕ, _+_, _-_, _%_, _≤_, _<_}
 use native.Mathlib.Numerals.{add-one}
 use native.Mathlib.Omega.{arith}
 use lib.Dec.{eqb}
 use lib.ListN.{length, getD, set, length-map, List·getD-eq-default}
-use lib.Seq.{ext-getD, getD-set-other}
+use lib.Seq.{ext-getD}
 use Rattle.laws.specs.Lists.{all, member, repeated}
 use Rattle.laws.proofs.Tests.{not-both, bool-cases, lt-or-le}
-use Rattle.laws.proofs.Tab.{length-tab, tab-ext}
+use Rattle.laws.proofs.Tab.{length-tab, getD-tab, tab-ext}
 use Rattle.laws.proofs.Lists.{map-set, member-left, member-right, member-head, member-rest}
-use Rattle.layout.specs.declared.nodes.Nodes.{Nodes}
-use Rattle.netlist.specs.Values.{undefined, code}
+use Rattle.netlist.specs.Limits.{maxInputs, maxGates}
+use Rattle.netlist.specs.Values.{Value, undefined, code}
 use Rattle.netlist.specs.Netlist.{Block, inputCount, gateCount, gateOf}
-use Rattle.netlist.specs.Limits.{maxInputs}
 use Rattle.netlist.specs.StoredBlock.{decode}
 use Rattle.netlist.specs.Rounds.{evaluated, settingOf, settledUnder}
 use Rattle.netlist.specs.Steps.{stepAt, run}
 use Rattle.netlist.specs.Passes.{beforePasses, afterPasses, areSettled}
 use Rattle.rounds.proofs.AnyOrder.{run-append}
 use Rattle.agreement.proofs.PassCount.{length-before, before-at, after-next}
-use Rattle.batch.specs.Legible.{Legible}
+use Rattle.graph.specs.Places.{firstInput, firstGate}
+use Rattle.graph.specs.Graph.{gateAt, network, Decoded}
+use Rattle.graph.proofs.Network.{network-gates, gateOf-gates}
 use Rattle.lanes.specs.declared.Pair.{Pair}
 use Rattle.lanes.specs.Pairs.{lane, Proper, full, noLanes}
-use Rattle.lanes.specs.PairRounds.{evaluatedPair, AllProper}
+use Rattle.lanes.specs.PairRounds.{evaluatedPair, LegalGate, AllProper}
 use Rattle.lanes.specs.Batches.{lanesOf}
-use Rattle.lanes.specs.Nodes.{pairAt, inputsIn, gatesIn}
+use Rattle.lanes.specs.LaneWords.{pairAt, inputsIn, gatesIn, gatePairIn}
 use Rattle.lanes.proofs.LaneLaws.{nothing-lane, nothing-proper}
 use Rattle.lanes.proofs.RoundLaws.{getD-lane, evaluatedPair-lane, evaluatedPair-proper}
-use Rattle.batch.specs.Batch.{NodesLong, gatePair, Evaluated, Walked, noGate, gateMore, BatchSettled}
+use Rattle.lanes.proofs.LaneWordLaws.{node-legal, gatePairIn-evaluated, put-inputs, put-gates, put-filled, put-other}
+use Rattle.batch.specs.Layered.{GateEvaluated, GatesEvaluated, noGate, gateMore, Part, OrderPart, startInputs, LanesSettled}
 use Rattle.batch.proofs.Sweeping.{set-proper}
-use Rattle.batch.proofs.BatchLaws.{gate-legal, gatePair-evaluated, evaluated-gates, evaluated-inputs, evaluated-zeros, evaluated-ones, gatesIn-at}
-use Rattle.passes.specs.Pairs.{Apart, Put, ProperAt, agreeAt}
-use Rattle.passes.specs.Counting.{Held, Stepped, Passed, Kept}
+use Rattle.batch.proofs.Layering.{network-gate, part-nodes, part-among}
+use Rattle.batch.proofs.Inputs.{run-inputs, startInputs-lane}
+use Rattle.passes.specs.declared.Turn.{Turn}
+use Rattle.passes.specs.Pairs.{groupOf, Apart, Put, ProperAt, agreeAt}
+use Rattle.passes.specs.Counting.{Held, Ran, Stepped, Passed, Kept, GroupBatch}
+use Rattle.passes.proofs.PairLaws.{part-long, same-pairs}
 
 -- ---- gates evaluated one after the other
 
-pub held-long : {b : Block} {n : ℕ} {zeros ones : List ℕ} → Held b n zeros ones → NodesLong b n zeros ones
-held-long h = record { zerosLong = h .zerosLong; onesLong = h .onesLong }
+evaluated-then : {graph w mid after js ks : List ℕ} {r s : Bool} → GatesEvaluated graph w js mid r → GatesEvaluated graph mid ks after s
+    → Ran graph (js ++ ks) w after
+evaluated-then {js = js} {r = r} f noGate = record { changed = r; evaluated = rw (append-nil js) f }
+evaluated-then {graph} {w} {mid} {after} {js} f (gateMore {js = ks} {s = s} g j e) =
+    let h = evaluated-then f g in
+    record { changed = s || h .changed; evaluated = rw (← append-assoc js ks (j ∷ [])) (gateMore (h .evaluated) j e) }
+
+pub ran-none : (graph w : List ℕ) → Ran graph [] w w
+ran-none graph w = record { changed = false; evaluated = noGate }
+
+pub ran-then : {graph w mid after js ks : List ℕ} {s : Bool} → Ran graph js w mid → GatesEvaluated graph mid ks after s → Ran graph (js ++ ks) w after
+ran-then f g = evaluated-then (f .evaluated) g
+
+gates-at : (m : ℕ) (w : List ℕ) (j : ℕ) → j < m → getD (gatesIn m w) j noLanes ≡ pairAt w (firstGate + j)
+unfolding gatesIn
+gates-at m w j l = getD-tab (λ j. pairAt w (firstGate + j)) m j noLanes l
+
+gates-long : (m : ℕ) (w : List ℕ) → length (gatesIn m w) ≡ m
+unfolding gatesIn
+gates-long m w = length-tab (λ j. pairAt w (firstGate + j)) m
+
+gate-is : {b : Block} {graph : List ℕ} → Decoded b (gateCount b) graph → (j : ℕ) → j < gateCount b → gateAt graph j ≡ gateOf b j
+gate-is {b} {graph} d j l =
+    sym (network-gate (gateCount b) graph j l) ∙ gateOf-gates (network (gateCount b) graph) b (network-gates b (gateCount b) graph d) j
 
 module _ {b : Block} {n : ℕ} where
-  pub stepped-none : {zeros ones : List ℕ} → Held b n zeros ones → Stepped b n [] zeros ones zeros ones
+  stepped-none : {w : List ℕ} → Held b n w → Stepped b n [] w w
   unfolding run
-  stepped-none h =
-      record { held = h; inputsKept = refl; zerosOutside = λ k a. refl; onesOutside = λ k a. refl; lanewise = λ s l. refl }
+  stepped-none h = record { held = h; inputsKept = refl; outside = λ p a. refl; lanewise = λ s l. refl }
 
-  pub stepped-then : {js ks zeros ones zeros′ ones′ zeros″ ones″ : List ℕ} → Stepped b n js zeros ones zeros′ ones′
-      → Stepped b n ks zeros′ ones′ zeros″ ones″ → Stepped b n (js ++ ks) zeros ones zeros″ ones″
-  stepped-then {js} {ks} {zeros} {ones} f g =
+  stepped-then : {js ks w mid after : List ℕ} → Stepped b n js w mid → Stepped b n ks mid after → Stepped b n (js ++ ks) w after
+  stepped-then {js} {ks} {w} f g =
       record {
         held = g .held;
         inputsKept = g .inputsKept ∙ f .inputsKept;
-        zerosOutside = λ k a.
-            g .zerosOutside k (λ j m. a j (member-right j js ks m)) ∙ f .zerosOutside k (λ j m. a j (member-left j js ks m));
-        onesOutside = λ k a.
-            g .onesOutside k (λ j m. a j (member-right j js ks m)) ∙ f .onesOutside k (λ j m. a j (member-left j js ks m));
+        outside = λ p a. g .outside p (λ j m. a j (member-right j js ks m)) ∙ f .outside p (λ j m. a j (member-left j js ks m));
         lanewise = λ s l.
-            let x = map (lane s) (inputsIn n zeros ones) in
-            g .lanewise s l ∙ rw (f .inputsKept, f .lanewise s l) (sym (run-append b x js ks (map (lane s) (gatesIn n (gateCount b) zeros ones))));
+            let x = map (lane s) (inputsIn w) in
+            g .lanewise s l ∙ rw (f .inputsKept, f .lanewise s l) (sym (run-append b x js ks (map (lane s) (gatesIn (gateCount b) w))));
       }
 
-module _ {ws : List ℕ} {nodes : Nodes} (legible : Legible ws nodes) (few : nodes .inputs ≤ maxInputs) (j : ℕ) (l : j < gateCount (decode ws)) where
-  pub stepped-one : {zeros ones zeros′ ones′ : List ℕ} {changed : Bool} → Held (decode ws) (nodes .inputs) zeros ones
-      → Evaluated ws nodes j zeros ones zeros′ ones′ changed → Stepped (decode ws) (nodes .inputs) (j ∷ []) zeros ones zeros′ ones′
-  unfolding run stepAt
-  stepped-one {zeros} {ones} {zeros′} {ones′} h e =
+  module _ {graph : List ℕ} (d : Decoded b (gateCount b) graph) where
+    stepped-one : {w after : List ℕ} {changed : Bool} (j : ℕ) → j < gateCount b → Held b n w → GateEvaluated graph j w after changed
+        → Stepped b n (j ∷ []) w after
+    unfolding run stepAt
+    stepped-one {w} {after} j l h e =
+        record {
+          held =
+              record {
+                filled = rw (e .wordsAre) (put-filled w j q (h .filled));
+                inputsProper = rw inputs (h .inputsProper);
+                gatesProper = rw gates (set-proper j (h .gatesProper) isProper);
+              };
+          inputsKept = inputs;
+          outside = λ p a. rw (e .wordsAre) (put-other w (firstGate + j) q p (a j (member-head j [])));
+          lanewise = λ s k. ap (map (lane s)) gates ∙ map-set (lane s) (gatesIn m w) j q ∙ ap (set (map (lane s) (gatesIn m w)) j) (value s k);
+        }
+      where
+        m : ℕ
+        m = gateCount b
+
+        q : Pair
+        q = gatePairIn graph j w
+
+        inputs : inputsIn after ≡ inputsIn w
+        inputs = rw (e .wordsAre) (put-inputs w j q)
+
+        gates : gatesIn m after ≡ set (gatesIn m w) j q
+        gates = rw (e .wordsAre) (put-gates w j q m l (omega (arith, h .filled .long, d .legal .few)))
+
+        legal : LegalGate (gateOf b j)
+        legal = rw (← gate-is d j l) (node-legal (d .legal .node j l))
+
+        is : q ≡ evaluatedPair (full (lanesOf n)) (inputsIn w) (gatesIn m w) (gateOf b j)
+        is = rw (← gate-is d j l) (gatePairIn-evaluated (d .legal .node j l) (h .filled) (h .inputsProper) (h .gatesProper))
+
+        isProper : Proper (lanesOf n) q
+        isProper = rw is (evaluatedPair-proper (h .inputsProper) (h .gatesProper) (gateOf b j))
+
+        value : (s : ℕ) → s < lanesOf n → lane s q ≡ evaluated (map (lane s) (inputsIn w)) (map (lane s) (gatesIn m w)) (gateOf b j)
+        value s k = rw is (evaluatedPair-lane (h .inputsProper) (h .gatesProper) s k (gateOf b j) legal)
+
+    -- several gates
+    pub evaluated-stepped : {js w after : List ℕ} {changed : Bool} → ((j : ℕ) → member j js ≡ true → j < gateCount b) → Held b n w
+        → GatesEvaluated graph w js after changed → Stepped b n js w after
+    evaluated-stepped there h noGate = stepped-none h
+    evaluated-stepped there h (gateMore {js = before} g j e) =
+        let s = evaluated-stepped (λ k m. there k (member-left k before (j ∷ []) m)) h g in
+        stepped-then s (stepped-one j (there j (member-right j before (j ∷ []) (member-head j []))) (s .held) e)
+
+    pub ran-stepped : {js w after : List ℕ} → ((j : ℕ) → member j js ≡ true → j < gateCount b) → Held b n w → Ran graph js w after
+        → Stepped b n js w after
+    ran-stepped there h r = evaluated-stepped there h (r .evaluated)
+
+-- ---- the gates of a group
+
+module _ {ws graph members : List ℕ} {turn : Turn} (g : GroupBatch ws graph members turn) where
+  pub group-there : (j : ℕ) → member j (groupOf members turn) ≡ true → j < gateCount (decode ws)
+  group-there j h = let a = part-among false members (turn .from) (turn .end) j h in rw (a .is) at (g .positions .inside (a .at) (a .low) (a .high))
+
+  pub group-nodes : Part graph members (turn .from) (turn .end)
+  group-nodes = part-nodes (g .decoded .legal) (g .positions)
+
+  pub group-few : OrderPart maxGates members (turn .from) (turn .end)
+  group-few =
+      let few = g .decoded .legal .few in
       record {
-        held =
-            record {
-              zerosLong = evaluated-zeros legible few j l e ∙ h .zerosLong;
-              onesLong = evaluated-ones legible few j l e ∙ h .onesLong;
-              inputsProper = rw (evaluated-inputs legible few j l e) (h .inputsProper);
-              gatesProper = rw (evaluated-gates legible few j l long e) (set-proper j (h .gatesProper) isProper);
-            };
-        inputsKept = evaluated-inputs legible few j l e;
-        zerosOutside = λ k a. rw (e .zerosAre) (getD-set-other zeros (nodes .inputs + j) k (p .zeros) 0 (a j (member-head j [])));
-        onesOutside = λ k a. rw (e .onesAre) (getD-set-other ones (nodes .inputs + j) k (p .ones) 0 (a j (member-head j [])));
-        lanewise = λ s h.
-            ap (map (lane s)) (evaluated-gates legible few j l long e) ∙ map-set (lane s) (gatesIn (nodes .inputs) m zeros ones) j p
-            ∙ ap (set (map (lane s) (gatesIn (nodes .inputs) m zeros ones)) j) (value s h);
+        ordered = g .positions .ordered;
+        within = omega (arith, g .positions .within);
+        inside = λ i l h. omega (arith, g .positions .inside i l h);
       }
-    where
-      m : ℕ
-      m = gateCount (decode ws)
 
-      p : Pair
-      p = gatePair ws nodes j zeros ones
+  pub group-long : length (groupOf members turn) ≡ turn .end - turn .from
+  group-long = part-long members (turn .from) (turn .end)
 
-      long : NodesLong (decode ws) (nodes .inputs) zeros ones
-      long = held-long h
+-- ---- places that are none of the group's gates'
 
-      is : p ≡ evaluatedPair (full (lanesOf (nodes .inputs))) (inputsIn (nodes .inputs) zeros ones) (gatesIn (nodes .inputs) m zeros ones)
-          (gateOf (decode ws) j)
-      is = gatePair-evaluated legible few j l long
+apart-before : (group : List ℕ) (p : ℕ) → p < firstGate → Apart group p
+apart-before group p l j m e = omega arith
 
-      isProper : Proper (lanesOf (nodes .inputs)) p
-      isProper = rw is (evaluatedPair-proper (h .inputsProper) (h .gatesProper) (gateOf (decode ws) j))
+apart-gate : (group : List ℕ) (i : ℕ) → member i group ≡ false → Apart group (firstGate + i)
+apart-gate group i h j m e = let f : j ≡ i = omega arith in not-both (rw f at m) h
 
-      value : (s : ℕ) → s < lanesOf (nodes .inputs)
-          → lane s p ≡ evaluated (map (lane s) (inputsIn (nodes .inputs) zeros ones)) (map (lane s) (gatesIn (nodes .inputs) m zeros ones))
-          (gateOf (decode ws) j)
-      value s k = rw is (evaluatedPair-lane (h .inputsProper) (h .gatesProper) s k (gateOf (decode ws) j) (gate-legal legible few j l))
-
--- several gates
-pub walked-stepped : {ws : List ℕ} {nodes : Nodes} {js zeros ones zeros′ ones′ : List ℕ} {changed : Bool} → Legible ws nodes → nodes .inputs ≤ maxInputs
-    → Held (decode ws) (nodes .inputs) zeros ones → Walked ws nodes zeros ones js zeros′ ones′ changed
-    → Stepped (decode ws) (nodes .inputs) js zeros ones zeros′ ones′
-walked-stepped legible few h noGate = stepped-none h
-walked-stepped legible few h (gateMore w j l e) =
-    let s = walked-stepped legible few h w in
-    stepped-then s (stepped-one legible few j l (s .held) e)
-
--- ---- nodes that are none of the group's gates
-
-apart-input : (n : ℕ) (group : List ℕ) (k : ℕ) → k < n → Apart n group k
-apart-input n group k l j m e = omega arith
-
-apart-gate : (n : ℕ) (group : List ℕ) (i : ℕ) → member i group ≡ false → Apart n group (n + i)
-apart-gate n group i h j m e = let f : j ≡ i = omega arith in not-both (rw f at m) h
-
--- words that are the same at each node that is one of the group's gates, and at each that is none, are the same
-by-nodes : (n : ℕ) (group words words′ : List ℕ) → length words′ ≡ length words
-    → ((j : ℕ) → member j group ≡ true → getD words′ (n + j) 0 ≡ getD words (n + j) 0)
-    → ((k : ℕ) → Apart n group k → getD words′ k 0 ≡ getD words k 0) → words′ ≡ words
-by-nodes n group words words′ long inside outside =
-    ext-getD 0 words′ words long (λ k l. ⊎-elim (λ h. outside k (apart-input n group k h)) (gate k) (lt-or-le k n))
+-- pairs that are the same at each place of one of the group's gates, and at each other place, are the same
+by-places : (group w after : List ℕ) → ((j : ℕ) → member j group ≡ true → pairAt after (firstGate + j) ≡ pairAt w (firstGate + j))
+    → ((p : ℕ) → Apart group p → pairAt after p ≡ pairAt w p) → (p : ℕ) → pairAt after p ≡ pairAt w p
+by-places group w after inside outside p = ⊎-elim (λ h. outside p (apart-before group p h)) gate (lt-or-le p firstGate)
   where
-    gate : (k : ℕ) → n ≤ k → getD words′ k 0 ≡ getD words k 0
-    gate k h =
-        let e : n + (k - n) ≡ k = omega arith in
-        rw e at (⊎-elim (inside (k - n)) (λ m. outside (n + (k - n)) (apart-gate n group (k - n) m)) (bool-cases (member (k - n) group)))
+    gate : firstGate ≤ p → pairAt after p ≡ pairAt w p
+    gate h =
+        let e : firstGate + (p - firstGate) ≡ p = omega arith in
+        rw e at
+        (⊎-elim (inside (p - firstGate)) (λ m. outside (firstGate + (p - firstGate)) (apart-gate group (p - firstGate) m))
+        (bool-cases (member (p - firstGate) group)))
 
 -- The settled words put aside, the others changed at the group's gates alone: put back they are the settled ones.
-pub restored : {n : ℕ} {group words aside aside′ changed back : List ℕ} → Put n group words aside aside′ → length changed ≡ length words
-    → ((k : ℕ) → Apart n group k → getD changed k 0 ≡ getD words k 0) → Put n group aside′ changed back → back ≡ words
-restored {n} {group} {words} {aside} {aside′} {changed} {back} saved long outside put =
-    by-nodes n group words back (put .long ∙ long) (λ j m. put .inside j m ∙ saved .inside j m) (λ k a. put .outside k a ∙ outside k a)
+pub restored : {group w aside aside′ changed back : List ℕ} → Put group w aside aside′ → length changed ≡ length w
+    → ((p : ℕ) → Apart group p → pairAt changed p ≡ pairAt w p) → Put group aside′ changed back → back ≡ w
+restored {group} {w} {aside} {aside′} {changed} {back} saved long outside put =
+    same-pairs w back (put .long ∙ long)
+    (by-places group w back (λ j m. put .inside j m ∙ saved .inside j m) (λ p a. put .outside p a ∙ outside p a))
 
 -- ---- the settled pairs, put aside and cleared
 
-pair-same : (zeros ones zeros′ ones′ : List ℕ) (k : ℕ) → getD zeros′ k 0 ≡ getD zeros k 0 → getD ones′ k 0 ≡ getD ones k 0
-    → pairAt zeros′ ones′ k ≡ pairAt zeros ones k
-unfolding pairAt
-pair-same zeros ones zeros′ ones′ k e f = rw (e, f)
-
-pair-none : (k : ℕ) → pairAt [] [] k ≡ noLanes
+pair-none : (p : ℕ) → pairAt [] p ≡ noLanes
 unfolding pairAt noLanes
-pair-none k = refl
+pair-none p = refl
 
-module _ {b : Block} {n base : ℕ} {zeros ones : List ℕ} (settled : BatchSettled b n base zeros ones) where
+module _ {b : Block} {n base : ℕ} {w : List ℕ} (settled : LanesSettled b n base w) (many : n ≡ inputCount b) where
   -- the value of gate j at a lane
-  settled-lane : (s : ℕ) → s < lanesOf n → (j : ℕ) → j < gateCount b → lane s (pairAt zeros ones (n + j)) ≡ getD (settledUnder b (base + s)) j undefined
+  settled-lane : (s : ℕ) → s < lanesOf n → (j : ℕ) → j < gateCount b → lane s (pairAt w (firstGate + j)) ≡ getD (settledUnder b (base + s)) j undefined
+  unfolding settledUnder
   settled-lane s l j h =
-      rw (← gatesIn-at n (gateCount b) zeros ones j h, ← getD-lane s (gatesIn n (gateCount b) zeros ones) j, settled .settledLanes s l)
+      rw (← gates-at (gateCount b) w j h, ← getD-lane s (gatesIn (gateCount b) w) j, settled .settledLanes s l, many) refl
 
-  settled-proper : (j : ℕ) → j < gateCount b → Proper (lanesOf n) (pairAt zeros ones (n + j))
-  settled-proper j h = rw (← gatesIn-at n (gateCount b) zeros ones j h) (settled .gatesProper .each j)
+  settled-proper : (j : ℕ) → j < gateCount b → Proper (lanesOf n) (pairAt w (firstGate + j))
+  settled-proper j h = rw (← gates-at (gateCount b) w j h) (settled .gatesProper .each j)
 
-  pub kept-put : {group asideZeros asideOnes zeros′ ones′ : List ℕ} → ((j : ℕ) → member j group ≡ true → j < gateCount b)
-      → length asideZeros ≡ length asideOnes → Put n group zeros asideZeros zeros′ → Put n group ones asideOnes ones′ → Kept b n base group zeros′ ones′
-  kept-put {group} {asideZeros} {asideOnes} {zeros′} {ones′} there long pz po =
+  pub kept-put : {group aside kept : List ℕ} → ((j : ℕ) → member j group ≡ true → j < gateCount b) → Put group w aside kept → Kept b n base group kept
+  kept-put there p =
       record {
-        sameLong = pz .long ∙ long ∙ sym (po .long);
-        proper = λ j m. rw (same j m) (settled-proper j (there j m));
-        settledAt = λ s l j m. rw (same j m) (settled-lane s l j (there j m));
+        proper = λ j m. rw (p .inside j m) (settled-proper j (there j m));
+        settledAt = λ s l j m. rw (p .inside j m) (settled-lane s l j (there j m));
       }
-    where
-      same : (j : ℕ) → member j group ≡ true → pairAt zeros′ ones′ (n + j) ≡ pairAt zeros ones (n + j)
-      same j m = pair-same zeros ones zeros′ ones′ (n + j) (pz .inside j m) (po .inside j m)
 
-  module _ {group zeros′ ones′ : List ℕ} (pz : Put n group [] zeros zeros′) (po : Put n group [] ones ones′) where
-    cleared-inputs : inputsIn n zeros′ ones′ ≡ inputsIn n zeros ones
+  module _ {group after : List ℕ} (p : Put group [] w after) where
+    cleared-inputs : inputsIn after ≡ inputsIn w
     unfolding inputsIn
     cleared-inputs =
-        tab-ext (pairAt zeros′ ones′) (pairAt zeros ones) n
-        (λ k l. pair-same zeros ones zeros′ ones′ k (pz .outside k (apart-input n group k l)) (po .outside k (apart-input n group k l)))
+        tab-ext (λ i. pairAt after (firstInput + i)) (λ i. pairAt w (firstInput + i)) maxInputs
+        (λ i l. p .outside (firstInput + i) (apart-before group (firstInput + i) (omega arith)))
 
-    cleared-pair : (j : ℕ) → pairAt zeros′ ones′ (n + j) ≡ cond (member j group) noLanes (pairAt zeros ones (n + j))
+    cleared-pair : (j : ℕ) → pairAt after (firstGate + j) ≡ cond (member j group) noLanes (pairAt w (firstGate + j))
     cleared-pair j = go (bool-cases (member j group))
       where
-        go : (member j group ≡ true) ⊎ (member j group ≡ false) → pairAt zeros′ ones′ (n + j) ≡ cond (member j group) noLanes (pairAt zeros ones (n + j))
-        go (inl m) = rw m (pair-same [] [] zeros′ ones′ (n + j) (pz .inside j m) (po .inside j m) ∙ pair-none (n + j))
-        go (inr m) =
-            rw m
-            (pair-same zeros ones zeros′ ones′ (n + j) (pz .outside (n + j) (apart-gate n group j m)) (po .outside (n + j) (apart-gate n group j m)))
+        go : (member j group ≡ true) ⊎ (member j group ≡ false) → pairAt after (firstGate + j) ≡ cond (member j group) noLanes (pairAt w (firstGate + j))
+        go (inl m) = rw m (p .inside j m ∙ pair-none (firstGate + j))
+        go (inr m) = rw m (p .outside (firstGate + j) (apart-gate group j m))
 
-    cleared-proper : AllProper (lanesOf n) (gatesIn n (gateCount b) zeros′ ones′)
-    unfolding gatesIn
+    cleared-proper : AllProper (lanesOf n) (gatesIn (gateCount b) after)
     cleared-proper = record { each = λ j. ⊎-elim (inside j) (past j) (lt-or-le j (gateCount b)) }
       where
-        either : (j : ℕ) → j < gateCount b → (m : Bool) → Proper (lanesOf n) (cond m noLanes (pairAt zeros ones (n + j)))
+        either : (j : ℕ) → j < gateCount b → (m : Bool) → Proper (lanesOf n) (cond m noLanes (pairAt w (firstGate + j)))
         either j h true = nothing-proper (lanesOf n)
         either j h false = settled-proper j h
 
-        inside : (j : ℕ) → j < gateCount b → Proper (lanesOf n) (getD (gatesIn n (gateCount b) zeros′ ones′) j noLanes)
-        inside j h = rw (gatesIn-at n (gateCount b) zeros′ ones′ j h, cleared-pair j) (either j h (member j group))
+        inside : (j : ℕ) → j < gateCount b → Proper (lanesOf n) (getD (gatesIn (gateCount b) after) j noLanes)
+        inside j h = rw (gates-at (gateCount b) after j h, cleared-pair j) (either j h (member j group))
 
-        past : (j : ℕ) → gateCount b ≤ j → Proper (lanesOf n) (getD (gatesIn n (gateCount b) zeros′ ones′) j noLanes)
+        past : (j : ℕ) → gateCount b ≤ j → Proper (lanesOf n) (getD (gatesIn (gateCount b) after) j noLanes)
         past j h =
-            let e : getD (gatesIn n (gateCount b) zeros′ ones′) j noLanes ≡ noLanes =
-            List·getD-eq-default (gatesIn n (gateCount b) zeros′ ones′) noLanes {n = j}
-            (rw (length-tab (λ i. pairAt zeros′ ones′ (n + i)) (gateCount b)) h) in
+            let e : getD (gatesIn (gateCount b) after) j noLanes ≡ noLanes =
+            List·getD-eq-default (gatesIn (gateCount b) after) noLanes {n = j} (rw (gates-long (gateCount b) after) h) in
             rw e (nothing-proper (lanesOf n))
 
-    cleared-lanes : (s : ℕ) → s < lanesOf n → map (lane s) (gatesIn n (gateCount b) zeros′ ones′) ≡ beforePasses b group (base + s)
-    unfolding gatesIn
+    cleared-lanes : (s : ℕ) → s < lanesOf n → map (lane s) (gatesIn (gateCount b) after) ≡ beforePasses b group (base + s)
     cleared-lanes s l =
         ext-getD undefined (map (lane s) gs) (beforePasses b group (base + s)) (long ∙ sym (length-before b group (base + s)))
         (λ j h. let k : j < gateCount b = rw long at h in
-        getD-lane s gs j ∙ ap (lane s) (gatesIn-at n (gateCount b) zeros′ ones′ j k ∙ cleared-pair j) ∙ either j k (member j group)
+        getD-lane s gs j ∙ ap (lane s) (gates-at (gateCount b) after j k ∙ cleared-pair j) ∙ either j k (member j group)
         ∙ sym (before-at b group (base + s) j))
       where
         gs : List Pair
-        gs = gatesIn n (gateCount b) zeros′ ones′
+        gs = gatesIn (gateCount b) after
 
         long : length (map (lane s) gs) ≡ gateCount b
-        long = length-map gs (lane s) ∙ length-tab (λ i. pairAt zeros′ ones′ (n + i)) (gateCount b)
+        long = length-map gs (lane s) ∙ gates-long (gateCount b) after
 
         either : (j : ℕ) → j < gateCount b → (m : Bool)
-            → lane s (cond m noLanes (pairAt zeros ones (n + j))) ≡ cond m undefined (getD (settledUnder b (base + s)) j undefined)
+            → lane s (cond m noLanes (pairAt w (firstGate + j))) ≡ cond m undefined (getD (settledUnder b (base + s)) j undefined)
         either j h true = nothing-lane s
         either j h false = settled-lane s l j h
 
     -- with the group's gates undefined no pass is made yet
-    pub cleared-passed : n ≡ inputCount b → Passed b n base group 0 zeros′ ones′
+    pub cleared-passed : Passed b n base group 0 after
     unfolding afterPasses run
-    cleared-passed many =
+    cleared-passed =
         record {
           held =
               record {
-                zerosLong = pz .long ∙ settled .zerosLong;
-                onesLong = po .long ∙ settled .onesLong;
+                filled =
+                    record {
+                      long = p .long ∙ settled .filled .long;
+                      zero = p .outside 0 (apart-before group 0 (omega arith)) ∙ settled .filled .zero;
+                      one = p .outside 1 (apart-before group 1 (omega arith)) ∙ settled .filled .one;
+                    };
                 inputsProper = rw cleared-inputs (settled .inputsProper);
                 gatesProper = cleared-proper;
               };
-          setting = λ s l. ap (map (lane s)) cleared-inputs ∙ settled .setting s l ∙ ap (λ (k : ℕ). settingOf k (base + s)) many;
+          inputs = cleared-inputs ∙ settled .inputs;
           lanewise = cleared-lanes;
         }
 
 -- ---- passes
 
-module _ {b : Block} {n base : ℕ} {group zeros ones zeros′ ones′ : List ℕ} where
-  pub passed-run : (p : ℕ) → Passed b n base group 0 zeros ones → Stepped b n (repeated p group) zeros ones zeros′ ones′
-      → Passed b n base group p zeros′ ones′
+-- gates evaluated from the batch's inputs are evaluated under its settings
+run-setting : (b : Block) (n base : ℕ) → n ≡ inputCount b → n ≤ maxInputs → base % 64 ≡ 0 → (w js : List ℕ) → inputsIn w ≡ startInputs n base
+    → (s : ℕ) → s < lanesOf n → (state : List Value)
+    → run b (map (lane s) (inputsIn w)) js state ≡ run b (settingOf (inputCount b) (base + s)) js state
+run-setting b n base many few aligned w js inputs s l state =
+    rw (inputs, ← many) (run-inputs (map (lane s) (startInputs n base)) (settingOf n (base + s)) (startInputs-lane n base few aligned s l) b js state)
+
+module _ {b : Block} {n base : ℕ} (many : n ≡ inputCount b) (few : n ≤ maxInputs) (aligned : base % 64 ≡ 0) {group w after : List ℕ} where
+  pub passed-run : (p : ℕ) → Passed b n base group 0 w → Stepped b n (repeated p group) w after → Passed b n base group p after
   unfolding afterPasses run
   passed-run p c g =
       record {
         held = g .held;
-        setting = λ s l. ap (map (lane s)) (g .inputsKept) ∙ c .setting s l;
-        lanewise = λ s l. g .lanewise s l ∙ rw (c .setting s l, c .lanewise s l) refl;
+        inputs = g .inputsKept ∙ c .inputs;
+        lanewise = λ s l.
+            g .lanewise s l ∙ run-setting b n base many few aligned w (repeated p group) (c .inputs) s l (map (lane s) (gatesIn (gateCount b) w)) ∙ rw (c .lanewise s l) refl;
       }
 
-  pub passed-more : {p : ℕ} → Passed b n base group p zeros ones → Stepped b n group zeros ones zeros′ ones′ → Passed b n base group (p + 1) zeros′ ones′
+  pub passed-more : {p : ℕ} → Passed b n base group p w → Stepped b n group w after → Passed b n base group (p + 1) after
   passed-more {p} c g =
       record {
         held = g .held;
-        setting = λ s l. ap (map (lane s)) (g .inputsKept) ∙ c .setting s l;
-        lanewise = λ s l. g .lanewise s l ∙ rw (c .setting s l, c .lanewise s l, add-one p) (sym (after-next b group (base + s) p));
+        inputs = g .inputsKept ∙ c .inputs;
+        lanewise = λ s l.
+            g .lanewise s l ∙ run-setting b n base many few aligned w group (c .inputs) s l (map (lane s) (gatesIn (gateCount b) w))
+            ∙ rw (c .lanewise s l, add-one p) (sym (after-next b group (base + s) p));
       }
 
 all-same : (p q : ℕ → Bool) (xs : List ℕ) → ((x : ℕ) → member x xs ≡ true → p x ≡ q x) → all p xs ≡ all q xs
@@ -273,20 +319,18 @@ all-same p q [] h = refl
 all-same p q (x ∷ xs) h = rw (h x (member-head x xs), all-same p q xs (λ y m. h y (member-rest y x xs m)))
 
 -- The pairs agree with the settled ones at a lane exactly where the group is settled.
-pub agree-settled : {b : Block} {n base p : ℕ} {group zeros ones keptZeros keptOnes : List ℕ} → ((j : ℕ) → member j group ≡ true → j < gateCount b)
-    → Passed b n base group p zeros ones → Kept b n base group keptZeros keptOnes → (s : ℕ) → s < lanesOf n
-    → agreeAt n group zeros ones keptZeros keptOnes s ≡ areSettled b group (base + s) p
+pub agree-settled : {b : Block} {n base p : ℕ} {group w kept : List ℕ} → ((j : ℕ) → member j group ≡ true → j < gateCount b)
+    → Passed b n base group p w → Kept b n base group kept → (s : ℕ) → s < lanesOf n → agreeAt group w kept s ≡ areSettled b group (base + s) p
 unfolding agreeAt areSettled
-agree-settled {b} {n} {base} {p} {group} {zeros} {ones} {keptZeros} {keptOnes} there c k s l =
-    all-same (λ j. eqb (code (lane s (pairAt zeros ones (n + j)))) (code (lane s (pairAt keptZeros keptOnes (n + j)))))
+agree-settled {b} {n} {base} {p} {group} {w} {kept} there c k s l =
+    all-same (λ j. eqb (code (lane s (pairAt w (firstGate + j)))) (code (lane s (pairAt kept (firstGate + j)))))
     (λ j. eqb (code (getD (afterPasses b group (base + s) p) j undefined)) (code (getD (settledUnder b (base + s)) j undefined))) group
     (λ j m. rw (value j (there j m), k .settledAt s l j m))
   where
-    value : (j : ℕ) → j < gateCount b → lane s (pairAt zeros ones (n + j)) ≡ getD (afterPasses b group (base + s) p) j undefined
-    value j h = rw (← gatesIn-at n (gateCount b) zeros ones j h, ← getD-lane s (gatesIn n (gateCount b) zeros ones) j, c .lanewise s l)
+    value : (j : ℕ) → j < gateCount b → lane s (pairAt w (firstGate + j)) ≡ getD (afterPasses b group (base + s) p) j undefined
+    value j h = rw (← gates-at (gateCount b) w j h, ← getD-lane s (gatesIn (gateCount b) w) j, c .lanewise s l)
 
 -- proper pairs at the group's gates
-pub passed-proper : {b : Block} {n base p : ℕ} {group zeros ones : List ℕ} → ((j : ℕ) → member j group ≡ true → j < gateCount b)
-    → Passed b n base group p zeros ones → ProperAt n group zeros ones
-passed-proper {b} {n} {base} {p} {group} {zeros} {ones} there c j m =
-    rw (← gatesIn-at n (gateCount b) zeros ones j (there j m)) (c .held .gatesProper .each j)
+pub passed-proper : {b : Block} {n base p : ℕ} {group w : List ℕ} → ((j : ℕ) → member j group ≡ true → j < gateCount b)
+    → Passed b n base group p w → ProperAt (lanesOf n) group w
+passed-proper {b} {w = w} there c j m = rw (← gates-at (gateCount b) w j (there j m)) (c .held .gatesProper .each j)

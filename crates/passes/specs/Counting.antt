@@ -1,61 +1,61 @@
--- The passes that groups need, found group by group for one batch of settings after the other.
---   Evaluable, Held, Stepped gates evaluated on pairs of words
+-- The passes that groups need, found group by group for one batch of settings after the other, and the lowest setting that is not settled.
+--   Held, Ran, Stepped       gates evaluated on pairs of words
 --   Least                    a number of passes of which none is too many
 --   Passed, Kept             the pairs after so many passes, and the settled ones beside them
---   PassReady, MorePasses, GroupReady, GroupCounted   one group for the settings of a batch
---   Listing, Counting, Full, Rooms, BatchHeld, AllCounted   all groups
+--   GroupBatch, SoFar, PassReady, MorePasses, GroupReady, GroupCounted   one group for the settings of a batch
+--   Listing, Counting, StartsFew, Full, BatchHeld, AllCounted   all groups
+--   LowestBelow, WalkedBatch, Walked   the walk over batches
 -- Assumes nothing.
 use Prim.Native.Nat.{ℕ, _+_, _-_, _*_, _%_, _≤_, _<_}
 use mathlib.Core.Path.{_≡_}
 use mathlib.Core.Logic.{_⊎_}
-use mathlib.Core.Bool.{true, false}
+use mathlib.Core.Bool.{Bool, true, false}
 use mathlib.Core.List.{List, map}
 use lib.Dec.{ltb}
-use lib.ListN.{length, getD, take, drop}
+use lib.ListN.{length, getD}
 use Rattle.laws.specs.Lists.{member, sum, tab, placed}
 use Rattle.netlist.specs.Values.{undefined}
-use Rattle.layout.specs.declared.nodes.Nodes.{Nodes}
-use Rattle.netlist.specs.Limits.{maxInputs, maxGates, maxCopies}
-use Rattle.netlist.specs.Netlist.{Block, inputCount, gateCount}
-use Rattle.netlist.specs.StoredBlock.{decode}
-use Rattle.netlist.specs.Rounds.{settingOf, settingCount, settledUnder, isExcluded}
+use Rattle.netlist.specs.Limits.{maxGates, maxCopies}
+use Rattle.netlist.specs.Netlist.{Block, gateCount}
+use Rattle.netlist.specs.StoredBlock.{decode, isMalformed}
+use Rattle.netlist.specs.Rounds.{settingCount, settledUnder, isExcluded, isSoundAt, lowestUnsettled}
 use Rattle.netlist.specs.Groups.{groups}
 use Rattle.netlist.specs.Steps.{run}
 use Rattle.netlist.specs.Passes.{afterPasses, areSettled, areEnough, passCount, copyCount}
+use Rattle.graph.specs.Places.{firstGate}
+use Rattle.graph.specs.Graph.{Decoded}
 use Rattle.agreement.specs.Copies.{groupAt}
-use Rattle.batch.specs.Legible.{Legible}
-use Rattle.lanes.specs.Pairs.{lane}
+use Rattle.lanes.specs.Pairs.{lane, full}
 use Rattle.lanes.specs.PairRounds.{AllProper}
 use Rattle.lanes.specs.Batches.{lanesOf}
-use Rattle.lanes.specs.Nodes.{pairAt, inputsIn, gatesIn}
-use Rattle.batch.specs.Batch.{BatchSettled}
+use Rattle.lanes.specs.LaneWords.{laneSize, pairAt, inputsIn, gatesIn, Filled}
+use Rattle.batch.specs.Layered.{GatesEvaluated, OrderPart, part, startInputs, LanesSettled}
+use Rattle.judge.specs.Lanes.{Judged}
+use Rattle.passes.specs.declared.Turn.{Turn}
 use Rattle.passes.specs.declared.Counted.{Counted}
-use Rattle.passes.specs.Pairs.{Apart, ProperAt}
+use Rattle.passes.specs.declared.Found.{Found}
+use Rattle.passes.specs.Pairs.{groupOf, Apart, ProperAt}
 
 -- ---- gates evaluated on pairs of words
 
--- the gates listed can be evaluated from the words
-pub record Evaluable (ws : List ℕ) (nodes : Nodes) (group : List ℕ) : Type 0 where
-  pub legible : Legible ws nodes
-  pub fewInputs : nodes .inputs ≤ maxInputs
-  pub there : (j : ℕ) → member j group ≡ true → j < gateCount (decode ws)
-
--- proper pairs, one for each input and each gate
-pub record Held (b : Block) (n : ℕ) (zeros ones : List ℕ) : Type 0 where
-  pub zerosLong : length zeros ≡ n + gateCount b
-  pub onesLong : length ones ≡ n + gateCount b
-  pub inputsProper : AllProper (lanesOf n) (inputsIn n zeros ones)
-  pub gatesProper : AllProper (lanesOf n) (gatesIn n (gateCount b) zeros ones)
+-- proper pairs of the constants, the inputs and the gates
+pub record Held (b : Block) (n : ℕ) (w : List ℕ) : Type 0 where
+  pub filled : Filled (full (lanesOf n)) w
+  pub inputsProper : AllProper (lanesOf n) (inputsIn w)
+  pub gatesProper : AllProper (lanesOf n) (gatesIn (gateCount b) w)
 
 -- the gates listed were evaluated one after the other, each pair stored at once
-pub record Stepped (b : Block) (n : ℕ) (js zeros ones zeros′ ones′ : List ℕ) : Type 0 where
-  pub held : Held b n zeros′ ones′
-  pub inputsKept : inputsIn n zeros′ ones′ ≡ inputsIn n zeros ones
-  pub zerosOutside : (k : ℕ) → Apart n js k → getD zeros′ k 0 ≡ getD zeros k 0
-  pub onesOutside : (k : ℕ) → Apart n js k → getD ones′ k 0 ≡ getD ones k 0
+pub record Ran (graph js w after : List ℕ) : Type 0 where
+  pub changed : Bool
+  pub evaluated : GatesEvaluated graph w js after changed
+
+-- the same at every lane
+pub record Stepped (b : Block) (n : ℕ) (js w after : List ℕ) : Type 0 where
+  pub held : Held b n after
+  pub inputsKept : inputsIn after ≡ inputsIn w
+  pub outside : (p : ℕ) → Apart js p → pairAt after p ≡ pairAt w p
   pub lanewise : (s : ℕ) → s < lanesOf n
-      → map (lane s) (gatesIn n (gateCount b) zeros′ ones′)
-      ≡ run b (map (lane s) (inputsIn n zeros ones)) js (map (lane s) (gatesIn n (gateCount b) zeros ones))
+      → map (lane s) (gatesIn (gateCount b) after) ≡ run b (map (lane s) (inputsIn w)) js (map (lane s) (gatesIn (gateCount b) w))
 
 -- ---- one group, for the settings of the batch at `base`
 
@@ -65,69 +65,67 @@ pub record Least (b : Block) (group : List ℕ) (p : ℕ) : Type 0 where
   pub fewer : (p ≡ 1) ⊎ (areEnough b group (p - 1) ≡ false)
 
 -- at every lane the gates have the values that so many passes leave
-pub record Passed (b : Block) (n base : ℕ) (group : List ℕ) (p : ℕ) (zeros ones : List ℕ) : Type 0 where
-  pub held : Held b n zeros ones
-  pub setting : (s : ℕ) → s < lanesOf n → map (lane s) (inputsIn n zeros ones) ≡ settingOf (inputCount b) (base + s)
-  pub lanewise : (s : ℕ) → s < lanesOf n → map (lane s) (gatesIn n (gateCount b) zeros ones) ≡ afterPasses b group (base + s) p
+pub record Passed (b : Block) (n base : ℕ) (group : List ℕ) (p : ℕ) (w : List ℕ) : Type 0 where
+  pub held : Held b n w
+  pub inputs : inputsIn w ≡ startInputs n base
+  pub lanewise : (s : ℕ) → s < lanesOf n → map (lane s) (gatesIn (gateCount b) w) ≡ afterPasses b group (base + s) p
 
 -- the settled pairs of the group's gates
-pub record Kept (b : Block) (n base : ℕ) (group zeros ones : List ℕ) : Type 0 where
-  pub sameLong : length zeros ≡ length ones
-  pub proper : ProperAt n group zeros ones
+pub record Kept (b : Block) (n base : ℕ) (group w : List ℕ) : Type 0 where
+  pub proper : ProperAt (lanesOf n) group w
   pub settledAt : (s : ℕ) → s < lanesOf n → (j : ℕ) → member j group ≡ true
-      → lane s (pairAt zeros ones (n + j)) ≡ getD (settledUnder b (base + s)) j undefined
+      → lane s (pairAt w (firstGate + j)) ≡ getD (settledUnder b (base + s)) j undefined
 
--- a batch of settings, and a group of some gates
-pub record GroupBatch (ws : List ℕ) (nodes : Nodes) (base : ℕ) (group : List ℕ) : Type 0 where
-  pub evaluable : Evaluable ws nodes group
-  pub aligned : base % 64 ≡ 0
-  pub whole : base + lanesOf (nodes .inputs) ≤ settingCount (decode ws)
-  pub sizeSome : 0 < length group
-  pub sizeFew : length group ≤ maxGates
+-- a batch of a block's settings, and a group of some gates
+pub record GroupBatch (ws graph members : List ℕ) (turn : Turn) : Type 0 where
+  pub whole : isMalformed ws ≡ false
+  pub decoded : Decoded (decode ws) (gateCount (decode ws)) graph
+  pub aligned : turn .base % 64 ≡ 0
+  pub settings : turn .base + lanesOf (getD ws 0 0) ≤ settingCount (decode ws)
+  pub positions : OrderPart (gateCount (decode ws)) members (turn .from) (turn .end)
+  pub some : turn .from < turn .end
 
 -- the passes counted so far, and the copies of all groups
-pub record SoFar (b : Block) (group : List ℕ) (p total : ℕ) : Type 0 where
-  pub least : Least b group p
-  pub part : length group * p ≤ total
-  pub most : total ≤ maxCopies + maxCopies
+pub record SoFar (b : Block) (group : List ℕ) (c : Counted) : Type 0 where
+  pub least : Least b group (c .passes)
+  pub copies : length group * c .passes ≤ c .total
+  pub most : c .total ≤ maxCopies + maxCopies
 
-pub record PassReady (ws : List ℕ) (nodes : Nodes) (base : ℕ) (group : List ℕ) (p total : ℕ) (zeros ones settledZeros settledOnes : List ℕ) : Type 0 where
-  pub batch : GroupBatch ws nodes base group
-  pub soFar : SoFar (decode ws) group p total
-  pub passed : Passed (decode ws) (nodes .inputs) base group p zeros ones
-  pub kept : Kept (decode ws) (nodes .inputs) base group settledZeros settledOnes
+pub record PassReady (ws graph members : List ℕ) (turn : Turn) (c : Counted) (w settled : List ℕ) : Type 0 where
+  pub batch : GroupBatch ws graph members turn
+  pub soFar : SoFar (decode ws) (groupOf members turn) c
+  pub passed : Passed (decode ws) (getD ws 0 0) (turn .base) (groupOf members turn) (c .passes) w
+  pub kept : Kept (decode ws) (getD ws 0 0) (turn .base) (groupOf members turn) settled
 
 -- r are the passes needed for the settings before and for those of the batch, unless the copies are too many
-pub record GroupCounted (b : Block) (n base : ℕ) (group : List ℕ) (p total : ℕ) (r : Counted) : Type 0 where
-  pub more : p ≤ r .passes
-  pub totalIs : r .total + length group * p ≡ total + length group * r .passes
-  pub soFar : SoFar b group (r .passes) (r .total)
+pub record GroupCounted (b : Block) (n base : ℕ) (group : List ℕ) (c r : Counted) : Type 0 where
+  pub more : c .passes ≤ r .passes
+  pub totalIs : r .total + length group * c .passes ≡ c .total + length group * r .passes
+  pub soFar : SoFar b group r
   pub enough : r .total ≤ maxCopies → (s : ℕ) → s < lanesOf n → isExcluded b (base + s) ≡ false → areSettled b group (base + s) (r .passes) ≡ true
 
-pub record MorePasses (b : Block) (n base : ℕ) (group : List ℕ) (p total : ℕ) (zeros ones zeros′ ones′ : List ℕ) (r : Counted) : Type 0 where
-  pub counted : GroupCounted b n base group p total r
-  pub zerosLong : length zeros′ ≡ length zeros
-  pub onesLong : length ones′ ≡ length ones
-  pub zerosOutside : (k : ℕ) → Apart n group k → getD zeros′ k 0 ≡ getD zeros k 0
-  pub onesOutside : (k : ℕ) → Apart n group k → getD ones′ k 0 ≡ getD ones k 0
+pub record MorePasses (b : Block) (n base : ℕ) (group : List ℕ) (c : Counted) (w after : List ℕ) (r : Counted) : Type 0 where
+  pub counted : GroupCounted b n base group c r
+  pub long : length after ≡ length w
+  pub outside : (p : ℕ) → Apart group p → pairAt after p ≡ pairAt w p
 
-pub record GroupReady (ws : List ℕ) (nodes : Nodes) (base : ℕ) (group : List ℕ) (p total : ℕ) (zeros ones settledZeros settledOnes : List ℕ) : Type 0 where
-  pub batch : GroupBatch ws nodes base group
-  pub soFar : SoFar (decode ws) group p total
-  pub settled : BatchSettled (decode ws) (nodes .inputs) base zeros ones
-  pub zerosRoom : length settledZeros ≡ length zeros
-  pub onesRoom : length settledOnes ≡ length ones
+pub record GroupReady (ws graph members : List ℕ) (turn : Turn) (c : Counted) (w kept : List ℕ) : Type 0 where
+  pub batch : GroupBatch ws graph members turn
+  pub soFar : SoFar (decode ws) (groupOf members turn) c
+  pub settled : LanesSettled (decode ws) (getD ws 0 0) (turn .base) w
+  pub room : length kept ≡ laneSize
 
 -- ---- all groups
 
 -- group g stands in `members` from `starts[g]` up to `starts[g + 1]`
 pub record Listing (b : Block) (count : ℕ) (members starts : List ℕ) : Type 0 where
   pub countIs : count ≡ length (groups b)
-  pub membersLong : length members ≡ sum (map length (groups b))
-  pub few : length members ≤ maxGates
+  pub membersLong : gateCount b ≡ sum (map length (groups b))
+  pub few : gateCount b ≤ maxGates
+  pub fewGroups : count ≤ maxGates
   pub ordered : (g : ℕ) → g < count → getD starts g 0 ≤ getD starts (g + 1) 0
-  pub within : (g : ℕ) → g < count → getD starts (g + 1) 0 ≤ length members
-  pub part : (g : ℕ) → g < count → take (getD starts (g + 1) 0 - getD starts g 0) (drop (getD starts g 0) members) ≡ groupAt b g
+  pub within : (g : ℕ) → g < count → getD starts (g + 1) 0 ≤ gateCount b
+  pub groupIs : (g : ℕ) → g < count → part false members (getD starts g 0) (getD starts (g + 1) 0) ≡ groupAt b g
 
 -- the copies when the passes of each group are these
 unfoldable pub copiesOf : Block → ℕ → List ℕ → ℕ
@@ -146,6 +144,10 @@ pub record Counting (b : Block) (count base done next : ℕ) (passes : List ℕ)
   pub before : total ≤ maxCopies → (g : ℕ) → g < count → EnoughBelow b (groupAt b g) base (getD passes g 0)
   pub inside : total ≤ maxCopies → (g : ℕ) → g < done → EnoughBelow b (groupAt b g) next (getD passes g 0)
 
+-- each group starts and ends among the gates that a block may have
+abbrev pub StartsFew : ℕ → List ℕ → Type 0
+StartsFew count starts = (g : ℕ) → g < count → (getD starts g 0 ≤ maxGates) × (getD starts (g + 1) 0 ≤ maxGates)
+
 -- each group has as many passes as gates
 abbrev pub Full : ℕ → List ℕ → List ℕ → Type 0
 Full count starts passes = (g : ℕ) → g < count → getD starts (g + 1) 0 ≤ getD starts g 0 + getD passes g 0
@@ -155,23 +157,34 @@ pub record SameRest (count : ℕ) (entry words : List ℕ) : Type 0 where
   pub long : length words ≡ length entry
   pub rest : (g : ℕ) → count ≤ g → getD words g 0 ≡ getD entry g 0
 
--- the groups, and a word for each, and for each node
-pub record Rooms (b : Block) (count : ℕ) (members starts passes zeros ones settledZeros settledOnes : List ℕ) : Type 0 where
-  pub listing : Listing b count members starts
-  pub passesRoom : count ≤ length passes
-  pub zerosRoom : length settledZeros ≡ length zeros
-  pub onesRoom : length settledOnes ≡ length ones
-
--- the settled pairs of the batch at `base`
-pub record BatchHeld (ws : List ℕ) (nodes : Nodes) (base : ℕ) (zeros ones : List ℕ) : Type 0 where
-  pub legible : Legible ws nodes
-  pub fewInputs : nodes .inputs ≤ maxInputs
-  pub aligned : base % 64 ≡ 0
-  pub whole : base + lanesOf (nodes .inputs) ≤ settingCount (decode ws)
-  pub settled : BatchSettled (decode ws) (nodes .inputs) base zeros ones
+-- the settled values of the batch at `base`
+pub record BatchHeld (ws graph : List ℕ) (base : ℕ) (w : List ℕ) : Type 0 where
+  pub judged : Judged ws (getD ws 0 0) base w
+  pub decoded : Decoded (decode ws) (gateCount (decode ws)) graph
+  pub settings : base + lanesOf (getD ws 0 0) ≤ settingCount (decode ws)
 
 -- Each group's passes, and the copies that they make; where those are too many, a number above the limit is told.
 pub record AllCounted (b : Block) (entry passes : List ℕ) (total : ℕ) : Type 0 where
   pub tells : ltb maxCopies total ≡ ltb maxCopies (copyCount b)
   pub totalIs : total ≤ maxCopies → total ≡ copyCount b
   pub passesAre : total ≤ maxCopies → passes ≡ placed (map (passCount b) (groups b)) entry
+
+-- ---- the walk over batches
+
+-- `lowest` is the lowest setting below `base` that may come and is not settled, or the number of settings, where there is none
+pub record LowestBelow (b : Block) (base lowest : ℕ) : Type 0 where
+  pub within : lowest ≤ settingCount b
+  pub known : lowest < settingCount b → lowest < base
+  pub before : (i : ℕ) → i < base → i < lowest → isSoundAt b i ≡ true
+  pub found : lowest < settingCount b → isSoundAt b lowest ≡ false
+
+-- what was found in the batches before the one at `next`
+pub record WalkedBatch (b : Block) (count next : ℕ) (entry passes : List ℕ) (r : Found) : Type 0 where
+  pub counting : Counting b count next 0 next passes (r .total)
+  pub same : SameRest count entry passes
+  pub lowest : LowestBelow b next (r .lowest)
+
+-- what was found in all of them; the lowest setting is told where the copies are not too many
+pub record Walked (b : Block) (entry passes : List ℕ) (r : Found) : Type 0 where
+  pub counted : AllCounted b entry passes (r .total)
+  pub lowest : r .total ≤ maxCopies → r .lowest ≡ lowestUnsettled b

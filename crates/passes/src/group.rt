@@ -1,164 +1,93 @@
-// The passes that one group needs for the settings of a batch. `zeros` and `ones` have a word for each input and each gate of the block; `used` has a
-// bit at each lane in use.
+// The passes that one group needs for the settings of a batch, whose settled values `lanes` holds.
 use crate::Counted;
+use crate::Turn;
+use crate::pairs::clear_pairs;
 use crate::pairs::lacks;
 use crate::pairs::put_pairs;
-use batch::in_place::sweep;
-use lanes::inputs::used_lanes;
+use batch::layered::sweep_part;
+use graph::GRAPH_WORDS;
+use lanes::LANE_WORDS;
 use layout::limits::MAX_GATES;
-use layout::nodes::Nodes;
 ghost use mathlib.Core.Path.{_≡_};
+ghost use mathlib.Core.Bool.{false};
+ghost use lib.ListN.{length, getD};
 ghost use Rattle.laws.specs.Lists.{repeated};
 ghost use Rattle.netlist.specs.StoredBlock.{decode};
-ghost use Rattle.lanes.specs.Pairs.{full};
-ghost use Rattle.lanes.specs.Batches.{lanesOf};
-ghost use Rattle.passes.specs.Counting.{Evaluable, Held, Stepped, PassReady, MorePasses, GroupReady, GroupCounted};
+ghost use Rattle.batch.specs.Layered.{Part, part};
+ghost use Rattle.passes.specs.Pairs.{groupOf};
+ghost use Rattle.passes.specs.Counting.{Ran, PassReady, MorePasses, GroupReady, GroupCounted};
 
-// One pass: evaluates the gates listed, each pair stored at once.
-fn pass(words: &[u16], nodes: Nodes, used: u64, group: &[u16], zeros: &mut [u64], ones: &mut [u64])
-    requires { ⌜ Evaluable (now words) nodes (now group) × (used ≡ full (lanesOf (nodes .inputs)))
-        × Held (decode (now words)) (nodes .inputs) (now zeros) (now ones) ⌝ }
-    ensures { λ r. ⌜
-        Stepped (decode (now (words .entry))) (nodes .inputs) (now (group .entry)) (now (zeros .entry)) (now (ones .entry)) (now (zeros .exit))
-        (now (ones .exit))
-        ⌝ }
-{
-    sweep(words, nodes, used, group, false, zeros, ones);
-}
-
-// So many passes.
+// So many passes: evaluates the gates listed, each pair stored at once.
 fn run_passes(
-    words: &[u16],
-    nodes: Nodes,
-    used: u64,
-    group: &[u16],
+    graph: &[u16; GRAPH_WORDS],
+    members: &[u16; MAX_GATES],
+    from: usize,
+    end: usize,
     passes: usize,
-    zeros: &mut [u64],
-    ones: &mut [u64],
+    lanes: &mut [u64; LANE_WORDS],
 )
-    requires { ⌜ Evaluable (now words) nodes (now group) × (used ≡ full (lanesOf (nodes .inputs)))
-        × Held (decode (now words)) (nodes .inputs) (now zeros) (now ones) ⌝ }
+    requires { ⌜ Part (now graph) (now members) from end ⌝ }
     ensures { λ r. ⌜
-        Stepped (decode (now (words .entry))) (nodes .inputs) (repeated passes (now (group .entry))) (now (zeros .entry)) (now (ones .entry))
-        (now (zeros .exit))
-        (now (ones .exit))
+        Ran (now (graph .entry)) (repeated passes (part false (now (members .entry)) from end)) (now (lanes .entry)) (now (lanes .exit))
         ⌝ }
 {
     let mut p = 0;
     while p < passes {
-        pass(words, nodes, used, group, zeros, ones);
+        sweep_part(graph, members, from, end, false, lanes);
         p += 1;
     }
 }
 
-// Further passes until every gate of the group has its settled pair at each lane that may come, or the copies are too many.
+// Further passes until every gate of the group has its settled pair, which `kept` holds, at each lane that may come, or the copies are too many.
 fn more_passes(
     words: &[u16],
-    nodes: Nodes,
-    base: usize,
-    group: &[u16],
-    passes: usize,
-    total: usize,
-    zeros: &mut [u64],
-    ones: &mut [u64],
-    settled_zeros: &[u64],
-    settled_ones: &[u64],
+    graph: &[u16; GRAPH_WORDS],
+    members: &[u16; MAX_GATES],
+    turn: Turn,
+    counted: Counted,
+    lanes: &mut [u64; LANE_WORDS],
+    kept: &[u64; LANE_WORDS],
 ) -> Counted
-    requires { ⌜ PassReady (now words) nodes base (now group) passes total (now zeros) (now ones) (now «settled_zeros») (now «settled_ones») ⌝ }
+    requires { ⌜ PassReady (now words) (now graph) (now members) turn counted (now lanes) (now kept) ⌝ }
     ensures { λ r. ⌜
-        MorePasses (decode (now (words .entry))) (nodes .inputs) base (now (group .entry)) passes total (now (zeros .entry)) (now (ones .entry))
-        (now (zeros .exit))
-        (now (ones .exit)) r
+        MorePasses (decode (now (words .entry))) (getD (now (words .entry)) 0 0) (turn .base) (groupOf (now (members .entry)) turn) counted
+        (now (lanes .entry)) (now (lanes .exit)) r
         ⌝ }
 {
-    let used = used_lanes(nodes.inputs);
-    let size = group.len();
-    let mut needed = passes;
-    let mut sum = total;
-    while sum <= MAX_GATES
-        && lacks(
-            words,
-            nodes.inputs,
-            base,
-            group,
-            zeros,
-            ones,
-            settled_zeros,
-            settled_ones,
-        )
-    {
-        pass(words, nodes, used, group, zeros, ones);
-        needed += 1;
-        sum += size;
+    let size = turn.end - turn.from;
+    let mut passes = counted.passes;
+    let mut total = counted.total;
+    while total <= MAX_GATES && lacks(words, members, turn, lanes, kept) {
+        sweep_part(graph, members, turn.from, turn.end, false, lanes);
+        passes += 1;
+        total += size;
     }
-    Counted {
-        passes: needed,
-        total: sum,
-    }
+    Counted { passes, total }
 }
 
-// The passes that the group needs when `passes` are needed for earlier settings, and the copies when they were `total`. `zeros` and `ones` are
-// the settled pairs, and are so again at the end.
+// The passes that the group needs when `counted.passes` are needed for earlier settings, and the copies when they were `counted.total`. `lanes` holds the
+// settled values, and does so again at the end; `kept` has the group's in between.
 pub fn count_group(
     words: &[u16],
-    nodes: Nodes,
-    base: usize,
-    group: &[u16],
-    passes: usize,
-    total: usize,
-    zeros: &mut [u64],
-    ones: &mut [u64],
-    settled_zeros: &mut [u64],
-    settled_ones: &mut [u64],
+    graph: &[u16; GRAPH_WORDS],
+    members: &[u16; MAX_GATES],
+    turn: Turn,
+    counted: Counted,
+    lanes: &mut [u64; LANE_WORDS],
+    kept: &mut [u64; LANE_WORDS],
 ) -> Counted
-    requires { ⌜ GroupReady (now words) nodes base (now group) passes total (now zeros) (now ones) (now «settled_zeros») (now «settled_ones») ⌝ }
-    ensures counted { λ r. ⌜ GroupCounted (decode (now (words .entry))) (nodes .inputs) base (now (group .entry)) passes total r ⌝ }
-    ensures kept { λ r. ⌜ (now (zeros .exit) ≡ now (zeros .entry)) × (now (ones .exit) ≡ now (ones .entry)) ⌝ }
+    requires { ⌜ GroupReady (now words) (now graph) (now members) turn counted (now lanes) (now kept) ⌝ }
+    ensures counted { λ r. ⌜
+        GroupCounted (decode (now (words .entry))) (getD (now (words .entry)) 0 0) (turn .base) (groupOf (now (members .entry)) turn) counted r
+        ⌝ }
+    ensures kept { λ r. ⌜ (now (lanes .exit) ≡ now (lanes .entry)) × (length (now (kept .exit)) ≡ length (now (kept .entry))) ⌝ }
 {
-    put_pairs(
-        nodes.inputs,
-        group,
-        zeros,
-        ones,
-        settled_zeros,
-        settled_ones,
-    );
-    put_pairs(
-        nodes.inputs,
-        group,
-        &settled_zeros[..0],
-        &settled_ones[..0],
-        zeros,
-        ones,
-    );
-    run_passes(
-        words,
-        nodes,
-        used_lanes(nodes.inputs),
-        group,
-        passes,
-        zeros,
-        ones,
-    );
-    let counted = more_passes(
-        words,
-        nodes,
-        base,
-        group,
-        passes,
-        total,
-        zeros,
-        ones,
-        settled_zeros,
-        settled_ones,
-    );
-    put_pairs(
-        nodes.inputs,
-        group,
-        settled_zeros,
-        settled_ones,
-        zeros,
-        ones,
-    );
-    counted
+    let from = turn.from;
+    let end = turn.end;
+    put_pairs(members, from, end, lanes, kept);
+    clear_pairs(members, from, end, lanes);
+    run_passes(graph, members, from, end, counted.passes, lanes);
+    let needed = more_passes(words, graph, members, turn, counted, lanes, kept);
+    put_pairs(members, from, end, kept, lanes);
+    needed
 }

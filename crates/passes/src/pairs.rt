@@ -1,100 +1,118 @@
-// The pairs of a group's gates: put where others stand, and compared with others. Gate j's pair is at n + j.
+// The pairs of a group's gates: put where others stand, cleared, and compared with others. The gates are `members[from..end]`; gate j's pair stands at place
+// FIRST_GATE + j.
+use crate::Turn;
+use graph::FIRST_GATE;
 use judge::nevers::coming_lanes;
-use lanes::gate::pair_at;
+use lanes::LANE_WORDS;
+use lanes::Pair;
+use lanes::evaluate::pair_at;
+use lanes::evaluate::put_pair;
+use layout::limits::MAX_GATES;
+use layout::offsets::inputs_of;
 ghost use mathlib.Core.Path.{_≡_};
-ghost use Prim.Native.Nat.{_+_, _%_, _≤_};
+ghost use mathlib.Core.Bool.{false};
+ghost use mathlib.Core.List.{[]};
+ghost use Prim.Native.Nat.{_%_, _≤_, _<_};
 ghost use lib.ListN.{length, getD};
-ghost use Rattle.netlist.specs.Limits.{maxInputs};
+ghost use Rattle.netlist.specs.Limits.{maxInputs, maxGates};
 ghost use Rattle.netlist.specs.StoredBlock.{decode};
+ghost use Rattle.graph.specs.Places.{placeCount};
 ghost use Rattle.lanes.specs.Batches.{lanesOf};
-ghost use Rattle.lanes.specs.Nodes.{pairAt};
-ghost use Rattle.lanes.specs.Words.{Tells};
-ghost use Rattle.passes.specs.Pairs.{Put, GatesIn, differenceOf, ProperAt, differAt, Lacks};
+ghost use Rattle.lanes.specs.LaneWords.{laneSize, pairAt};
+ghost use Rattle.batch.specs.Layered.{OrderPart, part};
+ghost use Rattle.passes.specs.Pairs.{Put, differenceOf, ProperAt, Differs, groupOf, Lacks};
 
-// Stores the pairs that the group's gates have in a source, undefined past its end.
+// Stores the pairs that the group's gates have in a source.
 pub fn put_pairs(
-    n: usize,
-    group: &[u16],
-    source_zeros: &[u64],
-    source_ones: &[u64],
-    zeros: &mut [u64],
-    ones: &mut [u64],
+    members: &[u16; MAX_GATES],
+    from: usize,
+    end: usize,
+    source: &[u64; LANE_WORDS],
+    lanes: &mut [u64; LANE_WORDS],
 )
-    requires { ⌜ (length (now «source_zeros») ≡ length (now «source_ones»)) × (n ≤ maxInputs) ⌝ }
-    requires { ⌜ GatesIn n (now group) (now zeros) × (length (now zeros) ≡ length (now ones)) ⌝ }
-    ensures zeros_put { λ r. ⌜ Put n (now (group .entry)) (now («source_zeros» .entry)) (now (zeros .entry)) (now (zeros .exit)) ⌝ }
-    ensures ones_put { λ r. ⌜ Put n (now (group .entry)) (now («source_ones» .entry)) (now (ones .entry)) (now (ones .exit)) ⌝ }
+    requires { ⌜ OrderPart maxGates (now members) from end × (length (now lanes) ≡ laneSize) ⌝ }
+    ensures { λ r. ⌜ Put (part false (now (members .entry)) from end) (now (source .entry)) (now (lanes .entry)) (now (lanes .exit)) ⌝ }
 {
-    let mut i = 0;
-    while i < group.len() {
-        let k = n + group[i] as usize;
-        let pair = pair_at(source_zeros, source_ones, k);
-        zeros[k] = pair.zeros;
-        ones[k] = pair.ones;
+    let mut i = from;
+    while i < end {
+        let place = FIRST_GATE + members[i] as usize;
+        put_pair(lanes, place, pair_at(source, place));
         i += 1;
     }
 }
 
-// The lanes at which node `k` has another value in one state than in the other.
-fn difference(k: usize, zeros: &[u64], ones: &[u64], other_zeros: &[u64], other_ones: &[u64]) -> u64
-    requires { ⌜ (length (now zeros) ≡ length (now ones)) × (length (now «other_zeros») ≡ length (now «other_ones»)) ⌝ }
-    ensures { λ r. ⌜
-        r ≡ differenceOf (pairAt (now (zeros .entry)) (now (ones .entry)) k) (pairAt (now («other_zeros» .entry)) (now («other_ones» .entry)) k)
-        ⌝ }
+// Makes the group's gates undefined at every lane.
+pub fn clear_pairs(
+    members: &[u16; MAX_GATES],
+    from: usize,
+    end: usize,
+    lanes: &mut [u64; LANE_WORDS],
+)
+    requires { ⌜ OrderPart maxGates (now members) from end × (length (now lanes) ≡ laneSize) ⌝ }
+    ensures { λ r. ⌜ Put (part false (now (members .entry)) from end) [] (now (lanes .entry)) (now (lanes .exit)) ⌝ }
 {
-    let here = pair_at(zeros, ones, k);
-    let there = pair_at(other_zeros, other_ones, k);
+    let mut i = from;
+    while i < end {
+        put_pair(
+            lanes,
+            FIRST_GATE + members[i] as usize,
+            Pair { zeros: 0, ones: 0 },
+        );
+        i += 1;
+    }
+}
+
+// The lanes at which what stands at a place has another value in `lanes` than in `kept`.
+fn difference(place: usize, lanes: &[u64; LANE_WORDS], kept: &[u64; LANE_WORDS]) -> u64
+    requires { ⌜ place < placeCount ⌝ }
+    ensures { λ r. ⌜ r ≡ differenceOf (pairAt (now (lanes .entry)) place) (pairAt (now (kept .entry)) place) ⌝ }
+{
+    let here = pair_at(lanes, place);
+    let there = pair_at(kept, place);
     (here.zeros ^ there.zeros) | (here.ones ^ there.ones)
 }
 
 // The lanes at which some gate of the group has.
 fn differing_lanes(
-    n: usize,
-    group: &[u16],
-    zeros: &[u64],
-    ones: &[u64],
-    other_zeros: &[u64],
-    other_ones: &[u64],
+    members: &[u16; MAX_GATES],
+    from: usize,
+    end: usize,
+    lanes: &[u64; LANE_WORDS],
+    kept: &[u64; LANE_WORDS],
 ) -> u64
-    requires { ⌜ (length (now zeros) ≡ length (now ones)) × (length (now «other_zeros») ≡ length (now «other_ones»)) × (n ≤ maxInputs) ⌝ }
-    requires { ⌜ ProperAt n (now group) (now zeros) (now ones) × ProperAt n (now group) (now «other_zeros») (now «other_ones») ⌝ }
-    ensures { λ r. ⌜
-        Tells (lanesOf n) 0
-        (differAt n (now (group .entry)) (now (zeros .entry)) (now (ones .entry)) (now («other_zeros» .entry)) (now («other_ones» .entry))) r
-        ⌝ }
+    requires { ⌜ OrderPart maxGates (now members) from end ⌝ }
+    ensures { λ r. ⌜ Differs (part false (now (members .entry)) from end) (now (lanes .entry)) (now (kept .entry)) r ⌝ }
 {
     let mut differing = 0u64;
-    let mut i = 0;
-    while i < group.len() {
-        let k = n + group[i] as usize;
-        differing = differing | difference(k, zeros, ones, other_zeros, other_ones);
+    let mut i = from;
+    while i < end {
+        differing = differing | difference(FIRST_GATE + members[i] as usize, lanes, kept);
         i += 1;
     }
     differing
 }
 
-// Has some gate of the group another value under a setting that may come? The batch starts at setting number `base`.
+// Has some gate of the group another value in `lanes` than in `kept`, under a setting of the batch that may come?
 pub fn lacks(
     words: &[u16],
-    n: usize,
-    base: usize,
-    group: &[u16],
-    zeros: &[u64],
-    ones: &[u64],
-    other_zeros: &[u64],
-    other_ones: &[u64],
+    members: &[u16; MAX_GATES],
+    turn: Turn,
+    lanes: &[u64; LANE_WORDS],
+    kept: &[u64; LANE_WORDS],
 ) -> bool
-    requires { ⌜ (length (now zeros) ≡ length (now ones)) × (length (now «other_zeros») ≡ length (now «other_ones»)) × (n ≤ maxInputs)
-        × (base % 64 ≡ 0) × (n ≡ getD (now words) 0 0) ⌝ }
-    requires { ⌜ ProperAt n (now group) (now zeros) (now ones) × ProperAt n (now group) (now «other_zeros») (now «other_ones») ⌝ }
+    requires { ⌜ OrderPart maxGates (now members) (turn .from) (turn .end) × (getD (now words) 0 0 ≤ maxInputs) × (turn .base % 64 ≡ 0) ⌝ }
+    requires { ⌜
+        ProperAt (lanesOf (getD (now words) 0 0)) (groupOf (now members) turn) (now lanes)
+        × ProperAt (lanesOf (getD (now words) 0 0)) (groupOf (now members) turn) (now kept)
+        ⌝ }
     ensures { λ r. ⌜
-        Lacks (decode (now (words .entry))) n base (now (group .entry)) (now (zeros .entry)) (now (ones .entry)) (now («other_zeros» .entry))
-        (now («other_ones» .entry)) r
+        Lacks (decode (now (words .entry))) (getD (now (words .entry)) 0 0) (turn .base) (groupOf (now (members .entry)) turn) (now (lanes .entry))
+        (now (kept .entry)) r
         ⌝ }
 {
-    let differing = differing_lanes(n, group, zeros, ones, other_zeros, other_ones);
+    let differing = differing_lanes(members, turn.from, turn.end, lanes, kept);
     if differing == 0 {
         return false;
     }
-    coming_lanes(words, n, base) & differing != 0
+    coming_lanes(words, inputs_of(words), turn.base) & differing != 0
 }

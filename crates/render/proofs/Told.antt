@@ -10,15 +10,15 @@ use lib.ListN.{length, getD, take, length-map, List·getD-append}
 use lib.Seq.{take-at}
 use lib.Dec.{ltb}
 use borrow.Author.Tests.{lt-ltb, le-ltb}
-use Rattle.laws.specs.Lists.{joined, placed}
+use Rattle.laws.specs.Lists.{placed}
 use Rattle.laws.proofs.Lists.{length-joined}
 use Rattle.laws.proofs.Tests.{lt-or-le, not-both}
 use Rattle.laws.proofs.Least.{least-le}
 use Rattle.refusals.specs.declared.Test.{Test}
 use Rattle.netlist.specs.declared.Refusal.the-variants.{NotSettled}
-use Rattle.netlist.specs.Limits.{maxGates, maxCopies}
+use Rattle.netlist.specs.Limits.{maxGates}
 use Rattle.netlist.specs.Netlist.{Block}
-use Rattle.netlist.specs.StoredBlock.{outputsAt, encode, decode, isMalformed}
+use Rattle.netlist.specs.StoredBlock.{outputsAt, encode, decode}
 use Rattle.netlist.specs.Rounds.{settingCount, isSoundAt, lowestUnsettled}
 use Rattle.netlist.specs.Cover.{isSound}
 use Rattle.netlist.specs.Groups.{groups}
@@ -26,16 +26,16 @@ use Rattle.netlist.specs.Passes.{passCount, copyCount}
 use Rattle.netlist.specs.Rendering.{rendering, schedule}
 use Rattle.refusals.specs.Tests.{testOf}
 use Rattle.encoding.proofs.ListFacts.{getD-map}
-use Rattle.encoding.proofs.Readers.{whole-parts}
 use Rattle.encoding.proofs.Encoded.{length-encode}
 use Rattle.encoding.proofs.Decoded.{decode-inputCount, decode-outputCount, decode-neverCount}
 use Rattle.agreement.proofs.Block.{rendering-count, rendering-inputs, rendering-nevers, length-rendering-outputs, length-schedule-is}
 use Rattle.assignments.proofs.Blocks.{sound-lowest, lowest-sound}
-use Rattle.reach.proofs.Order.{length-groups}
-use Rattle.passes.specs.Counting.{Listing}
-use Rattle.schedule.specs.Listing.{Numbers, PassesAre, GatesAppended, membersOf, planOf, ListReady, GroupsListed}
+use Rattle.batch.specs.Batch.{placeOf}
+use Rattle.batch.specs.Layered.{part}
+use Rattle.schedule.specs.Listing.{Numbers, PassesAre, GatesAppended, membersOf, partOf, partsOf, ListReady, GroupsListed}
 use Rattle.schedule.proofs.Listing.{front}
-use Rattle.schedule.proofs.Blocks.{count-few, plan-schedule, members-groups, members-long, members-front, starts-next, starts-within, starts-part}
+use Rattle.schedule.proofs.Blocks.{count-few, members-groups, members-long, group-part, group-bounds, parts-schedule}
+use Rattle.render.specs.Tests.{Listed, CopiesReady}
 
 -- ---- the settings
 
@@ -87,13 +87,14 @@ rendered-size ws n lines k total size en el ek et es =
 pub schedule-length : (ws : List ℕ) (total : ℕ) → total ≡ copyCount (decode ws) → length (schedule (decode ws)) ≡ total
 schedule-length ws total et = length-schedule-is (decode ws) ∙ rendering-count (decode ws) ∙ sym et
 
-pub scheduled : (ws numbers passes : List ℕ) (count total : ℕ) (entry order : List ℕ) (at : ℕ)
-    → Numbers (decode ws) (getD ws 1 0) count numbers → PassesAre (decode ws) count passes → total ≡ copyCount (decode ws) → total ≤ maxCopies
-    → maxGates ≤ length entry → GatesAppended (planOf numbers passes (getD ws 1 0) count) entry 0 order at → take total order ≡ schedule (decode ws)
-scheduled ws numbers passes count total entry order at a p et few room e =
-    let len : length (schedule (decode ws)) ≡ total = schedule-length ws total et in
-    let fits : length (planOf numbers passes (getD ws 1 0) count) ≤ length entry = rw (plan-schedule a passes p, len) (omega arith) in
-    rw (front e fits, plan-schedule a passes p) (take-at (schedule (decode ws)) _ total len)
+-- the copies written one behind the other are the schedule
+pub scheduled : (ws : List ℕ) {members starts passes entry order : List ℕ} {count total at : ℕ} → CopiesReady ws count members starts passes total
+    → maxGates ≤ length entry → GatesAppended (partsOf members starts passes count) entry 0 order at → take total order ≡ schedule (decode ws)
+scheduled ws {members} {starts} {passes} {entry} {order} {count} {total} r room e =
+    let len : length (schedule (decode ws)) ≡ total = schedule-length ws total (r .totalIs) in
+    let few = r .fits in
+    let fits : length (partsOf members starts passes count) ≤ length entry = rw (r .copies, len) (omega arith) in
+    rw (front e fits, r .copies) (take-at (schedule (decode ws)) _ total len)
 
 -- the passes that are counted, group by group
 pub passes-placed : (b : Block) (count : ℕ) (entry passes : List ℕ) → count ≡ length (groups b) → passes ≡ placed (map (passCount b) (groups b)) entry
@@ -106,33 +107,33 @@ passes-placed b count entry passes c e g l =
 
 -- room for the groups one after the other,
 pub groups-room : (ws : List ℕ) {m count : ℕ} {numbers members starts : List ℕ} → m ≡ getD ws 1 0 → Numbers (decode ws) (getD ws 1 0) count numbers
-    → getD ws 1 0 ≤ length members → getD ws 1 0 < length starts → ListReady numbers m count members starts
+    → length members ≡ maxGates → length starts ≡ maxGates + 1 → ListReady numbers m count members starts
 groups-room ws {m} {count} {numbers} e a members starts =
     let long : length (membersOf numbers m count) ≡ getD ws 1 0 = rw e (ap length (members-groups a) ∙ members-long a) in
-    record {
-      few = rw e (a .few);
-      fewGroups = count-few a;
-      fewMembers = rw long (a .few);
-      memberRoom = rw long members;
-      startRoom = omega (arith, a .countIs, length-groups (decode ws), a .gatesAre);
-    }
+    let few = a .few in
+    let groups = count-few a in
+    record { few = rw e (a .few); fewGroups = groups; fewMembers = rw long (a .few); memberRoom = rw (long, members) (a .few); startRoom = omega arith }
 
 -- and what stands there then
 pub groups-listed : (ws : List ℕ) {m count r : ℕ} {numbers entry members starts : List ℕ} → m ≡ getD ws 1 0
-    → Numbers (decode ws) (getD ws 1 0) count numbers → getD ws 1 0 ≤ length entry → GroupsListed numbers m count entry members starts r
-    → Listing (decode ws) count (take (getD ws 1 0) members) starts
+    → Numbers (decode ws) (getD ws 1 0) count numbers → length entry ≡ maxGates → GroupsListed numbers m count entry members starts r
+    → Listed (decode ws) count members starts
+unfolding part placeOf partOf
 groups-listed ws {m} {count} {r} {numbers} {entry} {members} {starts} e a room h =
     let l : GroupsListed numbers (getD ws 1 0) count entry members starts r = rw (← e) h in
-    let are : take (getD ws 1 0) members ≡ joined (groups (decode ws)) = members-front a l room in
+    let few = a .few in
+    let fits : getD ws 1 0 ≤ length entry = rw room few in
+    let gates = a .gatesAre in
     record {
-      countIs = a .countIs;
-      membersLong = rw are (length-joined (groups (decode ws)));
-      few = rw (are, members-long a) (a .few);
-      ordered = λ g k. omega (arith, starts-next a l g k);
-      within = λ g k. rw (are, members-long a) (starts-within a l g k);
-      part = λ g k. rw are (starts-part a l g k);
+      listing =
+          record {
+            countIs = a .countIs;
+            membersLong = sym gates ∙ sym (members-long a) ∙ length-joined (groups (decode ws));
+            few = omega arith;
+            fewGroups = count-few a;
+            ordered = λ g k. group-bounds a l fits g k .0;
+            within = λ g k. rw (← gates) (group-bounds a l fits g k .1);
+            groupIs = λ g k. group-part a l fits g k;
+          };
+      copies = λ passes p. parts-schedule a l fits passes p;
     }
-
--- an array of that many elements has room for every gate
-pub few-gates : (ws : List ℕ) {n : ℕ} → isMalformed ws ≡ false → maxGates ≤ n → getD ws 1 0 ≤ n
-few-gates ws whole l = omega (arith, whole-parts ws whole .fewGates)

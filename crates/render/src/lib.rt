@@ -1,7 +1,7 @@
 // Render (SPECIFICATION 7.9): the loop-free rendering of a block. specs/Promise.antt states the whole claim.
 use block::check_words;
+use graph::GRAPH_WORDS;
 use layout::limits::MAX_GATES;
-use layout::limits::MAX_INPUTS;
 use netlist::Answer;
 use refusals::Test;
 use refusals::refusal;
@@ -17,28 +17,20 @@ pub fn render(words: &[u16], rendered: &mut [u16]) -> Answer
     let Test::Passed = tested else {
         return refusal(tested);
     };
-    let mut numbers = [0u16; MAX_GATES];
+    let mut graph = [0u16; GRAPH_WORDS];
     let mut order = [0u16; MAX_GATES];
-    let mut newest = [0u16; MAX_GATES];
+    let mut ends = [0u16; MAX_GATES];
     let mut members = [0u16; MAX_GATES];
     let mut starts = [0u16; MAX_GATES + 1];
     let mut passes = [0u16; MAX_GATES];
-    let mut zeros = [0u64; MAX_INPUTS + MAX_GATES];
-    let mut ones = [0u64; MAX_INPUTS + MAX_GATES];
-    let mut settled_zeros = [0u64; MAX_INPUTS + MAX_GATES];
-    let mut settled_ones = [0u64; MAX_INPUTS + MAX_GATES];
     steps::render_with(
         words,
-        &mut numbers,
+        &mut graph,
         &mut order,
-        &mut newest,
+        &mut ends,
         &mut members,
         &mut starts,
         &mut passes,
-        &mut zeros,
-        &mut ones,
-        &mut settled_zeros,
-        &mut settled_ones,
         rendered,
     )
 }

@@ -1,11 +1,9 @@
-// The steps of Render: number the groups, count their passes, look for a setting that is not settled, write.
+// The steps of Render: order the gates and list the groups, walk over all settings once, and write.
 use batch::plan::plan_block;
 use copying::rendered::write_rendering;
 use graph::GRAPH_WORDS;
-use groups::assign::assign;
-use lanes::LANE_WORDS;
+use groups::numbering::number_groups;
 use layout::limits::MAX_GATES;
-use layout::nodes::nodes_of;
 use layout::offsets::OUTPUT_SIZE;
 use layout::offsets::gates_of;
 use layout::offsets::inputs_of;
@@ -14,214 +12,149 @@ use layout::offsets::outputs_behind;
 use layout::offsets::outputs_of;
 use netlist::Answer;
 use netlist::Refusal;
-use passes::batches::count_passes;
+use passes::walk::walk_batches;
 use refusals::Test;
 use refusals::refusal;
 use refusals::refuse_if;
 use refusals::test_room;
-use schedule::fill_schedule;
+use schedule::append_parts;
 use schedule::list_groups;
-use verdict::settings::lowest_unsettled;
 use verdict::settings::setting_count;
-use visiting::order_gates;
 ghost use mathlib.Core.Path.{_≡_};
 ghost use mathlib.Core.Bool.{false, not};
-ghost use lib.ListN.{length};
+ghost use Prim.Native.Nat.{_+_, _≤_};
+ghost use lib.ListN.{length, getD};
+ghost use Rattle.laws.specs.Lists.{placed};
+ghost use Rattle.netlist.specs.Limits.{maxGates};
 ghost use Rattle.netlist.specs.declared.Refusal.the-variants.{NotSettled};
-ghost use Rattle.netlist.specs.StoredBlock.{decode, isMalformed};
+ghost use Rattle.netlist.specs.StoredBlock.{encode, decode, isMalformed};
 ghost use Rattle.netlist.specs.Rounds.{lowestUnsettled};
 ghost use Rattle.netlist.specs.Cover.{isSound};
+ghost use Rattle.netlist.specs.Rendering.{rendering};
 ghost use Rattle.netlist.specs.Answers.{Promise};
 ghost use Rattle.refusals.specs.Tests.{testOf};
 ghost use Rattle.netlist.specs.Operations.{render};
-ghost use Rattle.lanes.specs.LaneWords.{laneSize};
-ghost use Rattle.batch.specs.Layered.{PlanRoom};
-ghost use Rattle.passes.specs.Counting.{AllCounted};
-ghost use Rattle.render.specs.Tests.{AlongReady, CopiesReady, RenderingReady, ArrayRoom};
+ghost use Rattle.graph.specs.Graph.{Decoded};
+ghost use Rattle.batch.specs.Layered.{Planned};
+ghost use Rattle.render.specs.Tests.{ListRoom, Listed, CopiesReady, RenderingReady};
 
-// The lowest setting that may come and is not settled, or 2^n, with room for the block's graph, its gates in layers, and two words a place.
-fn lowest_planned(
+// The groups of a planned block one after the other, with room for each gate's group number; how many groups there are.
+fn list_numbered(
     words: &[u16],
-    graph: &mut [u16; GRAPH_WORDS],
-    layers: &mut [u16; MAX_GATES],
-    ends: &mut [u16; MAX_GATES],
-    lanes: &mut [u64; LANE_WORDS],
+    graph: &[u16; GRAPH_WORDS],
+    numbers: &mut [u16; MAX_GATES],
+    members: &mut [u16; MAX_GATES],
+    starts: &mut [u16; MAX_GATES + 1],
 ) -> usize
-    requires { ⌜ (isMalformed (now words) ≡ false) × PlanRoom (now graph) (now layers) (now ends) × (length (now lanes) ≡ laneSize) ⌝ }
-    ensures { λ r. ⌜ r ≡ lowestUnsettled (decode (now (words .entry))) ⌝ }
+    requires { ⌜ Decoded (decode (now words)) (getD (now words) 1 0) (now graph) ⌝ }
+    requires { ⌜ (length (now numbers) ≡ maxGates) × (length (now members) ≡ maxGates) × (length (now starts) ≡ maxGates + 1) ⌝ }
+    ensures { λ r. ⌜ Listed (decode (now (words .entry))) r (now (members .exit)) (now (starts .exit)) ⌝ }
 {
-    plan_block(words, graph, layers, ends);
-    lowest_unsettled(words, graph, layers, ends, lanes)
+    let m = gates_of(words);
+    let count = number_groups(graph, m, numbers);
+    list_groups(m, numbers, count, members, starts);
+    count
 }
 
-// 9: is some setting that may come not settled? Tells the lowest.
-fn find_unsettled(words: &[u16]) -> Test
-    requires { ⌜ isMalformed (now words) ≡ false ⌝ }
-    ensures { λ r. ⌜ r ≡ testOf (not (isSound (decode (now (words .entry))))) (NotSettled (lowestUnsettled (decode (now (words .entry))))) ⌝ }
+// The block's plan, and its groups one after the other; how many groups there are.
+fn list_block(
+    words: &[u16],
+    graph: &mut [u16; GRAPH_WORDS],
+    order: &mut [u16; MAX_GATES],
+    ends: &mut [u16; MAX_GATES],
+    members: &mut [u16; MAX_GATES],
+    starts: &mut [u16; MAX_GATES + 1],
+) -> usize
+    requires { ⌜ ListRoom (now words) (now graph) (now order) (now ends) (now members) (now starts) ⌝ }
+    ensures planned { λ r. ⌜ Planned (now (words .entry)) (now (graph .exit)) (now (order .exit)) (now (ends .exit)) ⌝ }
+    ensures listed { λ r. ⌜ Listed (decode (now (words .entry))) r (now (members .exit)) (now (starts .exit)) ⌝ }
 {
-    let mut graph = [0u16; GRAPH_WORDS];
-    let mut layers = [0u16; MAX_GATES];
-    let mut ends = [0u16; MAX_GATES];
-    let mut lanes = [0u64; LANE_WORDS];
-    let lowest = lowest_planned(words, &mut graph, &mut layers, &mut ends, &mut lanes);
-    let count = setting_count(inputs_of(words));
-    refuse_if(lowest < count, Refusal::NotSettled(lowest))
+    let mut numbers = [0u16; MAX_GATES];
+    plan_block(words, graph, order, ends);
+    list_numbered(words, graph, &mut numbers, members, starts)
+}
+
+// Writes the rendered block, for which there is room.
+fn write_copies(
+    words: &[u16],
+    count: usize,
+    members: &[u16; MAX_GATES],
+    starts: &[u16; MAX_GATES + 1],
+    passes: &[u16; MAX_GATES],
+    total: usize,
+    rendered: &mut [u16],
+)
+    requires { ⌜
+        CopiesReady (now words) count (now members) (now starts) (now passes) total
+        × (length (encode (rendering (decode (now words)))) ≤ length (now rendered))
+        ⌝ }
+    ensures { λ r. ⌜ now (rendered .exit) ≡ placed (encode (rendering (decode (now (words .entry))))) (now (rendered .entry)) ⌝ }
+{
+    let mut copies = [0u16; MAX_GATES];
+    let mut newest = [0u16; MAX_GATES];
+    append_parts(members, starts, count, passes, &mut copies);
+    write_rendering(words, &copies, total, &mut newest, rendered);
 }
 
 // Writes the rendered block, if there is room.
 fn finish(
     words: &[u16],
-    numbers: &[u16],
     count: usize,
-    passes: &[u16],
+    members: &[u16; MAX_GATES],
+    starts: &[u16; MAX_GATES + 1],
+    passes: &[u16; MAX_GATES],
     total: usize,
-    order: &mut [u16],
-    newest: &mut [u16],
     rendered: &mut [u16],
 ) -> Answer
-    requires { ⌜ RenderingReady (now words) (now numbers) count (now passes) total (now order) (now newest) ⌝ }
+    requires { ⌜ RenderingReady (now words) count (now members) (now starts) (now passes) total ⌝ }
     ensures { λ r. ⌜ Promise (render (now (words .entry)) (length (now (rendered .entry)))) (now (rendered .entry)) r (now (rendered .exit)) ⌝ }
 {
     let n = inputs_of(words);
-    let m = gates_of(words);
     let k = outputs_of(words);
     let size = outputs_behind(n, nevers_of(words), total) + OUTPUT_SIZE * k;
     let tested = test_room(rendered.len(), size);
     let Test::Passed = tested else {
         return refusal(tested);
     };
-    fill_schedule(m, numbers, count, passes, order);
-    write_rendering(words, order, total, newest, rendered);
+    write_copies(words, count, members, starts, passes, total, rendered);
     Answer::Done {
         count: size,
         detail: 0,
     }
 }
 
-// How many copies there are, or a number above the limit; writes each group's passes. The groups stand in `members`, and start at `starts`; the
-// gates are evaluated along `order`.
-fn count_along(
-    words: &[u16],
-    order: &[u16],
-    count: usize,
-    members: &[u16],
-    starts: &[u16],
-    passes: &mut [u16],
-    zeros: &mut [u64],
-    ones: &mut [u64],
-    settled_zeros: &mut [u64],
-    settled_ones: &mut [u64],
-) -> usize
-    requires { ⌜
-        AlongReady (now words) (now order) count (now members) (now starts) (now passes) (now zeros) (now ones) (now «settled_zeros»)
-        (now «settled_ones»)
-        ⌝ }
-    ensures { λ r. ⌜ AllCounted (decode (now (words .entry))) (now (passes .entry)) (now (passes .exit)) r ⌝ }
+// 9: is the lowest setting that may come and is not settled below 2^n? Tells it.
+fn test_settings(words: &[u16], lowest: usize) -> Test
+    requires { ⌜ (isMalformed (now words) ≡ false) × (lowest ≡ lowestUnsettled (decode (now words))) ⌝ }
+    ensures { λ r. ⌜ r ≡ testOf (not (isSound (decode (now (words .entry))))) (NotSettled (lowestUnsettled (decode (now (words .entry))))) ⌝ }
 {
-    let nodes = nodes_of(words);
-    let size = nodes.inputs + nodes.gates;
-    count_passes(
-        words,
-        nodes,
-        &order[..nodes.gates],
-        count,
-        &members[..nodes.gates],
-        starts,
-        passes,
-        &mut zeros[..size],
-        &mut ones[..size],
-        &mut settled_zeros[..size],
-        &mut settled_ones[..size],
-    )
-}
-
-// The same from the groups' numbers.
-fn count_copies(
-    words: &[u16],
-    numbers: &[u16],
-    count: usize,
-    order: &mut [u16],
-    members: &mut [u16],
-    starts: &mut [u16],
-    passes: &mut [u16],
-    zeros: &mut [u64],
-    ones: &mut [u64],
-    settled_zeros: &mut [u64],
-    settled_ones: &mut [u64],
-) -> usize
-    requires { ⌜
-        CopiesReady (now words) (now numbers) count (now order) (now members) (now starts) (now passes) (now zeros) (now ones) (now «settled_zeros»)
-        (now «settled_ones»)
-        ⌝ }
-    ensures { λ r. ⌜ AllCounted (decode (now (words .entry))) (now (passes .entry)) (now (passes .exit)) r ⌝ }
-{
-    order_gates(words, order);
-    list_groups(gates_of(words), numbers, count, members, starts);
-    count_along(
-        words,
-        order,
-        count,
-        members,
-        starts,
-        passes,
-        zeros,
-        ones,
-        settled_zeros,
-        settled_ones,
-    )
+    let count = setting_count(inputs_of(words));
+    refuse_if(lowest < count, Refusal::NotSettled(lowest))
 }
 
 // Render of a block that is not torn.
 pub fn render_with(
     words: &[u16],
-    numbers: &mut [u16],
-    order: &mut [u16],
-    newest: &mut [u16],
-    members: &mut [u16],
-    starts: &mut [u16],
-    passes: &mut [u16],
-    zeros: &mut [u64],
-    ones: &mut [u64],
-    settled_zeros: &mut [u64],
-    settled_ones: &mut [u64],
+    graph: &mut [u16; GRAPH_WORDS],
+    order: &mut [u16; MAX_GATES],
+    ends: &mut [u16; MAX_GATES],
+    members: &mut [u16; MAX_GATES],
+    starts: &mut [u16; MAX_GATES + 1],
+    passes: &mut [u16; MAX_GATES],
     rendered: &mut [u16],
 ) -> Answer
-    requires { ⌜
-        ArrayRoom (now words) (now numbers) (now order) (now newest) (now members) (now starts) (now passes) (now zeros) (now ones) (now «settled_zeros»)
-        (now «settled_ones»)
-        ⌝ }
+    requires { ⌜ ListRoom (now words) (now graph) (now order) (now ends) (now members) (now starts) × (length (now passes) ≡ maxGates) ⌝ }
     ensures { λ r. ⌜ Promise (render (now (words .entry)) (length (now (rendered .entry)))) (now (rendered .entry)) r (now (rendered .exit)) ⌝ }
 {
-    let count = assign(words, numbers);
-    let total = count_copies(
-        words,
-        numbers,
-        count,
-        order,
-        members,
-        starts,
-        passes,
-        zeros,
-        ones,
-        settled_zeros,
-        settled_ones,
-    );
-    let tested = refuse_if(MAX_GATES < total, Refusal::TooManyCopies);
+    let count = list_block(words, graph, order, ends, members, starts);
+    let found = walk_batches(words, graph, order, ends, count, members, starts, passes);
+    let tested = refuse_if(MAX_GATES < found.total, Refusal::TooManyCopies);
     let Test::Passed = tested else {
         return refusal(tested);
     };
-    let tested = find_unsettled(words);
+    let tested = test_settings(words, found.lowest);
     let Test::Passed = tested else {
         return refusal(tested);
     };
-    finish(
-        words,
-        numbers,
-        count,
-        passes,
-        total,
-        order,
-        newest,
-        rendered,
-    )
+    finish(words, count, members, starts, passes, found.total, rendered)
 }

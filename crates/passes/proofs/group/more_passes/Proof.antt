@@ -1,117 +1,73 @@
 -- `passes::group::more_passes` meets its contract: each turn makes a pass that some setting needs. Assumes nothing.
-use mathlib.Core.Path.{sym, _∙_}
+use mathlib.Core.Path.{refl}
 use Prim.Native.Nat.{_+_, _-_, _≤_}
 use native.Mathlib.Omega.{arith}
-use borrow.Author.Needs.{needs}
 use Rattle.netlist.specs.Limits.{maxCopies}
-use Rattle.netlist.specs.StoredBlock.{decode}
-use Rattle.encoding.proofs.Decoded.{decode-inputCount}
-use Rattle.passes.proofs.GroupLaws.{passed-proper}
-use Rattle.passes.proofs.PassLaws.{sofar-small, Passing, passing-first, passing-more, passing-done}
+use Rattle.passes.proofs.GroupLaws.{group-there, group-nodes, group-few, passed-proper}
+use Rattle.passes.proofs.PassLaws.{batch-few, size-some, sofar-small, Passing, passing-first, passing-more, passing-done}
 use Rattle.passes.proofs.group.more_passes.Statement.{statement}
 use Rattle.passes.proofs.group.more_passes.Tie as tie
 
 abbrev Inv-loop : tie.InvT-loop
-Inv-loop words nodes base group passes total zeros₀ ones₀ settled-zeros settled-ones used size needed₀ sum₀ zeros ones needed sum =
-    Passing (decode words) (nodes .inputs) base group passes total zeros₀ ones₀ zeros ones needed sum
+Inv-loop words graph members turn lanes₀ kept size passes₀ total₀ lanes passes total = Passing words members turn passes₀ total₀ lanes₀ lanes passes total
 
 abbrev μ-loop : tie.MeasureT-loop
-μ-loop words nodes base group passes total zeros₀ ones₀ settled-zeros settled-ones used size needed₀ sum₀ zeros ones needed sum = maxCopies + 1 - sum
+μ-loop words graph members turn lanes₀ kept size passes₀ total₀ lanes passes total = maxCopies + 1 - total
 
 -- the function's entry, from the loop's head; and the loop's head, from a comparison
 abbrev start : tie.At-loop Inv-loop μ-loop → tie.Start Inv-loop μ-loop
-start l = l .before .before .before .before .before .before .before .before
+start l = l .before .before .before
 
 abbrev head : tie.After-lacks Inv-loop μ-loop → tie.At-loop Inv-loop μ-loop
-head d = d .before .before .before .before
+head d = d .before .before .before
 
-used-lanes-requires : tie.Need-used-lanes-requires Inv-loop μ-loop
-used-lanes-requires c κs = search needs
-
-loop-holds : tie.Need-loop-holds Inv-loop μ-loop
-loop-holds c = passing-first (c .before .before .before .before .before .before .before .pre)
+-- the turn's test, from its pass
+abbrev looked : tie.After-sweep-part Inv-loop μ-loop → tie.After-lacks Inv-loop μ-loop
+looked c = c .before .before .before
 
 lacks-requires : tie.Need-lacks-requires Inv-loop μ-loop
 lacks-requires c κs =
-    let l = c .before .before .before in
-    let s = start l in
-    let r = s .pre in
-    let v = r .batch .evaluable in
-    let held = l .loop .inv .passed .held in (
-      (
-        held .zerosLong ∙ sym (held .onesLong),
-        r .kept .sameLong,
-        v .fewInputs,
-        r .batch .aligned,
-        v .legible .inputs ∙ decode-inputCount (s .args .words .now),
-      ),
-      (passed-proper (v .there) (l .loop .inv .passed), r .kept .proper),
-    )
-
-pass-requires : tie.Need-pass-requires Inv-loop μ-loop
-pass-requires c κs =
-    let l = head (c .before .before .before) in
-    (start l .pre .batch .evaluable, l .before .used-lanes .ensures, l .loop .inv .passed .held)
-
--- the turn's test, from its pass
-abbrev looked : tie.After-slice-known4 Inv-loop μ-loop → tie.After-lacks Inv-loop μ-loop
-looked c = c .before .before .before .before .before .before .before .before
+    let l = c .before .before in
+    let r = start l .pre in
+    let g = r .batch in
+    ((group-few g, batch-few g, g .aligned), (passed-proper (group-there g) (l .loop .inv .passed), r .kept .proper))
 
 -- the passes and the copies fit
-small : (c : tie.After-lacks Inv-loop μ-loop) → head c .loop .needed ≤ maxCopies + maxCopies
-small c = let l = head c in sofar-small (start l .pre .batch .sizeSome) (l .loop .inv .soFar)
+small : (d : tie.After-lacks Inv-loop μ-loop) → head d .loop .passes ≤ maxCopies + maxCopies
+small d = let l = head d in sofar-small (size-some (start l .pre .batch)) (l .loop .inv .soFar)
 
-add-needed : tie.Need-add-needed Inv-loop μ-loop
-add-needed c = omega (arith, small (looked c))
-
-add-sum : tie.Need-add-sum Inv-loop μ-loop
-add-sum c =
+add-total : tie.Need-add-total Inv-loop μ-loop
+add-total c =
     let l = head (looked c) in
-    omega (arith, l .loop .inv .soFar .most, start l .pre .batch .sizeFew)
+    let g = start l .pre .batch in
+    omega (arith, l .loop .inv .soFar .most, g .positions .within, g .decoded .legal .few)
 
 loop-less : tie.Need-loop-less Inv-loop μ-loop
 loop-less c =
     let d = looked c in
-    let l = head d in
-    omega (arith, d .before .before .before .loop-test .taken, start l .pre .batch .sizeSome)
+    omega (arith, d .before .before .loop-test .taken, start (head d) .pre .batch .some)
 
 loop-again : tie.Need-loop-again Inv-loop μ-loop
 loop-again c =
-    let t = c .before .before .before .before .before .before .before in
+    let t = c .before .before in
     let d = t .before in
     let l = head d in
     let r = start l .pre in
-    passing-more (r .batch) (r .kept) (l .loop .inv) (omega (arith, d .before .before .before .loop-test .taken)) (rw (t .if1 .taken) at (d .lacks .ensures))
-    (c .before .before .before .before .pass .ensures)
-
-same-length : tie.Need-same-length Inv-loop μ-loop
-same-length c =
-    let l = head (c .before) in
-    l .loop .inv .passed .held .zerosLong ∙ sym (start l .pre .passed .held .zerosLong)
-
-same-length-2 : tie.Need-same-length-2 Inv-loop μ-loop
-same-length-2 c =
-    let l = head (c .before) in
-    l .loop .inv .passed .held .onesLong ∙ sym (start l .pre .passed .held .onesLong)
+    passing-more (r .batch) (r .kept) (l .loop .inv) refl (omega (arith, d .before .before .loop-test .taken)) (rw (t .if1 .taken) at (d .lacks .ensures))
+    (c .sweep-part .ensures)
 
 returns : tie.Need-returns Inv-loop μ-loop
 returns c =
     let d = c .before in
     let l = head d in
     let r = start l .pre in
-    passing-done (r .batch) (r .kept) (l .loop .inv) (r .passed .held) (λ few. rw (c .if1 .left) at (d .lacks .ensures))
-
-same-length-3 : tie.Need-same-length-3 Inv-loop μ-loop
-same-length-3 c = let l = c .before in l .loop .inv .passed .held .zerosLong ∙ sym (start l .pre .passed .held .zerosLong)
-
-same-length-4 : tie.Need-same-length-4 Inv-loop μ-loop
-same-length-4 c = let l = c .before in l .loop .inv .passed .held .onesLong ∙ sym (start l .pre .passed .held .onesLong)
+    passing-done (r .batch) (r .kept) (l .loop .inv) (r .passed) (λ few. rw (c .if1 .left) at (d .lacks .ensures))
 
 returns-2 : tie.Need-returns-2 Inv-loop μ-loop
 returns-2 c =
     let l = c .before in
     let r = start l .pre in
-    passing-done (r .batch) (r .kept) (l .loop .inv) (r .passed .held) (λ few. absurd (omega (arith, c .loop-test .left)))
+    passing-done (r .batch) (r .kept) (l .loop .inv) (r .passed) (λ few. absurd (omega (arith, c .loop-test .left)))
 
 pub more-passes-spec : {M : Type 1} → statement M
 more-passes-spec =
@@ -119,17 +75,13 @@ more-passes-spec =
     (tie.spec
     Inv-loop
     μ-loop
-    used-lanes-requires
-    loop-holds
+    (λ c. omega (arith, c .before .before .pre .batch .positions .ordered))
+    (λ c. let s = c .before .before in passing-first (s .pre .batch) (s .pre))
     lacks-requires
-    pass-requires
-    add-needed
-    add-sum
+    (λ c κs. group-nodes (start (head (c .before .before)) .pre .batch))
+    (λ c. omega (arith, small (looked c)))
+    add-total
     loop-less
     loop-again
-    same-length
-    same-length-2
     returns
-    same-length-3
-    same-length-4
     returns-2)

@@ -1,67 +1,47 @@
--- `passes::pairs::differing_lanes` meets its contract: after i turns the lanes of the first i gates are marked. Assumes nothing.
-use Prim.Native.Nat.{_-_, _≤_}
+-- `passes::pairs::differing_lanes` meets its contract: after each turn the lanes of the gates passed are marked. Assumes nothing.
+use mathlib.Core.Bool.{false}
+use Prim.Native.Nat.{_-_, _≤_, _<_}
 use native.Mathlib.Omega.{arith}
-use lib.ListN.{length, take}
-use Rattle.lanes.specs.Batches.{lanesOf}
-use Rattle.lanes.specs.Words.{Tells}
-use Rattle.passes.specs.Pairs.{differAt}
-use Rattle.passes.proofs.PairLaws.{differs-none, differs-next, first-all}
+use lib.ListN.{getD}
+use Rattle.netlist.specs.Limits.{maxGates}
+use Rattle.batch.specs.Layered.{part}
+use Rattle.passes.specs.Pairs.{Differs}
+use Rattle.passes.proofs.PairLaws.{part-none, part-all, differs-none, differs-more}
 use Rattle.passes.proofs.pairs.differing_lanes.Statement.{statement}
 use Rattle.passes.proofs.pairs.differing_lanes.Tie as tie
 
 abbrev Inv-loop : tie.InvT-loop
-Inv-loop n group zeros ones other-zeros other-ones differing₀ i₀ differing i =
-    (i ≤ length group) × Tells (lanesOf n) 0 (differAt n (take i group) zeros ones other-zeros other-ones) differing
+Inv-loop members from end lanes kept differing₀ i₀ differing i = (from ≤ i) × (i ≤ end) × Differs (part false members from i) lanes kept differing
 
 abbrev μ-loop : tie.MeasureT-loop
-μ-loop n group zeros ones other-zeros other-ones differing₀ i₀ differing i = length group - i
+μ-loop members from end lanes kept differing₀ i₀ differing i = end - i
 
--- the function's entry, from the loop's head
-abbrev start : tie.At-loop Inv-loop μ-loop → tie.Start Inv-loop μ-loop
-start l = l .before .before .before .before .before .before
+-- the gate at the position
+inside : (c : tie.In-loop Inv-loop μ-loop) → let a = c .before .before .args in getD (a .members .now) (c .before .loop .i) 0 < maxGates
+inside c = let l = c .before in l .before .pre .inside (l .loop .i) (l .loop .inv .0) (c .loop-test .taken)
 
 loop-holds : tie.Need-loop-holds Inv-loop μ-loop
 loop-holds c =
-    let a = c .before .before .before .before .before .args in
-    (omega arith, differs-none (a .n) (a .zeros .now) (a .ones .now) (a .other-zeros .now) (a .other-ones .now))
-
-mul-k : tie.Need-mul-k Inv-loop μ-loop
-mul-k c = omega arith
-
-shared-slice-read-k : tie.Need-shared-slice-read-k Inv-loop μ-loop
-shared-slice-read-k c = omega arith
-
-cast-k : tie.Need-cast-k Inv-loop μ-loop
-cast-k c = omega (arith, c .shared-slice-known6 .given (c .before .before .loop .i))
-
-add-k : tie.Need-add-k Inv-loop μ-loop
-add-k c = omega (arith, c .shared-slice-known6 .given (c .before .before .loop .i), start (c .before .before) .pre .0 .2)
-
-difference-requires : tie.Need-difference-requires Inv-loop μ-loop
-difference-requires c κs = let s = start (c .before .before) in (s .pre .0 .0, s .pre .0 .1)
-
-add-i : tie.Need-add-i Inv-loop μ-loop
-add-i c = omega arith
-
-loop-less : tie.Need-loop-less Inv-loop μ-loop
-loop-less c = omega arith
+    let a = c .args in
+    let p = c .pre .ordered in
+    (omega arith, omega arith, rw (part-none (a .members .now) (a .from)) (differs-none (a .lanes .now) (a .kept .now)))
 
 loop-again : tie.Need-loop-again Inv-loop μ-loop
 loop-again c =
-    let h = c .before .before in
-    let l = h .before .loop in
-    let s = start (h .before) in
-    let a = s .args in (
+    let turn = c .before .before in
+    let l = turn .before in
+    let a = l .before .args in (
       omega arith,
-      differs-next (a .n) (a .zeros .now) (a .ones .now) (a .other-zeros .now) (a .other-ones .now) (a .group .now) (l .i) (l .differing)
-          (c .difference .result) (h .loop-test .taken) (s .pre .1 .0) (s .pre .1 .1) (l .inv .1) (c .difference .ensures),
+      omega arith,
+      differs-more (a .lanes .now) (a .kept .now) (a .members .now) (a .from) (l .loop .i) (l .loop .differing) (c .difference .result) (l .loop .inv .0)
+          (l .loop .inv .2) (c .difference .ensures),
     )
 
 returns : tie.Need-returns Inv-loop μ-loop
 returns c =
-    let l = c .before .loop in
-    let all = first-all (start (c .before) .args .group .now) (l .i) (c .loop-test .left) in
-    rw all at (l .inv .1)
+    let l = c .before in
+    let a = l .before .args in
+    rw (part-all (a .members .now) (a .from) (l .loop .i) (a .end) (l .loop .inv .1) (c .loop-test .left)) at (l .loop .inv .2)
 
 pub differing-lanes-spec : {M : Type 1} → statement M
 differing-lanes-spec =
@@ -70,12 +50,12 @@ differing-lanes-spec =
     Inv-loop
     μ-loop
     loop-holds
-    mul-k
-    shared-slice-read-k
-    cast-k
-    add-k
-    difference-requires
-    add-i
-    loop-less
+    (λ c. omega (arith, c .before .before .pre .within))
+    (λ c. omega (arith, c .before .before .pre .within))
+    (λ c. omega (arith, inside (c .before)))
+    (λ c. omega (arith, inside (c .before)))
+    (λ c κs. omega (arith, inside (c .before)))
+    (λ c. omega arith)
+    (λ c. omega arith)
     loop-again
     returns)
