@@ -1,5 +1,5 @@
 -- The whole way of a text, in one statement: what the program writes is a text of a straight block that has, under
--- every setting, the outputs of the block that was read. Assumes nothing.
+-- every setting that is not excluded, the outputs of the block that was read. Assumes nothing.
 use Prim.Native.Nat.{ℕ}
 use mathlib.Core.Path.{_≡_}
 use mathlib.Core.List.{List}

@@ -7,7 +7,7 @@
 use mathlib.Core.Path.{_≡_}
 use mathlib.Core.Bool.{Bool, false, not, _||_}
 use mathlib.Core.List.{List}
-use Prim.Native.Nat.{ℕ, zero, suc, _+_, _*_, _%_, _^_, _≤_, _<_}
+use Prim.Native.Nat.{ℕ, zero, suc, _+_, _*_, _%_, _≤_, _<_}
 use lib.Bits.{bitOr, bitXor}
 use lib.Dec.{eqb}
 use lib.ListN.{getD}
@@ -17,6 +17,7 @@ use Rattle.netlist.specs.Assignments.{bit, Assignment, fixes}
 use Rattle.netlist.specs.Limits.{maxInputs}
 use Rattle.netlist.specs.StoredBlock.{nameSize, outputSize, operandOf, decode, isMalformed}
 use Rattle.netlist.specs.Rounds.{outputsUnder, isSettled, isExcluded, isSoundAt}
+use Rattle.layout.specs.Bounds.{countRoom}
 use Rattle.lanes.specs.declared.Pair.{Pair}
 use Rattle.graph.specs.Places.{placeCount, placeOf}
 use Rattle.lanes.specs.Pairs.{full}
@@ -63,14 +64,14 @@ unsettledWord ws at n w (suc o) = bitOr (unsettledWord ws at n w o) (undefinedWo
 
 -- what reading output o asks
 pub record OutputThere (ws : List ℕ) (at n o : ℕ) : Type 0 where
-  pub near : at < 2 ^ 32
-  pub few : o < 2 ^ 32
+  pub near : at < countRoom
+  pub few : o < countRoom
   pub fewInputs : n ≤ maxInputs
   pub inside : placeOf (operandOf n (getD ws (at + outputSize * o + nameSize) 0)) < placeCount
 
 -- the same of the first outputs
 pub record OutputsThere (ws : List ℕ) (at n count : ℕ) : Type 0 where
-  pub many : count < 2 ^ 32
+  pub many : count < countRoom
   pub each : (o : ℕ) → o < count → OutputThere ws at n o
 
 -- the lanes hold the settled values of the batch at `base`, of a block of n inputs

@@ -6,12 +6,13 @@ use layout::offsets::nevers_at;
 use layout::offsets::nevers_of;
 use layout::read::word_at;
 ghost use mathlib.Core.Path.{_≡_};
-ghost use Prim.Native.Nat.{_%_, _^_, _≤_, _<_};
+ghost use Prim.Native.Nat.{_%_, _≤_, _<_};
 ghost use lib.ListN.{getD};
 ghost use Rattle.netlist.specs.Limits.{maxInputs};
 ghost use Rattle.netlist.specs.Assignments.{agrees};
 ghost use Rattle.netlist.specs.StoredBlock.{neverAt, decode};
 ghost use Rattle.netlist.specs.Rounds.{isExcluded};
+ghost use Rattle.layout.specs.Bounds.{countRoom};
 ghost use Rattle.lanes.specs.Batches.{lanesOf};
 ghost use Rattle.lanes.specs.Words.{Tells};
 ghost use Rattle.judge.specs.Lanes.{agreesAt, mayCome};
@@ -48,7 +49,7 @@ fn agreeing_lanes(n: usize, base: usize, fixed: usize, values: usize) -> u64
 
 // The same of the never line whose masks are at `at`.
 fn line_lanes(words: &[u16], n: usize, base: usize, at: usize) -> u64
-    requires { ⌜ (n ≤ maxInputs) × (base % 64 ≡ 0) × (at < 2 ^ 32) ⌝ }
+    requires { ⌜ (n ≤ maxInputs) × (base % 64 ≡ 0) × (at < countRoom) ⌝ }
     ensures { λ r. ⌜ Tells (lanesOf n) base (agrees n (neverAt (now (words .entry)) at)) r ⌝ }
 {
     agreeing_lanes(n, base, word_at(words, at), word_at(words, at + 1))

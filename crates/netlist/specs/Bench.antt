@@ -1,4 +1,4 @@
--- The bench: a netlist text, an empty line and set lines in, a show line or a refusal's line for each set line out;
+-- The bench (SPECIFICATION 8.2): a netlist text, an empty line and set lines in, a show line or a refusal's line for each set line out;
 -- first the answer to one line, then the whole run.
 use Prim.Native.Nat.{ℕ, _+_, _-_}
 use mathlib.Core.Bool.{Bool, true, cond, _&&_}

@@ -9,9 +9,9 @@ pub enum Refusal {
     SyntaxError(usize),
     // 3, crowded
     OverLimit,
-    // 4, twice: the place of the earliest declaration that repeats another
+    // 4, twice: the least place of a declaration that has an equal one before it, or of a pin named again in a never line
     DuplicateDeclaration(usize),
-    // 5, unknown: the earliest place of a name that is not declared
+    // 5, unknown: the least place of a name that is not declared, or of one in a never line that is no input
     UndeclaredName(usize),
     // 6, torn
     MalformedBlock,
@@ -19,7 +19,7 @@ pub enum Refusal {
     BadSetting,
     // 8, swollen
     TooManyCopies,
-    // 9, undecided: the lowest setting that is not settled
+    // 9, undecided: the lowest setting that may come and is not settled
     NotSettled(usize),
     // 10, looped
     NotStraight,

@@ -38,11 +38,5 @@ pub render-spec : {M : Type 1} → statement M
 render-spec =
     tie.close
     (tie.spec
-    (λ c κs. search needs)
-    (λ c. search needs)
-    (λ c. search needs)
-    (λ c κs. search needs)
-    returns
-    render-with-requires
-    (λ c. search needs)
-    returns-2)
+    (λ c κs. search needs) (λ c. search needs) (λ c. search needs) (λ c κs. search needs) returns render-with-requires
+    (λ c. search needs) returns-2)

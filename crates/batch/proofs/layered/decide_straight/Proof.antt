@@ -48,12 +48,5 @@ pub decide-straight-spec : {M : Type 1} → statement M
 decide-straight-spec =
     tie.close
     (tie.spec
-    Inv-loop
-    μ-loop
-    start-lanes-requires
-    loop-holds
-    step-requires
-    (λ c. omega (arith, c .before .before .loop-test .taken))
-    (λ c. omega arith)
-    loop-again
-    returns)
+    Inv-loop μ-loop start-lanes-requires loop-holds step-requires
+    (λ c. omega (arith, c .before .before .loop-test .taken)) (λ c. omega arith) loop-again returns)

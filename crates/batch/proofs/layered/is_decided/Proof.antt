@@ -40,16 +40,6 @@ pub is-decided-spec : {M : Type 1} → statement M
 is-decided-spec =
     tie.close
     (tie.spec
-    Inv-loop
-    μ-loop
-    loop-holds
-    (λ c. omega arith)
-    (λ c. omega arith)
-    (λ c. omega (arith, inside (c .before)))
-    (λ c. omega (arith, inside (c .before)))
-    (λ c κs. omega (arith, inside (c .before)))
-    (λ c e. absurd (false≢true e))
-    (λ c. omega arith)
-    (λ c. omega arith)
-    loop-again
-    returns-2)
+    Inv-loop μ-loop loop-holds (λ c. omega arith) (λ c. omega arith) (λ c. omega (arith, inside (c .before)))
+    (λ c. omega (arith, inside (c .before))) (λ c κs. omega (arith, inside (c .before))) (λ c e. absurd (false≢true e))
+    (λ c. omega arith) (λ c. omega arith) loop-again returns-2)

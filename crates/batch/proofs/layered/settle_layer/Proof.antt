@@ -42,14 +42,7 @@ pub settle-layer-spec : {M : Type 1} → statement M
 settle-layer-spec =
     tie.close
     (tie.spec
-    (λ c. omega (arith, c .pre .0 .few))
-    (λ c. omega (arith, c .pre .0 .few))
-    cast-end
-    (λ c. omega (arith, c .before .before .pre .0 .few))
-    (λ c. omega (arith, c .before .before .pre .0 .few))
-    cast-step
-    step-requires
-    (λ c. let s = c .before .before .before .before .before in omega (arith, s .pre .2, s .pre .0 .few))
-    returns
-    settle-loop-requires
-    returns-2)
+    (λ c. omega (arith, c .pre .0 .few)) (λ c. omega (arith, c .pre .0 .few)) cast-end
+    (λ c. omega (arith, c .before .before .pre .0 .few)) (λ c. omega (arith, c .before .before .pre .0 .few)) cast-step
+    step-requires (λ c. let s = c .before .before .before .before .before in omega (arith, s .pre .2, s .pre .0 .few))
+    returns settle-loop-requires returns-2)

@@ -27,11 +27,5 @@ pub start-lanes-spec : {M : Type 1} → statement M
 start-lanes-spec =
     tie.close
     (tie.spec
-    (λ c. omega arith)
-    (λ c. omega arith)
-    (λ c κs. (omega arith, c .before .pre .2))
-    (λ c κs. search needs)
-    (λ c κs. omega arith)
-    (λ c κs. omega arith)
-    put-inputs-requires
-    returns)
+    (λ c. omega arith) (λ c. omega arith) (λ c κs. (omega arith, c .before .pre .2)) (λ c κs. search needs)
+    (λ c κs. omega arith) (λ c κs. omega arith) put-inputs-requires returns)

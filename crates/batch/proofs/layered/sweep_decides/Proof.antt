@@ -50,8 +50,5 @@ pub sweep-decides-spec : {M : Type 1} → statement M
 sweep-decides-spec =
     tie.close
     (tie.spec
-    (λ c κs. part-nodes (c .before .pre .0) (c .before .pre .1))
-    returns
-    (λ c κs. search needs)
-    is-decided-requires
+    (λ c κs. part-nodes (c .before .pre .0) (c .before .pre .1)) returns (λ c κs. search needs) is-decided-requires
     returns-2)

@@ -65,17 +65,6 @@ pub sweep-part-spec : {M : Type 1} → statement M
 sweep-part-spec =
     tie.close
     (tie.spec
-    Inv-loop
-    μ-loop
-    (λ c. omega arith)
-    (λ c. (omega arith, noGate))
-    (λ c κs. omega arith)
-    (λ c. omega (arith, within c))
-    (λ c. omega (arith, within c))
-    (λ c. omega (arith, within c))
-    cast-step
-    step-requires
-    (λ c. omega arith)
-    (λ c. omega arith)
-    loop-again
-    returns)
+    Inv-loop μ-loop (λ c. omega arith) (λ c. (omega arith, noGate)) (λ c κs. omega arith)
+    (λ c. omega (arith, within c)) (λ c. omega (arith, within c)) (λ c. omega (arith, within c)) cast-step
+    step-requires (λ c. omega arith) (λ c. omega arith) loop-again returns)

@@ -5,24 +5,12 @@ use Rattle.judge.proofs.NeverLaws.{free-tells, one-tells, zero-tells}
 use Rattle.judge.proofs.nevers.agreeing_at.Statement.{statement}
 use Rattle.judge.proofs.nevers.agreeing_at.Tie as tie
 
-shr-if1 : tie.Need-shr-if1
-shr-if1 c = search needs
-
-used-lanes-requires : tie.Need-used-lanes-requires
-used-lanes-requires c κs = search needs
-
 returns : tie.Need-returns
 unfolding bit
 returns c =
     let s = c .before .before in
     rw (c .used-lanes .ensures)
     (free-tells (s .args .n) (s .args .base) (s .pre .1) (s .args .i) (record { fixed = s .args .fixed; ones = s .args .values }) (c .before .if1 .taken))
-
-input-pair-requires : tie.Need-input-pair-requires
-input-pair-requires c κs = search needs
-
-shr-if2 : tie.Need-shr-if2
-shr-if2 c = search needs
 
 returns-2 : tie.Need-returns-2
 unfolding bit
@@ -43,4 +31,4 @@ returns-3 c =
 pub agreeing-at-spec : {M : Type 1} → statement M
 agreeing-at-spec =
     tie.close
-    (tie.spec shr-if1 used-lanes-requires returns input-pair-requires shr-if2 returns-2 returns-3)
+    (tie.spec (λ c. search needs) (λ c κs. search needs) returns (λ c κs. search needs) (λ c. search needs) returns-2 returns-3)

@@ -17,9 +17,6 @@ Inv-loop n base fixed values agreeing₀ i₀ agreeing i =
 abbrev μ-loop : tie.MeasureT-loop
 μ-loop n base fixed values agreeing₀ i₀ agreeing i = n - i
 
-used-lanes-requires : tie.Need-used-lanes-requires Inv-loop μ-loop
-used-lanes-requires c κs = search needs
-
 loop-holds : tie.Need-loop-holds Inv-loop μ-loop
 loop-holds c =
     let a = c .before .args in
@@ -27,12 +24,6 @@ loop-holds c =
 
 agreeing-at-requires : tie.Need-agreeing-at-requires Inv-loop μ-loop
 agreeing-at-requires c κs = let p = c .before .before .before .pre in (omega (arith, p .0), p .1)
-
-add-i : tie.Need-add-i Inv-loop μ-loop
-add-i c = omega arith
-
-loop-less : tie.Need-loop-less Inv-loop μ-loop
-loop-less c = omega arith
 
 loop-again : tie.Need-loop-again Inv-loop μ-loop
 loop-again c =
@@ -50,12 +41,5 @@ pub agreeing-lanes-spec : {M : Type 1} → statement M
 agreeing-lanes-spec =
     tie.close
     (tie.spec
-    Inv-loop
-    μ-loop
-    used-lanes-requires
-    loop-holds
-    agreeing-at-requires
-    add-i
-    loop-less
-    loop-again
-    returns)
+    Inv-loop μ-loop (λ c κs. search needs) loop-holds agreeing-at-requires (λ c. omega arith) (λ c. omega arith)
+    loop-again returns)

@@ -27,9 +27,6 @@ Inv-loop words n base lines first excluded₀ i₀ excluded i = At words n base 
 abbrev μ-loop : tie.MeasureT-loop
 μ-loop words n base lines first excluded₀ i₀ excluded i = lines - i
 
-nevers-of-requires : tie.Need-nevers-of-requires Inv-loop μ-loop
-nevers-of-requires c κs = search needs
-
 nevers-at-requires : tie.Need-nevers-at-requires Inv-loop μ-loop
 nevers-at-requires c κs = omega (arith, c .before .before .pre .0)
 
@@ -58,12 +55,6 @@ line-lanes-requires c κs =
     let p = c .before .before .before .before .before .pre in
     (p .0, p .1, omega (arith, inv .within, inv .bounded, inv .near))
 
-add-i : tie.Need-add-i Inv-loop μ-loop
-add-i c = omega arith
-
-loop-less : tie.Need-loop-less Inv-loop μ-loop
-loop-less c = omega arith
-
 loop-again : tie.Need-loop-again Inv-loop μ-loop
 unfolding lineAt
 loop-again c =
@@ -90,15 +81,5 @@ pub excluded-lanes-spec : {M : Type 1} → statement M
 excluded-lanes-spec =
     tie.close
     (tie.spec
-    Inv-loop
-    μ-loop
-    nevers-of-requires
-    nevers-at-requires
-    loop-holds
-    mul-line-lanes
-    add-line-lanes
-    line-lanes-requires
-    add-i
-    loop-less
-    loop-again
-    returns)
+    Inv-loop μ-loop (λ c κs. search needs) nevers-at-requires loop-holds mul-line-lanes add-line-lanes
+    line-lanes-requires (λ c. omega arith) (λ c. omega arith) loop-again returns)

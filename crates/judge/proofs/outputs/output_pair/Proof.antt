@@ -25,10 +25,5 @@ pub output-pair-spec : {M : Type 1} → statement M
 output-pair-spec =
     tie.close
     (tie.spec
-    (λ c. omega arith)
-    (λ c. omega arith)
-    (λ c. omega arith)
-    (λ c κs. search needs)
-    place-of-requires
-    pair-at-requires
+    (λ c. omega arith) (λ c. omega arith) (λ c. omega arith) (λ c κs. search needs) place-of-requires pair-at-requires
     returns)

@@ -36,11 +36,4 @@ pub unsettled-lanes-spec : {M : Type 1} → statement M
 unsettled-lanes-spec =
     tie.close
     (tie.spec
-    Inv-loop
-    μ-loop
-    loop-holds
-    undefined-lanes-requires
-    (λ c. omega arith)
-    (λ c. omega arith)
-    loop-again
-    returns)
+    Inv-loop μ-loop loop-holds undefined-lanes-requires (λ c. omega arith) (λ c. omega arith) loop-again returns)

@@ -4,14 +4,8 @@ use borrow.Author.Needs.{needs}
 use Rattle.judge.proofs.settled.sound_lanes.Statement.{statement}
 use Rattle.judge.proofs.settled.sound_lanes.Tie as tie
 
-used-lanes-requires : tie.Need-used-lanes-requires
-used-lanes-requires c κs = search needs
-
-unsound-lanes-requires : tie.Need-unsound-lanes-requires
-unsound-lanes-requires c κs = search needs
-
 returns : tie.Need-returns
 returns c = rw (c .before .used-lanes .ensures) (sound-tells _ (c .unsound-lanes .ensures))
 
 pub sound-lanes-spec : {M : Type 1} → statement M
-sound-lanes-spec = tie.close (tie.spec used-lanes-requires unsound-lanes-requires returns)
+sound-lanes-spec = tie.close (tie.spec (λ c κs. search needs) (λ c κs. search needs) returns)

@@ -30,11 +30,5 @@ pub gate-pair-spec : {M : Type 1} → statement M
 gate-pair-spec =
     tie.close
     (tie.spec
-    (λ c. search needs)
-    (λ c. search needs)
-    (λ c. search needs)
-    cast-operation
-    (λ c κs. search needs)
-    returns
-    (λ c κs. search needs)
-    returns-2)
+    (λ c. search needs) (λ c. search needs) (λ c. search needs) cast-operation (λ c κs. search needs) returns
+    (λ c κs. search needs) returns-2)

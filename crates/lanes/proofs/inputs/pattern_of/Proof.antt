@@ -6,18 +6,9 @@ use Rattle.lanes.proofs.InputLaws.{low-pattern, set-pattern, clear-patt
 use Rattle.lanes.proofs.inputs.pattern_of.Statement.{statement}
 use Rattle.lanes.proofs.inputs.pattern_of.Tie as tie
 
-mul-result : tie.Need-mul-result
-mul-result c = search needs
-
-array-read-result : tie.Need-array-read-result
-array-read-result c = search needs
-
 returns : tie.Need-returns
 unfolding patterns
 returns c = low-pattern (c .before .args .base) (c .before .args .i) (c .if1 .taken)
-
-shr-if2 : tie.Need-shr-if2
-shr-if2 c = search needs
 
 returns-2 : tie.Need-returns-2
 unfolding bit
@@ -29,4 +20,4 @@ returns-3 c = let a = c .before .before .args in clear-pattern (a .base) (a .i) 
 
 pub pattern-of-spec : {M : Type 1} → statement M
 pattern-of-spec =
-    tie.close (tie.spec mul-result array-read-result returns shr-if2 returns-2 returns-3)
+    tie.close (tie.spec (λ c. search needs) (λ c. search needs) returns (λ c. search needs) returns-2 returns-3)

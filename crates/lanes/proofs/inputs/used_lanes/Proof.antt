@@ -8,9 +8,6 @@ use Rattle.lanes.proofs.inputs.used_lanes.Tie as tie
 returns : tie.Need-returns
 returns c = all-lanes (c .before .args .n) (c .if1 .taken)
 
-shl-lanes : tie.Need-shl-lanes
-shl-lanes c = search needs
-
 shl-result : tie.Need-shl-result
 shl-result c = let s = shifted-lanes (c .before .args .n) (c .if1 .left) in rw (s .0) (s .1)
 
@@ -21,4 +18,4 @@ returns-2 : tie.Need-returns-2
 returns-2 c = let s = shifted-lanes (c .before .args .n) (c .if1 .left) in rw (s .0) (shifted-full (lanesOf (c .before .args .n)) (s .1) .1)
 
 pub used-lanes-spec : {M : Type 1} → statement M
-used-lanes-spec = tie.close (tie.spec returns shl-lanes shl-result sub-result returns-2)
+used-lanes-spec = tie.close (tie.spec returns (λ c. search needs) shl-result sub-result returns-2)

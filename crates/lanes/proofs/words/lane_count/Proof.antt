@@ -10,11 +10,8 @@ returns : tie.Need-returns
 unfolding lanesOf
 returns c = rw (min-eq-right {n = 6} {m = c .before .args .n} (c .if1 .taken))
 
-shl-result : tie.Need-shl-result
-shl-result c = search needs
-
 returns-2 : tie.Need-returns-2
 returns-2 c = shifted-lanes (c .before .args .n) (c .if1 .left) .0
 
 pub lane-count-spec : {M : Type 1} → statement M
-lane-count-spec = tie.close (tie.spec returns shl-result returns-2)
+lane-count-spec = tie.close (tie.spec returns (λ c. search needs) returns-2)

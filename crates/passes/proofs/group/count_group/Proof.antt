@@ -61,9 +61,5 @@ pub count-group-spec : {M : Type 1} → statement M
 count-group-spec =
     tie.close
     (tie.spec
-    put-pairs-requires
-    clear-pairs-requires
-    (λ c κs. group-nodes (start (saved (c .before)) .pre .batch))
-    (λ c κs. ready (c .before .before))
-    put-pairs-requires-2
-    returns)
+    put-pairs-requires clear-pairs-requires (λ c κs. group-nodes (start (saved (c .before)) .pre .batch))
+    (λ c κs. ready (c .before .before)) put-pairs-requires-2 returns)

@@ -73,15 +73,7 @@ pub more-passes-spec : {M : Type 1} → statement M
 more-passes-spec =
     tie.close
     (tie.spec
-    Inv-loop
-    μ-loop
-    (λ c. omega (arith, c .before .before .pre .batch .positions .ordered))
-    (λ c. let s = c .before .before in passing-first (s .pre .batch) (s .pre))
-    lacks-requires
-    (λ c κs. group-nodes (start (head (c .before .before)) .pre .batch))
-    (λ c. omega (arith, small (looked c)))
-    add-total
-    loop-less
-    loop-again
-    returns
-    returns-2)
+    Inv-loop μ-loop (λ c. omega (arith, c .before .before .pre .batch .positions .ordered))
+    (λ c. let s = c .before .before in passing-first (s .pre .batch) (s .pre)) lacks-requires
+    (λ c κs. group-nodes (start (head (c .before .before)) .pre .batch)) (λ c. omega (arith, small (looked c)))
+    add-total loop-less loop-again returns returns-2)

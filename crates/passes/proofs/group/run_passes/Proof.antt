@@ -32,11 +32,5 @@ pub run-passes-spec : {M : Type 1} → statement M
 run-passes-spec =
     tie.close
     (tie.spec
-    Inv-loop
-    μ-loop
-    (λ c. (omega arith, ran-none (c .args .graph .now) (c .args .lanes .now)))
-    (λ c κs. c .before .before .before .pre)
-    (λ c. omega arith)
-    (λ c. omega arith)
-    loop-again
-    returns)
+    Inv-loop μ-loop (λ c. (omega arith, ran-none (c .args .graph .now) (c .args .lanes .now)))
+    (λ c κs. c .before .before .before .pre) (λ c. omega arith) (λ c. omega arith) loop-again returns)

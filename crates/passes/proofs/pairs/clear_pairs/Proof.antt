@@ -50,15 +50,7 @@ pub clear-pairs-spec : {M : Type 1} → statement M
 clear-pairs-spec =
     tie.close
     (tie.spec
-    Inv-loop
-    μ-loop
-    loop-holds
-    (λ c. omega (arith, c .before .before .before .pre .0 .within))
-    (λ c. omega (arith, c .before .before .before .pre .0 .within))
-    (λ c. omega (arith, inside (c .before .before)))
-    (λ c. omega (arith, inside (c .before .before)))
-    (λ c κs. omega (arith, inside (c .before .before)))
-    (λ c. omega arith)
-    (λ c. omega arith)
-    loop-again
-    returns)
+    Inv-loop μ-loop loop-holds (λ c. omega (arith, c .before .before .before .pre .0 .within))
+    (λ c. omega (arith, c .before .before .before .pre .0 .within)) (λ c. omega (arith, inside (c .before .before)))
+    (λ c. omega (arith, inside (c .before .before))) (λ c κs. omega (arith, inside (c .before .before)))
+    (λ c. omega arith) (λ c. omega arith) loop-again returns)

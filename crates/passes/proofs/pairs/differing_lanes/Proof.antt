@@ -47,15 +47,7 @@ pub differing-lanes-spec : {M : Type 1} → statement M
 differing-lanes-spec =
     tie.close
     (tie.spec
-    Inv-loop
-    μ-loop
-    loop-holds
-    (λ c. omega (arith, c .before .before .pre .within))
-    (λ c. omega (arith, c .before .before .pre .within))
-    (λ c. omega (arith, inside (c .before)))
-    (λ c. omega (arith, inside (c .before)))
-    (λ c κs. omega (arith, inside (c .before)))
-    (λ c. omega arith)
-    (λ c. omega arith)
-    loop-again
-    returns)
+    Inv-loop μ-loop loop-holds (λ c. omega (arith, c .before .before .pre .within))
+    (λ c. omega (arith, c .before .before .pre .within)) (λ c. omega (arith, inside (c .before)))
+    (λ c. omega (arith, inside (c .before))) (λ c κs. omega (arith, inside (c .before))) (λ c. omega arith)
+    (λ c. omega arith) loop-again returns)

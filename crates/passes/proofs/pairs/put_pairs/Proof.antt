@@ -48,16 +48,8 @@ pub put-pairs-spec : {M : Type 1} → statement M
 put-pairs-spec =
     tie.close
     (tie.spec
-    Inv-loop
-    μ-loop
-    loop-holds
-    (λ c. omega (arith, c .before .before .pre .0 .within))
-    (λ c. omega (arith, c .before .before .pre .0 .within))
-    (λ c. omega (arith, inside (c .before)))
-    (λ c. omega (arith, inside (c .before)))
-    (λ c κs. omega (arith, inside (c .before .before)))
-    (λ c κs. omega (arith, inside (c .before .before .before)))
-    (λ c. omega arith)
-    (λ c. omega arith)
-    loop-again
+    Inv-loop μ-loop loop-holds (λ c. omega (arith, c .before .before .pre .0 .within))
+    (λ c. omega (arith, c .before .before .pre .0 .within)) (λ c. omega (arith, inside (c .before)))
+    (λ c. omega (arith, inside (c .before))) (λ c κs. omega (arith, inside (c .before .before)))
+    (λ c κs. omega (arith, inside (c .before .before .before))) (λ c. omega arith) (λ c. omega arith) loop-again
     returns)

@@ -44,21 +44,12 @@ pub are-full-spec : {M : Type 1} → statement M
 are-full-spec =
     tie.close
     (tie.spec
-    Inv-loop
-    μ-loop
-    (λ c. (omega arith, λ i l. absurd (omega arith)))
-    (λ c κs. omega (arith, c .before .before .pre .0))
-    (λ c. search needs)
-    (λ c. omega (arith, c .before .before .before .pre .0))
-    (λ c. omega (arith, c .before .before .before .pre .0))
-    (λ c. omega (arith, few (c .before .before)))
-    (λ c. omega (arith, few (c .before .before)))
+    Inv-loop μ-loop (λ c. (omega arith, λ i l. absurd (omega arith)))
+    (λ c κs. omega (arith, c .before .before .pre .0)) (λ c. search needs)
+    (λ c. omega (arith, c .before .before .before .pre .0)) (λ c. omega (arith, c .before .before .before .pre .0))
+    (λ c. omega (arith, few (c .before .before))) (λ c. omega (arith, few (c .before .before)))
     (λ c. omega (arith, c .before .before .before .before .pre .0))
     (λ c. omega (arith, c .before .before .before .before .pre .0))
     (λ c. omega (arith, c .before .before .before .before .pre .0))
-    (λ c. omega (arith, few (c .before .before .before)))
-    (λ c e. absurd (false≢true e))
-    (λ c. omega arith)
-    (λ c. omega arith)
-    loop-again
-    returns-2)
+    (λ c. omega (arith, few (c .before .before .before))) (λ c e. absurd (false≢true e)) (λ c. omega arith)
+    (λ c. omega arith) loop-again returns-2)

@@ -83,20 +83,11 @@ pub count-at-spec : {M : Type 1} → statement M
 count-at-spec =
     tie.close
     (tie.spec
-    (λ c. omega (arith, number (c .before)))
-    (λ c. omega (arith, number (c .before)))
-    (λ c. omega (arith, few (c .before .before)))
-    (λ c. omega (arith, number (c .before .before)))
-    (λ c. omega (arith, number (c .before .before)))
-    (λ c. omega (arith, number (c .before .before)))
-    (λ c. omega (arith, few (c .before .before .before)))
-    (λ c. omega (arith, number (c .before .before .before)))
-    (λ c. omega (arith, number (c .before .before .before)))
-    (λ c. omega (arith, small (start c)))
-    (λ c. omega (arith, small (start c), few (start c)))
-    returns
-    (λ c κs. ready (start (c .before .before .before)))
-    cast-passes
-    (λ c. omega (arith, number (start (read (c .before)))))
-    (λ c. omega (arith, number (start (read (c .before)))))
-    returns-2)
+    (λ c. omega (arith, number (c .before))) (λ c. omega (arith, number (c .before)))
+    (λ c. omega (arith, few (c .before .before))) (λ c. omega (arith, number (c .before .before)))
+    (λ c. omega (arith, number (c .before .before))) (λ c. omega (arith, number (c .before .before)))
+    (λ c. omega (arith, few (c .before .before .before))) (λ c. omega (arith, number (c .before .before .before)))
+    (λ c. omega (arith, number (c .before .before .before))) (λ c. omega (arith, small (start c)))
+    (λ c. omega (arith, small (start c), few (start c))) returns (λ c κs. ready (start (c .before .before .before)))
+    cast-passes (λ c. omega (arith, number (start (read (c .before)))))
+    (λ c. omega (arith, number (start (read (c .before))))) returns-2)

@@ -87,13 +87,5 @@ pub count-batch-spec : {M : Type 1} → statement M
 count-batch-spec =
     tie.close
     (tie.spec
-    Inv-loop
-    μ-loop
-    lowest-with-requires
-    loop-holds
-    count-at-requires
-    (λ c. omega arith)
-    (λ c. omega arith)
-    loop-again
-    returns
-    returns-2)
+    Inv-loop μ-loop lowest-with-requires loop-holds count-at-requires (λ c. omega arith) (λ c. omega arith) loop-again
+    returns returns-2)

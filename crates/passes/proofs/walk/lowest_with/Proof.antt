@@ -76,11 +76,5 @@ pub lowest-with-spec : {M : Type 1} → statement M
 lowest-with-spec =
     tie.close
     (tie.spec
-    (λ c κs. search needs)
-    (λ c κs. search needs)
-    returns
-    unsound-lanes-requires
-    returns-2
-    (λ c κs. search needs)
-    add-result
-    returns-3)
+    (λ c κs. search needs) (λ c κs. search needs) returns unsound-lanes-requires returns-2 (λ c κs. search needs)
+    add-result returns-3)

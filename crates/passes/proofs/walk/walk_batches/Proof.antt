@@ -191,20 +191,7 @@ pub walk-batches-spec : {M : Type 1} → statement M
 walk-batches-spec =
     tie.close
     (tie.spec
-    Inv-loop
-    μ-loop
-    (λ c κs. search needs)
-    (λ c κs. rw (c .inputs-of .ensures) (few (c .before .before)))
-    (λ c κs. search needs)
-    (λ c κs. room (entry (c .before .before)))
-    (λ c κs. search needs)
-    loop-holds
+    Inv-loop μ-loop (λ c κs. search needs) (λ c κs. rw (c .inputs-of .ensures) (few (c .before .before)))
+    (λ c κs. search needs) (λ c κs. room (entry (c .before .before))) (λ c κs. search needs) loop-holds
     (λ c κs. let s = start (turn (c .before .before .before .before) .before) in (s .pre .1 .0 .fewGroups, starts-few (s .pre .1 .0)))
-    returns
-    judge-batch-requires
-    count-batch-requires
-    add-base
-    loop-less
-    loop-again
-    returns-2
-    returns-3)
+    returns judge-batch-requires count-batch-requires add-base loop-less loop-again returns-2 returns-3)

@@ -17,6 +17,5 @@ pub list-block-spec : {M : Type 1} → statement M
 list-block-spec =
     tie.close
     (tie.spec
-    (λ c κs. let s = c .before .before .before .before in (s .pre .whole, s .pre .planRoom))
-    list-numbered-requires
+    (λ c κs. let s = c .before .before .before .before in (s .pre .whole, s .pre .planRoom)) list-numbered-requires
     (λ c. (c .before .before .before .before .before .plan-block .ensures, c .list-numbered .ensures)))

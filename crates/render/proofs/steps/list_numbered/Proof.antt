@@ -41,5 +41,4 @@ list-numbered-spec =
     (tie.spec
     (λ c κs. search needs)
     (λ c κs. let m = c .before in (rw (m .gates-of .ensures) (start m .pre .0 .legal), start m .pre .1 .0))
-    list-groups-requires
-    returns)
+    list-groups-requires returns)

@@ -109,18 +109,7 @@ pub render-with-spec : {M : Type 1} → statement M
 render-with-spec =
     tie.close
     (tie.spec
-    (λ c κs. let k = c .before .before .before .before in k .before .before .before .pre .0)
-    walk-batches-requires
-    (λ c κs. search needs)
-    (λ c. search needs)
-    (λ c. search needs)
-    (λ c κs. search needs)
-    returns
-    test-settings-requires
-    (λ c. search needs)
-    (λ c. search needs)
-    (λ c κs. search needs)
-    returns-2
-    finish-requires
-    (λ c. search needs)
-    (λ c. search needs))
+    (λ c κs. let k = c .before .before .before .before in k .before .before .before .pre .0) walk-batches-requires
+    (λ c κs. search needs) (λ c. search needs) (λ c. search needs) (λ c κs. search needs) returns
+    test-settings-requires (λ c. search needs) (λ c. search needs) (λ c κs. search needs) returns-2 finish-requires
+    (λ c. search needs) (λ c. search needs))

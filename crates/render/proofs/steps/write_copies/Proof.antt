@@ -35,10 +35,5 @@ pub write-copies-spec : {M : Type 1} → statement M
 write-copies-spec =
     tie.close
     (tie.spec
-    (λ c. search needs)
-    append-parts-requires
-    (λ c. search needs)
-    (λ c. search needs)
-    write-rendering-requires
-    (λ c. search needs)
-    (λ c. search needs))
+    (λ c. search needs) append-parts-requires (λ c. search needs) (λ c. search needs) write-rendering-requires
+    (λ c. search needs) (λ c. search needs))
