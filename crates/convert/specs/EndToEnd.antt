@@ -6,7 +6,7 @@ use mathlib.Core.List.{List}
 use Rattle.netlist.specs.Answers.{Outcome, done, refused}
 use Rattle.netlist.specs.Operations.{counted, readText}
 use Rattle.netlist.specs.Program.{unloop}
-use Rattle.render.specs.Promise.{Renders}
+use Rattle.op_render.specs.Promise.{Renders}
 
 -- the program wrote a text, and not a refusal's line
 unfoldable pub Wrote : Outcome → Type 0

@@ -1,16 +1,16 @@
 // What the program writes: Read, Render and Write one after the other, or the line of the refusal (SPECIFICATION 8).
-use layout::limits::BLOCK_WORDS;
 use netlist::Answer;
-use reading::read;
-use render::render;
-use telling::tell;
-use writing::write;
+use op_read::read;
+use op_render::render;
+use op_write::write;
+use text_refusal_line::tell;
+use words_layout::limits::BLOCK_WORDS;
 ghost use Prim.Native.Nat.{_≤_};
 ghost use lib.ListN.{length};
 ghost use Rattle.netlist.specs.Limits.{maxBlock, maxWritten};
 ghost use Rattle.netlist.specs.Operations.{renderWords, writeWords};
 ghost use Rattle.netlist.specs.Program.{chained};
-ghost use Rattle.telling.specs.Shown.{Shown};
+ghost use Rattle.text_refusal_line.specs.Shown.{Shown};
 ghost use Rattle.convert.specs.Shown.{Converted};
 
 // Writes the text of the rendered block, or the refusal's line; gives its length.

@@ -7,8 +7,8 @@ use Rattle.netlist.specs.Answers.{Shows, Outcome, answerOf, leftIn}
 use Rattle.netlist.specs.Operations.{settle, pass, render}
 use Rattle.netlist.specs.Cells.{makeCells}
 use Rattle.netlist.specs.Gather.{gather, gatherList}
-use Rattle.cells.specs.Promise.{CellsPromise}
-use Rattle.render.specs.Promise.{RenderPromise}
+use Rattle.op_cells.specs.Promise.{CellsPromise}
+use Rattle.op_render.specs.Promise.{RenderPromise}
 use Rattle.netlist.specs.declared.Reply.{Reply}
 
 -- An operation's promise (`Promise` of crates/netlist), for the reply that a C function returns.

@@ -4,7 +4,7 @@ use Prim.Native.Nat.{ℕ, _+_, _*_, _/_, _%_, _^_}
 use mathlib.Core.Bool.{Bool, false, cond, not, _&&_, _||_}
 use mathlib.Core.List.{List, [], _∷_}
 use lib.Dec.{eqb, leb, ltb}
-use Rattle.laws.specs.Lists.{all, upTo}
+use Rattle.prelude.specs.Lists.{all, upTo}
 use Rattle.netlist.specs.Values.{Value, undefined, val}
 
 -- bit i of a mask, and input i in setting number s

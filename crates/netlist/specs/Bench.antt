@@ -5,7 +5,7 @@ use mathlib.Core.Bool.{Bool, true, cond, _&&_}
 use mathlib.Core.List.{List, [], _∷_, _++_, map}
 use lib.ListN.{length}
 use lib.Dec.{eqb}
-use Rattle.laws.specs.Lists.{ascii, joined}
+use Rattle.prelude.specs.Lists.{ascii, joined}
 use Rattle.netlist.specs.declared.Refusal.the-variants.{SyntaxError, DuplicateDeclaration, UndeclaredName, MalformedBlock}
 use Rattle.netlist.specs.Values.{Value}
 use Rattle.netlist.specs.Netlist.{Output, Block, inputCount}

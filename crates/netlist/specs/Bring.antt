@@ -5,7 +5,7 @@ use mathlib.Core.Bool.{Bool, not, _&&_}
 use mathlib.Core.List.{List, _∷_, _++_, map}
 use lib.ListN.{take, drop}
 use lib.Dec.{leb}
-use Rattle.laws.specs.Lists.{same, joined}
+use Rattle.prelude.specs.Lists.{same, joined}
 use Rattle.netlist.specs.declared.Refusal.the-variants.{MalformedBlock}
 use Rattle.netlist.specs.Netlist.{Block, inputCount, gateCount, outputCount}
 use Rattle.netlist.specs.StoredBlock.{nameWords, gateWords, outputWords, decode, isWellFormed}

@@ -5,7 +5,7 @@ use mathlib.Core.Bool.{Bool, true, false, cond, not, _&&_, _||_}
 use mathlib.Core.List.{List, [], _∷_, _++_, map}
 use lib.ListN.{length, getD}
 use lib.Dec.{eqb, leb, ltb}
-use Rattle.laws.specs.Lists.{all, tab, joined, upTo, sum}
+use Rattle.prelude.specs.Lists.{all, tab, joined, upTo, sum}
 use Rattle.netlist.specs.declared.Refusal.the-variants.{MalformedBlock, BadSetting, NotStraight}
 use Rattle.netlist.specs.Limits.{maxInputs, maxGates}
 use Rattle.netlist.specs.Values.{code}

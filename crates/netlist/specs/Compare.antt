@@ -7,7 +7,7 @@ use mathlib.Core.Bool.{Bool, true, false, cond, not, _&&_}
 use mathlib.Core.List.{List, [], _∷_, map}
 use lib.ListN.{getD}
 use lib.Dec.{eqb, ltb}
-use Rattle.laws.specs.Lists.{same, any, upTo, least}
+use Rattle.prelude.specs.Lists.{same, any, upTo, least}
 use Rattle.netlist.specs.declared.Refusal.the-variants.{MalformedBlock, NotStraight, InterfaceMismatch}
 use Rattle.netlist.specs.Values.{undefined, code}
 use Rattle.netlist.specs.Netlist.{Name, Output, Block, outputCount}
@@ -31,7 +31,7 @@ unfoldable pub sameInterface : Block → Block → Bool
 sameInterface ours theirs = sameNames (ours .inputs) (theirs .inputs) && sameNames (ports ours) (ports theirs)
 
 -- ---- what the outputs show, by the settled values; of a straight block one sweep gives these (`sweep-settled` in
--- crates/rounds)
+-- crates/theory_fixpoint)
 
 -- output o shows another value in theirs
 unfoldable pub differs : Block → Block → ℕ → ℕ → Bool
@@ -67,7 +67,7 @@ compare ours theirs =
     (refuseIf (not (sameInterface (decode ours) (decode theirs))) InterfaceMismatch
     (compareBlocks (decode ours) (decode theirs)))))
 
--- ---- What Compare answers as sentences over settings and outputs; crates/compare shows that the operation answers by
+-- ---- What Compare answers as sentences over settings and outputs; crates/op_compare shows that the operation answers by
 -- them
 
 -- output o shows the same value in both under setting number s

@@ -7,7 +7,7 @@ use mathlib.Core.Bool.{Bool, true, cond, not, _&&_}
 use mathlib.Core.List.{List, []}
 use lib.ListN.{length, getD}
 use lib.Dec.{eqb, ltb}
-use Rattle.laws.specs.Lists.{all, any, tab, upTo, least}
+use Rattle.prelude.specs.Lists.{all, any, tab, upTo, least}
 use Rattle.netlist.specs.declared.Refusal.the-variants.{MalformedBlock, InterfaceMismatch}
 use Rattle.netlist.specs.Values.{undefined, code}
 use Rattle.netlist.specs.Assignments.{bit}

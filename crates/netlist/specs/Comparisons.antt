@@ -5,7 +5,7 @@ use mathlib.Core.Bool.{Bool, true}
 use mathlib.Core.List.{List, [], _∷_, _++_}
 use Prim.Native.Nat.{ℕ}
 use Prim.Native.String.{String}
-use Rattle.laws.specs.Lists.{same, all}
+use Rattle.prelude.specs.Lists.{same, all}
 use Rattle.netlist.specs.Values.{code, valueOf, invert, isDefined}
 use Rattle.netlist.specs.Kinds.{row, rows, rowOf, isNot, isXor, isXnor, isKind, signatureOf}
 use Rattle.netlist.specs.Kinds.{fewestOperands, mostOperands, arityFits, keyword, ruled, ones, parity, gateValue}

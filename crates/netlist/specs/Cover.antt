@@ -3,7 +3,7 @@
 use Prim.Native.Nat.{ℕ, _-_, _*_, _^_}
 use mathlib.Core.Bool.{Bool, not, _&&_, _||_}
 use mathlib.Core.List.{List, [], _∷_, map}
-use Rattle.laws.specs.Lists.{all, upTo, keep, joined}
+use Rattle.prelude.specs.Lists.{all, upTo, keep, joined}
 use Rattle.netlist.specs.Netlist.{Block, inputCount}
 use Rattle.netlist.specs.Assignments.{bit, Assignment, fixes, agrees, isWithin}
 use Rattle.netlist.specs.Rounds.{isSoundAt, settingCount}

@@ -4,7 +4,7 @@ use mathlib.Core.Bool.{Bool, not, _&&_, _||_}
 use mathlib.Core.List.{List, map}
 use lib.ListN.{length, getD}
 use lib.Dec.{eqb, ltb}
-use Rattle.laws.specs.Lists.{all, tab, joined, upTo, member, least}
+use Rattle.prelude.specs.Lists.{all, tab, joined, upTo, member, least}
 use Rattle.netlist.specs.declared.Refusal.the-variants.{MalformedBlock, NoRoom, NotAPermutation}
 use Rattle.netlist.specs.Netlist.{Operand, input, gate, constant, Gate, Output, Block, gateCount, gateOf}
 use Rattle.netlist.specs.StoredBlock.{encode, decode, isMalformed}

@@ -7,7 +7,7 @@ use mathlib.Core.Bool.{Bool, true, false, cond, not, _&&_, _||_}
 use mathlib.Core.List.{List, [], _∷_, _++_, map}
 use lib.ListN.{length, getD}
 use lib.Dec.{eqb, ltb}
-use Rattle.laws.specs.Lists.{all, any, keep, tab, joined, upTo, member, least}
+use Rattle.prelude.specs.Lists.{all, any, keep, tab, joined, upTo, member, least}
 use Rattle.netlist.specs.Netlist.{Operand, input, gate, constant, Block, gateCount, gateOf}
 
 unfoldable pub gateOperand : Operand → List ℕ

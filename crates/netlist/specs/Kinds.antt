@@ -7,7 +7,7 @@ use mathlib.Core.List.{List, [], _∷_, _++_, map}
 use Prim.Native.String.{String}
 use lib.ListN.{getD}
 use lib.Dec.{eqb, leb}
-use Rattle.laws.specs.Lists.{ascii, all, any, trimmed}
+use Rattle.prelude.specs.Lists.{ascii, all, any, trimmed}
 use Rattle.netlist.specs.declared.Row.{Row}
 use Rattle.netlist.specs.declared.Signature.{Signature}
 use Rattle.netlist.specs.Values.{Value, undefined, code, valueOf, invert, isDefined}

@@ -4,7 +4,7 @@ use Prim.Native.Nat.{ℕ}
 use mathlib.Core.Bool.{Bool, _&&_, _||_}
 use lib.ListN.{length, getD}
 use lib.Dec.{eqb, leb}
-use Rattle.laws.specs.Lists.{all}
+use Rattle.prelude.specs.Lists.{all}
 use Rattle.netlist.specs.Limits.{maxName}
 use Rattle.netlist.specs.Netlist.{Name}
 

@@ -5,7 +5,7 @@ use mathlib.Core.Bool.{Bool, cond, _||_}
 use mathlib.Core.List.{List, map}
 use lib.ListN.{length, getD}
 use lib.Dec.{eqb}
-use Rattle.laws.specs.Lists.{all, tab, repeated, upTo, member, least, sum}
+use Rattle.prelude.specs.Lists.{all, tab, repeated, upTo, member, least, sum}
 use Rattle.netlist.specs.Values.{Value, undefined, code}
 use Rattle.netlist.specs.Netlist.{Block, inputCount, gateCount}
 use Rattle.netlist.specs.Rounds.{settingOf, settingCount, settledUnder, isExcluded}
@@ -33,7 +33,7 @@ unfoldable pub areEnough : Block → List ℕ → ℕ → Bool
 areEnough b group p = all (λ s. isExcluded b s || areSettled b group s p) (upTo (settingCount b))
 
 -- the unrolling depth: the least number of passes, from 1 on, that is enough. As many as there are gates always are
--- (`size-enough` in crates/agreement).
+-- (`size-enough` in crates/theory_unrolling).
 unfoldable pub passCount : Block → List ℕ → ℕ
 passCount b group = suc (least (λ p. areEnough b group (suc p)) (length group))
 

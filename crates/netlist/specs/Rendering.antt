@@ -5,7 +5,7 @@ use mathlib.Core.Bool.{Bool, false}
 use mathlib.Core.List.{List, [], _∷_, _++_, map}
 use lib.ListN.{getD, set, replicate}
 use lib.Dec.{ltb}
-use Rattle.laws.specs.Lists.{all, joined, repeated, upTo}
+use Rattle.prelude.specs.Lists.{all, joined, repeated, upTo}
 use Rattle.netlist.specs.Values.{Value}
 use Rattle.netlist.specs.Netlist.{Operand, input, gate, constant, Gate, Output, Block, gateCount, gateOf}
 use Rattle.netlist.specs.Rounds.{evaluated}

@@ -6,7 +6,7 @@ use mathlib.Core.Bool.{Bool, not, _&&_, _||_}
 use mathlib.Core.List.{List, map}
 use lib.ListN.{getD, replicate}
 use lib.Dec.{eqb}
-use Rattle.laws.specs.Lists.{same, all, any, tab, countBelow, least}
+use Rattle.prelude.specs.Lists.{same, all, any, tab, countBelow, least}
 use Rattle.netlist.specs.Values.{Value, undefined, val, code, isDefined}
 use Rattle.netlist.specs.Assignments.{bit, agrees}
 use Rattle.netlist.specs.Kinds.{gateValue}
@@ -34,7 +34,7 @@ afterRounds b x (suc r) = round b x (afterRounds b x r)
 unfoldable pub isStable : Block → List Value → ℕ → Bool
 isStable b x r = same (map code (afterRounds b x (suc r))) (map code (afterRounds b x r))
 
--- how many rounds change something; m are always enough (`rounds-stable` in crates/rounds)
+-- how many rounds change something; m are always enough (`rounds-stable` in crates/theory_fixpoint)
 unfoldable pub rounds : Block → List Value → ℕ
 rounds b x = least (isStable b x) (gateCount b)
 

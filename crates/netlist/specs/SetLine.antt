@@ -5,7 +5,7 @@ use mathlib.Core.Bool.{Bool, _&&_}
 use mathlib.Core.List.{List, _++_}
 use lib.ListN.{length}
 use lib.Dec.{leb}
-use Rattle.laws.specs.Lists.{ascii, all}
+use Rattle.prelude.specs.Lists.{ascii, all}
 use Rattle.netlist.specs.Syntax.{Pair, printPair, isLegalPair, printLines, LegalOf, ViableOf, FirstBadOf}
 use Rattle.netlist.specs.Parse.{Reader, expect, bind, nothingBehind, pairsReader}
 

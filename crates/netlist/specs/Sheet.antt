@@ -4,7 +4,7 @@ use Prim.Native.Nat.{ℕ}
 use mathlib.Core.Bool.{Bool, cond, not}
 use mathlib.Core.List.{List, [], map}
 use lib.Dec.{eqb}
-use Rattle.laws.specs.Lists.{tab}
+use Rattle.prelude.specs.Lists.{tab}
 use Rattle.netlist.specs.declared.Refusal.the-variants.{MalformedBlock, BadSetting}
 use Rattle.netlist.specs.declared.Record.{Record}
 use Rattle.netlist.specs.Values.{Value, valueOf, isDefined}

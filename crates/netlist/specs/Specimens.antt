@@ -7,7 +7,7 @@ use mathlib.Core.Path.{_≡_, refl}
 use mathlib.Core.Bool.{Bool, true}
 use mathlib.Core.List.{List, [], _∷_, _++_, map}
 use lib.ListN.{length, replicate}
-use Rattle.laws.specs.Lists.{ascii, same, all, repeated, tab, joined}
+use Rattle.prelude.specs.Lists.{ascii, same, all, repeated, tab, joined}
 use Rattle.netlist.specs.declared.Record.{Record}
 use Rattle.netlist.specs.Limits.{maxText, maxInputs}
 use Rattle.netlist.specs.Values.{undefined, code, valueOf, invert, isDefined}

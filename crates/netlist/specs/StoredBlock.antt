@@ -4,7 +4,7 @@ use mathlib.Core.Bool.{Bool, true, false, cond, not, _&&_, _||_}
 use mathlib.Core.List.{List, [], _∷_, _++_, map}
 use lib.ListN.{length, getD}
 use lib.Dec.{eqb, leb, ltb}
-use Rattle.laws.specs.Lists.{same, all, tab, joined, trimmed, distinct}
+use Rattle.prelude.specs.Lists.{same, all, tab, joined, trimmed, distinct}
 use Rattle.netlist.specs.Limits.{maxInputs, maxNevers, maxGates, maxOutputs}
 use Rattle.netlist.specs.Assignments.{Assignment, areMasks}
 use Rattle.netlist.specs.Kinds.{isKind, arityFits}

@@ -6,7 +6,7 @@ use mathlib.Core.Logic.{_⊎_}
 use mathlib.Core.Bool.{Bool, true, false, _&&_}
 use mathlib.Core.List.{List, [], _∷_, _++_}
 use lib.ListN.{length, take}
-use Rattle.laws.specs.Lists.{ascii, all}
+use Rattle.prelude.specs.Lists.{ascii, all}
 use lib.Dec.{leb}
 use Rattle.netlist.specs.Limits.{maxDepth}
 use Rattle.netlist.specs.Values.{Value, undefined, val}

@@ -4,7 +4,7 @@ use mathlib.Core.Bool.{cond}
 use mathlib.Core.List.{List, [], _∷_, _++_, map}
 use lib.ListN.{getD}
 use lib.Dec.{eqb, ltb}
-use Rattle.laws.specs.Lists.{ascii, keep, upTo, tab}
+use Rattle.prelude.specs.Lists.{ascii, keep, upTo, tab}
 use Rattle.netlist.specs.Assignments.{bit, Assignment, fixes}
 use Rattle.netlist.specs.Netlist.{Name, Operand, input, gate, constant, Output, Block, inputCount, gateCount, gateOf}
 use Rattle.netlist.specs.Syntax.{Term, Terms, name, literal, nil, cons, GateLine, Pair, Tree, print}

@@ -7,7 +7,7 @@ use native.Mathlib.Omega.{arith}
 use borrow.Author.Needs.{needs}
 use lib.ListN.{length}
 use lib.Seq.{length-take-le}
-use Rattle.session.specs.Session.{SessionReady}
+use Rattle.bench_session.specs.Session.{SessionReady}
 
 abbrev Inv-loop : tie.InvT-loop
 Inv-loop text₀ words₀ graph₀ fanout₀ line₀ out₀ state₀ more₀ turns₀ text words graph fanout line out state more turns =

@@ -8,8 +8,8 @@ use native.Mathlib.Omega.{arith}
 use borrow.Author.Needs.{needs}
 use lib.ListN.{length, take, drop, length-drop}
 use lib.Seq.{length-take-le}
-use Rattle.laws.proofs.Elements.{rest-is-drop}
-use Rattle.session.specs.Session.{SessionReady}
+use Rattle.prelude.proofs.Elements.{rest-is-drop}
+use Rattle.bench_session.specs.Session.{SessionReady}
 
 abbrev Inv-loop : tie.InvT-loop
 Inv-loop piece text₀ words₀ graph₀ fanout₀ line₀ out₀ state₀ at₀ text words graph fanout line out state at =

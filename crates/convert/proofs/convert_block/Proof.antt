@@ -5,7 +5,7 @@ use Rattle.convert.proofs.convert_block.Statement.{statement}
 use Rattle.convert.proofs.convert_block.Tie as tie
 use lib.ListN.{length}
 use Rattle.netlist.specs.Operations.{render, renderWords, writeWords}
-use Rattle.telling.proofs.Told.{told-refused, told-done, gave-within, shown-is}
+use Rattle.text_refusal_line.proofs.Told.{told-refused, told-done, gave-within, shown-is}
 use Rattle.convert.proofs.Telling.{chained-refused, chained-gave}
 use Rattle.convert.proofs.Sizes.{render-fits}
 use lib.Seq.{length-take-le}

@@ -4,7 +4,7 @@ use Rattle.convert.proofs.convert_rendered.Statement.{statement}
 use Rattle.convert.proofs.convert_rendered.Tie as tie
 use lib.ListN.{length}
 use Rattle.netlist.specs.Operations.{write, writeWords}
-use Rattle.telling.proofs.Told.{told-refused, kept-refused, told-done, shown-refused, shown-gave}
+use Rattle.text_refusal_line.proofs.Told.{told-refused, kept-refused, told-done, shown-refused, shown-gave}
 use Rattle.convert.proofs.Sizes.{write-fits}
 
 -- the entry, and what Write told on each way

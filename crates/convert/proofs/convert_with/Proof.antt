@@ -5,8 +5,8 @@ use Rattle.convert.proofs.convert_with.Statement.{statement}
 use Rattle.convert.proofs.convert_with.Tie as tie
 use lib.ListN.{length}
 use Rattle.netlist.specs.Operations.{read, readText}
-use Rattle.telling.proofs.Told.{told-refused, told-done, gave-within}
-use Rattle.telling.proofs.Sizes.{read-fits}
+use Rattle.text_refusal_line.proofs.Told.{told-refused, told-done, gave-within}
+use Rattle.text_refusal_line.proofs.Sizes.{read-fits}
 use Rattle.convert.proofs.Telling.{unloop-refused, unloop-gave}
 use lib.Seq.{length-take-le}
 
