@@ -16,7 +16,7 @@ const RESULTS: [&str; 3] = [
 ];
 
 /// What the library is built on is proved side by side before it, and it itself once.
-const LIBRARY_BUILT: &str = "rt check laws netlist\nrt staticlib exports\n";
+const LIBRARY_BUILT: &str = "rt check prelude netlist\nrt staticlib exports\n";
 const ALL_BUILT: &str =
     "rt check unloop\nrt check laws netlist\nrt staticlib exports\ncargo build\n";
 

@@ -1,26 +1,26 @@
-// The program `bench`: moves bytes from standard input to `session`, and the answers to standard output. What is there is read and answered
-// at once, so that it serves a terminal and a pipe. A proved loop has to end, and nothing says that the input does: the loop over reads
-// counts down from a number that no run uses up.
-use graph::GRAPH_WORDS;
-use graph::fanout::FANOUT_WORDS;
-use layout::limits::BLOCK_WORDS;
-use layout::limits::MAX_TEXT;
-use session::ANSWER_BYTES;
-use session::LINE_BYTES;
-use session::State;
-use session::feed;
-use session::finish;
-use session::is_over;
-use session::start;
-ghost use Rattle.session.specs.Session.{Unprepared, SessionReady, SessionRoom};
+// The program `bench`: moves bytes from standard input to `session`, and the answers to standard output. What is there
+// is read and answered at once, so that it serves a terminal and a pipe. A proved loop has to end, and nothing says
+// that the input does: the loop over reads counts down from a number that no run uses up.
+use bench_session::ANSWER_BYTES;
+use bench_session::LINE_BYTES;
+use bench_session::State;
+use bench_session::feed;
+use bench_session::finish;
+use bench_session::is_over;
+use bench_session::start;
+use graph_gates::GRAPH_WORDS;
+use graph_gates::fanout::FANOUT_WORDS;
+use words_layout::limits::BLOCK_WORDS;
+use words_layout::limits::MAX_TEXT;
+ghost use Rattle.bench_session.specs.Session.{Unprepared, SessionReady, SessionRoom};
 
-// The state behind what was read, and whether to read on.
+// What serving some input came to: the state after it, and whether to read on.
 struct Served {
     state: State,
     more: bool,
 }
 
-// Feeds a piece of input and writes each answer in it; the state behind it.
+// Feeds a piece of input and writes each answer in it; gives the state after the piece.
 fn serve_piece(
     state: State,
     piece: &[u8],
@@ -45,7 +45,7 @@ fn serve_piece(
     state
 }
 
-// Reads what is there and answers it.
+// Reads the input that is there now, and answers it.
 fn serve_some(
     state: State,
     text: &mut [u8],

@@ -16,9 +16,9 @@ use Rattle.netlist.specs.Writing.{writtenText}
 use Rattle.netlist.specs.Answers.{Outcome, done, refused, refuseIf}
 use Rattle.netlist.specs.Operations.{counted, readText, renderBlock, renderWords, writeWords}
 use Rattle.netlist.specs.Program.{chained, shown, unloop}
-use Rattle.grammar.proofs.RoundTrip.{reading-written-words}
-use Rattle.render.specs.Promise.{Renders}
-use Rattle.render.proofs.Promise.{rendered-so}
+use Rattle.theory_grammar.proofs.RoundTrip.{reading-written-words}
+use Rattle.op_render.specs.Promise.{Renders}
+use Rattle.op_render.proofs.Promise.{rendered-so}
 use Rattle.convert.specs.EndToEnd.{Wrote, Faithful}
 
 written-whole : (ws : List ℕ) → isMalformed ws ≡ false → writeWords ws ≡ counted (writtenText (decode ws))

@@ -1,4 +1,4 @@
--- Render and Write have enough room in the program; that Read has is in `telling`. Assumes nothing.
+-- Render and Write have enough room in the program; that Read has is in `text_refusal_line`. Assumes nothing.
 use mathlib.Core.Path.{_≡_, ap}
 use mathlib.Core.Bool.{false, not}
 use mathlib.Core.List.{List}
@@ -15,13 +15,13 @@ use Rattle.netlist.specs.Passes.{copyCount}
 use Rattle.netlist.specs.Rendering.{rendering}
 use Rattle.netlist.specs.Writing.{writtenText}
 use Rattle.netlist.specs.Operations.{renderBlock, renderWords, writeWords}
-use Rattle.encoding.proofs.Encoded.{length-encode}
-use Rattle.encoding.proofs.RoundTrip.{whole-wellFormed}
-use Rattle.encoding.proofs.WellFormed.{wellFormed-parts}
-use Rattle.grammar.proofs.WritingLength.{written-length}
-use Rattle.agreement.proofs.Block.{rendering-count, rendering-inputs, rendering-nevers, length-rendering-outputs}
-use Rattle.telling.proofs.Told.{Fits}
-use Rattle.telling.proofs.Sizes.{counted-fits, if-fits}
+use Rattle.theory_encoding.proofs.Encoded.{length-encode}
+use Rattle.theory_encoding.proofs.RoundTrip.{whole-wellFormed}
+use Rattle.theory_encoding.proofs.WellFormed.{wellFormed-parts}
+use Rattle.theory_grammar.proofs.WritingLength.{written-length}
+use Rattle.theory_unrolling.proofs.Block.{rendering-count, rendering-inputs, rendering-nevers, length-rendering-outputs}
+use Rattle.text_refusal_line.proofs.Told.{Fits}
+use Rattle.text_refusal_line.proofs.Sizes.{counted-fits, if-fits}
 
 module _ (room : ℕ) where
   pub write-fits : maxWritten ≤ room → (ws : List ℕ) → Fits room (writeWords ws)

@@ -3,13 +3,13 @@ use mathlib.Core.Path.{_≡_, refl, sym, ap}
 use mathlib.Core.List.{List}
 use Prim.Native.Nat.{ℕ}
 use lib.ListN.{take}
-use Rattle.laws.proofs.Slices.{placed-room}
+use Rattle.prelude.proofs.Slices.{placed-room}
 use Rattle.netlist.specs.declared.Refusal.{Refusal}
 use Rattle.netlist.specs.Answers.{Outcome, refused}
 use Rattle.netlist.specs.Operations.{readText, renderWords, writeWords}
 use Rattle.netlist.specs.Program.{chained, shown, unloop}
-use Rattle.telling.specs.Shown.{Shown}
-use Rattle.telling.proofs.Told.{Gave, shown-is}
+use Rattle.text_refusal_line.specs.Shown.{Shown}
+use Rattle.text_refusal_line.proofs.Told.{Gave, shown-is}
 use Rattle.convert.specs.Shown.{Converted}
 
 pub chained-refused : (o : Outcome) (next : List ℕ → Outcome) (r : Refusal) → o ≡ refused r → chained o next ≡ refused r

@@ -3,10 +3,10 @@ use Prim.Native.Nat.{ℕ, _≤_}
 use mathlib.Core.Path.{_≡_}
 use mathlib.Core.List.{List}
 use lib.ListN.{length}
-use Rattle.laws.specs.Lists.{placed}
+use Rattle.prelude.specs.Lists.{placed}
 use Rattle.netlist.specs.Program.{unloop}
 
--- the slice begins with what `unloop` writes when it reads this text
+-- the slice begins with what `unloop` writes when it reads this text; r is its length
 pub record Converted (text entry exit : List ℕ) (r : ℕ) : Type 0 where
   pub textIs : exit ≡ placed (unloop text) entry
   pub countIs : r ≡ length (unloop text)

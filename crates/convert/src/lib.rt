@@ -1,19 +1,19 @@
 // What the program writes: Read, Render and Write one after the other, or the line of the refusal (SPECIFICATION 8).
-use layout::limits::BLOCK_WORDS;
 use netlist::Answer;
-use reading::read;
-use render::render;
-use telling::tell;
-use writing::write;
+use op_read::read;
+use op_render::render;
+use op_write::write;
+use text_refusal_line::tell;
+use words_layout::limits::BLOCK_WORDS;
 ghost use Prim.Native.Nat.{_≤_};
 ghost use lib.ListN.{length};
 ghost use Rattle.netlist.specs.Limits.{maxBlock, maxWritten};
 ghost use Rattle.netlist.specs.Operations.{renderWords, writeWords};
 ghost use Rattle.netlist.specs.Program.{chained};
-ghost use Rattle.telling.specs.Shown.{Shown};
+ghost use Rattle.text_refusal_line.specs.Shown.{Shown};
 ghost use Rattle.convert.specs.Shown.{Converted};
 
-// Write, or its refusal.
+// Writes the text of the rendered block, or the refusal's line; gives its length.
 fn convert_rendered(words: &[u16], out: &mut [u8]) -> usize
     requires { ⌜ maxWritten ≤ length (now out) ⌝ }
     ensures { λ r. ⌜ Shown (writeWords (now (words .entry))) (now (out .entry)) (now (out .exit)) r ⌝ }
@@ -24,7 +24,7 @@ fn convert_rendered(words: &[u16], out: &mut [u8]) -> usize
     }
 }
 
-// Render and what follows, or the refusal.
+// Renders a block and writes the text of the rendering, or the refusal's line; gives its length.
 fn convert_block(words: &[u16], copies: &mut [u16], out: &mut [u8]) -> usize
     requires { ⌜ (maxBlock ≤ length (now copies)) × (maxWritten ≤ length (now out)) ⌝ }
     ensures { λ r. ⌜ Shown (chained (renderWords (now (words .entry))) writeWords) (now (out .entry)) (now (out .exit)) r ⌝ }
@@ -35,7 +35,7 @@ fn convert_block(words: &[u16], copies: &mut [u16], out: &mut [u8]) -> usize
     }
 }
 
-// Read and what follows, or the refusal.
+// Reads a text, renders its block and writes the rendering's text, or the refusal's line; gives its length.
 fn convert_with(text: &[u8], block: &mut [u16], copies: &mut [u16], out: &mut [u8]) -> usize
     requires { ⌜ (maxBlock ≤ length (now block)) × (maxBlock ≤ length (now copies)) × (maxWritten ≤ length (now out)) ⌝ }
     ensures { λ r. ⌜ Converted (now (text .entry)) (now (out .entry)) (now (out .exit)) r ⌝ }

@@ -5,12 +5,12 @@ use Prim.Native.Nat.{ℕ}
 use Rattle.netlist.specs.declared.Answer.{Answer}
 use Rattle.netlist.specs.declared.Reply.{Reply}
 use Rattle.netlist.specs.Answers.{Shows, Outcome, answerOf, Told, Promise}
-use Rattle.refusals.proofs.Shown.{shows-same}
-use Rattle.refusals.proofs.Promised.{told-answer, promise-answer}
-use Rattle.simulate.specs.Passed.{PassPromise}
-use Rattle.cells.specs.Promise.{CellsPromise}
-use Rattle.gather.specs.Promise.{GatherPromise}
-use Rattle.render.specs.Promise.{RenderPromise}
+use Rattle.words_refusals.proofs.Shown.{shows-same}
+use Rattle.words_refusals.proofs.Promised.{told-answer, promise-answer}
+use Rattle.op_settle.specs.Passed.{PassPromise}
+use Rattle.op_cells.specs.Promise.{CellsPromise}
+use Rattle.op_gather.specs.Promise.{GatherPromise}
+use Rattle.op_render.specs.Promise.{RenderPromise}
 use Rattle.exports.specs.Replies.{Replies, PassReply, RenderReply, CellsReply, GatherReply}
 
 pub replies : {o : Outcome} {entry exit : List ℕ} {a : Answer} {r : Reply} → Promise o entry a exit → Shows a r → Replies o entry r exit

@@ -7,16 +7,16 @@ use Rattle.netlist.specs.Answers.{Shows, Outcome, answerOf, leftIn}
 use Rattle.netlist.specs.Operations.{settle, pass, render}
 use Rattle.netlist.specs.Cells.{makeCells}
 use Rattle.netlist.specs.Gather.{gather, gatherList}
-use Rattle.cells.specs.Promise.{CellsPromise}
-use Rattle.render.specs.Promise.{RenderPromise}
+use Rattle.op_cells.specs.Promise.{CellsPromise}
+use Rattle.op_render.specs.Promise.{RenderPromise}
 use Rattle.netlist.specs.declared.Reply.{Reply}
 
--- An operation's promise (netlist's `Promise`), for the reply.
+-- An operation's promise (`Promise` of crates/netlist), for the reply that a C function returns.
 pub record Replies (o : Outcome) (entry : List ℕ) (r : Reply) (exit : List ℕ) : Type 0 where
   pub shows : Shows (answerOf o) r
   pub leaves : exit ≡ leftIn o entry
 
--- Pass's: the values are Settle's.
+-- Pass's promise for a reply: the values are Settle's.
 pub record PassReply (ws setting entry : List ℕ) (r : Reply) (exit : List ℕ) : Type 0 where
   pub replies : Replies (pass ws setting (length entry)) entry r exit
   pub settles : r .number ≡ 0 → exit ≡ leftIn (settle ws setting (length entry)) entry
@@ -26,12 +26,12 @@ pub record RenderReply (ws entry : List ℕ) (r : Reply) (exit : List ℕ) : Typ
   pub replies : Replies (render ws (length entry)) entry r exit
   pub promise : RenderPromise ws entry (answerOf (render ws (length entry))) exit
 
--- The whole promise of making cells, likewise.
+-- The whole promise of making cells, for the answer that the reply shows.
 pub record CellsReply (ws entry : List ℕ) (r : Reply) (exit : List ℕ) : Type 0 where
   pub replies : Replies (makeCells ws (length entry)) entry r exit
   pub promise : CellsPromise ws entry (answerOf (makeCells ws (length entry))) exit
 
--- Gather's, on both slices.
+-- Gather's promise for a reply, on both slices.
 pub record GatherReply (ws entry listEntry : List ℕ) (r : Reply) (exit listExit : List ℕ) : Type 0 where
   pub block : Replies (gather ws (length entry) (length listEntry)) entry r exit
   pub list : listExit ≡ leftIn (gatherList ws (length entry) (length listEntry)) listEntry

@@ -6,7 +6,7 @@ use mathlib.Core.List.{List}
 use mathlib.Core.Option.{Option, none, some}
 use lib.ListN.{length}
 use lib.Dec.{ltb}
-use Rattle.laws.specs.Lists.{placed}
+use Rattle.prelude.specs.Lists.{placed}
 use Rattle.netlist.specs.declared.Refusal.{Refusal}
 use Rattle.netlist.specs.declared.Refusal.the-variants.{TextTooLong, SyntaxError, OverLimit, DuplicateDeclaration, UndeclaredName, MalformedBlock}
 use Rattle.netlist.specs.declared.Refusal.the-variants.{BadSetting, TooManyCopies, NotSettled, NotStraight, NoRoom, InterfaceMismatch, NotAPermutation}
@@ -14,7 +14,7 @@ use Rattle.netlist.specs.declared.Answer.{Answer}
 use Rattle.netlist.specs.declared.Answer.the-variants.{Done, Refused}
 use Rattle.netlist.specs.declared.Reply.{Reply}
 
--- the numbers of the table in SPECIFICATION 7.2
+-- the number of a refusal, by the table in SPECIFICATION 7.2
 unfoldable pub refusalNumber : Refusal → ℕ
 refusalNumber TextTooLong = 1
 refusalNumber (SyntaxError place) = 2
@@ -46,12 +46,12 @@ refusalDetail NoRoom = 0
 refusalDetail InterfaceMismatch = 0
 refusalDetail NotAPermutation = 0
 
--- 0 on success
+-- the number of an answer: its refusal's, or 0 on success
 unfoldable pub numberOf : Answer → ℕ
 numberOf (Done count detail) = 0
 numberOf (Refused r) = refusalNumber r
 
--- a refusal counts nothing
+-- the count of an answer; a refusal counts nothing
 unfoldable pub countOf : Answer → ℕ
 countOf (Done count detail) = count
 countOf (Refused r) = 0
@@ -72,17 +72,17 @@ pub data Outcome : Type 0 where
   done : (result : List ℕ) (count detail : ℕ) → Outcome
   refused : Refusal → Outcome
 
--- a condition that refuses, or what comes after it
+-- refuses if the condition holds, else goes on with what comes after it
 unfoldable pub refuseIf : Bool → Refusal → Outcome → Outcome
 refuseIf true r next = refused r
 refuseIf false r next = next
 
--- a condition that tells a place
+-- refuses at a place if one is told, else succeeds
 unfoldable pub refuseAt : Option ℕ → (ℕ → Refusal) → Outcome → Outcome
 refuseAt (some place) r next = refused (r place)
 refuseAt none r next = next
 
--- 11: a slice shorter than the result; an equal length is enough
+-- refusal 11: a slice shorter than the result; an equal length is enough
 unfoldable pub inRoom : ℕ → Outcome → Outcome
 inRoom room (done result count detail) = refuseIf (ltb room (length result)) NoRoom (done result count detail)
 inRoom room (refused r) = refused r
@@ -91,12 +91,14 @@ unfoldable pub answerOf : Outcome → Answer
 answerOf (done result count detail) = Done count detail
 answerOf (refused r) = Refused r
 
--- what the slice lent for the result holds in the end: the result in front and what was behind it, or, after a refusal, all that was there
+-- what the slice lent for the result holds in the end: the result in front and what was behind it, or, after a refusal,
+-- all that was there
 unfoldable pub leftIn : Outcome → List ℕ → List ℕ
 leftIn (done result count detail) entry = placed result entry
 leftIn (refused r) entry = entry
 
--- ---- What an operation promises, from its outcome: the three numbers of its answer, and what the lent slice holds at exit
+-- ---- What an operation promises, from its outcome: the three numbers of its answer, and what the lent slice holds at
+-- exit
 
 pub record Told (o : Outcome) (r : Answer) : Type 0 where
   pub number : numberOf r ≡ numberOf (answerOf o)

@@ -1,10 +1,10 @@
--- SPECIFICATION 4.1: masks of inputs or outputs, partial assignments, and the settings that agree with one. Entries of a cover and never lines
--- are such assignments.
+-- SPECIFICATION 4.1: masks of inputs or outputs, partial assignments, and the settings that agree with one. Entries of
+-- a cover and never lines are such assignments.
 use Prim.Native.Nat.{ℕ, _+_, _*_, _/_, _%_, _^_}
 use mathlib.Core.Bool.{Bool, false, cond, not, _&&_, _||_}
 use mathlib.Core.List.{List, [], _∷_}
 use lib.Dec.{eqb, leb, ltb}
-use Rattle.laws.specs.Lists.{all, upTo}
+use Rattle.prelude.specs.Lists.{all, upTo}
 use Rattle.netlist.specs.Values.{Value, undefined, val}
 
 -- bit i of a mask, and input i in setting number s

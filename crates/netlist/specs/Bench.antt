@@ -1,11 +1,11 @@
--- The bench: a netlist text, an empty line and set lines in, a show line or a refusal's line for each set line out; first the
--- answer to one line, then the whole run.
+-- The bench (SPECIFICATION 8.2): a netlist text, an empty line and set lines in, a show line or a refusal's line for each set line out;
+-- first the answer to one line, then the whole run.
 use Prim.Native.Nat.{ℕ, _+_, _-_}
 use mathlib.Core.Bool.{Bool, true, cond, _&&_}
 use mathlib.Core.List.{List, [], _∷_, _++_, map}
 use lib.ListN.{length}
 use lib.Dec.{eqb}
-use Rattle.laws.specs.Lists.{ascii, joined}
+use Rattle.prelude.specs.Lists.{ascii, joined}
 use Rattle.netlist.specs.declared.Refusal.the-variants.{SyntaxError, DuplicateDeclaration, UndeclaredName, MalformedBlock}
 use Rattle.netlist.specs.Values.{Value}
 use Rattle.netlist.specs.Netlist.{Output, Block, inputCount}
@@ -45,7 +45,7 @@ pairsOutcome b ps =
     (refuseAt (firstOutside (b .inputs) (givenNames ps)) UndeclaredName
     (counted (showLine b (givenValues b ps))))
 
--- the place is the number of bytes before the bad one
+-- refusal 2 of a set line: the place is the number of bytes before the bad one
 unfoldable pub parsedOutcome : Block → List ℕ → Parsed (List Pair) → Outcome
 parsedOutcome b line (stuck left) = refused (SyntaxError (length line - left))
 parsedOutcome b line (got ps rest) = pairsOutcome b ps
@@ -53,25 +53,26 @@ parsedOutcome b line (got ps rest) = pairsOutcome b ps
 unfoldable pub lineOutcome : Block → List ℕ → Outcome
 lineOutcome b line = parsedOutcome b line (setLineReader (inputCount b) line)
 
--- with the words of a block and a slice for the result (6, 2, 4, 5, 11)
+-- the answer to a line, for the words of a block and a slice for the result (6, 2, 4, 5, 11)
 unfoldable pub answerLine : List ℕ → List ℕ → ℕ → Outcome
 answerLine ws line room =
     inRoom room
     (refuseIf (isMalformed ws) MalformedBlock
     (lineOutcome (decode ws) line))
 
--- what is written for a line
+-- the bytes that the bench writes for a line: the show line, or the refusal's
 unfoldable pub lineAnswer : Block → List ℕ → List ℕ
 lineAnswer b line = shown (lineOutcome b line)
 
--- ---- the whole input: the netlist ends before the first LF at the input's beginning or behind an LF, or with the input
+-- ---- the whole input: the netlist ends before the first LF at the input's beginning or behind an LF, or with the
+-- input
 
 -- `fresh`: at the input's beginning or behind an LF
 unfoldable pub netlistFrom : Bool → List ℕ → List ℕ
 netlistFrom fresh [] = []
 netlistFrom fresh (c ∷ s) = cond (fresh && eqb c lf) [] (c ∷ netlistFrom (eqb c lf) s)
 
--- what stands behind that LF
+-- what stands behind the empty line that ends the netlist
 unfoldable pub settingsFrom : Bool → List ℕ → List ℕ
 settingsFrom fresh [] = []
 settingsFrom fresh (c ∷ s) = cond (fresh && eqb c lf) s (settingsFrom (eqb c lf) s)
@@ -82,7 +83,7 @@ netlistPart input = netlistFrom true input
 unfoldable pub settingsPart : List ℕ → List ℕ
 settingsPart input = settingsFrom true input
 
--- a line without its LF; an empty one is none
+-- the last line, which has no LF; an empty one is no line
 unfoldable pub lastLine : List ℕ → List (List ℕ)
 lastLine [] = []
 lastLine (c ∷ s) = (c ∷ s) ∷ []
@@ -99,7 +100,7 @@ linesOf s = linesFrom [] s
 unfoldable pub lineAnswers : Block → List (List ℕ) → List ℕ
 lineAnswers b ls = joined (map (lineAnswer b) ls)
 
--- a refused netlist ends the run
+-- all answers of a run, from what Read made of the netlist: a refused netlist ends the run
 unfoldable pub benchAfter : Outcome → List (List ℕ) → List ℕ
 benchAfter (done ws count detail) ls = lineAnswers (decode ws) ls
 benchAfter (refused r) ls = refusalLine r

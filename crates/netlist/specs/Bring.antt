@@ -1,10 +1,11 @@
--- SPECIFICATION 7.14: Bring. Blocks stored before there were never lines have three counts at their head; a fourth, 0, makes them blocks of today.
+-- SPECIFICATION 7.14: Bring. Blocks stored before there were never lines have three counts at their head; a fourth, 0,
+-- makes them blocks of today.
 use Prim.Native.Nat.{ℕ}
 use mathlib.Core.Bool.{Bool, not, _&&_}
 use mathlib.Core.List.{List, _∷_, _++_, map}
 use lib.ListN.{take, drop}
 use lib.Dec.{leb}
-use Rattle.laws.specs.Lists.{same, joined}
+use Rattle.prelude.specs.Lists.{same, joined}
 use Rattle.netlist.specs.declared.Refusal.the-variants.{MalformedBlock}
 use Rattle.netlist.specs.Netlist.{Block, inputCount, gateCount, outputCount}
 use Rattle.netlist.specs.StoredBlock.{nameWords, gateWords, outputWords, decode, isWellFormed}
@@ -27,7 +28,7 @@ encodeBefore b =
 unfoldable pub brought : List ℕ → List ℕ
 brought ws = take 3 ws ++ (0 ∷ drop 3 ws)
 
--- by the rules that held before: not the words, as they were, of any well-formed block of so many inputs
+-- malformed by the rules that held before: not the words, as they were, of any well-formed block of so many inputs
 unfoldable pub isMalformedBefore : List ℕ → Bool
 isMalformedBefore ws =
     not

@@ -1,11 +1,11 @@
--- SPECIFICATION 7.15, 7.16: lookup cells. A cell has four operand words and a truth word of 16 bits. Making cells from a straight block, and
--- running cells, which may have been made elsewhere.
+-- SPECIFICATION 7.15, 7.16: lookup cells. A cell has four operand words and a truth word of 16 bits. Making cells from
+-- a straight block, and running cells, which may have been made elsewhere.
 use Prim.Native.Nat.{ℕ, _+_, _*_, _/_, _%_, _^_}
 use mathlib.Core.Bool.{Bool, true, false, cond, not, _&&_, _||_}
 use mathlib.Core.List.{List, [], _∷_, _++_, map}
 use lib.ListN.{length, getD}
 use lib.Dec.{eqb, leb, ltb}
-use Rattle.laws.specs.Lists.{all, tab, joined, upTo, sum}
+use Rattle.prelude.specs.Lists.{all, tab, joined, upTo, sum}
 use Rattle.netlist.specs.declared.Refusal.the-variants.{MalformedBlock, BadSetting, NotStraight}
 use Rattle.netlist.specs.Limits.{maxInputs, maxGates}
 use Rattle.netlist.specs.Values.{code}
@@ -28,7 +28,7 @@ cellSize = operandWords + 1
 unfoldable pub truthBit : ℕ → ℕ → ℕ → ℕ
 truthBit k count b = code (gateValue k (settingOf count b))
 
--- bit b is that of b
+-- the truth word of a kind and an operand count: bit b is the value for the operand bits of b
 unfoldable pub truthWord : ℕ → ℕ → ℕ
 truthWord k count = sum (tab (λ b. truthBit k count b * 2 ^ b) (2 ^ operandWords))
 
@@ -64,7 +64,7 @@ cellAt n ws at = record { operands = tab (λ i. operandOf n (getD ws (at + i) 0)
 unfoldable pub cellsIn : ℕ → List ℕ → List Cell
 cellsIn n ws = tab (λ j. cellAt n ws (cellSize * j)) (cellCount ws)
 
--- an input, a constant, or a cell before cell j
+-- an operand that cell j may read: an input, a constant, or a cell before it
 unfoldable pub isEarlier : ℕ → Operand → Bool
 isEarlier j (input i) = true
 isEarlier j (gate i) = ltb i j
@@ -73,13 +73,13 @@ isEarlier j (constant c) = true
 unfoldable pub readsEarlier : ℕ → List ℕ → ℕ → Bool
 readsEarlier n ws j = all (isEarlier j) (cellAt n ws (cellSize * j) .operands)
 
--- 6: too many inputs or cells, a cell that is cut off, or an operand that is not there yet
+-- refusal 6 of a run: too many inputs or cells, a cell that is cut off, or an operand that is not there yet
 unfoldable pub areLegalCells : ℕ → List ℕ → Bool
 areLegalCells n ws =
     leb n maxInputs && leb (length ws) (cellSize * maxGates) && eqb (length ws % cellSize) 0
     && all (readsEarlier n ws) (upTo (cellCount ws))
 
--- 7: another length than n, or a byte above 1
+-- refusal 7 of a run: another length than n, or a byte above 1
 unfoldable pub isBadRun : ℕ → List ℕ → Bool
 isBadRun n setting = not (eqb (length setting) n) || not (all (λ v. leb v 1) setting)
 
@@ -98,7 +98,7 @@ numberOfBits (v ∷ vs) = v + 2 * numberOfBits vs
 unfoldable pub cellValue : List ℕ → List ℕ → Cell → ℕ
 cellValue setting found c = bit (c .truth) (numberOfBits (map (operandBit setting found) (c .operands)))
 
--- each cell once, in order, from the values found so far
+-- the values of the cells, each evaluated once, in order, from the values found so far
 unfoldable pub runFrom : List ℕ → List ℕ → List Cell → List ℕ
 runFrom setting found [] = found
 runFrom setting found (c ∷ cs) = runFrom setting (found ++ (cellValue setting found c ∷ [])) cs

@@ -1,10 +1,11 @@
--- SPECIFICATION 9.11, 9.18: worked examples of Compare and of CompareCells, among them those that tell their definitions from near misses, each as one claim.
+-- SPECIFICATION 9.11, 9.18: worked examples of Compare and of CompareCells, among them those that tell their
+-- definitions from near misses, each as one claim.
 use mathlib.Core.Path.{_≡_, refl}
 use mathlib.Core.Bool.{Bool, true}
 use mathlib.Core.List.{List, [], _∷_, _++_}
 use Prim.Native.Nat.{ℕ}
 use Prim.Native.String.{String}
-use Rattle.laws.specs.Lists.{same, all}
+use Rattle.prelude.specs.Lists.{same, all}
 use Rattle.netlist.specs.Values.{code, valueOf, invert, isDefined}
 use Rattle.netlist.specs.Kinds.{row, rows, rowOf, isNot, isXor, isXnor, isKind, signatureOf}
 use Rattle.netlist.specs.Kinds.{fewestOperands, mostOperands, arityFits, keyword, ruled, ones, parity, gateValue}
@@ -89,7 +90,7 @@ comparisons =
     ∷ record { ours = []; theirs = blockWords looped; answer = with 6 0 }
     ∷ []
 
--- All of them come out as stated.
+-- All comparisons of blocks come out as stated.
 pub comparisons-hold : all holds comparisons ≡ true
 unfolding code valueOf invert isDefined row rows rowOf isNot isXor isXnor isKind signatureOf fewestOperands mostOperands arityFits keyword ruled ones
     parity gateValue gatesAt outputsAt isLetter isDigit isUnderscore isNameByte isNameStart isLegalName isPlainName isNodeName nameWords bytesAt

@@ -1,11 +1,11 @@
--- SPECIFICATION 3.2, "The table of all gates": an entry for each kind and each four codes of operands, and what it must hold.
--- Every entry is said by the three-valued rule of Kinds.antt. Assumes nothing.
+-- SPECIFICATION 3.2, "The table of all gates": an entry for each kind and each four codes of operands, and what it must
+-- hold. Every entry is said by the three-valued rule of Kinds.antt. Assumes nothing.
 use Prim.Native.Nat.{ℕ, _+_, _*_, _/_, _%_}
 use mathlib.Core.Bool.{Bool, false, cond, not, _&&_}
 use mathlib.Core.List.{List, [], _∷_, map}
 use lib.ListN.{length, getD}
 use lib.Dec.{eqb}
-use Rattle.laws.specs.Lists.{any, keep, tab}
+use Rattle.prelude.specs.Lists.{any, keep, tab}
 use Rattle.netlist.specs.Values.{Value, code, valueOf}
 use Rattle.netlist.specs.Kinds.{arityFits, gateValue}
 
@@ -26,7 +26,7 @@ kindAt i = i / 256
 unfoldable pub codesAt : ℕ → List ℕ
 codesAt i = i % 4 ∷ i / 4 % 4 ∷ i / 16 % 4 ∷ i / 64 % 4 ∷ []
 
--- kinds 0 to 6
+-- entries of the table: 256 for each of the kinds 0 to 6
 abbrev pub tableSize : ℕ
 tableSize = 1792
 

@@ -4,7 +4,7 @@ use mathlib.Core.Bool.{Bool, not, _&&_, _||_}
 use mathlib.Core.List.{List, map}
 use lib.ListN.{length, getD}
 use lib.Dec.{eqb, ltb}
-use Rattle.laws.specs.Lists.{all, tab, joined, upTo, member, least}
+use Rattle.prelude.specs.Lists.{all, tab, joined, upTo, member, least}
 use Rattle.netlist.specs.declared.Refusal.the-variants.{MalformedBlock, NoRoom, NotAPermutation}
 use Rattle.netlist.specs.Netlist.{Operand, input, gate, constant, Gate, Output, Block, gateCount, gateOf}
 use Rattle.netlist.specs.StoredBlock.{encode, decode, isMalformed}
@@ -36,28 +36,29 @@ arranged order number b =
       outputs = map (renumberedOutput number) (b .outputs);
     }
 
--- what stands at place t of the list, and where number j stands in it
+-- the number at place t of a list, and the place at which number j stands in it
 unfoldable pub numberAt : List ℕ → ℕ → ℕ
 numberAt order t = getD order t 0
 
 unfoldable pub placeIn : List ℕ → ℕ → ℕ
 placeIn order j = least (λ t. eqb (numberAt order t) j) (length order)
 
--- ---- 7.17 Gather (6, 11): the block with its gates by group, and the list of their old numbers in the new order; count: the block's words
+-- ---- 7.17 Gather (6, 11): the block with its gates by group, and the list of their old numbers in the new order;
+-- count: the block's words
 
--- group after group, ascending inside
+-- the gates' old numbers in their new order: group after group, ascending inside a group
 unfoldable pub gatheredOrder : Block → List ℕ
 gatheredOrder b = joined (groups b)
 
--- new gate t is old gate number t of that list
+-- the gathered block: new gate t is old gate number t of that order
 unfoldable pub gathered : Block → Block
 gathered b = arranged (gatheredOrder b) (placeIn (gatheredOrder b)) b
 
--- 11: the slice for the block, or the one for the list, is too small
+-- refusal 11 of Gather: the slice for the block, or the one for the list, is too small
 unfoldable pub lacksRoom : Block → ℕ → ℕ → Bool
 lacksRoom b room listRoom = ltb room (length (encode (gathered b))) || ltb listRoom (length (gatheredOrder b))
 
--- the two results have one answer: what one slice gets, and what the other
+-- Gather's answer, with what one of its two slices gets, as chosen by a function of the block
 unfoldable pub gatherWith : List ℕ → ℕ → ℕ → (Block → List ℕ) → Outcome
 gatherWith ws room listRoom result =
     refuseIf (isMalformed ws) MalformedBlock
@@ -73,17 +74,18 @@ gather ws room listRoom = gatherWith ws room listRoom gatheredWords
 unfoldable pub gatherList : List ℕ → ℕ → ℕ → Outcome
 gatherList ws room listRoom = gatherWith ws room listRoom gatheredOrder
 
--- ---- 7.18 Scatter (6, 13, 11): from a block and a list of old numbers, the block with its gates back in their old order; count: words
+-- ---- 7.18 Scatter (6, 13, 11): from a block and a list of old numbers, the block with its gates back in their old
+-- order; count: words
 
--- as many numbers as there are gates, and every gate's number among them: so each once
+-- a list is a permutation: as many numbers as there are gates, and every gate's number among them, so each once
 unfoldable pub isPermutation : ℕ → List ℕ → Bool
 isPermutation m order = eqb (length order) m && all (λ j. member j order) (upTo m)
 
--- where each number stands
+-- the inverse of a permutation: where each number stands in it
 unfoldable pub inverse : List ℕ → List ℕ
 inverse order = tab (placeIn order) (length order)
 
--- gate t gets number t of the list
+-- the scattered block: gate t gets number t of the list
 unfoldable pub scattered : List ℕ → Block → Block
 scattered order b = arranged (inverse order) (numberAt order) b
 

@@ -1,11 +1,13 @@
--- SPECIFICATION 5: which gates reach each other, the strongly connected groups and their order.
+-- SPECIFICATION 5: which gates reach each other, the strongly connected groups (components), and their topological
+-- order. The order is that of Kahn's algorithm ("Topological sorting of large networks", 1962) with the lowest ready
+-- gate first.
 use Prim.Native.Nat.{ℕ, zero, suc}
 use mathlib.Core.Path.{_≡_}
 use mathlib.Core.Bool.{Bool, true, false, cond, not, _&&_, _||_}
 use mathlib.Core.List.{List, [], _∷_, _++_, map}
 use lib.ListN.{length, getD}
 use lib.Dec.{eqb, ltb}
-use Rattle.laws.specs.Lists.{all, any, keep, tab, joined, upTo, member, least}
+use Rattle.prelude.specs.Lists.{all, any, keep, tab, joined, upTo, member, least}
 use Rattle.netlist.specs.Netlist.{Operand, input, gate, constant, Block, gateCount, gateOf}
 
 unfoldable pub gateOperand : Operand → List ℕ
@@ -25,7 +27,7 @@ pub data OperandPath (b : Block) : ℕ → ℕ → Type 0 where
   stay : {i : ℕ} → OperandPath b i i
   step : {i j k : ℕ} → reads b i j ≡ true → OperandPath b j k → OperandPath b i k
 
--- The same, computed. A set of gates is a Boolean for each; it grows by what its gates read, m times over.
+-- Reach as a computation. A set of gates is a Boolean for each; it grows by what its gates read, m times over.
 unfoldable pub has : List Bool → ℕ → Bool
 has set j = getD set j false
 
@@ -42,7 +44,7 @@ reach b i = grownTimes b (gateCount b) (tab (eqb i) (gateCount b))
 unfoldable pub reaches : Block → ℕ → ℕ → Bool
 reaches b i j = has (reach b i) j
 
--- each reaches the other, or they are the same
+-- gates i and j are in one strongly connected group: each reaches the other, or they are the same
 unfoldable pub sameGroup : Block → ℕ → ℕ → Bool
 sameGroup b i j = reaches b i j && reaches b j i
 
@@ -50,7 +52,7 @@ sameGroup b i j = reaches b i j && reaches b j i
 unfoldable pub groupOf : Block → ℕ → List ℕ
 groupOf b j = keep (sameGroup b j) (upTo (gateCount b))
 
--- what the group reads outside itself is in groups that have a number; `done` are the gates of those groups
+-- a group is ready: what it reads outside itself is in groups that have a number; `done` are the gates of those groups
 unfoldable pub isReady : Block → List ℕ → List ℕ → Bool
 isReady b done group = all (λ i. all (λ k. member k group || member k done) (readBy b i)) group
 
@@ -58,7 +60,8 @@ isReady b done group = all (λ i. all (λ k. member k group || member k done) (r
 unfoldable pub mayBeNext : Block → List ℕ → ℕ → Bool
 mayBeNext b done j = not (member j done) && isReady b done (groupOf b j)
 
--- the groups from here on, when those of `done` are numbered: next is, of all that can be, the one with the lowest gate
+-- the groups from here on, when those of `done` are numbered: the next is, of all that can be, the one with the lowest
+-- gate
 unfoldable pub groupsAfter : Block → ℕ → List ℕ → List (List ℕ)
 groupsAfter b zero done = []
 groupsAfter b (suc more) done =
@@ -66,7 +69,7 @@ groupsAfter b (suc more) done =
     let rest = groupsAfter b more (done ++ groupOf b j) in
     cond (ltb j (gateCount b)) (groupOf b j ∷ rest) []
 
--- all of them, from none numbered on; there are at most as many as gates
+-- all groups in their order, from none numbered on; there are at most as many as gates
 unfoldable pub groups : Block → List (List ℕ)
 groups b = groupsAfter b (gateCount b) []
 

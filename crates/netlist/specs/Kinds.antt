@@ -1,17 +1,18 @@
--- SPECIFICATION 3.2: the kinds, the table of controlling values, and one gate's value from its operands' values.
--- Kinds are numbers: 0 not, 1 and, 2 or, 3 nand, 4 nor, 5 xor, 6 xnor.
+-- SPECIFICATION 3.2: the kinds, the table of controlling values, and one gate's value from its operands' values, in
+-- Kleene's strong three-valued logic ("Introduction to metamathematics", 1952). Kinds are numbers: 0 not, 1 and, 2 or,
+-- 3 nand, 4 nor, 5 xor, 6 xnor.
 use Prim.Native.Nat.{ℕ, suc, _-_, _%_}
 use mathlib.Core.Bool.{Bool, cond, _&&_}
 use mathlib.Core.List.{List, [], _∷_, _++_, map}
 use Prim.Native.String.{String}
 use lib.ListN.{getD}
 use lib.Dec.{eqb, leb}
-use Rattle.laws.specs.Lists.{ascii, all, any, trimmed}
+use Rattle.prelude.specs.Lists.{ascii, all, any, trimmed}
 use Rattle.netlist.specs.declared.Row.{Row}
 use Rattle.netlist.specs.declared.Signature.{Signature}
 use Rattle.netlist.specs.Values.{Value, undefined, code, valueOf, invert, isDefined}
 
--- every kind of the table has two to four operands
+-- a row of the table: every kind in it has two to four operands
 unfoldable pub row : ℕ → ℕ → String → Row
 row controlling forced word =
     record { fewest = 2; most = 4; controlling = controlling; forced = forced; keyword = ascii word }
@@ -44,7 +45,7 @@ signatureIn r = record { fewest = r .fewest; most = r .most; keyword = r .keywor
 unfoldable pub signature : ℕ → ℕ → String → Signature
 signature fewest most word = record { fewest = fewest; most = most; keyword = ascii word }
 
--- by the kind's number
+-- the signatures of all kinds, by the kind's number
 unfoldable pub signatures : List Signature
 signatures = signature 1 1 "not\0" ∷ (map signatureIn rows ++ (signature 2 4 "xor\0" ∷ signature 2 4 "xnor" ∷ []))
 
@@ -64,8 +65,8 @@ arityFits k count = leb (fewestOperands k) count && leb count (mostOperands k)
 unfoldable pub keyword : ℕ → List ℕ
 keyword k = trimmed (signatureOf k .keyword)
 
--- one rule for all rows: what is forced if some operand is the controlling value, its opposite if all are the other value, else
--- undefined
+-- the value of a gate with a row, one rule for all of them: what is forced if some operand is the controlling value,
+-- its opposite if all are the other value, else undefined
 unfoldable pub ruled : Row → List Value → Value
 ruled r vs =
     cond (any (λ v. eqb (code v) (r .controlling)) vs) (valueOf (r .forced))
@@ -76,7 +77,7 @@ unfoldable pub ones : List Value → ℕ
 ones [] = 0
 ones (v ∷ vs) = cond (eqb (code v) 1) (suc (ones vs)) (ones vs)
 
--- 1 if an odd number of operands is 1, 0 if an even number is; undefined if any operand is
+-- the value of `xor`: 1 if an odd number of operands is 1, 0 if an even number is; undefined if any operand is
 unfoldable pub parity : List Value → Value
 parity vs = cond (all isDefined vs) (valueOf (ones vs % 2)) undefined
 

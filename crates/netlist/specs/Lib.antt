@@ -1,4 +1,5 @@
--- The definitions: what a reader of the library must believe. One file to a topic of docs/SPECIFICATION.md, lower ones first.
+-- The definitions: what a reader of the library must believe. One file to a topic of docs/SPECIFICATION.md, lower ones
+-- first.
 pub mod Limits
 pub mod Values
 pub mod Kinds

@@ -8,11 +8,11 @@ use lib.Dec.{eqb}
 abbrev pub lf : ℕ
 lf = 10
 
--- a place past the end is the end
+-- the place, or the text's end where the place is past it
 unfoldable pub clamped : List ℕ → ℕ → ℕ
 clamped text place = min place (length text)
 
--- behind the last LF among the first p bytes
+-- the start of a line: behind the last LF among the first p bytes
 unfoldable pub startBefore : List ℕ → ℕ → ℕ
 startBefore text zero = 0
 startBefore text (suc p) = cond (eqb (getD text p 0) lf) (suc p) (startBefore text p)

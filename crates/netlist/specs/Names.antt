@@ -1,9 +1,10 @@
--- SPECIFICATION 1.2: which names are legal: one to eight letters, digits and `_`, no digit in front; an input's name and a port begin with a letter.
+-- SPECIFICATION 1.2: which names are legal: one to eight letters, digits and `_`, no digit in front; an input's name
+-- and a port begin with a letter.
 use Prim.Native.Nat.{ℕ}
 use mathlib.Core.Bool.{Bool, _&&_, _||_}
 use lib.ListN.{length, getD}
 use lib.Dec.{eqb, leb}
-use Rattle.laws.specs.Lists.{all}
+use Rattle.prelude.specs.Lists.{all}
 use Rattle.netlist.specs.Limits.{maxName}
 use Rattle.netlist.specs.Netlist.{Name}
 

@@ -1,4 +1,5 @@
--- A netlist as a record: what the text (SPECIFICATION 1) and the stored block (2) both stand for, and what the meaning is defined on.
+-- A netlist as a record: what the text (SPECIFICATION 1) and the stored block (2) both stand for, and what the meaning
+-- is defined on.
 use Prim.Native.Nat.{ℕ}
 use mathlib.Core.Bool.{Bool}
 use mathlib.Core.List.{List, []}
@@ -23,14 +24,15 @@ pub record Output : Type 0 where
   pub port : Name
   pub node : Operand
 
--- its never lines are assignments of its inputs: the settings that agree with one of them never come
+-- A block. Its never lines are assignments of its inputs: the settings that agree with one of them never come
+-- (don't-cares).
 pub record Block : Type 0 where
   pub inputs : List Name
   pub nevers : List Assignment
   pub gates : List Gate
   pub outputs : List Output
 
--- n, m, k and the number of never lines
+-- the number of inputs (n), of gates (m), of outputs (k) and of never lines
 abbrev pub inputCount : Block → ℕ
 inputCount b = length (b .inputs)
 

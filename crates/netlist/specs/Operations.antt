@@ -1,12 +1,12 @@
--- SPECIFICATION 7.3 and 7.5 to 7.11: one definition for each operation. Its conditions stand in the order in which they are tested, each is
--- over the whole input, and the first that holds is answered. Where an operation has a slice for its result, `room` is the slice's length,
--- and 11 is the last condition.
+-- SPECIFICATION 7.3 and 7.5 to 7.11: one definition for each operation. Its conditions stand in the order in which they
+-- are tested, each is over the whole input, and the first that holds is answered. Where an operation has a slice for
+-- its result, `room` is the slice's length, and 11 is the last condition.
 use Prim.Native.Nat.{ℕ, _-_}
 use mathlib.Core.Bool.{Bool, not, _||_}
 use mathlib.Core.List.{List, [], map}
 use lib.ListN.{length}
 use lib.Dec.{eqb, leb, ltb}
-use Rattle.laws.specs.Lists.{all}
+use Rattle.prelude.specs.Lists.{all}
 use Rattle.netlist.specs.declared.Refusal.the-variants.{TextTooLong, SyntaxError, OverLimit, DuplicateDeclaration, UndeclaredName, MalformedBlock}
 use Rattle.netlist.specs.declared.Refusal.the-variants.{BadSetting, TooManyCopies, NotSettled, NotStraight}
 use Rattle.netlist.specs.Limits.{maxText, maxCopies}
@@ -37,7 +37,7 @@ readTree t =
     (refuseAt (firstUndeclared t) UndeclaredName
     (counted (encode (blockOf t)))))
 
--- the place is the number of bytes before the bad one
+-- refusal 2 of Read: the place is the number of bytes before the bad one
 unfoldable pub readParsed : List ℕ → Parsed Tree → Outcome
 readParsed text (stuck left) = refused (SyntaxError (length text - left))
 readParsed text (got t rest) = readTree t
@@ -52,7 +52,7 @@ read text room = inRoom room (readText text)
 
 -- ---- 7.5 Settle (6, 7, 11): the codes of the settled values; count: rounds
 
--- 7: another length than n, or a byte that is no code
+-- refusal 7: another length than n, or a byte that is no value's code
 unfoldable pub isBadSetting : Block → List ℕ → Bool
 isBadSetting b setting = not (eqb (length setting) (inputCount b)) || not (all (λ v. leb v 2) setting)
 
@@ -97,7 +97,7 @@ groupsOf ws room =
 
 -- ---- 7.9 Render (6, 8, 9, 11): the rendered block; count: words
 
--- 8 where there are too many copies, else 9 where some setting is not settled, with the lowest such
+-- Render's refusals: 8 where there are too many copies, else 9 where some setting is not settled, with the lowest such
 unfoldable pub renderBlock : Block → Outcome
 renderBlock b =
     refuseIf (ltb maxCopies (copyCount b)) TooManyCopies

@@ -1,11 +1,12 @@
--- SPECIFICATION 1, 7.2 (refusal 2): the tree of a text, or where its form breaks. A reader takes what it can from the front of a text and
--- answers a value with the rest, or the number of bytes left from the bad one on; so a place needs no arithmetic until the very end.
+-- SPECIFICATION 1, 7.2 (refusal 2): the tree of a text, or where its form breaks, by parser combinators for recursive
+-- descent with one byte of look-ahead. A reader takes what it can from the front of a text and answers a value with the
+-- rest, or the number of bytes left from the bad one on; so a place needs no arithmetic until the very end.
 use Prim.Native.Nat.{ℕ, zero, suc, _-_}
 use mathlib.Core.Bool.{Bool, true, false}
 use mathlib.Core.List.{List, [], _∷_}
 use lib.ListN.{length}
 use lib.Dec.{eqb}
-use Rattle.laws.specs.Lists.{ascii, is}
+use Rattle.prelude.specs.Lists.{ascii, is}
 use Rattle.netlist.specs.Limits.{maxName, maxDepth}
 use Rattle.netlist.specs.Kinds.{fewestOperands, mostOperands}
 use Rattle.netlist.specs.Netlist.{Name}
@@ -22,15 +23,15 @@ Reader A = List ℕ → Parsed A
 -- ---- ways to make a reader
 
 module _ {A : Type 0} where
-  -- reads nothing
+  -- the reader that reads nothing and answers this value
   unfoldable pub pure : A → Reader A
   pure a s = got a s
 
-  -- nothing is legal here
+  -- the reader for which nothing is legal here
   unfoldable pub stop : Reader A
   stop s = stuck (length s)
 
-  -- by a test of the next byte: `first` takes it, `second` does not
+  -- a choice by a test of the next byte: `first` takes it, `second` does not
   unfoldable pub onTest : Bool → (ℕ → Reader A) → Reader A → ℕ → Reader A
   onTest true first second c s = first c s
   onTest false first second c s = second (c ∷ s)
@@ -39,12 +40,12 @@ module _ {A : Type 0} where
   ifNext test first second [] = second []
   ifNext test first second (c ∷ s) = onTest (test c) first second c s
 
-  -- these bytes, and then
+  -- reads these bytes, and then goes on
   unfoldable pub expect : List ℕ → Reader A → Reader A
   expect [] next = next
   expect (c ∷ cs) next = ifNext (eqb c) (λ _. expect cs next) stop
 
-  -- the text ends here
+  -- answers this value if the text ends here
   abbrev pub nothingBehind : A → Reader A
   nothingBehind a [] = got a []
   nothingBehind a (c ∷ s) = stuck (length (c ∷ s))
@@ -54,13 +55,13 @@ module _ {A B : Type 0} where
   onParsed next (got a s) = next a s
   onParsed next (stuck left) = stuck left
 
-  -- one after the other
+  -- one reader after the other
   unfoldable pub bind : Reader A → (A → Reader B) → Reader B
   bind first next s = onParsed next (first s)
 
 -- ---- names and expressions
 
--- at most this many name bytes
+-- reads at most this many name bytes
 unfoldable pub nameBytes : ℕ → Reader Name
 nameBytes zero = pure []
 nameBytes (suc most) = ifNext isNameByte (λ c. bind (nameBytes most) (λ cs. pure (c ∷ cs))) (pure [])
@@ -71,7 +72,7 @@ nameAfter c = bind (nameBytes (maxName - 1)) (λ cs. pure (c ∷ cs))
 unfoldable pub nameReader : (ℕ → Bool) → Reader Name
 nameReader start = ifNext start nameAfter stop
 
--- the number of a kind; words go by common beginnings
+-- reads a kind's keyword and answers its number; keywords go by common beginnings
 unfoldable pub kindReader : Reader ℕ
 kindReader =
     ifNext (is "a") (λ _. expect (ascii "nd") (pure 1))
@@ -87,29 +88,29 @@ kindReader =
     (ifNext (is "n") (λ _. expect (ascii "or") (pure 6)) stop))
     stop)))
 
--- an operand after its space, and then the others
+-- reads an operand after its space, and then the others
 unfoldable pub spaced : Reader Term → Reader Terms → Reader Terms
 spaced term others = expect (ascii " ") (bind term (λ t. bind others (λ ts. pure (cons t ts))))
 
--- at most this many operands, of which this many are needed, and the closing bracket
+-- reads at most this many operands, of which this many are needed, and the closing bracket
 unfoldable pub termsReader : Reader Term → ℕ → ℕ → Reader Terms
 termsReader term zero needed = expect (ascii ")") (pure nil)
 termsReader term (suc most) zero = ifNext (is ")") (λ _. pure nil) (spaced term (termsReader term most zero))
 termsReader term (suc most) (suc needed) = spaced term (termsReader term most needed)
 
--- an expression behind its opening bracket
+-- reads an expression behind its opening bracket
 unfoldable pub exprReader : {A : Type 0} → Reader Term → (ℕ → Terms → A) → Reader A
 exprReader term make =
     bind kindReader (λ k. bind (termsReader term (mostOperands k) (fewestOperands k)) (λ ts. pure (make k ts)))
 
--- an operand that is a name or a constant, or else `inner`
+-- reads an operand that is a name or a constant, or else `inner`
 unfoldable pub leafOr : Reader Term → Reader Term
 leafOr inner =
     ifNext isNameStart (λ c. bind (nameAfter c) (λ s. pure (name s)))
     (ifNext (is "0") (λ _. pure (literal false))
     (ifNext (is "1") (λ _. pure (literal true)) inner))
 
--- an operand, with `depth` levels of expressions left
+-- reads an operand, with `depth` levels of expressions left
 unfoldable pub termReader : ℕ → Reader Term
 termReader zero = leafOr stop
 termReader (suc depth) = leafOr (expect (ascii "(") (exprReader (termReader depth) apply))
@@ -119,24 +120,24 @@ termReader (suc depth) = leafOr (expect (ascii "(") (exprReader (termReader dept
 unfoldable pub bitReader : Reader Bool
 bitReader = ifNext (is "0") (λ _. pure false) (ifNext (is "1") (λ _. pure true) stop)
 
--- a pair behind its space
+-- reads a pair behind its space
 unfoldable pub pairReader : Reader Pair
 pairReader =
     expect (ascii "(")
     (bind (nameReader isNameStart) (λ s. expect (ascii " ")
     (bind bitReader (λ v. expect (ascii ")") (pure (record { name = s; value = v }))))))
 
--- a pair after its space, and then the others
+-- reads a pair after its space, and then the others
 unfoldable pub spacedPair : Reader (List Pair) → Reader (List Pair)
 spacedPair others = expect (ascii " ") (bind pairReader (λ p. bind others (λ ps. pure (p ∷ ps))))
 
--- at most this many pairs, of which this many are needed, and the closing bracket
+-- reads at most this many pairs, of which this many are needed, and the closing bracket
 unfoldable pub pairsReader : ℕ → ℕ → Reader (List Pair)
 pairsReader zero needed = expect (ascii ")") (pure [])
 pairsReader (suc most) zero = ifNext (is ")") (λ _. pure []) (spacedPair (pairsReader most zero))
 pairsReader (suc most) (suc needed) = spacedPair (pairsReader most needed)
 
--- the pairs of a never line, at least one; no text has more pairs than bytes
+-- reads the pairs of a never line, at least one; no text has more pairs than bytes
 unfoldable pub neverPairs : Reader (List Pair)
 neverPairs s = pairsReader (length s) 1 s
 
@@ -187,11 +188,12 @@ outputLine others otherwise =
 unfoldable pub atEnd : Reader Tree
 atEnd s = nothingBehind (record { inputs = []; nevers = []; gates = []; outputs = [] }) s
 
--- the end of the text, or a line behind its opening bracket
+-- reads the end of the text, or a line behind its opening bracket
 unfoldable pub line : Reader Tree → Reader Tree
 line behind = ifNext (is "(") (λ _. behind) atEnd
 
--- Behind an output only outputs go on, behind a gate no input and no never line, behind a never line no input. The number bounds the lines.
+-- The readers of what may still come: behind an output only outputs, behind a gate no input and no never line, behind a
+-- never line no input. The number bounds the lines.
 unfoldable pub outputsReader : ℕ → Reader Tree
 outputsReader zero s = atEnd s
 outputsReader (suc more) s = line (outputLine (λ r. outputsReader more r) stop) s
@@ -213,6 +215,6 @@ textReader (suc more) s =
     (neverLine (λ r. neversReader more r) (gateLine (λ r. gatesReader more r) (outputLine (λ r. outputsReader more r) stop))))
     s
 
--- no text has more lines than bytes
+-- the tree of a whole text; no text has more lines than bytes
 unfoldable pub parse : List ℕ → Parsed Tree
 parse text = textReader (length text) text

@@ -1,7 +1,7 @@
 -- SPECIFICATION 8: what the program `unloop` writes, the text of the rendering or the line of the first refusal.
 use Prim.Native.Nat.{ℕ}
 use mathlib.Core.List.{List, _++_}
-use Rattle.laws.specs.Lists.{ascii}
+use Rattle.prelude.specs.Lists.{ascii}
 use Rattle.netlist.specs.declared.Refusal.{Refusal}
 use Rattle.netlist.specs.Writing.{decimal}
 use Rattle.netlist.specs.Answers.{Outcome, done, refused, refusalNumber, refusalDetail}

@@ -1,12 +1,12 @@
--- SPECIFICATION 1.2, 1.4 and refusals 3 to 5 of 7.2: the counts, the declared and the used names with their places, and the netlist of
--- a tree.
+-- SPECIFICATION 1.2, 1.4 and refusals 3 to 5 of 7.2: the counts, the declared and the used names with their places, and
+-- the netlist of a tree.
 use Prim.Native.Nat.{ℕ, suc, _+_}
 use mathlib.Core.Bool.{Bool, false, cond, not, _&&_}
 use mathlib.Core.List.{List, [], _∷_, _++_, map}
 use mathlib.Core.Option.{Option, none, some}
 use lib.ListN.{length}
 use lib.Dec.{leb}
-use Rattle.laws.specs.Lists.{ascii, same, memberList, sum}
+use Rattle.prelude.specs.Lists.{ascii, same, memberList, sum}
 use Rattle.netlist.specs.Limits.{maxInputs, maxNevers, maxGates, maxOutputs}
 use Rattle.netlist.specs.Values.{Value, undefined, val, isDefined}
 use Rattle.netlist.specs.Assignments.{Assignment, maskOf, isOne}
@@ -62,7 +62,7 @@ outputLinesAt t = gateLinesAt t + linesLength printGate (t .gates)
 unfoldable pub inputMention : Name → ℕ → List Mention
 inputMention s at = record { name = s; place = at + length (ascii "(in ") } ∷ []
 
--- of a pair whose space is at `at`
+-- the name of a pair whose space is at `at`, with its place
 unfoldable pub pairMention : Pair → ℕ → List Mention
 pairMention p at = record { name = p .name; place = at + length (ascii " (") } ∷ []
 
@@ -108,7 +108,8 @@ usedNames t =
     mentions printGate operandMentions (t .gates) (gateLinesAt t)
     ++ mentions printOutput shownMention (t .outputs) (outputLinesAt t)
 
--- ---- 4: the least place of a declaration that has an equal one of its set before it, or of a name that stands before it in its never line
+-- ---- 4: the least place of a declaration that has an equal one of its set before it, or of a name that stands before
+-- it in its never line
 
 unfoldable pub firstRepeat : List Name → List Mention → Option ℕ
 firstRepeat before [] = none
@@ -124,24 +125,26 @@ lesser none other = other
 lesser (some p) none = some p
 lesser (some p) (some q) = some (cond (leb p q) p q)
 
--- in never lines, the first of which starts at `at`; a name may stand in two of them
+-- the least place of a name that repeats one before it in its never line, of never lines the first of which starts at
+-- `at`; a name may stand in two of them
 unfoldable pub firstRepeatIn : List (List Pair) → ℕ → Option ℕ
 firstRepeatIn [] at = none
 firstRepeatIn (ps ∷ rest) at = orElse (firstRepeat [] (neverMentions ps at)) (firstRepeatIn rest (at + length (printNever ps [])))
 
--- every node is declared before every port
+-- refusal 4 of a text: every node is declared before every port
 unfoldable pub firstDuplicate : Tree → Option ℕ
 firstDuplicate t =
     lesser (firstRepeatIn (t .nevers) (neverLinesAt t))
     (orElse (firstRepeat [] (declaredNodes t)) (firstRepeat [] (declaredPorts t)))
 
--- ---- 5: the least place of a name in a never line that no input declares, or of a use of one that no input or gate declares
+-- ---- 5: the least place of a name in a never line that no input declares, or of a use of one that no input or gate
+-- declares
 
 unfoldable pub firstOutside : List Name → List Mention → Option ℕ
 firstOutside declared [] = none
 firstOutside declared (u ∷ us) = cond (memberList (u .name) declared) (firstOutside declared us) (some (u .place))
 
--- never lines stand before all uses
+-- refusal 5 of a text: never lines stand before all uses
 unfoldable pub firstUndeclared : Tree → Option ℕ
 firstUndeclared t =
     orElse (firstOutside (t .inputs) (excludedNames t))
@@ -157,7 +160,7 @@ unfoldable pub inputBindings : List Name → ℕ → List Binding
 inputBindings [] i = []
 inputBindings (s ∷ ss) i = record { name = s; node = input i } ∷ inputBindings ss (suc i)
 
--- a line's own gate closes last; `first` gates stand before the line
+-- the gates' names with their nodes: a line's own gate closes last, and `first` gates stand before the line
 unfoldable pub gateBindings : List GateLine → ℕ → List Binding
 gateBindings [] first = []
 gateBindings (g ∷ gs) first =

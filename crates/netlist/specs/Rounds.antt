@@ -1,10 +1,12 @@
--- SPECIFICATION 3.3, 3.4: rounds, settled values, settings. The last two counts are those of Verdict (7.6).
+-- SPECIFICATION 3.3, 3.4: three-valued simulation of a block that may have loops, as Malik has it ("Analysis of cyclic
+-- combinational circuits", 1994): rounds from all gates undefined up to their least fixpoint, the settled values; and
+-- settings. The last two counts are those of Verdict (7.6).
 use Prim.Native.Nat.{ℕ, zero, suc, _^_}
 use mathlib.Core.Bool.{Bool, not, _&&_, _||_}
 use mathlib.Core.List.{List, map}
 use lib.ListN.{getD, replicate}
 use lib.Dec.{eqb}
-use Rattle.laws.specs.Lists.{same, all, any, tab, countBelow, least}
+use Rattle.prelude.specs.Lists.{same, all, any, tab, countBelow, least}
 use Rattle.netlist.specs.Values.{Value, undefined, val, code, isDefined}
 use Rattle.netlist.specs.Assignments.{bit, agrees}
 use Rattle.netlist.specs.Kinds.{gateValue}
@@ -19,7 +21,7 @@ operandValue x state (constant b) = val b
 unfoldable pub evaluated : List Value → List Value → Gate → Value
 evaluated x state g = gateValue (g .kind) (map (operandValue x state) (g .operands))
 
--- every gate anew, all from the same state
+-- one round (Jacobi iteration): every gate anew, all from the same state
 unfoldable pub round : Block → List Value → List Value → List Value
 round b x state = map (evaluated x state) (b .gates)
 
@@ -28,15 +30,15 @@ unfoldable pub afterRounds : Block → List Value → ℕ → List Value
 afterRounds b x zero = replicate (gateCount b) undefined
 afterRounds b x (suc r) = round b x (afterRounds b x r)
 
--- a further round changes nothing
+-- the state after so many rounds is a fixpoint: a further round changes nothing
 unfoldable pub isStable : Block → List Value → ℕ → Bool
 isStable b x r = same (map code (afterRounds b x (suc r))) (map code (afterRounds b x r))
 
--- how many rounds change something; m are always enough (`rounds-stable` in crates/rounds)
+-- how many rounds change something; m are always enough (`rounds-stable` in crates/theory_fixpoint)
 unfoldable pub rounds : Block → List Value → ℕ
 rounds b x = least (isStable b x) (gateCount b)
 
--- the first state that its own round leaves as it is
+-- the settled values, the least fixpoint: the first state that its own round leaves as it is
 unfoldable pub settled : Block → List Value → List Value
 settled b x = afterRounds b x (rounds b x)
 
@@ -59,7 +61,8 @@ outputValue x state o = operandValue x state (o .node)
 unfoldable pub outputsUnder : Block → ℕ → List Value
 outputsUnder b s = map (outputValue (settingOf (inputCount b) s) (settledUnder b s)) (b .outputs)
 
--- every output is 0 or 1 under setting number s, whatever the gates are that no output shows; so is every setting of a block without outputs
+-- every output is 0 or 1 under setting number s, whatever the gates are that no output shows; so is every setting of a
+-- block without outputs
 unfoldable pub isSettled : Block → ℕ → Bool
 isSettled b s = all isDefined (outputsUnder b s)
 
@@ -67,15 +70,16 @@ isSettled b s = all isDefined (outputsUnder b s)
 unfoldable pub isExcluded : Block → ℕ → Bool
 isExcluded b s = any (λ a. agrees (inputCount b) a s) (b .nevers)
 
--- it may come, and is settled
+-- setting number s may come, and is settled
 unfoldable pub isCounted : Block → ℕ → Bool
 isCounted b s = not (isExcluded b s) && isSettled b s
 
--- it never comes, or is settled
+-- setting number s never comes, or is settled
 unfoldable pub isSoundAt : Block → ℕ → Bool
 isSoundAt b s = isExcluded b s || isSettled b s
 
--- how many settings that may come are settled; and the lowest of them that is not, or the number of settings where there is none
+-- how many settings that may come are settled; and the lowest of them that is not, or the number of settings where
+-- there is none
 unfoldable pub settledSettings : Block → ℕ
 settledSettings b = countBelow (isCounted b) (settingCount b)
 

@@ -1,18 +1,18 @@
--- The bench: a set line `(set (NAME VALUE) ...)` with its LF; its tree is the list of its pairs. What it looks like, which are
--- legal for a number of inputs, and the reader.
+-- The bench (SPECIFICATION 8.2): a set line `(set (NAME VALUE) ...)` with its LF; its tree is the list of its pairs. What it looks like,
+-- which are legal for a number of inputs, and the reader.
 use Prim.Native.Nat.{ℕ}
 use mathlib.Core.Bool.{Bool, _&&_}
 use mathlib.Core.List.{List, _++_}
 use lib.ListN.{length}
 use lib.Dec.{leb}
-use Rattle.laws.specs.Lists.{ascii, all}
+use Rattle.prelude.specs.Lists.{ascii, all}
 use Rattle.netlist.specs.Syntax.{Pair, printPair, isLegalPair, printLines, LegalOf, ViableOf, FirstBadOf}
 use Rattle.netlist.specs.Parse.{Reader, expect, bind, nothingBehind, pairsReader}
 
 unfoldable pub printSetLine : List Pair → List ℕ
 printSetLine ps = ascii "(set" ++ printLines printPair ps (ascii ")\n")
 
--- at most as many pairs as inputs
+-- at most as many pairs stand in a set line as there are inputs
 unfoldable pub isLegalSetLine : ℕ → List Pair → Bool
 isLegalSetLine n ps = leb (length ps) n && all isLegalPair ps
 

@@ -1,9 +1,10 @@
--- A sheet of settings in one call: what each record is filled with, and what the call answers.
+-- Sheet (SPECIFICATION 7.12): a sheet of settings in one call: what each record is filled with, and what the call
+-- answers.
 use Prim.Native.Nat.{ℕ}
 use mathlib.Core.Bool.{Bool, cond, not}
 use mathlib.Core.List.{List, [], map}
 use lib.Dec.{eqb}
-use Rattle.laws.specs.Lists.{tab}
+use Rattle.prelude.specs.Lists.{tab}
 use Rattle.netlist.specs.declared.Refusal.the-variants.{MalformedBlock, BadSetting}
 use Rattle.netlist.specs.declared.Record.{Record}
 use Rattle.netlist.specs.Values.{Value, valueOf, isDefined}
@@ -22,7 +23,7 @@ inputByte fixed ones i = cond (eqb (bit fixed i) 1) (bit ones i) 2
 unfoldable pub settingBytes : ℕ → ℕ → ℕ → List ℕ
 settingBytes n fixed ones = tab (inputByte fixed ones) n
 
--- 7: a bit at or above n, or a value bit on an input that is not fixed
+-- refusal 7 of a record: a bit at or above n, or a value bit on an input that is not fixed
 unfoldable pub isBadMasks : ℕ → ℕ → ℕ → Bool
 isBadMasks n fixed ones = not (areMasks n fixed ones)
 
@@ -45,7 +46,7 @@ refusedRecord fixed ones = record { fixed = fixed; ones = ones; number = refusal
 unfoldable pub settledOutputs : Block → List Value → List Value
 settledOutputs b x = outputValues b x (settled b x)
 
--- The answer to two masks.
+-- the answer of a record to its two masks of inputs
 unfoldable pub recordOf : Block → ℕ → ℕ → Record
 recordOf b fixed ones =
     cond (isBadMasks (inputCount b) fixed ones) (refusedRecord fixed ones)
@@ -55,11 +56,11 @@ recordOf b fixed ones =
 unfoldable pub answeredRecord : Block → Record → Record
 answeredRecord b r = recordOf b (r .fixed) (r .ones)
 
--- The records as the call leaves them; with 6 none changes.
+-- the records as the call leaves them; after refusal 6 none changes
 unfoldable pub sheetRecords : List ℕ → List Record → List Record
 sheetRecords ws rs = cond (isMalformed ws) rs (map (answeredRecord (decode ws)) rs)
 
--- The call's own answer (6); count: the records.
+-- the call's own answer (6); count: the records
 unfoldable pub sheet : List ℕ → ℕ → Outcome
 sheet ws count =
     refuseIf (isMalformed ws) MalformedBlock

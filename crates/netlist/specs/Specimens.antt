@@ -1,12 +1,13 @@
--- SPECIFICATION 9.1 to 9.10 and 9.13 to 9.17: the worked examples as one claim over one list, computed from the definitions. The starred specimens stand at
--- its head; behind them those that tell the definitions from their near misses, and worked examples of the bench.
+-- SPECIFICATION 9.1 to 9.10 and 9.13 to 9.17: the worked examples as one claim over one list, computed from the
+-- definitions. The starred specimens stand at its head; behind them those that tell the definitions from their near
+-- misses, and worked examples of the bench.
 use Prim.Native.Nat.{ℕ, suc}
 use Prim.Native.String.{String}
 use mathlib.Core.Path.{_≡_, refl}
 use mathlib.Core.Bool.{Bool, true}
 use mathlib.Core.List.{List, [], _∷_, _++_, map}
 use lib.ListN.{length, replicate}
-use Rattle.laws.specs.Lists.{ascii, same, all, repeated, tab, joined}
+use Rattle.prelude.specs.Lists.{ascii, same, all, repeated, tab, joined}
 use Rattle.netlist.specs.declared.Record.{Record}
 use Rattle.netlist.specs.Limits.{maxText, maxInputs}
 use Rattle.netlist.specs.Values.{undefined, code, valueOf, invert, isDefined}
@@ -66,7 +67,8 @@ use Rattle.netlist.specs.Cells.{areLegalCells, isBadRun, operandBit, num
 use Rattle.netlist.specs.Gather.{renumbered, renumberedGate, renumberedOutput, arranged, numberAt, placeIn, gatheredOrder, gathered, lacksRoom}
 use Rattle.netlist.specs.Gather.{gatherWith, gatheredWords, gather, gatherList, isPermutation, inverse, scattered, scatter}
 
--- What is asked. Where an operation takes a block, the question gives the block's text or its words; `room` is the slice's length.
+-- What is asked. Where an operation takes a block, the question gives the block's text or its words; `room` is the
+-- slice's length.
 pub data Question : Type 0 where
   toRead : List ℕ → (room : ℕ) → Question
   toSettle toPass : List ℕ → (setting : List ℕ) → (room : ℕ) → Question
@@ -83,7 +85,7 @@ pub data Question : Type 0 where
   toScatter : List ℕ → (order : List ℕ) → (room : ℕ) → Question
   toStep : List ℕ → (setting gates : List ℕ) → Question
 
--- number, count and detail, and then the result
+-- an answer as numbers: number, count and detail, and then the result
 unfoldable pub report : Outcome → List ℕ
 report o = numberOf (answerOf o) ∷ countOf (answerOf o) ∷ detailOf (answerOf o) ∷ leftIn o []
 
@@ -94,7 +96,7 @@ asks fixed ones = record { fixed = fixed; ones = ones; number = 9; defined = 9; 
 unfoldable pub fields : Record → List ℕ
 fields r = r .fixed ∷ r .ones ∷ r .number ∷ r .defined ∷ r .values ∷ []
 
--- what the definitions answer
+-- what the definitions answer to a question
 unfoldable pub answered : Question → List ℕ
 answered (toRead text room) = report (read text room)
 answered (toSettle ws setting room) = report (settle ws setting room)
@@ -190,7 +192,7 @@ neverAny = "(in a)\n(never (a 0))\n(never (a 1))\n(never (a 0))\n(gate p (not p)
 unfoldable pub unordered : String
 unordered = "(gate a (not d))\n(gate b (not 0))\n(gate c (and a 1))\n(gate d (not 1))\n(out y c)\n"
 
--- its words with groups side by side, and the gates' old numbers
+-- the words of the block above with its groups side by side, and the gates' old numbers
 unfoldable pub ordered : List ℕ
 ordered =
     0 ∷ 4 ∷ 1 ∷ 0 ∷ 8 ∷ 65534 ∷ 0 ∷ 0 ∷ 0 ∷ 8 ∷ 65535 ∷ 0 ∷ 0 ∷ 0 ∷ 8 ∷ 1 ∷ 0 ∷ 0 ∷ 0 ∷ 17 ∷ 2 ∷ 65535 ∷ 0 ∷ 0 ∷ 121 ∷ 0 ∷ 0 ∷ 0 ∷ 3 ∷ []
@@ -327,8 +329,9 @@ specimens =
     ⇒ ascii "(gate _0 (not 1))\n(gate _1 (not _0))\n(gate _2 (not _1))\n(gate _3 (not _2))\n(gate _4 (not _3))\n"
     ++ ascii "(gate _5 (not _4))\n(gate _6 (not _5))\n(gate _7 (not _6))\n")
     ∷ (toUnloop (ascii "(in _a)\n") ⇒ ascii "(refused 2 4)\n")
-    -- 9.3, malformed: fewer than four words; one word too many; a zero byte inside a name; a name twice; an operand that is no node;
-    -- kind 7; an xor of one; a `not` of two; an operand behind the count; an output that shows a constant. Four that are whole stand between them
+    -- 9.3, malformed: fewer than four words; one word too many; a zero byte inside a name; a name twice; an operand
+    -- that is no node; kind 7; an xor of one; a `not` of two; an operand behind the count; an output that shows a
+    -- constant. Four that are whole stand between them
     ∷ (toWrite (0 ∷ 0 ∷ 0 ∷ []) 99 ⇒ with 6 0)
     ∷ (toWrite (0 ∷ 0 ∷ 0 ∷ 0 ∷ 0 ∷ []) 99 ⇒ with 6 0)
     ∷ (toWrite (1 ∷ 0 ∷ 0 ∷ 0 ∷ 97 ∷ 0 ∷ 0 ∷ 0 ∷ []) 7 ⇒ 0 ∷ 7 ∷ 0 ∷ ascii "(in a)\n")
@@ -348,7 +351,8 @@ specimens =
     ∷ (toShowLine (ascii "ab\ncd") 3 ⇒ ascii "cd")
     ∷ (toShowLine (ascii "ab\ncd") 99 ⇒ ascii "cd")
     ∷ (toShowLine (ascii "ab\n") 3 ⇒ [])
-    -- 9.13, never lines: their words; one more than fits, a name again in one line and in two, and the least place of all repeats
+    -- 9.13, never lines: their words; one more than fits, a name again in one line and in two, and the least place of
+    -- all repeats
     ∷ (toRead (ascii "(in a)\n(in b)\n(never (b 1) (a 0))\n") 14 ⇒ 0 ∷ 14 ∷ 0 ∷ 2 ∷ 0 ∷ 0 ∷ 1 ∷ 97 ∷ 0 ∷ 0 ∷ 0 ∷ 98 ∷ 0 ∷ 0 ∷ 0 ∷ 3 ∷ 2 ∷ [])
     ∷ (toRead (ascii "(in a)\n" ++ repeated 8 (ascii "(never (a 1))\n")) 0 ⇒ with 11 0)
     ∷ (toRead (ascii "(in a)\n" ++ repeated 9 (ascii "(never (a 1))\n")) 0 ⇒ with 3 0)
@@ -370,7 +374,8 @@ specimens =
     ∷ (toWrite (1 ∷ 0 ∷ 0 ∷ 1 ∷ 97 ∷ 0 ∷ 0 ∷ 0 ∷ 3 ∷ 1 ∷ []) 99 ⇒ with 6 0)
     ∷ (toWrite (1 ∷ 0 ∷ 0 ∷ 1 ∷ 97 ∷ 0 ∷ 0 ∷ 0 ∷ 1 ∷ 2 ∷ []) 99 ⇒ with 6 0)
     ∷ (toWrite (1 ∷ 0 ∷ 0 ∷ 1 ∷ 97 ∷ 0 ∷ 0 ∷ 0 ∷ 1 ∷ 1 ∷ []) 99 ⇒ 0 ∷ 21 ∷ 0 ∷ ascii "(in a)\n(never (a 1))\n")
-    -- a setting that never comes is neither counted nor reported, and is in no assignment's way; pairs are written by ascending input
+    -- a setting that never comes is neither counted nor reported, and is in no assignment's way; pairs are written by
+    -- ascending input
     ∷ (toJudge (blockWords never11) ⇒ 0 ∷ 0 ∷ 0 ∷ [])
     ∷ (toCover (blockWords never11) 2 ⇒ 0 ∷ 1 ∷ 0 ∷ 3 ∷ 3 ∷ [])
     ∷ (toJudge (blockWords never4) ⇒ 0 ∷ 3 ∷ 4 ∷ [])
@@ -453,7 +458,8 @@ specimens =
     ∷ (toAnswerLine (blockWords board) (ascii "(set (a 1)\n") 0 ⇒ with 2 10)
     ∷ (toAnswerLine (blockWords board) (ascii "(set)\n\n") 0 ⇒ with 2 6)
     ∷ (toAnswerLine (blockWords board) (ascii "(set (a u))\n") 0 ⇒ with 2 8)
-    -- the bench: a refused line is answered and the next one read; a last line cut off; an empty line among the set lines
+    -- the bench: a refused line is answered and the next one read; a last line cut off; an empty line among the set
+    -- lines
     ∷ (toBench (ascii board ++ ascii "\n(set (b 1) (a 0))\n(set)\n(set (a 2))\n\n(set (a 1) (a 0))\n(set (h 1))\n(set (a 1))\n(set (a")
     ⇒ ascii "(show (z 1) (y 0) (x 0))\n(show (z u) (y u) (x u))\n(refused 2 8)\n(refused 2 0)\n(refused 4 12)\n"
     ++ ascii "(refused 5 6)\n(show (z 1) (y u) (x 1))\n(refused 2 7)\n")
@@ -464,7 +470,8 @@ specimens =
     ∷ (toBench [] ⇒ [])
     ∷ (toBench (ascii "(in a)\n(in a)\n\n(set)\n") ⇒ ascii "(refused 4 11)\n")
     ∷ (toBench (ascii "(in a)\n\n\n(set)\n") ⇒ ascii "(refused 2 0)\n(show)\n")
-    -- a sheet: settled outputs, inputs that are not fixed, a bit at n, a value bit on an input that is not fixed; and no records, and 6
+    -- a sheet: settled outputs, inputs that are not fixed, a bit at n, a value bit on an input that is not fixed; and
+    -- no records, and 6
     ∷ (toFill (blockWords shown4) (asks 3 2 ∷ asks 3 1 ∷ asks 0 0 ∷ asks 2 2 ∷ asks 1 0 ∷ asks 4 0 ∷ asks 3 4 ∷ asks 1 3 ∷ [])
     ⇒ 0 ∷ 8 ∷ 0 ∷ 3 ∷ 2 ∷ 0 ∷ 3 ∷ 1 ∷ 3 ∷ 1 ∷ 0 ∷ 2 ∷ 2 ∷ 0 ∷ 0 ∷ 0 ∷ 0 ∷ 0 ∷ 2 ∷ 2 ∷ 0 ∷ 1 ∷ 1 ∷ 1 ∷ 0 ∷ 0 ∷ 2 ∷ 0
     ∷ 4 ∷ 0 ∷ 7 ∷ 0 ∷ 0 ∷ 3 ∷ 4 ∷ 7 ∷ 0 ∷ 0 ∷ 1 ∷ 3 ∷ 7 ∷ 0 ∷ 0 ∷ [])
@@ -472,7 +479,7 @@ specimens =
     ∷ (toFill [] (asks 1 3 ∷ []) ⇒ 6 ∷ 0 ∷ 0 ∷ 1 ∷ 3 ∷ 9 ∷ 9 ∷ 9 ∷ [])
     ∷ []
 
--- All of them come out as stated.
+-- All specimens come out as stated.
 pub specimens-hold : all right specimens ≡ true
 unfolding code valueOf invert isDefined row rows rowOf isNot isXor isXnor isKind signatureOf fewestOperands mostOperands arityFits keyword ruled ones
     parity gateValue gatesAt outputsAt isLetter isDigit isUnderscore isNameByte isNameStart isLegalName isPlainName isNodeName nameWords bytesAt

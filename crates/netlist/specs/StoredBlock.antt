@@ -4,15 +4,15 @@ use mathlib.Core.Bool.{Bool, true, false, cond, not, _&&_, _||_}
 use mathlib.Core.List.{List, [], _∷_, _++_, map}
 use lib.ListN.{length, getD}
 use lib.Dec.{eqb, leb, ltb}
-use Rattle.laws.specs.Lists.{same, all, tab, joined, trimmed, distinct}
+use Rattle.prelude.specs.Lists.{same, all, tab, joined, trimmed, distinct}
 use Rattle.netlist.specs.Limits.{maxInputs, maxNevers, maxGates, maxOutputs}
 use Rattle.netlist.specs.Assignments.{Assignment, areMasks}
 use Rattle.netlist.specs.Kinds.{isKind, arityFits}
 use Rattle.netlist.specs.Names.{isPlainName}
 use Rattle.netlist.specs.Netlist.{Name, Operand, input, gate, constant, Gate, Output, Block, inputCount, gateCount, outputCount, neverCount}
 
--- ---- 2.1, where the parts stand: four counts, the names of inputs, the never lines, the gates, the outputs; a never line is two masks, an output
--- its port and a node
+-- ---- 2.1, where the parts stand: four counts, the names of inputs, the never lines, the gates, the outputs; a never
+-- line is two masks, an output its port and a node
 
 abbrev pub nameSize : ℕ
 nameSize = 4
@@ -32,7 +32,8 @@ operandWords = 4
 abbrev pub inputsAt : ℕ
 inputsAt = 4
 
--- behind n names, l never lines and m gates
+-- where the never lines stand behind n names; the gates behind l never lines as well; and the outputs behind m gates as
+-- well
 unfoldable pub neversAt : ℕ → ℕ
 neversAt n = inputsAt + nameSize * n
 
@@ -44,7 +45,7 @@ outputsAt n l m = gatesAt n l + gateSize * m
 
 -- ---- names
 
--- 2.2: two bytes to a word, the first of them low; zero bytes fill the last words
+-- the four words of a name (2.2): two bytes to a word, the first of them low; zero bytes fill the last words
 unfoldable pub nameWords : Name → List ℕ
 nameWords s = tab (λ i. getD s (2 * i) 0 + 256 * getD s (2 * i + 1) 0) nameSize
 
@@ -118,7 +119,7 @@ decode ws =
 
 -- ---- 2.4, the rules
 
--- an input or gate that is there: what an output may show
+-- an operand is an input or gate that is there: what an output may show
 unfoldable pub isNode : Block → Operand → Bool
 isNode b (input i) = ltb i (inputCount b)
 isNode b (gate j) = ltb j (gateCount b)
@@ -145,6 +146,6 @@ isWellFormed b =
     && all (λ o. isPlainName (o .port)) (b .outputs) && distinct (map (λ (o : Output). o .port) (b .outputs))
     && all (λ o. isNode b (o .node)) (b .outputs)
 
--- not the encoding of any well-formed block
+-- words are malformed ("torn"): not the encoding of any well-formed block
 unfoldable pub isMalformed : List ℕ → Bool
 isMalformed ws = not (isWellFormed (decode ws) && same (encode (decode ws)) ws)

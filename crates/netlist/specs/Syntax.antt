@@ -1,11 +1,12 @@
--- SPECIFICATION 1, 1.1 to 1.3: syntax trees, what each looks like, and which texts are legal. The place of refusal 2 is of 7.2.
+-- SPECIFICATION 1, 1.1 to 1.3: syntax trees, what each looks like, and which texts are legal. The place of refusal 2 is
+-- of 7.2.
 use Prim.Native.Nat.{ℕ, zero, suc}
 use mathlib.Core.Path.{_≡_}
 use mathlib.Core.Logic.{_⊎_}
 use mathlib.Core.Bool.{Bool, true, false, _&&_}
 use mathlib.Core.List.{List, [], _∷_, _++_}
 use lib.ListN.{length, take}
-use Rattle.laws.specs.Lists.{ascii, all}
+use Rattle.prelude.specs.Lists.{ascii, all}
 use lib.Dec.{leb}
 use Rattle.netlist.specs.Limits.{maxDepth}
 use Rattle.netlist.specs.Values.{Value, undefined, val}
@@ -33,12 +34,12 @@ pub record OutputLine : Type 0 where
   pub port : Name
   pub shown : Name
 
--- an input's name and the value it is given
+-- a pair of a line: an input's name and the value it is given
 pub record Pair : Type 0 where
   pub name : Name
   pub value : Bool
 
--- the lines of a text, in this order; each of the four may be empty; a never line is its pairs
+-- A text's tree: its lines, in this order; each of the four kinds may be missing; a never line is its pairs
 pub record Tree : Type 0 where
   pub inputs : List Name
   pub nevers : List (List Pair)
@@ -62,7 +63,7 @@ unfoldable mutual
 unfoldable pub printInput : Name → List ℕ → List ℕ
 printInput s rest = ascii "(in " ++ (s ++ (ascii ")\n" ++ rest))
 
--- `u` stands in the bench's show lines alone
+-- the byte of a value; `u` stands in the bench's show lines alone
 unfoldable pub valueText : Value → List ℕ
 valueText (val false) = ascii "0"
 valueText (val true) = ascii "1"
@@ -75,11 +76,11 @@ pairText s v rest = ascii " (" ++ (s ++ (ascii " " ++ (valueText v ++ (ascii ")"
 unfoldable pub printPair : Pair → List ℕ → List ℕ
 printPair p rest = pairText (p .name) (val (p .value)) rest
 
--- of a gate
+-- the line of a gate
 unfoldable pub printGate : GateLine → List ℕ → List ℕ
 printGate g rest = ascii "(gate " ++ (g .name ++ (ascii " " ++ printTerm (apply (g .kind) (g .terms)) (ascii ")\n" ++ rest)))
 
--- of an output
+-- the line of an output
 unfoldable pub printOutput : OutputLine → List ℕ → List ℕ
 printOutput o rest = ascii "(out " ++ (o .port ++ (ascii " " ++ (o .shown ++ (ascii ")\n" ++ rest))))
 
@@ -102,7 +103,7 @@ unfoldable pub termCount : Terms → ℕ
 termCount nil = 0
 termCount (cons t ts) = suc (termCount ts)
 
--- with `depth` levels of expressions left
+-- a legal operand, and a legal list of operands, with `depth` levels of expressions left
 unfoldable mutual
   pub isLegalTerm : Term → ℕ → Bool
   isLegalTerm (name s) depth = isNodeName s
@@ -114,18 +115,18 @@ unfoldable mutual
   isLegalTerms nil depth = true
   isLegalTerms (cons t ts) depth = isLegalTerm t depth && isLegalTerms ts depth
 
--- a line's own expression takes the first level
+-- a legal gate line: its own expression takes the first level
 unfoldable pub isLegalGate : GateLine → Bool
 isLegalGate g = isNodeName (g .name) && isLegalTerm (apply (g .kind) (g .terms)) maxDepth
 
 unfoldable pub isLegalOutput : OutputLine → Bool
 isLegalOutput o = isPlainName (o .port) && isNodeName (o .shown)
 
--- the name of any node: whether it is an input's is asked later
+-- a legal pair: the name of any node; whether it is an input's is asked later
 unfoldable pub isLegalPair : Pair → Bool
 isLegalPair p = isNodeName (p .name)
 
--- at least one pair
+-- a legal never line has at least one pair
 unfoldable pub isLegalNever : List Pair → Bool
 isLegalNever ps = leb 1 (length ps) && all isLegalPair ps
 
@@ -140,18 +141,19 @@ pub record LegalOf {A : Type 0} (isLegalTree : A → Bool) (print : A → List �
   pub legal : isLegalTree tree ≡ true
   pub printed : print tree ≡ text
 
--- some legal text begins so
+-- some legal text begins so: the text is a viable prefix
 pub record ViableOf {A : Type 0} (isLegalTree : A → Bool) (print : A → List ℕ) (beginning : List ℕ) : Type 0 where
   pub rest : List ℕ
   pub legal : LegalOf isLegalTree print (beginning ++ rest)
 
--- Refusal 2 at this place: some legal text begins as this one does up to it, none with one byte more, or the text ends there.
+-- Refusal 2 at this place: some legal text begins as this one does up to it, none with one byte more, or the text ends
+-- there.
 pub record FirstBadOf {A : Type 0} (isLegalTree : A → Bool) (print : A → List ℕ) (text : List ℕ) (place : ℕ) : Type 0 where
   pub illegal : LegalOf isLegalTree print text → ⊥
   pub begins : ViableOf isLegalTree print (take place text)
   pub bad : (place ≡ length text) ⊎ (ViableOf isLegalTree print (take (suc place) text) → ⊥)
 
--- of netlist texts
+-- legal netlist texts, viable beginnings of such, and the first bad place of one that is none
 abbrev pub Legal : List ℕ → Type 0
 Legal = LegalOf isLegalTree print
 

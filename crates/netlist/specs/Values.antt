@@ -13,7 +13,7 @@ code (val false) = 0
 code (val true) = 1
 code undefined = 2
 
--- the way back; any other number counts as undefined
+-- the value of a code; any other number counts as undefined
 unfoldable pub valueOf : ℕ → Value
 valueOf zero = val false
 valueOf (suc zero) = val true

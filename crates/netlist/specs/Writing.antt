@@ -4,7 +4,7 @@ use mathlib.Core.Bool.{cond}
 use mathlib.Core.List.{List, [], _∷_, _++_, map}
 use lib.ListN.{getD}
 use lib.Dec.{eqb, ltb}
-use Rattle.laws.specs.Lists.{ascii, keep, upTo, tab}
+use Rattle.prelude.specs.Lists.{ascii, keep, upTo, tab}
 use Rattle.netlist.specs.Assignments.{bit, Assignment, fixes}
 use Rattle.netlist.specs.Netlist.{Name, Operand, input, gate, constant, Output, Block, inputCount, gateCount, gateOf}
 use Rattle.netlist.specs.Syntax.{Term, Terms, name, literal, nil, cons, GateLine, Pair, Tree, print}
@@ -24,7 +24,7 @@ decimal v = digits (suc v) v
 unfoldable pub gateName : ℕ → Name
 gateName j = ascii "_" ++ decimal j
 
--- the name of a node; an output shows no constant
+-- the name of the node that an operand is; an output shows no constant
 unfoldable pub nodeNameOf : Block → Operand → Name
 nodeNameOf b (input i) = getD (b .inputs) i []
 nodeNameOf b (gate j) = gateName j

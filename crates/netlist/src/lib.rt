@@ -1,4 +1,5 @@
-// The declared types of the answers, of a sheet's records and of the table of kinds. specs/ says what each case means; nothing here runs.
+// The declared types of the answers, of a sheet's records and of the table of kinds. specs/ says what each case means;
+// nothing here runs.
 
 // One of the thirteen refusals (SPECIFICATION 7.2), with the place or the setting that it tells.
 pub enum Refusal {
@@ -8,9 +9,9 @@ pub enum Refusal {
     SyntaxError(usize),
     // 3, crowded
     OverLimit,
-    // 4, twice: the place of the earliest declaration that repeats another
+    // 4, twice: the least place of a declaration that has an equal one before it, or of a pin named again in a never line
     DuplicateDeclaration(usize),
-    // 5, unknown: the earliest place of a name that is not declared
+    // 5, unknown: the least place of a name that is not declared, or of one in a never line that is no input
     UndeclaredName(usize),
     // 6, torn
     MalformedBlock,
@@ -18,7 +19,7 @@ pub enum Refusal {
     BadSetting,
     // 8, swollen
     TooManyCopies,
-    // 9, undecided: the lowest setting that is not settled
+    // 9, undecided: the lowest setting that may come and is not settled
     NotSettled(usize),
     // 10, looped
     NotStraight,
@@ -36,8 +37,8 @@ pub enum Answer {
     Refused(Refusal),
 }
 
-// A row of the table of kinds: the least and the greatest operand count, the controlling value, what it forces, and the keyword's
-// bytes, zero behind its end.
+// A row of the table of kinds: the least and the greatest operand count, the controlling value, what it forces, and the
+// keyword's bytes, zero behind its end.
 pub struct Row {
     pub fewest: usize,
     pub most: usize,
@@ -46,7 +47,8 @@ pub struct Row {
     pub keyword: [u8; 4],
 }
 
-// How an expression of a kind looks: the least and the greatest operand count, and the keyword's bytes, zero behind its end.
+// How an expression of a kind looks: the least and the greatest operand count, and the keyword's bytes, zero behind its
+// end.
 pub struct Signature {
     pub fewest: usize,
     pub most: usize,
@@ -61,8 +63,8 @@ pub struct Reply {
     pub detail: usize,
 }
 
-// A record of a sheet: the caller's mask of fixed inputs and of those at 1, and the answer's own refusal number (0 on success), mask
-// of defined outputs and mask of outputs at 1.
+// A record of a sheet: the caller's mask of fixed inputs and of those at 1, and the answer's own refusal number (0 on
+// success), mask of defined outputs and mask of outputs at 1.
 #[repr(C)]
 pub struct Record {
     pub fixed: u16,

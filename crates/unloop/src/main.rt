@@ -1,7 +1,7 @@
-// The program `unloop` (SPECIFICATION 8): reads a text on standard input and writes the rendered text, or the refusal's line. One byte more
-// than the longest text is read, so that a longer one is refused.
-use layout::limits::MAX_TEXT;
-use layout::limits::WRITTEN_BYTES;
+// The program `unloop` (SPECIFICATION 8): reads a text on standard input and writes the rendered text, or the refusal's
+// line. One byte more than the longest text is read, so that a longer one is refused.
+use words_layout::limits::MAX_TEXT;
+use words_layout::limits::WRITTEN_BYTES;
 
 fn main() {
     let mut text = [0u8; MAX_TEXT + 1];

@@ -1,6 +1,6 @@
 -- `bench::main` meets its contract: the buffers are long enough, and nothing is prepared yet. Assumes nothing.
 use mathlib.Core.Path.{refl}
-use Rattle.simulate.proofs.Starts.{empty}
+use Rattle.op_settle.proofs.Starts.{empty}
 use borrow.Author.Needs.{needs}
 use Rattle.bench.proofs.main.Statement.{statement}
 use Rattle.bench.proofs.main.Tie as tie
@@ -12,9 +12,4 @@ pub main-spec : {M : Type 1} → statement M
 main-spec =
     tie.close
     (tie.spec
-    (λ c. search needs)
-    (λ c. search needs)
-    (λ c. search needs)
-    (λ c. search needs)
-    serve-requires
-    (λ c. search needs))
+    (λ c. search needs) (λ c. search needs) (λ c. search needs) (λ c. search needs) serve-requires (λ c. search needs))

@@ -7,7 +7,7 @@ use native.Mathlib.Omega.{arith}
 use borrow.Author.Needs.{needs}
 use lib.ListN.{length}
 use lib.Seq.{length-take-le}
-use Rattle.session.specs.Session.{SessionReady}
+use Rattle.bench_session.specs.Session.{SessionReady}
 
 abbrev Inv-loop : tie.InvT-loop
 Inv-loop text₀ words₀ graph₀ fanout₀ line₀ out₀ state₀ more₀ turns₀ text words graph fanout line out state more turns =
@@ -45,20 +45,6 @@ pub serve-spec : {M : Type 1} → statement M
 serve-spec =
     tie.close
     (tie.spec
-    Inv-loop
-    μ-loop
-    (λ c κs. search needs)
-    loop-holds
-    serve-some-requires
-    (λ c. omega arith)
-    (λ c. omega arith)
-    loop-again
-    finish-requires
-    slice-reshare-prefix-write-all
-    slice-aggregate-write-all
-    (λ c κs. search needs)
-    (λ c. omega arith)
-    (λ c. omega arith)
-    (λ c. omega arith)
-    (λ c. omega arith)
-    (λ c. search needs))
+    Inv-loop μ-loop (λ c κs. search needs) loop-holds serve-some-requires (λ c. omega arith) (λ c. omega arith)
+    loop-again finish-requires slice-reshare-prefix-write-all slice-aggregate-write-all (λ c κs. search needs)
+    (λ c. omega arith) (λ c. omega arith) (λ c. omega arith) (λ c. omega arith) (λ c. search needs))

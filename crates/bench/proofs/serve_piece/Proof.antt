@@ -8,8 +8,8 @@ use native.Mathlib.Omega.{arith}
 use borrow.Author.Needs.{needs}
 use lib.ListN.{length, take, drop, length-drop}
 use lib.Seq.{length-take-le}
-use Rattle.laws.proofs.Elements.{rest-is-drop}
-use Rattle.session.specs.Session.{SessionReady}
+use Rattle.prelude.proofs.Elements.{rest-is-drop}
+use Rattle.bench_session.specs.Session.{SessionReady}
 
 abbrev Inv-loop : tie.InvT-loop
 Inv-loop piece text₀ words₀ graph₀ fanout₀ line₀ out₀ state₀ at₀ text words graph fanout line out state at =
@@ -76,21 +76,6 @@ pub serve-piece-spec : {M : Type 1} → statement M
 serve-piece-spec =
     tie.close
     (tie.spec
-    Inv-loop
-    μ-loop
-    loop-holds
-    (λ c. omega arith)
-    (λ c. omega arith)
-    (λ c. omega arith)
-    feed-requires
-    slice-reshare-prefix-write-all
-    slice-aggregate-write-all
-    (λ c κs. search needs)
-    add-at
-    loop-less
-    loop-again
-    (λ c. omega arith)
-    (λ c. omega arith)
-    (λ c. omega arith)
-    (λ c. omega arith)
-    returns)
+    Inv-loop μ-loop loop-holds (λ c. omega arith) (λ c. omega arith) (λ c. omega arith) feed-requires
+    slice-reshare-prefix-write-all slice-aggregate-write-all (λ c κs. search needs) add-at loop-less loop-again
+    (λ c. omega arith) (λ c. omega arith) (λ c. omega arith) (λ c. omega arith) returns)

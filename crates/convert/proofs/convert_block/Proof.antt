@@ -5,7 +5,7 @@ use Rattle.convert.proofs.convert_block.Statement.{statement}
 use Rattle.convert.proofs.convert_block.Tie as tie
 use lib.ListN.{length}
 use Rattle.netlist.specs.Operations.{render, renderWords, writeWords}
-use Rattle.telling.proofs.Told.{told-refused, told-done, gave-within, shown-is}
+use Rattle.text_refusal_line.proofs.Told.{told-refused, told-done, gave-within, shown-is}
 use Rattle.convert.proofs.Telling.{chained-refused, chained-gave}
 use Rattle.convert.proofs.Sizes.{render-fits}
 use lib.Seq.{length-take-le}
@@ -19,18 +19,6 @@ refused-render c = c .before .before .before .before
 
 abbrev done-render : tie.After-count → tie.After-render
 done-render c = c .before .before .before .before
-
-render-requires : tie.Need-render-requires
-render-requires c κs = search needs
-
-enum-known-why : tie.Need-enum-known-why
-enum-known-why c = search needs
-
-tell-requires : tie.Need-tell-requires
-tell-requires c κs = search needs
-
-enum-known-count : tie.Need-enum-known-count
-enum-known-count c = search needs
 
 slice-reshare-prefix-convert-rendered : tie.Need-slice-reshare-prefix-convert-rendered
 unfolding render
@@ -56,15 +44,6 @@ slice-aggregate-convert-rendered c =
     (told-done (renderWords (a .words .now)) _ (a .copies .now) _ f (done-render n .render .ensures .promise)
     (n .count .given .0 .0) (n .count .given .0 .1 .0) (n .count .given .1))))
 
-convert-rendered-requires : tie.Need-convert-rendered-requires
-convert-rendered-requires c κs = search needs
-
-same-length : tie.Need-same-length
-same-length c = search needs
-
-same-length-2 : tie.Need-same-length-2
-same-length-2 c = search needs
-
 returns : tie.Need-returns
 unfolding render
 returns c =
@@ -77,12 +56,6 @@ returns c =
     (chained-refused o writeWords (w .why .given .0 .0)
     (told-refused o _ (a .copies .now) _ f (refused-render w .render .ensures .promise) (w .why .given .0 .0) (w .why .given .1)))
     (c .before .before .tell .ensures)
-
-same-length-3 : tie.Need-same-length-3
-same-length-3 c = search needs
-
-same-length-4 : tie.Need-same-length-4
-same-length-4 c = search needs
 
 returns-2 : tie.Need-returns-2
 unfolding render
@@ -102,16 +75,6 @@ pub convert-block-spec : {M : Type 1} → statement M
 convert-block-spec =
     tie.close
     (tie.spec
-    render-requires
-    enum-known-why
-    tell-requires
-    enum-known-count
-    slice-reshare-prefix-convert-rendered
-    slice-aggregate-convert-rendered
-    convert-rendered-requires
-    same-length
-    same-length-2
-    returns
-    same-length-3
-    same-length-4
-    returns-2)
+    (λ c κs. search needs) (λ c. search needs) (λ c κs. search needs) (λ c. search needs)
+    slice-reshare-prefix-convert-rendered slice-aggregate-convert-rendered (λ c κs. search needs) (λ c. search needs)
+    (λ c. search needs) returns (λ c. search needs) (λ c. search needs) returns-2)

@@ -4,7 +4,7 @@ use Rattle.convert.proofs.convert_rendered.Statement.{statement}
 use Rattle.convert.proofs.convert_rendered.Tie as tie
 use lib.ListN.{length}
 use Rattle.netlist.specs.Operations.{write, writeWords}
-use Rattle.telling.proofs.Told.{told-refused, kept-refused, told-done, shown-refused, shown-gave}
+use Rattle.text_refusal_line.proofs.Told.{told-refused, kept-refused, told-done, shown-refused, shown-gave}
 use Rattle.convert.proofs.Sizes.{write-fits}
 
 -- the entry, and what Write told on each way
@@ -16,21 +16,6 @@ refused-write c = c .before .before .before .before
 
 abbrev done-write : tie.After-count → tie.After-write
 done-write c = c .before .before .before .before
-
-write-requires : tie.Need-write-requires
-write-requires c κs = search needs
-
-enum-known-why : tie.Need-enum-known-why
-enum-known-why c = search needs
-
-tell-requires : tie.Need-tell-requires
-tell-requires c κs = search needs
-
-enum-known-count : tie.Need-enum-known-count
-enum-known-count c = search needs
-
-same-length : tie.Need-same-length
-same-length c = search needs
 
 returns : tie.Need-returns
 unfolding write
@@ -44,9 +29,6 @@ returns c =
     let why = w .why .given in
     shown-refused o (why .0 .0) (a .out .now) _ _ _
     (told-refused o _ (a .out .now) _ f e (why .0 .0) (why .1)) (kept-refused o _ (a .out .now) _ f e (why .0 .0) (why .1)) (c .before .before .tell .ensures)
-
-same-length-2 : tie.Need-same-length-2
-same-length-2 c = search needs
 
 returns-2 : tie.Need-returns-2
 unfolding write
@@ -63,11 +45,5 @@ pub convert-rendered-spec : {M : Type 1} → statement M
 convert-rendered-spec =
     tie.close
     (tie.spec
-    write-requires
-    enum-known-why
-    tell-requires
-    enum-known-count
-    same-length
-    returns
-    same-length-2
-    returns-2)
+    (λ c κs. search needs) (λ c. search needs) (λ c κs. search needs) (λ c. search needs) (λ c. search needs) returns
+    (λ c. search needs) returns-2)

@@ -5,8 +5,8 @@ use Rattle.convert.proofs.convert_with.Statement.{statement}
 use Rattle.convert.proofs.convert_with.Tie as tie
 use lib.ListN.{length}
 use Rattle.netlist.specs.Operations.{read, readText}
-use Rattle.telling.proofs.Told.{told-refused, told-done, gave-within}
-use Rattle.telling.proofs.Sizes.{read-fits}
+use Rattle.text_refusal_line.proofs.Told.{told-refused, told-done, gave-within}
+use Rattle.text_refusal_line.proofs.Sizes.{read-fits}
 use Rattle.convert.proofs.Telling.{unloop-refused, unloop-gave}
 use lib.Seq.{length-take-le}
 
@@ -19,18 +19,6 @@ refused-read c = c .before .before .before .before
 
 abbrev done-read : tie.After-count → tie.After-read
 done-read c = c .before .before .before .before
-
-read-requires : tie.Need-read-requires
-read-requires c κs = search needs
-
-enum-known-why : tie.Need-enum-known-why
-enum-known-why c = search needs
-
-tell-requires : tie.Need-tell-requires
-tell-requires c κs = search needs
-
-enum-known-count : tie.Need-enum-known-count
-enum-known-count c = search needs
 
 slice-reshare-prefix-convert-block : tie.Need-slice-reshare-prefix-convert-block
 unfolding read
@@ -54,15 +42,6 @@ slice-aggregate-convert-block c =
     (told-done (readText (a .text .now)) _ (a .block .now) _ (read-fits (length (a .block .now)) (s .pre .0) (a .text .now)) (done-read n .read .ensures)
     (n .count .given .0 .0) (n .count .given .0 .1 .0) (n .count .given .1))))
 
-convert-block-requires : tie.Need-convert-block-requires
-convert-block-requires c κs = search needs
-
-same-length : tie.Need-same-length
-same-length c = search needs
-
-same-length-2 : tie.Need-same-length-2
-same-length-2 c = search needs
-
 returns : tie.Need-returns
 unfolding read
 returns c =
@@ -73,15 +52,6 @@ returns c =
     (told-refused (readText (a .text .now)) _ (a .block .now) _ (read-fits (length (a .block .now)) (s .pre .0) (a .text .now)) (refused-read w .read .ensures)
     (w .why .given .0 .0) (w .why .given .1))
     (c .before .before .tell .ensures)
-
-same-length-3 : tie.Need-same-length-3
-same-length-3 c = search needs
-
-same-length-4 : tie.Need-same-length-4
-same-length-4 c = search needs
-
-same-length-5 : tie.Need-same-length-5
-same-length-5 c = search needs
 
 returns-2 : tie.Need-returns-2
 unfolding read
@@ -99,17 +69,6 @@ pub convert-with-spec : {M : Type 1} → statement M
 convert-with-spec =
     tie.close
     (tie.spec
-    read-requires
-    enum-known-why
-    tell-requires
-    enum-known-count
-    slice-reshare-prefix-convert-block
-    slice-aggregate-convert-block
-    convert-block-requires
-    same-length
-    same-length-2
-    returns
-    same-length-3
-    same-length-4
-    same-length-5
-    returns-2)
+    (λ c κs. search needs) (λ c. search needs) (λ c κs. search needs) (λ c. search needs)
+    slice-reshare-prefix-convert-block slice-aggregate-convert-block (λ c κs. search needs) (λ c. search needs)
+    (λ c. search needs) returns (λ c. search needs) (λ c. search needs) (λ c. search needs) returns-2)

@@ -4,17 +4,8 @@ use borrow.Author.Needs.{needs}
 use Rattle.exports.proofs.unloop_bring.Statement.{statement}
 use Rattle.exports.proofs.unloop_bring.Tie as tie
 
-bring-requires : tie.Need-bring-requires
-bring-requires c κs = search needs
-
-reply-of-requires : tie.Need-reply-of-requires
-reply-of-requires c κs = search needs
-
-same-length : tie.Need-same-length
-same-length c = search needs
-
 returns : tie.Need-returns
 returns c = replies (c .before .before .before .bring .ensures) (c .reply-of .ensures)
 
 pub unloop-bring-spec : {M : Type 1} → statement M
-unloop-bring-spec = tie.close (tie.spec bring-requires reply-of-requires same-length returns)
+unloop-bring-spec = tie.close (tie.spec (λ c κs. search needs) (λ c κs. search needs) (λ c. search needs) returns)

@@ -4,14 +4,8 @@ use borrow.Author.Needs.{needs}
 use Rattle.exports.proofs.unloop_compare.Statement.{statement}
 use Rattle.exports.proofs.unloop_compare.Tie as tie
 
-compare-requires : tie.Need-compare-requires
-compare-requires c κs = search needs
-
-reply-of-requires : tie.Need-reply-of-requires
-reply-of-requires c κs = search needs
-
 returns : tie.Need-returns
 returns c = shows-told (c .before .compare .ensures) (c .reply-of .ensures)
 
 pub unloop-compare-spec : {M : Type 1} → statement M
-unloop-compare-spec = tie.close (tie.spec compare-requires reply-of-requires returns)
+unloop-compare-spec = tie.close (tie.spec (λ c κs. search needs) (λ c κs. search needs) returns)

@@ -4,14 +4,8 @@ use borrow.Author.Needs.{needs}
 use Rattle.exports.proofs.unloop_compare_cells.Statement.{statement}
 use Rattle.exports.proofs.unloop_compare_cells.Tie as tie
 
-compare-cells-requires : tie.Need-compare-cells-requires
-compare-cells-requires c κs = search needs
-
-reply-of-requires : tie.Need-reply-of-requires
-reply-of-requires c κs = search needs
-
 returns : tie.Need-returns
 returns c = shows-told (c .before .compare-cells .ensures) (c .reply-of .ensures)
 
 pub unloop-compare-cells-spec : {M : Type 1} → statement M
-unloop-compare-cells-spec = tie.close (tie.spec compare-cells-requires reply-of-requires returns)
+unloop-compare-cells-spec = tie.close (tie.spec (λ c κs. search needs) (λ c κs. search needs) returns)

@@ -4,17 +4,8 @@ use borrow.Author.Needs.{needs}
 use Rattle.exports.proofs.unloop_cover.Statement.{statement}
 use Rattle.exports.proofs.unloop_cover.Tie as tie
 
-cover-requires : tie.Need-cover-requires
-cover-requires c κs = search needs
-
-reply-of-requires : tie.Need-reply-of-requires
-reply-of-requires c κs = search needs
-
-same-length : tie.Need-same-length
-same-length c = search needs
-
 returns : tie.Need-returns
 returns c = replies (c .before .before .before .cover .ensures) (c .reply-of .ensures)
 
 pub unloop-cover-spec : {M : Type 1} → statement M
-unloop-cover-spec = tie.close (tie.spec cover-requires reply-of-requires same-length returns)
+unloop-cover-spec = tie.close (tie.spec (λ c κs. search needs) (λ c κs. search needs) (λ c. search needs) returns)

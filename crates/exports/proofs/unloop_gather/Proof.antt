@@ -4,20 +4,8 @@ use borrow.Author.Needs.{needs}
 use Rattle.exports.proofs.unloop_gather.Statement.{statement}
 use Rattle.exports.proofs.unloop_gather.Tie as tie
 
-gather-requires : tie.Need-gather-requires
-gather-requires c κs = search needs
-
-reply-of-requires : tie.Need-reply-of-requires
-reply-of-requires c κs = search needs
-
-same-length : tie.Need-same-length
-same-length c = search needs
-
-same-length-2 : tie.Need-same-length-2
-same-length-2 c = search needs
-
 returns : tie.Need-returns
 returns c = gather-reply (c .before .before .before .before .before .gather .ensures) (c .reply-of .ensures)
 
 pub unloop-gather-spec : {M : Type 1} → statement M
-unloop-gather-spec = tie.close (tie.spec gather-requires reply-of-requires same-length same-length-2 returns)
+unloop-gather-spec = tie.close (tie.spec (λ c κs. search needs) (λ c κs. search needs) (λ c. search needs) (λ c. search needs) returns)

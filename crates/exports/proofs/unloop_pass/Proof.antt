@@ -4,17 +4,8 @@ use borrow.Author.Needs.{needs}
 use Rattle.exports.proofs.unloop_pass.Statement.{statement}
 use Rattle.exports.proofs.unloop_pass.Tie as tie
 
-pass-requires : tie.Need-pass-requires
-pass-requires c κs = search needs
-
-reply-of-requires : tie.Need-reply-of-requires
-reply-of-requires c κs = search needs
-
-same-length : tie.Need-same-length
-same-length c = search needs
-
 returns : tie.Need-returns
 returns c = pass-reply (c .before .before .before .pass .ensures) (c .reply-of .ensures)
 
 pub unloop-pass-spec : {M : Type 1} → statement M
-unloop-pass-spec = tie.close (tie.spec pass-requires reply-of-requires same-length returns)
+unloop-pass-spec = tie.close (tie.spec (λ c κs. search needs) (λ c κs. search needs) (λ c. search needs) returns)

@@ -4,17 +4,8 @@ use borrow.Author.Needs.{needs}
 use Rattle.exports.proofs.unloop_read.Statement.{statement}
 use Rattle.exports.proofs.unloop_read.Tie as tie
 
-read-requires : tie.Need-read-requires
-read-requires c κs = search needs
-
-reply-of-requires : tie.Need-reply-of-requires
-reply-of-requires c κs = search needs
-
-same-length : tie.Need-same-length
-same-length c = search needs
-
 returns : tie.Need-returns
 returns c = replies (c .before .before .before .read .ensures) (c .reply-of .ensures)
 
 pub unloop-read-spec : {M : Type 1} → statement M
-unloop-read-spec = tie.close (tie.spec read-requires reply-of-requires same-length returns)
+unloop-read-spec = tie.close (tie.spec (λ c κs. search needs) (λ c κs. search needs) (λ c. search needs) returns)

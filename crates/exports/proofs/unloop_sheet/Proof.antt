@@ -1,6 +1,6 @@
 -- `exports::unloop_sheet` meets its contract: a walk of its MIR, by hand. The borrow of the records is opened once, before the loop, and closed once, after it.
 -- A turn takes one record out of the row, calls `answer_masks` with its two masks, and puts the answer in its place. All that the proof knows of the two
--- functions that are called is that they meet their contracts. What the turns come to is in Turns of `sheet`. Assumes nothing.
+-- functions that are called is that they meet their contracts. What the turns come to is in Turns of `op_sheet`. Assumes nothing.
 use mathlib.Core.Path.{_≡_, refl, sym, _∙_, ap, subst}
 use Prim.Native.Nat.{ℕ, zero, suc, _+_, _*_, _<_, _^_}
 use native.Mathlib.Nat.{add-zero, add-suc, suc-add, zero-add, lt-of-lt-of-le, lt-suc-self, lt-irrefl}
@@ -56,19 +56,19 @@ use Rattle.netlist.specs.declared.Reply.{Reply}
 use Rattle.netlist.specs.StoredBlock.{decode, isMalformed}
 use Rattle.netlist.specs.Answers.{answerOf, Shows}
 use Rattle.netlist.specs.Sheet.{recordOf, answeredRecord, sheet}
-use Rattle.sheet.proofs.Turns.{partly, length-partly, partly-next, turn-whole, turns-fit, turns-all}
+use Rattle.op_sheet.proofs.Turns.{partly, length-partly, partly-next, turn-whole, turns-fit, turns-all}
 use Rattle.netlist.proofs.Record as R
 use Rattle.netlist.proofs.Record.Laws as R′
 use Rattle.netlist.proofs.Reply as P
 use Rattle.netlist.proofs.Reply.Laws as P′
-use Rattle.sheet.proofs.reply_to_sheet as started
-use Rattle.sheet.proofs.reply_to_sheet.Symbol as started-def
-use Rattle.sheet.proofs.reply_to_sheet.Symbol.{name as #sheet·reply-to-sheet}
-use Rattle.sheet.proofs.reply_to_sheet.Met as started-thm
-use Rattle.sheet.proofs.record.answer_masks as answered
-use Rattle.sheet.proofs.record.answer_masks.Symbol as answered-def
-use Rattle.sheet.proofs.record.answer_masks.Symbol.{name as #sheet·record·answer-masks}
-use Rattle.sheet.proofs.record.answer_masks.Met as answered-thm
+use Rattle.op_sheet.proofs.reply_to_sheet as started
+use Rattle.op_sheet.proofs.reply_to_sheet.Symbol as started-def
+use Rattle.op_sheet.proofs.reply_to_sheet.Symbol.{name as #op-sheet·reply-to-sheet}
+use Rattle.op_sheet.proofs.reply_to_sheet.Met as started-thm
+use Rattle.op_sheet.proofs.record.answer_masks as answered
+use Rattle.op_sheet.proofs.record.answer_masks.Symbol as answered-def
+use Rattle.op_sheet.proofs.record.answer_masks.Symbol.{name as #op-sheet·record·answer-masks}
+use Rattle.op_sheet.proofs.record.answer_masks.Met as answered-thm
 use Rattle.exports.proofs.unloop_sheet.Key.{name as #exports·unloop-sheet}
 use Rattle.exports.proofs.unloop_sheet as f
 use Rattle.exports.proofs.unloop_sheet.Statement as stated
@@ -268,7 +268,7 @@ module _ {M : Type 1} (𝓤 : URA M) (H : Heap 𝓤) (A : Atoms 𝓤) (W : Given
       ones-fits : Is Row z (LL.vals R.the-type R′.the-laws z) → z .ones < 2 ^ 16
       ones-fits was = LL.owed R.the-type R′.the-laws z _ was .1 .0 .1
 
-    module _ (𝓣 : Tables 𝓤 H) (known : Triple 𝓤 (𝓣 .C #sheet·record·answer-masks) (Answered 𝓤 H A at-mem run))
+    module _ (𝓣 : Tables 𝓤 H) (known : Triple 𝓤 (𝓣 .C #op-sheet·record·answer-masks) (Answered 𝓤 H A at-mem run))
         (l₀ l₁ l₂ l₃ l₄ l₅ l₆ l₇ l₈ l₉ l₁₀ l₁₁ l₁₂ l₁₃ l₁₄ l₁₅ l₁₆ : ℕ) where
       abbrev C : Calls 𝓤 H
       C = 𝓣 .C
@@ -412,8 +412,8 @@ module _ {M : Type 1} (𝓤 : URA M) (H : Heap 𝓤) (A : Atoms 𝓤) (W : Given
           (loop-rule 𝓤 H (W .laws) 𝓣 _<_ (Nat·lt-wfRel .wf) En parts.turn-1 Left Inv turns (r .count))
 
   -- ---- the MIR up to the loop
-  module _ (𝓣 : Tables 𝓤 H) (known : Triple 𝓤 (𝓣 .C #sheet·reply-to-sheet) (Started 𝓤 H A at-mem run))
-      (known′ : Triple 𝓤 (𝓣 .C #sheet·record·answer-masks) (Answered 𝓤 H A at-mem run)) where
+  module _ (𝓣 : Tables 𝓤 H) (known : Triple 𝓤 (𝓣 .C #op-sheet·reply-to-sheet) (Started 𝓤 H A at-mem run))
+      (known′ : Triple 𝓤 (𝓣 .C #op-sheet·record·answer-masks) (Answered 𝓤 H A at-mem run)) where
     module _ (l₀ l₁ l₂ l₃ l₄ l₅ l₆ l₇ l₈ l₉ l₁₀ l₁₁ l₁₂ l₁₃ l₁₄ l₁₅ l₁₆ : ℕ) where
       abbrev Names : Env 𝓤 H
       Names = (P′.mir, l₀) ∷ (words, l₁) ∷ (lent, l₂) ∷ (P′.mir, l₃) ∷ (word, l₄) ∷ (word, l₅) ∷ (word, l₆) ∷ (tyBool, l₇) ∷ (R′.mir, l₈) ∷ (word, l₉) ∷
@@ -487,8 +487,8 @@ module _ {M : Type 1} (𝓤 : URA M) (H : Heap 𝓤) (A : Atoms 𝓤) (W : Given
   goes : AllGo 𝓤 H A W 2 (f.signature .params) (f.ended .kept) stayed
   goes = (goes-none-slice 𝓤 H A W 2 (0 ∷ []) tt (plain (λ _. u16)) yes, (goes-slice 𝓤 H A W 2 1 tt (plain (λ _. R.the-row)), tt))
 
-  module _ (𝓣 : Tables 𝓤 H) (known : Triple 𝓤 (𝓣 .C #sheet·reply-to-sheet) (Started 𝓤 H A at-mem run))
-      (known′ : Triple 𝓤 (𝓣 .C #sheet·record·answer-masks) (Answered 𝓤 H A at-mem run)) where
+  module _ (𝓣 : Tables 𝓤 H) (known : Triple 𝓤 (𝓣 .C #op-sheet·reply-to-sheet) (Started 𝓤 H A at-mem run))
+      (known′ : Triple 𝓤 (𝓣 .C #op-sheet·record·answer-masks) (Answered 𝓤 H A at-mem run)) where
     sheet-walks : Walks 𝓤 H A f.ended stayed (WpFn 𝓤 H (𝓣 .C) (𝓣 .Λ) function) (f.clauses 𝓤 H A at-mem run)
     sheet-walks = walked 𝓤 H A f.ended stayed (f.clauses 𝓤 H A at-mem run) (WpFn 𝓤 H (𝓣 .C) (𝓣 .Λ) function)
         (λ κs. (slice-vals, (slice-vals, tt))) (λ κs. (shr-slice-tells (named 0) (κs .0) u16, (mut-slice-tells (named 1) (κs .1 .0) R.the-row, tt)))
@@ -508,7 +508,7 @@ unloop-sheet-spec 𝓤 H 𝓜 𝓖 𝓡 =
     entered 𝓤 H (tripleOf 𝓤 H (𝓖 .A) f.signature (f.spec 𝓤 H (𝓖 .A) (𝓜 .mem) (𝓡 .run)))
     (tables 𝓤 H 𝓜 𝓡 code.env .C) (tables 𝓤 H 𝓜 𝓡 code.env .Λ) #exports·unloop-sheet code.function (code.unfolded 𝓤 H 𝓜 𝓡)
     (sheet-meets 𝓤 H (𝓖 .A) (givenOf 𝓤 H 𝓜 𝓖) (𝓜 .mem) (𝓡 .run) (tablesOf 𝓤 H 𝓜 (tables 𝓤 H 𝓜 𝓡 code.env))
-    (cited 𝓤 H (Started 𝓤 H (𝓖 .A) (𝓜 .mem) (𝓡 .run)) 𝓜 𝓡 code.env #sheet·reply-to-sheet started-def.routine code.calls-sheet·reply-to-sheet
+    (cited 𝓤 H (Started 𝓤 H (𝓖 .A) (𝓜 .mem) (𝓡 .run)) 𝓜 𝓡 code.env #op-sheet·reply-to-sheet started-def.routine code.calls-op-sheet·reply-to-sheet
     (started-thm.met 𝓤 H 𝓜 𝓖 𝓡))
-    (cited 𝓤 H (Answered 𝓤 H (𝓖 .A) (𝓜 .mem) (𝓡 .run)) 𝓜 𝓡 code.env #sheet·record·answer-masks answered-def.routine code.calls-sheet·record·answer-masks
+    (cited 𝓤 H (Answered 𝓤 H (𝓖 .A) (𝓜 .mem) (𝓡 .run)) 𝓜 𝓡 code.env #op-sheet·record·answer-masks answered-def.routine code.calls-op-sheet·record·answer-masks
     (answered-thm.met 𝓤 H 𝓜 𝓖 𝓡)))

@@ -4,14 +4,8 @@ use borrow.Author.Needs.{needs}
 use Rattle.exports.proofs.unloop_verdict.Statement.{statement}
 use Rattle.exports.proofs.unloop_verdict.Tie as tie
 
-verdict-requires : tie.Need-verdict-requires
-verdict-requires c κs = search needs
-
-reply-of-requires : tie.Need-reply-of-requires
-reply-of-requires c κs = search needs
-
 returns : tie.Need-returns
 returns c = shows-told (c .before .verdict .ensures) (c .reply-of .ensures)
 
 pub unloop-verdict-spec : {M : Type 1} → statement M
-unloop-verdict-spec = tie.close (tie.spec verdict-requires reply-of-requires returns)
+unloop-verdict-spec = tie.close (tie.spec (λ c κs. search needs) (λ c κs. search needs) returns)

@@ -1,1 +1,0 @@
-// No code: the theory of rendering (SPECIFICATION 6).

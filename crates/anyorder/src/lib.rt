@@ -1,1 +1,0 @@
-// No code: gates evaluated one at a time, in any order (SPECIFICATION 3.5).

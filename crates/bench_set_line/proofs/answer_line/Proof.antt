@@ -1,0 +1,11 @@
+-- `bench_set_line::answer_line` meets its contract. Assumes nothing.
+use Rattle.op_settle.proofs.Starts.{blank}
+use borrow.Author.Needs.{needs}
+use Rattle.bench_set_line.proofs.answer_line.Statement.{statement}
+use Rattle.bench_set_line.proofs.answer_line.Tie as tie
+
+answer-with-requires : tie.Need-answer-with-requires
+answer-with-requires c κs = (c .before .before .before .before .before .pre, blank)
+
+pub answer-line-spec : {M : Type 1} → statement M
+answer-line-spec = tie.close (tie.spec answer-with-requires (λ c. search needs) (λ c. search needs))

@@ -1,0 +1,1 @@
+// No code: the bench taken byte by byte is the bench of the whole input.

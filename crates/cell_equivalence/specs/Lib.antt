@@ -1,2 +1,0 @@
--- What the answers of CompareCells say, as sentences.
-pub mod Sentences

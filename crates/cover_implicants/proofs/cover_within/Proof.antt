@@ -1,0 +1,40 @@
+-- `cover_within` meets its contract: the tables are right, so the entries that they show are the cover. Assumes nothing.
+use native.Mathlib.Omega.{arith}
+use Rattle.cover_implicants.proofs.Dropping.{minimal-counted}
+use Rattle.cover_implicants.proofs.Joining.{filled-all}
+use Rattle.cover_implicants.proofs.TableCover.{cover-written}
+use borrow.Author.Needs.{needs}
+use Rattle.cover_implicants.proofs.cover_within.Statement.{statement}
+use Rattle.cover_implicants.proofs.cover_within.Tie as tie
+
+keep-minimal-requires : tie.Need-keep-minimal-requires
+keep-minimal-requires c κs =
+    let sounded = c .before .before .before in
+    let start = sounded .before .before .before .before .before .before .before .before .before .before in
+    (start .pre .0, filled-all (sounded .fill-sound .ensures), sounded .fill-sound .ensures .room)
+
+write-entries-requires : tie.Need-write-entries-requires
+write-entries-requires c κs =
+    let minimal = c .before .before .before .before .before in
+    let sounded = minimal .before .before .before .before in
+    let weighed = sounded .before .before .before .before in
+    let start = weighed .before .before .before .before .before .before in (
+      weighed .fill-weights .ensures,
+      filled-all (sounded .fill-sound .ensures),
+      omega (arith, minimal .keep-minimal .kept .1 .1 .0, sounded .fill-sound .ensures .room),
+      minimal-counted (minimal .keep-minimal .ensures),
+    )
+
+returns : tie.Need-returns
+returns c =
+    let written = c .before .before in
+    let minimal = written .before .before .before .before .before .before in
+    let sounded = minimal .before .before .before .before in
+    cover-written (sounded .fill-sound .ensures) (minimal .keep-minimal .ensures) (written .write-entries .ensures)
+
+pub cover-within-spec : {M : Type 1} → statement M
+cover-within-spec =
+    tie.close
+    (tie.spec
+    (λ c κs. search needs) (λ c κs. search needs) keep-minimal-requires write-entries-requires (λ c. search needs)
+    (λ c. search needs) (λ c. search needs) returns)

@@ -1,0 +1,78 @@
+-- `entries::list_entries` meets its contract: each turn lists a row; where all entries are counted, their words are there. Assumes nothing.
+use Prim.Native.Nat.{_-_, _*_, _^_, _≤_, _<_}
+use mathlib.Core.Path.{ap, _∙_}
+use native.Mathlib.Omega.{arith}
+use mathlib.Core.List.{List}
+use Rattle.prelude.specs.Lists.{placed}
+use Rattle.netlist.specs.Assignments.{Assignment}
+use Rattle.cover_implicants.specs.Over.{assignmentWords}
+use Rattle.cover_implicants.specs.Entries.{EntriesReached, Words}
+use Rattle.cover_implicants.proofs.Bounds.{two-fits}
+use Rattle.cover_implicants.proofs.Listing.{reached-first, words-first, all-reached, row-left}
+use Rattle.cover_implicants.proofs.entries.list_entries.Statement.{statement}
+use Rattle.cover_implicants.proofs.entries.list_entries.Tie as tie
+
+abbrev Inv-loop : tie.InvT-loop
+Inv-loop marks weights n size total out₀ count₀ fixed₀ out count fixed =
+    (fixed ≤ 2 ^ n) × EntriesReached marks n (fixed * 2 ^ n) count × Words marks out₀ out n (fixed * 2 ^ n)
+
+abbrev μ-loop : tie.MeasureT-loop
+μ-loop marks weights n size total out₀ count₀ fixed₀ out count fixed = 2 ^ n - fixed
+
+loop-holds : tie.Need-loop-holds Inv-loop μ-loop
+loop-holds c =
+    let start = c .before .before .before in
+    let args = start .args in
+    (omega arith, reached-first (args .marks .now) (args .n), words-first (args .marks .now) (args .out .now) (args .n))
+
+-- in a turn there is a row left
+more : (c : tie.In-loop Inv-loop μ-loop) → c .before .loop .fixed < 2 ^ (c .before .before .before .before .before .args .n)
+more c = row-left (c .before .loop .inv .1) (omega (arith, c .before .before .before .before .before .pre .1 .0, c .loop-test .taken))
+
+row-base-requires : tie.Need-row-base-requires Inv-loop μ-loop
+row-base-requires c κs =
+    let start = c .before .before .before .before .before in
+    (start .pre .0 .0, start .pre .0 .1, more c)
+
+list-row-requires : tie.Need-list-row-requires Inv-loop μ-loop
+list-row-requires c κs =
+    let start = c .before .before .before .before .before .before .before in
+    let loop = c .before .before .before .loop in (
+      (
+        record { weighed = start .pre .0 .0; room = start .pre .0 .2; legal = more (c .before .before); base-is = c .before .row-base .ensures },
+        loop .inv .1,
+      ),
+      omega (arith, loop .inv .2 .same-length, start .pre .1 .1),
+    )
+
+add-fixed : tie.Need-add-fixed Inv-loop μ-loop
+add-fixed c =
+    let start = c .before .before .before .before .before .before .before .before .before .before in
+    omega (arith, more (c .before .before .before .before .before), two-fits {i = start .args .n} {n = start .args .n} (omega arith) (start .pre .0 .0 .few))
+
+loop-less : tie.Need-loop-less Inv-loop μ-loop
+loop-less c = omega (arith, more (c .before .before .before .before .before))
+
+loop-again : tie.Need-loop-again Inv-loop μ-loop
+loop-again c =
+    let loop = c .before .before .before .before .before .before .loop in
+    let start = c .before .before .before .before .before .before .before .before .before .before in
+    let listed = c .before .before .list-row .ensures in
+    (omega (arith, more (c .before .before .before .before .before)), listed .reached, listed .row (start .args .out .now) (loop .inv .2))
+
+same-length : tie.Need-same-length Inv-loop μ-loop
+same-length c = c .before .loop .inv .2 .same-length
+
+returns : tie.Need-returns Inv-loop μ-loop
+returns c =
+    let loop = c .before .loop in
+    let start = c .before .before .before .before .before in
+    loop .inv .2 .words
+    ∙ ap (λ (xs : List Assignment). placed (assignmentWords xs) (start .args .out .now))
+    (all-reached (loop .inv .1) (omega (arith, start .pre .1 .0, c .loop-test .left)))
+
+pub list-entries-spec : {M : Type 1} → statement M
+list-entries-spec =
+    tie.close
+    (tie.spec
+    Inv-loop μ-loop loop-holds row-base-requires list-row-requires add-fixed loop-less loop-again same-length returns)

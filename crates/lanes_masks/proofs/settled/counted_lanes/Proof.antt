@@ -1,0 +1,13 @@
+-- `lanes_masks::settled::counted_lanes` meets its contract. Assumes nothing.
+use Rattle.lanes_masks.proofs.SettledLaws.{counted-tells}
+use borrow.Author.Needs.{needs}
+use Rattle.lanes_masks.proofs.settled.counted_lanes.Statement.{statement}
+use Rattle.lanes_masks.proofs.settled.counted_lanes.Tie as tie
+
+returns : tie.Need-returns
+returns c =
+    rw (c .used-lanes .ensures) (counted-tells _ (c .before .coming-lanes .ensures) (c .before .before .undecided-lanes .ensures))
+
+pub counted-lanes-spec : {M : Type 1} → statement M
+counted-lanes-spec =
+    tie.close (tie.spec (λ c κs. search needs) (λ c κs. search needs) (λ c κs. search needs) returns)

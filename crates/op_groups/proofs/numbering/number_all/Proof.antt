@@ -1,0 +1,93 @@
+-- `op_groups::numbering::number_all` meets its contract: each turn gives the next group its number. Assumes nothing.
+use Prim.Native.Nat.{_-_, _≤_}
+use native.Mathlib.Omega.{arith}
+use lib.ListN.{length}
+use Rattle.netlist.specs.Groups.{groups}
+use Rattle.graph_gates.specs.Graph.{network}
+use Rattle.op_groups.specs.Numbering.{NumberedUpTo}
+use Rattle.op_groups.specs.Waiting.{allOpen, Waiting}
+use Rattle.op_groups.proofs.Counted.{lowest-in, lowest-next, none-next}
+use Rattle.op_groups.proofs.Turns.{turn-last, turn-within, turn-bare, turn-numbers, numbers-end, end-late}
+use Rattle.op_groups.proofs.numbering.number_all.Statement.{statement}
+use Rattle.op_groups.proofs.numbering.number_all.Tie as tie
+
+abbrev Inv-loop : tie.InvT-loop
+Inv-loop graph m leaders nexts fanout numbers₀ counts₀ ready₀ g₀ numbers counts ready g =
+    (g ≤ length (groups (network m graph))) × NumberedUpTo m graph g numbers × Waiting m leaders numbers m (allOpen graph leaders numbers) counts ready
+
+abbrev μ-loop : tie.MeasureT-loop
+μ-loop graph m leaders nexts fanout numbers₀ counts₀ ready₀ g₀ numbers counts ready g = m - g
+
+loop-holds : tie.Need-loop-holds Inv-loop μ-loop
+loop-holds c = (omega arith, c .pre .numbersAre, c .pre .waiting)
+
+lowest-requires : tie.Need-lowest-requires Inv-loop μ-loop
+lowest-requires c κs = omega (arith, c .before .before .before .loop .inv .2 .readyRoom)
+
+returns : tie.Need-returns Inv-loop μ-loop
+returns c =
+    let found = c .before in
+    let turn = found .before .before .before .before in
+    let s = turn .before in
+    let l = turn .loop in
+    let r = s .pre .linked .prepared in
+    numbers-end r (l .inv .1)
+    (turn-last r (l .g) (l .inv .1) (s .args .m) (none-next r (l .inv .2) (found .lowest .ensures) (c .if1 .taken)) (l .inv .0) (omega arith))
+
+number-group-requires : tie.Need-number-group-requires Inv-loop μ-loop
+number-group-requires c κs =
+    let chosen = c .before .before .before in
+    let found = chosen .before in
+    let test = found .before .before .before in
+    let turn = test .before in
+    let s = turn .before in
+    let l = turn .loop in
+    let r = s .pre .linked .prepared in
+    let next = lowest-next r (l .inv .2) (found .lowest .ensures) (chosen .if1 .left) in
+    let in-set = lowest-in r (l .inv .2) (found .lowest .ensures) (chosen .if1 .left) in
+    record {
+      linked = s .pre .linked;
+      below = chosen .if1 .left;
+      numberFits = omega (arith, test .loop-test .taken, r .legal .few);
+      room = l .inv .1 .room;
+      bare = turn-bare r (l .g) (l .inv .1) (found .lowest .result) next (chosen .if1 .left) (l .inv .2 .sound (found .lowest .result) in-set .bare);
+      chosen = in-set;
+      waiting = l .inv .2;
+    }
+
+add-g : tie.Need-add-g Inv-loop μ-loop
+add-g c =
+    let test = c .before .before .before .before .before .before .before .before in
+    omega (arith, test .loop-test .taken, test .before .before .pre .linked .prepared .legal .few)
+
+loop-less : tie.Need-loop-less Inv-loop μ-loop
+loop-less c = omega (arith, c .before .before .before .before .before .before .before .before .loop-test .taken)
+
+loop-again : tie.Need-loop-again Inv-loop μ-loop
+loop-again c =
+    let chosen = c .before .before .before .before in
+    let found = chosen .before in
+    let turn = found .before .before .before .before in
+    let s = turn .before in
+    let l = turn .loop in
+    let r = s .pre .linked .prepared in
+    let next = lowest-next r (l .inv .2) (found .lowest .ensures) (chosen .if1 .left) in
+    let n = c .number-group .ensures in (
+      turn-within r (l .g) (l .inv .1) (found .lowest .result) next (chosen .if1 .left),
+      turn-numbers r (l .g) (l .inv .1) (found .lowest .result) next (chosen .if1 .left) (n .room) (n .each),
+      n .waiting,
+    )
+
+returns-2 : tie.Need-returns-2 Inv-loop μ-loop
+returns-2 c =
+    let turn = c .before in
+    let s = turn .before in
+    let l = turn .loop in
+    let r = s .pre .linked .prepared in
+    numbers-end r (l .inv .1) (end-late r (l .inv .0) (c .loop-test .left))
+
+pub number-all-spec : {M : Type 1} → statement M
+number-all-spec =
+    tie.close
+    (tie.spec
+    Inv-loop μ-loop loop-holds lowest-requires returns number-group-requires add-g loop-less loop-again returns-2)

@@ -1,0 +1,42 @@
+-- `op_groups::waiting::count_slots` meets its contract: slot after slot is counted. Assumes nothing.
+use Prim.Native.Nat.{_-_, _*_, _≤_}
+use mathlib.Core.Path.{_≡_}
+use native.Mathlib.Omega.{arith}
+use borrow.Author.Needs.{needs}
+use Rattle.graph_gates.specs.Graph.{slots}
+use Rattle.op_groups.specs.Waiting.{Counting}
+use Rattle.op_groups.proofs.waiting.count_slots.Statement.{statement}
+use Rattle.op_groups.proofs.waiting.count_slots.Tie as tie
+
+abbrev Inv-loop : tie.InvT-loop
+Inv-loop graph m leaders counts₀ e₀ counts e = (e ≤ slots * m) × Counting m graph leaders e counts
+
+abbrev μ-loop : tie.MeasureT-loop
+μ-loop graph m leaders counts₀ e₀ counts e = slots * m - e
+
+loop-holds : tie.Need-loop-holds Inv-loop μ-loop
+loop-holds c = (omega arith, c .pre)
+
+mul-loop : tie.Need-mul-loop Inv-loop μ-loop
+mul-loop c = omega (arith, c .loop .inv .1 .prepared .legal .few)
+
+count-slot-requires : tie.Need-count-slot-requires Inv-loop μ-loop
+count-slot-requires c κs = (c .before .before .loop .inv .1, c .before .loop-test .taken)
+
+add-e : tie.Need-add-e Inv-loop μ-loop
+add-e c = omega (arith, c .before .before .loop-test .taken, c .before .before .before .loop .inv .1 .prepared .legal .few)
+
+loop-again : tie.Need-loop-again Inv-loop μ-loop
+loop-again c = (omega (arith, c .before .before .loop-test .taken), c .count-slot .ensures)
+
+returns : tie.Need-returns Inv-loop μ-loop
+returns c =
+    let turn = c .before .loop in
+    let all : turn .e ≡ slots * c .before .before .args .m = omega arith in
+    rw all at (turn .inv .1)
+
+pub count-slots-spec : {M : Type 1} → statement M
+count-slots-spec =
+    tie.close
+    (tie.spec
+    Inv-loop μ-loop loop-holds mul-loop count-slot-requires add-e (λ c. search needs) loop-again returns)

@@ -1,0 +1,40 @@
+-- `op_write::lines::put_input` meets its contract: its three pieces, one after the other. Assumes nothing.
+use native.Mathlib.Omega.{arith}
+use borrow.Author.Needs.{needs}
+use Rattle.prelude.specs.Lists.{ascii}
+use Rattle.op_write.specs.Pieces.{inputText}
+use Rattle.op_write.proofs.Appending.{appended-then, short-first, short-rest}
+use Rattle.op_write.proofs.lines.put_input.Statement.{statement}
+use Rattle.op_write.proofs.lines.put_input.Tie as tie
+
+put-all-requires : tie.Need-put-all-requires
+unfolding inputText
+put-all-requires c κs = short-first {xs = ascii "(in "} _ (c .before .before .before .before .pre .1)
+
+put-name-requires : tie.Need-put-name-requires
+unfolding inputText
+put-name-requires c κs =
+    let opened = c .before .before .before in
+    (omega arith, short-first _ (short-rest _ (opened .before .before .before .before .before .pre .1) (opened .put-all .ensures)))
+
+put-all-requires-2 : tie.Need-put-all-requires-2
+unfolding inputText
+put-all-requires-2 c κs =
+    let named = c .before .before .before .before in
+    let opened = named .before .before .before .before in
+    short-rest _ (short-rest _ (opened .before .before .before .before .before .pre .1) (opened .put-all .ensures)) (named .put-name .ensures)
+
+returns : tie.Need-returns
+unfolding inputText
+returns c =
+    let closed = c .before .before in
+    let named = closed .before .before .before .before .before in
+    let opened = named .before .before .before .before in
+    appended-then (opened .put-all .ensures) (appended-then (named .put-name .ensures) (closed .put-all2 .ensures))
+
+pub put-input-spec : {M : Type 1} → statement M
+put-input-spec =
+    tie.close
+    (tie.spec
+    (λ c. search needs) put-all-requires (λ c. search needs) (λ c. search needs) put-name-requires (λ c. search needs)
+    put-all-requires-2 (λ c. search needs) returns)

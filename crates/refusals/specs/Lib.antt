@@ -1,2 +1,0 @@
--- What the contracts of inner functions add to the definitions of `netlist`.
-pub mod Tests

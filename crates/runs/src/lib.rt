@@ -1,1 +1,0 @@
-// Theory only: the bench byte by byte.

@@ -1,5 +1,0 @@
--- What the contracts of this crate add to the definitions of `netlist` and `graph`.
-pub mod Layers
-pub mod Search
-pub mod Leaders
-pub mod Closure

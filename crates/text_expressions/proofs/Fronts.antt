@@ -1,0 +1,100 @@
+-- What the functions of src/leaves answer, way by way, and what that is at the front of a print. Assumes nothing.
+use mathlib.Core.Path.{_≡_, refl, sym, ap, _∙_}
+use mathlib.Core.Bool.{true, cond}
+use mathlib.Core.List.{List, _++_}
+use Prim.Native.Nat.{ℕ, zero, suc, _+_, _-_, _≤_, _<_}
+use lib.ListN.{length, take, getD}
+use lib.Seq.{length-take-le}
+use lib.Dec.{eqb}
+use borrow.Author.Tests.{ne-eqb, lt-ltb, le-ltb}
+use Rattle.prelude.specs.Lists.{trimmed}
+use Rattle.text_symbols.specs.Packed.{packed, nameFront}
+use Rattle.text_symbols.specs.Search.{indexOf}
+use Rattle.text_expressions.specs.declared.Leaf.{Leaf}
+use Rattle.netlist.specs.Kinds.{isKind, keyword, signatureOf}
+use Rattle.theory_encoding.proofs.Gates.{by-kind}
+use Rattle.text_expressions.specs.Leaves.{kindBehindX, kindHere, wordLength, nameLength, indexHere, earlier, nameHere, constantHere, leafHere}
+
+pub earlier-first : (u v : ℕ) → (u ≡ 0 → ⊥) → u ≡ earlier u v
+unfolding earlier
+earlier-first zero v h = absurd (h refl)
+earlier-first (suc u) v h = refl
+
+pub earlier-none : (u : ℕ) → earlier u 0 ≡ u
+unfolding earlier
+earlier-none zero = refl
+earlier-none (suc u) = refl
+
+pub earlier-assoc : (u v w : ℕ) → earlier (earlier u v) w ≡ earlier u (earlier v w)
+unfolding earlier
+earlier-assoc zero v w = refl
+earlier-assoc (suc u) v w = refl
+
+-- ---- a kind's word
+
+module _ (s : List ℕ) where
+  pub kind-and : getD s 0 0 ≡ 97 → 1 ≡ kindHere s
+  unfolding kindHere
+  kind-and e = rw e
+
+  pub kind-or : getD s 0 0 ≡ 111 → 2 ≡ kindHere s
+  unfolding kindHere
+  kind-or e = rw e
+
+  pub kind-x : getD s 0 0 ≡ 120 → kindBehindX (getD s 1 0) ≡ kindHere s
+  unfolding kindHere
+  kind-x e = rw e
+
+  module _ (a : getD s 0 0 ≡ 97 → ⊥) (b : getD s 0 0 ≡ 111 → ⊥) (x : getD s 0 0 ≡ 120 → ⊥) where
+    behind-n : cond (eqb (getD s 1 0) 97) 3 (cond (eqb (getD s 2 0) 116) 0 4) ≡ kindHere s
+    unfolding kindHere
+    behind-n = rw (ne-eqb (getD s 0 0) 97 a, ne-eqb (getD s 0 0) 111 b, ne-eqb (getD s 0 0) 120 x)
+
+    pub kind-nand : getD s 1 0 ≡ 97 → 3 ≡ kindHere s
+    kind-nand e = rw e at behind-n
+
+    pub kind-not : (getD s 1 0 ≡ 97 → ⊥) → getD s 2 0 ≡ 116 → 0 ≡ kindHere s
+    kind-not d e = rw (ne-eqb (getD s 1 0) 97 d, e) at behind-n
+
+    pub kind-nor : (getD s 1 0 ≡ 97 → ⊥) → (getD s 2 0 ≡ 116 → ⊥) → 4 ≡ kindHere s
+    kind-nor d e = rw (ne-eqb (getD s 1 0) 97 d, ne-eqb (getD s 2 0) 116 e) at behind-n
+
+-- at a kind's word it is that kind
+pub kind-back : (rest : List ℕ) (k : ℕ) → isKind k ≡ true → kindHere (keyword k ++ rest) ≡ k
+unfolding kindHere kindBehindX keyword signatureOf
+kind-back rest = by-kind (λ k. kindHere (keyword k ++ rest) ≡ k) refl refl refl refl refl refl refl
+
+pub word-back : (k : ℕ) → wordLength k ≡ length (keyword k)
+unfolding wordLength
+word-back k = refl
+
+-- read off the kind's signature, whose keyword ends in zeros
+pub word-read : (k r : ℕ) (bytes : List ℕ) → bytes ≡ signatureOf k .keyword → r ≤ length bytes → take r bytes ≡ trimmed bytes → r ≡ wordLength k
+unfolding wordLength keyword
+word-read k r bytes e h t = sym (length-take-le r bytes h) ∙ ap length t ∙ rw e refl
+
+-- ---- an operand that is no expression
+
+module _ (s names words : List ℕ) (unknown : ℕ) where
+  pub leaf-0 : getD s 0 0 ≡ 48 → constantHere s 65534 unknown ≡ leafHere s names words unknown
+  unfolding leafHere
+  leaf-0 e = rw e
+
+  pub leaf-1 : getD s 0 0 ≡ 49 → constantHere s 65535 unknown ≡ leafHere s names words unknown
+  unfolding leafHere
+  leaf-1 e = rw e
+
+  pub leaf-name : (getD s 0 0 ≡ 48 → ⊥) → (getD s 0 0 ≡ 49 → ⊥) → nameHere s names words unknown ≡ leafHere s names words unknown
+  unfolding leafHere
+  leaf-name a b = rw (ne-eqb (getD s 0 0) 48 a, ne-eqb (getD s 0 0) 49 b)
+
+  module _ {l i p u : ℕ} (a : l ≡ length (nameFront 8 s)) (b : p ≡ packed (nameFront 8 s)) (d : i ≡ indexOf names (length names) p) where
+    pub name-found : i < length names → u ≡ earlier unknown 0
+        → _≡_ {A = Leaf} (record { left = length s - l; word = getD words i 0; unknown = u }) (nameHere s names words unknown)
+    unfolding nameHere nameLength indexHere
+    name-found h e = rw (e, a, ← b, ← d, lt-ltb i (length names) h)
+
+    pub name-unknown : length names ≤ i → u ≡ earlier unknown (length s + 1)
+        → _≡_ {A = Leaf} (record { left = length s - l; word = 65534; unknown = u }) (nameHere s names words unknown)
+    unfolding nameHere nameLength indexHere
+    name-unknown h e = rw (e, a, ← b, ← d, le-ltb i (length names) h)

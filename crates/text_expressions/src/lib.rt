@@ -1,0 +1,99 @@
+// Resolving the expressions of a text that is known to be the print of a tree, in one walk: the first name that is not
+// declared, and the words of gates and outputs. Never lines have no expressions.
+use lines::gate_lines;
+use lines::output_lines;
+use netlist::Refusal;
+use text_symbols::Counts;
+use words_refusals::Test;
+ghost use Rattle.text_symbols.specs.Results.{NodesIndexed};
+ghost use Rattle.text_expressions.specs.Resolution.{ResolveReady, Resolved};
+
+mod leaves;
+mod lines;
+mod walk;
+
+// A name or a constant: the bytes left behind it, its node's word, and `unknown` as in `Found`.
+pub struct Leaf {
+    pub left: usize,
+    pub word: u16,
+    pub unknown: usize,
+}
+
+// An operand: the bytes left behind it, its node's word, the gates that have closed, and one more than the bytes left
+// from the first undeclared name on, or 0. The word stands between the last two: side by side, they are read back in
+// one piece, which waits for both stores.
+pub struct Found {
+    pub left: usize,
+    pub gates: usize,
+    pub word: u16,
+    pub unknown: usize,
+}
+
+// What stands before an operand: the inputs of the text, the operands of its list, the gates that have closed, and
+// `unknown` as in `Found`.
+pub struct Past {
+    pub inputs: usize,
+    pub count: usize,
+    pub gates: usize,
+    pub unknown: usize,
+}
+
+// An operand list behind its closing bracket: as `Found`, and the number of operands.
+pub struct Listed {
+    pub left: usize,
+    pub count: usize,
+    pub gates: usize,
+    pub unknown: usize,
+}
+
+// A line, or some lines: the bytes left behind them, the gates or outputs up to there, and `unknown` as in `Found`.
+pub struct Walked {
+    pub left: usize,
+    pub number: usize,
+    pub unknown: usize,
+}
+
+// Fills in the words of gates and outputs of a text with these counts, whose gate lines start at `end`, and these
+// tables of its declared names and their nodes, whose names the index holds. 5: the place of the first name that a gate
+// or an output uses and that is not declared.
+pub fn resolve(
+    text: &[u8],
+    end: usize,
+    c: Counts,
+    names: &[u64],
+    words: &[u16],
+    index: &[u16],
+    gates: &mut [u16],
+    outputs: &mut [u16],
+) -> Test
+    requires { ⌜ ResolveReady (now text) end c (now names) (now words) (now gates) (now outputs) ⌝ }
+    requires { ⌜ NodesIndexed c (now names) (now index) ⌝ }
+    ensures { λ r. ⌜ Resolved (now (text .entry)) end c (now (names .entry)) (now (words .entry)) (now (gates .entry)) (now (gates .exit))
+        (now (outputs .entry)) (now (outputs .exit)) r ⌝ }
+{
+    let length = text.len();
+    let n = c.inputs;
+    let nodes = n + c.named;
+    let walked = gate_lines(
+        &text[end..],
+        c.named,
+        n,
+        &names[..nodes],
+        &words[..nodes],
+        index,
+        gates,
+    );
+    let last = output_lines(
+        &text[length - walked.left..],
+        c.outputs,
+        &names[..nodes],
+        &words[..nodes],
+        index,
+        walked.unknown,
+        outputs,
+    );
+    if last.unknown == 0 {
+        return Test::Passed;
+    }
+    Test::Failed(Refusal::UndeclaredName(length + 1 - last.unknown))
+}

@@ -1,0 +1,95 @@
+-- Names, operands and operand lists by their first byte: one law for each way through the code. Assumes nothing.
+use mathlib.Core.Path.{_≡_, refl, ap, _∙_}
+use mathlib.Core.Bool.{Bool, true, false}
+use mathlib.Core.List.{List, _∷_}
+use Prim.Native.Nat.{ℕ, zero, suc, _-_, _<_}
+use native.Mathlib.Omega.{arith}
+use lib.ListN.{length, drop, getD, length-drop}
+use Rattle.prelude.specs.Lists.{ascii}
+use Rattle.netlist.specs.Names.{isLetter, isNameStart, isUnderscore}
+use Rattle.netlist.specs.Syntax.{Term, name, apply}
+use Rattle.netlist.specs.Parse.{Reader, pure, stop, expect, nameBytes, nameAfter, nameReader, exprReader, leafOr, termReader}
+use Rattle.text_recogniser.specs.declared.Scan.the-variants.{Next, Bad}
+use Rattle.text_recogniser.specs.Scan.{scanOf, firstByte}
+use Rattle.text_recogniser.proofs.Continues.{scan-map}
+use Rattle.text_recogniser.proofs.First.{there, if-taken, if-left, byte-taken, byte-left}
+
+-- ---- names
+
+no-start : isNameStart 0 ≡ false
+unfolding isNameStart isLetter isUnderscore
+no-start = refl
+
+no-first : (u : Bool) → firstByte u 0 ≡ false
+unfolding firstByte isLetter
+no-first true = no-start
+no-first false = refl
+
+module _ (u : Bool) (s : List ℕ) where
+  pub name-there : firstByte u (getD s 0 0) ≡ true → 0 < length s
+  name-there h = there (firstByte u) s (no-first u) h
+
+  pub name-first : firstByte u (getD s 0 0) ≡ true → scanOf (nameReader (firstByte u) s) ≡ scanOf (nameBytes 7 (drop 1 s))
+  unfolding nameReader nameAfter
+  name-first h =
+      ap scanOf (if-taken _ _ (firstByte u) s (no-first u) h)
+      ∙ scan-map (nameBytes 7) (λ cs. getD s 0 0 ∷ cs) (drop 1 s)
+
+  pub name-none : firstByte u (getD s 0 0) ≡ false → scanOf (nameReader (firstByte u) s) ≡ Bad (length s)
+  unfolding nameReader stop
+  name-none h = ap scanOf (if-left _ _ (firstByte u) s h)
+
+-- ---- operands
+
+-- an operand that is neither a name nor a constant
+unfoldable pub inner : ℕ → Reader Term
+inner zero = stop
+inner (suc depth) = expect (ascii "(") (exprReader (termReader depth) apply)
+
+leaf-or-inner : (depth : ℕ) (s : List ℕ) → termReader depth s ≡ leafOr (inner depth) s
+unfolding termReader inner
+leaf-or-inner zero s = refl
+leaf-or-inner (suc depth) s = refl
+
+pub start-there : (s : List ℕ) → isNameStart (getD s 0 0) ≡ true → 0 < length s
+start-there s h = there isNameStart s no-start h
+
+module _ (depth : ℕ) (s : List ℕ) where
+  pub operand-name : isNameStart (getD s 0 0) ≡ true → scanOf (termReader depth s) ≡ scanOf (nameBytes 7 (drop 1 s))
+  unfolding leafOr nameAfter
+  operand-name h =
+      ap scanOf (leaf-or-inner depth s ∙ if-taken _ _ isNameStart s no-start h)
+      ∙ scan-map (nameAfter (getD s 0 0)) name (drop 1 s)
+      ∙ scan-map (nameBytes 7) (λ cs. getD s 0 0 ∷ cs) (drop 1 s)
+
+  module _ (h : isNameStart (getD s 0 0) ≡ false) {b : ℕ} (e : b ≡ getD s 0 0) where
+    pub operand-0 : b ≡ 48 → scanOf (termReader depth s) ≡ Next (length s - 1)
+    unfolding leafOr pure
+    operand-0 f =
+        ap scanOf (leaf-or-inner depth s ∙ if-left _ _ isNameStart s h ∙ byte-taken _ _ s 48 e f (omega arith))
+        ∙ ap Next (length-drop 1 s)
+
+    module _ (n0 : b ≡ 48 → ⊥) where
+      pub operand-1 : b ≡ 49 → scanOf (termReader depth s) ≡ Next (length s - 1)
+      unfolding leafOr pure
+      operand-1 f =
+          ap scanOf (leaf-or-inner depth s ∙ if-left _ _ isNameStart s h ∙ byte-left _ _ s 48 e n0 ∙ byte-taken _ _ s 49 e f (omega arith))
+          ∙ ap Next (length-drop 1 s)
+
+      pub operand-inner : (b ≡ 49 → ⊥) → scanOf (termReader depth s) ≡ scanOf (inner depth s)
+      unfolding leafOr
+      operand-inner n1 =
+          ap scanOf (leaf-or-inner depth s ∙ if-left _ _ isNameStart s h ∙ byte-left _ _ s 48 e n0 ∙ byte-left _ _ s 49 e n1)
+
+pub inner-deepest : (depth : ℕ) (s : List ℕ) → depth ≡ 0 → scanOf (inner depth s) ≡ Bad (length s)
+unfolding inner stop
+inner-deepest depth s e = rw e
+
+module _ (depth : ℕ) (s : List ℕ) (n : depth ≡ 0 → ⊥) {b : ℕ} (e : b ≡ getD s 0 0) where
+  pub inner-other : (b ≡ 40 → ⊥) → scanOf (inner depth s) ≡ Bad (length s)
+  unfolding inner expect stop
+  inner-other f = let d : depth ≡ suc (depth - 1) = omega arith in ap (λ (k : ℕ). scanOf (inner k s)) d ∙ ap scanOf (byte-left _ _ s 40 e f)
+
+  pub inner-expression : b ≡ 40 → scanOf (inner depth s) ≡ scanOf (exprReader (termReader (depth - 1)) apply (drop 1 s))
+  unfolding inner expect
+  inner-expression f = let d : depth ≡ suc (depth - 1) = omega arith in ap (λ (k : ℕ). scanOf (inner k s)) d ∙ ap scanOf (byte-taken _ _ s 40 e f (omega arith))

@@ -1,0 +1,114 @@
+// The lines of a text: where each starts, and what its bytes say of it.
+use crate::Line;
+use words_layout::bytes::byte_at;
+ghost use mathlib.Core.Path.{_≡_};
+ghost use mathlib.Core.Bool.{cond};
+ghost use Prim.Native.Nat.{_+_, _-_, _≤_};
+ghost use lib.Dec.{eqb};
+ghost use lib.ListN.{length, drop};
+ghost use Rattle.netlist.specs.Limits.{maxText};
+ghost use Rattle.text_symbols.specs.Lines.{times, timesBehind, lengthWithLf, lineOpens, nameOffset, LineOf};
+
+// 1 where the bytes are the same, else 0.
+fn one_if(a: u8, b: u8) -> usize
+    ensures { λ r. ⌜ r ≡ cond (eqb a b) 1 0 ⌝ }
+{
+    if a == b { 1 } else { 0 }
+}
+
+// The difference of two numbers, or 0 where it would be below 0.
+pub fn minus(a: usize, b: usize) -> usize
+    ensures { λ r. ⌜ r ≡ a - b ⌝ }
+{
+    if b <= a { a - b } else { 0 }
+}
+
+// How often `b` stands in `s`. The count has 16 bits, so that a processor adds many at a time.
+pub fn count(s: &[u8], b: u8) -> usize
+    requires { ⌜ length (now s) ≤ maxText ⌝ }
+    ensures { λ r. ⌜ r ≡ times b (now (s .entry)) ⌝ }
+{
+    let mut n: u16 = 0;
+    let mut i = 0;
+    while i < s.len() {
+        n += one_if(s[i], b) as u16;
+        i += 1;
+    }
+    n as usize
+}
+
+// How often `b` stands right behind `a` in `s`. The count has 16 bits, so that a processor adds many at a time.
+pub fn count_behind(s: &[u8], a: u8, b: u8) -> usize
+    requires { ⌜ length (now s) ≤ maxText ⌝ }
+    ensures { λ r. ⌜ r ≡ timesBehind a b (now (s .entry)) ⌝ }
+{
+    let mut n: u16 = 0;
+    let mut i = 1;
+    while i < s.len() {
+        n += (one_if(s[i - 1], a) * one_if(s[i], b)) as u16;
+        i += 1;
+    }
+    n as usize
+}
+
+// The bytes up to the first LF, that LF counted.
+fn line_length(s: &[u8]) -> usize
+    ensures { λ r. ⌜ r ≡ lengthWithLf (now (s .entry)) ⌝ }
+{
+    let mut i = 0;
+    while i < s.len() {
+        if s[i] == b'\n' {
+            return i + 1;
+        }
+        i += 1;
+    }
+    i
+}
+
+// Where the line that starts at `at` ends.
+pub fn next_line(text: &[u8], at: usize) -> usize
+    requires { ⌜ at ≤ length (now text) ⌝ }
+    ensures { λ r. ⌜ r ≡ at + lengthWithLf (drop at (now (text .entry))) ⌝ }
+{
+    at + line_length(&text[at..])
+}
+
+// The opening brackets before the first LF.
+pub fn opens(s: &[u8]) -> usize
+    ensures { λ r. ⌜ r ≡ lineOpens (now (s .entry)) ⌝ }
+{
+    let mut n = 0;
+    let mut i = 0;
+    while i < s.len() {
+        if s[i] == b'\n' {
+            return n;
+        }
+        n += one_if(s[i], b'(');
+        i += 1;
+    }
+    n
+}
+
+// `(in `, `(gate ` or `(out ` stands before the name that a line declares.
+fn name_offset(letter: u8) -> usize
+    ensures { λ r. ⌜ r ≡ nameOffset letter ⌝ }
+{
+    if letter == b'i' {
+        return 4;
+    }
+    if letter == b'g' { 6 } else { 5 }
+}
+
+// The line at the front of the rest of a text: it has one bracket that is no gate's.
+pub fn line_of(s: &[u8]) -> Line
+    requires { ⌜ length (now s) ≤ maxText ⌝ }
+    ensures { λ r. ⌜ LineOf (now (s .entry)) r ⌝ }
+{
+    let length = line_length(s);
+    let name = name_offset(byte_at(s, 1));
+    Line {
+        length,
+        name,
+        gates: minus(count(&s[..length], b'('), 1),
+    }
+}

@@ -1,0 +1,3 @@
+-- What the laws of unrolling (rendering) speak of.
+pub mod Copies
+pub mod Minimal

@@ -1,2 +1,0 @@
--- Mathematics of a depth-first search; no function of src/ is named.
-pub mod Walked

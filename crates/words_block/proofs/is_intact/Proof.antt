@@ -1,0 +1,40 @@
+-- `words_block::is_intact` meets its contract: the header's rule, and once it holds the rules of the parts. Assumes nothing.
+use mathlib.Core.Path.{sym, _∙_}
+use lib.ListN.{getD}
+use borrow.Author.Needs.{needs}
+use borrow.Author.Tests.{not-true, not-false}
+use Rattle.theory_encoding.specs.Rules.{intact}
+use Rattle.words_block.proofs.HeaderLaws.{Limits, header-limits, header-length}
+use Rattle.words_block.proofs.is_intact.Statement.{statement}
+use Rattle.words_block.proofs.is_intact.Tie as tie
+
+returns : tie.Need-returns
+unfolding intact
+returns c = rw (sym (c .before .fits2 .ensures) ∙ not-true _ (c .if1 .taken))
+
+parts-fit-requires : tie.Need-parts-fit-requires
+parts-fit-requires c κs =
+    let ws = c .before .before .before .before .before .before .before .args .words .now in
+    let h = sym (c .before .before .before .before .before .fits2 .ensures) ∙ not-false _ (c .before .before .before .before .if1 .left) in
+    let l : Limits (getD ws 0 0) (getD ws 1 0) (getD ws 2 0) (getD ws 3 0) = header-limits ws h in
+    rw (c .before .before .before .inputs-of .ensures, c .before .before .gates-of .ensures, c .before .outputs-of .ensures, c .nevers-of .ensures)
+    (l .inputs, (l .nevers, (l .gates, (l .outputs, header-length ws h))))
+
+returns-2 : tie.Need-returns-2
+unfolding intact
+returns-2 c =
+    rw (
+      sym (c .before .before .before .before .before .before .fits2 .ensures) ∙ not-false _ (c .before .before .before .before .before .if1 .left),
+      ← c .before .before .before .before .inputs-of .ensures,
+      ← c .before .before .before .gates-of .ensures,
+      ← c .before .before .outputs-of .ensures,
+      ← c .before .nevers-of .ensures,
+    )
+    (c .parts-fit .ensures)
+
+pub is-intact-spec : {M : Type 1} → statement M
+is-intact-spec =
+    tie.close
+    (tie.spec
+    (λ c κs. search needs) returns (λ c κs. search needs) (λ c κs. search needs) (λ c κs. search needs)
+    (λ c κs. search needs) parts-fit-requires returns-2)

@@ -1,0 +1,2 @@
+-- What the contracts of inner functions add to the definitions of `netlist`: the answers of single tests.
+pub mod Tests
