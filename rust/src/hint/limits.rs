@@ -3,6 +3,7 @@
 use crate::copies::copies;
 use crate::declarations::{lines, LineKind};
 use crate::limits::{COUNTED_BYTES, GATES, INPUTS, NEVERS, OUTPUTS, TEXT_BYTES};
+use crate::orders::gates_by_rule;
 use crate::Block;
 
 /// By how much a text is too long; of one that is much longer, that it is.
@@ -33,10 +34,16 @@ pub fn passed(text: &[u8]) -> Option<String> {
     (!told.is_empty()).then(|| told.join("; "))
 }
 
-/// By how much a rendering passes the limit.
+/// By how much a rendering passes the limit, and how many gates it has in another order, where one fits that is found at once.
 pub fn swollen(block: &Block) -> Option<String> {
     let copies = copies(block);
-    (copies > GATES).then(|| above(copies, GATES, "gates in the rendering"))
+    let told = (copies > GATES).then(|| above(copies, GATES, "gates in the rendering"))?;
+    Some(match gates_by_rule(block) {
+        fewer if fewer <= GATES => {
+            format!("{told}; {fewer} with its gate lines in another order (--shrink)")
+        }
+        _ => told,
+    })
 }
 
 fn above(count: usize, most: usize, what: &str) -> String {
