@@ -235,12 +235,25 @@ fn cells() {
     run(&scratch, &["--store", "."]);
     assert_eq!(scratch.names(".").len(), 3);
     scratch.put("smallest.cells", "");
-    let output = "smallest: cells anew\n1 entry: 1 stored, 0 as before\n";
+    let output = "smallest: cells anew (they can't be read, no line '# inputs NUMBER NAME ...')\n\
+                  1 entry: 1 stored, 0 as before\n";
     told(run(&scratch, &["--store", "."]), 0, output, "");
     let table = run(&scratch, &["--cells", "smallest.net"]).stdout;
     assert_eq!(scratch.get("smallest.cells").as_bytes(), table);
     let same = "1 entry: 0 stored, 1 as before\n";
     told(run(&scratch, &["--store", "."]), 0, same, "");
+    // What CompareCells accepts stays byte for byte, and what shows another value doesn't.
+    let made = "# inputs 1 s\n# outputs 1\n# output y 0 # made elsewhere\n";
+    let made = made.replace(" # made", "\n# made");
+    scratch.put("smallest.cells", &made);
+    told(run(&scratch, &["--store", "."]), 0, same, "");
+    assert_eq!(scratch.get("smallest.cells"), made);
+    let other = "# inputs 1 s\n0 0 0 0 21845\n# outputs 1\n# output y 1\n";
+    scratch.put("smallest.cells", other);
+    let output =
+        "smallest: cells anew (y is 1, not 0 with s = 0)\n1 entry: 1 stored, 0 as before\n";
+    told(run(&scratch, &["--store", "."]), 0, output, "");
+    assert_eq!(scratch.get("smallest.cells").as_bytes(), table);
     // A refusal has none, and nothing is removed without a word.
     put_entry(&scratch, "smallest", "latch");
     let gone = "smallest: cells are gone\n  weaker: what is refused has no cells\n";
@@ -331,7 +344,7 @@ fn names_folders_and_errors() {
     );
     let errors = "unloop: gone: No such file or directory\n";
     told(run(&scratch, &["--store", "gone"]), 2, "", errors);
-    let errors = "unloop: n: no NAME.net, NAME.out or NAME.cover is in it\n";
+    let errors = "unloop: n: no NAME.net, NAME.out, NAME.cover or NAME.cells is in it\n";
     told(run(&scratch, &["--store", "n"]), 2, "", errors);
 }
 

@@ -34,12 +34,13 @@ pub fn passed(text: &[u8]) -> Option<String> {
     (!told.is_empty()).then(|| told.join("; "))
 }
 
-/// By how much a rendering passes the limit, and how many gates it has in another order, where one fits that is found at once.
+/// By how much a rendering passes the limit, and how many gates it has in another order, where one fits that is found at once. A block that
+/// isn't settled has a rendering in no order.
 pub fn swollen(block: &Block) -> Option<String> {
     let copies = copies(block);
     let told = (copies > GATES).then(|| above(copies, GATES, "gates in the rendering"))?;
     Some(match gates_by_rule(block) {
-        fewer if fewer <= GATES => {
+        fewer if fewer <= GATES && block.verdict().is_sound() => {
             format!("{told}; {fewer} with its gate lines in another order (--shrink)")
         }
         _ => told,

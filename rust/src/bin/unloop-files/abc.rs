@@ -9,6 +9,7 @@ use std::process::{Child, Command, ExitStatus, Stdio};
 use std::sync::atomic::{AtomicUsize, Ordering};
 use std::time::{Duration, Instant};
 use std::{env, io, process, thread};
+use unloop::{blif, care_model, module_name, Block};
 
 /// What it is called, where it is installed.
 const NAMES: [&str; 3] = ["abc", "berkeley-abc", "yosys-abc"];
@@ -20,6 +21,35 @@ const LOG: &str = "log";
 const LIMIT: Duration = Duration::from_secs(60);
 
 pub struct Abc(PathBuf);
+
+/// What it is asked for: several scripts, of which each may find something smaller.
+pub struct Scripts<'a> {
+    /// A file that lies beside the model, by name and content, and the commands that read it.
+    pub beside: Option<(&'a str, &'a str, &'a str)>,
+    /// The commands that differ.
+    pub tried: &'a [&'a str],
+    /// What is put behind them once more where never lines exclude settings: it must name the model [`CARE`] of what is cared for.
+    pub care: &'a str,
+    /// What ends each script.
+    pub last: &'a str,
+}
+
+/// The model that is 0 under the settings which never lines exclude.
+pub const CARE: &str = "care.blif";
+
+impl Scripts<'_> {
+    /// The scripts as they are told, without and with what is cared for.
+    fn all(&self, caring: bool) -> Vec<String> {
+        let joined = |parts: &[&str]| {
+            let parts = parts.iter().filter(|part| !part.is_empty());
+            parts.copied().collect::<Vec<&str>>().join("; ")
+        };
+        let plain = self.tried.iter().map(|script| joined(&[script, self.last]));
+        let with = self.tried.iter();
+        let with = with.map(|script| joined(&[script, self.care, self.last]));
+        plain.chain(with.filter(|_| caring)).collect()
+    }
+}
 
 impl Abc {
     /// The first that the PATH has, by the order of its names.
@@ -40,8 +70,29 @@ impl Abc {
         format!("ABC is not on the PATH (as {names}; Debian has it as berkeley-abc): {instead}")
     }
 
+    /// Each script, and what it makes of a block's rendering: a model, or why there is none.
+    pub fn results<'a>(
+        &'a self,
+        block: &Block,
+        rendering: &Block,
+        scripts: &'a Scripts,
+    ) -> impl Iterator<Item = (String, Result<String, String>)> + 'a {
+        let model = blif(rendering, &module_name("rendering"));
+        let care = care_model(block);
+        let all = scripts.all(care.is_some());
+        all.into_iter().map(move |script| {
+            let care = care.iter().map(|care| (CARE, &care[..]));
+            let beside = scripts.beside.iter();
+            let beside = beside.map(|(name, content, _)| (*name, *content));
+            let files: Vec<(&str, &str)> = care.chain(beside).collect();
+            let first = scripts.beside.map_or("", |(_, _, read)| read);
+            let result = self.run(&model, &files, &format!("{first}{script}"));
+            (script, result)
+        })
+    }
+
     /// What it makes of a model by a script; `files` lie beside it, by name and content.
-    pub fn run(&self, model: &str, files: &[(&str, &str)], script: &str) -> Result<String, String> {
+    fn run(&self, model: &str, files: &[(&str, &str)], script: &str) -> Result<String, String> {
         let told = |error: io::Error| format!("ABC: {}", reason(&error));
         let folder = Folder::new().map_err(told)?;
         for (name, content) in files.iter().chain(&[(MODEL, model)]) {
@@ -55,7 +106,9 @@ impl Abc {
         match (ended, fs::read_to_string(folder.0.join(RESULT))) {
             (None, _) => Err(format!("ABC took more than {} seconds", LIMIT.as_secs())),
             (Some(status), Ok(result)) if status.success() => Ok(result),
-            (Some(status), _) => Err(format!("ABC wrote nothing ({status}) {last}")),
+            (Some(status), _) => Err(format!("ABC wrote nothing ({status}) {last}")
+                .trim()
+                .to_string()),
         }
     }
 

@@ -13,7 +13,7 @@ use std::ops::ControlFlow;
 use std::path::{Path, PathBuf};
 use std::process::ExitCode;
 use unloop::json::Json;
-use unloop::{Block, Refusal};
+use unloop::{Block, CellTable, Refusal};
 
 /// A file to be made small: its name, its text and what it is.
 pub struct Original<'a> {
@@ -29,6 +29,36 @@ pub struct Product {
     /// How small it is, and how it was found, in words behind the file's name.
     pub told: Vec<String>,
     pub fields: Vec<(String, Json)>,
+}
+
+/// Something that was accepted, and what it is by.
+pub struct Found<T> {
+    pub made: T,
+    pub by: String,
+}
+
+/// The smallest of what is there already and of what is tried, the first of equals; and why others are not taken, each reason once with the
+/// number of scripts.
+pub fn smallest<T>(
+    first: Found<T>,
+    size: impl Fn(&T) -> usize,
+    tried: impl Iterator<Item = Result<Found<T>, String>>,
+) -> (Found<T>, Vec<String>) {
+    let mut best = first;
+    let mut reasons: Vec<(String, usize)> = Vec::new();
+    for found in tried {
+        match found {
+            Ok(found) if size(&found.made) < size(&best.made) => best = found,
+            Ok(_) => {}
+            Err(why) => match reasons.iter_mut().find(|(reason, _)| *reason == why) {
+                Some((_, count)) => *count += 1,
+                None => reasons.push((why, 1)),
+            },
+        }
+    }
+    let reasons = reasons.into_iter();
+    let told = reasons.map(|(why, count)| format!("{why} ({})", tally::counted(count, "script")));
+    (best, told.collect())
 }
 
 /// What became of a file.
@@ -103,6 +133,18 @@ fn target(to: Reduced, path: &Path) -> PathBuf {
 }
 
 impl Reduced {
+    /// Whether a text as it is written is accepted for an original's: a look at what the writer made.
+    fn is_accepted(self, written: &str, original: &[u8]) -> bool {
+        let accepted = Block::read(original).and_then(|block| match self {
+            Reduced::Cells => {
+                let table = CellTable::read(written).map_err(|_| Refusal::MalformedBlock)?;
+                block.compare_table(&table)
+            }
+            Reduced::Netlist => block.compare(&Block::read(written)?),
+        });
+        accepted == Ok(None)
+    }
+
     /// What is done without ABC.
     fn instead(self) -> &'static str {
         match self {
@@ -138,6 +180,10 @@ impl Run {
             Ok(product) => product,
             Err(refusal) => return Ok(Outcome::Refused(text, refusal)),
         };
+        if !self.to.is_accepted(&product.text, &text) {
+            let why = "what was made of it reads back as something else, and isn't written";
+            return Err(format!("{}: {why}", source.name()));
+        }
         if let (Some(folder), Some(path)) = (&self.folder, source.path()) {
             folder.put(&target(self.to, path), product.text.as_bytes())?;
         }

@@ -1,38 +1,33 @@
 //! `--shrink`: the smallest loop-free netlist for a netlist that other orders of its gates and a synthesis tool find. Nothing is written that
 //! Compare did not accept for the original.
 
-use crate::abc::Abc;
+use crate::abc::{Abc, Scripts};
 use crate::described::object;
-use crate::fit::CARE_FILE;
-use crate::reduce::{Original, Product};
+use crate::reduce::{smallest, Found, Original, Product};
 use crate::tally::counted;
 use unloop::json::Json;
 use unloop::orders::reordered;
-use unloop::{blif, care_model, from_blif, module_name, Block, Refusal};
+use unloop::{from_blif, Block, Refusal};
 
-/// The gates of a netlist as a library of cells.
-const LIBRARY: &str = include_str!("../../../../catalogue/gates.genlib");
-const LIBRARY_FILE: &str = "gates.genlib";
-const MAPPED: &str = "map -a";
+/// What ABC is asked for: gates of the library of a netlist's gates, by area.
+const SCRIPTS: Scripts = Scripts {
+    beside: Some((
+        "gates.genlib",
+        include_str!("../../../../catalogue/gates.genlib"),
+        "read_library gates.genlib; ",
+    )),
+    tried: &[
+        "strash; ifraig; dc2; dc2; dc2",
+        "strash; ifraig; dch",
+        "collapse; sop; fx; strash; dc2; dch",
+        "strash; ifraig; if -K 6 -a; mfs2 -a -L 20; strash; dc2; dc2",
+        "strash; ifraig; if -K 4 -a; mfs2 -a -e -L 20; strash; dc2; dch",
+    ],
+    care: "if -K 4 -a; care_set care.blif; mfs -W 10 -a -e -L 20; mfs -W 10 -r; strash; dc2; dch",
+    last: "map -a",
+};
+
 const ORDER: &str = "another order of the gate lines";
-
-/// What ABC is asked for before it maps to the library: each is tried, and the fewest gates are taken.
-const SCRIPTS: [&str; 5] = [
-    "strash; ifraig; dc2; dc2; dc2",
-    "strash; ifraig; dch",
-    "collapse; sop; fx; strash; dc2; dch",
-    "strash; ifraig; if -K 6 -a; mfs2 -a -L 20; strash; dc2; dc2",
-    "strash; ifraig; if -K 4 -a; mfs2 -a -e -L 20; strash; dc2; dch",
-];
-/// What is put behind each where never lines exclude settings, so that these are not cared for.
-const CARE: &str =
-    "if -K 4 -a; care_set care.blif; mfs -W 10 -a -e -L 20; mfs -W 10 -r; strash; dc2; dch";
-
-/// A rendering that was accepted, and what it is by.
-struct Found {
-    rendering: Block,
-    by: String,
-}
 
 /// What is known before ABC is asked: the rendering's gates, none where it is refused for its size, and those in another order, where that is
 /// better, with what became of the loops.
@@ -43,23 +38,25 @@ struct Orders {
 
 /// The netlist with the fewest gates: the rendering, that of another order, or what ABC makes of the smaller of them.
 pub fn shrunk(abc: Option<&Abc>, original: &Original) -> Result<Product, Refusal> {
-    let (mut best, orders) = ordered(original)?;
-    let (mut failures, rendering) = (Vec::new(), best.rendering.clone());
-    for tried in abc
-        .iter()
-        .flat_map(|abc| tried(abc, original.block, &rendering))
-    {
-        match tried {
-            Ok(found) if found.rendering.gates() < best.rendering.gates() => best = found,
-            Ok(_) => {}
-            Err(why) => failures.push(why),
-        }
-    }
-    Ok(product(best, orders, failures))
+    let block = original.block;
+    let (first, orders) = ordered(original)?;
+    let rendering = first.made.clone();
+    let results = abc.into_iter();
+    let results = results.flat_map(|abc| abc.results(block, &rendering, &SCRIPTS));
+    let tried = results.map(|(script, result)| {
+        let netlist = from_blif(&result?, None);
+        let netlist = netlist.map_err(|error| format!("ABC's result, line {error}"))?;
+        let read = Block::read(with_promises(&netlist.netlist, block));
+        let read = read.map_err(|refusal| format!("ABC's result: {refusal}"))?;
+        let found = accepted(block, read, format!("ABC, {script}"));
+        found.ok_or_else(|| "ABC's result is not accepted".to_string())
+    });
+    let (found, failures) = smallest(first, Block::gates, tried);
+    Ok(product(found, orders, failures))
 }
 
 /// The rendering, or that of another order where it has fewer gates.
-fn ordered(original: &Original) -> Result<(Found, Orders), Refusal> {
+fn ordered(original: &Original) -> Result<(Found<Block>, Orders), Refusal> {
     let block = original.block;
     let own = match block.render() {
         Err(Refusal::TooManyCopies) => None,
@@ -74,10 +71,10 @@ fn ordered(original: &Original) -> Result<(Found, Orders), Refusal> {
     let loops = loops.map(|found| found.in_words(original.text)).collect();
     let orders = Orders {
         before,
-        other: other.as_ref().map(|other| (other.rendering.gates(), loops)),
+        other: other.as_ref().map(|other| (other.made.gates(), loops)),
     };
-    let own = own.map(|rendering| Found {
-        rendering,
+    let own = own.map(|made| Found {
+        made,
         by: "the rendering as it is".to_string(),
     });
     let found = other.or(own).ok_or(Refusal::TooManyCopies)?;
@@ -85,43 +82,8 @@ fn ordered(original: &Original) -> Result<(Found, Orders), Refusal> {
 }
 
 /// The rendering with what it is by, if Compare accepts it.
-fn accepted(block: &Block, rendering: Block, by: String) -> Option<Found> {
-    (block.compare(&rendering) == Ok(None)).then_some(Found { rendering, by })
-}
-
-/// What comes of each script.
-fn tried<'a>(
-    abc: &'a Abc,
-    block: &'a Block,
-    rendering: &'a Block,
-) -> impl Iterator<Item = Result<Found, String>> + 'a {
-    let model = blif(rendering, &module_name("rendering"));
-    let care = care_model(block);
-    let with = care.is_some();
-    let plain = SCRIPTS.iter().map(|script| format!("{script}; {MAPPED}"));
-    let caring = SCRIPTS
-        .iter()
-        .map(|script| format!("{script}; {CARE}; {MAPPED}"));
-    plain
-        .chain(caring.filter(move |_| with))
-        .map(move |script| {
-            let mut files = vec![(LIBRARY_FILE, LIBRARY)];
-            files.extend(care.iter().map(|care| (CARE_FILE, &care[..])));
-            let result = abc.run(
-                &model,
-                &files,
-                &format!("read_library {LIBRARY_FILE}; {script}"),
-            )?;
-            let netlist = from_blif(&result, None);
-            let netlist = netlist
-                .map_err(|error| format!("ABC's result, line {error}"))?
-                .netlist;
-            let read = Block::read(with_promises(&netlist, block));
-            let read = read.map_err(|refusal| format!("ABC's result: {refusal}"))?;
-            let by = format!("ABC, {script}");
-            accepted(block, read, by)
-                .ok_or_else(|| format!("ABC's result is not accepted, {script}"))
-        })
+fn accepted(block: &Block, made: Block, by: String) -> Option<Found<Block>> {
+    (block.compare(&made) == Ok(None)).then_some(Found { made, by })
 }
 
 /// A netlist text with a block's never lines behind its inputs: a tool doesn't know of them.
@@ -135,8 +97,11 @@ fn with_promises(netlist: &str, block: &Block) -> String {
 }
 
 /// The netlist as it is written, with what is told of it.
-fn product(found: Found, orders: Orders, failures: Vec<String>) -> Product {
-    let Found { rendering, by } = found;
+fn product(found: Found<Block>, orders: Orders, failures: Vec<String>) -> Product {
+    let Found {
+        made: rendering,
+        by,
+    } = found;
     let gates = rendering.gates();
     let was = match orders.before {
         Some(before) => format!("{before} in the rendering"),
