@@ -83,9 +83,15 @@ impl Batches {
         Batches { all, groups }
     }
 
-    fn copies(&self) -> usize {
+    /// The gates of the rendering as the gates stand.
+    pub fn copies(&self) -> usize {
         let groups = self.groups.iter();
         groups.map(|(members, passes)| members.len() * passes).sum()
+    }
+
+    /// The gates of each group, ascending, and the passes that it needs as they stand.
+    pub fn groups(&self) -> &[(Vec<usize>, usize)] {
+        &self.groups
     }
 
     /// The passes that a group needs with its gates in this order, if they are fewer than `most`, and how many gates were evaluated for that.

@@ -65,11 +65,11 @@ pub fn reordered(block: &Block) -> Reordered {
     Search::new(block, SHUFFLED, WORK).reordered(block)
 }
 
-/// How many gates the rendering has in the best order by rule alone: along postorders, and reversed.
-pub(crate) fn gates_by_rule(block: &Block) -> usize {
-    Search::new(block, 0, WORK_OF_A_REPORT)
-        .reordered(block)
-        .gates
+/// How many gates the rendering has, and how many in the best order by rule alone: along postorders, and reversed.
+pub(crate) fn gates_by_rule(block: &Block) -> [usize; 2] {
+    let search = Search::new(block, 0, WORK_OF_A_REPORT);
+    let copies = search.batches.copies();
+    [copies, search.reordered(block).gates]
 }
 
 /// A search for orders, and what it may still take.
@@ -92,11 +92,11 @@ impl Search {
 
     fn reordered(mut self, block: &Block) -> Reordered {
         let mut numbers: Vec<u16> = (0..block.gates()).map(|gate| gate as u16).collect();
-        let mut gates = block.gates();
+        let mut gates = self.batches.copies();
         let mut loops = Vec::new();
-        for members in block.loops() {
-            let found = self.best(&members);
-            gates += members.len() * (found.passes - 1);
+        for (members, before) in self.batches.groups().to_vec() {
+            let found = self.best(&members, before);
+            gates -= members.len() * (before - found.passes);
             if found.passes < found.before {
                 for (&gate, &place) in found.gates.iter().zip(&members) {
                     numbers[gate] = place as u16;
@@ -112,9 +112,8 @@ impl Search {
         }
     }
 
-    /// The best order of a loop. What would need as many passes as the best so far is left at once.
-    fn best(&mut self, members: &[usize]) -> LoopOrder {
-        let before = self.passes(members, usize::MAX).unwrap_or(members.len());
+    /// The best order of a group that needs so many passes as it stands. What would need as many passes as the best so far is left at once.
+    fn best(&mut self, members: &[usize], before: usize) -> LoopOrder {
         let mut best = LoopOrder {
             gates: members.to_vec(),
             rule: Rule::Written,

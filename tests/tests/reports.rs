@@ -161,7 +161,8 @@ fn refusals_without_a_place() {
     at_a_place(unsettled.as_bytes(), "(refused 8 0)\n", &report);
     let promised = unsettled.replace("(in a)\n", "(in a)\n(never (a 0))\n");
     let (first, _) = report.split_once('\n').unwrap();
-    let report = format!("{first}\n  settled settings: 1 of 1, 1 excluded\n");
+    let order = order.replace("33", "34");
+    let report = format!("{first}{order}  settled settings: 1 of 1, 1 excluded\n");
     at_a_place(promised.as_bytes(), "(refused 8 0)\n", &report);
 }
 

@@ -227,6 +227,32 @@ fn what_holds_stays() {
     assert_eq!(scratch.get("d/rate.out"), catalogue("rate.out"));
 }
 
+/// A table that is accepted stays as long as the rendering does: where that becomes a refusal, since some setting is no longer settled, it
+/// goes too, and not without a word.
+#[test]
+fn cells_beside_a_rendering_that_goes() {
+    let net = "(in a)\n(in b)\n(gate p (and a q))\n(gate q (or b p))\n(out y q)\n";
+    let scratch = with(&[("x.net", net), ("x.out", "(in a)\n(in b)\n(out y b)\n")]);
+    scratch.put("x.cells", "# inputs 2 a b\n# outputs 1\n# output y 1\n");
+    // The stored cover says that some settings settle only: all holds, and stays.
+    scratch.put("x.cover", "a = 0\nb = 1\n");
+    let same = "1 entry: 0 stored, 1 as before\n";
+    told(run(&scratch, &["--store", "."]), 0, same, "");
+    scratch.put("x.cover", "always\n");
+    let ended = run(&scratch, &["--store", "."]);
+    let output = String::from_utf8(ended.stdout).unwrap();
+    for line in [
+        "; cells are gone\n",
+        "  weaker: what is refused has no cells\n",
+    ] {
+        assert!(output.contains(line), "{output}");
+    }
+    assert_eq!(ended.status.code(), Some(1));
+    assert_eq!(scratch.names(".").len(), 4);
+    assert!(run(&scratch, &["--store", ".", "--force"]).status.success());
+    assert_eq!(scratch.names("."), ["x.cover", "x.net", "x.out"]);
+}
+
 /// A table of cells is renewed where there is one, and goes where the original is refused.
 #[test]
 fn cells() {

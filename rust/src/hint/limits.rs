@@ -1,6 +1,5 @@
 //! Limits: which one a text or a rendering passes, and by how much.
 
-use crate::copies::copies;
 use crate::declarations::{lines, LineKind};
 use crate::limits::{COUNTED_BYTES, GATES, INPUTS, NEVERS, OUTPUTS, TEXT_BYTES};
 use crate::orders::gates_by_rule;
@@ -37,13 +36,11 @@ pub fn passed(text: &[u8]) -> Option<String> {
 /// By how much a rendering passes the limit, and how many gates it has in another order, where one fits that is found at once. A block that
 /// isn't settled has a rendering in no order.
 pub fn swollen(block: &Block) -> Option<String> {
-    let copies = copies(block);
+    let [copies, fewer] = gates_by_rule(block);
     let told = (copies > GATES).then(|| above(copies, GATES, "gates in the rendering"))?;
-    Some(match gates_by_rule(block) {
-        fewer if fewer <= GATES && block.verdict().is_sound() => {
-            format!("{told}; {fewer} with its gate lines in another order (--shrink)")
-        }
-        _ => told,
+    Some(match fewer <= GATES && block.verdict().is_sound() {
+        true => format!("{told}; {fewer} with its gate lines in another order (--shrink)"),
+        false => told,
     })
 }
 
